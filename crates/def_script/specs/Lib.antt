@@ -1,0 +1,4 @@
+pub mod Bytes
+pub mod Instruction
+pub mod Numbers
+pub mod Spell
