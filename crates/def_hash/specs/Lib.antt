@@ -1,0 +1,2 @@
+pub mod Ripemd
+pub mod Hash
