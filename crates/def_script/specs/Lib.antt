@@ -2,3 +2,4 @@ pub mod Bytes
 pub mod Instruction
 pub mod Numbers
 pub mod Spell
+pub mod Verify

@@ -1,6 +1,9 @@
 -- Which trees the calls take. What a text of 65,536 bytes can spell stays within these numbers.
-use Rattle.std.specs.Prelude.{ℕ, ◌+◌, ◌^◌, ◌<◌, ◌≤◌, ⊤, List, length}
-use Rattle.def_tree.specs.Tree.{Tree, Trees, just_0, just_1, pk_k, pk_h, older, after, hash, and_or, two, thresh, multi, wrap, none, more}
+use Rattle.std.specs.Prelude.{ℕ, ◌≡◌, ◌+◌, ◌<◌, ◌≤◌, ◌⊎◌, ⊤, length, slice_index, All}
+use Rattle.def_hash.specs.declared.HashKind.{HashKind}
+use Rattle.def_hash.specs.Hash.{digest_length}
+use Rattle.def_script.specs.Bytes.{Bytes, IsBytes}
+use Rattle.def_tree.specs.Tree.{Key, Tree, Trees, just_0, just_1, pk_k, pk_h, older, after, hash, and_or, two, thresh, multi, wrap, none, more}
 use Rattle.def_tree.specs.Size.{measure, depth}
 
 abbrev pub MOST_MEASURE : ℕ
@@ -14,20 +17,36 @@ abbrev pub count : Trees → ℕ
 count none = 0
 count (more x xs) = count xs + 1
 
--- each number has at most ten digits, and no list is empty
+-- a compressed public key: 33 bytes that begin with 02 or 03
+pub record IsKey (key : Key) : Type 0 where
+  pub length : length key ≡ 33
+  pub prefix : (slice_index key 0 ≡ 2) ⊎ (slice_index key 0 ≡ 3)
+  pub bytes : IsBytes key
+
+-- a hash value: as many bytes as its function gives
+pub record IsDigest (kind : HashKind) (value : Bytes) : Type 0 where
+  pub length : length value ≡ digest_length kind
+  pub bytes : IsBytes value
+
+-- the least number of more than ten digits
+abbrev pub TEN_DIGITS : ℕ
+TEN_DIGITS = 10000000000
+
+-- each argument can be written in a text: keys are keys and hash values hash values, each number has
+-- at most ten digits, and no list is empty
 abbrev mutual
   pub IsWritable : Tree → Type 0
   IsWritable just_0 = ⊤
   IsWritable just_1 = ⊤
-  IsWritable (pk_k key) = ⊤
-  IsWritable (pk_h key) = ⊤
-  IsWritable (older n) = n < 10 ^ 10
-  IsWritable (after n) = n < 10 ^ 10
-  IsWritable (hash kind value) = ⊤
+  IsWritable (pk_k key) = IsKey key
+  IsWritable (pk_h key) = IsKey key
+  IsWritable (older n) = n < TEN_DIGITS
+  IsWritable (after n) = n < TEN_DIGITS
+  IsWritable (hash kind value) = IsDigest kind value
   IsWritable (and_or x y z) = IsWritable x × IsWritable y × IsWritable z
   IsWritable (two kind x y) = IsWritable x × IsWritable y
-  IsWritable (thresh k xs) = (k < 10 ^ 10) × (1 ≤ count xs) × AreWritable xs
-  IsWritable (multi k keys) = (k < 10 ^ 10) × (1 ≤ length keys)
+  IsWritable (thresh k xs) = (k < TEN_DIGITS) × (1 ≤ count xs) × AreWritable xs
+  IsWritable (multi k keys) = (k < TEN_DIGITS) × (1 ≤ length keys) × All IsKey keys
   IsWritable (wrap wrapper x) = IsWritable x
 
   pub AreWritable : Trees → Type 0

@@ -1,13 +1,14 @@
 -- A miniscript expression as a tree (BIP 379, translation table), with no sugar. Fragments have
 -- Bitcoin Core's names.
 use Rattle.std.specs.Prelude.{ℕ, List}
+use Rattle.def_script.specs.Bytes.{Bytes}
 use Rattle.def_hash.specs.declared.HashKind.{HashKind}
 use Rattle.def_tree.specs.declared.Wrapper.{Wrapper}
 use Rattle.def_tree.specs.declared.Two.{Two}
 
 -- a compressed public key: 33 bytes
 abbrev pub Key : Type 0
-Key = List ℕ
+Key = Bytes
 
 mutual
   pub data Tree : Type 0 where
@@ -21,7 +22,7 @@ mutual
     older : (n : ℕ) → Tree
     after : (n : ℕ) → Tree
     -- `sha256(value)`, `hash256(value)`, `ripemd160(value)` or `hash160(value)`
-    hash : (kind : HashKind) → (value : List ℕ) → Tree
+    hash : (kind : HashKind) → (value : Bytes) → Tree
     -- `andor(x,y,z)`
     and_or : (x y z : Tree) → Tree
     -- `and_v(x,y)`, `and_b(x,y)`, `or_b(x,y)`, `or_c(x,y)`, `or_d(x,y)` or `or_i(x,y)`

@@ -1,0 +1,2 @@
+//! Definitions of the translation from miniscript trees to Script.
+#![tactic(auto)]
