@@ -1,0 +1,29 @@
+-- Moves of bytes that follow one another.
+use Rattle.std.proofs.Common.{ℕ, ◌≡◌, ◌-◌, ◌+◌, List, ◌++◌, length, take, drop, sym, ◌∙◌, ap, subst, append_assoc, length-append, arith}
+use Rattle.std.proofs.lemmas.List.{take-append-drop, take_rest}
+use Rattle.std.proofs.Math.Seq.{take-append_seam}
+use Rattle.std.proofs.KnownBytes.{Appends-trans, Appends-kept}
+use Rattle.std.specs.declared.option.Option.{Option}
+use Rattle.std.specs.Io.KnownBytes.{Appends, Keeps}
+use Rattle.ms_io.specs.Moves.{AppendsPrefix, WritesSoFar}
+
+-- one more piece was taken
+pub writes_more : (old now new : Option (List ℕ)) (bytes rest : List ℕ) (n : ℕ) → WritesSoFar old now bytes rest → Appends now new (take n rest) → WritesSoFar old new bytes (take (length rest - n) (drop n rest))
+writes_more old now new bytes rest n so_far taken = record {
+  done = so_far.done ++ take n rest;
+  whole =
+      so_far.whole ∙ ap (λ r. so_far.done ++ r) (sym (take-append-drop n rest) ∙ ap (λ r. take n rest ++ r) (sym (take_rest rest n)))
+      ∙ sym (append_assoc so_far.done (take n rest) (take (length rest - n) (drop n rest)));
+  appended = Appends-trans old now new so_far.done (take n rest) so_far.appended taken;
+}
+
+-- nothing more was taken: what was written is a prefix
+pub writes_stop : (old now new : Option (List ℕ)) (bytes rest : List ℕ) → WritesSoFar old now bytes rest → Keeps now new → AppendsPrefix old new bytes
+writes_stop old now new bytes rest so_far kept = record {
+  count = length so_far.done;
+  at_most = let e : length bytes ≡ length so_far.done + length rest = ap length so_far.whole ∙ length-append so_far.done rest in omega (arith, e);
+  appended =
+      let front : take (length so_far.done) bytes ≡ so_far.done = ap (take (length so_far.done)) so_far.whole ∙ take-append_seam so_far.done rest in
+      let P : List ℕ → Type 0 = λ taken. Appends old new taken in
+      subst P (sym front) (Appends-kept old now new so_far.done so_far.appended kept);
+}

@@ -1,0 +1,19 @@
+//! Where bytes come from and where they go: sources, sinks, and their kinds.
+//!
+//! A source means the bytes that are left, where it tells them, and a sink the bytes that were
+//! written. Each has a count of faults, so that whoever sees a fault knows whom to blame.
+#![tactic(auto)]
+
+pub use memory::MemSink;
+pub use sink::{Sink, SinkFailed, put_all};
+pub use source::{Source, SourceFailed};
+pub use standard::{StdSink, StdSource};
+pub use sure::{NullSink, SureSource};
+
+mod memory;
+mod sink;
+mod source;
+mod standard;
+mod sure;
+#[cfg(test)]
+mod tests;

@@ -1,0 +1,92 @@
+ghost use Rattle.std.specs.Prelude.{◌≡◌, ℕ, ◌+◌, ◌-◌, ◌^◌, ◌<◌, ◌≤◌, ◌↔◌, min, List, [], length, take, ◌++◌, IsTrue, IsErr, IfOk, Some, vec_capacity};
+ghost use Rattle.std.specs.Io.{WritesAtMost};
+ghost use Rattle.std.specs.Io.KnownBytes.{WriteAppends};
+ghost use Rattle.ms_io.specs.Faults.{HasCause};
+ghost use Rattle.ms_io.specs.Memory.{Memory, put_fails, put_count, after_put};
+
+use crate::sink::{Sink, SinkFailed};
+use std::alloc::{AllocError, Global};
+use std::marker::Model;
+
+/// A sink over memory that takes pieces in chunks, and fails where it is told to and where it is
+/// full. Contracts see it as a `Memory`.
+#[derive(Drop)]
+pub struct MemSink {
+    bytes: Vec<u8>,
+    room: usize,
+    chunk: usize,
+    fail_at: Vec<u64>,
+    calls: u64,
+    failures: u64,
+}
+
+impl Model for MemSink {
+    ghost Value = { Memory };
+
+    ghost view = { λ s. record { bytes = s.bytes.items; room = s.room; chunk = s.chunk; fail_at = s.fail_at.items; calls = s.calls; failures = s.failures } };
+
+    ghost invariant = { λ s. (length s.bytes.items ≤ s.room) × (s.room ≤ vec_capacity s.bytes) × (0 < s.chunk) };
+}
+
+impl MemSink {
+    /// Takes the memory for `room` bytes at once, and copies `fail_at`, the numbers of the calls of
+    /// `put` that fail, from 0. `chunk` is how many bytes a call takes at most.
+    pub fn new(
+        alloc: Global,
+        room: usize,
+        chunk: usize,
+        fail_at: &[u64],
+    ) -> Result<MemSink, AllocError>
+        requires chunk { 1 ≤ chunk }
+        requires room { room ≤ 2 ^ 31 }
+        ensures { IfOk result (λ s. s ≡ record { bytes = []; room = room; chunk = chunk; fail_at = fail_at.now; calls = 0; failures = 0 }) }
+    {
+        let bytes = Vec::with_capacity(alloc, room)?;
+        let fail_at = Vec::from_slice(alloc, fail_at)?;
+        Ok(MemSink {
+            bytes,
+            room,
+            chunk,
+            fail_at,
+            calls: 0,
+            failures: 0,
+        })
+    }
+
+    /// The bytes that were written.
+    pub fn written(&self) -> &[u8]
+        ensures { result.now ≡ self.now.bytes }
+    {
+        &self.bytes
+    }
+}
+
+impl Sink for MemSink {
+    ghost written = { λ s. Some s.bytes };
+
+    ghost faults = { λ s. s.failures };
+
+    /// Takes no memory.
+    fn put(&mut self, piece: &[u8]) -> Result<usize, SinkFailed>
+        ensures bound { WritesAtMost result piece.now }
+        ensures progress { 0 < length piece.now → IfOk result (λ n. 0 < n) }
+        ensures bytes { WriteAppends (Some self.old.bytes) (Some self.new.bytes) result piece.now }
+        ensures cause { HasCause self.old.failures self.new.failures result }
+        ensures fails { IsErr result ↔ IsTrue (put_fails self.old piece.now) }
+        ensures count { IfOk result (λ n. n ≡ put_count self.old piece.now) }
+        ensures after { self.new ≡ after_put self.old piece.now }
+    {
+        let call = self.calls;
+        self.calls = self.calls.saturating_add(1);
+        let room_left = self.room - self.bytes.len();
+        if self.fail_at.contains(&call) || (!piece.is_empty() && room_left == 0) {
+            self.failures = self.failures.saturating_add(1);
+            return Err(SinkFailed);
+        }
+        let count = self.chunk.min(piece.len().min(room_left));
+        let Ok(()) = self.bytes.extend_from_slice(&piece[..count]) else {
+            unreachable!()
+        };
+        Ok(count)
+    }
+}
