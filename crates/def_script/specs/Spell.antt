@@ -1,6 +1,6 @@
 -- How instructions are spelled as bytes (Bitcoin Core: `opcodetype`, `CScript::operator<<` and
 -- `CheckMinimalPush`).
-use Rattle.std.specs.Prelude.{ℕ, ◌+◌, ◌==◌, ◌&&◌, nat_le, List, [], ◌∷◌, ◌++◌, length, if◌then◌else◌}
+use Rattle.std.specs.Prelude.{ℕ, ◌+◌, ◌≤◌, ◌==◌, ◌&&◌, ⊤, nat_le, List, [], ◌∷◌, ◌++◌, length, if◌then◌else◌}
 use Rattle.std.specs.List.{flat_map}
 use Rattle.std.specs.Int.{w16, w32, to_le_bytes}
 use Rattle.def_script.specs.declared.Op.{Op}
@@ -59,6 +59,14 @@ abbrev pub shortest_push : Bytes → Bytes
 shortest_push [] = 0x00 ∷ []
 shortest_push (b ∷ []) = byte_push b
 shortest_push (b ∷ c ∷ bytes) = sized_push (b ∷ c ∷ bytes)
+
+-- at most 520 bytes are pushed at once (Bitcoin Core, `MAX_SCRIPT_ELEMENT_SIZE`)
+abbrev pub MOST_PUSHED : ℕ
+MOST_PUSHED = 520
+
+abbrev pub IsShort : Instruction → Type 0
+IsShort (push bytes) = length bytes ≤ MOST_PUSHED
+IsShort (code op) = ⊤
 
 -- the shortest spelling of an instruction
 abbrev pub spell_one : Instruction → Bytes
