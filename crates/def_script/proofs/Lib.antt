@@ -1,1 +1,5 @@
+pub mod Computed
+pub mod Decoding
+pub mod Reading
+pub mod Sizing
 pub mod VerifyLemmas

@@ -3,3 +3,10 @@ pub mod Instruction
 pub mod Numbers
 pub mod Spell
 pub mod Verify
+pub mod Item
+pub mod Items
+pub mod Decode
+pub mod Sizes
+pub mod Witness
+pub mod Laws
+pub mod Examples
