@@ -1,0 +1,42 @@
+ghost use Rattle.std.specs.Prelude.{◌≡◌, ℕ, ◌↔◌, List, IsSome, IfSome};
+ghost use Rattle.def_tree.specs.Range.{IsKey};
+
+use std::marker::Model;
+
+/// A compressed public key: 33 bytes of which the first is 02 or 03. That it lies on the curve isn't
+/// tested. Contracts see it as its bytes.
+#[derive(Clone, Copy, Debug, PartialEq, Eq)]
+pub struct Key {
+    bytes: [u8; 33],
+}
+
+impl Model for Key {
+    ghost Value = { List ℕ };
+
+    ghost view = { λ k. k.bytes };
+
+    ghost invariant = { λ k. IsKey k.bytes };
+
+    ghost inverse = { λ bytes. record { bytes = bytes } };
+}
+
+impl Key {
+    /// The key of these bytes, or `None` where they are no key.
+    pub fn from_bytes(bytes: &[u8]) -> Option<Key>
+        ensures found { IsSome result ↔ IsKey bytes.now }
+        ensures value { IfSome result (λ key. key ≡ bytes.now) }
+    {
+        let bytes: [u8; 33] = bytes.try_into().ok()?;
+        if bytes[0] != 0x02 && bytes[0] != 0x03 {
+            return None;
+        }
+        Some(Key { bytes })
+    }
+
+    pub fn as_bytes(&self) -> &[u8]
+        ensures bytes { result.now ≡ self.now }
+        ensures key { IsKey result.now }
+    {
+        &self.bytes
+    }
+}
