@@ -1,7 +1,7 @@
 -- The items of a spelled Script.
-use Rattle.std.proofs.Common.{◌≡◌, ℕ, zero, suc, ◌+◌, ◌-◌, ◌^◌, ◌<◌, ◌≤◌, nat_lt, nat_le, ◌==◌, ◌&&◌, true, false, [], ◌∷◌, ◌++◌, length, drop, slice_index, Some, Ok, inl, inr, arith, refl, sym, ◌∙◌, ap, lit<}
+use Rattle.std.proofs.Common.{◌≡◌, ℕ, zero, suc, ◌+◌, ◌-◌, ◌^◌, ◌<◌, ◌≤◌, nat_lt, nat_le, ◌==◌, ◌&&◌, true, false, All, map, List, [], ◌∷◌, ◌++◌, length, drop, slice_index, Some, Ok, inl, inr, arith, refl, sym, ◌∙◌, ap, lit<}
 use Rattle.std.proofs.lemmas.Bool.{cases_Bool, le-ltb, lt-leb, le-leb, ne_eqb, eq-eqb, leb-true, and_parts, eqb-true}
-use Rattle.std.proofs.lemmas.List.{append_assoc, length-append}
+use Rattle.std.proofs.lemmas.List.{append-nil, append_assoc, length-append}
 use Rattle.std.proofs.lemmas.List.Elements.{All-head, All-tail}
 use Rattle.std.proofs.lemmas.Nat.{from_le_bytes-to_le_bytes_2, from_le_bytes-to_le_bytes_4}
 use Rattle.std.proofs.Math.Seq.{take-append_seam, drop-append_seam}
@@ -173,3 +173,9 @@ spelling_is_read_back [] rest can = refl
 spelling_is_read_back (i ∷ script) rest can =
     rw append_assoc (instruction-read i (spell script ++ rest) (All-head CanSpell i script can)
     ∙ ap (λ s. item_of i ∷ s) (spelling_is_read_back script rest (All-tail CanSpell i script can)))
+
+-- the items of a spelled Script are its instructions
+pub items-spell : (script : List Instruction) → All CanSpell script → items (spell script) ≡ map item_of script
+unfolding items_after
+items-spell script can =
+    ap items (sym (append-nil (spell script))) ∙ spelling_is_read_back script [] can ∙ append-nil (map item_of script)

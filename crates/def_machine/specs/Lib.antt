@@ -1,0 +1,12 @@
+pub mod Locks
+pub mod Limits
+pub mod Faults
+pub mod Stacks
+pub mod Effects
+pub mod MultiSig
+pub mod Machine
+pub mod Run
+pub mod Samples
+pub mod FaultRows
+pub mod FragmentRows
+pub mod Laws

@@ -1,0 +1,30 @@
+-- Stacks of byte strings, and tables of signatures.
+use Rattle.std.specs.Prelude.{◌==◌, ◌&&◌, ◌||◌, Bool, true, false, List, [], ◌∷◌, length, slice_index, if◌then◌else◌}
+use Rattle.std.specs.List.{list_any}
+use Rattle.std.specs.Str.{bytes_eq}
+use Rattle.def_script.specs.Bytes.{Bytes}
+
+-- inside the machine the top stands first
+abbrev pub Stack : Type 0
+Stack = List Bytes
+
+-- pairs of a key and a signature
+abbrev pub Pairs : Type 0
+Pairs = List (Bytes × Bytes)
+
+-- a table holds the pair
+abbrev pub member : Pairs → (key sig : Bytes) → Bool
+member table key sig = list_any (λ pair. bytes_eq pair.0 key && bytes_eq pair.1 sig) table
+
+-- the string is empty
+abbrev pub is_empty : Bytes → Bool
+is_empty [] = true
+is_empty (b ∷ bytes) = false
+
+-- a compressed public key, as BIP 143 asks of P2WSH: 33 bytes that begin with 2 or 3
+abbrev pub is_key : Bytes → Bool
+is_key bytes = (length bytes == 33) && ((slice_index bytes 0 == 2) || (slice_index bytes 0 == 3))
+
+-- the string that an opcode pushes for true and for false
+abbrev pub bool_bytes : Bool → Bytes
+bool_bytes value = if value then 0x01 ∷ [] else []
