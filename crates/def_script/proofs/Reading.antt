@@ -1,6 +1,6 @@
 -- The items of a spelled Script.
-use Rattle.std.proofs.Common.{◌≡◌, ℕ, zero, suc, ◌+◌, ◌-◌, ◌^◌, ◌<◌, ◌≤◌, nat_lt, nat_le, ◌==◌, ◌&&◌, true, false, All, map, List, [], ◌∷◌, ◌++◌, length, drop, slice_index, Some, Ok, inl, inr, arith, refl, sym, ◌∙◌, ap, lit<}
-use Rattle.std.proofs.lemmas.Bool.{cases_Bool, le-ltb, lt-leb, le-leb, ne_eqb, eq-eqb, leb-true, and_parts, eqb-true}
+use Rattle.std.proofs.Common.{◌≡◌, ℕ, zero, suc, ◌+◌, ◌-◌, ◌^◌, ◌<◌, ◌≤◌, pos, nat_lt, nat_le, ◌==◌, ◌&&◌, true, false, All, map, List, [], ◌∷◌, ◌++◌, length, drop, slice_index, Some, Ok, inl, inr, arith, refl, sym, ◌∙◌, ap, lit<}
+use Rattle.std.proofs.lemmas.Bool.{cases_Bool, lt-ltb, le-ltb, lt-leb, le-leb, ne_eqb, eq-eqb, leb-true, and_parts, eqb-true}
 use Rattle.std.proofs.lemmas.List.{append-nil, append_assoc, length-append}
 use Rattle.std.proofs.lemmas.List.Elements.{All-head, All-tail}
 use Rattle.std.proofs.lemmas.Nat.{from_le_bytes-to_le_bytes_2, from_le_bytes-to_le_bytes_4}
@@ -10,6 +10,7 @@ use Rattle.def_script.specs.declared.Op.{Op}
 use Rattle.def_script.specs.declared.Op.TheVariants as op
 use Rattle.def_script.specs.Bytes.{Bytes}
 use Rattle.def_script.specs.Instruction.{Instruction, push, code}
+use Rattle.def_script.specs.Numbers.{number_bytes}
 use Rattle.def_script.specs.Spell.{opcode_byte, shortest_push, sized_push, byte_push, spell_one, spell}
 use Rattle.def_script.specs.Item.{Item}
 use Rattle.def_script.specs.Item as item
@@ -102,6 +103,14 @@ sized_push-read bytes rest low same =
       ]
     ]
 
+-- a number that one byte holds
+pub number_bytes-small : (n : ℕ) → 1 ≤ n → n < 128 → number_bytes (pos n) ≡ n ∷ []
+number_bytes-small zero some low = absurd (omega arith)
+number_bytes-small (suc n) some low =
+    let last : nat_lt (suc n) 128 ≡ true = lt-ltb _ _ low in
+    let value : suc n + 0 ≡ suc n = omega arith in
+    rw (last, value) refl
+
 -- 1 to 16 as opcodes of their own
 small_number-read : (b : ℕ) (rest : Bytes) → 1 ≤ b → b ≤ 16 → items ((0x50 + b) ∷ rest) ≡ item.push (b ∷ []) true ∷ items rest
 unfolding items_after first_item
@@ -114,7 +123,7 @@ small_number-read b rest low high =
     let from_1 : nat_le 0x51 (0x50 + b) ≡ true = le-leb _ _ (omega arith) in
     let to_16 : nat_le (0x50 + b) 0x60 ≡ true = le-leb _ _ (omega arith) in
     let value : 0x50 + b - 0x50 ≡ b = omega arith in
-    rw (beyond, not_1, not_2, not_4, not_negate, from_1, to_16, value) refl
+    rw (beyond, not_1, not_2, not_4, not_negate, from_1, to_16, value) (ap (λ (bytes : Bytes). item.push bytes true ∷ items rest) (number_bytes-small b low (omega arith)))
 
 byte_push-read : (b : ℕ) (rest : Bytes) → items (byte_push b ++ rest) ≡ item.push (b ∷ []) true ∷ items rest
 unfolding items_after first_item

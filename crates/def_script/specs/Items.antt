@@ -1,11 +1,12 @@
 -- How the bytes of a Script are read (Bitcoin Core: `GetScriptOp` and `CheckMinimalPush`).
-use Rattle.std.specs.Prelude.{ℕ, zero, suc, ◌+◌, ◌-◌, ◌==◌, ◌&&◌, nat_lt, nat_le, Bool, true, List, [], ◌∷◌, length, take, drop, slice_index, find, if◌then◌else◌, Option, Some, None, Result, Ok, Err}
+use Rattle.std.specs.Prelude.{ℕ, zero, suc, ◌+◌, ◌-◌, ◌==◌, ◌&&◌, nat_lt, nat_le, pos, negsuc, Bool, true, List, [], ◌∷◌, length, take, drop, slice_index, find, if◌then◌else◌, Option, Some, None, Result, Ok, Err}
 use Rattle.std.specs.Int.{w16, w32, from_le_bytes}
 use Rattle.def_script.specs.declared.Op.{Op}
 use Rattle.def_script.specs.declared.Op.TheVariants as op
 use Rattle.def_script.specs.declared.InstrFault.{InstrFault}
 use Rattle.def_script.specs.declared.InstrFault.TheVariants.{Truncated, Unsupported}
 use Rattle.def_script.specs.Bytes.{Bytes}
+use Rattle.def_script.specs.Numbers.{number_bytes}
 use Rattle.def_script.specs.Spell.{opcode_byte, shortest_push}
 use Rattle.def_script.specs.Item.{Item}
 use Rattle.def_script.specs.Item as item
@@ -41,11 +42,11 @@ abbrev pub read_op : Option Op → Reading
 read_op (Some op) = Ok (item.code op, 0)
 read_op None = Err Unsupported
 
--- the number -1 or 1 to 16 as an opcode of its own, or another opcode
+-- an opcode that pushes the number -1 or 1 to 16, or another opcode
 abbrev pub read_number_or_op : ℕ → Reading
 read_number_or_op first =
-    if first == 0x4f then Ok (item.push (0x81 ∷ []) true, 0)
-    else if nat_le 0x51 first && nat_le first 0x60 then Ok (item.push ((first - 0x50) ∷ []) true, 0)
+    if first == 0x4f then Ok (item.push (number_bytes (negsuc 0)) true, 0)
+    else if nat_le 0x51 first && nat_le first 0x60 then Ok (item.push (number_bytes (pos (first - 0x50))) true, 0)
     else read_op (op_of_byte first)
 
 -- how many bytes the length field of a push has, and how many bytes it pushes, by its first byte: up to 75
