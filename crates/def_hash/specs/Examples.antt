@@ -1,5 +1,5 @@
--- Published digests: of the designers' page on RIPEMD-160, of FIPS 180-4's examples, and of Bitcoin's
--- generator point (BIP 173: the key hash of its test vectors).
+-- Published digests: of the designers' page on RIPEMD-160, of FIPS 180-4's examples, and of
+-- Bitcoin's generator point (BIP 173: the key hash of its test vectors).
 use Rattle.std.specs.Prelude.{◌≡◌, [], codes, replicate}
 use Rattle.def_hash.specs.Hex.{from_hex}
 use Rattle.def_hash.specs.Hash.{sha256, ripemd160, hash160, hash256}

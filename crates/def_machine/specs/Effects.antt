@@ -1,12 +1,13 @@
--- What the opcodes do to the stacks (Bitcoin Core: `EvalScript` in script/interpreter.cpp). The top stands first.
-use Rattle.std.specs.Prelude.{ℕ, zero, suc, ◌==◌, ◌&&◌, ◌||◌, not, ℤ, pos, negsuc, ◌+ℤ◌, Bool, true, false, [], ◌∷◌, ◌++◌, length, if◌then◌else◌, Result, Ok, Err}
+-- What the opcodes do to the stacks (Bitcoin Core: `EvalScript` in script/interpreter.cpp). The top
+-- stands first.
+use Rattle.std.specs.Prelude.{ℕ, ◌==◌, ◌&&◌, ◌||◌, not, ℤ, pos, negsuc, ◌+ℤ◌, Bool, true, false, [], ◌∷◌, ◌++◌, length, if◌then◌else◌, Result, Ok, Err}
 use Rattle.std.specs.Str.{bytes_eq}
 use Rattle.def_hash.specs.declared.HashKind.{HashKind}
 use Rattle.def_hash.specs.Hash.{digest_of}
 use Rattle.def_script.specs.declared.NumFault.{NumFault}
 use Rattle.def_script.specs.Bytes.{Bytes}
 use Rattle.def_script.specs.Numbers.{number_bytes}
-use Rattle.def_script.specs.Decode.{num_decode, truth}
+use Rattle.def_script.specs.Decode.{num_decode, truth, is_nonzero}
 use Rattle.def_machine.specs.declared.ScriptFault.TheVariants as fault
 use Rattle.def_machine.specs.Limits.{MAX_NUMBER_SIZE, MAX_LOCK_SIZE}
 use Rattle.def_machine.specs.Faults.{OrFault, ◌>>=◌}
@@ -17,7 +18,8 @@ unfoldable pub verify : Stack → OrFault Stack
 verify [] = Err fault.StackUnderflow
 verify (x ∷ s) = if truth x then Ok s else Err fault.Verify
 
--- IF and NOTIF take the top, which must be empty or the byte 1 (BIP 141's policy MINIMALIF, consensus in BIP 342)
+-- IF and NOTIF take the top, which must be empty or the byte 1 (Bitcoin Core:
+-- `SCRIPT_VERIFY_MINIMALIF`)
 unfoldable pub condition : Stack → OrFault (Bool × Stack)
 condition [] = Err fault.StackUnderflow
 condition ([] ∷ s) = Ok (false, s)
@@ -85,11 +87,6 @@ two_numbers (y ∷ x ∷ s) = do
   a ← operand MAX_NUMBER_SIZE x
   Ok (a, b, s)
 
-abbrev pub is_nonzero : ℤ → Bool
-is_nonzero (pos zero) = false
-is_nonzero (pos (suc n)) = true
-is_nonzero (negsuc n) = true
-
 -- 0NOTEQUAL takes a number and pushes whether it isn't zero
 unfoldable pub zero_not_equal : Stack → OrFault Stack
 zero_not_equal main = do
@@ -119,8 +116,9 @@ unfoldable pub hash : HashKind → Stack → OrFault Stack
 hash kind [] = Err fault.StackUnderflow
 hash kind (x ∷ s) = Ok (digest_of kind x ∷ s)
 
--- CHECKSIG takes the key and the signature below it, with the checks passed so far: the key must have its form, an
--- empty signature fails and asks nothing, and another must pass (BIP 146, NULLFAIL)
+-- CHECKSIG takes the key and the signature below it, with the checks passed so far: the key must
+-- have its form, an empty signature fails and asks nothing, and another must pass (BIP 146,
+-- NULLFAIL)
 unfoldable pub check_sig : Pairs → Stack → Pairs → OrFault (Stack × Pairs)
 check_sig table [] checks = Err fault.StackUnderflow
 check_sig table (key ∷ []) checks = Err fault.StackUnderflow

@@ -37,7 +37,8 @@ pub record State : Type 0 where
   -- the pairs that were found good, in order
   pub checks : Pairs
 
--- an effect on the main stack, on both stacks, on the main stack and the checks, on these and the count, on the branches
+-- an effect on the main stack, on both stacks, on the main stack and the checks, on these and the
+-- count, on the branches
 abbrev pub on_main : (Stack → OrFault Stack) → State → OrFault State
 on_main effect s = do
   main ← effect s.main
@@ -67,7 +68,8 @@ on_branches effect s = do
 abbrev pub is_live : State → Bool
 is_live s = list_all (λ taken. taken) s.branches
 
--- opens a branch that is taken where the top is as wanted; in a branch that isn't taken, another such one
+-- opens a branch that is taken where the top is as wanted; in a branch that isn't taken, another
+-- such one
 abbrev pub opened : (live wanted : Bool) → State → OrFault State
 opened true wanted s = do
   top ← condition s.main
@@ -144,8 +146,8 @@ abbrev pub fault_of : InstrFault → ScriptFault
 fault_of unread.Truncated = fault.Truncated
 fault_of unread.Unsupported = fault.Unsupported
 
--- an item is carried out: it must be readable, a push must not be too long, and an opcode is counted, also where the
--- branches aren't taken
+-- an item is carried out: it must be readable, a push must not be too long, and an opcode is
+-- counted, also where the branches aren't taken
 unfoldable pub carry_out : Given → Item → State → OrFault State
 carry_out given (item.fault e) s = Err (fault_of e)
 carry_out given (item.push bytes minimal) s =

@@ -1,5 +1,5 @@
--- CHECKMULTISIG (Bitcoin Core: `OP_CHECKMULTISIG` in `EvalScript`; BIP 146, NULLFAIL; BIP 147, NULLDUMMY).
--- The top stands first, so the last key and the last signature do.
+-- CHECKMULTISIG (Bitcoin Core: `OP_CHECKMULTISIG` in `EvalScript`; BIP 146, NULLFAIL; BIP 147,
+-- NULLDUMMY). The top stands first, so the last key and the last signature do.
 use Rattle.std.specs.Prelude.{ℕ, ◌+◌, ◌&&◌, not, nat_lt, nat_le, ℤ, pos, negsuc, Bool, true, false, [], ◌∷◌, ◌++◌, length, take, drop, if◌then◌else◌, Option, Some, None, Ok, Err}
 use Rattle.std.specs.List.{list_all}
 use Rattle.def_script.specs.Bytes.{Bytes}
@@ -35,8 +35,8 @@ one_off (x ∷ s) = Ok (x, s)
 unfoldable pub counted : ℕ → OrFault ℕ
 counted ops = if nat_lt MAX_OPS_PER_SCRIPT ops then Err fault.OpCount else Ok ops
 
--- a try: it isn't made where more signatures than keys are left; then the key must have its form; then the pair
--- is good or not
+-- a try: it isn't made where more signatures than keys are left; then the key must have its form;
+-- then the pair is good or not
 abbrev pub one_try : (over form good : Bool) → (Bool → OrFault (Option Pairs)) → OrFault (Option Pairs)
 one_try true form good next = Ok None
 one_try false false good next = Err fault.KeyForm
@@ -46,8 +46,9 @@ one_try false true good next = next good
 abbrev pub is_good : Pairs → (key sig : Bytes) → Bool
 is_good table key sig = not (is_empty sig) && member table key sig
 
--- the tries, each of the first key left with the first signature left. A try passes the key, and a good one the
--- signature too. They give the pairs found good, in the order in which they were found, where no signature is left
+-- the tries, each of the first key left with the first signature left. A try passes the key, and a
+-- good one the signature too. They give the pairs found good, in the order in which they were
+-- found, where no signature is left
 unfoldable pub tries : Pairs → (keys sigs : Stack) → (found : Pairs) → OrFault (Option Pairs)
 tries table keys [] found = Ok (Some found)
 tries table [] (sig ∷ sigs) found = Ok None
@@ -64,8 +65,8 @@ verdict sigs None = if list_all is_empty sigs then Ok (false, []) else Err fault
 unfoldable pub null_dummy : Bytes → OrFault Bytes
 null_dummy extra = if is_empty extra then Ok extra else Err fault.NullDummy
 
--- CHECKMULTISIG takes the number of keys, the keys, the number of signatures, the signatures and one element more,
--- with the number of opcodes and the checks passed so far
+-- CHECKMULTISIG takes the number of keys, the keys, the number of signatures, the signatures and
+-- one element more, with the number of opcodes and the checks passed so far
 unfoldable pub check_multi_sig : Pairs → Stack → (ops : ℕ) → (checks : Pairs) → OrFault (Stack × ℕ × Pairs)
 check_multi_sig table main ops checks = do
   n ← count MAX_PUBKEYS_PER_MULTISIG fault.KeyCount main

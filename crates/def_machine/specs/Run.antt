@@ -1,4 +1,5 @@
--- A run of a Script on a stack (Bitcoin Core: `EvalScript` and `ExecuteWitnessScript` in script/interpreter.cpp).
+-- A run of a Script on a stack (Bitcoin Core: `EvalScript` and `ExecuteWitnessScript` in
+-- script/interpreter.cpp).
 use Rattle.std.specs.Prelude.{ℕ, ◌+◌, nat_lt, nat_le, Bool, List, [], ◌∷◌, length, reverse, if◌then◌else◌, Ok, Err}
 use Rattle.std.specs.List.{list_all}
 use Rattle.def_script.specs.Bytes.{Bytes}
@@ -12,8 +13,8 @@ use Rattle.def_machine.specs.Faults.{OrFault, ◌>>=◌}
 use Rattle.def_machine.specs.Stacks.{Stack, Pairs}
 use Rattle.def_machine.specs.Machine.{Given, State, step}
 
--- what a run gives: the number of opcodes, the greatest height of the stacks and the pairs found good, in order; or
--- the fault, and the number of the instruction at which it came, from 0
+-- what a run gives: the number of opcodes, the greatest height of the stacks and the pairs found
+-- good, in order; or the fault, and the number of the instruction at which it came, from 0
 pub data Outcome : Type 0 where
   accepted : (ops : ℕ) → (peak : ℕ) → (checks : Pairs) → Outcome
   refused : (fault : ScriptFault) → (place : ℕ) → Outcome
@@ -31,7 +32,8 @@ start script main =
     then Ok (record { main = main; alt = []; branches = []; ops = 0; peak = length main; checks = [] })
     else Err fault.ElementSize
 
--- items carried out one after the other, from the instruction of the given number on, and what comes after them
+-- items carried out one after the other, from the instruction of the given number on, and what
+-- comes after them
 unfoldable pub steps : Given → List Item → (place : ℕ) → State → (ℕ → State → Outcome) → Outcome
 steps given [] place s next = next place s
 steps given (item ∷ items) place s next = leads (step given item s) place (λ t. steps given items (place + 1) t next)

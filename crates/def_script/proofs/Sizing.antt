@@ -1,11 +1,12 @@
 -- A CompactSize that was spelled is read back.
-use Rattle.std.proofs.Common.{◌≡◌, suc, ◌^◌, nat_lt, false, length, inl, inr, arith, refl}
-use Rattle.std.proofs.lemmas.Bool.{cases_Bool, le-ltb}
-use Rattle.std.proofs.lemmas.Nat.{from_le_bytes-to_le_bytes_2, from_le_bytes-to_le_bytes_4, from_le_bytes-to_le_bytes_8}
+use Rattle.std.proofs.Common.{◌≡◌, ℕ, zero, suc, ◌+◌, ◌^◌, ◌<◌, ◌≤◌, nat_lt, ◌==◌, true, false, List, [], ◌∷◌, ◌++◌, length, drop, Ok, inl, inr, arith, refl, sym, subst, ap}
+use Rattle.std.proofs.lemmas.Bool.{cases_Bool, ltb-false, eqb-true, eqb-false, lt-ltb, le-ltb}
+use Rattle.def_script.specs.Bytes.{Bytes, IsBytes}
+use Rattle.std.proofs.lemmas.Nat.{from_le_bytes-to_le_bytes_2, from_le_bytes-to_le_bytes_4, from_le_bytes-to_le_bytes_8, le_bytes_2, le_bytes_4, le_bytes_8}
 use Rattle.std.proofs.lemmas.Bool.{ltb-true}
-use Rattle.std.specs.Int.{w16, w32, w64, to_le_bytes, from_le_bytes}
-use Rattle.def_script.specs.Sizes.{size_bytes, read_size}
-use Rattle.def_script.specs.Laws.{SizeIsReadBack}
+use Rattle.std.specs.Int.{Width, byte_len, w16, w32, w64, to_le_bytes, from_le_bytes}
+use Rattle.def_script.specs.Sizes.{size_bytes, read_wide, read_size}
+use Rattle.def_script.specs.Laws.{SizeIsReadBack, SizeHasOneSpelling}
 
 pub size_is_read_back : SizeIsReadBack
 unfolding size_bytes read_size
@@ -29,3 +30,112 @@ size_is_read_back n rest low =
         ]
       ]
     ]
+
+-- what a wide form that is read says
+read_wide-reads : (width : Width) (least : ℕ) (rest : Bytes) (read : ℕ × ℕ) → read_wide width least rest ≡ Ok read
+    → (byte_len width ≤ length rest) × (least ≤ from_le_bytes width rest) × ((from_le_bytes width rest, byte_len width + 1) ≡ read)
+read_wide-reads width least rest read e =
+    elim (cases_Bool (nat_lt (length rest) (byte_len width))) [
+      | inl short ↦ let no = rw short at e in cc
+      | inr there ↦ elim (cases_Bool (nat_lt (from_le_bytes width rest) least)) [
+        | inl small ↦ let no = rw (there, small) at e in cc
+        | inr large ↦
+            let yes = rw (there, large) at e in
+            (ltb-false _ _ there, ltb-false _ _ large, cc)
+      ]
+    ]
+
+no_bytes : IsBytes []
+no_bytes i = omega arith
+
+more_bytes : (b : ℕ) (bytes : Bytes) → b < 256 → IsBytes bytes → IsBytes (b ∷ bytes)
+more_bytes b bytes low rest zero = low
+more_bytes b bytes low rest (suc i) = rest i
+
+wide_2-spelling : (rest : Bytes) (read : ℕ × ℕ) → IsBytes rest → read_wide w16 0xfd rest ≡ Ok read → (0xfd ∷ rest) ≡ size_bytes read.0 ++ drop read.1 (0xfd ∷ rest)
+unfolding size_bytes
+wide_2-spelling [] read bytes e = let reads = read_wide-reads w16 0xfd [] read e in absurd (omega arith)
+wide_2-spelling (a ∷ []) read bytes e = let reads = read_wide-reads w16 0xfd (a ∷ []) read e in absurd (omega arith)
+wide_2-spelling (a ∷ b ∷ tail) read bytes e =
+    let reads = read_wide-reads w16 0xfd (a ∷ b ∷ tail) read e in
+    let spelled : to_le_bytes w16 (from_le_bytes w16 (a ∷ b ∷ [])) ≡ a ∷ b ∷ [] = le_bytes_2 (a ∷ b ∷ []) _ refl (more_bytes a (b ∷ []) (bytes 0) (more_bytes b [] (bytes 1) no_bytes)) refl in
+    let bounds : (a < 256) × (b < 256) = (bytes 0, bytes 1) in
+    let over_0 : nat_lt (from_le_bytes w16 (a ∷ b ∷ [])) 0xfd ≡ false = le-ltb _ _ (omega arith) in
+    let within : nat_lt (from_le_bytes w16 (a ∷ b ∷ [])) (2 ^ 16) ≡ true = lt-ltb _ _ (omega arith) in
+    let P : ℕ × ℕ → Type 0 = λ r. (0xfd ∷ a ∷ b ∷ tail) ≡ size_bytes r.0 ++ drop r.1 (0xfd ∷ a ∷ b ∷ tail) in
+    subst P reads.2 (rw (over_0, within) (sym (ap (λ (s : List ℕ). 0xfd ∷ (s ++ tail)) spelled)))
+
+wide_4-spelling : (rest : Bytes) (read : ℕ × ℕ) → IsBytes rest → read_wide w32 (2 ^ 16) rest ≡ Ok read → (0xfe ∷ rest) ≡ size_bytes read.0 ++ drop read.1 (0xfe ∷ rest)
+unfolding size_bytes
+wide_4-spelling [] read bytes e = let reads = read_wide-reads w32 (2 ^ 16) [] read e in absurd (omega arith)
+wide_4-spelling (a ∷ []) read bytes e = let reads = read_wide-reads w32 (2 ^ 16) (a ∷ []) read e in absurd (omega arith)
+wide_4-spelling (a ∷ b ∷ []) read bytes e = let reads = read_wide-reads w32 (2 ^ 16) (a ∷ b ∷ []) read e in absurd (omega arith)
+wide_4-spelling (a ∷ b ∷ c ∷ []) read bytes e = let reads = read_wide-reads w32 (2 ^ 16) (a ∷ b ∷ c ∷ []) read e in absurd (omega arith)
+wide_4-spelling (a ∷ b ∷ c ∷ d ∷ tail) read bytes e =
+    let reads = read_wide-reads w32 (2 ^ 16) (a ∷ b ∷ c ∷ d ∷ tail) read e in
+    let spelled : to_le_bytes w32 (from_le_bytes w32 (a ∷ b ∷ c ∷ d ∷ [])) ≡ a ∷ b ∷ c ∷ d ∷ [] = le_bytes_4 (a ∷ b ∷ c ∷ d ∷ []) _ refl (more_bytes a (b ∷ c ∷ d ∷ []) (bytes 0) (more_bytes b (c ∷ d ∷ []) (bytes 1) (more_bytes c (d ∷ []) (bytes 2) (more_bytes d [] (bytes 3) no_bytes)))) refl in
+    let bounds : (a < 256) × (b < 256) × (c < 256) × (d < 256) = (bytes 0, bytes 1, bytes 2, bytes 3) in
+    let over_0 : nat_lt (from_le_bytes w32 (a ∷ b ∷ c ∷ d ∷ [])) 0xfd ≡ false = le-ltb _ _ (omega arith) in
+    let over_1 : nat_lt (from_le_bytes w32 (a ∷ b ∷ c ∷ d ∷ [])) (2 ^ 16) ≡ false = le-ltb _ _ (omega arith) in
+    let within : nat_lt (from_le_bytes w32 (a ∷ b ∷ c ∷ d ∷ [])) (2 ^ 32) ≡ true = lt-ltb _ _ (omega arith) in
+    let P : ℕ × ℕ → Type 0 = λ r. (0xfe ∷ a ∷ b ∷ c ∷ d ∷ tail) ≡ size_bytes r.0 ++ drop r.1 (0xfe ∷ a ∷ b ∷ c ∷ d ∷ tail) in
+    subst P reads.2 (rw (over_0, over_1, within) (sym (ap (λ (s : List ℕ). 0xfe ∷ (s ++ tail)) spelled)))
+
+wide_8-spelling : (rest : Bytes) (read : ℕ × ℕ) → IsBytes rest → read_wide w64 (2 ^ 32) rest ≡ Ok read → (0xff ∷ rest) ≡ size_bytes read.0 ++ drop read.1 (0xff ∷ rest)
+unfolding size_bytes
+wide_8-spelling [] read bytes e = let reads = read_wide-reads w64 (2 ^ 32) [] read e in absurd (omega arith)
+wide_8-spelling (b0 ∷ []) read bytes e = let reads = read_wide-reads w64 (2 ^ 32) (b0 ∷ []) read e in absurd (omega arith)
+wide_8-spelling (b0 ∷ b1 ∷ []) read bytes e = let reads = read_wide-reads w64 (2 ^ 32) (b0 ∷ b1 ∷ []) read e in absurd (omega arith)
+wide_8-spelling (b0 ∷ b1 ∷ b2 ∷ []) read bytes e = let reads = read_wide-reads w64 (2 ^ 32) (b0 ∷ b1 ∷ b2 ∷ []) read e in absurd (omega arith)
+wide_8-spelling (b0 ∷ b1 ∷ b2 ∷ b3 ∷ []) read bytes e = let reads = read_wide-reads w64 (2 ^ 32) (b0 ∷ b1 ∷ b2 ∷ b3 ∷ []) read e in absurd (omega arith)
+wide_8-spelling (b0 ∷ b1 ∷ b2 ∷ b3 ∷ b4 ∷ []) read bytes e = let reads = read_wide-reads w64 (2 ^ 32) (b0 ∷ b1 ∷ b2 ∷ b3 ∷ b4 ∷ []) read e in absurd (omega arith)
+wide_8-spelling (b0 ∷ b1 ∷ b2 ∷ b3 ∷ b4 ∷ b5 ∷ []) read bytes e = let reads = read_wide-reads w64 (2 ^ 32) (b0 ∷ b1 ∷ b2 ∷ b3 ∷ b4 ∷ b5 ∷ []) read e in absurd (omega arith)
+wide_8-spelling (b0 ∷ b1 ∷ b2 ∷ b3 ∷ b4 ∷ b5 ∷ b6 ∷ []) read bytes e = let reads = read_wide-reads w64 (2 ^ 32) (b0 ∷ b1 ∷ b2 ∷ b3 ∷ b4 ∷ b5 ∷ b6 ∷ []) read e in absurd (omega arith)
+wide_8-spelling (b0 ∷ b1 ∷ b2 ∷ b3 ∷ b4 ∷ b5 ∷ b6 ∷ b7 ∷ tail) read bytes e =
+    let reads = read_wide-reads w64 (2 ^ 32) (b0 ∷ b1 ∷ b2 ∷ b3 ∷ b4 ∷ b5 ∷ b6 ∷ b7 ∷ tail) read e in
+    let spelled : to_le_bytes w64 (from_le_bytes w64 (b0 ∷ b1 ∷ b2 ∷ b3 ∷ b4 ∷ b5 ∷ b6 ∷ b7 ∷ [])) ≡ b0 ∷ b1 ∷ b2 ∷ b3 ∷ b4 ∷ b5 ∷ b6 ∷ b7 ∷ [] = le_bytes_8 (b0 ∷ b1 ∷ b2 ∷ b3 ∷ b4 ∷ b5 ∷ b6 ∷ b7 ∷ []) _ refl (more_bytes b0 (b1 ∷ b2 ∷ b3 ∷ b4 ∷ b5 ∷ b6 ∷ b7 ∷ []) (bytes 0) (more_bytes b1 (b2 ∷ b3 ∷ b4 ∷ b5 ∷ b6 ∷ b7 ∷ []) (bytes 1) (more_bytes b2 (b3 ∷ b4 ∷ b5 ∷ b6 ∷ b7 ∷ []) (bytes 2) (more_bytes b3 (b4 ∷ b5 ∷ b6 ∷ b7 ∷ []) (bytes 3) (more_bytes b4 (b5 ∷ b6 ∷ b7 ∷ []) (bytes 4) (more_bytes b5 (b6 ∷ b7 ∷ []) (bytes 5) (more_bytes b6 (b7 ∷ []) (bytes 6) (more_bytes b7 [] (bytes 7) no_bytes)))))))) refl in
+    let bounds : (b0 < 256) × (b1 < 256) × (b2 < 256) × (b3 < 256) × (b4 < 256) × (b5 < 256) × (b6 < 256) × (b7 < 256) = (bytes 0, bytes 1, bytes 2, bytes 3, bytes 4, bytes 5, bytes 6, bytes 7) in
+    let over_0 : nat_lt (from_le_bytes w64 (b0 ∷ b1 ∷ b2 ∷ b3 ∷ b4 ∷ b5 ∷ b6 ∷ b7 ∷ [])) 0xfd ≡ false = le-ltb _ _ (omega arith) in
+    let over_1 : nat_lt (from_le_bytes w64 (b0 ∷ b1 ∷ b2 ∷ b3 ∷ b4 ∷ b5 ∷ b6 ∷ b7 ∷ [])) (2 ^ 16) ≡ false = le-ltb _ _ (omega arith) in
+    let over_2 : nat_lt (from_le_bytes w64 (b0 ∷ b1 ∷ b2 ∷ b3 ∷ b4 ∷ b5 ∷ b6 ∷ b7 ∷ [])) (2 ^ 32) ≡ false = le-ltb _ _ (omega arith) in
+    let P : ℕ × ℕ → Type 0 = λ r. (0xff ∷ b0 ∷ b1 ∷ b2 ∷ b3 ∷ b4 ∷ b5 ∷ b6 ∷ b7 ∷ tail) ≡ size_bytes r.0 ++ drop r.1 (0xff ∷ b0 ∷ b1 ∷ b2 ∷ b3 ∷ b4 ∷ b5 ∷ b6 ∷ b7 ∷ tail) in
+    subst P reads.2 (rw (over_0, over_1, over_2) (sym (ap (λ (s : List ℕ). 0xff ∷ (s ++ tail)) spelled)))
+
+pub size_has_one_spelling : SizeHasOneSpelling
+unfolding read_size size_bytes
+size_has_one_spelling [] read bytes e = cc
+size_has_one_spelling (byte ∷ rest) read bytes e =
+    elim (cases_Bool (nat_lt byte 0xfd)) [
+      | inl one ↦
+          let yes = rw one at e in
+          let same : (byte, 1) ≡ read = cc in
+          let P : ℕ × ℕ → Type 0 = λ r. (byte ∷ rest) ≡ size_bytes r.0 ++ drop r.1 (byte ∷ rest) in
+          subst P same (rw one refl)
+      | inr over ↦ elim (cases_Bool (byte == 0xfd)) [
+        | inl two ↦
+            let first : 0xfd ≡ byte = sym (eqb-true _ _ two) in
+            let yes = rw (over, two) at e in
+            let P : ℕ → Type 0 = λ b. (b ∷ rest) ≡ size_bytes read.0 ++ drop read.1 (b ∷ rest) in
+            subst P first (wide_2-spelling rest read (λ i. bytes (suc i)) yes)
+        | inr not_2 ↦ elim (cases_Bool (byte == 0xfe)) [
+          | inl four ↦
+              let first : 0xfe ≡ byte = sym (eqb-true _ _ four) in
+              let yes = rw (over, not_2, four) at e in
+              let P : ℕ → Type 0 = λ b. (b ∷ rest) ≡ size_bytes read.0 ++ drop read.1 (b ∷ rest) in
+              subst P first (wide_4-spelling rest read (λ i. bytes (suc i)) yes)
+          | inr not_4 ↦
+              let low : byte < 256 = bytes 0 in
+              let first : 0xff ≡ byte = only byte low over not_2 not_4 in
+              let yes = rw (over, not_2, not_4) at e in
+              let P : ℕ → Type 0 = λ b. (b ∷ rest) ≡ size_bytes read.0 ++ drop read.1 (b ∷ rest) in
+              subst P first (wide_8-spelling rest read (λ i. bytes (suc i)) yes)
+        ]
+      ]
+    ]
+  where
+    only : (b : ℕ) → b < 256 → nat_lt b 0xfd ≡ false → (b == 0xfd) ≡ false → (b == 0xfe) ≡ false → 0xff ≡ b
+    only b low over not_2 not_4 =
+        let high : 0xfd ≤ b = ltb-false b 0xfd over in
+        let n2 : b ≡ 0xfd → ⊥ = eqb-false b 0xfd not_2 in
+        let n4 : b ≡ 0xfe → ⊥ = eqb-false b 0xfe not_4 in
+        omega arith

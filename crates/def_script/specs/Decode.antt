@@ -1,5 +1,5 @@
 -- How Script numbers and truth values are read (Bitcoin Core: `CScriptNum`, `CastToBool`).
-use Rattle.std.specs.Prelude.{ℕ, ◌+◌, ◌*◌, ◌%◌, ◌==◌, ◌||◌, not, nat_lt, nat_le, ℤ, pos, neg_ℤ, Bool, true, false, [], ◌∷◌, length, if◌then◌else◌, Result, Ok, Err}
+use Rattle.std.specs.Prelude.{ℕ, zero, suc, ◌+◌, ◌*◌, ◌%◌, ◌==◌, ◌||◌, not, nat_lt, nat_le, ℤ, pos, negsuc, neg_ℤ, Bool, true, false, [], ◌∷◌, length, if◌then◌else◌, Result, Ok, Err}
 use Rattle.def_script.specs.declared.NumFault.{NumFault}
 use Rattle.def_script.specs.declared.NumFault.TheVariants.{TooLong, NotMinimal}
 use Rattle.def_script.specs.Bytes.{Bytes}
@@ -20,8 +20,8 @@ is_negative (b ∷ c ∷ bytes) = is_negative (c ∷ bytes)
 abbrev pub number : Bytes → ℤ
 number bytes = if is_negative bytes then neg_ℤ (pos (magnitude bytes)) else pos (magnitude bytes)
 
--- a spelling isn't minimal where its last byte without the top bit is zero, and that byte is the only one or
--- the byte just before it has its top bit clear
+-- a spelling isn't minimal where its last byte without the top bit is zero, and that byte is the
+-- only one or the byte just before it has its top bit clear
 abbrev pub is_minimal : Bytes → Bool
 is_minimal [] = true
 is_minimal (b ∷ []) = not (b % 128 == 0)
@@ -35,8 +35,15 @@ num_decode most bytes =
     else if is_minimal bytes then Ok (number bytes)
     else Err NotMinimal
 
--- a string is false where all its bytes are zero, or all but a last byte 0x80, which is a negative zero
+-- a string is false where all its bytes are zero, or all but a last byte 0x80, which is a negative
+-- zero
 abbrev pub truth : Bytes → Bool
 truth [] = false
 truth (b ∷ []) = not (b == 0 || b == 0x80)
 truth (b ∷ c ∷ bytes) = not (b == 0) || truth (c ∷ bytes)
+
+-- the number isn't zero
+abbrev pub is_nonzero : ℤ → Bool
+is_nonzero (pos zero) = false
+is_nonzero (pos (suc n)) = true
+is_nonzero (negsuc n) = true

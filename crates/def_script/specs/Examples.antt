@@ -1,5 +1,6 @@
--- Examples: the table of opcodes and pushes (Bitcoin Core, script/script.h), Script numbers and truth values
--- (Bitcoin Core, test/scriptnum_tests.cpp and script_tests), CompactSize numbers (Bitcoin Core, serialize.h).
+-- Examples: the table of opcodes and pushes (Bitcoin Core, script/script.h), Script numbers and
+-- truth values (Bitcoin Core, test/scriptnum_tests.cpp and script_tests), CompactSize numbers
+-- (Bitcoin Core, serialize.h).
 use Rattle.std.specs.Prelude.{◌≡◌, ◌^◌, ◌-◌, pos, negsuc, true, false, [], ◌∷◌, ◌++◌, map, replicate, Err}
 use Rattle.def_script.specs.declared.Op.TheVariants as op
 use Rattle.def_script.specs.declared.InstrFault.TheVariants as instr_fault
@@ -25,7 +26,8 @@ SizedPushes = spell (push (replicate 75 7) ∷ push (replicate 76 7) ∷ push (r
     ≡ (75 ∷ replicate 75 7) ++ (0x4c ∷ 76 ∷ replicate 76 7) ++ (0x4d ∷ 0x00 ∷ 0x01 ∷ replicate 256 7)
     ++ (0x4e ∷ 0x00 ∷ 0x00 ∷ 0x01 ∷ 0x00 ∷ replicate 65536 7)
 
--- a number that has an opcode of its own, a length that has a shorter form, and an empty string by PUSHDATA1
+-- a number that has an opcode of its own, a length that has a shorter form, and an empty string by
+-- PUSHDATA1
 abbrev pub LongPushes : Type 0
 LongPushes = items (0x01 ∷ 0x01 ∷ 0x01 ∷ 0x81 ∷ 0x4c ∷ 0x02 ∷ 7 ∷ 7 ∷ 0x4d ∷ 0x01 ∷ 0x00 ∷ 7 ∷ 0x4c ∷ 0x00 ∷ [])
     ≡ item.push (0x01 ∷ []) false ∷ item.push (0x81 ∷ []) false ∷ item.push (7 ∷ 7 ∷ []) false ∷ item.push (7 ∷ []) false ∷ item.push [] false ∷ []
@@ -49,7 +51,8 @@ NumberSpellings =
     ∷ (0x00 ∷ 0x01 ∷ []) ∷ (0x00 ∷ 0x80 ∷ 0x00 ∷ []) ∷ (0xff ∷ 0xff ∷ 0xff ∷ 0x7f ∷ []) ∷ (0xff ∷ 0xff ∷ 0xff ∷ 0xff ∷ [])
     ∷ (0xff ∷ 0xff ∷ 0xff ∷ 0xff ∷ 0x7f ∷ []) ∷ []
 
--- a zero byte, a negative zero, 1 in two bytes, and five bytes where four may stand, which is found first
+-- a zero byte, a negative zero, 1 in two bytes, and five bytes where four may stand, which is found
+-- first
 abbrev pub NumberFaults : Type 0
 NumberFaults =
     map (num_decode 4) ((0x00 ∷ []) ∷ (0x80 ∷ []) ∷ (0x01 ∷ 0x00 ∷ []) ∷ (0x01 ∷ 0x80 ∷ []) ∷ (0x01 ∷ 0x00 ∷ 0x00 ∷ 0x00 ∷ 0x00 ∷ []) ∷ [])

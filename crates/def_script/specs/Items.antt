@@ -49,8 +49,9 @@ read_number_or_op first =
     else if nat_le 0x51 first && nat_le first 0x60 then Ok (item.push (number_bytes (pos (first - 0x50))) true, 0)
     else read_op (op_of_byte first)
 
--- how many bytes the length field of a push has, and how many bytes it pushes, by its first byte: up to 75
--- that many, and by PUSHDATA1, PUSHDATA2 and PUSHDATA4 the number in the next 1, 2 or 4 bytes, low byte first
+-- how many bytes the length field of a push has, and how many bytes it pushes, by its first byte:
+-- up to 75 that many, and by PUSHDATA1, PUSHDATA2 and PUSHDATA4 the number in the next 1, 2 or 4
+-- bytes, low byte first
 abbrev pub push_size : ℕ → Bytes → Option (ℕ × ℕ)
 push_size first rest =
     if nat_le first 75 then Some (0, first)

@@ -18,7 +18,8 @@ size_bytes size =
 abbrev pub SizeReading : Type 0
 SizeReading = Result (ℕ × ℕ) SizeFault
 
--- the number of the given width after the first byte, for which a shorter spelling has no room from `least` on
+-- the number of the given width after the first byte, for which a shorter spelling has no room from
+-- `least` on
 abbrev pub read_wide : Width → (least : ℕ) → Bytes → SizeReading
 read_wide width least rest =
     if nat_lt (length rest) (byte_len width) then Err Truncated
