@@ -1,0 +1,2 @@
+//! Definitions of what a wallet holds: signatures, preimages and lock values.
+#![tactic(auto)]
