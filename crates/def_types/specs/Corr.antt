@@ -1,0 +1,324 @@
+-- Correctness types (BIP 379, type system, correctness). `or_d_row` and its like are the table's rows:
+-- what a fragment requires, and the type that it has. A row calls a child's type by the child's letter,
+-- and 'z.d' is the property d of the child Z.
+use Rattle.std.specs.Prelude.{ℕ, ◌+◌, ◌^◌, Bool, true, false, ◌&&◌, ◌||◌, nat_lt, nat_le, List, [], ◌∷◌, length, Result, Ok}
+use Rattle.std.specs.List.{list_all}
+use Rattle.def_tree.specs.declared.Two.{Two}
+use Rattle.def_tree.specs.declared.Two.TheVariants as two_kind
+use Rattle.def_tree.specs.declared.Wrapper.{Wrapper}
+use Rattle.def_tree.specs.declared.Wrapper.TheVariants as wrapper
+use Rattle.def_tree.specs.Tree.{Tree, Trees, Key, just_0, just_1, pk_k, pk_h, older, after, hash, and_or, two, thresh, multi, wrap, none, more}
+use Rattle.def_tree.specs.Size.{nodes, nodes_of}
+use Rattle.def_types.specs.declared.Base.{Base}
+use Rattle.def_types.specs.declared.Base.TheVariants.{B, V, K, W}
+use Rattle.def_types.specs.declared.Ty.{Ty}
+use Rattle.def_types.specs.declared.rule.RuleAt.{RuleAt}
+use Rattle.def_types.specs.declared.rule.Rule.TheVariants as rule
+use Rattle.def_types.specs.Row.{Row, need, answer, if_ok}
+
+abbrev pub is_b : Base → Bool
+is_b B = true
+is_b V = false
+is_b K = false
+is_b W = false
+
+abbrev pub is_v : Base → Bool
+is_v B = false
+is_v V = true
+is_v K = false
+is_v W = false
+
+abbrev pub is_k : Base → Bool
+is_k B = false
+is_k V = false
+is_k K = true
+is_k W = false
+
+abbrev pub is_w : Base → Bool
+is_w B = false
+is_w V = false
+is_w K = false
+is_w W = true
+
+-- the same of B, K and V
+abbrev pub are_same : Base → Base → Bool
+are_same x y = (is_b x && is_b y) || (is_k x && is_k y) || (is_v x && is_v y)
+
+unfoldable pub just_0_row : Row Ty
+just_0_row = record {
+  needs = [];
+  gives = record { base = B; z = true; o = false; n = false; d = true; u = true };
+}
+
+unfoldable pub just_1_row : Row Ty
+just_1_row = record {
+  needs = [];
+  gives = record { base = B; z = true; o = false; n = false; d = false; u = true };
+}
+
+unfoldable pub pk_k_row : Row Ty
+pk_k_row = record {
+  needs = [];
+  gives = record { base = K; z = false; o = true; n = true; d = true; u = true };
+}
+
+unfoldable pub pk_h_row : Row Ty
+pk_h_row = record {
+  needs = [];
+  gives = record { base = K; z = false; o = false; n = true; d = true; u = true };
+}
+
+-- n is 1 to 2^31 - 1
+unfoldable pub older_row : (n : ℕ) → Row Ty
+older_row n = record {
+  needs = need rule.OlderRange (nat_le 1 n && nat_lt n (2 ^ 31)) ∷ [];
+  gives = record { base = B; z = true; o = false; n = false; d = false; u = false };
+}
+
+unfoldable pub after_row : (n : ℕ) → Row Ty
+after_row n = record {
+  needs = need rule.AfterRange (nat_le 1 n && nat_lt n (2 ^ 31)) ∷ [];
+  gives = record { base = B; z = true; o = false; n = false; d = false; u = false };
+}
+
+unfoldable pub hash_row : Row Ty
+hash_row = record {
+  needs = [];
+  gives = record { base = B; z = false; o = true; n = true; d = true; u = true };
+}
+
+unfoldable pub and_or_row : (x y z : Ty) → Row Ty
+and_or_row x y z = record {
+  needs =
+      need rule.AndOrX (is_b x.base && x.d && x.u) ∷
+      need rule.AndOrYZ (are_same y.base z.base) ∷ [];
+  gives = record {
+    base = y.base;
+    z = x.z && y.z && z.z;
+    o = (x.z && y.o && z.o) || (x.o && y.z && z.z);
+    n = false;
+    d = z.d;
+    u = y.u && z.u;
+  };
+}
+
+unfoldable pub and_v_row : (x y : Ty) → Row Ty
+and_v_row x y = record {
+  needs =
+      need rule.AndVX (is_v x.base) ∷
+      need rule.AndVY (is_b y.base || is_k y.base || is_v y.base) ∷ [];
+  gives = record {
+    base = y.base;
+    z = x.z && y.z;
+    o = (x.z && y.o) || (y.z && x.o);
+    n = x.n || (x.z && y.n);
+    d = false;
+    u = y.u;
+  };
+}
+
+unfoldable pub and_b_row : (x y : Ty) → Row Ty
+and_b_row x y = record {
+  needs =
+      need rule.AndBX (is_b x.base) ∷
+      need rule.AndBY (is_w y.base) ∷ [];
+  gives = record {
+    base = B;
+    z = x.z && y.z;
+    o = (x.z && y.o) || (y.z && x.o);
+    n = x.n || (x.z && y.n);
+    d = x.d && y.d;
+    u = true;
+  };
+}
+
+unfoldable pub or_b_row : (x z : Ty) → Row Ty
+or_b_row x z = record {
+  needs =
+      need rule.OrBX (is_b x.base && x.d) ∷
+      need rule.OrBZ (is_w z.base && z.d) ∷ [];
+  gives = record {
+    base = B;
+    z = x.z && z.z;
+    o = (x.z && z.o) || (z.z && x.o);
+    n = false;
+    d = true;
+    u = true;
+  };
+}
+
+unfoldable pub or_c_row : (x z : Ty) → Row Ty
+or_c_row x z = record {
+  needs =
+      need rule.OrCX (is_b x.base && x.d && x.u) ∷
+      need rule.OrCZ (is_v z.base) ∷ [];
+  gives = record {
+    base = V;
+    z = x.z && z.z;
+    o = x.o && z.z;
+    n = false;
+    d = false;
+    u = false;
+  };
+}
+
+unfoldable pub or_d_row : (x z : Ty) → Row Ty
+or_d_row x z = record {
+  needs =
+      need rule.OrDX (is_b x.base && x.d && x.u) ∷
+      need rule.OrDZ (is_b z.base) ∷ [];
+  gives = record {
+    base = B;
+    z = x.z && z.z;
+    o = x.o && z.z;
+    n = false;
+    d = z.d;
+    u = z.u;
+  };
+}
+
+unfoldable pub or_i_row : (x z : Ty) → Row Ty
+or_i_row x z = record {
+  needs = need rule.OrIXZ (are_same x.base z.base) ∷ [];
+  gives = record {
+    base = x.base;
+    z = false;
+    o = x.z && z.z;
+    n = false;
+    d = x.d || z.d;
+    u = x.u && z.u;
+  };
+}
+
+-- the fragments with two children, in the order of the table
+unfoldable pub two_row : Two → (x y : Ty) → Row Ty
+two_row two_kind.AndV x y = and_v_row x y
+two_row two_kind.AndB x y = and_b_row x y
+two_row two_kind.OrB x z = or_b_row x z
+two_row two_kind.OrC x z = or_c_row x z
+two_row two_kind.OrD x z = or_d_row x z
+two_row two_kind.OrI x z = or_i_row x z
+
+-- the first child is B d u
+abbrev pub first_fits : List Ty → Bool
+first_fits [] = false
+first_fits (x ∷ xs) = is_b x.base && x.d && x.u
+
+-- the others are W d u
+abbrev pub others_fit : List Ty → Bool
+others_fit [] = true
+others_fit (x ∷ xs) = list_all (λ y. is_w y.base && y.d && y.u) xs
+
+abbrev pub all_z : List Ty → Bool
+all_z = list_all (λ x. x.z)
+
+-- all are z but one, which is o
+abbrev pub all_z_but_one : List Ty → Bool
+all_z_but_one [] = false
+all_z_but_one (x ∷ xs) = (x.o && all_z xs) || (x.z && all_z_but_one xs)
+
+-- k is 1 to the number of children
+unfoldable pub thresh_row : (k : ℕ) → (children : List Ty) → Row Ty
+thresh_row k xs = record {
+  needs =
+      need rule.ThreshRange (nat_le 1 k && nat_le k (length xs)) ∷
+      need rule.ThreshFirst (first_fits xs) ∷
+      need rule.ThreshOther (others_fit xs) ∷ [];
+  gives = record { base = B; z = all_z xs; o = all_z_but_one xs; n = false; d = true; u = true };
+}
+
+-- k is 1 to the number of keys, which is at most 20
+unfoldable pub multi_row : (k : ℕ) → (keys : List Key) → Row Ty
+multi_row k keys = record {
+  needs =
+      need rule.MultiRange (nat_le 1 k && nat_le k (length keys) && nat_le (length keys) 20) ∷ [];
+  gives = record { base = B; z = false; o = false; n = true; d = true; u = true };
+}
+
+unfoldable pub wrap_a_row : (x : Ty) → Row Ty
+wrap_a_row x = record {
+  needs = need rule.WrapA (is_b x.base) ∷ [];
+  gives = record { base = W; z = false; o = false; n = false; d = x.d; u = x.u };
+}
+
+unfoldable pub wrap_s_row : (x : Ty) → Row Ty
+wrap_s_row x = record {
+  needs = need rule.WrapS (is_b x.base && x.o) ∷ [];
+  gives = record { base = W; z = false; o = false; n = false; d = x.d; u = x.u };
+}
+
+unfoldable pub wrap_c_row : (x : Ty) → Row Ty
+wrap_c_row x = record {
+  needs = need rule.WrapC (is_k x.base) ∷ [];
+  gives = record { base = B; z = false; o = x.o; n = x.n; d = x.d; u = true };
+}
+
+unfoldable pub wrap_d_row : (x : Ty) → Row Ty
+wrap_d_row x = record {
+  needs = need rule.WrapD (is_v x.base && x.z) ∷ [];
+  gives = record { base = B; z = false; o = true; n = true; d = true; u = false };
+}
+
+unfoldable pub wrap_v_row : (x : Ty) → Row Ty
+wrap_v_row x = record {
+  needs = need rule.WrapV (is_b x.base) ∷ [];
+  gives = record { base = V; z = x.z; o = x.o; n = x.n; d = false; u = false };
+}
+
+unfoldable pub wrap_j_row : (x : Ty) → Row Ty
+wrap_j_row x = record {
+  needs = need rule.WrapJ (is_b x.base && x.n) ∷ [];
+  gives = record { base = B; z = false; o = x.o; n = true; d = true; u = x.u };
+}
+
+unfoldable pub wrap_n_row : (x : Ty) → Row Ty
+wrap_n_row x = record {
+  needs = need rule.WrapN (is_b x.base) ∷ [];
+  gives = record { base = B; z = x.z; o = x.o; n = x.n; d = x.d; u = true };
+}
+
+-- the wrappers, in the order of the table
+unfoldable pub wrap_row : Wrapper → (x : Ty) → Row Ty
+wrap_row wrapper.A x = wrap_a_row x
+wrap_row wrapper.S x = wrap_s_row x
+wrap_row wrapper.C x = wrap_c_row x
+wrap_row wrapper.D x = wrap_d_row x
+wrap_row wrapper.V x = wrap_v_row x
+wrap_row wrapper.J x = wrap_j_row x
+wrap_row wrapper.N x = wrap_n_row x
+
+-- the type, or the first requirement that is false: by node, children first and left to right, and then in
+-- the order of the row. The nodes of the tree are numbered from `first` on
+abbrev mutual
+  pub corr_from : (first : ℕ) → Tree → Result Ty RuleAt
+  corr_from first just_0 = answer first just_0_row
+  corr_from first just_1 = answer first just_1_row
+  corr_from first (pk_k key) = answer first pk_k_row
+  corr_from first (pk_h key) = answer first pk_h_row
+  corr_from first (older n) = answer first (older_row n)
+  corr_from first (after n) = answer first (after_row n)
+  corr_from first (hash kind value) = answer first hash_row
+  corr_from first (and_or x y z) =
+      if_ok (corr_from first x) (λ x_type.
+      if_ok (corr_from (first + nodes x) y) (λ y_type.
+      if_ok (corr_from (first + nodes x + nodes y) z) (λ z_type.
+      answer (first + nodes x + nodes y + nodes z) (and_or_row x_type y_type z_type))))
+  corr_from first (two kind x y) =
+      if_ok (corr_from first x) (λ x_type.
+      if_ok (corr_from (first + nodes x) y) (λ y_type.
+      answer (first + nodes x + nodes y) (two_row kind x_type y_type)))
+  corr_from first (thresh k xs) =
+      if_ok (corr_all first xs) (λ types. answer (first + nodes_of xs) (thresh_row k types))
+  corr_from first (multi k keys) = answer first (multi_row k keys)
+  corr_from first (wrap wrapper x) =
+      if_ok (corr_from first x) (λ x_type. answer (first + nodes x) (wrap_row wrapper x_type))
+
+  pub corr_all : (first : ℕ) → Trees → Result (List Ty) RuleAt
+  corr_all first none = Ok []
+  corr_all first (more x xs) =
+      if_ok (corr_from first x) (λ x_type.
+      if_ok (corr_all (first + nodes x) xs) (λ types.
+      Ok (x_type ∷ types)))
+
+abbrev pub corr : Tree → Result Ty RuleAt
+corr tree = corr_from 0 tree

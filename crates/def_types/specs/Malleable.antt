@@ -1,0 +1,177 @@
+-- Malleability properties (BIP 379, type system, malleability). The rows and their letters are read as in `Corr`;
+-- what a fragment requires is asked of every node.
+use Rattle.std.specs.Prelude.{ℕ, ◌+◌, true, false, ◌&&◌, ◌||◌, nat_lt, nat_le, List, [], ◌∷◌, Result, Ok, if◌then◌else◌}
+use Rattle.std.specs.List.{list_all}
+use Rattle.def_tree.specs.declared.Two.{Two}
+use Rattle.def_tree.specs.declared.Two.TheVariants as two_kind
+use Rattle.def_tree.specs.declared.Wrapper.{Wrapper}
+use Rattle.def_tree.specs.declared.Wrapper.TheVariants as wrapper
+use Rattle.def_tree.specs.Tree.{Tree, Trees, just_0, just_1, pk_k, pk_h, older, after, hash, and_or, two, thresh, multi, wrap, none, more}
+use Rattle.def_tree.specs.Size.{nodes, nodes_of}
+use Rattle.def_types.specs.declared.Mall.{Mall}
+use Rattle.def_types.specs.declared.rule.RuleAt.{RuleAt}
+use Rattle.def_types.specs.declared.rule.Rule.TheVariants as rule
+use Rattle.def_types.specs.Row.{Row, need, answer, if_ok}
+
+unfoldable pub just_0_row : Row Mall
+just_0_row = record { needs = []; gives = record { s = true; f = false; e = true } }
+
+unfoldable pub just_1_row : Row Mall
+just_1_row = record { needs = []; gives = record { s = false; f = true; e = false } }
+
+-- `pk_k`, `pk_h` and `multi`
+unfoldable pub key_row : Row Mall
+key_row = record { needs = []; gives = record { s = true; f = false; e = true } }
+
+-- `older` and `after`
+unfoldable pub lock_row : Row Mall
+lock_row = record { needs = []; gives = record { s = false; f = true; e = false } }
+
+unfoldable pub hash_row : Row Mall
+hash_row = record { needs = []; gives = record { s = false; f = false; e = false } }
+
+unfoldable pub and_or_row : (x y z : Mall) → Row Mall
+and_or_row x y z = record {
+  needs =
+      need rule.AndOrE x.e ∷
+      need rule.AndOrS (x.s || y.s || z.s) ∷ [];
+  gives = record {
+    s = z.s && (x.s || y.s);
+    f = z.f && (x.s || y.f);
+    e = z.e && (x.s || y.f);
+  };
+}
+
+unfoldable pub and_v_row : (x y : Mall) → Row Mall
+and_v_row x y = record {
+  needs = [];
+  gives = record { s = x.s || y.s; f = x.s || y.f; e = false };
+}
+
+unfoldable pub and_b_row : (x y : Mall) → Row Mall
+and_b_row x y = record {
+  needs = [];
+  gives = record {
+    s = x.s || y.s;
+    f = (x.f && y.f) || (x.s && x.f) || (y.s && y.f);
+    e = x.e && y.e && x.s && y.s;
+  };
+}
+
+unfoldable pub or_b_row : (x z : Mall) → Row Mall
+or_b_row x z = record {
+  needs =
+      need rule.OrBE (x.e && z.e) ∷
+      need rule.OrBS (x.s || z.s) ∷ [];
+  gives = record { s = x.s && z.s; f = false; e = true };
+}
+
+unfoldable pub or_c_row : (x z : Mall) → Row Mall
+or_c_row x z = record {
+  needs =
+      need rule.OrCE x.e ∷
+      need rule.OrCS (x.s || z.s) ∷ [];
+  gives = record { s = x.s && z.s; f = true; e = false };
+}
+
+unfoldable pub or_d_row : (x z : Mall) → Row Mall
+or_d_row x z = record {
+  needs =
+      need rule.OrDE x.e ∷
+      need rule.OrDS (x.s || z.s) ∷ [];
+  gives = record { s = x.s && z.s; f = z.f; e = z.e };
+}
+
+unfoldable pub or_i_row : (x z : Mall) → Row Mall
+or_i_row x z = record {
+  needs = need rule.OrIS (x.s || z.s) ∷ [];
+  gives = record {
+    s = x.s && z.s;
+    f = x.f && z.f;
+    e = (x.e && z.f) || (z.e && x.f);
+  };
+}
+
+-- the fragments with two children, in the order of the table
+unfoldable pub two_row : Two → (x y : Mall) → Row Mall
+two_row two_kind.AndV x y = and_v_row x y
+two_row two_kind.AndB x y = and_b_row x y
+two_row two_kind.OrB x z = or_b_row x z
+two_row two_kind.OrC x z = or_c_row x z
+two_row two_kind.OrD x z = or_d_row x z
+two_row two_kind.OrI x z = or_i_row x z
+
+-- how many of the children are not s
+abbrev pub count_not_s : List Mall → ℕ
+count_not_s [] = 0
+count_not_s (x ∷ xs) = (if x.s then 0 else 1) + count_not_s xs
+
+unfoldable pub thresh_row : (k : ℕ) → (children : List Mall) → Row Mall
+thresh_row k xs = record {
+  needs =
+      need rule.ThreshE (list_all (λ x. x.e) xs) ∷
+      need rule.ThreshS (nat_le (count_not_s xs) k) ∷ [];
+  gives = record {
+    s = nat_lt (count_not_s xs) k;
+    f = false;
+    e = list_all (λ x. x.s) xs;
+  };
+}
+
+unfoldable pub wrap_c_row : (x : Mall) → Row Mall
+wrap_c_row x = record { needs = []; gives = record { s = true; f = x.f; e = x.e } }
+
+unfoldable pub wrap_d_row : (x : Mall) → Row Mall
+wrap_d_row x = record { needs = []; gives = record { s = x.s; f = false; e = true } }
+
+unfoldable pub wrap_v_row : (x : Mall) → Row Mall
+wrap_v_row x = record { needs = []; gives = record { s = x.s; f = true; e = false } }
+
+unfoldable pub wrap_j_row : (x : Mall) → Row Mall
+wrap_j_row x = record { needs = []; gives = record { s = x.s; f = false; e = x.f } }
+
+-- the wrappers; `a`, `s` and `n` are as their child
+unfoldable pub wrap_row : Wrapper → (x : Mall) → Row Mall
+wrap_row wrapper.A x = record { needs = []; gives = x }
+wrap_row wrapper.S x = record { needs = []; gives = x }
+wrap_row wrapper.C x = wrap_c_row x
+wrap_row wrapper.D x = wrap_d_row x
+wrap_row wrapper.V x = wrap_v_row x
+wrap_row wrapper.J x = wrap_j_row x
+wrap_row wrapper.N x = record { needs = []; gives = x }
+
+-- the properties, or the first requirement that is false, by node and then in the order of the row. The
+-- nodes of the tree are numbered from `first` on
+abbrev mutual
+  pub mall_from : (first : ℕ) → Tree → Result Mall RuleAt
+  mall_from first just_0 = answer first just_0_row
+  mall_from first just_1 = answer first just_1_row
+  mall_from first (pk_k key) = answer first key_row
+  mall_from first (pk_h key) = answer first key_row
+  mall_from first (older n) = answer first lock_row
+  mall_from first (after n) = answer first lock_row
+  mall_from first (hash kind value) = answer first hash_row
+  mall_from first (and_or x y z) =
+      if_ok (mall_from first x) (λ x_mall.
+      if_ok (mall_from (first + nodes x) y) (λ y_mall.
+      if_ok (mall_from (first + nodes x + nodes y) z) (λ z_mall.
+      answer (first + nodes x + nodes y + nodes z) (and_or_row x_mall y_mall z_mall))))
+  mall_from first (two kind x y) =
+      if_ok (mall_from first x) (λ x_mall.
+      if_ok (mall_from (first + nodes x) y) (λ y_mall.
+      answer (first + nodes x + nodes y) (two_row kind x_mall y_mall)))
+  mall_from first (thresh k xs) =
+      if_ok (mall_all first xs) (λ malls. answer (first + nodes_of xs) (thresh_row k malls))
+  mall_from first (multi k keys) = answer first key_row
+  mall_from first (wrap wrapper x) =
+      if_ok (mall_from first x) (λ x_mall. answer (first + nodes x) (wrap_row wrapper x_mall))
+
+  pub mall_all : (first : ℕ) → Trees → Result (List Mall) RuleAt
+  mall_all first none = Ok []
+  mall_all first (more x xs) =
+      if_ok (mall_from first x) (λ x_mall.
+      if_ok (mall_all (first + nodes x) xs) (λ malls.
+      Ok (x_mall ∷ malls)))
+
+abbrev pub mall : Tree → Result Mall RuleAt
+mall tree = mall_from 0 tree
