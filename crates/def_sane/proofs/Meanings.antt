@@ -1,0 +1,141 @@
+-- What it means that none of the reasons applies.
+use Rattle.std.proofs.Common.{◌≡◌, ℕ, ◌≤◌, Bool, true, false, nat_lt, List, ◌∷◌, Option, Some, None, Result, Ok, Err, IsTrue, refl, ◌∙◌, ap, subst, if◌then◌else◌}
+use Rattle.std.proofs.lemmas.Bool.{ltb-false, le-ltb}
+use Rattle.def_types.specs.declared.Base.{Base}
+use Rattle.def_types.specs.declared.Base.TheVariants.{B, V, K, W}
+use Rattle.def_types.specs.declared.Ty.{Ty}
+use Rattle.def_types.specs.declared.Mall.{Mall}
+use Rattle.def_types.specs.declared.rule.RuleAt.{RuleAt}
+use Rattle.def_types.specs.Corr.{is_b, corr}
+use Rattle.def_types.specs.Malleable.{mall}
+use Rattle.def_types.specs.Typed.{type_of, IsTyped, mall_of, IsNonMalleable}
+use Rattle.def_types.proofs.Typing.{corr_is_typed}
+use Rattle.def_types.proofs.NonMalleable.{mall_is_non_malleable}
+use Rattle.def_sane.specs.declared.Unfit.{Unfit}
+use Rattle.def_sane.specs.Most.{limits_of}
+use Rattle.def_sane.specs.Locks.{mix}
+use Rattle.def_sane.specs.Keys.{keys, AreDistinct, repeated_key}
+use Rattle.def_sane.specs.Unfit.{MOST_SIZE, MOST_OPS, MOST_ITEMS, broken_rule, wrong_top, malleable, no_signature, mixed_locks, repeated, first_reason, IsValid, IsSane}
+use Rattle.def_sane.specs.Laws.{ValidMeans, SaneMeans}
+use Rattle.def_sane.proofs.FirstRepeat.{none_is_repeated}
+
+-- a list without a reason, first by first
+no_reason : (o : Option Unfit) (rest : List (Option Unfit)) → first_reason (o ∷ rest) ≡ None → (o ≡ None) × (first_reason rest ≡ None)
+no_reason None rest e = (refl, e)
+no_reason (Some reason) rest e = cc
+
+none_first : (o : Option Unfit) (rest : List (Option Unfit)) → o ≡ None → first_reason rest ≡ None → first_reason (o ∷ rest) ≡ None
+none_first o rest e f = rw e f
+
+-- a reason by a bound
+within_bound : (most n : ℕ) (reason : Unfit) → (if nat_lt most n then Some reason else None) ≡ None → n ≤ most
+within_bound most n reason e = go (nat_lt most n) refl e
+  where
+    go : (b : Bool) → nat_lt most n ≡ b → (if b then Some reason else None) ≡ None → n ≤ most
+    go true q e = cc
+    go false q e = ltb-false most n q
+
+bound_within : (most n : ℕ) (reason : Unfit) → n ≤ most → (if nat_lt most n then Some reason else None) ≡ None
+bound_within most n reason h = rw (le-ltb most n h)
+
+b_from_test : (base : Base) → is_b base ≡ true → base ≡ B
+b_from_test B e = refl
+b_from_test V e = cc
+b_from_test K e = cc
+b_from_test W e = cc
+
+-- a type, and a top of type B
+typed_from_none : (r : Result Ty RuleAt) → broken_rule r ≡ None → (ty : Ty) × (r ≡ Ok ty)
+typed_from_none (Ok ty) e = (ty, refl)
+typed_from_none (Err at) e = cc
+
+b_from_none : (ty : Ty) → wrong_top (Ok ty) ≡ None → ty.base ≡ B
+b_from_none ty e = b_from_test ty.base (go (is_b ty.base) e)
+  where
+    go : (b : Bool) → (if b then None else Some Unfit.TopNotB) ≡ None → b ≡ true
+    go true e = refl
+    go false e = cc
+
+wrong_top-b : (ty : Ty) → ty.base ≡ B → wrong_top (Ok ty) ≡ None
+wrong_top-b ty e = rw e
+
+pub valid_means : ValidMeans
+valid_means tree = (forth, back)
+  where
+    forth : IsValid tree → IsTyped tree × ((type_of tree).base ≡ B) × ((limits_of tree).size ≤ MOST_SIZE) × ((limits_of tree).ops ≤ MOST_OPS) × ((limits_of tree).items ≤ MOST_ITEMS)
+    forth valid =
+        let one = no_reason _ _ valid in
+        let two = no_reason _ _ one.1 in
+        let three = no_reason _ _ two.1 in
+        let four = no_reason _ _ three.1 in
+        let five = no_reason _ _ four.1 in
+        let typed = typed_from_none (corr tree) one.0 in
+        let known = (corr_is_typed tree typed.0).0 typed.1 in
+        let base : typed.0.base ≡ B = b_from_none typed.0 (subst (λ r. wrong_top r ≡ None) typed.1 two.0) in (
+          known.0,
+          subst (λ (ty : Ty). ty.base ≡ B) known.1 base,
+          within_bound MOST_SIZE _ _ three.0,
+          within_bound MOST_OPS _ _ four.0,
+          within_bound MOST_ITEMS _ _ five.0,
+        )
+
+    back : IsTyped tree × ((type_of tree).base ≡ B) × ((limits_of tree).size ≤ MOST_SIZE) × ((limits_of tree).ops ≤ MOST_OPS) × ((limits_of tree).items ≤ MOST_ITEMS) → IsValid tree
+    back h =
+        let typed : corr tree ≡ Ok (type_of tree) = (corr_is_typed tree (type_of tree)).1 (h.0, refl) in
+        none_first _ _ (ap broken_rule typed)
+        (none_first _ _ (ap wrong_top typed ∙ wrong_top-b (type_of tree) h.1)
+        (none_first _ _ (bound_within MOST_SIZE _ _ h.2)
+        (none_first _ _ (bound_within MOST_OPS _ _ h.3)
+        (none_first _ _ (bound_within MOST_ITEMS _ _ h.4) refl))))
+
+-- properties, and a top with s
+mall_from_none : (r : Result Mall RuleAt) → malleable r ≡ None → (m : Mall) × (r ≡ Ok m)
+mall_from_none (Ok m) e = (m, refl)
+mall_from_none (Err at) e = cc
+
+s_from_none : (m : Mall) → no_signature (Ok m) ≡ None → m.s ≡ true
+s_from_none m e = go m.s e
+  where
+    go : (b : Bool) → (if b then None else Some Unfit.NoSignature) ≡ None → b ≡ true
+    go true e = refl
+    go false e = cc
+
+no_signature-s : (m : Mall) → m.s ≡ true → no_signature (Ok m) ≡ None
+no_signature-s m e = rw e
+
+mix_from_none : (o : Option ℕ) → mixed_locks o ≡ None → o ≡ None
+mix_from_none None e = refl
+mix_from_none (Some node) e = cc
+
+repeat_from_none : (o : Option ℕ) → repeated o ≡ None → o ≡ None
+repeat_from_none None e = refl
+repeat_from_none (Some node) e = cc
+
+pub sane_means : SaneMeans
+sane_means tree = (forth, back)
+  where
+    forth : IsSane tree → IsValid tree × IsNonMalleable tree × IsTrue (mall_of tree).s × (mix tree ≡ None) × AreDistinct (keys tree)
+    forth sane =
+        let one = no_reason _ _ sane in
+        let two = no_reason _ _ one.1 in
+        let three = no_reason _ _ two.1 in
+        let four = no_reason _ _ three.1 in
+        let five = no_reason _ _ four.1 in
+        let typed = mall_from_none (mall tree) two.0 in
+        let known = (mall_is_non_malleable tree typed.0).0 typed.1 in
+        let signed : typed.0.s ≡ true = s_from_none typed.0 (subst (λ r. no_signature r ≡ None) typed.1 three.0) in (
+          one.0,
+          known.0,
+          subst (λ (m : Mall). m.s ≡ true) known.1 signed,
+          mix_from_none (mix tree) four.0,
+          (none_is_repeated tree).0 (repeat_from_none (repeated_key tree) five.0),
+        )
+
+    back : IsValid tree × IsNonMalleable tree × IsTrue (mall_of tree).s × (mix tree ≡ None) × AreDistinct (keys tree) → IsSane tree
+    back h =
+        let typed : mall tree ≡ Ok (mall_of tree) = (mall_is_non_malleable tree (mall_of tree)).1 (h.1, refl) in
+        none_first _ _ h.0
+        (none_first _ _ (ap malleable typed)
+        (none_first _ _ (ap no_signature typed ∙ no_signature-s (mall_of tree) h.2)
+        (none_first _ _ (ap mixed_locks h.3)
+        (none_first _ _ (ap repeated ((none_is_repeated tree).1 h.4)) refl))))

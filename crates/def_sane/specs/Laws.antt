@@ -1,0 +1,52 @@
+-- Laws of limits, and of valid and sane miniscripts.
+use Rattle.std.specs.Prelude.{◌≡◌, ◌↔◌, ℕ, ◌<◌, ◌≤◌, None, IsTrue, MatchOption, length}
+use Rattle.def_tree.specs.Tree.{Tree}
+use Rattle.def_tree.specs.Size.{nodes}
+use Rattle.def_types.specs.declared.Base.TheVariants.{B}
+use Rattle.def_types.specs.Typed.{type_of, IsTyped, mall_of, IsNonMalleable}
+use Rattle.def_sane.specs.declared.Limits.{Limits}
+use Rattle.def_sane.specs.Nodes.{all_nodes}
+use Rattle.def_sane.specs.Limits.{AreLimits}
+use Rattle.def_sane.specs.Most.{limits_of}
+use Rattle.def_sane.specs.Locks.{Mixes, mix}
+use Rattle.def_sane.specs.Keys.{keys, AreDistinct, repeated_key}
+use Rattle.def_sane.specs.Unfit.{MOST_SIZE, MOST_OPS, MOST_ITEMS, IsValid, IsSane}
+
+-- the computed limits are limits
+abbrev pub LimitsAreComputed : Type 0
+LimitsAreComputed = (tree : Tree) → AreLimits tree (limits_of tree)
+
+-- a tree has no other limits
+abbrev pub LimitsAreUnique : Type 0
+LimitsAreUnique = (tree : Tree) (limits : Limits) → AreLimits tree limits → limits ≡ limits_of tree
+
+-- the list of nodes has all nodes
+abbrev pub NodesAreAll : Type 0
+NodesAreAll = (tree : Tree) → length (all_nodes tree) ≡ nodes tree
+
+-- `mix` is the first node that mixes, and there is none exactly where it is none
+abbrev pub MixIsFirst : Type 0
+MixIsFirst =
+    (tree : Tree) →
+    MatchOption (mix tree)
+    ((node : ℕ) → ¬ Mixes tree node)
+    (λ first. Mixes tree first × ((node : ℕ) → node < first → ¬ Mixes tree node))
+
+-- no key is repeated exactly where all keys of the tree are distinct
+abbrev pub NoneIsRepeated : Type 0
+NoneIsRepeated = (tree : Tree) → (repeated_key tree ≡ None) ↔ AreDistinct (keys tree)
+
+-- a valid tree is of type B, and within the limits
+abbrev pub ValidMeans : Type 0
+ValidMeans =
+    (tree : Tree) →
+    IsValid tree ↔
+    (IsTyped tree × ((type_of tree).base ≡ B) × ((limits_of tree).size ≤ MOST_SIZE) ×
+    ((limits_of tree).ops ≤ MOST_OPS) × ((limits_of tree).items ≤ MOST_ITEMS))
+
+-- a sane tree is valid, not malleable and signed, and has no mixed locks and no repeated key
+abbrev pub SaneMeans : Type 0
+SaneMeans =
+    (tree : Tree) →
+    IsSane tree ↔
+    (IsValid tree × IsNonMalleable tree × IsTrue (mall_of tree).s × (mix tree ≡ None) × AreDistinct (keys tree))

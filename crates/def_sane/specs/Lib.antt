@@ -1,0 +1,10 @@
+pub mod Nodes
+pub mod Formal
+pub mod Limits
+pub mod Most
+pub mod Laws
+pub mod Locks
+pub mod Keys
+pub mod Unfit
+pub mod Examples
+pub mod Refusals

@@ -1,0 +1,106 @@
+-- Valid and sane miniscripts (BIP 379, with the limits of P2WSH), and the reasons against them in the
+-- order in which they are tested.
+use Rattle.std.specs.Prelude.{◌≡◌, ℕ, nat_lt, List, [], ◌∷◌, Option, Some, None, Result, Ok, Err, if◌then◌else◌}
+use Rattle.def_tree.specs.Tree.{Tree}
+use Rattle.def_types.specs.declared.Ty.{Ty}
+use Rattle.def_types.specs.declared.Mall.{Mall}
+use Rattle.def_types.specs.declared.rule.RuleAt.{RuleAt}
+use Rattle.def_types.specs.Corr.{is_b, corr}
+use Rattle.def_types.specs.Malleable.{mall}
+use Rattle.def_sane.specs.declared.Limits.{Limits}
+use Rattle.def_sane.specs.declared.Unfit.{Unfit}
+use Rattle.def_sane.specs.declared.Unfit.TheVariants as unfit
+use Rattle.def_sane.specs.declared.Valid.{Valid}
+use Rattle.def_sane.specs.declared.Sane.{Sane}
+use Rattle.def_sane.specs.Limits.{AreLimits}
+use Rattle.def_sane.specs.Most.{limits_of}
+use Rattle.def_sane.specs.Locks.{mix}
+use Rattle.def_sane.specs.Keys.{repeated_key}
+
+-- the most bytes of a Script that is relayed (Bitcoin Core, MAX_STANDARD_P2WSH_SCRIPT_SIZE), opcodes of a
+-- Script (MAX_OPS_PER_SCRIPT) and stack items that are relayed (MAX_STANDARD_P2WSH_STACK_ITEMS)
+abbrev pub MOST_SIZE : ℕ
+MOST_SIZE = 3600
+
+abbrev pub MOST_OPS : ℕ
+MOST_OPS = 201
+
+abbrev pub MOST_ITEMS : ℕ
+MOST_ITEMS = 100
+
+-- 1: a correctness requirement fails; the first
+abbrev pub broken_rule : Result Ty RuleAt → Option Unfit
+broken_rule (Ok ty) = None
+broken_rule (Err at) = Some (unfit.Rule at)
+
+-- 2: the top isn't of type B
+abbrev pub wrong_top : Result Ty RuleAt → Option Unfit
+wrong_top (Ok ty) = if is_b ty.base then None else Some unfit.TopNotB
+wrong_top (Err at) = None
+
+-- 3, 4, 5: the size, the opcodes or the items are over their limit
+abbrev pub too_large : Limits → Option Unfit
+too_large limits = if nat_lt MOST_SIZE limits.size then Some (unfit.Size limits.size) else None
+
+abbrev pub too_many_ops : Limits → Option Unfit
+too_many_ops limits = if nat_lt MOST_OPS limits.ops then Some (unfit.Ops limits.ops) else None
+
+abbrev pub too_many_items : Limits → Option Unfit
+too_many_items limits = if nat_lt MOST_ITEMS limits.items then Some (unfit.Items limits.items) else None
+
+-- 6: a malleability requirement fails; the first
+abbrev pub malleable : Result Mall RuleAt → Option Unfit
+malleable (Ok mall) = None
+malleable (Err at) = Some (unfit.Malleable at)
+
+-- 7: the top hasn't the property s
+abbrev pub no_signature : Result Mall RuleAt → Option Unfit
+no_signature (Ok mall) = if mall.s then None else Some unfit.NoSignature
+no_signature (Err at) = None
+
+-- 8: a node mixes timelocks; the first
+abbrev pub mixed_locks : Option ℕ → Option Unfit
+mixed_locks None = None
+mixed_locks (Some node) = Some (unfit.MixedLocks node)
+
+-- 9: a node repeats a key; the first
+abbrev pub repeated : Option ℕ → Option Unfit
+repeated None = None
+repeated (Some node) = Some (unfit.RepeatedKey node)
+
+-- the first reason of a list
+abbrev pub first_reason : List (Option Unfit) → Option Unfit
+first_reason [] = None
+first_reason (None ∷ rest) = first_reason rest
+first_reason (Some reason ∷ rest) = Some reason
+
+-- the first reason of 1 to 5
+abbrev pub first_unfit_valid : Tree → Option Unfit
+first_unfit_valid tree =
+    let limits = limits_of tree in
+    first_reason (
+    broken_rule (corr tree) ∷ wrong_top (corr tree) ∷
+    too_large limits ∷ too_many_ops limits ∷ too_many_items limits ∷ [])
+
+-- the first reason of 1 to 9
+abbrev pub first_unfit : Tree → Option Unfit
+first_unfit tree =
+    first_reason (
+    first_unfit_valid tree ∷ malleable (mall tree) ∷ no_signature (mall tree) ∷
+    mixed_locks (mix tree) ∷ repeated (repeated_key tree) ∷ [])
+
+-- none of 1 to 5 applies
+abbrev pub IsValid : Tree → Type 0
+IsValid tree = first_unfit_valid tree ≡ None
+
+-- none of 1 to 9 applies
+abbrev pub IsSane : Tree → Type 0
+IsSane tree = first_unfit tree ≡ None
+
+-- what is known of a valid tree, and of a sane one
+abbrev pub IsKnownValid : Tree → Valid → Type 0
+IsKnownValid tree valid = IsValid tree × (corr tree ≡ Ok valid.ty) × AreLimits tree valid.limits
+
+abbrev pub IsKnownSane : Tree → Sane → Type 0
+IsKnownSane tree sane =
+    IsSane tree × (corr tree ≡ Ok sane.ty) × (mall tree ≡ Ok sane.mall) × AreLimits tree sane.limits

@@ -1,0 +1,70 @@
+//! Examples of limits, of sane miniscripts, and of refusals.
+
+ghost use Rattle.def_sane.specs.Examples.{
+  KeyLimits,
+  ChainLimits,
+  KeysLimits,
+  KeyHashLimits,
+  LockLimits,
+  ThresholdLimits,
+  EitherLimits,
+  LockedThresholdLimits,
+  HashThresholdLimits,
+  FourChildrenLimits,
+  EachByItself,
+  ZeroLimits,
+};
+ghost use Rattle.def_sane.specs.Refusals.{
+  SaneOnes,
+  OneNeedsNoSignature,
+  VerifyOnTop,
+  NoLock,
+  MalleableOr,
+  MalleableThreshold,
+  HeightAndTime,
+  HeightOrTimeIsSane,
+  SameKey,
+  ManyWrappers,
+  MostItems,
+  TooManyItems,
+  MostOps,
+  TooManyOps,
+  MostSize,
+  TooLarge,
+};
+
+/// These miniscripts have these limits.
+pub fn limits()
+    ensures key_limits { KeyLimits }
+    ensures chain_limits { ChainLimits }
+    ensures keys_limits { KeysLimits }
+    ensures key_hash_limits { KeyHashLimits }
+    ensures lock_limits { LockLimits }
+    ensures threshold_limits { ThresholdLimits }
+    ensures either_limits { EitherLimits }
+    ensures locked_threshold_limits { LockedThresholdLimits }
+    ensures hash_threshold_limits { HashThresholdLimits }
+    ensures four_children_limits { FourChildrenLimits }
+    ensures each_by_itself { EachByItself }
+    ensures zero_limits { ZeroLimits }
+{}
+
+/// These miniscripts are sane, or have these reasons against them.
+pub fn reasons()
+    ensures sane_ones { SaneOnes }
+    ensures one_needs_no_signature { OneNeedsNoSignature }
+    ensures verify_on_top { VerifyOnTop }
+    ensures no_lock { NoLock }
+    ensures malleable_or { MalleableOr }
+    ensures malleable_threshold { MalleableThreshold }
+    ensures height_and_time { HeightAndTime }
+    ensures height_or_time_is_sane { HeightOrTimeIsSane }
+    ensures same_key { SameKey }
+    ensures many_wrappers { ManyWrappers }
+    ensures most_items { MostItems }
+    ensures too_many_items { TooManyItems }
+    ensures most_ops { MostOps }
+    ensures too_many_ops { TooManyOps }
+    ensures most_size { MostSize }
+    ensures too_large { TooLarge }
+{}
