@@ -1,0 +1,2 @@
+mod ThinLemmas
+mod AnswerLemmas

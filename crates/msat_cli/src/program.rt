@@ -1,0 +1,88 @@
+ghost use Rattle.std.specs.Prelude.{◌≡◌, ◌≤◌, ◌⊎◌, ℕ, List, [], ◌∷◌, codes, MatchOption, IfOk};
+ghost use Rattle.std.specs.String.{string_bytes};
+ghost use Rattle.std.specs.Io.KnownBytes.{Appends};
+ghost use Rattle.def_tree.specs.Tree as tree;
+ghost use Rattle.ms_io.specs.Faults.{Rose};
+ghost use Rattle.ms_io.specs.Moves.{AppendsPrefix};
+ghost use Rattle.msat_cli.specs.Thin.{IsThin};
+ghost use Rattle.msat_cli.specs.Answer.{IsScript, HasNoForm, IsNotThin, ShowsScript, Ends, IsOrFault};
+
+use crate::answer::{UNBUILT, USAGE, script_line};
+use crate::status::Status;
+use crate::thin::read_thin;
+use crate::word::Word;
+use ms_io::{Sink, Source, put_all};
+use std::alloc::{AllocError, Global};
+
+/// Answers the words of a command line: makes the report, writes it to the sink by one call of
+/// `put_all`, and gives the status. The words that are stated so far are `script TEXT`.
+pub fn msat<S: Source, K: Sink>(
+    alloc: Global,
+    words: &[Word],
+    source: &mut S,
+    sink: &mut K,
+) -> Status
+    ensures end { Ends words.now (K.written sink.old) (K.written sink.new) (K.faults sink.old) (K.faults sink.new) result }
+    ensures faults_later { K.faults sink.old ≤ K.faults sink.new }
+
+    // Which status comes for which words, memory and faults of the sink aside.
+    ensures usage { HasNoForm words.now → (result ≡ Status.Usage) ⊎ (result ≡ Status.WriteFault) }
+    ensures thin { (text : List ℕ) (t : tree.Tree) → IsScript words.now text → IsThin text t → IsOrFault Status.Done result }
+    ensures not_thin { (text : List ℕ) → IsScript words.now text → IsNotThin text → IsOrFault Status.TextRefused result }
+
+    // The source isn't read.
+    ensures unread { S.left source.new ≡ S.left source.old }
+    ensures unread_faults { S.faults source.new ≡ S.faults source.old }
+{
+    let _ = source;
+    match script_text(words) {
+        Some(text) => script(alloc, text, sink),
+        None => write(sink, Status::Usage, USAGE),
+    }
+}
+
+/// The TEXT of the words `script TEXT`.
+fn script_text(words: &[Word]) -> Option<&str>
+    ensures { MatchOption result (HasNoForm words.now) (λ text. IsScript words.now text.now) }
+{
+    let [command, text] = words else {
+        return None;
+    };
+    if command.as_str() != "script" {
+        return None;
+    }
+    Some(text.as_str())
+}
+
+/// Answers `script TEXT`.
+fn script<K: Sink>(alloc: Global, text: &str, sink: &mut K) -> Status
+    ensures end { Ends (codes "script" ∷ text.now ∷ []) (K.written sink.old) (K.written sink.new) (K.faults sink.old) (K.faults sink.new) result }
+    ensures faults_later { K.faults sink.old ≤ K.faults sink.new }
+{
+    match script_report(alloc, text) {
+        Ok(Some(report)) => write(sink, Status::Done, report.as_bytes()),
+        Ok(None) => write(sink, Status::TextRefused, UNBUILT),
+        Err(_) => Status::Memory,
+    }
+}
+
+/// The report of `script TEXT`, or `None` where the text isn't thin.
+fn script_report(alloc: Global, text: &str) -> Result<Option<String>, AllocError>
+    ensures { IfOk result (λ made. MatchOption made (IsNotThin text.now) (λ report. ShowsScript text.now (string_bytes report))) }
+{
+    let Some(tree) = read_thin(alloc, text.as_bytes(), 100)? else {
+        return Ok(None);
+    };
+    Ok(Some(script_line(alloc, &tree)?))
+}
+
+/// Writes the whole report of an answer with this status.
+fn write<K: Sink>(sink: &mut K, status: Status, report: &[u8]) -> Status
+    ensures end { ((result ≡ status) × Appends (K.written sink.old) (K.written sink.new) report.now) ⊎ ((result ≡ Status.WriteFault) × AppendsPrefix (K.written sink.old) (K.written sink.new) report.now × Rose (K.faults sink.old) (K.faults sink.new)) }
+    ensures faults_later { K.faults sink.old ≤ K.faults sink.new }
+{
+    match put_all(sink, report) {
+        Ok(()) => status,
+        Err(_) => Status::WriteFault,
+    }
+}
