@@ -1,0 +1,35 @@
+//! Examples of the definitions: the body does nothing, and its contract is the examples.
+
+ghost use Rattle.def_text.specs.Examples.{TokensOfAndV, TokensOfNothing, TokensBeyondAscii, NumberZero, NumberOfTenDigits, NoNumberOfElevenDigits, NoNumberAfterZero, KeyInUpperCase, NoUncompressedKey, PkIsSpelled, OrDIsSpelled, SugarIsSpelled, GroupIsSpelled, PrintedWithoutSugar, PrintedPk, PrintedNumber};
+
+/// Tokens of texts.
+pub fn tokens_hold()
+    ensures and_v { TokensOfAndV }
+    ensures nothing { TokensOfNothing }
+    ensures beyond_ascii { TokensBeyondAscii }
+{}
+
+/// Numbers and keys.
+pub fn words_hold()
+    ensures zero { NumberZero }
+    ensures ten_digits { NumberOfTenDigits }
+    ensures eleven_digits { NoNumberOfElevenDigits }
+    ensures leading_zero { NoNumberAfterZero }
+    ensures upper_case { KeyInUpperCase }
+    ensures uncompressed { NoUncompressedKey }
+{}
+
+/// Texts and their trees.
+pub fn trees_hold()
+    ensures pk { PkIsSpelled }
+    ensures or_d { OrDIsSpelled }
+    ensures sugar { SugarIsSpelled }
+    ensures group { GroupIsSpelled }
+{}
+
+/// Printed forms.
+pub fn prints_hold()
+    ensures sugar { PrintedWithoutSugar }
+    ensures pk { PrintedPk }
+    ensures number { PrintedNumber }
+{}
