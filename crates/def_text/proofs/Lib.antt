@@ -1,0 +1,4 @@
+pub mod Words
+pub mod Complete
+pub mod Fills
+pub mod Sound

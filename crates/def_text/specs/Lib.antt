@@ -4,4 +4,5 @@ pub mod Letter
 pub mod Spells
 pub mod Refusal
 pub mod Print
+pub mod Reader
 pub mod Examples
