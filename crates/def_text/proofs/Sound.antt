@@ -268,23 +268,25 @@ fills_back want fs os (end a) ts z zs h = ends_fill want a fs os ts z zs h
 
 -- ---- whole texts
 
-next_sound : (o : Option State) (ts : List Token) (z : Tree) (zs : List ℕ) →
-    ((n : State) → behind n ts ≡ Some (finished z, [], zs) → Fills n.0 n.1 n.2 ts z zs) →
-    option_and_then (λ n. behind n ts) o ≡ Some (finished z, [], zs) → NextFills o ts z zs
-next_sound None ts z zs later h = cc
-next_sound (Some n) ts z zs later h = later n h
+next_sound : (o : Option State) (ts : List Token) (z : Tree) (fs : List Frame) (zs : List ℕ) →
+    ((n : State) → behind n ts ≡ Some (finished z, fs, zs) → Fills n.0 n.1 n.2 ts z zs) →
+    option_and_then (λ n. behind n ts) o ≡ Some (finished z, fs, zs) → NextFills o ts z zs
+next_sound None ts z fs zs later h = cc
+next_sound (Some n) ts z fs zs later h = later n h
 
-sound : (ts : List Token) (s : State) (z : Tree) (zs : List ℕ) → behind s ts ≡ Some (finished z, [], zs) → Fills s.0 s.1 s.2 ts z zs
-sound [] s z zs h =
-    let e : s ≡ (finished z, [], zs) = cc in
+sound : (ts : List Token) (s : State) (z : Tree) (fs : List Frame) (zs : List ℕ) → behind s ts ≡ Some (finished z, fs, zs) →
+    Fills s.0 s.1 s.2 ts z zs
+sound [] s z fs zs h =
+    let e : s ≡ (finished z, fs, zs) = cc in
     subst (λ (r : State). Fills r.0 r.1 r.2 [] z zs) (sym e) (refl, refl, refl)
-sound (t ∷ ts) s z zs h =
-    fills_back s.0 s.1 s.2 t ts z zs (next_sound (step s t) ts z zs (λ n. sound ts n z zs) h)
+sound (t ∷ ts) s z fs zs h =
+    fills_back s.0 s.1 s.2 t ts z zs (next_sound (step s t) ts z fs zs (λ n. sound ts n z fs zs) h)
 
 -- what the machine reads from the start is a spelled text
-pub spelled : (ts : List Token) (z : Tree) (zs : List ℕ) → behind START ts ≡ Some (finished z, [], zs) → SpellsText ts z zs
-spelled ts z zs h =
-    let (us, rest, u, ps, e, hu, (f, g, same_tree, same_offsets)) = sound ts START z zs h in
+pub spelled : (ts : List Token) (z : Tree) (fs : List Frame) (zs : List ℕ) → behind START ts ≡ Some (finished z, fs, zs) →
+    SpellsText ts z zs
+spelled ts z fs zs h =
+    let (us, rest, u, ps, e, hu, (f, g, same_tree, same_offsets)) = sound ts START z fs zs h in
     let split : ts ≡ us ++ end f ∷ [] = e ∙ ap (λ r. us ++ r) g in
     subst (λ r. SpellsText r z zs) (sym split)
       (subst (λ r. SpellsText (us ++ end f ∷ []) z r) same_offsets

@@ -1,5 +1,5 @@
 -- Which texts have a tree, and why the others have none.
-use Rattle.std.specs.Prelude.{◌≡◌, ℕ, ◌+◌, ◌<◌, ◌≤◌, ◌||◌, nat_eq, Bool, IsTrue, IsUtf8, ⊤, List, [], ◌∷◌, ◌++◌, length, codes, if◌then◌else◌}
+use Rattle.std.specs.Prelude.{◌≡◌, ℕ, ◌+◌, ◌<◌, ◌≤◌, ◌||◌, nat_eq, Bool, false, IsTrue, IsUtf8, ⊤, List, [], ◌∷◌, ◌++◌, length, codes, if◌then◌else◌}
 use Rattle.std.specs.List.{list_any, list_all}
 use Rattle.def_script.specs.Bytes.{Bytes}
 use Rattle.def_tree.specs.Tree.{Tree}
@@ -35,9 +35,14 @@ MayBegin before at = IsViable (before ++ word at (codes "pk_k") ∷ [])
 
 -- ---- written depth
 
--- whether a word is a run of wrapper letters
+-- whether a byte is the letter of a wrapper or of sugar
+abbrev pub is_letter : ℕ → Bool
+is_letter b = list_any (nat_eq b) (codes "ascdvjntlu")
+
+-- whether a word is a run of one or more letters
 abbrev pub is_run : Bytes → Bool
-is_run = list_all (λ b. list_any (nat_eq b) (codes "ascdvjntlu"))
+is_run [] = false
+is_run w = list_all is_letter w
 
 -- what a word adds to the depth: a name one, and a run each of its letters
 abbrev pub levels_of : Bytes → ℕ
