@@ -231,7 +231,7 @@ completion_starts (finished x) fs at w = refl
 
 -- ---- the completion is ASCII
 
-ascii_is_utf8 : (bs : Bytes) → list_all is_ascii bs ≡ true → IsUtf8 bs
+pub ascii_is_utf8 : (bs : Bytes) → list_all is_ascii bs ≡ true → IsUtf8 bs
 ascii_is_utf8 bs h = IsUtf8-from_ascii bs (all_ascii bs h)
 
 -- a literal text and one behind it

@@ -76,14 +76,14 @@ kind_from at b false false false false false true hc hd he hf hg hh = skip_kind 
 kind_from at b false false false false false false hc hd he hf hg hh =
     single_kind hh (other at) refl refl refl (λ ts. rw (hc, hd, he, hf, hg, hh) refl)
 
-kind_of : (at b : ℕ) → ByteKind at b
+pub kind_of : (at b : ℕ) → ByteKind at b
 kind_of at b =
     kind_from at b (is_word_byte b) (b == byte "(") (b == byte ")") (b == byte ",") (b == byte ":") (goes_on b)
       refl refl refl refl refl refl
 
 -- ---- the cut
 
-nothing_behind : (us : List Token) (t : Token) (after : List Token) → [] ≡ us ++ t ∷ after → ⊥
+pub nothing_behind : (us : List Token) (t : Token) (after : List Token) → [] ≡ us ++ t ∷ after → ⊥
 nothing_behind [] t after h = cc
 nothing_behind (u ∷ us) t after h = cc
 

@@ -61,7 +61,7 @@ named_here : (w : Bytes) (f g : Form) (b : Bool) (later : Option Form) → (b �
 named_here w f g true later here there h = let e : g ≡ f = cc in here refl ∙ ap form_name e
 named_here w f g false later here there h = there h
 
-named_is : (w : Bytes) (f : Form) (fs : List Form) → first_named w fs ≡ Some f → w ≡ form_name f
+pub named_is : (w : Bytes) (f : Form) (fs : List Form) → first_named w fs ≡ Some f → w ≡ form_name f
 named_is w f [] h = absurd (cc)
 named_is w f (g ∷ gs) h =
     named_here w f g (bytes_eq w (form_name g)) (first_named w gs) (bytes_eq-Decides w (form_name g)).0 (named_is w f gs) h
@@ -88,7 +88,7 @@ letters_are n w ls (Some l) (Some ms) first others h =
     let both : n ∷ w ≡ letter_word (l ∷ ms) = cc in
     both ∙ ap letter_word e
 
-word_is : (w : Bytes) (ls : List Letter) → letters_of w ≡ Some ls → w ≡ letter_word ls
+pub word_is : (w : Bytes) (ls : List Letter) → letters_of w ≡ Some ls → w ≡ letter_word ls
 word_is [] ls h = let e : [] ≡ ls = cc in ap letter_word e
 word_is (n ∷ w) ls h = letters_are n w ls (first_letter n LETTERS) (letters_of w) (λ l. letter_is n l LETTERS) (word_is w) h
 

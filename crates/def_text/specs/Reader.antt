@@ -301,8 +301,14 @@ head_levels (named form) = 1
 head_levels (run letter letters) = length (letter ∷ letters)
 head_levels neither = 0
 
+-- whether a name or a run of letters is too deep behind so many frames
+abbrev pub is_deep_head : Head → (depth : ℕ) → Bool
+is_deep_head (named form) depth = nat_lt MOST_WRITTEN_DEPTH (depth + head_levels (named form))
+is_deep_head (run letter letters) depth = nat_lt MOST_WRITTEN_DEPTH (depth + head_levels (run letter letters))
+is_deep_head neither depth = false
+
 abbrev pub is_deep_word : Want → Bytes → List Frame → Bool
-is_deep_word expression w fs = nat_lt MOST_WRITTEN_DEPTH (length fs + head_levels (head_of w))
+is_deep_word expression w fs = is_deep_head (head_of w) (length fs)
 is_deep_word want w fs = false
 
 -- whether a token is too deep
