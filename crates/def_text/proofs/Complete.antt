@@ -1,11 +1,11 @@
 -- The machine reads what is spelled: behind the tokens of an expression its tree has been read.
 use Rattle.std.specs.Option.{option_and_then}
 use Rattle.std.proofs.Common.{◌≡◌, ℕ, ◌+◌, List, [], ◌∷◌, ◌++◌, Option, Some, refl, sym, ap, ◌∙◌, append_assoc, append-nil}
-use Rattle.def_tree.specs.Tree.{Key, Tree, Trees, just_0, and_or, two, thresh, multi, more, none}
+use Rattle.def_tree.specs.Tree.{Key, Tree, Trees, and_or, thresh, more, none}
 use Rattle.def_text.specs.Token.{Token, word, opening, closing, comma, colon, other, end}
 use Rattle.def_text.specs.Letter.{Letter, letter_of_wrapper, letter_t, letter_l, letter_u, letter_tree, letter_offsets, letters_tree, letters_offsets}
 use Rattle.def_text.specs.Spells.{Spells, text_0, text_1, text_pk_k, text_pk_h, text_pk, text_pkh, text_older, text_after, text_hash, text_andor, text_two, text_and_n, text_thresh, text_multi, text_letters, SpellsChildren, last_child, next_child, SpellsKeys, last_key, next_key, SpellsText, text_whole}
-use Rattle.def_text.specs.Reader.{Want, expression, ended, finished, multi_comma, multi_key, multi_next, thresh_comma, Frame, letter_frame, thresh_child, andor_first, andor_second, andor_third, pair_first, pair_second, pair_two, pair_and_n, Pair, pair_tree, pair_offsets, State, START, step, behind, run_frames, run_offsets, joined, offsets_before, offsets_behind}
+use Rattle.def_text.specs.Reader.{expression, ended, finished, multi_comma, multi_next, thresh_comma, Frame, letter_frame, thresh_child, andor_first, andor_second, andor_third, pair_first, pair_second, pair_two, pair_and_n, Pair, pair_tree, pair_offsets, State, START, step, behind, run_frames, run_offsets, joined, offsets_before, offsets_behind}
 use Rattle.def_text.proofs.Words.{head_of_letters, head_of_hash, head_of_two}
 
 -- ---- letters
@@ -36,9 +36,9 @@ unwound a [] x fs ps os t ts = refl
 unwound a (l ∷ ls) x fs ps os t ts =
     unwound (a + 1) ls x (letter_frame l a ∷ fs) (ps ++ offsets_before l a) os t ts
     ∙ (ap (λ o. option_and_then (λ next. behind next ts) o)
-        (step_letter l a (letters_tree ls x) fs ((ps ++ offsets_before l a) ++ letters_offsets (a + 1) ls os) t)
+    (step_letter l a (letters_tree ls x) fs ((ps ++ offsets_before l a) ++ letters_offsets (a + 1) ls os) t)
     ∙ ap (λ r. behind (ended (letters_tree (l ∷ ls) x), fs, r) (t ∷ ts))
-        (offsets_of_letter l a ps (letters_offsets (a + 1) ls os)))
+    (offsets_of_letter l a ps (letters_offsets (a + 1) ls os)))
 
 -- ---- expressions
 
@@ -52,8 +52,8 @@ leads_on : (s n : State) (xs : List Token) (t : Token) (later rest : List Token)
 leads_on s n xs t later rest h = ap (behind s) (append_assoc xs (t ∷ later) rest) ∙ h t (later ++ rest)
 
 -- two children and what stands behind the second
-two_children : (s n m : State) (xs ys : List Token) (c d : ℕ) (rest : List Token) → step n (comma c) ≡ Some m → 
-    Leads s xs n → (e : State) → Leads m ys e → 
+two_children : (s n m : State) (xs ys : List Token) (c d : ℕ) (rest : List Token) → step n (comma c) ≡ Some m →
+    Leads s xs n → (e : State) → Leads m ys e →
     behind s ((xs ++ comma c ∷ (ys ++ closing d ∷ [])) ++ rest) ≡ behind e (closing d ∷ rest)
 two_children s n m xs ys c d rest goes first e second =
     leads_on s n xs (comma c) (ys ++ closing d ∷ []) rest first
@@ -105,7 +105,7 @@ pair_ended : (pair : Pair) (a c d : ℕ) (xs ys : List Token) (x y : Tree) (fs :
     ≡ behind (ended (pair_tree pair x y), fs, ps ++ (os ++ (qs ++ pair_offsets pair a))) rest
 pair_ended pair a c d xs ys x y fs ps os qs rest hx hy =
     two_children (expression, pair_first pair a ∷ fs, ps) (ended x, pair_first pair a ∷ fs, ps ++ os)
-      (expression, pair_second pair x a ∷ fs, ps ++ os) xs ys c d rest refl hx (ended y, pair_second pair x a ∷ fs, (ps ++ os) ++ qs) hy
+    (expression, pair_second pair x a ∷ fs, ps ++ os) xs ys c d rest refl hx (ended y, pair_second pair x a ∷ fs, (ps ++ os) ++ qs) hy
     ∙ ap (λ r. behind (ended (pair_tree pair x y), fs, r) rest) (three ps os qs (pair_offsets pair a))
 
 -- `andor`, where each of its children is read
@@ -117,10 +117,10 @@ andor_ended : (a c d e : ℕ) (xs ys zs : List Token) (x y z : Tree) (fs : List 
     ≡ behind (ended (and_or x y z), fs, ps ++ (os ++ (qs ++ (rs ++ a ∷ [])))) rest
 andor_ended a c d e xs ys zs x y z fs ps os qs rs rest hx hy hz =
     leads_on (expression, andor_first a ∷ fs, ps) (ended x, andor_first a ∷ fs, ps ++ os)
-      xs (comma c) (ys ++ comma d ∷ (zs ++ closing e ∷ [])) rest hx
+    xs (comma c) (ys ++ comma d ∷ (zs ++ closing e ∷ [])) rest hx
     ∙ (two_children (expression, andor_second x a ∷ fs, ps ++ os) (ended y, andor_second x a ∷ fs, (ps ++ os) ++ qs)
-        (expression, andor_third x y a ∷ fs, (ps ++ os) ++ qs) ys zs d e rest refl hy
-        (ended z, andor_third x y a ∷ fs, ((ps ++ os) ++ qs) ++ rs) hz
+    (expression, andor_third x y a ∷ fs, (ps ++ os) ++ qs) ys zs d e rest refl hy
+    (ended z, andor_third x y a ∷ fs, ((ps ++ os) ++ qs) ++ rs) hz
     ∙ ap (λ r. behind (ended (and_or x y z), fs, r) rest) (four ps os qs rs (a ∷ [])))
 
 mutual
@@ -137,25 +137,25 @@ mutual
   complete (text_hash kind h) fs ps t rest = rw (head_of_hash kind, h) refl
   complete (text_andor {a = a} c d e {xs = xs} {ys = ys} {zs = zs} {x = x} {y = y} {z = z} {os = os} {ps = qs} {qs = rs} hx hy hz) fs ps t rest =
       andor_ended a c d e xs ys zs x y z fs ps os qs rs (t ∷ rest) (complete hx (andor_first a ∷ fs) ps)
-        (complete hy (andor_second x a ∷ fs) (ps ++ os)) (complete hz (andor_third x y a ∷ fs) ((ps ++ os) ++ qs))
+      (complete hy (andor_second x a ∷ fs) (ps ++ os)) (complete hz (andor_third x y a ∷ fs) ((ps ++ os) ++ qs))
   complete (text_two {a = a} kind c d {xs = xs} {ys = ys} {x = x} {y = y} {os = os} {ps = qs} hx hy) fs ps t rest =
       rw (head_of_two kind)
-        (pair_ended (pair_two kind) a c d xs ys x y fs ps os qs (t ∷ rest)
-          (complete hx (pair_first (pair_two kind) a ∷ fs) ps) (complete hy (pair_second (pair_two kind) x a ∷ fs) (ps ++ os)))
+      (pair_ended (pair_two kind) a c d xs ys x y fs ps os qs (t ∷ rest)
+      (complete hx (pair_first (pair_two kind) a ∷ fs) ps) (complete hy (pair_second (pair_two kind) x a ∷ fs) (ps ++ os)))
   complete (text_and_n {a = a} c d {xs = xs} {ys = ys} {x = x} {y = y} {os = os} {ps = qs} hx hy) fs ps t rest =
       pair_ended pair_and_n a c d xs ys x y fs ps os qs (t ∷ rest)
-        (complete hx (pair_first pair_and_n a ∷ fs) ps) (complete hy (pair_second pair_and_n x a ∷ fs) (ps ++ os))
+      (complete hx (pair_first pair_and_n a ∷ fs) ps) (complete hy (pair_second pair_and_n x a ∷ fs) (ps ++ os))
   complete (text_thresh {a = a} d {k = k} {xs = xs} {x = x} {os = os} h hx) fs ps t rest =
       rw h (ap (behind (thresh_comma k a, fs, ps)) (append_assoc xs (closing d ∷ []) (t ∷ rest))
       ∙ (first_child hx k a fs ps d (t ∷ rest)
       ∙ ap (λ r. behind (ended (thresh k x), fs, r) (t ∷ rest)) (append_assoc ps os (a ∷ []))))
   complete (text_multi {a = a} d {k = k} {ts = ts} {keys = keys} h hk) fs ps t rest =
       rw h (leads_on (multi_comma k, fs, ps ++ a ∷ []) (multi_next k keys, fs, ps ++ a ∷ []) ts (closing d) [] (t ∷ rest)
-        (first_key hk k fs (ps ++ a ∷ [])))
+      (first_key hk k fs (ps ++ a ∷ [])))
   complete (text_letters {a = a} l ls {xs = xs} {x = x} {os = os} hx) fs ps t rest =
       rw (head_of_letters l ls)
-        (complete hx (run_frames a (l ∷ ls) fs) (run_offsets a (l ∷ ls) ps) t rest
-        ∙ unwound a (l ∷ ls) x fs ps os t rest)
+      (complete hx (run_frames a (l ∷ ls) fs) (run_offsets a (l ∷ ls) ps) t rest
+      ∙ unwound a (l ∷ ls) x fs ps os t rest)
 
   first_child : {ts : List Token} {xs : Trees} {os : List ℕ} → SpellsChildren ts xs os →
       (k a : ℕ) (fs : List Frame) (ps : List ℕ) (d : ℕ) (rest : List Token) →
@@ -164,7 +164,7 @@ mutual
   first_child (next_child {c = c} {xs = xs} {ys = ys} {x = x} {y = y} {os = os} {ps = qs} hx hy) k a fs ps d rest =
       ap (behind (expression, thresh_child k none a ∷ fs, ps)) (append_assoc xs ys (closing d ∷ rest))
       ∙ (leads_to (expression, thresh_child k none a ∷ fs, ps) (ended x, thresh_child k none a ∷ fs, ps ++ os) xs ys (closing d) rest
-        (complete hx (thresh_child k none a ∷ fs) ps)
+      (complete hx (thresh_child k none a ∷ fs) ps)
       ∙ (next_children hy k none x a fs (ps ++ os) d rest
       ∙ ap (λ r. behind (ended (thresh k (more x y)), fs, r ++ a ∷ []) rest) (append_assoc ps os qs)))
 
@@ -178,8 +178,8 @@ mutual
   next_children (next_child {c = c} {xs = xs} {ys = ys} {x = x} {y = z} {os = os} {ps = qs} hx hy) k before y a fs ps d rest =
       ap (behind (expression, thresh_child k (joined before (more y none)) a ∷ fs, ps)) (append_assoc xs ys (closing d ∷ rest))
       ∙ (leads_to (expression, thresh_child k (joined before (more y none)) a ∷ fs, ps)
-        (ended x, thresh_child k (joined before (more y none)) a ∷ fs, ps ++ os) xs ys (closing d) rest
-        (complete hx (thresh_child k (joined before (more y none)) a ∷ fs) ps)
+      (ended x, thresh_child k (joined before (more y none)) a ∷ fs, ps ++ os) xs ys (closing d) rest
+      (complete hx (thresh_child k (joined before (more y none)) a ∷ fs) ps)
       ∙ (next_children hy k (joined before (more y none)) x a fs (ps ++ os) d rest
       ∙ (ap (λ r. behind (ended (thresh k r), fs, ((ps ++ os) ++ qs) ++ a ∷ []) rest) (joined_assoc before (more y none) (more x z))
       ∙ ap (λ r. behind (ended (thresh k (joined before (more y (more x z)))), fs, r ++ a ∷ []) rest) (append_assoc ps os qs))))

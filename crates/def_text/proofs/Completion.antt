@@ -1,6 +1,6 @@
 -- Each state of the machine has bytes that end a text there: an expression is `0`, and what waits is closed.
-use Rattle.std.proofs.Common.{◌≡◌, ℕ, ◌+◌, Bool, true, false, List, [], ◌∷◌, ◌++◌, Option, Some, None, codes, replicate, refl, sym, ap, ◌∙◌, subst, arith, ◌<◌}
-use Rattle.std.specs.Str.{IsUtf8, is_utf8}
+use Rattle.std.proofs.Common.{◌≡◌, ℕ, ◌+◌, Bool, true, false, List, [], ◌∷◌, ◌++◌, Option, Some, codes, replicate, refl, sym, ap, ◌∙◌, subst, arith}
+use Rattle.std.specs.Str.{IsUtf8}
 use Rattle.std.specs.Str.{IsAscii}
 use Rattle.std.specs.Char.{is_ascii}
 use Rattle.std.specs.List.{list_all}
@@ -14,9 +14,9 @@ use Rattle.def_hash.specs.declared.HashKind.{HashKind}
 use Rattle.def_hash.specs.declared.HashKind.TheVariants.{Sha256, Hash256, Ripemd160, Hash160}
 use Rattle.def_tree.specs.declared.Wrapper.TheVariants.{C}
 use Rattle.def_tree.specs.Tree.{Key, Tree, just_0, multi, pk_k, pk_h, older, after, hash, wrap, none, more, and_or, thresh}
-use Rattle.def_text.specs.Token.{Token, word, opening, closing, comma, colon, other, end, tokens_from, byte_before, word_before}
+use Rattle.def_text.specs.Token.{Token, word, closing, tokens_from}
 use Rattle.def_text.specs.Letter.{letter_tree}
-use Rattle.def_text.specs.Word.{key_of, number_of, hash_of, hash_length}
+use Rattle.def_text.specs.Word.{key_of, hash_of, hash_length}
 use Rattle.def_text.specs.Reader.{Leaf, leaf_pk_k, leaf_pk_h, leaf_pk, leaf_pkh, leaf_older, leaf_after, leaf_hash, leaf_of, Want, expression, colon_next, leaf_open, leaf_word, leaf_close, andor_open, pair_open, thresh_open, thresh_number, thresh_comma, multi_open, multi_number, multi_comma, multi_key, multi_next, ended, finished, Frame, letter_frame, andor_first, andor_second, andor_third, pair_first, pair_second, thresh_child, State, behind, step, offsets_behind, pair_tree}
 use Rattle.def_text.proofs.Complete.{step_letter}
 use Rattle.def_text.proofs.Cut.{starts_word, alone}
@@ -92,7 +92,7 @@ closing_ends : (x : Tree) (fs : List Frame) (os : List ℕ) (at : ℕ) → Ends 
 closing_ends x [] os at = (x, os, refl)
 closing_ends x (letter_frame l a ∷ fs) os at =
     ends_letter x (letter_frame l a) fs os (letter_tree l x) (os ++ offsets_behind l a) (tokens_from at (closing_text fs)) (step_letter l a x fs os)
-      (closing_ends (letter_tree l x) fs (os ++ offsets_behind l a) at)
+    (closing_ends (letter_tree l x) fs (os ++ offsets_behind l a) at)
 closing_ends x (andor_first a ∷ fs) os at = closing_ends (and_or x just_0 just_0) fs _ _
 closing_ends x (andor_second y a ∷ fs) os at = closing_ends (and_or y x just_0) fs _ _
 closing_ends x (andor_third y z a ∷ fs) os at = closing_ends (and_or y z x) fs _ _
@@ -157,7 +157,7 @@ closing_starts (thresh_child k xs a ∷ fs) at = refl
 zero_ends : (fs : List Frame) (os : List ℕ) (at : ℕ) → Ends (expression, fs, os) (tokens_from at (codes "0" ++ closing_text fs))
 zero_ends fs os at =
     subst (Ends (expression, fs, os)) (sym (alone at 48 (tokens_from (at + 1) (closing_text fs)) (closing_starts fs (at + 1))))
-      (closing_ends just_0 fs (os ++ at ∷ []) (at + 1))
+    (closing_ends just_0 fs (os ++ at ∷ []) (at + 1))
 
 leaf_ends : (leaf : Leaf) (fs : List Frame) (os : List ℕ) (at : ℕ) →
     Ends (leaf_word leaf, fs, os) (tokens_from at (leaf_text leaf ++ (codes ")" ++ closing_text fs)))

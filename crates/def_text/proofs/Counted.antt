@@ -9,7 +9,7 @@ use Rattle.def_text.specs.Letter.{Letter, letter_tree}
 use Rattle.def_text.specs.Word.{number_of, key_of}
 use Rattle.def_text.specs.Refusal.{levels_of, count_step, counts, first_count, enclosing}
 use Rattle.def_text.specs.Reader.{leaf_of, Form, form_0, form_1, form_leaf, form_andor, form_pair, form_thresh, form_multi, Head, named, run, neither, head_of, head_levels, Want, expression, colon_next, leaf_open, leaf_word, leaf_close, andor_open, pair_open, thresh_open, thresh_number, thresh_comma, multi_open, multi_number, multi_comma, multi_key, multi_next, ended, finished, Frame, letter_frame, andor_first, andor_second, andor_third, pair_first, pair_second, thresh_child, State, START, run_frames, begin_form, begin, step_word, step_opening, step_closing, step_comma, step_colon, step_end, comma_behind, closing_behind, end_behind, step, behind, offsets_behind}
-use Rattle.def_text.proofs.Levels.{HeadSays, head_says}
+use Rattle.def_text.proofs.Levels.{head_says}
 use Rattle.def_text.proofs.Viable.{some_first}
 
 -- the counts of the parentheses that are open
@@ -61,7 +61,7 @@ head_agrees (named form) a fs os k e =
     subst (λ m. NextAgrees (begin_form form a fs os) (m ∷ below fs)) n (form_agrees form a fs os)
 head_agrees (run l ls) a fs os k e =
     let n : length fs + k ≡ length (run_frames a (l ∷ ls) fs) =
-      ap (λ m. length fs + m) e ∙ sym (length_of_run a (l ∷ ls) fs) in
+    ap (λ m. length fs + m) e ∙ sym (length_of_run a (l ∷ ls) fs) in
     ap (λ m. m ∷ below fs) n ∙ ap (λ ns. length (run_frames a (l ∷ ls) fs) ∷ ns) (sym (below_run a (l ∷ ls) fs))
 head_agrees neither a fs os k e = tt
 
@@ -73,19 +73,19 @@ word_agrees : (want : Want) (a : ℕ) (w : Bytes) (fs : List Frame) (os : List �
     NextAgrees (step_word want a w fs os) (count_step ns (word a w))
 word_agrees expression a w fs os ns h =
     subst (λ r. NextAgrees (begin (head_of w) a fs os) (count_step r (word a w))) (sym h)
-      (head_agrees (head_of w) a fs os (levels_of w) (head_says w).levels)
+    (head_agrees (head_of w) a fs os (levels_of w) (head_says w).levels)
 word_agrees (leaf_word leaf) a w fs os ns (m, e) =
     mapped_agrees (λ x. (leaf_close x, fs, os)) (leaf_of leaf w) (count_step ns (word a w))
-      (λ x. (m + levels_of w, ap (λ r. count_step r (word a w)) e))
+    (λ x. (m + levels_of w, ap (λ r. count_step r (word a w)) e))
 word_agrees (thresh_number b) a w fs os ns (m, e) =
     mapped_agrees (λ k. (thresh_comma k b, fs, os)) (number_of w) (count_step ns (word a w))
-      (λ k. (m + levels_of w, ap (λ r. count_step r (word a w)) e))
+    (λ k. (m + levels_of w, ap (λ r. count_step r (word a w)) e))
 word_agrees multi_number a w fs os ns (m, e) =
     mapped_agrees (λ k. (multi_comma k, fs, os)) (number_of w) (count_step ns (word a w))
-      (λ k. (m + levels_of w, ap (λ r. count_step r (word a w)) e))
+    (λ k. (m + levels_of w, ap (λ r. count_step r (word a w)) e))
 word_agrees (multi_key k keys) a w fs os ns (m, e) =
     mapped_agrees (λ key. (multi_next k (keys ++ key ∷ []), fs, os)) (key_of w) (count_step ns (word a w))
-      (λ key. (m + levels_of w, ap (λ r. count_step r (word a w)) e))
+    (λ key. (m + levels_of w, ap (λ r. count_step r (word a w)) e))
 word_agrees want a w fs os ns h = tt
 
 -- ---- other tokens

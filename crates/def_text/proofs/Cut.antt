@@ -1,7 +1,7 @@
 -- Where a text is cut before one of its tokens: what stands before the cut, and what may follow it in the rest's place.
-use Rattle.std.proofs.Common.{◌≡◌, ℕ, ◌+◌, ◌==◌, ◌≤◌, ◌<◌, Bool, true, false, ◌&&◌, List, [], ◌∷◌, ◌++◌, length, take, slice_index, refl, sym, ap, ◌∙◌, subst, arith, append-nil, length-append}
+use Rattle.std.proofs.Common.{◌≡◌, ℕ, ◌+◌, ◌==◌, ◌≤◌, Bool, true, false, ◌&&◌, List, [], ◌∷◌, ◌++◌, length, slice_index, refl, sym, ap, ◌∙◌, subst, arith, append-nil, length-append}
 use Rattle.std.proofs.Math.Seq.{get_or-append_seam, take-append_seam}
-use Rattle.std.specs.Prelude.{nat_le, ⊤}
+use Rattle.std.specs.Prelude.{⊤}
 use Rattle.std.specs.Str.{byte, IsUtf8, IsCharBoundary}
 use Rattle.std.proofs.lemmas.Str.{IsUtf8-take}
 use Rattle.std.proofs.lemmas.Bool.{eqb-true}
@@ -50,7 +50,7 @@ pub record Cut (at : ℕ) (bytes : Bytes) (us : List Token) (t : Token) : Type 0
 pub data ByteKind (at b : ℕ) : Type 0 where
   word_kind : goes_on b ≡ false → ((ts : List Token) → byte_before at b ts ≡ word_before at b ts) → ByteKind at b
   single_kind : goes_on b ≡ false → (s : Token) → offset s ≡ at → is_word s ≡ false → is_end s ≡ false →
-    ((ts : List Token) → byte_before at b ts ≡ s ∷ ts) → ByteKind at b
+      ((ts : List Token) → byte_before at b ts ≡ s ∷ ts) → ByteKind at b
   skip_kind : ((ts : List Token) → byte_before at b ts ≡ ts) → ByteKind at b
 
 -- a word's byte is ASCII
@@ -79,7 +79,7 @@ kind_from at b false false false false false false hc hd he hf hg hh =
 pub kind_of : (at b : ℕ) → ByteKind at b
 kind_of at b =
     kind_from at b (is_word_byte b) (b == byte "(") (b == byte ")") (b == byte ",") (b == byte ":") (goes_on b)
-      refl refl refl refl refl refl
+    refl refl refl refl refl refl
 
 -- ---- the cut
 
@@ -141,7 +141,6 @@ unjoined at b u (v ∷ vs) ts later e f t after h j = sym (ap starts_word h) ∙
 
 module _ (at b : ℕ) (bs : Bytes) (inner : (us : List Token) (t : Token) (after : List Token) → tokens_from (at + 1) bs ≡ us ++ t ∷ after →
     Cut (at + 1) bs us t) where
-
   cut_single : (s : Token) → goes_on b ≡ false → offset s ≡ at → is_end s ≡ false →
       ((ts : List Token) → byte_before at b ts ≡ s ∷ ts) → (us : List Token) (t : Token) (after : List Token) →
       s ∷ tokens_from (at + 1) bs ≡ us ++ t ∷ after → Cut at (b ∷ bs) us t
@@ -179,7 +178,7 @@ module _ (at b : ℕ) (bs : Bytes) (inner : (us : List Token) (t : Token) (after
         same = λ later j.
             same (tokens_from (at + 1) (c.front ++ later))
             ∙ (ap (word_before at b)
-                (c.same later (other_first u (word n w) us (starts_word (tokens_from (offset t) later)) (ap is_word (sym e)) j))
+            (c.same later (other_first u (word n w) us (starts_word (tokens_from (offset t) later)) (ap is_word (sym e)) j))
             ∙ ap (λ r. r ∷ (us ++ tokens_from (offset t) later)) e);
       }
 
@@ -202,7 +201,7 @@ module _ (at b : ℕ) (bs : Bytes) (inner : (us : List Token) (t : Token) (after
             same (tokens_from (at + 1) (c.front ++ later))
             ∙ (ap (word_before at b) (c.same later (inner_join u us (starts_word (tokens_from (offset t) later)) j))
             ∙ (alone at b (us ++ tokens_from (offset t) later)
-                (unjoined at b u us (tokens_from (at + 1) bs) (tokens_from (offset t) later) e f t after tail j)
+            (unjoined at b u us (tokens_from (at + 1) bs) (tokens_from (offset t) later) e f t after tail j)
             ∙ ap (λ r. r ∷ (us ++ tokens_from (offset t) later)) e));
       }
 
@@ -258,4 +257,4 @@ pub front_is_utf8 : {at : ℕ} {bytes : Bytes} {us : List Token} {t : Token} →
 front_is_utf8 c h =
     let whole : IsUtf8 (c.front ++ c.rest) = subst IsUtf8 c.split h in
     subst IsUtf8 (take-append_seam c.front c.rest)
-      (IsUtf8-take (c.front ++ c.rest) (length c.front) whole (boundary_of c.front c.rest c.character))
+    (IsUtf8-take (c.front ++ c.rest) (length c.front) whole (boundary_of c.front c.rest c.character))

@@ -1,22 +1,14 @@
 -- A token is too deep exactly where the machine finds it so.
-use Rattle.std.proofs.Common.{◌≡◌, ℕ, ◌+◌, ◌<◌, Bool, true, false, ◌||◌, List, [], ◌∷◌, ◌++◌, length, Option, Some, None, refl, sym, ap, ◌∙◌, subst, append_assoc, append-nil, arith}
-use Rattle.std.specs.Prelude.{⊤, IsTrue, nat_lt}
-use Rattle.std.specs.Option.{option_and_then}
+use Rattle.std.proofs.Common.{◌≡◌, ℕ, ◌+◌, ◌<◌, true, false, ◌||◌, List, ◌∷◌, ◌++◌, length, Some, refl, sym, ap, ◌∙◌, subst}
 use Rattle.std.specs.Str.{IsUtf8}
 use Rattle.std.proofs.lemmas.Bool.{ltb-true, lt-ltb}
 use Rattle.def_script.specs.Bytes.{Bytes}
-use Rattle.def_tree.specs.Tree.{Tree}
-use Rattle.def_text.specs.Token.{Token, word, opening, closing, comma, colon, other, end, offset, tokens, tokens_from, word_before, byte_before}
-use Rattle.def_text.specs.Letter.{letter_tree}
+use Rattle.def_text.specs.Token.{Token, word, opening, closing, comma, colon, other, end, tokens}
 use Rattle.def_text.specs.Word.{is_fragment_name}
-use Rattle.def_text.specs.Spells.{SpellsText}
-use Rattle.def_text.specs.Refusal.{MOST_WRITTEN_DEPTH, IsViable, MayBegin, is_run, levels_of, enclosing, IsDeep, NoneDeep, Place, SyntaxAt, DeepAt}
-use Rattle.def_text.specs.Reader.{Form, form_0, form_1, form_leaf, form_andor, form_pair, form_thresh, form_multi, Head, named, run, neither, head_of, head_levels, begin_form, begin, Want, expression, ended, finished, Frame, letter_frame, State, START, step_end, end_behind, step, behind, is_deep_head, is_deep_word, is_deep, Outcome, tree_outcome, syntax_outcome, deep_outcome, last_outcome, next_outcome, outcome}
+use Rattle.def_text.specs.Refusal.{MOST_WRITTEN_DEPTH, MayBegin, is_run, levels_of, enclosing, IsDeep}
+use Rattle.def_text.specs.Reader.{Form, form_0, form_1, form_leaf, form_andor, form_pair, form_thresh, form_multi, Head, named, run, neither, head_of, head_levels, begin_form, begin, Want, expression, Frame, State, START, step, behind, is_deep_head, is_deep_word, is_deep}
 use Rattle.def_text.proofs.Levels.{HeadSays, head_says}
-use Rattle.def_text.proofs.Sound.{spelled}
-use Rattle.def_text.proofs.Cut.{ByteKind, word_kind, single_kind, skip_kind, kind_of, is_end}
-use Rattle.def_text.proofs.Completion.{is_finished}
-use Rattle.def_text.proofs.Viable.{behind-append, some_first, viable_goes, goes_viable, may_begin, begins_expression}
+use Rattle.def_text.proofs.Viable.{may_begin, begins_expression}
 use Rattle.def_text.proofs.Counted.{enclosing_is}
 
 -- ---- depth
@@ -97,7 +89,7 @@ deep_machine us (word a w) s goes (begins, named_or_run, over) =
     let depth : enclosing us ≡ length s.1 = enclosing_is us s.1 s.2 (wanted_behind us s e goes) in
     ap (λ want. is_deep_word want w s.1) e
     ∙ says_deep w (head_of w) (length s.1) (head_says w) named_or_run
-        (subst (λ n. MOST_WRITTEN_DEPTH < n + levels_of w) depth over)
+    (subst (λ n. MOST_WRITTEN_DEPTH < n + levels_of w) depth over)
 deep_machine us (opening a) s goes h = absurd h
 deep_machine us (closing a) s goes h = absurd h
 deep_machine us (comma a) s goes h = absurd h

@@ -1,23 +1,18 @@
 -- A text ends with its end, and its front is viable where the machine takes it.
-use Rattle.std.proofs.Common.{◌≡◌, ℕ, ◌+◌, ◌<◌, Bool, true, false, ◌||◌, List, [], ◌∷◌, ◌++◌, length, Option, Some, None, refl, sym, ap, ◌∙◌, subst, append_assoc, append-nil, arith}
-use Rattle.std.specs.Prelude.{⊤, IsTrue, nat_lt}
-use Rattle.std.specs.Option.{option_and_then}
+use Rattle.std.proofs.Common.{◌≡◌, ℕ, ◌+◌, true, List, [], ◌∷◌, ◌++◌, Option, Some, None, refl, sym, ap, ◌∙◌, subst, append-nil}
+use Rattle.std.specs.Prelude.{⊤}
 use Rattle.std.specs.Str.{IsUtf8}
-use Rattle.std.proofs.lemmas.Bool.{ltb-true, lt-ltb}
 use Rattle.def_script.specs.Bytes.{Bytes}
 use Rattle.def_tree.specs.Tree.{Tree}
-use Rattle.def_text.specs.Token.{Token, word, opening, closing, comma, colon, other, end, offset, tokens, tokens_from, word_before, byte_before}
+use Rattle.def_text.specs.Token.{Token, word, opening, closing, comma, colon, other, end, tokens, tokens_from, word_before, byte_before}
 use Rattle.def_text.specs.Letter.{letter_tree}
-use Rattle.def_text.specs.Word.{is_fragment_name}
 use Rattle.def_text.specs.Spells.{SpellsText}
-use Rattle.def_text.specs.Refusal.{MOST_WRITTEN_DEPTH, IsViable, MayBegin, is_run, levels_of, enclosing, IsDeep, NoneDeep, Place, SyntaxAt, DeepAt}
-use Rattle.def_text.specs.Reader.{Form, form_0, form_1, form_leaf, form_andor, form_pair, form_thresh, form_multi, Head, named, run, neither, head_of, head_levels, begin_form, begin, Want, expression, ended, finished, Frame, letter_frame, State, START, step_end, end_behind, step, behind, is_deep_head, is_deep_word, is_deep, Outcome, tree_outcome, syntax_outcome, deep_outcome, last_outcome, next_outcome, outcome}
-use Rattle.def_text.proofs.Levels.{HeadSays, head_says}
+use Rattle.def_text.specs.Refusal.{IsViable}
+use Rattle.def_text.specs.Reader.{Want, ended, finished, Frame, letter_frame, State, START, step_end, end_behind, step, behind}
 use Rattle.def_text.proofs.Sound.{spelled}
 use Rattle.def_text.proofs.Cut.{ByteKind, word_kind, single_kind, skip_kind, kind_of, is_end}
 use Rattle.def_text.proofs.Completion.{is_finished}
-use Rattle.def_text.proofs.Viable.{behind-append, some_first, viable_goes, goes_viable, may_begin, begins_expression}
-use Rattle.def_text.proofs.Counted.{enclosing_is}
+use Rattle.def_text.proofs.Viable.{some_first, goes_viable}
 
 -- ---- a text's last token is its end
 
@@ -96,4 +91,3 @@ front_viable text us [] n utf8 split goes =
     let (x, e, h) = whole_is_spelled text n (ap (behind START) all ∙ goes) (finishes us START n last goes) in
     record { text = text; after = []; tree = x; offsets = n.2; utf8 = utf8; split = split; spelled = h }
 front_viable text us (t ∷ ts) n utf8 split goes = goes_viable text us t ts n utf8 split goes
-

@@ -1,15 +1,14 @@
 -- What a word adds to the written depth is what its head says.
-use Rattle.std.proofs.Common.{◌≡◌, ℕ, ◌+◌, ◌==◌, Bool, true, false, ◌&&◌, ◌||◌, List, [], ◌∷◌, length, map, Option, Some, None, is_some, nat_eq, suc, refl, sym, ap, ◌∙◌, subst}
+use Rattle.std.proofs.Common.{◌≡◌, ℕ, ◌==◌, Bool, true, false, ◌&&◌, ◌||◌, List, [], ◌∷◌, length, map, Option, Some, None, is_some, nat_eq, suc, refl, sym, ap, ◌∙◌, subst}
 use Rattle.std.specs.Prelude.{if◌then◌else◌}
 use Rattle.std.specs.Option.{option_and_then, option_map}
 use Rattle.std.specs.List.{list_any, list_all}
 use Rattle.std.specs.Str.{bytes_eq}
 use Rattle.def_script.specs.Bytes.{Bytes}
 use Rattle.def_hash.specs.declared.HashKind.TheVariants.{Sha256, Hash256, Ripemd160, Hash160}
-use Rattle.def_tree.specs.declared.Wrapper.{Wrapper}
 use Rattle.def_tree.specs.declared.Wrapper.TheVariants.{A, S, C, D, V, J, N}
 use Rattle.def_tree.specs.declared.Two.TheVariants.{AndV, AndB, OrB, OrC, OrD, OrI}
-use Rattle.def_text.specs.Word.{FRAGMENT_NAMES, is_fragment_name}
+use Rattle.def_text.specs.Word.{is_fragment_name}
 use Rattle.def_text.specs.Letter.{Letter, letter_of_wrapper, letter_t, letter_l, letter_u, letter_byte, letter_word}
 use Rattle.def_text.specs.Refusal.{is_letter, is_run, levels_of}
 use Rattle.def_text.specs.Reader.{Leaf, leaf_pk_k, leaf_pk_h, leaf_pk, leaf_pkh, leaf_older, leaf_after, leaf_hash, leaf_name, pair_two, pair_and_n, Form, form_0, form_1, form_leaf, form_andor, form_pair, form_thresh, form_multi, form_name, FORMS, first_named, LETTERS, first_letter, letters_of, Head, named, run, neither, head_from, head_of, head_levels}
@@ -135,9 +134,10 @@ name_says w form n = record {
 
 other_says : (w : Bytes) (r : Bool) → is_fragment_name w ≡ false → is_run w ≡ r →
     ((is_fragment_name w || is_run w) ≡ r) × (levels_of w ≡ (if r then length w else 0))
-other_says w r n e =
-    (ap (λ b. b || is_run w) n ∙ e,
-      ap (λ b. if b then 1 else (if is_run w then length w else 0)) n ∙ ap (λ b. if b then length w else 0) e)
+other_says w r n e = (
+  ap (λ b. b || is_run w) n ∙ e,
+  ap (λ b. if b then 1 else (if is_run w then length w else 0)) n ∙ ap (λ b. if b then length w else 0) e,
+)
 
 run_is_run : (w : Bytes) (l : Letter) (ls : List Letter) → w ≡ letter_word (l ∷ ls) → (is_run w ≡ true) × (length w ≡ length (l ∷ ls))
 run_is_run w l ls e = (ap is_run e ∙ all_letters (l ∷ ls), ap length e ∙ length_of_word (l ∷ ls))

@@ -10,3 +10,5 @@ pub mod Counted
 pub mod Ends
 pub mod Deep
 pub mod Report
+pub mod OneAnswer
+pub mod OffsetCount

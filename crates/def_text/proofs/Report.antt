@@ -1,22 +1,14 @@
 -- What the machine answers to a text is what the definitions say of it.
-use Rattle.std.proofs.Common.{◌≡◌, ℕ, ◌+◌, ◌<◌, Bool, true, false, ◌||◌, List, [], ◌∷◌, ◌++◌, length, Option, Some, None, refl, sym, ap, ◌∙◌, subst, append_assoc, append-nil, arith}
-use Rattle.std.specs.Prelude.{⊤, IsTrue, nat_lt}
+use Rattle.std.proofs.Common.{◌≡◌, Bool, true, false, List, [], ◌∷◌, ◌++◌, Option, Some, None, refl, sym, ap, ◌∙◌, subst, append_assoc, append-nil}
 use Rattle.std.specs.Option.{option_and_then}
 use Rattle.std.specs.Str.{IsUtf8}
-use Rattle.std.proofs.lemmas.Bool.{ltb-true, lt-ltb}
 use Rattle.def_script.specs.Bytes.{Bytes}
-use Rattle.def_tree.specs.Tree.{Tree}
-use Rattle.def_text.specs.Token.{Token, word, opening, closing, comma, colon, other, end, offset, tokens, tokens_from, word_before, byte_before}
-use Rattle.def_text.specs.Letter.{letter_tree}
-use Rattle.def_text.specs.Word.{is_fragment_name}
+use Rattle.def_text.specs.Token.{Token, offset, tokens}
 use Rattle.def_text.specs.Spells.{SpellsText}
-use Rattle.def_text.specs.Refusal.{MOST_WRITTEN_DEPTH, IsViable, MayBegin, is_run, levels_of, enclosing, IsDeep, NoneDeep, Place, SyntaxAt, DeepAt}
-use Rattle.def_text.specs.Reader.{Form, form_0, form_1, form_leaf, form_andor, form_pair, form_thresh, form_multi, Head, named, run, neither, head_of, head_levels, begin_form, begin, Want, expression, ended, finished, Frame, letter_frame, State, START, step_end, end_behind, step, behind, is_deep_head, is_deep_word, is_deep, Outcome, tree_outcome, syntax_outcome, deep_outcome, last_outcome, next_outcome, outcome}
-use Rattle.def_text.proofs.Levels.{HeadSays, head_says}
-use Rattle.def_text.proofs.Sound.{spelled}
-use Rattle.def_text.proofs.Cut.{ByteKind, word_kind, single_kind, skip_kind, kind_of, is_end, nothing_behind}
-use Rattle.def_text.proofs.Completion.{is_finished}
-use Rattle.def_text.proofs.Viable.{behind-append, some_first, viable_goes, goes_viable, may_begin, begins_expression}
+use Rattle.def_text.specs.Refusal.{IsViable, IsDeep, NoneDeep, SyntaxAt, DeepAt}
+use Rattle.def_text.specs.Reader.{State, START, step, behind, is_deep, Outcome, tree_outcome, syntax_outcome, deep_outcome, last_outcome, next_outcome, outcome}
+use Rattle.def_text.proofs.Cut.{nothing_behind}
+use Rattle.def_text.proofs.Viable.{behind-append, viable_goes}
 use Rattle.def_text.proofs.Ends.{LastEnd, tokens_end, finishes, whole_is_spelled, front_viable}
 use Rattle.def_text.proofs.Deep.{DeepWord, deep_token, machine_deep, deep_machine}
 
@@ -65,7 +57,6 @@ Reports text (syntax_outcome at) = SyntaxAt text at
 Reports text (deep_outcome at) = DeepAt text at
 
 module _ (text : Bytes) (utf8 : IsUtf8 text) where
-
   report_end : (us : List Token) (s : State) → tokens text ≡ us ++ [] → behind START us ≡ Some s → NoneDeep us → Reports text (last_outcome s.0 s.2)
   report_end us s split goes none =
       let all : tokens text ≡ us = split ∙ append-nil us in
@@ -95,8 +86,8 @@ module _ (text : Bytes) (utf8 : IsUtf8 text) where
   not_viable us s t goes stops v =
       let (n, e) = viable_goes v in
       let none : behind START (us ++ t ∷ []) ≡ None =
-        behind-append us (t ∷ []) START ∙ (ap (λ o. option_and_then (λ m. behind m (t ∷ [])) o) goes
-        ∙ ap (λ o. option_and_then (λ m. Some m) o) stops) in
+      behind-append us (t ∷ []) START ∙ (ap (λ o. option_and_then (λ m. behind m (t ∷ [])) o) goes
+      ∙ ap (λ o. option_and_then (λ m. Some m) o) stops) in
       let clash : None ≡ Some n = sym none ∙ e in
       cc
 

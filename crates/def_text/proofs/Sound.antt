@@ -6,7 +6,7 @@ use Rattle.def_tree.specs.declared.Wrapper.TheVariants.{C}
 use Rattle.def_tree.specs.Tree.{Key, Tree, Trees, just_0, just_1, pk_k, pk_h, older, after, hash, and_or, thresh, multi, wrap, none, more}
 use Rattle.def_text.specs.Token.{Token, word, opening, closing, comma, colon, other, end}
 use Rattle.def_text.specs.Word.{key_of, number_of, hash_of}
-use Rattle.def_text.specs.Letter.{Letter, letter_tree, letter_offsets, letters_tree, letters_offsets, letter_word}
+use Rattle.def_text.specs.Letter.{Letter, letter_tree, letters_tree, letters_offsets, letter_word}
 use Rattle.def_text.specs.Spells.{Spells, text_0, text_1, text_pk_k, text_pk_h, text_pk, text_pkh, text_older, text_after, text_hash, text_andor, text_two, text_and_n, text_thresh, text_multi, text_letters, SpellsChildren, last_child, next_child, SpellsKeys, last_key, next_key, SpellsText, text_whole}
 use Rattle.def_text.specs.Reader.{Leaf, leaf_pk_k, leaf_pk_h, leaf_pk, leaf_pkh, leaf_older, leaf_after, leaf_hash, leaf_name, leaf_of, leaf_offsets, Pair, pair_two, pair_and_n, pair_name, pair_tree, pair_offsets, Form, form_0, form_1, form_leaf, form_andor, form_pair, form_thresh, form_multi, form_name, Head, named, run, neither, head_of, Want, expression, colon_next, leaf_open, leaf_word, leaf_close, andor_open, pair_open, thresh_open, thresh_number, thresh_comma, multi_open, multi_number, multi_comma, multi_key, multi_next, ended, finished, Frame, letter_frame, andor_first, andor_second, andor_third, pair_first, pair_second, thresh_child, State, START, joined, offsets_before, offsets_behind, begin_form, run_frames, run_offsets, begin, comma_behind, closing_behind, end_behind, step_word, step_opening, step_closing, step_comma, step_colon, step_end, step, behind}
 use Rattle.def_text.proofs.Words.{name_of_head, letters_of_head}
@@ -43,7 +43,7 @@ spells_leaf (leaf_hash kind) a b c d w x h =
 
 spells_pair : (pair : Pair) (a b c d : ℕ) {xs ys : List Token} {x y : Tree} {os ps : List ℕ} → Spells xs x os → Spells ys y ps →
     Spells (word a (pair_name pair) ∷ opening b ∷ (xs ++ comma c ∷ (ys ++ closing d ∷ []))) (pair_tree pair x y)
-      (os ++ (ps ++ pair_offsets pair a))
+    (os ++ (ps ++ pair_offsets pair a))
 spells_pair (pair_two kind) a b c d hx hy = text_two kind c d hx hy
 spells_pair pair_and_n a b c d hx hy = text_and_n c d hx hy
 
@@ -56,7 +56,7 @@ children_from : (c : ℕ) {xs ys : List Token} {x : Tree} {y : Trees} {os ps : L
     SpellsChildren (comma c ∷ (xs ++ ys)) (more x y) (os ++ ps)
 children_from c {xs = xs} {x = x} {os = os} h no_child =
     subst (λ ts. SpellsChildren (comma c ∷ ts) (more x none) (os ++ [])) (sym (append-nil xs))
-      (subst (λ ps. SpellsChildren (comma c ∷ xs) (more x none) ps) (sym (append-nil os)) (last_child h))
+    (subst (λ ps. SpellsChildren (comma c ∷ xs) (more x none) ps) (sym (append-nil os)) (last_child h))
 children_from c h (some_children others) = next_child h others
 
 -- ---- what stands behind an expression
@@ -73,12 +73,17 @@ comma_fills x (andor_third y u a ∷ fs) os c ts z zs h = absurd h
 comma_fills x (pair_first pair a ∷ fs) os c ts z zs (us, rest, u, ps, e, hu, (d, tail, g, last)) =
     (c, d, us, tail, u, ps, ap (λ r. comma c ∷ r) (e ∙ ap (λ r. us ++ r) g), hu, last)
 comma_fills x (pair_second pair y a ∷ fs) os c ts z zs h = absurd h
-comma_fills x (thresh_child k xs a ∷ fs) os c ts z zs (us, rest, u, ps, e, hu, (d, cs, tail, ys, qs, g, hy, last)) =
-    (d, comma c ∷ (us ++ cs), tail, more u ys, ps ++ qs,
-      ap (λ r. comma c ∷ r) (e ∙ (ap (λ r. us ++ r) g ∙ sym (append_assoc us cs (closing d ∷ tail)))),
-      some_children (children_from c hu hy),
-      subst (λ r. EndedFills fs (thresh k (joined xs (more x (more u ys)))) (r ++ a ∷ []) tail z zs) (append_assoc os ps qs)
-        (subst (λ r. EndedFills fs (thresh k r) (((os ++ ps) ++ qs) ++ a ∷ []) tail z zs) (joined_assoc xs (more x none) (more u ys)) last))
+comma_fills x (thresh_child k xs a ∷ fs) os c ts z zs (us, rest, u, ps, e, hu, (d, cs, tail, ys, qs, g, hy, last)) = (
+  d,
+  comma c ∷ (us ++ cs),
+  tail,
+  more u ys,
+  ps ++ qs,
+  ap (λ r. comma c ∷ r) (e ∙ (ap (λ r. us ++ r) g ∙ sym (append_assoc us cs (closing d ∷ tail)))),
+  some_children (children_from c hu hy),
+  subst (λ r. EndedFills fs (thresh k (joined xs (more x (more u ys)))) (r ++ a ∷ []) tail z zs) (append_assoc os ps qs)
+      (subst (λ r. EndedFills fs (thresh k r) (((os ++ ps) ++ qs) ++ a ∷ []) tail z zs) (joined_assoc xs (more x none) (more u ys)) last),
+)
 
 closing_fills : (x : Tree) (fs : List Frame) (os : List ℕ) (d : ℕ) (ts : List Token) (z : Tree) (zs : List ℕ) →
     NextFills (closing_behind x fs os) ts z zs → EndedFills fs x os (closing d ∷ ts) z zs
@@ -89,9 +94,16 @@ closing_fills x (andor_second y a ∷ fs) os d ts z zs h = absurd h
 closing_fills x (andor_third y u a ∷ fs) os d ts z zs h = (d, ts, refl, h)
 closing_fills x (pair_first pair a ∷ fs) os d ts z zs h = absurd h
 closing_fills x (pair_second pair y a ∷ fs) os d ts z zs h = (d, ts, refl, h)
-closing_fills x (thresh_child k xs a ∷ fs) os d ts z zs h =
-    (d, [], ts, none, [], refl, no_child,
-      subst (λ r. EndedFills fs (thresh k (joined xs (more x none))) (r ++ a ∷ []) ts z zs) (sym (append-nil os)) h)
+closing_fills x (thresh_child k xs a ∷ fs) os d ts z zs h = (
+  d,
+  [],
+  ts,
+  none,
+  [],
+  refl,
+  no_child,
+  subst (λ r. EndedFills fs (thresh k (joined xs (more x none))) (r ++ a ∷ []) ts z zs) (sym (append-nil os)) h,
+)
 
 end_fills : (x : Tree) (fs : List Frame) (os : List ℕ) (e : ℕ) (ts : List Token) (z : Tree) (zs : List ℕ) →
     NextFills (end_behind x fs os) ts z zs → EndedFills fs x os (end e ∷ ts) z zs
@@ -129,39 +141,57 @@ name_fills : (form : Form) (a : ℕ) (fs : List Frame) (os : List ℕ) (ts : Lis
     NextFills (begin_form form a fs os) ts z zs → ExpressionFills fs os (word a (form_name form) ∷ ts) z zs
 name_fills form_0 a fs os ts z zs h = (word a (form_name form_0) ∷ [], ts, just_0, a ∷ [], refl, text_0, h)
 name_fills form_1 a fs os ts z zs h = (word a (form_name form_1) ∷ [], ts, just_1, a ∷ [], refl, text_1, h)
-name_fills (form_leaf leaf) a fs os ts z zs (b, c, w, x, rest, e, h, (d, tail, g, last)) =
-    (leaf_tokens leaf a b c d w, tail, x, leaf_offsets leaf a,
-      ap (λ r. word a (leaf_name leaf) ∷ r) (e ∙ ap (λ r. opening b ∷ word c w ∷ r) g), spells_leaf leaf a b c d w x h, last)
-name_fills form_andor a fs os ts z zs (b, rest, e, (xs, tail, x, ps, g, hx, (c, d, f, us, vs, rest', u, v, qs, rs, k, hu, hv, last))) =
-    (word a (form_name form_andor) ∷ opening b ∷ (xs ++ comma c ∷ (us ++ comma d ∷ (vs ++ closing f ∷ []))), rest', and_or x u v,
-      ps ++ (qs ++ (rs ++ a ∷ [])),
-      ap (λ r. word a (form_name form_andor) ∷ r)
-        (e ∙ ap (λ r. opening b ∷ r) (g ∙ (ap (λ r. xs ++ r) k ∙ three_split xs us vs rest' c d f))),
-      text_andor c d f hx hu hv,
-      subst (λ r. EndedFills fs (and_or x u v) r rest' z zs) (three_offsets os ps qs rs (a ∷ [])) last)
-name_fills (form_pair pair) a fs os ts z zs (b, rest, e, (xs, tail, x, ps, g, hx, (c, d, vs, rest', v, qs, k, hv, last))) =
-    (word a (pair_name pair) ∷ opening b ∷ (xs ++ comma c ∷ (vs ++ closing d ∷ [])), rest', pair_tree pair x v,
-      ps ++ (qs ++ pair_offsets pair a),
-      ap (λ r. word a (pair_name pair) ∷ r) (e ∙ ap (λ r. opening b ∷ r) (g ∙ (ap (λ r. xs ++ r) k ∙ two_split xs vs rest' c d))),
-      spells_pair pair a b c d hx hv,
-      subst (λ r. EndedFills fs (pair_tree pair x v) r rest' z zs) (two_offsets os ps qs (pair_offsets pair a)) last)
+name_fills (form_leaf leaf) a fs os ts z zs (b, c, w, x, rest, e, h, (d, tail, g, last)) = (
+  leaf_tokens leaf a b c d w,
+  tail,
+  x,
+  leaf_offsets leaf a,
+  ap (λ r. word a (leaf_name leaf) ∷ r) (e ∙ ap (λ r. opening b ∷ word c w ∷ r) g),
+  spells_leaf leaf a b c d w x h,
+  last,
+)
+name_fills form_andor a fs os ts z zs (b, rest, e, (xs, tail, x, ps, g, hx, (c, d, f, us, vs, rest', u, v, qs, rs, k, hu, hv, last))) = (
+  word a (form_name form_andor) ∷ opening b ∷ (xs ++ comma c ∷ (us ++ comma d ∷ (vs ++ closing f ∷ []))),
+  rest',
+  and_or x u v,
+  ps ++ (qs ++ (rs ++ a ∷ [])),
+  ap (λ r. word a (form_name form_andor) ∷ r)
+      (e ∙ ap (λ r. opening b ∷ r) (g ∙ (ap (λ r. xs ++ r) k ∙ three_split xs us vs rest' c d f))),
+  text_andor c d f hx hu hv,
+  subst (λ r. EndedFills fs (and_or x u v) r rest' z zs) (three_offsets os ps qs rs (a ∷ [])) last,
+)
+name_fills (form_pair pair) a fs os ts z zs (b, rest, e, (xs, tail, x, ps, g, hx, (c, d, vs, rest', v, qs, k, hv, last))) = (
+  word a (pair_name pair) ∷ opening b ∷ (xs ++ comma c ∷ (vs ++ closing d ∷ [])),
+  rest',
+  pair_tree pair x v,
+  ps ++ (qs ++ pair_offsets pair a),
+  ap (λ r. word a (pair_name pair) ∷ r) (e ∙ ap (λ r. opening b ∷ r) (g ∙ (ap (λ r. xs ++ r) k ∙ two_split xs vs rest' c d))),
+  spells_pair pair a b c d hx hv,
+  subst (λ r. EndedFills fs (pair_tree pair x v) r rest' z zs) (two_offsets os ps qs (pair_offsets pair a)) last,
+)
 name_fills form_thresh a fs os ts z zs
-    (b, c, w, k, rest, e, h, (f, tail, g, (us, rest', u, ps, i, hu, (d, cs, rest'', ys, qs, j, hy, last)))) =
-    (word a (form_name form_thresh) ∷ opening b ∷ word c w ∷ ((comma f ∷ (us ++ cs)) ++ closing d ∷ []), rest'', thresh k (more u ys),
+    (b, c, w, k, rest, e, h, (f, tail, g, (us, rest', u, ps, i, hu, (d, cs, rest'', ys, qs, j, hy, last)))) = (
+      word a (form_name form_thresh) ∷ opening b ∷ word c w ∷ ((comma f ∷ (us ++ cs)) ++ closing d ∷ []),
+      rest'',
+      thresh k (more u ys),
       (ps ++ qs) ++ a ∷ [],
       ap (λ r. word a (form_name form_thresh) ∷ r)
-        (e ∙ ap (λ r. opening b ∷ word c w ∷ r) (g ∙ ap (λ r. comma f ∷ r) (i ∙ (ap (λ r. us ++ r) j ∙ children_split us cs rest'' d)))),
+          (e ∙ ap (λ r. opening b ∷ word c w ∷ r) (g ∙ ap (λ r. comma f ∷ r) (i ∙ (ap (λ r. us ++ r) j ∙ children_split us cs rest'' d)))),
       text_thresh d h (children_from f hu hy),
-      subst (λ r. EndedFills fs (thresh k (more u ys)) r rest'' z zs) (children_offsets os ps qs (a ∷ [])) last)
+      subst (λ r. EndedFills fs (thresh k (more u ys)) r rest'' z zs) (children_offsets os ps qs (a ∷ [])) last,
+    )
 name_fills form_multi a fs os ts z zs
-    (b, c, w, k, rest, e, h, (f, tail, g, (i, v, key, rest', j, hk, (d, cs, rest'', others, m, ho, last)))) =
-    (word a (form_name form_multi) ∷ opening b ∷ word c w ∷ ((comma f ∷ word i v ∷ cs) ++ closing d ∷ []), rest'',
-      multi k (key ∷ others), a ∷ [],
+    (b, c, w, k, rest, e, h, (f, tail, g, (i, v, key, rest', j, hk, (d, cs, rest'', others, m, ho, last)))) = (
+      word a (form_name form_multi) ∷ opening b ∷ word c w ∷ ((comma f ∷ word i v ∷ cs) ++ closing d ∷ []),
+      rest'',
+      multi k (key ∷ others),
+      a ∷ [],
       ap (λ r. word a (form_name form_multi) ∷ r)
-        (e ∙ ap (λ r. opening b ∷ word c w ∷ r)
-        (g ∙ ap (λ r. comma f ∷ r) (j ∙ ap (λ r. word i v ∷ r) (m ∙ sym (append_assoc cs (closing d ∷ []) rest''))))),
+          (e ∙ ap (λ r. opening b ∷ word c w ∷ r)
+          (g ∙ ap (λ r. comma f ∷ r) (j ∙ ap (λ r. word i v ∷ r) (m ∙ sym (append_assoc cs (closing d ∷ []) rest''))))),
       text_multi d h (keys_from f i v key hk ho),
-      last)
+      last,
+    )
 
 -- letters that wait are applied to their expression
 letters_fill : (a : ℕ) (ls : List Letter) (x : Tree) (fs : List Frame) (os ps : List ℕ) (ts : List Token) (z : Tree) (zs : List ℕ) →
@@ -170,15 +200,20 @@ letters_fill : (a : ℕ) (ls : List Letter) (x : Tree) (fs : List Frame) (os ps 
 letters_fill a [] x fs os ps ts z zs h = h
 letters_fill a (l ∷ ls) x fs os ps ts z zs h =
     subst (λ r. EndedFills fs (letters_tree (l ∷ ls) x) r ts z zs) (offsets_of_letter l a os (letters_offsets (a + 1) ls ps))
-      (letters_fill (a + 1) ls x (letter_frame l a ∷ fs) (os ++ offsets_before l a) ps ts z zs h)
+    (letters_fill (a + 1) ls x (letter_frame l a ∷ fs) (os ++ offsets_before l a) ps ts z zs h)
 
 run_fills : (l : Letter) (ls : List Letter) (a : ℕ) (fs : List Frame) (os : List ℕ) (ts : List Token) (z : Tree) (zs : List ℕ) →
     Fills colon_next (run_frames a (l ∷ ls) fs) (run_offsets a (l ∷ ls) os) ts z zs →
     ExpressionFills fs os (word a (letter_word (l ∷ ls)) ∷ ts) z zs
-run_fills l ls a fs os ts z zs (b, rest, e, (us, tail, u, ps, g, hu, last)) =
-    (word a (letter_word (l ∷ ls)) ∷ colon b ∷ us, tail, letters_tree (l ∷ ls) u, letters_offsets a (l ∷ ls) ps,
-      ap (λ r. word a (letter_word (l ∷ ls)) ∷ r) (e ∙ ap (λ r. colon b ∷ r) g), text_letters l ls hu,
-      letters_fill a (l ∷ ls) u fs os ps tail z zs last)
+run_fills l ls a fs os ts z zs (b, rest, e, (us, tail, u, ps, g, hu, last)) = (
+  word a (letter_word (l ∷ ls)) ∷ colon b ∷ us,
+  tail,
+  letters_tree (l ∷ ls) u,
+  letters_offsets a (l ∷ ls) ps,
+  ap (λ r. word a (letter_word (l ∷ ls)) ∷ r) (e ∙ ap (λ r. colon b ∷ r) g),
+  text_letters l ls hu,
+  letters_fill a (l ∷ ls) u fs os ps tail z zs last,
+)
 
 head_fills : (w : Bytes) (head : Head) (a : ℕ) (fs : List Frame) (os : List ℕ) (ts : List Token) (z : Tree) (zs : List ℕ) →
     head_of w ≡ head → NextFills (begin head a fs os) ts z zs → ExpressionFills fs os (word a w ∷ ts) z zs
@@ -233,10 +268,15 @@ close_fills want a fs os ts z zs h = absurd h
 
 next_key_fills : (k : ℕ) (keys : List Key) (a : ℕ) (fs : List Frame) (os : List ℕ) (ts : List Token) (z : Tree) (zs : List ℕ) →
     Fills (multi_key k keys) fs os ts z zs → Fills (multi_next k keys) fs os (comma a ∷ ts) z zs
-next_key_fills k keys a fs os ts z zs (c, w, key, rest, e, h, (d, cs, tail, others, g, ho, last)) =
-    (d, comma a ∷ word c w ∷ cs, tail, key ∷ others, ap (λ r. comma a ∷ r) (e ∙ ap (λ r. word c w ∷ r) g),
-      some_keys (keys_from a c w key h ho),
-      subst (λ r. EndedFills fs (multi k r) os tail z zs) (append_assoc keys (key ∷ []) others) last)
+next_key_fills k keys a fs os ts z zs (c, w, key, rest, e, h, (d, cs, tail, others, g, ho, last)) = (
+  d,
+  comma a ∷ word c w ∷ cs,
+  tail,
+  key ∷ others,
+  ap (λ r. comma a ∷ r) (e ∙ ap (λ r. word c w ∷ r) g),
+  some_keys (keys_from a c w key h ho),
+  subst (λ r. EndedFills fs (multi k r) os tail z zs) (append_assoc keys (key ∷ []) others) last,
+)
 
 commas_fill : (want : Want) (a : ℕ) (fs : List Frame) (os : List ℕ) (ts : List Token) (z : Tree) (zs : List ℕ) →
     NextFills (step_comma want fs os) ts z zs → Fills want fs os (comma a ∷ ts) z zs
@@ -289,5 +329,5 @@ spelled ts z fs zs h =
     let (us, rest, u, ps, e, hu, (f, g, same_tree, same_offsets)) = sound ts START z fs zs h in
     let split : ts ≡ us ++ end f ∷ [] = e ∙ ap (λ r. us ++ r) g in
     subst (λ r. SpellsText r z zs) (sym split)
-      (subst (λ r. SpellsText (us ++ end f ∷ []) z r) same_offsets
-        (subst (λ r. SpellsText (us ++ end f ∷ []) r ps) same_tree (text_whole f hu)))
+    (subst (λ r. SpellsText (us ++ end f ∷ []) z r) same_offsets
+    (subst (λ r. SpellsText (us ++ end f ∷ []) r ps) same_tree (text_whole f hu)))

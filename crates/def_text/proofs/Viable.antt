@@ -10,7 +10,6 @@ use Rattle.def_tree.specs.Tree.{Tree}
 use Rattle.def_text.specs.Token.{Token, word, opening, closing, comma, colon, other, end, offset, tokens, tokens_from}
 use Rattle.def_text.specs.Letter.{letter_tree}
 use Rattle.def_text.specs.Word.{number_of, key_of}
-use Rattle.def_text.specs.Spells.{SpellsText}
 use Rattle.def_text.specs.Refusal.{IsViable, MayBegin}
 use Rattle.def_text.specs.Reader.{Leaf, leaf_pk_k, leaf_pk_h, leaf_pk, leaf_pkh, leaf_older, leaf_after, leaf_hash, leaf_of, Form, form_0, form_1, form_leaf, form_andor, form_pair, form_thresh, form_multi, Head, named, run, neither, head_of, Want, expression, colon_next, leaf_open, leaf_word, leaf_close, andor_open, pair_open, thresh_open, thresh_number, thresh_comma, multi_open, multi_number, multi_comma, multi_key, multi_next, ended, finished, Frame, letter_frame, andor_first, andor_second, andor_third, pair_first, pair_second, thresh_child, State, START, begin_form, begin, step_word, step_opening, step_closing, step_comma, step_colon, comma_behind, closing_behind, step, behind, offsets_behind}
 use Rattle.def_text.proofs.Complete.{complete_text}
@@ -38,7 +37,7 @@ pub viable_goes : {us : List Token} → IsViable us → (n : State) × (behind S
 viable_goes {us = us} v =
     let whole : behind START (us ++ v.after) ≡ Some (finished v.tree, [], v.offsets) = ap (behind START) (sym v.split) ∙ complete_text v.spelled in
     let (n, e, rest) = some_first (λ n. behind n v.after) (behind START us) (finished v.tree, [], v.offsets)
-      (sym (behind-append us v.after START) ∙ whole) in
+    (sym (behind-append us v.after START) ∙ whole) in
     (n, e)
 
 -- ---- what is wanted behind a word, and behind tokens that aren't the end
@@ -196,7 +195,7 @@ other_text text us t after n later vs ws z zs utf8 split goes later_utf8 join sa
     let c : Cut 0 text us t = cut text 0 us t after split in
     let read : tokens (c.front ++ later) ≡ us ++ (vs ++ ws) = c.same later join ∙ ap (λ r. us ++ r) same in
     let last : behind START (us ++ (vs ++ ws)) ≡ Some (finished z, [], zs) =
-      behind-append us (vs ++ ws) START ∙ (ap (λ o. option_and_then (λ m. behind m (vs ++ ws)) o) goes ∙ ends) in
+    behind-append us (vs ++ ws) START ∙ (ap (λ o. option_and_then (λ m. behind m (vs ++ ws)) o) goes ∙ ends) in
     record {
       text = c.front ++ later;
       after = ws;
@@ -214,8 +213,8 @@ goes_viable text us t after n utf8 split goes =
     let c : Cut 0 text us t = cut text 0 us t after split in
     let (z, zs, ends) = completes n.0 n.1 n.2 (offset t) (unfinished us START n c.no_end refl goes) in
     subst IsViable (append-nil us)
-      (other_text text us t after n (completion n.0 n.1) [] (tokens_from (offset t) (completion n.0 n.1)) z zs utf8 split goes
-        (completion_is_utf8 n.0 n.1) (unjoined us (ends_word us) n (offset t) refl goes) refl ends)
+    (other_text text us t after n (completion n.0 n.1) [] (tokens_from (offset t) (completion n.0 n.1)) z zs utf8 split goes
+    (completion_is_utf8 n.0 n.1) (unjoined us (ends_word us) n (offset t) refl goes) refl ends)
 
 -- ---- where an expression may begin
 
@@ -232,9 +231,9 @@ may_begin text us t after fs os utf8 split goes =
     let later : Bytes = codes "pk_k" ++ completion (leaf_open leaf_pk_k) fs in
     let (z, zs, ends) = completes (leaf_open leaf_pk_k) fs (os ++ offset t ∷ []) (offset t + 1 + 1 + 1 + 1) refl in
     other_text text us t after (expression, fs, os) later (word (offset t) (codes "pk_k") ∷ [])
-      (tokens_from (offset t + 1 + 1 + 1 + 1) (completion (leaf_open leaf_pk_k) fs)) z zs utf8 split goes
-      (IsUtf8-append (codes "pk_k") (completion (leaf_open leaf_pk_k) fs) (ascii_is_utf8 (codes "pk_k") refl) (completion_is_utf8 (leaf_open leaf_pk_k) fs))
-      (wanted us (ends_word us) (starts_word (tokens_from (offset t) later)) fs os refl goes) refl ends
+    (tokens_from (offset t + 1 + 1 + 1 + 1) (completion (leaf_open leaf_pk_k) fs)) z zs utf8 split goes
+    (IsUtf8-append (codes "pk_k") (completion (leaf_open leaf_pk_k) fs) (ascii_is_utf8 (codes "pk_k") refl) (completion_is_utf8 (leaf_open leaf_pk_k) fs))
+    (wanted us (ends_word us) (starts_word (tokens_from (offset t) later)) fs os refl goes) refl ends
 
 -- `pk_k` is no key, no hash value and no number
 no_leaf : (leaf : Leaf) → leaf_of leaf (codes "pk_k") ≡ None
@@ -270,8 +269,8 @@ pub begins_expression : (us : List Token) (a : ℕ) (s : State) → behind START
 begins_expression us a s goes v =
     let (n, e) = viable_goes v in
     let split : option_and_then (λ m. behind m (word a (codes "pk_k") ∷ [])) (behind START us) ≡ Some n =
-      sym (behind-append us (word a (codes "pk_k") ∷ []) START) ∙ e in
+    sym (behind-append us (word a (codes "pk_k") ∷ []) START) ∙ e in
     let there : behind s (word a (codes "pk_k") ∷ []) ≡ Some n =
-      sym (ap (λ o. option_and_then (λ m. behind m (word a (codes "pk_k") ∷ [])) o) goes) ∙ split in
+    sym (ap (λ o. option_and_then (λ m. behind m (word a (codes "pk_k") ∷ [])) o) goes) ∙ split in
     let (m, f, same) = some_first (λ m. Some m) (step_word s.0 a (codes "pk_k") s.1 s.2) n there in
     name_stands s.0 a s.1 s.2 m f

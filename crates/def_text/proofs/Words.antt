@@ -1,6 +1,6 @@
 -- What a word is where an expression may begin: names and letters, and back.
 use Rattle.std.specs.Prelude.{if◌then◌else◌}
-use Rattle.std.proofs.Common.{◌≡◌, ℕ, ◌==◌, Bool, true, false, List, [], ◌∷◌, map, Option, Some, None, refl, sym, ap, ◌∙◌}
+use Rattle.std.proofs.Common.{◌≡◌, ℕ, ◌==◌, Bool, true, false, List, [], ◌∷◌, Option, Some, None, refl, ap, ◌∙◌}
 use Rattle.std.specs.Option.{option_and_then, option_map}
 use Rattle.std.specs.Str.{bytes_eq}
 use Rattle.std.proofs.lemmas.Bool.{eqb-true}
@@ -14,7 +14,7 @@ use Rattle.def_tree.specs.declared.Two.{Two}
 use Rattle.def_tree.specs.declared.Two.TheVariants.{AndV, AndB, OrB, OrC, OrD, OrI}
 use Rattle.def_text.specs.Word.{hash_name, two_name}
 use Rattle.def_text.specs.Letter.{Letter, letter_of_wrapper, letter_t, letter_l, letter_u, letter_byte, letter_word}
-use Rattle.def_text.specs.Reader.{Form, form_leaf, leaf_hash, form_pair, pair_two, form_name, FORMS, first_named, LETTERS, first_letter, letters_of, Head, named, run, neither, head_from, head_of}
+use Rattle.def_text.specs.Reader.{Form, form_leaf, leaf_hash, form_pair, pair_two, form_name, FORMS, first_named, LETTERS, first_letter, letters_of, named, run, head_from, head_of}
 
 -- ---- from names and letters to heads
 

@@ -5,4 +5,5 @@ pub mod Spells
 pub mod Refusal
 pub mod Print
 pub mod Reader
+pub mod Laws
 pub mod Examples

@@ -2,6 +2,7 @@
 #![tactic(auto)]
 
 pub mod examples;
+pub mod laws;
 
 /// Why a text has no tree. A place is a byte offset in the text.
 #[derive(Clone, Copy, Debug, PartialEq, Eq)]
