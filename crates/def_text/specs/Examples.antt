@@ -1,11 +1,16 @@
 -- Examples of the definitions: tokens, words, texts with their trees, and printed forms.
-use Rattle.std.specs.Prelude.{◌≡◌, [], ◌∷◌, ◌++◌, codes, replicate, Some, None}
+use Rattle.std.specs.Prelude.{◌≡◌, [], ◌∷◌, ◌++◌, List, ℕ, codes, replicate, Some, None}
+use Rattle.std.specs.List.{concat}
+use Rattle.std.specs.Str.{byte}
 use Rattle.def_script.specs.Bytes.{Bytes}
 use Rattle.def_tree.specs.declared.Two.TheVariants.{AndV, OrC, OrD, OrI}
-use Rattle.def_tree.specs.declared.Wrapper.TheVariants.{C, V}
+use Rattle.def_tree.specs.declared.Wrapper.TheVariants.{C, N, V}
 use Rattle.def_tree.specs.Tree.{Key, just_0, just_1, pk_k, pk_h, older, two, wrap}
 use Rattle.def_text.specs.Token.{word, opening, closing, comma, colon, other, end, tokens}
 use Rattle.def_text.specs.Word.{number_of, key_of}
+use Rattle.def_text.specs.declared.TextFault.TheVariants.{TooLong, Syntax, TooDeep}
+use Rattle.def_text.specs.Letter.{letter_of_wrapper, letters_tree}
+use Rattle.def_text.specs.Refusal.{TextReads, TextRefusal}
 use Rattle.def_text.specs.Spells.{SpellsText}
 use Rattle.def_text.specs.Print.{printed}
 
@@ -86,6 +91,63 @@ SugarIsSpelled = SpellsText (tokens (codes "l:t:1")) (two OrI just_0 (two AndV j
 -- the same by one group of letters
 abbrev pub GroupIsSpelled : Type 0
 GroupIsSpelled = SpellsText (tokens (codes "lt:1")) (two OrI just_0 (two AndV just_1 just_1)) (0 ∷ 3 ∷ 1 ∷ 1 ∷ 0 ∷ [])
+
+-- ---- refusals
+
+-- the empty text
+abbrev pub NothingIsRefused : Type 0
+NothingIsRefused = TextRefusal [] (Syntax 0)
+
+-- no fragment is called `and_`
+abbrev pub NoNameIsRefused : Type 0
+NoNameIsRefused = TextRefusal (codes "and_") (Syntax 0)
+
+-- `02` is no key
+abbrev pub ShortKeyIsRefused : Type 0
+ShortKeyIsRefused = TextRefusal (codes "pk(02)") (Syntax 3)
+
+-- `00` is no number
+abbrev pub LeadingZeroIsRefused : Type 0
+LeadingZeroIsRefused = TextRefusal (codes "older(00)") (Syntax 6)
+
+-- no space may stand in a text
+abbrev pub SpaceIsRefused : Type 0
+SpaceIsRefused = TextRefusal (codes "pk (" ++ KEY_A_TEXT ++ codes ")") (Syntax 2)
+
+-- `pk(A` without its `)`, and with one too many
+abbrev pub OpenParenthesisIsRefused : Type 0
+OpenParenthesisIsRefused = TextRefusal (codes "pk(" ++ KEY_A_TEXT) (Syntax 69)
+
+abbrev pub SecondParenthesisIsRefused : Type 0
+SecondParenthesisIsRefused = TextRefusal (codes "pk(" ++ KEY_A_TEXT ++ codes "))") (Syntax 70)
+
+-- so many letters `n`, and `:0`
+abbrev pub letters_n : ℕ → Bytes
+letters_n count = replicate count (byte "n") ++ codes ":0"
+
+-- 255 letters are read
+abbrev pub LettersAreRead : Type 0
+LettersAreRead = (offsets : List ℕ) × TextReads (letters_n 255) (letters_tree (replicate 255 (letter_of_wrapper N)) just_0) offsets
+
+-- behind 256 letters the `0` is too deep
+abbrev pub NameIsTooDeep : Type 0
+NameIsTooDeep = TextRefusal (letters_n 256) (TooDeep 257)
+
+-- 300 letters are too deep themselves
+abbrev pub RunIsTooDeep : Type 0
+RunIsTooDeep = TextRefusal (letters_n 300) (TooDeep 0)
+
+-- so are 257, though no colon follows
+abbrev pub LoneRunIsTooDeep : Type 0
+LoneRunIsTooDeep = TextRefusal (replicate 257 (byte "n")) (TooDeep 0)
+
+-- behind 256 names `and_v` the letter of `n:0` is too deep
+abbrev pub NestedLetterIsTooDeep : Type 0
+NestedLetterIsTooDeep = TextRefusal (concat (replicate 256 (codes "and_v(")) ++ codes "n:0") (TooDeep 1536)
+
+-- 65,537 bytes
+abbrev pub LongTextIsRefused : Type 0
+LongTextIsRefused = TextRefusal (replicate 65537 (byte "n")) TooLong
 
 -- ---- printed forms
 
