@@ -12,3 +12,5 @@ pub mod Deep
 pub mod Report
 pub mod OneAnswer
 pub mod OffsetCount
+pub mod PrintedWords
+pub mod PrintedSpells

@@ -118,10 +118,10 @@ end_fills x (thresh_child k xs a ∷ fs) os e ts z zs h = absurd h
 
 -- ---- where an expression begins
 
-two_split : (xs ys rest : List Token) (c d : ℕ) → xs ++ comma c ∷ (ys ++ closing d ∷ rest) ≡ (xs ++ comma c ∷ (ys ++ closing d ∷ [])) ++ rest
+pub two_split : (xs ys rest : List Token) (c d : ℕ) → xs ++ comma c ∷ (ys ++ closing d ∷ rest) ≡ (xs ++ comma c ∷ (ys ++ closing d ∷ [])) ++ rest
 two_split xs ys rest c d = simp append_assoc
 
-three_split : (xs ys zs rest : List Token) (c d e : ℕ) →
+pub three_split : (xs ys zs rest : List Token) (c d e : ℕ) →
     xs ++ comma c ∷ (ys ++ comma d ∷ (zs ++ closing e ∷ rest)) ≡ (xs ++ comma c ∷ (ys ++ comma d ∷ (zs ++ closing e ∷ []))) ++ rest
 three_split xs ys zs rest c d e = simp append_assoc
 
@@ -131,7 +131,7 @@ two_offsets os ps qs rs = simp append_assoc
 three_offsets : (os ps qs rs ss : List ℕ) → (((os ++ ps) ++ qs) ++ rs) ++ ss ≡ os ++ (ps ++ (qs ++ (rs ++ ss)))
 three_offsets os ps qs rs ss = simp append_assoc
 
-children_split : (us cs rest : List Token) (d : ℕ) → us ++ (cs ++ closing d ∷ rest) ≡ ((us ++ cs) ++ closing d ∷ []) ++ rest
+pub children_split : (us cs rest : List Token) (d : ℕ) → us ++ (cs ++ closing d ∷ rest) ≡ ((us ++ cs) ++ closing d ∷ []) ++ rest
 children_split us cs rest d = simp append_assoc
 
 children_offsets : (os ps qs rs : List ℕ) → ((os ++ ps) ++ qs) ++ rs ≡ os ++ ((ps ++ qs) ++ rs)

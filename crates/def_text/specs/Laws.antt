@@ -1,11 +1,13 @@
--- Laws of the definitions: each text has exactly one answer.
+-- Laws of the definitions: each text has exactly one answer, and a printed form spells its tree.
 use Rattle.std.specs.Prelude.{◌≡◌, ◌≢◌, ◌⊎◌, ℕ, List, IsUtf8, length}
 use Rattle.def_script.specs.Bytes.{Bytes}
 use Rattle.def_tree.specs.Tree.{Tree}
 use Rattle.def_tree.specs.Size.{nodes}
+use Rattle.def_tree.specs.Range.{IsWritable}
+use Rattle.def_text.specs.Print.{printed, HasWords}
 use Rattle.def_text.specs.declared.TextFault.{TextFault}
 use Rattle.def_text.specs.declared.TextFault.TheVariants.{Memory}
-use Rattle.def_text.specs.Token.{Token}
+use Rattle.def_text.specs.Token.{Token, tokens}
 use Rattle.def_text.specs.Spells.{SpellsText}
 use Rattle.def_text.specs.Refusal.{TextReads, TextRefusal}
 
@@ -30,3 +32,7 @@ abbrev pub SomeAnswer : Type 0
 SomeAnswer =
     (text : Bytes) → IsUtf8 text →
     ((x : Tree) × (os : List ℕ) × TextReads text x os) ⊎ ((e : TextFault) × (e ≢ Memory) × TextRefusal text e)
+
+-- the printed form of a tree spells it
+abbrev pub PrintedIsSpelled : Type 0
+PrintedIsSpelled = (x : Tree) → IsWritable x → HasWords x → (os : List ℕ) × SpellsText (tokens (printed x)) x os

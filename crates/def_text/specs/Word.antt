@@ -55,9 +55,13 @@ number_of w = if is_number w then Some (digits_value 10 w) else None
 abbrev pub digits_of : (test : Bytes → Bool) → Bytes → Option Bytes
 digits_of test w = option_and_then (λ bytes. if test bytes then Some bytes else None) (result_ok (decode_of w))
 
--- the key that a word spells: 33 bytes, of which the first is `02` or `03`
+-- whether bytes are a key: 33 of them, of which the first is `02` or `03`
+abbrev pub is_key : Bytes → Bool
+is_key bytes = length bytes == 33 && (slice_index bytes 0 == 2 || slice_index bytes 0 == 3)
+
+-- the key that a word spells
 abbrev pub key_of : Bytes → Option Key
-key_of = digits_of (λ bytes. length bytes == 33 && (slice_index bytes 0 == 2 || slice_index bytes 0 == 3))
+key_of = digits_of is_key
 
 -- how many bytes a hash value has
 abbrev pub hash_length : HashKind → ℕ
@@ -66,6 +70,10 @@ hash_length Hash256 = 32
 hash_length Ripemd160 = 20
 hash_length Hash160 = 20
 
+-- whether bytes are a hash value
+abbrev pub is_hash : HashKind → Bytes → Bool
+is_hash kind bytes = length bytes == hash_length kind
+
 -- the hash value that a word spells
 abbrev pub hash_of : HashKind → Bytes → Option Bytes
-hash_of kind = digits_of (λ bytes. length bytes == hash_length kind)
+hash_of kind = digits_of (is_hash kind)
