@@ -91,37 +91,49 @@ thresh_ended : (k : ℕ) (before : Trees) (y x : Tree) (a : ℕ) (fs : List Fram
 thresh_ended k before y x a fs ps os d rest =
     ap (λ r. behind (ended (thresh k r), fs, (ps ++ os) ++ a ∷ []) rest) (joined_assoc before (more y none) (more x none))
 
-three : (ps os qs rs : List ℕ) → ((ps ++ os) ++ qs) ++ rs ≡ ps ++ (os ++ (qs ++ rs))
+-- the tokens of two and of three children, from the left and from the right
+two_tokens : (xs ys rest : List Token) (c d : ℕ) →
+    (xs ++ comma c ∷ ys ++ closing d ∷ []) ++ rest ≡ (xs ++ comma c ∷ (ys ++ closing d ∷ [])) ++ rest
+two_tokens xs ys rest c d = simp append_assoc
+
+three_tokens : (xs ys zs rest : List Token) (c d e : ℕ) →
+    (xs ++ comma c ∷ ys ++ comma d ∷ zs ++ closing e ∷ []) ++ rest ≡ (xs ++ comma c ∷ (ys ++ comma d ∷ (zs ++ closing e ∷ []))) ++ rest
+three_tokens xs ys zs rest c d e = simp append_assoc
+
+three : (ps os qs rs : List ℕ) → ps ++ os ++ qs ++ rs ≡ ps ++ (os ++ qs ++ rs)
 three ps os qs rs = simp append_assoc
 
-four : (ps os qs rs ss : List ℕ) → (((ps ++ os) ++ qs) ++ rs) ++ ss ≡ ps ++ (os ++ (qs ++ (rs ++ ss)))
+four : (ps os qs rs ss : List ℕ) → ps ++ os ++ qs ++ rs ++ ss ≡ ps ++ (os ++ qs ++ rs ++ ss)
 four ps os qs rs ss = simp append_assoc
 
 -- a fragment of two children, where each is read
 pair_ended : (pair : Pair) (a c d : ℕ) (xs ys : List Token) (x y : Tree) (fs : List Frame) (ps os qs : List ℕ) (rest : List Token) →
     Leads (expression, pair_first pair a ∷ fs, ps) xs (ended x, pair_first pair a ∷ fs, ps ++ os) →
     Leads (expression, pair_second pair x a ∷ fs, ps ++ os) ys (ended y, pair_second pair x a ∷ fs, (ps ++ os) ++ qs) →
-    behind (expression, pair_first pair a ∷ fs, ps) ((xs ++ comma c ∷ (ys ++ closing d ∷ [])) ++ rest)
-    ≡ behind (ended (pair_tree pair x y), fs, ps ++ (os ++ (qs ++ pair_offsets pair a))) rest
+    behind (expression, pair_first pair a ∷ fs, ps) ((xs ++ comma c ∷ ys ++ closing d ∷ []) ++ rest)
+    ≡ behind (ended (pair_tree pair x y), fs, ps ++ (os ++ qs ++ pair_offsets pair a)) rest
 pair_ended pair a c d xs ys x y fs ps os qs rest hx hy =
-    two_children (expression, pair_first pair a ∷ fs, ps) (ended x, pair_first pair a ∷ fs, ps ++ os)
-    (expression, pair_second pair x a ∷ fs, ps ++ os) xs ys c d rest refl hx (ended y, pair_second pair x a ∷ fs, (ps ++ os) ++ qs) hy
-    ∙ ap (λ r. behind (ended (pair_tree pair x y), fs, r) rest) (three ps os qs (pair_offsets pair a))
+    ap (behind (expression, pair_first pair a ∷ fs, ps)) (two_tokens xs ys rest c d)
+    ∙ (two_children (expression, pair_first pair a ∷ fs, ps) (ended x, pair_first pair a ∷ fs, ps ++ os)
+    (expression, pair_second pair x a ∷ fs, ps ++ os) xs ys c d rest refl hx
+    (ended y, pair_second pair x a ∷ fs, (ps ++ os) ++ qs) hy
+    ∙ ap (λ r. behind (ended (pair_tree pair x y), fs, r) rest) (three ps os qs (pair_offsets pair a)))
 
 -- `andor`, where each of its children is read
 andor_ended : (a c d e : ℕ) (xs ys zs : List Token) (x y z : Tree) (fs : List Frame) (ps os qs rs : List ℕ) (rest : List Token) →
     Leads (expression, andor_first a ∷ fs, ps) xs (ended x, andor_first a ∷ fs, ps ++ os) →
     Leads (expression, andor_second x a ∷ fs, ps ++ os) ys (ended y, andor_second x a ∷ fs, (ps ++ os) ++ qs) →
     Leads (expression, andor_third x y a ∷ fs, (ps ++ os) ++ qs) zs (ended z, andor_third x y a ∷ fs, ((ps ++ os) ++ qs) ++ rs) →
-    behind (expression, andor_first a ∷ fs, ps) ((xs ++ comma c ∷ (ys ++ comma d ∷ (zs ++ closing e ∷ []))) ++ rest)
-    ≡ behind (ended (and_or x y z), fs, ps ++ (os ++ (qs ++ (rs ++ a ∷ [])))) rest
+    behind (expression, andor_first a ∷ fs, ps) ((xs ++ comma c ∷ ys ++ comma d ∷ zs ++ closing e ∷ []) ++ rest)
+    ≡ behind (ended (and_or x y z), fs, ps ++ (os ++ qs ++ rs ++ a ∷ [])) rest
 andor_ended a c d e xs ys zs x y z fs ps os qs rs rest hx hy hz =
-    leads_on (expression, andor_first a ∷ fs, ps) (ended x, andor_first a ∷ fs, ps ++ os)
+    ap (behind (expression, andor_first a ∷ fs, ps)) (three_tokens xs ys zs rest c d e)
+    ∙ (leads_on (expression, andor_first a ∷ fs, ps) (ended x, andor_first a ∷ fs, ps ++ os)
     xs (comma c) (ys ++ comma d ∷ (zs ++ closing e ∷ [])) rest hx
     ∙ (two_children (expression, andor_second x a ∷ fs, ps ++ os) (ended y, andor_second x a ∷ fs, (ps ++ os) ++ qs)
     (expression, andor_third x y a ∷ fs, (ps ++ os) ++ qs) ys zs d e rest refl hy
     (ended z, andor_third x y a ∷ fs, ((ps ++ os) ++ qs) ++ rs) hz
-    ∙ ap (λ r. behind (ended (and_or x y z), fs, r) rest) (four ps os qs rs (a ∷ [])))
+    ∙ ap (λ r. behind (ended (and_or x y z), fs, r) rest) (four ps os qs rs (a ∷ []))))
 
 mutual
   pub complete : {ts : List Token} {x : Tree} {os : List ℕ} → Spells ts x os → (fs : List Frame) (ps : List ℕ) →
@@ -145,7 +157,7 @@ mutual
   complete (text_and_n {a = a} c d {xs = xs} {ys = ys} {x = x} {y = y} {os = os} {ps = qs} hx hy) fs ps t rest =
       pair_ended pair_and_n a c d xs ys x y fs ps os qs (t ∷ rest)
       (complete hx (pair_first pair_and_n a ∷ fs) ps) (complete hy (pair_second pair_and_n x a ∷ fs) (ps ++ os))
-  complete (text_thresh {a = a} d {k = k} {xs = xs} {x = x} {os = os} h hx) fs ps t rest =
+  complete (text_thresh {a = a} d {k = k} {ts = xs} {xs = x} {os = os} h hx) fs ps t rest =
       rw h (ap (behind (thresh_comma k a, fs, ps)) (append_assoc xs (closing d ∷ []) (t ∷ rest))
       ∙ (first_child hx k a fs ps d (t ∷ rest)
       ∙ ap (λ r. behind (ended (thresh k x), fs, r) (t ∷ rest)) (append_assoc ps os (a ∷ []))))
@@ -161,7 +173,7 @@ mutual
       (k a : ℕ) (fs : List Frame) (ps : List ℕ) (d : ℕ) (rest : List Token) →
       behind (thresh_comma k a, fs, ps) (ts ++ closing d ∷ rest) ≡ behind (ended (thresh k xs), fs, (ps ++ os) ++ a ∷ []) rest
   first_child (last_child hx) k a fs ps d rest = complete hx (thresh_child k none a ∷ fs) ps (closing d) rest
-  first_child (next_child {c = c} {xs = xs} {ys = ys} {x = x} {y = y} {os = os} {ps = qs} hx hy) k a fs ps d rest =
+  first_child (next_child {c = c} {ts = xs} {us = ys} {x = x} {xs = y} {os = os} {ps = qs} hx hy) k a fs ps d rest =
       ap (behind (expression, thresh_child k none a ∷ fs, ps)) (append_assoc xs ys (closing d ∷ rest))
       ∙ (leads_to (expression, thresh_child k none a ∷ fs, ps) (ended x, thresh_child k none a ∷ fs, ps ++ os) xs ys (closing d) rest
       (complete hx (thresh_child k none a ∷ fs) ps)
@@ -175,7 +187,7 @@ mutual
   next_children (last_child {x = x} {os = os} hx) k before y a fs ps d rest =
       complete hx (thresh_child k (joined before (more y none)) a ∷ fs) ps (closing d) rest
       ∙ thresh_ended k before y x a fs ps os d rest
-  next_children (next_child {c = c} {xs = xs} {ys = ys} {x = x} {y = z} {os = os} {ps = qs} hx hy) k before y a fs ps d rest =
+  next_children (next_child {c = c} {ts = xs} {us = ys} {x = x} {xs = z} {os = os} {ps = qs} hx hy) k before y a fs ps d rest =
       ap (behind (expression, thresh_child k (joined before (more y none)) a ∷ fs, ps)) (append_assoc xs ys (closing d ∷ rest))
       ∙ (leads_to (expression, thresh_child k (joined before (more y none)) a ∷ fs, ps)
       (ended x, thresh_child k (joined before (more y none)) a ∷ fs, ps ++ os) xs ys (closing d) rest

@@ -9,10 +9,10 @@ use Rattle.def_text.specs.Spells.{Spells, text_0, text_1, text_pk_k, text_pk_h, 
 two_lists : (os ps : List ℕ) → length (os ++ ps) ≡ length os + length ps
 two_lists os ps = length-append os ps
 
-three_lists : (os ps qs : List ℕ) → length (os ++ (ps ++ qs)) ≡ length os + length ps + length qs
+three_lists : (os ps qs : List ℕ) → length (os ++ ps ++ qs) ≡ length os + length ps + length qs
 three_lists os ps qs = simp length-append (omega arith)
 
-four_lists : (os ps qs rs : List ℕ) → length (os ++ (ps ++ (qs ++ rs))) ≡ length os + length ps + length qs + length rs
+four_lists : (os ps qs rs : List ℕ) → length (os ++ ps ++ qs ++ rs) ≡ length os + length ps + length qs + length rs
 four_lists os ps qs rs = simp length-append (omega arith)
 
 letter_count : (l : Letter) (a : ℕ) (x : Tree) (os : List ℕ) → length os ≡ nodes x → length (letter_offsets a l os) ≡ nodes (letter_tree l x)

@@ -16,7 +16,7 @@ use Rattle.def_tree.specs.Range.{IsWritable, AreWritable, count}
 use Rattle.def_text.specs.Token.{Token, word, opening, closing, comma, colon, end, tokens, tokens_from, word_before, is_word_byte}
 use Rattle.def_text.specs.Word.{two_name, hash_name, is_key, is_hash}
 use Rattle.def_text.specs.Letter.{Letter, letter_of_wrapper, wrapper_byte, letter_word, letters_tree, letters_offsets}
-use Rattle.def_text.specs.Spells.{Spells, text_0, text_1, text_pk_k, text_pk_h, text_older, text_after, text_hash, text_andor, text_two, text_thresh, text_multi, text_letters, SpellsChildren, last_child, next_child, SpellsKeys, last_key, next_key, SpellsText, text_whole}
+use Rattle.def_text.specs.Spells.{call, Spells, text_0, text_1, text_pk_k, text_pk_h, text_older, text_after, text_hash, text_andor, text_two, text_thresh, text_multi, text_letters, SpellsChildren, last_child, next_child, SpellsKeys, last_key, next_key, SpellsText, text_whole}
 use Rattle.def_text.specs.Print.{printed, printed_behind, printed_children, printed_keys, HasWords, HaveWords}
 use Rattle.def_text.proofs.Sound.{two_split, three_split}
 use Rattle.def_text.proofs.PrintedWords.{NoWord, word_byte, one_token, closed_word, number_is_spelled, number_is_word, digits_are_spelled, digits_are_word, digits_are_some}
@@ -215,8 +215,8 @@ prints_pair : (kind : Two) (x y : Tree) → Prints x → Prints y → Prints (tw
 prints_pair kind x y hx hy at rest apart =
     let (q, opens) = two_opens kind at (printed_behind [] x ++ (codes "," ++ (printed_behind [] y ++ (codes ")" ++ rest)))) in
     let (c, d, xs, ys, os, ps, n, e, sx, sy) = prints_two x y hx hy (q + 1) rest in (
-      word at (two_name kind) ∷ opening q ∷ (xs ++ comma c ∷ (ys ++ closing d ∷ [])),
-      os ++ (ps ++ at ∷ []),
+      call at (two_name kind) q (xs ++ comma c ∷ ys) d,
+      os ++ ps ++ at ∷ [],
       n,
       ap (tokens_from at) (pair_parts (two_name kind) (codes "(") (printed_behind [] x) (codes ",") (printed_behind [] y) (codes ")") rest)
           ∙ (opens ∙ ap (λ r. word at (two_name kind) ∷ opening q ∷ r) (e ∙ two_split xs ys (tokens_from n rest) c d)),
@@ -231,8 +231,8 @@ prints_andor x y z hx hy hz at rest apart =
     let q : ℕ = at + 1 + 1 + 1 + 1 + 1 in
     let (xs, os, c, e, sx) = hx (q + 1) (codes "," ++ (printed_behind [] y ++ (codes "," ++ (printed_behind [] z ++ (codes ")" ++ rest))))) (λ n. refl) in
     let (d, f, ys, zs, ps, qs, n, g, sy, sz) = prints_two y z hy hz (c + 1) rest in (
-      word at (codes "andor") ∷ opening q ∷ (xs ++ comma c ∷ (ys ++ comma d ∷ (zs ++ closing f ∷ []))),
-      os ++ (ps ++ (qs ++ at ∷ [])),
+      call at (codes "andor") q (xs ++ comma c ∷ ys ++ comma d ∷ zs) f,
+      os ++ ps ++ qs ++ at ∷ [],
       n,
       ap (λ bs. word at (codes "andor") ∷ opening q ∷ tokens_from (q + 1) bs)
           (triple_parts (printed_behind [] x) (codes ",") (printed_behind [] y) (codes ",") (printed_behind [] z) (codes ")") rest)

@@ -7,7 +7,7 @@ use Rattle.def_tree.specs.Tree.{Key, Tree, Trees, just_0, just_1, pk_k, pk_h, ol
 use Rattle.def_text.specs.Token.{Token, word, opening, closing, comma, colon, other, end}
 use Rattle.def_text.specs.Word.{key_of, number_of, hash_of}
 use Rattle.def_text.specs.Letter.{Letter, letter_tree, letters_tree, letters_offsets, letter_word}
-use Rattle.def_text.specs.Spells.{Spells, text_0, text_1, text_pk_k, text_pk_h, text_pk, text_pkh, text_older, text_after, text_hash, text_andor, text_two, text_and_n, text_thresh, text_multi, text_letters, SpellsChildren, last_child, next_child, SpellsKeys, last_key, next_key, SpellsText, text_whole}
+use Rattle.def_text.specs.Spells.{call, Spells, text_0, text_1, text_pk_k, text_pk_h, text_pk, text_pkh, text_older, text_after, text_hash, text_andor, text_two, text_and_n, text_thresh, text_multi, text_letters, SpellsChildren, last_child, next_child, SpellsKeys, last_key, next_key, SpellsText, text_whole}
 use Rattle.def_text.specs.Reader.{Leaf, leaf_pk_k, leaf_pk_h, leaf_pk, leaf_pkh, leaf_older, leaf_after, leaf_hash, leaf_name, leaf_of, leaf_offsets, Pair, pair_two, pair_and_n, pair_name, pair_tree, pair_offsets, Form, form_0, form_1, form_leaf, form_andor, form_pair, form_thresh, form_multi, form_name, Head, named, run, neither, head_of, Want, expression, colon_next, leaf_open, leaf_word, leaf_close, andor_open, pair_open, thresh_open, thresh_number, thresh_comma, multi_open, multi_number, multi_comma, multi_key, multi_next, ended, finished, Frame, letter_frame, andor_first, andor_second, andor_third, pair_first, pair_second, thresh_child, State, START, joined, offsets_before, offsets_behind, begin_form, run_frames, run_offsets, begin, comma_behind, closing_behind, end_behind, step_word, step_opening, step_closing, step_comma, step_colon, step_end, step, behind}
 use Rattle.def_text.proofs.Words.{name_of_head, letters_of_head}
 use Rattle.def_text.proofs.Complete.{joined_assoc, offsets_of_letter}
@@ -22,7 +22,7 @@ by_value f None x P h e = absurd (cc)
 by_value f (Some v) x P h e = let same : f v ≡ x = cc in subst P same (h v refl)
 
 abbrev leaf_tokens : Leaf → (a b c d : ℕ) (w : Bytes) → List Token
-leaf_tokens leaf a b c d w = word a (leaf_name leaf) ∷ opening b ∷ word c w ∷ closing d ∷ []
+leaf_tokens leaf a b c d w = call a (leaf_name leaf) b (word c w ∷ []) d
 
 spells_leaf : (leaf : Leaf) (a b c d : ℕ) (w : Bytes) (x : Tree) → leaf_of leaf w ≡ Some x →
     Spells (leaf_tokens leaf a b c d w) x (leaf_offsets leaf a)
@@ -42,8 +42,7 @@ spells_leaf (leaf_hash kind) a b c d w x h =
     by_value (hash kind) (hash_of kind w) x (λ y. Spells (leaf_tokens (leaf_hash kind) a b c d w) y (a ∷ [])) (λ v e. text_hash kind e) h
 
 spells_pair : (pair : Pair) (a b c d : ℕ) {xs ys : List Token} {x y : Tree} {os ps : List ℕ} → Spells xs x os → Spells ys y ps →
-    Spells (word a (pair_name pair) ∷ opening b ∷ (xs ++ comma c ∷ (ys ++ closing d ∷ []))) (pair_tree pair x y)
-    (os ++ (ps ++ pair_offsets pair a))
+    Spells (call a (pair_name pair) b (xs ++ comma c ∷ ys) d) (pair_tree pair x y) (os ++ ps ++ pair_offsets pair a)
 spells_pair (pair_two kind) a b c d hx hy = text_two kind c d hx hy
 spells_pair pair_and_n a b c d hx hy = text_and_n c d hx hy
 
@@ -118,24 +117,22 @@ end_fills x (thresh_child k xs a ∷ fs) os e ts z zs h = absurd h
 
 -- ---- where an expression begins
 
-pub two_split : (xs ys rest : List Token) (c d : ℕ) → xs ++ comma c ∷ (ys ++ closing d ∷ rest) ≡ (xs ++ comma c ∷ (ys ++ closing d ∷ [])) ++ rest
+pub two_split : (xs ys rest : List Token) (c d : ℕ) →
+    xs ++ comma c ∷ (ys ++ closing d ∷ rest) ≡ (xs ++ comma c ∷ ys ++ closing d ∷ []) ++ rest
 two_split xs ys rest c d = simp append_assoc
 
 pub three_split : (xs ys zs rest : List Token) (c d e : ℕ) →
-    xs ++ comma c ∷ (ys ++ comma d ∷ (zs ++ closing e ∷ rest)) ≡ (xs ++ comma c ∷ (ys ++ comma d ∷ (zs ++ closing e ∷ []))) ++ rest
+    xs ++ comma c ∷ (ys ++ comma d ∷ (zs ++ closing e ∷ rest)) ≡ (xs ++ comma c ∷ ys ++ comma d ∷ zs ++ closing e ∷ []) ++ rest
 three_split xs ys zs rest c d e = simp append_assoc
 
-two_offsets : (os ps qs rs : List ℕ) → ((os ++ ps) ++ qs) ++ rs ≡ os ++ (ps ++ (qs ++ rs))
-two_offsets os ps qs rs = simp append_assoc
-
-three_offsets : (os ps qs rs ss : List ℕ) → (((os ++ ps) ++ qs) ++ rs) ++ ss ≡ os ++ (ps ++ (qs ++ (rs ++ ss)))
+three_offsets : (os ps qs rs ss : List ℕ) → os ++ ps ++ qs ++ rs ++ ss ≡ os ++ (ps ++ qs ++ rs ++ ss)
 three_offsets os ps qs rs ss = simp append_assoc
 
 pub children_split : (us cs rest : List Token) (d : ℕ) → us ++ (cs ++ closing d ∷ rest) ≡ ((us ++ cs) ++ closing d ∷ []) ++ rest
 children_split us cs rest d = simp append_assoc
 
-children_offsets : (os ps qs rs : List ℕ) → ((os ++ ps) ++ qs) ++ rs ≡ os ++ ((ps ++ qs) ++ rs)
-children_offsets os ps qs rs = simp append_assoc
+two_offsets : (os ps qs rs : List ℕ) → os ++ ps ++ qs ++ rs ≡ os ++ (ps ++ qs ++ rs)
+two_offsets os ps qs rs = simp append_assoc
 
 name_fills : (form : Form) (a : ℕ) (fs : List Frame) (os : List ℕ) (ts : List Token) (z : Tree) (zs : List ℕ) →
     NextFills (begin_form form a fs os) ts z zs → ExpressionFills fs os (word a (form_name form) ∷ ts) z zs
@@ -151,38 +148,38 @@ name_fills (form_leaf leaf) a fs os ts z zs (b, c, w, x, rest, e, h, (d, tail, g
   last,
 )
 name_fills form_andor a fs os ts z zs (b, rest, e, (xs, tail, x, ps, g, hx, (c, d, f, us, vs, rest', u, v, qs, rs, k, hu, hv, last))) = (
-  word a (form_name form_andor) ∷ opening b ∷ (xs ++ comma c ∷ (us ++ comma d ∷ (vs ++ closing f ∷ []))),
+  call a (form_name form_andor) b (xs ++ comma c ∷ us ++ comma d ∷ vs) f,
   rest',
   and_or x u v,
-  ps ++ (qs ++ (rs ++ a ∷ [])),
+  ps ++ qs ++ rs ++ a ∷ [],
   ap (λ r. word a (form_name form_andor) ∷ r)
       (e ∙ ap (λ r. opening b ∷ r) (g ∙ (ap (λ r. xs ++ r) k ∙ three_split xs us vs rest' c d f))),
   text_andor c d f hx hu hv,
   subst (λ r. EndedFills fs (and_or x u v) r rest' z zs) (three_offsets os ps qs rs (a ∷ [])) last,
 )
 name_fills (form_pair pair) a fs os ts z zs (b, rest, e, (xs, tail, x, ps, g, hx, (c, d, vs, rest', v, qs, k, hv, last))) = (
-  word a (pair_name pair) ∷ opening b ∷ (xs ++ comma c ∷ (vs ++ closing d ∷ [])),
+  call a (pair_name pair) b (xs ++ comma c ∷ vs) d,
   rest',
   pair_tree pair x v,
-  ps ++ (qs ++ pair_offsets pair a),
+  ps ++ qs ++ pair_offsets pair a,
   ap (λ r. word a (pair_name pair) ∷ r) (e ∙ ap (λ r. opening b ∷ r) (g ∙ (ap (λ r. xs ++ r) k ∙ two_split xs vs rest' c d))),
   spells_pair pair a b c d hx hv,
   subst (λ r. EndedFills fs (pair_tree pair x v) r rest' z zs) (two_offsets os ps qs (pair_offsets pair a)) last,
 )
 name_fills form_thresh a fs os ts z zs
     (b, c, w, k, rest, e, h, (f, tail, g, (us, rest', u, ps, i, hu, (d, cs, rest'', ys, qs, j, hy, last)))) = (
-      word a (form_name form_thresh) ∷ opening b ∷ word c w ∷ ((comma f ∷ (us ++ cs)) ++ closing d ∷ []),
+      call a (form_name form_thresh) b (word c w ∷ comma f ∷ (us ++ cs)) d,
       rest'',
       thresh k (more u ys),
-      (ps ++ qs) ++ a ∷ [],
+      ps ++ qs ++ a ∷ [],
       ap (λ r. word a (form_name form_thresh) ∷ r)
           (e ∙ ap (λ r. opening b ∷ word c w ∷ r) (g ∙ ap (λ r. comma f ∷ r) (i ∙ (ap (λ r. us ++ r) j ∙ children_split us cs rest'' d)))),
       text_thresh d h (children_from f hu hy),
-      subst (λ r. EndedFills fs (thresh k (more u ys)) r rest'' z zs) (children_offsets os ps qs (a ∷ [])) last,
+      subst (λ r. EndedFills fs (thresh k (more u ys)) r rest'' z zs) (two_offsets os ps qs (a ∷ [])) last,
     )
 name_fills form_multi a fs os ts z zs
     (b, c, w, k, rest, e, h, (f, tail, g, (i, v, key, rest', j, hk, (d, cs, rest'', others, m, ho, last)))) = (
-      word a (form_name form_multi) ∷ opening b ∷ word c w ∷ ((comma f ∷ word i v ∷ cs) ++ closing d ∷ []),
+      call a (form_name form_multi) b (word c w ∷ comma f ∷ word i v ∷ cs) d,
       rest'',
       multi k (key ∷ others),
       a ∷ [],
