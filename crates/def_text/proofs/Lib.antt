@@ -10,6 +10,7 @@ pub mod Counted
 pub mod Ends
 pub mod Deep
 pub mod Report
+pub mod Outcomes
 pub mod OneAnswer
 pub mod OffsetCount
 pub mod PrintedWords

@@ -23,8 +23,10 @@ KEY_A_TEXT = codes "020101010101010101010101010101010101010101010101010101010101
 
 abbrev pub KEY_B : Key
 KEY_B =
-    0x02 ∷ 0x79 ∷ 0xbe ∷ 0x66 ∷ 0x7e ∷ 0xf9 ∷ 0xdc ∷ 0xbb ∷ 0xac ∷ 0x55 ∷ 0xa0 ∷ 0x62 ∷ 0x95 ∷ 0xce ∷ 0x87 ∷ 0x0b ∷ 0x07
-    ∷ 0x02 ∷ 0x9b ∷ 0xfc ∷ 0xdb ∷ 0x2d ∷ 0xce ∷ 0x28 ∷ 0xd9 ∷ 0x59 ∷ 0xf2 ∷ 0x81 ∷ 0x5b ∷ 0x16 ∷ 0xf8 ∷ 0x17 ∷ 0x98 ∷ []
+    0x02
+    ∷ 0x79 ∷ 0xbe ∷ 0x66 ∷ 0x7e ∷ 0xf9 ∷ 0xdc ∷ 0xbb ∷ 0xac ∷ 0x55 ∷ 0xa0 ∷ 0x62 ∷ 0x95 ∷ 0xce ∷ 0x87 ∷ 0x0b ∷ 0x07
+    ∷ 0x02 ∷ 0x9b ∷ 0xfc ∷ 0xdb ∷ 0x2d ∷ 0xce ∷ 0x28 ∷ 0xd9 ∷ 0x59 ∷ 0xf2 ∷ 0x81 ∷ 0x5b ∷ 0x16 ∷ 0xf8 ∷ 0x17 ∷ 0x98
+    ∷ []
 
 abbrev pub KEY_B_TEXT : Bytes
 KEY_B_TEXT = codes "0279be667ef9dcbbac55a06295ce870b07029bfcdb2dce28d959f2815b16f81798"
@@ -35,8 +37,9 @@ KEY_B_TEXT = codes "0279be667ef9dcbbac55a06295ce870b07029bfcdb2dce28d959f2815b16
 abbrev pub TokensOfAndV : Type 0
 TokensOfAndV =
     tokens (codes "and_v(v:pk(" ++ KEY_A_TEXT ++ codes "),older(144))")
-    ≡ word 0 (codes "and_v") ∷ opening 5 ∷ word 6 (codes "v") ∷ colon 7 ∷ word 8 (codes "pk") ∷ opening 10 ∷ word 11 KEY_A_TEXT
-    ∷ closing 77 ∷ comma 78 ∷ word 79 (codes "older") ∷ opening 84 ∷ word 85 (codes "144") ∷ closing 88 ∷ closing 89 ∷ end 90 ∷ []
+    ≡ word 0 (codes "and_v") ∷ opening 5 ∷ word 6 (codes "v") ∷ colon 7 ∷ word 8 (codes "pk") ∷ opening 10
+    ∷ word 11 KEY_A_TEXT ∷ closing 77 ∷ comma 78 ∷ word 79 (codes "older") ∷ opening 84 ∷ word 85 (codes "144")
+    ∷ closing 88 ∷ closing 89 ∷ end 90 ∷ []
 
 -- the empty text
 abbrev pub TokensOfNothing : Type 0
@@ -45,7 +48,8 @@ TokensOfNothing = tokens [] ≡ end 0 ∷ []
 -- `pk é:`, where the letter beyond ASCII has two bytes
 abbrev pub TokensBeyondAscii : Type 0
 TokensBeyondAscii =
-    tokens (codes "pk " ++ 0xc3 ∷ 0xa9 ∷ codes ":") ≡ word 0 (codes "pk") ∷ other 2 ∷ other 3 ∷ colon 5 ∷ end 6 ∷ []
+    tokens (codes "pk " ++ 0xc3 ∷ 0xa9 ∷ codes ":")
+    ≡ word 0 (codes "pk") ∷ other 2 ∷ other 3 ∷ colon 5 ∷ end 6 ∷ []
 
 -- ---- numbers and keys
 
@@ -65,7 +69,8 @@ NoNumberAfterZero = number_of (codes "00") ≡ None
 
 -- the key's digits in upper case
 abbrev pub KeyInUpperCase : Type 0
-KeyInUpperCase = key_of (codes "0279BE667EF9DCBBAC55A06295CE870B07029BFCDB2DCE28D959F2815B16F81798") ≡ Some KEY_B
+KeyInUpperCase =
+    key_of (codes "0279BE667EF9DCBBAC55A06295CE870B07029BFCDB2DCE28D959F2815B16F81798") ≡ Some KEY_B
 
 -- a key begins with `02` or `03`
 abbrev pub NoUncompressedKey : Type 0
@@ -80,17 +85,20 @@ PkIsSpelled = SpellsText (tokens (codes "pk(" ++ KEY_B_TEXT ++ codes ")")) (wrap
 -- `or_d(pk(A),and_v(v:pkh(B),older(144)))`
 abbrev pub OrDIsSpelled : Type 0
 OrDIsSpelled =
-    SpellsText (tokens (codes "or_d(pk(" ++ KEY_A_TEXT ++ codes "),and_v(v:pkh(" ++ KEY_B_TEXT ++ codes "),older(144)))"))
+    SpellsText
+    (tokens (codes "or_d(pk(" ++ KEY_A_TEXT ++ codes "),and_v(v:pkh(" ++ KEY_B_TEXT ++ codes "),older(144)))"))
     (two OrD (wrap C (pk_k KEY_A)) (two AndV (wrap V (wrap C (pk_h KEY_B))) (older 144)))
     (5 ∷ 5 ∷ 84 ∷ 84 ∷ 82 ∷ 156 ∷ 76 ∷ 0 ∷ [])
 
 -- `l:t:1` is `or_i(0,and_v(1,1))`: the `0` of `l:` is the first node
 abbrev pub SugarIsSpelled : Type 0
-SugarIsSpelled = SpellsText (tokens (codes "l:t:1")) (two OrI just_0 (two AndV just_1 just_1)) (0 ∷ 4 ∷ 2 ∷ 2 ∷ 0 ∷ [])
+SugarIsSpelled =
+    SpellsText (tokens (codes "l:t:1")) (two OrI just_0 (two AndV just_1 just_1)) (0 ∷ 4 ∷ 2 ∷ 2 ∷ 0 ∷ [])
 
 -- the same by one group of letters
 abbrev pub GroupIsSpelled : Type 0
-GroupIsSpelled = SpellsText (tokens (codes "lt:1")) (two OrI just_0 (two AndV just_1 just_1)) (0 ∷ 3 ∷ 1 ∷ 1 ∷ 0 ∷ [])
+GroupIsSpelled =
+    SpellsText (tokens (codes "lt:1")) (two OrI just_0 (two AndV just_1 just_1)) (0 ∷ 3 ∷ 1 ∷ 1 ∷ 0 ∷ [])
 
 -- ---- refusals
 
@@ -127,7 +135,8 @@ letters_n count = replicate count (byte "n") ++ codes ":0"
 
 -- 255 letters are read
 abbrev pub LettersAreRead : Type 0
-LettersAreRead = (offsets : List ℕ) × TextReads (letters_n 255) (letters_tree (replicate 255 (letter_of_wrapper N)) just_0) offsets
+LettersAreRead =
+    (offsets : List ℕ) × TextReads (letters_n 255) (letters_tree (replicate 255 (letter_of_wrapper N)) just_0) offsets
 
 -- behind 256 letters the `0` is too deep
 abbrev pub NameIsTooDeep : Type 0

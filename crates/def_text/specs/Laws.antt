@@ -13,7 +13,8 @@ use Rattle.def_text.specs.Refusal.{TextReads, TextRefusal}
 
 -- a text spells at most one tree, with one list of offsets
 abbrev pub OneTree : Type 0
-OneTree = (ts : List Token) (x y : Tree) (os ps : List ℕ) → SpellsText ts x os → SpellsText ts y ps → (x ≡ y) × (os ≡ ps)
+OneTree =
+    (ts : List Token) (x y : Tree) (os ps : List ℕ) → SpellsText ts x os → SpellsText ts y ps → (x ≡ y) × (os ≡ ps)
 
 -- each node of the tree that a text spells has an offset
 abbrev pub OneOffsetEach : Type 0
@@ -21,11 +22,14 @@ OneOffsetEach = (ts : List Token) (x : Tree) (os : List ℕ) → SpellsText ts x
 
 -- a text has at most one refusal, but for want of memory
 abbrev pub OneRefusal : Type 0
-OneRefusal = (text : Bytes) (d e : TextFault) → d ≢ Memory → e ≢ Memory → TextRefusal text d → TextRefusal text e → d ≡ e
+OneRefusal =
+    (text : Bytes) (d e : TextFault) → d ≢ Memory → e ≢ Memory → TextRefusal text d → TextRefusal text e → d ≡ e
 
 -- and none where it is read
 abbrev pub NoneBesideTree : Type 0
-NoneBesideTree = (text : Bytes) (x : Tree) (os : List ℕ) (e : TextFault) → IsUtf8 text → e ≢ Memory → TextReads text x os → ¬ TextRefusal text e
+NoneBesideTree =
+    (text : Bytes) (x : Tree) (os : List ℕ) (e : TextFault) →
+    IsUtf8 text → e ≢ Memory → TextReads text x os → ¬ TextRefusal text e
 
 -- each text is read or has a refusal
 abbrev pub SomeAnswer : Type 0

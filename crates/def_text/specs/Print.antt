@@ -22,7 +22,8 @@ abbrev mutual
   printed_behind colon (after n) = colon ++ codes "after(" ++ decimal n ++ codes ")"
   printed_behind colon (hash kind value) = colon ++ hash_name kind ++ codes "(" ++ encode_lower value ++ codes ")"
   printed_behind colon (and_or x y z) =
-      colon ++ codes "andor(" ++ printed_behind [] x ++ codes "," ++ printed_behind [] y ++ codes "," ++ printed_behind [] z ++ codes ")"
+      colon ++ codes "andor(" ++ printed_behind [] x ++ codes "," ++ printed_behind [] y
+      ++ codes "," ++ printed_behind [] z ++ codes ")"
   printed_behind colon (two kind x y) =
       colon ++ two_name kind ++ codes "(" ++ printed_behind [] x ++ codes "," ++ printed_behind [] y ++ codes ")"
   printed_behind colon (thresh k xs) = colon ++ codes "thresh(" ++ decimal k ++ printed_children xs ++ codes ")"

@@ -1,5 +1,6 @@
--- A device of proofs, and nothing that has to be believed: a machine that reads a text by one token at a time. The
--- laws of this crate are proved over it, and a reader of texts is: what it answers is what `Spells` and the refusals say.
+-- A device of proofs, and nothing that has to be believed: a machine that reads a text, one token at a time. The
+-- laws of this crate are proved over it, and a reader's proof may stand on it: what it answers to a text is what
+-- `Spells` and the refusals say of the text.
 use Rattle.std.specs.Prelude.{ℕ, ◌+◌, ◌==◌, nat_lt, Bool, true, false, List, [], ◌∷◌, ◌++◌, length, codes, Option, Some, None, if◌then◌else◌}
 use Rattle.std.specs.Option.{option_and_then, option_map}
 use Rattle.std.specs.Str.{bytes_eq}
@@ -60,11 +61,14 @@ form_name form_multi = codes "multi"
 -- all fragments, in the order of their names
 abbrev pub FORMS : List Form
 FORMS =
-    form_0 ∷ form_1 ∷ form_leaf leaf_pk_k ∷ form_leaf leaf_pk_h ∷ form_leaf leaf_pk ∷ form_leaf leaf_pkh ∷ form_leaf leaf_older
-    ∷ form_leaf leaf_after ∷ form_leaf (leaf_hash Sha256) ∷ form_leaf (leaf_hash Hash256) ∷ form_leaf (leaf_hash Ripemd160)
-    ∷ form_leaf (leaf_hash Hash160) ∷ form_andor ∷ form_pair (pair_two AndV) ∷ form_pair (pair_two AndB) ∷ form_pair pair_and_n
-    ∷ form_pair (pair_two OrB) ∷ form_pair (pair_two OrC) ∷ form_pair (pair_two OrD) ∷ form_pair (pair_two OrI) ∷ form_thresh
-    ∷ form_multi ∷ []
+    form_0 ∷ form_1
+    ∷ form_leaf leaf_pk_k ∷ form_leaf leaf_pk_h ∷ form_leaf leaf_pk ∷ form_leaf leaf_pkh
+    ∷ form_leaf leaf_older ∷ form_leaf leaf_after
+    ∷ form_leaf (leaf_hash Sha256) ∷ form_leaf (leaf_hash Hash256)
+    ∷ form_leaf (leaf_hash Ripemd160) ∷ form_leaf (leaf_hash Hash160)
+    ∷ form_andor ∷ form_pair (pair_two AndV) ∷ form_pair (pair_two AndB) ∷ form_pair pair_and_n
+    ∷ form_pair (pair_two OrB) ∷ form_pair (pair_two OrC) ∷ form_pair (pair_two OrD) ∷ form_pair (pair_two OrI)
+    ∷ form_thresh ∷ form_multi ∷ []
 
 -- the first of some fragments that a word names
 abbrev pub first_named : Bytes → List Form → Option Form
@@ -84,7 +88,8 @@ first_letter b (letter ∷ letters) = if b == letter_byte letter then Some lette
 -- the letters of a word, where it has no other bytes
 abbrev pub letters_of : Bytes → Option (List Letter)
 letters_of [] = Some []
-letters_of (b ∷ w) = option_and_then (λ letter. option_map (λ letters. letter ∷ letters) (letters_of w)) (first_letter b LETTERS)
+letters_of (b ∷ w) =
+    option_and_then (λ letter. option_map (λ letters. letter ∷ letters) (letters_of w)) (first_letter b LETTERS)
 
 -- what a word is where an expression may begin
 pub data Head : Type 0 where
@@ -211,7 +216,8 @@ run_offsets a (letter ∷ letters) os = run_offsets (a + 1) letters (os ++ offse
 
 abbrev pub begin : Head → ℕ → List Frame → List ℕ → Option State
 begin (named form) a fs os = begin_form form a fs os
-begin (run letter letters) a fs os = to colon_next (run_frames a (letter ∷ letters) fs) (run_offsets a (letter ∷ letters) os)
+begin (run letter letters) a fs os =
+    to colon_next (run_frames a (letter ∷ letters) fs) (run_offsets a (letter ∷ letters) os)
 begin neither a fs os = None
 
 abbrev pub step_word : Want → ℕ → Bytes → List Frame → List ℕ → Option State
@@ -233,7 +239,8 @@ step_opening want fs os = None
 -- a comma, and `)`, behind an expression
 abbrev pub comma_behind : Tree → List Frame → List ℕ → Option State
 comma_behind x [] os = None
-comma_behind x (letter_frame letter a ∷ fs) os = comma_behind (letter_tree letter x) fs (os ++ offsets_behind letter a)
+comma_behind x (letter_frame letter a ∷ fs) os =
+    comma_behind (letter_tree letter x) fs (os ++ offsets_behind letter a)
 comma_behind x (andor_first a ∷ fs) os = to expression (andor_second x a ∷ fs) os
 comma_behind x (andor_second y a ∷ fs) os = to expression (andor_third y x a ∷ fs) os
 comma_behind x (andor_third y z a ∷ fs) os = None
@@ -243,7 +250,8 @@ comma_behind x (thresh_child k xs a ∷ fs) os = to expression (thresh_child k (
 
 abbrev pub closing_behind : Tree → List Frame → List ℕ → Option State
 closing_behind x [] os = None
-closing_behind x (letter_frame letter a ∷ fs) os = closing_behind (letter_tree letter x) fs (os ++ offsets_behind letter a)
+closing_behind x (letter_frame letter a ∷ fs) os =
+    closing_behind (letter_tree letter x) fs (os ++ offsets_behind letter a)
 closing_behind x (andor_first a ∷ fs) os = None
 closing_behind x (andor_second y a ∷ fs) os = None
 closing_behind x (andor_third y z a ∷ fs) os = to (ended (and_or y z x)) fs (os ++ a ∷ [])
@@ -254,7 +262,8 @@ closing_behind x (thresh_child k xs a ∷ fs) os = to (ended (thresh k (joined x
 -- the end behind an expression
 abbrev pub end_behind : Tree → List Frame → List ℕ → Option State
 end_behind x [] os = to (finished x) [] os
-end_behind x (letter_frame letter a ∷ fs) os = end_behind (letter_tree letter x) fs (os ++ offsets_behind letter a)
+end_behind x (letter_frame letter a ∷ fs) os =
+    end_behind (letter_tree letter x) fs (os ++ offsets_behind letter a)
 end_behind x (frame ∷ fs) os = None
 
 abbrev pub step_closing : Want → List Frame → List ℕ → Option State

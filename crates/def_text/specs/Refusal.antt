@@ -44,13 +44,13 @@ abbrev pub is_run : Bytes → Bool
 is_run [] = false
 is_run w = list_all is_letter w
 
--- what a word adds to the depth: a name one, and a run each of its letters
+-- how many levels a word begins: a name one, and a run one for each of its letters
 abbrev pub levels_of : Bytes → ℕ
 levels_of w = if is_fragment_name w then 1 else if is_run w then length w else 0
 
--- the names and letters that enclose what follows the tokens, counted by going over them: the first number
--- counts those so far, and the others those before each parenthesis that is open. A comma goes back to its
--- parenthesis, and `)` closes it
+-- how many names and letters enclose what follows some tokens, by a count over them that knows no grammar. The
+-- first number is the count so far, and behind it stands the count at each parenthesis that is open, innermost
+-- first. A comma goes back to the count at its parenthesis, and `)` closes that one
 abbrev pub count_step : List ℕ → Token → List ℕ
 count_step (n ∷ ns) (word a w) = (n + levels_of w) ∷ ns
 count_step (n ∷ ns) (opening a) = n ∷ n ∷ ns
@@ -69,16 +69,19 @@ first_count (n ∷ ns) = n
 abbrev pub enclosing : (before : List Token) → ℕ
 enclosing before = first_count (counts (0 ∷ []) before)
 
--- a token is too deep behind the tokens before it: it is a name or a run where an expression or its fragment
--- may begin, and those that enclose it and its own are too many
+-- a token is too deep behind the tokens before it: an expression or its fragment may begin there, the token is a
+-- name or a run, and its written depth, those that enclose it and its own, is too great
 abbrev pub IsDeep : (before : List Token) → Token → Type 0
 IsDeep before (word a w) =
-    MayBegin before a × IsTrue (is_fragment_name w || is_run w) × (MOST_WRITTEN_DEPTH < enclosing before + levels_of w)
+    MayBegin before a
+    × IsTrue (is_fragment_name w || is_run w)
+    × (MOST_WRITTEN_DEPTH < enclosing before + levels_of w)
 IsDeep before t = ⊥
 
 -- no token is too deep
 abbrev pub NoneDeep : List Token → Type 0
-NoneDeep ts = (before : List Token) (t : Token) (after : List Token) → ts ≡ before ++ t ∷ after → ¬ IsDeep before t
+NoneDeep ts =
+    (before : List Token) (t : Token) (after : List Token) → ts ≡ before ++ t ∷ after → ¬ IsDeep before t
 
 -- ---- the answers
 
@@ -98,7 +101,7 @@ pub record SyntaxAt (text : Bytes) (at : ℕ) : Type 0 where
   pub ends : ¬ IsViable (place.before ++ place.token ∷ [])
   pub none_deep : NoneDeep place.before
 
--- the token at this place is the first that is too deep, and the tokens up to and with it begin a spelled text
+-- the token at this place is the first that is too deep, and those up to and with it begin a spelled text
 pub record DeepAt (text : Bytes) (at : ℕ) : Type 0 where
   pub place : Place text at
   pub begins : IsViable (place.before ++ place.token ∷ [])
