@@ -147,7 +147,8 @@ mutual
   complete (text_older h) fs ps t rest = rw h refl
   complete (text_after h) fs ps t rest = rw h refl
   complete (text_hash kind h) fs ps t rest = rw (head_of_hash kind, h) refl
-  complete (text_andor {a = a} c d e {xs = xs} {ys = ys} {zs = zs} {x = x} {y = y} {z = z} {os = os} {ps = qs} {qs = rs} hx hy hz) fs ps t rest =
+  complete (text_andor {a = a} c d e {xs = xs} {ys = ys} {zs = zs} {x = x} {y = y} {z = z} {os = os} {ps = qs} {qs = rs} hx hy hz)
+      fs ps t rest =
       andor_ended a c d e xs ys zs x y z fs ps os qs rs (t ∷ rest) (complete hx (andor_first a ∷ fs) ps)
       (complete hy (andor_second x a ∷ fs) (ps ++ os)) (complete hz (andor_third x y a ∷ fs) ((ps ++ os) ++ qs))
   complete (text_two {a = a} kind c d {xs = xs} {ys = ys} {x = x} {y = y} {os = os} {ps = qs} hx hy) fs ps t rest =
@@ -201,7 +202,8 @@ mutual
 pub complete_text : {ts : List Token} {x : Tree} {os : List ℕ} → SpellsText ts x os → behind START ts ≡ Some (finished x, [], os)
 complete_text (text_whole e h) = complete h [] [] (end e) []
 
-same_end : (x y : Tree) (os ps : List ℕ) → ◌≡◌ {A = Option State} (Some (finished x, [], os)) (Some (finished y, [], ps)) → (x ≡ y) × (os ≡ ps)
+same_end : (x y : Tree) (os ps : List ℕ) →
+    ◌≡◌ {A = Option State} (Some (finished x, [], os)) (Some (finished y, [], ps)) → (x ≡ y) × (os ≡ ps)
 same_end x y os ps h =
     let e : ◌≡◌ {A = State} (finished x, [], os) (finished y, [], ps) = cc in
     let want : finished x ≡ finished y = ap (λ (s : State). s.0) e in

@@ -91,7 +91,8 @@ ends_letter x frame fs os y ps (t ∷ ts) same (z, zs, h) =
 closing_ends : (x : Tree) (fs : List Frame) (os : List ℕ) (at : ℕ) → Ends (ended x, fs, os) (tokens_from at (closing_text fs))
 closing_ends x [] os at = (x, os, refl)
 closing_ends x (letter_frame l a ∷ fs) os at =
-    ends_letter x (letter_frame l a) fs os (letter_tree l x) (os ++ offsets_behind l a) (tokens_from at (closing_text fs)) (step_letter l a x fs os)
+    ends_letter x (letter_frame l a) fs os (letter_tree l x) (os ++ offsets_behind l a) (tokens_from at (closing_text fs))
+    (step_letter l a x fs os)
     (closing_ends (letter_tree l x) fs (os ++ offsets_behind l a) at)
 closing_ends x (andor_first a ∷ fs) os at = closing_ends (and_or x just_0 just_0) fs _ _
 closing_ends x (andor_second y a ∷ fs) os at = closing_ends (and_or y x just_0) fs _ _
@@ -129,7 +130,8 @@ leaf_reads leaf_after = (after 0, refl)
 leaf_reads (leaf_hash kind) = (_, ap (option_map (hash kind)) (hash_reads kind))
 
 -- the word is one token
-leaf_tokens : (leaf : Leaf) (at : ℕ) (bs : Bytes) → (n : ℕ) × (tokens_from at (leaf_text leaf ++ (codes ")" ++ bs)) ≡ word at (leaf_text leaf) ∷ closing n ∷ tokens_from (n + 1) bs)
+leaf_tokens : (leaf : Leaf) (at : ℕ) (bs : Bytes) →
+    (n : ℕ) × (tokens_from at (leaf_text leaf ++ (codes ")" ++ bs)) ≡ word at (leaf_text leaf) ∷ closing n ∷ tokens_from (n + 1) bs)
 leaf_tokens leaf_pk_k at bs = (_, refl)
 leaf_tokens leaf_pk_h at bs = (_, refl)
 leaf_tokens leaf_pk at bs = (_, refl)
@@ -269,7 +271,8 @@ leaf_is_utf8 leaf fs = with_text (leaf_text leaf) (codes ")" ++ closing_text fs)
 pub completion_is_utf8 : (want : Want) (fs : List Frame) → IsUtf8 (completion want fs)
 completion_is_utf8 expression fs = with_text (codes "0") (closing_text fs) refl (closing_is_utf8 fs)
 completion_is_utf8 colon_next fs = with_text (codes ":0") (closing_text fs) refl (closing_is_utf8 fs)
-completion_is_utf8 (leaf_open leaf) fs = with_text (codes "(") (leaf_text leaf ++ (codes ")" ++ closing_text fs)) refl (leaf_is_utf8 leaf fs)
+completion_is_utf8 (leaf_open leaf) fs =
+    with_text (codes "(") (leaf_text leaf ++ (codes ")" ++ closing_text fs)) refl (leaf_is_utf8 leaf fs)
 completion_is_utf8 (leaf_word leaf) fs = leaf_is_utf8 leaf fs
 completion_is_utf8 (leaf_close x) fs = closed_is_utf8 fs
 completion_is_utf8 (andor_open a) fs = with_text (codes "(0,0,0)") (closing_text fs) refl (closing_is_utf8 fs)

@@ -45,7 +45,8 @@ below_run : (a : ℕ) (ls : List Letter) (fs : List Frame) → below (run_frames
 below_run a [] fs = refl
 below_run a (l ∷ ls) fs = below_run (a + 1) ls (letter_frame l a ∷ fs)
 
-form_agrees : (form : Form) (a : ℕ) (fs : List Frame) (os : List ℕ) → NextAgrees (begin_form form a fs os) (suc (length fs) ∷ below fs)
+form_agrees : (form : Form) (a : ℕ) (fs : List Frame) (os : List ℕ) →
+    NextAgrees (begin_form form a fs os) (suc (length fs) ∷ below fs)
 form_agrees form_0 a fs os = (suc (length fs), refl)
 form_agrees form_1 a fs os = (suc (length fs), refl)
 form_agrees (form_leaf leaf) a fs os = refl
@@ -65,7 +66,8 @@ head_agrees (run l ls) a fs os k e =
     ap (λ m. m ∷ below fs) n ∙ ap (λ ns. length (run_frames a (l ∷ ls) fs) ∷ ns) (sym (below_run a (l ∷ ls) fs))
 head_agrees neither a fs os k e = tt
 
-mapped_agrees : {A : Type 0} (f : A → State) (o : Option A) (ns : List ℕ) → ((x : A) → Agrees (f x).0 (f x).1 ns) → NextAgrees (option_map f o) ns
+mapped_agrees : {A : Type 0} (f : A → State) (o : Option A) (ns : List ℕ) → ((x : A) → Agrees (f x).0 (f x).1 ns) →
+    NextAgrees (option_map f o) ns
 mapped_agrees f None ns h = tt
 mapped_agrees f (Some x) ns h = h x
 
@@ -118,7 +120,8 @@ closing_agrees (ended x) a fs os ns (m, e) =
     subst (λ r. NextAgrees (closing_behind x fs os) (count_step r (closing a))) (sym e) (closed_agrees x fs os a m)
 closing_agrees want a fs os ns h = tt
 
-next_agrees : (x : Tree) (fs : List Frame) (os : List ℕ) (a m : ℕ) → NextAgrees (comma_behind x fs os) (count_step (m ∷ below fs) (comma a))
+next_agrees : (x : Tree) (fs : List Frame) (os : List ℕ) (a m : ℕ) →
+    NextAgrees (comma_behind x fs os) (count_step (m ∷ below fs) (comma a))
 next_agrees x [] os a m = tt
 next_agrees x (letter_frame l b ∷ fs) os a m = next_agrees (letter_tree l x) fs (os ++ offsets_behind l b) a m
 next_agrees x (andor_first b ∷ fs) os a m = refl
@@ -175,5 +178,6 @@ counted (u ∷ us) s n ns h e =
     counted us m n (count_step ns u) k rest
 
 -- where an expression is wanted, what waits encloses it
-pub enclosing_is : (us : List Token) (fs : List Frame) (os : List ℕ) → behind START us ≡ Some (expression, fs, os) → enclosing us ≡ length fs
+pub enclosing_is : (us : List Token) (fs : List Frame) (os : List ℕ) → behind START us ≡ Some (expression, fs, os) →
+    enclosing us ≡ length fs
 enclosing_is us fs os h = ap first_count (counted us START (expression, fs, os) (0 ∷ []) refl h)

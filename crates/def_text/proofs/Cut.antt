@@ -57,7 +57,8 @@ pub data ByteKind (at b : ℕ) : Type 0 where
 word_byte_is_ascii : (b : ℕ) → is_word_byte b ≡ true → goes_on b ≡ false
 word_byte_is_ascii b h = grind arith
 
-kind_from : (at b : ℕ) (c d e f g h : Bool) → is_word_byte b ≡ c → (b == byte "(") ≡ d → (b == byte ")") ≡ e → (b == byte ",") ≡ f →
+kind_from : (at b : ℕ) (c d e f g h : Bool) → is_word_byte b ≡ c → (b == byte "(") ≡ d → (b == byte ")") ≡ e →
+    (b == byte ",") ≡ f →
     (b == byte ":") ≡ g → goes_on b ≡ h → ByteKind at b
 kind_from at b true d e f g h hc hd he hf hg hh = word_kind (word_byte_is_ascii b hc) (λ ts. rw hc refl)
 kind_from at b false true e f g h hc hd he hf hg hh =
@@ -134,7 +135,8 @@ alone at b (other n ∷ ts) h = refl
 alone at b (end n ∷ ts) h = refl
 
 -- no word begins what follows a word of one byte
-unjoined : (at b : ℕ) (u : Token) (us ts later : List Token) → word at (b ∷ []) ≡ u → starts_word ts ≡ false → (t : Token) (after : List Token) →
+unjoined : (at b : ℕ) (u : Token) (us ts later : List Token) → word at (b ∷ []) ≡ u → starts_word ts ≡ false →
+    (t : Token) (after : List Token) →
     ts ≡ us ++ t ∷ after → (ends_word (u ∷ us) && starts_word later) ≡ false → starts_word (us ++ later) ≡ false
 unjoined at b u [] ts later e f t after h j = rw (← e) at j
 unjoined at b u (v ∷ vs) ts later e f t after h j = sym (ap starts_word h) ∙ f
@@ -253,7 +255,8 @@ boundary_of front (b ∷ rest) c =
     (omega arith, λ h low. let k : 192 ≤ b = boundary_byte b c (rw (← e) low) in rw e k)
 
 -- the front of a text before one of its tokens is a text
-pub front_is_utf8 : {at : ℕ} {bytes : Bytes} {us : List Token} {t : Token} → (c : Cut at bytes us t) → IsUtf8 bytes → IsUtf8 c.front
+pub front_is_utf8 : {at : ℕ} {bytes : Bytes} {us : List Token} {t : Token} → (c : Cut at bytes us t) → IsUtf8 bytes →
+    IsUtf8 c.front
 front_is_utf8 c h =
     let whole : IsUtf8 (c.front ++ c.rest) = subst IsUtf8 c.split h in
     subst IsUtf8 (take-append_seam c.front c.rest)

@@ -21,7 +21,8 @@ deep_says w (run l ls) n says h =
     (says.begun, subst (λ k. MOST_WRITTEN_DEPTH < n + k) (sym says.levels) (ltb-true MOST_WRITTEN_DEPTH (n + head_levels (run l ls)) h))
 deep_says w neither n says h = absurd (cc)
 
-says_deep : (w : Bytes) (head : Head) (n : ℕ) → HeadSays w head → (is_fragment_name w || is_run w) ≡ true → MOST_WRITTEN_DEPTH < n + levels_of w →
+says_deep : (w : Bytes) (head : Head) (n : ℕ) → HeadSays w head → (is_fragment_name w || is_run w) ≡ true →
+    MOST_WRITTEN_DEPTH < n + levels_of w →
     is_deep_head head n ≡ true
 says_deep w (named form) n says b h =
     lt-ltb MOST_WRITTEN_DEPTH (n + head_levels (named form)) (subst (λ k. MOST_WRITTEN_DEPTH < n + k) says.levels h)
@@ -38,7 +39,8 @@ form_steps (form_pair pair) a fs os = (_, refl)
 form_steps form_thresh a fs os = (_, refl)
 form_steps form_multi a fs os = (_, refl)
 
-head_steps : (head : Head) (a : ℕ) (fs : List Frame) (os : List ℕ) → is_deep_head head (length fs) ≡ true → (n : State) × (begin head a fs os ≡ Some n)
+head_steps : (head : Head) (a : ℕ) (fs : List Frame) (os : List ℕ) → is_deep_head head (length fs) ≡ true →
+    (n : State) × (begin head a fs os ≡ Some n)
 head_steps (named form) a fs os h = form_steps form a fs os
 head_steps (run l ls) a fs os h = (_, refl)
 head_steps neither a fs os h = absurd (cc)
@@ -53,7 +55,8 @@ pub record DeepWord (s : State) (t : Token) : Type 0 where
   pub next : State
   pub steps : step s t ≡ Some next
 
-deep_word : (want : Want) (fs : List Frame) (os : List ℕ) (b : ℕ) (v : Bytes) → is_deep_word want v fs ≡ true → DeepWord (want, fs, os) (word b v)
+deep_word : (want : Want) (fs : List Frame) (os : List ℕ) (b : ℕ) (v : Bytes) → is_deep_word want v fs ≡ true →
+    DeepWord (want, fs, os) (word b v)
 deep_word expression fs os b v h =
     let (n, e) = head_steps (head_of v) b fs os h in
     record { a = b; w = v; is = refl; wanted = refl; deep = h; next = n; steps = e }
@@ -68,11 +71,13 @@ deep_token s (colon b) h = absurd (cc)
 deep_token s (other b) h = absurd (cc)
 deep_token s (end b) h = absurd (cc)
 
-wanted_behind : (us : List Token) (s : State) → s.0 ≡ expression → behind START us ≡ Some s → behind START us ≡ Some (expression, s.1, s.2)
+wanted_behind : (us : List Token) (s : State) → s.0 ≡ expression → behind START us ≡ Some s →
+    behind START us ≡ Some (expression, s.1, s.2)
 wanted_behind us s e h = h ∙ ap (λ want. Some (want, s.1, s.2)) e
 
 -- a token that the machine finds too deep is so
-pub machine_deep : (text : Bytes) (us : List Token) (t : Token) (after : List Token) (s : State) → IsUtf8 text → tokens text ≡ us ++ t ∷ after →
+pub machine_deep : (text : Bytes) (us : List Token) (t : Token) (after : List Token) (s : State) → IsUtf8 text →
+    tokens text ≡ us ++ t ∷ after →
     behind START us ≡ Some s → DeepWord s t → IsDeep us t
 machine_deep text us t after s utf8 split goes d =
     let here : behind START us ≡ Some (expression, s.1, s.2) = wanted_behind us s d.wanted goes in

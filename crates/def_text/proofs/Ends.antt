@@ -84,7 +84,8 @@ whole_is_spelled text (finished x, fs, os) h f = (x, refl, spelled (tokens text)
 whole_is_spelled text (want, fs, os) h f = absurd (cc)
 
 -- tokens at the front of a text, which may be all, begin a spelled text where the machine takes them
-pub front_viable : (text : Bytes) (us ts : List Token) (n : State) → IsUtf8 text → tokens text ≡ us ++ ts → behind START us ≡ Some n → IsViable us
+pub front_viable : (text : Bytes) (us ts : List Token) (n : State) → IsUtf8 text → tokens text ≡ us ++ ts →
+    behind START us ≡ Some n → IsViable us
 front_viable text us [] n utf8 split goes =
     let all : tokens text ≡ us = split ∙ append-nil us in
     let last : LastEnd us = subst LastEnd all (tokens_end text 0) in

@@ -16,7 +16,8 @@ use Rattle.def_text.proofs.Words.{named_is, word_is}
 
 -- ---- names
 
-any_here : (w : Bytes) (form : Form) (forms : List Form) (b : Bool) → list_any (bytes_eq w) (map form_name forms) ≡ is_some (first_named w forms) →
+any_here : (w : Bytes) (form : Form) (forms : List Form) (b : Bool) →
+    list_any (bytes_eq w) (map form_name forms) ≡ is_some (first_named w forms) →
     (b || list_any (bytes_eq w) (map form_name forms)) ≡ is_some (if b then Some form else first_named w forms)
 any_here w form forms true h = refl
 any_here w form forms false h = h
@@ -57,7 +58,8 @@ name_no_run (form_pair pair_and_n) = refl
 name_no_run form_thresh = refl
 name_no_run form_multi = refl
 
-run_no_name : (w : Bytes) (l : Letter) (ls : List Letter) (o : Option Form) → first_named w FORMS ≡ o → letters_of w ≡ Some (l ∷ ls) →
+run_no_name : (w : Bytes) (l : Letter) (ls : List Letter) (o : Option Form) → first_named w FORMS ≡ o →
+    letters_of w ≡ Some (l ∷ ls) →
     is_some o ≡ false
 run_no_name w l ls None e h = refl
 run_no_name w l ls (Some form) e h =
@@ -87,7 +89,8 @@ length_of_word : (ls : List Letter) → length (letter_word ls) ≡ length ls
 length_of_word [] = refl
 length_of_word (l ∷ ls) = ap suc (length_of_word ls)
 
-letter_here : (n : ℕ) (l : Letter) (ls : List Letter) (b : Bool) → list_any (nat_eq n) (map letter_byte ls) ≡ is_some (first_letter n ls) →
+letter_here : (n : ℕ) (l : Letter) (ls : List Letter) (b : Bool) →
+    list_any (nat_eq n) (map letter_byte ls) ≡ is_some (first_letter n ls) →
     (b || list_any (nat_eq n) (map letter_byte ls)) ≡ is_some (if b then Some l else first_letter n ls)
 letter_here n l ls true h = refl
 letter_here n l ls false h = h
@@ -139,7 +142,8 @@ other_says w r n e = (
   ap (λ b. if b then 1 else (if is_run w then length w else 0)) n ∙ ap (λ b. if b then length w else 0) e,
 )
 
-run_is_run : (w : Bytes) (l : Letter) (ls : List Letter) → w ≡ letter_word (l ∷ ls) → (is_run w ≡ true) × (length w ≡ length (l ∷ ls))
+run_is_run : (w : Bytes) (l : Letter) (ls : List Letter) → w ≡ letter_word (l ∷ ls) →
+    (is_run w ≡ true) × (length w ≡ length (l ∷ ls))
 run_is_run w l ls e = (ap is_run e ∙ all_letters (l ∷ ls), ap length e ∙ length_of_word (l ∷ ls))
 
 no_run : (w : Bytes) → letters_of w ≡ None → is_run w ≡ false
@@ -149,7 +153,8 @@ no_run (n ∷ w) h = not_all_letters (n ∷ w) h
 empty_says : (w : Bytes) → w ≡ [] → HeadSays w neither
 empty_says w e = subst (λ v. HeadSays v neither) (sym e) (record { begun = refl; levels = refl })
 
-says : (w : Bytes) (o : Option (List Letter)) (p : Option Form) → letters_of w ≡ o → first_named w FORMS ≡ p → HeadSays w (head_from o p)
+says : (w : Bytes) (o : Option (List Letter)) (p : Option Form) → letters_of w ≡ o → first_named w FORMS ≡ p →
+    HeadSays w (head_from o p)
 says w (Some (l ∷ ls)) p h e =
     let (is, n) = run_is_run w l ls (word_is w (l ∷ ls) h) in
     let (begun, levels) = other_says w true (name_is_found w ∙ (ap is_some e ∙ run_no_name w l ls p e h)) is in

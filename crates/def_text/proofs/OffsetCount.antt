@@ -15,13 +15,15 @@ three_lists os ps qs = simp length-append (omega arith)
 four_lists : (os ps qs rs : List ℕ) → length (os ++ ps ++ qs ++ rs) ≡ length os + length ps + length qs + length rs
 four_lists os ps qs rs = simp length-append (omega arith)
 
-letter_count : (l : Letter) (a : ℕ) (x : Tree) (os : List ℕ) → length os ≡ nodes x → length (letter_offsets a l os) ≡ nodes (letter_tree l x)
+letter_count : (l : Letter) (a : ℕ) (x : Tree) (os : List ℕ) → length os ≡ nodes x →
+    length (letter_offsets a l os) ≡ nodes (letter_tree l x)
 letter_count (letter_of_wrapper w) a x os h = let e = two_lists os (a ∷ []) in omega arith
 letter_count letter_t a x os h = let e = two_lists os (a ∷ a ∷ []) in omega arith
 letter_count letter_l a x os h = let e = two_lists os (a ∷ []) in omega arith
 letter_count letter_u a x os h = let e = two_lists os (a ∷ a ∷ []) in omega arith
 
-letters_count : (ls : List Letter) (a : ℕ) (x : Tree) (os : List ℕ) → length os ≡ nodes x → length (letters_offsets a ls os) ≡ nodes (letters_tree ls x)
+letters_count : (ls : List Letter) (a : ℕ) (x : Tree) (os : List ℕ) → length os ≡ nodes x →
+    length (letters_offsets a ls os) ≡ nodes (letters_tree ls x)
 letters_count [] a x os h = h
 letters_count (l ∷ ls) a x os h =
     letter_count l a (letters_tree ls x) (letters_offsets (a + 1) ls os) (letters_count ls (a + 1) x os h)

@@ -17,12 +17,14 @@ data Order (xs : List Token) (x : Token) (ys : List Token) (y : Token) : Type 0 
   earlier : (later : List Token) → ys ≡ xs ++ x ∷ later → Order xs x ys y
   later : (later : List Token) → xs ≡ ys ++ y ∷ later → Order xs x ys y
 
-order_further : (u v : Token) (xs : List Token) (x : Token) (ys : List Token) (y : Token) → u ≡ v → Order xs x ys y → Order (u ∷ xs) x (v ∷ ys) y
+order_further : (u v : Token) (xs : List Token) (x : Token) (ys : List Token) (y : Token) → u ≡ v → Order xs x ys y →
+    Order (u ∷ xs) x (v ∷ ys) y
 order_further u v xs x ys y e (same_place h k) = same_place (ap (λ r. r ∷ xs) e ∙ ap (λ r. v ∷ r) h) k
 order_further u v xs x ys y e (earlier rest h) = earlier rest (ap (λ r. v ∷ r) h ∙ ap (λ r. r ∷ (xs ++ x ∷ rest)) (sym e))
 order_further u v xs x ys y e (later rest h) = later rest (ap (λ r. u ∷ r) h ∙ ap (λ r. r ∷ (ys ++ y ∷ rest)) e)
 
-order : (xs : List Token) (x : Token) (xs' : List Token) (ys : List Token) (y : Token) (ys' : List Token) → xs ++ x ∷ xs' ≡ ys ++ y ∷ ys' → Order xs x ys y
+order : (xs : List Token) (x : Token) (xs' : List Token) (ys : List Token) (y : Token) (ys' : List Token) →
+    xs ++ x ∷ xs' ≡ ys ++ y ∷ ys' → Order xs x ys y
 order [] x xs' [] y ys' h = same_place refl (cc)
 order [] x xs' (v ∷ ys) y ys' h = let e : x ≡ v = cc in earlier ys (ap (λ r. r ∷ ys) (sym e))
 order (u ∷ xs) x xs' [] y ys' h = let e : u ≡ y = cc in later xs (ap (λ r. r ∷ xs) e)
@@ -55,7 +57,8 @@ viable_up_to us t vs v = viable_front (us ++ t ∷ []) vs (subst IsViable (sym (
 -- ---- two refusals
 
 module _ {text : Bytes} {p q : ℕ} where
-  syntax_order : (a : SyntaxAt text p) (b : SyntaxAt text q) → Order a.place.before a.place.token b.place.before b.place.token → p ≡ q
+  syntax_order : (a : SyntaxAt text p) (b : SyntaxAt text q) →
+      Order a.place.before a.place.token b.place.before b.place.token → p ≡ q
   syntax_order a b (same_place h k) = same_offset a.place b.place k
   syntax_order a b (earlier rest h) = absurd (a.ends (viable_up_to a.place.before a.place.token rest (subst IsViable h b.begins)))
   syntax_order a b (later rest h) = absurd (b.ends (viable_up_to b.place.before b.place.token rest (subst IsViable h a.begins)))
@@ -71,7 +74,8 @@ module _ {text : Bytes} {p q : ℕ} where
       (subst (λ r. IsViable (b.place.before ++ r ∷ [])) (sym k) b.begins))
   mixed_order a b (earlier rest h) =
       a.ends (viable_up_to a.place.before a.place.token rest
-      (viable_front (a.place.before ++ a.place.token ∷ rest) (b.place.token ∷ []) (subst (λ r. IsViable (r ++ b.place.token ∷ [])) h b.begins)))
+      (viable_front (a.place.before ++ a.place.token ∷ rest) (b.place.token ∷ [])
+      (subst (λ r. IsViable (r ++ b.place.token ∷ [])) h b.begins)))
   mixed_order a b (later rest h) = a.none_deep b.place.before b.place.token rest h b.deep
 
 pub one_refusal : (text : Bytes) (d e : TextFault) → d ≢ Memory → e ≢ Memory → TextRefusal text d → TextRefusal text e → d ≡ e
@@ -101,7 +105,8 @@ whole_is_viable text x os a utf8 reads = record {
   spelled = reads.spelled;
 }
 
-pub none_beside_tree : (text : Bytes) (x : Tree) (os : List ℕ) (e : TextFault) → IsUtf8 text → e ≢ Memory → TextReads text x os → ¬ TextRefusal text e
+pub none_beside_tree : (text : Bytes) (x : Tree) (os : List ℕ) (e : TextFault) → IsUtf8 text → e ≢ Memory →
+    TextReads text x os → ¬ TextRefusal text e
 none_beside_tree text x os TooLong utf8 f reads over = let short : length text ≤ MOST_BYTES = reads.short in omega arith
 none_beside_tree text x os (Syntax p) utf8 f reads (short, a) = a.ends (whole_is_viable text x os a.place utf8 reads)
 none_beside_tree text x os (TooDeep p) utf8 f reads (short, a) =

@@ -71,7 +71,8 @@ prints_wrap w x h at rest apart =
       letters_offsets at (letter_of_wrapper w ∷ ls) os,
       n,
       letter_tokens w x at rest ls c (ts ++ tokens_from n rest) e,
-      subst (λ r. Spells (word at (letter_word (letter_of_wrapper w ∷ ls)) ∷ colon c ∷ ts) r (letters_offsets at (letter_of_wrapper w ∷ ls) os))
+      subst
+          (λ r. Spells (word at (letter_word (letter_of_wrapper w ∷ ls)) ∷ colon c ∷ ts) r (letters_offsets at (letter_of_wrapper w ∷ ls) os))
           (ap (wrap w) same) (text_letters (letter_of_wrapper w) ls spells),
     )
 
@@ -183,7 +184,8 @@ four_parts a b c d rest = simp append_assoc
 prints_hash : (kind : HashKind) (value : Bytes) → IsTrue (is_hash kind value) → IsBytes value → Prints (hash kind value)
 prints_hash kind value h b at rest apart =
     let (q, opens) = hash_opens kind at ((encode_lower value ++ codes ")") ++ rest) in
-    let (n, e) = closed_word (encode_lower value) (q + 1) rest (digits_are_word value b) (digits_are_some value (hash_is_some kind value h)) in (
+    let some : 0 < length (encode_lower value) = digits_are_some value (hash_is_some kind value h) in
+    let (n, e) = closed_word (encode_lower value) (q + 1) rest (digits_are_word value b) some in (
       word at (hash_name kind) ∷ opening q ∷ word (q + 1) (encode_lower value) ∷ closing n ∷ [],
       at ∷ [],
       n + 1,
@@ -199,7 +201,8 @@ abbrev PrintsTwo : Tree → Tree → Type 0
 PrintsTwo x y =
     (at : ℕ) (rest : Bytes) →
     (c d : ℕ) × (xs ys : List Token) × (os ps : List ℕ) × (n : ℕ)
-    × (tokens_from at (printed_behind [] x ++ (codes "," ++ (printed_behind [] y ++ (codes ")" ++ rest)))) ≡ xs ++ comma c ∷ (ys ++ closing d ∷ tokens_from n rest))
+    × (tokens_from at (printed_behind [] x ++ (codes "," ++ (printed_behind [] y ++ (codes ")" ++ rest))))
+    ≡ xs ++ comma c ∷ (ys ++ closing d ∷ tokens_from n rest))
     × Spells xs x os × Spells ys y ps
 
 prints_two : (x y : Tree) → Prints x → Prints y → PrintsTwo x y
@@ -208,7 +211,8 @@ prints_two x y hx hy at rest =
     let (ys, ps, d, f, sy) = hy (c + 1) (codes ")" ++ rest) (λ n. refl) in
     (c, d, xs, ys, os, ps, d + 1, e ∙ ap (λ r. xs ++ comma c ∷ r) f, sx, sy)
 
-pair_parts : (a b c d e f rest : Bytes) → (((((a ++ b) ++ c) ++ d) ++ e) ++ f) ++ rest ≡ (a ++ b) ++ (c ++ (d ++ (e ++ (f ++ rest))))
+pair_parts : (a b c d e f rest : Bytes) →
+    (((((a ++ b) ++ c) ++ d) ++ e) ++ f) ++ rest ≡ (a ++ b) ++ (c ++ (d ++ (e ++ (f ++ rest))))
 pair_parts a b c d e f rest = simp append_assoc
 
 prints_pair : (kind : Two) (x y : Tree) → Prints x → Prints y → Prints (two kind x y)
@@ -223,20 +227,23 @@ prints_pair kind x y hx hy at rest apart =
       text_two kind c d sx sy,
     )
 
-triple_parts : (a b c d e f rest : Bytes) → (((((a ++ b) ++ c) ++ d) ++ e) ++ f) ++ rest ≡ a ++ (b ++ (c ++ (d ++ (e ++ (f ++ rest)))))
+triple_parts : (a b c d e f rest : Bytes) →
+    (((((a ++ b) ++ c) ++ d) ++ e) ++ f) ++ rest ≡ a ++ (b ++ (c ++ (d ++ (e ++ (f ++ rest)))))
 triple_parts a b c d e f rest = simp append_assoc
 
 prints_andor : (x y z : Tree) → Prints x → Prints y → Prints z → Prints (and_or x y z)
 prints_andor x y z hx hy hz at rest apart =
     let q : ℕ = at + 1 + 1 + 1 + 1 + 1 in
-    let (xs, os, c, e, sx) = hx (q + 1) (codes "," ++ (printed_behind [] y ++ (codes "," ++ (printed_behind [] z ++ (codes ")" ++ rest))))) (λ n. refl) in
+    let others : Bytes = codes "," ++ (printed_behind [] y ++ (codes "," ++ (printed_behind [] z ++ (codes ")" ++ rest)))) in
+    let (xs, os, c, e, sx) = hx (q + 1) others (λ n. refl) in
     let (d, f, ys, zs, ps, qs, n, g, sy, sz) = prints_two y z hy hz (c + 1) rest in (
       call at (codes "andor") q (xs ++ comma c ∷ ys ++ comma d ∷ zs) f,
       os ++ ps ++ qs ++ at ∷ [],
       n,
       ap (λ bs. word at (codes "andor") ∷ opening q ∷ tokens_from (q + 1) bs)
           (triple_parts (printed_behind [] x) (codes ",") (printed_behind [] y) (codes ",") (printed_behind [] z) (codes ")") rest)
-          ∙ ap (λ r. word at (codes "andor") ∷ opening q ∷ r) (e ∙ (ap (λ r. xs ++ comma c ∷ r) g ∙ three_split xs ys zs (tokens_from n rest) c d f)),
+          ∙ ap (λ r. word at (codes "andor") ∷ opening q ∷ r)
+          (e ∙ (ap (λ r. xs ++ comma c ∷ r) g ∙ three_split xs ys zs (tokens_from n rest) c d f)),
       text_andor c d f sx sy sz,
     )
 
@@ -258,7 +265,8 @@ PrintsKeys keys =
 key_before : (key : Key) (at : ℕ) (others rest : Bytes) → IsKey key → NoWord (others ++ rest) →
     (n : ℕ) × (tokens_from at ((encode_lower key ++ others) ++ rest) ≡ word at (encode_lower key) ∷ tokens_from n (others ++ rest))
 key_before key at others rest (is, bytes) apart =
-    let (n, e) = one_token (encode_lower key) at (others ++ rest) (digits_are_word key bytes) (digits_are_some key (key_is_some key is)) apart in
+    let some : 0 < length (encode_lower key) = digits_are_some key (key_is_some key is) in
+    let (n, e) = one_token (encode_lower key) at (others ++ rest) (digits_are_word key bytes) some apart in
     (n, ap (tokens_from at) (append_assoc (encode_lower key) others rest) ∙ e)
 
 prints_keys : (key : Key) (keys : List Key) → All IsKey (key ∷ keys) → PrintsKeys (key ∷ keys)
@@ -278,7 +286,8 @@ prints_keys key (next ∷ keys) h at rest apart =
 
 -- a number before bytes that begin no word
 number_before : (k : ℕ) (at : ℕ) (others rest : Bytes) → k < 10 ^ 10 → NoWord (others ++ (codes ")" ++ rest)) →
-    (n : ℕ) × (tokens_from at (((decimal k ++ others) ++ codes ")") ++ rest) ≡ word at (decimal k) ∷ tokens_from n (others ++ (codes ")" ++ rest)))
+    (n : ℕ)
+    × (tokens_from at (((decimal k ++ others) ++ codes ")") ++ rest) ≡ word at (decimal k) ∷ tokens_from n (others ++ (codes ")" ++ rest)))
 number_before k at others rest h apart =
     let (n, e) = one_token (decimal k) at (others ++ (codes ")" ++ rest)) (number_is_word k h).0 (number_is_word k h).1 apart in
     (n, ap (tokens_from at) (row_parts (decimal k) others (codes ")") rest) ∙ e)
@@ -300,7 +309,8 @@ prints_multi k key keys small h at rest apart =
 abbrev PrintsChildren : Trees → Type 0
 PrintsChildren xs =
     (at : ℕ) (rest : Bytes) → NoWord rest →
-    (ts : List Token) × (os : List ℕ) × (n : ℕ) × (tokens_from at (printed_children xs ++ rest) ≡ ts ++ tokens_from n rest) × SpellsChildren ts xs os
+    (ts : List Token) × (os : List ℕ) × (n : ℕ)
+    × (tokens_from at (printed_children xs ++ rest) ≡ ts ++ tokens_from n rest) × SpellsChildren ts xs os
 
 last_prints : (x : Tree) → Prints x → PrintsChildren (more x none)
 last_prints x h at rest apart =

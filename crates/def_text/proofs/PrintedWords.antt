@@ -58,7 +58,8 @@ is_number_by w digits some most first =
     let a : nat_le 1 (length w) ≡ true = le-leb 1 (length w) some in
     let b : nat_le (length w) 10 ≡ true = le-leb (length w) 10 most in
     let c : (slice_index w 0 == 48) ≡ false = grind arith in
-    let d : (all_ascii_digits w && nat_le 1 (length w) && nat_le (length w) 10 && not (slice_index w 0 == 48)) ≡ true = rw (digits, a, b, c) refl in
+    let d : (all_ascii_digits w && nat_le 1 (length w) && nat_le (length w) 10 && not (slice_index w 0 == 48)) ≡ true =
+    rw (digits, a, b, c) refl in
     ap (λ v. bytes_eq w (codes "0") || v) d ∙ or-true (bytes_eq w (codes "0"))
 
 number_by_size : (n : ℕ) → n < 10 ^ 10 → (0 ≡ n) ⊎ (0 < n) → number_of (decimal n) ≡ Some n
@@ -68,7 +69,8 @@ number_by_size n h (inl none) =
 number_by_size n h (inr some) =
     let wide : n < 2 ^ 64 = small n h in
     let is : is_number (decimal n) ≡ true =
-    is_number_by (decimal n) (digits_decimal own n wide) (decimal_nonempty n wide) (length-decimal-le 10 n (omega arith) h wide) (first_decimal n some wide) in
+    is_number_by (decimal n) (digits_decimal own n wide) (decimal_nonempty n wide)
+    (length-decimal-le 10 n (omega arith) h wide) (first_decimal n some wide) in
     ap (λ b. if b then Some (digits_value 10 (decimal n)) else None) is ∙ ap (λ m. Some m) (digits_value-decimal own n wide)
 
 pub number_is_spelled : (n : ℕ) → n < 10 ^ 10 → number_of (decimal n) ≡ Some n
@@ -85,7 +87,8 @@ number_is_word n h = (digits_are_word_bytes (decimal n) (digits_decimal own n (s
 
 -- ---- keys and hash values
 
-pub digits_are_spelled : (test : Bytes → Bool) (bytes : Bytes) → IsTrue (test bytes) → IsBytes bytes → digits_of test (encode_lower bytes) ≡ Some bytes
+pub digits_are_spelled : (test : Bytes → Bool) (bytes : Bytes) → IsTrue (test bytes) → IsBytes bytes →
+    digits_of test (encode_lower bytes) ≡ Some bytes
 digits_are_spelled test bytes h b =
     ap (λ r. option_and_then (λ (v : Bytes). if test v then Some v else None) (result_ok r)) (decode_of-encode_lower bytes b)
     ∙ ap (λ v. if v then Some bytes else None) h

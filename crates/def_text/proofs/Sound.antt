@@ -223,7 +223,8 @@ head_fills w neither a fs os ts z zs e h = absurd h
 -- ---- every state
 
 -- a next state from a value
-some_next : {A : Type 0} (f : A → State) (o : Option A) (ts : List Token) (z : Tree) (zs : List ℕ) → NextFills (option_map f o) ts z zs →
+some_next : {A : Type 0} (f : A → State) (o : Option A) (ts : List Token) (z : Tree) (zs : List ℕ) →
+    NextFills (option_map f o) ts z zs →
     (v : A) × (o ≡ Some v) × Fills (f v).0 (f v).1 (f v).2 ts z zs
 some_next f None ts z zs h = absurd h
 some_next f (Some v) ts z zs h = (v, refl, h)

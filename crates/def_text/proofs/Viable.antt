@@ -19,7 +19,8 @@ use Rattle.def_text.proofs.Completion.{completion, completes, completion_starts,
 
 -- ---- some tokens, and then others
 
-then_behind : (us vs : List Token) (o : Option State) → ((n : State) → behind n (us ++ vs) ≡ option_and_then (λ m. behind m vs) (behind n us)) →
+then_behind : (us vs : List Token) (o : Option State) → ((n : State) →
+    behind n (us ++ vs) ≡ option_and_then (λ m. behind m vs) (behind n us)) →
     option_and_then (λ n. behind n (us ++ vs)) o ≡ option_and_then (λ m. behind m vs) (option_and_then (λ n. behind n us) o)
 then_behind us vs None h = refl
 then_behind us vs (Some n) h = h n
@@ -28,14 +29,16 @@ pub behind-append : (us vs : List Token) (s : State) → behind s (us ++ vs) ≡
 behind-append [] vs s = refl
 behind-append (u ∷ us) vs s = then_behind us vs (step s u) (behind-append us vs)
 
-pub some_first : (f : State → Option State) (o : Option State) (r : State) → option_and_then f o ≡ Some r → (n : State) × (o ≡ Some n) × (f n ≡ Some r)
+pub some_first : (f : State → Option State) (o : Option State) (r : State) → option_and_then f o ≡ Some r →
+    (n : State) × (o ≡ Some n) × (f n ≡ Some r)
 some_first f None r h = absurd (cc)
 some_first f (Some n) r h = (n, refl, h)
 
 -- the machine takes the front of a spelled text
 pub viable_goes : {us : List Token} → IsViable us → (n : State) × (behind START us ≡ Some n)
 viable_goes {us = us} v =
-    let whole : behind START (us ++ v.after) ≡ Some (finished v.tree, [], v.offsets) = ap (behind START) (sym v.split) ∙ complete_text v.spelled in
+    let whole : behind START (us ++ v.after) ≡ Some (finished v.tree, [], v.offsets) =
+    ap (behind START) (sym v.split) ∙ complete_text v.spelled in
     let (n, e, rest) = some_first (λ n. behind n v.after) (behind START us) (finished v.tree, [], v.offsets)
     (sym (behind-append us v.after START) ∙ whole) in
     (n, e)
@@ -63,7 +66,8 @@ head_wants (named form) a fs os = form_wants form a fs os
 head_wants (run l ls) a fs os = refl
 head_wants neither a fs os = tt
 
-mapped_wants : {A : Type 0} (test : Want → Bool) (f : A → State) (o : Option A) → ((x : A) → test (f x).0 ≡ false) → NextWant test (option_map f o)
+mapped_wants : {A : Type 0} (test : Want → Bool) (f : A → State) (o : Option A) → ((x : A) → test (f x).0 ≡ false) →
+    NextWant test (option_map f o)
 mapped_wants test f None h = tt
 mapped_wants test f (Some x) h = h x
 
@@ -187,7 +191,8 @@ unjoined us true n at e h = completion_starts n.0 n.1 at (behind_word us START n
 unjoined us false n at e h = refl
 
 -- other bytes in the place of the rest of a text, which the machine reads to the end
-other_text : (text : Bytes) (us : List Token) (t : Token) (after : List Token) (n : State) (later : Bytes) (vs ws : List Token) (z : Tree) (zs : List ℕ) →
+other_text : (text : Bytes) (us : List Token) (t : Token) (after : List Token) (n : State)
+    (later : Bytes) (vs ws : List Token) (z : Tree) (zs : List ℕ) →
     IsUtf8 text → tokens text ≡ us ++ t ∷ after → behind START us ≡ Some n → IsUtf8 later →
     (ends_word us && starts_word (tokens_from (offset t) later)) ≡ false → tokens_from (offset t) later ≡ vs ++ ws →
     behind n (vs ++ ws) ≡ Some (finished z, [], zs) → IsViable (us ++ vs)
@@ -219,7 +224,8 @@ goes_viable text us t after n utf8 split goes =
 -- ---- where an expression may begin
 
 -- no word stands before a word that is wanted
-wanted : (us : List Token) (w q : Bool) (fs : List Frame) (os : List ℕ) → ends_word us ≡ w → behind START us ≡ Some (expression, fs, os) →
+wanted : (us : List Token) (w q : Bool) (fs : List Frame) (os : List ℕ) → ends_word us ≡ w →
+    behind START us ≡ Some (expression, fs, os) →
     (w && q) ≡ false
 wanted us true q fs os e h = let k = behind_word us START (expression, fs, os) h e in absurd (cc)
 wanted us false q fs os e h = refl
@@ -232,7 +238,8 @@ may_begin text us t after fs os utf8 split goes =
     let (z, zs, ends) = completes (leaf_open leaf_pk_k) fs (os ++ offset t ∷ []) (offset t + 1 + 1 + 1 + 1) refl in
     other_text text us t after (expression, fs, os) later (word (offset t) (codes "pk_k") ∷ [])
     (tokens_from (offset t + 1 + 1 + 1 + 1) (completion (leaf_open leaf_pk_k) fs)) z zs utf8 split goes
-    (IsUtf8-append (codes "pk_k") (completion (leaf_open leaf_pk_k) fs) (ascii_is_utf8 (codes "pk_k") refl) (completion_is_utf8 (leaf_open leaf_pk_k) fs))
+    (IsUtf8-append (codes "pk_k") (completion (leaf_open leaf_pk_k) fs) (ascii_is_utf8 (codes "pk_k") refl)
+    (completion_is_utf8 (leaf_open leaf_pk_k) fs))
     (wanted us (ends_word us) (starts_word (tokens_from (offset t) later)) fs os refl goes) refl ends
 
 -- `pk_k` is no key, no hash value and no number
@@ -262,7 +269,8 @@ name_stands (leaf_word leaf) a fs os n h =
     absurd (mapped_none (λ x. (leaf_close x, fs, os)) (leaf_of leaf (codes "pk_k")) n (no_leaf leaf) h)
 name_stands (thresh_number b) a fs os n h = absurd (cc)
 name_stands multi_number a fs os n h = absurd (cc)
-name_stands (multi_key k keys) a fs os n h = absurd (mapped_none (λ key. (multi_next k (keys ++ key ∷ []), fs, os)) (key_of (codes "pk_k")) n no_key h)
+name_stands (multi_key k keys) a fs os n h =
+    absurd (mapped_none (λ key. (multi_next k (keys ++ key ∷ []), fs, os)) (key_of (codes "pk_k")) n no_key h)
 name_stands want a fs os n h = absurd (cc)
 
 pub begins_expression : (us : List Token) (a : ℕ) (s : State) → behind START us ≡ Some s → MayBegin us a → s.0 ≡ expression

@@ -98,7 +98,8 @@ name_from f None (Some g) h = cc
 name_from f (Some []) p h = absurd (cc)
 name_from f (Some (l ∷ ls)) p h = absurd (cc)
 
-run_from : (l : Letter) (ls : List Letter) (o : Option (List Letter)) (p : Option Form) → head_from o p ≡ run l ls → o ≡ Some (l ∷ ls)
+run_from : (l : Letter) (ls : List Letter) (o : Option (List Letter)) (p : Option Form) → head_from o p ≡ run l ls →
+    o ≡ Some (l ∷ ls)
 run_from l ls None None h = absurd (cc)
 run_from l ls None (Some g) h = absurd (cc)
 run_from l ls (Some []) p h = absurd (cc)
