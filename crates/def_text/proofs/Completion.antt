@@ -10,13 +10,14 @@ use Rattle.std.proofs.lemmas.Str.{IsUtf8-nil, IsUtf8-append, IsUtf8-from_ascii}
 use Rattle.std.specs.Option.{option_and_then, option_map}
 use Rattle.hex.proofs.OnLiterals.{hex_on_literals}
 use Rattle.def_script.specs.Bytes.{Bytes}
+use Rattle.def_hash.specs.Hash.{digest_length}
 use Rattle.def_hash.specs.declared.HashKind.{HashKind}
 use Rattle.def_hash.specs.declared.HashKind.TheVariants.{Sha256, Hash256, Ripemd160, Hash160}
 use Rattle.def_tree.specs.declared.Wrapper.TheVariants.{C}
 use Rattle.def_tree.specs.Tree.{Key, Tree, just_0, multi, pk_k, pk_h, older, after, hash, wrap, none, more, and_or, thresh}
 use Rattle.def_text.specs.Token.{Token, word, closing, tokens_from}
 use Rattle.def_text.specs.Letter.{letter_tree}
-use Rattle.def_text.specs.Word.{key_of, hash_of, hash_length}
+use Rattle.def_text.specs.Word.{key_of, hash_of}
 use Rattle.def_text.specs.Reader.{Leaf, leaf_pk_k, leaf_pk_h, leaf_pk, leaf_pkh, leaf_older, leaf_after, leaf_hash, leaf_of, Want, expression, colon_next, leaf_open, leaf_word, leaf_close, andor_open, pair_open, thresh_open, thresh_number, thresh_comma, multi_open, multi_number, multi_comma, multi_key, multi_next, ended, finished, Frame, letter_frame, andor_first, andor_second, andor_third, pair_first, pair_second, thresh_child, State, behind, step, offsets_behind, pair_tree}
 use Rattle.def_text.proofs.Complete.{step_letter}
 use Rattle.def_text.proofs.Cut.{starts_word, alone}
@@ -113,7 +114,7 @@ key_reads : key_of KEY_TEXT ≡ Some (2 ∷ replicate 32 0)
 unfolding hex_on_literals
 key_reads = refl
 
-hash_reads : (kind : HashKind) → hash_of kind (hash_text kind) ≡ Some (replicate (hash_length kind) 0)
+hash_reads : (kind : HashKind) → hash_of kind (hash_text kind) ≡ Some (replicate (digest_length kind) 0)
 unfolding hex_on_literals
 hash_reads Sha256 = refl
 hash_reads Hash256 = refl

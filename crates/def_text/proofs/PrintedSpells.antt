@@ -1,9 +1,8 @@
 -- The printed form of a tree spells it.
-use Rattle.std.proofs.Common.{◌≡◌, ℕ, ◌+◌, ◌==◌, ◌<◌, ◌≤◌, ◌^◌, true, ◌||◌, List, [], ◌∷◌, ◌++◌, length, slice_index, codes, decimal, refl, sym, ap, ◌∙◌, subst, append_assoc, append-nil, arith}
-use Rattle.std.specs.Prelude.{IsTrue, All}
-use Rattle.std.proofs.lemmas.Bool.{and_parts, eqb-true}
+use Rattle.std.proofs.Common.{◌≡◌, ℕ, ◌+◌, ◌<◌, ◌≤◌, ◌^◌, true, List, [], ◌∷◌, ◌++◌, length, codes, decimal, refl, sym, ap, ◌∙◌, subst, append_assoc, append-nil, arith}
+use Rattle.std.specs.Prelude.{All}
 use Rattle.std.proofs.lemmas.List.Elements.{All-head, All-tail}
-use Rattle.hex.specs.Hex.{IsBytes, encode_lower}
+use Rattle.hex.specs.Hex.{encode_lower}
 use Rattle.def_script.specs.Bytes.{Bytes}
 use Rattle.def_hash.specs.declared.HashKind.{HashKind}
 use Rattle.def_hash.specs.declared.HashKind.TheVariants.{Sha256, Hash256, Ripemd160, Hash160}
@@ -12,14 +11,14 @@ use Rattle.def_tree.specs.declared.Wrapper.TheVariants.{A, S, C, D, V, J, N}
 use Rattle.def_tree.specs.declared.Two.{Two}
 use Rattle.def_tree.specs.declared.Two.TheVariants.{AndV, AndB, OrB, OrC, OrD, OrI}
 use Rattle.def_tree.specs.Tree.{Key, Tree, Trees, just_0, just_1, pk_k, pk_h, older, after, hash, and_or, two, thresh, multi, wrap, none, more}
-use Rattle.def_tree.specs.Range.{IsWritable, AreWritable, count}
+use Rattle.def_tree.specs.Range.{IsKey, IsDigest, IsWritable, AreWritable, count}
 use Rattle.def_text.specs.Token.{Token, word, opening, closing, comma, colon, end, tokens, tokens_from, word_before, is_word_byte}
-use Rattle.def_text.specs.Word.{two_name, hash_name, is_key, is_hash}
+use Rattle.def_text.specs.Word.{two_name, hash_name, is_key, is_digest}
 use Rattle.def_text.specs.Letter.{Letter, letter_of_wrapper, wrapper_byte, letter_word, letters_tree, letters_offsets}
 use Rattle.def_text.specs.Spells.{call, Spells, text_0, text_1, text_pk_k, text_pk_h, text_older, text_after, text_hash, text_andor, text_two, text_thresh, text_multi, text_letters, SpellsChildren, last_child, next_child, SpellsKeys, last_key, next_key, SpellsText, text_whole}
-use Rattle.def_text.specs.Print.{printed, printed_behind, printed_children, printed_keys, HasWords, HaveWords}
+use Rattle.def_text.specs.Print.{printed, printed_behind, printed_children, printed_keys}
 use Rattle.def_text.proofs.Sound.{two_split, three_split}
-use Rattle.def_text.proofs.PrintedWords.{NoWord, word_byte, one_token, closed_word, number_is_spelled, number_is_word, digits_are_spelled, digits_are_word, digits_are_some}
+use Rattle.def_text.proofs.PrintedWords.{NoWord, word_byte, one_token, closed_word, number_is_spelled, number_is_word, digits_are_spelled, digits_are_word, digits_are_some, key_passes, hash_passes, key_is_some, hash_is_some, key_token, number_token}
 
 -- the printed form of a tree, before bytes that begin no word, spells it
 abbrev Prints : Tree → Type 0
@@ -99,46 +98,24 @@ prints_1 at rest apart =
     let (n, e) = one_token (codes "1") at rest refl (omega arith) apart in
     (word at (codes "1") ∷ [], at ∷ [], n, e, text_1)
 
-key_is_some : (key : Key) → IsTrue (is_key key) → 0 < length key
-key_is_some key h =
-    let (first, others) = and_parts (length key == 33) (slice_index key 0 == 2 || slice_index key 0 == 3) h in
-    let e : length key ≡ 33 = eqb-true (length key) 33 first in
-    omega arith
-
-hash_is_some : (kind : HashKind) (value : Bytes) → IsTrue (is_hash kind value) → 0 < length value
-hash_is_some Sha256 value h = let e : length value ≡ 32 = eqb-true (length value) 32 h in omega arith
-hash_is_some Hash256 value h = let e : length value ≡ 32 = eqb-true (length value) 32 h in omega arith
-hash_is_some Ripemd160 value h = let e : length value ≡ 20 = eqb-true (length value) 20 h in omega arith
-hash_is_some Hash160 value h = let e : length value ≡ 20 = eqb-true (length value) 20 h in omega arith
-
--- a key and the `)` behind it
-key_token : (key : Key) (at : ℕ) (rest : Bytes) → IsTrue (is_key key) × IsBytes key →
-    (n : ℕ) × (tokens_from at ((encode_lower key ++ codes ")") ++ rest) ≡ word at (encode_lower key) ∷ closing n ∷ tokens_from (n + 1) rest)
-key_token key at rest (is, bytes) =
-    closed_word (encode_lower key) at rest (digits_are_word key bytes) (digits_are_some key (key_is_some key is))
-
-number_token : (m : ℕ) (at : ℕ) (rest : Bytes) → m < 10 ^ 10 →
-    (n : ℕ) × (tokens_from at ((decimal m ++ codes ")") ++ rest) ≡ word at (decimal m) ∷ closing n ∷ tokens_from (n + 1) rest)
-number_token m at rest h = closed_word (decimal m) at rest (number_is_word m h).0 (number_is_word m h).1
-
-prints_pk_k : (key : Key) → IsTrue (is_key key) × IsBytes key → Prints (pk_k key)
+prints_pk_k : (key : Key) → IsKey key → Prints (pk_k key)
 prints_pk_k key h at rest apart =
     let (n, e) = key_token key (at + 1 + 1 + 1 + 1 + 1) rest h in (
       word at (codes "pk_k") ∷ opening (at + 1 + 1 + 1 + 1) ∷ word (at + 1 + 1 + 1 + 1 + 1) (encode_lower key) ∷ closing n ∷ [],
       at ∷ [],
       n + 1,
       ap (λ r. word at (codes "pk_k") ∷ opening (at + 1 + 1 + 1 + 1) ∷ r) e,
-      text_pk_k (digits_are_spelled is_key key h.0 h.1),
+      text_pk_k (digits_are_spelled is_key key (key_passes key h) h.bytes),
     )
 
-prints_pk_h : (key : Key) → IsTrue (is_key key) × IsBytes key → Prints (pk_h key)
+prints_pk_h : (key : Key) → IsKey key → Prints (pk_h key)
 prints_pk_h key h at rest apart =
     let (n, e) = key_token key (at + 1 + 1 + 1 + 1 + 1) rest h in (
       word at (codes "pk_h") ∷ opening (at + 1 + 1 + 1 + 1) ∷ word (at + 1 + 1 + 1 + 1 + 1) (encode_lower key) ∷ closing n ∷ [],
       at ∷ [],
       n + 1,
       ap (λ r. word at (codes "pk_h") ∷ opening (at + 1 + 1 + 1 + 1) ∷ r) e,
-      text_pk_h (digits_are_spelled is_key key h.0 h.1),
+      text_pk_h (digits_are_spelled is_key key (key_passes key h) h.bytes),
     )
 
 prints_older : (m : ℕ) → m < 10 ^ 10 → Prints (older m)
@@ -181,17 +158,17 @@ two_opens OrI at bs = (_, refl)
 four_parts : (a b c d rest : Bytes) → (((a ++ b) ++ c) ++ d) ++ rest ≡ (a ++ b) ++ ((c ++ d) ++ rest)
 four_parts a b c d rest = simp append_assoc
 
-prints_hash : (kind : HashKind) (value : Bytes) → IsTrue (is_hash kind value) → IsBytes value → Prints (hash kind value)
-prints_hash kind value h b at rest apart =
+prints_hash : (kind : HashKind) (value : Bytes) → IsDigest kind value → Prints (hash kind value)
+prints_hash kind value h at rest apart =
     let (q, opens) = hash_opens kind at ((encode_lower value ++ codes ")") ++ rest) in
-    let some : 0 < length (encode_lower value) = digits_are_some value (hash_is_some kind value h) in
-    let (n, e) = closed_word (encode_lower value) (q + 1) rest (digits_are_word value b) some in (
+    let some : 0 < length (encode_lower value) = digits_are_some value (hash_is_some kind value h.length) in
+    let (n, e) = closed_word (encode_lower value) (q + 1) rest (digits_are_word value h.bytes) some in (
       word at (hash_name kind) ∷ opening q ∷ word (q + 1) (encode_lower value) ∷ closing n ∷ [],
       at ∷ [],
       n + 1,
       ap (tokens_from at) (four_parts (hash_name kind) (codes "(") (encode_lower value) (codes ")") rest)
           ∙ (opens ∙ ap (λ r. word at (hash_name kind) ∷ opening q ∷ r) e),
-      text_hash kind (digits_are_spelled (is_hash kind) value h b),
+      text_hash kind (digits_are_spelled (is_digest kind) value (hash_passes kind value h) h.bytes),
     )
 
 -- ---- children
@@ -252,9 +229,6 @@ prints_andor x y z hx hy hz at rest apart =
 row_parts : (a b c rest : Bytes) → ((a ++ b) ++ c) ++ rest ≡ a ++ (b ++ (c ++ rest))
 row_parts a b c rest = simp append_assoc
 
-abbrev IsKey : Key → Type 0
-IsKey key = IsTrue (is_key key) × IsBytes key
-
 -- keys, each behind a comma
 abbrev PrintsKeys : List Key → Type 0
 PrintsKeys keys =
@@ -264,16 +238,16 @@ PrintsKeys keys =
 -- a key before bytes that begin no word
 key_before : (key : Key) (at : ℕ) (others rest : Bytes) → IsKey key → NoWord (others ++ rest) →
     (n : ℕ) × (tokens_from at ((encode_lower key ++ others) ++ rest) ≡ word at (encode_lower key) ∷ tokens_from n (others ++ rest))
-key_before key at others rest (is, bytes) apart =
-    let some : 0 < length (encode_lower key) = digits_are_some key (key_is_some key is) in
-    let (n, e) = one_token (encode_lower key) at (others ++ rest) (digits_are_word key bytes) some apart in
+key_before key at others rest h apart =
+    let some : 0 < length (encode_lower key) = digits_are_some key (key_is_some key h) in
+    let (n, e) = one_token (encode_lower key) at (others ++ rest) (digits_are_word key h.bytes) some apart in
     (n, ap (tokens_from at) (append_assoc (encode_lower key) others rest) ∙ e)
 
 prints_keys : (key : Key) (keys : List Key) → All IsKey (key ∷ keys) → PrintsKeys (key ∷ keys)
 prints_keys key [] h at rest apart =
     let is : IsKey key = All-head IsKey key [] h in
     let (n, e) = key_before key (at + 1) [] rest is apart in
-    (comma at ∷ word (at + 1) (encode_lower key) ∷ [], n, ap (λ r. comma at ∷ r) e, last_key (digits_are_spelled is_key key is.0 is.1))
+    (comma at ∷ word (at + 1) (encode_lower key) ∷ [], n, ap (λ r. comma at ∷ r) e, last_key (digits_are_spelled is_key key (key_passes key is) is.bytes))
 prints_keys key (next ∷ keys) h at rest apart =
     let is : IsKey key = All-head IsKey key (next ∷ keys) h in
     let (n, e) = key_before key (at + 1) (printed_keys (next ∷ keys)) rest is (λ m. refl) in
@@ -281,7 +255,7 @@ prints_keys key (next ∷ keys) h at rest apart =
       comma at ∷ word (at + 1) (encode_lower key) ∷ ts,
       m,
       ap (λ r. comma at ∷ r) (e ∙ ap (λ r. word (at + 1) (encode_lower key) ∷ r) f),
-      next_key (digits_are_spelled is_key key is.0 is.1) others,
+      next_key (digits_are_spelled is_key key (key_passes key is) is.bytes) others,
     )
 
 -- a number before bytes that begin no word
@@ -356,32 +330,32 @@ with_colon : (x : Tree) → printed_behind (codes ":") x ≡ 58 ∷ printed_behi
 with_colon x same h = (h, behind_colon x same h)
 
 mutual
-  prints : (x : Tree) → IsWritable x → HasWords x → Both x
-  prints just_0 r w = with_colon just_0 refl prints_0
-  prints just_1 r w = with_colon just_1 refl prints_1
-  prints (pk_k key) r w = with_colon (pk_k key) refl (prints_pk_k key w)
-  prints (pk_h key) r w = with_colon (pk_h key) refl (prints_pk_h key w)
-  prints (older n) r w = with_colon (older n) refl (prints_older n r)
-  prints (after n) r w = with_colon (after n) refl (prints_after n r)
-  prints (hash kind value) r w = with_colon (hash kind value) refl (prints_hash kind value w.0 w.1)
-  prints (and_or x y z) r w =
-      with_colon (and_or x y z) refl (prints_andor x y z (prints x r.0 w.0).0 (prints y r.1 w.1).0 (prints z r.2 w.2).0)
-  prints (two kind x y) r w = with_colon (two kind x y) refl (prints_pair kind x y (prints x r.0 w.0).0 (prints y r.1 w.1).0)
-  prints (thresh k none) r w = absurd (omega arith)
-  prints (thresh k (more x xs)) r w =
-      with_colon (thresh k (more x xs)) refl (prints_thresh k x xs r.0 (children_print (more x xs) r.2 w r.1))
-  prints (multi k []) r w = absurd (omega arith)
-  prints (multi k (key ∷ keys)) r w = with_colon (multi k (key ∷ keys)) refl (prints_multi k key keys r.0 w)
-  prints (wrap wrapper x) r w = let h = prints x r w in (prints_wrap wrapper x h.1, behind_wrap wrapper x h.1)
+  prints : (x : Tree) → IsWritable x → Both x
+  prints just_0 r = with_colon just_0 refl prints_0
+  prints just_1 r = with_colon just_1 refl prints_1
+  prints (pk_k key) r = with_colon (pk_k key) refl (prints_pk_k key r)
+  prints (pk_h key) r = with_colon (pk_h key) refl (prints_pk_h key r)
+  prints (older n) r = with_colon (older n) refl (prints_older n r)
+  prints (after n) r = with_colon (after n) refl (prints_after n r)
+  prints (hash kind value) r = with_colon (hash kind value) refl (prints_hash kind value r)
+  prints (and_or x y z) r =
+      with_colon (and_or x y z) refl (prints_andor x y z (prints x r.0).0 (prints y r.1).0 (prints z r.2).0)
+  prints (two kind x y) r = with_colon (two kind x y) refl (prints_pair kind x y (prints x r.0).0 (prints y r.1).0)
+  prints (thresh k none) r = absurd (omega arith)
+  prints (thresh k (more x xs)) r =
+      with_colon (thresh k (more x xs)) refl (prints_thresh k x xs r.0 (children_print (more x xs) r.2 r.1))
+  prints (multi k []) r = absurd (omega arith)
+  prints (multi k (key ∷ keys)) r = with_colon (multi k (key ∷ keys)) refl (prints_multi k key keys r.0 r.2)
+  prints (wrap wrapper x) r = let h = prints x r in (prints_wrap wrapper x h.1, behind_wrap wrapper x h.1)
 
-  children_print : (xs : Trees) → AreWritable xs → HaveWords xs → 1 ≤ count xs → PrintsChildren xs
-  children_print none r w some = absurd (omega arith)
-  children_print (more x none) r w some = last_prints x (prints x r.0 w.0).0
-  children_print (more x (more y ys)) r w some =
-      next_prints x y ys (prints x r.0 w.0).0 (children_print (more y ys) r.1 w.1 (omega arith))
+  children_print : (xs : Trees) → AreWritable xs → 1 ≤ count xs → PrintsChildren xs
+  children_print none r some = absurd (omega arith)
+  children_print (more x none) r some = last_prints x (prints x r.0).0
+  children_print (more x (more y ys)) r some =
+      next_prints x y ys (prints x r.0).0 (children_print (more y ys) r.1 (omega arith))
 
-pub printed_is_spelled : (x : Tree) → IsWritable x → HasWords x → (os : List ℕ) × SpellsText (tokens (printed x)) x os
-printed_is_spelled x r w =
-    let (ts, os, n, e, spells) = (prints x r w).0 0 [] (λ m. refl) in
+pub printed_is_spelled : (x : Tree) → IsWritable x → (os : List ℕ) × SpellsText (tokens (printed x)) x os
+printed_is_spelled x r =
+    let (ts, os, n, e, spells) = (prints x r).0 0 [] (λ m. refl) in
     let same : tokens (printed x) ≡ ts ++ end n ∷ [] = ap tokens (sym (append-nil (printed x))) ∙ e in
     (os, subst (λ r. SpellsText r x os) (sym same) (text_whole n spells))

@@ -15,8 +15,13 @@ use Rattle.std.proofs.lemmas.Str.Parse.{numerals_by_value, tells_all_ascii_digit
 use Rattle.hex.specs.Hex.{IsBytes, encode_lower, encode_with, lower_digits}
 use Rattle.hex.proofs.HexLemmas.{decode_of-encode_lower, length-encode_with}
 use Rattle.def_script.specs.Bytes.{Bytes}
+use Rattle.def_hash.specs.Hash.{digest_length}
+use Rattle.def_hash.specs.declared.HashKind.{HashKind}
+use Rattle.def_hash.specs.declared.HashKind.TheVariants.{Sha256, Hash256, Ripemd160, Hash160}
+use Rattle.def_tree.specs.Tree.{Key}
+use Rattle.def_tree.specs.Range.{IsKey, IsDigest}
 use Rattle.def_text.specs.Token.{Token, word, closing, is_word_byte, byte_before, word_before, tokens_from}
-use Rattle.def_text.specs.Word.{is_number, number_of, digits_of}
+use Rattle.def_text.specs.Word.{is_number, number_of, digits_of, is_key, is_digest}
 use Rattle.def_text.proofs.Cut.{starts_word, alone}
 
 -- no word begins where these bytes do
@@ -109,3 +114,39 @@ digits_are_word (x ∷ xs) b =
 
 pub digits_are_some : (bytes : Bytes) → 0 < length bytes → 0 < length (encode_lower bytes)
 digits_are_some bytes h = let e = length-encode_with lower_digits bytes in omega arith
+
+prefix_passes : (key : Key) → length key ≡ 33 → (slice_index key 0 ≡ 2) ⊎ (slice_index key 0 ≡ 3) → is_key key ≡ true
+prefix_passes key e (inl h) = rw (e, h) refl
+prefix_passes key e (inr h) = rw (e, h) refl
+
+length_passes : (kind : HashKind) → (digest_length kind == digest_length kind) ≡ true
+length_passes Sha256 = refl
+length_passes Hash256 = refl
+length_passes Ripemd160 = refl
+length_passes Hash160 = refl
+
+-- the test of a key passes, and that of a hash value
+pub key_passes : (key : Key) → IsKey key → is_key key ≡ true
+key_passes key h = prefix_passes key h.length h.prefix
+
+pub hash_passes : (kind : HashKind) (value : Bytes) → IsDigest kind value → is_digest kind value ≡ true
+hash_passes kind value h = ap (λ n. n == digest_length kind) h.length ∙ length_passes kind
+
+pub key_is_some : (key : Key) → IsKey key → 0 < length key
+key_is_some key h = let e : length key ≡ 33 = h.length in omega arith
+
+pub hash_is_some : (kind : HashKind) (value : Bytes) → length value ≡ digest_length kind → 0 < length value
+hash_is_some Sha256 value e = omega arith
+hash_is_some Hash256 value e = omega arith
+hash_is_some Ripemd160 value e = omega arith
+hash_is_some Hash160 value e = omega arith
+
+-- a key and the `)` behind it
+pub key_token : (key : Key) (at : ℕ) (rest : Bytes) → IsKey key →
+    (n : ℕ) × (tokens_from at ((encode_lower key ++ codes ")") ++ rest) ≡ word at (encode_lower key) ∷ closing n ∷ tokens_from (n + 1) rest)
+key_token key at rest h =
+    closed_word (encode_lower key) at rest (digits_are_word key h.bytes) (digits_are_some key (key_is_some key h))
+
+pub number_token : (m : ℕ) (at : ℕ) (rest : Bytes) → m < 10 ^ 10 →
+    (n : ℕ) × (tokens_from at ((decimal m ++ codes ")") ++ rest) ≡ word at (decimal m) ∷ closing n ∷ tokens_from (n + 1) rest)
+number_token m at rest h = closed_word (decimal m) at rest (number_is_word m h).0 (number_is_word m h).1

@@ -4,7 +4,7 @@ use Rattle.def_script.specs.Bytes.{Bytes}
 use Rattle.def_tree.specs.Tree.{Tree}
 use Rattle.def_tree.specs.Size.{nodes}
 use Rattle.def_tree.specs.Range.{IsWritable}
-use Rattle.def_text.specs.Print.{printed, HasWords}
+use Rattle.def_text.specs.Print.{printed}
 use Rattle.def_text.specs.declared.TextFault.{TextFault}
 use Rattle.def_text.specs.declared.TextFault.TheVariants.{Memory}
 use Rattle.def_text.specs.Token.{Token, tokens}
@@ -37,6 +37,6 @@ SomeAnswer =
     (text : Bytes) → IsUtf8 text →
     ((x : Tree) × (os : List ℕ) × TextReads text x os) ⊎ ((e : TextFault) × (e ≢ Memory) × TextRefusal text e)
 
--- the printed form of a tree spells it
+-- the printed form of a tree spells it, where its arguments can be written
 abbrev pub PrintedIsSpelled : Type 0
-PrintedIsSpelled = (x : Tree) → IsWritable x → HasWords x → (os : List ℕ) × SpellsText (tokens (printed x)) x os
+PrintedIsSpelled = (x : Tree) → IsWritable x → (os : List ℕ) × SpellsText (tokens (printed x)) x os

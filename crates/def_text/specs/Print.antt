@@ -1,9 +1,9 @@
 -- The printed form of a tree (BIP 379): no sugar, all wrapper letters before one colon, digits in lower case.
-use Rattle.std.specs.Prelude.{IsTrue, ⊤, All, List, [], ◌∷◌, ◌++◌, codes, decimal}
-use Rattle.hex.specs.Hex.{IsBytes, encode_lower}
+use Rattle.std.specs.Prelude.{List, [], ◌∷◌, ◌++◌, codes, decimal}
+use Rattle.hex.specs.Hex.{encode_lower}
 use Rattle.def_script.specs.Bytes.{Bytes}
 use Rattle.def_tree.specs.Tree.{Key, Tree, Trees, just_0, just_1, pk_k, pk_h, older, after, hash, and_or, two, thresh, multi, wrap, none, more}
-use Rattle.def_text.specs.Word.{hash_name, two_name, is_key, is_hash}
+use Rattle.def_text.specs.Word.{hash_name, two_name}
 use Rattle.def_text.specs.Letter.{wrapper_byte}
 
 -- keys, each behind a comma
@@ -38,25 +38,3 @@ abbrev mutual
 -- the printed form of a tree
 abbrev pub printed : Tree → Bytes
 printed = printed_behind []
-
--- ---- which printed forms are spelled
-
--- each key and each hash value of a tree is one that a word can spell
-abbrev mutual
-  pub HasWords : Tree → Type 0
-  HasWords just_0 = ⊤
-  HasWords just_1 = ⊤
-  HasWords (pk_k key) = IsTrue (is_key key) × IsBytes key
-  HasWords (pk_h key) = IsTrue (is_key key) × IsBytes key
-  HasWords (older n) = ⊤
-  HasWords (after n) = ⊤
-  HasWords (hash kind value) = IsTrue (is_hash kind value) × IsBytes value
-  HasWords (and_or x y z) = HasWords x × HasWords y × HasWords z
-  HasWords (two kind x y) = HasWords x × HasWords y
-  HasWords (thresh k xs) = HaveWords xs
-  HasWords (multi k keys) = All (λ key. IsTrue (is_key key) × IsBytes key) keys
-  HasWords (wrap wrapper x) = HasWords x
-
-  pub HaveWords : Trees → Type 0
-  HaveWords none = ⊤
-  HaveWords (more x xs) = HasWords x × HaveWords xs

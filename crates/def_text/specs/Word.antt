@@ -7,6 +7,7 @@ use Rattle.std.specs.Str.{all_ascii_digits, byte, bytes_eq}
 use Rattle.std.specs.Str.Parse.{digits_value}
 use Rattle.hex.specs.Hex.{decode_of}
 use Rattle.def_script.specs.Bytes.{Bytes}
+use Rattle.def_hash.specs.Hash.{digest_length}
 use Rattle.def_hash.specs.declared.HashKind.{HashKind}
 use Rattle.def_hash.specs.declared.HashKind.TheVariants.{Sha256, Hash256, Ripemd160, Hash160}
 use Rattle.def_tree.specs.declared.Two.{Two}
@@ -63,17 +64,10 @@ is_key bytes = length bytes == 33 && (slice_index bytes 0 == 2 || slice_index by
 abbrev pub key_of : Bytes → Option Key
 key_of = digits_of is_key
 
--- how many bytes a hash value has
-abbrev pub hash_length : HashKind → ℕ
-hash_length Sha256 = 32
-hash_length Hash256 = 32
-hash_length Ripemd160 = 20
-hash_length Hash160 = 20
-
--- whether bytes are a hash value
-abbrev pub is_hash : HashKind → Bytes → Bool
-is_hash kind bytes = length bytes == hash_length kind
+-- whether bytes are a hash value: as many as its function gives
+abbrev pub is_digest : HashKind → Bytes → Bool
+is_digest kind bytes = length bytes == digest_length kind
 
 -- the hash value that a word spells
 abbrev pub hash_of : HashKind → Bytes → Option Bytes
-hash_of kind = digits_of (is_hash kind)
+hash_of kind = digits_of (is_digest kind)
