@@ -1,0 +1,17 @@
+pub mod Words
+pub mod Levels
+pub mod Complete
+pub mod Fills
+pub mod Sound
+pub mod Cut
+pub mod Completion
+pub mod Viable
+pub mod Counted
+pub mod Ends
+pub mod Deep
+pub mod Report
+pub mod Outcomes
+pub mod OneAnswer
+pub mod OffsetCount
+pub mod PrintedWords
+pub mod PrintedSpells

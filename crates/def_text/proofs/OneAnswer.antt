@@ -1,0 +1,131 @@
+-- A text has at most one answer: the places of two answers are compared.
+use Rattle.std.proofs.Common.{◌≡◌, ◌≢◌, ◌⊎◌, inl, inr, ℕ, ◌<◌, ◌≤◌, List, [], ◌∷◌, ◌++◌, length, refl, sym, ap, ◌∙◌, subst, append_assoc, arith}
+use Rattle.std.specs.Str.{IsUtf8}
+use Rattle.std.proofs.lemmas.Bool.{cases_lt}
+use Rattle.def_script.specs.Bytes.{Bytes}
+use Rattle.def_tree.specs.Tree.{Tree}
+use Rattle.def_text.specs.declared.TextFault.{TextFault}
+use Rattle.def_text.specs.declared.TextFault.TheVariants.{TooLong, Syntax, TooDeep, Memory}
+use Rattle.def_text.specs.Token.{Token, offset, tokens}
+use Rattle.def_text.specs.Refusal.{MOST_BYTES, IsViable, Place, SyntaxAt, DeepAt, TextRefusal, TextReads}
+use Rattle.def_text.specs.Reader.{START, Outcome, tree_outcome, syntax_outcome, deep_outcome, outcome}
+use Rattle.def_text.proofs.Report.{Reports, report}
+
+-- of two splits of one list, which one comes first
+data Order (xs : List Token) (x : Token) (ys : List Token) (y : Token) : Type 0 where
+  same_place : xs ≡ ys → x ≡ y → Order xs x ys y
+  earlier : (later : List Token) → ys ≡ xs ++ x ∷ later → Order xs x ys y
+  later : (later : List Token) → xs ≡ ys ++ y ∷ later → Order xs x ys y
+
+order_further : (u v : Token) (xs : List Token) (x : Token) (ys : List Token) (y : Token) → u ≡ v → Order xs x ys y →
+    Order (u ∷ xs) x (v ∷ ys) y
+order_further u v xs x ys y e (same_place h k) = same_place (ap (λ r. r ∷ xs) e ∙ ap (λ r. v ∷ r) h) k
+order_further u v xs x ys y e (earlier rest h) = earlier rest (ap (λ r. v ∷ r) h ∙ ap (λ r. r ∷ (xs ++ x ∷ rest)) (sym e))
+order_further u v xs x ys y e (later rest h) = later rest (ap (λ r. u ∷ r) h ∙ ap (λ r. r ∷ (ys ++ y ∷ rest)) e)
+
+order : (xs : List Token) (x : Token) (xs' : List Token) (ys : List Token) (y : Token) (ys' : List Token) →
+    xs ++ x ∷ xs' ≡ ys ++ y ∷ ys' → Order xs x ys y
+order [] x xs' [] y ys' h = same_place refl (cc)
+order [] x xs' (v ∷ ys) y ys' h = let e : x ≡ v = cc in earlier ys (ap (λ r. r ∷ ys) (sym e))
+order (u ∷ xs) x xs' [] y ys' h = let e : u ≡ y = cc in later xs (ap (λ r. r ∷ xs) e)
+order (u ∷ xs) x xs' (v ∷ ys) y ys' h =
+    let e : u ≡ v = cc in
+    let rest : xs ++ x ∷ xs' ≡ ys ++ y ∷ ys' = cc in
+    order_further u v xs x ys y e (order xs x xs' ys y ys' rest)
+
+places : {text : Bytes} {p q : ℕ} (a : Place text p) (b : Place text q) → Order a.before a.token b.before b.token
+places a b = order a.before a.token a.after b.before b.token b.after (sym a.split ∙ b.split)
+
+same_offset : {text : Bytes} {p q : ℕ} (a : Place text p) (b : Place text q) → a.token ≡ b.token → p ≡ q
+same_offset a b e = sym a.there ∙ (ap offset e ∙ b.there)
+
+-- what begins a spelled text has fronts that do
+viable_front : (us vs : List Token) → IsViable (us ++ vs) → IsViable us
+viable_front us vs v = record {
+  text = v.text;
+  after = vs ++ v.after;
+  tree = v.tree;
+  offsets = v.offsets;
+  utf8 = v.utf8;
+  split = v.split ∙ append_assoc us vs v.after;
+  spelled = v.spelled;
+}
+
+viable_up_to : (us : List Token) (t : Token) (vs : List Token) → IsViable (us ++ t ∷ vs) → IsViable (us ++ t ∷ [])
+viable_up_to us t vs v = viable_front (us ++ t ∷ []) vs (subst IsViable (sym (append_assoc us (t ∷ []) vs)) v)
+
+-- ---- two refusals
+
+module _ {text : Bytes} {p q : ℕ} where
+  syntax_order : (a : SyntaxAt text p) (b : SyntaxAt text q) →
+      Order a.place.before a.place.token b.place.before b.place.token → p ≡ q
+  syntax_order a b (same_place h k) = same_offset a.place b.place k
+  syntax_order a b (earlier rest h) = absurd (a.ends (viable_up_to a.place.before a.place.token rest (subst IsViable h b.begins)))
+  syntax_order a b (later rest h) = absurd (b.ends (viable_up_to b.place.before b.place.token rest (subst IsViable h a.begins)))
+
+  deep_order : (a : DeepAt text p) (b : DeepAt text q) → Order a.place.before a.place.token b.place.before b.place.token → p ≡ q
+  deep_order a b (same_place h k) = same_offset a.place b.place k
+  deep_order a b (earlier rest h) = absurd (b.none_deep a.place.before a.place.token rest h a.deep)
+  deep_order a b (later rest h) = absurd (a.none_deep b.place.before b.place.token rest h b.deep)
+
+  mixed_order : (a : SyntaxAt text p) (b : DeepAt text q) → Order a.place.before a.place.token b.place.before b.place.token → ⊥
+  mixed_order a b (same_place h k) =
+      a.ends (subst (λ r. IsViable (r ++ a.place.token ∷ [])) (sym h)
+      (subst (λ r. IsViable (b.place.before ++ r ∷ [])) (sym k) b.begins))
+  mixed_order a b (earlier rest h) =
+      a.ends (viable_up_to a.place.before a.place.token rest
+      (viable_front (a.place.before ++ a.place.token ∷ rest) (b.place.token ∷ [])
+      (subst (λ r. IsViable (r ++ b.place.token ∷ [])) h b.begins)))
+  mixed_order a b (later rest h) = a.none_deep b.place.before b.place.token rest h b.deep
+
+pub one_refusal : (text : Bytes) (d e : TextFault) → d ≢ Memory → e ≢ Memory → TextRefusal text d → TextRefusal text e → d ≡ e
+one_refusal text TooLong TooLong f g a b = refl
+one_refusal text TooLong (Syntax q) f g a (short, b) = absurd (omega arith)
+one_refusal text TooLong (TooDeep q) f g a (short, b) = absurd (omega arith)
+one_refusal text (Syntax p) TooLong f g (short, a) b = absurd (omega arith)
+one_refusal text (Syntax p) (Syntax q) f g (short, a) (same, b) = ap Syntax (syntax_order a b (places a.place b.place))
+one_refusal text (Syntax p) (TooDeep q) f g (short, a) (same, b) = absurd (mixed_order a b (places a.place b.place))
+one_refusal text (TooDeep p) TooLong f g (short, a) b = absurd (omega arith)
+one_refusal text (TooDeep p) (Syntax q) f g (short, a) (same, b) = absurd (mixed_order b a (places b.place a.place))
+one_refusal text (TooDeep p) (TooDeep q) f g (short, a) (same, b) = ap TooDeep (deep_order a b (places a.place b.place))
+one_refusal text Memory e f g a b = absurd (f refl)
+one_refusal text d Memory f g a b = absurd (g refl)
+
+-- ---- a refusal beside a tree
+
+whole_is_viable : (text : Bytes) (x : Tree) (os : List ℕ) {p : ℕ} (a : Place text p) → IsUtf8 text → TextReads text x os →
+    IsViable (a.before ++ a.token ∷ [])
+whole_is_viable text x os a utf8 reads = record {
+  text = text;
+  after = a.after;
+  tree = x;
+  offsets = os;
+  utf8 = utf8;
+  split = a.split ∙ sym (append_assoc a.before (a.token ∷ []) a.after);
+  spelled = reads.spelled;
+}
+
+pub none_beside_tree : (text : Bytes) (x : Tree) (os : List ℕ) (e : TextFault) → IsUtf8 text → e ≢ Memory →
+    TextReads text x os → ¬ TextRefusal text e
+none_beside_tree text x os TooLong utf8 f reads over = let short : length text ≤ MOST_BYTES = reads.short in omega arith
+none_beside_tree text x os (Syntax p) utf8 f reads (short, a) = a.ends (whole_is_viable text x os a.place utf8 reads)
+none_beside_tree text x os (TooDeep p) utf8 f reads (short, a) =
+    reads.none_deep a.place.before a.place.token a.place.after a.place.split a.deep
+none_beside_tree text x os Memory utf8 f reads a = f refl
+
+-- ---- some answer
+
+abbrev pub Answers : Bytes → Type 0
+Answers text = ((x : Tree) × (os : List ℕ) × TextReads text x os) ⊎ ((e : TextFault) × (e ≢ Memory) × TextRefusal text e)
+
+by_outcome : (text : Bytes) (o : Outcome) → length text ≤ MOST_BYTES → Reports text o → Answers text
+by_outcome text (tree_outcome x os) short h = inl (x, os, record { short = short; spelled = h.0; none_deep = h.1 })
+by_outcome text (syntax_outcome p) short h = inr (Syntax p, (λ e. cc), (short, h))
+by_outcome text (deep_outcome p) short h = inr (TooDeep p, (λ e. cc), (short, h))
+
+by_length : (text : Bytes) → IsUtf8 text → (MOST_BYTES < length text) ⊎ (length text ≤ MOST_BYTES) → Answers text
+by_length text utf8 (inl long) = inr (TooLong, (λ e. cc), long)
+by_length text utf8 (inr short) = by_outcome text (outcome START (tokens text)) short (report text utf8)
+
+pub some_answer : (text : Bytes) → IsUtf8 text → Answers text
+some_answer text utf8 = by_length text utf8 (cases_lt MOST_BYTES (length text))

@@ -1,0 +1,9 @@
+pub mod Token
+pub mod Word
+pub mod Letter
+pub mod Spells
+pub mod Refusal
+pub mod Print
+pub mod Reader
+pub mod Laws
+pub mod Examples
