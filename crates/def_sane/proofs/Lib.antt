@@ -6,3 +6,4 @@ pub mod FirstRepeat
 pub mod Meanings
 pub mod Computed
 pub mod Refused
+pub mod Translated

@@ -8,3 +8,4 @@ pub mod Keys
 pub mod Unfit
 pub mod Examples
 pub mod Refusals
+pub mod Scripts

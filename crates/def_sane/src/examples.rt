@@ -14,6 +14,7 @@ ghost use Rattle.def_sane.specs.Examples.{
   EachByItself,
   ZeroLimits,
 };
+ghost use Rattle.def_sane.specs.Scripts.{NumberScripts, KeyScript, ChainScript, KeysScript, KeyHashScript, LockScripts, EitherKeyScript, ThresholdScript, LockedThresholdScript};
 ghost use Rattle.def_sane.specs.Refusals.{
   SaneOnes,
   OneNeedsNoSignature,
@@ -32,6 +33,19 @@ ghost use Rattle.def_sane.specs.Refusals.{
   MostSize,
   TooLarge,
 };
+
+/// These miniscripts have these Scripts.
+pub fn scripts()
+    ensures number_scripts { NumberScripts }
+    ensures key_script { KeyScript }
+    ensures chain_script { ChainScript }
+    ensures keys_script { KeysScript }
+    ensures key_hash_script { KeyHashScript }
+    ensures lock_scripts { LockScripts }
+    ensures either_key_script { EitherKeyScript }
+    ensures threshold_script { ThresholdScript }
+    ensures locked_threshold_script { LockedThresholdScript }
+{}
 
 /// These miniscripts have these limits.
 pub fn limits()
