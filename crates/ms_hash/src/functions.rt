@@ -1,0 +1,42 @@
+ghost use Rattle.std.specs.Prelude.{◌≡◌};
+ghost use Rattle.def_hash.specs.Hash.{sha256, ripemd160, hash160, hash256, digest_of};
+ghost use Rattle.ms_hash.specs.Value.{kind_of, bytes_of};
+
+use crate::{HashKind, HashVal, ripemd160};
+use sha2::{Digest, Sha256};
+
+/// SHA-256 of a message (FIPS 180-4).
+pub fn sha256(message: &[u8]) -> [u8; 32]
+    ensures { result ≡ sha256 message.now }
+{
+    Sha256::digest(message)
+}
+
+/// SHA-256 twice (Bitcoin Core: `OP_HASH256`).
+#[tactic(auto, unfolding(def_hash::specs::Hash::hash256))]
+pub fn hash256(message: &[u8]) -> [u8; 32]
+    ensures { result ≡ hash256 message.now }
+{
+    sha256(&sha256(message))
+}
+
+/// RIPEMD-160 of SHA-256 (Bitcoin Core: `OP_HASH160`).
+#[tactic(auto, unfolding(def_hash::specs::Hash::hash160))]
+pub fn hash160(message: &[u8]) -> [u8; 20]
+    ensures { result ≡ hash160 message.now }
+{
+    ripemd160(&sha256(message))
+}
+
+/// The hash value of a message by the named function.
+pub fn hash_of(kind: HashKind, message: &[u8]) -> HashVal
+    ensures kind { kind_of result ≡ kind }
+    ensures digest { bytes_of result ≡ digest_of kind message.now }
+{
+    match kind {
+        HashKind::Sha256 => HashVal::Sha256(sha256(message)),
+        HashKind::Hash256 => HashVal::Hash256(hash256(message)),
+        HashKind::Ripemd160 => HashVal::Ripemd160(ripemd160(message)),
+        HashKind::Hash160 => HashVal::Hash160(hash160(message)),
+    }
+}

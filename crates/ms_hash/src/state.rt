@@ -1,0 +1,28 @@
+ghost use Rattle.std.specs.Prelude.{◌≡◌, ℕ, List, [], ◌∷◌, slice_index};
+
+use std::marker::Model;
+
+/// Five words: a hash value h0, .., h4, or the variables A, .., E of a line. Contracts see the list
+/// of them.
+#[derive(Clone, Copy)]
+pub struct State {
+    pub a: u32,
+    pub b: u32,
+    pub c: u32,
+    pub d: u32,
+    pub e: u32,
+}
+
+impl Model for State {
+    ghost Value = { List ℕ };
+
+    ghost view = { λ s. s.a ∷ s.b ∷ s.c ∷ s.d ∷ s.e ∷ [] };
+
+    ghost inverse = { λ v. record {
+      a = slice_index v 0;
+      b = slice_index v 1;
+      c = slice_index v 2;
+      d = slice_index v 3;
+      e = slice_index v 4;
+    } };
+}

@@ -1,0 +1,43 @@
+ghost use Rattle.std.specs.Prelude.{◌≡◌, length};
+ghost use Rattle.def_hash.specs.Hash.{digest_length};
+ghost use Rattle.ms_hash.specs.Value.{kind_of, bytes_of};
+
+use crate::HashKind;
+
+/// A hash value, beside the function that it is of. Contracts see it through `kind_of` and `bytes_of`.
+#[derive(Clone, Copy, Debug, PartialEq, Eq)]
+pub enum HashVal {
+    /// Of SHA-256.
+    Sha256([u8; 32]),
+    /// Of SHA-256 twice.
+    Hash256([u8; 32]),
+    /// Of RIPEMD-160.
+    Ripemd160([u8; 20]),
+    /// Of RIPEMD-160 over SHA-256.
+    Hash160([u8; 20]),
+}
+
+impl HashVal {
+    /// The function that the value is of.
+    pub fn kind(&self) -> HashKind
+        ensures { result ≡ kind_of self.now }
+    {
+        match self {
+            HashVal::Sha256(_) => HashKind::Sha256,
+            HashVal::Hash256(_) => HashKind::Hash256,
+            HashVal::Ripemd160(_) => HashKind::Ripemd160,
+            HashVal::Hash160(_) => HashKind::Hash160,
+        }
+    }
+
+    /// The value's bytes: 32 of `Sha256` and `Hash256`, 20 of `Ripemd160` and `Hash160`.
+    pub fn as_bytes(&self) -> &[u8]
+        ensures bytes { result.now ≡ bytes_of self.now }
+        ensures length { length result.now ≡ digest_length (kind_of self.now) }
+    {
+        match self {
+            HashVal::Sha256(bytes) | HashVal::Hash256(bytes) => bytes,
+            HashVal::Ripemd160(bytes) | HashVal::Hash160(bytes) => bytes,
+        }
+    }
+}
