@@ -1,1 +1,3 @@
+pub mod ReadingLemmas
+mod NumberLemmas
 mod ScriptLemmas

@@ -1,1 +1,4 @@
 pub mod Views
+pub mod Reads
+pub mod SizeReads
+pub mod Stacks

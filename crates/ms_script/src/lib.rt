@@ -2,12 +2,20 @@
 #![tactic(auto)]
 
 pub use blob::Blob;
-pub use def_script::Op;
+pub use def_script::{InstrFault, NumFault, Op, SizeFault};
 pub use encoding::{encode, opcode_byte};
+pub use numbers::{NumBytes, num_decode, num_encode, truth};
+pub use reading::{InstrRef, next_instr};
 pub use script::{Instr, Script};
+pub use sizes::{SizeBytes, compact_size, read_size};
+pub use stack::Stack;
 
 mod blob;
 mod encoding;
+mod numbers;
+mod reading;
 mod script;
+mod sizes;
+mod stack;
 #[cfg(test)]
 mod tests;

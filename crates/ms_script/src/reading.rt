@@ -1,0 +1,183 @@
+ghost use Rattle.std.specs.Prelude.{◌≡◌, ℕ, ◌==◌, ◌<◌, ◌≤◌, length, drop, slice_index, IfOk};
+ghost use Rattle.def_script.specs.Spell.{sized_push};
+ghost use Rattle.def_script.specs.Items.{is_minimal_push as the_is_minimal_push, read_push as the_read_push, read_number_or_op as the_read_number_or_op, first_item};
+ghost use Rattle.def_script.specs.Items.{op_of_byte as the_op_of_byte};
+ghost use Rattle.ms_script.specs.Reads.{next_item, seen, taken, IsItems, IsSmall, IsSmallNumber};
+
+use def_script::{InstrFault, Op};
+
+/// An instruction in the bytes of a Script.
+#[derive(Clone, Copy, Debug, PartialEq, Eq)]
+pub enum InstrRef<'a> {
+    /// A push of the bytes that follow, and whether it has its shortest spelling.
+    Push { bytes: &'a [u8], minimal: bool },
+    /// A push of the number -1 or 1 to 16, which has an opcode of its own.
+    Small(i64),
+    /// An opcode that isn't a push.
+    Code(Op),
+}
+
+/// An instruction, and how many bytes it takes after its first one.
+#[derive(Clone, Copy)]
+struct Reading<'a> {
+    instr: InstrRef<'a>,
+    taken: usize,
+}
+
+/// Reads the instruction that begins at `from`, and answers where the next one begins (Bitcoin Core:
+/// `GetScriptOp`). There is none exactly at the end.
+///
+/// `Truncated` comes exactly where the bytes end inside the instruction, and `Unsupported` exactly where
+/// the byte begins no instruction that Miniscript outputs use.
+pub fn next_instr(script: &[u8], from: usize) -> Result<Option<(InstrRef<'_>, usize)>, InstrFault>
+    requires { from ≤ length script.now }
+    ensures next { seen result ≡ next_item from (drop from script.now) }
+    ensures items { IsItems script.now from result }
+    ensures small { IsSmall result }
+{
+    let Some(first) = script.get(from) else {
+        return Ok(None);
+    };
+    match read_instr(*first, &script[from + 1..]) {
+        Ok(reading) => Ok(Some((reading.instr, from + 1 + reading.taken))),
+        Err(fault) => Err(fault),
+    }
+}
+
+/// The instruction that begins with the byte `first`.
+#[tactic(auto, unfolding(def_script::specs::Items::first_item))]
+fn read_instr<'a>(first: u8, rest: &'a [u8]) -> Result<Reading<'a>, InstrFault>
+    ensures item { taken result ≡ first_item first rest.now }
+    ensures within { IfOk result (λ reading. reading.taken ≤ length rest.now) }
+    ensures small { IfOk result (λ reading. IsSmallNumber reading.instr) }
+{
+    match first {
+        0..=75 => read_push(first, 0, first as usize, rest),
+        0x4c => {
+            let [count, ..] = *rest else {
+                return Err(InstrFault::Truncated);
+            };
+            read_push(first, 1, count as usize, rest)
+        }
+        0x4d => {
+            let [low, high, ..] = *rest else {
+                return Err(InstrFault::Truncated);
+            };
+            read_push(first, 2, u16::from_le_bytes([low, high]) as usize, rest)
+        }
+        0x4e => {
+            let [a, b, c, d, ..] = *rest else {
+                return Err(InstrFault::Truncated);
+            };
+            read_push(first, 4, u32::from_le_bytes([a, b, c, d]) as usize, rest)
+        }
+        _ => read_number_or_op(first),
+    }
+}
+
+/// A push of `count` bytes after a length of `field` bytes.
+fn read_push<'a>(
+    first: u8,
+    field: usize,
+    count: usize,
+    rest: &'a [u8],
+) -> Result<Reading<'a>, InstrFault>
+    requires short_field { field ≤ 4 }
+    requires counted { count < 4294967296 }
+    ensures item { taken result ≡ the_read_push first field count rest.now }
+    ensures within { IfOk result (λ reading. reading.taken ≤ length rest.now) }
+    ensures small { IfOk result (λ reading. IsSmallNumber reading.instr) }
+{
+    if rest.len() < field + count {
+        return Err(InstrFault::Truncated);
+    }
+    let bytes = &rest[field..field + count];
+    let minimal = is_minimal_push(first, bytes);
+    Ok(Reading {
+        instr: InstrRef::Push { bytes, minimal },
+        taken: field + count,
+    })
+}
+
+/// Whether the shortest spelling of a push of `bytes` begins with the byte `first`.
+fn is_minimal_push(first: u8, bytes: &[u8]) -> bool
+    ensures { result ≡ the_is_minimal_push first bytes.now }
+{
+    match *bytes {
+        [] => first == 0x00,
+        [byte] if 1 <= byte && byte <= 16 => first == 0x50 + byte,
+        [0x81] => first == 0x4f,
+        _ => is_sized_push(first, bytes),
+    }
+}
+
+/// Whether the shortest push of `bytes` by their length begins with the byte `first`.
+fn is_sized_push(first: u8, bytes: &[u8]) -> bool
+    ensures { result ≡ (slice_index (sized_push bytes.now) 0 == first) }
+{
+    let length = bytes.len();
+    if length <= 75 {
+        first as usize == length
+    } else if length <= 255 {
+        first == 0x4c
+    } else if length <= 65535 {
+        first == 0x4d
+    } else {
+        first == 0x4e
+    }
+}
+
+/// An instruction of one byte.
+fn read_number_or_op(first: u8) -> Result<Reading<'static>, InstrFault>
+    ensures item { taken result ≡ the_read_number_or_op first }
+    ensures within { IfOk result (λ reading. reading.taken ≡ 0) }
+    ensures small { IfOk result (λ reading. IsSmallNumber reading.instr) }
+{
+    let instr = match first {
+        0x4f => InstrRef::Small(-1),
+        0x51..=0x60 => InstrRef::Small((first - 0x50) as i64),
+        _ => {
+            let Some(op) = op_of_byte(first) else {
+                return Err(InstrFault::Unsupported);
+            };
+            InstrRef::Code(op)
+        }
+    };
+    Ok(Reading { instr, taken: 0 })
+}
+
+/// The opcode for which a byte stands.
+fn op_of_byte(byte: u8) -> Option<Op>
+    ensures { result ≡ the_op_of_byte byte }
+{
+    match byte {
+        0x63 => Some(Op::If),
+        0x64 => Some(Op::NotIf),
+        0x67 => Some(Op::Else),
+        0x68 => Some(Op::EndIf),
+        0x69 => Some(Op::Verify),
+        0x6b => Some(Op::ToAltStack),
+        0x6c => Some(Op::FromAltStack),
+        0x73 => Some(Op::IfDup),
+        0x76 => Some(Op::Dup),
+        0x7c => Some(Op::Swap),
+        0x82 => Some(Op::Size),
+        0x87 => Some(Op::Equal),
+        0x88 => Some(Op::EqualVerify),
+        0x92 => Some(Op::ZeroNotEqual),
+        0x93 => Some(Op::Add),
+        0x9a => Some(Op::BoolAnd),
+        0x9b => Some(Op::BoolOr),
+        0xa6 => Some(Op::Ripemd160),
+        0xa8 => Some(Op::Sha256),
+        0xa9 => Some(Op::Hash160),
+        0xaa => Some(Op::Hash256),
+        0xac => Some(Op::CheckSig),
+        0xad => Some(Op::CheckSigVerify),
+        0xae => Some(Op::CheckMultiSig),
+        0xaf => Some(Op::CheckMultiSigVerify),
+        0xb1 => Some(Op::Cltv),
+        0xb2 => Some(Op::Csv),
+        _ => None,
+    }
+}

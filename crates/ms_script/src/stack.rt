@@ -1,0 +1,71 @@
+ghost use Rattle.std.specs.Prelude.{◌≡◌, ℕ, ◌^◌, ◌<◌, ◌≤◌, List, [], ◌∷◌, ◌++◌, length, slice_index_or, OnOk, OnErr};
+ghost use Rattle.ms_script.specs.Stacks.{weight as the_weight};
+
+use crate::blob::Blob;
+use std::alloc::{AllocError, Global};
+use std::marker::Model;
+
+/// A stack of byte strings. Contracts see it as a list of byte lists, bottom first.
+#[derive(Debug, Drop)]
+pub struct Stack {
+    alloc: Global,
+    items: Vec<Blob>,
+}
+
+impl Model for Stack {
+    ghost use Rattle.std.specs.Prelude.{List};
+    ghost use Rattle.def_script.specs.Bytes.{Bytes};
+
+    ghost Value = { List Bytes };
+
+    ghost view = { λ s. s.items.items };
+}
+
+impl Stack {
+    /// An empty stack. Takes no memory.
+    pub fn new(alloc: Global) -> Stack
+        ensures { result ≡ [] }
+    {
+        Stack {
+            alloc,
+            items: Vec::new(alloc),
+        }
+    }
+
+    /// Adds a copy of the bytes on top.
+    pub fn push(&mut self, bytes: &[u8]) -> Result<(), AllocError>
+        ensures ok { OnOk result (self.new ≡ self.old ++ bytes.now ∷ []) }
+        ensures err { OnErr result (self.new ≡ self.old) }
+    {
+        let item = Blob::from_slice(self.alloc, bytes)?;
+        self.items.push(item)?;
+        Ok(())
+    }
+
+    /// How many items there are.
+    pub fn len(&self) -> usize
+        ensures { result ≡ length self.now }
+    {
+        self.items.len()
+    }
+
+    /// The item at a place, counted from 0 at the bottom.
+    pub fn item(&self, i: usize) -> &[u8]
+        requires { i < length self.now }
+        ensures { result.now ≡ slice_index_or self.now i [] }
+    {
+        self.items[i].as_slice()
+    }
+
+    /// The sum over the items of 1 plus the item's length.
+    pub fn weight(&self) -> u64
+        requires { the_weight self.now ≤ 2 ^ 40 }
+        ensures { result ≡ the_weight self.now }
+    {
+        let mut total = 0;
+        for item in &self.items {
+            total += 1 + item.as_slice().len() as u64;
+        }
+        total
+    }
+}
