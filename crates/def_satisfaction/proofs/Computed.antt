@@ -1,0 +1,165 @@
+-- The examples.
+use Rattle.std.proofs.Common.{◌≡◌, refl, ◌∙◌, ap, inl, inr, ℕ, true, false, [], ◌∷◌, ◌++◌, replicate, None, Some}
+use Rattle.def_hash.proofs.Computing.{decode_pairs, sha256, sha_words, sha_schedule, sha_rounds, sha_compress, sha_hash_after, sha_digest_bytes, ripemd160, ripemd_words, ripemd_step, left_line, right_line, combined, ripemd_compress, ripemd_hash_after, ripemd_digest_bytes, hash160}
+use Rattle.def_script.specs.Items.{first_item, items_after}
+use Rattle.def_script.specs.Sizes.{size_bytes}
+use Rattle.def_machine.specs.Locks.{after_holds, older_holds}
+use Rattle.def_machine.specs.Effects.{condition, verify, to_alt_stack, from_alt_stack, if_dup, dup, swap, size, equal, operand, one_number, two_numbers, zero_not_equal, add, bool_and, bool_or, hash, check_sig, lock}
+use Rattle.def_machine.specs.MultiSig.{count, some_off, one_off, counted, tries, verdict, null_dummy, check_multi_sig}
+use Rattle.def_machine.specs.Machine.{open_branch, turned, closed, act, pushed, carry_out, settle, step}
+use Rattle.def_machine.specs.Run.{start, steps, finish, run}
+use Rattle.def_machine.specs.Samples.{key_b, sig_a, sig_b, sig_c}
+use Rattle.def_script.specs.Bytes.{Bytes}
+use Rattle.def_machine.specs.Stacks.{Stack}
+use Rattle.def_satisfaction.specs.Samples.{preimage_0, preimage_1, preimage_2, preimage_3, pair_a, pair_b, pair_c, key_or_key}
+use Rattle.def_satisfaction.specs.Rows.{EMPTY, ONE}
+use Rattle.def_satisfaction.specs.Satisfaction.{Sat}
+use Rattle.def_satisfaction.specs.Examples.{both_signatures, TwoOfThree, TwoOfThreeWitness, LateKey, VoidLock, TimeLock, ByPreimages, BySignatures, RightBranch, LeftBranch, LockMet, LockUnmet, ZerosAsPreimage, ZerosAreNoMiss, BothOfOrB}
+
+-- what computes in a run and in a row
+pub computing : Unit {0}
+unfolding run start steps step settle carry_out act pushed counted open_branch turned closed condition verify to_alt_stack from_alt_stack if_dup dup swap size equal operand one_number two_numbers zero_not_equal add bool_and bool_or hash check_sig lock count some_off one_off tries verdict null_dummy check_multi_sig after_holds older_holds finish first_item items_after decode_pairs sha256 sha_words sha_schedule sha_rounds sha_compress sha_hash_after sha_digest_bytes ripemd160 ripemd_words ripemd_step left_line right_line combined ripemd_compress ripemd_hash_after ripemd_digest_bytes hash160 size_bytes
+computing = tt
+
+pub two_of_three : TwoOfThree
+unfolding computing
+two_of_three = record {
+  sat = ([] ∷ [], sig_c ∷ sig_a ∷ [], refl, (refl, inl (refl, inr (inl (refl, tt)))), refl);
+  weight = refl;
+  checks = pair_c ∷ pair_a ∷ [];
+  run = refl;
+}
+
+pub two_of_three_witness : TwoOfThreeWitness
+unfolding computing
+two_of_three_witness = refl
+
+pub late_key : LateKey
+unfolding computing
+late_key = record {
+  sat = inr (key_b ∷ sig_b ∷ [], EMPTY ∷ [], ([], key_b ∷ sig_b ∷ [], (refl, refl), (key_b, refl, refl, refl, (sig_b ∷ [], key_b ∷ [], (sig_b, refl, refl), refl, refl)), refl), refl, refl);
+  weight = refl;
+  checks = pair_b ∷ [];
+  run = refl;
+}
+
+pub void_lock : VoidLock
+unfolding computing
+void_lock = record {
+  sat = ([], sig_a ∷ [], (refl, refl), (sig_a, refl, refl), refl);
+  weight = refl;
+  checks = pair_a ∷ [];
+  run = refl;
+}
+
+pub time_lock : TimeLock
+unfolding computing
+time_lock = record {
+  sat = ([], sig_a ∷ [], (refl, refl), (sig_a, refl, refl), refl);
+  weight = refl;
+  checks = pair_a ∷ [];
+  run = refl;
+}
+
+pub by_preimages : ByPreimages
+unfolding computing
+by_preimages = record {
+  sat = inl (1, refl, (sig_a ∷ EMPTY ∷ [], preimage_1 ∷ preimage_2 ∷ preimage_3 ∷ [], inl (0, refl, (EMPTY ∷ [], sig_a ∷ [], inr ([], EMPTY ∷ [], (refl, refl), refl, refl), (sig_a, refl, refl), refl)), (preimage_2 ∷ preimage_3 ∷ [], preimage_1 ∷ [], (preimage_3 ∷ [], preimage_2 ∷ [], ([], preimage_3 ∷ [], refl, (preimage_3, ((refl, refl), refl), refl), refl), (preimage_2, ((refl, refl), refl), refl), refl), (preimage_1, ((refl, refl), refl), refl), refl), refl));
+  weight = refl;
+  checks = pair_a ∷ [];
+  run = refl;
+}
+
+pub by_signatures : BySignatures
+unfolding computing
+by_signatures = record {
+  sat = inr (sig_a ∷ sig_b ∷ [], EMPTY ∷ [], inl (1, refl, (sig_b ∷ [], sig_a ∷ [], inl (0, refl, ([], sig_b ∷ [], (refl, refl), (sig_b, refl, refl), refl)), (sig_a, refl, refl), refl)), inl refl, refl);
+  weight = refl;
+  checks = pair_a ∷ pair_b ∷ [];
+  run = refl;
+}
+
+pub right_branch : RightBranch
+unfolding computing
+right_branch = record {
+  sat = (EMPTY ∷ preimage_1 ∷ preimage_2 ∷ preimage_3 ∷ [], sig_b ∷ [], inr (preimage_1 ∷ preimage_2 ∷ preimage_3 ∷ [], EMPTY ∷ [], (preimage_2 ∷ preimage_3 ∷ [], preimage_1 ∷ [], (preimage_3 ∷ [], preimage_2 ∷ [], (preimage_3, ((refl, refl), refl), refl), (preimage_2, ((refl, refl), refl), refl), refl), (preimage_1, ((refl, refl), refl), refl), refl), refl, refl), (sig_b, refl, refl), refl);
+  weight = refl;
+  checks = pair_b ∷ [];
+  run = refl;
+}
+
+pub left_branch : LeftBranch
+unfolding computing
+left_branch = record {
+  sat = (ONE ∷ sig_a ∷ [], sig_b ∷ [], inl (sig_a ∷ [], ONE ∷ [], (sig_a, refl, refl), refl, refl), (sig_b, refl, refl), refl);
+  weight = refl;
+  checks = pair_b ∷ pair_a ∷ [];
+  run = refl;
+}
+
+pub lock_met : LockMet
+unfolding computing
+lock_met = record {
+  sat = inl (2, refl, (EMPTY ∷ sig_c ∷ EMPTY ∷ [], sig_a ∷ [], inr (sig_c ∷ EMPTY ∷ [], EMPTY ∷ [], inl (1, refl, (EMPTY ∷ [], sig_c ∷ [], inl (0, refl, ([], EMPTY ∷ [], (refl, refl), inr ([], EMPTY ∷ [], (refl, refl), refl, refl), refl)), (sig_c, refl, refl), refl)), refl, refl), (sig_a, refl, refl), refl));
+  weight = refl;
+  checks = pair_a ∷ pair_c ∷ [];
+  run = refl;
+}
+
+pub lock_unmet : LockUnmet
+unfolding computing
+lock_unmet = record {
+  sat = inl (2, refl, (sig_b ∷ sig_c ∷ ONE ∷ [], sig_a ∷ [], inl (1, refl, (sig_c ∷ ONE ∷ [], sig_b ∷ [], inl (0, refl, (ONE ∷ [], sig_c ∷ [], inr ([], ONE ∷ [], (refl, refl), inl ([], ONE ∷ [], refl, refl, refl), refl), (sig_c, refl, refl), refl)), (sig_b, refl, refl), refl)), (sig_a, refl, refl), refl));
+  weight = refl;
+  checks = pair_a ∷ pair_b ∷ pair_c ∷ [];
+  run = refl;
+}
+
+pub zeros_as_preimage : ZerosAsPreimage
+unfolding computing
+zeros_as_preimage = record {
+  sat = inl (0, refl, (EMPTY ∷ [], preimage_0 ∷ [], inr ([], EMPTY ∷ [], (refl, refl), refl, refl), (preimage_0, ((refl, refl), refl), refl), refl));
+  weight = refl;
+  checks = [];
+  run = refl;
+}
+
+-- facts that contradict themselves
+not_true : false ≡ true → ⊥
+not_true h = cc
+
+not_some : (x : Bytes) → None ≡ Some x → ⊥
+not_some x h = cc
+
+not_empty : (byte : ℕ) (bytes : Bytes) → byte ∷ bytes ≡ [] → ⊥
+not_empty byte bytes h = cc
+
+pub zeros_are_no_miss : ZerosAreNoMiss
+unfolding computing
+zeros_are_no_miss stack (inl h) = not_some h.2.3.0 h.2.3.1.1
+zeros_are_no_miss stack (inr (below, above, p, inl q, e)) = q.0.1 refl
+zeros_are_no_miss stack (inr (below, above, p, inr q, e)) = not_true q.0
+
+-- where two items are one item on one other, the lower one is the other
+lower : (a b x y : Bytes) (above below : Stack) → above ≡ x ∷ [] → below ≡ y ∷ [] → a ∷ b ∷ [] ≡ above ++ below → b ≡ y
+lower a b x y above below p q e =
+    let whole : a ∷ b ∷ [] ≡ x ∷ y ∷ [] = e ∙ ap (λ v. v ++ below) p ∙ ap (λ v. x ∷ v) q in
+    cc
+
+upper : (a b x y : Bytes) (above below : Stack) → above ≡ x ∷ [] → below ≡ y ∷ [] → a ∷ b ∷ [] ≡ above ++ below → a ≡ x
+upper a b x y above below p q e =
+    let whole : a ∷ b ∷ [] ≡ x ∷ y ∷ [] = e ∙ ap (λ v. v ++ below) p ∙ ap (λ v. x ∷ v) q in
+    cc
+
+not_canonical : ¬ Sat key_or_key both_signatures (sig_b ∷ sig_a ∷ [])
+unfolding computing
+not_canonical (inl (below, above, p, q, e)) =
+    not_empty 0xbb (replicate 71 0xbb) (lower sig_a sig_b q.0 [] above below q.2 p e)
+not_canonical (inr (inl (below, above, p, q, e))) =
+    not_empty 0xaa (replicate 70 0xaa) (upper sig_a sig_b [] p.0 above below q p.2 e)
+not_canonical (inr (inr h)) = not_true h.0
+
+pub both_of_or_b : BothOfOrB
+unfolding computing
+both_of_or_b =
+    (inr (inr (refl, (sig_b ∷ [], sig_a ∷ [], (sig_b, refl, refl), (sig_a, refl, refl), refl))), not_canonical)

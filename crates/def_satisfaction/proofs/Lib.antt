@@ -1,0 +1,4 @@
+pub mod Computed
+pub mod Wider
+pub mod Bare
+pub mod Canonical

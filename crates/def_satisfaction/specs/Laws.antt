@@ -1,0 +1,37 @@
+-- What the definitions imply.
+use Rattle.std.specs.Prelude.{◌↔◌, Option, List}
+use Rattle.def_hash.specs.declared.HashKind.{HashKind}
+use Rattle.def_script.specs.Bytes.{Bytes}
+use Rattle.def_machine.specs.Stacks.{Pairs}
+use Rattle.def_machine.specs.Machine.{Given}
+use Rattle.def_tree.specs.Tree.{Tree}
+use Rattle.def_assets.specs.Assets.{Assets, known, unsigned}
+use Rattle.def_satisfaction.specs.Setting.{any, only}
+use Rattle.def_satisfaction.specs.Satisfaction.{Sat, Dsat, FullSat, FullDsat, Holds}
+
+-- a canonical satisfaction is a satisfaction under every table that holds the pairs of the assets, also
+-- where only the known preimages count
+abbrev pub SatIsFullSat : Type 0
+SatIsFullSat =
+    (tree : Tree) (assets : Assets) (table : Pairs) (stack : List Bytes) → Holds table assets →
+    Sat tree assets stack →
+    FullSat tree (record { table = table; locks = assets.locks }) (only (known assets)) stack
+
+-- a canonical dissatisfaction is one under every table
+abbrev pub DsatIsFullDsat : Type 0
+DsatIsFullDsat =
+    (tree : Tree) (assets : Assets) (table : Pairs) (stack : List Bytes) →
+    Dsat tree assets stack →
+    FullDsat tree (record { table = table; locks = assets.locks }) (only (known assets)) stack
+
+-- what counts where only some preimages and keys do counts where any do
+abbrev pub OnlyIsAny : Type 0
+OnlyIsAny =
+    (tree : Tree) (given : Given) (known : HashKind → Bytes → Option Bytes) (stack : List Bytes) →
+    (FullSat tree given (only known) stack → FullSat tree given any stack) ×
+    (FullDsat tree given (only known) stack → FullDsat tree given any stack)
+
+-- no canonical dissatisfaction has a signature
+abbrev pub DsatNeedsNoSignature : Type 0
+DsatNeedsNoSignature =
+    (tree : Tree) (assets : Assets) (stack : List Bytes) → Dsat tree assets stack ↔ Dsat tree (unsigned assets) stack
