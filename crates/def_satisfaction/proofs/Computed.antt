@@ -1,25 +1,13 @@
 -- The examples.
 use Rattle.std.proofs.Common.{◌≡◌, refl, ◌∙◌, ap, inl, inr, ℕ, true, false, [], ◌∷◌, ◌++◌, replicate, None, Some}
-use Rattle.def_hash.proofs.Computing.{decode_pairs, sha256, sha_words, sha_schedule, sha_rounds, sha_compress, sha_hash_after, sha_digest_bytes, ripemd160, ripemd_words, ripemd_step, left_line, right_line, combined, ripemd_compress, ripemd_hash_after, ripemd_digest_bytes, hash160}
-use Rattle.def_script.specs.Items.{first_item, items_after}
-use Rattle.def_script.specs.Sizes.{size_bytes}
-use Rattle.def_machine.specs.Locks.{after_holds, older_holds}
-use Rattle.def_machine.specs.Effects.{condition, verify, to_alt_stack, from_alt_stack, if_dup, dup, swap, size, equal, operand, one_number, two_numbers, zero_not_equal, add, bool_and, bool_or, hash, check_sig, lock}
-use Rattle.def_machine.specs.MultiSig.{count, some_off, one_off, counted, tries, verdict, null_dummy, check_multi_sig}
-use Rattle.def_machine.specs.Machine.{open_branch, turned, closed, act, pushed, carry_out, settle, step}
-use Rattle.def_machine.specs.Run.{start, steps, finish, run}
 use Rattle.def_machine.specs.Samples.{key_b, sig_a, sig_b, sig_c}
 use Rattle.def_script.specs.Bytes.{Bytes}
 use Rattle.def_machine.specs.Stacks.{Stack}
+use Rattle.def_satisfaction.proofs.Computing.{computing}
 use Rattle.def_satisfaction.specs.Samples.{preimage_0, preimage_1, preimage_2, preimage_3, pair_a, pair_b, pair_c, key_or_key}
 use Rattle.def_satisfaction.specs.Rows.{EMPTY, ONE}
 use Rattle.def_satisfaction.specs.Satisfaction.{Sat}
 use Rattle.def_satisfaction.specs.Examples.{both_signatures, TwoOfThree, TwoOfThreeWitness, LateKey, VoidLock, TimeLock, ByPreimages, BySignatures, RightBranch, LeftBranch, LockMet, LockUnmet, ZerosAsPreimage, ZerosAreNoMiss, BothOfOrB}
-
--- what computes in a run and in a row
-pub computing : Unit {0}
-unfolding run start steps step settle carry_out act pushed counted open_branch turned closed condition verify to_alt_stack from_alt_stack if_dup dup swap size equal operand one_number two_numbers zero_not_equal add bool_and bool_or hash check_sig lock count some_off one_off tries verdict null_dummy check_multi_sig after_holds older_holds finish first_item items_after decode_pairs sha256 sha_words sha_schedule sha_rounds sha_compress sha_hash_after sha_digest_bytes ripemd160 ripemd_words ripemd_step left_line right_line combined ripemd_compress ripemd_hash_after ripemd_digest_bytes hash160 size_bytes
-computing = tt
 
 pub two_of_three : TwoOfThree
 unfolding computing

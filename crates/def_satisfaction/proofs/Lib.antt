@@ -1,3 +1,4 @@
+pub mod Computing
 pub mod Computed
 pub mod Wider
 pub mod Bare

@@ -77,6 +77,10 @@ key_and_void_lock = and_v (v (pk key_a)) (older 65536)
 abbrev pub key_and_time : Tree
 key_and_time = and_v (v (pk key_a)) (after 500000000)
 
+-- `and_v(v:pk(A),after(499999999))`
+abbrev pub key_and_height : Tree
+key_and_height = and_v (v (pk key_a)) (after 499999999)
+
 -- `and_v(v:sha256(h1),and_v(v:sha256(h2),x))`
 abbrev pub after_two_hashes : Tree → Tree
 after_two_hashes x = and_v (v (sha256 hash_1)) (and_v (v (sha256 hash_2)) x)

@@ -1,0 +1,4 @@
+//! Definitions of which satisfaction is chosen, and of which satisfactions nobody can change.
+#![tactic(auto)]
+
+mod examples;
