@@ -1,1 +1,12 @@
 pub mod Computed
+pub mod Weights
+pub mod Best
+pub mod Counted
+pub mod Held
+pub mod Keys
+pub mod Leaves
+pub mod Cheapest
+pub mod TightFree
+pub mod StrictTight
+pub mod Listed
+pub mod Chosen

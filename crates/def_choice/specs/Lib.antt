@@ -1,7 +1,9 @@
 pub mod Sets
 pub mod Least
+pub mod Lightest
 pub mod Cheapest
 pub mod Strict
 pub mod Tight
 pub mod NonMalleable
 pub mod Examples
+pub mod Laws

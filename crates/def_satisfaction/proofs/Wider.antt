@@ -39,6 +39,10 @@ either_within P P' Q Q' p q stack (inr h) = inr (q stack h)
 pub same : (P : StackSet) → Within P P
 same P stack h = h
 
+pub parts_of_within : (x y : Row) (P Q : ℕ → StackSet) → IsWithin x y → ((n : ℕ) → Within (P n) (Q n)) → (n : ℕ) → Within (PartsOf x P n) (PartsOf y Q n)
+parts_of_within x y P Q i j n stack (inl h) = inl (h.0, h.1, both_within (P h.0) (Q h.0) x.sat y.sat (j h.0) i.sat stack h.2)
+parts_of_within x y P Q i j n stack (inr h) = inr (both_within (P n) (Q n) x.dsat y.dsat (j n) i.dsat stack h)
+
 module _ (s t : Setting) (wider : IsWider s t) where
   extra_within : (P P' : StackSet) → Within P P' → Within (NotCanonical s P) (NotCanonical t P')
   extra_within P P' p stack h = (wider.rows h.0, p stack h.1)
@@ -69,10 +73,6 @@ module _ (s t : Setting) (wider : IsWider s t) where
     dsat = same _;
     sat = both_within _ _ _ _ (same _) (λ sigs h. (h.0, are_signatures_within (reverse keys) sigs h.1));
   }
-
-  parts_of_within : (x y : Row) (P Q : ℕ → StackSet) → IsWithin x y → ((n : ℕ) → Within (P n) (Q n)) → (n : ℕ) → Within (PartsOf x P n) (PartsOf y Q n)
-  parts_of_within x y P Q i j n stack (inl h) = inl (h.0, h.1, both_within (P h.0) (Q h.0) x.sat y.sat (j h.0) i.sat stack h.2)
-  parts_of_within x y P Q i j n stack (inr h) = inr (both_within (P n) (Q n) x.dsat y.dsat (j n) i.dsat stack h)
 
   thresh_within : (k : ℕ) (P Q : ℕ → StackSet) → ((n : ℕ) → Within (P n) (Q n)) → IsWithin (thresh_row s k P) (thresh_row t k Q)
   thresh_within k P Q j = record {

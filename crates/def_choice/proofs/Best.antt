@@ -1,0 +1,116 @@
+-- How right choices are joined.
+use Rattle.std.proofs.Common.{◌≡◌, ◌≤◌, nat_lt, Bool, true, false, [], ◌∷◌, ◌++◌, reverse, Option, Some, None, refl, sym, ◌∙◌, ap, subst, inl, inr, arith, if◌then◌else◌}
+use Rattle.std.specs.Option.{option_map}
+use Rattle.std.proofs.lemmas.Bool.Decides.{nat_tests}
+use Rattle.std.proofs.lemmas.List.{reverse-reverse}
+use Rattle.def_machine.specs.Stacks.{Stack}
+use Rattle.def_satisfaction.specs.Weight.{weight}
+use Rattle.def_satisfaction.specs.StackSet.{StackSet, Both, Either}
+use Rattle.def_choice.specs.Least.{both, lighter, least}
+use Rattle.def_choice.specs.Lightest.{IsLightest}
+use Rattle.def_choice.proofs.Weights.{weight-append, weight-reverse}
+
+not_some : (w : Stack) → None ≡ Some w → ⊥
+not_some w h = cc
+
+some_same : (v w : Stack) → Some v ≡ Some w → v ≡ w
+some_same v w h = cc
+
+-- from a set with no stack
+pub none_best : (P : StackSet) → ((w : Stack) → P w → ⊥) → IsLightest P None
+none_best P never = record { is = λ w h. absurd (not_some w h); lightest = λ w h. absurd (never w h) }
+
+-- from a set with one stack
+pub one_best : (P : StackSet) (w : Stack) → P w → ((v : Stack) → P v → v ≡ w) → IsLightest P (Some w)
+one_best P w p only = record {
+  is = λ v h. subst P (some_same w v h) p;
+  lightest = λ v h. (w, refl, let e : weight v ≡ weight w = ap weight (only v h) in omega (arith, e));
+}
+
+-- from the same set
+pub best_as : (P Q : StackSet) (m : Option Stack) → ((w : Stack) → P w → Q w) → ((w : Stack) → Q w → P w) → IsLightest P m → IsLightest Q m
+best_as P Q m to from best = record {
+  is = λ w h. to w (best.is w h);
+  lightest = λ w h. best.lightest w (from w h);
+}
+
+-- one on top of the other
+pub best_both : (P Q : StackSet) (a b : Option Stack) → IsLightest P a → IsLightest Q b → IsLightest (Both P Q) (both a b)
+best_both P Q None b p q = record {
+  is = λ w h. absurd (not_some w h);
+  lightest = λ w h. let k = p.lightest h.0 h.2 in absurd (not_some k.0 k.1);
+}
+best_both P Q (Some a) None p q = record {
+  is = λ w h. absurd (not_some w h);
+  lightest = λ w h. let k = q.lightest h.1 h.3 in absurd (not_some k.0 k.1);
+}
+best_both P Q (Some a) (Some b) p q = record {
+  is = λ w h. (a, b, p.is a refl, q.is b refl, sym (some_same (b ++ a) w h));
+  lightest = λ w h.
+      let k = p.lightest h.0 h.2 in
+      let l = q.lightest h.1 h.3 in
+      let e : weight k.0 ≡ weight a = ap weight (some_same k.0 a (sym k.1)) in
+      let f : weight l.0 ≡ weight b = ap weight (some_same l.0 b (sym l.1)) in
+      let g : weight w ≡ weight (h.1 ++ h.0) = ap weight h.4 in
+      (b ++ a, refl, omega (arith, e, f, g, k.2, l.2, weight-append b a, weight-append h.1 h.0));
+}
+
+-- the lighter of two
+chosen : (test : Bool) (v w : Stack) → (test ≡ true → weight w ≤ weight v) → (test ≡ false → weight v ≤ weight w) → (z : Stack) × ((if test then Some w else Some v) ≡ Some z) × (weight z ≤ weight v) × (weight z ≤ weight w)
+chosen true v w if_true if_false = (w, refl, if_true refl, omega arith)
+chosen false v w if_true if_false = (v, refl, omega arith, if_false refl)
+
+lighter_than_both : (v w : Stack) → (z : Stack) × (lighter (Some v) (Some w) ≡ Some z) × (weight z ≤ weight v) × (weight z ≤ weight w)
+lighter_than_both v w =
+    chosen (nat_lt (weight w) (weight v)) v w (λ h. grind (arith, nat_tests)) (λ h. grind (arith, nat_tests))
+
+one_of_two : (test : Bool) (P Q : StackSet) (v w z : Stack) → P v → Q w → (if test then Some w else Some v) ≡ Some z → Either P Q z
+one_of_two true P Q v w z p q h = inr (subst Q (some_same w z h) q)
+one_of_two false P Q v w z p q h = inl (subst P (some_same v z h) p)
+
+pub best_lighter : (P Q : StackSet) (a b : Option Stack) → IsLightest P a → IsLightest Q b → IsLightest (Either P Q) (lighter a b)
+best_lighter P Q None b p q = record {
+  is = λ w h. inr (q.is w h);
+  lightest = λ w h. elim h [ inl i ↦ (let k = p.lightest w i in absurd (not_some k.0 k.1)) | inr i ↦ q.lightest w i ];
+}
+best_lighter P Q (Some v) None p q = record {
+  is = λ w h. inl (p.is w h);
+  lightest = λ w h. elim h [ inl i ↦ p.lightest w i | inr i ↦ (let k = q.lightest w i in absurd (not_some k.0 k.1)) ];
+}
+best_lighter P Q (Some v) (Some w) p q = record {
+  is = λ z h. one_of_two (nat_lt (weight w) (weight v)) P Q v w z (p.is v refl) (q.is w refl) h;
+  lightest = λ z h.
+      let c = lighter_than_both v w in (
+        c.0,
+        c.1,
+        elim h [
+          | inl i ↦ (let k = p.lightest z i in let e : weight k.0 ≡ weight v = ap weight (some_same k.0 v (sym k.1)) in omega (arith, e, k.2, c.2))
+          | inr i ↦ (let k = q.lightest z i in let e : weight k.0 ≡ weight w = ap weight (some_same k.0 w (sym k.1)) in omega (arith, e, k.2, c.3))
+        ],
+      );
+}
+
+pub lighter-none : (a : Option Stack) → lighter a None ≡ a
+lighter-none None = refl
+lighter-none (Some v) = refl
+
+-- the first of two options of least weight
+pub best_two : (P Q : StackSet) (a b : Option Stack) → IsLightest P a → IsLightest Q b → IsLightest (Either P Q) (least (a ∷ b ∷ []))
+best_two P Q a b p q =
+    let q' : IsLightest Q (lighter b None) = subst (λ m. IsLightest Q m) (sym (lighter-none b)) q in
+    best_lighter P Q a (lighter b None) p q'
+
+-- turned round
+pub turned : (m : Option Stack) (w : Stack) → option_map reverse m ≡ Some w → (v : Stack) × (m ≡ Some v) × (v ≡ reverse w)
+turned None w h = absurd (not_some w h)
+turned (Some v) w h =
+    let e : reverse v ≡ w = some_same (reverse v) w h in
+    (v, refl, sym (reverse-reverse v) ∙ ap reverse e)
+
+pub best_reverse : (P : StackSet) (m : Option Stack) → IsLightest P m → IsLightest (λ w. P (reverse w)) (option_map reverse m)
+best_reverse P m best = record {
+  is = λ w h. let t = turned m w h in subst P t.2 (best.is t.0 t.1);
+  lightest = λ w h.
+      let k = best.lightest (reverse w) h in
+      (reverse k.0, ap (λ o. option_map reverse o) k.1, omega (arith, k.2, weight-reverse k.0, weight-reverse w));
+}

@@ -1,0 +1,151 @@
+-- The signatures of a `multi`: the first of least weight over all sets of keys.
+use Rattle.std.proofs.Common.{◌≡◌, ℕ, zero, suc, Bool, true, false, List, [], ◌∷◌, ◌++◌, length, map, reverse, Option, Some, None, refl, sym, ◌∙◌, ap, subst, ◌⊎◌, inl, inr, IsTrue, arith}
+use Rattle.std.proofs.lemmas.List.{map-append, length-append, reverse-append}
+use Rattle.def_script.specs.Bytes.{Bytes}
+use Rattle.def_machine.specs.Stacks.{Stack, Pairs}
+use Rattle.def_machine.specs.MultiSig.{is_good}
+use Rattle.def_tree.specs.Tree.{Key}
+use Rattle.def_assets.specs.Assets.{Assets, AreAssets, sig_of}
+use Rattle.def_satisfaction.specs.StackSet.{StackSet, Both, Either}
+use Rattle.def_satisfaction.specs.Rows.{AreSignatures, Signatures, Signature}
+use Rattle.def_satisfaction.specs.Satisfaction.{canonical}
+use Rattle.def_choice.specs.Sets.{sets}
+use Rattle.def_choice.specs.Least.{item, both, lighter, least}
+use Rattle.def_choice.specs.Lightest.{IsLightest}
+use Rattle.def_choice.specs.Cheapest.{signatures_of, signatures}
+use Rattle.def_choice.proofs.Best.{none_best, one_best, best_as, best_both, best_lighter}
+use Rattle.def_choice.proofs.Counted.{least-append, least-map_map, least-below}
+use Rattle.def_choice.proofs.Held.{held_is_good, good_is_held}
+
+-- the signature of a key
+signature_of : (assets : Assets) → AreAssets assets → (key : Key) (held : Option Bytes) → sig_of assets key ≡ held → IsLightest (Signature (canonical assets) key) (item held)
+signature_of assets are key None h =
+    none_best (Signature (canonical assets) key) (λ w s. not_some s.0 (sym h ∙ good_is_held assets are key s.0 s.1))
+  where
+    not_some : (x : Bytes) → None ≡ Some x → ⊥
+    not_some x e = cc
+signature_of assets are key (Some sig) h =
+    one_best (Signature (canonical assets) key) (sig ∷ [])
+    (sig, held_is_good assets are key sig h, refl)
+    (λ w s. s.2 ∙ ap (λ x. x ∷ []) (same s.0 (sym (good_is_held assets are key s.0 s.1) ∙ h)))
+  where
+    same : (x : Bytes) → Some x ≡ Some sig → x ≡ sig
+    same x e = cc
+
+pub signature_best : (assets : Assets) → AreAssets assets → (key : Key) → IsLightest (Signature (canonical assets) key) (item (sig_of assets key))
+signature_best assets are key = signature_of assets are key (sig_of assets key) refl
+
+-- a further key, which is passed over
+passed : (table : Pairs) (key : Key) (keys : List Key) (sigs : Stack) → AreSignatures table keys sigs → AreSignatures table (key ∷ keys) sigs
+passed table key keys [] h = tt
+passed table key keys (sig ∷ sigs) h = inr h
+
+-- one more key behind the others
+record LastSigned (table : Pairs) (keys : List Key) (key : Key) (sigs : Stack) : Type 0 where
+  rest : Stack
+  sig : Bytes
+  good : IsTrue (is_good table key sig)
+  before : AreSignatures table keys rest
+  whole : sigs ≡ rest ++ sig ∷ []
+
+last_or_not : (table : Pairs) (keys : List Key) (key : Key) (sigs : Stack) → AreSignatures table (keys ++ key ∷ []) sigs →
+    AreSignatures table keys sigs ⊎ LastSigned table keys key sigs
+last_or_not table keys key [] h = inl h
+last_or_not table [] key (sig ∷ []) (inl h) = inr (record { rest = []; sig = sig; good = h.0; before = tt; whole = refl })
+last_or_not table [] key (sig ∷ g ∷ sigs) (inl h) = absurd h.1
+last_or_not table [] key (sig ∷ sigs) (inr h) = absurd h
+last_or_not table (k ∷ keys) key (sig ∷ sigs) (inl h) = go (last_or_not table keys key sigs h.1)
+  where
+    go : AreSignatures table keys sigs ⊎ LastSigned table keys key sigs → AreSignatures table (k ∷ keys) (sig ∷ sigs) ⊎ LastSigned table (k ∷ keys) key (sig ∷ sigs)
+    go (inl i) = inl (inl (h.0, i))
+    go (inr l) = inr (record { rest = sig ∷ l.rest; sig = l.sig; good = l.good; before = inl (h.0, l.before); whole = ap (λ v. sig ∷ v) l.whole })
+last_or_not table (k ∷ keys) key (sig ∷ sigs) (inr h) = go (last_or_not table keys key (sig ∷ sigs) h)
+  where
+    go : AreSignatures table keys (sig ∷ sigs) ⊎ LastSigned table keys key (sig ∷ sigs) → AreSignatures table (k ∷ keys) (sig ∷ sigs) ⊎ LastSigned table (k ∷ keys) key (sig ∷ sigs)
+    go (inl i) = inl (inr i)
+    go (inr l) = inr (record { rest = l.rest; sig = l.sig; good = l.good; before = passed table k keys l.rest l.before; whole = l.whole })
+
+with_last : (table : Pairs) (keys : List Key) (key : Key) (sigs : Stack) (sig : Bytes) → IsTrue (is_good table key sig) → AreSignatures table keys sigs →
+    AreSignatures table (keys ++ key ∷ []) (sigs ++ sig ∷ [])
+with_last table [] key [] sig good h = inl (good, tt)
+with_last table [] key (g ∷ sigs) sig good h = absurd h
+with_last table (k ∷ keys) key [] sig good h = inr (with_last table keys key [] sig good (none table keys))
+  where
+    none : (table : Pairs) (keys : List Key) → AreSignatures table keys []
+    none table [] = tt
+    none table (k ∷ keys) = tt
+with_last table (k ∷ keys) key (g ∷ sigs) sig good (inl h) = inl (h.0, with_last table keys key sigs sig good h.1)
+with_last table (k ∷ keys) key (g ∷ sigs) sig good (inr h) = inr (with_last table keys key (g ∷ sigs) sig good h)
+
+without_last : (table : Pairs) (keys : List Key) (key : Key) (sigs : Stack) → AreSignatures table keys sigs → AreSignatures table (keys ++ key ∷ []) sigs
+without_last table keys key [] h = tt
+without_last table [] key (g ∷ sigs) h = absurd h
+without_last table (k ∷ keys) key (g ∷ sigs) (inl h) = inl (h.0, without_last table keys key sigs h.1)
+without_last table (k ∷ keys) key (g ∷ sigs) (inr h) = inr (without_last table keys key (g ∷ sigs) h)
+
+no_signatures : (table : Pairs) (keys : List Key) (sigs : Stack) → length sigs ≡ 0 → AreSignatures table keys sigs
+no_signatures table keys [] h = tt
+no_signatures table keys (sig ∷ sigs) h = absurd (omega arith)
+
+no_key : (table : Pairs) (k : ℕ) (sigs : Stack) → length sigs ≡ suc k → AreSignatures table [] sigs → ⊥
+no_key table k [] h are = omega arith
+no_key table k (sig ∷ sigs) h are = are
+
+empty_is : (sigs : Stack) → length sigs ≡ 0 → sigs ≡ []
+empty_is [] h = refl
+empty_is (sig ∷ sigs) h = absurd (omega arith)
+
+-- the keys in the order in which their signatures stand, the top first
+turned : (key : Key) (keys : List Key) → reverse (key ∷ keys) ≡ reverse keys ++ key ∷ []
+turned key keys = reverse-append (key ∷ []) keys
+
+module _ (assets : Assets) (are : AreAssets assets) where
+  abbrev S : (k : ℕ) → List Key → StackSet
+  S k keys = Signatures (canonical assets) k keys
+
+  none_to : (key : Key) (keys : List Key) (w : Stack) → S 0 keys w → S 0 (key ∷ keys) w
+  none_to key keys w h = (h.0, no_signatures assets.pairs (reverse (key ∷ keys)) w h.0)
+
+  none_from : (key : Key) (keys : List Key) (w : Stack) → S 0 (key ∷ keys) w → S 0 keys w
+  none_from key keys w h = (h.0, no_signatures assets.pairs (reverse keys) w h.0)
+
+  more_to : (k : ℕ) (key : Key) (keys : List Key) (w : Stack) → Either (Both (Signature (canonical assets) key) (S k keys)) (S (suc k) keys) w → S (suc k) (key ∷ keys) w
+  more_to k key keys w (inl (below, above, s, h, e)) =
+      let whole : w ≡ above ++ s.0 ∷ [] = e ∙ ap (λ v. above ++ v) s.2 in
+      let long : length w ≡ length (above ++ s.0 ∷ []) = ap length whole in (
+        omega (arith, h.0, long, length-append above (s.0 ∷ [])),
+        rw (turned key keys, whole) (with_last assets.pairs (reverse keys) key above s.0 s.1 h.1),
+      )
+  more_to k key keys w (inr h) = (h.0, rw (turned key keys) (without_last assets.pairs (reverse keys) key w h.1))
+
+  more_from : (k : ℕ) (key : Key) (keys : List Key) (w : Stack) → S (suc k) (key ∷ keys) w → Either (Both (Signature (canonical assets) key) (S k keys)) (S (suc k) keys) w
+  more_from k key keys w h = go (last_or_not assets.pairs (reverse keys) key w (subst (λ ks. AreSignatures assets.pairs ks w) (turned key keys) h.1))
+    where
+      go : AreSignatures assets.pairs (reverse keys) w ⊎ LastSigned assets.pairs (reverse keys) key w → Either (Both (Signature (canonical assets) key) (S k keys)) (S (suc k) keys) w
+      go (inl i) = inr (h.0, i)
+      go (inr l) =
+          let long : length w ≡ length (l.rest ++ l.sig ∷ []) = ap length l.whole in
+          inl (l.sig ∷ [], l.rest, (l.sig, l.good, refl), (omega (arith, h.0, long, length-append l.rest (l.sig ∷ [])), l.before), l.whole)
+
+  pub keys_best : (keys : List Key) (k : ℕ) → IsLightest (S k keys) (signatures assets k keys)
+  keys_best [] zero = one_best (S zero []) [] (refl, tt) (λ v h. empty_is v h.0)
+  keys_best [] (suc k) = none_best (S (suc k) []) (λ w h. no_key assets.pairs k w h.0 h.1)
+  keys_best (key ∷ keys) zero =
+      let e : signatures assets zero (key ∷ keys) ≡ signatures assets zero keys = least-map_map (signatures_of assets (key ∷ keys)) (λ set. false ∷ set) (sets (length keys) zero) in
+      rw e (best_as (S zero keys) (S zero (key ∷ keys)) (signatures assets zero keys) (none_to key keys) (none_from key keys) (keys_best keys zero))
+  keys_best (key ∷ keys) (suc k) =
+      let f : List Bool → Option Stack = signatures_of assets (key ∷ keys) in
+      let with_it : List (List Bool) = map (λ set. true ∷ set) (sets (length keys) k) in
+      let without : List (List Bool) = map (λ set. false ∷ set) (sets (length keys) (suc k)) in
+      let e : signatures assets (suc k) (key ∷ keys) ≡ lighter (both (item (sig_of assets key)) (signatures assets k keys)) (signatures assets (suc k) keys) =
+      ap least (map-append f with_it without) ∙
+      least-append (map f with_it) (map f without) ∙
+      ap (λ o. lighter o (least (map f without)))
+      (least-map_map f (λ set. true ∷ set) (sets (length keys) k) ∙ least-below (item (sig_of assets key)) (signatures_of assets keys) (sets (length keys) k)) ∙
+      ap (lighter (both (item (sig_of assets key)) (signatures assets k keys))) (least-map_map f (λ set. false ∷ set) (sets (length keys) (suc k)))
+      in
+      rw e
+      (best_as _ (S (suc k) (key ∷ keys)) _ (more_to k key keys) (more_from k key keys)
+      (best_lighter (Both (Signature (canonical assets) key) (S k keys)) (S (suc k) keys) _ _
+      (best_both (Signature (canonical assets) key) (S k keys) _ _ (signature_best assets are key) (keys_best keys k))
+      (keys_best keys (suc k))))

@@ -1,0 +1,32 @@
+//! What the definitions imply.
+
+ghost use Rattle.def_choice.specs.Laws.{
+  SetsAreAll,
+  SetsAreInOrder,
+  CheapestIsLightest,
+  DissatisfactionIsLightest,
+  UnsignedIsFound,
+  TightIsCanonical,
+  TightIsUnsigned,
+  StrictIsTight,
+};
+
+/// The listed sets are all sets, in order.
+pub fn sets()
+    ensures all { SetsAreAll }
+    ensures in_order { SetsAreInOrder }
+{}
+
+/// The cheapest satisfaction weighs least, and there is one exactly where a canonical satisfaction exists.
+pub fn cheapest()
+    ensures lightest { CheapestIsLightest }
+    ensures dissatisfaction { DissatisfactionIsLightest }
+    ensures unsigned { UnsignedIsFound }
+{}
+
+/// The strict satisfaction is tight, and so canonical.
+pub fn strict()
+    ensures canonical { TightIsCanonical }
+    ensures unsigned { TightIsUnsigned }
+    ensures tight { StrictIsTight }
+{}

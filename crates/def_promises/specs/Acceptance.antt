@@ -1,0 +1,52 @@
+-- Which stacks the interpreter accepts on a miniscript's Script.
+use Rattle.std.specs.Prelude.{◌≡◌, ℕ, ◌≤◌, ◌⊎◌, List, length}
+use Rattle.def_script.specs.Bytes.{Bytes}
+use Rattle.def_machine.specs.Stacks.{Pairs}
+use Rattle.def_machine.specs.Machine.{Given}
+use Rattle.def_machine.specs.Run.{run, accepted}
+use Rattle.def_tree.specs.Tree.{Tree}
+use Rattle.def_tree.specs.Range.{IsWritable}
+use Rattle.def_emit.specs.Emit.{script_of}
+use Rattle.def_assets.specs.Assets.{Assets, AreAssets}
+use Rattle.def_sane.specs.declared.Limits.{Limits}
+use Rattle.def_sane.specs.Limits.{AreLimits}
+use Rattle.def_sane.specs.Unfit.{IsValid}
+use Rattle.def_satisfaction.specs.Weight.{weight}
+use Rattle.def_satisfaction.specs.Setting.{any}
+use Rattle.def_satisfaction.specs.Satisfaction.{Sat, FullSat, Holds}
+use Rattle.def_choice.specs.NonMalleable.{IsAccepted, given_with}
+use Rattle.def_promises.specs.Limited.{StopsAtLimit}
+
+-- the run is accepted, and takes no more than the limits
+pub record IsAcceptedWithin (tree : Tree) (limits : Limits) (given : Given) (stack : List Bytes) : Type 0 where
+  pub ops : ℕ
+  pub peak : ℕ
+  pub checks : Pairs
+  pub run : run given (script_of tree) stack ≡ accepted ops peak checks
+  pub few_ops : ops ≤ limits.ops
+  pub few_items : length stack ≤ limits.items
+  pub light : weight stack ≤ limits.weight
+
+-- a canonical satisfaction is accepted within the limits, under every table that holds the assets' pairs
+abbrev pub CanonicalIsAccepted : Type 0
+CanonicalIsAccepted =
+    (tree : Tree) (limits : Limits) (assets : Assets) (table : Pairs) (stack : List Bytes) →
+    IsWritable tree → IsValid tree → AreLimits tree limits → AreAssets assets → Holds table assets →
+    Sat tree assets stack →
+    IsAcceptedWithin tree limits (given_with assets table) stack
+
+-- what is accepted is a satisfaction
+abbrev pub AcceptedIsSatisfaction : Type 0
+AcceptedIsSatisfaction =
+    (tree : Tree) (given : Given) (stack : List Bytes) (checks : Pairs) →
+    IsWritable tree → IsValid tree →
+    IsAccepted tree given stack checks →
+    FullSat tree given any stack
+
+-- a satisfaction is accepted, or stops at a limit of the interpreter
+abbrev pub SatisfactionIsAccepted : Type 0
+SatisfactionIsAccepted =
+    (tree : Tree) (given : Given) (stack : List Bytes) →
+    IsWritable tree → IsValid tree →
+    FullSat tree given any stack →
+    ((checks : Pairs) × IsAccepted tree given stack checks) ⊎ StopsAtLimit tree given stack

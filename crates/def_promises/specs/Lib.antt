@@ -1,0 +1,4 @@
+pub mod Limited
+pub mod Acceptance
+pub mod Letters
+pub mod Promises

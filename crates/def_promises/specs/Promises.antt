@@ -1,0 +1,89 @@
+-- What is promised of the choices. With `Acceptance` and `Letters` these are all promises on satisfactions.
+use Rattle.std.specs.Prelude.{◌≡◌, ◌≢◌, ◌↔◌, ◌≤◌, ◌⊎◌, IsTrue, List, Contains, Some, None}
+use Rattle.def_hash.specs.declared.HashKind.{HashKind}
+use Rattle.def_hash.specs.Hash.{hash160}
+use Rattle.def_script.specs.Bytes.{Bytes}
+use Rattle.def_machine.specs.Stacks.{Pairs, is_key}
+use Rattle.def_tree.specs.Tree.{Tree, Key, pk_h, hash}
+use Rattle.def_tree.specs.Range.{IsWritable}
+use Rattle.def_assets.specs.Assets.{Assets, AreAssets, known}
+use Rattle.def_sane.specs.Nodes.{all_nodes}
+use Rattle.def_sane.specs.Unfit.{IsSane}
+use Rattle.def_satisfaction.specs.Weight.{weight}
+use Rattle.def_satisfaction.specs.Rows.{IsPreimageOf}
+use Rattle.def_satisfaction.specs.Satisfaction.{Sat}
+use Rattle.def_choice.specs.Strict.{strict}
+use Rattle.def_choice.specs.Tight.{Tight}
+use Rattle.def_choice.specs.NonMalleable.{IsAccepted, Fresh, NonMalleable, given_with}
+
+-- the strict choice is a canonical satisfaction
+abbrev pub StrictIsCanonical : Type 0
+StrictIsCanonical =
+    (tree : Tree) (assets : Assets) (stack : List Bytes) →
+    IsWritable tree → IsSane tree → AreAssets assets →
+    strict tree assets ≡ Some stack → Sat tree assets stack
+
+-- there is one exactly where there is a canonical satisfaction
+abbrev pub StrictExists : Type 0
+StrictExists =
+    (tree : Tree) (assets : Assets) →
+    IsWritable tree → IsSane tree → AreAssets assets →
+    ((stack : List Bytes) × (strict tree assets ≡ Some stack)) ↔ ((stack : List Bytes) × Sat tree assets stack)
+
+-- nobody can change it
+abbrev pub StrictIsNonMalleable : Type 0
+StrictIsNonMalleable =
+    (tree : Tree) (assets : Assets) (stack : List Bytes) →
+    IsWritable tree → IsSane tree → AreAssets assets →
+    strict tree assets ≡ Some stack → NonMalleable tree assets stack
+
+-- where there is none, every stack that is accepted under the assets' own pairs is fresh
+abbrev pub NothingToAccept : Type 0
+NothingToAccept =
+    (tree : Tree) (assets : Assets) (stack : List Bytes) (checks : Pairs) →
+    IsWritable tree → IsSane tree → AreAssets assets →
+    strict tree assets ≡ None →
+    IsAccepted tree (given_with assets assets.pairs) stack checks →
+    Fresh tree assets assets.pairs stack
+
+-- the stack has a preimage of a hash of the miniscript that isn't the known one
+pub record HasUnknownPreimage (tree : Tree) (assets : Assets) (stack : List Bytes) : Type 0 where
+  pub kind : HashKind
+  pub value : Bytes
+  pub preimage : Bytes
+  pub fragment : Contains (all_nodes tree) (hash kind value)
+  pub item : Contains stack preimage
+  pub preimage_of : IsPreimageOf kind value preimage
+  pub unknown : known assets kind value ≢ Some preimage
+
+-- the stack has another key with the hash of a key of the miniscript
+pub record HasOtherKey (tree : Tree) (stack : List Bytes) : Type 0 where
+  pub key : Key
+  pub other : Key
+  pub fragment : Contains (all_nodes tree) (pk_h key)
+  pub item : Contains stack other
+  pub form : IsTrue (is_key other)
+  pub hash : hash160 other ≡ hash160 key
+  pub differs : other ≢ key
+
+-- what makes a stack fresh
+abbrev pub FreshHasItem : Type 0
+FreshHasItem =
+    (tree : Tree) (assets : Assets) (table : Pairs) (stack : List Bytes) →
+    Fresh tree assets table stack → HasUnknownPreimage tree assets stack ⊎ HasOtherKey tree stack
+
+-- a canonical satisfaction can't be changed exactly where it is tight
+abbrev pub TightIsNonMalleable : Type 0
+TightIsNonMalleable =
+    (tree : Tree) (assets : Assets) (stack : List Bytes) →
+    IsWritable tree → IsSane tree → AreAssets assets →
+    Sat tree assets stack →
+    NonMalleable tree assets stack ↔ Tight tree assets stack
+
+-- the strict choice weighs no more than any canonical satisfaction that can't be changed
+abbrev pub StrictIsLightest : Type 0
+StrictIsLightest =
+    (tree : Tree) (assets : Assets) (other : List Bytes) →
+    IsWritable tree → IsSane tree → AreAssets assets →
+    Sat tree assets other → NonMalleable tree assets other →
+    (stack : List Bytes) × (strict tree assets ≡ Some stack) × (weight stack ≤ weight other)

@@ -1,0 +1,2 @@
+//! What is promised of satisfactions and of choices, as statements.
+#![tactic(auto)]
