@@ -10,7 +10,7 @@ use Rattle.def_choice.specs.Lightest.{IsLightest}
 use Rattle.def_choice.specs.Cheapest.{dissatisfaction, cheapest_of}
 use Rattle.def_choice.specs.Strict.{free, strict_of}
 use Rattle.def_choice.specs.Tight.{TightSat}
-use Rattle.def_choice.specs.Laws.{CheapestIsLightest, DissatisfactionIsLightest, UnsignedIsFound, TightIsCanonical, TightIsUnsigned, StrictIsTight}
+use Rattle.def_choice.specs.Laws.{CheapestIsLightest, DissatisfactionIsLightest, UnsignedIsFound, TightIsCanonical, TightIsUnsigned, StrictIsTight, StrictIsCanonical}
 use Rattle.def_choice.proofs.Best.{best_reverse, turned}
 use Rattle.def_choice.proofs.Cheapest.{dsat_best, sat_best}
 use Rattle.def_choice.proofs.TightFree.{tight_within, tight_free}
@@ -49,3 +49,6 @@ pub strict_is_tight : StrictIsTight
 strict_is_tight tree assets stack writable are h =
     let t = turned (strict_of assets tree) stack h in
     subst (TightSat assets tree) t.2 (strict_tight assets are tree writable t.0 t.1)
+
+pub strict_is_canonical : StrictIsCanonical
+strict_is_canonical tree assets stack writable are h = tight_is_canonical tree assets stack (strict_is_tight tree assets stack writable are h)

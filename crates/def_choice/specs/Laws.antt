@@ -56,3 +56,9 @@ abbrev pub StrictIsTight : Type 0
 StrictIsTight =
     (tree : Tree) (assets : Assets) (stack : List Bytes) → IsWritable tree → AreAssets assets →
     strict tree assets ≡ Some stack → Tight tree assets stack
+
+-- so it is canonical
+abbrev pub StrictIsCanonical : Type 0
+StrictIsCanonical =
+    (tree : Tree) (assets : Assets) (stack : List Bytes) → IsWritable tree → AreAssets assets →
+    strict tree assets ≡ Some stack → Sat tree assets stack

@@ -9,6 +9,7 @@ ghost use Rattle.def_choice.specs.Laws.{
   TightIsCanonical,
   TightIsUnsigned,
   StrictIsTight,
+  StrictIsCanonical,
 };
 
 /// The listed sets are all sets, in order.
@@ -26,7 +27,8 @@ pub fn cheapest()
 
 /// The strict satisfaction is tight, and so canonical.
 pub fn strict()
-    ensures canonical { TightIsCanonical }
-    ensures unsigned { TightIsUnsigned }
+    ensures tight_is_canonical { TightIsCanonical }
+    ensures tight_is_unsigned { TightIsUnsigned }
     ensures tight { StrictIsTight }
+    ensures canonical { StrictIsCanonical }
 {}

@@ -2,3 +2,4 @@ pub mod Limited
 pub mod Acceptance
 pub mod Letters
 pub mod Promises
+pub mod Examples

@@ -1,4 +1,5 @@
--- What is promised of the choices. With `Acceptance` and `Letters` these are all promises on satisfactions.
+-- What is promised of the strict choice, beside the laws of choices: that it exists wherever it can, that nobody
+-- can change it, and that no lighter one can't be changed either.
 use Rattle.std.specs.Prelude.{◌≡◌, ◌≢◌, ◌↔◌, ◌≤◌, ◌⊎◌, IsTrue, List, Contains, Some, None}
 use Rattle.def_hash.specs.declared.HashKind.{HashKind}
 use Rattle.def_hash.specs.Hash.{hash160}
@@ -16,14 +17,7 @@ use Rattle.def_choice.specs.Strict.{strict}
 use Rattle.def_choice.specs.Tight.{Tight}
 use Rattle.def_choice.specs.NonMalleable.{IsAccepted, Fresh, NonMalleable, given_with}
 
--- the strict choice is a canonical satisfaction
-abbrev pub StrictIsCanonical : Type 0
-StrictIsCanonical =
-    (tree : Tree) (assets : Assets) (stack : List Bytes) →
-    IsWritable tree → IsSane tree → AreAssets assets →
-    strict tree assets ≡ Some stack → Sat tree assets stack
-
--- there is one exactly where there is a canonical satisfaction
+-- there is a strict choice exactly where there is a canonical satisfaction
 abbrev pub StrictExists : Type 0
 StrictExists =
     (tree : Tree) (assets : Assets) →

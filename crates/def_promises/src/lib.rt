@@ -1,2 +1,4 @@
 //! What is promised of satisfactions and of choices, as statements.
 #![tactic(auto)]
+
+mod examples;

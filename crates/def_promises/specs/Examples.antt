@@ -1,0 +1,93 @@
+-- The promises speak of something: what they presuppose is met, here by some miniscripts each.
+use Rattle.std.specs.Prelude.{◌≡◌, ◌≢◌, true, false, List, [], ◌∷◌, Some, None}
+use Rattle.def_script.specs.Bytes.{Bytes}
+use Rattle.def_machine.specs.Samples.{key_a, sig_a, sig_b}
+use Rattle.def_machine.specs.Stacks.{Pairs}
+use Rattle.def_machine.specs.Machine.{Given}
+use Rattle.def_tree.specs.Tree.{just_1}
+use Rattle.def_tree.specs.Range.{IsWritable}
+use Rattle.def_types.specs.declared.Base.TheVariants.{B}
+use Rattle.def_types.specs.Samples.{pk, sha256}
+use Rattle.def_assets.specs.Assets.{Assets, AreAssets}
+use Rattle.def_sane.specs.declared.Limits.{Limits}
+use Rattle.def_sane.specs.Limits.{AreLimits}
+use Rattle.def_sane.specs.Unfit.{IsValid, IsSane}
+use Rattle.def_satisfaction.specs.Setting.{any}
+use Rattle.def_satisfaction.specs.Rows.{EMPTY, ONE}
+use Rattle.def_satisfaction.specs.Satisfaction.{given_of, Sat, FullSat, FullDsat, Holds}
+use Rattle.def_satisfaction.specs.Samples.{pair_a, pair_b, preimage_1, preimage_2, preimage_3, hash_1, with_preimages, key_and_key_or_hashes, keys_and_preimages}
+use Rattle.def_choice.specs.Strict.{strict}
+use Rattle.def_choice.specs.NonMalleable.{IsAccepted, HasNewPair, Fresh, NonMalleable, given_with}
+use Rattle.def_promises.specs.Acceptance.{IsAcceptedWithin}
+use Rattle.def_promises.specs.Letters.{HasProperties, HashesCanBeMissed}
+
+-- `and_v(v:pk(B),or_i(pk(A),and_v(v:sha256(h1),and_v(v:sha256(h2),sha256(h3)))))`: by the key A and by the
+-- preimages
+abbrev pub by_key : List Bytes
+by_key = sig_a ∷ ONE ∷ sig_b ∷ []
+
+abbrev pub by_preimages : List Bytes
+by_preimages = preimage_3 ∷ preimage_2 ∷ preimage_1 ∷ EMPTY ∷ sig_b ∷ []
+
+abbrev pub limits : Limits
+limits = record { size = 190; ops = 17; items = 5; weight = 174 }
+
+-- of acceptance, with what is promised
+pub record AcceptanceIsMet : Type 0 where
+  pub writable : IsWritable key_and_key_or_hashes
+  pub valid : IsValid key_and_key_or_hashes
+  pub are_limits : AreLimits key_and_key_or_hashes limits
+  pub assets : AreAssets keys_and_preimages
+  pub holds : Holds keys_and_preimages.pairs keys_and_preimages
+  pub sat : Sat key_and_key_or_hashes keys_and_preimages by_preimages
+  pub full : FullSat key_and_key_or_hashes (given_of keys_and_preimages) any by_preimages
+  pub accepted : IsAcceptedWithin key_and_key_or_hashes limits (given_of keys_and_preimages) by_preimages
+
+-- of the strict choice: the miniscript is sane, there is a strict choice, and another stack is accepted,
+-- which passes a check more
+pub record StrictIsMet : Type 0 where
+  pub sane : IsSane key_and_key_or_hashes
+  pub chosen : strict key_and_key_or_hashes keys_and_preimages ≡ Some by_preimages
+  pub checks : Pairs
+  pub accepted : IsAccepted key_and_key_or_hashes (given_of keys_and_preimages) by_preimages checks
+  pub others : Pairs
+  pub other : IsAccepted key_and_key_or_hashes (given_of keys_and_preimages) by_key others
+  pub differs : by_key ≢ by_preimages
+  pub more : HasNewPair others checks
+
+-- that other stack can be changed: a stranger can put the preimages into it, and leave out a signature
+abbrev pub KeyCanBeChanged : Type 0
+KeyCanBeChanged =
+    Sat key_and_key_or_hashes keys_and_preimages by_key × ¬ NonMalleable key_and_key_or_hashes keys_and_preimages by_key
+
+-- of what is accepted where there is no choice: the preimages aren't held, and a stack with them is fresh
+abbrev pub only_key_b : Assets
+only_key_b = with_preimages [] (pair_b ∷ [])
+
+pub record NothingIsMet : Type 0 where
+  pub assets : AreAssets only_key_b
+  pub none : strict key_and_key_or_hashes only_key_b ≡ None
+  pub checks : Pairs
+  pub accepted : IsAccepted key_and_key_or_hashes (given_with only_key_b only_key_b.pairs) by_preimages checks
+  pub fresh : Fresh key_and_key_or_hashes only_key_b only_key_b.pairs by_preimages
+
+-- of the letters: `pk(A)` is Bonduse, and has a satisfaction and a dissatisfaction
+abbrev pub given_a : Given
+given_a = given_of (with_preimages [] (pair_a ∷ []))
+
+abbrev pub KeyHasLetters : Type 0
+KeyHasLetters =
+    HasProperties (pk key_a)
+    (record { base = B; z = false; o = true; n = true; d = true; u = true }) (record { s = true; f = false; e = true }) ×
+    FullSat (pk key_a) given_a any (sig_a ∷ []) × FullDsat (pk key_a) given_a any (EMPTY ∷ [])
+
+-- `1` is Bzuf
+abbrev pub OneHasLetters : Type 0
+OneHasLetters =
+    HasProperties just_1
+    (record { base = B; z = true; o = false; n = false; d = false; u = true }) (record { s = false; f = true; e = false }) ×
+    FullSat just_1 given_a any []
+
+-- 32 bytes that don't hash to the value of a hash
+abbrev pub HashIsMissed : Type 0
+HashIsMissed = HashesCanBeMissed (sha256 hash_1)

@@ -1,0 +1,22 @@
+//! Examples that meet what the promises presuppose.
+
+ghost use Rattle.def_promises.specs.Examples.{
+  AcceptanceIsMet,
+  StrictIsMet,
+  KeyCanBeChanged,
+  NothingIsMet,
+  KeyHasLetters,
+  OneHasLetters,
+  HashIsMissed,
+};
+
+/// What the promises presuppose is met.
+pub fn instances()
+    ensures acceptance { AcceptanceIsMet }
+    ensures strict { StrictIsMet }
+    ensures key_can_be_changed { KeyCanBeChanged }
+    ensures nothing { NothingIsMet }
+    ensures key_has_letters { KeyHasLetters }
+    ensures one_has_letters { OneHasLetters }
+    ensures hash_is_missed { HashIsMissed }
+{}
