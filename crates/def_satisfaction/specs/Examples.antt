@@ -48,28 +48,33 @@ TimeLock = Satisfies key_and_time (with_locktime 500000000 (pair_a ∷ [])) (sig
 
 -- a threshold by three preimages and a signature, and by two signatures
 abbrev pub ByPreimages : Type 0
-ByPreimages = Satisfies hashes_or_keys keys_and_preimages (EMPTY ∷ sig_a ∷ preimage_3 ∷ preimage_2 ∷ preimage_1 ∷ []) 172 23 7
+ByPreimages =
+    Satisfies hashes_or_keys keys_and_preimages (EMPTY ∷ sig_a ∷ preimage_3 ∷ preimage_2 ∷ preimage_1 ∷ []) 172 23 7
 
 abbrev pub BySignatures : Type 0
 BySignatures = Satisfies hashes_or_keys keys_and_preimages (sig_b ∷ sig_a ∷ EMPTY ∷ []) 146 23 4
 
 -- the right branch of an `or_i`, and the left one
 abbrev pub RightBranch : Type 0
-RightBranch = Satisfies key_and_key_or_hashes keys_and_preimages (preimage_3 ∷ preimage_2 ∷ preimage_1 ∷ EMPTY ∷ sig_b ∷ []) 173 17 6
+RightBranch =
+    Satisfies key_and_key_or_hashes keys_and_preimages (preimage_3 ∷ preimage_2 ∷ preimage_1 ∷ EMPTY ∷ sig_b ∷ []) 173 17 6
 
 abbrev pub LeftBranch : Type 0
 LeftBranch = Satisfies key_and_key_or_hashes keys_and_preimages (sig_a ∷ ONE ∷ sig_b ∷ []) 147 17 4
 
 -- a threshold with the lock met, and with the lock unmet
 abbrev pub LockMet : Type 0
-LockMet = Satisfies keys_or_lock (with_sequence 32 (pair_a ∷ pair_c ∷ [])) (EMPTY ∷ sig_c ∷ EMPTY ∷ sig_a ∷ []) 145 15 5
+LockMet =
+    Satisfies keys_or_lock (with_sequence 32 (pair_a ∷ pair_c ∷ [])) (EMPTY ∷ sig_c ∷ EMPTY ∷ sig_a ∷ []) 145 15 5
 
 abbrev pub LockUnmet : Type 0
-LockUnmet = Satisfies keys_or_lock (with_sequence 31 (pair_a ∷ pair_b ∷ pair_c ∷ [])) (ONE ∷ sig_c ∷ sig_b ∷ sig_a ∷ []) 218 15 5
+LockUnmet =
+    Satisfies keys_or_lock (with_sequence 31 (pair_a ∷ pair_b ∷ pair_c ∷ [])) (ONE ∷ sig_c ∷ sig_b ∷ sig_a ∷ []) 218 15 5
 
 -- 32 zero bytes as a preimage
 abbrev pub ZerosAsPreimage : Type 0
-ZerosAsPreimage = Satisfies zeros_or_key (with_preimages (preimage_0 ∷ []) (pair_a ∷ [])) (EMPTY ∷ preimage_0 ∷ []) 34 8 4
+ZerosAsPreimage =
+    Satisfies zeros_or_key (with_preimages (preimage_0 ∷ []) (pair_a ∷ [])) (EMPTY ∷ preimage_0 ∷ []) 34 8 4
 
 -- they don't dissatisfy that hash, so without the preimage there is no satisfaction
 abbrev pub ZerosAreNoMiss : Type 0

@@ -34,4 +34,5 @@ OnlyIsAny =
 -- no canonical dissatisfaction has a signature
 abbrev pub DsatNeedsNoSignature : Type 0
 DsatNeedsNoSignature =
-    (tree : Tree) (assets : Assets) (stack : List Bytes) → Dsat tree assets stack ↔ Dsat tree (unsigned assets) stack
+    (tree : Tree) (assets : Assets) (stack : List Bytes) →
+    Dsat tree assets stack ↔ Dsat tree (unsigned assets) stack

@@ -42,7 +42,7 @@ just_0_row = record { dsat = Nothing; sat = Never }
 abbrev pub just_1_row : Row
 just_1_row = record { dsat = Never; sat = Nothing }
 
--- a signature of the key: one that the table of signatures holds with it
+-- a signature of the key: a string that isn't empty and that the table holds with it
 abbrev pub Signature : Setting → Key → StackSet
 Signature s key = Item (λ sig. IsTrue (is_good s.given.table key sig))
 
@@ -50,10 +50,11 @@ Signature s key = Item (λ sig. IsTrue (is_good s.given.table key sig))
 abbrev pub pk_k_row : Setting → Key → Row
 pk_k_row s key = record { dsat = Is EMPTY; sat = Signature s key }
 
--- one of the keys with the hash of a key
+-- with one of the keys that have the hash of a key
 abbrev pub WithHashOf : Setting → Key → (Key → StackSet) → StackSet
 WithHashOf s key P stack =
-    (other : Key) × IsTrue (is_key other) × (hash160 other ≡ hash160 key) × CountsAsKey s.mode key other × P other stack
+    (other : Key) × IsTrue (is_key other) × (hash160 other ≡ hash160 key) ×
+    CountsAsKey s.mode key other × P other stack
 
 -- `pk_h(key)`
 abbrev pub pk_h_row : Setting → Key → Row
