@@ -1,10 +1,11 @@
 -- What the letters of a type mean (BIP 379: z, o, n, d, u of correctness; s, f, e of malleability), over all
 -- satisfactions and dissatisfactions. They hold of every miniscript that has a type, so of each node of a
 -- valid one.
-use Rattle.std.specs.Prelude.{◌≡◌, ℕ, ◌≤◌, ◌⊎◌, IsTrue, false, List, [], ◌∷◌, ◌++◌, length, reverse, Contains, Ok}
+use Rattle.std.specs.Prelude.{◌≡◌, ℕ, ◌≤◌, ◌⊎◌, IsTrue, false, List, [], ◌∷◌, ◌++◌, length, reverse, All, Contains, Ok}
 use Rattle.def_hash.specs.declared.HashKind.{HashKind}
 use Rattle.def_script.specs.Bytes.{Bytes}
 use Rattle.def_machine.specs.declared.Locks.{Locks}
+use Rattle.def_machine.specs.Limits.{MAX_SCRIPT_ELEMENT_SIZE}
 use Rattle.def_machine.specs.Stacks.{Stack, is_empty}
 use Rattle.def_machine.specs.Machine.{Given, State, is_live}
 use Rattle.def_tree.specs.Tree.{Tree, hash}
@@ -73,12 +74,14 @@ Dissatisfiable =
     HasType tree ty → IsTrue ty.d → HashesCanBeMissed tree →
     (stack : List Bytes) × FullDsat tree (without_signatures locks) mode stack
 
--- u, unit: a satisfaction leaves the byte 1 in its place, or the run stops at a limit
+-- u, unit: carried out from a stack that ends in a satisfaction, a miniscript of type B leaves the byte 1 in its
+-- place, or stops at a limit. No element of the satisfaction is too long, since no run starts with such a one
 abbrev pub UnitValue : Type 0
 UnitValue =
     (tree : Tree) (ty : Ty) (given : Given) (stack : List Bytes) (below : Stack) (s : State) (place : ℕ) →
     HasType tree ty → (ty.base ≡ B) → IsTrue ty.u →
-    FullSat tree given any stack → IsTrue (is_live s) → s.main ≡ reverse stack ++ below →
+    FullSat tree given any stack → All (λ item. length item ≤ MAX_SCRIPT_ELEMENT_SIZE) stack →
+    IsTrue (is_live s) → s.main ≡ reverse stack ++ below →
     StopFrom tree given s place ⊎ LeaveFrom tree given s place (ONE ∷ below)
 
 -- s, signed: every satisfaction needs a signature
