@@ -1,0 +1,10 @@
+-- What a proof unfolds so that a file that is written out computes.
+use Rattle.std.specs.Prelude.{⊤}
+use Rattle.std.specs.Str.{is_utf8, chars}
+use lib.Utf8.{encode}
+use Rattle.hex.specs.Hex.{decode_pairs, encode_with}
+use Rattle.serde_json.proofs.OnLiterals.{serde_json_on_literals}
+
+unfoldable pub files_on_literals : ⊤
+unfolding is_utf8 chars encode decode_pairs encode_with serde_json_on_literals
+files_on_literals = tt
