@@ -1,0 +1,104 @@
+-- The answer, computed: a text is read by the machine that reads tokens one after the other.
+use Rattle.std.proofs.Common.{◌≡◌, ◌≢◌, ◌≤◌, ℕ, Bool, true, false, nat_lt, if◌then◌else◌, List, [], ◌∷◌, Option, Some, None, length, refl, sym, subst, arith}
+use Rattle.std.specs.Prelude.{⊤}
+use Rattle.std.specs.Char.{is_ascii}
+use Rattle.std.specs.List.{list_all}
+use Rattle.std.specs.Str.{IsUtf8}
+use Rattle.std.proofs.lemmas.Bool.{ltb-true, ltb-false}
+use Rattle.def_script.specs.Bytes.{Bytes}
+use Rattle.def_tree.specs.Tree.{Tree}
+use Rattle.def_text.specs.declared.TextFault.TheVariants.{TooLong, Syntax, TooDeep, Memory}
+use Rattle.def_text.specs.Token.{tokens}
+use Rattle.def_text.specs.Refusal.{MOST_BYTES, TextRefusal, TextReads}
+use Rattle.def_text.specs.Reader.{START, Outcome, tree_outcome, syntax_outcome, deep_outcome, outcome}
+use Rattle.def_text.proofs.Completion.{ascii_is_utf8}
+use Rattle.def_text.proofs.Report.{Reports, report}
+use Rattle.def_sane.specs.declared.Unfit.{Unfit}
+use Rattle.def_sane.specs.Unfit.{first_unfit, first_unfit_valid}
+use Rattle.def_choice.specs.Cheapest.{cheapest}
+use Rattle.def_choice.specs.Strict.{strict}
+use Rattle.def_answer.specs.declared.status.Status.{Status}
+use Rattle.def_answer.specs.declared.status.Status.TheVariants as status
+use Rattle.def_answer.specs.Words.{Command, script, check, satisfy, satisfy_malleable, run, gen, command_of}
+use Rattle.def_answer.specs.Report.{script_report, check_report}
+use Rattle.def_answer.specs.Reading.{Reading, read, refused, HasReading}
+use Rattle.def_answer.specs.Reply.{Reply, reply, usage_reply, text_reply, satisfy_reply, run_reply}
+use Rattle.def_answer.specs.Answer.{gen_reply, RepliesToText, Replies, Answer}
+
+-- ---- texts
+
+abbrev pub reading_by : Outcome → Reading
+reading_by (tree_outcome tree offsets) = read tree offsets
+reading_by (syntax_outcome at) = refused (Syntax at)
+reading_by (deep_outcome at) = refused (TooDeep at)
+
+abbrev pub reading_of : (text : Bytes) → Reading
+reading_of text = if nat_lt MOST_BYTES (length text) then refused TooLong else reading_by (outcome START (tokens text))
+
+-- a text that isn't too long
+short_reading : (text : Bytes) (o : Outcome) → length text ≤ MOST_BYTES → Reports text o → HasReading text (reading_by o)
+short_reading text (tree_outcome tree offsets) short reports = record { short = short; spelled = reports.0; none_deep = reports.1 }
+short_reading text (syntax_outcome at) short reports = (λ q. cc q, (short, reports))
+short_reading text (deep_outcome at) short reports = (λ q. cc q, (short, reports))
+
+pub has_reading : (text : Bytes) → IsUtf8 text → HasReading text (reading_of text)
+has_reading text utf8 = go (nat_lt MOST_BYTES (length text)) refl
+  where
+    go : (b : Bool) → nat_lt MOST_BYTES (length text) ≡ b → HasReading text (if b then refused TooLong else reading_by (outcome START (tokens text)))
+    go true e = (λ q. cc q, ltb-true MOST_BYTES (length text) e)
+    go false e = short_reading text (outcome START (tokens text)) (ltb-false MOST_BYTES (length text) e) (report text utf8)
+
+-- ---- commands
+
+-- what holds of the text of a command
+abbrev pub OnText : (Bytes → Type 0) → Option Command → Type 0
+OnText P None = ⊤
+OnText P (Some (script text)) = P text
+OnText P (Some (check text)) = P text
+OnText P (Some (satisfy text)) = P text
+OnText P (Some (satisfy_malleable text)) = P text
+OnText P (Some run) = ⊤
+OnText P (Some (gen n)) = ⊤
+
+abbrev pub reply_to : Option Command → (source : Bytes) → Reply
+reply_to None source = usage_reply
+reply_to (Some (script text)) source = text_reply first_unfit_valid (λ tree. reply status.Done (script_report tree)) (reading_of text)
+reply_to (Some (check text)) source = text_reply first_unfit (λ tree. reply status.Done (check_report tree)) (reading_of text)
+reply_to (Some (satisfy text)) source = text_reply first_unfit (satisfy_reply strict source) (reading_of text)
+reply_to (Some (satisfy_malleable text)) source = text_reply first_unfit_valid (satisfy_reply cheapest source) (reading_of text)
+reply_to (Some run) source = run_reply source
+reply_to (Some (gen n)) source = gen_reply n
+
+pub replies_to : (command : Option Command) (source : Bytes) → OnText IsUtf8 command → Replies command source (reply_to command source)
+replies_to None source utf8 = refl
+replies_to (Some (script text)) source utf8 = (reading_of text, has_reading text utf8, refl)
+replies_to (Some (check text)) source utf8 = (reading_of text, has_reading text utf8, refl)
+replies_to (Some (satisfy text)) source utf8 = (reading_of text, has_reading text utf8, refl)
+replies_to (Some (satisfy_malleable text)) source utf8 = (reading_of text, has_reading text utf8, refl)
+replies_to (Some run) source utf8 = refl
+replies_to (Some (gen n)) source utf8 = refl
+
+-- ---- answers that are written out
+
+abbrev pub is_ascii_text : Option Command → Bool
+is_ascii_text None = true
+is_ascii_text (Some (script text)) = list_all is_ascii text
+is_ascii_text (Some (check text)) = list_all is_ascii text
+is_ascii_text (Some (satisfy text)) = list_all is_ascii text
+is_ascii_text (Some (satisfy_malleable text)) = list_all is_ascii text
+is_ascii_text (Some run) = true
+is_ascii_text (Some (gen n)) = true
+
+ascii_text : (command : Option Command) → is_ascii_text command ≡ true → OnText IsUtf8 command
+ascii_text None ascii = tt
+ascii_text (Some (script text)) ascii = ascii_is_utf8 text ascii
+ascii_text (Some (check text)) ascii = ascii_is_utf8 text ascii
+ascii_text (Some (satisfy text)) ascii = ascii_is_utf8 text ascii
+ascii_text (Some (satisfy_malleable text)) ascii = ascii_is_utf8 text ascii
+ascii_text (Some run) ascii = tt
+ascii_text (Some (gen n)) ascii = tt
+
+pub answered : {words : List Bytes} {source : Bytes} {status : Status} {report : Bytes} → is_ascii_text (command_of words) ≡ true
+    → reply_to (command_of words) source ≡ reply status report → Answer words source status report
+answered {words} {source} {status} {report} ascii same =
+    record { replies = subst (Replies (command_of words) source) same (replies_to (command_of words) source (ascii_text (command_of words) ascii)) }

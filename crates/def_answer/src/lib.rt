@@ -1,0 +1,7 @@
+//! Definitions of the program: its reports, and its answer to each list of words.
+#![tactic(auto)]
+
+mod examples;
+mod status;
+
+pub use status::Status;
