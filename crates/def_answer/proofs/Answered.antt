@@ -1,5 +1,5 @@
 -- The answer, computed: a text is read by the machine that reads tokens one after the other.
-use Rattle.std.proofs.Common.{◌≡◌, ◌≢◌, ◌≤◌, ℕ, Bool, true, false, nat_lt, if◌then◌else◌, List, [], ◌∷◌, Option, Some, None, length, refl, sym, subst, arith}
+use Rattle.std.proofs.Common.{◌≡◌, ◌≢◌, ◌≤◌, inl, inr, ℕ, Bool, true, false, nat_lt, if◌then◌else◌, List, [], ◌∷◌, Option, Some, None, length, refl, sym, subst, arith}
 use Rattle.std.specs.Prelude.{⊤}
 use Rattle.std.specs.Char.{is_ascii}
 use Rattle.std.specs.List.{list_all}
@@ -19,11 +19,12 @@ use Rattle.def_choice.specs.Cheapest.{cheapest}
 use Rattle.def_choice.specs.Strict.{strict}
 use Rattle.def_answer.specs.declared.status.Status.{Status}
 use Rattle.def_answer.specs.declared.status.Status.TheVariants as status
-use Rattle.def_answer.specs.Words.{Command, script, check, satisfy, satisfy_malleable, run, gen, command_of}
+use Rattle.def_answer.specs.Words.{Command, script, check, satisfy, satisfy_malleable, run, gen}
 use Rattle.def_answer.specs.Report.{script_report, check_report}
 use Rattle.def_answer.specs.Reading.{Reading, read, refused, HasReading}
 use Rattle.def_answer.specs.Reply.{Reply, reply, usage_reply, text_reply, satisfy_reply, run_reply}
-use Rattle.def_answer.specs.Answer.{gen_reply, RepliesToText, Replies, Answer}
+use Rattle.def_answer.proofs.Forms.{command_of, is_form, none_has_form}
+use Rattle.def_answer.specs.Answer.{gen_reply, Replies, RepliesToWords, Answer}
 
 -- ---- texts
 
@@ -51,54 +52,72 @@ has_reading text utf8 = go (nat_lt MOST_BYTES (length text)) refl
 -- ---- commands
 
 -- what holds of the text of a command
-abbrev pub OnText : (Bytes → Type 0) → Option Command → Type 0
-OnText P None = ⊤
-OnText P (Some (script text)) = P text
-OnText P (Some (check text)) = P text
-OnText P (Some (satisfy text)) = P text
-OnText P (Some (satisfy_malleable text)) = P text
-OnText P (Some run) = ⊤
-OnText P (Some (gen n)) = ⊤
+abbrev pub OnText : (Bytes → Type 0) → Command → Type 0
+OnText P (script text) = P text
+OnText P (check text) = P text
+OnText P (satisfy text) = P text
+OnText P (satisfy_malleable text) = P text
+OnText P run = ⊤
+OnText P (gen n) = ⊤
 
-abbrev pub reply_to : Option Command → (source : Bytes) → Reply
-reply_to None source = usage_reply
-reply_to (Some (script text)) source = text_reply first_unfit_valid (λ tree. reply status.Done (script_report tree)) (reading_of text)
-reply_to (Some (check text)) source = text_reply first_unfit (λ tree. reply status.Done (check_report tree)) (reading_of text)
-reply_to (Some (satisfy text)) source = text_reply first_unfit (satisfy_reply strict source) (reading_of text)
-reply_to (Some (satisfy_malleable text)) source = text_reply first_unfit_valid (satisfy_reply cheapest source) (reading_of text)
-reply_to (Some run) source = run_reply source
-reply_to (Some (gen n)) source = gen_reply n
+abbrev pub reply_to : (source : Bytes) → Command → Reply
+reply_to source (script text) = text_reply first_unfit_valid (λ tree. reply status.Done (script_report tree)) (reading_of text)
+reply_to source (check text) = text_reply first_unfit (λ tree. reply status.Done (check_report tree)) (reading_of text)
+reply_to source (satisfy text) = text_reply first_unfit (satisfy_reply strict source) (reading_of text)
+reply_to source (satisfy_malleable text) = text_reply first_unfit_valid (satisfy_reply cheapest source) (reading_of text)
+reply_to source run = run_reply source
+reply_to source (gen n) = gen_reply n
 
-pub replies_to : (command : Option Command) (source : Bytes) → OnText IsUtf8 command → Replies command source (reply_to command source)
-replies_to None source utf8 = refl
-replies_to (Some (script text)) source utf8 = (reading_of text, has_reading text utf8, refl)
-replies_to (Some (check text)) source utf8 = (reading_of text, has_reading text utf8, refl)
-replies_to (Some (satisfy text)) source utf8 = (reading_of text, has_reading text utf8, refl)
-replies_to (Some (satisfy_malleable text)) source utf8 = (reading_of text, has_reading text utf8, refl)
-replies_to (Some run) source utf8 = refl
-replies_to (Some (gen n)) source utf8 = refl
+replies_to : (command : Command) (source : Bytes) → OnText IsUtf8 command → Replies command source (reply_to source command)
+replies_to (script text) source utf8 = (reading_of text, has_reading text utf8, refl)
+replies_to (check text) source utf8 = (reading_of text, has_reading text utf8, refl)
+replies_to (satisfy text) source utf8 = (reading_of text, has_reading text utf8, refl)
+replies_to (satisfy_malleable text) source utf8 = (reading_of text, has_reading text utf8, refl)
+replies_to run source utf8 = refl
+replies_to (gen n) source utf8 = refl
+
+abbrev pub reply_to_words : (source : Bytes) → Option Command → Reply
+reply_to_words source None = usage_reply
+reply_to_words source (Some command) = reply_to source command
+
+abbrev pub OnWords : (Bytes → Type 0) → Option Command → Type 0
+OnWords P None = ⊤
+OnWords P (Some command) = OnText P command
+
+pub replies_to_words : (words : List Bytes) (source : Bytes) → OnWords IsUtf8 (command_of words) → RepliesToWords words source (reply_to_words source (command_of words))
+replies_to_words words source utf8 = go (command_of words) refl utf8
+  where
+    go : (o : Option Command) → command_of words ≡ o → OnWords IsUtf8 o → RepliesToWords words source (reply_to_words source o)
+    go None e utf8 = inr (none_has_form words e, refl)
+    go (Some command) e utf8 = inl (command, is_form words command e, replies_to command source utf8)
 
 -- ---- answers that are written out
 
-abbrev pub is_ascii_text : Option Command → Bool
-is_ascii_text None = true
-is_ascii_text (Some (script text)) = list_all is_ascii text
-is_ascii_text (Some (check text)) = list_all is_ascii text
-is_ascii_text (Some (satisfy text)) = list_all is_ascii text
-is_ascii_text (Some (satisfy_malleable text)) = list_all is_ascii text
-is_ascii_text (Some run) = true
-is_ascii_text (Some (gen n)) = true
+abbrev pub is_ascii_text : Command → Bool
+is_ascii_text (script text) = list_all is_ascii text
+is_ascii_text (check text) = list_all is_ascii text
+is_ascii_text (satisfy text) = list_all is_ascii text
+is_ascii_text (satisfy_malleable text) = list_all is_ascii text
+is_ascii_text run = true
+is_ascii_text (gen n) = true
 
-ascii_text : (command : Option Command) → is_ascii_text command ≡ true → OnText IsUtf8 command
-ascii_text None ascii = tt
-ascii_text (Some (script text)) ascii = ascii_is_utf8 text ascii
-ascii_text (Some (check text)) ascii = ascii_is_utf8 text ascii
-ascii_text (Some (satisfy text)) ascii = ascii_is_utf8 text ascii
-ascii_text (Some (satisfy_malleable text)) ascii = ascii_is_utf8 text ascii
-ascii_text (Some run) ascii = tt
-ascii_text (Some (gen n)) ascii = tt
+abbrev pub are_ascii_words : Option Command → Bool
+are_ascii_words None = true
+are_ascii_words (Some command) = is_ascii_text command
 
-pub answered : {words : List Bytes} {source : Bytes} {status : Status} {report : Bytes} → is_ascii_text (command_of words) ≡ true
-    → reply_to (command_of words) source ≡ reply status report → Answer words source status report
+ascii_text : (command : Command) → is_ascii_text command ≡ true → OnText IsUtf8 command
+ascii_text (script text) ascii = ascii_is_utf8 text ascii
+ascii_text (check text) ascii = ascii_is_utf8 text ascii
+ascii_text (satisfy text) ascii = ascii_is_utf8 text ascii
+ascii_text (satisfy_malleable text) ascii = ascii_is_utf8 text ascii
+ascii_text run ascii = tt
+ascii_text (gen n) ascii = tt
+
+ascii_words : (o : Option Command) → are_ascii_words o ≡ true → OnWords IsUtf8 o
+ascii_words None ascii = tt
+ascii_words (Some command) ascii = ascii_text command ascii
+
+pub answered : {words : List Bytes} {source : Bytes} {status : Status} {report : Bytes} → are_ascii_words (command_of words) ≡ true
+    → reply_to_words source (command_of words) ≡ reply status report → Answer words source status report
 answered {words} {source} {status} {report} ascii same =
-    record { replies = subst (Replies (command_of words) source) same (replies_to (command_of words) source (ascii_text (command_of words) ascii)) }
+    record { replies = subst (RepliesToWords words source) same (replies_to_words words source (ascii_words (command_of words) ascii)) }

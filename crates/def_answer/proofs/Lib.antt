@@ -1,3 +1,4 @@
+pub mod Forms
 pub mod Answered
 pub mod Computing
 pub mod TextRows

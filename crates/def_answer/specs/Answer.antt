@@ -1,6 +1,6 @@
 -- The program's answer: for each list of words and each content of the source a status and a report. The
 -- words come first, then the text, the reasons against its tree, the file, and the satisfaction or the run.
-use Rattle.std.specs.Prelude.{◌≡◌, ℕ, ◌++◌, List, [], Option, Some, None, unwrap_or}
+use Rattle.std.specs.Prelude.{◌≡◌, ◌⊎◌, ℕ, ◌++◌, List, [], Option, unwrap_or}
 use Rattle.def_script.specs.Bytes.{Bytes}
 use Rattle.def_tree.specs.Tree.{Tree}
 use Rattle.def_sane.specs.declared.Unfit.{Unfit}
@@ -10,7 +10,7 @@ use Rattle.def_choice.specs.Cheapest.{cheapest}
 use Rattle.def_choice.specs.Strict.{strict}
 use Rattle.def_answer.specs.declared.status.Status.{Status}
 use Rattle.def_answer.specs.declared.status.Status.TheVariants as status
-use Rattle.def_answer.specs.Words.{Command, script, check, satisfy, satisfy_malleable, run, gen, command_of}
+use Rattle.def_answer.specs.Words.{Command, script, check, satisfy, satisfy_malleable, run, gen, IsForm, HasNoForm}
 use Rattle.def_answer.specs.Lines.{limits_line}
 use Rattle.def_answer.specs.Report.{script_report, check_report, replay, children_line, strict_line, cheapest_line}
 use Rattle.def_answer.specs.Generated.{threshold_of, generated_tree, generated_assets}
@@ -35,16 +35,20 @@ gen_reply n =
 abbrev pub RepliesToText : (text : Bytes) → (first_reason : Tree → Option Unfit) → (next : Tree → Reply) → Reply → Type 0
 RepliesToText text first_reason next r = (reading : Reading) × HasReading text reading × (r ≡ text_reply first_reason next reading)
 
--- the reply to a command, or to words that have no form
-abbrev pub Replies : Option Command → (source : Bytes) → Reply → Type 0
-Replies None source r = r ≡ usage_reply
-Replies (Some (script text)) source r = RepliesToText text first_unfit_valid (λ tree. reply status.Done (script_report tree)) r
-Replies (Some (check text)) source r = RepliesToText text first_unfit (λ tree. reply status.Done (check_report tree)) r
-Replies (Some (satisfy text)) source r = RepliesToText text first_unfit (satisfy_reply strict source) r
-Replies (Some (satisfy_malleable text)) source r = RepliesToText text first_unfit_valid (satisfy_reply cheapest source) r
-Replies (Some run) source r = r ≡ run_reply source
-Replies (Some (gen n)) source r = r ≡ gen_reply n
+-- the reply to a command
+abbrev pub Replies : Command → (source : Bytes) → Reply → Type 0
+Replies (script text) source r = RepliesToText text first_unfit_valid (λ tree. reply status.Done (script_report tree)) r
+Replies (check text) source r = RepliesToText text first_unfit (λ tree. reply status.Done (check_report tree)) r
+Replies (satisfy text) source r = RepliesToText text first_unfit (satisfy_reply strict source) r
+Replies (satisfy_malleable text) source r = RepliesToText text first_unfit_valid (satisfy_reply cheapest source) r
+Replies run source r = r ≡ run_reply source
+Replies (gen n) source r = r ≡ gen_reply n
+
+-- the reply to words: to their command, or where they have no form
+abbrev pub RepliesToWords : (words : List Bytes) → (source : Bytes) → Reply → Type 0
+RepliesToWords words source r =
+    ((command : Command) × IsForm words command × Replies command source r) ⊎ (HasNoForm words × (r ≡ usage_reply))
 
 -- the words and the source have this answer
 pub record Answer (words : List Bytes) (source : Bytes) (status : Status) (report : Bytes) : Type 0 where
-  pub replies : Replies (command_of words) source (reply status report)
+  pub replies : RepliesToWords words source (reply status report)
