@@ -18,13 +18,11 @@ use Rattle.def_sane.specs.Unfit.{first_unfit, first_unfit_valid}
 use Rattle.def_choice.specs.Cheapest.{cheapest}
 use Rattle.def_choice.specs.Strict.{strict}
 use Rattle.def_answer.specs.declared.status.Status.{Status}
-use Rattle.def_answer.specs.declared.status.Status.TheVariants as status
 use Rattle.def_answer.specs.Words.{Command, script, check, satisfy, satisfy_malleable, run, gen}
-use Rattle.def_answer.specs.Report.{script_report, check_report}
 use Rattle.def_answer.specs.Reading.{Reading, read, refused, HasReading}
 use Rattle.def_answer.specs.Reply.{Reply, reply, usage_reply, text_reply, satisfy_reply, run_reply}
 use Rattle.def_answer.proofs.Forms.{command_of, is_form, none_has_form}
-use Rattle.def_answer.specs.Answer.{gen_reply, Replies, RepliesToWords, Answer}
+use Rattle.def_answer.specs.Answer.{script_reply, check_reply, gen_reply, Replies, RepliesToWords, Answer}
 
 -- ---- texts
 
@@ -61,8 +59,8 @@ OnText P run = ⊤
 OnText P (gen n) = ⊤
 
 abbrev pub reply_to : (source : Bytes) → Command → Reply
-reply_to source (script text) = text_reply first_unfit_valid (λ tree. reply status.Done (script_report tree)) (reading_of text)
-reply_to source (check text) = text_reply first_unfit (λ tree. reply status.Done (check_report tree)) (reading_of text)
+reply_to source (script text) = text_reply first_unfit_valid script_reply (reading_of text)
+reply_to source (check text) = text_reply first_unfit check_reply (reading_of text)
 reply_to source (satisfy text) = text_reply first_unfit (satisfy_reply strict source) (reading_of text)
 reply_to source (satisfy_malleable text) = text_reply first_unfit_valid (satisfy_reply cheapest source) (reading_of text)
 reply_to source run = run_reply source

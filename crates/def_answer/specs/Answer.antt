@@ -31,14 +31,20 @@ gen_reply n =
     reply status.Done (gen_report n (unwrap_or (strict (generated_tree n) (generated_assets n)) [])
     (unwrap_or (cheapest (generated_tree n) (generated_assets n)) []))
 
+abbrev pub script_reply : Tree → Reply
+script_reply tree = reply status.Done (script_report tree)
+
+abbrev pub check_reply : Tree → Reply
+check_reply tree = reply status.Done (check_report tree)
+
 -- the reply to a text, by its reading
 abbrev pub RepliesToText : (text : Bytes) → (first_reason : Tree → Option Unfit) → (next : Tree → Reply) → Reply → Type 0
 RepliesToText text first_reason next r = (reading : Reading) × HasReading text reading × (r ≡ text_reply first_reason next reading)
 
 -- the reply to a command
 abbrev pub Replies : Command → (source : Bytes) → Reply → Type 0
-Replies (script text) source r = RepliesToText text first_unfit_valid (λ tree. reply status.Done (script_report tree)) r
-Replies (check text) source r = RepliesToText text first_unfit (λ tree. reply status.Done (check_report tree)) r
+Replies (script text) source r = RepliesToText text first_unfit_valid script_reply r
+Replies (check text) source r = RepliesToText text first_unfit check_reply r
 Replies (satisfy text) source r = RepliesToText text first_unfit (satisfy_reply strict source) r
 Replies (satisfy_malleable text) source r = RepliesToText text first_unfit_valid (satisfy_reply cheapest source) r
 Replies run source r = r ≡ run_reply source

@@ -8,6 +8,7 @@ pub mod Generated
 pub mod Reading
 pub mod Reply
 pub mod Answer
+pub mod Laws
 pub mod Samples
 pub mod TextExamples
 pub mod SatisfyExamples

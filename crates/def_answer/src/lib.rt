@@ -2,6 +2,7 @@
 #![tactic(auto)]
 
 mod examples;
+mod laws;
 mod status;
 
 pub use status::Status;
