@@ -1,7 +1,8 @@
 -- Answers to `run`, each computed.
 use Rattle.std.proofs.Common.{refl}
-use Rattle.def_answer.specs.RunExamples.{AcceptedRuns, AcceptedSignature, FaultLines, NullDummyLine, LimitLines, RefusedRunFiles}
+use Rattle.def_answer.specs.RunExamples.{AcceptedRuns, AcceptedSignature, FaultLines, NullDummyLine, LimitLines, RefusedRunFiles, RunFileTooLong}
 use Rattle.def_answer.proofs.Answered.{answered}
+use Rattle.def_answer.proofs.Early.{long_run_file}
 use Rattle.def_answer.proofs.Computing.{answers_on_literals}
 
 pub accepted_runs : AcceptedRuns
@@ -27,3 +28,7 @@ limit_lines = (answered refl refl, answered refl refl, answered refl refl, answe
 pub refused_run_files : RefusedRunFiles
 unfolding answers_on_literals
 refused_run_files = (answered refl refl, answered refl refl, answered refl refl)
+
+pub run_file_too_long : RunFileTooLong
+unfolding answers_on_literals
+run_file_too_long = λ source long. answered refl (long_run_file source long)

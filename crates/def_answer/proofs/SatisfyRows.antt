@@ -1,7 +1,11 @@
 -- Answers to `satisfy TEXT` and `satisfy --malleable TEXT`, each computed.
 use Rattle.std.proofs.Common.{refl}
-use Rattle.def_answer.specs.SatisfyExamples.{TwoOfThree, LateKey, TooEarly, VoidLock, TimeLock, NoTime, StrictThreshold, CheapestThreshold, StrictEither, CheapestEither, LockInThreshold, LockTooEarly, ZerosAsPreimage, ZerosUnknown, TextsFirst, ZeroHasNone, RefusedFiles}
+use Rattle.def_machine.specs.Samples.{key_a}
+use Rattle.def_types.specs.Samples.{pk}
+use Rattle.def_choice.specs.Strict.{strict}
+use Rattle.def_answer.specs.SatisfyExamples.{TwoOfThree, LateKey, TooEarly, VoidLock, TimeLock, NoTime, StrictThreshold, CheapestThreshold, StrictEither, CheapestEither, LockInThreshold, LockTooEarly, ZerosAsPreimage, ZerosUnknown, TextsFirst, ZeroHasNone, RefusedFiles, FileTooLong}
 use Rattle.def_answer.proofs.Answered.{answered}
+use Rattle.def_answer.proofs.Early.{long_asset_file}
 use Rattle.def_answer.proofs.Computing.{answers_on_literals}
 
 pub two_of_three : TwoOfThree
@@ -71,3 +75,7 @@ zero_has_none = (answered refl refl, answered refl refl)
 pub refused_files : RefusedFiles
 unfolding answers_on_literals
 refused_files = (answered refl refl, answered refl refl, answered refl refl, answered refl refl, answered refl refl, answered refl refl)
+
+pub file_too_long : FileTooLong
+unfolding answers_on_literals
+file_too_long = λ source long. answered refl (long_asset_file strict source (pk key_a) long)

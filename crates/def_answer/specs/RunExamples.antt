@@ -1,8 +1,9 @@
 -- Answers to `run`.
-use Rattle.std.specs.Prelude.{List, [], ◌∷◌, ◌++◌, codes}
+use Rattle.std.specs.Prelude.{◌<◌, length, List, [], ◌∷◌, ◌++◌, codes}
 use Rattle.def_script.specs.Bytes.{Bytes}
 use Rattle.def_answer.specs.declared.status.Status.{Status}
 use Rattle.def_answer.specs.declared.status.Status.TheVariants as status
+use Rattle.def_answer.specs.Reply.{MOST_FILE}
 use Rattle.def_answer.specs.Answer.{Answer}
 use Rattle.def_answer.specs.Samples.{A, SIG_A, file, number, signature, signatures, strings, nothing, times, lines}
 
@@ -73,3 +74,8 @@ RefusedRunFiles =
     Answer (codes "run" ∷ []) (codes "{}") status.FileRefused (codes "refused file Shape script\n")
     × Answer (codes "run" ∷ []) (codes "{\"script\":\"5\"}") status.FileRefused (codes "refused file Hex script 0\n")
     × Answer (codes "run" ∷ []) (codes "{\"signatures\":0}") status.FileRefused (codes "refused file Shape signatures\n")
+
+-- over 1,048,576 bytes, whatever they are
+abbrev pub RunFileTooLong : Type 0
+RunFileTooLong =
+    (source : Bytes) → MOST_FILE < length source → Answer (codes "run" ∷ []) source status.FileRefused (codes "refused file TooLong\n")

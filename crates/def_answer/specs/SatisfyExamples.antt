@@ -1,8 +1,9 @@
 -- Answers to `satisfy TEXT` and `satisfy --malleable TEXT`.
-use Rattle.std.specs.Prelude.{List, [], ◌∷◌, ◌++◌, codes}
+use Rattle.std.specs.Prelude.{◌<◌, length, List, [], ◌∷◌, ◌++◌, codes}
 use Rattle.def_script.specs.Bytes.{Bytes}
 use Rattle.def_answer.specs.declared.status.Status.{Status}
 use Rattle.def_answer.specs.declared.status.Status.TheVariants as status
+use Rattle.def_answer.specs.Reply.{MOST_FILE}
 use Rattle.def_answer.specs.Answer.{Answer}
 use Rattle.def_answer.specs.Samples.{A, B, C, SIG_A, SIG_B, SIG_C, P0, P1, P2, P3, H0, H1, H2, H3, pk, sha, file, number, signature, signatures, strings, nothing, lines, known}
 
@@ -252,3 +253,7 @@ RefusedFiles =
     × RefusesFile (codes "{\"sequence\":4294967296}") (codes "Number sequence")
     × RefusesFile (file (signatures (sig_a ∷ sig_a ∷ []) ∷ [])) (codes "RepeatedKey 1")
     × RefusesFile (file (signatures (signature A (SIG_A ++ codes "aaaaaa") ∷ []) ∷ [])) (codes "SigLength 0")
+
+-- over 1,048,576 bytes, whatever they are
+abbrev pub FileTooLong : Type 0
+FileTooLong = (source : Bytes) → MOST_FILE < length source → RefusesFile source (codes "TooLong")

@@ -32,6 +32,7 @@ ghost use Rattle.def_answer.specs.SatisfyExamples.{
   TextsFirst,
   ZeroHasNone,
   RefusedFiles,
+  FileTooLong,
 };
 ghost use Rattle.def_answer.specs.RunExamples.{
   AcceptedRuns,
@@ -40,6 +41,7 @@ ghost use Rattle.def_answer.specs.RunExamples.{
   NullDummyLine,
   LimitLines,
   RefusedRunFiles,
+  RunFileTooLong,
 };
 ghost use Rattle.def_answer.specs.GenExamples.{
   GenOne,
@@ -81,6 +83,7 @@ pub fn satisfactions()
     ensures texts_first { TextsFirst }
     ensures zero_has_none { ZeroHasNone }
     ensures refused_files { RefusedFiles }
+    ensures file_too_long { FileTooLong }
 {}
 
 /// Answers to `run`.
@@ -91,6 +94,7 @@ pub fn runs()
     ensures null_dummy_line { NullDummyLine }
     ensures limit_lines { LimitLines }
     ensures refused_run_files { RefusedRunFiles }
+    ensures run_file_too_long { RunFileTooLong }
 {}
 
 /// Answers to `gen N`.

@@ -1,5 +1,5 @@
 use Rattle.def_answer.proofs.examples.runs.Goals as goal
-use Rattle.def_answer.proofs.RunRows.{accepted_runs, accepted_signature, fault_lines, null_dummy_line, limit_lines, refused_run_files}
+use Rattle.def_answer.proofs.RunRows.{accepted_runs, accepted_signature, fault_lines, null_dummy_line, limit_lines, refused_run_files, run_file_too_long}
 
 pub returns-clause-accepted_runs : goal.returns-clause-accepted_runs
 returns-clause-accepted_runs c = accepted_runs
@@ -18,3 +18,6 @@ returns-clause-limit_lines c = limit_lines
 
 pub returns-clause-refused_run_files : goal.returns-clause-refused_run_files
 returns-clause-refused_run_files c = refused_run_files
+
+pub returns-clause-run_file_too_long : goal.returns-clause-run_file_too_long
+returns-clause-run_file_too_long c = run_file_too_long

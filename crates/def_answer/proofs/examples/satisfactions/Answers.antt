@@ -1,5 +1,5 @@
 use Rattle.def_answer.proofs.examples.satisfactions.Goals as goal
-use Rattle.def_answer.proofs.SatisfyRows.{two_of_three, late_key, too_early, void_lock, time_lock, no_time, strict_threshold, cheapest_threshold, strict_either, cheapest_either, lock_in_threshold, lock_too_early, zeros_as_preimage, zeros_unknown, texts_first, zero_has_none, refused_files}
+use Rattle.def_answer.proofs.SatisfyRows.{two_of_three, late_key, too_early, void_lock, time_lock, no_time, strict_threshold, cheapest_threshold, strict_either, cheapest_either, lock_in_threshold, lock_too_early, zeros_as_preimage, zeros_unknown, texts_first, zero_has_none, refused_files, file_too_long}
 
 pub returns-clause-two_of_three : goal.returns-clause-two_of_three
 returns-clause-two_of_three c = two_of_three
@@ -51,3 +51,6 @@ returns-clause-zero_has_none c = zero_has_none
 
 pub returns-clause-refused_files : goal.returns-clause-refused_files
 returns-clause-refused_files c = refused_files
+
+pub returns-clause-file_too_long : goal.returns-clause-file_too_long
+returns-clause-file_too_long c = file_too_long
