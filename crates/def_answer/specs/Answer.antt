@@ -38,8 +38,10 @@ abbrev pub check_reply : Tree → Reply
 check_reply tree = reply status.Done (check_report tree)
 
 -- the reply to a text, by its reading
-abbrev pub RepliesToText : (text : Bytes) → (first_reason : Tree → Option Unfit) → (next : Tree → Reply) → Reply → Type 0
-RepliesToText text first_reason next r = (reading : Reading) × HasReading text reading × (r ≡ text_reply first_reason next reading)
+abbrev pub RepliesToText : (text : Bytes) → (first_reason : Tree → Option Unfit) → (next : Tree → Reply) → Reply →
+    Type 0
+RepliesToText text first_reason next r =
+    (reading : Reading) × HasReading text reading × (r ≡ text_reply first_reason next reading)
 
 -- the reply to a command
 abbrev pub Replies : Command → (source : Bytes) → Reply → Type 0

@@ -31,7 +31,8 @@ OneAnswer =
     Answer words source s p → Answer words source t q → (s ≡ t) × (p ≡ q)
 
 abbrev pub SomeAnswer : Type 0
-SomeAnswer = (words : List Bytes) (source : Bytes) → All IsUtf8 words → (s : Status) × (p : Bytes) × Answer words source s p
+SomeAnswer =
+    (words : List Bytes) (source : Bytes) → All IsUtf8 words → (s : Status) × (p : Bytes) × Answer words source s p
 
 -- the statuses that answers have; the others come of faults and want of memory alone
 abbrev pub IsAnswered : Status → Type 0
@@ -46,7 +47,8 @@ IsAnswered status.Memory = ⊥
 IsAnswered status.ScriptRefused = ⊤
 
 abbrev pub AnswersHaveStatus : Type 0
-AnswersHaveStatus = (words : List Bytes) (source : Bytes) (s : Status) (p : Bytes) → Answer words source s p → IsAnswered s
+AnswersHaveStatus =
+    (words : List Bytes) (source : Bytes) (s : Status) (p : Bytes) → Answer words source s p → IsAnswered s
 
 -- ---- what needs no source
 
@@ -62,7 +64,8 @@ NeedsNoSource (gen n) = ⊤
 -- its answer is the same with every source
 abbrev pub AnswerWithoutSource : Type 0
 AnswerWithoutSource =
-    (words : List Bytes) (source other : Bytes) (c : Command) (s : Status) (p : Bytes) → IsForm words c → NeedsNoSource c →
+    (words : List Bytes) (source other : Bytes) (c : Command) (s : Status) (p : Bytes) → IsForm words c →
+    NeedsNoSource c →
     Answer words source s p → Answer words other s p
 
 -- so is one to words or to a text alone
@@ -71,7 +74,8 @@ IsEarly s = (s ≡ status.Usage) ⊎ (s ≡ status.TextRefused)
 
 abbrev pub EarlyAnswer : Type 0
 EarlyAnswer =
-    (words : List Bytes) (source other : Bytes) (s : Status) (p : Bytes) → IsEarly s → Answer words source s p → Answer words other s p
+    (words : List Bytes) (source other : Bytes) (s : Status) (p : Bytes) → IsEarly s → Answer words source s p →
+    Answer words other s p
 
 -- a file that is too long is refused, whatever it says
 abbrev pub LongAssetFile : Type 0
@@ -80,7 +84,8 @@ LongAssetFile =
     satisfy_reply choice source tree ≡ reply status.FileRefused file_too_long_line
 
 abbrev pub LongRunFile : Type 0
-LongRunFile = (source : Bytes) → MOST_FILE < length source → run_reply source ≡ reply status.FileRefused file_too_long_line
+LongRunFile =
+    (source : Bytes) → MOST_FILE < length source → run_reply source ≡ reply status.FileRefused file_too_long_line
 
 -- ---- what is generated
 

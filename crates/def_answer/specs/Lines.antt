@@ -54,12 +54,14 @@ abbrev pub offset_of : (offsets : List ℕ) → (node : ℕ) → Bytes
 offset_of offsets node = decimal (slice_index offsets node)
 
 abbrev pub unfit_line : (offsets : List ℕ) → Unfit → Bytes
-unfit_line offsets (unfit.Rule at) = line (codes "refused text Rule " ++ rule_name at.rule ++ codes " at " ++ offset_of offsets at.node)
+unfit_line offsets (unfit.Rule at) =
+    line (codes "refused text Rule " ++ rule_name at.rule ++ codes " at " ++ offset_of offsets at.node)
 unfit_line offsets unfit.TopNotB = line (codes "refused text TopNotB")
 unfit_line offsets (unfit.Size n) = line (codes "refused text Size " ++ decimal n)
 unfit_line offsets (unfit.Ops n) = line (codes "refused text Ops " ++ decimal n)
 unfit_line offsets (unfit.Items n) = line (codes "refused text Items " ++ decimal n)
-unfit_line offsets (unfit.Malleable at) = line (codes "refused text Malleable " ++ rule_name at.rule ++ codes " at " ++ offset_of offsets at.node)
+unfit_line offsets (unfit.Malleable at) =
+    line (codes "refused text Malleable " ++ rule_name at.rule ++ codes " at " ++ offset_of offsets at.node)
 unfit_line offsets unfit.NoSignature = line (codes "refused text NoSignature")
 unfit_line offsets (unfit.MixedLocks node) = line (codes "refused text MixedLocks at " ++ offset_of offsets node)
 unfit_line offsets (unfit.RepeatedKey node) = line (codes "refused text RepeatedKey at " ++ offset_of offsets node)
@@ -82,4 +84,5 @@ file_line file_fault.Memory = []
 
 -- of a script, at the instruction of this number
 abbrev pub script_refused_line : ScriptFault → (place : ℕ) → Bytes
-script_refused_line fault place = line (codes "refused script " ++ script_fault_name fault ++ codes " at " ++ decimal place)
+script_refused_line fault place =
+    line (codes "refused script " ++ script_fault_name fault ++ codes " at " ++ decimal place)

@@ -48,7 +48,8 @@ unless_refused next (Ok file) = next file
 unless_refused next (Err fault) = reply status.FileRefused (file_line fault)
 
 -- the refusal of a file, or else what comes next
-abbrev pub file_reply : {A : Type 0} → (file_of : Bytes → Result A AssetFault) → (next : A → Reply) → (source : Bytes) → Reply
+abbrev pub file_reply : {A : Type 0} → (file_of : Bytes → Result A AssetFault) → (next : A → Reply) →
+    (source : Bytes) → Reply
 file_reply file_of next source =
     if nat_lt MOST_FILE (length source) then reply status.FileRefused file_too_long_line
     else unless_refused next (file_of source)
@@ -61,7 +62,8 @@ chosen_reply tree assets None = reply status.NoSatisfaction no_satisfaction_line
 chosen_reply tree assets (Some stack) = reply status.Done (satisfy_report tree assets stack)
 
 abbrev pub satisfy_reply : (choice : Tree → Assets → Option (List Bytes)) → (source : Bytes) → Tree → Reply
-satisfy_reply choice source tree = file_reply assets_of (λ assets. chosen_reply tree assets (choice tree assets)) source
+satisfy_reply choice source tree =
+    file_reply assets_of (λ assets. chosen_reply tree assets (choice tree assets)) source
 
 abbrev pub outcome_reply : Outcome → Reply
 outcome_reply (accepted ops peak checks) = reply status.Done (run_report (accepted ops peak checks))

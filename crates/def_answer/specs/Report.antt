@@ -31,7 +31,8 @@ letter holds name = if holds then name else []
 -- the base type, and then the letters of the properties that hold
 abbrev pub type_letters : Ty → Mall → Bytes
 type_letters ty mall =
-    base_letter ty.base ++ letter ty.z (codes "z") ++ letter ty.o (codes "o") ++ letter ty.n (codes "n") ++ letter ty.d (codes "d")
+    base_letter ty.base ++ letter ty.z (codes "z") ++ letter ty.o (codes "o") ++ letter ty.n (codes "n")
+    ++ letter ty.d (codes "d")
     ++ letter ty.u (codes "u") ++ letter mall.s (codes "s") ++ letter mall.f (codes "f") ++ letter mall.e (codes "e")
 
 abbrev pub check_report : Tree → Bytes
@@ -97,7 +98,8 @@ run_report (refused fault place) = script_refused_line fault place
 -- ---- gen
 
 abbrev pub children_line : (children threshold : ℕ) → Bytes
-children_line children threshold = line (codes "children " ++ decimal children ++ codes " threshold " ++ decimal threshold)
+children_line children threshold =
+    line (codes "children " ++ decimal children ++ codes " threshold " ++ decimal threshold)
 
 abbrev pub strict_line : (stack : List Bytes) → Outcome → Bytes
 strict_line stack outcome =
@@ -105,4 +107,5 @@ strict_line stack outcome =
     ++ codes " peak " ++ decimal (peak_of outcome))
 
 abbrev pub cheapest_line : (stack : List Bytes) → Bytes
-cheapest_line stack = line (codes "cheapest items " ++ decimal (length stack) ++ codes " weight " ++ decimal (weight stack))
+cheapest_line stack =
+    line (codes "cheapest items " ++ decimal (length stack) ++ codes " weight " ++ decimal (weight stack))

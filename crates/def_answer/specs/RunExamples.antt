@@ -21,7 +21,8 @@ abbrev pub Accepts : (members : List Bytes) → (report : List Bytes) → Type 0
 Accepts members report = Answer (codes "run" ∷ []) (file members) status.Done (lines report)
 
 abbrev pub Faults : (members : List Bytes) → (fault : Bytes) → Type 0
-Faults members fault = Answer (codes "run" ∷ []) (file members) status.ScriptRefused (lines ((codes "refused script " ++ fault) ∷ []))
+Faults members fault =
+    Answer (codes "run" ∷ []) (file members) status.ScriptRefused (lines ((codes "refused script " ++ fault) ∷ []))
 
 abbrev pub AcceptedRuns : Type 0
 AcceptedRuns =
@@ -57,7 +58,8 @@ FaultLines =
 
 abbrev pub NullDummyLine : Type 0
 NullDummyLine =
-    Faults (script (codes "5121" ++ A ++ codes "51ae") ∷ witness (codes "01" ∷ SIG_A ∷ []) ∷ signatures (signature A SIG_A ∷ []) ∷ [])
+    Faults (script (codes "5121" ++ A ++ codes "51ae") ∷ witness (codes "01" ∷ SIG_A ∷ [])
+    ∷ signatures (signature A SIG_A ∷ []) ∷ [])
     (codes "NullDummy at 3")
 
 -- 10,001 bytes; an element of 521 bytes; 202 opcodes; 1,001 elements
@@ -73,9 +75,11 @@ abbrev pub RefusedRunFiles : Type 0
 RefusedRunFiles =
     Answer (codes "run" ∷ []) (codes "{}") status.FileRefused (codes "refused file Shape script\n")
     × Answer (codes "run" ∷ []) (codes "{\"script\":\"5\"}") status.FileRefused (codes "refused file Hex script 0\n")
-    × Answer (codes "run" ∷ []) (codes "{\"signatures\":0}") status.FileRefused (codes "refused file Shape signatures\n")
+    × Answer (codes "run"
+    ∷ []) (codes "{\"signatures\":0}") status.FileRefused (codes "refused file Shape signatures\n")
 
 -- over 1,048,576 bytes, whatever they are
 abbrev pub RunFileTooLong : Type 0
 RunFileTooLong =
-    (source : Bytes) → MOST_FILE < length source → Answer (codes "run" ∷ []) source status.FileRefused (codes "refused file TooLong\n")
+    (source : Bytes) → MOST_FILE < length source → Answer (codes "run"
+    ∷ []) source status.FileRefused (codes "refused file TooLong\n")

@@ -12,11 +12,13 @@ abbrev pub Satisfies : (text : Bytes) → (members : List Bytes) → (report : L
 Satisfies text members report = Answer (codes "satisfy" ∷ text ∷ []) (file members) status.Done (lines report)
 
 abbrev pub Cheapest : (text : Bytes) → (members : List Bytes) → (report : List Bytes) → Type 0
-Cheapest text members report = Answer (codes "satisfy" ∷ codes "--malleable" ∷ text ∷ []) (file members) status.Done (lines report)
+Cheapest text members report =
+    Answer (codes "satisfy" ∷ codes "--malleable" ∷ text ∷ []) (file members) status.Done (lines report)
 
 -- there is none
 abbrev pub NoneSatisfies : (text : Bytes) → (members : List Bytes) → Type 0
-NoneSatisfies text members = Answer (codes "satisfy" ∷ text ∷ []) (file members) status.NoSatisfaction (codes "no satisfaction\n")
+NoneSatisfies text members =
+    Answer (codes "satisfy" ∷ text ∷ []) (file members) status.NoSatisfaction (codes "no satisfaction\n")
 
 abbrev pub sig_a : Bytes
 sig_a = signature A SIG_A
@@ -35,7 +37,8 @@ multi_script = codes "5221" ++ A ++ codes "21" ++ B ++ codes "21" ++ C ++ codes 
 
 abbrev pub TwoOfThree : Type 0
 TwoOfThree =
-    Satisfies (codes "multi(2," ++ A ++ codes "," ++ B ++ codes "," ++ C ++ codes ")") (signatures (sig_c ∷ sig_b ∷ sig_a ∷ []) ∷ []) (
+    Satisfies (codes "multi(2," ++ A ++ codes "," ++ B ++ codes "," ++ C ++ codes ")") (signatures (sig_c ∷ sig_b
+    ∷ sig_a ∷ []) ∷ []) (
     known multi_script (codes "size 105 ops 4 items 3 weight 149")
     ++ codes "item -"
     ∷ (codes "item " ++ SIG_A)
@@ -69,7 +72,8 @@ abbrev pub TooEarly : Type 0
 TooEarly =
     NoneSatisfies late_text (number (codes "sequence") 143 ∷ signatures (sig_b ∷ []) ∷ [])
     × NoneSatisfies late_text (number (codes "sequence") 4194448 ∷ signatures (sig_b ∷ []) ∷ [])
-    × NoneSatisfies late_text (number (codes "sequence") 144 ∷ number (codes "version") 1 ∷ signatures (sig_b ∷ []) ∷ [])
+    × NoneSatisfies late_text (number (codes "sequence") 144 ∷ number (codes "version") 1 ∷ signatures (sig_b
+    ∷ []) ∷ [])
 
 -- `and_v(v:pk(A),older(65536))`: the operand is 0 under the mask
 abbrev pub void_script : Bytes
@@ -77,7 +81,8 @@ void_script = codes "21" ++ A ++ codes "ad03000001b2"
 
 abbrev pub VoidLock : Type 0
 VoidLock =
-    Satisfies (codes "and_v(v:" ++ pk A ++ codes ",older(65536))") (number (codes "sequence") 0 ∷ signatures (sig_a ∷ []) ∷ []) (
+    Satisfies (codes "and_v(v:" ++ pk A ++ codes ",older(65536))") (number (codes "sequence") 0
+    ∷ signatures (sig_a ∷ []) ∷ []) (
     known void_script (codes "size 40 ops 2 items 1 weight 74")
     ++ (codes "item " ++ SIG_A)
     ∷ (codes "witness 0247" ++ SIG_A ++ codes "28" ++ void_script)
@@ -104,15 +109,18 @@ TimeLock =
 abbrev pub NoTime : Type 0
 NoTime =
     NoneSatisfies time_text (number (codes "locktime") 499999999 ∷ signatures (sig_a ∷ []) ∷ [])
-    × NoneSatisfies time_text (number (codes "locktime") 500000000 ∷ number (codes "sequence") 4294967295 ∷ signatures (sig_a ∷ []) ∷ [])
-    × NoneSatisfies (codes "and_v(v:" ++ pk A ++ codes ",after(499999999))") (number (codes "locktime") 500000000 ∷ signatures (sig_a ∷ []) ∷ [])
+    × NoneSatisfies time_text (number (codes "locktime") 500000000 ∷ number (codes "sequence") 4294967295
+    ∷ signatures (sig_a ∷ []) ∷ [])
+    × NoneSatisfies (codes "and_v(v:" ++ pk A ++ codes ",after(499999999))") (number (codes "locktime") 500000000
+    ∷ signatures (sig_a ∷ []) ∷ [])
 
 -- ---- thresholds
 
 -- `thresh(2,j:and_v(v:sha256(h1),and_v(v:sha256(h2),and_v(v:sha256(h3),1))),s:pk(A),s:pk(B))`
 abbrev pub hashes_text : Bytes
 hashes_text =
-    codes "thresh(2,j:and_v(v:" ++ sha H1 ++ codes ",and_v(v:" ++ sha H2 ++ codes ",and_v(v:" ++ sha H3 ++ codes ",1))),s:" ++ pk A
+    codes "thresh(2,j:and_v(v:" ++ sha H1 ++ codes ",and_v(v:" ++ sha H2 ++ codes ",and_v(v:" ++ sha H3
+    ++ codes ",1))),s:" ++ pk A
     ++ codes ",s:" ++ pk B ++ codes ")"
 
 abbrev pub hash_script : (value : Bytes) → Bytes
@@ -120,7 +128,8 @@ hash_script value = codes "82012088a820" ++ value ++ codes "88"
 
 abbrev pub hashes_script : Bytes
 hashes_script =
-    codes "829263" ++ hash_script H1 ++ hash_script H2 ++ hash_script H3 ++ codes "51687c21" ++ A ++ codes "ac937c21" ++ B
+    codes "829263" ++ hash_script H1 ++ hash_script H2 ++ hash_script H3 ++ codes "51687c21" ++ A
+    ++ codes "ac937c21" ++ B
     ++ codes "ac935287"
 
 abbrev pub three_preimages : List Bytes
@@ -136,7 +145,8 @@ StrictThreshold =
     ∷ (codes "item " ++ P3)
     ∷ (codes "item " ++ P2)
     ∷ (codes "item " ++ P1)
-    ∷ (codes "witness 060047" ++ SIG_A ++ codes "20" ++ P3 ++ codes "20" ++ P2 ++ codes "20" ++ P1 ++ codes "c6" ++ hashes_script)
+    ∷ (codes "witness 060047" ++ SIG_A ++ codes "20" ++ P3 ++ codes "20" ++ P2 ++ codes "20" ++ P1 ++ codes "c6"
+    ++ hashes_script)
     ∷ codes "replay ops 23 items 5 weight 172 peak 7"
     ∷ [])
 
@@ -154,12 +164,14 @@ CheapestThreshold =
 -- `and_v(v:pk(B),or_i(pk(A),and_v(v:sha256(h1),and_v(v:sha256(h2),sha256(h3)))))`
 abbrev pub either_text : Bytes
 either_text =
-    codes "and_v(v:" ++ pk B ++ codes ",or_i(" ++ pk A ++ codes ",and_v(v:" ++ sha H1 ++ codes ",and_v(v:" ++ sha H2 ++ codes "," ++ sha H3
+    codes "and_v(v:" ++ pk B ++ codes ",or_i(" ++ pk A ++ codes ",and_v(v:" ++ sha H1 ++ codes ",and_v(v:"
+    ++ sha H2 ++ codes "," ++ sha H3
     ++ codes "))))"
 
 abbrev pub either_script : Bytes
 either_script =
-    codes "21" ++ B ++ codes "ad6321" ++ A ++ codes "ac67" ++ hash_script H1 ++ hash_script H2 ++ codes "82012088a820" ++ H3 ++ codes "8768"
+    codes "21" ++ B ++ codes "ad6321" ++ A ++ codes "ac67" ++ hash_script H1 ++ hash_script H2
+    ++ codes "82012088a820" ++ H3 ++ codes "8768"
 
 abbrev pub StrictEither : Type 0
 StrictEither =
@@ -170,7 +182,8 @@ StrictEither =
     ∷ (codes "item " ++ P1)
     ∷ codes "item -"
     ∷ (codes "item " ++ SIG_B)
-    ∷ (codes "witness 0620" ++ P3 ++ codes "20" ++ P2 ++ codes "20" ++ P1 ++ codes "0048" ++ SIG_B ++ codes "be" ++ either_script)
+    ∷ (codes "witness 0620" ++ P3 ++ codes "20" ++ P2 ++ codes "20" ++ P1 ++ codes "0048" ++ SIG_B ++ codes "be"
+    ++ either_script)
     ∷ codes "replay ops 17 items 5 weight 173 peak 6"
     ∷ [])
 
@@ -227,15 +240,18 @@ ZerosAsPreimage =
 
 abbrev pub ZerosUnknown : Type 0
 ZerosUnknown =
-    Answer (codes "satisfy" ∷ codes "--malleable" ∷ zeros_text ∷ []) (file (signatures (sig_a ∷ []) ∷ [])) status.NoSatisfaction (codes "no satisfaction\n")
+    Answer (codes "satisfy" ∷ codes "--malleable" ∷ zeros_text ∷ []) (file (signatures (sig_a ∷ [])
+    ∷ [])) status.NoSatisfaction (codes "no satisfaction\n")
 
 -- ---- texts and files that are refused
 
 -- not sane; a text that isn't spelled, though it looks like the other form
 abbrev pub TextsFirst : Type 0
 TextsFirst =
-    Answer (codes "satisfy" ∷ zeros_text ∷ []) nothing status.TextRefused (codes "refused text Malleable ThreshE at 0\n")
-    × Answer (codes "satisfy" ∷ codes "--malleable" ∷ []) nothing status.TextRefused (codes "refused text Syntax at 0\n")
+    Answer (codes "satisfy" ∷ zeros_text
+    ∷ []) nothing status.TextRefused (codes "refused text Malleable ThreshE at 0\n")
+    × Answer (codes "satisfy" ∷ codes "--malleable"
+    ∷ []) nothing status.TextRefused (codes "refused text Syntax at 0\n")
 
 -- `0` has no satisfaction
 abbrev pub ZeroHasNone : Type 0
@@ -243,7 +259,8 @@ ZeroHasNone = NoneSatisfies (codes "0") [] × NoneSatisfies (pk A) []
 
 -- the line with which a file is refused
 abbrev pub RefusesFile : (source : Bytes) → (line : Bytes) → Type 0
-RefusesFile source line = Answer (codes "satisfy" ∷ pk A ∷ []) source status.FileRefused (lines ((codes "refused file " ++ line) ∷ []))
+RefusesFile source line =
+    Answer (codes "satisfy" ∷ pk A ∷ []) source status.FileRefused (lines ((codes "refused file " ++ line) ∷ []))
 
 abbrev pub RefusedFiles : Type 0
 RefusedFiles =

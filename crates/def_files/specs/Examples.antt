@@ -14,7 +14,8 @@ use Rattle.def_files.specs.RunFile.{RunFile, run_of}
 
 -- a signature with its key
 abbrev pub signature_text : (key sig : Bytes) → Bytes
-signature_text key sig = codes "{\"key\":\"" ++ encode_lower key ++ codes "\",\"sig\":\"" ++ encode_lower sig ++ codes "\"}"
+signature_text key sig =
+    codes "{\"key\":\"" ++ encode_lower key ++ codes "\",\"sig\":\"" ++ encode_lower sig ++ codes "\"}"
 
 -- a file with one signature, or with two
 abbrev pub with_one : (one : Bytes) → Bytes
@@ -76,7 +77,9 @@ UpperCase =
 
 -- the greatest number, and the one after it
 abbrev pub GreatestSequence : Type 0
-GreatestSequence = assets_of (codes "{\"sequence\":4294967295}") ≡ Ok (record no_assets { locks = record default_locks { sequence = 4294967295 } })
+GreatestSequence =
+    assets_of (codes "{\"sequence\":4294967295}")
+    ≡ Ok (record no_assets { locks = record default_locks { sequence = 4294967295 } })
 
 abbrev pub SequenceTooGreat : Type 0
 SequenceTooGreat = assets_of (codes "{\"sequence\":4294967296}") ≡ Err (fault.Number member.Sequence)
@@ -93,7 +96,9 @@ NoWholeNumbers =
 
 -- of members with one name the last counts, also where its name is written by an escape
 abbrev pub LastCounts : Type 0
-LastCounts = assets_of (codes "{\"version\":-1,\"locktime\":[],\"version\":1,\"lockt\\u0069me\":7}") ≡ Ok (record no_assets { locks = record default_locks { version = 1; locktime = 7 } })
+LastCounts =
+    assets_of (codes "{\"version\":-1,\"locktime\":[],\"version\":1,\"lockt\\u0069me\":7}")
+    ≡ Ok (record no_assets { locks = record default_locks { version = 1; locktime = 7 } })
 
 -- elements of the wrong shape
 abbrev pub WrongElements : Type 0
@@ -104,7 +109,8 @@ WrongElements =
 
 -- the number of a refusal goes first, then the member, then the place
 abbrev pub ShapeFirst : Type 0
-ShapeFirst = assets_of (codes "{\"version\":-1,\"preimages\":{},\"signatures\":{}}") ≡ Err (fault.Shape member.Signatures)
+ShapeFirst =
+    assets_of (codes "{\"version\":-1,\"preimages\":{},\"signatures\":{}}") ≡ Err (fault.Shape member.Signatures)
 
 abbrev pub NumberBeforeDigits : Type 0
 NumberBeforeDigits = assets_of (codes "{\"preimages\":[\"0\"],\"locktime\":-1}") ≡ Err (fault.Number member.Locktime)
@@ -122,18 +128,23 @@ abbrev pub NoKey : Type 0
 NoKey = assets_of (with_one (signature_text [] [])) ≡ Err (fault.KeyForm 0)
 
 abbrev pub UncompressedKey : Type 0
-UncompressedKey = assets_of (with_both (signature_text key_a []) (signature_text (0x04 ∷ replicate 32 0x01) sig_a)) ≡ Err (fault.KeyForm 1)
+UncompressedKey =
+    assets_of (with_both (signature_text key_a []) (signature_text (0x04 ∷ replicate 32 0x01) sig_a))
+    ≡ Err (fault.KeyForm 1)
 
 -- a signature of 74 bytes, and an empty one
 abbrev pub SignatureTooLong : Type 0
 SignatureTooLong = assets_of (with_one (signature_text key_a (replicate 74 0xaa))) ≡ Err (fault.SigLength 0)
 
 abbrev pub EmptySignature : Type 0
-EmptySignature = assets_of (with_both (signature_text key_a sig_a) (signature_text key_a [])) ≡ Err (fault.SigLength 1)
+EmptySignature =
+    assets_of (with_both (signature_text key_a sig_a) (signature_text key_a [])) ≡ Err (fault.SigLength 1)
 
 -- a preimage of 31 bytes
 abbrev pub ShortPreimage : Type 0
-ShortPreimage = assets_of (codes "{\"preimages\":[\"" ++ encode_lower (replicate 31 0x11) ++ codes "\"]}") ≡ Err (fault.PreimageLength 0)
+ShortPreimage =
+    assets_of (codes "{\"preimages\":[\"" ++ encode_lower (replicate 31 0x11) ++ codes "\"]}")
+    ≡ Err (fault.PreimageLength 0)
 
 -- one key twice
 abbrev pub KeyTwice : Type 0
@@ -153,7 +164,9 @@ KeyFormFirst = assets_of many_signatures ≡ Err (fault.KeyForm 0)
 
 -- 257 preimages
 abbrev pub TooManyPreimages : Type 0
-TooManyPreimages = assets_of (codes "{\"preimages\":[" ++ joined (replicate 257 (codes "\"" ++ encode_lower (replicate 32 0x00) ++ codes "\"")) ++ codes "]}") ≡ Err (fault.TooMany member.Preimages)
+TooManyPreimages =
+    assets_of (codes "{\"preimages\":[" ++ joined (replicate 257 (codes "\"" ++ encode_lower (replicate 32 0x00)
+    ++ codes "\"")) ++ codes "]}") ≡ Err (fault.TooMany member.Preimages)
 
 -- ---- run files
 
@@ -167,7 +180,8 @@ RunOfOne = run_of (codes "{\"script\":\"51\"}") ≡ Ok one_run
 -- a stack, a locktime, a key of any form twice; preimages are passed over
 abbrev pub RunOfMore : Type 0
 RunOfMore =
-    run_of (codes "{\"script\":\"\",\"witness\":[\"\",\"0aFF\"],\"locktime\":1,\"preimages\":0,\"signatures\":[" ++ signature_text [] []
+    run_of (codes "{\"script\":\"\",\"witness\":[\"\",\"0aFF\"],\"locktime\":1,\"preimages\":0,\"signatures\":["
+    ++ signature_text [] []
     ++ codes "," ++ signature_text [] [] ++ codes "]}")
     ≡ Ok (record {
       script = [];
@@ -190,14 +204,18 @@ ScriptOfOneDigit = run_of (codes "{\"script\":\"5\"}") ≡ Err (fault.Hex member
 abbrev pub SignaturesFirst : Type 0
 SignaturesFirst =
     (run_of (codes "{\"signatures\":0}") ≡ Err (fault.Shape member.Signatures))
-    × (run_of (codes "{\"script\":\"5\",\"witness\":[\"5\"],\"signatures\":[{\"key\":\"\",\"sig\":\"5\"}]}") ≡ Err (fault.Hex member.Signatures 0))
+    × (run_of (codes "{\"script\":\"5\",\"witness\":[\"5\"],\"signatures\":[{\"key\":\"\",\"sig\":\"5\"}]}")
+    ≡ Err (fault.Hex member.Signatures 0))
     × (run_of (codes "{\"script\":\"5\",\"witness\":[\"5\"]}") ≡ Err (fault.Hex member.Script 0))
     × (run_of (codes "{\"script\":\"51\",\"witness\":[\"\",\"5\"]}") ≡ Err (fault.Hex member.Witness 1))
     × (run_of (codes "{\"script\":\"51\",\"witness\":[0]}") ≡ Err (fault.Shape member.Witness))
 
 -- 257 signatures, and 2,001 elements
 abbrev pub TooManySignatures : Type 0
-TooManySignatures = run_of (codes "{\"script\":\"\"," ++ drop 1 many_signatures) ≡ Err (fault.TooMany member.Signatures)
+TooManySignatures =
+    run_of (codes "{\"script\":\"\"," ++ drop 1 many_signatures) ≡ Err (fault.TooMany member.Signatures)
 
 abbrev pub TooManyElements : Type 0
-TooManyElements = run_of (codes "{\"script\":\"\",\"witness\":[" ++ joined (replicate 2001 (codes "\"\"")) ++ codes "]}") ≡ Err (fault.TooMany member.Witness)
+TooManyElements =
+    run_of (codes "{\"script\":\"\",\"witness\":[" ++ joined (replicate 2001 (codes "\"\"")) ++ codes "]}")
+    ≡ Err (fault.TooMany member.Witness)

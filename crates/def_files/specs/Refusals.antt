@@ -65,7 +65,8 @@ too_many most m file = unless (nat_le (length (elements m file)) most) (fault.To
 
 -- the first key that stands earlier in the list too
 abbrev pub no_repeat : List Bytes → Refusal
-no_repeat keys = unless_each (λ entry. not (list_any (bytes_eq entry.1) (take entry.0 keys))) fault.RepeatedKey (enumerate_from 0 keys)
+no_repeat keys =
+    unless_each (λ entry. not (list_any (bytes_eq entry.1) (take entry.0 keys))) fault.RepeatedKey (enumerate_from 0 keys)
 
 -- how many signatures a file may have
 abbrev pub MOST_SIGNATURES : ℕ
