@@ -43,7 +43,8 @@ short_reading text (deep_outcome at) short reports = (λ q. cc q, (short, report
 pub has_reading : (text : Bytes) → IsUtf8 text → HasReading text (reading_of text)
 has_reading text utf8 = go (nat_lt MOST_BYTES (length text)) refl
   where
-    go : (b : Bool) → nat_lt MOST_BYTES (length text) ≡ b → HasReading text (if b then refused TooLong else reading_by (outcome START (tokens text)))
+    go : (b : Bool) → nat_lt MOST_BYTES (length text) ≡ b → HasReading text (if b then refused TooLong
+        else reading_by (outcome START (tokens text)))
     go true e = (λ q. cc q, ltb-true MOST_BYTES (length text) e)
     go false e = short_reading text (outcome START (tokens text)) (ltb-false MOST_BYTES (length text) e) (report text utf8)
 
@@ -82,7 +83,8 @@ abbrev pub OnWords : (Bytes → Type 0) → Option Command → Type 0
 OnWords P None = ⊤
 OnWords P (Some command) = OnText P command
 
-pub replies_to_words : (words : List Bytes) (source : Bytes) → OnWords IsUtf8 (command_of words) → RepliesToWords words source (reply_to_words source (command_of words))
+pub replies_to_words : (words : List Bytes) (source : Bytes) → OnWords IsUtf8 (command_of words) →
+    RepliesToWords words source (reply_to_words source (command_of words))
 replies_to_words words source utf8 = go (command_of words) refl utf8
   where
     go : (o : Option Command) → command_of words ≡ o → OnWords IsUtf8 o → RepliesToWords words source (reply_to_words source o)

@@ -39,18 +39,21 @@ either_status : (P : Status → Type 0) (b : Bool) (r s : Reply) → OfStatus P 
 either_status P true r s left right = left
 either_status P false r s left right = right
 
-file_status : {A : Type 0} (P : Status → Type 0) (file_of : Bytes → Result A AssetFault) (next : A → Reply) (source : Bytes) → P status.FileRefused
+file_status : {A : Type 0} (P : Status → Type 0) (file_of : Bytes → Result A AssetFault) (next : A → Reply) (source : Bytes) →
+    P status.FileRefused
     → ((file : A) → OfStatus P (next file)) → OfStatus P (file_reply file_of next source)
 file_status P file_of next source refusal after =
     either_status P (nat_lt MOST_FILE (length source)) (reply status.FileRefused file_too_long_line) (unless_refused next (file_of source)) refusal
     (refused_status P next (file_of source) refusal after)
 
-chosen_status : (P : Status → Type 0) (tree : Tree) (assets : Assets) (choice : Option (List Bytes)) → P status.Done → P status.NoSatisfaction
+chosen_status : (P : Status → Type 0) (tree : Tree) (assets : Assets) (choice : Option (List Bytes)) → P status.Done →
+    P status.NoSatisfaction
     → OfStatus P (chosen_reply tree assets choice)
 chosen_status P tree assets None done never = never
 chosen_status P tree assets (Some stack) done never = done
 
-satisfy_status : (P : Status → Type 0) (choice : Tree → Assets → Option (List Bytes)) (source : Bytes) (tree : Tree) → P status.FileRefused → P status.Done
+satisfy_status : (P : Status → Type 0) (choice : Tree → Assets → Option (List Bytes)) (source : Bytes) (tree : Tree) →
+    P status.FileRefused → P status.Done
     → P status.NoSatisfaction → OfStatus P (satisfy_reply choice source tree)
 satisfy_status P choice source tree refusal done never =
     file_status P assets_of (λ assets. chosen_reply tree assets (choice tree assets)) source refusal
@@ -60,24 +63,28 @@ outcome_status : (P : Status → Type 0) (o : Outcome) → P status.Done → P s
 outcome_status P (accepted ops peak checks) done refusal = done
 outcome_status P (refused fault place) done refusal = refusal
 
-run_status : (P : Status → Type 0) (source : Bytes) → P status.FileRefused → P status.Done → P status.ScriptRefused → OfStatus P (run_reply source)
+run_status : (P : Status → Type 0) (source : Bytes) → P status.FileRefused → P status.Done → P status.ScriptRefused →
+    OfStatus P (run_reply source)
 run_status P source file done refusal =
     file_status P run_of (λ f. outcome_reply (run (record { table = f.pairs; locks = f.locks }) f.script f.stack)) source file
     (λ f. outcome_status P (run (record { table = f.pairs; locks = f.locks }) f.script f.stack) done refusal)
 
 -- ---- the replies to texts
 
-unfit_status : (P : Status → Type 0) (reason : Option Unfit) (offsets : List ℕ) (next : Reply) → P status.TextRefused → OfStatus P next
+unfit_status : (P : Status → Type 0) (reason : Option Unfit) (offsets : List ℕ) (next : Reply) → P status.TextRefused →
+    OfStatus P next
     → OfStatus P (unless_unfit reason offsets next)
 unfit_status P None offsets next refusal after = after
 unfit_status P (Some unfit) offsets next refusal after = refusal
 
 text_status : (P : Status → Type 0) (reason : Tree → Option Unfit) (next : Tree → Reply) (r : Reading) → P status.TextRefused
     → ((tree : Tree) → OfStatus P (next tree)) → OfStatus P (text_reply reason next r)
-text_status P reason next (reading.read tree offsets) refusal after = unfit_status P (reason tree) offsets (next tree) refusal (after tree)
+text_status P reason next (reading.read tree offsets) refusal after =
+    unfit_status P (reason tree) offsets (next tree) refusal (after tree)
 text_status P reason next (reading.refused fault) refusal after = refusal
 
-answered_text : (text : Bytes) (reason : Tree → Option Unfit) (next : Tree → Reply) (r : Reply) → ((tree : Tree) → OfStatus IsAnswered (next tree))
+answered_text : (text : Bytes) (reason : Tree → Option Unfit) (next : Tree → Reply) (r : Reply) → ((tree : Tree) →
+    OfStatus IsAnswered (next tree))
     → RepliesToText text reason next r → OfStatus IsAnswered r
 answered_text text reason next r after h = subst (OfStatus IsAnswered) (sym h.2) (text_status IsAnswered reason next h.0 tt after)
 
@@ -115,7 +122,8 @@ words_without_source ws source other c r form none (inl h) =
 words_without_source ws source other c r form none (inr h) = inr h
 
 pub answer_without_source : AnswerWithoutSource
-answer_without_source ws source other c s p form none h = record { replies = words_without_source ws source other c (reply s p) form none h.replies }
+answer_without_source ws source other c s p form none h =
+    record { replies = words_without_source ws source other c (reply s p) form none h.replies }
 
 -- no status of this kind
 abbrev IsLate : Status → Type 0
@@ -137,19 +145,23 @@ late_never = late status.NoSatisfaction (λ e. cc e) (λ e. cc e)
 late_script : IsLate status.ScriptRefused
 late_script = late status.ScriptRefused (λ e. cc e) (λ e. cc e)
 
-early_unfit : (reason : Option Unfit) (offsets : List ℕ) (f g : Reply) → OfStatus IsLate f → OfStatus IsEarly (unless_unfit reason offsets f)
+early_unfit : (reason : Option Unfit) (offsets : List ℕ) (f g : Reply) → OfStatus IsLate f →
+    OfStatus IsEarly (unless_unfit reason offsets f)
     → unless_unfit reason offsets f ≡ unless_unfit reason offsets g
 early_unfit None offsets f g never early = absurd (never early)
 early_unfit (Some unfit) offsets f g never early = refl
 
 early_text : (reason : Tree → Option Unfit) (f g : Tree → Reply) (r : Reading) → ((tree : Tree) → OfStatus IsLate (f tree))
     → OfStatus IsEarly (text_reply reason f r) → text_reply reason f r ≡ text_reply reason g r
-early_text reason f g (reading.read tree offsets) never early = early_unfit (reason tree) offsets (f tree) (g tree) (never tree) early
+early_text reason f g (reading.read tree offsets) never early =
+    early_unfit (reason tree) offsets (f tree) (g tree) (never tree) early
 early_text reason f g (reading.refused fault) never early = refl
 
-early_to_text : (text : Bytes) (reason : Tree → Option Unfit) (f g : Tree → Reply) (r : Reply) → ((tree : Tree) → OfStatus IsLate (f tree)) → OfStatus IsEarly r
+early_to_text : (text : Bytes) (reason : Tree → Option Unfit) (f g : Tree → Reply) (r : Reply) → ((tree : Tree) →
+    OfStatus IsLate (f tree)) → OfStatus IsEarly r
     → RepliesToText text reason f r → RepliesToText text reason g r
-early_to_text text reason f g r never early h = (h.0, h.1, h.2 ∙ early_text reason f g h.0 never (subst (OfStatus IsEarly) h.2 early))
+early_to_text text reason f g r never early h =
+    (h.0, h.1, h.2 ∙ early_text reason f g h.0 never (subst (OfStatus IsEarly) h.2 early))
 
 early_reply : (c : Command) (source other : Bytes) (r : Reply) → OfStatus IsEarly r → Replies c source r → Replies c other r
 early_reply (script text) source other r early h = h
@@ -160,10 +172,12 @@ early_reply (satisfy text) source other r early h =
 early_reply (satisfy_malleable text) source other r early h =
     early_to_text text first_unfit_valid (satisfy_reply cheapest source) (satisfy_reply cheapest other) r
     (λ tree. satisfy_status IsLate cheapest source tree late_file late_done late_never) early h
-early_reply words.run source other r early h = absurd (run_status IsLate source late_file late_done late_script (subst (OfStatus IsEarly) h early))
+early_reply words.run source other r early h =
+    absurd (run_status IsLate source late_file late_done late_script (subst (OfStatus IsEarly) h early))
 early_reply (gen n) source other r early h = h
 
-early_words : (ws : List Bytes) (source other : Bytes) (r : Reply) → OfStatus IsEarly r → RepliesToWords ws source r → RepliesToWords ws other r
+early_words : (ws : List Bytes) (source other : Bytes) (r : Reply) → OfStatus IsEarly r → RepliesToWords ws source r →
+    RepliesToWords ws other r
 early_words ws source other r early (inl h) = inl (h.0, h.1, early_reply h.0 source other r early h.2)
 early_words ws source other r early (inr h) = inr h
 
@@ -177,7 +191,8 @@ first_of_two true r s e = refl
 first_of_two false r s e = cc e
 
 pub long_asset_file : LongAssetFile
-long_asset_file choice source tree long = first_of_two (nat_lt MOST_FILE (length source)) _ _ (lt-ltb MOST_FILE (length source) long)
+long_asset_file choice source tree long =
+    first_of_two (nat_lt MOST_FILE (length source)) _ _ (lt-ltb MOST_FILE (length source) long)
 
 pub long_run_file : LongRunFile
 long_run_file source long = first_of_two (nat_lt MOST_FILE (length source)) _ _ (lt-ltb MOST_FILE (length source) long)

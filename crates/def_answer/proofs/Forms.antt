@@ -54,7 +54,8 @@ found_is (Some m) n e = ap Some (eqb-true m n e)
 children_found : (n : ℕ) → 1 ≤ n → n ≤ 30 → children_of (decimal n) ≡ Some n
 children_found n some few =
     let at = AllPass-from_list_all (λ m. found_number (children_of (decimal m)) m) (range_with_len 1 30) all_found (n - 1) 0 (omega arith) in
-    let here : slice_index_or (range_with_len 1 30) (n - 1) 0 ≡ n = get_or-range_with_len 1 30 (n - 1) 0 (omega arith) ∙ omega arith in
+    let here : slice_index_or (range_with_len 1 30) (n - 1) 0
+    ≡ n = get_or-range_with_len 1 30 (n - 1) 0 (omega arith) ∙ omega arith in
     found_is (children_of (decimal n)) n (subst (λ m. found_number (children_of (decimal m)) m ≡ true) here at)
 
 pub command_found : (command : Command) → IsCommand command → command_of (words_of command) ≡ Some command
@@ -67,7 +68,8 @@ command_found (gen n) h = ap (option_map gen) (children_found n h.0 h.1)
 
 -- ---- and its words are those
 
-if_some : (b : Bool) (x y : Option Command) (c : Command) → (if b then x else y) ≡ Some c → ((b ≡ true) × (x ≡ Some c)) ⊎ ((b ≡ false) × (y ≡ Some c))
+if_some : (b : Bool) (x y : Option Command) (c : Command) → (if b then x else y) ≡ Some c → ((b ≡ true) × (x ≡ Some c)) ⊎ ((b
+    ≡ false) × (y ≡ Some c))
 if_some true x y c e = inl (refl, e)
 if_some false x y c e = inr (refl, e)
 
@@ -80,7 +82,8 @@ is_word : (word wanted : Bytes) → bytes_eq word wanted ≡ true → word ≡ w
 is_word word wanted e = (bytes_eq-Decides word wanted).0 e
 
 same_form : (words : List Bytes) (c d : Command) → words ≡ words_of c → IsCommand c → Some c ≡ Some d → IsForm words d
-same_form words c d same h e = let same_command : c ≡ d = cc e in subst (IsForm words) same_command (record { same = same; in_range = h })
+same_form words c d same h e =
+    let same_command : c ≡ d = cc e in subst (IsForm words) same_command (record { same = same; in_range = h })
 
 pair_is : (first second wanted : Bytes) → first ≡ wanted → (first ∷ second ∷ []) ≡ (wanted ∷ second ∷ [])
 pair_is first second wanted e = ap (λ w. w ∷ second ∷ []) e
@@ -101,7 +104,8 @@ children_is word n e =
     let found = found_in (λ m. bytes_eq (decimal m) word) 1 30 n e in
     (sym ((bytes_eq-Decides (decimal n) word).0 found.0), found.1, omega arith)
 
-gen_form : (first second : Bytes) (o : Option ℕ) (c : Command) → children_of second ≡ o → first ≡ codes "gen" → option_map gen o ≡ Some c → IsForm (first ∷ second ∷ []) c
+gen_form : (first second : Bytes) (o : Option ℕ) (c : Command) → children_of second ≡ o → first ≡ codes "gen" → option_map gen o
+    ≡ Some c → IsForm (first ∷ second ∷ []) c
 gen_form first second None c found e h = cc h
 gen_form first second (Some n) c found e h =
     let is = children_is second n found in
@@ -130,13 +134,15 @@ one_form first c e =
       | inr h ↦ cc h.1
     ]
 
-three_form : (first second third : Bytes) (c : Command) → three_words first second third ≡ Some c → IsForm (first ∷ second ∷ third ∷ []) c
+three_form : (first second third : Bytes) (c : Command) → three_words first second third ≡ Some c → IsForm (first ∷ second
+    ∷ third ∷ []) c
 three_form first second third c e =
     elim (if_some (bytes_eq first (codes "satisfy") && bytes_eq second (codes "--malleable")) _ _ c e) [
       | inl h ↦
           let both = both_true (bytes_eq first (codes "satisfy")) (bytes_eq second (codes "--malleable")) h.0 in
           same_form _ (satisfy_malleable third) c
-          (ap (λ w. w ∷ second ∷ third ∷ []) (is_word first (codes "satisfy") both.0) ∙ ap (λ w. codes "satisfy" ∷ w ∷ third ∷ []) (is_word second (codes "--malleable") both.1)) tt h.1
+          (ap (λ w. w ∷ second ∷ third ∷ []) (is_word first (codes "satisfy") both.0) ∙ ap (λ w. codes "satisfy" ∷ w ∷ third
+          ∷ []) (is_word second (codes "--malleable") both.1)) tt h.1
       | inr h ↦ cc h.1
     ]
 

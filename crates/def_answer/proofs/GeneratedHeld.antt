@@ -58,7 +58,8 @@ not_same i j h = go (nat_eq (i + 1) (j + 1)) refl
 differs : (i j : ℕ) → i < j → bytes_eq (generated_key i) (generated_key j) ≡ false
 differs i j h = both_false (nat_eq (i + 1) (j + 1)) _ (not_same i j h)
 
-all_differ : (i a n : ℕ) → i < a → AllByRecursion (λ key. bytes_eq (generated_key i) key ≡ false) (map generated_key (range_with_len a n))
+all_differ : (i a n : ℕ) → i < a → AllByRecursion (λ key. bytes_eq (generated_key i) key
+    ≡ false) (map generated_key (range_with_len a n))
 all_differ i a zero h = tt
 all_differ i a (suc n) h = (differs i a h, all_differ i (a + 1) n (omega arith))
 
@@ -67,7 +68,8 @@ unfolding IsDistinct
 keys_distinct a zero = tt
 keys_distinct a (suc n) = (all_differ a (a + 1) n (omega arith), keys_distinct (a + 1) n)
 
-firsts : (is : List ℕ) → map (λ (pair : Bytes × Bytes). pair.0) (map (λ i. (generated_key i, generated_sig i)) is) ≡ map generated_key is
+firsts : (is : List ℕ) → map (λ (pair : Bytes × Bytes). pair.0) (map (λ i. (generated_key i, generated_sig i)) is)
+    ≡ map generated_key is
 firsts [] = refl
 firsts (i ∷ is) = ap (λ ks. generated_key i ∷ ks) (firsts is)
 

@@ -17,7 +17,8 @@ use Rattle.def_answer.proofs.UpTo.{UpTo, holds_at}
 
 -- the outcome of a text that is ASCII and short; all of it is asked for at once, so that the text is computed once
 abbrev outcome_of : (text : Bytes) → Outcome
-outcome_of text = if list_all is_ascii text && nat_le (length text) MOST_BYTES then outcome START (tokens text) else syntax_outcome 0
+outcome_of text =
+    if list_all is_ascii text && nat_le (length text) MOST_BYTES then outcome START (tokens text) else syntax_outcome 0
 
 read_as : (text : Bytes) (x : Tree) (os : List ℕ) → outcome_of text ≡ tree_outcome x os → TextReads text x os
 read_as text x os h = go (list_all is_ascii text) (nat_le (length text) MOST_BYTES) refl refl h
@@ -35,27 +36,33 @@ IsRead n = (offsets : List ℕ) × TextReads (generated_text n) (generated_tree 
 
 read_5 : UpTo IsRead 5
 unfolding answers_on_literals
-read_5 = (((((tt, (_, read_as _ _ _ refl)), (_, read_as _ _ _ refl)), (_, read_as _ _ _ refl)), (_, read_as _ _ _ refl)), (_, read_as _ _ _ refl))
+read_5 =
+    (((((tt, (_, read_as _ _ _ refl)), (_, read_as _ _ _ refl)), (_, read_as _ _ _ refl)), (_, read_as _ _ _ refl)), (_, read_as _ _ _ refl))
 
 read_10 : UpTo IsRead 10
 unfolding answers_on_literals
-read_10 = (((((read_5, (_, read_as _ _ _ refl)), (_, read_as _ _ _ refl)), (_, read_as _ _ _ refl)), (_, read_as _ _ _ refl)), (_, read_as _ _ _ refl))
+read_10 =
+    (((((read_5, (_, read_as _ _ _ refl)), (_, read_as _ _ _ refl)), (_, read_as _ _ _ refl)), (_, read_as _ _ _ refl)), (_, read_as _ _ _ refl))
 
 read_15 : UpTo IsRead 15
 unfolding answers_on_literals
-read_15 = (((((read_10, (_, read_as _ _ _ refl)), (_, read_as _ _ _ refl)), (_, read_as _ _ _ refl)), (_, read_as _ _ _ refl)), (_, read_as _ _ _ refl))
+read_15 =
+    (((((read_10, (_, read_as _ _ _ refl)), (_, read_as _ _ _ refl)), (_, read_as _ _ _ refl)), (_, read_as _ _ _ refl)), (_, read_as _ _ _ refl))
 
 read_20 : UpTo IsRead 20
 unfolding answers_on_literals
-read_20 = (((((read_15, (_, read_as _ _ _ refl)), (_, read_as _ _ _ refl)), (_, read_as _ _ _ refl)), (_, read_as _ _ _ refl)), (_, read_as _ _ _ refl))
+read_20 =
+    (((((read_15, (_, read_as _ _ _ refl)), (_, read_as _ _ _ refl)), (_, read_as _ _ _ refl)), (_, read_as _ _ _ refl)), (_, read_as _ _ _ refl))
 
 read_25 : UpTo IsRead 25
 unfolding answers_on_literals
-read_25 = (((((read_20, (_, read_as _ _ _ refl)), (_, read_as _ _ _ refl)), (_, read_as _ _ _ refl)), (_, read_as _ _ _ refl)), (_, read_as _ _ _ refl))
+read_25 =
+    (((((read_20, (_, read_as _ _ _ refl)), (_, read_as _ _ _ refl)), (_, read_as _ _ _ refl)), (_, read_as _ _ _ refl)), (_, read_as _ _ _ refl))
 
 read_30 : UpTo IsRead 30
 unfolding answers_on_literals
-read_30 = (((((read_25, (_, read_as _ _ _ refl)), (_, read_as _ _ _ refl)), (_, read_as _ _ _ refl)), (_, read_as _ _ _ refl)), (_, read_as _ _ _ refl))
+read_30 =
+    (((((read_25, (_, read_as _ _ _ refl)), (_, read_as _ _ _ refl)), (_, read_as _ _ _ refl)), (_, read_as _ _ _ refl)), (_, read_as _ _ _ refl))
 
 pub generated_is_read : GeneratedIsRead
 generated_is_read n some few = holds_at IsRead 30 n read_30 some few

@@ -54,12 +54,14 @@ children_are_small (suc n) i = (child_is_small i, children_are_small n (i + 1))
 both_take : (m k : ℕ) (a b : Option Takes) → TakesSome m a → TakesSome k b → TakesSome (m + k) (both a b)
 both_take m k None b h l = tt
 both_take m k (Some a) None h l = tt
-both_take m k (Some a) (Some b) h l = let left = h in let right = l in (omega (arith, left.0, right.0), omega (arith, left.1, right.1))
+both_take m k (Some a) (Some b) h l =
+    let left = h in let right = l in (omega (arith, left.0, right.0), omega (arith, left.1, right.1))
 
 either_takes : (m : ℕ) (a b : Option Takes) → TakesSome m a → TakesSome m b → TakesSome m (either a b)
 either_takes m None b h l = l
 either_takes m (Some a) None h l = h
-either_takes m (Some a) (Some b) h l = let left = h in let right = l in (omega (arith, left.0, right.0), omega (arith, left.1, right.1))
+either_takes m (Some a) (Some b) h l =
+    let left = h in let right = l in (omega (arith, left.0, right.0), omega (arith, left.1, right.1))
 
 parts_take : (xs : Trees) (k : ℕ) → AreSmall xs → TakesSome (count xs) (most_parts xs k)
 parts_take none zero h = (refl, refl)
@@ -146,7 +148,8 @@ not_repeated (Some node) e = cc e
 within : (most n : ℕ) (r : Unfit) → n ≤ most → (if nat_lt most n then Some r else None) ≡ None
 within most n r h = rw (le-ltb most n h) refl
 
-few_items : (m : ℕ) (o : Option Takes) → TakesSome m o → m ≤ 100 → (number_of (λ t. t.items) o ≤ 100) × (number_of (λ t. t.keys) o ≡ 0)
+few_items : (m : ℕ) (o : Option Takes) → TakesSome m o → m ≤ 100 → (number_of (λ t. t.items) o ≤ 100)
+    × (number_of (λ t. t.keys) o ≡ 0)
 few_items m None h few = (omega arith, refl)
 few_items m (Some t) h few = let takes = h in (omega (arith, takes.0), takes.1)
 
@@ -164,7 +167,8 @@ sane_tree tree m e takes few =
     let codes : opcode_count (emit tree) ≤ 201 = leb-true (opcode_count (emit tree)) 201 p5.1 in
     let ops : (limits_of tree).ops ≤ 201 = let keys = items.1 in omega (arith, codes, keys) in
     let valid = none_first
-    (broken_rule (corr tree) ∷ wrong_top (corr tree) ∷ too_large (limits_of tree) ∷ too_many_ops (limits_of tree) ∷ too_many_items (limits_of tree) ∷ []) (
+    (broken_rule (corr tree) ∷ wrong_top (corr tree) ∷ too_large (limits_of tree) ∷ too_many_ops (limits_of tree)
+    ∷ too_many_items (limits_of tree) ∷ []) (
       typed.0,
       (
         typed.1,
@@ -178,7 +182,8 @@ sane_tree tree m e takes few =
       ),
     ) in
     none_first
-    (first_unfit_valid tree ∷ malleable (mall tree) ∷ no_signature (mall tree) ∷ mixed_locks (mix tree) ∷ repeated (repeated_key tree) ∷ [])
+    (first_unfit_valid tree ∷ malleable (mall tree) ∷ no_signature (mall tree) ∷ mixed_locks (mix tree)
+    ∷ repeated (repeated_key tree) ∷ [])
     (valid, (signed.0, (signed.1, (not_mixed (mix tree) p3.0, (not_repeated (repeated_key tree) p4.0, tt)))))
 
 pub generated_is_sane : GeneratedIsSane

@@ -15,7 +15,8 @@ accepted_signature = answered refl refl
 
 pub fault_lines : FaultLines
 unfolding answers_on_literals
-fault_lines = (answered refl refl, answered refl refl, answered refl refl, answered refl refl, answered refl refl, answered refl refl, answered refl refl, answered refl refl, answered refl refl, answered refl refl, answered refl refl, answered refl refl, answered refl refl, answered refl refl, answered refl refl, answered refl refl, answered refl refl)
+fault_lines =
+    (answered refl refl, answered refl refl, answered refl refl, answered refl refl, answered refl refl, answered refl refl, answered refl refl, answered refl refl, answered refl refl, answered refl refl, answered refl refl, answered refl refl, answered refl refl, answered refl refl, answered refl refl, answered refl refl, answered refl refl)
 
 pub null_dummy_line : NullDummyLine
 unfolding answers_on_literals

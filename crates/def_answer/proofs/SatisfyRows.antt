@@ -74,7 +74,8 @@ zero_has_none = (answered refl refl, answered refl refl)
 
 pub refused_files : RefusedFiles
 unfolding answers_on_literals
-refused_files = (answered refl refl, answered refl refl, answered refl refl, answered refl refl, answered refl refl, answered refl refl)
+refused_files =
+    (answered refl refl, answered refl refl, answered refl refl, answered refl refl, answered refl refl, answered refl refl)
 
 pub file_too_long : FileTooLong
 unfolding answers_on_literals

@@ -6,7 +6,8 @@ use Rattle.def_answer.proofs.Computing.{answers_on_literals}
 
 pub no_form : NoForm
 unfolding answers_on_literals
-no_form = (answered refl refl, answered refl refl, answered refl refl, answered refl refl, answered refl refl, answered refl refl, answered refl refl, answered refl refl, answered refl refl)
+no_form =
+    (answered refl refl, answered refl refl, answered refl refl, answered refl refl, answered refl refl, answered refl refl, answered refl refl, answered refl refl, answered refl refl)
 
 pub script_of_key : ScriptOfKey
 unfolding answers_on_literals
@@ -38,7 +39,8 @@ check_of_either = answered refl refl
 
 pub unspelled : Unspelled
 unfolding answers_on_literals
-unspelled = (answered refl refl, answered refl refl, answered refl refl, answered refl refl, answered refl refl, answered refl refl, answered refl refl)
+unspelled =
+    (answered refl refl, answered refl refl, answered refl refl, answered refl refl, answered refl refl, answered refl refl, answered refl refl)
 
 pub too_deep_or_long : TooDeepOrLong
 unfolding answers_on_literals

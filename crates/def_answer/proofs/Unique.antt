@@ -62,13 +62,15 @@ one_reply : (c : Command) (source : Bytes) (a b : Reply) → OnText IsUtf8 c →
 one_reply (script text) source a b utf8 h k = one_text_reply text first_unfit_valid script_reply a b utf8 h k
 one_reply (check text) source a b utf8 h k = one_text_reply text first_unfit check_reply a b utf8 h k
 one_reply (satisfy text) source a b utf8 h k = one_text_reply text first_unfit (satisfy_reply strict source) a b utf8 h k
-one_reply (satisfy_malleable text) source a b utf8 h k = one_text_reply text first_unfit_valid (satisfy_reply cheapest source) a b utf8 h k
+one_reply (satisfy_malleable text) source a b utf8 h k =
+    one_text_reply text first_unfit_valid (satisfy_reply cheapest source) a b utf8 h k
 one_reply run source a b utf8 h k = h ∙ sym k
 one_reply (gen n) source a b utf8 h k = h ∙ sym k
 
 -- ---- answers
 
-one_to_words : (words : List Bytes) (source : Bytes) (a b : Reply) → All IsUtf8 words → RepliesToWords words source a → RepliesToWords words source b → a ≡ b
+one_to_words : (words : List Bytes) (source : Bytes) (a b : Reply) → All IsUtf8 words → RepliesToWords words source a →
+    RepliesToWords words source b → a ≡ b
 one_to_words words source a b utf8 (inl h) (inl k) =
     let same = one_form words k.0 h.0 k.1 h.1 in
     one_reply h.0 source a b (text_of_form words h.0 utf8 h.1) h.2 (subst (λ c. Replies c source b) same k.2)

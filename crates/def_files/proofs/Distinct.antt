@@ -48,14 +48,16 @@ not_true : (b : Bool) → not b ≡ true → b ≡ false
 not_true true e = cc e
 not_true false e = refl
 
-free_after : (all before keys : List Bytes) → all ≡ before ++ keys → list_all (is_new all) (enumerate_from (length before) keys) ≡ true
+free_after : (all before keys : List Bytes) → all ≡ before ++ keys → list_all (is_new all) (enumerate_from (length before) keys)
+    ≡ true
     → AllByRecursion (IsFree before) keys × IsDistinct bytes_eq keys
 unfolding IsDistinct
 free_after all before [] e h = (tt, tt)
 free_after all before (key ∷ keys) e h =
     let parts = both_true (is_new all (length before, key)) (list_all (is_new all) (enumerate_from (length before + 1) keys)) h in
     let front : take (length before) all ≡ before = ap (take (length before)) e ∙ take-append_seam before (key ∷ keys) in
-    let new : list_any (bytes_eq key) (take (length before) all) ≡ false = not_true (list_any (bytes_eq key) (take (length before) all)) parts.0 in
+    let new : list_any (bytes_eq key) (take (length before) all)
+    ≡ false = not_true (list_any (bytes_eq key) (take (length before) all)) parts.0 in
     let free : IsFree before key = rw front at new in
     let longer : length (before ++ key ∷ []) ≡ length before + 1 = length-append before (key ∷ []) in
     let same : all ≡ (before ++ key ∷ []) ++ keys = e ∙ sym (append_assoc before (key ∷ []) keys) in

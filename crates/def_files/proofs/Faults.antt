@@ -26,7 +26,8 @@ record IsBroad (P : AssetFault → Type 0) : Type 0 where
 object_tells : (P : AssetFault → Type 0) (file : Data) → IsBroad P → Tells P (no_object file)
 object_tells P file h = unless_tells P (is_object file) (fault.Shape member.Whole) (h.shape member.Whole)
 
-list_tells : (P : AssetFault → Type 0) (right : Data → Bool) (m : Member) (file : Data) → IsBroad P → Tells P (no_list_of right m file)
+list_tells : (P : AssetFault → Type 0) (right : Data → Bool) (m : Member) (file : Data) → IsBroad P →
+    Tells P (no_list_of right m file)
 list_tells P right m file h = unless_tells P (is_list_of right (list m file)) (fault.Shape m) (h.shape m)
 
 version_tells : (P : AssetFault → Type 0) (file : Data) → IsBroad P → Tells P (no_version file)
@@ -96,7 +97,8 @@ asset_faults file =
     )
 
 pub assets_want_no_memory : AssetsWantNoMemory
-assets_want_no_memory bytes e = given_tells IsNotMemory asset_refusals assets_in (reading bytes) fault.Memory (λ q. cc q) asset_faults e refl
+assets_want_no_memory bytes e =
+    given_tells IsNotMemory asset_refusals assets_in (reading bytes) fault.Memory (λ q. cc q) asset_faults e refl
 
 -- ---- run files
 

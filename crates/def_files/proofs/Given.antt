@@ -22,7 +22,8 @@ use Rattle.def_files.proofs.Strings.{spelled-IsBytes}
 use Rattle.def_files.proofs.Distinct.{distinct_keys}
 use Rattle.def_files.proofs.Fits.{key_fits, signature_fits, preimage_fits, number_fits, all_mapped}
 
-firsts_mapped : {A : Type 0} (f g : A → Bytes) (xs : List A) → map (λ (pair : Bytes × Bytes). pair.0) (map (λ x. (f x, g x)) xs) ≡ map f xs
+firsts_mapped : {A : Type 0} (f g : A → Bytes) (xs : List A) → map (λ (pair : Bytes × Bytes). pair.0) (map (λ x. (f x, g x)) xs)
+    ≡ map f xs
 firsts_mapped f g [] = refl
 firsts_mapped f g (x ∷ xs) = ap (λ ys. f x ∷ ys) (firsts_mapped f g xs)
 
@@ -30,7 +31,8 @@ firsts_mapped f g (x ∷ xs) = ap (λ ys. f x ∷ ys) (firsts_mapped f g xs)
 fewer : {A B : Type 0} (f : A → B) (xs : List A) {most : ℕ} → length xs ≤ most → length (map f xs) ≤ most
 fewer f xs h = let same = length-map xs f in omega (arith, same)
 
-assets_fit : (file : Data) (assets : Assets) → unless_refused (asset_refusals file) (assets_in file) ≡ Ok assets → AreFewAssets assets
+assets_fit : (file : Data) (assets : Assets) → unless_refused (asset_refusals file) (assets_in file) ≡ Ok assets →
+    AreFewAssets assets
 assets_fit file assets e =
     let value = assets_in file in
     let none = none_applies (asset_refusals file) value assets e in

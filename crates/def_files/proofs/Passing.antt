@@ -22,7 +22,8 @@ pub held : (b : Bool) (fault : AssetFault) → unless b fault ≡ None → b ≡
 held true fault e = refl
 held false fault e = cc e
 
-all_from : {A : Type 0} (holds : A → Bool) (i : ℕ) (xs : List A) → position_from (λ x. not (holds x)) i xs ≡ None → list_all holds xs ≡ true
+all_from : {A : Type 0} (holds : A → Bool) (i : ℕ) (xs : List A) → position_from (λ x. not (holds x)) i xs ≡ None →
+    list_all holds xs ≡ true
 all_from holds i [] e = refl
 all_from holds i (x ∷ xs) e = go (holds x) refl (all_from holds (i + 1) xs) e
   where
@@ -35,12 +36,14 @@ not_mapped : (fault : ℕ → AssetFault) (found : Option ℕ) → option_map fa
 not_mapped fault None e = refl
 not_mapped fault (Some i) e = cc e
 
-pub each_held : {A : Type 0} (holds : A → Bool) (fault : ℕ → AssetFault) (xs : List A) → unless_each holds fault xs ≡ None → list_all holds xs ≡ true
+pub each_held : {A : Type 0} (holds : A → Bool) (fault : ℕ → AssetFault) (xs : List A) → unless_each holds fault xs ≡ None →
+    list_all holds xs ≡ true
 each_held holds fault xs e =
     all_from holds 0 xs (sym (position_from-zero (λ x. not (holds x)) xs) ∙ not_mapped fault (position (λ x. not (holds x)) xs) e)
 
 -- what is given comes from a reading
-pub given_ok : {A : Type 0} (f : Data → Result A AssetFault) (r : Option Data) (value : A) → given f r ≡ Ok value → (file : Data) × (f file ≡ Ok value)
+pub given_ok : {A : Type 0} (f : Data → Result A AssetFault) (r : Option Data) (value : A) → given f r ≡ Ok value →
+    (file : Data) × (f file ≡ Ok value)
 given_ok f None value e = cc e
 given_ok f (Some file) value e = (file, e)
 
@@ -59,20 +62,24 @@ pub unless_tells : (P : AssetFault → Type 0) (b : Bool) (fault : AssetFault) �
 unless_tells P true fault h = tt
 unless_tells P false fault h = h
 
-mapped_tells : (P : AssetFault → Type 0) (fault : ℕ → AssetFault) (found : Option ℕ) → ((i : ℕ) → P (fault i)) → Tells P (option_map fault found)
+mapped_tells : (P : AssetFault → Type 0) (fault : ℕ → AssetFault) (found : Option ℕ) → ((i : ℕ) → P (fault i)) →
+    Tells P (option_map fault found)
 mapped_tells P fault None h = tt
 mapped_tells P fault (Some i) h = h i
 
-pub each_tells : {A : Type 0} (P : AssetFault → Type 0) (holds : A → Bool) (fault : ℕ → AssetFault) (xs : List A) → ((i : ℕ) → P (fault i)) → Tells P (unless_each holds fault xs)
+pub each_tells : {A : Type 0} (P : AssetFault → Type 0) (holds : A → Bool) (fault : ℕ → AssetFault) (xs : List A) → ((i : ℕ) →
+    P (fault i)) → Tells P (unless_each holds fault xs)
 each_tells P holds fault xs h = mapped_tells P fault (position (λ x. not (holds x)) xs) h
 
 -- so is the one that is given
-pub first_tells : {A : Type 0} (P : AssetFault → Type 0) (rs : List Refusal) (value : A) (e : AssetFault) → AllTell P rs → unless_refused rs value ≡ Err e → P e
+pub first_tells : {A : Type 0} (P : AssetFault → Type 0) (rs : List Refusal) (value : A) (e : AssetFault) → AllTell P rs →
+    unless_refused rs value ≡ Err e → P e
 first_tells P [] value e h q = cc q
 first_tells P (None ∷ rs) value e h q = first_tells P rs value e h.1 q
 first_tells P (Some fault ∷ rs) value e h q = let same : fault ≡ e = cc q in subst P same h.0
 
-pub given_tells : {A : Type 0} (P : AssetFault → Type 0) (rs : Data → List Refusal) (value : Data → A) (r : Option Data) (e : AssetFault)
+pub given_tells : {A : Type 0} (P : AssetFault → Type 0) (rs : Data → List Refusal) (value : Data →
+    A) (r : Option Data) (e : AssetFault)
     → P NotJson → ((file : Data) → AllTell P (rs file)) → given (λ file. unless_refused (rs file) (value file)) r ≡ Err e → P e
 given_tells P rs value None e none h q = let same : NotJson ≡ e = cc q in subst P same none
 given_tells P rs value (Some file) e none h q = first_tells P (rs file) (value file) e (h file) q
