@@ -11,3 +11,4 @@ pub mod UpTo
 pub mod GeneratedRead
 pub mod GeneratedHeld
 pub mod GeneratedSane
+pub mod GeneratedChosen

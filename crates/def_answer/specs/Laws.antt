@@ -1,10 +1,12 @@
 -- What the definitions imply.
-use Rattle.std.specs.Prelude.{◌≡◌, ◌⊎◌, ℕ, ◌<◌, ◌≤◌, ⊤, List, length, All, IsUtf8, Option}
+use Rattle.std.specs.Prelude.{◌≡◌, ◌⊎◌, ℕ, ◌<◌, ◌≤◌, ⊤, List, length, All, IsUtf8, Option, IsSome}
 use Rattle.def_script.specs.Bytes.{Bytes}
 use Rattle.def_tree.specs.Tree.{Tree}
 use Rattle.def_assets.specs.Assets.{Assets, AreAssets}
 use Rattle.def_text.specs.Refusal.{TextReads}
 use Rattle.def_sane.specs.Unfit.{IsSane}
+use Rattle.def_choice.specs.Cheapest.{cheapest}
+use Rattle.def_choice.specs.Strict.{strict}
 use Rattle.def_answer.specs.declared.status.Status.{Status}
 use Rattle.def_answer.specs.declared.status.Status.TheVariants as status
 use Rattle.def_answer.specs.Words.{Command, script, check, satisfy, satisfy_malleable, run, gen, MOST_CHILDREN, IsForm, HasNoForm}
@@ -99,3 +101,10 @@ GeneratedIsSane = (n : ℕ) → 1 ≤ n → n ≤ MOST_CHILDREN → IsSane (gene
 
 abbrev pub GeneratedAreAssets : Type 0
 GeneratedAreAssets = (n : ℕ) → n ≤ MOST_CHILDREN → AreAssets (generated_assets n)
+
+-- and with these assets the generated tree has both satisfactions
+abbrev pub GeneratedIsSatisfied : Type 0
+GeneratedIsSatisfied =
+    (n : ℕ) → 1 ≤ n → n ≤ MOST_CHILDREN →
+    IsSome (cheapest (generated_tree n) (generated_assets n))
+    × IsSome (strict (generated_tree n) (generated_assets n))

@@ -13,6 +13,7 @@ ghost use Rattle.def_answer.specs.Laws.{
   GeneratedIsRead,
   GeneratedIsSane,
   GeneratedAreAssets,
+  GeneratedIsSatisfied,
 };
 
 /// Words have one form or none, and words that are texts have exactly one answer.
@@ -32,9 +33,10 @@ pub fn sources()
     ensures long_run_file { LongRunFile }
 {}
 
-/// What is generated: a text that is read as the tree, a sane tree, and assets.
+/// What is generated: a text that is read as the tree, a sane tree, and assets that satisfy it.
 pub fn generator()
     ensures read { GeneratedIsRead }
     ensures sane { GeneratedIsSane }
     ensures assets { GeneratedAreAssets }
+    ensures satisfied { GeneratedIsSatisfied }
 {}
