@@ -1,19 +1,17 @@
 -- The answer, computed: a text is read by the machine that reads tokens one after the other.
-use Rattle.std.proofs.Common.{◌≡◌, ◌≢◌, ◌≤◌, inl, inr, ℕ, Bool, true, false, nat_lt, if◌then◌else◌, List, [], ◌∷◌, Option, Some, None, length, refl, sym, subst, arith}
+use Rattle.std.proofs.Common.{◌≡◌, ◌≤◌, inl, inr, Bool, true, false, nat_lt, if◌then◌else◌, List, Option, Some, None, length, refl, subst}
 use Rattle.std.specs.Prelude.{⊤}
 use Rattle.std.specs.Char.{is_ascii}
 use Rattle.std.specs.List.{list_all}
 use Rattle.std.specs.Str.{IsUtf8}
 use Rattle.std.proofs.lemmas.Bool.{ltb-true, ltb-false}
 use Rattle.def_script.specs.Bytes.{Bytes}
-use Rattle.def_tree.specs.Tree.{Tree}
-use Rattle.def_text.specs.declared.TextFault.TheVariants.{TooLong, Syntax, TooDeep, Memory}
+use Rattle.def_text.specs.declared.TextFault.TheVariants.{TooLong, Syntax, TooDeep}
 use Rattle.def_text.specs.Token.{tokens}
-use Rattle.def_text.specs.Refusal.{MOST_BYTES, TextRefusal, TextReads}
+use Rattle.def_text.specs.Refusal.{MOST_BYTES}
 use Rattle.def_text.specs.Reader.{START, Outcome, tree_outcome, syntax_outcome, deep_outcome, outcome}
 use Rattle.def_text.proofs.Completion.{ascii_is_utf8}
 use Rattle.def_text.proofs.Report.{Reports, report}
-use Rattle.def_sane.specs.declared.Unfit.{Unfit}
 use Rattle.def_sane.specs.Unfit.{first_unfit, first_unfit_valid}
 use Rattle.def_choice.specs.Cheapest.{cheapest}
 use Rattle.def_choice.specs.Strict.{strict}

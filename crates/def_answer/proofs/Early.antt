@@ -1,5 +1,5 @@
 -- The statuses of answers, and what needs no source.
-use Rattle.std.proofs.Common.{◌≡◌, ◌⊎◌, inl, inr, ℕ, ◌<◌, Bool, true, false, nat_lt, if◌then◌else◌, List, Option, Some, None, Result, Ok, Err, length, refl, sym, ap, subst, ◌∙◌}
+use Rattle.std.proofs.Common.{◌≡◌, inl, inr, ℕ, Bool, true, false, nat_lt, if◌then◌else◌, List, Option, Some, None, Result, Ok, Err, length, refl, sym, subst, ◌∙◌}
 use Rattle.std.proofs.lemmas.Bool.{lt-ltb}
 use Rattle.def_script.specs.Bytes.{Bytes}
 use Rattle.def_machine.specs.Run.{Outcome, accepted, refused, run}
@@ -11,7 +11,7 @@ use Rattle.def_choice.specs.Cheapest.{cheapest}
 use Rattle.def_choice.specs.Strict.{strict}
 use Rattle.def_files.specs.declared.AssetFault.{AssetFault}
 use Rattle.def_files.specs.AssetFile.{assets_of}
-use Rattle.def_files.specs.RunFile.{RunFile, run_of}
+use Rattle.def_files.specs.RunFile.{run_of}
 use Rattle.def_answer.specs.declared.status.Status.{Status}
 use Rattle.def_answer.specs.declared.status.Status.TheVariants as status
 use Rattle.def_answer.specs.Words.{Command, script, check, satisfy, satisfy_malleable, gen, IsForm}
@@ -20,7 +20,7 @@ use Rattle.def_answer.specs.Lines.{file_too_long_line}
 use Rattle.def_answer.specs.Reading.{Reading}
 use Rattle.def_answer.specs.Reading as reading
 use Rattle.def_answer.specs.Reply.{Reply, reply, unless_unfit, text_reply, unless_refused, MOST_FILE, file_reply, chosen_reply, satisfy_reply, outcome_reply, run_reply}
-use Rattle.def_answer.specs.Answer.{script_reply, check_reply, RepliesToText, Replies, RepliesToWords, Answer}
+use Rattle.def_answer.specs.Answer.{script_reply, check_reply, RepliesToText, Replies, RepliesToWords}
 use Rattle.def_answer.specs.Laws.{IsAnswered, AnswersHaveStatus, NeedsNoSource, AnswerWithoutSource, IsEarly, EarlyAnswer, LongAssetFile, LongRunFile}
 use Rattle.def_answer.proofs.Unique.{one_form}
 

@@ -1,12 +1,12 @@
 -- The generated trees have satisfactions, and so both choices find one.
-use Rattle.std.proofs.Common.{◌≡◌, ℕ, zero, suc, ◌+◌, ◌-◌, ◌≤◌, ◌<◌, Bool, true, false, not, ◌&&◌, ◌||◌, nat_eq, nat_lt, is_some, if◌then◌else◌, List, [], ◌∷◌, Option, Some, None, Contains, map, length, reverse, refl, sym, ap, subst, ◌∙◌, arith}
-use Rattle.std.specs.Prelude.{⊤, filter, IsSome}
+use Rattle.std.proofs.Common.{◌≡◌, ℕ, zero, suc, ◌-◌, Bool, true, false, ◌&&◌, ◌||◌, nat_eq, nat_lt, is_some, if◌then◌else◌, List, [], ◌∷◌, Option, Some, None, map, length, reverse, refl, sym, ap, ◌∙◌, arith}
+use Rattle.std.specs.Prelude.{filter, IsSome}
 use Rattle.std.specs.List.{list_all, list_any}
 use Rattle.std.specs.Option.{option_map}
 use Rattle.std.proofs.lemmas.Bool.{eqb-true}
 use Rattle.std.proofs.lemmas.List.Folds.{list_any-from_Any}
 use Rattle.def_machine.specs.Stacks.{Stack}
-use Rattle.def_tree.specs.Tree.{Tree, Trees, thresh}
+use Rattle.def_tree.specs.Tree.{Trees, thresh}
 use Rattle.def_tree.specs.Range.{count}
 use Rattle.def_assets.specs.Assets.{Assets}
 use Rattle.def_satisfaction.specs.Weight.{weight}

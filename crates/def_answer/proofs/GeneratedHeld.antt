@@ -1,16 +1,15 @@
 -- The generated assets are assets.
-use Rattle.std.proofs.Common.{◌≡◌, ◌⊎◌, inl, inr, ℕ, zero, suc, ◌+◌, ◌%◌, ◌≤◌, ◌<◌, ◌^◌, Bool, true, false, ◌&&◌, nat_eq, List, [], ◌∷◌, All, map, length, replicate, slice_index, slice_index_or, refl, sym, ap, subst, ◌∙◌, arith, lit<}
-use Rattle.std.specs.Prelude.{⊤}
+use Rattle.std.proofs.Common.{◌≡◌, inl, ℕ, zero, suc, ◌+◌, ◌%◌, ◌≤◌, ◌<◌, Bool, true, false, ◌&&◌, nat_eq, List, [], ◌∷◌, All, map, replicate, slice_index_or, refl, sym, ap, subst, arith, lit<}
 use Rattle.std.specs.List.{range_with_len, IsDistinct, AllByRecursion}
 use Rattle.std.specs.Str.{bytes_eq}
 use Rattle.std.proofs.lemmas.Bool.{eqb-true}
-use Rattle.std.proofs.lemmas.List.{length-replicate, get_or-replicate}
+use Rattle.std.proofs.lemmas.List.{length-replicate}
 use Rattle.std.proofs.lemmas.List.Elements.{All-map}
 use Rattle.std.proofs.lemmas.List.FromFn.{length-range_with_len, get_or-range_with_len}
 use Rattle.def_script.specs.Bytes.{Bytes, IsBytes}
 use Rattle.def_tree.specs.Range.{IsKey}
-use Rattle.def_assets.specs.Assets.{AreAssets, IsSignature, IsPreimage}
-use Rattle.def_answer.specs.Generated.{generated_key, generated_sig, generated_preimage, generated_assets}
+use Rattle.def_assets.specs.Assets.{IsSignature, IsPreimage}
+use Rattle.def_answer.specs.Generated.{generated_key, generated_sig, generated_preimage}
 use Rattle.def_answer.specs.Laws.{GeneratedAreAssets}
 
 -- ---- each of them

@@ -1,9 +1,9 @@
 -- The generated trees are sane.
-use Rattle.std.proofs.Common.{◌≡◌, ℕ, zero, suc, ◌+◌, ◌%◌, ◌≤◌, ◌<◌, Bool, true, false, ◌&&◌, ◌==◌, nat_le, nat_lt, is_none, if◌then◌else◌, List, [], ◌∷◌, Option, Some, None, Result, Ok, Err, length, refl, sym, ap, subst, ◌∙◌, arith}
+use Rattle.std.proofs.Common.{◌≡◌, ℕ, zero, suc, ◌+◌, ◌%◌, ◌≤◌, Bool, true, false, ◌&&◌, ◌==◌, nat_le, nat_lt, is_none, if◌then◌else◌, List, [], ◌∷◌, Option, Some, None, Result, Ok, Err, length, refl, arith}
 use Rattle.std.specs.Prelude.{⊤}
 use Rattle.std.proofs.lemmas.Bool.{leb-true, le-ltb}
 use Rattle.def_tree.specs.declared.Wrapper.TheVariants.{S}
-use Rattle.def_tree.specs.Tree.{Tree, Trees, wrap, thresh, none, more}
+use Rattle.def_tree.specs.Tree.{Tree, Trees, wrap, none, more}
 use Rattle.def_tree.specs.Range.{count}
 use Rattle.def_types.specs.declared.Ty.{Ty}
 use Rattle.def_types.specs.declared.Mall.{Mall}
@@ -15,7 +15,7 @@ use Rattle.def_sane.specs.Formal.{Takes}
 use Rattle.def_sane.specs.Limits.{opcode_count}
 use Rattle.def_sane.specs.Locks.{mix}
 use Rattle.def_sane.specs.Keys.{repeated_key}
-use Rattle.def_sane.specs.Most.{both, either, counted, most_sat, most_dsat, most_parts, number_of, limits_of}
+use Rattle.def_sane.specs.Most.{both, either, most_sat, most_dsat, most_parts, number_of, limits_of}
 use Rattle.def_sane.specs.declared.Unfit.{Unfit}
 use Rattle.def_sane.specs.declared.Unfit.TheVariants as unfit
 use Rattle.def_sane.specs.Unfit.{broken_rule, wrong_top, too_large, too_many_ops, too_many_items, malleable, no_signature, mixed_locks, repeated, first_reason, first_unfit_valid, IsSane}

@@ -1,21 +1,18 @@
 -- Words that are texts have exactly one answer.
-use Rattle.std.proofs.Common.{◌≡◌, ◌≢◌, ◌⊎◌, inl, inr, ℕ, ◌<◌, List, [], ◌∷◌, Option, Some, None, All, refl, sym, ap, subst, ◌∙◌, arith}
-use Rattle.std.specs.Prelude.{⊤}
+use Rattle.std.proofs.Common.{◌≡◌, ◌⊎◌, inl, inr, List, [], Option, Some, None, All, refl, sym, ap, subst, ◌∙◌, arith}
 use Rattle.std.specs.Str.{IsUtf8}
 use Rattle.def_script.specs.Bytes.{Bytes}
 use Rattle.def_tree.specs.Tree.{Tree}
-use Rattle.def_text.specs.Refusal.{TextReads}
 use Rattle.def_text.proofs.Complete.{one_tree}
 use Rattle.def_text.proofs.OneAnswer.{one_refusal, none_beside_tree}
 use Rattle.def_sane.specs.declared.Unfit.{Unfit}
 use Rattle.def_sane.specs.Unfit.{first_unfit, first_unfit_valid}
 use Rattle.def_choice.specs.Cheapest.{cheapest}
 use Rattle.def_choice.specs.Strict.{strict}
-use Rattle.def_answer.specs.declared.status.Status.{Status}
 use Rattle.def_answer.specs.Words.{Command, script, check, satisfy, satisfy_malleable, run, gen, words_of, IsForm, HasNoForm}
 use Rattle.def_answer.specs.Reading.{Reading, read, refused, HasReading}
 use Rattle.def_answer.specs.Reply.{Reply, reply, text_reply, satisfy_reply}
-use Rattle.def_answer.specs.Answer.{script_reply, check_reply, RepliesToText, Replies, RepliesToWords, Answer}
+use Rattle.def_answer.specs.Answer.{script_reply, check_reply, RepliesToText, Replies, RepliesToWords}
 use Rattle.def_answer.specs.Laws.{OneForm, FormOrNone, OneAnswer, SomeAnswer}
 use Rattle.def_answer.proofs.Forms.{command_of, is_form, form_found, none_has_form}
 use Rattle.def_answer.proofs.Answered.{OnText, OnWords, reply_to_words, replies_to_words}

@@ -1,5 +1,5 @@
 -- A fact of each number from 1 up to some other one.
-use Rattle.std.proofs.Common.{◌≡◌, ◌⊎◌, inl, inr, ℕ, zero, suc, ◌≤◌, ◌<◌, arith, subst, sym}
+use Rattle.std.proofs.Common.{◌≡◌, ◌⊎◌, inl, inr, ℕ, zero, suc, ◌≤◌, arith, subst, sym}
 use Rattle.std.specs.Prelude.{⊤}
 
 abbrev pub UpTo : (P : ℕ → Type 0) → (most : ℕ) → Type 0

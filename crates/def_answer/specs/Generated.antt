@@ -1,12 +1,11 @@
 -- The text, the tree and the assets that `gen` makes from a number: a threshold of that many children, half
 -- of them rounded up.
-use Rattle.std.specs.Prelude.{ℕ, zero, suc, ◌+◌, ◌/◌, ◌%◌, ◌==◌, List, [], ◌∷◌, ◌++◌, map, replicate, codes, decimal, if◌then◌else◌}
+use Rattle.std.specs.Prelude.{ℕ, zero, suc, ◌+◌, ◌/◌, ◌%◌, ◌==◌, [], ◌∷◌, ◌++◌, map, replicate, codes, decimal, if◌then◌else◌}
 use Rattle.std.specs.List.{range_with_len}
 use Rattle.hex.specs.Hex.{encode_lower}
 use Rattle.def_hash.specs.declared.HashKind.TheVariants.{Sha256}
 use Rattle.def_hash.specs.Hash.{sha256}
 use Rattle.def_script.specs.Bytes.{Bytes}
-use Rattle.def_machine.specs.declared.Locks.{Locks}
 use Rattle.def_tree.specs.declared.Two.TheVariants.{AndV}
 use Rattle.def_tree.specs.declared.Wrapper.TheVariants.{A, S, C, V, J}
 use Rattle.def_tree.specs.Tree.{Key, Tree, Trees, just_1, pk_k, hash, two, thresh, wrap, none, more}

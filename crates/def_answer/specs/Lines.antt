@@ -4,13 +4,11 @@ use Rattle.std.specs.Prelude.{ℕ, List, [], ◌∷◌, ◌++◌, codes, decimal
 use Rattle.hex.specs.Hex.{encode_lower}
 use Rattle.def_script.specs.Bytes.{Bytes}
 use Rattle.def_machine.specs.declared.ScriptFault.{ScriptFault}
-use Rattle.def_types.specs.declared.rule.RuleAt.{RuleAt}
 use Rattle.def_text.specs.declared.TextFault.{TextFault}
 use Rattle.def_text.specs.declared.TextFault.TheVariants as text_fault
 use Rattle.def_sane.specs.declared.Limits.{Limits}
 use Rattle.def_sane.specs.declared.Unfit.{Unfit}
 use Rattle.def_sane.specs.declared.Unfit.TheVariants as unfit
-use Rattle.def_files.specs.declared.Member.{Member}
 use Rattle.def_files.specs.declared.AssetFault.{AssetFault}
 use Rattle.def_files.specs.declared.AssetFault.TheVariants as file_fault
 use Rattle.def_files.specs.Json.{member_name}

@@ -1,5 +1,5 @@
 -- What the program replies to a text, a file and a run: a status and a report.
-use Rattle.std.specs.Prelude.{ℕ, ◌++◌, nat_lt, List, length, if◌then◌else◌, Option, Some, None, Result, Ok, Err}
+use Rattle.std.specs.Prelude.{ℕ, nat_lt, List, length, if◌then◌else◌, Option, Some, None, Result, Ok, Err}
 use Rattle.def_script.specs.Bytes.{Bytes}
 use Rattle.def_machine.specs.Run.{Outcome, accepted, refused, run}
 use Rattle.def_tree.specs.Tree.{Tree}
@@ -7,7 +7,7 @@ use Rattle.def_assets.specs.Assets.{Assets}
 use Rattle.def_sane.specs.declared.Unfit.{Unfit}
 use Rattle.def_files.specs.declared.AssetFault.{AssetFault}
 use Rattle.def_files.specs.AssetFile.{assets_of}
-use Rattle.def_files.specs.RunFile.{RunFile, run_of}
+use Rattle.def_files.specs.RunFile.{run_of}
 use Rattle.def_answer.specs.declared.status.Status.{Status}
 use Rattle.def_answer.specs.declared.status.Status.TheVariants as status
 use Rattle.def_answer.specs.Lines.{usage_line, no_satisfaction_line, text_line, unfit_line, file_too_long_line, file_line}

@@ -1,7 +1,6 @@
 -- Answers to `satisfy TEXT` and `satisfy --malleable TEXT`.
 use Rattle.std.specs.Prelude.{◌<◌, length, List, [], ◌∷◌, ◌++◌, codes}
 use Rattle.def_script.specs.Bytes.{Bytes}
-use Rattle.def_answer.specs.declared.status.Status.{Status}
 use Rattle.def_answer.specs.declared.status.Status.TheVariants as status
 use Rattle.def_answer.specs.Reply.{MOST_FILE}
 use Rattle.def_answer.specs.Answer.{Answer}

@@ -1,7 +1,6 @@
 -- Answers to words without a form, and to `script TEXT` and `check TEXT`.
 use Rattle.std.specs.Prelude.{ℕ, List, [], ◌∷◌, ◌++◌, codes, replicate}
 use Rattle.def_script.specs.Bytes.{Bytes}
-use Rattle.def_answer.specs.declared.status.Status.{Status}
 use Rattle.def_answer.specs.declared.status.Status.TheVariants as status
 use Rattle.def_answer.specs.Answer.{Answer}
 use Rattle.def_answer.specs.Samples.{A, B, C, H1, call, pk, sha, nothing, lines, known}
