@@ -20,7 +20,7 @@ use Rattle.def_answer.specs.Lines.{file_too_long_line}
 use Rattle.def_answer.specs.Reading.{Reading}
 use Rattle.def_answer.specs.Reading as reading
 use Rattle.def_answer.specs.Reply.{Reply, reply, unless_unfit, text_reply, unless_refused, MOST_FILE, file_reply, chosen_reply, satisfy_reply, outcome_reply, run_reply}
-use Rattle.def_answer.specs.Answer.{script_reply, check_reply, RepliesToText, Replies, RepliesToWords}
+use Rattle.def_answer.specs.Answer.{script_reply, check_reply, gen_reply, RepliesToText, Replies, RepliesToWords}
 use Rattle.def_answer.specs.Laws.{IsAnswered, AnswersHaveStatus, NeedsNoSource, AnswerWithoutSource, IsEarly, EarlyAnswer, LongAssetFile, LongRunFile}
 use Rattle.def_answer.proofs.Unique.{one_form}
 
@@ -89,6 +89,7 @@ answered_text : (text : Bytes) (reason : Tree → Option Unfit) (next : Tree →
 answered_text text reason next r after h = subst (OfStatus IsAnswered) (sym h.2) (text_status IsAnswered reason next h.0 tt after)
 
 answered_reply : (c : Command) (source : Bytes) (r : Reply) → Replies c source r → OfStatus IsAnswered r
+unfolding gen_reply
 answered_reply (script text) source r h = answered_text text first_unfit_valid script_reply r (λ tree. tt) h
 answered_reply (check text) source r h = answered_text text first_unfit check_reply r (λ tree. tt) h
 answered_reply (satisfy text) source r h =

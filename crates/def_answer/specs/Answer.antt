@@ -18,7 +18,7 @@ use Rattle.def_answer.specs.Reading.{Reading, HasReading}
 use Rattle.def_answer.specs.Reply.{Reply, reply, usage_reply, text_reply, satisfy_reply, run_reply}
 
 -- what `gen` prints, from its two satisfactions
-abbrev pub gen_report : (n : ℕ) → (strict cheapest : List Bytes) → Bytes
+unfoldable pub gen_report : (n : ℕ) → (strict cheapest : List Bytes) → Bytes
 gen_report n strict cheapest =
     children_line n (threshold_of n)
     ++ limits_line (limits_of (generated_tree n))
@@ -26,7 +26,7 @@ gen_report n strict cheapest =
     ++ cheapest_line cheapest
 
 -- the generated tree can always be satisfied
-abbrev pub gen_reply : (n : ℕ) → Reply
+unfoldable pub gen_reply : (n : ℕ) → Reply
 gen_reply n =
     reply status.Done (gen_report n (unwrap_or (strict (generated_tree n) (generated_assets n)) [])
     (unwrap_or (cheapest (generated_tree n) (generated_assets n)) []))

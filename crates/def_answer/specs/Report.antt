@@ -19,7 +19,7 @@ use Rattle.def_answer.specs.Lines.{line, script_line, program_line, limits_line,
 
 -- ---- script
 
-abbrev pub script_report : Tree → Bytes
+unfoldable pub script_report : Tree → Bytes
 script_report tree = line (encode_lower (script_of tree))
 
 -- ---- check
@@ -35,7 +35,7 @@ type_letters ty mall =
     ++ letter ty.d (codes "d")
     ++ letter ty.u (codes "u") ++ letter mall.s (codes "s") ++ letter mall.f (codes "f") ++ letter mall.e (codes "e")
 
-abbrev pub check_report : Tree → Bytes
+unfoldable pub check_report : Tree → Bytes
 check_report tree =
     line (codes "text " ++ printed tree)
     ++ line (codes "type " ++ type_letters (type_of tree) (mall_of tree))
@@ -75,7 +75,7 @@ abbrev pub replay : Tree → Assets → (stack : List Bytes) → Outcome
 replay tree assets stack = run (given_of assets) (script_of tree) stack
 
 -- the stack's items are printed bottom first
-abbrev pub satisfy_report : Tree → Assets → (stack : List Bytes) → Bytes
+unfoldable pub satisfy_report : Tree → Assets → (stack : List Bytes) → Bytes
 satisfy_report tree assets stack =
     script_line (script_of tree)
     ++ program_line (script_of tree)
@@ -90,7 +90,7 @@ satisfy_report tree assets stack =
 abbrev pub check_line : Bytes × Bytes → Bytes
 check_line pair = line (codes "check " ++ encode_lower pair.0 ++ codes " " ++ encode_lower pair.1)
 
-abbrev pub run_report : Outcome → Bytes
+unfoldable pub run_report : Outcome → Bytes
 run_report (accepted ops peak checks) =
     line (codes "accepted ops " ++ decimal ops ++ codes " peak " ++ decimal peak) ++ flat_map check_line checks
 run_report (refused fault place) = script_refused_line fault place

@@ -10,8 +10,8 @@ use Rattle.def_files.specs.declared.AssetFault.TheVariants as fault
 use Rattle.def_files.specs.Json.{reading, is_object, is_list_of, spelled}
 use Rattle.def_files.specs.Parts.{version, sequence, locktime, list, elements, strings, is_text, is_hex, is_pair, is_hex_pair, key_of, sig_of}
 use Rattle.def_files.specs.Refusals.{no_object, no_list_of, no_version, no_sequence, no_locktime, no_hex, too_many}
-use Rattle.def_files.specs.AssetFile.{asset_refusals, assets_in, is_signature, is_preimage}
-use Rattle.def_files.specs.RunFile.{script_text, run_refusals, run_in}
+use Rattle.def_files.specs.AssetFile.{assets_of, asset_refusals, assets_in, is_signature, is_preimage}
+use Rattle.def_files.specs.RunFile.{run_of, script_text, run_refusals, run_in}
 use Rattle.def_files.specs.Laws.{AssetsWantNoMemory, IsRunFault, RunFaults}
 use Rattle.def_files.proofs.Distinct.{is_new}
 use Rattle.def_files.proofs.Passing.{Tells, AllTell, unless_tells, each_tells, given_tells}
@@ -97,6 +97,7 @@ asset_faults file =
     )
 
 pub assets_want_no_memory : AssetsWantNoMemory
+unfolding assets_of
 assets_want_no_memory bytes e =
     given_tells IsNotMemory asset_refusals assets_in (reading bytes) fault.Memory (λ q. cc q) asset_faults e refl
 
@@ -138,4 +139,5 @@ run_faults_tell file =
     )
 
 pub run_faults : RunFaults
+unfolding run_of
 run_faults bytes e q = given_tells IsRunFault run_refusals run_in (reading bytes) e tt run_faults_tell q

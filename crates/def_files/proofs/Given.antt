@@ -14,8 +14,8 @@ use Rattle.def_files.specs.declared.AssetFault.TheVariants as fault
 use Rattle.def_files.specs.Json.{find_member, reading}
 use Rattle.def_files.specs.Parts.{elements, bytes_of, key_of, sig_of, key_text, sig_text}
 use Rattle.def_files.specs.Refusals.{unless_refused}
-use Rattle.def_files.specs.AssetFile.{asset_refusals, assets_in, is_signature, is_preimage}
-use Rattle.def_files.specs.RunFile.{RunFile, script_text, run_refusals, run_in}
+use Rattle.def_files.specs.AssetFile.{assets_of, asset_refusals, assets_in, is_signature, is_preimage}
+use Rattle.def_files.specs.RunFile.{RunFile, run_of, script_text, run_refusals, run_in}
 use Rattle.def_files.specs.Laws.{AssetFileGivesAssets, AreFewAssets, RunFileGivesRun, IsRunFile}
 use Rattle.def_files.proofs.Passing.{none_applies, held, each_held, given_ok}
 use Rattle.def_files.proofs.Strings.{spelled-IsBytes}
@@ -60,6 +60,7 @@ assets_fit file assets e =
     })
 
 pub asset_file_gives_assets : AssetFileGivesAssets
+unfolding assets_of
 asset_file_gives_assets bytes assets e =
     let read = given_ok (λ file. unless_refused (asset_refusals file) (assets_in file)) (reading bytes) assets e in
     assets_fit read.0 assets read.1
@@ -86,6 +87,7 @@ run_fits file given e =
     })
 
 pub run_file_gives_run : RunFileGivesRun
+unfolding run_of
 run_file_gives_run bytes given e =
     let read = given_ok (λ file. unless_refused (run_refusals file) (run_in file)) (reading bytes) given e in
     run_fits read.0 given read.1

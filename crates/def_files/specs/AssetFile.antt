@@ -55,5 +55,5 @@ assets_in file = record {
 }
 
 -- what the bytes of an asset file give, or why they are refused
-abbrev pub assets_of : Bytes → Result Assets AssetFault
+unfoldable pub assets_of : Bytes → Result Assets AssetFault
 assets_of bytes = given (λ file. unless_refused (asset_refusals file) (assets_in file)) (reading bytes)

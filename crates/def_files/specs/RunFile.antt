@@ -57,5 +57,5 @@ run_in file = record {
 }
 
 -- what the bytes of a run file give, or why they are refused
-abbrev pub run_of : Bytes → Result RunFile AssetFault
+unfoldable pub run_of : Bytes → Result RunFile AssetFault
 run_of bytes = given (λ file. unless_refused (run_refusals file) (run_in file)) (reading bytes)
