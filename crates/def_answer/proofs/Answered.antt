@@ -1,0 +1,121 @@
+-- The answer, computed: a text is read by the machine that reads tokens one after the other.
+use Rattle.std.proofs.Common.{◌≡◌, ◌≤◌, inl, inr, Bool, true, false, nat_lt, if◌then◌else◌, List, Option, Some, None, length, refl, subst}
+use Rattle.std.specs.Prelude.{⊤}
+use Rattle.std.specs.Char.{is_ascii}
+use Rattle.std.specs.List.{list_all}
+use Rattle.std.specs.Str.{IsUtf8}
+use Rattle.std.proofs.lemmas.Bool.{ltb-true, ltb-false}
+use Rattle.def_script.specs.Bytes.{Bytes}
+use Rattle.def_text.specs.declared.TextFault.TheVariants.{TooLong, Syntax, TooDeep}
+use Rattle.def_text.specs.Token.{tokens}
+use Rattle.def_text.specs.Refusal.{MOST_BYTES}
+use Rattle.def_text.specs.Reader.{START, Outcome, tree_outcome, syntax_outcome, deep_outcome, outcome}
+use Rattle.def_text.proofs.Completion.{ascii_is_utf8}
+use Rattle.def_text.proofs.Report.{Reports, report}
+use Rattle.def_sane.specs.Unfit.{first_unfit, first_unfit_valid}
+use Rattle.def_choice.specs.Cheapest.{cheapest}
+use Rattle.def_choice.specs.Strict.{strict}
+use Rattle.def_answer.specs.declared.status.Status.{Status}
+use Rattle.def_answer.specs.Words.{Command, script, check, satisfy, satisfy_malleable, run, gen}
+use Rattle.def_answer.specs.Reading.{Reading, read, refused, HasReading}
+use Rattle.def_answer.specs.Reply.{Reply, reply, usage_reply, text_reply, satisfy_reply, run_reply}
+use Rattle.def_answer.proofs.Forms.{command_of, is_form, none_has_form}
+use Rattle.def_answer.specs.Answer.{script_reply, check_reply, gen_reply, Replies, RepliesToWords, Answer}
+
+-- ---- texts
+
+abbrev pub reading_by : Outcome → Reading
+reading_by (tree_outcome tree offsets) = read tree offsets
+reading_by (syntax_outcome at) = refused (Syntax at)
+reading_by (deep_outcome at) = refused (TooDeep at)
+
+abbrev pub reading_of : (text : Bytes) → Reading
+reading_of text = if nat_lt MOST_BYTES (length text) then refused TooLong else reading_by (outcome START (tokens text))
+
+-- a text that isn't too long
+short_reading : (text : Bytes) (o : Outcome) → length text ≤ MOST_BYTES → Reports text o → HasReading text (reading_by o)
+short_reading text (tree_outcome tree offsets) short reports = record { short = short; spelled = reports.0; none_deep = reports.1 }
+short_reading text (syntax_outcome at) short reports = (λ q. cc q, (short, reports))
+short_reading text (deep_outcome at) short reports = (λ q. cc q, (short, reports))
+
+pub has_reading : (text : Bytes) → IsUtf8 text → HasReading text (reading_of text)
+has_reading text utf8 = go (nat_lt MOST_BYTES (length text)) refl
+  where
+    go : (b : Bool) → nat_lt MOST_BYTES (length text) ≡ b → HasReading text (if b then refused TooLong
+        else reading_by (outcome START (tokens text)))
+    go true e = (λ q. cc q, ltb-true MOST_BYTES (length text) e)
+    go false e = short_reading text (outcome START (tokens text)) (ltb-false MOST_BYTES (length text) e) (report text utf8)
+
+-- ---- commands
+
+-- what holds of the text of a command
+abbrev pub OnText : (Bytes → Type 0) → Command → Type 0
+OnText P (script text) = P text
+OnText P (check text) = P text
+OnText P (satisfy text) = P text
+OnText P (satisfy_malleable text) = P text
+OnText P run = ⊤
+OnText P (gen n) = ⊤
+
+abbrev pub reply_to : (source : Bytes) → Command → Reply
+reply_to source (script text) = text_reply first_unfit_valid script_reply (reading_of text)
+reply_to source (check text) = text_reply first_unfit check_reply (reading_of text)
+reply_to source (satisfy text) = text_reply first_unfit (satisfy_reply strict source) (reading_of text)
+reply_to source (satisfy_malleable text) = text_reply first_unfit_valid (satisfy_reply cheapest source) (reading_of text)
+reply_to source run = run_reply source
+reply_to source (gen n) = gen_reply n
+
+replies_to : (command : Command) (source : Bytes) → OnText IsUtf8 command → Replies command source (reply_to source command)
+replies_to (script text) source utf8 = (reading_of text, has_reading text utf8, refl)
+replies_to (check text) source utf8 = (reading_of text, has_reading text utf8, refl)
+replies_to (satisfy text) source utf8 = (reading_of text, has_reading text utf8, refl)
+replies_to (satisfy_malleable text) source utf8 = (reading_of text, has_reading text utf8, refl)
+replies_to run source utf8 = refl
+replies_to (gen n) source utf8 = refl
+
+abbrev pub reply_to_words : (source : Bytes) → Option Command → Reply
+reply_to_words source None = usage_reply
+reply_to_words source (Some command) = reply_to source command
+
+abbrev pub OnWords : (Bytes → Type 0) → Option Command → Type 0
+OnWords P None = ⊤
+OnWords P (Some command) = OnText P command
+
+pub replies_to_words : (words : List Bytes) (source : Bytes) → OnWords IsUtf8 (command_of words) →
+    RepliesToWords words source (reply_to_words source (command_of words))
+replies_to_words words source utf8 = go (command_of words) refl utf8
+  where
+    go : (o : Option Command) → command_of words ≡ o → OnWords IsUtf8 o → RepliesToWords words source (reply_to_words source o)
+    go None e utf8 = inr (none_has_form words e, refl)
+    go (Some command) e utf8 = inl (command, is_form words command e, replies_to command source utf8)
+
+-- ---- answers that are written out
+
+abbrev pub is_ascii_text : Command → Bool
+is_ascii_text (script text) = list_all is_ascii text
+is_ascii_text (check text) = list_all is_ascii text
+is_ascii_text (satisfy text) = list_all is_ascii text
+is_ascii_text (satisfy_malleable text) = list_all is_ascii text
+is_ascii_text run = true
+is_ascii_text (gen n) = true
+
+abbrev pub are_ascii_words : Option Command → Bool
+are_ascii_words None = true
+are_ascii_words (Some command) = is_ascii_text command
+
+ascii_text : (command : Command) → is_ascii_text command ≡ true → OnText IsUtf8 command
+ascii_text (script text) ascii = ascii_is_utf8 text ascii
+ascii_text (check text) ascii = ascii_is_utf8 text ascii
+ascii_text (satisfy text) ascii = ascii_is_utf8 text ascii
+ascii_text (satisfy_malleable text) ascii = ascii_is_utf8 text ascii
+ascii_text run ascii = tt
+ascii_text (gen n) ascii = tt
+
+ascii_words : (o : Option Command) → are_ascii_words o ≡ true → OnWords IsUtf8 o
+ascii_words None ascii = tt
+ascii_words (Some command) ascii = ascii_text command ascii
+
+pub answered : {words : List Bytes} {source : Bytes} {status : Status} {report : Bytes} → are_ascii_words (command_of words) ≡ true
+    → reply_to_words source (command_of words) ≡ reply status report → Answer words source status report
+answered {words} {source} {status} {report} ascii same =
+    record { replies = subst (RepliesToWords words source) same (replies_to_words words source (ascii_words (command_of words) ascii)) }

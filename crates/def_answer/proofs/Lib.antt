@@ -1,0 +1,14 @@
+pub mod Forms
+pub mod Answered
+pub mod Unique
+pub mod Early
+pub mod Computing
+pub mod TextRows
+pub mod SatisfyRows
+pub mod RunRows
+pub mod GenRows
+pub mod UpTo
+pub mod GeneratedRead
+pub mod GeneratedHeld
+pub mod GeneratedSane
+pub mod GeneratedChosen

@@ -1,0 +1,93 @@
+-- Words that are texts have exactly one answer.
+use Rattle.std.proofs.Common.{◌≡◌, ◌⊎◌, inl, inr, List, [], Option, Some, None, All, refl, sym, ap, subst, ◌∙◌, arith}
+use Rattle.std.specs.Str.{IsUtf8}
+use Rattle.def_script.specs.Bytes.{Bytes}
+use Rattle.def_tree.specs.Tree.{Tree}
+use Rattle.def_text.proofs.Complete.{one_tree}
+use Rattle.def_text.proofs.OneAnswer.{one_refusal, none_beside_tree}
+use Rattle.def_sane.specs.declared.Unfit.{Unfit}
+use Rattle.def_sane.specs.Unfit.{first_unfit, first_unfit_valid}
+use Rattle.def_choice.specs.Cheapest.{cheapest}
+use Rattle.def_choice.specs.Strict.{strict}
+use Rattle.def_answer.specs.Words.{Command, script, check, satisfy, satisfy_malleable, run, gen, words_of, IsForm, HasNoForm}
+use Rattle.def_answer.specs.Reading.{Reading, read, refused, HasReading}
+use Rattle.def_answer.specs.Reply.{Reply, reply, text_reply, satisfy_reply}
+use Rattle.def_answer.specs.Answer.{script_reply, check_reply, RepliesToText, Replies, RepliesToWords}
+use Rattle.def_answer.specs.Laws.{OneForm, FormOrNone, OneAnswer, SomeAnswer}
+use Rattle.def_answer.proofs.Forms.{command_of, is_form, form_found, none_has_form}
+use Rattle.def_answer.proofs.Answered.{OnText, OnWords, reply_to_words, replies_to_words}
+
+-- ---- forms
+
+pub one_form : OneForm
+one_form words c d f g = cc (sym (form_found words c f) ∙ form_found words d g)
+
+pub form_or_none : FormOrNone
+form_or_none words = go (command_of words) refl
+  where
+    go : (o : Option Command) → command_of words ≡ o → ((c : Command) × IsForm words c) ⊎ HasNoForm words
+    go None e = inr (none_has_form words e)
+    go (Some c) e = inl (c, is_form words c e)
+
+-- the text of a command is one of its words
+text_of_words : (P : Bytes → Type 0) (c : Command) → All P (words_of c) → OnText P c
+text_of_words P (script text) h = h 1 [] (omega arith)
+text_of_words P (check text) h = h 1 [] (omega arith)
+text_of_words P (satisfy text) h = h 1 [] (omega arith)
+text_of_words P (satisfy_malleable text) h = h 2 [] (omega arith)
+text_of_words P run h = tt
+text_of_words P (gen n) h = tt
+
+text_of_form : (words : List Bytes) (c : Command) → All IsUtf8 words → IsForm words c → OnText IsUtf8 c
+text_of_form words c h form = text_of_words IsUtf8 c (subst (All IsUtf8) form.same h)
+
+-- ---- readings
+
+one_reading : (text : Bytes) (a b : Reading) → IsUtf8 text → HasReading text a → HasReading text b → a ≡ b
+one_reading text (read x os) (read y ps) utf8 h k =
+    let same = one_tree h.spelled k.spelled in
+    ap (λ t. read t os) same.0 ∙ ap (λ qs. read y qs) same.1
+one_reading text (read x os) (refused e) utf8 h k = absurd (none_beside_tree text x os e utf8 k.0 h k.1)
+one_reading text (refused d) (read y ps) utf8 h k = absurd (none_beside_tree text y ps d utf8 h.0 k h.1)
+one_reading text (refused d) (refused e) utf8 h k = ap refused (one_refusal text d e h.0 k.0 h.1 k.1)
+
+one_text_reply : (text : Bytes) (reason : Tree → Option Unfit) (next : Tree → Reply) (a b : Reply) → IsUtf8 text
+    → RepliesToText text reason next a → RepliesToText text reason next b → a ≡ b
+one_text_reply text reason next a b utf8 h k = h.2 ∙ ap (text_reply reason next) (one_reading text h.0 k.0 utf8 h.1 k.1) ∙ sym k.2
+
+one_reply : (c : Command) (source : Bytes) (a b : Reply) → OnText IsUtf8 c → Replies c source a → Replies c source b → a ≡ b
+one_reply (script text) source a b utf8 h k = one_text_reply text first_unfit_valid script_reply a b utf8 h k
+one_reply (check text) source a b utf8 h k = one_text_reply text first_unfit check_reply a b utf8 h k
+one_reply (satisfy text) source a b utf8 h k = one_text_reply text first_unfit (satisfy_reply strict source) a b utf8 h k
+one_reply (satisfy_malleable text) source a b utf8 h k =
+    one_text_reply text first_unfit_valid (satisfy_reply cheapest source) a b utf8 h k
+one_reply run source a b utf8 h k = h ∙ sym k
+one_reply (gen n) source a b utf8 h k = h ∙ sym k
+
+-- ---- answers
+
+one_to_words : (words : List Bytes) (source : Bytes) (a b : Reply) → All IsUtf8 words → RepliesToWords words source a →
+    RepliesToWords words source b → a ≡ b
+one_to_words words source a b utf8 (inl h) (inl k) =
+    let same = one_form words k.0 h.0 k.1 h.1 in
+    one_reply h.0 source a b (text_of_form words h.0 utf8 h.1) h.2 (subst (λ c. Replies c source b) same k.2)
+one_to_words words source a b utf8 (inl h) (inr k) = absurd (k.0 h.0 h.1)
+one_to_words words source a b utf8 (inr h) (inl k) = absurd (h.0 k.0 k.1)
+one_to_words words source a b utf8 (inr h) (inr k) = h.1 ∙ sym k.1
+
+pub one_answer : OneAnswer
+one_answer words source s t p q utf8 h k =
+    let same = one_to_words words source (reply s p) (reply t q) utf8 h.replies k.replies in
+    (ap (λ (r : Reply). r.status) same, ap (λ (r : Reply). r.report) same)
+
+words_text : (words : List Bytes) → All IsUtf8 words → OnWords IsUtf8 (command_of words)
+words_text words utf8 = go (command_of words) refl
+  where
+    go : (o : Option Command) → command_of words ≡ o → OnWords IsUtf8 o
+    go None e = tt
+    go (Some c) e = text_of_form words c utf8 (is_form words c e)
+
+pub some_answer : SomeAnswer
+some_answer words source utf8 =
+    let r = reply_to_words source (command_of words) in
+    (r.status, r.report, record { replies = replies_to_words words source (words_text words utf8) })

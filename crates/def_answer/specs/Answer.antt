@@ -1,0 +1,62 @@
+-- The program's answer: for each list of words and each content of the source a status and a report. The
+-- words come first, then the text, the reasons against its tree, the file, and the satisfaction or the run.
+use Rattle.std.specs.Prelude.{◌≡◌, ◌⊎◌, ℕ, ◌++◌, List, [], Option, unwrap_or}
+use Rattle.def_script.specs.Bytes.{Bytes}
+use Rattle.def_tree.specs.Tree.{Tree}
+use Rattle.def_sane.specs.declared.Unfit.{Unfit}
+use Rattle.def_sane.specs.Most.{limits_of}
+use Rattle.def_sane.specs.Unfit.{first_unfit, first_unfit_valid}
+use Rattle.def_choice.specs.Cheapest.{cheapest}
+use Rattle.def_choice.specs.Strict.{strict}
+use Rattle.def_answer.specs.declared.status.Status.{Status}
+use Rattle.def_answer.specs.declared.status.Status.TheVariants as status
+use Rattle.def_answer.specs.Words.{Command, script, check, satisfy, satisfy_malleable, run, gen, IsForm, HasNoForm}
+use Rattle.def_answer.specs.Lines.{limits_line}
+use Rattle.def_answer.specs.Report.{script_report, check_report, replay, children_line, strict_line, cheapest_line}
+use Rattle.def_answer.specs.Generated.{threshold_of, generated_tree, generated_assets}
+use Rattle.def_answer.specs.Reading.{Reading, HasReading}
+use Rattle.def_answer.specs.Reply.{Reply, reply, usage_reply, text_reply, satisfy_reply, run_reply}
+
+-- what `gen` prints, from its two satisfactions
+unfoldable pub gen_report : (n : ℕ) → (strict cheapest : List Bytes) → Bytes
+gen_report n strict cheapest =
+    children_line n (threshold_of n)
+    ++ limits_line (limits_of (generated_tree n))
+    ++ strict_line strict (replay (generated_tree n) (generated_assets n) strict)
+    ++ cheapest_line cheapest
+
+-- the generated tree can always be satisfied
+unfoldable pub gen_reply : (n : ℕ) → Reply
+gen_reply n =
+    reply status.Done (gen_report n (unwrap_or (strict (generated_tree n) (generated_assets n)) [])
+    (unwrap_or (cheapest (generated_tree n) (generated_assets n)) []))
+
+abbrev pub script_reply : Tree → Reply
+script_reply tree = reply status.Done (script_report tree)
+
+abbrev pub check_reply : Tree → Reply
+check_reply tree = reply status.Done (check_report tree)
+
+-- the reply to a text, by its reading
+abbrev pub RepliesToText : (text : Bytes) → (first_reason : Tree → Option Unfit) → (next : Tree → Reply) → Reply →
+    Type 0
+RepliesToText text first_reason next r =
+    (reading : Reading) × HasReading text reading × (r ≡ text_reply first_reason next reading)
+
+-- the reply to a command
+abbrev pub Replies : Command → (source : Bytes) → Reply → Type 0
+Replies (script text) source r = RepliesToText text first_unfit_valid script_reply r
+Replies (check text) source r = RepliesToText text first_unfit check_reply r
+Replies (satisfy text) source r = RepliesToText text first_unfit (satisfy_reply strict source) r
+Replies (satisfy_malleable text) source r = RepliesToText text first_unfit_valid (satisfy_reply cheapest source) r
+Replies run source r = r ≡ run_reply source
+Replies (gen n) source r = r ≡ gen_reply n
+
+-- the reply to words: to their command, or where they have no form
+abbrev pub RepliesToWords : (words : List Bytes) → (source : Bytes) → Reply → Type 0
+RepliesToWords words source r =
+    ((command : Command) × IsForm words command × Replies command source r) ⊎ (HasNoForm words × (r ≡ usage_reply))
+
+-- the words and the source have this answer
+pub record Answer (words : List Bytes) (source : Bytes) (status : Status) (report : Bytes) : Type 0 where
+  pub replies : RepliesToWords words source (reply status report)

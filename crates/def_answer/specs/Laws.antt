@@ -1,0 +1,110 @@
+-- What the definitions imply.
+use Rattle.std.specs.Prelude.{◌≡◌, ◌⊎◌, ℕ, ◌<◌, ◌≤◌, ⊤, List, length, All, IsUtf8, Option, IsSome}
+use Rattle.def_script.specs.Bytes.{Bytes}
+use Rattle.def_tree.specs.Tree.{Tree}
+use Rattle.def_assets.specs.Assets.{Assets, AreAssets}
+use Rattle.def_text.specs.Refusal.{TextReads}
+use Rattle.def_sane.specs.Unfit.{IsSane}
+use Rattle.def_choice.specs.Cheapest.{cheapest}
+use Rattle.def_choice.specs.Strict.{strict}
+use Rattle.def_answer.specs.declared.status.Status.{Status}
+use Rattle.def_answer.specs.declared.status.Status.TheVariants as status
+use Rattle.def_answer.specs.Words.{Command, script, check, satisfy, satisfy_malleable, run, gen, MOST_CHILDREN, IsForm, HasNoForm}
+use Rattle.def_answer.specs.Lines.{file_too_long_line}
+use Rattle.def_answer.specs.Generated.{generated_text, generated_tree, generated_assets}
+use Rattle.def_answer.specs.Reply.{reply, MOST_FILE, satisfy_reply, run_reply}
+use Rattle.def_answer.specs.Answer.{Answer}
+
+-- ---- forms
+
+-- words have at most one form, or none
+abbrev pub OneForm : Type 0
+OneForm = (words : List Bytes) (c d : Command) → IsForm words c → IsForm words d → c ≡ d
+
+abbrev pub FormOrNone : Type 0
+FormOrNone = (words : List Bytes) → ((c : Command) × IsForm words c) ⊎ HasNoForm words
+
+-- ---- answers
+
+-- words that are texts have exactly one answer
+abbrev pub OneAnswer : Type 0
+OneAnswer =
+    (words : List Bytes) (source : Bytes) (s t : Status) (p q : Bytes) → All IsUtf8 words →
+    Answer words source s p → Answer words source t q → (s ≡ t) × (p ≡ q)
+
+abbrev pub SomeAnswer : Type 0
+SomeAnswer =
+    (words : List Bytes) (source : Bytes) → All IsUtf8 words → (s : Status) × (p : Bytes) × Answer words source s p
+
+-- the statuses that answers have; the others come of faults and want of memory alone
+abbrev pub IsAnswered : Status → Type 0
+IsAnswered status.Done = ⊤
+IsAnswered status.Usage = ⊤
+IsAnswered status.TextRefused = ⊤
+IsAnswered status.FileRefused = ⊤
+IsAnswered status.NoSatisfaction = ⊤
+IsAnswered status.ReadFault = ⊥
+IsAnswered status.WriteFault = ⊥
+IsAnswered status.Memory = ⊥
+IsAnswered status.ScriptRefused = ⊤
+
+abbrev pub AnswersHaveStatus : Type 0
+AnswersHaveStatus =
+    (words : List Bytes) (source : Bytes) (s : Status) (p : Bytes) → Answer words source s p → IsAnswered s
+
+-- ---- what needs no source
+
+-- the command reads no source
+abbrev pub NeedsNoSource : Command → Type 0
+NeedsNoSource (script text) = ⊤
+NeedsNoSource (check text) = ⊤
+NeedsNoSource (satisfy text) = ⊥
+NeedsNoSource (satisfy_malleable text) = ⊥
+NeedsNoSource run = ⊥
+NeedsNoSource (gen n) = ⊤
+
+-- its answer is the same with every source
+abbrev pub AnswerWithoutSource : Type 0
+AnswerWithoutSource =
+    (words : List Bytes) (source other : Bytes) (c : Command) (s : Status) (p : Bytes) → IsForm words c →
+    NeedsNoSource c →
+    Answer words source s p → Answer words other s p
+
+-- so is one to words or to a text alone
+abbrev pub IsEarly : Status → Type 0
+IsEarly s = (s ≡ status.Usage) ⊎ (s ≡ status.TextRefused)
+
+abbrev pub EarlyAnswer : Type 0
+EarlyAnswer =
+    (words : List Bytes) (source other : Bytes) (s : Status) (p : Bytes) → IsEarly s → Answer words source s p →
+    Answer words other s p
+
+-- a file that is too long is refused, whatever it says
+abbrev pub LongAssetFile : Type 0
+LongAssetFile =
+    (choice : Tree → Assets → Option (List Bytes)) (source : Bytes) (tree : Tree) → MOST_FILE < length source →
+    satisfy_reply choice source tree ≡ reply status.FileRefused file_too_long_line
+
+abbrev pub LongRunFile : Type 0
+LongRunFile =
+    (source : Bytes) → MOST_FILE < length source → run_reply source ≡ reply status.FileRefused file_too_long_line
+
+-- ---- what is generated
+
+-- the generated text is read as the generated tree
+abbrev pub GeneratedIsRead : Type 0
+GeneratedIsRead =
+    (n : ℕ) → 1 ≤ n → n ≤ MOST_CHILDREN → (offsets : List ℕ) × TextReads (generated_text n) (generated_tree n) offsets
+
+abbrev pub GeneratedIsSane : Type 0
+GeneratedIsSane = (n : ℕ) → 1 ≤ n → n ≤ MOST_CHILDREN → IsSane (generated_tree n)
+
+abbrev pub GeneratedAreAssets : Type 0
+GeneratedAreAssets = (n : ℕ) → n ≤ MOST_CHILDREN → AreAssets (generated_assets n)
+
+-- and with these assets the generated tree has both satisfactions
+abbrev pub GeneratedIsSatisfied : Type 0
+GeneratedIsSatisfied =
+    (n : ℕ) → 1 ≤ n → n ≤ MOST_CHILDREN →
+    IsSome (cheapest (generated_tree n) (generated_assets n))
+    × IsSome (strict (generated_tree n) (generated_assets n))

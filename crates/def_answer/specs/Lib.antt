@@ -1,0 +1,16 @@
+pub mod Status
+pub mod Names
+pub mod Program
+pub mod Words
+pub mod Lines
+pub mod Report
+pub mod Generated
+pub mod Reading
+pub mod Reply
+pub mod Answer
+pub mod Laws
+pub mod Samples
+pub mod TextExamples
+pub mod SatisfyExamples
+pub mod RunExamples
+pub mod GenExamples

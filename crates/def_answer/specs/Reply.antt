@@ -1,0 +1,74 @@
+-- What the program replies to a text, a file and a run: a status and a report.
+use Rattle.std.specs.Prelude.{ℕ, nat_lt, List, length, if◌then◌else◌, Option, Some, None, Result, Ok, Err}
+use Rattle.def_script.specs.Bytes.{Bytes}
+use Rattle.def_machine.specs.Run.{Outcome, accepted, refused, run}
+use Rattle.def_tree.specs.Tree.{Tree}
+use Rattle.def_assets.specs.Assets.{Assets}
+use Rattle.def_sane.specs.declared.Unfit.{Unfit}
+use Rattle.def_files.specs.declared.AssetFault.{AssetFault}
+use Rattle.def_files.specs.AssetFile.{assets_of}
+use Rattle.def_files.specs.RunFile.{run_of}
+use Rattle.def_answer.specs.declared.status.Status.{Status}
+use Rattle.def_answer.specs.declared.status.Status.TheVariants as status
+use Rattle.def_answer.specs.Lines.{usage_line, no_satisfaction_line, text_line, unfit_line, file_too_long_line, file_line}
+use Rattle.def_answer.specs.Reading.{Reading}
+use Rattle.def_answer.specs.Reading as reading
+use Rattle.def_answer.specs.Report.{satisfy_report, run_report}
+
+pub record Reply : Type 0 where
+  pub status : Status
+  pub report : Bytes
+
+abbrev pub reply : Status → (report : Bytes) → Reply
+reply status report = record { status = status; report = report }
+
+abbrev pub usage_reply : Reply
+usage_reply = reply status.Usage usage_line
+
+-- ---- texts
+
+-- the reason against a tree, or else what comes next
+abbrev pub unless_unfit : Option Unfit → (offsets : List ℕ) → Reply → Reply
+unless_unfit None offsets next = next
+unless_unfit (Some unfit) offsets next = reply status.TextRefused (unfit_line offsets unfit)
+
+-- the refusal of a text, the first reason against its tree, or else what comes next
+abbrev pub text_reply : (first_reason : Tree → Option Unfit) → (next : Tree → Reply) → Reading → Reply
+text_reply first_reason next (reading.read tree offsets) = unless_unfit (first_reason tree) offsets (next tree)
+text_reply first_reason next (reading.refused fault) = reply status.TextRefused (text_line fault)
+
+-- ---- files
+
+-- how many bytes a file may have
+abbrev pub MOST_FILE : ℕ
+MOST_FILE = 1048576
+
+abbrev pub unless_refused : {A : Type 0} → (next : A → Reply) → Result A AssetFault → Reply
+unless_refused next (Ok file) = next file
+unless_refused next (Err fault) = reply status.FileRefused (file_line fault)
+
+-- the refusal of a file, or else what comes next
+abbrev pub file_reply : {A : Type 0} → (file_of : Bytes → Result A AssetFault) → (next : A → Reply) →
+    (source : Bytes) → Reply
+file_reply file_of next source =
+    if nat_lt MOST_FILE (length source) then reply status.FileRefused file_too_long_line
+    else unless_refused next (file_of source)
+
+-- ---- satisfactions and runs
+
+-- the stack that was chosen, if there is one
+abbrev pub chosen_reply : Tree → Assets → Option (List Bytes) → Reply
+chosen_reply tree assets None = reply status.NoSatisfaction no_satisfaction_line
+chosen_reply tree assets (Some stack) = reply status.Done (satisfy_report tree assets stack)
+
+abbrev pub satisfy_reply : (choice : Tree → Assets → Option (List Bytes)) → (source : Bytes) → Tree → Reply
+satisfy_reply choice source tree =
+    file_reply assets_of (λ assets. chosen_reply tree assets (choice tree assets)) source
+
+abbrev pub outcome_reply : Outcome → Reply
+outcome_reply (accepted ops peak checks) = reply status.Done (run_report (accepted ops peak checks))
+outcome_reply (refused fault place) = reply status.ScriptRefused (run_report (refused fault place))
+
+abbrev pub run_reply : (source : Bytes) → Reply
+run_reply source =
+    file_reply run_of (λ file. outcome_reply (run (record { table = file.pairs; locks = file.locks }) file.script file.stack)) source

@@ -1,0 +1,111 @@
+-- The report of each command, as a function of what it shows.
+use Rattle.std.specs.Prelude.{ℕ, Bool, List, [], ◌∷◌, ◌++◌, length, codes, decimal, flat_map, if◌then◌else◌}
+use Rattle.hex.specs.Hex.{encode_lower}
+use Rattle.def_script.specs.Bytes.{Bytes}
+use Rattle.def_script.specs.Witness.{witness_text}
+use Rattle.def_machine.specs.Run.{Outcome, accepted, refused, run}
+use Rattle.def_tree.specs.Tree.{Tree}
+use Rattle.def_text.specs.Print.{printed}
+use Rattle.def_types.specs.declared.Ty.{Ty}
+use Rattle.def_types.specs.declared.Mall.{Mall}
+use Rattle.def_types.specs.Typed.{type_of, mall_of}
+use Rattle.def_emit.specs.Emit.{script_of}
+use Rattle.def_assets.specs.Assets.{Assets}
+use Rattle.def_sane.specs.Most.{limits_of}
+use Rattle.def_satisfaction.specs.Satisfaction.{given_of}
+use Rattle.def_satisfaction.specs.Weight.{weight}
+use Rattle.def_answer.specs.Names.{base_letter}
+use Rattle.def_answer.specs.Lines.{line, script_line, program_line, limits_line, script_refused_line}
+
+-- ---- script
+
+unfoldable pub script_report : Tree → Bytes
+script_report tree = line (encode_lower (script_of tree))
+
+-- ---- check
+
+-- a property's letter, where the property holds
+abbrev pub letter : (holds : Bool) → Bytes → Bytes
+letter holds name = if holds then name else []
+
+-- the base type, and then the letters of the properties that hold
+abbrev pub type_letters : Ty → Mall → Bytes
+type_letters ty mall =
+    base_letter ty.base ++ letter ty.z (codes "z") ++ letter ty.o (codes "o") ++ letter ty.n (codes "n")
+    ++ letter ty.d (codes "d")
+    ++ letter ty.u (codes "u") ++ letter mall.s (codes "s") ++ letter mall.f (codes "f") ++ letter mall.e (codes "e")
+
+unfoldable pub check_report : Tree → Bytes
+check_report tree =
+    line (codes "text " ++ printed tree)
+    ++ line (codes "type " ++ type_letters (type_of tree) (mall_of tree))
+    ++ script_line (script_of tree)
+    ++ program_line (script_of tree)
+    ++ limits_line (limits_of tree)
+
+-- ---- satisfy
+
+-- an item of a stack; an empty one is `-`
+abbrev pub item_digits : Bytes → Bytes
+item_digits [] = codes "-"
+item_digits (byte ∷ bytes) = encode_lower (byte ∷ bytes)
+
+abbrev pub item_line : Bytes → Bytes
+item_line item = line (codes "item " ++ item_digits item)
+
+abbrev pub witness_line : (stack : List Bytes) → (script : Bytes) → Bytes
+witness_line stack script = line (codes "witness " ++ encode_lower (witness_text stack script))
+
+-- the opcodes and the greatest height of an accepted run. The run of a satisfaction is never refused
+abbrev pub ops_of : Outcome → ℕ
+ops_of (accepted ops peak checks) = ops
+ops_of (refused fault place) = 0
+
+abbrev pub peak_of : Outcome → ℕ
+peak_of (accepted ops peak checks) = peak
+peak_of (refused fault place) = 0
+
+abbrev pub replay_line : (stack : List Bytes) → Outcome → Bytes
+replay_line stack outcome =
+    line (codes "replay ops " ++ decimal (ops_of outcome) ++ codes " items " ++ decimal (length stack)
+    ++ codes " weight " ++ decimal (weight stack) ++ codes " peak " ++ decimal (peak_of outcome))
+
+-- the run of a stack on a tree's Script under the locks and signatures of the assets
+abbrev pub replay : Tree → Assets → (stack : List Bytes) → Outcome
+replay tree assets stack = run (given_of assets) (script_of tree) stack
+
+-- the stack's items are printed bottom first
+unfoldable pub satisfy_report : Tree → Assets → (stack : List Bytes) → Bytes
+satisfy_report tree assets stack =
+    script_line (script_of tree)
+    ++ program_line (script_of tree)
+    ++ limits_line (limits_of tree)
+    ++ flat_map item_line stack
+    ++ witness_line stack (script_of tree)
+    ++ replay_line stack (replay tree assets stack)
+
+-- ---- run
+
+-- a pair of key and signature that was found good
+abbrev pub check_line : Bytes × Bytes → Bytes
+check_line pair = line (codes "check " ++ encode_lower pair.0 ++ codes " " ++ encode_lower pair.1)
+
+unfoldable pub run_report : Outcome → Bytes
+run_report (accepted ops peak checks) =
+    line (codes "accepted ops " ++ decimal ops ++ codes " peak " ++ decimal peak) ++ flat_map check_line checks
+run_report (refused fault place) = script_refused_line fault place
+
+-- ---- gen
+
+abbrev pub children_line : (children threshold : ℕ) → Bytes
+children_line children threshold =
+    line (codes "children " ++ decimal children ++ codes " threshold " ++ decimal threshold)
+
+abbrev pub strict_line : (stack : List Bytes) → Outcome → Bytes
+strict_line stack outcome =
+    line (codes "strict items " ++ decimal (length stack) ++ codes " weight " ++ decimal (weight stack)
+    ++ codes " peak " ++ decimal (peak_of outcome))
+
+abbrev pub cheapest_line : (stack : List Bytes) → Bytes
+cheapest_line stack =
+    line (codes "cheapest items " ++ decimal (length stack) ++ codes " weight " ++ decimal (weight stack))

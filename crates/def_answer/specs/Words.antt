@@ -1,0 +1,48 @@
+-- The forms of words that the program takes. They are exact lists: any other one has no form.
+use Rattle.std.specs.Prelude.{◌≡◌, ℕ, ◌≤◌, ⊤, List, [], ◌∷◌, codes, decimal}
+use Rattle.def_script.specs.Bytes.{Bytes}
+
+pub data Command : Type 0 where
+  -- the Script of a valid text
+  script : (text : Bytes) → Command
+  -- what is known of a sane text
+  check : (text : Bytes) → Command
+  -- the strict satisfaction of a sane text, with an asset file
+  satisfy : (text : Bytes) → Command
+  -- the cheapest satisfaction of a valid text, with an asset file
+  satisfy_malleable : (text : Bytes) → Command
+  -- a run of a script on a stack, with a run file
+  run : Command
+  -- a large text that is made from a number, and its satisfactions
+  gen : (n : ℕ) → Command
+
+-- the words of a command
+abbrev pub words_of : Command → List Bytes
+words_of (script text) = codes "script" ∷ text ∷ []
+words_of (check text) = codes "check" ∷ text ∷ []
+words_of (satisfy text) = codes "satisfy" ∷ text ∷ []
+words_of (satisfy_malleable text) = codes "satisfy" ∷ codes "--malleable" ∷ text ∷ []
+words_of run = codes "run" ∷ []
+words_of (gen n) = codes "gen" ∷ decimal n ∷ []
+
+-- the greatest number that `gen` takes
+abbrev pub MOST_CHILDREN : ℕ
+MOST_CHILDREN = 30
+
+-- the number of `gen` is 1 to 30
+abbrev pub IsCommand : Command → Type 0
+IsCommand (script text) = ⊤
+IsCommand (check text) = ⊤
+IsCommand (satisfy text) = ⊤
+IsCommand (satisfy_malleable text) = ⊤
+IsCommand run = ⊤
+IsCommand (gen n) = (1 ≤ n) × (n ≤ MOST_CHILDREN)
+
+-- the words are those of the command
+pub record IsForm (words : List Bytes) (command : Command) : Type 0 where
+  pub same : words ≡ words_of command
+  pub in_range : IsCommand command
+
+-- the words have no form
+abbrev pub HasNoForm : (words : List Bytes) → Type 0
+HasNoForm words = (command : Command) → ¬ IsForm words command

@@ -1,0 +1,104 @@
+//! Examples of answers.
+
+ghost use Rattle.def_answer.specs.TextExamples.{
+  NoForm,
+  ScriptOfKey,
+  ScriptOfOne,
+  ScriptOfSameKey,
+  CheckOfKey,
+  CheckOfChain,
+  CheckOfZero,
+  CheckOfEither,
+  Unspelled,
+  TooDeepOrLong,
+  BrokenRules,
+  NotSane,
+};
+ghost use Rattle.def_answer.specs.SatisfyExamples.{
+  TwoOfThree,
+  LateKey,
+  TooEarly,
+  VoidLock,
+  TimeLock,
+  NoTime,
+  StrictThreshold,
+  CheapestThreshold,
+  StrictEither,
+  CheapestEither,
+  LockInThreshold,
+  LockTooEarly,
+  ZerosAsPreimage,
+  ZerosUnknown,
+  TextsFirst,
+  ZeroHasNone,
+  RefusedFiles,
+  FileTooLong,
+};
+ghost use Rattle.def_answer.specs.RunExamples.{
+  AcceptedRuns,
+  AcceptedSignature,
+  FaultLines,
+  NullDummyLine,
+  LimitLines,
+  RefusedRunFiles,
+  RunFileTooLong,
+};
+ghost use Rattle.def_answer.specs.GenExamples.{
+  GenOne,
+  GenFour,
+};
+
+/// Answers to words without a form, and to `script TEXT` and `check TEXT`.
+pub fn texts()
+    ensures no_form { NoForm }
+    ensures script_of_key { ScriptOfKey }
+    ensures script_of_one { ScriptOfOne }
+    ensures script_of_same_key { ScriptOfSameKey }
+    ensures check_of_key { CheckOfKey }
+    ensures check_of_chain { CheckOfChain }
+    ensures check_of_zero { CheckOfZero }
+    ensures check_of_either { CheckOfEither }
+    ensures unspelled { Unspelled }
+    ensures too_deep_or_long { TooDeepOrLong }
+    ensures broken_rules { BrokenRules }
+    ensures not_sane { NotSane }
+{}
+
+/// Answers to `satisfy TEXT` and `satisfy --malleable TEXT`.
+pub fn satisfactions()
+    ensures two_of_three { TwoOfThree }
+    ensures late_key { LateKey }
+    ensures too_early { TooEarly }
+    ensures void_lock { VoidLock }
+    ensures time_lock { TimeLock }
+    ensures no_time { NoTime }
+    ensures strict_threshold { StrictThreshold }
+    ensures cheapest_threshold { CheapestThreshold }
+    ensures strict_either { StrictEither }
+    ensures cheapest_either { CheapestEither }
+    ensures lock_in_threshold { LockInThreshold }
+    ensures lock_too_early { LockTooEarly }
+    ensures zeros_as_preimage { ZerosAsPreimage }
+    ensures zeros_unknown { ZerosUnknown }
+    ensures texts_first { TextsFirst }
+    ensures zero_has_none { ZeroHasNone }
+    ensures refused_files { RefusedFiles }
+    ensures file_too_long { FileTooLong }
+{}
+
+/// Answers to `run`.
+pub fn runs()
+    ensures accepted_runs { AcceptedRuns }
+    ensures accepted_signature { AcceptedSignature }
+    ensures fault_lines { FaultLines }
+    ensures null_dummy_line { NullDummyLine }
+    ensures limit_lines { LimitLines }
+    ensures refused_run_files { RefusedRunFiles }
+    ensures run_file_too_long { RunFileTooLong }
+{}
+
+/// Answers to `gen N`.
+pub fn generated()
+    ensures gen_one { GenOne }
+    ensures gen_four { GenFour }
+{}

@@ -1,0 +1,42 @@
+//! What the definitions imply.
+
+ghost use Rattle.def_answer.specs.Laws.{
+  OneForm,
+  FormOrNone,
+  OneAnswer,
+  SomeAnswer,
+  AnswersHaveStatus,
+  AnswerWithoutSource,
+  EarlyAnswer,
+  LongAssetFile,
+  LongRunFile,
+  GeneratedIsRead,
+  GeneratedIsSane,
+  GeneratedAreAssets,
+  GeneratedIsSatisfied,
+};
+
+/// Words have one form or none, and words that are texts have exactly one answer.
+pub fn answers()
+    ensures one_form { OneForm }
+    ensures form_or_none { FormOrNone }
+    ensures one_answer { OneAnswer }
+    ensures some_answer { SomeAnswer }
+    ensures status { AnswersHaveStatus }
+{}
+
+/// Which answers need no source, and what comes of a long one.
+pub fn sources()
+    ensures without { AnswerWithoutSource }
+    ensures early { EarlyAnswer }
+    ensures long_asset_file { LongAssetFile }
+    ensures long_run_file { LongRunFile }
+{}
+
+/// What is generated: a text that is read as the tree, a sane tree, and assets that satisfy it.
+pub fn generator()
+    ensures read { GeneratedIsRead }
+    ensures sane { GeneratedIsSane }
+    ensures assets { GeneratedAreAssets }
+    ensures satisfied { GeneratedIsSatisfied }
+{}

@@ -1,0 +1,8 @@
+pub mod OnLiterals
+pub mod Computed
+pub mod Passing
+pub mod Strings
+pub mod Distinct
+pub mod Fits
+pub mod Given
+pub mod Faults

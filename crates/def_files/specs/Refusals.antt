@@ -1,0 +1,73 @@
+-- Why a file is refused. The refusals are listed in the order of their numbers, and those of one number in
+-- the order of the members; the first that applies is the one that is given, with the least place.
+use Rattle.std.specs.Prelude.{ℕ, not, nat_le, Bool, is_some, if◌then◌else◌, List, [], ◌∷◌, length, take, position, Option, Some, None, option_map, Result, Ok, Err}
+use Rattle.std.specs.List.{list_any, enumerate_from}
+use Rattle.std.specs.Str.{bytes_eq}
+use Rattle.serde_json.specs.Data.{Data}
+use Rattle.def_script.specs.Bytes.{Bytes}
+use Rattle.def_files.specs.declared.Member.{Member}
+use Rattle.def_files.specs.declared.Member.TheVariants as member
+use Rattle.def_files.specs.declared.AssetFault.{AssetFault}
+use Rattle.def_files.specs.declared.AssetFault.TheVariants as fault
+use Rattle.def_files.specs.Json.{is_object, is_list_of}
+use Rattle.def_files.specs.Parts.{version, sequence, locktime, list, elements}
+
+-- a refusal, where it applies
+abbrev pub Refusal : Type 0
+Refusal = Option AssetFault
+
+-- a refusal unless a test holds
+abbrev pub unless : Bool → AssetFault → Refusal
+unless holds fault = if holds then None else Some fault
+
+-- the refusal of the first element for which a test doesn't hold
+abbrev pub unless_each : {A : Type 0} → (holds : A → Bool) → (ℕ → AssetFault) → List A → Refusal
+unless_each holds fault xs = option_map fault (position (λ x. not (holds x)) xs)
+
+-- the value, unless one of the refusals applies: then the first of them
+abbrev pub unless_refused : {A : Type 0} → List Refusal → A → Result A AssetFault
+unless_refused [] value = Ok value
+unless_refused (None ∷ refusals) value = unless_refused refusals value
+unless_refused (Some fault ∷ refusals) value = Err fault
+
+-- what a file gives: where it has no reading, it is refused
+abbrev pub given : {A : Type 0} → (Data → Result A AssetFault) → Option Data → Result A AssetFault
+given value None = Err fault.NotJson
+given value (Some file) = value file
+
+-- ---- the refusals that both files have
+
+-- the file isn't an object
+abbrev pub no_object : Data → Refusal
+no_object file = unless (is_object file) (fault.Shape member.Whole)
+
+-- a member isn't a list, or an element of it is wrong
+abbrev pub no_list_of : (right : Data → Bool) → Member → Data → Refusal
+no_list_of right m file = unless (is_list_of right (list m file)) (fault.Shape m)
+
+-- the numbers of the locks
+abbrev pub no_version : Data → Refusal
+no_version file = unless (is_some (version file)) (fault.Number member.Version)
+
+abbrev pub no_sequence : Data → Refusal
+no_sequence file = unless (is_some (sequence file)) (fault.Number member.Sequence)
+
+abbrev pub no_locktime : Data → Refusal
+no_locktime file = unless (is_some (locktime file)) (fault.Number member.Locktime)
+
+-- a text of an element is no string of hexadecimal digits, two for each byte
+abbrev pub no_hex : (right : Data → Bool) → Member → Data → Refusal
+no_hex right m file = unless_each right (fault.Hex m) (elements m file)
+
+-- a list is too long
+abbrev pub too_many : (most : ℕ) → Member → Data → Refusal
+too_many most m file = unless (nat_le (length (elements m file)) most) (fault.TooMany m)
+
+-- the first key that stands earlier in the list too
+abbrev pub no_repeat : List Bytes → Refusal
+no_repeat keys =
+    unless_each (λ entry. not (list_any (bytes_eq entry.1) (take entry.0 keys))) fault.RepeatedKey (enumerate_from 0 keys)
+
+-- how many signatures a file may have
+abbrev pub MOST_SIGNATURES : ℕ
+MOST_SIGNATURES = 256

@@ -1,0 +1,52 @@
+//! Definitions of the asset file and the run file: what their bytes give, and why they are refused.
+#![tactic(auto)]
+
+mod examples;
+mod laws;
+
+/// A part of a file that a refusal names, in the order in which parts are named.
+#[derive(Clone, Copy, Debug, PartialEq, Eq)]
+pub enum Member {
+    /// The file as a whole.
+    Whole,
+    /// The version of the transaction.
+    Version,
+    /// The sequence number of the input.
+    Sequence,
+    /// The locktime of the transaction.
+    Locktime,
+    /// The signatures, each with its key.
+    Signatures,
+    /// The preimages of an asset file.
+    Preimages,
+    /// The script of a run file.
+    Script,
+    /// The stack of a run file, bottom first.
+    Witness,
+}
+
+/// Why a file is refused, in the order in which the reasons are tested. A number is the place of an element
+/// in its list, from 0.
+#[derive(Clone, Copy, Debug, PartialEq, Eq)]
+pub enum AssetFault {
+    /// The bytes are no JSON text.
+    NotJson,
+    /// The file is no object, or the member or an element of it has the wrong shape.
+    Shape(Member),
+    /// The member is no whole number below 2^32.
+    Number(Member),
+    /// A text of the element has an odd number of characters or one that is no hexadecimal digit.
+    Hex(Member, u32),
+    /// The key of the signature isn't 33 bytes that begin with 2 or 3.
+    KeyForm(u32),
+    /// The signature hasn't 1 to 73 bytes.
+    SigLength(u32),
+    /// The preimage hasn't 32 bytes.
+    PreimageLength(u32),
+    /// The list has too many elements.
+    TooMany(Member),
+    /// The key of the signature is that of an earlier one.
+    RepeatedKey(u32),
+    /// There was no memory.
+    Memory,
+}
