@@ -62,13 +62,17 @@ count() {
     valgrind --tool=callgrind --callgrind-out-file=/dev/null "$1" "$2" "$3" 2>&1 | sed -n 's/.*Collected : //p'
 }
 
+# The instructions a block that PROGRAM takes over FUNCTION.
+a_block() {
+    echo $((($(count "$1" "$2" 4000) - $(count "$1" "$2" 2000)) / 2000))
+}
+
 for function in ripemd160 sha256; do
     "$proved" "$function" 4000
     proved_first=$?
     "$work/plain" "$function" 4000
     plain_first=$?
     [ "$proved_first" -eq "$plain_first" ] || { echo "$function: $proved_first, and $plain_first by the plain loop"; exit 1; }
-    of_proved=$((($(count "$proved" "$function" 4000) - $(count "$proved" "$function" 2000)) / 2000))
-    of_plain=$((($(count "$work/plain" "$function" 4000) - $(count "$work/plain" "$function" 2000)) / 2000))
-    echo "$function: $of_proved instructions a block, $of_plain by the plain loop"
+    echo "$function: $(a_block "$proved" "$function") instructions a block, $(a_block "$work/plain" "$function") by a plain loop"
 done
+echo "ripemd160: $(a_block "$work/plain" ripemd160_by_rounds) by a plain loop for each round, unrolled"

@@ -1,5 +1,5 @@
 //! RIPEMD-160 and SHA-256 as plain loops over their tables, to be measured beside the proved ones.
-//! Usage: hash_baseline FUNCTION BLOCKS. The exit status is the digest's first byte.
+//! Usage: hash_baseline ripemd160|ripemd160_by_rounds|sha256 BLOCKS. The exit status is the digest's first byte.
 
 use std::process::exit;
 
@@ -26,6 +26,8 @@ const RIGHT_SHIFTS: [u32; 80] = [
 const LEFT_CONSTANTS: [u32; 5] = [0x0000_0000, 0x5a82_7999, 0x6ed9_eba1, 0x8f1b_bcdc, 0xa953_fd4e];
 const RIGHT_CONSTANTS: [u32; 5] = [0x50a2_8be6, 0x5c4d_d124, 0x6d70_3ef3, 0x7a6d_76e9, 0x0000_0000];
 
+type Line = [u32; 5];
+
 fn function(round: usize, x: u32, y: u32, z: u32) -> u32 {
     match round {
         0 => x ^ y ^ z,
@@ -36,31 +38,70 @@ fn function(round: usize, x: u32, y: u32, z: u32) -> u32 {
     }
 }
 
-fn step(v: &mut [u32; 5], f: u32, word: u32, constant: u32, shift: u32) {
+fn step(v: &mut Line, f: u32, word: u32, constant: u32, shift: u32) {
     let [a, b, c, d, e] = *v;
     let t = a.wrapping_add(f).wrapping_add(word).wrapping_add(constant);
     *v = [e, t.rotate_left(shift).wrapping_add(e), b, c.rotate_left(10), d];
 }
 
-fn ripemd_block(h: &mut [u32; 5], block: &[u8]) {
+fn words(block: &[u8]) -> [u32; 16] {
     let mut w = [0u32; 16];
     for (word, bytes) in w.iter_mut().zip(block.chunks_exact(4)) {
         *word = u32::from_le_bytes(bytes.try_into().unwrap());
     }
-    let (mut l, mut r) = (*h, *h);
-    for j in 0..80 {
-        let f = function(j / 16, l[1], l[2], l[3]);
-        step(&mut l, f, w[LEFT_WORDS[j]], LEFT_CONSTANTS[j / 16], LEFT_SHIFTS[j]);
-        let f = function(4 - j / 16, r[1], r[2], r[3]);
-        step(&mut r, f, w[RIGHT_WORDS[j]], RIGHT_CONSTANTS[j / 16], RIGHT_SHIFTS[j]);
-    }
-    *h = [
+    w
+}
+
+fn left_step(w: &[u32; 16], j: usize, round: usize, v: &mut Line) {
+    let f = function(round, v[1], v[2], v[3]);
+    step(v, f, w[LEFT_WORDS[j]], LEFT_CONSTANTS[round], LEFT_SHIFTS[j]);
+}
+
+fn right_step(w: &[u32; 16], j: usize, round: usize, v: &mut Line) {
+    let f = function(4 - round, v[1], v[2], v[3]);
+    step(v, f, w[RIGHT_WORDS[j]], RIGHT_CONSTANTS[round], RIGHT_SHIFTS[j]);
+}
+
+fn added(h: Line, l: Line, r: Line) -> Line {
+    [
         h[1].wrapping_add(l[2]).wrapping_add(r[3]),
         h[2].wrapping_add(l[3]).wrapping_add(r[4]),
         h[3].wrapping_add(l[4]).wrapping_add(r[0]),
         h[4].wrapping_add(l[0]).wrapping_add(r[1]),
         h[0].wrapping_add(l[1]).wrapping_add(r[2]),
-    ];
+    ]
+}
+
+/// One loop of 80 steps.
+fn ripemd_block(h: Line, block: &[u8]) -> Line {
+    let w = words(block);
+    let (mut l, mut r) = (h, h);
+    for j in 0..80 {
+        left_step(&w, j, j / 16, &mut l);
+        right_step(&w, j, j / 16, &mut r);
+    }
+    added(h, l, r)
+}
+
+fn round<const ROUND: usize>(w: &[u32; 16], l: &mut Line, r: &mut Line) {
+    for j in 16 * ROUND..16 * (ROUND + 1) {
+        left_step(w, j, ROUND, l);
+    }
+    for j in 16 * ROUND..16 * (ROUND + 1) {
+        right_step(w, j, ROUND, r);
+    }
+}
+
+/// The five rounds written out, each a loop for either line, which the compiler unrolls.
+fn ripemd_block_by_rounds(h: Line, block: &[u8]) -> Line {
+    let w = words(block);
+    let (mut l, mut r) = (h, h);
+    round::<0>(&w, &mut l, &mut r);
+    round::<1>(&w, &mut l, &mut r);
+    round::<2>(&w, &mut l, &mut r);
+    round::<3>(&w, &mut l, &mut r);
+    round::<4>(&w, &mut l, &mut r);
+    added(h, l, r)
 }
 
 /// The message's last bytes and its padding: one block or two.
@@ -74,11 +115,11 @@ fn last_blocks(message: &[u8], length: [u8; 8]) -> Vec<u8> {
     last
 }
 
-fn ripemd160(message: &[u8]) -> [u8; 20] {
+fn ripemd160(message: &[u8], next: impl Fn(Line, &[u8]) -> Line) -> [u8; 20] {
     let mut h = [0x6745_2301, 0xefcd_ab89, 0x98ba_dcfe, 0x1032_5476, 0xc3d2_e1f0];
     let last = last_blocks(message, (message.len() as u64 * 8).to_le_bytes());
     for block in message.chunks_exact(64).chain(last.chunks_exact(64)) {
-        ripemd_block(&mut h, block);
+        h = next(h, block);
     }
     let mut digest = [0; 20];
     for (bytes, word) in digest.chunks_exact_mut(4).zip(h) {
@@ -142,7 +183,8 @@ fn main() {
     let blocks: usize = words[2].parse().unwrap();
     let message = vec![0x61; 262_144];
     let first = match words[1].as_str() {
-        "ripemd160" => ripemd160(&message[..blocks * 64])[0],
+        "ripemd160" => ripemd160(&message[..blocks * 64], ripemd_block)[0],
+        "ripemd160_by_rounds" => ripemd160(&message[..blocks * 64], ripemd_block_by_rounds)[0],
         _ => sha256(&message[..blocks * 64])[0],
     };
     exit(first.into());

@@ -1,7 +1,7 @@
 // The compression function of RIPEMD-160 (Dobbertin, Bosselaers and Preneel, 1996, appendix A): two
 // lines of five rounds of 16 steps, over a block of sixteen words.
 
-ghost use Rattle.std.specs.Prelude.{◌≡◌, ℕ, ◌-◌, ◌/◌, ◌<◌, slice_index};
+ghost use Rattle.std.specs.Prelude.{◌≡◌, ℕ, ◌+◌, ◌-◌, ◌*◌, ◌/◌, ◌<◌, List, slice_index};
 ghost use Rattle.def_hash.specs.Ripemd.{step_function, step, left_step, right_step, left_line, right_line, combined, compress};
 
 use crate::state::State;
@@ -118,6 +118,7 @@ fn step(j: usize, word: u32, constant: u32, shift: u32, v: State) -> State
     }
 }
 
+// Step `j` of the left line, with the block's words `w`.
 #[inline(always)]
 fn left_step(w: &[u32; 16], j: usize, v: State) -> State
     requires { j < 80 }
@@ -132,7 +133,7 @@ fn left_step(w: &[u32; 16], j: usize, v: State) -> State
     )
 }
 
-// The right line takes the functions from the last to the first.
+// Step `j` of the right line, which takes the functions from the last to the first.
 #[inline(always)]
 fn right_step(w: &[u32; 16], j: usize, v: State) -> State
     requires { j < 80 }
@@ -147,29 +148,55 @@ fn right_step(w: &[u32; 16], j: usize, v: State) -> State
     )
 }
 
-// The variables of the left line after its 80 steps, from the hash value `h`.
-#[tactic(auto, unfolding(def_hash::specs::Ripemd::left_line))]
-fn left_line(w: &[u32; 16], h: State) -> State
-    ensures { result ≡ left_line w.now h 80 }
+// The 16 steps of a round of the left line.
+#[inline(always)]
+fn left_round(w: &[u32; 16], round: usize, mut v: State) -> State
+    requires { round < 5 }
+    ensures { (h : List ℕ) → v ≡ left_line w.now h (16 * round)
+        → result ≡ left_line w.now h (16 * (round + 1)) }
 {
-    let mut v = h;
-    'steps: for j in 0..80 {
+    'steps: for j in 16 * round..16 * (round + 1) {
         let next = left_step(w, j, v);
         v = next;
     }
     v
 }
 
-#[tactic(auto, unfolding(def_hash::specs::Ripemd::right_line))]
-fn right_line(w: &[u32; 16], h: State) -> State
-    ensures { result ≡ right_line w.now h 80 }
+// The variables of the left line after its 80 steps, from the hash value `h`. The rounds are written
+// out, so that the compiler knows the function of each.
+fn left_line(w: &[u32; 16], h: State) -> State
+    ensures { result ≡ left_line w.now h 80 }
 {
-    let mut v = h;
-    'steps: for j in 0..80 {
+    let v = left_round(w, 0, h);
+    let v = left_round(w, 1, v);
+    let v = left_round(w, 2, v);
+    let v = left_round(w, 3, v);
+    left_round(w, 4, v)
+}
+
+// The 16 steps of a round of the right line.
+#[inline(always)]
+fn right_round(w: &[u32; 16], round: usize, mut v: State) -> State
+    requires { round < 5 }
+    ensures { (h : List ℕ) → v ≡ right_line w.now h (16 * round)
+        → result ≡ right_line w.now h (16 * (round + 1)) }
+{
+    'steps: for j in 16 * round..16 * (round + 1) {
         let next = right_step(w, j, v);
         v = next;
     }
     v
+}
+
+// The same of the right line.
+fn right_line(w: &[u32; 16], h: State) -> State
+    ensures { result ≡ right_line w.now h 80 }
+{
+    let v = right_round(w, 0, h);
+    let v = right_round(w, 1, v);
+    let v = right_round(w, 2, v);
+    let v = right_round(w, 3, v);
+    right_round(w, 4, v)
 }
 
 /// The hash value after a block with the words `w`.
