@@ -1,11 +1,19 @@
 -- The steps of the lines and the words of a block, one more at a time.
-use Rattle.std.proofs.Common.{◌≡◌, ℕ, ◌+◌, ◌*◌, ◌<◌, List, [], ◌∷◌, ◌++◌, length, take, drop, slice_index, slice_set, refl, arith, ap, sym, ◌∙◌, add-one}
+use Rattle.std.proofs.Common.{◌≡◌, ℕ, ◌+◌, ◌*◌, ◌<◌, List, [], ◌∷◌, ◌++◌, length, take, drop, slice_index, slice_set, refl, arith, ◌∙◌, add-one}
 use Rattle.std.proofs.lemmas.List.{get_or-take, get_or-drop, take_more_set}
 use Rattle.def_hash.specs.Ripemd.{left_step, right_step, left_line, right_line, word_at, block_words}
+
+pub no_left_step : (w h : List ℕ) → left_line w h 0 ≡ h
+unfolding left_line
+no_left_step w h = refl
 
 pub left_line_next : (w h : List ℕ) (n : ℕ) → left_line w h (n + 1) ≡ left_step w n (left_line w h n)
 unfolding left_line
 left_line_next w h n = rw add-one refl
+
+pub no_right_step : (w h : List ℕ) → right_line w h 0 ≡ h
+unfolding right_line
+no_right_step w h = refl
 
 pub right_line_next : (w h : List ℕ) (n : ℕ) → right_line w h (n + 1) ≡ right_step w n (right_line w h n)
 unfolding right_line

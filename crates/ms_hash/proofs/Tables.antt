@@ -1,5 +1,5 @@
 -- The entries of the tables are in range.
-use Rattle.std.proofs.Common.{◌≡◌, ℕ, ◌<◌, nat_lt, slice_index, refl}
+use Rattle.std.proofs.Common.{ℕ, ◌<◌, nat_lt, slice_index, refl}
 use Rattle.std.proofs.lemmas.Bool.{ltb-true}
 use Rattle.std.proofs.lemmas.List.Sums.{AllPass-from_list_all}
 use Rattle.def_hash.specs.Ripemd.{left_words, right_words}

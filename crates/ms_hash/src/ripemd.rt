@@ -44,7 +44,8 @@ fn padded_byte(message: &[u8], i: usize) -> u8
     bits[past - zeros - 1]
 }
 
-// The word at byte `i` of the padded message, low byte first.
+// The word at byte `i` of the padded message, low byte first. One that lies whole in the message is
+// read at once.
 fn word_at(message: &[u8], i: usize) -> u32
     requires { i + 4 ≤ length (padded_message message.now) }
     ensures { result ≡ word_at (padded_message message.now) i }
@@ -60,7 +61,7 @@ fn word_at(message: &[u8], i: usize) -> u32
     ])
 }
 
-// The words of the block of that number of the padded message.
+// The sixteen words of a block of the padded message, whose blocks are numbered from 0.
 fn block_words(message: &[u8], block: usize) -> [u32; 16]
     requires { block * 64 + 64 ≤ length (padded_message message.now) }
     ensures { result ≡ block_words (take 64 (drop (block * 64) (padded_message message.now))) 16 }

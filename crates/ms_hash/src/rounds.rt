@@ -1,12 +1,12 @@
 // The compression function of RIPEMD-160 (Dobbertin, Bosselaers and Preneel, 1996, appendix A): two
 // lines of five rounds of 16 steps, over a block of sixteen words.
 
-ghost use Rattle.std.specs.Prelude.{◌≡◌, ℕ, ◌-◌, ◌/◌, ◌<◌, slice_index};
+ghost use Rattle.std.specs.Prelude.{◌≡◌, ℕ, ◌+◌, ◌-◌, ◌*◌, ◌/◌, ◌<◌, List, slice_index};
 ghost use Rattle.def_hash.specs.Ripemd.{step_function, step, left_step, right_step, left_line, right_line, combined, compress};
 
 use crate::state::State;
 
-// The added constant of each round.
+// The constant that each round adds.
 const LEFT_CONSTANTS: [u32; 5] = [
     0x0000_0000,
     0x5a82_7999,
@@ -15,6 +15,7 @@ const LEFT_CONSTANTS: [u32; 5] = [
     0xa953_fd4e,
 ];
 
+// The same of the right line.
 const RIGHT_CONSTANTS: [u32; 5] = [
     0x50a2_8be6,
     0x5c4d_d124,
@@ -25,30 +26,58 @@ const RIGHT_CONSTANTS: [u32; 5] = [
 
 // Which word of the block each step reads.
 const LEFT_WORDS: [usize; 80] = [
-    0, 1, 2, 3, 4, 5, 6, 7, 8, 9, 10, 11, 12, 13, 14, 15, 7, 4, 13, 1, 10, 6, 15, 3, 12, 0, 9, 5,
-    2, 14, 11, 8, 3, 10, 14, 4, 9, 15, 8, 1, 2, 7, 0, 6, 13, 11, 5, 12, 1, 9, 11, 10, 0, 8, 12, 4,
-    13, 3, 7, 15, 14, 5, 6, 2, 4, 0, 5, 9, 7, 12, 2, 10, 14, 1, 3, 8, 11, 6, 15, 13,
+    // Round 1.
+    0, 1, 2, 3, 4, 5, 6, 7, 8, 9, 10, 11, 12, 13, 14, 15,
+    // Round 2.
+    7, 4, 13, 1, 10, 6, 15, 3, 12, 0, 9, 5, 2, 14, 11, 8,
+    // Round 3.
+    3, 10, 14, 4, 9, 15, 8, 1, 2, 7, 0, 6, 13, 11, 5, 12,
+    // Round 4.
+    1, 9, 11, 10, 0, 8, 12, 4, 13, 3, 7, 15, 14, 5, 6, 2,
+    // Round 5.
+    4, 0, 5, 9, 7, 12, 2, 10, 14, 1, 3, 8, 11, 6, 15, 13,
 ];
 
 // The same of the right line.
 const RIGHT_WORDS: [usize; 80] = [
-    5, 14, 7, 0, 9, 2, 11, 4, 13, 6, 15, 8, 1, 10, 3, 12, 6, 11, 3, 7, 0, 13, 5, 10, 14, 15, 8, 12,
-    4, 9, 1, 2, 15, 5, 1, 3, 7, 14, 6, 9, 11, 8, 12, 2, 10, 0, 4, 13, 8, 6, 4, 1, 3, 11, 15, 0, 5,
-    12, 2, 13, 9, 7, 10, 14, 12, 15, 10, 4, 1, 5, 8, 7, 6, 2, 13, 14, 0, 3, 9, 11,
+    // Round 1.
+    5, 14, 7, 0, 9, 2, 11, 4, 13, 6, 15, 8, 1, 10, 3, 12,
+    // Round 2.
+    6, 11, 3, 7, 0, 13, 5, 10, 14, 15, 8, 12, 4, 9, 1, 2,
+    // Round 3.
+    15, 5, 1, 3, 7, 14, 6, 9, 11, 8, 12, 2, 10, 0, 4, 13,
+    // Round 4.
+    8, 6, 4, 1, 3, 11, 15, 0, 5, 12, 2, 13, 9, 7, 10, 14,
+    // Round 5.
+    12, 15, 10, 4, 1, 5, 8, 7, 6, 2, 13, 14, 0, 3, 9, 11,
 ];
 
 // By how many bits each step rotates.
 const LEFT_SHIFTS: [u32; 80] = [
-    11, 14, 15, 12, 5, 8, 7, 9, 11, 13, 14, 15, 6, 7, 9, 8, 7, 6, 8, 13, 11, 9, 7, 15, 7, 12, 15,
-    9, 11, 7, 13, 12, 11, 13, 6, 7, 14, 9, 13, 15, 14, 8, 13, 6, 5, 12, 7, 5, 11, 12, 14, 15, 14,
-    15, 9, 8, 9, 14, 5, 6, 8, 6, 5, 12, 9, 15, 5, 11, 6, 8, 13, 12, 5, 12, 13, 14, 11, 8, 5, 6,
+    // Round 1.
+    11, 14, 15, 12, 5, 8, 7, 9, 11, 13, 14, 15, 6, 7, 9, 8,
+    // Round 2.
+    7, 6, 8, 13, 11, 9, 7, 15, 7, 12, 15, 9, 11, 7, 13, 12,
+    // Round 3.
+    11, 13, 6, 7, 14, 9, 13, 15, 14, 8, 13, 6, 5, 12, 7, 5,
+    // Round 4.
+    11, 12, 14, 15, 14, 15, 9, 8, 9, 14, 5, 6, 8, 6, 5, 12,
+    // Round 5.
+    9, 15, 5, 11, 6, 8, 13, 12, 5, 12, 13, 14, 11, 8, 5, 6,
 ];
 
 // The same of the right line.
 const RIGHT_SHIFTS: [u32; 80] = [
-    8, 9, 9, 11, 13, 15, 15, 5, 7, 7, 8, 11, 14, 14, 12, 6, 9, 13, 15, 7, 12, 8, 9, 11, 7, 7, 12,
-    7, 6, 15, 13, 11, 9, 7, 15, 11, 8, 6, 6, 14, 12, 13, 5, 14, 13, 13, 7, 5, 15, 5, 8, 11, 14, 14,
-    6, 14, 6, 9, 12, 9, 12, 5, 15, 8, 8, 5, 12, 9, 12, 5, 14, 6, 8, 13, 6, 5, 15, 13, 11, 11,
+    // Round 1.
+    8, 9, 9, 11, 13, 15, 15, 5, 7, 7, 8, 11, 14, 14, 12, 6,
+    // Round 2.
+    9, 13, 15, 7, 12, 8, 9, 11, 7, 7, 12, 7, 6, 15, 13, 11,
+    // Round 3.
+    9, 7, 15, 11, 8, 6, 6, 14, 12, 13, 5, 14, 13, 13, 7, 5,
+    // Round 4.
+    15, 5, 8, 11, 14, 14, 6, 14, 6, 9, 12, 9, 12, 5, 15, 8,
+    // Round 5.
+    8, 5, 12, 9, 12, 5, 14, 6, 8, 13, 6, 5, 15, 13, 11, 11,
 ];
 
 // The function of step `j`, which changes with the round of 16 steps.
@@ -89,6 +118,7 @@ fn step(j: usize, word: u32, constant: u32, shift: u32, v: State) -> State
     }
 }
 
+// Step `j` of the left line, with the block's words `w`.
 #[inline(always)]
 fn left_step(w: &[u32; 16], j: usize, v: State) -> State
     requires { j < 80 }
@@ -103,7 +133,7 @@ fn left_step(w: &[u32; 16], j: usize, v: State) -> State
     )
 }
 
-// The right line takes the functions from the last to the first.
+// Step `j` of the right line, which takes the functions from the last to the first.
 #[inline(always)]
 fn right_step(w: &[u32; 16], j: usize, v: State) -> State
     requires { j < 80 }
@@ -118,29 +148,55 @@ fn right_step(w: &[u32; 16], j: usize, v: State) -> State
     )
 }
 
-// The variables of the left line after its 80 steps, from the hash value `h`.
-#[tactic(auto, unfolding(def_hash::specs::Ripemd::left_line))]
-fn left_line(w: &[u32; 16], h: State) -> State
-    ensures { result ≡ left_line w.now h 80 }
+// The 16 steps of a round of the left line.
+#[inline(always)]
+fn left_round(w: &[u32; 16], round: usize, mut v: State) -> State
+    requires { round < 5 }
+    ensures { (h : List ℕ) → v ≡ left_line w.now h (16 * round)
+        → result ≡ left_line w.now h (16 * (round + 1)) }
 {
-    let mut v = h;
-    'steps: for j in 0..80 {
+    'steps: for j in 16 * round..16 * (round + 1) {
         let next = left_step(w, j, v);
         v = next;
     }
     v
 }
 
-#[tactic(auto, unfolding(def_hash::specs::Ripemd::right_line))]
-fn right_line(w: &[u32; 16], h: State) -> State
-    ensures { result ≡ right_line w.now h 80 }
+// The variables of the left line after its 80 steps, from the hash value `h`. The rounds are written
+// out, so that the compiler knows the function of each.
+fn left_line(w: &[u32; 16], h: State) -> State
+    ensures { result ≡ left_line w.now h 80 }
 {
-    let mut v = h;
-    'steps: for j in 0..80 {
+    let v = left_round(w, 0, h);
+    let v = left_round(w, 1, v);
+    let v = left_round(w, 2, v);
+    let v = left_round(w, 3, v);
+    left_round(w, 4, v)
+}
+
+// The 16 steps of a round of the right line.
+#[inline(always)]
+fn right_round(w: &[u32; 16], round: usize, mut v: State) -> State
+    requires { round < 5 }
+    ensures { (h : List ℕ) → v ≡ right_line w.now h (16 * round)
+        → result ≡ right_line w.now h (16 * (round + 1)) }
+{
+    'steps: for j in 16 * round..16 * (round + 1) {
         let next = right_step(w, j, v);
         v = next;
     }
     v
+}
+
+// The same of the right line.
+fn right_line(w: &[u32; 16], h: State) -> State
+    ensures { result ≡ right_line w.now h 80 }
+{
+    let v = right_round(w, 0, h);
+    let v = right_round(w, 1, v);
+    let v = right_round(w, 2, v);
+    let v = right_round(w, 3, v);
+    right_round(w, 4, v)
 }
 
 /// The hash value after a block with the words `w`.

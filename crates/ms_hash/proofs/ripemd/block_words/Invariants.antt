@@ -1,4 +1,4 @@
-use Rattle.std.proofs.Common.{◌≡◌, ℕ, ◌*◌, length, take, drop}
+use Rattle.std.proofs.Common.{◌≡◌, ◌*◌, length, take, drop}
 use Rattle.def_hash.specs.Ripemd.{padded_message, block_words}
 use Rattle.ms_hash.proofs.ripemd.block_words.Given as goal
 

@@ -1,7 +1,12 @@
-use Rattle.std.proofs.Common.{ap, sym, ◌∙◌}
-use Rattle.def_hash.specs.Ripemd.{right_step}
-use Rattle.ms_hash.proofs.Blocks.{right_line_next}
+use Rattle.std.proofs.Common.{sym}
+use Rattle.ms_hash.proofs.Blocks.{no_right_step}
 use Rattle.ms_hash.proofs.rounds.right_line.Goals as goal
 
-pub steps-preserved : goal.steps-preserved
-steps-preserved c = c.right_step-next.ensures ∙ ap (right_step c.args.w.now c.steps.j) c.steps.invariant ∙ sym (right_line_next c.args.w.now c.args.h c.steps.j)
+pub returns : goal.returns
+returns c =
+    let h = c.args.h in
+    let first = c.right_round-v.ensures h (sym (no_right_step c.args.w.now h)) in
+    let second = c.right_round-v-2.ensures h first in
+    let third = c.right_round-v-3.ensures h second in
+    let fourth = c.right_round-v-4.ensures h third in
+    c.right_round.ensures h fourth
