@@ -1,10 +1,16 @@
+ghost use Rattle.std.specs.Prelude.{IfOk};
+ghost use Rattle.def_tree.specs.Range.{IsInRange, IsKey};
+ghost use Rattle.ms_tree.specs.Shape.{leaf_shape};
+
 use crate::*;
-use ms_script::encode;
-use ms_tree::{Key, Leaf, Two, Wrapper, leaf, two, wrap};
+use ms_script::{Blob, encode};
+use ms_tree::{HashVal, Key, Leaf, Two, Wrapper, and_or, leaf, multi, thresh, two, wrap};
 use std::alloc::{AllocError, Global};
 use std::test::Fail;
 
-fn key(first: u8) -> Result<Key, &'static str> {
+fn key(first: u8) -> Result<Key, &'static str>
+    ensures { IfOk result IsKey }
+{
     Key::from_bytes(&[first; 33]).ok_or("a key")
 }
 
@@ -74,6 +80,125 @@ fn verify_is_fused(rt: HostRuntime) -> Result<(), Fail> {
     let x = wrap(alloc, Wrapper::V, x).ok().ok_or("memory")?;
     let script = encode(alloc, &emit(alloc, &x)?)?;
     let want = joined(alloc, &[b"\x21", &[2; 33], b"\xad"])?;
+    assert_eq!(rt; script.as_slice(), want.as_slice());
+    Ok(())
+}
+
+/// The bytes of a leaf's Script.
+fn leaf_script(alloc: Global, fragment: Leaf) -> Result<Blob, AllocError>
+    requires { IsInRange (leaf_shape fragment) }
+{
+    encode(alloc, &emit(alloc, &leaf(alloc, fragment)?)?)
+}
+
+#[test]
+fn numbers_and_keys_are_translated(rt: HostRuntime) -> Result<(), Fail> {
+    let alloc = rt.alloc();
+    assert_eq!(rt;
+        leaf_script(alloc, Leaf::Zero)?.as_slice(),
+        b"\x00".as_slice()
+    );
+    assert_eq!(rt;
+        leaf_script(alloc, Leaf::One)?.as_slice(),
+        b"\x51".as_slice()
+    );
+    assert_eq!(rt;
+        leaf_script(alloc, Leaf::Older(16))?.as_slice(),
+        b"\x60\xb2".as_slice()
+    );
+    assert_eq!(rt;
+        leaf_script(alloc, Leaf::Older(144))?.as_slice(),
+        b"\x02\x90\x00\xb2".as_slice()
+    );
+    let time = b"\x04\x00\x65\xcd\x1d\xb1".as_slice();
+    assert_eq!(rt;
+        leaf_script(alloc, Leaf::After(500_000_000))?.as_slice(),
+        time
+    );
+
+    // HASH160 of 33 bytes 2, by Python's hashlib over OpenSSL.
+    let key_hash =
+        b"\x51\x81\x4f\x10\x86\x70\xac\xed\x2d\x77\xc1\x80\x5d\xdd\x66\x34\xbc\x9d\x47\x31";
+    let want = joined(alloc, &[b"\x76\xa9\x14", key_hash, b"\x88"])?;
+    assert_eq!(rt;
+        leaf_script(alloc, Leaf::PkH(key(2)?))?.as_slice(),
+        want.as_slice()
+    );
+    Ok(())
+}
+
+/// The bytes of the Scripts of `sha256(h)` and `hash256(h)`.
+fn long_hash_scripts(alloc: Global, bytes: [u8; 32]) -> Result<(Blob, Blob), AllocError> {
+    let sha256 = leaf_script(alloc, Leaf::Hash(HashVal::Sha256(bytes)))?;
+    let hash256 = leaf_script(alloc, Leaf::Hash(HashVal::Hash256(bytes)))?;
+    Ok((sha256, hash256))
+}
+
+/// The bytes of the Scripts of `ripemd160(h)` and `hash160(h)`.
+fn short_hash_scripts(alloc: Global, bytes: [u8; 20]) -> Result<(Blob, Blob), AllocError> {
+    let ripemd160 = leaf_script(alloc, Leaf::Hash(HashVal::Ripemd160(bytes)))?;
+    let hash160 = leaf_script(alloc, Leaf::Hash(HashVal::Hash160(bytes)))?;
+    Ok((ripemd160, hash160))
+}
+
+#[test]
+fn hash_locks_are_translated(rt: HostRuntime) -> Result<(), Fail> {
+    let alloc = rt.alloc();
+    let size = b"\x82\x01\x20\x88";
+    let (sha256, hash256) = long_hash_scripts(alloc, [7; 32])?;
+    let want = joined(alloc, &[size, b"\xa8\x20", &[7; 32], b"\x87"])?;
+    assert_eq!(rt; sha256.as_slice(), want.as_slice());
+    let want = joined(alloc, &[size, b"\xaa\x20", &[7; 32], b"\x87"])?;
+    assert_eq!(rt; hash256.as_slice(), want.as_slice());
+
+    let (ripemd160, hash160) = short_hash_scripts(alloc, [7; 20])?;
+    let want = joined(alloc, &[size, b"\xa6\x14", &[7; 20], b"\x87"])?;
+    assert_eq!(rt; ripemd160.as_slice(), want.as_slice());
+    let want = joined(alloc, &[size, b"\xa9\x14", &[7; 20], b"\x87"])?;
+    assert_eq!(rt; hash160.as_slice(), want.as_slice());
+    Ok(())
+}
+
+#[test]
+fn and_or_is_translated(rt: HostRuntime) -> Result<(), Fail> {
+    let alloc = rt.alloc();
+    let (x, y, z) = (
+        leaf(alloc, Leaf::Zero)?,
+        leaf(alloc, Leaf::One)?,
+        leaf(alloc, Leaf::Older(2))?,
+    );
+    let tree = and_or(alloc, x, y, z).ok().ok_or("memory")?;
+    let script = encode(alloc, &emit(alloc, &tree)?)?;
+    assert_eq!(rt;
+        script.as_slice(),
+        b"\x00\x64\x52\xb2\x67\x51\x68".as_slice()
+    );
+    Ok(())
+}
+
+#[test]
+fn lists_are_translated(rt: HostRuntime) -> Result<(), Fail> {
+    let alloc = rt.alloc();
+    let mut children = Vec::new(alloc);
+    children.push(leaf(alloc, Leaf::Zero)?)?;
+    children.push(leaf(alloc, Leaf::One)?)?;
+    children.push(leaf(alloc, Leaf::Older(3))?)?;
+    let tree = thresh(alloc, 2, children).ok().ok_or("memory")?;
+    let script = encode(alloc, &emit(alloc, &tree)?)?;
+    assert_eq!(rt;
+        script.as_slice(),
+        b"\x00\x51\x93\x53\xb2\x93\x52\x87".as_slice()
+    );
+
+    let mut keys = Vec::new(alloc);
+    keys.push(key(2)?)?;
+    keys.push(key(3)?)?;
+    let tree = multi(alloc, 1, keys).ok().ok_or("memory")?;
+    let script = encode(alloc, &emit(alloc, &tree)?)?;
+    let want = joined(
+        alloc,
+        &[b"\x51\x21", &[2; 33], b"\x21", &[3; 33], b"\x52\xae"],
+    )?;
     assert_eq!(rt; script.as_slice(), want.as_slice());
     Ok(())
 }

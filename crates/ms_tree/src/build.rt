@@ -2,11 +2,12 @@
 ghost use Rattle.std.specs.Prelude.{◌≡◌, IfOk, MatchResult};
 ghost use Rattle.def_tree.specs.Tree as tree;
 ghost use Rattle.def_tree.specs.Range.{IsInRange};
-ghost use Rattle.ms_tree.specs.Shape.{shape, leaf_shape};
+ghost use Rattle.ms_tree.specs.Shape.{shape, shapes, leaf_shape};
 
+use crate::key::Key;
 use crate::tree::{Leaf, Node, Tree};
 use def_tree::{Two, Wrapper};
-use std::alloc::{AllocError, Global};
+use std::alloc::{AllocError, AllocFailed, Global};
 
 /// The tree of a leaf.
 pub fn leaf(alloc: Global, leaf: Leaf) -> Result<Tree, AllocError>
@@ -18,18 +19,20 @@ pub fn leaf(alloc: Global, leaf: Leaf) -> Result<Tree, AllocError>
     Ok(Tree { node })
 }
 
-/// The tree `w:x`.
-pub fn wrap(alloc: Global, wrapper: Wrapper, x: Tree) -> Result<Tree, Tree>
-    requires { IsInRange (tree.wrap wrapper (shape x)) }
-    ensures tree { MatchResult result (λ t. shape t ≡ tree.wrap wrapper (shape x)) (λ part. part ≡ x) }
+/// The tree `andor(x,y,z)`.
+pub fn and_or(alloc: Global, x: Tree, y: Tree, z: Tree) -> Result<Tree, (Tree, Tree, Tree)>
+    requires { IsInRange (tree.and_or (shape x) (shape y) (shape z)) }
+    ensures tree { MatchResult result (λ t. shape t ≡ tree.and_or (shape x) (shape y) (shape z)) (λ parts. parts ≡ (x, y, z)) }
     ensures in_range { IfOk result (λ t. IsInRange (shape t)) }
 {
-    match Box::new(alloc, Node::Wrap(wrapper, x)) {
+    match Box::new(alloc, Node::AndOr(x, y, z)) {
         Ok(node) => Ok(Tree { node }),
-        Err(failed) => match failed.value {
-            Node::Wrap(_, x) => Err(x),
-            _ => unreachable!(),
-        },
+        Err(
+            AllocFailed {
+                value: Node::AndOr(x, y, z),
+            },
+        ) => Err((x, y, z)),
+        Err(_) => unreachable!(),
     }
 }
 
@@ -41,9 +44,62 @@ pub fn two(alloc: Global, kind: Two, x: Tree, z: Tree) -> Result<Tree, (Tree, Tr
 {
     match Box::new(alloc, Node::Two(kind, x, z)) {
         Ok(node) => Ok(Tree { node }),
-        Err(failed) => match failed.value {
-            Node::Two(_, x, z) => Err((x, z)),
-            _ => unreachable!(),
-        },
+        Err(
+            AllocFailed {
+                value: Node::Two(_, x, z),
+            },
+        ) => Err((x, z)),
+        Err(_) => unreachable!(),
+    }
+}
+
+/// The tree `thresh(k,..)` of these children.
+pub fn thresh(alloc: Global, k: u64, children: Vec<Tree>) -> Result<Tree, Vec<Tree>>
+    requires { IsInRange (tree.thresh k (shapes children.items)) }
+    ensures tree { MatchResult result (λ t. shape t ≡ tree.thresh k (shapes children.items)) (λ parts. parts ≡ children) }
+    ensures in_range { IfOk result (λ t. IsInRange (shape t)) }
+{
+    match Box::new(alloc, Node::Thresh(k, children)) {
+        Ok(node) => Ok(Tree { node }),
+        Err(
+            AllocFailed {
+                value: Node::Thresh(_, children),
+            },
+        ) => Err(children),
+        Err(_) => unreachable!(),
+    }
+}
+
+/// The tree `multi(k,..)` of these keys.
+pub fn multi(alloc: Global, k: u64, keys: Vec<Key>) -> Result<Tree, Vec<Key>>
+    requires { IsInRange (tree.multi k keys.items) }
+    ensures tree { MatchResult result (λ t. shape t ≡ tree.multi k keys.items) (λ parts. parts ≡ keys) }
+    ensures in_range { IfOk result (λ t. IsInRange (shape t)) }
+{
+    match Box::new(alloc, Node::Multi(k, keys)) {
+        Ok(node) => Ok(Tree { node }),
+        Err(
+            AllocFailed {
+                value: Node::Multi(_, keys),
+            },
+        ) => Err(keys),
+        Err(_) => unreachable!(),
+    }
+}
+
+/// The tree `w:x`.
+pub fn wrap(alloc: Global, wrapper: Wrapper, x: Tree) -> Result<Tree, Tree>
+    requires { IsInRange (tree.wrap wrapper (shape x)) }
+    ensures tree { MatchResult result (λ t. shape t ≡ tree.wrap wrapper (shape x)) (λ part. part ≡ x) }
+    ensures in_range { IfOk result (λ t. IsInRange (shape t)) }
+{
+    match Box::new(alloc, Node::Wrap(wrapper, x)) {
+        Ok(node) => Ok(Tree { node }),
+        Err(
+            AllocFailed {
+                value: Node::Wrap(_, x),
+            },
+        ) => Err(x),
+        Err(_) => unreachable!(),
     }
 }

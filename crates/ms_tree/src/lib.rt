@@ -3,14 +3,16 @@
 //! Contracts see a tree through `shape`, as a tree of the definitions.
 #![tactic(auto)]
 
-pub use build::{leaf, two, wrap};
+pub use build::{and_or, leaf, multi, thresh, two, wrap};
 pub use def_tree::{Two, Wrapper};
 pub use key::Key;
+pub use ms_hash::{HashKind, HashVal};
 pub use tree::{Leaf, Node, Tree, View};
 
 mod build;
 mod key;
 mod rows;
+mod size;
 #[cfg(test)]
 mod tests;
 mod tree;

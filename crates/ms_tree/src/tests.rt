@@ -1,4 +1,8 @@
+ghost use Rattle.def_tree.specs.Range.{IsInRange};
+ghost use Rattle.ms_tree.specs.Shape.{shape};
+
 use crate::*;
+use std::alloc::Global;
 use std::test::Fail;
 
 #[test]
@@ -14,24 +18,93 @@ fn keys_are_compressed(rt: HostRuntime) {
     assert_eq!(rt; Key::from_bytes(&[0x02; 34]), None);
 }
 
+/// Nodes, measure and depth.
+fn size(tree: &Tree) -> (u32, u32, u32)
+    requires { IsInRange (shape tree.now) }
+{
+    (tree.nodes(), tree.measure(), tree.depth())
+}
+
 #[test]
-fn what_is_built_is_seen(rt: HostRuntime) -> Result<(), Fail> {
+fn leaves_are_seen(rt: HostRuntime) -> Result<(), Fail> {
+    let key = Key::from_bytes(&[0x03; 33]).ok_or("a key")?;
+    let leaves = [
+        Leaf::Zero,
+        Leaf::One,
+        Leaf::PkK(key),
+        Leaf::PkH(key),
+        Leaf::Older(144),
+        Leaf::After(9_999_999_999),
+        Leaf::Hash(HashVal::Ripemd160([7; 20])),
+    ];
+    for wanted in leaves {
+        let tree = leaf(rt.alloc(), wanted)?;
+        let View::Leaf(found) = tree.view() else {
+            return Err("no leaf")?;
+        };
+        assert_eq!(rt; found, wanted);
+        assert_eq!(rt; size(&tree), (1, 1, 1));
+    }
+    Ok(())
+}
+
+#[test]
+fn children_are_seen(rt: HostRuntime) -> Result<(), Fail> {
     let alloc = rt.alloc();
-    let a = Key::from_bytes(&[0x02; 33]).ok_or("a key")?;
-    let b = Key::from_bytes(&[0x03; 33]).ok_or("a key")?;
-    let x = leaf(alloc, Leaf::PkK(a))?;
-    let x = wrap(alloc, Wrapper::C, x).ok().ok_or("memory")?;
-    let z = leaf(alloc, Leaf::PkK(b))?;
-    let tree = two(alloc, Two::OrI, x, z).ok().ok_or("memory")?;
-    let View::Two(Two::OrI, x, z) = tree.view() else {
+    let one = leaf(alloc, Leaf::One)?;
+    let x = wrap(alloc, Wrapper::N, one).ok().ok_or("memory")?;
+    let zero = leaf(alloc, Leaf::Zero)?;
+    let either = two(alloc, Two::OrI, x, zero).ok().ok_or("memory")?;
+    assert_eq!(rt; size(&either), (4, 4, 3));
+    let View::Two(Two::OrI, x, z) = either.view() else {
         return Err("not or_i")?;
     };
-    let View::Wrap(Wrapper::C, x) = x.view() else {
-        return Err("not c")?;
+    assert_eq!(rt; (size(x), size(z)), ((2, 2, 2), (1, 1, 1)));
+    let View::Wrap(Wrapper::N, one) = x.view() else {
+        return Err("not n")?;
     };
-    let (View::Leaf(x), View::Leaf(z)) = (x.view(), z.view()) else {
-        return Err("no leaves")?;
+    assert_eq!(rt; size(one), (1, 1, 1));
+
+    let (x, y) = (leaf(alloc, Leaf::Zero)?, leaf(alloc, Leaf::One)?);
+    let tree = and_or(alloc, x, y, either).ok().ok_or("memory")?;
+    assert_eq!(rt; size(&tree), (7, 7, 4));
+    let View::AndOr(x, y, z) = tree.view() else {
+        return Err("not andor")?;
     };
-    assert_eq!(rt; (x, z), (Leaf::PkK(a), Leaf::PkK(b)));
+    assert_eq!(rt;
+        (size(x), size(y), size(z)),
+        ((1, 1, 1), (1, 1, 1), (4, 4, 3))
+    );
+    Ok(())
+}
+
+#[test]
+fn lists_are_seen(rt: HostRuntime) -> Result<(), Fail> {
+    let alloc = rt.alloc();
+    let mut children = Vec::new(alloc);
+    children.push(leaf(alloc, Leaf::Zero)?)?;
+    children.push(leaf(alloc, Leaf::One)?)?;
+    let tree = thresh(alloc, 2, children).ok().ok_or("memory")?;
+    assert_eq!(rt; size(&tree), (3, 3, 2));
+    let View::Thresh(k, found) = tree.view() else {
+        return Err("not thresh")?;
+    };
+    assert_eq!(rt; (k, found.len()), (2, 2));
+    Ok(())
+}
+
+#[test]
+fn keys_are_seen(rt: HostRuntime) -> Result<(), Fail> {
+    let alloc = rt.alloc();
+    let key = Key::from_bytes(&[0x02; 33]).ok_or("a key")?;
+    let mut keys = Vec::new(alloc);
+    keys.push(key)?;
+    keys.push(key)?;
+    let tree = multi(alloc, 1, keys).ok().ok_or("memory")?;
+    assert_eq!(rt; size(&tree), (1, 3, 1));
+    let View::Multi(k, found) = tree.view() else {
+        return Err("not multi")?;
+    };
+    assert_eq!(rt; (k, found), (1, [key, key].as_slice()));
     Ok(())
 }
