@@ -8,8 +8,8 @@ use Rattle.def_tree.specs.Tree.{Tree}
 use Rattle.def_emit.specs.Emit.{script_of}
 use Rattle.ms_io.specs.Faults.{Rose}
 use Rattle.ms_io.specs.Moves.{AppendsPrefix}
-use Rattle.msat_cli.specs.declared.status.Status.{Status}
-use Rattle.msat_cli.specs.declared.status.Status.TheVariants as status
+use Rattle.def_answer.specs.declared.status.Status.{Status}
+use Rattle.def_answer.specs.declared.status.Status.TheVariants as status
 use Rattle.msat_cli.specs.Thin.{IsThin}
 
 -- the words `script TEXT`

@@ -4,8 +4,8 @@ ghost use Rattle.msat_cli.specs.Thin.{IsThin};
 ghost use Rattle.msat_cli.specs.Answer.{IsScript, HasNoForm, IsNotThin};
 
 use crate::program::msat;
-use crate::status::Status;
 use crate::word::Word;
+use def_answer::Status;
 use ms_io::{NullSink, SureSource};
 use std::alloc::Global;
 

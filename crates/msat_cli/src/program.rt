@@ -8,9 +8,9 @@ ghost use Rattle.msat_cli.specs.Thin.{IsThin};
 ghost use Rattle.msat_cli.specs.Answer.{IsScript, HasNoForm, IsNotThin, ShowsScript, Ends, IsOrFault};
 
 use crate::answer::{UNBUILT, USAGE, script_line};
-use crate::status::Status;
 use crate::thin::read_thin;
 use crate::word::Word;
+use def_answer::Status;
 use ms_io::{Sink, Source, put_all};
 use std::alloc::{AllocError, Global};
 
