@@ -1,4 +1,4 @@
-ghost use Rattle.std.specs.Prelude.{◌≡◌, ℕ, ◌+◌, ◌*◌, ◌%◌, ◌^◌, ◌<◌, ◌≤◌, nat_abs, List, length, take, ◌++◌, ◌∷◌, [], if◌then◌else◌, Ok};
+ghost use Rattle.std.specs.Prelude.{◌≡◌, ℕ, ◌+◌, ◌*◌, ◌%◌, ◌^◌, ◌<◌, ◌≤◌, nat_abs, pos, neg_ℤ, ◌≤ℤ◌, IfOk, List, length, take, ◌++◌, ◌∷◌, [], if◌then◌else◌, Ok};
 ghost use Rattle.def_script.specs.Numbers.{sign_bit, signed_bytes as the_signed_bytes, number_bytes};
 ghost use Rattle.def_script.specs.Decode.{magnitude as the_magnitude, is_negative as the_is_negative, is_minimal as the_is_minimal, number, num_decode as the_num_decode, truth as the_truth};
 
@@ -82,7 +82,8 @@ fn last_byte(negative: bool, left: u8) -> u8
 /// stands for the same number.
 pub fn num_decode(bytes: &[u8], max: usize) -> Result<i64, NumFault>
     requires { max ≤ 5 }
-    ensures { result ≡ the_num_decode max bytes.now }
+    ensures value { result ≡ the_num_decode max bytes.now }
+    ensures room { IfOk result (λ n. (neg_ℤ (pos (2 ^ 39)) ≤ℤ n) × (n ≤ℤ pos (2 ^ 39))) }
 {
     if bytes.len() > max {
         return Err(NumFault::TooLong);

@@ -1,0 +1,5 @@
+mod Bounds
+mod Leaving
+mod Refines
+mod Running
+mod Tries

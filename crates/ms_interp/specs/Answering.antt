@@ -1,0 +1,32 @@
+-- What a run answers.
+use Rattle.std.specs.Prelude.{◌≡◌, ◌≤◌, ℕ, max, length, Result, Ok, Err}
+use Rattle.def_machine.specs.declared.Locks.{Locks}
+use Rattle.def_machine.specs.Stacks.{Pairs}
+use Rattle.def_machine.specs.Machine.{Given}
+use Rattle.def_machine.specs.Run.{Outcome, accepted, refused}
+use Rattle.ms_interp.specs.declared.stop.Stop.{Stop}
+use Rattle.ms_interp.specs.declared.stop.Stop.TheVariants as stop
+use Rattle.ms_interp.specs.declared.report.RunReport.{RunReport}
+use Rattle.ms_interp.specs.declared.report.RunStop.{RunStop}
+use Rattle.ms_interp.specs.declared.report.RunStop.TheVariants.{Refused, Memory}
+
+-- what a run is given
+abbrev pub given_by : Pairs → Locks → Given
+given_by table locks = record { table = table; locks = locks }
+
+-- a stop at a place
+abbrev pub run_stop : Stop → (place : ℕ) → RunStop
+run_stop (stop.Fault fault) place = Refused fault place
+run_stop stop.Memory place = Memory
+
+-- a report is that of an accepted run, and a refusal has its fault and place; only want of memory
+-- may come in their place
+abbrev pub Answers : Result RunReport RunStop → Outcome → Type 0
+Answers (Ok report) outcome = outcome ≡ accepted report.ops report.peak report.checks
+Answers (Err (Refused fault place)) outcome = outcome ≡ refused fault place
+Answers (Err Memory) outcome = Unit {0}
+
+-- a report has at most as many checks as opcodes, at most 201 opcodes, and a peak of at most the
+-- greater of 1,000 and the number of elements given
+abbrev pub IsSmall : (given : ℕ) → RunReport → Type 0
+IsSmall given report = (length report.checks ≤ report.ops) × (report.ops ≤ 201) × (report.peak ≤ max 1000 given)

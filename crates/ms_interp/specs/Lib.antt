@@ -1,0 +1,5 @@
+pub mod Stops
+pub mod Branches
+pub mod Multi
+pub mod Answering
+pub mod Compact

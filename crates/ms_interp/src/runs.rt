@@ -1,0 +1,148 @@
+ghost use Rattle.std.specs.Prelude.{◌≡◌, ℕ, ◌≤◌, nat_le, length, reverse, IfOk};
+ghost use Rattle.std.specs.List.{list_all};
+ghost use Rattle.def_script.specs.Bytes.{Bytes};
+ghost use Rattle.def_script.specs.Items.{items};
+ghost use Rattle.def_machine.specs.Machine.{fault_of as the_fault_of};
+ghost use Rattle.def_machine.specs.Run.{run as the_run};
+ghost use Rattle.ms_oracle.specs.Sound.{table_of, IsSound};
+ghost use Rattle.ms_interp.specs.Answering.{given_by, run_stop, Answers, IsSmall};
+ghost use Rattle.ms_interp.specs.Compact.{ended as the_ended, steps as the_steps};
+
+use crate::machine::Machine;
+use crate::pile::Pile;
+use crate::report::{RunReport, RunStop};
+use crate::stop::Stop;
+use def_machine::{Locks, ScriptFault};
+use ms_oracle::SigCheck;
+use ms_script::{InstrFault, Stack, next_instr, truth};
+use std::alloc::{AllocError, Global};
+
+/// Runs a Script on a stack, with the limits of Bitcoin Core's `EvalScript` and the rules for P2WSH (BIP 141,
+/// BIP 143, BIP 146, BIP 147). `locks` tells the timelocks of the spending input, and `sigs` which
+/// signatures are good.
+///
+/// A run is accepted where it leaves exactly one element, which is true, and no branch is open. `Refused`
+/// comes exactly where the run meets a fault, with the number of the instruction, from 0; `Memory` only where
+/// memory is wanting.
+pub fn run<F: Fn(&[u8], &[u8]) -> bool>(
+    alloc: Global,
+    script: &[u8],
+    stack: &Stack,
+    locks: &Locks,
+    sigs: &SigCheck<'_, F>,
+) -> Result<RunReport, RunStop>
+    requires few { length stack.now ≤ 2147483648 }
+    requires sound { IsSound F.Fn sigs.now }
+    ensures outcome { Answers result (the_run (given_by (table_of sigs.now) locks.now) script.now stack.now) }
+    ensures small { IfOk result (IsSmall (length stack.now)) }
+{
+    if script.len() > 10_000 {
+        return Err(RunStop::Refused(ScriptFault::ScriptSize, 0));
+    }
+    if !all_fit(stack) {
+        return Err(RunStop::Refused(ScriptFault::ElementSize, 0));
+    }
+    let Ok(main) = pile_of(alloc, stack) else {
+        return Err(RunStop::Memory);
+    };
+    steps(Machine::new(alloc, main), script, locks, sigs)
+}
+
+/// Whether each item has at most 520 bytes.
+fn all_fit(stack: &Stack) -> bool
+    ensures { result ≡ list_all (λ (x : Bytes). nat_le (length x) 520) stack.now }
+{
+    for i in 0..stack.len() {
+        if stack.item(i).len() > 520 {
+            return false;
+        }
+    }
+    true
+}
+
+/// A copy of the stack.
+fn pile_of(alloc: Global, stack: &Stack) -> Result<Pile, AllocError>
+    ensures { IfOk result (λ pile. pile ≡ reverse stack.now) }
+{
+    let mut pile = Pile::new(alloc);
+    for i in 0..stack.len() {
+        pile.put_bytes(stack.item(i))?;
+    }
+    Ok(pile)
+}
+
+/// Carries the instructions out, one after the other.
+fn steps<F: Fn(&[u8], &[u8]) -> bool>(
+    machine: Machine,
+    script: &[u8],
+    locks: &Locks,
+    sigs: &SigCheck<'_, F>,
+) -> Result<RunReport, RunStop>
+    requires sound { IsSound F.Fn sigs.now }
+    requires short { length script.now ≤ 10000 }
+    requires closed { machine.branches.depth ≡ 0 }
+    ensures { Answers result (the_steps (given_by (table_of sigs.now) locks.now) (items script.now) 0 machine) }
+{
+    let mut machine = machine;
+    let mut from = 0;
+    let mut place = 0;
+    'instructions: loop {
+        match next_instr(script, from) {
+            Ok(None) => return ended(machine, place),
+            Err(fault) => return Err(RunStop::Refused(fault_of(fault), place)),
+            Ok(Some((instr, next))) => {
+                match machine.step(sigs, locks, instr) {
+                    Ok(()) => {}
+                    Err(stop) => return Err(stopped(stop, place)),
+                }
+                from = next;
+                place += 1;
+            }
+        }
+    }
+}
+
+/// The report at the end, where no branch is open and exactly one element is left, which is true.
+#[tactic(auto, unfolding(crate::specs::Compact::finish))]
+fn ended(machine: Machine, place: u32) -> Result<RunReport, RunStop>
+    ensures { Answers result (the_ended place machine) }
+{
+    let mut main = machine.main;
+    if !machine.branches.is_empty() {
+        return Err(RunStop::Refused(ScriptFault::Unbalanced, place));
+    }
+    let Some(top) = main.pop() else {
+        return Err(RunStop::Refused(ScriptFault::CleanStack, place));
+    };
+    let None = main.pop() else {
+        return Err(RunStop::Refused(ScriptFault::CleanStack, place));
+    };
+    if !truth(top.as_slice()) {
+        return Err(RunStop::Refused(ScriptFault::EvalFalse, place));
+    }
+    Ok(RunReport {
+        ops: machine.ops,
+        peak: machine.peak,
+        checks: machine.checks,
+    })
+}
+
+/// Why an instruction that can't be read refuses the run.
+fn fault_of(fault: InstrFault) -> ScriptFault
+    ensures { result ≡ the_fault_of fault }
+{
+    match fault {
+        InstrFault::Truncated => ScriptFault::Truncated,
+        InstrFault::Unsupported => ScriptFault::Unsupported,
+    }
+}
+
+/// A stop at an instruction.
+fn stopped(stop: Stop, place: u32) -> RunStop
+    ensures { result ≡ run_stop stop place }
+{
+    match stop {
+        Stop::Fault(fault) => RunStop::Refused(fault, place),
+        Stop::Memory => RunStop::Memory,
+    }
+}

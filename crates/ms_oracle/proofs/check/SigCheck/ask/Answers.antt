@@ -1,0 +1,6 @@
+use Rattle.std.proofs.Common.{arith}
+use Rattle.ms_oracle.proofs.check.SigCheck.ask.Goals as goal
+
+pub returns : goal.returns
+returns g c =
+    (c.requires c.args.key c.args.sig (λ i. omega (arith, c.type_inv.key i)) (λ i. omega (arith, c.type_inv.sig i))).1 c.check.result c.check.ensures

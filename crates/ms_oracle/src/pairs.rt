@@ -1,0 +1,111 @@
+ghost use Rattle.std.specs.Prelude.{◌≡◌, ◌&&◌, List, [], ◌∷◌, ◌++◌, IfOk, OnOk, OnErr};
+ghost use Rattle.std.specs.Str.{bytes_eq};
+ghost use Rattle.def_machine.specs.Stacks.{member as the_member};
+
+use ms_script::Blob;
+use std::alloc::{AllocError, Global};
+use std::marker::Model;
+
+/// A key and a signature. Contracts see the pair of their bytes.
+#[derive(Debug, Drop)]
+pub struct SigPair {
+    key: Blob,
+    sig: Blob,
+}
+
+impl Model for SigPair {
+    ghost use Rattle.def_script.specs.Bytes.{Bytes};
+
+    ghost Value = { Bytes × Bytes };
+
+    ghost view = { λ p. (p.key, p.sig) };
+}
+
+impl SigPair {
+    /// Copies the key and the signature.
+    pub fn new(alloc: Global, key: &[u8], sig: &[u8]) -> Result<SigPair, AllocError>
+        ensures { IfOk result (λ pair. pair ≡ (key.now, sig.now)) }
+    {
+        let key = Blob::from_slice(alloc, key)?;
+        let sig = Blob::from_slice(alloc, sig)?;
+        Ok(SigPair { key, sig })
+    }
+
+    /// The bytes of the key.
+    pub fn key(&self) -> &[u8]
+        ensures { result.now ≡ self.now.0 }
+    {
+        self.key.as_slice()
+    }
+
+    /// The bytes of the signature.
+    pub fn sig(&self) -> &[u8]
+        ensures { result.now ≡ self.now.1 }
+    {
+        self.sig.as_slice()
+    }
+
+    /// Whether this is the pair of this key and this signature.
+    fn is(&self, key: &[u8], sig: &[u8]) -> bool
+        ensures { result ≡ (bytes_eq self.now.0 key.now && bytes_eq self.now.1 sig.now) }
+    {
+        self.key() == key && self.sig() == sig
+    }
+}
+
+/// Pairs of a key and a signature. Contracts see the list of the pairs.
+#[derive(Debug, Drop)]
+pub struct Pairs {
+    alloc: Global,
+    pairs: Vec<SigPair>,
+}
+
+impl Model for Pairs {
+    ghost use Rattle.std.specs.Prelude.{List};
+    ghost use Rattle.def_script.specs.Bytes.{Bytes};
+
+    ghost Value = { List (Bytes × Bytes) };
+
+    ghost view = { λ p. p.pairs.items };
+}
+
+impl Pairs {
+    /// No pairs. Takes no memory.
+    pub fn new(alloc: Global) -> Pairs
+        ensures { result ≡ [] }
+    {
+        Pairs {
+            alloc,
+            pairs: Vec::new(alloc),
+        }
+    }
+
+    /// Adds a pair at the end.
+    pub fn push(&mut self, key: &[u8], sig: &[u8]) -> Result<(), AllocError>
+        ensures ok { OnOk result (self.new ≡ self.old ++ (key.now, sig.now) ∷ []) }
+        ensures err { OnErr result (self.new ≡ self.old) }
+    {
+        let pair = SigPair::new(self.alloc, key, sig)?;
+        self.pairs.push(pair)?;
+        Ok(())
+    }
+
+    /// The pairs, first one first.
+    pub fn as_slice(&self) -> &[SigPair]
+        ensures { result.now ≡ self.now }
+    {
+        &self.pairs
+    }
+}
+
+/// Whether the table holds the pair. Takes no memory.
+pub fn member(table: &[SigPair], key: &[u8], sig: &[u8]) -> bool
+    ensures { result ≡ the_member table.now key.now sig.now }
+{
+    for pair in table {
+        if pair.is(key, sig) {
+            return true;
+        }
+    }
+    false
+}
