@@ -1,0 +1,9 @@
+pub mod WordLemmas
+pub mod NameLemmas
+pub mod PlaceLemmas
+pub mod StateLemmas
+pub mod AnswerLemmas
+pub mod ExpressionLemmas
+pub mod PartLemmas
+pub mod RunLemmas
+pub mod TextLemmas

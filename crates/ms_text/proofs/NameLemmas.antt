@@ -1,0 +1,76 @@
+-- Words of letters.
+use Rattle.std.proofs.Common.{◌≡◌, ℕ, ◌<◌, true, false, List, [], ◌∷◌, length, Option, Some, None, is_some, refl, sym, ap, ◌∙◌, arith}
+use Rattle.def_script.specs.Bytes.{Bytes}
+use Rattle.def_text.specs.Letter.{Letter, letter_byte}
+use Rattle.std.specs.Option.{option_map, option_and_then}
+use Rattle.std.proofs.lemmas.List.{length-map}
+use Rattle.hex.proofs.OnLiterals.{hex_on_literals}
+use Rattle.def_tree.specs.declared.Wrapper.TheVariants.{C}
+use Rattle.def_tree.specs.Tree.{pk_k, pk_h, hash, wrap}
+use Rattle.def_text.specs.Word.{number_of, key_of, hash_of}
+use Rattle.def_hash.specs.declared.HashKind.{HashKind}
+use Rattle.def_hash.specs.declared.HashKind.TheVariants.{Sha256, Hash256, Ripemd160, Hash160}
+use Rattle.def_text.specs.Reader.{Leaf, leaf_pk_k, leaf_pk_h, leaf_pk, leaf_pkh, leaf_older, leaf_after, leaf_hash, leaf_of, FORMS, first_named, LETTERS, first_letter, letters_of, head_from}
+use Rattle.def_text.proofs.Words.{word_is}
+use Rattle.ms_text.specs.Names.{IsLetters}
+
+letters_by : (w : Bytes) (o : Option (List Letter)) → letters_of w ≡ o → is_some o ≡ true → 0 < length w → IsLetters w
+letters_by w None e h l = absurd (cc)
+letters_by w (Some []) e h l = let none : w ≡ [] = word_is w [] e in absurd (omega (arith, l, ap length none))
+letters_by w (Some (first ∷ others)) e h l =
+    record { first = first; others = others; spells = e; is = ap (λ o. head_from o (first_named w FORMS)) e }
+
+pub run_of_letters : (w : Bytes) → is_some (letters_of w) ≡ true → 0 < length w → IsLetters w
+run_of_letters w h l = letters_by w (letters_of w) refl h l
+
+-- no number, key or hash value is empty
+pub no_empty_number : number_of [] ≡ None
+no_empty_number = refl
+
+pub no_empty_key : key_of [] ≡ None
+unfolding hex_on_literals
+no_empty_key = refl
+
+no_empty_hash : (kind : HashKind) → hash_of kind [] ≡ None
+unfolding hex_on_literals
+no_empty_hash Sha256 = refl
+no_empty_hash Hash256 = refl
+no_empty_hash Ripemd160 = refl
+no_empty_hash Hash160 = refl
+
+pub no_empty_leaf : (leaf : Leaf) → leaf_of leaf [] ≡ None
+no_empty_leaf leaf_pk_k = ap (option_map pk_k) no_empty_key
+no_empty_leaf leaf_pk_h = ap (option_map pk_h) no_empty_key
+no_empty_leaf leaf_pk = ap (option_map (λ key. wrap C (pk_k key))) no_empty_key
+no_empty_leaf leaf_pkh = ap (option_map (λ key. wrap C (pk_h key))) no_empty_key
+no_empty_leaf leaf_older = refl
+no_empty_leaf leaf_after = refl
+no_empty_leaf (leaf_hash kind) = ap (option_map (hash kind)) (no_empty_hash kind)
+
+-- the letters of a word are its first one and those of the rest
+pub split_letters : (b : ℕ) (w : Bytes) (l : Letter) (ls : List Letter) → Some l ≡ first_letter b LETTERS → letters_of (b ∷ w) ≡ Some ls →
+    (ms : List Letter) × (ls ≡ l ∷ ms) × (letters_of w ≡ Some ms)
+split_letters b w l ls e h = split_by (letters_of w) refl (ap (λ o. option_and_then (λ m. option_map (λ ms. m ∷ ms) (letters_of w)) o) e ∙ h)
+  where
+    split_by : (o : Option (List Letter)) → letters_of w ≡ o → option_map (λ ms. l ∷ ms) (letters_of w) ≡ Some ls →
+        (ms : List Letter) × (ls ≡ l ∷ ms) × (letters_of w ≡ Some ms)
+    split_by None k h = let clash : None ≡ Some ls = ap (option_map (λ ms. l ∷ ms)) (sym k) ∙ h in absurd (cc)
+    split_by (Some ms) k h = let same : Some (l ∷ ms) ≡ Some ls = ap (option_map (λ ns. l ∷ ns)) (sym k) ∙ h in (ms, cc, k)
+
+-- a first letter is spelled
+pub some_letter : (b : ℕ) (w : Bytes) → is_some (letters_of (b ∷ w)) ≡ true → None ≡ first_letter b LETTERS → ⊥
+some_letter b w h e =
+    let none : None ≡ letters_of (b ∷ w) = ap (option_and_then (λ m. option_map (λ ms. m ∷ ms) (letters_of w))) e in
+    let clash : false ≡ true = ap is_some none ∙ h in
+    cc
+
+pub others_spelled : (b : ℕ) (w : Bytes) → is_some (letters_of (b ∷ w)) ≡ true → is_some (letters_of w) ≡ true
+others_spelled b w h = others_by (first_letter b LETTERS) (letters_of w) h
+  where
+    others_by : (o : Option Letter) (p : Option (List Letter)) → is_some (option_and_then (λ m. option_map (λ ms. m ∷ ms) p) o) ≡ true → is_some p ≡ true
+    others_by None p h = absurd (cc)
+    others_by (Some m) None h = absurd (cc)
+    others_by (Some m) (Some ms) h = refl
+
+pub letters_are_long : (w : Bytes) (ls : List Letter) → letters_of w ≡ Some ls → length ls ≡ length w
+letters_are_long w ls h = sym (ap length (word_is w ls h) ∙ length-map ls letter_byte)

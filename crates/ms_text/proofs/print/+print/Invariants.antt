@@ -1,0 +1,26 @@
+-- Twice the measure of the tree, and one more for a tree that is taken apart.
+use Rattle.std.proofs.Common.{◌≡◌, ◌+◌, ◌*◌, ◌++◌, drop}
+use Rattle.std.specs.Prelude.{codes, decimal}
+use Rattle.std.specs.String.{string_bytes}
+use Rattle.def_tree.specs.Size.{measure, measure_of}
+use Rattle.def_text.specs.Print.{printed_children}
+use Rattle.ms_tree.specs.Shape.{shape, shapes}
+use Rattle.ms_text.proofs.print.+print.Given as goal
+
+abbrev pub decreases-print_tree : goal.decreases-print_tree
+decreases-print_tree l = 2 * measure (shape l.tree.now)
+
+abbrev pub decreases-print_and_or : goal.decreases-print_and_or
+decreases-print_and_or l = 2 * measure (shape l.x.now) + 2 * measure (shape l.y.now) + 2 * measure (shape l.z.now) + 1
+
+abbrev pub decreases-print_two : goal.decreases-print_two
+decreases-print_two l = 2 * measure (shape l.x.now) + 2 * measure (shape l.y.now) + 1
+
+abbrev pub decreases-print_thresh : goal.decreases-print_thresh
+decreases-print_thresh l = 2 * measure_of (shapes l.children.now) + 1
+
+-- what is written, and then the other children and `)`, is the whole
+abbrev pub invariant-print_thresh-loop-x : goal.invariant-print_thresh-loop-x
+invariant-print_thresh-loop-x l =
+    string_bytes l.out ++ (printed_children (shapes (drop l.x-index l.children)) ++ codes ")")
+    ≡ string_bytes l.fn.out ++ (codes "thresh(" ++ decimal l.k ++ printed_children (shapes l.children) ++ codes ")")

@@ -1,0 +1,253 @@
+use Rattle.std.proofs.Common.{rules, ◌≡◌, ◌+◌, [], ◌∷◌, ◌++◌, ap, subst, sym, ◌∙◌, arith}
+use Rattle.std.proofs.lemmas.Result.{err_from_is_err_and}
+use Rattle.def_tree.specs.Tree.{and_or, thresh, more, none}
+use Rattle.def_text.specs.Reader as machine
+use Rattle.ms_tree.specs.Shape.{shape, shapes}
+use Rattle.ms_text.specs.declared.tokens.Separator.TheVariants as separator
+use Rattle.ms_text.specs.Names.{form_of, pair_of, letter_of}
+use Rattle.ms_text.specs.Place.{machine_from}
+use Rattle.ms_text.proofs.AnswerLemmas.{refused, along, answers_along}
+use Rattle.ms_text.proofs.PartLemmas.{part_at, one_more, joined_count, joined_measure, joined_depth, joined_writable}
+use Rattle.ms_text.proofs.ExpressionLemmas.{name_begins, run_too_deep, run_begins}
+use Rattle.ms_text.proofs.NameLemmas.{letters_are_long}
+use Rattle.std.specs.Option.{option_map}
+use Rattle.def_text.proofs.Outcomes.{outcome-letter}
+use Rattle.def_tree.specs.Range.{MOST_DEPTH}
+use Rattle.ms_text.specs.Room.{AreParts}
+use Rattle.ms_text.specs.Place.{rest}
+use Rattle.ms_text.proofs.RunLemmas.{run_step, empty_run}
+use Rattle.ms_text.proofs.StateLemmas.{child_next, takes_colon_next, takes_andor_open, takes_andor_first, takes_andor_second, takes_andor_third, takes_pair_open, takes_pair_first, takes_pair_second, takes_thresh_open, takes_thresh_number, takes_thresh_comma, takes_thresh_child}
+use Rattle.ms_text.proofs.reader.+reader.Goals as goal
+
+pub pair_form-returns-in_err-x-clause-reads : goal.pair_form-returns-in_err-x-clause-reads
+pair_form-returns-in_err-x-clause-reads t c = λ fs l.
+    let p = err_from_is_err_and c.from_residual.result c.from_residual.ensures.1 in
+    refused _ _ _ _ _ p.1 p.2
+    (c.in_err-x.ensures.reads (machine.pair_open (pair_of c.args.pair) c.args.name, fs, c.args.offsets.now.items) (machine.pair_first (pair_of c.args.pair) c.args.name ∷ fs) (takes_pair_open (pair_of c.args.pair) c.args.name fs c.args.offsets.now.items) (omega (arith, l)))
+
+pub pair_form-returns-in_err-y-clause-reads : goal.pair_form-returns-in_err-y-clause-reads
+pair_form-returns-in_err-y-clause-reads t c = λ fs l.
+    let p = err_from_is_err_and c.from_residual-in_err-y.result c.from_residual-in_err-y.ensures.1 in
+    refused _ _ _ _ _ p.1 p.2 (along _ _ _
+    (c.in_ok-x.ensures.reads (machine.pair_open (pair_of c.args.pair) c.args.name, fs, c.args.offsets.now.items) (machine.pair_first (pair_of c.args.pair) c.args.name ∷ fs) (takes_pair_open (pair_of c.args.pair) c.args.name fs c.args.offsets.now.items) (omega (arith, l)))
+    (c.in_err-y.ensures.reads (machine.ended (shape c.in_ok-x.x.tree), machine.pair_first (pair_of c.args.pair) c.args.name ∷ fs, c.child.new.offsets.items) (machine.pair_second (pair_of c.args.pair) (shape c.in_ok-x.x.tree) c.args.name ∷ fs) (takes_pair_first (pair_of c.args.pair) (shape c.in_ok-x.x.tree) c.args.name fs c.child.new.offsets.items) (omega (arith, l))))
+
+pub pair_form-returns-in_err-end-clause-reads : goal.pair_form-returns-in_err-end-clause-reads
+pair_form-returns-in_err-end-clause-reads t c = λ fs l.
+    let p = err_from_is_err_and c.from_residual-in_err-end.result c.from_residual-in_err-end.ensures.1 in
+    refused _ _ _ _ _ p.1 p.2 (along _ _ _
+    (c.in_ok-x.ensures.reads (machine.pair_open (pair_of c.args.pair) c.args.name, fs, c.args.offsets.now.items) (machine.pair_first (pair_of c.args.pair) c.args.name ∷ fs) (takes_pair_open (pair_of c.args.pair) c.args.name fs c.args.offsets.now.items) (omega (arith, l))
+    ∙ c.in_ok-y.ensures.reads (machine.ended (shape c.in_ok-x.x.tree), machine.pair_first (pair_of c.args.pair) c.args.name ∷ fs, c.child.new.offsets.items) (machine.pair_second (pair_of c.args.pair) (shape c.in_ok-x.x.tree) c.args.name ∷ fs) (takes_pair_first (pair_of c.args.pair) (shape c.in_ok-x.x.tree) c.args.name fs c.child.new.offsets.items) (omega (arith, l)))
+    (c.in_err-end.ensures.reads (machine.ended (shape c.in_ok-y.y.tree), machine.pair_second (pair_of c.args.pair) (shape c.in_ok-x.x.tree) c.args.name ∷ fs, c.child-2.new.offsets.items) (machine.ended (machine.pair_tree (pair_of c.args.pair) (shape c.in_ok-x.x.tree) (shape c.in_ok-y.y.tree)), fs, c.child-2.new.offsets.items ++ machine.pair_offsets (pair_of c.args.pair) c.args.name) (takes_pair_second (pair_of c.args.pair) (shape c.in_ok-x.x.tree) (shape c.in_ok-y.y.tree) c.args.name fs c.child-2.new.offsets.items)))
+
+pub pair_form-returns-clause-reads : goal.pair_form-returns-clause-reads
+pair_form-returns-clause-reads t c = λ fs l.
+    rw (c.in_ok-tree.ensures.tree, c.in_ok-add_pair_offsets.ensures.added)
+    (c.in_ok-x.ensures.reads (machine.pair_open (pair_of c.args.pair) c.args.name, fs, c.args.offsets.now.items) (machine.pair_first (pair_of c.args.pair) c.args.name ∷ fs) (takes_pair_open (pair_of c.args.pair) c.args.name fs c.args.offsets.now.items) (omega (arith, l))
+    ∙ c.in_ok-y.ensures.reads (machine.ended (shape c.in_ok-x.x.tree), machine.pair_first (pair_of c.args.pair) c.args.name ∷ fs, c.child.new.offsets.items) (machine.pair_second (pair_of c.args.pair) (shape c.in_ok-x.x.tree) c.args.name ∷ fs) (takes_pair_first (pair_of c.args.pair) (shape c.in_ok-x.x.tree) c.args.name fs c.child.new.offsets.items) (omega (arith, l))
+    ∙ c.in_ok-end.ensures.reads (machine.ended (shape c.in_ok-y.y.tree), machine.pair_second (pair_of c.args.pair) (shape c.in_ok-x.x.tree) c.args.name ∷ fs, c.child-2.new.offsets.items) (machine.ended (machine.pair_tree (pair_of c.args.pair) (shape c.in_ok-x.x.tree) (shape c.in_ok-y.y.tree)), fs, c.child-2.new.offsets.items ++ machine.pair_offsets (pair_of c.args.pair) c.args.name) (takes_pair_second (pair_of c.args.pair) (shape c.in_ok-x.x.tree) (shape c.in_ok-y.y.tree) c.args.name fs c.child-2.new.offsets.items))
+
+pub and_or_form-returns-in_err-x-clause-reads : goal.and_or_form-returns-in_err-x-clause-reads
+and_or_form-returns-in_err-x-clause-reads t c = λ fs l.
+    let p = err_from_is_err_and c.from_residual.result c.from_residual.ensures.1 in
+    refused _ _ _ _ _ p.1 p.2
+    (c.in_err-x.ensures.reads (machine.andor_open c.args.name, fs, c.args.offsets.now.items) (machine.andor_first c.args.name ∷ fs) (takes_andor_open c.args.name fs c.args.offsets.now.items) (omega (arith, l)))
+
+pub and_or_form-returns-in_err-y-clause-reads : goal.and_or_form-returns-in_err-y-clause-reads
+and_or_form-returns-in_err-y-clause-reads t c = λ fs l.
+    let p = err_from_is_err_and c.from_residual-in_err-y.result c.from_residual-in_err-y.ensures.1 in
+    refused _ _ _ _ _ p.1 p.2 (along _ _ _
+    (c.in_ok-x.ensures.reads (machine.andor_open c.args.name, fs, c.args.offsets.now.items) (machine.andor_first c.args.name ∷ fs) (takes_andor_open c.args.name fs c.args.offsets.now.items) (omega (arith, l)))
+    (c.in_err-y.ensures.reads (machine.ended (shape c.in_ok-x.x.tree), machine.andor_first c.args.name ∷ fs, c.child.new.offsets.items) (machine.andor_second (shape c.in_ok-x.x.tree) c.args.name ∷ fs) (takes_andor_first (shape c.in_ok-x.x.tree) c.args.name fs c.child.new.offsets.items) (omega (arith, l))))
+
+pub and_or_form-returns-in_err-z-clause-reads : goal.and_or_form-returns-in_err-z-clause-reads
+and_or_form-returns-in_err-z-clause-reads t c = λ fs l.
+    let p = err_from_is_err_and c.from_residual-in_err-z.result c.from_residual-in_err-z.ensures.1 in
+    refused _ _ _ _ _ p.1 p.2 (along _ _ _
+    (c.in_ok-x.ensures.reads (machine.andor_open c.args.name, fs, c.args.offsets.now.items) (machine.andor_first c.args.name ∷ fs) (takes_andor_open c.args.name fs c.args.offsets.now.items) (omega (arith, l))
+    ∙ c.in_ok-y.ensures.reads (machine.ended (shape c.in_ok-x.x.tree), machine.andor_first c.args.name ∷ fs, c.child.new.offsets.items) (machine.andor_second (shape c.in_ok-x.x.tree) c.args.name ∷ fs) (takes_andor_first (shape c.in_ok-x.x.tree) c.args.name fs c.child.new.offsets.items) (omega (arith, l)))
+    (c.in_err-z.ensures.reads (machine.ended (shape c.in_ok-y.y.tree), machine.andor_second (shape c.in_ok-x.x.tree) c.args.name ∷ fs, c.child-2.new.offsets.items) (machine.andor_third (shape c.in_ok-x.x.tree) (shape c.in_ok-y.y.tree) c.args.name ∷ fs) (takes_andor_second (shape c.in_ok-x.x.tree) (shape c.in_ok-y.y.tree) c.args.name fs c.child-2.new.offsets.items) (omega (arith, l))))
+
+pub and_or_form-returns-in_err-end-clause-reads : goal.and_or_form-returns-in_err-end-clause-reads
+and_or_form-returns-in_err-end-clause-reads t c = λ fs l.
+    let p = err_from_is_err_and c.from_residual-in_err-end.result c.from_residual-in_err-end.ensures.1 in
+    refused _ _ _ _ _ p.1 p.2 (along _ _ _
+    (c.in_ok-x.ensures.reads (machine.andor_open c.args.name, fs, c.args.offsets.now.items) (machine.andor_first c.args.name ∷ fs) (takes_andor_open c.args.name fs c.args.offsets.now.items) (omega (arith, l))
+    ∙ c.in_ok-y.ensures.reads (machine.ended (shape c.in_ok-x.x.tree), machine.andor_first c.args.name ∷ fs, c.child.new.offsets.items) (machine.andor_second (shape c.in_ok-x.x.tree) c.args.name ∷ fs) (takes_andor_first (shape c.in_ok-x.x.tree) c.args.name fs c.child.new.offsets.items) (omega (arith, l))
+    ∙ c.in_ok-z.ensures.reads (machine.ended (shape c.in_ok-y.y.tree), machine.andor_second (shape c.in_ok-x.x.tree) c.args.name ∷ fs, c.child-2.new.offsets.items) (machine.andor_third (shape c.in_ok-x.x.tree) (shape c.in_ok-y.y.tree) c.args.name ∷ fs) (takes_andor_second (shape c.in_ok-x.x.tree) (shape c.in_ok-y.y.tree) c.args.name fs c.child-2.new.offsets.items) (omega (arith, l)))
+    (c.in_err-end.ensures.reads (machine.ended (shape c.in_ok-z.z.tree), machine.andor_third (shape c.in_ok-x.x.tree) (shape c.in_ok-y.y.tree) c.args.name ∷ fs, c.child-3.new.offsets.items) (machine.ended (and_or (shape c.in_ok-x.x.tree) (shape c.in_ok-y.y.tree) (shape c.in_ok-z.z.tree)), fs, c.child-3.new.offsets.items ++ c.args.name ∷ []) (takes_andor_third (shape c.in_ok-x.x.tree) (shape c.in_ok-y.y.tree) (shape c.in_ok-z.z.tree) c.args.name fs c.child-3.new.offsets.items)))
+
+pub and_or_form-returns-clause-reads : goal.and_or_form-returns-clause-reads
+and_or_form-returns-clause-reads t c = λ fs l.
+    rw (c.in_ok-tree.ensures.tree, c.in_ok-add_offset.ensures.added)
+    (c.in_ok-x.ensures.reads (machine.andor_open c.args.name, fs, c.args.offsets.now.items) (machine.andor_first c.args.name ∷ fs) (takes_andor_open c.args.name fs c.args.offsets.now.items) (omega (arith, l))
+    ∙ c.in_ok-y.ensures.reads (machine.ended (shape c.in_ok-x.x.tree), machine.andor_first c.args.name ∷ fs, c.child.new.offsets.items) (machine.andor_second (shape c.in_ok-x.x.tree) c.args.name ∷ fs) (takes_andor_first (shape c.in_ok-x.x.tree) c.args.name fs c.child.new.offsets.items) (omega (arith, l))
+    ∙ c.in_ok-z.ensures.reads (machine.ended (shape c.in_ok-y.y.tree), machine.andor_second (shape c.in_ok-x.x.tree) c.args.name ∷ fs, c.child-2.new.offsets.items) (machine.andor_third (shape c.in_ok-x.x.tree) (shape c.in_ok-y.y.tree) c.args.name ∷ fs) (takes_andor_second (shape c.in_ok-x.x.tree) (shape c.in_ok-y.y.tree) c.args.name fs c.child-2.new.offsets.items) (omega (arith, l))
+    ∙ c.in_ok-end.ensures.reads (machine.ended (shape c.in_ok-z.z.tree), machine.andor_third (shape c.in_ok-x.x.tree) (shape c.in_ok-y.y.tree) c.args.name ∷ fs, c.child-3.new.offsets.items) (machine.ended (and_or (shape c.in_ok-x.x.tree) (shape c.in_ok-y.y.tree) (shape c.in_ok-z.z.tree)), fs, c.child-3.new.offsets.items ++ c.args.name ∷ []) (takes_andor_third (shape c.in_ok-x.x.tree) (shape c.in_ok-y.y.tree) (shape c.in_ok-z.z.tree) c.args.name fs c.child-3.new.offsets.items))
+
+pub child-returns-in_err-at-clause-reads : goal.child-returns-in_err-at-clause-reads
+child-returns-in_err-at-clause-reads t c = λ s fs takes l.
+    let p = err_from_is_err_and c.from_residual.result c.from_residual.ensures.1 in
+    refused _ _ _ _ _ p.1 p.2
+    (c.in_err-at.ensures.reads s (machine.expression, fs, c.args.offsets.now.items) takes)
+
+pub child-returns-clause-reads : goal.child-returns-clause-reads
+child-returns-clause-reads t c = λ s fs takes l.
+    answers_along _ _ _ _ (c.in_ok-at.ensures.reads s (machine.expression, fs, c.args.offsets.now.items) takes) (c.expression.ensures.reads fs l)
+
+pub thresh_form-returns-in_err-at-clause-reads : goal.thresh_form-returns-in_err-at-clause-reads
+thresh_form-returns-in_err-at-clause-reads t c = λ fs l.
+    let p = err_from_is_err_and c.from_residual.result c.from_residual.ensures.1 in
+    refused _ _ _ _ _ p.1 p.2
+    (c.in_err-at.ensures.reads (machine.thresh_open c.args.name, fs, c.args.offsets.now.items) (machine.thresh_number c.args.name, fs, c.args.offsets.now.items) (takes_thresh_open c.args.name fs c.args.offsets.now.items))
+
+pub thresh_form-returns-in_err-k-clause-reads : goal.thresh_form-returns-in_err-k-clause-reads
+thresh_form-returns-in_err-k-clause-reads t c = λ fs l.
+    let p = err_from_is_err_and c.from_residual-in_err-k.result c.from_residual-in_err-k.ensures.1 in
+    refused _ _ _ _ _ p.1 p.2 (along _ _ _
+    (c.in_ok-at.ensures.reads (machine.thresh_open c.args.name, fs, c.args.offsets.now.items) (machine.thresh_number c.args.name, fs, c.args.offsets.now.items) (takes_thresh_open c.args.name fs c.args.offsets.now.items))
+    (c.in_err-k.ensures.reads (machine.thresh_number c.args.name, fs, c.args.offsets.now.items) (λ k. (machine.thresh_comma k c.args.name, fs, c.args.offsets.now.items)) (takes_thresh_number c.args.name fs c.args.offsets.now.items)))
+
+pub thresh_form-returns-in_err-read-clause-reads : goal.thresh_form-returns-in_err-read-clause-reads
+thresh_form-returns-in_err-read-clause-reads t c = λ fs l.
+    let p = err_from_is_err_and c.from_residual-in_err-read.result c.from_residual-in_err-read.ensures.1 in
+    refused _ _ _ _ _ p.1 p.2 (along _ _ _
+    (c.in_ok-at.ensures.reads (machine.thresh_open c.args.name, fs, c.args.offsets.now.items) (machine.thresh_number c.args.name, fs, c.args.offsets.now.items) (takes_thresh_open c.args.name fs c.args.offsets.now.items)
+    ∙ c.in_ok-k.ensures.reads (machine.thresh_number c.args.name, fs, c.args.offsets.now.items) (λ k. (machine.thresh_comma k c.args.name, fs, c.args.offsets.now.items)) (takes_thresh_number c.args.name fs c.args.offsets.now.items))
+    (c.in_err-read.ensures.reads c.in_ok-k.k.value c.args.name fs (omega arith)))
+
+pub thresh_form-returns-clause-reads : goal.thresh_form-returns-clause-reads
+thresh_form-returns-clause-reads t c = λ fs l.
+    rw (c.in_ok-tree.ensures.tree, c.in_ok-add_offset.ensures.added)
+    (c.in_ok-at.ensures.reads (machine.thresh_open c.args.name, fs, c.args.offsets.now.items) (machine.thresh_number c.args.name, fs, c.args.offsets.now.items) (takes_thresh_open c.args.name fs c.args.offsets.now.items)
+    ∙ c.in_ok-k.ensures.reads (machine.thresh_number c.args.name, fs, c.args.offsets.now.items) (λ k. (machine.thresh_comma k c.args.name, fs, c.args.offsets.now.items)) (takes_thresh_number c.args.name fs c.args.offsets.now.items)
+    ∙ c.in_ok-read.ensures.reads c.in_ok-k.k.value c.args.name fs (omega arith))
+
+pub fragment-returns-in-Zero-clause-part : goal.fragment-returns-in-Zero-clause-part
+fragment-returns-in-Zero-clause-part t c = part_at c.args.text.now c.args.name c.args.depth c.bare_form.result c.bare_form.ensures.part c.requires.depth
+
+pub fragment-returns-in-One-clause-part : goal.fragment-returns-in-One-clause-part
+fragment-returns-in-One-clause-part t c = part_at c.args.text.now c.args.name c.args.depth c.bare_form-in-One.result c.bare_form-in-One.ensures.part c.requires.depth
+
+pub fragment-returns-in-Leaf-clause-part : goal.fragment-returns-in-Leaf-clause-part
+fragment-returns-in-Leaf-clause-part t c = part_at c.args.text.now c.args.name c.args.depth c.leaf_form.result c.leaf_form.ensures.part c.requires.depth
+
+pub fragment-returns-in-Multi-clause-part : goal.fragment-returns-in-Multi-clause-part
+fragment-returns-in-Multi-clause-part t c = part_at c.args.text.now c.args.name c.args.depth c.multi_form.result c.multi_form.ensures.part c.requires.depth
+
+pub fragment-returns-in-Zero-clause-reads : goal.fragment-returns-in-Zero-clause-reads
+fragment-returns-in-Zero-clause-reads t c = λ fs l. rw c.in-Zero.is (c.bare_form.ensures.reads fs)
+
+pub fragment-returns-in-One-clause-reads : goal.fragment-returns-in-One-clause-reads
+fragment-returns-in-One-clause-reads t c = λ fs l. rw c.in-One.is (c.bare_form-in-One.ensures.reads fs)
+
+pub expression-returns-then-word-depth-clause-reads : goal.expression-returns-then-word-depth-clause-reads
+expression-returns-then-word-depth-clause-reads t c = λ fs l.
+    let letters = c.in-Letters.ensures in
+    run_too_deep c.args.text.now c.args.at c.word_at-word.result.now fs c.args.offsets.now.items c.word_at-word.ensures.first letters.first letters.others c.args.depth letters.is
+    (letters_are_long c.word_at-word.result.now (letters.first ∷ letters.others) letters.spells) l (omega arith)
+
+pub expression-returns-else-depth-eq-MOST_LEVELS-clause-reads : goal.expression-returns-else-depth-eq-MOST_LEVELS-clause-reads
+expression-returns-else-depth-eq-MOST_LEVELS-clause-reads t c = λ fs l.
+    answers_along _ _ _ _ (name_begins c.args.text.now c.args.at c.word_at-word.result.now fs c.args.offsets.now.items c.word_at-word.ensures.first (form_of c.in-Name.form) c.args.depth c.in-Name.ensures l (omega arith))
+    (c.fragment.ensures.reads fs l)
+
+pub expression-returns-else-word-depth-clause-reads : goal.expression-returns-else-word-depth-clause-reads
+expression-returns-else-word-depth-clause-reads t c = λ fs l.
+    let letters = c.in-Letters.ensures in
+    answers_along _ _ _ _
+    (run_begins c.args.text.now c.args.at c.word_at-word.result.now fs c.args.offsets.now.items c.word_at-word.ensures.first letters.first letters.others c.args.depth letters.is
+    (letters_are_long c.word_at-word.result.now (letters.first ∷ letters.others) letters.spells) l (omega arith))
+    (c.letters.ensures.reads (letters.first ∷ letters.others) fs letters.spells l)
+
+pub letters-returns-in_default-clause-reads : goal.letters-returns-in_default-clause-reads
+letters-returns-in_default-clause-reads t c = λ ls fs h l.
+    answers_along _ _ _ _ (empty_run c.args.run.now c.args.name ls fs c.args.offsets.now.items c.args.text.now c.args.end c.in_default.len_below h)
+    (c.child.ensures.reads (machine.colon_next, fs, c.args.offsets.now.items) fs (takes_colon_next fs c.args.offsets.now.items) l)
+
+pub letters-returns-in_err-x-clause-reads : goal.letters-returns-in_err-x-clause-reads
+letters-returns-in_err-x-clause-reads t c = λ ls fs h l.
+    let (ms, k, e) = run_step c.args.run.now (letter_of c.in-Some.letter) c.args.name ls fs c.args.offsets.now.items c.add_offset_before.new.offsets.items c.args.text.now c.args.end c.in-len1-up.len_at_least
+    (ap (option_map letter_of) (sym c.in-Some.is) ∙ c.letter_named.ensures) h c.in_ok-add_offset_before.ensures.added in
+    let p = err_from_is_err_and c.from_residual-in_err-x.result c.from_residual-in_err-x.ensures.1 in
+    refused _ _ _ _ _ p.1 p.2 (along _ _ _ e (c.in_err-x.ensures.reads ms (machine.letter_frame (letter_of c.in-Some.letter) c.args.name ∷ fs) (k _ (omega arith)) (omega (arith, l))))
+
+pub letters-returns-clause-reads : goal.letters-returns-clause-reads
+letters-returns-clause-reads t c = λ ls fs h l.
+    let (ms, k, e) = run_step c.args.run.now (letter_of c.in-Some.letter) c.args.name ls fs c.args.offsets.now.items c.add_offset_before.new.offsets.items c.args.text.now c.args.end c.in-len1-up.len_at_least
+    (ap (option_map letter_of) (sym c.in-Some.is) ∙ c.letter_named.ensures) h c.in_ok-add_offset_before.ensures.added in
+    rw (c.in_ok-tree.ensures.tree, c.in_ok-add_offsets_behind.ensures.added)
+    (e ∙ c.in_ok-x.ensures.reads ms (machine.letter_frame (letter_of c.in-Some.letter) c.args.name ∷ fs) (k _ (omega arith)) (omega (arith, l))
+    ∙ outcome-letter (letter_of c.in-Some.letter) c.args.name (shape c.in_ok-x.x.tree) fs c.letters.new.offsets.items (rest c.args.text.now c.in_ok-x.x.end))
+
+pub child_list-returns-in_err-at-clause-reads : goal.child_list-returns-in_err-at-clause-reads
+child_list-returns-in_err-at-clause-reads t c = λ k name fs l.
+    let p = err_from_is_err_and c.from_residual.result c.from_residual.ensures.1 in
+    refused _ _ _ _ _ p.1 p.2
+    (c.in_err-at.ensures.reads (machine.thresh_comma k name, fs, c.args.offsets.now.items) (machine.expression, machine.thresh_child k none name ∷ fs, c.args.offsets.now.items) (takes_thresh_comma k name fs c.args.offsets.now.items))
+
+pub child_list-loop-trees-init : goal.child_list-loop-trees-init
+child_list-loop-trees-init t c = record {
+  place = c.in_ok-at.ensures.place;
+  after = omega (arith, c.in_ok-at.ensures.next);
+  measure = rw c.new-trees.ensures.items (omega (arith, c.in_ok-at.ensures.next));
+  depth = rw c.new-trees.ensures.items (omega (arith, c.requires.depth));
+  writable = rw c.new-trees.ensures.items tt;
+  reads = λ k name fs l.
+      rw c.new-trees.ensures.items (c.in_ok-at.ensures.reads (machine.thresh_comma k name, fs, c.args.offsets.now.items) (machine.expression, machine.thresh_child k none name ∷ fs, c.args.offsets.now.items) (takes_thresh_comma k name fs c.args.offsets.now.items));
+}
+
+pub child_list-returns-in_err-x-clause-reads : goal.child_list-returns-in_err-x-clause-reads
+child_list-returns-in_err-x-clause-reads t c = λ k name fs l.
+    let p = err_from_is_err_and c.from_residual-in_err-x.result c.from_residual-in_err-x.ensures.1 in
+    refused _ _ _ _ _ p.1 p.2 (along _ _ _
+    (c.loop-trees.invariant.reads k name fs l)
+    (c.in_err-x.ensures.reads (machine.thresh_child k (shapes c.loop-trees.trees.items) name ∷ fs) (omega (arith, l))))
+
+pub child_list-returns-in_err-found-clause-reads : goal.child_list-returns-in_err-found-clause-reads
+child_list-returns-in_err-found-clause-reads t c = λ k name fs l.
+    let p = err_from_is_err_and c.from_residual-in_err-found.result c.from_residual-in_err-found.ensures.1 in
+    refused _ _ _ _ _ p.1 p.2 (along _ _ _
+    (c.loop-trees.invariant.reads k name fs l
+    ∙ c.in_ok-x.ensures.reads (machine.thresh_child k (shapes c.loop-trees.trees.items) name ∷ fs) (omega (arith, l)))
+    (c.in_err-found.ensures.reads (machine.ended (shape c.in_ok-x.x.tree), machine.thresh_child k (shapes c.loop-trees.trees.items) name ∷ fs, c.expression.new.offsets.items) (child_next k (machine.joined (shapes c.loop-trees.trees.items) (more (shape c.in_ok-x.x.tree) none)) name fs c.expression.new.offsets.items) (takes_thresh_child k (shapes c.loop-trees.trees.items) (shape c.in_ok-x.x.tree) name fs c.expression.new.offsets.items)))
+
+pub child_list-returns-then-eq-clause-parts : goal.child_list-returns-then-eq-clause-parts
+child_list-returns-then-eq-clause-parts t c =
+    let same : shapes c.add_child.new.children.items ≡ machine.joined (shapes c.loop-trees.trees.items) (more (shape c.in_ok-x.x.tree) none) = ap shapes c.in_ok-add_child.ensures.added ∙ one_more c.loop-trees.trees.items c.in_ok-x.x.tree in
+    subst (λ ts. AreParts c.args.text.now (c.args.at + 1) c.args.depth ts (c.in_ok-x.x.end + 1)) (sym same) (record {
+      after = omega (arith, c.loop-trees.invariant.after, c.in_ok-x.ensures.part.after);
+      place = c.in_ok-found.ensures.place;
+      some = joined_count (shapes c.loop-trees.trees.items) (shape c.in_ok-x.x.tree);
+      measure = omega (arith, joined_measure (shapes c.loop-trees.trees.items) (shape c.in_ok-x.x.tree), c.loop-trees.invariant.measure, c.in_ok-x.ensures.part.measure);
+      depth = joined_depth (shapes c.loop-trees.trees.items) (shape c.in_ok-x.x.tree) c.args.depth MOST_DEPTH c.loop-trees.invariant.depth c.in_ok-x.ensures.part.depth;
+      writable = joined_writable (shapes c.loop-trees.trees.items) (shape c.in_ok-x.x.tree) c.loop-trees.invariant.writable c.in_ok-x.ensures.part.writable;
+    })
+
+pub child_list-returns-then-eq-clause-reads : goal.child_list-returns-then-eq-clause-reads
+child_list-returns-then-eq-clause-reads t c = λ k name fs l.
+    let same : shapes c.add_child.new.children.items ≡ machine.joined (shapes c.loop-trees.trees.items) (more (shape c.in_ok-x.x.tree) none) = ap shapes c.in_ok-add_child.ensures.added ∙ one_more c.loop-trees.trees.items c.in_ok-x.x.tree in
+    let last : c.in_ok-found.found ≡ separator.Close = search rules in
+    c.loop-trees.invariant.reads k name fs l
+    ∙ c.in_ok-x.ensures.reads (machine.thresh_child k (shapes c.loop-trees.trees.items) name ∷ fs) (omega (arith, l))
+    ∙ c.in_ok-found.ensures.reads (machine.ended (shape c.in_ok-x.x.tree), machine.thresh_child k (shapes c.loop-trees.trees.items) name ∷ fs, c.expression.new.offsets.items) (child_next k (machine.joined (shapes c.loop-trees.trees.items) (more (shape c.in_ok-x.x.tree) none)) name fs c.expression.new.offsets.items) (takes_thresh_child k (shapes c.loop-trees.trees.items) (shape c.in_ok-x.x.tree) name fs c.expression.new.offsets.items)
+    ∙ ap (λ f. machine_from (child_next k (machine.joined (shapes c.loop-trees.trees.items) (more (shape c.in_ok-x.x.tree) none)) name fs c.expression.new.offsets.items f) c.args.text.now (c.in_ok-x.x.end + 1)) last
+    ∙ ap (λ ts. machine_from (machine.ended (thresh k ts), fs, c.expression.new.offsets.items ++ name ∷ []) c.args.text.now (c.in_ok-x.x.end + 1)) (sym same)
+
+pub child_list-loop-trees-preserved : goal.child_list-loop-trees-preserved
+child_list-loop-trees-preserved t c =
+    let same : shapes c.add_child.new.children.items ≡ machine.joined (shapes c.loop-trees.trees.items) (more (shape c.in_ok-x.x.tree) none) = ap shapes c.in_ok-add_child.ensures.added ∙ one_more c.loop-trees.trees.items c.in_ok-x.x.tree in
+    let another : c.in_ok-found.found ≡ separator.Comma = search rules in
+    record {
+      place = c.in_ok-found.ensures.place;
+      after = omega (arith, c.loop-trees.invariant.after, c.in_ok-x.ensures.part.after);
+      measure = rw same (omega (arith, joined_measure (shapes c.loop-trees.trees.items) (shape c.in_ok-x.x.tree), c.loop-trees.invariant.measure, c.in_ok-x.ensures.part.measure));
+      depth = rw same (joined_depth (shapes c.loop-trees.trees.items) (shape c.in_ok-x.x.tree) c.args.depth MOST_DEPTH c.loop-trees.invariant.depth c.in_ok-x.ensures.part.depth);
+      writable = rw same (joined_writable (shapes c.loop-trees.trees.items) (shape c.in_ok-x.x.tree) c.loop-trees.invariant.writable c.in_ok-x.ensures.part.writable);
+      reads = λ k name fs l.
+          c.loop-trees.invariant.reads k name fs l
+          ∙ c.in_ok-x.ensures.reads (machine.thresh_child k (shapes c.loop-trees.trees.items) name ∷ fs) (omega (arith, l))
+          ∙ c.in_ok-found.ensures.reads (machine.ended (shape c.in_ok-x.x.tree), machine.thresh_child k (shapes c.loop-trees.trees.items) name ∷ fs, c.expression.new.offsets.items) (child_next k (machine.joined (shapes c.loop-trees.trees.items) (more (shape c.in_ok-x.x.tree) none)) name fs c.expression.new.offsets.items) (takes_thresh_child k (shapes c.loop-trees.trees.items) (shape c.in_ok-x.x.tree) name fs c.expression.new.offsets.items)
+          ∙ ap (λ f. machine_from (child_next k (machine.joined (shapes c.loop-trees.trees.items) (more (shape c.in_ok-x.x.tree) none)) name fs c.expression.new.offsets.items f) c.args.text.now (c.in_ok-x.x.end + 1)) another
+          ∙ ap (λ ts. machine_from (machine.expression, machine.thresh_child k ts name ∷ fs, c.expression.new.offsets.items) c.args.text.now (c.in_ok-x.x.end + 1)) (sym same);
+    }

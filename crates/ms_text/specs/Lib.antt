@@ -1,0 +1,6 @@
+pub mod Names
+pub mod Words
+pub mod Marks
+pub mod Place
+pub mod Leaves
+pub mod Room

@@ -1,0 +1,125 @@
+//! Arguments that are one word, and lists of keys.
+ghost use Rattle.std.specs.Prelude.{◌≡◌, ℕ, ◌+◌, ◌*◌, ◌<◌, ◌≤◌, length, List, All, IfOk, IfSome};
+ghost use Rattle.std.specs.Option.{option_map};
+ghost use Rattle.def_tree.specs.Range.{IsKey, IsWritable, TEN_DIGITS};
+ghost use Rattle.def_text.specs.Reader.{State, Frame, leaf_of as spelled_by, multi_comma, ended};
+ghost use Rattle.def_text.specs.Word.{number_of, key_of};
+ghost use Rattle.def_tree.specs.Tree as tree;
+ghost use Rattle.ms_text.specs.Leaves.{leaf_tree};
+ghost use Rattle.ms_text.specs.Names.{leaf_of};
+ghost use Rattle.ms_text.specs.Place.{IsPlace, Takes, Answers, machine_from, word_read};
+ghost use Rattle.ms_tree.specs.Shape.{leaf_shape};
+
+use crate::names::LeafName;
+use crate::tokens::{Mark, Separator, behind_mark, separator_at, word_at};
+use crate::words::{hash_spelled, key_spelled, number_spelled};
+use def_text::TextFault;
+use ms_tree::{Key, Leaf};
+use std::alloc::Global;
+
+/// What a word spells, and the place behind it.
+#[derive(Clone, Copy)]
+pub struct Spelled<T> {
+    pub value: T,
+    pub end: usize,
+}
+
+/// The number that has to stand here.
+pub fn number_at(text: &[u8], at: usize) -> Result<Spelled<u64>, TextFault>
+    requires { IsPlace text.now at }
+    ensures after { IfOk result (λ r. at < r.end) }
+    ensures place { IfOk result (λ r. IsPlace text.now r.end) }
+    ensures writable { IfOk result (λ r. r.value < TEN_DIGITS) }
+    ensures reads { (s : State) (next : ℕ → State) → Takes (word_read number_of) s next → Answers (machine_from s text.now at) result (λ r. machine_from (next r.value) text.now r.end) }
+{
+    let word = word_at(text, at);
+    let Some(value) = number_spelled(word) else {
+        return Err(TextFault::Syntax(at as u32));
+    };
+    Ok(Spelled {
+        value,
+        end: at + word.len(),
+    })
+}
+
+/// The key that has to stand here.
+pub fn key_at(text: &[u8], at: usize) -> Result<Spelled<Key>, TextFault>
+    requires { IsPlace text.now at }
+    ensures after { IfOk result (λ r. at < r.end) }
+    ensures place { IfOk result (λ r. IsPlace text.now r.end) }
+    ensures writable { IfOk result (λ r. IsKey r.value) }
+    ensures reads { (s : State) (next : List ℕ → State) → Takes (word_read key_of) s next → Answers (machine_from s text.now at) result (λ r. machine_from (next r.value) text.now r.end) }
+{
+    let word = word_at(text, at);
+    let Some(value) = key_spelled(word) else {
+        return Err(TextFault::Syntax(at as u32));
+    };
+    Ok(Spelled {
+        value,
+        end: at + word.len(),
+    })
+}
+
+/// The leaf that a word spells as the argument of this fragment.
+fn leaf_spelled(name: LeafName, word: &[u8]) -> Option<Leaf>
+    ensures value { option_map (leaf_tree name) result ≡ spelled_by (leaf_of name) word.now }
+    ensures writable { IfSome result (λ leaf. IsWritable (leaf_shape leaf)) }
+{
+    match name {
+        LeafName::PkK | LeafName::Pk => Some(Leaf::PkK(key_spelled(word)?)),
+        LeafName::PkH | LeafName::Pkh => Some(Leaf::PkH(key_spelled(word)?)),
+        LeafName::Older => Some(Leaf::Older(number_spelled(word)?)),
+        LeafName::After => Some(Leaf::After(number_spelled(word)?)),
+        LeafName::Hash(kind) => Some(Leaf::Hash(hash_spelled(kind, word)?)),
+    }
+}
+
+/// The argument of this fragment that has to stand here.
+pub fn argument_at(text: &[u8], at: usize, name: LeafName) -> Result<Spelled<Leaf>, TextFault>
+    requires { IsPlace text.now at }
+    ensures after { IfOk result (λ r. at < r.end) }
+    ensures place { IfOk result (λ r. IsPlace text.now r.end) }
+    ensures writable { IfOk result (λ r. IsWritable (leaf_shape r.value)) }
+    ensures reads { (s : State) (next : tree.Tree → State) → Takes (word_read (spelled_by (leaf_of name))) s next → Answers (machine_from s text.now at) result (λ r. machine_from (next (leaf_tree name r.value)) text.now r.end) }
+{
+    let word = word_at(text, at);
+    let Some(value) = leaf_spelled(name, word) else {
+        return Err(TextFault::Syntax(at as u32));
+    };
+    Ok(Spelled {
+        value,
+        end: at + word.len(),
+    })
+}
+
+/// Keys, and the place behind the `)` that ends them.
+#[derive(Drop)]
+pub struct Keys {
+    pub keys: Vec<Key>,
+    pub end: usize,
+}
+
+/// One or more keys that have to stand here, each behind a comma, and the `)` behind them.
+pub fn key_list(alloc: Global, text: &[u8], at: usize) -> Result<Keys, TextFault>
+    requires { IsPlace text.now at }
+    ensures after { IfOk result (λ r. at < r.end) }
+    ensures place { IfOk result (λ r. IsPlace text.now r.end) }
+    ensures some { IfOk result (λ r. 1 ≤ length r.keys.items) }
+    ensures measure { IfOk result (λ r. length r.keys.items + at ≤ r.end) }
+    ensures writable { IfOk result (λ r. All IsKey r.keys.items) }
+    ensures reads { (k : ℕ) (fs : List Frame) (os : List ℕ) → Answers (machine_from (multi_comma k, fs, os) text.now at) result (λ r. machine_from (ended (tree.multi k r.keys.items), fs, os) text.now r.end) }
+{
+    let mut keys = Vec::new(alloc);
+    let mut at = behind_mark(text, at, Mark::Comma)?;
+    loop {
+        let read = key_at(text, at)?;
+        if keys.push(read.value).is_err() {
+            return Err(TextFault::Memory);
+        }
+        let found = separator_at(text, read.end)?;
+        at = read.end + 1;
+        if found == Separator::Close {
+            return Ok(Keys { keys, end: at });
+        }
+    }
+}

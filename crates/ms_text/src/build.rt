@@ -1,0 +1,187 @@
+//! What is written while a text is read: nodes, and their offsets.
+ghost use Rattle.std.specs.Prelude.{◌≡◌, ℕ, ◌+◌, ◌<◌, ◌^◌, [], ◌∷◌, ◌++◌, IfOk, IfErr, OnOk};
+ghost use Rattle.def_tree.specs.Range.{IsInRange, IsWritable};
+ghost use Rattle.def_tree.specs.Tree as model;
+ghost use Rattle.def_text.specs.Letter.{letter_tree};
+ghost use Rattle.def_text.specs.Reader.{leaf_offsets, pair_tree, pair_offsets, offsets_before, offsets_behind};
+ghost use Rattle.ms_text.specs.Leaves.{leaf_tree};
+ghost use Rattle.ms_text.specs.Names.{leaf_of, pair_of, letter_of};
+ghost use Rattle.ms_text.specs.Room.{HasRoom, HaveRoom};
+ghost use Rattle.ms_tree.specs.Shape.{shape, shapes, leaf_shape};
+
+use crate::names::{LeafName, Letter, Pair};
+use def_text::TextFault;
+use ms_tree::{Key, Leaf, Tree, Two, Wrapper, and_or, leaf, multi, thresh, two, wrap};
+use std::alloc::Global;
+
+/// Adds the offset of a node.
+pub fn add_offset(offsets: &mut Vec<u32>, at: usize) -> Result<(), TextFault>
+    requires { at < 2 ^ 32 }
+    ensures added { OnOk result (offsets.new.items ≡ offsets.old.items ++ at ∷ []) }
+    ensures memory { IfErr result (λ e. e ≡ TextFault.Memory) }
+{
+    offsets.push(at as u32).map_err(|_| TextFault::Memory)
+}
+
+/// Adds the offset of both nodes of a piece of sugar.
+fn add_twice(offsets: &mut Vec<u32>, at: usize) -> Result<(), TextFault>
+    requires { at < 2 ^ 32 }
+    ensures added { OnOk result (offsets.new.items ≡ offsets.old.items ++ at ∷ at ∷ []) }
+    ensures memory { IfErr result (λ e. e ≡ TextFault.Memory) }
+{
+    add_offset(offsets, at)?;
+    add_offset(offsets, at)
+}
+
+/// Adds the offsets of a fragment whose argument is a word.
+pub fn add_leaf_offsets(offsets: &mut Vec<u32>, name: LeafName, at: usize) -> Result<(), TextFault>
+    requires { at < 2 ^ 32 }
+    ensures added { OnOk result (offsets.new.items ≡ offsets.old.items ++ leaf_offsets (leaf_of name) at) }
+    ensures memory { IfErr result (λ e. e ≡ TextFault.Memory) }
+{
+    match name {
+        LeafName::Pk | LeafName::Pkh => add_twice(offsets, at),
+        LeafName::PkK | LeafName::PkH | LeafName::Older | LeafName::After | LeafName::Hash(_) => {
+            add_offset(offsets, at)
+        }
+    }
+}
+
+/// Adds the offsets of a fragment of two children.
+pub fn add_pair_offsets(offsets: &mut Vec<u32>, pair: Pair, at: usize) -> Result<(), TextFault>
+    requires { at < 2 ^ 32 }
+    ensures added { OnOk result (offsets.new.items ≡ offsets.old.items ++ pair_offsets (pair_of pair) at) }
+    ensures memory { IfErr result (λ e. e ≡ TextFault.Memory) }
+{
+    match pair {
+        Pair::Two(_) => add_offset(offsets, at),
+        Pair::AndN => add_twice(offsets, at),
+    }
+}
+
+/// Adds the offset of the node that a letter puts before its expression: the `0` of `l:`.
+pub fn add_offset_before(offsets: &mut Vec<u32>, letter: Letter, at: usize) -> Result<(), TextFault>
+    requires { at < 2 ^ 32 }
+    ensures added { OnOk result (offsets.new.items ≡ offsets.old.items ++ offsets_before (letter_of letter) at) }
+    ensures memory { IfErr result (λ e. e ≡ TextFault.Memory) }
+{
+    match letter {
+        Letter::L => add_offset(offsets, at),
+        Letter::Wrapper(_) | Letter::T | Letter::U => Ok(()),
+    }
+}
+
+/// Adds the offsets of the nodes that a letter puts behind its expression.
+pub fn add_offsets_behind(
+    offsets: &mut Vec<u32>,
+    letter: Letter,
+    at: usize,
+) -> Result<(), TextFault>
+    requires { at < 2 ^ 32 }
+    ensures added { OnOk result (offsets.new.items ≡ offsets.old.items ++ offsets_behind (letter_of letter) at) }
+    ensures memory { IfErr result (λ e. e ≡ TextFault.Memory) }
+{
+    match letter {
+        Letter::T | Letter::U => add_twice(offsets, at),
+        Letter::Wrapper(_) | Letter::L => add_offset(offsets, at),
+    }
+}
+
+/// The tree of a leaf.
+pub fn new_leaf(alloc: Global, value: Leaf) -> Result<Tree, TextFault>
+    requires { IsWritable (leaf_shape value) }
+    ensures tree { IfOk result (λ t. shape t ≡ leaf_shape value) }
+    ensures memory { IfErr result (λ e. e ≡ TextFault.Memory) }
+{
+    leaf(alloc, value).map_err(|_| TextFault::Memory)
+}
+
+/// The tree of a fragment whose argument is this leaf's.
+pub fn named_leaf(alloc: Global, name: LeafName, value: Leaf) -> Result<Tree, TextFault>
+    requires { IsWritable (leaf_shape value) }
+    ensures tree { IfOk result (λ t. shape t ≡ leaf_tree name value) }
+    ensures memory { IfErr result (λ e. e ≡ TextFault.Memory) }
+{
+    let x = new_leaf(alloc, value)?;
+    match name {
+        LeafName::Pk | LeafName::Pkh => {
+            wrap(alloc, Wrapper::C, x).map_err(|_| TextFault::Memory)
+        }
+        LeafName::PkK | LeafName::PkH | LeafName::Older | LeafName::After | LeafName::Hash(_) => {
+            Ok(x)
+        }
+    }
+}
+
+/// The tree of an expression with a letter before it.
+pub fn with_letter(alloc: Global, letter: Letter, x: Tree) -> Result<Tree, TextFault>
+    requires { HasRoom (shape x) }
+    ensures tree { IfOk result (λ t. shape t ≡ letter_tree (letter_of letter) (shape x)) }
+    ensures memory { IfErr result (λ e. e ≡ TextFault.Memory) }
+{
+    match letter {
+        Letter::Wrapper(wrapper) => wrap(alloc, wrapper, x).map_err(|_| TextFault::Memory),
+        Letter::T => {
+            let one = new_leaf(alloc, Leaf::One)?;
+            two(alloc, Two::AndV, x, one).map_err(|_| TextFault::Memory)
+        }
+        Letter::L => {
+            let zero = new_leaf(alloc, Leaf::Zero)?;
+            two(alloc, Two::OrI, zero, x).map_err(|_| TextFault::Memory)
+        }
+        Letter::U => {
+            let zero = new_leaf(alloc, Leaf::Zero)?;
+            two(alloc, Two::OrI, x, zero).map_err(|_| TextFault::Memory)
+        }
+    }
+}
+
+/// The tree of a fragment of two children.
+pub fn new_pair(alloc: Global, pair: Pair, x: Tree, y: Tree) -> Result<Tree, TextFault>
+    requires { HaveRoom (shape x) (shape y) }
+    ensures tree { IfOk result (λ t. shape t ≡ pair_tree (pair_of pair) (shape x) (shape y)) }
+    ensures memory { IfErr result (λ e. e ≡ TextFault.Memory) }
+{
+    match pair {
+        Pair::Two(kind) => two(alloc, kind, x, y).map_err(|_| TextFault::Memory),
+        Pair::AndN => {
+            let zero = new_leaf(alloc, Leaf::Zero)?;
+            and_or(alloc, x, y, zero).map_err(|_| TextFault::Memory)
+        }
+    }
+}
+
+/// The tree `andor(x,y,z)`.
+pub fn new_and_or(alloc: Global, x: Tree, y: Tree, z: Tree) -> Result<Tree, TextFault>
+    requires { IsInRange (model.and_or (shape x) (shape y) (shape z)) }
+    ensures tree { IfOk result (λ t. shape t ≡ model.and_or (shape x) (shape y) (shape z)) }
+    ensures memory { IfErr result (λ e. e ≡ TextFault.Memory) }
+{
+    and_or(alloc, x, y, z).map_err(|_| TextFault::Memory)
+}
+
+/// The tree `thresh(k,..)` of these children.
+pub fn new_thresh(alloc: Global, k: u64, children: Vec<Tree>) -> Result<Tree, TextFault>
+    requires { IsInRange (model.thresh k (shapes children.items)) }
+    ensures tree { IfOk result (λ t. shape t ≡ model.thresh k (shapes children.items)) }
+    ensures memory { IfErr result (λ e. e ≡ TextFault.Memory) }
+{
+    thresh(alloc, k, children).map_err(|_| TextFault::Memory)
+}
+
+/// The tree `multi(k,..)` of these keys.
+pub fn new_multi(alloc: Global, k: u64, keys: Vec<Key>) -> Result<Tree, TextFault>
+    requires { IsInRange (model.multi k keys.items) }
+    ensures tree { IfOk result (λ t. shape t ≡ model.multi k keys.items) }
+    ensures memory { IfErr result (λ e. e ≡ TextFault.Memory) }
+{
+    multi(alloc, k, keys).map_err(|_| TextFault::Memory)
+}
+
+/// Adds a child.
+pub fn add_child(children: &mut Vec<Tree>, x: Tree) -> Result<(), TextFault>
+    ensures added { OnOk result (children.new.items ≡ children.old.items ++ x ∷ []) }
+    ensures memory { IfErr result (λ e. e ≡ TextFault.Memory) }
+{
+    children.push(x).map_err(|_| TextFault::Memory)
+}

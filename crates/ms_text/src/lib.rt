@@ -1,0 +1,18 @@
+//! Miniscript text: the reader, which tells the first wrong place exactly, and the printer.
+#![tactic(auto)]
+
+pub use def_text::TextFault;
+pub use print::print_text;
+pub use text::{TextTree, read_text};
+
+mod arguments;
+mod build;
+mod forms;
+mod names;
+mod print;
+mod reader;
+#[cfg(test)]
+mod tests;
+mod text;
+mod tokens;
+mod words;

@@ -1,0 +1,154 @@
+use crate::*;
+use std::alloc::{AllocError, Global};
+use std::test::Fail;
+
+/// A text in which capital letters stand for digits: `A`, `B` and `C` for keys, `X` and `Y` for hash values of 32 and 20 bytes.
+fn expanded(alloc: Global, pattern: &str) -> Result<String, AllocError> {
+    let mut text = String::new(alloc);
+    for letter in pattern.chars() {
+        match letter {
+            'A' => digits(&mut text, "02", "01", 32)?,
+            'B' => digits(&mut text, "03", "ab", 32)?,
+            'C' => digits(&mut text, "03", "AB", 32)?,
+            'X' => digits(&mut text, "", "5c", 32)?,
+            'Y' => digits(&mut text, "", "5c", 20)?,
+            _ => text.push(letter)?,
+        }
+    }
+    Ok(text)
+}
+
+fn digits(text: &mut String, first: &str, rest: &str, count: usize) -> Result<(), AllocError> {
+    text.push_str(first)?;
+    for _ in 0..count {
+        text.push_str(rest)?;
+    }
+    Ok(())
+}
+
+/// So many pieces, between a front and a back.
+fn repeated(
+    alloc: Global,
+    front: &str,
+    piece: &str,
+    count: usize,
+    back: &str,
+) -> Result<String, AllocError> {
+    let mut text = String::from_str(alloc, front)?;
+    for _ in 0..count {
+        text.push_str(piece)?;
+    }
+    text.push_str(back)?;
+    Ok(text)
+}
+
+#[test]
+fn refusals_name_the_first_wrong_place(rt: HostRuntime) -> Result<(), Fail> {
+    let alloc = rt.alloc();
+    let cases = [
+        ("", TextFault::Syntax(0)),
+        ("and_", TextFault::Syntax(0)),
+        ("pk(02)", TextFault::Syntax(3)),
+        ("older(00)", TextFault::Syntax(6)),
+        ("pk (A)", TextFault::Syntax(2)),
+        ("pk(A", TextFault::Syntax(69)),
+        ("pk(A))", TextFault::Syntax(70)),
+        ("n", TextFault::Syntax(1)),
+        ("multi(1)", TextFault::Syntax(7)),
+        ("thresh(1)", TextFault::Syntax(8)),
+        ("é", TextFault::Syntax(0)),
+        ("0é", TextFault::Syntax(1)),
+    ];
+    for (pattern, fault) in cases {
+        let text = expanded(alloc, pattern)?;
+        assert_eq!(rt; read_text(alloc, &text).err(), Some(fault));
+    }
+    Ok(())
+}
+
+#[test]
+fn limits_of_depth_and_length(rt: HostRuntime) -> Result<(), Fail> {
+    let alloc = rt.alloc();
+    let deep = repeated(alloc, "", "n", 256, ":0")?;
+    assert_eq!(rt;
+        read_text(alloc, &deep).err(),
+        Some(TextFault::TooDeep(257))
+    );
+    let letters = repeated(alloc, "", "n", 300, "")?;
+    assert_eq!(rt;
+        read_text(alloc, &letters).err(),
+        Some(TextFault::TooDeep(0))
+    );
+    let fits = repeated(alloc, "", "n", 255, ":0")?;
+    assert!(rt; read_text(alloc, &fits).is_ok());
+    let key = expanded(alloc, ",A")?;
+    let long = repeated(alloc, "n:multi(1", &key, 978, ")")?;
+    assert_eq!(rt; long.len(), 65_536);
+    assert!(rt; read_text(alloc, &long).is_ok());
+    let too_long = repeated(alloc, "nn:multi(1", &key, 978, ")")?;
+    assert_eq!(rt; read_text(alloc, &too_long).err(), Some(TextFault::TooLong));
+    Ok(())
+}
+
+#[test]
+fn texts_are_printed_without_sugar(rt: HostRuntime) -> Result<(), Fail> {
+    let alloc = rt.alloc();
+    let cases = [
+        ("0", "0"),
+        ("1", "1"),
+        ("pk_k(A)", "pk_k(A)"),
+        ("pk_h(C)", "pk_h(B)"),
+        ("pk(A)", "c:pk_k(A)"),
+        ("pkh(A)", "c:pk_h(A)"),
+        ("older(0)", "older(0)"),
+        ("after(9999999999)", "after(9999999999)"),
+        ("sha256(X)", "sha256(X)"),
+        ("hash256(X)", "hash256(X)"),
+        ("ripemd160(Y)", "ripemd160(Y)"),
+        ("hash160(Y)", "hash160(Y)"),
+        ("andor(0,1,pk(A))", "andor(0,1,c:pk_k(A))"),
+        ("and_n(0,1)", "andor(0,1,0)"),
+        ("and_v(0,1)", "and_v(0,1)"),
+        ("and_b(0,1)", "and_b(0,1)"),
+        ("or_b(0,1)", "or_b(0,1)"),
+        ("or_c(0,1)", "or_c(0,1)"),
+        ("or_d(0,1)", "or_d(0,1)"),
+        ("or_i(0,1)", "or_i(0,1)"),
+        ("thresh(2,0,1,0)", "thresh(2,0,1,0)"),
+        ("multi(1,A,B)", "multi(1,A,B)"),
+        ("ascdvjn:0", "ascdvjn:0"),
+        ("a:s:c:0", "asc:0"),
+        ("t:0", "and_v(0,1)"),
+        ("l:1", "or_i(0,1)"),
+        ("u:1", "or_i(1,0)"),
+        (
+            "t:or_c(pk(A),v:pk(B))",
+            "and_v(or_c(c:pk_k(A),vc:pk_k(B)),1)",
+        ),
+    ];
+    for (pattern, form) in cases {
+        let text = expanded(alloc, pattern)?;
+        let read = read_text(alloc, &text).ok().ok_or("a tree")?;
+        let printed = print_text(alloc, read.tree())?;
+        let want = expanded(alloc, form)?;
+        assert_eq!(rt; printed.as_str(), want.as_str());
+    }
+    Ok(())
+}
+
+#[test]
+fn nodes_have_the_offsets_of_what_wrote_them(rt: HostRuntime) -> Result<(), Fail> {
+    let alloc = rt.alloc();
+    let cases: [(&str, &[u32]); 4] = [
+        ("t:or_c(pk(A),v:pk(B))", &[7, 7, 80, 80, 78, 2, 0, 0]),
+        ("l:0", &[0, 2, 0]),
+        ("vu:and_n(0,1)", &[9, 11, 3, 3, 1, 1, 0]),
+        ("thresh(1,0,a:1)", &[9, 13, 11, 0]),
+    ];
+    for (pattern, offsets) in cases {
+        let text = expanded(alloc, pattern)?;
+        let read = read_text(alloc, &text).ok().ok_or("a tree")?;
+        assert_eq!(rt; read.offsets.as_slice(), offsets);
+    }
+    Ok(())
+}

@@ -1,0 +1,71 @@
+//! Reading a text.
+ghost use Rattle.std.specs.Prelude.{◌≡◌, ◌<◌, ◌≤◌, length, slice_index, IsUtf8, IfOk, IfErr};
+ghost use Rattle.def_tree.specs.Range.{IsInRange};
+ghost use Rattle.def_tree.specs.Size.{nodes};
+ghost use Rattle.def_text.specs.Refusal.{MOST_BYTES, TextReads, TextRefusal};
+ghost use Rattle.ms_tree.specs.Shape.{shape};
+
+use crate::reader::expression;
+use def_text::TextFault;
+use ms_tree::Tree;
+use std::alloc::Global;
+
+/// How many bytes a text may have.
+const MOST_BYTES_READ: usize = 65_536;
+
+/// The tree of a text, and the byte offsets of its nodes in the text, in the order of their numbers.
+#[derive(Drop)]
+pub struct TextTree {
+    pub tree: Tree,
+    pub offsets: Vec<u32>,
+    pub ghost offset_each: { length offsets.items ≡ nodes (shape tree) },
+}
+
+impl TextTree {
+    /// The tree.
+    pub fn tree(&self) -> &Tree
+        ensures { result.now ≡ self.now.tree }
+    {
+        &self.tree
+    }
+
+    /// The byte offset of the name or letter that wrote a node. Nodes are numbered from 0, children before parents and left to right.
+    pub fn offset(&self, node: u32) -> u32
+        requires { node < nodes (shape self.now.tree) }
+        ensures { result ≡ slice_index self.now.offsets.items node }
+    {
+        self.offsets[node as usize]
+    }
+}
+
+/// The tree that a text spells, with the offset of each node, or the first cause why it spells none: it has over 65,536 bytes, a
+/// token that no spelled text has there, or a name or letter of written depth over 256 (BIP 379).
+pub fn read_text(alloc: Global, text: &str) -> Result<TextTree, TextFault>
+    ensures read { IfOk result (λ t. TextReads text.now (shape t.tree) t.offsets.items) }
+    ensures refused { IfErr result (λ e. TextRefusal text.now e) }
+    ensures in_range { IfOk result (λ t. IsInRange (shape t.tree)) }
+{
+    if text.len() > MOST_BYTES_READ {
+        return Err(TextFault::TooLong);
+    }
+    read_bytes(alloc, text.as_bytes())
+}
+
+/// The same for a text that isn't too long.
+fn read_bytes(alloc: Global, text: &[u8]) -> Result<TextTree, TextFault>
+    requires utf8 { IsUtf8 text.now }
+    requires short { length text.now ≤ MOST_BYTES }
+    ensures read { IfOk result (λ t. TextReads text.now (shape t.tree) t.offsets.items) }
+    ensures refused { IfErr result (λ e. TextRefusal text.now e) }
+    ensures in_range { IfOk result (λ t. IsInRange (shape t.tree)) }
+{
+    let mut offsets = Vec::new(alloc);
+    let part = expression(alloc, text, 0, 0, &mut offsets)?;
+    if part.end < text.len() {
+        return Err(TextFault::Syntax(part.end as u32));
+    }
+    Ok(TextTree {
+        tree: part.tree,
+        offsets,
+    })
+}
