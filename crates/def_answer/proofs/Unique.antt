@@ -43,7 +43,7 @@ text_of_form words c h form = text_of_words IsUtf8 c (subst (All IsUtf8) form.sa
 
 -- ---- readings
 
-one_reading : (text : Bytes) (a b : Reading) → IsUtf8 text → HasReading text a → HasReading text b → a ≡ b
+pub one_reading : (text : Bytes) (a b : Reading) → IsUtf8 text → HasReading text a → HasReading text b → a ≡ b
 one_reading text (read x os) (read y ps) utf8 h k =
     let same = one_tree h.spelled k.spelled in
     ap (λ t. read t os) same.0 ∙ ap (λ qs. read y qs) same.1

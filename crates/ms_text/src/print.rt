@@ -4,6 +4,8 @@ ghost use Rattle.std.specs.String.{string_bytes};
 ghost use Rattle.hex.specs.Hex.{encode_lower};
 ghost use Rattle.def_text.specs.Letter.{wrapper_byte};
 ghost use Rattle.def_text.specs.Print.{printed, printed_behind, printed_keys, printed_children};
+ghost use Rattle.def_text.specs.Spells.{SpellsText};
+ghost use Rattle.def_text.specs.Token.{tokens};
 ghost use Rattle.def_text.specs.Word.{hash_name, two_name};
 ghost use Rattle.def_tree.specs.Range.{IsInRange};
 ghost use Rattle.def_tree.specs.Tree as model;
@@ -16,7 +18,8 @@ use std::alloc::{AllocError, Global};
 /// The text of a tree.
 pub fn print_text(alloc: Global, tree: &Tree) -> Result<String, AllocError>
     requires { IsInRange (shape tree.now) }
-    ensures { IfOk result (λ text. string_bytes text ≡ printed (shape tree.now)) }
+    ensures printed { IfOk result (λ text. string_bytes text ≡ printed (shape tree.now)) }
+    ensures spells { IfOk result (λ text. (os : List ℕ) × SpellsText (tokens (string_bytes text)) (shape tree.now) os) }
 {
     let mut out = String::new(alloc);
     print_tree(alloc, &mut out, tree, "")?;

@@ -149,6 +149,11 @@ fn nodes_have_the_offsets_of_what_wrote_them(rt: HostRuntime) -> Result<(), Fail
         let text = expanded(alloc, pattern)?;
         let read = read_text(alloc, &text).ok().ok_or("a tree")?;
         assert_eq!(rt; read.offsets.as_slice(), offsets);
+        for node in 0..8u32 {
+            if (node as usize) < read.offsets.len() {
+                assert_eq!(rt; Some(&read.offset(node)), offsets.get(node as usize));
+            }
+        }
     }
     Ok(())
 }

@@ -44,6 +44,8 @@ pub fn read_text(alloc: Global, text: &str) -> Result<TextTree, TextFault>
     ensures read { IfOk result (λ t. TextReads text.now (shape t.tree) t.offsets.items) }
     ensures refused { IfErr result (λ e. TextRefusal text.now e) }
     ensures in_range { IfOk result (λ t. IsInRange (shape t.tree)) }
+    // Memory is wanting only where the text isn't too long.
+    ensures memory { IfErr result (λ e. e ≡ TextFault.Memory → length text.now ≤ MOST_BYTES) }
 {
     if text.len() > MOST_BYTES_READ {
         return Err(TextFault::TooLong);

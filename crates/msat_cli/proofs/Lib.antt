@@ -1,2 +1,1 @@
-mod ThinLemmas
 mod AnswerLemmas

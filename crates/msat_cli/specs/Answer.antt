@@ -1,16 +1,19 @@
--- The answer to each list of words: a status and a report. Lines end with a line feed.
-use Rattle.std.specs.Prelude.{◌≡◌, ℕ, List, [], ◌∷◌, ◌++◌, ◌⊎◌, codes}
+-- The answer to each list of words: a status and a report.
+use Rattle.std.specs.Prelude.{◌≡◌, ℕ, ◌≤◌, length, List, [], ◌∷◌, ◌⊎◌, codes, if◌then◌else◌}
 use Rattle.std.specs.declared.option.Option.{Option}
 use Rattle.std.specs.Io.KnownBytes.{Appends, Keeps}
 use Rattle.hex.specs.Hex.{encode_lower}
 use Rattle.def_script.specs.Bytes.{Bytes}
 use Rattle.def_tree.specs.Tree.{Tree}
+use Rattle.def_text.specs.Refusal.{MOST_BYTES}
 use Rattle.def_emit.specs.Emit.{script_of}
 use Rattle.ms_io.specs.Faults.{Rose}
 use Rattle.ms_io.specs.Moves.{AppendsPrefix}
 use Rattle.def_answer.specs.declared.status.Status.{Status}
 use Rattle.def_answer.specs.declared.status.Status.TheVariants as status
-use Rattle.msat_cli.specs.Thin.{IsThin}
+use Rattle.def_answer.specs.Lines.{line, text_line, usage_line}
+use Rattle.def_answer.specs.Reading.{Reading, read, refused, HasReading}
+use Rattle.msat_cli.specs.Thin.{is_thin, MOST_KEYS}
 
 -- the words `script TEXT`
 abbrev pub IsScript : List Bytes → Bytes → Type 0
@@ -20,43 +23,48 @@ IsScript words text = words ≡ codes "script" ∷ text ∷ []
 abbrev pub HasNoForm : List Bytes → Type 0
 HasNoForm words = (text : Bytes) → IsScript words text → ⊥
 
--- the text isn't thin
-abbrev pub IsNotThin : Bytes → Type 0
-IsNotThin text = (tree : Tree) → IsThin text tree → ⊥
+-- the line of a tree: its Script in lower-case digits where the tree is thin
+abbrev pub tree_line : Tree → Bytes
+tree_line tree = if is_thin MOST_KEYS tree then line (encode_lower (script_of tree)) else line (codes "refused text Unbuilt")
 
-abbrev pub line : Bytes → Bytes
-line text = text ++ 10 ∷ []
+-- the status and the report of a text with this reading
+abbrev pub status_of : Reading → Status
+status_of (read tree offsets) = if is_thin MOST_KEYS tree then status.Done else status.TextRefused
+status_of (refused fault) = status.TextRefused
 
--- the text is thin, and the line shows its Script in lower-case digits
-pub record ShowsScript (text report : Bytes) : Type 0 where
-  pub tree : Tree
-  pub thin : IsThin text tree
-  pub shown : report ≡ line (encode_lower (script_of tree))
+abbrev pub report_of : Reading → Bytes
+report_of (read tree offsets) = tree_line tree
+report_of (refused fault) = text_line fault
+
+-- this is the status and the report of TEXT, want of memory aside
+abbrev pub AnswersText : Bytes → Status → Bytes → Type 0
+AnswersText text answer report =
+    (reading : Reading) × HasReading text reading × (answer ≡ status_of reading) × (report ≡ report_of reading)
 
 -- the words have this status and this report as their answer
 abbrev pub HasAnswer : List Bytes → Status → Bytes → Type 0
-HasAnswer words status.Done report = (text : Bytes) × IsScript words text × ShowsScript text report
-HasAnswer words status.Usage report = HasNoForm words × (report ≡ line (codes "refused usage"))
-HasAnswer words status.TextRefused report = (text : Bytes) × IsScript words text × IsNotThin text × (report ≡ line (codes "refused text Unbuilt"))
-HasAnswer words other report = ⊥
+HasAnswer words answer report =
+    (HasNoForm words × (answer ≡ status.Usage) × (report ≡ usage_line))
+    ⊎ ((text : Bytes) × IsScript words text × AnswersText text answer report)
 
--- the answer's report was written whole
-abbrev pub WritesAnswer : List Bytes → Status → (old new : Option Bytes) → Type 0
-WritesAnswer words answer old new = (report : Bytes) × HasAnswer words answer report × Appends old new report
+-- the answer's report was written whole: `old` and `new` are what the sink had got before and after
+abbrev pub WritesAnswer : List Bytes → (old new : Option Bytes) → Status → Type 0
+WritesAnswer words old new result = (report : Bytes) × HasAnswer words result report × Appends old new report
 
--- a prefix of the answer's report was written
-abbrev pub WritesPrefix : List Bytes → (old new : Option Bytes) → Type 0
-WritesPrefix words old new = (answer : Status) × (report : Bytes) × HasAnswer words answer report × AppendsPrefix old new report
+-- the sink failed, and its count of faults rose: a prefix of the answer's report was written
+abbrev pub WritesPrefix : List Bytes → (old new : Option Bytes) → (before now : ℕ) → Status → Type 0
+WritesPrefix words old new before now result =
+    (result ≡ status.WriteFault) × Rose before now × ((answer : Status) × (report : Bytes) × HasAnswer words answer report × AppendsPrefix old new report)
 
--- what each status means: `old` and `new` are what the sink had got before and after the call, and
--- `before` and `now` its count of faults
+-- memory was wanting: nothing was written, and the words are `script TEXT` with a TEXT that isn't too long
+abbrev pub WantsMemory : List Bytes → (old new : Option Bytes) → Status → Type 0
+WantsMemory words old new result =
+    (result ≡ status.Memory) × Keeps old new × ((text : Bytes) × IsScript words text × (length text ≤ MOST_BYTES))
+
+-- how a call ends
 abbrev pub Ends : List Bytes → (old new : Option Bytes) → (before now : ℕ) → Status → Type 0
-Ends words old new before now status.Done = WritesAnswer words status.Done old new
-Ends words old new before now status.Usage = WritesAnswer words status.Usage old new
-Ends words old new before now status.TextRefused = WritesAnswer words status.TextRefused old new
-Ends words old new before now status.WriteFault = WritesPrefix words old new × Rose before now
-Ends words old new before now status.Memory = Keeps old new × ((text : Bytes) × IsScript words text)
-Ends words old new before now other = ⊥
+Ends words old new before now result =
+    WritesAnswer words old new result ⊎ (WritesPrefix words old new before now result ⊎ WantsMemory words old new result)
 
 -- the status, or want of memory, or a write fault
 abbrev pub IsOrFault : Status → Status → Type 0

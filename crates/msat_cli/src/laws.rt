@@ -1,7 +1,6 @@
 ghost use Rattle.std.specs.Prelude.{◌≡◌, ◌⊎◌, ℕ, List};
-ghost use Rattle.def_tree.specs.Tree as tree;
-ghost use Rattle.msat_cli.specs.Thin.{IsThin};
-ghost use Rattle.msat_cli.specs.Answer.{IsScript, HasNoForm, IsNotThin};
+ghost use Rattle.def_answer.specs.Reading.{Reading, HasReading};
+ghost use Rattle.msat_cli.specs.Answer.{IsScript, HasNoForm, status_of};
 
 use crate::program::msat;
 use crate::word::Word;
@@ -18,8 +17,7 @@ pub fn msat_without_faults(
     sink: &mut NullSink,
 ) -> Status
     ensures usage { HasNoForm words.now → result ≡ Status.Usage }
-    ensures thin { (text : List ℕ) (t : tree.Tree) → IsScript words.now text → IsThin text t → (result ≡ Status.Done) ⊎ (result ≡ Status.Memory) }
-    ensures not_thin { (text : List ℕ) → IsScript words.now text → IsNotThin text → (result ≡ Status.TextRefused) ⊎ (result ≡ Status.Memory) }
+    ensures text { (text : List ℕ) (reading : Reading) → IsScript words.now text → HasReading text reading → (result ≡ status_of reading) ⊎ (result ≡ Status.Memory) }
 {
     msat(alloc, words, source, sink)
 }

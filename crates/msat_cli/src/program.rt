@@ -1,18 +1,17 @@
-ghost use Rattle.std.specs.Prelude.{◌≡◌, ◌≤◌, ◌⊎◌, ℕ, List, [], ◌∷◌, codes, MatchOption, IfOk};
+ghost use Rattle.std.specs.Prelude.{◌≡◌, ◌≤◌, ◌⊎◌, ℕ, List, [], ◌∷◌, codes, MatchOption, IfSome, IsUtf8};
 ghost use Rattle.std.specs.String.{string_bytes};
 ghost use Rattle.std.specs.Io.KnownBytes.{Appends};
-ghost use Rattle.def_tree.specs.Tree as tree;
+ghost use Rattle.def_answer.specs.Reading.{Reading, HasReading};
 ghost use Rattle.ms_io.specs.Faults.{Rose};
 ghost use Rattle.ms_io.specs.Moves.{AppendsPrefix};
-ghost use Rattle.msat_cli.specs.Thin.{IsThin};
-ghost use Rattle.msat_cli.specs.Answer.{IsScript, HasNoForm, IsNotThin, ShowsScript, Ends, IsOrFault};
+ghost use Rattle.msat_cli.specs.Answer.{IsScript, HasNoForm, status_of, Ends, IsOrFault};
 
-use crate::answer::{UNBUILT, USAGE, script_line};
-use crate::thin::read_thin;
+use crate::answer::{TOO_LONG, UNBUILT, USAGE, text_line, thin_line};
 use crate::word::Word;
 use def_answer::Status;
 use ms_io::{Sink, Source, put_all};
-use std::alloc::{AllocError, Global};
+use ms_text::{TextFault, read_text};
+use std::alloc::Global;
 
 /// Answers the words of a command line: makes the report, writes it to the sink by one call of
 /// `put_all`, and gives the status. The words that are stated so far are `script TEXT`.
@@ -24,11 +23,11 @@ pub fn msat<S: Source, K: Sink>(
 ) -> Status
     ensures end { Ends words.now (K.written sink.old) (K.written sink.new) (K.faults sink.old) (K.faults sink.new) result }
     ensures faults_later { K.faults sink.old ≤ K.faults sink.new }
+    ensures fault { result ≡ Status.WriteFault → Rose (K.faults sink.old) (K.faults sink.new) }
 
     // Which status comes for which words, memory and faults of the sink aside.
     ensures usage { HasNoForm words.now → (result ≡ Status.Usage) ⊎ (result ≡ Status.WriteFault) }
-    ensures thin { (text : List ℕ) (t : tree.Tree) → IsScript words.now text → IsThin text t → IsOrFault Status.Done result }
-    ensures not_thin { (text : List ℕ) → IsScript words.now text → IsNotThin text → IsOrFault Status.TextRefused result }
+    ensures text { (text : List ℕ) (reading : Reading) → IsScript words.now text → HasReading text reading → IsOrFault (status_of reading) result }
 
     // The source isn't read.
     ensures unread { S.left source.new ≡ S.left source.old }
@@ -43,7 +42,8 @@ pub fn msat<S: Source, K: Sink>(
 
 /// The TEXT of the words `script TEXT`.
 fn script_text(words: &[Word]) -> Option<&str>
-    ensures { MatchOption result (HasNoForm words.now) (λ text. IsScript words.now text.now) }
+    ensures text { MatchOption result (HasNoForm words.now) (λ text. IsScript words.now text.now) }
+    ensures utf8 { IfSome result (λ text. IsUtf8 text.now) }
 {
     let [command, text] = words else {
         return None;
@@ -59,21 +59,18 @@ fn script<K: Sink>(alloc: Global, text: &str, sink: &mut K) -> Status
     ensures end { Ends (codes "script" ∷ text.now ∷ []) (K.written sink.old) (K.written sink.new) (K.faults sink.old) (K.faults sink.new) result }
     ensures faults_later { K.faults sink.old ≤ K.faults sink.new }
 {
-    match script_report(alloc, text) {
-        Ok(Some(report)) => write(sink, Status::Done, report.as_bytes()),
-        Ok(None) => write(sink, Status::TextRefused, UNBUILT),
-        Err(_) => Status::Memory,
+    match read_text(alloc, text) {
+        Ok(read) => match thin_line(alloc, read.tree()) {
+            Ok(Some(report)) => write(sink, Status::Done, report.as_bytes()),
+            Ok(None) => write(sink, Status::TextRefused, UNBUILT),
+            Err(_) => Status::Memory,
+        },
+        Err(TextFault::TooLong) => write(sink, Status::TextRefused, TOO_LONG),
+        Err(fault) => match text_line(alloc, fault) {
+            Ok(report) => write(sink, Status::TextRefused, report.as_bytes()),
+            Err(_) => Status::Memory,
+        },
     }
-}
-
-/// The report of `script TEXT`, or `None` where the text isn't thin.
-fn script_report(alloc: Global, text: &str) -> Result<Option<String>, AllocError>
-    ensures { IfOk result (λ made. MatchOption made (IsNotThin text.now) (λ report. ShowsScript text.now (string_bytes report))) }
-{
-    let Some(tree) = read_thin(alloc, text.as_bytes(), 100)? else {
-        return Ok(None);
-    };
-    Ok(Some(script_line(alloc, &tree)?))
 }
 
 /// Writes the whole report of an answer with this status.

@@ -12,6 +12,15 @@ fn key(alloc: Global, first: &str, rest: &str) -> Result<String, AllocError> {
     Ok(digits)
 }
 
+/// So many letters.
+fn repeated(alloc: Global, letter: &str, count: usize) -> Result<String, AllocError> {
+    let mut text = String::new(alloc);
+    for _ in 0..count {
+        text.push_str(letter)?;
+    }
+    Ok(text)
+}
+
 /// Calls `msat` with these words over a sink with so much room, which takes `chunk` bytes a call
 /// and fails the calls that `fail_at` lists.
 fn written(
@@ -113,16 +122,65 @@ fn a_hundred_keys_are_the_most(rt: HostRuntime) -> Result<(), Fail> {
 }
 
 #[test]
-fn other_texts_are_unbuilt(rt: HostRuntime) -> Result<(), Fail> {
+fn a_thin_tree_is_read_from_any_text(rt: HostRuntime) -> Result<(), Fail> {
+    let alloc = rt.alloc();
+    let (a, b) = (key(alloc, "02", "01")?, key(alloc, "03", "ab")?);
+    let text = format!(in alloc; "and_v(vc:pk_k({a}),c:pk_k({b}))")?;
+    let (status, report) = answer(alloc, &["script", &text])?;
+    assert_eq!(rt; status, Status::Done);
+    assert_eq!(rt;
+        report.as_str(),
+        format!(in alloc; "21{a}ad21{b}ac\n")?.as_str()
+    );
+    Ok(())
+}
+
+#[test]
+fn other_trees_are_unbuilt(rt: HostRuntime) -> Result<(), Fail> {
     let alloc = rt.alloc();
     let a = key(alloc, "02", "01")?;
-    let no_key = format!(in alloc; "pk({})", key(alloc, "04", "01")?.as_str())?;
-    let short = format!(in alloc; "pk({})", a.get(..65).ok_or("65 digits")?)?;
-    let other = format!(in alloc; "and_v(v:pk({a}),1)")?;
-    for text in ["1", "", &no_key, &short, &other, "pk()", "and_v(v:pk("] {
+    let verified = format!(in alloc; "v:pk({a})")?;
+    let bare = format!(in alloc; "pk_k({a})")?;
+    let last = format!(in alloc; "and_v(v:pk({a}),1)")?;
+    let unverified = format!(in alloc; "and_v(pk({a}),pk({a}))")?;
+    let other = format!(in alloc; "and_b(v:pk({a}),pk({a}))")?;
+    for text in ["1", &verified, &bare, &last, &unverified, &other] {
         let (status, report) = answer(alloc, &["script", text])?;
         assert_eq!(rt; status, Status::TextRefused);
         assert_eq!(rt; report.as_str(), "refused text Unbuilt\n");
+    }
+    Ok(())
+}
+
+#[test]
+fn refused_texts_have_their_places(rt: HostRuntime) -> Result<(), Fail> {
+    let alloc = rt.alloc();
+    let a = key(alloc, "02", "01")?;
+    let space = format!(in alloc; "pk ({a})")?;
+    let open = format!(in alloc; "pk({a}")?;
+    let closed = format!(in alloc; "pk({a}))")?;
+    let deep = format!(in alloc; "{}:0", repeated(alloc, "n", 256)?.as_str())?;
+    let letters = repeated(alloc, "n", 300)?;
+    let long = repeated(alloc, "n", 65_537)?;
+    let cases: [(&str, &str); 10] = [
+        ("", "Syntax at 0"),
+        ("and_", "Syntax at 0"),
+        ("pk(02)", "Syntax at 3"),
+        ("older(00)", "Syntax at 6"),
+        (&space, "Syntax at 2"),
+        (&open, "Syntax at 69"),
+        (&closed, "Syntax at 70"),
+        (&deep, "TooDeep at 257"),
+        (&letters, "TooDeep at 0"),
+        (&long, "TooLong"),
+    ];
+    for (text, refusal) in cases {
+        let (status, report) = answer(alloc, &["script", text])?;
+        assert_eq!(rt; status, Status::TextRefused);
+        assert_eq!(rt;
+            report.as_str(),
+            format!(in alloc; "refused text {refusal}\n")?.as_str()
+        );
     }
     Ok(())
 }
