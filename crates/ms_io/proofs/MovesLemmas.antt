@@ -1,11 +1,11 @@
 -- Moves of bytes that follow one another.
-use Rattle.std.proofs.Common.{ℕ, ◌≡◌, ◌-◌, ◌+◌, List, ◌++◌, length, take, drop, sym, ◌∙◌, ap, subst, append_assoc, length-append, arith}
+use Rattle.std.proofs.Common.{ℕ, ◌≡◌, ◌-◌, ◌+◌, ◌<◌, ◌≤◌, List, ◌++◌, length, take, drop, sym, ◌∙◌, ap, subst, append_assoc, length-append, arith}
 use Rattle.std.proofs.lemmas.List.{take-append-drop, take_rest}
 use Rattle.std.proofs.Math.Seq.{take-append_seam}
-use Rattle.std.proofs.KnownBytes.{Appends-trans, Appends-kept}
+use Rattle.std.proofs.KnownBytes.{Appends-trans, Appends-kept, Consumes-trans}
 use Rattle.std.specs.declared.option.Option.{Option}
-use Rattle.std.specs.Io.KnownBytes.{Appends, Keeps}
-use Rattle.ms_io.specs.Moves.{AppendsPrefix, WritesSoFar}
+use Rattle.std.specs.Io.KnownBytes.{Appends, Consumes, Keeps}
+use Rattle.ms_io.specs.Moves.{AppendsPrefix, WritesSoFar, GivesWithin, GivesOver}
 
 -- one more piece was taken
 pub writes_more : (old now new : Option (List ℕ)) (bytes rest : List ℕ) (n : ℕ) → WritesSoFar old now bytes rest → Appends now new (take n rest) → WritesSoFar old new bytes (take (length rest - n) (drop n rest))
@@ -26,4 +26,20 @@ writes_stop old now new bytes rest so_far kept = record {
       let front : take (length so_far.done) bytes ≡ so_far.done = ap (take (length so_far.done)) so_far.whole ∙ take-append_seam so_far.done rest in
       let P : List ℕ → Type 0 = λ taken. Appends old new taken in
       subst P (sym front) (Appends-kept old now new so_far.done so_far.appended kept);
+}
+
+-- with one more piece, more was given than a limit
+pub gives_over : (old now new : Option (List ℕ)) (done more : List ℕ) (limit : ℕ) → Consumes old now done → Consumes now new more → limit < length done + length more → GivesOver old new limit
+gives_over old now new done more limit before then over = record {
+  bytes = done ++ more;
+  over = omega (arith, length-append done more);
+  given = Consumes-trans old now new done more before then;
+}
+
+-- with one more piece, no more was given than a limit
+pub gives_within : (old now new : Option (List ℕ)) (done more : List ℕ) (limit : ℕ) → Consumes old now done → Consumes now new more → length done + length more ≤ limit → GivesWithin old new limit
+gives_within old now new done more limit before then within = record {
+  bytes = done ++ more;
+  within = omega (arith, length-append done more);
+  given = Consumes-trans old now new done more before then;
 }

@@ -1,6 +1,19 @@
--- A sink over memory that fails where it is told to.
-use Rattle.std.specs.Prelude.{ℕ, ◌+◌, ◌-◌, ◌^◌, ◌==◌, ◌&&◌, ◌||◌, min, nat_lt, Bool, List, length, take, ◌++◌, if◌then◌else◌}
+-- A sink and a source over memory that fail where they are told to.
+use Rattle.std.specs.Prelude.{ℕ, ◌+◌, ◌-◌, ◌^◌, ◌==◌, ◌&&◌, ◌||◌, min, nat_lt, Bool, List, length, take, drop, ◌++◌, if◌then◌else◌}
 use Rattle.std.specs.List.{list_any}
+
+-- ---- numbers of calls
+
+-- one more, up to the last value of a 64-bit counter
+abbrev pub next_count : ℕ → ℕ
+next_count n = min (n + 1) (2 ^ 64 - 1)
+
+-- a call fails where its number is listed. The last value of the counter is the number of all calls from
+-- there on, and none of them fails
+abbrev pub call_fails : (fail_at : List ℕ) → (call : ℕ) → Bool
+call_fails fail_at call = nat_lt call (2 ^ 64 - 1) && list_any (λ n. n == call) fail_at
+
+-- ---- the sink
 
 -- what a sink over memory holds and how it will answer
 pub record Memory : Type 0 where
@@ -20,20 +33,40 @@ pub record Memory : Type 0 where
 abbrev pub room_left : Memory → ℕ
 room_left m = m.room - length m.bytes
 
--- the next call fails where its number is listed, or the piece isn't empty and no room is left
+-- the next call fails where its number tells, or the piece isn't empty and no room is left
 abbrev pub put_fails : Memory → List ℕ → Bool
-put_fails m piece = list_any (λ n. n == m.calls) m.fail_at || (nat_lt 0 (length piece) && (room_left m == 0))
+put_fails m piece = call_fails m.fail_at m.calls || (nat_lt 0 (length piece) && (room_left m == 0))
 
 -- how many bytes of a piece a call takes that doesn't fail
 abbrev pub put_count : Memory → List ℕ → ℕ
 put_count m piece = min m.chunk (min (length piece) (room_left m))
-
--- one more, up to the last value of a 64-bit counter
-abbrev pub next_count : ℕ → ℕ
-next_count n = min (n + 1) (2 ^ 64 - 1)
 
 -- the sink after a call of `put`
 abbrev pub after_put : Memory → List ℕ → Memory
 after_put m piece =
     if put_fails m piece then record m { calls = next_count m.calls; failures = next_count m.failures }
     else record m { bytes = m.bytes ++ take (put_count m piece) piece; calls = next_count m.calls }
+
+-- ---- the source
+
+-- what a source over memory has left and how it will answer
+pub record Input : Type 0 where
+  -- the bytes that are left
+  pub left : List ℕ
+  -- how many bytes it gives in one call at most
+  pub chunk : ℕ
+  -- the numbers, from 0, of the calls that fail
+  pub fail_at : List ℕ
+  -- how many calls there were, and how many of them failed, up to 2^64 - 1
+  pub calls : ℕ
+  pub failures : ℕ
+
+-- how many bytes a call gives that doesn't fail, into a buffer of this length
+abbrev pub read_count : Input → (room : ℕ) → ℕ
+read_count s room = min s.chunk (min room (length s.left))
+
+-- the source after a call of `read`
+abbrev pub after_read : Input → (room : ℕ) → Input
+after_read s room =
+    if call_fails s.fail_at s.calls then record s { calls = next_count s.calls; failures = next_count s.failures }
+    else record s { left = drop (read_count s room) s.left; calls = next_count s.calls }

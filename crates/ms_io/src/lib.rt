@@ -5,12 +5,14 @@
 #![tactic(auto)]
 
 pub use memory::MemSink;
+pub use memory_source::MemSource;
 pub use sink::{Sink, SinkFailed, put_all};
-pub use source::{Source, SourceFailed};
+pub use source::{ReadStop, Source, SourceFailed, read_all};
 pub use standard::{StdSink, StdSource};
 pub use sure::{NullSink, SureSource};
 
 mod memory;
+mod memory_source;
 mod sink;
 mod source;
 mod standard;

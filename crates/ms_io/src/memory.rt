@@ -2,7 +2,7 @@ ghost use Rattle.std.specs.Prelude.{◌≡◌, ℕ, ◌+◌, ◌-◌, ◌^◌, �
 ghost use Rattle.std.specs.Io.{WritesAtMost};
 ghost use Rattle.std.specs.Io.KnownBytes.{WriteAppends};
 ghost use Rattle.ms_io.specs.Faults.{HasCause};
-ghost use Rattle.ms_io.specs.Memory.{Memory, put_fails, put_count, after_put};
+ghost use Rattle.ms_io.specs.Memory.{Memory, call_fails, put_fails, put_count, after_put};
 
 use crate::sink::{Sink, SinkFailed};
 use std::alloc::{AllocError, Global};
@@ -79,7 +79,7 @@ impl Sink for MemSink {
         let call = self.calls;
         self.calls = self.calls.saturating_add(1);
         let room_left = self.room - self.bytes.len();
-        if self.fail_at.contains(&call) || (!piece.is_empty() && room_left == 0) {
+        if call_fails(&self.fail_at, call) || (!piece.is_empty() && room_left == 0) {
             self.failures = self.failures.saturating_add(1);
             return Err(SinkFailed);
         }
@@ -89,4 +89,11 @@ impl Sink for MemSink {
         };
         Ok(count)
     }
+}
+
+/// Whether the call of this number fails.
+pub(crate) fn call_fails(fail_at: &[u64], call: u64) -> bool
+    ensures { result ≡ call_fails fail_at.now call }
+{
+    call < u64::MAX && fail_at.contains(&call)
 }

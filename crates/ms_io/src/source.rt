@@ -1,8 +1,11 @@
-ghost use Rattle.std.specs.Prelude.{ℕ, List};
+ghost use Rattle.std.specs.Prelude.{◌≡◌, ◌≢◌, ℕ, ◌^◌, ◌≤◌, List, length, IfOk};
 ghost use Rattle.std.specs.declared.option.Option.{Option};
 ghost use Rattle.std.specs.Io.{ReadsAtMost};
 ghost use Rattle.std.specs.Io.KnownBytes.{ReadConsumes};
-ghost use Rattle.ms_io.specs.Faults.{HasCause};
+ghost use Rattle.ms_io.specs.Faults.{HasCause, Rose};
+ghost use Rattle.ms_io.specs.Moves.{GivesAll, GivesWithin, GivesOver};
+
+use std::alloc::Global;
 
 /// A read that failed. The source's count of faults rose in that call.
 #[derive(Clone, Copy, Debug, PartialEq, Eq)]
@@ -22,4 +25,46 @@ pub trait Source {
         ensures bound { ReadsAtMost result buf.new }
         ensures bytes { ReadConsumes (left self.old) (left self.new) result buf.new }
         ensures cause { HasCause (faults self.old) (faults self.new) result };
+}
+
+/// Why a source wasn't read to its end.
+#[derive(Clone, Copy, Debug, PartialEq, Eq)]
+pub enum ReadStop {
+    /// A read failed.
+    Fault,
+    /// More bytes came than the limit.
+    TooLong,
+    /// There was no memory.
+    Memory,
+}
+
+/// Reads to the end, and gives all bytes. `limit` is how many they may be.
+///
+/// Where it stops before, a front of the bytes was read: over `limit` of them exactly where the answer
+/// is `TooLong`.
+pub fn read_all<S: Source>(alloc: Global, source: &mut S, limit: usize) -> Result<Vec<u8>, ReadStop>
+    requires { limit ≤ 2 ^ 31 }
+    ensures all { IfOk result (λ bytes. GivesAll (S.left source.old) (S.left source.new) bytes.items) }
+    ensures short { IfOk result (λ bytes. length bytes.items ≤ limit) }
+    ensures too_long { result ≡ Err ReadStop.TooLong → GivesOver (S.left source.old) (S.left source.new) limit }
+    ensures within { result ≢ Err ReadStop.TooLong → GivesWithin (S.left source.old) (S.left source.new) limit }
+    ensures fault { result ≡ Err ReadStop.Fault → Rose (S.faults source.old) (S.faults source.new) }
+    ensures later { S.faults source.old ≤ S.faults source.new }
+{
+    let mut bytes = Vec::new(alloc);
+    let mut buf = [0; 4096];
+    'reads: loop {
+        let Ok(count) = source.read(&mut buf) else {
+            return Err(ReadStop::Fault);
+        };
+        if count == 0 {
+            return Ok(bytes);
+        }
+        if count > limit - bytes.len() {
+            return Err(ReadStop::TooLong);
+        }
+        if bytes.extend_from_slice(&buf[..count]).is_err() {
+            return Err(ReadStop::Memory);
+        }
+    }
 }

@@ -50,7 +50,7 @@ impl Source for SureSource {
 }
 
 /// Copies as many bytes as both have from the front of `from` to the front of `to`.
-fn copy_front(from: &[u8], to: &mut [u8]) -> usize
+pub(crate) fn copy_front(from: &[u8], to: &mut [u8]) -> usize
     ensures count { result ≡ min (length to.old) (length from.now) }
     ensures copied { take result to.new ≡ take result from.now }
 {

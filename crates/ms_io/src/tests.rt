@@ -1,4 +1,7 @@
+ghost use Rattle.std.specs.Prelude.{◌≤◌, ◌^◌};
+
 use crate::*;
+use std::alloc::{AllocError, Global};
 use std::io::Cursor;
 use std::test::Fail;
 
@@ -65,5 +68,83 @@ fn a_memory_sink_keeps_to_its_bounds(rt: HostRuntime) -> Result<(), Fail> {
         assert_eq!(rt; put_all(&mut sink, b"abcdefg").is_ok(), all);
         assert_eq!(rt; sink.written(), want);
     }
+    Ok(())
+}
+
+#[test]
+fn a_memory_source_keeps_to_its_bounds(rt: HostRuntime) -> Result<(), Fail> {
+    let bytes = Vec::from_slice(rt.alloc(), b"abcdefg")?;
+    let fail_at = Vec::from_slice(rt.alloc(), &[1, 3])?;
+    let mut source = MemSource::new(bytes, 3, fail_at);
+    let mut buf = [0; 4];
+    assert_eq!(rt; source.read(&mut buf), Ok(3));
+    assert_eq!(rt; buf, [97, 98, 99, 0]);
+    assert_eq!(rt; source.read(&mut buf), Err(SourceFailed));
+    assert_eq!(rt; buf, [97, 98, 99, 0]);
+    let mut two = [0; 2];
+    assert_eq!(rt; source.read(&mut two), Ok(2));
+    assert_eq!(rt; two, *b"de");
+    assert_eq!(rt; source.read(&mut buf), Err(SourceFailed));
+    assert_eq!(rt; source.read(&mut buf), Ok(2));
+    assert_eq!(rt; source.read(&mut buf), Ok(0));
+    Ok(())
+}
+
+// What reading `abcdefg` from memory answers.
+fn read_letters(
+    alloc: Global,
+    chunk: usize,
+    fail_at: &[u64],
+    limit: usize,
+) -> Result<Result<Vec<u8>, ReadStop>, AllocError>
+    requires chunk { 1 ≤ chunk }
+    requires limit { limit ≤ 2 ^ 31 }
+{
+    let bytes = Vec::from_slice(alloc, b"abcdefg")?;
+    let fail_at = Vec::from_slice(alloc, fail_at)?;
+    let mut source = MemSource::new(bytes, chunk, fail_at);
+    Ok(read_all(alloc, &mut source, limit))
+}
+
+#[test]
+fn reads_to_the_end(rt: HostRuntime) -> Result<(), Fail> {
+    // chunk, failing calls, limit, what stops the reading
+    let cases: [(usize, &[u64], usize, Option<ReadStop>); 9] = [
+        (9, &[], 7, None),
+        (7, &[], 9, None),
+        (1, &[], 7, None),
+        (3, &[4], 7, None),
+        (3, &[], 6, Some(ReadStop::TooLong)),
+        (9, &[], 0, Some(ReadStop::TooLong)),
+        (3, &[0], 7, Some(ReadStop::Fault)),
+        (3, &[2], 7, Some(ReadStop::Fault)),
+        (3, &[3], 7, Some(ReadStop::Fault)),
+    ];
+    for (chunk, fail_at, limit, stop) in cases {
+        assert!(rt; 1 <= chunk && limit <= 9);
+        match read_letters(rt.alloc(), chunk, fail_at, limit)? {
+            Ok(bytes) => {
+                assert_eq!(rt; stop, None);
+                assert_eq!(rt; bytes.as_slice(), b"abcdefg".as_slice());
+            }
+            Err(why) => assert_eq!(rt; stop, Some(why)),
+        }
+    }
+    Ok(())
+}
+
+#[test]
+fn one_byte_over_the_limit_is_too_long(rt: HostRuntime) -> Result<(), Fail> {
+    let mut bytes = Vec::new(rt.alloc());
+    for _ in 0..1_048_576 {
+        bytes.push(0x20)?;
+    }
+    let mut source = SureSource::new(Vec::from_slice(rt.alloc(), &bytes)?);
+    let read = read_all(rt.alloc(), &mut source, 1_048_576);
+    assert_eq!(rt; read.map(|bytes| bytes.len()), Ok(1_048_576));
+    bytes.push(0x20)?;
+    let mut source = SureSource::new(bytes);
+    let read = read_all(rt.alloc(), &mut source, 1_048_576);
+    assert_eq!(rt; read.map(|bytes| bytes.len()), Err(ReadStop::TooLong));
     Ok(())
 }

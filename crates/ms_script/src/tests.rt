@@ -83,16 +83,20 @@ fn spells(bytes: &[u8], number: i64) -> bool {
 
 #[test]
 fn numbers_are_shortest(rt: HostRuntime) {
-    let cases: [(&[u8], i64); 12] = [
+    let cases: [(&[u8], i64); 16] = [
         (b"", 0),
         (b"\x01", 1),
         (b"\x81", -1),
+        (b"\x10", 16),
+        (b"\x11", 17),
         (b"\x7f", 127),
         (b"\xff", -127),
         (b"\x80\x00", 128),
         (b"\x80\x80", -128),
         (b"\xff\x00", 255),
         (b"\x00\x01", 256),
+        (b"\xff\x7f", 32767),
+        (b"\x00\x80\x00", 32768),
         (b"\xff\xff\xff\x7f", 2147483647),
         (b"\xff\xff\xff\xff\x7f", 549755813887),
         (b"\xff\xff\xff\xff\xff", -549755813887),
