@@ -4,7 +4,7 @@ use Rattle.def_script.specs.Bytes.{Bytes}
 use Rattle.def_text.specs.Token.{Token, word, opening, closing, comma, colon, other, end, offset}
 use Rattle.def_text.specs.Letter.{Letter}
 use Rattle.def_text.specs.Refusal.{MOST_WRITTEN_DEPTH}
-use Rattle.def_text.specs.Reader.{Frame, Form, Head, named, run, neither, head_of, expression, colon_next, begin, begin_form, run_frames, run_offsets, is_deep_head, syntax_outcome, deep_outcome, next_outcome, outcome}
+use Rattle.def_text.specs.Reader.{Frame, Form, Head, named, run, head_of, expression, colon_next, begin, begin_form, run_frames, run_offsets, is_deep_head, syntax_outcome, deep_outcome, next_outcome, outcome}
 use Rattle.ms_text.specs.Place.{machine_from, machine_behind, is_word, FirstWord}
 
 other_token : (fs : List Frame) (os : List ℕ) (t : Token) (ts : List Token) → is_word t ≡ false → outcome (expression, fs, os) (t ∷ ts) ≡ syntax_outcome (offset t)
@@ -36,15 +36,9 @@ module _ (text : Bytes) (at : ℕ) (w : Bytes) (fs : List Frame) (os : List ℕ)
       ≡ next_outcome (is_deep_head head (length fs)) at (begin head at fs os) (λ n. machine_from n text (at + length w))
   begun_with head e = begun ∙ ap (λ h. next_outcome (is_deep_head h (length fs)) at (begin h at fs os) (λ n. machine_from n text (at + length w))) e
 
-  pub neither_stops : head_of w ≡ neither → machine_from (expression, fs, os) text at ≡ syntax_outcome at
-  neither_stops e = begun_with neither e
-
   deep_by : (b : Bool) (head : Head) → is_deep_head head (length fs) ≡ b → head_of w ≡ head → machine_from (expression, fs, os) text at
       ≡ next_outcome b at (begin head at fs os) (λ n. machine_from n text (at + length w))
   deep_by b head d e = begun_with head e ∙ ap (λ c. next_outcome c at (begin head at fs os) (λ n. machine_from n text (at + length w))) d
-
-  pub name_too_deep : (form : Form) (depth : ℕ) → head_of w ≡ named form → length fs ≡ depth → depth ≡ 256 → machine_from (expression, fs, os) text at ≡ deep_outcome at
-  name_too_deep form depth e d h = deep_by true (named form) (above (length fs + 1) (omega arith)) e
 
   pub name_begins : (form : Form) (depth : ℕ) → head_of w ≡ named form → length fs ≡ depth → depth < 256 →
       machine_from (expression, fs, os) text at ≡ machine_behind (begin_form form at fs os) at text (at + length w)

@@ -1,5 +1,5 @@
 -- Words of letters.
-use Rattle.std.proofs.Common.{◌≡◌, ℕ, ◌<◌, true, false, List, [], ◌∷◌, length, Option, Some, None, is_some, refl, sym, ap, ◌∙◌, arith}
+use Rattle.std.proofs.Common.{◌≡◌, ℕ, ◌<◌, true, List, [], ◌∷◌, length, Option, Some, None, is_some, refl, sym, ap, ◌∙◌, arith}
 use Rattle.def_script.specs.Bytes.{Bytes}
 use Rattle.def_text.specs.Letter.{Letter, letter_byte}
 use Rattle.std.specs.Option.{option_map, option_and_then}
@@ -56,21 +56,6 @@ split_letters b w l ls e h = split_by (letters_of w) refl (ap (λ o. option_and_
         (ms : List Letter) × (ls ≡ l ∷ ms) × (letters_of w ≡ Some ms)
     split_by None k h = let clash : None ≡ Some ls = ap (option_map (λ ms. l ∷ ms)) (sym k) ∙ h in absurd (cc)
     split_by (Some ms) k h = let same : Some (l ∷ ms) ≡ Some ls = ap (option_map (λ ns. l ∷ ns)) (sym k) ∙ h in (ms, cc, k)
-
--- a first letter is spelled
-pub some_letter : (b : ℕ) (w : Bytes) → is_some (letters_of (b ∷ w)) ≡ true → None ≡ first_letter b LETTERS → ⊥
-some_letter b w h e =
-    let none : None ≡ letters_of (b ∷ w) = ap (option_and_then (λ m. option_map (λ ms. m ∷ ms) (letters_of w))) e in
-    let clash : false ≡ true = ap is_some none ∙ h in
-    cc
-
-pub others_spelled : (b : ℕ) (w : Bytes) → is_some (letters_of (b ∷ w)) ≡ true → is_some (letters_of w) ≡ true
-others_spelled b w h = others_by (first_letter b LETTERS) (letters_of w) h
-  where
-    others_by : (o : Option Letter) (p : Option (List Letter)) → is_some (option_and_then (λ m. option_map (λ ms. m ∷ ms) p) o) ≡ true → is_some p ≡ true
-    others_by None p h = absurd (cc)
-    others_by (Some m) None h = absurd (cc)
-    others_by (Some m) (Some ms) h = refl
 
 pub letters_are_long : (w : Bytes) (ls : List Letter) → letters_of w ≡ Some ls → length ls ≡ length w
 letters_are_long w ls h = sym (ap length (word_is w ls h) ∙ length-map ls letter_byte)

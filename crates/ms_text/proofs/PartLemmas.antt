@@ -1,20 +1,16 @@
 -- Trees that were read, and how large they are.
-use Rattle.std.proofs.Common.{◌≡◌, ℕ, ◌+◌, ◌<◌, ◌≤◌, List, [], ◌∷◌, ◌++◌, length, Result, Ok, Err, IfOk, refl, ap, arith}
+use Rattle.std.proofs.Common.{◌≡◌, ℕ, ◌+◌, ◌<◌, ◌≤◌, List, [], ◌∷◌, ◌++◌, Result, Ok, Err, IfOk, refl, ap, arith}
 use Rattle.def_tree.specs.Tree as model
 use Rattle.def_tree.specs.Size.{measure, measure_of, depth, depth_of}
 use Rattle.def_tree.specs.Range.{IsWritable, AreWritable, count}
 use Rattle.def_text.specs.declared.TextFault.{TextFault}
 use Rattle.def_text.specs.Refusal.{MOST_WRITTEN_DEPTH}
-use Rattle.def_text.specs.Reader.{Frame, joined}
+use Rattle.def_text.specs.Reader.{joined}
 use Rattle.def_script.specs.Bytes.{Bytes}
 use Rattle.ms_tree.specs.declared.tree.Tree.{Tree}
 use Rattle.ms_tree.specs.Shape.{shape, shapes}
 use Rattle.ms_text.specs.declared.forms.Part.{Part}
 use Rattle.ms_text.specs.Room.{IsPart}
-
--- one more frame
-pub longer : (f : Frame) (fs : List Frame) (d : ℕ) → length fs ≡ d → length (f ∷ fs) ≡ d + 1
-longer f fs d h = omega (arith, h)
 
 -- a part that may stand at any depth stands at one
 pub part_at : (text : Bytes) (name d : ℕ) (r : Result Part TextFault) → IfOk r (λ p. (e : ℕ) → e < MOST_WRITTEN_DEPTH → IsPart text name e (shape p.tree) p.end) →

@@ -323,9 +323,6 @@ word_found text at n h p all none =
     (sym (take-append-drop (n - at) (drop at text)) ∙ ap (λ r. take (n - at) (drop at text) ++ r) (drop-drop (n - at) at text ∙ ap (λ k. drop k text) m))
     all (no_word text n p none)
 
-pub word_place : (text : Bytes) (at n : ℕ) → at ≤ n → IsPlace text n → IsPlace text (at + length (take (n - at) (drop at text)))
-word_place text at n h p = subst (IsPlace text) (sym (word_length text at n h p)) p
-
 -- one more byte
 pub word_more : (text : Bytes) (at n : ℕ) → at ≤ n → list_all is_word_byte (take (n - at) (drop at text)) ≡ true → starts_word (drop n text) ≡ true →
     list_all is_word_byte (take (n + 1 - at) (drop at text)) ≡ true
@@ -341,10 +338,6 @@ pub word_place_more : (text : Bytes) (n : ℕ) → IsPlace text n → starts_wor
 word_place_more text n p here = let (l, b) = starts_at text n here in place_behind text n p l (word_is_ascii (get_or text n 0) b)
 
 -- ---- what a state makes of a word
-
-some_word : (w : Bytes) → w ≢ [] → (b : ℕ) × (v : Bytes) × (w ≡ b ∷ v)
-some_word [] h = absurd (h refl)
-some_word (b ∷ v) h = (b, v, refl)
 
 no_word_value : {A : Type 0} (value : Bytes → Option A) (t : Token) → is_word t ≡ false → word_read value t ≡ None
 no_word_value value (word a w) h = absurd (cc)

@@ -5,6 +5,7 @@ ghost use Rattle.def_text.specs.Reader.{FORMS, first_named, LETTERS, first_lette
 ghost use Rattle.ms_text.specs.Names.{form_of, letter_of, HeadIs};
 
 use def_tree::{HashKind, Two, Wrapper};
+use ms_tree::fragment_rows;
 
 /// A fragment whose argument is one word.
 #[derive(Clone, Copy, Debug, PartialEq, Eq)]
@@ -57,9 +58,34 @@ pub enum Head {
 /// The value beside the first of some names that is the word.
 macro_rules! value_named {
     ($word:ident { $($name:literal => $value:expr,)* }) => {
-        $(if $word == $name.as_slice() {
+        $(if $word == $name.as_bytes() {
             return Some($value);
         })*
+    };
+}
+
+/// The fragment of the row whose name is the word.
+macro_rules! rows_named {
+    (
+        ($word:ident)
+        numbers { $([$number:ident $digit:literal $($of_number:tt)*])* }
+        keys { $([$key:ident $key_name:literal $($of_key:tt)*])* }
+        locks { $([$lock:ident $lock_name:literal $($of_lock:tt)*])* }
+        hashes { $([$hash:ident $hash_name:literal $($of_hash:tt)*])* }
+        and_or { [$and_or:ident $and_or_name:literal $($of_and_or:tt)*] }
+        pairs { $([$pair:ident $pair_name:literal $($of_pair:tt)*])* }
+        lists { $([$list:ident $list_name:literal $($of_list:tt)*])* }
+        $($others:tt)*
+    ) => {
+        value_named!($word {
+            $($digit => Form::$number,)*
+            $($key_name => Form::Leaf(LeafName::$key),)*
+            $($lock_name => Form::Leaf(LeafName::$lock),)*
+            $($hash_name => Form::Leaf(LeafName::Hash(HashKind::$hash)),)*
+            $and_or_name => Form::$and_or,
+            $($pair_name => Form::Pair(Pair::Two(Two::$pair)),)*
+            $($list_name => Form::$list,)*
+        });
     };
 }
 
@@ -68,49 +94,40 @@ pub fn form_named(word: &[u8]) -> Option<Form>
     ensures { option_map form_of result ≡ first_named word.now FORMS }
 {
     value_named!(word {
-        b"0" => Form::Zero,
-        b"1" => Form::One,
-        b"pk_k" => Form::Leaf(LeafName::PkK),
-        b"pk_h" => Form::Leaf(LeafName::PkH),
-        b"pk" => Form::Leaf(LeafName::Pk),
-        b"pkh" => Form::Leaf(LeafName::Pkh),
-        b"older" => Form::Leaf(LeafName::Older),
-        b"after" => Form::Leaf(LeafName::After),
-        b"sha256" => Form::Leaf(LeafName::Hash(HashKind::Sha256)),
-        b"hash256" => Form::Leaf(LeafName::Hash(HashKind::Hash256)),
-        b"ripemd160" => Form::Leaf(LeafName::Hash(HashKind::Ripemd160)),
-        b"hash160" => Form::Leaf(LeafName::Hash(HashKind::Hash160)),
-        b"andor" => Form::AndOr,
-        b"and_v" => Form::Pair(Pair::Two(Two::AndV)),
-        b"and_b" => Form::Pair(Pair::Two(Two::AndB)),
-        b"and_n" => Form::Pair(Pair::AndN),
-        b"or_b" => Form::Pair(Pair::Two(Two::OrB)),
-        b"or_c" => Form::Pair(Pair::Two(Two::OrC)),
-        b"or_d" => Form::Pair(Pair::Two(Two::OrD)),
-        b"or_i" => Form::Pair(Pair::Two(Two::OrI)),
-        b"thresh" => Form::Thresh,
-        b"multi" => Form::Multi,
+        "pk" => Form::Leaf(LeafName::Pk),
+        "pkh" => Form::Leaf(LeafName::Pkh),
+        "and_n" => Form::Pair(Pair::AndN),
     });
+    fragment_rows!(rows_named!(word));
     None
+}
+
+/// The wrapper of the row whose letter is the word.
+macro_rules! wrappers_named {
+    (
+        ($word:ident)
+        numbers $numbers:tt keys $keys:tt locks $locks:tt hashes $hashes:tt and_or $and_or:tt pairs $pairs:tt lists $lists:tt
+        wrappers { $([$variant:ident $letter:literal $($of_wrapper:tt)*])* }
+    ) => {
+        value_named!($word {
+            $($letter => Letter::Wrapper(Wrapper::$variant),)*
+        });
+    };
 }
 
 /// The letter that a byte spells.
 pub fn letter_named(byte: u8) -> Option<Letter>
     ensures { option_map letter_of result ≡ first_letter byte LETTERS }
 {
-    match byte {
-        b'a' => Some(Letter::Wrapper(Wrapper::A)),
-        b's' => Some(Letter::Wrapper(Wrapper::S)),
-        b'c' => Some(Letter::Wrapper(Wrapper::C)),
-        b'd' => Some(Letter::Wrapper(Wrapper::D)),
-        b'v' => Some(Letter::Wrapper(Wrapper::V)),
-        b'j' => Some(Letter::Wrapper(Wrapper::J)),
-        b'n' => Some(Letter::Wrapper(Wrapper::N)),
-        b't' => Some(Letter::T),
-        b'l' => Some(Letter::L),
-        b'u' => Some(Letter::U),
-        _ => None,
-    }
+    let bytes = [byte];
+    let word = bytes.as_slice();
+    fragment_rows!(wrappers_named!(word));
+    value_named!(word {
+        "t" => Letter::T,
+        "l" => Letter::L,
+        "u" => Letter::U,
+    });
+    None
 }
 
 /// Whether each byte of a word is a letter.

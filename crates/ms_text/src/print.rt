@@ -12,8 +12,43 @@ ghost use Rattle.def_tree.specs.Tree as model;
 ghost use Rattle.ms_tree.specs.Shape.{shape, shapes, leaf_shape};
 
 use def_tree::{HashKind, Two, Wrapper};
-use ms_tree::{Key, Leaf, Tree, View};
+use ms_tree::{Key, Leaf, Tree, View, fragment_rows};
 use std::alloc::{AllocError, Global};
+
+/// A name of the table of fragments, in a call `fragment_rows!(name_of!(..))`: of `kind Two` the name of
+/// that value's variant, and of `Thresh` its own. The groups before the wanted one are passed over.
+macro_rules! name_of {
+    (($value:ident HashKind) hashes $rows:tt $($others:tt)*) => {
+        name_among!($value HashKind $rows)
+    };
+    (($value:ident Two) pairs $rows:tt $($others:tt)*) => {
+        name_among!($value Two $rows)
+    };
+    (($value:ident Wrapper) wrappers $rows:tt) => {
+        name_among!($value Wrapper $rows)
+    };
+    ((AndOr) and_or { [AndOr $name:literal $($of_row:tt)*] } $($others:tt)*) => {
+        $name
+    };
+    ((Thresh) lists { [Thresh $name:literal $($of_row:tt)*] $multi:tt } $($others:tt)*) => {
+        $name
+    };
+    ((Multi) lists { $thresh:tt [Multi $name:literal $($of_row:tt)*] } $($others:tt)*) => {
+        $name
+    };
+    ($wanted:tt $group:ident $rows:tt $($others:tt)*) => {
+        name_of!($wanted $($others)*)
+    };
+}
+
+/// The name of a value's variant among the rows of a group.
+macro_rules! name_among {
+    ($value:ident $kind:ident { $([$variant:ident $name:literal $($of_row:tt)*])* }) => {
+        match $value {
+            $($kind::$variant => $name,)*
+        }
+    };
+}
 
 /// The text of a tree.
 pub fn print_text(alloc: Global, tree: &Tree) -> Result<String, AllocError>
@@ -73,7 +108,8 @@ fn print_and_or(
     requires z { IsInRange (shape z.now) }
     ensures { OnOk result (string_bytes out.new ≡ string_bytes out.old ++ printed (model.and_or (shape x.now) (shape y.now) (shape z.now))) }
 {
-    out.push_str("andor(")?;
+    out.push_str(fragment_rows!(name_of!(AndOr)))?;
+    out.push_str("(")?;
     print_tree(alloc, out, x, "")?;
     out.push_str(",")?;
     print_tree(alloc, out, y, "")?;
@@ -112,7 +148,8 @@ fn print_thresh(
     requires { All (λ x. IsInRange (shape x)) children.now }
     ensures { OnOk result (string_bytes out.new ≡ string_bytes out.old ++ printed (model.thresh k (shapes children.now))) }
 {
-    out.push_str("thresh(")?;
+    out.push_str(fragment_rows!(name_of!(Thresh)))?;
+    out.push_str("(")?;
     print_number(alloc, out, k)?;
     for x in children {
         out.push_str(",")?;
@@ -124,7 +161,8 @@ fn print_thresh(
 fn print_multi(alloc: Global, out: &mut String, k: u64, keys: &[Key]) -> Result<(), AllocError>
     ensures { OnOk result (string_bytes out.new ≡ string_bytes out.old ++ printed (model.multi k keys.now)) }
 {
-    out.push_str("multi(")?;
+    out.push_str(fragment_rows!(name_of!(Multi)))?;
+    out.push_str("(")?;
     print_number(alloc, out, k)?;
     for key in keys {
         out.push_str(",")?;
@@ -133,18 +171,27 @@ fn print_multi(alloc: Global, out: &mut String, k: u64, keys: &[Key]) -> Result<
     out.push_str(")")
 }
 
+macro_rules! leaf_arms {
+    (
+        ($alloc:ident, $out:ident, $leaf:ident)
+        numbers { $([$number:ident $digit:literal $($of_number:tt)*])* }
+        keys { $([$key:ident $key_name:literal $($of_key:tt)*])* }
+        locks { $([$lock:ident $lock_name:literal $($of_lock:tt)*])* }
+        $($others:tt)*
+    ) => {
+        match $leaf {
+            $(Leaf::$number => $out.push_str($digit),)*
+            $(Leaf::$key(key) => print_call($alloc, $out, $key_name, key.as_bytes()),)*
+            $(Leaf::$lock(n) => print_lock($alloc, $out, $lock_name, n),)*
+            Leaf::Hash(value) => print_call($alloc, $out, name_of_hash(value.kind()), value.as_bytes()),
+        }
+    };
+}
+
 fn print_leaf(alloc: Global, out: &mut String, leaf: Leaf) -> Result<(), AllocError>
     ensures { OnOk result (string_bytes out.new ≡ string_bytes out.old ++ printed (leaf_shape leaf)) }
 {
-    match leaf {
-        Leaf::Zero => out.push_str("0"),
-        Leaf::One => out.push_str("1"),
-        Leaf::PkK(key) => print_call(alloc, out, "pk_k", key.as_bytes()),
-        Leaf::PkH(key) => print_call(alloc, out, "pk_h", key.as_bytes()),
-        Leaf::Older(n) => print_lock(alloc, out, "older", n),
-        Leaf::After(n) => print_lock(alloc, out, "after", n),
-        Leaf::Hash(value) => print_call(alloc, out, name_of_hash(value.kind()), value.as_bytes()),
-    }
+    fragment_rows!(leaf_arms!(alloc, out, leaf))
 }
 
 /// A fragment of which the argument is bytes, in digits.
@@ -184,37 +231,17 @@ fn print_number(alloc: Global, out: &mut String, n: u64) -> Result<(), AllocErro
 fn wrapper_letter(wrapper: Wrapper) -> &'static str
     ensures { result.now ≡ wrapper_byte wrapper ∷ [] }
 {
-    match wrapper {
-        Wrapper::A => "a",
-        Wrapper::S => "s",
-        Wrapper::C => "c",
-        Wrapper::D => "d",
-        Wrapper::V => "v",
-        Wrapper::J => "j",
-        Wrapper::N => "n",
-    }
+    fragment_rows!(name_of!(wrapper Wrapper))
 }
 
 fn name_of_two(kind: Two) -> &'static str
     ensures { result.now ≡ two_name kind }
 {
-    match kind {
-        Two::AndV => "and_v",
-        Two::AndB => "and_b",
-        Two::OrB => "or_b",
-        Two::OrC => "or_c",
-        Two::OrD => "or_d",
-        Two::OrI => "or_i",
-    }
+    fragment_rows!(name_of!(kind Two))
 }
 
 fn name_of_hash(kind: HashKind) -> &'static str
     ensures { result.now ≡ hash_name kind }
 {
-    match kind {
-        HashKind::Sha256 => "sha256",
-        HashKind::Hash256 => "hash256",
-        HashKind::Ripemd160 => "ripemd160",
-        HashKind::Hash160 => "hash160",
-    }
+    fragment_rows!(name_of!(kind HashKind))
 }
