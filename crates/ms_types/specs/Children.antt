@@ -1,0 +1,31 @@
+-- What is known of the children of a threshold, one after the other.
+use Rattle.std.specs.Prelude.{◌+◌, ◌&&◌, ◌||◌, nat_eq, List, length, Result, Ok, if◌then◌else◌}
+use Rattle.def_types.specs.declared.Ty.{Ty}
+use Rattle.def_types.specs.declared.rule.RuleAt.{RuleAt}
+use Rattle.def_types.specs.Row.{if_ok}
+use Rattle.def_types.specs.Corr.{is_b, is_w, first_fits, others_fit, all_z, all_z_but_one}
+use Rattle.ms_types.specs.declared.children.Children.{Children}
+
+-- of the children of these types
+abbrev pub seen : List Ty → Children
+seen types = record {
+  count = length types;
+  first_fits = first_fits types;
+  others_fit = others_fit types;
+  all_z = all_z types;
+  all_z_but_one = all_z_but_one types;
+}
+
+-- with one child more
+abbrev pub and : Children → Ty → Children
+and s x = record {
+  count = s.count + 1;
+  first_fits = if nat_eq s.count 0 then is_b x.base && x.d && x.u else s.first_fits;
+  others_fit = s.others_fit && (nat_eq s.count 0 || (is_w x.base && x.d && x.u));
+  all_z = s.all_z && x.z;
+  all_z_but_one = (s.all_z && x.o) || (s.all_z_but_one && x.z);
+}
+
+-- of children whose types were asked for
+abbrev pub seen_of : Result (List Ty) RuleAt → Result Children RuleAt
+seen_of r = if_ok r (λ types. Ok (seen types))

@@ -1,0 +1,218 @@
+//! What fragments require (BIP 379, type system, correctness), by the table of fragments.
+ghost use Rattle.std.specs.Prelude.{◌≡◌, ◌&&◌, ℕ, List, length};
+ghost use Rattle.def_tree.specs.Tree.{Key};
+ghost use Rattle.def_types.specs.declared.Ty.{Ty as the_ty};
+ghost use Rattle.def_types.specs.Corr.{is_b, is_w, are_same as the_are_same, and_or_row, two_row, thresh_row, multi_row, wrap_row};
+ghost use Rattle.ms_types.specs.Checked.{leaf_row, requirements};
+ghost use Rattle.ms_types.specs.Children.{seen};
+
+use crate::children::Children;
+use def_types::{Base, Rule, Ty};
+use ms_tree::{Leaf, Two, Wrapper, fragment_rows};
+
+/// Refuses by a rule unless it holds.
+macro_rules! require {
+    ($rule:ident, $holds:expr) => {
+        if !$holds {
+            return Err(Rule::$rule);
+        }
+    };
+}
+
+/// Whether a type has one of the base types and all of the properties.
+macro_rules! has_type {
+    ($x:ident, [$($base:ident)*] $($property:ident)*) => {
+        matches!($x.base, $(Base::$base)|*) $(&& $x.$property)*
+    };
+}
+
+/// Refuses unless a child has the type that its row requires of it.
+macro_rules! require_type {
+    ($x:ident, ($rule:ident $($wanted:tt)*)) => {
+        require!($rule, has_type!($x, $($wanted)*))
+    };
+}
+
+/// Refuses unless two children have what their row requires of them.
+macro_rules! require_types {
+    ($x:ident, $y:ident, (($rule:ident same))) => {
+        require!($rule, are_same($x.base, $y.base))
+    };
+    ($x:ident, $y:ident, ($first:tt $second:tt)) => {
+        require_type!($x, $first);
+        require_type!($y, $second);
+    };
+}
+
+/// Whether both are B, both K or both V.
+fn are_same(x: Base, y: Base) -> bool
+    ensures { result ≡ the_are_same x y }
+{
+    x == y && x != Base::W
+}
+
+macro_rules! lock_arms {
+    (
+        ($leaf:ident)
+        numbers $numbers:tt keys $keys:tt
+        locks { $([$lock:ident $name:literal $one:literal (($rule:ident)) $before:tt $behind:tt])* }
+        $($others:tt)*
+    ) => {
+        match $leaf {
+            $(Leaf::$lock(n) => require!($rule, 1 <= *n && *n < 1 << 31),)*
+            _ => {}
+        }
+    };
+}
+
+#[tactic(auto, unfolding(def_types::proofs::Rows::corr_rows))]
+pub fn require_leaf(leaf: &Leaf) -> Result<(), Rule>
+    ensures { result ≡ requirements (leaf_row leaf.now) }
+{
+    fragment_rows!(lock_arms!(leaf));
+    Ok(())
+}
+
+macro_rules! and_or_arm {
+    (
+        ($x:ident, $y:ident, $z:ident)
+        numbers $numbers:tt keys $keys:tt locks $locks:tt hashes $hashes:tt
+        and_or { [$variant:ident $name:literal $three:literal ($of_x:tt $of_y_z:tt) $($ops:tt)*] }
+        $($rows:tt)*
+    ) => {
+        require_type!($x, $of_x);
+        require_types!($y, $z, ($of_y_z));
+    };
+}
+
+#[tactic(auto, unfolding(def_types::proofs::Rows::corr_rows))]
+pub fn require_and_or(x: Ty, y: Ty, z: Ty) -> Result<(), Rule>
+    ensures { result ≡ requirements (and_or_row x y z) }
+{
+    fragment_rows!(and_or_arm!(x, y, z));
+    Ok(())
+}
+
+macro_rules! pair_arms {
+    (
+        ($kind:ident, $x:ident, $y:ident)
+        numbers $numbers:tt keys $keys:tt locks $locks:tt hashes $hashes:tt and_or $and_or:tt
+        pairs { $([$variant:ident $name:literal $two:literal $needs:tt $($ops:tt)*])* }
+        $($rows:tt)*
+    ) => {
+        match $kind {
+            $(Two::$variant => {
+                require_types!($x, $y, $needs);
+            })*
+        }
+    };
+}
+
+#[tactic(auto, unfolding(def_types::proofs::Rows::corr_rows))]
+pub fn require_two(kind: Two, x: Ty, y: Ty) -> Result<(), Rule>
+    ensures { result ≡ requirements (two_row kind x y) }
+{
+    fragment_rows!(pair_arms!(kind, x, y));
+    Ok(())
+}
+
+macro_rules! first_child {
+    (
+        ($x:ident)
+        numbers $numbers:tt keys $keys:tt locks $locks:tt hashes $hashes:tt and_or $and_or:tt pairs $pairs:tt
+        lists { [Thresh $name:literal ($range:tt ($first:ident $($wanted:tt)*) $other:tt) $($ops:tt)*] $multi:tt }
+        $($rows:tt)*
+    ) => {
+        has_type!($x, $($wanted)*)
+    };
+}
+
+macro_rules! other_child {
+    (
+        ($x:ident)
+        numbers $numbers:tt keys $keys:tt locks $locks:tt hashes $hashes:tt and_or $and_or:tt pairs $pairs:tt
+        lists { [Thresh $name:literal ($range:tt $first:tt ($other:ident $($wanted:tt)*)) $($ops:tt)*] $multi:tt }
+        $($rows:tt)*
+    ) => {
+        has_type!($x, $($wanted)*)
+    };
+}
+
+/// Whether a threshold may have a first child of this type.
+pub fn may_be_first(x: Ty) -> bool
+    ensures { result ≡ is_b x.base && x.d && x.u }
+{
+    fragment_rows!(first_child!(x))
+}
+
+/// Whether a threshold may have a further child of this type.
+pub fn may_follow(x: Ty) -> bool
+    ensures { result ≡ is_w x.base && x.d && x.u }
+{
+    fragment_rows!(other_child!(x))
+}
+
+macro_rules! thresh_arm {
+    (
+        ($k:ident, $children:ident)
+        numbers $numbers:tt keys $keys:tt locks $locks:tt hashes $hashes:tt and_or $and_or:tt pairs $pairs:tt
+        lists { [Thresh $name:literal (($range:ident) ($first:ident $($one:tt)*) ($other:ident $($each:tt)*)) $($ops:tt)*] $multi:tt }
+        $($rows:tt)*
+    ) => {
+        require!($range, 1 <= $k && $k <= $children.count);
+        require!($first, $children.first_fits);
+        require!($other, $children.others_fit);
+    };
+}
+
+#[tactic(auto, unfolding(def_types::proofs::Rows::corr_rows))]
+pub fn require_thresh(k: u64, children: Children) -> Result<(), Rule>
+    ensures { (types : List the_ty) → children ≡ seen types → result ≡ requirements (thresh_row k types) }
+{
+    fragment_rows!(thresh_arm!(k, children));
+    Ok(())
+}
+
+/// The greatest number of keys of a `multi`.
+const MOST_KEYS: u64 = 20;
+
+macro_rules! multi_arm {
+    (
+        ($k:ident, $count:ident)
+        numbers $numbers:tt keys $keys:tt locks $locks:tt hashes $hashes:tt and_or $and_or:tt pairs $pairs:tt
+        lists { $thresh:tt [Multi $multi:literal (($range:ident)) $($ops:tt)*] }
+        $($rows:tt)*
+    ) => {
+        require!($range, 1 <= $k && $k <= $count && $count <= MOST_KEYS)
+    };
+}
+
+#[tactic(auto, unfolding(def_types::proofs::Rows::corr_rows))]
+pub fn require_multi(k: u64, count: u64) -> Result<(), Rule>
+    ensures { (keys : List Key) → count ≡ length keys → result ≡ requirements (multi_row k keys) }
+{
+    fragment_rows!(multi_arm!(k, count));
+    Ok(())
+}
+
+macro_rules! wrapper_arms {
+    (
+        ($wrapper:ident, $x:ident)
+        numbers $numbers:tt keys $keys:tt locks $locks:tt hashes $hashes:tt and_or $and_or:tt pairs $pairs:tt lists $lists:tt
+        wrappers { $([$variant:ident $letter:literal $one:literal ($need:tt) $($ops:tt)*])* }
+    ) => {
+        match $wrapper {
+            $(Wrapper::$variant => {
+                require_type!($x, $need);
+            })*
+        }
+    };
+}
+
+#[tactic(auto, unfolding(def_types::proofs::Rows::corr_rows))]
+pub fn require_wrap(wrapper: Wrapper, x: Ty) -> Result<(), Rule>
+    ensures { result ≡ requirements (wrap_row wrapper x) }
+{
+    fragment_rows!(wrapper_arms!(wrapper, x));
+    Ok(())
+}

@@ -1,0 +1,38 @@
+ghost use Rattle.std.specs.Prelude.{IfOk};
+ghost use Rattle.def_tree.specs.Range.{IsKey, IsInRange};
+ghost use Rattle.ms_tree.specs.Shape.{shape};
+
+use crate::*;
+use ms_tree::{HashVal, Key, Leaf, Tree, Two, Wrapper, leaf, multi, thresh, two, wrap};
+use std::alloc::Global;
+use std::test::Fail;
+
+fn key(first: u8) -> Result<Key, &'static str>
+    ensures { IfOk result IsKey }
+{
+    Key::from_bytes(&[first; 33]).ok_or("a key")
+}
+
+/// The base type and the letters of the properties that hold, in the order z o n d u.
+fn letters(ty: Ty) -> (Base, [bool; 5]) {
+    (ty.base, [ty.z, ty.o, ty.n, ty.d, ty.u])
+}
+
+#[test]
+fn each_base_type_is_given(rt: HostRuntime) -> Result<(), Fail> {
+    let alloc = rt.alloc();
+    let bare = leaf(alloc, Leaf::PkK(key(2)?))?;
+    let ty = corr(&bare).ok().ok_or("a type")?;
+    assert_eq!(rt; letters(ty), (Base::K, [false, true, true, true, true]));
+    let checked = wrap(alloc, Wrapper::C, bare).ok().ok_or("memory")?;
+    let ty = corr(&checked).ok().ok_or("a type")?;
+    assert_eq!(rt; letters(ty), (Base::B, [false, true, true, true, true]));
+    let swapped = wrap(alloc, Wrapper::S, checked).ok().ok_or("memory")?;
+    let ty = corr(&swapped).ok().ok_or("a type")?;
+    assert_eq!(rt; letters(ty), (Base::W, [false, false, false, true, true]));
+    let one = leaf(alloc, Leaf::One)?;
+    let verified = wrap(alloc, Wrapper::V, one).ok().ok_or("memory")?;
+    let ty = corr(&verified).ok().ok_or("a type")?;
+    assert_eq!(rt; letters(ty), (Base::V, [true, false, false, false, false]));
+    Ok(())
+}
