@@ -1,0 +1,6 @@
+mod AssetRefusals
+mod Few
+mod Json
+mod Refusals
+mod Repeats
+mod RunRefusals

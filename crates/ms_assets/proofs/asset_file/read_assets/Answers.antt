@@ -1,0 +1,5 @@
+use Rattle.ms_assets.proofs.Few.{file_few}
+use Rattle.ms_assets.proofs.asset_file.read_assets.Goals as goal
+
+pub from_parts-requires : goal.from_parts-requires
+from_parts-requires c = file_few _ _ _ c.in-Ok.ensures c.in-Ok-assets_in.ensures

@@ -1,0 +1,31 @@
+-- What adding to assets answers.
+use Rattle.std.specs.Prelude.{◌≡◌, ◌⊎◌, ⊤, Bool, not, nat_le, if◌then◌else◌, length, Option, Some, None, Result, Ok, Err}
+use Rattle.std.specs.List.{list_any}
+use Rattle.std.specs.Str.{bytes_eq}
+use Rattle.def_script.specs.Bytes.{Bytes}
+use Rattle.def_assets.specs.Assets.{Assets}
+use Rattle.def_files.specs.AssetFile.{is_signature, MOST_PREIMAGES}
+use Rattle.def_files.specs.Refusals.{MOST_SIGNATURES}
+use Rattle.ms_assets.specs.declared.assets.AddStop.{AddStop}
+use Rattle.ms_assets.specs.declared.assets.AddStop.TheVariants as stop
+
+-- the assets hold a signature with the key
+abbrev pub holds_key : Assets → Bytes → Bool
+holds_key assets key = list_any (λ pair. bytes_eq key pair.0) assets.pairs
+
+-- why a signature isn't added
+abbrev pub sig_stop : Assets → (key sig : Bytes) → Option AddStop
+sig_stop assets key sig =
+    if not (is_signature sig) then Some stop.SigLength
+    else if nat_le MOST_SIGNATURES (length assets.pairs) then Some stop.TooMany
+    else if holds_key assets key then Some stop.RepeatedKey
+    else None
+
+-- why a preimage isn't added
+abbrev pub preimage_stop : Assets → Option AddStop
+preimage_stop assets = if nat_le MOST_PREIMAGES (length assets.preimages) then Some stop.TooMany else None
+
+-- the answer is this one; where it is none it is Ok, or there was no memory
+abbrev pub Answers : Option AddStop → Result ⊤ AddStop → Type 0
+Answers (Some stop) result = result ≡ Err stop
+Answers None result = (result ≡ Ok tt) ⊎ (result ≡ Err stop.Memory)

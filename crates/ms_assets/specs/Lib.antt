@@ -1,0 +1,4 @@
+pub mod Adding
+pub mod Parts
+pub mod Runs
+pub mod Seen

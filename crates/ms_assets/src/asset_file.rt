@@ -1,0 +1,163 @@
+//! Asset files.
+
+ghost use Rattle.std.specs.Prelude.{◌≡◌, ◌^◌, ◌<◌, ◌≤◌, List, [], ◌∷◌, length, map};
+ghost use Rattle.serde_json.specs.View.{view};
+ghost use Rattle.def_machine.specs.Stacks.{is_key as the_is_key};
+ghost use Rattle.def_files.specs.AssetFile.{is_signature as the_is_signature, is_preimage, asset_refusals, assets_in as the_assets_in, assets_of};
+ghost use Rattle.def_files.specs.Refusals.{unless_refused};
+ghost use Rattle.ms_assets.specs.Seen.{parts_seen};
+ghost use Rattle.ms_assets.specs.Parts.{first_refused, Reads, ReadsOrMemory, IsOrMemory, repeated, value_refusals};
+
+use crate::assets::{Assets, MOST_PREIMAGES, MOST_SIGNATURES, holds_key};
+use crate::members::{pair_list, read_json, read_locks, text_list};
+use crate::texts::{read_pairs, read_strings};
+use def_files::{AssetFault, Member};
+use ms_oracle::{Locks, Pairs, SigPair};
+use ms_script::Stack;
+use serde_json::Value;
+use std::alloc::Global;
+
+/// Reads an asset file: a JSON object with the numbers `version`, `sequence` and `locktime`, the list
+/// `signatures` of objects with the texts `key` and `sig`, and the list `preimages` of texts. All may
+/// be missing, and bytes are spelled by hexadecimal digits.
+///
+/// Of the refusals that apply the first in the order of `AssetFault` is given, then the first in the
+/// order of `Member`, then the one with the least place. `bytes` has at most 2^31 bytes.
+#[tactic(auto, unfolding(def_files::specs::AssetFile::assets_of))]
+pub fn read_assets(alloc: Global, bytes: &[u8]) -> Result<Assets, AssetFault>
+    requires { length bytes.now ≤ 2 ^ 31 }
+    ensures { IsOrMemory (assets_of bytes.now) result }
+{
+    match read_json(alloc, bytes) {
+        Ok(file) => match assets_in(alloc, &file) {
+            Ok(parts) => Ok(Assets::from_parts(parts)),
+            Err(why) => Err(why),
+        },
+        Err(why) => Err(why),
+    }
+}
+
+/// The parts of assets, before it is known that they are few and have their form.
+#[derive(Drop)]
+pub struct AssetParts {
+    pub locks: Locks,
+    pub pairs: Pairs,
+    pub preimages: Vec<[u8; 32]>,
+}
+
+/// What stands in an asset file.
+fn assets_in(alloc: Global, file: &Value) -> Result<AssetParts, AssetFault>
+    ensures { IsOrMemory (unless_refused (asset_refusals (view file.now)) (the_assets_in (view file.now))) (parts_seen result) }
+{
+    if !file.is_object() {
+        return Err(AssetFault::Shape(Member::Whole));
+    }
+    let signatures = pair_list(file)?;
+    let preimages = text_list(file, Member::Preimages)?;
+    let locks = read_locks(file)?;
+    let pairs = read_pairs(alloc, signatures)?;
+    let strings = read_strings(alloc, preimages, Member::Preimages)?;
+    check_parts(alloc, locks, pairs, &strings)
+}
+
+/// Parts of assets, where they have their form and length and aren't too many.
+fn check_parts(
+    alloc: Global,
+    locks: Locks,
+    pairs: Pairs,
+    strings: &Stack,
+) -> Result<AssetParts, AssetFault>
+    requires few_pairs { length pairs < 2 ^ 32 }
+    requires few_strings { length strings.now < 2 ^ 32 }
+    ensures { IsOrMemory (unless_refused (value_refusals pairs strings.now) (record { locks = locks; pairs = pairs; preimages = strings.now })) (parts_seen result) }
+{
+    check_keys(pairs.as_slice())?;
+    check_sigs(pairs.as_slice())?;
+    let preimages = read_preimages(alloc, strings)?;
+    if pairs.as_slice().len() > MOST_SIGNATURES {
+        return Err(AssetFault::TooMany(Member::Signatures));
+    }
+    if preimages.len() > MOST_PREIMAGES {
+        return Err(AssetFault::TooMany(Member::Preimages));
+    }
+    check_repeats(pairs.as_slice())?;
+    Ok(AssetParts {
+        locks,
+        pairs,
+        preimages,
+    })
+}
+
+/// Whether this is a compressed public key.
+fn is_key(key: &[u8]) -> bool
+    ensures { result ≡ the_is_key key.now }
+{
+    key.len() == 33 && (key[0] == 0x02 || key[0] == 0x03)
+}
+
+/// Refuses the first key that hasn't its form.
+fn check_keys(pairs: &[SigPair]) -> Result<(), AssetFault>
+    requires { length pairs.now < 2 ^ 32 }
+    ensures { Reads (first_refused (λ pair. the_is_key pair.0) AssetFault.KeyForm pairs.now) (λ unit. unit) tt result }
+{
+    let mut place = 0;
+    for pair in pairs {
+        if !is_key(pair.key()) {
+            return Err(AssetFault::KeyForm(place));
+        }
+        place += 1;
+    }
+    Ok(())
+}
+
+/// Whether a signature has 1 to 73 bytes.
+fn is_signature(sig: &[u8]) -> bool
+    ensures { result ≡ the_is_signature sig.now }
+{
+    1 <= sig.len() && sig.len() <= 73
+}
+
+/// Refuses the first signature that hasn't its length.
+fn check_sigs(pairs: &[SigPair]) -> Result<(), AssetFault>
+    requires { length pairs.now < 2 ^ 32 }
+    ensures { Reads (first_refused (λ pair. the_is_signature pair.1) AssetFault.SigLength pairs.now) (λ unit. unit) tt result }
+{
+    let mut place = 0;
+    for pair in pairs {
+        if !is_signature(pair.sig()) {
+            return Err(AssetFault::SigLength(place));
+        }
+        place += 1;
+    }
+    Ok(())
+}
+
+/// The preimages, or the refusal of the first that hasn't 32 bytes.
+fn read_preimages(alloc: Global, strings: &Stack) -> Result<Vec<[u8; 32]>, AssetFault>
+    requires { length strings.now < 2 ^ 32 }
+    ensures { ReadsOrMemory (first_refused is_preimage AssetFault.PreimageLength strings.now) (λ preimages. preimages.items) strings.now result }
+{
+    let mut preimages = Vec::new(alloc);
+    for i in 0..strings.len() {
+        let Ok(preimage) = <[u8; 32]>::try_from(strings.item(i)) else {
+            return Err(AssetFault::PreimageLength(i as u32));
+        };
+        if preimages.push(preimage).is_err() {
+            return Err(AssetFault::Memory);
+        }
+    }
+    Ok(preimages)
+}
+
+/// Refuses the first key that stands earlier too.
+fn check_repeats(pairs: &[SigPair]) -> Result<(), AssetFault>
+    requires { length pairs.now < 2 ^ 32 }
+    ensures { Reads (repeated pairs.now) (λ unit. unit) tt result }
+{
+    for i in 0..pairs.len() {
+        if holds_key(&pairs[..i], pairs[i].key()) {
+            return Err(AssetFault::RepeatedKey(i as u32));
+        }
+    }
+    Ok(())
+}

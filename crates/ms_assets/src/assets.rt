@@ -1,0 +1,220 @@
+ghost use Rattle.std.specs.Prelude.{◌≡◌, ◌^◌, ◌<◌, ◌≤◌, List, [], ◌∷◌, ◌++◌, find, option_map, OnOk, OnErr};
+ghost use Rattle.std.specs.List.{list_any};
+ghost use Rattle.std.specs.Str.{bytes_eq};
+ghost use Rattle.def_hash.specs.Hash.{digest_of};
+ghost use Rattle.def_machine.specs.Locks.{after_holds, older_holds};
+ghost use Rattle.def_assets.specs.Assets.{sig_of as the_sig_of, known};
+ghost use Rattle.def_files.specs.Laws.{AreFewAssets};
+ghost use Rattle.ms_assets.specs.Seen.{held};
+ghost use Rattle.ms_hash.specs.Value.{kind_of, bytes_of};
+ghost use Rattle.ms_assets.specs.Adding.{sig_stop, preimage_stop, Answers};
+
+use crate::asset_file::AssetParts;
+use ms_hash::{HashVal, hash_of};
+use ms_oracle::{Locks, Pairs, SigPair};
+use ms_tree::Key;
+use std::alloc::Global;
+use std::marker::Model;
+
+/// How many signatures assets and run files hold.
+pub const MOST_SIGNATURES: usize = 256;
+
+/// How many preimages assets hold.
+pub const MOST_PREIMAGES: usize = 256;
+
+/// Why a signature or a preimage isn't added, in the order in which the reasons are tested.
+#[derive(Clone, Copy, Debug, PartialEq, Eq)]
+pub enum AddStop {
+    /// The signature hasn't 1 to 73 bytes.
+    SigLength,
+    /// 256 are held.
+    TooMany,
+    /// A signature is held with the key.
+    RepeatedKey,
+    /// There was no memory.
+    Memory,
+}
+
+/// What a wallet holds for a spend: the values of the locks, signatures with their keys, and preimages.
+/// Contracts see it as the definition's assets, of which `locks` says what they always are.
+#[derive(Debug, Drop)]
+pub struct Assets {
+    locks: Locks,
+    pairs: Pairs,
+    preimages: Vec<[u8; 32]>,
+}
+
+impl Model for Assets {
+    ghost use Rattle.def_assets.specs.Assets.{Assets as Held};
+    ghost use Rattle.def_files.specs.Laws.{AreFewAssets};
+
+    ghost Value = { Held };
+
+    ghost view = { λ a. record { locks = a.locks; pairs = a.pairs; preimages = a.preimages.items } };
+
+    ghost invariant = { λ a. AreFewAssets (record { locks = a.locks; pairs = a.pairs; preimages = a.preimages.items }) };
+}
+
+impl Assets {
+    /// Assets with no signature and no preimage. Takes no memory.
+    pub fn new(alloc: Global, locks: Locks) -> Assets
+        ensures { result ≡ record { locks = locks; pairs = []; preimages = [] } }
+    {
+        Assets {
+            locks,
+            pairs: Pairs::new(alloc),
+            preimages: Vec::new(alloc),
+        }
+    }
+
+    /// Assets of these parts.
+    pub(crate) fn from_parts(parts: AssetParts) -> Assets
+        requires { AreFewAssets (held parts) }
+        ensures { result ≡ held parts }
+    {
+        Assets {
+            locks: parts.locks,
+            pairs: parts.pairs,
+            preimages: parts.preimages,
+        }
+    }
+
+    /// Adds a signature with its key at the end.
+    pub fn add_sig(&mut self, key: &Key, sig: &[u8]) -> Result<(), AddStop>
+        ensures answer { Answers (sig_stop self.old key.now sig.now) result }
+        ensures ok { OnOk result (self.new ≡ record self.old { pairs = self.old.pairs ++ (key.now, sig.now) ∷ [] }) }
+        ensures err { OnErr result (self.new ≡ self.old) }
+    {
+        if sig.is_empty() || sig.len() > 73 {
+            return Err(AddStop::SigLength);
+        }
+        if self.pairs.as_slice().len() >= MOST_SIGNATURES {
+            return Err(AddStop::TooMany);
+        }
+        let bytes = key.as_bytes();
+        if holds_key(self.pairs.as_slice(), bytes) {
+            return Err(AddStop::RepeatedKey);
+        }
+        if self.pairs.push(bytes, sig).is_err() {
+            return Err(AddStop::Memory);
+        }
+        Ok(())
+    }
+
+    /// Adds a preimage at the end.
+    pub fn add_preimage(&mut self, preimage: &[u8; 32]) -> Result<(), AddStop>
+        ensures answer { Answers (preimage_stop self.old) result }
+        ensures ok { OnOk result (self.new ≡ record self.old { preimages = self.old.preimages ++ preimage.now ∷ [] }) }
+        ensures err { OnErr result (self.new ≡ self.old) }
+    {
+        if self.preimages.len() >= MOST_PREIMAGES {
+            return Err(AddStop::TooMany);
+        }
+        if self.preimages.push(*preimage).is_err() {
+            return Err(AddStop::Memory);
+        }
+        Ok(())
+    }
+
+    /// The values of the locks. What is held is at most one signature a key, and all is few and has its
+    /// form.
+    pub fn locks(&self) -> Locks
+        ensures locks { result ≡ self.now.locks }
+        ensures few { AreFewAssets self.now }
+    {
+        self.locks
+    }
+
+    /// The signatures with their keys, first one first.
+    pub fn pairs(&self) -> &[SigPair]
+        ensures { result.now ≡ self.now.pairs }
+    {
+        self.pairs.as_slice()
+    }
+
+    /// The signature that is held with a key. Takes no memory.
+    pub fn sig_of(&self, key: &Key) -> Option<&[u8]>
+        ensures { option_map (λ sig. sig.now) result ≡ the_sig_of self.now key.now }
+    {
+        sig_with(self.pairs.as_slice(), key.as_bytes())
+    }
+
+    /// The known preimage of a hash value: the first that hashes to it. Takes no memory.
+    pub fn preimage_of(&self, value: &HashVal) -> Option<&[u8]>
+        ensures { option_map (λ preimage. preimage.now) result ≡ known self.now (kind_of value.now) (bytes_of value.now) }
+    {
+        first_hashing_to(&self.preimages, value)
+    }
+
+    /// Whether a relative timelock holds (BIP 112). `n` is its operand, from 1 to 2^31 - 1.
+    #[tactic(auto, unfolding(def_machine::specs::Locks::older_holds))]
+    pub fn holds_older(&self, n: u64) -> bool
+        requires least { 1 ≤ n }
+        requires most { n < 2 ^ 31 }
+        ensures { result ≡ older_holds n self.now.locks }
+    {
+        let version = self.locks.version;
+        let sequence = self.locks.sequence as u64;
+        n & 0x8000_0000 != 0
+            || (version >= 2
+                && sequence & 0x8000_0000 == 0
+                && n & 0x0040_0000 == sequence & 0x0040_0000
+                && n & 0x0040_ffff <= sequence & 0x0040_ffff)
+    }
+
+    /// Whether an absolute timelock holds (BIP 65). `n` is its operand, from 1 to 2^31 - 1.
+    #[tactic(auto, unfolding(def_machine::specs::Locks::after_holds))]
+    pub fn holds_after(&self, n: u64) -> bool
+        requires least { 1 ≤ n }
+        requires most { n < 2 ^ 31 }
+        ensures { result ≡ after_holds n self.now.locks }
+    {
+        let locktime = self.locks.locktime as u64;
+        let same_kind = (n < 500_000_000 && locktime < 500_000_000)
+            || (500_000_000 <= n && 500_000_000 <= locktime);
+        same_kind && n <= locktime && self.locks.sequence != 0xffff_ffff
+    }
+}
+
+/// Whether a pair has this key.
+pub(crate) fn holds_key(pairs: &[SigPair], key: &[u8]) -> bool
+    ensures { result ≡ list_any (λ pair. bytes_eq key.now pair.0) pairs.now }
+{
+    for pair in pairs {
+        if key == pair.key() {
+            return true;
+        }
+    }
+    false
+}
+
+/// The signature of the first pair with this key.
+fn sig_with<'a>(pairs: &'a [SigPair], key: &[u8]) -> Option<&'a [u8]>
+    ensures { option_map (λ sig. sig.now) result ≡ option_map (λ pair. pair.1) (find (λ pair. bytes_eq pair.0 key.now) pairs.entry.now) }
+{
+    for pair in pairs {
+        if pair.key() == key {
+            return Some(pair.sig());
+        }
+    }
+    None
+}
+
+/// The first preimage that hashes to a value.
+fn first_hashing_to<'a>(preimages: &'a [[u8; 32]], value: &HashVal) -> Option<&'a [u8]>
+    ensures { option_map (λ preimage. preimage.now) result ≡ find (λ preimage. bytes_eq (digest_of (kind_of value.now) preimage) (bytes_of value.now)) preimages.entry.now }
+{
+    for preimage in preimages {
+        if hashes_to(preimage, value) {
+            return Some(preimage);
+        }
+    }
+    None
+}
+
+/// Whether the hash value of a preimage is this one.
+fn hashes_to(preimage: &[u8], value: &HashVal) -> bool
+    ensures { result ≡ bytes_eq (digest_of (kind_of value.now) preimage.now) (bytes_of value.now) }
+{
+    hash_of(value.kind(), preimage).as_bytes() == value.as_bytes()
+}

@@ -1,0 +1,173 @@
+//! The members of a file, but for their hexadecimal digits.
+
+ghost use Rattle.std.specs.Prelude.{◌≡◌, ◌⊎◌, ◌^◌, ◌<◌, List, [], ◌∷◌, length, map, None, Some, option_map, IfOk, IfErr, MatchResult};
+ghost use Rattle.std.specs.List.{list_all};
+ghost use Rattle.serde_json.specs.View.{view};
+ghost use Rattle.def_files.specs.Json.{reading, member_name as the_member_name, find_member, number_of as the_number_of, number_or as the_number_or, text_at as the_text_at};
+ghost use Rattle.def_files.specs.Parts.{locks, list as the_list, elements, is_pair as the_is_pair, is_text as the_is_text};
+ghost use Rattle.def_files.specs.Refusals.{no_version, no_sequence, no_locktime, no_list_of};
+ghost use Rattle.ms_assets.specs.Parts.{first, Reads, ReadsOrMemory};
+
+use def_files::{AssetFault, Member};
+use ms_oracle::Locks;
+use serde_json::Value;
+use std::alloc::Global;
+
+/// The value of a file's bytes.
+pub fn read_json(alloc: Global, bytes: &[u8]) -> Result<Value, AssetFault>
+    ensures { MatchResult result (λ file. reading bytes.now ≡ Some (view file)) (λ why. (why ≡ AssetFault.Memory) ⊎ ((why ≡ AssetFault.NotJson) × (reading bytes.now ≡ None))) }
+{
+    match Value::from_slice(alloc, bytes) {
+        Ok(file) => Ok(file),
+        Err(e) if e.is_memory() => Err(AssetFault::Memory),
+        Err(_) => Err(AssetFault::NotJson),
+    }
+}
+
+/// The name of a member in a file. The file as a whole is `file`.
+pub fn member_name(member: Member) -> &'static str
+    ensures { result.now ≡ the_member_name member }
+{
+    match member {
+        Member::Whole => "file",
+        Member::Version => "version",
+        Member::Sequence => "sequence",
+        Member::Locktime => "locktime",
+        Member::Signatures => "signatures",
+        Member::Preimages => "preimages",
+        Member::Script => "script",
+        Member::Witness => "witness",
+    }
+}
+
+/// A member of a file, where it is there.
+fn find_member(file: &Value, member: Member) -> Option<&Value>
+    ensures { option_map (λ value. view value.now) result ≡ find_member member (view file.now) }
+{
+    file.get(member_name(member))
+}
+
+/// The whole number from 0 to 2^32 - 1 that a value is.
+fn number_of(value: &Value) -> Option<u32>
+    ensures { result ≡ the_number_of (view value.now) }
+{
+    let number = value.as_u64()?;
+    if number > 0xffff_ffff {
+        return None;
+    }
+    Some(number as u32)
+}
+
+/// The number that a member is, or the one that stands for a missing one.
+fn number_or(file: &Value, member: Member, default: u32) -> Option<u32>
+    ensures { result ≡ the_number_or default (find_member member (view file.now)) }
+{
+    match find_member(file, member) {
+        None => Some(default),
+        Some(value) => number_of(value),
+    }
+}
+
+/// The values of the locks: version 2, sequence number 4294967294 and locktime 0 where they are missing.
+pub fn read_locks(file: &Value) -> Result<Locks, AssetFault>
+    ensures { Reads (first (no_version (view file.now) ∷ no_sequence (view file.now) ∷ no_locktime (view file.now) ∷ [])) (λ locks. locks) (locks (view file.now)) result }
+{
+    let Some(version) = number_or(file, Member::Version, 2) else {
+        return Err(AssetFault::Number(Member::Version));
+    };
+    let Some(sequence) = number_or(file, Member::Sequence, 4_294_967_294) else {
+        return Err(AssetFault::Number(Member::Sequence));
+    };
+    let Some(locktime) = number_or(file, Member::Locktime, 0) else {
+        return Err(AssetFault::Number(Member::Locktime));
+    };
+    Ok(Locks {
+        version,
+        sequence,
+        locktime,
+    })
+}
+
+/// The elements of a member, none of a missing one, or `None` where it is no list.
+fn list(file: &Value, member: Member) -> Option<&[Value]>
+    ensures { option_map (λ elements. map view elements.now) result ≡ the_list member (view file.now) }
+{
+    match find_member(file, member) {
+        None => Some(&[]),
+        Some(value) => {
+            let elements = value.as_array()?;
+            Some(elements.as_slice())
+        }
+    }
+}
+
+/// The text of an object's member.
+pub fn text_at<'a>(value: &'a Value, name: &str) -> Option<&'a str>
+    ensures { option_map (λ text. text.now) result ≡ the_text_at name.now (view value.now) }
+{
+    value.get(name)?.as_str()
+}
+
+/// Whether an element is an object with the texts `key` and `sig`.
+fn is_pair(element: &Value) -> bool
+    ensures { result ≡ the_is_pair (view element.now) }
+{
+    text_at(element, "key").is_some() && text_at(element, "sig").is_some()
+}
+
+fn are_pairs(elements: &[Value]) -> bool
+    ensures { result ≡ list_all the_is_pair (map view elements.now) }
+{
+    for element in elements {
+        if !is_pair(element) {
+            return false;
+        }
+    }
+    true
+}
+
+fn are_texts(elements: &[Value]) -> bool
+    ensures { result ≡ list_all the_is_text (map view elements.now) }
+{
+    for element in elements {
+        if !element.is_string() {
+            return false;
+        }
+    }
+    true
+}
+
+/// The elements of the signatures, each an object with the texts `key` and `sig`.
+pub fn pair_list(file: &Value) -> Result<&[Value], AssetFault>
+    ensures elements { ReadsOrMemory (no_list_of the_is_pair Member.Signatures (view file.now)) (λ list. map view list.now) (elements Member.Signatures (view file.now)) result }
+    ensures few { IfOk result (λ list. length list.now < 2 ^ 32) }
+{
+    match list(file, Member::Signatures) {
+        Some(elements) if are_pairs(elements) => few(elements),
+        _ => Err(AssetFault::Shape(Member::Signatures)),
+    }
+}
+
+/// The elements of a member that is a list of texts.
+pub fn text_list(file: &Value, member: Member) -> Result<&[Value], AssetFault>
+    ensures elements { ReadsOrMemory (no_list_of the_is_text member (view file.now)) (λ list. map view list.now) (elements member (view file.now)) result }
+    ensures few { IfOk result (λ list. length list.now < 2 ^ 32) }
+{
+    match list(file, member) {
+        Some(elements) if are_texts(elements) => few(elements),
+        _ => Err(AssetFault::Shape(member)),
+    }
+}
+
+/// The elements, where their places fit 32 bits. More of them would be want of memory: no file of 2^31
+/// bytes has so many.
+fn few(elements: &[Value]) -> Result<&[Value], AssetFault>
+    ensures same { IfOk result (λ list. list ≡ elements.entry) }
+    ensures few { IfOk result (λ list. length list.now < 2 ^ 32) }
+    ensures memory { IfErr result (λ why. why ≡ AssetFault.Memory) }
+{
+    if elements.len() > 0xffff_ffff {
+        return Err(AssetFault::Memory);
+    }
+    Ok(elements)
+}
