@@ -63,7 +63,7 @@ outcome_status : (P : Status → Type 0) (o : Outcome) → P status.Done → P s
 outcome_status P (accepted ops peak checks) done refusal = done
 outcome_status P (refused fault place) done refusal = refusal
 
-run_status : (P : Status → Type 0) (source : Bytes) → P status.FileRefused → P status.Done → P status.ScriptRefused →
+pub run_status : (P : Status → Type 0) (source : Bytes) → P status.FileRefused → P status.Done → P status.ScriptRefused →
     OfStatus P (run_reply source)
 run_status P source file done refusal =
     file_status P run_of (λ f. outcome_reply (run (record { table = f.pairs; locks = f.locks }) f.script f.stack)) source file

@@ -1,8 +1,12 @@
-//! The translation from miniscript trees to Script.
+//! The translation from miniscript trees to Script, and what it comes to.
 #![tactic(auto)]
 
+pub use length::{opcode_count, script_len};
 pub use translation::emit;
 
+mod arms;
+mod extent;
+mod length;
 #[cfg(test)]
 mod tests;
 mod translation;

@@ -1,10 +1,10 @@
 ghost use Rattle.std.specs.Prelude.{IfOk};
 ghost use Rattle.def_tree.specs.Range.{IsInRange, IsKey};
-ghost use Rattle.ms_tree.specs.Shape.{leaf_shape};
+ghost use Rattle.ms_tree.specs.Shape.{leaf_shape, shape};
 
 use crate::*;
 use ms_script::{Blob, encode};
-use ms_tree::{HashVal, Key, Leaf, Two, Wrapper, and_or, leaf, multi, thresh, two, wrap};
+use ms_tree::{HashVal, Key, Leaf, Tree, Two, Wrapper, and_or, leaf, multi, thresh, two, wrap};
 use std::alloc::{AllocError, Global};
 use std::test::Fail;
 
@@ -23,6 +23,17 @@ fn joined(alloc: Global, pieces: &[&[u8]]) -> Result<Vec<u8>, AllocError> {
     Ok(bytes)
 }
 
+/// The bytes of a tree's Script, where its length is told right.
+fn script_of(alloc: Global, tree: &Tree) -> Result<Blob, Fail>
+    requires { IsInRange (shape tree.now) }
+{
+    let script = encode(alloc, &emit(alloc, tree)?)?;
+    if script_len(tree) != script.as_slice().len() as u64 {
+        return Err("a wrong length")?;
+    }
+    Ok(script)
+}
+
 #[test]
 fn wrappers_are_translated(rt: HostRuntime) -> Result<(), Fail> {
     let alloc = rt.alloc();
@@ -39,7 +50,7 @@ fn wrappers_are_translated(rt: HostRuntime) -> Result<(), Fail> {
     for (wrapper, before, behind) in cases {
         let x = leaf(alloc, Leaf::PkK(key(2)?))?;
         let tree = wrap(alloc, wrapper, x).ok().ok_or("memory")?;
-        let script = encode(alloc, &emit(alloc, &tree)?)?;
+        let script = script_of(alloc, &tree)?;
         let want = joined(alloc, &[before, b"\x21", &[2; 33], behind])?;
         assert_eq!(rt; script.as_slice(), want.as_slice());
     }
@@ -62,7 +73,7 @@ fn pairs_are_translated(rt: HostRuntime) -> Result<(), Fail> {
         let x = leaf(alloc, Leaf::PkK(key(2)?))?;
         let z = leaf(alloc, Leaf::PkK(key(3)?))?;
         let tree = two(alloc, kind, x, z).ok().ok_or("memory")?;
-        let script = encode(alloc, &emit(alloc, &tree)?)?;
+        let script = script_of(alloc, &tree)?;
         let pieces: [&[u8]; 7] = [
             before, b"\x21", &[2; 33], between, b"\x21", &[3; 33], behind,
         ];
@@ -78,17 +89,17 @@ fn verify_is_fused(rt: HostRuntime) -> Result<(), Fail> {
     let x = leaf(alloc, Leaf::PkK(key(2)?))?;
     let x = wrap(alloc, Wrapper::C, x).ok().ok_or("memory")?;
     let x = wrap(alloc, Wrapper::V, x).ok().ok_or("memory")?;
-    let script = encode(alloc, &emit(alloc, &x)?)?;
+    let script = script_of(alloc, &x)?;
     let want = joined(alloc, &[b"\x21", &[2; 33], b"\xad"])?;
     assert_eq!(rt; script.as_slice(), want.as_slice());
     Ok(())
 }
 
 /// The bytes of a leaf's Script.
-fn leaf_script(alloc: Global, fragment: Leaf) -> Result<Blob, AllocError>
+fn leaf_script(alloc: Global, fragment: Leaf) -> Result<Blob, Fail>
     requires { IsInRange (leaf_shape fragment) }
 {
-    encode(alloc, &emit(alloc, &leaf(alloc, fragment)?)?)
+    script_of(alloc, &leaf(alloc, fragment)?)
 }
 
 #[test]
@@ -128,14 +139,14 @@ fn numbers_and_keys_are_translated(rt: HostRuntime) -> Result<(), Fail> {
 }
 
 /// The bytes of the Scripts of `sha256(h)` and `hash256(h)`.
-fn long_hash_scripts(alloc: Global, bytes: [u8; 32]) -> Result<(Blob, Blob), AllocError> {
+fn long_hash_scripts(alloc: Global, bytes: [u8; 32]) -> Result<(Blob, Blob), Fail> {
     let sha256 = leaf_script(alloc, Leaf::Hash(HashVal::Sha256(bytes)))?;
     let hash256 = leaf_script(alloc, Leaf::Hash(HashVal::Hash256(bytes)))?;
     Ok((sha256, hash256))
 }
 
 /// The bytes of the Scripts of `ripemd160(h)` and `hash160(h)`.
-fn short_hash_scripts(alloc: Global, bytes: [u8; 20]) -> Result<(Blob, Blob), AllocError> {
+fn short_hash_scripts(alloc: Global, bytes: [u8; 20]) -> Result<(Blob, Blob), Fail> {
     let ripemd160 = leaf_script(alloc, Leaf::Hash(HashVal::Ripemd160(bytes)))?;
     let hash160 = leaf_script(alloc, Leaf::Hash(HashVal::Hash160(bytes)))?;
     Ok((ripemd160, hash160))
@@ -168,7 +179,7 @@ fn and_or_is_translated(rt: HostRuntime) -> Result<(), Fail> {
         leaf(alloc, Leaf::Older(2))?,
     );
     let tree = and_or(alloc, x, y, z).ok().ok_or("memory")?;
-    let script = encode(alloc, &emit(alloc, &tree)?)?;
+    let script = script_of(alloc, &tree)?;
     assert_eq!(rt;
         script.as_slice(),
         b"\x00\x64\x52\xb2\x67\x51\x68".as_slice()
@@ -184,21 +195,37 @@ fn lists_are_translated(rt: HostRuntime) -> Result<(), Fail> {
     children.push(leaf(alloc, Leaf::One)?)?;
     children.push(leaf(alloc, Leaf::Older(3))?)?;
     let tree = thresh(alloc, 2, children).ok().ok_or("memory")?;
-    let script = encode(alloc, &emit(alloc, &tree)?)?;
+    let script = script_of(alloc, &tree)?;
     assert_eq!(rt;
         script.as_slice(),
         b"\x00\x51\x93\x53\xb2\x93\x52\x87".as_slice()
     );
+    assert_eq!(rt; opcode_count(&tree), 4);
 
     let mut keys = Vec::new(alloc);
     keys.push(key(2)?)?;
     keys.push(key(3)?)?;
     let tree = multi(alloc, 1, keys).ok().ok_or("memory")?;
-    let script = encode(alloc, &emit(alloc, &tree)?)?;
+    let script = script_of(alloc, &tree)?;
     let want = joined(
         alloc,
         &[b"\x51\x21", &[2; 33], b"\x21", &[3; 33], b"\x52\xae"],
     )?;
     assert_eq!(rt; script.as_slice(), want.as_slice());
+    Ok(())
+}
+
+#[test]
+fn lengths_of_small_scripts(rt: HostRuntime) -> Result<(), Fail> {
+    let alloc = rt.alloc();
+    let x = leaf(alloc, Leaf::PkK(key(2)?))?;
+    let x = wrap(alloc, Wrapper::C, x).ok().ok_or("memory")?;
+    assert_eq!(rt; script_len(&x), 35);
+    let x = wrap(alloc, Wrapper::V, x).ok().ok_or("memory")?;
+    let z = leaf(alloc, Leaf::PkK(key(3)?))?;
+    let z = wrap(alloc, Wrapper::C, z).ok().ok_or("memory")?;
+    let tree = two(alloc, Two::AndV, x, z).ok().ok_or("memory")?;
+    assert_eq!(rt; script_len(&tree), 70);
+    assert_eq!(rt; opcode_count(&tree), 2);
     Ok(())
 }

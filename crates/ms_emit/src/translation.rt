@@ -7,6 +7,7 @@ ghost use Rattle.def_tree.specs.Tree as tree;
 ghost use Rattle.ms_hash.specs.Value.{kind_of, bytes_of};
 ghost use Rattle.ms_tree.specs.Shape.{shape, shapes, leaf_shape};
 
+use crate::arms::{and_or_arm, hash_arms, leaf_arms, opcodes, pair_arms, wrapper_arms};
 use ms_hash::hash160;
 use ms_script::{Op, Script, num_encode};
 use ms_tree::{HashVal, Key, Leaf, Tree, Two, View, Wrapper, fragment_rows};
@@ -19,40 +20,23 @@ pub fn emit(alloc: Global, tree: &Tree) -> Result<Script, AllocError>
     ensures encodable { IfOk result (All IsShort) }
 {
     let mut script = Script::new(alloc);
-    emit_tree(&mut script, tree)?;
+    add_tree(&mut script, tree)?;
     Ok(script)
 }
 
-/// Adds opcodes, and pushes of numbers. VERIFY is fused with the opcode before it where that has a
-/// VERIFY form.
-macro_rules! opcodes {
-    ($script:ident, ($($op:tt)*)) => {
-        $(opcodes!($script, $op);)*
-    };
-    ($script:ident, Verify) => {
-        $script.verify()?;
-    };
-    ($script:ident, $number:literal) => {
-        push_number($script, $number)?;
-    };
-    ($script:ident, $op:ident) => {
-        $script.code(Op::$op)?;
-    };
-}
-
 /// Adds the Script of a tree.
-#[cycle(emit_tree)]
-fn emit_tree(script: &mut Script, tree: &Tree) -> Result<(), AllocError>
+#[cycle(add_tree)]
+fn add_tree(script: &mut Script, tree: &Tree) -> Result<(), AllocError>
     requires { IsInRange (shape tree.now) }
     ensures { OnOk result (script.new ≡ script.old ++ the_emit (shape tree.now)) }
 {
     match tree.view() {
-        View::Leaf(leaf) => emit_leaf(script, leaf),
-        View::AndOr(x, y, z) => emit_and_or(script, x, y, z),
-        View::Two(kind, x, z) => emit_two(script, kind, x, z),
-        View::Thresh(k, children) => emit_thresh(script, k, children),
-        View::Multi(k, keys) => emit_multi(script, k, keys),
-        View::Wrap(wrapper, x) => emit_wrap(script, wrapper, x),
+        View::Leaf(leaf) => add_leaf(script, leaf),
+        View::AndOr(x, y, z) => add_and_or(script, x, y, z),
+        View::Two(kind, x, z) => add_two(script, kind, x, z),
+        View::Thresh(k, children) => add_thresh(script, k, children),
+        View::Multi(k, keys) => add_multi(script, k, keys),
+        View::Wrap(wrapper, x) => add_wrap(script, wrapper, x),
     }
 }
 
@@ -66,34 +50,7 @@ macro_rules! key_push {
     };
 }
 
-macro_rules! leaf_arms {
-    (
-        ($script:ident, $leaf:ident)
-        numbers { $([$number:ident $digit:literal $none:literal $pushed:tt])* }
-        keys { $([$key:ident $key_name:literal $one_key:literal $before_key:tt $push:ident $behind_key:tt])* }
-        locks { $([$lock:ident $lock_name:literal $one_lock:literal $before_lock:tt $behind_lock:tt])* }
-        $($others:tt)*
-    ) => {
-        match $leaf {
-            $(Leaf::$number => {
-                opcodes!($script, $pushed);
-            })*
-            $(Leaf::$key(key) => {
-                opcodes!($script, $before_key);
-                key_push!($script, $push, key);
-                opcodes!($script, $behind_key);
-            })*
-            $(Leaf::$lock(n) => {
-                opcodes!($script, $before_lock);
-                push_number($script, n)?;
-                opcodes!($script, $behind_lock);
-            })*
-            Leaf::Hash(value) => emit_hash($script, &value)?,
-        }
-    };
-}
-
-fn emit_leaf(script: &mut Script, leaf: Leaf) -> Result<(), AllocError>
+fn add_leaf(script: &mut Script, leaf: Leaf) -> Result<(), AllocError>
     requires { IsInRange (leaf_shape leaf) }
     ensures { OnOk result (script.new ≡ script.old ++ the_emit (leaf_shape leaf)) }
 {
@@ -101,49 +58,15 @@ fn emit_leaf(script: &mut Script, leaf: Leaf) -> Result<(), AllocError>
     Ok(())
 }
 
-macro_rules! hash_arms {
-    (
-        ($script:ident, $value:ident)
-        numbers $numbers:tt keys $keys:tt locks $locks:tt
-        hashes { $([$variant:ident $name:literal $one:literal $before:tt $behind:tt])* }
-        $($others:tt)*
-    ) => {
-        match $value {
-            $(HashVal::$variant(bytes) => {
-                opcodes!($script, $before);
-                $script.push(bytes)?;
-                opcodes!($script, $behind);
-            })*
-        }
-    };
-}
-
-fn emit_hash(script: &mut Script, value: &HashVal) -> Result<(), AllocError>
+fn add_hash(script: &mut Script, value: &HashVal) -> Result<(), AllocError>
     ensures { OnOk result (script.new ≡ script.old ++ the_emit (tree.hash (kind_of value.now) (bytes_of value.now))) }
 {
     fragment_rows!(hash_arms!(script, value));
     Ok(())
 }
 
-macro_rules! and_or_arm {
-    (
-        ($script:ident, $x:ident, $y:ident, $z:ident)
-        numbers $numbers:tt keys $keys:tt locks $locks:tt hashes $hashes:tt
-        and_or { [$variant:ident $name:literal $three:literal $before:tt $behind_x:tt $behind_z:tt $behind_y:tt] }
-        $($others:tt)*
-    ) => {
-        opcodes!($script, $before);
-        emit_tree($script, $x)?;
-        opcodes!($script, $behind_x);
-        emit_tree($script, $z)?;
-        opcodes!($script, $behind_z);
-        emit_tree($script, $y)?;
-        opcodes!($script, $behind_y);
-    };
-}
-
-#[cycle(emit_tree)]
-fn emit_and_or(script: &mut Script, x: &Tree, y: &Tree, z: &Tree) -> Result<(), AllocError>
+#[cycle(add_tree)]
+fn add_and_or(script: &mut Script, x: &Tree, y: &Tree, z: &Tree) -> Result<(), AllocError>
     requires x { IsInRange (shape x.now) }
     requires y { IsInRange (shape y.now) }
     requires z { IsInRange (shape z.now) }
@@ -153,27 +76,8 @@ fn emit_and_or(script: &mut Script, x: &Tree, y: &Tree, z: &Tree) -> Result<(), 
     Ok(())
 }
 
-macro_rules! pair_arms {
-    (
-        ($script:ident, $kind:ident, $x:ident, $z:ident)
-        numbers $numbers:tt keys $keys:tt locks $locks:tt hashes $hashes:tt and_or $and_or:tt
-        pairs { $([$variant:ident $name:literal $two:literal $before:tt $between:tt $behind:tt])* }
-        $($others:tt)*
-    ) => {
-        match $kind {
-            $(Two::$variant => {
-                opcodes!($script, $before);
-                emit_tree($script, $x)?;
-                opcodes!($script, $between);
-                emit_tree($script, $z)?;
-                opcodes!($script, $behind);
-            })*
-        }
-    };
-}
-
-#[cycle(emit_tree)]
-fn emit_two(script: &mut Script, kind: Two, x: &Tree, z: &Tree) -> Result<(), AllocError>
+#[cycle(add_tree)]
+fn add_two(script: &mut Script, kind: Two, x: &Tree, z: &Tree) -> Result<(), AllocError>
     requires x { IsInRange (shape x.now) }
     requires z { IsInRange (shape z.now) }
     ensures { OnOk result (script.new ≡ script.old ++ the_emit (tree.two kind (shape x.now) (shape z.now))) }
@@ -183,34 +87,34 @@ fn emit_two(script: &mut Script, kind: Two, x: &Tree, z: &Tree) -> Result<(), Al
 }
 
 /// The first child, each further one with ADD behind it, the number and EQUAL.
-#[cycle(emit_tree)]
-fn emit_thresh(script: &mut Script, k: u64, children: &[Tree]) -> Result<(), AllocError>
+#[cycle(add_tree)]
+fn add_thresh(script: &mut Script, k: u64, children: &[Tree]) -> Result<(), AllocError>
     requires k { k < TEN_DIGITS }
     requires children { All (λ x. IsInRange (shape x)) children.now }
     ensures { OnOk result (script.new ≡ script.old ++ the_emit (tree.thresh k (shapes children.now))) }
 {
     if let Some((first, others)) = children.split_first() {
-        emit_tree(script, first)?;
-        emit_added(script, others)?;
+        add_tree(script, first)?;
+        add_others(script, others)?;
     }
     push_number(script, k)?;
     script.code(Op::Equal)
 }
 
-#[cycle(emit_tree)]
-fn emit_added(script: &mut Script, children: &[Tree]) -> Result<(), AllocError>
+#[cycle(add_tree)]
+fn add_others(script: &mut Script, children: &[Tree]) -> Result<(), AllocError>
     requires { All (λ x. IsInRange (shape x)) children.now }
     ensures { OnOk result (script.new ≡ script.old ++ the_added (shapes children.now)) }
 {
     for child in children {
-        emit_tree(script, child)?;
+        add_tree(script, child)?;
         script.code(Op::Add)?;
     }
     Ok(())
 }
 
 /// The number of signatures, the keys, their number and CHECKMULTISIG.
-fn emit_multi(script: &mut Script, k: u64, keys: &[Key]) -> Result<(), AllocError>
+fn add_multi(script: &mut Script, k: u64, keys: &[Key]) -> Result<(), AllocError>
     requires k { k < TEN_DIGITS }
     requires keys { length keys.now < MOST_MEASURE }
     ensures { OnOk result (script.new ≡ script.old ++ the_emit (tree.multi k keys.now)) }
@@ -223,24 +127,8 @@ fn emit_multi(script: &mut Script, k: u64, keys: &[Key]) -> Result<(), AllocErro
     script.code(Op::CheckMultiSig)
 }
 
-macro_rules! wrapper_arms {
-    (
-        ($script:ident, $wrapper:ident, $x:ident)
-        numbers $numbers:tt keys $keys:tt locks $locks:tt hashes $hashes:tt and_or $and_or:tt pairs $pairs:tt lists $lists:tt
-        wrappers { $([$variant:ident $letter:literal $one:literal $before:tt $behind:tt])* }
-    ) => {
-        match $wrapper {
-            $(Wrapper::$variant => {
-                opcodes!($script, $before);
-                emit_tree($script, $x)?;
-                opcodes!($script, $behind);
-            })*
-        }
-    };
-}
-
-#[cycle(emit_tree)]
-fn emit_wrap(script: &mut Script, wrapper: Wrapper, x: &Tree) -> Result<(), AllocError>
+#[cycle(add_tree)]
+fn add_wrap(script: &mut Script, wrapper: Wrapper, x: &Tree) -> Result<(), AllocError>
     requires { IsInRange (shape x.now) }
     ensures { OnOk result (script.new ≡ script.old ++ the_emit (tree.wrap wrapper (shape x.now))) }
 {

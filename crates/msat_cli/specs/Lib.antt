@@ -1,2 +1,3 @@
-pub mod Thin
 pub mod Answer
+pub mod Names
+pub mod Laws

@@ -2,14 +2,19 @@
 #![tactic(auto)]
 
 pub use def_answer::Status;
-pub use laws::msat_without_faults;
+pub use laws::{answers_of_the_whole, msat_without_faults};
 pub use program::msat;
 pub use word::Word;
 
 mod answer;
 mod laws;
+mod names;
 mod program;
+mod report;
+#[cfg(test)]
+mod run_tests;
+mod runs;
 #[cfg(test)]
 mod tests;
-mod thin;
 mod word;
+mod words;

@@ -1,10 +1,11 @@
 use crate::*;
 use ms_io::{MemSink, NullSink, SureSource};
 use std::alloc::{AllocError, Global};
+use std::process::Abort;
 use std::test::Fail;
 
 /// The digits of the key of 33 bytes of which the first is `first` and the others are `rest`.
-fn key(alloc: Global, first: &str, rest: &str) -> Result<String, AllocError> {
+pub fn key(alloc: Global, first: &str, rest: &str) -> Result<String, AllocError> {
     let mut digits = String::from_str(alloc, first)?;
     for _ in 0..32 {
         digits.push_str(rest)?;
@@ -13,7 +14,7 @@ fn key(alloc: Global, first: &str, rest: &str) -> Result<String, AllocError> {
 }
 
 /// So many letters.
-fn repeated(alloc: Global, letter: &str, count: usize) -> Result<String, AllocError> {
+pub fn repeated(alloc: Global, letter: &str, count: usize) -> Result<String, AllocError> {
     let mut text = String::new(alloc);
     for _ in 0..count {
         text.push_str(letter)?;
@@ -97,32 +98,164 @@ fn a_chain_gives_its_script(rt: HostRuntime) -> Result<(), Fail> {
     Ok(())
 }
 
+/// The key of the private key 1.
+const KEY_B: &str = "0279be667ef9dcbbac55a06295ce870b07029bfcdb2dce28d959f2815b16f81798";
+
 #[test]
-fn a_hundred_keys_are_the_most(rt: HostRuntime) -> Result<(), Fail> {
+fn a_key_hash_and_a_lock_give_their_script(rt: HostRuntime) -> Result<(), Fail> {
     let alloc = rt.alloc();
     let a = key(alloc, "02", "01")?;
-    for (keys, wanted) in [(100, Status::Done), (101, Status::TextRefused)] {
-        let mut text = String::new(alloc);
-        for _ in 1..keys {
-            text.push_str("and_v(v:pk(")?;
-            text.push_str(&a)?;
-            text.push_str("),")?;
-        }
-        text.push_str("pk(")?;
-        text.push_str(&a)?;
-        for _ in 0..keys {
-            text.push(')')?;
-        }
-        let (status, report) = answer(alloc, &["script", &text])?;
-        assert_eq!(rt; status, wanted);
-        let length = if keys == 100 { 100 * 70 + 1 } else { 21 };
-        assert_eq!(rt; report.len(), length);
-    }
+    let text = format!(in alloc; "or_d(pk({a}),and_v(v:pkh({KEY_B}),older(144)))")?;
+    let wanted = format!(in alloc;
+        "21{a}ac736476a914751e76e8199196d454941c45d1b3a323f1433bd688ad029000b268\n"
+    )?;
+    let (status, report) = answer(alloc, &["script", &text])?;
+    assert_eq!(rt; status, Status::Done);
+    assert_eq!(rt; report.as_str(), wanted.as_str());
+    Ok(())
+}
+
+/// Checks a text, and compares the whole report.
+fn is_checked(rt: &impl Abort, alloc: Global, text: &str, wanted: &str) -> Result<(), Fail> {
+    let (status, report) = answer(alloc, &["check", text])?;
+    assert_eq!(rt; status, Status::Done);
+    assert_eq!(rt; report.as_str(), wanted);
     Ok(())
 }
 
 #[test]
-fn a_thin_tree_is_read_from_any_text(rt: HostRuntime) -> Result<(), Fail> {
+fn a_key_is_checked(rt: HostRuntime) -> Result<(), Fail> {
+    let alloc = rt.alloc();
+    let text = format!(in alloc; "pk({KEY_B})")?;
+    let wanted = format!(in alloc;
+        "text c:pk_k({KEY_B})\ntype Bondu\nscript 21{KEY_B}ac\n\
+        program 00201863143c14c5166804bd19203356da136c985678cd4d27a1b8c6329604903262\n\
+        limits size 35 ops 1 items 1 weight 74\n"
+    )?;
+    is_checked(&rt, alloc, &text, &wanted)
+}
+
+#[test]
+fn a_chain_is_checked(rt: HostRuntime) -> Result<(), Fail> {
+    let alloc = rt.alloc();
+    let (a, c) = (key(alloc, "02", "01")?, key(alloc, "03", "03")?);
+    let text = format!(in alloc; "and_v(v:and_v(v:pk({a}),pk({KEY_B})),pk({c}))")?;
+    let printed = format!(in alloc; "and_v(v:and_v(vc:pk_k({a}),c:pk_k({KEY_B})),c:pk_k({c}))")?;
+    let wanted = format!(in alloc;
+        "text {printed}\ntype Bnu\nscript 21{a}ad21{KEY_B}ad21{c}ac\n\
+        program 00207a9b398521487a097172611af6e3c75c21ade0e69e498e7d8eedb71fac23a5cc\n\
+        limits size 105 ops 3 items 3 weight 222\n"
+    )?;
+    is_checked(&rt, alloc, &text, &wanted)
+}
+
+#[test]
+fn one_is_checked(rt: HostRuntime) -> Result<(), Fail> {
+    let wanted = "text 1\ntype Bzu\nscript 51\n\
+        program 00204ae81572f06e1b88fd5ced7a1a000945432e83e1551e6f721ee9c00b8cc33260\n\
+        limits size 1 ops 0 items 0 weight 0\n";
+    is_checked(&rt, rt.alloc(), "1", wanted)
+}
+
+/// Adds a new key. `next` is its number, and then that of the next one.
+fn push_key(text: &mut String, next: &mut u16) -> Result<(), AllocError> {
+    let number = usize::from(*next);
+    *next = next.wrapping_add(1);
+    text.push_str("02")?;
+    for shift in [12, 8, 4, 0] {
+        let digit = char::from_digit((number >> shift & 15) as u32, 16);
+        text.push(digit.unwrap_or('0'))?;
+    }
+    for _ in 0..60 {
+        text.push('0')?;
+    }
+    Ok(())
+}
+
+/// Adds `multi(1,..)` of 20 new keys.
+fn push_multi(text: &mut String, next: &mut u16) -> Result<(), AllocError> {
+    text.push_str("multi(1")?;
+    for _ in 0..20 {
+        text.push(',')?;
+        push_key(text, next)?;
+    }
+    text.push(')')
+}
+
+/// Chains `and_v(v:multi(1,..),..)` of 20 keys each and `and_v(v:pk(..),..)`, so many of either, before
+/// the last fragment.
+fn chain(alloc: Global, multis: usize, keys: usize, last: &str) -> Result<String, AllocError> {
+    let mut text = String::new(alloc);
+    let mut next = 0;
+    for _ in 0..multis {
+        text.push_str("and_v(v:")?;
+        push_multi(&mut text, &mut next)?;
+        text.push(',')?;
+    }
+    for _ in 0..keys {
+        text.push_str("and_v(v:pk(")?;
+        push_key(&mut text, &mut next)?;
+        text.push_str("),")?;
+    }
+    text.push_str(last)?;
+    text.push_str(repeated(alloc, ")", multis)?.as_str())?;
+    text.push_str(repeated(alloc, ")", keys)?.as_str())?;
+    Ok(text)
+}
+
+/// The last line of what `check` prints of a text.
+fn limits_of(alloc: Global, text: &str) -> Result<String, Fail> {
+    let (_, report) = answer(alloc, &["check", text])?;
+    let last = report.as_str().lines().last().ok_or("a line")?;
+    Ok(String::from_str(alloc, last)?)
+}
+
+#[test]
+fn size_and_items_have_their_limits(rt: HostRuntime) -> Result<(), Fail> {
+    let alloc = rt.alloc();
+    let most = limits_of(alloc, &chain(alloc, 5, 5, "older(32768)")?)?;
+    assert_eq!(rt;
+        most.as_str(),
+        "limits size 3600 ops 111 items 15 weight 745"
+    );
+    let over = limits_of(alloc, &chain(alloc, 5, 5, "older(8388608)")?)?;
+    assert_eq!(rt; over.as_str(), "refused text Size 3601");
+
+    let mut last = String::from_str(alloc, "pk(")?;
+    push_key(&mut last, &mut 65_535)?;
+    last.push(')')?;
+    let most = limits_of(alloc, &chain(alloc, 0, 99, &last)?)?;
+    assert_eq!(rt;
+        most.as_str(),
+        "limits size 3500 ops 100 items 100 weight 7400"
+    );
+    let over = limits_of(alloc, &chain(alloc, 0, 100, &last)?)?;
+    assert_eq!(rt; over.as_str(), "refused text Items 101");
+    Ok(())
+}
+
+#[test]
+fn opcodes_have_their_limit(rt: HostRuntime) -> Result<(), Fail> {
+    let alloc = rt.alloc();
+    let mut either = String::from_str(alloc, "or_i(")?;
+    let mut next = 0;
+    push_multi(&mut either, &mut next)?;
+    either.push(',')?;
+    push_multi(&mut either, &mut next)?;
+    either.push(')')?;
+    let most = format!(in alloc; "{}:{either}", repeated(alloc, "n", 176)?.as_str())?;
+    let most = limits_of(alloc, &most)?;
+    assert_eq!(rt; most.as_str().contains(" ops 201 "), true);
+    let over = format!(in alloc; "{}:{either}", repeated(alloc, "n", 177)?.as_str())?;
+    let over = limits_of(alloc, &over)?;
+    assert_eq!(rt; over.as_str(), "refused text Ops 202");
+
+    let letters = format!(in alloc; "{}:0", repeated(alloc, "n", 255)?.as_str())?;
+    are_refused(&rt, alloc, &[(&letters, "Ops 255")])
+}
+
+#[test]
+fn a_tree_is_read_from_any_text(rt: HostRuntime) -> Result<(), Fail> {
     let alloc = rt.alloc();
     let (a, b) = (key(alloc, "02", "01")?, key(alloc, "03", "ab")?);
     let text = format!(in alloc; "and_v(vc:pk_k({a}),c:pk_k({b}))")?;
@@ -135,21 +268,131 @@ fn a_thin_tree_is_read_from_any_text(rt: HostRuntime) -> Result<(), Fail> {
     Ok(())
 }
 
+/// Asks for the Script of each text, and whether it is valid, and compares what follows the words
+/// `refused text`.
+fn are_refused(rt: &impl Abort, alloc: Global, cases: &[(&str, &str)]) -> Result<(), Fail> {
+    for &(text, refusal) in cases {
+        let wanted = format!(in alloc; "refused text {refusal}\n")?;
+        for command in ["script", "check"] {
+            let (status, report) = answer(alloc, &[command, text])?;
+            assert_eq!(rt; status, Status::TextRefused);
+            assert_eq!(rt; report.as_str(), wanted.as_str());
+        }
+    }
+    Ok(())
+}
+
 #[test]
-fn other_trees_are_unbuilt(rt: HostRuntime) -> Result<(), Fail> {
+fn tops_that_are_no_b_are_refused(rt: HostRuntime) -> Result<(), Fail> {
     let alloc = rt.alloc();
     let a = key(alloc, "02", "01")?;
     let verified = format!(in alloc; "v:pk({a})")?;
     let bare = format!(in alloc; "pk_k({a})")?;
-    let last = format!(in alloc; "and_v(v:pk({a}),1)")?;
-    let unverified = format!(in alloc; "and_v(pk({a}),pk({a}))")?;
-    let other = format!(in alloc; "and_b(v:pk({a}),pk({a}))")?;
-    for text in ["1", &verified, &bare, &last, &unverified, &other] {
-        let (status, report) = answer(alloc, &["script", text])?;
-        assert_eq!(rt; status, Status::TextRefused);
-        assert_eq!(rt; report.as_str(), "refused text Unbuilt\n");
+    are_refused(
+        &rt,
+        alloc,
+        &[
+            (&verified, "TopNotB"),
+            (&bare, "TopNotB"),
+            ("a:1", "TopNotB"),
+        ],
+    )
+}
+
+#[test]
+fn each_rule_of_two_children_is_asked_for(rt: HostRuntime) -> Result<(), Fail> {
+    let alloc = rt.alloc();
+    let a = key(alloc, "02", "01")?;
+    let mixed = format!(in alloc; "andor(0,1,pk_k({a}))")?;
+    let bare = format!(in alloc; "and_b(pk_k({a}),a:1)")?;
+    are_refused(
+        &rt,
+        alloc,
+        &[
+            ("andor(1,1,1)", "Rule AndOrX at 0"),
+            (&mixed, "Rule AndOrYZ at 0"),
+            ("and_v(1,1)", "Rule AndVX at 0"),
+            ("and_v(v:1,a:1)", "Rule AndVY at 0"),
+            (&bare, "Rule AndBX at 0"),
+            ("and_b(1,1)", "Rule AndBY at 0"),
+            ("or_b(1,a:0)", "Rule OrBX at 0"),
+            ("or_b(0,a:1)", "Rule OrBZ at 0"),
+            ("or_c(1,v:1)", "Rule OrCX at 0"),
+            ("or_c(0,1)", "Rule OrCZ at 0"),
+            ("or_d(1,1)", "Rule OrDX at 0"),
+            ("or_d(0,v:1)", "Rule OrDZ at 0"),
+            ("or_i(1,v:1)", "Rule OrIXZ at 0"),
+        ],
+    )
+}
+
+#[test]
+fn each_rule_of_wrappers_is_asked_for(rt: HostRuntime) -> Result<(), Fail> {
+    let alloc = rt.alloc();
+    let a = key(alloc, "02", "01")?;
+    let bare = format!(in alloc; "a:pk_k({a})")?;
+    are_refused(
+        &rt,
+        alloc,
+        &[
+            (&bare, "Rule WrapA at 0"),
+            ("s:1", "Rule WrapS at 0"),
+            ("c:1", "Rule WrapC at 0"),
+            ("d:1", "Rule WrapD at 0"),
+            ("vv:1", "Rule WrapV at 0"),
+            ("j:1", "Rule WrapJ at 0"),
+            ("nv:1", "Rule WrapN at 0"),
+        ],
+    )
+}
+
+#[test]
+fn each_rule_of_numbers_is_asked_for(rt: HostRuntime) -> Result<(), Fail> {
+    let alloc = rt.alloc();
+    let (a, b) = (key(alloc, "02", "01")?, key(alloc, "03", "ab")?);
+    let first = format!(in alloc; "thresh(1,dv:older(1),s:pk({a}))")?;
+    let range = format!(in alloc; "thresh(3,pk({a}),s:pk({b}))")?;
+    let none = format!(in alloc; "multi(0,{a})")?;
+    let mut keys = String::new(alloc);
+    for _ in 0..21 {
+        keys.push(',')?;
+        keys.push_str(&a)?;
     }
-    Ok(())
+    let many = format!(in alloc; "multi(1{keys})")?;
+    are_refused(
+        &rt,
+        alloc,
+        &[
+            ("older(0)", "Rule OlderRange at 0"),
+            ("older(2147483648)", "Rule OlderRange at 0"),
+            ("after(0)", "Rule AfterRange at 0"),
+            ("after(9999999999)", "Rule AfterRange at 0"),
+            ("thresh(0,0)", "Rule ThreshRange at 0"),
+            (&range, "Rule ThreshRange at 0"),
+            (&first, "Rule ThreshFirst at 0"),
+            ("thresh(1,0,0)", "Rule ThreshOther at 0"),
+            (&none, "Rule MultiRange at 0"),
+            (&many, "Rule MultiRange at 0"),
+        ],
+    )
+}
+
+#[test]
+fn the_first_rule_is_named(rt: HostRuntime) -> Result<(), Fail> {
+    let alloc = rt.alloc();
+    are_refused(
+        &rt,
+        alloc,
+        &[
+            // Children first, then left to right, then in the order of the row.
+            ("and_v(1,older(0))", "Rule OlderRange at 8"),
+            ("and_b(older(0),after(0))", "Rule OlderRange at 6"),
+            ("andor(1,1,a:1)", "Rule AndOrX at 0"),
+            ("vs:older(0)", "Rule OlderRange at 3"),
+            ("vs:1", "Rule WrapS at 1"),
+            ("t:0", "Rule AndVX at 0"),
+        ],
+    )
 }
 
 #[test]
@@ -174,25 +417,19 @@ fn refused_texts_have_their_places(rt: HostRuntime) -> Result<(), Fail> {
         (&letters, "TooDeep at 0"),
         (&long, "TooLong"),
     ];
-    for (text, refusal) in cases {
-        let (status, report) = answer(alloc, &["script", text])?;
-        assert_eq!(rt; status, Status::TextRefused);
-        assert_eq!(rt;
-            report.as_str(),
-            format!(in alloc; "refused text {refusal}\n")?.as_str()
-        );
-    }
-    Ok(())
+    are_refused(&rt, alloc, &cases)
 }
 
 #[test]
 fn other_words_are_refused(rt: HostRuntime) -> Result<(), Fail> {
     let alloc = rt.alloc();
-    let cases: [&[&str]; 5] = [
+    let cases: [&[&str]; 7] = [
         &[],
         &["script"],
+        &["run", "x"],
+        &["Run"],
         &["script", "a", "b"],
-        &["check", "pk(A)"],
+        &["checks", "1"],
         &["Script", "1"],
     ];
     for words in cases {

@@ -4,4 +4,4 @@ use Rattle.ms_emit.proofs.translation.emit.Goals as goal
 
 pub returns-clause-encodable : goal.returns-clause-encodable
 returns-clause-encodable c =
-    rw (c.in_ok-emit_tree.ensures, c.new-script.ensures) (short-emit (shape c.args.tree.now) c.requires.writable).all
+    rw (c.in_ok-add_tree.ensures, c.new-script.ensures) (short-emit (shape c.args.tree.now) c.requires.writable).all

@@ -1,0 +1,15 @@
+use Rattle.std.proofs.Common.{◌≡◌, ◌∙◌, ap, refl, arith}
+use Rattle.def_emit.specs.Emit.{emit}
+use Rattle.def_sane.specs.Limits.{opcode_count}
+use Rattle.ms_tree.specs.Shape.{shape}
+use Rattle.ms_emit.specs.declared.extent.Extent.{Extent}
+use Rattle.ms_emit.proofs.Room.{opcodes_of_script, few_opcodes}
+use Rattle.ms_emit.proofs.length.opcode_count.Goals as goal
+
+pub returns-clause-count : goal.returns-clause-count
+returns-clause-count c = ap (λ (e : Extent). e.opcodes) c.extent.ensures ∙ opcodes_of_script _ (shape c.args.tree.now) refl c.requires
+
+pub returns-clause-few : goal.returns-clause-few
+returns-clause-few c =
+    let count : c.extent.result.opcodes ≡ opcode_count (emit (shape c.args.tree.now)) = returns-clause-count c in
+    omega (arith, count, few_opcodes (shape c.args.tree.now))

@@ -1,0 +1,14 @@
+ghost use Rattle.std.specs.Prelude.{◌≡◌};
+ghost use Rattle.def_answer.specs.Program.{program_of as the_program_of};
+
+use ms_hash::sha256;
+
+/// The program of a P2WSH output (BIP 141): version 0, and a push of the 32 bytes of the Script's SHA-256.
+pub fn program_of(script: &[u8]) -> [u8; 34]
+    ensures { result ≡ the_program_of script.now }
+{
+    let mut program = [0; 34];
+    program[1] = 0x20;
+    program[2..].copy_from_slice(&sha256(script));
+    program
+}

@@ -1,0 +1,6 @@
+pub mod Takes
+pub mod Choice
+pub mod Slots
+pub mod Tally
+pub mod Most
+pub mod Place

@@ -1,0 +1,26 @@
+-- What contracts see of what is taken.
+use Rattle.std.specs.Prelude.{◌<◌, ◌^◌, ⊤, Option, Some, None}
+use Rattle.def_sane.specs.Formal as formal
+use Rattle.ms_sane.specs.declared.takes.Takes.{Takes}
+use Rattle.ms_sane.specs.declared.takes.Most.{Most}
+
+abbrev pub takes_of : Takes → formal.Takes
+takes_of t = record { items = t.items; weight = t.weight; keys = t.keys }
+
+abbrev pub taken : Option Takes → Option formal.Takes
+taken None = None
+taken (Some t) = Some (takes_of t)
+
+-- each number is below 2^32
+pub record IsLight (t : Takes) : Type 0 where
+  pub items : t.items < 2 ^ 32
+  pub weight : t.weight < 2 ^ 32
+  pub keys : t.keys < 2 ^ 32
+
+abbrev pub IsLightOption : Option Takes → Type 0
+IsLightOption None = ⊤
+IsLightOption (Some t) = IsLight t
+
+pub record IsLightMost (m : Most) : Type 0 where
+  pub sat : IsLightOption m.sat
+  pub dsat : IsLightOption m.dsat

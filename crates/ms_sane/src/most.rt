@@ -1,0 +1,185 @@
+//! What the formal satisfactions of a tree take at most, without memory.
+ghost use Rattle.std.specs.Prelude.{◌≡◌, ◌≤◌, length, All};
+ghost use Rattle.def_tree.specs.Range.{MOST_MEASURE, IsInRange};
+ghost use Rattle.def_tree.specs.Size.{measure_of};
+ghost use Rattle.def_tree.specs.Tree as tree;
+ghost use Rattle.def_types.specs.Typed.{IsTyped};
+ghost use Rattle.def_sane.specs.Most.{most_sat, most_dsat};
+ghost use Rattle.ms_tree.specs.Shape.{shape, shapes, leaf_shape};
+ghost use Rattle.ms_sane.specs.Takes.{taken, IsLightMost};
+ghost use Rattle.ms_sane.specs.Most.{IsReady};
+
+use crate::choice::Tally;
+use crate::takes::{Most, Takes, both, either};
+use crate::work::Slot;
+use ms_tree::{Key, Leaf, Tree, Two, View, Wrapper};
+
+/// The longest signature, in bytes.
+const SIGNATURE: u64 = 73;
+
+/// A preimage, and what stands for one in a dissatisfaction, in bytes.
+const PREIMAGE: u64 = 32;
+
+/// What the formal satisfactions and dissatisfactions of a tree take at most, each number by itself. Of
+/// the slots it writes at most as many as the tree has nodes.
+#[cycle(most)]
+pub fn most(tree: &Tree, slots: &mut [Slot]) -> Most
+    requires { IsReady (shape tree.now) (length slots.old) }
+    ensures sat { taken result.sat ≡ most_sat (shape tree.now) }
+    ensures dsat { taken result.dsat ≡ most_dsat (shape tree.now) }
+    ensures light { IsLightMost result }
+{
+    match tree.view() {
+        View::Leaf(leaf) => of_leaf(leaf),
+        View::AndOr(x, y, z) => of_and_or(x, y, z, slots),
+        View::Two(kind, x, z) => of_two(kind, x, z, slots),
+        View::Thresh(k, children) => of_thresh(k, children, slots),
+        View::Multi(k, keys) => of_multi(k, keys),
+        View::Wrap(wrapper, x) => of_wrap(wrapper, x, slots),
+    }
+}
+
+fn of_leaf(leaf: Leaf) -> Most
+    ensures sat { taken result.sat ≡ most_sat (leaf_shape leaf) }
+    ensures dsat { taken result.dsat ≡ most_dsat (leaf_shape leaf) }
+{
+    match leaf {
+        Leaf::Zero => Most {
+            sat: None,
+            dsat: Some(Takes::NOTHING),
+        },
+        Leaf::One | Leaf::Older(_) | Leaf::After(_) => Most {
+            sat: Some(Takes::NOTHING),
+            dsat: None,
+        },
+        Leaf::PkK(_) => Most {
+            sat: Some(Takes::item(SIGNATURE)),
+            dsat: Some(Takes::item(0)),
+        },
+        Leaf::PkH(key) => {
+            let key = Takes::item(key.as_bytes().len() as u64);
+            Most {
+                sat: Some(Takes::item(SIGNATURE).plus(key)),
+                dsat: Some(Takes::item(0).plus(key)),
+            }
+        }
+        Leaf::Hash(_) => Most {
+            sat: Some(Takes::item(PREIMAGE)),
+            dsat: Some(Takes::item(PREIMAGE)),
+        },
+    }
+}
+
+#[cycle(most)]
+fn of_and_or(x: &Tree, y: &Tree, z: &Tree, slots: &mut [Slot]) -> Most
+    requires x { IsReady (shape x.now) (length slots.old) }
+    requires y { IsReady (shape y.now) (length slots.old) }
+    requires z { IsReady (shape z.now) (length slots.old) }
+    ensures sat { taken result.sat ≡ most_sat (tree.and_or (shape x.now) (shape y.now) (shape z.now)) }
+    ensures dsat { taken result.dsat ≡ most_dsat (tree.and_or (shape x.now) (shape y.now) (shape z.now)) }
+{
+    let x = most(x, slots);
+    let y = most(y, slots);
+    let z = most(z, slots);
+    Most {
+        sat: either(both(y.sat, x.sat), both(z.sat, x.dsat)),
+        dsat: both(z.dsat, x.dsat),
+    }
+}
+
+#[cycle(most)]
+fn of_two(kind: Two, x: &Tree, z: &Tree, slots: &mut [Slot]) -> Most
+    requires x { IsReady (shape x.now) (length slots.old) }
+    requires z { IsReady (shape z.now) (length slots.old) }
+    ensures sat { taken result.sat ≡ most_sat (tree.two kind (shape x.now) (shape z.now)) }
+    ensures dsat { taken result.dsat ≡ most_dsat (tree.two kind (shape x.now) (shape z.now)) }
+{
+    let x = most(x, slots);
+    let z = most(z, slots);
+    match kind {
+        Two::AndV => Most {
+            sat: both(z.sat, x.sat),
+            dsat: None,
+        },
+        Two::AndB => Most {
+            sat: both(z.sat, x.sat),
+            dsat: both(z.dsat, x.dsat),
+        },
+        Two::OrB => Most {
+            sat: either(both(z.dsat, x.sat), both(z.sat, x.dsat)),
+            dsat: both(z.dsat, x.dsat),
+        },
+        Two::OrC => Most {
+            sat: either(x.sat, both(z.sat, x.dsat)),
+            dsat: None,
+        },
+        Two::OrD => Most {
+            sat: either(x.sat, both(z.sat, x.dsat)),
+            dsat: both(z.dsat, x.dsat),
+        },
+        Two::OrI => {
+            let (left, right) = (Some(Takes::item(1)), Some(Takes::item(0)));
+            Most {
+                sat: either(both(x.sat, left), both(z.sat, right)),
+                dsat: either(both(x.dsat, left), both(z.dsat, right)),
+            }
+        }
+    }
+}
+
+#[cycle(most)]
+fn of_thresh(k: u64, children: &[Tree], slots: &mut [Slot]) -> Most
+    requires in_range { All (λ x. IsInRange (shape x)) children.now }
+    requires typed { All (λ x. IsTyped (shape x)) children.now }
+    requires few { measure_of (shapes children.now) ≤ MOST_MEASURE }
+    requires room { measure_of (shapes children.now) ≤ length slots.old }
+    ensures sat { taken result.sat ≡ most_sat (tree.thresh k (shapes children.now)) }
+    ensures dsat { taken result.dsat ≡ most_dsat (tree.thresh k (shapes children.now)) }
+{
+    let mut tally = Tally::new();
+    for child in children {
+        let taken = most(child, &mut slots[tally.free..]);
+        tally.add(slots, &taken);
+    }
+    let dsat = tally.none_of();
+    let sat = tally.greatest_of(k, slots);
+    Most { sat, dsat }
+}
+
+fn of_multi(k: u64, keys: &[Key]) -> Most
+    requires enough { k ≤ length keys.now }
+    requires few { length keys.now ≤ MOST_MEASURE }
+    ensures sat { taken result.sat ≡ most_sat (tree.multi k keys.now) }
+    ensures dsat { taken result.dsat ≡ most_dsat (tree.multi k keys.now) }
+{
+    let tried = Takes::tried(keys.len() as u64);
+    let signatures = Takes::same_items(k, SIGNATURE);
+    Most {
+        sat: Some(Takes::item(0).plus(signatures).plus(tried)),
+        dsat: Some(Takes::same_items(k + 1, 0).plus(tried)),
+    }
+}
+
+#[cycle(most)]
+fn of_wrap(wrapper: Wrapper, x: &Tree, slots: &mut [Slot]) -> Most
+    requires { IsReady (shape x.now) (length slots.old) }
+    ensures sat { taken result.sat ≡ most_sat (tree.wrap wrapper (shape x.now)) }
+    ensures dsat { taken result.dsat ≡ most_dsat (tree.wrap wrapper (shape x.now)) }
+{
+    let x = most(x, slots);
+    match wrapper {
+        Wrapper::A | Wrapper::S | Wrapper::C | Wrapper::N => x,
+        Wrapper::D => Most {
+            sat: both(x.sat, Some(Takes::item(1))),
+            dsat: Some(Takes::item(0)),
+        },
+        Wrapper::V => Most {
+            sat: x.sat,
+            dsat: None,
+        },
+        Wrapper::J => Most {
+            sat: x.sat,
+            dsat: Some(Takes::item(0)),
+        },
+    }
+}

@@ -1,0 +1,49 @@
+//! The limits of a miniscript (BIP 379, resource limits).
+ghost use Rattle.std.specs.Prelude.{◌≡◌, ◌*◌, ◌≤◌, IsOk, vec_len};
+ghost use Rattle.def_tree.specs.Range.{IsInRange};
+ghost use Rattle.def_tree.specs.Size.{measure};
+ghost use Rattle.def_types.specs.Corr.{corr};
+ghost use Rattle.def_sane.specs.Most.{number_of, most_sat, limits_of};
+ghost use Rattle.ms_tree.specs.Shape.{shape};
+ghost use Rattle.ms_sane.specs.Takes.{IsLight};
+
+use crate::most::most;
+use crate::takes::Takes;
+use crate::work::Work;
+use def_sane::Limits;
+use ms_emit::{opcode_count, script_len};
+use ms_tree::Tree;
+
+/// The limits of a tree: the length of its Script in bytes, its opcodes with the keys of `multi`
+/// fragments that are executed, and the items and the weight of its satisfactions, each the greatest over
+/// all formal satisfactions (BIP 379, resource limits). Items and weight are 0 where there is none.
+pub fn limits(tree: &Tree, work: &mut Work) -> Limits
+    requires in_range { IsInRange (shape tree.now) }
+    requires typed { IsOk (corr (shape tree.now)) }
+    requires room { 4 * measure (shape tree.now) ≤ vec_len work.old.slots }
+    ensures limits { result ≡ limits_of (shape tree.now) }
+    ensures room { vec_len work.new.slots ≡ vec_len work.old.slots }
+{
+    let taken = most_taken(tree, work);
+    Limits {
+        size: script_len(tree),
+        ops: opcode_count(tree) + taken.keys,
+        items: taken.items,
+        weight: taken.weight,
+    }
+}
+
+/// What the formal satisfactions of a tree take at most, each number by itself, or nothing where it has
+/// none.
+fn most_taken(tree: &Tree, work: &mut Work) -> Takes
+    requires in_range { IsInRange (shape tree.now) }
+    requires typed { IsOk (corr (shape tree.now)) }
+    requires room { 4 * measure (shape tree.now) ≤ vec_len work.old.slots }
+    ensures items { result.items ≡ number_of (λ t. t.items) (most_sat (shape tree.now)) }
+    ensures weight { result.weight ≡ number_of (λ t. t.weight) (most_sat (shape tree.now)) }
+    ensures keys { result.keys ≡ number_of (λ t. t.keys) (most_sat (shape tree.now)) }
+    ensures light { IsLight result }
+    ensures room { vec_len work.new.slots ≡ vec_len work.old.slots }
+{
+    most(tree, &mut work.slots).sat.unwrap_or(Takes::NOTHING)
+}

@@ -1,0 +1,41 @@
+ghost use Rattle.std.specs.Prelude.{◌≡◌, ◌*◌, IfOk, vec_len};
+ghost use Rattle.def_tree.specs.Range.{IsInRange};
+ghost use Rattle.def_tree.specs.Size.{measure};
+ghost use Rattle.ms_tree.specs.Shape.{shape};
+
+use ms_tree::Tree;
+use std::alloc::{AllocError, Global};
+
+/// Room for what is known of one child of a threshold: up to three differences, by which children are
+/// sorted, and which child it is.
+#[derive(Clone, Copy, Debug, PartialEq, Eq, PartialOrd, Ord)]
+pub struct Slot {
+    pub first: i64,
+    pub second: i64,
+    pub third: i64,
+    pub place: u32,
+}
+
+/// Working room for a tree, made once, so that calls that are lent it take no memory. Such a call may
+/// write its slots, and leaves their number as it was.
+#[derive(Drop)]
+pub struct Work {
+    pub slots: Vec<Slot>,
+}
+
+impl Work {
+    /// Room for this tree: four slots for each node and each key of a `multi`.
+    pub fn new(alloc: Global, tree: &Tree) -> Result<Work, AllocError>
+        requires { IsInRange (shape tree.now) }
+        ensures { IfOk result (λ work. vec_len work.slots ≡ 4 * measure (shape tree.now)) }
+    {
+        let empty = Slot {
+            first: 0,
+            second: 0,
+            third: 0,
+            place: 0,
+        };
+        let slots = vec![in alloc; empty; 4 * tree.measure() as usize]?;
+        Ok(Work { slots })
+    }
+}

@@ -1,0 +1,46 @@
+//! Names as reports print them.
+ghost use Rattle.std.specs.Prelude.{◌≡◌};
+ghost use Rattle.def_answer.specs.Names.{base_letter as the_base_letter, rule_name as the_rule_name, script_fault_name as the_script_fault_name};
+
+use ms_interp::ScriptFault;
+use ms_types::{Base, Rule};
+
+/// The variants of an enum, each by its name.
+macro_rules! names {
+    ($value:ident: $kind:ident { $($name:ident)* }) => {
+        match $value {
+            $($kind::$name => stringify!($name),)*
+        }
+    };
+}
+
+pub fn rule_name(rule: Rule) -> &'static str
+    ensures { result.now ≡ the_rule_name rule }
+{
+    names!(rule: Rule {
+        OlderRange AfterRange AndOrX AndOrYZ AndVX AndVY AndBX AndBY OrBX OrBZ OrCX OrCZ OrDX OrDZ OrIXZ
+        ThreshRange ThreshFirst ThreshOther MultiRange WrapA WrapS WrapC WrapD WrapV WrapJ WrapN
+        AndOrE AndOrS OrBE OrBS OrCE OrCS OrDE OrDS OrIS ThreshE ThreshS
+    })
+}
+
+pub fn script_fault_name(fault: ScriptFault) -> &'static str
+    ensures { result.now ≡ the_script_fault_name fault }
+{
+    names!(fault: ScriptFault {
+        ScriptSize ElementSize Truncated NonMinimalPush Unsupported OpCount StackUnderflow AltUnderflow Unbalanced
+        MinimalIf Verify NumberForm NegativeLock UnmetLock KeyForm NullFail NullDummy KeyCount SigCount StackSize
+        CleanStack EvalFalse
+    })
+}
+
+pub fn base_letter(base: Base) -> &'static str
+    ensures { result.now ≡ the_base_letter base }
+{
+    match base {
+        Base::B => "B",
+        Base::V => "V",
+        Base::K => "K",
+        Base::W => "W",
+    }
+}

@@ -1,0 +1,131 @@
+//! What the commands print of a valid tree.
+ghost use Rattle.std.specs.Prelude.{◌≡◌, ◌++◌, Bool, IfOk, OnOk, codes};
+ghost use Rattle.std.specs.String.{string_bytes};
+ghost use Rattle.hex.specs.Hex.{encode_lower};
+ghost use Rattle.def_tree.specs.Range.{IsInRange};
+ghost use Rattle.def_emit.specs.Emit.{script_of};
+ghost use Rattle.def_sane.specs.Unfit.{IsKnownValid};
+ghost use Rattle.ms_tree.specs.Shape.{shape};
+ghost use Rattle.def_answer.specs.Lines.{line, script_line, program_line, limits_line as the_limits_line};
+ghost use Rattle.def_answer.specs.Report.{script_report as the_script_report, type_letters as the_type_letters, letter};
+ghost use Rattle.msat_cli.specs.Answer.{no_mall, tree_reply, valid_report};
+
+use crate::names::base_letter;
+use crate::words::TextCommand;
+use ms_emit::emit;
+use ms_replay::program_of;
+use ms_sane::{Limits, Valid};
+use ms_script::{Blob, encode};
+use ms_text::print_text;
+use ms_tree::Tree;
+use ms_types::Ty;
+use std::alloc::{AllocError, Global};
+
+/// The report of a command on a valid tree.
+pub fn report(
+    alloc: Global,
+    kind: TextCommand,
+    tree: &Tree,
+    valid: &Valid,
+) -> Result<String, AllocError>
+    requires range { IsInRange (shape tree.now) }
+    requires valid { IsKnownValid (shape tree.now) valid.now }
+    ensures { IfOk result (λ report. string_bytes report ≡ (tree_reply kind (shape tree.now)).report) }
+{
+    match kind {
+        TextCommand::Script => script_report(alloc, tree),
+        TextCommand::Check => check_report(alloc, tree, valid),
+    }
+}
+
+/// The bytes of a tree's Script.
+fn script_bytes(alloc: Global, tree: &Tree) -> Result<Blob, AllocError>
+    requires { IsInRange (shape tree.now) }
+    ensures { IfOk result (λ script. script ≡ script_of (shape tree.now)) }
+{
+    encode(alloc, &emit(alloc, tree)?)
+}
+
+/// The Script in lower-case digits.
+#[tactic(auto, unfolding(def_answer::specs::Report::script_report))]
+fn script_report(alloc: Global, tree: &Tree) -> Result<String, AllocError>
+    requires { IsInRange (shape tree.now) }
+    ensures { IfOk result (λ report. string_bytes report ≡ the_script_report (shape tree.now)) }
+{
+    let script = script_bytes(alloc, tree)?;
+    let mut report = hex::encode(alloc, script.as_slice())?;
+    report.push('\n')?;
+    Ok(report)
+}
+
+/// The printed form, the type, the Script, its program and the limits.
+#[tactic(auto, unfolding(crate::specs::Answer::valid_report))]
+fn check_report(alloc: Global, tree: &Tree, valid: &Valid) -> Result<String, AllocError>
+    requires range { IsInRange (shape tree.now) }
+    requires valid { IsKnownValid (shape tree.now) valid.now }
+    ensures { IfOk result (λ report. string_bytes report ≡ valid_report (shape tree.now)) }
+{
+    let mut report = String::new(alloc);
+    push_line(&mut report, "text ", &print_text(alloc, tree)?)?;
+    push_line(&mut report, "type ", &type_letters(alloc, valid.ty)?)?;
+    push_output(alloc, &mut report, script_bytes(alloc, tree)?.as_slice())?;
+    report.push_str(&limits_line(alloc, valid.limits)?)?;
+    Ok(report)
+}
+
+/// Adds the lines of a Script and of the output that it stands behind.
+fn push_output(alloc: Global, report: &mut String, script: &[u8]) -> Result<(), AllocError>
+    ensures { OnOk result (string_bytes report.new ≡ string_bytes report.old ++ script_line script.now ++ program_line script.now) }
+{
+    push_line(report, "script ", &hex::encode(alloc, script)?)?;
+    push_line(
+        report,
+        "program ",
+        &hex::encode(alloc, &program_of(script))?,
+    )
+}
+
+/// Adds a line: a name, what it names, and a line feed.
+fn push_line(report: &mut String, name: &str, value: &str) -> Result<(), AllocError>
+    ensures { OnOk result (string_bytes report.new ≡ string_bytes report.old ++ line (name.now ++ value.now)) }
+{
+    report.push_str(name)?;
+    report.push_str(value)?;
+    report.push('\n')
+}
+
+/// The base type's letter, and those of the properties that hold.
+fn type_letters(alloc: Global, ty: Ty) -> Result<String, AllocError>
+    ensures { IfOk result (λ letters. string_bytes letters ≡ the_type_letters ty no_mall) }
+{
+    let mut letters = String::from_str(alloc, base_letter(ty.base))?;
+    push_letter(&mut letters, ty.z, "z")?;
+    push_letter(&mut letters, ty.o, "o")?;
+    push_letter(&mut letters, ty.n, "n")?;
+    push_letter(&mut letters, ty.d, "d")?;
+    push_letter(&mut letters, ty.u, "u")?;
+    Ok(letters)
+}
+
+/// Adds the letter of a property that holds.
+fn push_letter(letters: &mut String, holds: bool, name: &str) -> Result<(), AllocError>
+    ensures { OnOk result (string_bytes letters.new ≡ string_bytes letters.old ++ letter holds name.now) }
+{
+    if holds {
+        letters.push_str(name)?;
+    }
+    Ok(())
+}
+
+/// The line of a tree's limits.
+fn limits_line(alloc: Global, limits: Limits) -> Result<String, AllocError>
+    ensures { IfOk result (λ text. string_bytes text ≡ the_limits_line limits) }
+{
+    let Limits {
+        size,
+        ops,
+        items,
+        weight,
+    } = limits;
+    format!(in alloc; "limits size {size} ops {ops} items {items} weight {weight}\n")
+}
