@@ -93,7 +93,7 @@ fn round<const ROUND: usize>(w: &[u32; 16], l: &mut Line, r: &mut Line) {
 }
 
 /// The five rounds written out, each a loop for either line, which the compiler unrolls.
-fn ripemd_block_by_rounds(h: Line, block: &[u8]) -> Line {
+pub fn ripemd_block_by_rounds(h: Line, block: &[u8]) -> Line {
     let w = words(block);
     let (mut l, mut r) = (h, h);
     round::<0>(&w, &mut l, &mut r);
@@ -115,7 +115,7 @@ fn last_blocks(message: &[u8], length: [u8; 8]) -> Vec<u8> {
     last
 }
 
-fn ripemd160(message: &[u8], next: impl Fn(Line, &[u8]) -> Line) -> [u8; 20] {
+pub fn ripemd160(message: &[u8], next: impl Fn(Line, &[u8]) -> Line) -> [u8; 20] {
     let mut h = [0x6745_2301, 0xefcd_ab89, 0x98ba_dcfe, 0x1032_5476, 0xc3d2_e1f0];
     let last = last_blocks(message, (message.len() as u64 * 8).to_le_bytes());
     for block in message.chunks_exact(64).chain(last.chunks_exact(64)) {
@@ -163,7 +163,7 @@ fn sha_block(h: &mut [u32; 8], block: &[u8]) {
     }
 }
 
-fn sha256(message: &[u8]) -> [u8; 32] {
+pub fn sha256(message: &[u8]) -> [u8; 32] {
     let mut h = [
         0x6a09e667, 0xbb67ae85, 0x3c6ef372, 0xa54ff53a, 0x510e527f, 0x9b05688c, 0x1f83d9ab, 0x5be0cd19,
     ];

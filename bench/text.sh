@@ -1,9 +1,10 @@
 #!/bin/sh
 # Instructions to read a text, as callgrind counts them, for texts of four shapes at four sizes each: those of `msat script TEXT` less
-# those of `msat script 0`. Each text is well formed and no thin one, so that it is read whole and nothing is translated.
+# those of `msat script '0)'`. Each text is well formed but for a `)` at its end, so that it is read whole, its tree is built, and then it
+# is refused.
 # Wants valgrind, and builds `msat` where it isn't built. Usage: bench/text.sh
 top=$(cd "$(dirname "$0")/.." && pwd)
-[ "$("$top/msat" script 0)" = "refused text Unbuilt" ] || exit 1
+[ "$("$top/msat" script '0)')" = "refused text Syntax at 1" ] || exit 1
 program="$top/crates/msat/out/msat"
 
 # A text of SHAPE with COUNT children, levels or keys.
@@ -23,11 +24,11 @@ count() {
     valgrind --tool=callgrind --callgrind-out-file=/dev/null "$program" script "$1" 2>&1 | sed -n 's/.*Collected : //p'
 }
 
-empty=$(count 0)
+empty=$(count '0)')
 while read -r shape counts; do
     for n in $counts; do
-        text=$(generate "$shape" "$n")
-        [ "$("$program" script "$text")" = "refused text Unbuilt" ] || { echo "$shape $n: not read"; exit 1; }
+        text="$(generate "$shape" "$n"))"
+        [ "$("$program" script "$text")" = "refused text Syntax at $((${#text} - 1))" ] || { echo "$shape $n: not read"; exit 1; }
         instructions=$(($(count "$text") - empty))
         bytes=${#text}
         echo "$shape: $bytes bytes, $instructions instructions, $((instructions / bytes)) a byte"
