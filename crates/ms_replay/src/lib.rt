@@ -1,8 +1,19 @@
-//! P2WSH outputs: the program that stands for a Script.
+//! P2WSH outputs and their witnesses: the program that stands for a Script, a witness as bytes, and the replay of
+//! one.
 #![tactic(auto)]
 
+pub use fault::WitnessFault;
 pub use program::program_of;
+pub use reading::read_witness;
+pub use replaying::{ReplayStop, replay};
+pub use witness::witness_bytes;
 
+mod examples;
+mod fault;
+mod laws;
 mod program;
+mod reading;
+mod replaying;
 #[cfg(test)]
 mod tests;
+mod witness;

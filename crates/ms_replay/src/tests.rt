@@ -1,4 +1,42 @@
 use crate::*;
+use ms_hash::sha256;
+use ms_interp::{RunReport, ScriptFault};
+use ms_oracle::{Locks, Pairs, SigCheck, member};
+use ms_script::Stack;
+use std::alloc::{AllocError, Global};
+use std::test::Fail;
+
+const LOCKS: Locks = Locks {
+    version: 2,
+    sequence: 0xffff_fffe,
+    locktime: 0,
+};
+
+// The key of the private key 1.
+const KEY_B: [u8; 33] =
+    *b"\x02\x79\xbe\x66\x7e\xf9\xdc\xbb\xac\x55\xa0\x62\x95\xce\x87\x0b\x07\x02\x9b\xfc\xdb\x2d\xce\x28\xd9\x59\xf2\x81\x5b\x16\xf8\x17\x98";
+
+const SIG_A: [u8; 71] = [0xaa; 71];
+
+const SIG_B: [u8; 72] = [0xbb; 72];
+
+const SIG_C: [u8; 70] = [0xcc; 70];
+
+// A key whose bytes after the first are all these.
+fn key(first: u8, last: u8) -> [u8; 33] {
+    let mut key = [last; 33];
+    key[0] = first;
+    key
+}
+
+// The bytes of the parts, one after the other.
+fn joined(alloc: Global, parts: &[&[u8]]) -> Result<Vec<u8>, AllocError> {
+    let mut bytes = Vec::new(alloc);
+    for part in parts {
+        bytes.extend_from_slice(part)?;
+    }
+    Ok(bytes)
+}
 
 #[test]
 fn program_of_a_key(rt: HostRuntime) {
@@ -9,4 +47,178 @@ fn program_of_a_key(rt: HostRuntime) {
     let want =
         b"\x00\x20\x18\x63\x14\x3c\x14\xc5\x16\x68\x04\xbd\x19\x20\x33\x56\xda\x13\x6c\x98\x56\x78\xcd\x4d\x27\xa1\xb8\xc6\x32\x96\x04\x90\x32\x62";
     assert_eq!(rt; program_of(script).as_slice(), want.as_slice());
+}
+
+#[test]
+fn witnesses_are_refused(rt: HostRuntime) {
+    let cases: [(&[u8], WitnessFault); 8] = [
+        (b"", WitnessFault::Truncated),
+        (b"\x00", WitnessFault::Empty),
+        (b"\x00\x51", WitnessFault::Empty),
+        (b"\xfd\x01\x00", WitnessFault::NonMinimalSize),
+        (b"\xfd\x11\x27", WitnessFault::TooLong),
+        (b"\x01\xfd\x11\x27", WitnessFault::TooLong),
+        (b"\x01\x02\xaa", WitnessFault::Truncated),
+        (b"\x01\x01\x51\x00", WitnessFault::Trailing),
+    ];
+    for (bytes, fault) in cases {
+        assert_eq!(rt; read_witness(rt.alloc(), bytes).err(), Some(fault));
+    }
+}
+
+#[test]
+fn a_script_alone_is_a_witness(rt: HostRuntime) -> Result<(), Fail> {
+    let (stack, script) = read_witness(rt.alloc(), b"\x01\x01\x51")?;
+    assert_eq!(rt; stack.len(), 0);
+    assert_eq!(rt; script.as_slice(), b"\x51".as_slice());
+    Ok(())
+}
+
+// A witness's replay where no signature is good.
+fn replay_unsigned(
+    alloc: Global,
+    program: &[u8; 34],
+    bytes: &[u8],
+) -> Result<RunReport, ReplayStop> {
+    let pairs = Pairs::new(alloc);
+    let table = pairs.as_slice();
+    let sigs = SigCheck::new(table, |key: &[u8], sig: &[u8]| member(table, key, sig));
+    replay(alloc, program, bytes, &LOCKS, &sigs)
+}
+
+#[test]
+fn replays_are_refused(rt: HostRuntime) {
+    // The program of the Script 51 by Python's hashlib over OpenSSL.
+    let found =
+        *b"\x00\x20\x4a\xe8\x15\x72\xf0\x6e\x1b\x88\xfd\x5c\xed\x7a\x1a\x00\x09\x45\x43\x2e\x83\xe1\x55\x1e\x6f\x72\x1e\xe9\xc0\x0b\x8c\xc3\x32\x60";
+    let wanted = [0; 34];
+    let cases: [([u8; 34], &[u8], ReplayStop); 4] = [
+        (
+            wanted,
+            b"\x01\x01\x51",
+            ReplayStop::WrongProgram { wanted, found },
+        ),
+        (
+            wanted,
+            b"\x01\x01\x51\x00",
+            ReplayStop::Witness(WitnessFault::Trailing),
+        ),
+        (
+            wanted,
+            b"\x02\x00\x01\x51",
+            ReplayStop::WrongProgram { wanted, found },
+        ),
+        (
+            found,
+            b"\x02\x00\x01\x51",
+            ReplayStop::Refused(ScriptFault::CleanStack, 1),
+        ),
+    ];
+    for (program, bytes, stop) in cases {
+        assert_eq!(rt;
+            replay_unsigned(rt.alloc(), &program, bytes).err(),
+            Some(stop)
+        );
+    }
+}
+
+#[test]
+fn two_of_three_keys_sign(rt: HostRuntime) -> Result<(), Fail> {
+    let alloc = rt.alloc();
+    let (key_a, key_c) = (key(0x02, 0x01), key(0x03, 0x03));
+    let script = joined(
+        alloc,
+        &[
+            b"\x52\x21",
+            &key_a,
+            b"\x21",
+            &KEY_B,
+            b"\x21",
+            &key_c,
+            b"\x53\xae",
+        ],
+    )?;
+    assert!(rt; script.len() <= 10_000);
+    let mut stack = Stack::new(alloc);
+    stack.push(b"")?;
+    stack.push(&SIG_A)?;
+    stack.push(&SIG_C)?;
+    let witness = witness_bytes(alloc, &stack, &script)?;
+    let want = joined(
+        alloc,
+        &[b"\x04\x00\x47", &SIG_A, b"\x46", &SIG_C, b"\x69", &script],
+    )?;
+    assert_eq!(rt; witness.as_slice(), want.as_slice());
+
+    let mut pairs = Pairs::new(alloc);
+    pairs.push(&key_c, &SIG_C)?;
+    pairs.push(&KEY_B, &SIG_B)?;
+    pairs.push(&key_a, &SIG_A)?;
+    let table = pairs.as_slice();
+    let sigs = SigCheck::new(table, |key: &[u8], sig: &[u8]| member(table, key, sig));
+    let program = program_of(&script);
+    let report = replay(alloc, &program, witness.as_slice(), &LOCKS, &sigs)?;
+    assert_eq!(rt; (report.ops, report.peak), (4, 8));
+    Ok(())
+}
+
+#[test]
+fn three_preimages_and_a_signature(rt: HostRuntime) -> Result<(), Fail> {
+    let alloc = rt.alloc();
+    let key_a = key(0x02, 0x01);
+    let [first, second, third] = [[0x11; 32], [0x22; 32], [0x33; 32]];
+    let lock = b"\x82\x01\x20\x88\xa8\x20";
+    let script = joined(
+        alloc,
+        &[
+            b"\x82\x92\x63",
+            lock,
+            &sha256(&first),
+            b"\x88",
+            lock,
+            &sha256(&second),
+            b"\x88",
+            lock,
+            &sha256(&third),
+            b"\x88\x51\x68\x7c\x21",
+            &key_a,
+            b"\xac\x93\x7c\x21",
+            &KEY_B,
+            b"\xac\x93\x52\x87",
+        ],
+    )?;
+    assert!(rt; script.len() <= 10_000);
+    let mut stack = Stack::new(alloc);
+    stack.push(b"")?;
+    stack.push(&SIG_A)?;
+    stack.push(&third)?;
+    stack.push(&second)?;
+    stack.push(&first)?;
+    let witness = witness_bytes(alloc, &stack, &script)?;
+    let want = joined(
+        alloc,
+        &[
+            b"\x06\x00\x47",
+            &SIG_A,
+            b"\x20",
+            &third,
+            b"\x20",
+            &second,
+            b"\x20",
+            &first,
+            b"\xc6",
+            &script,
+        ],
+    )?;
+    assert_eq!(rt; witness.as_slice(), want.as_slice());
+
+    let mut pairs = Pairs::new(alloc);
+    pairs.push(&key_a, &SIG_A)?;
+    pairs.push(&KEY_B, &SIG_B)?;
+    let table = pairs.as_slice();
+    let sigs = SigCheck::new(table, |key: &[u8], sig: &[u8]| member(table, key, sig));
+    let program = program_of(&script);
+    let report = replay(alloc, &program, witness.as_slice(), &LOCKS, &sigs)?;
+    assert_eq!(rt; (report.ops, report.peak), (23, 7));
+    Ok(())
 }
