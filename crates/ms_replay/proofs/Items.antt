@@ -11,10 +11,10 @@ use Rattle.ms_replay.specs.declared.fault.WitnessFault.TheVariants.{Truncated, T
 use Rattle.ms_replay.specs.Reading.{◌>>=◌, MOST_WITNESS, first_size, first_item, first_items}
 use Rattle.ms_replay.proofs.Parts.{IsBytes-drop, bind_ok, guard_ok, ok_is, Takes, Takes-then, size_takes, size_again}
 
-abbrev pub IsShortItem : Bytes → Type 0
-IsShortItem item = length item ≤ MOST_WITNESS
+abbrev pub FitsItem : Bytes → Type 0
+FitsItem item = length item ≤ MOST_WITNESS
 
-pub item_takes : (bytes : Bytes) (part : Bytes × Bytes) → IsBytes bytes → first_item bytes ≡ Ok part → Takes bytes (sized part.0) part.1 × IsShortItem part.0
+pub item_takes : (bytes : Bytes) (part : Bytes × Bytes) → IsBytes bytes → first_item bytes ≡ Ok part → Takes bytes (sized part.0) part.1 × FitsItem part.0
 unfolding first_item
 item_takes bytes part fits e =
     let a = bind_ok (first_size bytes) (λ size. cond (nat_lt MOST_WITNESS size.0) (Err TooLong) (cond (nat_lt (length size.1) size.0) (Err Truncated) (Ok (take size.0 size.1, drop size.0 size.1)))) part e in
@@ -28,9 +28,9 @@ item_takes bytes part fits e =
     let second : Takes size.1 (take size.0 size.1) (drop size.0 size.1) = record { parts = sym (take-append-drop size.0 size.1); rest_fits = IsBytes-drop size.0 size.1 first.rest_fits } in
     let both = Takes-then bytes (size_bytes size.0) size.1 (take size.0 size.1) (drop size.0 size.1) first second in
     let whole : Takes bytes (sized (take size.0 size.1)) (drop size.0 size.1) = subst (λ (n : ℕ). Takes bytes (size_bytes n ++ take size.0 size.1) (drop size.0 size.1)) (sym len) both in
-    subst (λ (p : Bytes × Bytes). Takes bytes (sized p.0) p.1 × IsShortItem p.0) (ok_is _ _ there.1) (whole, omega arith)
+    subst (λ (p : Bytes × Bytes). Takes bytes (sized p.0) p.1 × FitsItem p.0) (ok_is _ _ there.1) (whole, omega arith)
 
-pub item_again : (item rest : Bytes) → IsShortItem item → first_item (sized item ++ rest) ≡ Ok (item, rest)
+pub item_again : (item rest : Bytes) → FitsItem item → first_item (sized item ++ rest) ≡ Ok (item, rest)
 unfolding first_item
 item_again item rest short =
     let regrouped : sized item ++ rest ≡ size_bytes (length item) ++ (item ++ rest) = append_assoc (size_bytes (length item)) item rest in
@@ -39,10 +39,10 @@ item_again item rest short =
     ap first_item regrouped ∙ rw (size_again (length item) (item ++ rest) (omega arith), most, long, take_at item rest (length item) refl, drop_at item rest (length item) refl) refl
 
 pub items_take : (count : ℕ) (bytes : Bytes) (part : List Bytes × Bytes) → IsBytes bytes → first_items count bytes ≡ Ok part
-    → Takes bytes (flat_map sized part.0) part.1 × (length part.0 ≡ count) × AllByRecursion IsShortItem part.0
+    → Takes bytes (flat_map sized part.0) part.1 × (length part.0 ≡ count) × AllByRecursion FitsItem part.0
 unfolding first_items
 items_take zero bytes part fits e =
-    subst (λ (p : List Bytes × Bytes). Takes bytes (flat_map sized p.0) p.1 × (length p.0 ≡ 0) × AllByRecursion IsShortItem p.0) (ok_is ([], bytes) part e) (record { parts = refl; rest_fits = fits }, refl, tt)
+    subst (λ (p : List Bytes × Bytes). Takes bytes (flat_map sized p.0) p.1 × (length p.0 ≡ 0) × AllByRecursion FitsItem p.0) (ok_is ([], bytes) part e) (record { parts = refl; rest_fits = fits }, refl, tt)
 items_take (suc count) bytes part fits e =
     let a = bind_ok (first_item bytes) (λ item. first_items count item.1 >>= λ items. Ok (item.0 ∷ items.0, items.1)) part e in
     let b = bind_ok (first_items count a.0.1) (λ items. Ok (a.0.0 ∷ items.0, items.1)) part a.2 in
@@ -50,9 +50,9 @@ items_take (suc count) bytes part fits e =
     let second = items_take count a.0.1 b.0 first.0.rest_fits b.1 in
     let both = Takes-then bytes (sized a.0.0) a.0.1 (flat_map sized b.0.0) b.0.1 first.0 second.0 in
     let made : List Bytes × Bytes = (a.0.0 ∷ b.0.0, b.0.1) in
-    subst (λ (p : List Bytes × Bytes). Takes bytes (flat_map sized p.0) p.1 × (length p.0 ≡ suc count) × AllByRecursion IsShortItem p.0) (ok_is made part b.2) (rw flat_map-cons both, ap suc second.1, (first.1, second.2))
+    subst (λ (p : List Bytes × Bytes). Takes bytes (flat_map sized p.0) p.1 × (length p.0 ≡ suc count) × AllByRecursion FitsItem p.0) (ok_is made part b.2) (rw flat_map-cons both, ap suc second.1, (first.1, second.2))
 
-pub items_again : (items : List Bytes) (rest : Bytes) → AllByRecursion IsShortItem items → first_items (length items) (flat_map sized items ++ rest) ≡ Ok (items, rest)
+pub items_again : (items : List Bytes) (rest : Bytes) → AllByRecursion FitsItem items → first_items (length items) (flat_map sized items ++ rest) ≡ Ok (items, rest)
 unfolding first_items
 items_again [] rest short = refl
 items_again (item ∷ items) rest short =

@@ -14,11 +14,11 @@ use Rattle.def_script.specs.Sizes.{size_bytes}
 use Rattle.def_script.specs.Witness.{sized, witness_text}
 use Rattle.ms_replay.specs.declared.fault.WitnessFault.{WitnessFault}
 use Rattle.ms_replay.specs.declared.fault.WitnessFault.TheVariants.{Empty, TooLong, Trailing}
-use Rattle.ms_replay.specs.Reading.{◌>>=◌, MOST_WITNESS, IsShort, first_size, first_count, first_item, first_items, read_witness}
+use Rattle.ms_replay.specs.Reading.{◌>>=◌, MOST_WITNESS, FitsWitness, first_size, first_count, first_item, first_items, read_witness}
 use Rattle.ms_replay.specs.Answering.{Gives}
 use Rattle.ms_replay.specs.Laws.{WitnessIsReadBack, WitnessHasOneSpelling, WitnessIsReplayed}
 use Rattle.ms_replay.proofs.Parts.{bind_ok, guard_ok, ok_is, Takes, Takes-then, size_takes, size_again}
-use Rattle.ms_replay.proofs.Items.{IsShortItem, item_takes, item_again, items_take, items_again}
+use Rattle.ms_replay.proofs.Items.{FitsItem, item_takes, item_again, items_take, items_again}
 
 count_takes : (bytes : Bytes) (part : ℕ × Bytes) → IsBytes bytes → first_count bytes ≡ Ok part → Takes bytes (size_bytes part.0) part.1 × (0 < part.0) × (part.0 ≤ MOST_WITNESS)
 unfolding first_count
@@ -72,8 +72,8 @@ witness_has_one_spelling bytes read fits e =
     let all = (Takes-then bytes (size_bytes a.0.0) a.0.1 (flat_map sized b.0.0 ++ sized c.0.0) c.0.1 count.0 items).parts in
     let counted : a.0.0 ≡ length b.0.0 + 1 = omega (arith, count.1, stack.1) in
     let whole = all_text bytes a.0.0 b.0.0 c.0.0 c.0.1 all nothing counted in
-    subst (λ (r : List Bytes × Bytes). IsShort r.0 r.1 × (bytes ≡ witness_text r.0 r.1)) {x = (b.0.0, c.0.0)} g.1
-    (record { few = omega (arith, count.2, stack.1); items = All-from_recursion IsShortItem b.0.0 stack.2; last = script.1 }, whole)
+    subst (λ (r : List Bytes × Bytes). FitsWitness r.0 r.1 × (bytes ≡ witness_text r.0 r.1)) {x = (b.0.0, c.0.0)} g.1
+    (record { few = omega (arith, count.2, stack.1); items = All-from_recursion FitsItem b.0.0 stack.2; last = script.1 }, whole)
 
 pub witness_is_read_back : WitnessIsReadBack
 unfolding read_witness
@@ -81,7 +81,7 @@ witness_is_read_back stack script short =
     let less : (length stack + 1) - 1 ≡ length stack = omega arith in
     let last : first_item (sized script) ≡ Ok (script, []) = ap first_item (sym (append-nil (sized script))) ∙ item_again script [] short.last in
     ap read_witness (text_parts stack script)
-    ∙ rw (count_again (length stack + 1) (flat_map sized stack ++ sized script) (omega arith) (omega (arith, short.few)), less, items_again stack (sized script) (recursion_from_All IsShortItem stack short.items), last) refl
+    ∙ rw (count_again (length stack + 1) (flat_map sized stack ++ sized script) (omega arith) (omega (arith, short.few)), less, items_again stack (sized script) (recursion_from_All FitsItem stack short.items), last) refl
 
 pub witness_is_replayed : WitnessIsReplayed
 witness_is_replayed given stack script short =
@@ -89,6 +89,6 @@ witness_is_replayed given stack script short =
     let same : bytes_eq (program_of script) (program_of script) ≡ true = (bytes_eq-Decides (program_of script) (program_of script)).1 refl in
     rw (read, same) refl
 
-pub is_spelled : (bytes : Bytes) (r : Result (List Bytes × Bytes) WitnessFault) → IsBytes bytes → Gives r (read_witness bytes) → IfOk r (λ read. IsShort read.0 read.1 × (bytes ≡ witness_text read.0 read.1))
+pub is_spelled : (bytes : Bytes) (r : Result (List Bytes × Bytes) WitnessFault) → IsBytes bytes → Gives r (read_witness bytes) → IfOk r (λ read. FitsWitness read.0 read.1 × (bytes ≡ witness_text read.0 read.1))
 is_spelled bytes (Ok read) fits reading = witness_has_one_spelling bytes read fits reading
 is_spelled bytes (Err why) fits reading = tt

@@ -13,7 +13,7 @@ abbrev pub MOST_WITNESS : ℕ
 MOST_WITNESS = 10000
 
 -- a witness within these limits: the stack, and the Script, which is one more item
-pub record IsShort (stack : List Bytes) (script : Bytes) : Type 0 where
+pub record FitsWitness (stack : List Bytes) (script : Bytes) : Type 0 where
   pub few : length stack + 1 ≤ MOST_WITNESS
   pub items : All (λ (item : Bytes). length item ≤ MOST_WITNESS) stack
   pub last : length script ≤ MOST_WITNESS

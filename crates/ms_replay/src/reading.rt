@@ -1,7 +1,7 @@
 ghost use Rattle.std.specs.Prelude.{◌≡◌, ◌<◌, List, Ok, IfOk};
 ghost use Rattle.def_script.specs.Bytes.{Bytes};
 ghost use Rattle.def_script.specs.Witness.{witness_text};
-ghost use Rattle.ms_replay.specs.Reading.{IsShort, first_size as the_first_size, first_count as the_first_count, first_item as the_first_item, first_items, read_witness as the_read_witness};
+ghost use Rattle.ms_replay.specs.Reading.{FitsWitness, first_size as the_first_size, first_count as the_first_count, first_item as the_first_item, first_items, read_witness as the_read_witness};
 ghost use Rattle.ms_replay.specs.Answering.{Reads, Gives};
 
 use crate::fault::WitnessFault;
@@ -21,9 +21,9 @@ pub fn read_witness(alloc: Global, bytes: &[u8]) -> Result<(Stack, Blob), Witnes
     // What the bytes give, and the first fault.
     ensures reading { Gives result (the_read_witness bytes.now) }
     // What is read is a witness of these bytes.
-    ensures spelled { IfOk result (λ read. IsShort read.0 read.1 × (bytes.now ≡ witness_text read.0 read.1)) }
+    ensures spelled { IfOk result (λ read. FitsWitness read.0 read.1 × (bytes.now ≡ witness_text read.0 read.1)) }
     // A witness is read, unless memory is wanting.
-    ensures read_back { (stack : List Bytes) (script : Bytes) → IsShort stack script → bytes.now ≡ witness_text stack script → Gives result (Ok (stack, script)) }
+    ensures read_back { (stack : List Bytes) (script : Bytes) → FitsWitness stack script → bytes.now ≡ witness_text stack script → Gives result (Ok (stack, script)) }
 {
     whole_witness(alloc, bytes)
 }

@@ -1,7 +1,7 @@
 ghost use Rattle.std.specs.Prelude.{◌≡◌, ◌++◌, IfOk, OnOk};
 ghost use Rattle.def_script.specs.Sizes.{size_bytes};
 ghost use Rattle.def_script.specs.Witness.{sized, witness_text};
-ghost use Rattle.ms_replay.specs.Reading.{IsShort};
+ghost use Rattle.ms_replay.specs.Reading.{FitsWitness};
 
 use ms_script::{Blob, Stack, compact_size};
 use std::alloc::{AllocError, Global};
@@ -11,7 +11,7 @@ use std::alloc::{AllocError, Global};
 ///
 /// The stack has at most 9,999 items; each of them and the Script have at most 10,000 bytes.
 pub fn witness_bytes(alloc: Global, stack: &Stack, script: &[u8]) -> Result<Blob, AllocError>
-    requires { IsShort stack.now script.now }
+    requires { FitsWitness stack.now script.now }
     ensures { IfOk result (λ bytes. bytes ≡ witness_text stack.now script.now) }
 {
     let mut bytes = Vec::new(alloc);
