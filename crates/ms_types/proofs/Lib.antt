@@ -1,3 +1,5 @@
 mod Seen
-mod Answers
+mod OneMore
+mod OfRows
 mod Places
+mod Signing

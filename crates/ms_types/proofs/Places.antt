@@ -1,12 +1,10 @@
 -- A requirement that is false is one of a node of the tree.
-use Rattle.std.proofs.Common.{◌≡◌, ◌<◌, ◌⊎◌, IfErr, sym, inl, inr, ℕ, ◌+◌, [], ◌∷◌, List, Bool, true, false, Result, Ok, Err, refl, ap, arith, if◌then◌else◌}
+use Rattle.std.proofs.Common.{◌≡◌, ◌<◌, ◌⊎◌, IfErr, sym, inl, inr, ℕ, ◌+◌, [], ◌∷◌, List, Bool, true, false, Result, Ok, Err, refl, ap, ◌∙◌, arith, if◌then◌else◌}
 use Rattle.def_tree.specs.Tree.{Tree, Trees, just_0, just_1, pk_k, pk_h, older, after, hash, and_or, two, thresh, multi, wrap, none, more}
 use Rattle.def_tree.specs.Size.{nodes, nodes_of}
-use Rattle.def_types.specs.declared.Ty.{Ty}
 use Rattle.def_types.specs.declared.rule.RuleAt.{RuleAt}
 use Rattle.def_types.specs.Row.{Need, Row, unless_broken, answer, if_ok}
-use Rattle.def_types.specs.Corr as row
-use Rattle.def_types.specs.Corr.{corr_from, corr_all}
+use Rattle.ms_types.specs.Rows.{Rows, Answers}
 
 abbrev node_of : {A : Type 0} → Result A RuleAt → ℕ → ℕ
 node_of (Ok value) other = other
@@ -31,52 +29,53 @@ refused_first (Err e) next at is = inl cc
 ok_is_no_refusal : {A : Type 0} {value : A} {at : RuleAt} → Ok value ≡ Err at → ⊥
 ok_is_no_refusal e = cc
 
-mutual
-  pub place : (t : Tree) (first : ℕ) (at : RuleAt) → corr_from first t ≡ Err at → at.node < first + nodes t
-  place just_0 first at is = answer_at first _ row.just_0_row at (omega arith) is
-  place just_1 first at is = answer_at first _ row.just_1_row at (omega arith) is
-  place (pk_k key) first at is = answer_at first _ row.pk_k_row at (omega arith) is
-  place (pk_h key) first at is = answer_at first _ row.pk_h_row at (omega arith) is
-  place (older n) first at is = answer_at first _ (row.older_row n) at (omega arith) is
-  place (after n) first at is = answer_at first _ (row.after_row n) at (omega arith) is
-  place (hash kind value) first at is = answer_at first _ row.hash_row at (omega arith) is
-  place (and_or x y z) first at is = elim (refused_first (corr_from first x) _ at is) [
-    | inl e ↦ omega (arith, place x first at e)
-    | inr h ↦ elim (refused_first (corr_from (first + nodes x) y) _ at h.2) [
-      | inl e ↦ omega (arith, place y (first + nodes x) at e)
-      | inr i ↦ elim (refused_first (corr_from (first + nodes x + nodes y) z) _ at i.2) [
-        | inl e ↦ omega (arith, place z (first + nodes x + nodes y) at e)
-        | inr j ↦ answer_at (first + nodes x + nodes y + nodes z) _ (row.and_or_row h.0 i.0 j.0) at (omega arith) j.2
+module _ {A : Type 0} (rows : Rows A) (typed : ℕ → Tree → Result A RuleAt) (typed_all : ℕ → Trees → Result (List A) RuleAt) (are : Answers rows typed typed_all) where
+  mutual
+    place : (t : Tree) (first : ℕ) (at : RuleAt) → typed first t ≡ Err at → at.node < first + nodes t
+    place just_0 first at is = answer_at first _ rows.just_0 at (omega arith) (sym (are.just_0 first) ∙ is)
+    place just_1 first at is = answer_at first _ rows.just_1 at (omega arith) (sym (are.just_1 first) ∙ is)
+    place (pk_k key) first at is = answer_at first _ rows.pk_k at (omega arith) (sym (are.pk_k first key) ∙ is)
+    place (pk_h key) first at is = answer_at first _ rows.pk_h at (omega arith) (sym (are.pk_h first key) ∙ is)
+    place (older n) first at is = answer_at first _ (rows.older n) at (omega arith) (sym (are.older first n) ∙ is)
+    place (after n) first at is = answer_at first _ (rows.after n) at (omega arith) (sym (are.after first n) ∙ is)
+    place (hash kind value) first at is = answer_at first _ rows.hash at (omega arith) (sym (are.hash first kind value) ∙ is)
+    place (and_or x y z) first at is = elim (refused_first (typed first x) _ at (sym (are.and_or first x y z) ∙ is)) [
+      | inl e ↦ omega (arith, place x first at e)
+      | inr h ↦ elim (refused_first (typed (first + nodes x) y) _ at h.2) [
+        | inl e ↦ omega (arith, place y (first + nodes x) at e)
+        | inr i ↦ elim (refused_first (typed (first + nodes x + nodes y) z) _ at i.2) [
+          | inl e ↦ omega (arith, place z (first + nodes x + nodes y) at e)
+          | inr j ↦ answer_at (first + nodes x + nodes y + nodes z) _ (rows.and_or h.0 i.0 j.0) at (omega arith) j.2
+        ]
       ]
     ]
-  ]
-  place (two kind x y) first at is = elim (refused_first (corr_from first x) _ at is) [
-    | inl e ↦ omega (arith, place x first at e)
-    | inr h ↦ elim (refused_first (corr_from (first + nodes x) y) _ at h.2) [
-      | inl e ↦ omega (arith, place y (first + nodes x) at e)
-      | inr i ↦ answer_at (first + nodes x + nodes y) _ (row.two_row kind h.0 i.0) at (omega arith) i.2
+    place (two kind x y) first at is = elim (refused_first (typed first x) _ at (sym (are.two first kind x y) ∙ is)) [
+      | inl e ↦ omega (arith, place x first at e)
+      | inr h ↦ elim (refused_first (typed (first + nodes x) y) _ at h.2) [
+        | inl e ↦ omega (arith, place y (first + nodes x) at e)
+        | inr i ↦ answer_at (first + nodes x + nodes y) _ (rows.two kind h.0 i.0) at (omega arith) i.2
+      ]
     ]
-  ]
-  place (thresh k xs) first at is = elim (refused_first (corr_all first xs) _ at is) [
-    | inl e ↦ omega (arith, place_all xs first at e)
-    | inr h ↦ answer_at (first + nodes_of xs) _ (row.thresh_row k h.0) at (omega arith) h.2
-  ]
-  place (multi k keys) first at is = answer_at first _ (row.multi_row k keys) at (omega arith) is
-  place (wrap wrapper x) first at is = elim (refused_first (corr_from first x) _ at is) [
-    | inl e ↦ omega (arith, place x first at e)
-    | inr h ↦ answer_at (first + nodes x) _ (row.wrap_row wrapper h.0) at (omega arith) h.2
-  ]
-
-  place_all : (xs : Trees) (first : ℕ) (at : RuleAt) → corr_all first xs ≡ Err at → at.node < first + nodes_of xs
-  place_all none first at is = absurd (ok_is_no_refusal is)
-  place_all (more x xs) first at is = elim (refused_first (corr_from first x) _ at is) [
-    | inl e ↦ omega (arith, place x first at e)
-    | inr h ↦ elim (refused_first (corr_all (first + nodes x) xs) _ at h.2) [
-      | inl e ↦ omega (arith, place_all xs (first + nodes x) at e)
-      | inr i ↦ absurd (ok_is_no_refusal i.2)
+    place (thresh k xs) first at is = elim (refused_first (typed_all first xs) _ at (sym (are.thresh first k xs) ∙ is)) [
+      | inl e ↦ omega (arith, place_all xs first at e)
+      | inr h ↦ answer_at (first + nodes_of xs) _ (rows.thresh k h.0) at (omega arith) h.2
     ]
-  ]
+    place (multi k keys) first at is = answer_at first _ (rows.multi k keys) at (omega arith) (sym (are.multi first k keys) ∙ is)
+    place (wrap wrapper x) first at is = elim (refused_first (typed first x) _ at (sym (are.wrap first wrapper x) ∙ is)) [
+      | inl e ↦ omega (arith, place x first at e)
+      | inr h ↦ answer_at (first + nodes x) _ (rows.wrap wrapper h.0) at (omega arith) h.2
+    ]
 
-pub refused_within : (t : Tree) (r : Result Ty RuleAt) → r ≡ corr_from 0 t → IfErr r (λ at. at.node < nodes t)
-refused_within t (Ok ty) is = tt
-refused_within t (Err at) is = omega (arith, place t 0 at (sym is))
+    place_all : (xs : Trees) (first : ℕ) (at : RuleAt) → typed_all first xs ≡ Err at → at.node < first + nodes_of xs
+    place_all none first at is = absurd (ok_is_no_refusal (sym (are.none first) ∙ is))
+    place_all (more x xs) first at is = elim (refused_first (typed first x) _ at (sym (are.more first x xs) ∙ is)) [
+      | inl e ↦ omega (arith, place x first at e)
+      | inr h ↦ elim (refused_first (typed_all (first + nodes x) xs) _ at h.2) [
+        | inl e ↦ omega (arith, place_all xs (first + nodes x) at e)
+        | inr i ↦ absurd (ok_is_no_refusal i.2)
+      ]
+    ]
+
+  pub refused_within : (t : Tree) (r : Result A RuleAt) → r ≡ typed 0 t → IfErr r (λ at. at.node < nodes t)
+  refused_within t (Ok value) is = tt
+  refused_within t (Err at) is = omega (arith, place t 0 at (sym is))

@@ -1,8 +1,6 @@
 -- What is known of the children of a threshold, one after the other.
-use Rattle.std.specs.Prelude.{◌+◌, ◌&&◌, ◌||◌, nat_eq, List, length, Result, Ok, if◌then◌else◌}
+use Rattle.std.specs.Prelude.{◌+◌, ◌&&◌, ◌||◌, nat_eq, List, length, if◌then◌else◌}
 use Rattle.def_types.specs.declared.Ty.{Ty}
-use Rattle.def_types.specs.declared.rule.RuleAt.{RuleAt}
-use Rattle.def_types.specs.Row.{if_ok}
 use Rattle.def_types.specs.Corr.{is_b, is_w, first_fits, others_fit, all_z, all_z_but_one}
 use Rattle.ms_types.specs.declared.children.Children.{Children}
 
@@ -25,7 +23,3 @@ and s x = record {
   all_z = s.all_z && x.z;
   all_z_but_one = (s.all_z && x.o) || (s.all_z_but_one && x.z);
 }
-
--- of children whose types were asked for
-abbrev pub seen_of : Result (List Ty) RuleAt → Result Children RuleAt
-seen_of r = if_ok r (λ types. Ok (seen types))

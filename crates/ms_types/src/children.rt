@@ -1,11 +1,12 @@
-//! What the type of a threshold needs to know of its children's types.
+//! What the types of a threshold need to know of its children's types.
 ghost use Rattle.std.specs.Prelude.{◌≡◌, ◌<◌, ◌^◌};
 ghost use Rattle.ms_types.specs.Children.{and as the_and};
+ghost use Rattle.ms_types.specs.Signed.{and as and_signed};
 
 use crate::requirements::{may_be_first, may_follow};
-use def_types::Ty;
+use def_types::{Mall, Ty};
 
-/// What is known of the children that were seen.
+/// What is known of the correctness types of the children that were seen.
 #[derive(Clone, Copy)]
 pub struct Children {
     /// How many there are.
@@ -45,6 +46,38 @@ impl Children {
             others_fit: self.others_fit && (is_first || may_follow(child)),
             all_z: self.all_z && child.z,
             all_z_but_one: self.all_z && child.o || self.all_z_but_one && child.z,
+        }
+    }
+}
+
+/// What is known of the malleability properties of the children that were seen.
+#[derive(Clone, Copy)]
+pub struct Signed {
+    /// All have the property e.
+    pub all_e: bool,
+    /// How many don't have the property s.
+    pub unsigned: u64,
+}
+
+impl Signed {
+    /// No child.
+    pub const NONE: Signed = Signed {
+        all_e: true,
+        unsigned: 0,
+    };
+
+    /// One more child behind the others.
+    pub fn and(self, child: Mall) -> Signed
+        requires { self.unsigned < 2 ^ 63 }
+        ensures { result ≡ and_signed self child }
+    {
+        Signed {
+            all_e: self.all_e && child.e,
+            unsigned: if child.s {
+                self.unsigned
+            } else {
+                self.unsigned + 1
+            },
         }
     }
 }

@@ -3,8 +3,9 @@ ghost use Rattle.std.specs.Prelude.{◌≡◌, ◌&&◌, ◌||◌, ℕ, List};
 ghost use Rattle.def_types.specs.declared.Ty.{Ty as the_ty};
 ghost use Rattle.def_types.specs.Corr.{and_or_row, two_row, thresh_row, multi_row, wrap_row};
 ghost use Rattle.def_tree.specs.Tree.{Key};
-ghost use Rattle.ms_types.specs.Checked.{bare as the_bare, leaf_row};
 ghost use Rattle.ms_types.specs.Children.{seen};
+ghost use Rattle.ms_types.specs.Properties.{bare as the_bare};
+ghost use Rattle.ms_types.specs.Rows.{correctness, leaf_row};
 
 use crate::children::Children;
 use def_types::{Base, Ty};
@@ -36,7 +37,7 @@ fn bare(base: Base) -> Ty
 
 #[tactic(auto, unfolding(def_types::proofs::Rows::corr_rows))]
 pub fn leaf_type(leaf: &Leaf) -> Ty
-    ensures { result ≡ (leaf_row leaf.now).gives }
+    ensures { result ≡ (leaf_row correctness leaf.now).gives }
 {
     match leaf {
         Leaf::Zero => ty!(B z u d),

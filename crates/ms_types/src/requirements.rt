@@ -3,8 +3,9 @@ ghost use Rattle.std.specs.Prelude.{◌≡◌, ◌&&◌, ℕ, List, length};
 ghost use Rattle.def_tree.specs.Tree.{Key};
 ghost use Rattle.def_types.specs.declared.Ty.{Ty as the_ty};
 ghost use Rattle.def_types.specs.Corr.{is_b, is_w, are_same as the_are_same, and_or_row, two_row, thresh_row, multi_row, wrap_row};
-ghost use Rattle.ms_types.specs.Checked.{leaf_row, requirements};
+ghost use Rattle.ms_types.specs.Checked.{requirements};
 ghost use Rattle.ms_types.specs.Children.{seen};
+ghost use Rattle.ms_types.specs.Rows.{correctness, leaf_row};
 
 use crate::children::Children;
 use def_types::{Base, Rule, Ty};
@@ -18,6 +19,8 @@ macro_rules! require {
         }
     };
 }
+
+pub(crate) use require;
 
 /// Whether a type has one of the base types and all of the properties.
 macro_rules! has_type {
@@ -67,7 +70,7 @@ macro_rules! lock_arms {
 
 #[tactic(auto, unfolding(def_types::proofs::Rows::corr_rows))]
 pub fn require_leaf(leaf: &Leaf) -> Result<(), Rule>
-    ensures { result ≡ requirements (leaf_row leaf.now) }
+    ensures { result ≡ requirements (leaf_row correctness leaf.now) }
 {
     fragment_rows!(lock_arms!(leaf));
     Ok(())

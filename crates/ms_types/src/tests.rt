@@ -36,3 +36,45 @@ fn each_base_type_is_given(rt: HostRuntime) -> Result<(), Fail> {
     assert_eq!(rt; letters(ty), (Base::V, [true, false, false, false, false]));
     Ok(())
 }
+
+/// Which of the properties s, f and e hold.
+fn signed_forced_expressive(mall: Mall) -> [bool; 3] {
+    [mall.s, mall.f, mall.e]
+}
+
+#[test]
+fn properties_are_given(rt: HostRuntime) -> Result<(), Fail> {
+    let alloc = rt.alloc();
+    let bare = leaf(alloc, Leaf::PkK(key(2)?))?;
+    let properties = mall(&bare).ok().ok_or("properties")?;
+    assert_eq!(rt; signed_forced_expressive(properties), [true, false, true]);
+    let checked = wrap(alloc, Wrapper::C, bare).ok().ok_or("memory")?;
+    let verified = wrap(alloc, Wrapper::V, checked).ok().ok_or("memory")?;
+    let properties = mall(&verified).ok().ok_or("properties")?;
+    assert_eq!(rt; signed_forced_expressive(properties), [true, true, false]);
+    let one = leaf(alloc, Leaf::One)?;
+    let signed = two(alloc, Two::AndV, verified, one).ok().ok_or("memory")?;
+    let properties = mall(&signed).ok().ok_or("properties")?;
+    assert_eq!(rt; signed_forced_expressive(properties), [true, true, false]);
+    Ok(())
+}
+
+#[test]
+fn a_malleable_node_is_named(rt: HostRuntime) -> Result<(), Fail> {
+    let alloc = rt.alloc();
+    let either = two(
+        alloc,
+        Two::OrI,
+        leaf(alloc, Leaf::One)?,
+        leaf(alloc, Leaf::Older(1))?,
+    );
+    let verified = wrap(alloc, Wrapper::V, either.ok().ok_or("memory")?)
+        .ok()
+        .ok_or("memory")?;
+    let wanted = RuleAt {
+        node: 2,
+        rule: Rule::OrIS,
+    };
+    assert_eq!(rt; mall(&verified).err(), Some(wanted));
+    Ok(())
+}

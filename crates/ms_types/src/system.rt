@@ -1,0 +1,121 @@
+//! A type system's answer for a tree.
+ghost use Rattle.std.specs.Prelude.{◌≡◌, ◌+◌, ◌<◌, ◌^◌, ◌++◌, [], ◌∷◌, ℕ, length, All, IfOk, List, Result};
+ghost use Rattle.def_tree.specs.Range.{IsInRange};
+ghost use Rattle.def_tree.specs.Size.{nodes, nodes_of};
+ghost use Rattle.def_tree.specs.Tree as model;
+ghost use Rattle.def_types.specs.declared.rule.RuleAt.{RuleAt as the_refusal};
+ghost use Rattle.ms_tree.specs.Shape.{shape, shapes};
+ghost use Rattle.ms_types.specs.Checked.{checked, at_node};
+ghost use Rattle.ms_types.specs.Rows.{Rows, Answers, leaf_row};
+ghost use Rattle.ms_types.specs.Seen.{seen_of};
+
+use def_types::{Rule, RuleAt};
+use ms_tree::{Key, Leaf, Tree, Two, View, Wrapper};
+
+/// A type system: the type of each fragment by the types of its children, or the requirement of it that
+/// is false.
+pub trait TypeSystem: Copy {
+    /// What the type of a threshold needs to know of its children's types.
+    type Children: Copy;
+
+    ghost rows: { Rows Self };
+
+    ghost typed: { ℕ → model.Tree → Result Self the_refusal };
+
+    ghost typed_all: { ℕ → model.Trees → Result (List Self) the_refusal };
+
+    ghost seen: { List Self → Self.Children };
+
+    fn of_leaf(leaf: &Leaf) -> Result<Self, Rule>
+        ensures { result ≡ checked (leaf_row rows leaf.now) };
+
+    fn of_and_or(x: Self, y: Self, z: Self) -> Result<Self, Rule>
+        ensures { result ≡ checked (rows.and_or x y z) };
+
+    fn of_two(kind: Two, x: Self, y: Self) -> Result<Self, Rule>
+        ensures { result ≡ checked (rows.two kind x y) };
+
+    /// No child.
+    fn no_children() -> Self::Children
+        ensures { result ≡ seen [] };
+
+    /// One more child behind the others.
+    fn and_child(children: Self::Children, child: Self) -> Self::Children
+        requires { (types : List Self) × (children ≡ seen types) × (length types < 2 ^ 63) }
+        ensures { (types : List Self) → children ≡ seen types → result ≡ seen (types ++ child ∷ []) };
+
+    fn of_thresh(k: u64, children: Self::Children) -> Result<Self, Rule>
+        ensures { (types : List Self) → children ≡ seen types → result ≡ checked (rows.thresh k types) };
+
+    fn of_multi(k: u64, keys: &[Key]) -> Result<Self, Rule>
+        ensures { result ≡ checked (rows.multi k keys.now) };
+
+    fn of_wrap(wrapper: Wrapper, x: Self) -> Result<Self, Rule>
+        ensures { result ≡ checked (rows.wrap wrapper x) };
+
+    ghost answers: { Answers rows typed typed_all };
+}
+
+/// The type of a tree whose nodes are numbered from `next` on, or the first requirement that is false.
+/// `next` is set behind the last node.
+#[cycle(typed)]
+pub fn typed<T: TypeSystem>(tree: &Tree, next: &mut u32) -> Result<T, RuleAt>
+    requires range { IsInRange (shape tree.now) }
+    requires room { next.old + nodes (shape tree.now) < 2 ^ 32 }
+    ensures typed { result ≡ T.typed next.old (shape tree.now) }
+    ensures next { IfOk result (λ value. next.new ≡ next.old + nodes (shape tree.now)) }
+{
+    match tree.view() {
+        View::Leaf(leaf) => answer(next, T::of_leaf(&leaf)),
+        View::AndOr(x, y, z) => {
+            let x = typed(x, next)?;
+            let y = typed(y, next)?;
+            let z = typed(z, next)?;
+            answer(next, T::of_and_or(x, y, z))
+        }
+        View::Two(kind, x, y) => {
+            let x = typed(x, next)?;
+            let y = typed(y, next)?;
+            answer(next, T::of_two(kind, x, y))
+        }
+        View::Thresh(k, children) => {
+            let children = typed_children::<T>(children, next)?;
+            answer(next, T::of_thresh(k, children))
+        }
+        View::Multi(k, keys) => answer(next, T::of_multi(k, keys)),
+        View::Wrap(wrapper, x) => {
+            let x = typed(x, next)?;
+            answer(next, T::of_wrap(wrapper, x))
+        }
+    }
+}
+
+/// What the type of a threshold needs to know of its children, whose nodes are numbered from `next` on.
+#[cycle(typed)]
+fn typed_children<T: TypeSystem>(children: &[Tree], next: &mut u32) -> Result<T::Children, RuleAt>
+    requires range { All (λ x. IsInRange (shape x)) children.now }
+    requires room { next.old + nodes_of (shapes children.now) < 2 ^ 32 }
+    ensures children { result ≡ seen_of T.seen (T.typed_all next.old (shapes children.now)) }
+    ensures next { IfOk result (λ seen. next.new ≡ next.old + nodes_of (shapes children.now)) }
+{
+    let mut seen = T::no_children();
+    for child in children {
+        let child = typed(child, next)?;
+        seen = T::and_child(seen, child);
+    }
+    Ok(seen)
+}
+
+/// The type of the next node, or the requirement of it that is false.
+fn answer<T: TypeSystem>(next: &mut u32, of_node: Result<T, Rule>) -> Result<T, RuleAt>
+    requires { next.old + 1 < 2 ^ 32 }
+    ensures typed { result ≡ at_node next.old of_node }
+    ensures next { next.new ≡ next.old + 1 }
+{
+    let node = *next;
+    *next += 1;
+    match of_node {
+        Ok(value) => Ok(value),
+        Err(rule) => Err(RuleAt { node, rule }),
+    }
+}
