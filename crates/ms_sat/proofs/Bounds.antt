@@ -1,0 +1,249 @@
+-- The cheapest satisfaction and the dissatisfaction weigh at most 128 times the measure.
+use Rattle.std.proofs.Common.{◌≡◌, ℕ, zero, suc, ◌+◌, ◌*◌, ◌^◌, ◌<◌, ◌≤◌, nat_lt, Bool, true, false, List, [], ◌∷◌, map, reverse, replicate, Option, Some, None, length, All, refl, sym, ◌∙◌, ap, subst, arith, if◌then◌else◌}
+use Rattle.std.specs.Prelude.{⊤}
+use Rattle.std.specs.List.{find}
+use Rattle.std.specs.Option.{option_map}
+use Rattle.std.proofs.lemmas.List.Elements.{All-head, All-tail}
+use Rattle.def_script.specs.Bytes.{Bytes}
+use Rattle.def_machine.specs.Stacks.{Stack}
+use Rattle.def_machine.specs.Locks.{older_holds, after_holds}
+use Rattle.def_hash.specs.declared.HashKind.{HashKind}
+use Rattle.def_hash.specs.Hash.{digest_of}
+use Rattle.std.specs.Str.{bytes_eq}
+use Rattle.def_tree.specs.declared.Two.TheVariants as kind
+use Rattle.def_tree.specs.declared.Wrapper.TheVariants as wrapper
+use Rattle.def_tree.specs.Tree.{Key, Tree, Trees, just_0, just_1, pk_k, pk_h, older, after, hash, and_or, two, thresh, multi, wrap, none, more}
+use Rattle.def_tree.specs.Range.{MOST_MEASURE, IsWritable, AreWritable, IsInRange, count}
+use Rattle.def_tree.specs.Size.{measure, measure_of}
+use Rattle.def_types.specs.Typed.{IsTyped, AreTyped}
+use Rattle.def_assets.specs.Assets.{Assets, AreAssets, IsSignature, IsPreimage, sig_of, known}
+use Rattle.def_satisfaction.specs.Weight.{weight}
+use Rattle.def_satisfaction.specs.Rows.{EMPTY, ONE, ZEROS}
+use Rattle.def_choice.specs.Sets.{sets}
+use Rattle.def_choice.specs.Least.{item, both, lighter, least}
+use Rattle.def_choice.specs.Cheapest.{dissatisfaction, all_dissatisfied, cheapest_of, cheapest_children, signatures, stack_of}
+use Rattle.def_choice.proofs.Weights.{weight-append, weight-reverse}
+use Rattle.def_choice.proofs.Counted.{counted}
+use Rattle.ms_sane.proofs.Bounds.{multi_enough}
+use Rattle.ms_sat.specs.declared.cost.Costs.{Costs}
+use Rattle.ms_sat.specs.Costs.{weight_of, costs_of_child, IsLightOption, IsLight}
+use Rattle.ms_sat.specs.Children.{child_of_key, children_of_keys}
+use Rattle.ms_sat.proofs.Chosen.{choose, chosen_is}
+use Rattle.ms_sat.proofs.Keys.{signatures_are}
+
+abbrev pub Within : ℕ → Option Stack → Type 0
+Within n None = ⊤
+Within n (Some v) = weight v ≤ n
+
+weaker : (m n : ℕ) (o : Option Stack) → m ≤ n → Within m o → Within n o
+weaker m n None le h = tt
+weaker m n (Some v) le h = omega (arith, h)
+
+within_both : (m n : ℕ) (o p : Option Stack) → Within m o → Within n p → Within (m + n) (both o p)
+within_both m n None p a b = tt
+within_both m n (Some v) None a b = tt
+within_both m n (Some v) (Some w) a b = omega (arith, a, b, weight-append w v)
+
+within_lighter : (n : ℕ) (o p : Option Stack) → Within n o → Within n p → Within n (lighter o p)
+within_lighter n None p a b = b
+within_lighter n (Some v) None a b = a
+within_lighter n (Some v) (Some w) a b = go (nat_lt (weight w) (weight v))
+  where
+    go : (test : Bool) → Within n (if test then Some w else Some v)
+    go true = b
+    go false = a
+
+-- the first of two options
+within_two : (n : ℕ) (o p : Option Stack) → Within n o → Within n p → Within n (least (o ∷ p ∷ []))
+within_two n o p a b = within_lighter n o (lighter p None) a (within_lighter n p None b tt)
+
+within_counted : (m n : ℕ) (sat dsat : Option Stack) (others : ℕ → Option Stack) (k : ℕ) → Within m sat → Within m dsat → ((j : ℕ) → Within n (others j)) → Within (n + m) (counted sat dsat others k)
+within_counted m n sat dsat others zero s d o = within_both n m (others zero) dsat (o zero) d
+within_counted m n sat dsat others (suc k) s d o =
+    within_lighter (n + m) (both (others k) sat) (both (others (suc k)) dsat) (within_both n m (others k) sat (o k) s) (within_both n m (others (suc k)) dsat (o (suc k)) d)
+
+within_turned : (n : ℕ) (o : Option Stack) → Within n o → Within n (option_map reverse o)
+within_turned n None h = tt
+within_turned n (Some v) h = omega (arith, h, weight-reverse v)
+
+-- what is found is one of those that were looked through
+module _ {X : Type 0} (P : X → Type 0) where
+  abbrev Found : Option X → Type 0
+  Found None = ⊤
+  Found (Some x) = P x
+
+  found : (test : X → Bool) (xs : List X) → All P xs → Found (find test xs)
+  found test [] all = tt
+  found test (x ∷ xs) all = go (test x) (found test xs (All-tail P x xs all))
+    where
+      go : (b : Bool) → Found (find test xs) → Found (if b then Some x else find test xs)
+      go true rest = All-head P x xs all
+      go false rest = rest
+
+within_item : (n : ℕ) (bytes : Option Bytes) → Found (λ b. length b ≤ n) bytes → Within (n + 1) (item bytes)
+within_item n None h = tt
+within_item n (Some bytes) h = omega (arith, h)
+
+-- a held signature, and a known preimage
+sig_within : (assets : Assets) → AreAssets assets → (key : Key) → Within 74 (item (sig_of assets key))
+sig_within assets are key = go (find (λ pair. bytes_eq pair.0 key) assets.pairs) (found (λ pair. IsSignature pair.1) (λ pair. bytes_eq pair.0 key) assets.pairs are.signatures)
+  where
+    go : (o : Option (Bytes × Bytes)) → Found (λ pair. IsSignature pair.1) o → Within 74 (item (option_map (λ pair. pair.1) o))
+    go None h = tt
+    go (Some pair) h = let f = h.few in omega (arith, f)
+
+known_within : (assets : Assets) → AreAssets assets → (kind : HashKind) (value : Bytes) → Within 33 (item (known assets kind value))
+known_within assets are kind value = go (known assets kind value) (found IsPreimage (λ preimage. bytes_eq (digest_of kind preimage) value) assets.preimages are.preimages)
+  where
+    go : (o : Option Bytes) → Found IsPreimage o → Within 33 (item o)
+    go None h = tt
+    go (Some preimage) h = let f = h.length in omega (arith, f)
+
+within_if : (n : ℕ) (test : Bool) (o p : Option Stack) → Within n o → Within n p → Within n (if test then o else p)
+within_if n true o p a b = a
+within_if n false o p a b = b
+
+pub weight-replicate : (n : ℕ) → weight (replicate n EMPTY) ≡ n
+weight-replicate zero = refl
+weight-replicate (suc n) = let h = weight-replicate n in omega (arith, h)
+
+keys_within : (assets : Assets) → AreAssets assets → (keys : List Key) (k : ℕ) → Within (74 * length keys) (choose (children_of_keys assets keys) k)
+keys_within assets are [] zero = omega arith
+keys_within assets are [] (suc k) = tt
+keys_within assets are (key ∷ keys) k =
+    weaker (74 * length keys + 74) (74 * length (key ∷ keys)) _ (omega arith)
+    (within_counted 74 (74 * length keys) (item (sig_of assets key)) (Some []) (choose (children_of_keys assets keys)) k
+    (sig_within assets are key) (omega arith) (keys_within assets are keys))
+
+signatures_within : (assets : Assets) → AreAssets assets → (k : ℕ) (keys : List Key) → Within (74 * length keys) (signatures assets k keys)
+signatures_within assets are k keys =
+    let same : option_map reverse (choose (children_of_keys assets keys) k) ≡ signatures assets k keys =
+    ap (option_map reverse) (sym (chosen_is (children_of_keys assets keys) k)) ∙ sym (signatures_are assets k keys)
+    in
+    subst (Within (74 * length keys)) same (within_turned (74 * length keys) _ (keys_within assets are keys k))
+
+count_is : (assets : Assets) (xs : Trees) → count xs ≡ length (cheapest_children assets xs)
+count_is assets none = refl
+count_is assets (more x xs) = let h = count_is assets xs in omega (arith, h)
+
+-- the choice of a threshold, by the recursion over its children
+pub thresh_choose : (assets : Assets) (xs : Trees) (k : ℕ) → least (map (stack_of (cheapest_children assets xs)) (sets (count xs) k)) ≡ choose (cheapest_children assets xs) k
+thresh_choose assets xs k =
+    ap (λ n. least (map (stack_of (cheapest_children assets xs)) (sets n k))) (count_is assets xs) ∙ chosen_is (cheapest_children assets xs) k
+
+pushed_one : Within 2 (Some (ONE ∷ []))
+pushed_one = omega arith
+
+pushed_empty : Within 2 (Some (EMPTY ∷ []))
+pushed_empty = omega arith
+
+mutual
+  pub dsat_within : (t : Tree) → IsWritable t → IsTyped t → Within (128 * measure t) (dissatisfaction t)
+  dsat_within just_0 w h = omega arith
+  dsat_within just_1 w h = tt
+  dsat_within (pk_k key) w h = omega arith
+  dsat_within (pk_h key) w h = omega (arith, w.length)
+  dsat_within (older n) w h = tt
+  dsat_within (after n) w h = tt
+  dsat_within (hash kind value) w h = within_if 128 (bytes_eq (digest_of kind ZEROS) value) None (Some (ZEROS ∷ [])) tt (omega arith)
+  dsat_within (and_or x y z) w h = weaker (128 * measure z + 128 * measure x) _ _ (omega arith) (within_both _ _ _ _ (dsat_within z w.2 h.2) (dsat_within x w.0 h.0))
+  dsat_within (two kind.AndV x y) w h = tt
+  dsat_within (two kind.AndB x y) w h = weaker (128 * measure y + 128 * measure x) _ _ (omega arith) (within_both _ _ _ _ (dsat_within y w.1 h.1) (dsat_within x w.0 h.0))
+  dsat_within (two kind.OrB x z) w h = weaker (128 * measure z + 128 * measure x) _ _ (omega arith) (within_both _ _ _ _ (dsat_within z w.1 h.1) (dsat_within x w.0 h.0))
+  dsat_within (two kind.OrC x z) w h = tt
+  dsat_within (two kind.OrD x z) w h = weaker (128 * measure z + 128 * measure x) _ _ (omega arith) (within_both _ _ _ _ (dsat_within z w.1 h.1) (dsat_within x w.0 h.0))
+  dsat_within (two kind.OrI x z) w h =
+      within_two (128 * measure (two kind.OrI x z)) _ _
+      (weaker (128 * measure x + 2) _ _ (omega arith) (within_both _ _ _ _ (dsat_within x w.0 h.0) pushed_one))
+      (weaker (128 * measure z + 2) _ _ (omega arith) (within_both _ _ _ _ (dsat_within z w.1 h.1) pushed_empty))
+  dsat_within (thresh k xs) w h = weaker (128 * measure_of xs) _ _ (omega arith) (all_within xs w.2 h.0)
+  dsat_within (multi k keys) w h = let enough = multi_enough k keys h in omega (arith, enough, weight-replicate (k + 1))
+  dsat_within (wrap wrapper.A x) w h = weaker (128 * measure x) _ _ (omega arith) (dsat_within x w h.0)
+  dsat_within (wrap wrapper.S x) w h = weaker (128 * measure x) _ _ (omega arith) (dsat_within x w h.0)
+  dsat_within (wrap wrapper.C x) w h = weaker (128 * measure x) _ _ (omega arith) (dsat_within x w h.0)
+  dsat_within (wrap wrapper.D x) w h = omega arith
+  dsat_within (wrap wrapper.V x) w h = tt
+  dsat_within (wrap wrapper.J x) w h = omega arith
+  dsat_within (wrap wrapper.N x) w h = weaker (128 * measure x) _ _ (omega arith) (dsat_within x w h.0)
+
+  all_within : (xs : Trees) → AreWritable xs → AreTyped xs → Within (128 * measure_of xs) (all_dissatisfied xs)
+  all_within none w h = omega arith
+  all_within (more x xs) w h =
+      weaker (128 * measure_of xs + 128 * measure x) _ _ (omega arith) (within_both _ _ _ _ (all_within xs w.1 h.1) (dsat_within x w.0 h.0))
+
+module _ (assets : Assets) (are : AreAssets assets) where
+  mutual
+    pub sat_within : (t : Tree) → IsWritable t → IsTyped t → Within (128 * measure t) (cheapest_of assets t)
+    sat_within just_0 w h = tt
+    sat_within just_1 w h = omega arith
+    sat_within (pk_k key) w h = weaker 74 128 _ (omega arith) (sig_within assets are key)
+    sat_within (pk_h key) w h = weaker (74 + 34) 128 _ (omega arith) (within_both 74 34 _ _ (sig_within assets are key) (omega (arith, w.length)))
+    sat_within (older n) w h = within_if 128 (older_holds n assets.locks) (Some []) None (omega arith) tt
+    sat_within (after n) w h = within_if 128 (after_holds n assets.locks) (Some []) None (omega arith) tt
+    sat_within (hash kind value) w h = weaker 33 128 _ (omega arith) (known_within assets are kind value)
+    sat_within (and_or x y z) w h =
+        within_two (128 * measure (and_or x y z)) _ _
+        (weaker (128 * measure y + 128 * measure x) _ _ (omega arith) (within_both _ _ _ _ (sat_within y w.1 h.1) (sat_within x w.0 h.0)))
+        (weaker (128 * measure z + 128 * measure x) _ _ (omega arith) (within_both _ _ _ _ (sat_within z w.2 h.2) (dsat_within x w.0 h.0)))
+    sat_within (two kind.AndV x y) w h = weaker (128 * measure y + 128 * measure x) _ _ (omega arith) (within_both _ _ _ _ (sat_within y w.1 h.1) (sat_within x w.0 h.0))
+    sat_within (two kind.AndB x y) w h = weaker (128 * measure y + 128 * measure x) _ _ (omega arith) (within_both _ _ _ _ (sat_within y w.1 h.1) (sat_within x w.0 h.0))
+    sat_within (two kind.OrB x z) w h =
+        within_two (128 * measure (two kind.OrB x z)) _ _
+        (weaker (128 * measure z + 128 * measure x) _ _ (omega arith) (within_both _ _ _ _ (dsat_within z w.1 h.1) (sat_within x w.0 h.0)))
+        (weaker (128 * measure z + 128 * measure x) _ _ (omega arith) (within_both _ _ _ _ (sat_within z w.1 h.1) (dsat_within x w.0 h.0)))
+    sat_within (two kind.OrC x z) w h =
+        within_two (128 * measure (two kind.OrC x z)) _ _
+        (weaker (128 * measure x) _ _ (omega arith) (sat_within x w.0 h.0))
+        (weaker (128 * measure z + 128 * measure x) _ _ (omega arith) (within_both _ _ _ _ (sat_within z w.1 h.1) (dsat_within x w.0 h.0)))
+    sat_within (two kind.OrD x z) w h =
+        within_two (128 * measure (two kind.OrD x z)) _ _
+        (weaker (128 * measure x) _ _ (omega arith) (sat_within x w.0 h.0))
+        (weaker (128 * measure z + 128 * measure x) _ _ (omega arith) (within_both _ _ _ _ (sat_within z w.1 h.1) (dsat_within x w.0 h.0)))
+    sat_within (two kind.OrI x z) w h =
+        within_two (128 * measure (two kind.OrI x z)) _ _
+        (weaker (128 * measure x + 2) _ _ (omega arith) (within_both _ _ _ _ (sat_within x w.0 h.0) pushed_one))
+        (weaker (128 * measure z + 2) _ _ (omega arith) (within_both _ _ _ _ (sat_within z w.1 h.1) pushed_empty))
+    sat_within (thresh k xs) w h =
+        weaker (128 * measure_of xs) (128 * measure (thresh k xs)) _ (omega arith)
+        (subst (Within (128 * measure_of xs)) (sym (thresh_choose assets xs k)) (parts_within xs w.2 h.0 k))
+    sat_within (multi k keys) w h =
+        weaker (2 + 74 * length keys) (128 * measure (multi k keys)) _ (omega arith)
+        (within_both 2 (74 * length keys) (Some (EMPTY ∷ [])) (signatures assets k keys) pushed_empty (signatures_within assets are k keys))
+    sat_within (wrap wrapper.A x) w h = weaker (128 * measure x) _ _ (omega arith) (sat_within x w h.0)
+    sat_within (wrap wrapper.S x) w h = weaker (128 * measure x) _ _ (omega arith) (sat_within x w h.0)
+    sat_within (wrap wrapper.C x) w h = weaker (128 * measure x) _ _ (omega arith) (sat_within x w h.0)
+    sat_within (wrap wrapper.D x) w h = weaker (128 * measure x + 2) _ _ (omega arith) (within_both _ _ _ _ (sat_within x w h.0) pushed_one)
+    sat_within (wrap wrapper.V x) w h = weaker (128 * measure x) _ _ (omega arith) (sat_within x w h.0)
+    sat_within (wrap wrapper.J x) w h = weaker (128 * measure x) _ _ (omega arith) (sat_within x w h.0)
+    sat_within (wrap wrapper.N x) w h = weaker (128 * measure x) _ _ (omega arith) (sat_within x w h.0)
+
+    parts_within : (xs : Trees) → AreWritable xs → AreTyped xs → (k : ℕ) → Within (128 * measure_of xs) (choose (cheapest_children assets xs) k)
+    parts_within none w h zero = omega arith
+    parts_within none w h (suc k) = tt
+    parts_within (more x xs) w h k =
+        weaker (128 * measure_of xs + 128 * measure x) (128 * measure_of (more x xs)) _ (omega arith)
+        (within_counted (128 * measure x) (128 * measure_of xs) (cheapest_of assets x) (dissatisfaction x) (choose (cheapest_children assets xs)) k
+        (sat_within x w.0 h.0) (dsat_within x w.0 h.0) (parts_within xs w.1 h.1))
+
+light_option : (n : ℕ) (o : Option ℕ) (p : Option Stack) → n < 2 ^ 32 → o ≡ weight_of p → Within n p → IsLightOption o
+light_option n None p small is h = tt
+light_option n (Some v) None small is h = absurd (let never : ⊥ = cc in never)
+light_option n (Some v) (Some w) small is h = let e : v ≡ weight w = cc in omega (arith, e, h, small)
+
+-- so each weight of a tree in range is below 2^32
+pub light_of : (t : Tree) (assets : Assets) (c : Costs) → IsInRange t → IsTyped t → AreAssets assets → c.sat ≡ weight_of (cheapest_of assets t) → c.dsat ≡ weight_of (dissatisfaction t) → IsLight c
+light_of t assets c range typed are sat dsat = record {
+  sat = light_option (128 * measure t) c.sat (cheapest_of assets t) (omega (arith, range.measure)) sat (sat_within assets are t range.writable typed);
+  dsat = light_option (128 * measure t) c.dsat (dissatisfaction t) (omega (arith, range.measure)) dsat (dsat_within t range.writable typed);
+}
+
+-- the same of the signature of a key
+pub sig_light : (assets : Assets) → AreAssets assets → (key : Key) (o : Option ℕ) → o ≡ weight_of (item (sig_of assets key)) → IsLightOption o
+sig_light assets are key o is = light_option 74 o (item (sig_of assets key)) (omega arith) is (sig_within assets are key)
+
+pub key_light : (assets : Assets) → AreAssets assets → (key : Key) → IsLight (costs_of_child (child_of_key assets key))
+key_light assets are key = record { sat = sig_light assets are key (weight_of (item (sig_of assets key))) refl; dsat = omega arith }
+
+-- and of the signatures of a `multi`
+pub signatures_light : (assets : Assets) → AreAssets assets → (k : ℕ) (keys : List Key) (o : Option ℕ) → length keys ≤ MOST_MEASURE → o ≡ weight_of (signatures assets k keys) → IsLightOption o
+signatures_light assets are k keys o few is = light_option (74 * length keys) o (signatures assets k keys) (omega (arith, few)) is (signatures_within assets are k keys)

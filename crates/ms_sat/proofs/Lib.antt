@@ -1,0 +1,10 @@
+pub mod Weights
+pub mod Chosen
+pub mod Marks
+pub mod Sorted
+pub mod Tallies
+pub mod Keys
+pub mod Bounds
+pub mod Leaves
+pub mod Trees
+pub mod Lightest

@@ -1,0 +1,41 @@
+-- The weight of a lightest stack is the least one.
+use Rattle.std.proofs.Common.{◌≡◌, ℕ, List, reverse, Option, Some, None, refl, sym, ap, subst, arith}
+use Rattle.std.specs.Option.{option_map}
+use Rattle.def_script.specs.Bytes.{Bytes}
+use Rattle.def_machine.specs.Stacks.{Stack}
+use Rattle.def_tree.specs.Tree.{Tree}
+use Rattle.def_sane.specs.Unfit.{IsValid}
+use Rattle.def_sane.proofs.Meanings.{valid_means}
+use Rattle.def_types.specs.Typed.{IsTyped}
+use Rattle.def_satisfaction.specs.Weight.{weight}
+use Rattle.def_choice.specs.Lightest.{IsLightest}
+use Rattle.def_choice.proofs.Weights.{weight-reverse}
+use Rattle.ms_sat.specs.Costs.{weight_of}
+use Rattle.ms_sat.specs.Least.{IsLeastWeight}
+
+pub weight_of-reverse : (o : Option Stack) → option_map weight (option_map reverse o) ≡ weight_of o
+weight_of-reverse None = refl
+weight_of-reverse (Some v) = ap Some (weight-reverse v)
+
+of_lightest : (P : List Bytes → Type 0) (m : Option (List Bytes)) → IsLightest P m → IsLeastWeight P (option_map weight m)
+of_lightest P None best = record {
+  attained = λ n e. absurd (let never : ⊥ = cc in never);
+  least = λ v h. let k = best.lightest v h in absurd (let e = k.1 in let never : ⊥ = cc in never);
+  none = (λ e v h. let k = best.lightest v h in let i = k.1 in cc, λ h. refl);
+}
+of_lightest P (Some w) best = record {
+  attained = λ n e. (w, best.is w refl, cc);
+  least = λ v h.
+      let k = best.lightest v h in
+      let i = k.1 in
+      let same : w ≡ k.0 = cc in
+      let weighs : weight w ≡ weight k.0 = ap weight same in
+      (weight w, refl, omega (arith, k.2, weighs));
+  none = (λ e. absurd (let never : ⊥ = cc in never), λ h. absurd (h w (best.is w refl)));
+}
+
+pub least_weight : (P : List Bytes → Type 0) (m : Option (List Bytes)) (o : Option ℕ) → o ≡ option_map weight m → IsLightest P m → IsLeastWeight P o
+least_weight P m o is best = subst (IsLeastWeight P) (sym is) (of_lightest P m best)
+
+pub typed_valid : (t : Tree) → IsValid t → IsTyped t
+typed_valid t valid = ((valid_means t).0 valid).0

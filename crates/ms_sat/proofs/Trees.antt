@@ -1,0 +1,41 @@
+-- The children of a threshold as the definitions have them.
+use Rattle.std.proofs.Common.{◌≡◌, ℕ, ◌+◌, ◌<◌, List, [], ◌∷◌, ◌++◌, length, get_or, take, refl, sym, ◌∙◌, ap}
+use Rattle.std.proofs.lemmas.List.{map_more, map_push}
+use Rattle.def_tree.specs.Tree as model
+use Rattle.def_assets.specs.Assets.{Assets}
+use Rattle.def_choice.specs.Least.{both}
+use Rattle.def_choice.specs.Cheapest.{Child, dissatisfaction, all_dissatisfied, cheapest_of, cheapest_children}
+use Rattle.ms_tree.specs.declared.tree.Tree.{Tree}
+use Rattle.ms_tree.specs.Shape.{shape, shapes}
+use Rattle.ms_sat.specs.declared.cost.Costs.{Costs}
+use Rattle.ms_sat.specs.Costs.{weight_of, costs_of_child, costs_of}
+use Rattle.ms_sat.specs.Choice.{chosen}
+use Rattle.ms_sat.specs.Children.{child_of_tree, children_of}
+use Rattle.ms_sat.proofs.Chosen.{choose, chosen_is}
+use Rattle.ms_sat.proofs.Bounds.{thresh_choose}
+
+children_are : (assets : Assets) (xs : List Tree) → cheapest_children assets (shapes xs) ≡ children_of assets xs
+children_are assets [] = refl
+children_are assets (x ∷ xs) = ap (λ cs. child_of_tree assets (shape x) ∷ cs) (children_are assets xs)
+
+pub thresh_chosen : (assets : Assets) (k : ℕ) (xs : List Tree) → cheapest_of assets (model.thresh k (shapes xs)) ≡ chosen (children_of assets xs) k
+thresh_chosen assets k xs =
+    thresh_choose assets (shapes xs) k ∙ ap (λ cs. choose cs k) (children_are assets xs) ∙ sym (chosen_is (children_of assets xs) k)
+
+all_choose : (assets : Assets) (xs : model.Trees) → all_dissatisfied xs ≡ choose (cheapest_children assets xs) 0
+all_choose assets model.none = refl
+all_choose assets (model.more x xs) = ap (λ o. both o (dissatisfaction x)) (all_choose assets xs)
+
+pub all_chosen : (assets : Assets) (xs : List Tree) → all_dissatisfied (shapes xs) ≡ chosen (children_of assets xs) 0
+all_chosen assets xs = all_choose assets (shapes xs) ∙ ap (λ cs. choose cs 0) (children_are assets xs) ∙ sym (chosen_is (children_of assets xs) 0)
+
+-- a further child, with its weights
+pub costs_more : (assets : Assets) (xs : List Tree) (i : ℕ) (x : Tree) (c : Costs) → i < length xs → x ≡ get_or xs i x
+    → c.sat ≡ weight_of (cheapest_of assets (shape x)) → c.dsat ≡ weight_of (dissatisfaction (shape x))
+    → costs_of (children_of assets (take i xs)) ++ c ∷ [] ≡ costs_of (children_of assets (take (i + 1) xs))
+costs_more assets xs i x c below at sat dsat =
+    let child : Tree → Child = λ y. child_of_tree assets (shape y) in
+    let this : c ≡ costs_of_child (child (get_or xs i x)) = (λ j. record { sat = sat j; dsat = dsat j }) ∙ ap (λ y. costs_of_child (child y)) at in
+    ap (λ d. costs_of (children_of assets (take i xs)) ++ d ∷ []) this ∙
+    sym (map_push costs_of_child (children_of assets (take i xs)) (child (get_or xs i x))) ∙
+    sym (ap costs_of (map_more child xs i x below))

@@ -1,0 +1,194 @@
+use Rattle.std.proofs.Common.{◌≡◌, ℕ, Option, ◌-◌, ◌∙◌, ap, subst, sym, arith, length, take, drop, length-take, length-drop}
+use Rattle.def_assets.specs.Assets.{Assets}
+use Rattle.def_tree.specs.declared.Two.{Two}
+use Rattle.def_tree.specs.declared.Two.TheVariants.{AndV, AndB, OrB, OrC, OrD}
+use Rattle.def_tree.specs.Tree as model
+use Rattle.def_tree.specs.Size.{nodes}
+use Rattle.def_choice.specs.Cheapest.{cheapest_of, dissatisfaction}
+use Rattle.ms_tree.specs.Shape.{shape}
+use Rattle.ms_tree.proofs.Parts.{nodes_at, in_range_at}
+use Rattle.ms_sane.proofs.Bounds.{multi_enough}
+use Rattle.ms_sane.proofs.Children.{measure_at, few_children, typed_at, typed_children, length_written}
+use Rattle.ms_sat.specs.Costs.{weight_of, costs_of}
+use Rattle.ms_sat.specs.Children.{IsReady, children_of}
+use Rattle.ms_sat.specs.Tally.{Tells}
+use Rattle.ms_sat.proofs.Bounds.{light_of}
+use Rattle.ms_sat.proofs.Tallies.{told_written}
+use Rattle.ms_sat.proofs.Trees.{thresh_chosen, all_chosen, costs_more}
+use Rattle.ms_sat.proofs.Weights.{both_weighs, least_weighs}
+use Rattle.ms_sat.proofs.weigh.+weigh.Goals as goal
+
+pub weigh-of_thresh-requires : goal.weigh-of_thresh-requires
+weigh-of_thresh-requires t c =
+    let shows = c.in-Thresh.ensures.shows in
+    let Ready : model.Tree → Type 0 = λ s. IsReady s c.args.assets.now (length c.args.slots.now) in
+    let ready = subst Ready shows c.requires in
+    let fewer = ap nodes shows in
+    (omega (arith, c.decreases, fewer), (c.in-Thresh.ensures.in_range.1, (typed_children c.in-Thresh.children.now ready.typed.0, (ready.are, (omega (arith, ready.in_range.measure), omega (arith, ready.room))))))
+
+pub weigh-of_multi-requires-clause-enough : goal.weigh-of_multi-requires-clause-enough
+weigh-of_multi-requires-clause-enough t c =
+    let Ready : model.Tree → Type 0 = λ s. IsReady s c.args.assets.now (length c.args.slots.now) in
+    let ready = subst Ready c.in-Multi.ensures.shows c.requires in
+    multi_enough c.in-Multi.k c.in-Multi.keys.now ready.typed
+
+pub weigh-returns-in-Leaf-clause-light : goal.weigh-returns-in-Leaf-clause-light
+weigh-returns-in-Leaf-clause-light t c =
+    light_of (shape c.args.tree.now) c.args.assets.now c.of_leaf.result c.requires.in_range c.requires.typed c.requires.are
+    (c.of_leaf.ensures.sat ∙ sym (ap (λ t. weight_of (cheapest_of c.args.assets.now t)) c.in-Leaf.ensures.shows))
+    (c.of_leaf.ensures.dsat ∙ sym (ap (λ t. weight_of (dissatisfaction t)) c.in-Leaf.ensures.shows))
+
+pub weigh-returns-in-AndOr-clause-light : goal.weigh-returns-in-AndOr-clause-light
+weigh-returns-in-AndOr-clause-light t c =
+    light_of (shape c.args.tree.now) c.args.assets.now c.of_and_or.result c.requires.in_range c.requires.typed c.requires.are
+    (c.of_and_or.ensures.sat ∙ sym (ap (λ t. weight_of (cheapest_of c.args.assets.now t)) c.in-AndOr.ensures.shows))
+    (c.of_and_or.ensures.dsat ∙ sym (ap (λ t. weight_of (dissatisfaction t)) c.in-AndOr.ensures.shows))
+
+pub weigh-returns-in-Two-clause-light : goal.weigh-returns-in-Two-clause-light
+weigh-returns-in-Two-clause-light t c =
+    light_of (shape c.args.tree.now) c.args.assets.now c.of_two.result c.requires.in_range c.requires.typed c.requires.are
+    (c.of_two.ensures.sat ∙ sym (ap (λ t. weight_of (cheapest_of c.args.assets.now t)) c.in-Two.ensures.shows))
+    (c.of_two.ensures.dsat ∙ sym (ap (λ t. weight_of (dissatisfaction t)) c.in-Two.ensures.shows))
+
+pub weigh-returns-in-Thresh-clause-light : goal.weigh-returns-in-Thresh-clause-light
+weigh-returns-in-Thresh-clause-light t c =
+    light_of (shape c.args.tree.now) c.args.assets.now c.of_thresh.result c.requires.in_range c.requires.typed c.requires.are
+    (c.of_thresh.ensures.sat ∙ sym (ap (λ t. weight_of (cheapest_of c.args.assets.now t)) c.in-Thresh.ensures.shows))
+    (c.of_thresh.ensures.dsat ∙ sym (ap (λ t. weight_of (dissatisfaction t)) c.in-Thresh.ensures.shows))
+
+pub weigh-returns-in-Multi-clause-light : goal.weigh-returns-in-Multi-clause-light
+weigh-returns-in-Multi-clause-light t c =
+    light_of (shape c.args.tree.now) c.args.assets.now c.of_multi.result c.requires.in_range c.requires.typed c.requires.are
+    (c.of_multi.ensures.sat ∙ sym (ap (λ t. weight_of (cheapest_of c.args.assets.now t)) c.in-Multi.ensures.shows))
+    (c.of_multi.ensures.dsat ∙ sym (ap (λ t. weight_of (dissatisfaction t)) c.in-Multi.ensures.shows))
+
+pub weigh-returns-in-Wrap-clause-light : goal.weigh-returns-in-Wrap-clause-light
+weigh-returns-in-Wrap-clause-light t c =
+    light_of (shape c.args.tree.now) c.args.assets.now c.of_wrap.result c.requires.in_range c.requires.typed c.requires.are
+    (c.of_wrap.ensures.sat ∙ sym (ap (λ t. weight_of (cheapest_of c.args.assets.now t)) c.in-Wrap.ensures.shows))
+    (c.of_wrap.ensures.dsat ∙ sym (ap (λ t. weight_of (dissatisfaction t)) c.in-Wrap.ensures.shows))
+
+pub of_and_or-returns-clause-sat : goal.of_and_or-returns-clause-sat
+of_and_or-returns-clause-sat t c =
+    c.least.ensures ∙
+    least_weighs _ _ _ _
+    (c.both.ensures ∙ both_weighs _ _ _ _ c.weigh-y.ensures.sat c.weigh-x.ensures.sat)
+    (c.both-2.ensures ∙ both_weighs _ _ _ _ c.weigh-z.ensures.sat c.weigh-x.ensures.dsat)
+
+pub of_and_or-returns-clause-dsat : goal.of_and_or-returns-clause-dsat
+of_and_or-returns-clause-dsat t c = c.both-3.ensures ∙ both_weighs _ _ _ _ c.weigh-z.ensures.dsat c.weigh-x.ensures.dsat
+
+pub of_thresh-returns-clause-sat : goal.of_thresh-returns-clause-sat
+of_thresh-returns-clause-sat t c =
+    let xs = c.args.children.now in
+    let assets = c.args.assets.now in
+    c.least_of-sat.ensures (children_of assets xs) c.tally_of-tally.ensures.told ∙ sym (ap weight_of (thresh_chosen assets c.args.k xs))
+
+pub of_thresh-returns-clause-dsat : goal.of_thresh-returns-clause-dsat
+of_thresh-returns-clause-dsat t c =
+    let xs = c.args.children.now in
+    let assets = c.args.assets.now in
+    c.none_of-dsat.ensures (children_of assets xs) c.tally_of-tally.new.slots c.tally_of-tally.ensures.told ∙ sym (ap weight_of (all_chosen assets xs))
+
+pub tally_of-weigh-costs-requires : goal.tally_of-weigh-costs-requires
+tally_of-weigh-costs-requires t c =
+    let xs = c.args.children.now in
+    let i = c.loop-child.child-index in
+    let few = nodes_at xs i c.child-item.result c.loop-child-test.true c.child-item.is in
+    let room = measure_at xs i c.child-item.result c.loop-child-test.true c.child-item.is in
+    let slots = c.loop-child.slots in
+    let free = c.loop-child.tally.free in (
+      omega (arith, c.decreases, few),
+      record {
+        in_range = in_range_at xs i c.child-item.result c.loop-child-test.true c.child-item.is c.requires.in_range;
+        typed = typed_at xs i c.child-item.result c.loop-child-test.true c.child-item.is c.requires.typed;
+        are = c.requires.are;
+        room = omega (arith, room, length-take (length slots - free) (drop free slots), length-drop free slots, c.loop-child.invariant.free, c.requires.room);
+      },
+    )
+
+pub tally_of-add-requires-clause-room : goal.tally_of-add-requires-clause-room
+tally_of-add-requires-clause-room t c =
+    let slots = c.loop-child.slots in
+    let free = c.loop-child.tally.free in
+    let few = few_children c.args.children.now c.loop-child.child-index c.child-item.result c.loop-child-test.true c.child-item.is in
+    let part : length c.weigh-costs.new.slots ≡ length slots - free =
+    omega (arith, c.weigh-costs.auto.slots, length-take (length slots - free) (drop free slots), length-drop free slots) in
+    let written = length_written free slots c.weigh-costs.new.slots c.loop-child.invariant.fits.room part in
+    omega (arith, written, few, c.loop-child.invariant.free, c.requires.room)
+
+pub tally_of-add-requires-clause-few : goal.tally_of-add-requires-clause-few
+tally_of-add-requires-clause-few t c =
+    let few = few_children c.args.children.now c.loop-child.child-index c.child-item.result c.loop-child-test.true c.child-item.is in
+    omega (arith, few, c.loop-child.invariant.place, c.requires.few)
+
+pub tally_of-loop-child-preserved : goal.tally_of-loop-child-preserved
+tally_of-loop-child-preserved t c =
+    let assets = c.args.assets.now in
+    let xs = c.args.children.now in
+    let i = c.loop-child.child-index in
+    let tally = c.loop-child.tally in
+    let slots = c.loop-child.slots in
+    let before = children_of assets (take i xs) in
+    let told = told_written (costs_of before) tally slots c.weigh-costs.new.slots (length slots - tally.free) c.loop-child.invariant.fits.room c.loop-child.invariant.told in
+    let more = costs_more assets xs i c.child-item.result c.weigh-costs.result c.loop-child-test.true c.child-item.is c.weigh-costs.ensures.sat c.weigh-costs.ensures.dsat in
+    record {
+      fits = c.add.ensures.fits;
+      told = subst (λ cs. Tells cs c.add.new.self c.add.new.slots) more (c.add.ensures.told (costs_of before) told);
+      free = omega (arith, c.add.ensures.free, c.loop-child.invariant.free);
+      place = omega (arith, c.add.ensures.place, c.loop-child.invariant.place);
+    }
+
+-- the same of the kind that was found
+sat_of : (assets : Assets) (kind found : Two) (x z : model.Tree) (n : Option ℕ) → kind ≡ found → n ≡ weight_of (cheapest_of assets (model.two found x z)) → n ≡ weight_of (cheapest_of assets (model.two kind x z))
+sat_of assets kind found x z n is h = h ∙ sym (ap (λ k. weight_of (cheapest_of assets (model.two k x z))) is)
+
+dsat_of : (kind found : Two) (x z : model.Tree) (n : Option ℕ) → kind ≡ found → n ≡ weight_of (dissatisfaction (model.two found x z)) → n ≡ weight_of (dissatisfaction (model.two kind x z))
+dsat_of kind found x z n is h = h ∙ sym (ap (λ k. weight_of (dissatisfaction (model.two k x z))) is)
+
+pub of_two-returns-in-AndV-clause-sat : goal.of_two-returns-in-AndV-clause-sat
+of_two-returns-in-AndV-clause-sat t c =
+    sat_of c.args.assets.now c.args.kind AndV (shape c.args.x.now) (shape c.args.z.now) c.both.result c.in-AndV.is
+    (c.both.ensures ∙ both_weighs _ _ _ _ c.weigh-z.ensures.sat c.weigh-x.ensures.sat)
+
+pub of_two-returns-in-AndB-clause-sat : goal.of_two-returns-in-AndB-clause-sat
+of_two-returns-in-AndB-clause-sat t c =
+    sat_of c.args.assets.now c.args.kind AndB (shape c.args.x.now) (shape c.args.z.now) c.both-in-AndB.result c.in-AndB.is
+    (c.both-in-AndB.ensures ∙ both_weighs _ _ _ _ c.weigh-z.ensures.sat c.weigh-x.ensures.sat)
+
+pub of_two-returns-in-AndB-clause-dsat : goal.of_two-returns-in-AndB-clause-dsat
+of_two-returns-in-AndB-clause-dsat t c =
+    dsat_of c.args.kind AndB (shape c.args.x.now) (shape c.args.z.now) c.both-in-AndB-2.result c.in-AndB.is
+    (c.both-in-AndB-2.ensures ∙ both_weighs _ _ _ _ c.weigh-z.ensures.dsat c.weigh-x.ensures.dsat)
+
+pub of_two-returns-in-OrB-clause-sat : goal.of_two-returns-in-OrB-clause-sat
+of_two-returns-in-OrB-clause-sat t c =
+    sat_of c.args.assets.now c.args.kind OrB (shape c.args.x.now) (shape c.args.z.now) c.least.result c.in-OrB.is
+    (c.least.ensures ∙
+    least_weighs _ _ _ _
+    (c.both-in-OrB.ensures ∙ both_weighs _ _ _ _ c.weigh-z.ensures.dsat c.weigh-x.ensures.sat)
+    (c.both-in-OrB-2.ensures ∙ both_weighs _ _ _ _ c.weigh-z.ensures.sat c.weigh-x.ensures.dsat))
+
+pub of_two-returns-in-OrB-clause-dsat : goal.of_two-returns-in-OrB-clause-dsat
+of_two-returns-in-OrB-clause-dsat t c =
+    dsat_of c.args.kind OrB (shape c.args.x.now) (shape c.args.z.now) c.both-in-OrB-3.result c.in-OrB.is
+    (c.both-in-OrB-3.ensures ∙ both_weighs _ _ _ _ c.weigh-z.ensures.dsat c.weigh-x.ensures.dsat)
+
+pub of_two-returns-in-OrC-clause-sat : goal.of_two-returns-in-OrC-clause-sat
+of_two-returns-in-OrC-clause-sat t c =
+    sat_of c.args.assets.now c.args.kind OrC (shape c.args.x.now) (shape c.args.z.now) c.least-in-OrC.result c.in-OrC.is
+    (c.least-in-OrC.ensures ∙
+    least_weighs _ _ _ _ c.weigh-x.ensures.sat
+    (c.both-in-OrC.ensures ∙ both_weighs _ _ _ _ c.weigh-z.ensures.sat c.weigh-x.ensures.dsat))
+
+pub of_two-returns-in-OrD-clause-sat : goal.of_two-returns-in-OrD-clause-sat
+of_two-returns-in-OrD-clause-sat t c =
+    sat_of c.args.assets.now c.args.kind OrD (shape c.args.x.now) (shape c.args.z.now) c.least-in-OrD.result c.in-OrD.is
+    (c.least-in-OrD.ensures ∙
+    least_weighs _ _ _ _ c.weigh-x.ensures.sat
+    (c.both-in-OrD.ensures ∙ both_weighs _ _ _ _ c.weigh-z.ensures.sat c.weigh-x.ensures.dsat))
+
+pub of_two-returns-in-OrD-clause-dsat : goal.of_two-returns-in-OrD-clause-dsat
+of_two-returns-in-OrD-clause-dsat t c =
+    dsat_of c.args.kind OrD (shape c.args.x.now) (shape c.args.z.now) c.both-in-OrD-2.result c.in-OrD.is
+    (c.both-in-OrD-2.ensures ∙ both_weighs _ _ _ _ c.weigh-z.ensures.dsat c.weigh-x.ensures.dsat)

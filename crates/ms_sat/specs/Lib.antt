@@ -1,0 +1,5 @@
+pub mod Costs
+pub mod Choice
+pub mod Tally
+pub mod Children
+pub mod Least

@@ -1,0 +1,32 @@
+ghost use Rattle.std.specs.Prelude.{◌≡◌};
+ghost use Rattle.ms_sat.specs.Costs.{sum_of, lesser, IsLightOption};
+
+/// The least weight of a canonical satisfaction and of a canonical dissatisfaction, where there is one.
+#[derive(Clone, Copy, Debug, PartialEq, Eq)]
+pub struct Costs {
+    pub sat: Option<u64>,
+    pub dsat: Option<u64>,
+}
+
+/// The weight of one stack on top of another.
+pub fn both(below: Option<u64>, above: Option<u64>) -> Option<u64>
+    requires below { IsLightOption below }
+    requires above { IsLightOption above }
+    ensures { result ≡ sum_of below above }
+{
+    match (below, above) {
+        (Some(below), Some(above)) => Some(below + above),
+        _ => None,
+    }
+}
+
+/// The weight of the lighter one of two stacks.
+pub fn least(former: Option<u64>, latter: Option<u64>) -> Option<u64>
+    ensures { result ≡ lesser former latter }
+{
+    match (former, latter) {
+        (Some(former), Some(latter)) => Some(former.min(latter)),
+        (Some(former), None) => Some(former),
+        (None, latter) => latter,
+    }
+}

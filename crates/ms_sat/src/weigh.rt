@@ -1,0 +1,316 @@
+//! The least weights of canonical satisfactions and dissatisfactions, without memory.
+ghost use Rattle.std.specs.Prelude.{◌≡◌, ◌+◌, ◌*◌, ◌≤◌, length, vec_len, All, reverse, if◌then◌else◌, Some, None};
+ghost use Rattle.std.specs.Option.{option_map};
+ghost use Rattle.def_tree.specs.Range.{MOST_MEASURE, IsInRange};
+ghost use Rattle.def_tree.specs.Size.{measure, measure_of};
+ghost use Rattle.def_tree.specs.Tree as tree;
+ghost use Rattle.def_types.specs.Typed.{IsTyped};
+ghost use Rattle.def_assets.specs.Assets.{AreAssets, sig_of, known};
+ghost use Rattle.def_hash.specs.Hash.{digest_of};
+ghost use Rattle.def_satisfaction.specs.Rows.{ZEROS as the_zeros};
+ghost use Rattle.def_sane.specs.Unfit.{IsValid};
+ghost use Rattle.def_satisfaction.specs.Weight.{weight};
+ghost use Rattle.def_satisfaction.specs.Satisfaction.{Sat, Dsat};
+ghost use Rattle.def_choice.specs.Least.{item};
+ghost use Rattle.def_choice.specs.Cheapest.{cheapest, cheapest_of, dissatisfaction};
+ghost use Rattle.ms_hash.specs.Value.{kind_of, bytes_of};
+ghost use Rattle.ms_tree.specs.Shape.{shape, shapes, leaf_shape};
+ghost use Rattle.ms_sat.specs.Costs.{weight_of, costs_of, costs_of_child, IsLight};
+ghost use Rattle.ms_sat.specs.Children.{IsReady, children_of, child_of_key, children_of_keys};
+ghost use Rattle.ms_sat.specs.Tally.{Fits, Tells};
+ghost use Rattle.ms_sat.specs.Least.{IsLeastWeight};
+ghost use Rattle.std.specs.Str.{bytes_eq};
+
+use crate::cost::{Costs, both, least};
+use crate::tally::Tally;
+use ms_assets::Assets;
+use ms_hash::{HashVal, hash_of};
+use ms_sane::{Slot, Work};
+use ms_tree::{Key, Leaf, Tree, Two, View, Wrapper};
+
+/// What stands for a preimage where a hash is dissatisfied.
+pub const ZEROS: [u8; 32] = [0; 32];
+
+/// The least weight of a canonical satisfaction of a tree with these assets, and of a canonical
+/// dissatisfaction, each `None` where there is none. The tree is valid, and `work` has at least four
+/// slots for each unit of its measure. Takes no memory.
+pub fn costs(tree: &Tree, assets: &Assets, work: &mut Work) -> Costs
+    requires in_range { IsInRange (shape tree.now) }
+    requires valid { IsValid (shape tree.now) }
+    requires room { 4 * measure (shape tree.now) ≤ vec_len work.old.slots }
+    ensures sat { result.sat ≡ option_map weight (cheapest (shape tree.now) assets.now) }
+    ensures dsat { result.dsat ≡ option_map weight (option_map reverse (dissatisfaction (shape tree.now))) }
+    ensures least_sat { IsLeastWeight (Sat (shape tree.now) assets.now) result.sat }
+    ensures least_dsat { IsLeastWeight (Dsat (shape tree.now) assets.now) result.dsat }
+    ensures room { vec_len work.new.slots ≡ vec_len work.old.slots }
+{
+    let _locks = assets.locks();
+    weigh(tree, assets, &mut work.slots)
+}
+
+/// The least weights of a tree. Of the slots it writes at most as many as the tree's measure.
+#[cycle(weigh)]
+pub fn weigh(tree: &Tree, assets: &Assets, slots: &mut [Slot]) -> Costs
+    requires { IsReady (shape tree.now) assets.now (length slots.old) }
+    ensures sat { result.sat ≡ weight_of (cheapest_of assets.now (shape tree.now)) }
+    ensures dsat { result.dsat ≡ weight_of (dissatisfaction (shape tree.now)) }
+    ensures light { IsLight result }
+{
+    match tree.view() {
+        View::Leaf(leaf) => of_leaf(leaf, assets),
+        View::AndOr(x, y, z) => of_and_or(x, y, z, assets, slots),
+        View::Two(kind, x, z) => of_two(kind, x, z, assets, slots),
+        View::Thresh(k, children) => of_thresh(k, children, assets, slots),
+        View::Multi(k, keys) => of_multi(k, keys, assets, slots),
+        View::Wrap(wrapper, x) => of_wrap(wrapper, x, assets, slots),
+    }
+}
+
+fn of_leaf(leaf: Leaf, assets: &Assets) -> Costs
+    requires typed { IsTyped (leaf_shape leaf) }
+    requires are { AreAssets assets.now }
+    ensures sat { result.sat ≡ weight_of (cheapest_of assets.now (leaf_shape leaf)) }
+    ensures dsat { result.dsat ≡ weight_of (dissatisfaction (leaf_shape leaf)) }
+{
+    match leaf {
+        Leaf::Zero => Costs {
+            sat: None,
+            dsat: Some(0),
+        },
+        Leaf::One => Costs {
+            sat: Some(0),
+            dsat: None,
+        },
+        Leaf::PkK(key) => Costs {
+            sat: of_signature(&key, assets),
+            dsat: Some(of_item(&[])),
+        },
+        Leaf::PkH(key) => of_pk_h(&key, assets),
+        Leaf::Older(n) => of_lock(assets.holds_older(n)),
+        Leaf::After(n) => of_lock(assets.holds_after(n)),
+        Leaf::Hash(value) => of_hash(&value, assets),
+    }
+}
+
+/// The weight of an item.
+fn of_item(item: &[u8]) -> u64
+    ensures { result ≡ 1 + length item.now }
+{
+    1 + item.len() as u64
+}
+
+/// The weight of the signature that is held with a key.
+fn of_signature(key: &Key, assets: &Assets) -> Option<u64>
+    ensures { result ≡ weight_of (item (sig_of assets.now key.now)) }
+{
+    match assets.sig_of(key) {
+        Some(sig) => Some(of_item(sig)),
+        None => None,
+    }
+}
+
+fn of_pk_h(key: &Key, assets: &Assets) -> Costs
+    requires { AreAssets assets.now }
+    ensures sat { result.sat ≡ weight_of (cheapest_of assets.now (tree.pk_h key.now)) }
+    ensures dsat { result.dsat ≡ weight_of (dissatisfaction (tree.pk_h key.now)) }
+{
+    let item = of_item(key.as_bytes());
+    Costs {
+        sat: both(of_signature(key, assets), Some(item)),
+        dsat: Some(of_item(&[]) + item),
+    }
+}
+
+/// A timelock that holds, or doesn't.
+fn of_lock(holds: bool) -> Costs
+    ensures sat { result.sat ≡ (if holds then Some 0 else None) }
+    ensures dsat { result.dsat ≡ None }
+{
+    Costs {
+        sat: if holds { Some(0) } else { None },
+        dsat: None,
+    }
+}
+
+fn of_hash(value: &HashVal, assets: &Assets) -> Costs
+    ensures sat { result.sat ≡ weight_of (item (known assets.now (kind_of value.now) (bytes_of value.now))) }
+    ensures dsat { result.dsat ≡ weight_of (dissatisfaction (tree.hash (kind_of value.now) (bytes_of value.now))) }
+{
+    let sat = match assets.preimage_of(value) {
+        Some(preimage) => Some(of_item(preimage)),
+        None => None,
+    };
+    let dsat = if zeros_hash_to(value) {
+        None
+    } else {
+        Some(of_item(&ZEROS))
+    };
+    Costs { sat, dsat }
+}
+
+/// Whether 32 zero bytes hash to a value, so that they can't dissatisfy it.
+fn zeros_hash_to(value: &HashVal) -> bool
+    ensures { result ≡ bytes_eq (digest_of (kind_of value.now) the_zeros) (bytes_of value.now) }
+{
+    hash_of(value.kind(), &ZEROS).as_bytes() == value.as_bytes()
+}
+
+#[cycle(weigh)]
+fn of_and_or(x: &Tree, y: &Tree, z: &Tree, assets: &Assets, slots: &mut [Slot]) -> Costs
+    requires x { IsReady (shape x.now) assets.now (length slots.old) }
+    requires y { IsReady (shape y.now) assets.now (length slots.old) }
+    requires z { IsReady (shape z.now) assets.now (length slots.old) }
+    ensures sat { result.sat ≡ weight_of (cheapest_of assets.now (tree.and_or (shape x.now) (shape y.now) (shape z.now))) }
+    ensures dsat { result.dsat ≡ weight_of (dissatisfaction (tree.and_or (shape x.now) (shape y.now) (shape z.now))) }
+{
+    let x = weigh(x, assets, slots);
+    let y = weigh(y, assets, slots);
+    let z = weigh(z, assets, slots);
+    Costs {
+        sat: least(both(y.sat, x.sat), both(z.sat, x.dsat)),
+        dsat: both(z.dsat, x.dsat),
+    }
+}
+
+#[cycle(weigh)]
+fn of_two(kind: Two, x: &Tree, z: &Tree, assets: &Assets, slots: &mut [Slot]) -> Costs
+    requires x { IsReady (shape x.now) assets.now (length slots.old) }
+    requires z { IsReady (shape z.now) assets.now (length slots.old) }
+    ensures sat { result.sat ≡ weight_of (cheapest_of assets.now (tree.two kind (shape x.now) (shape z.now))) }
+    ensures dsat { result.dsat ≡ weight_of (dissatisfaction (tree.two kind (shape x.now) (shape z.now))) }
+{
+    let x = weigh(x, assets, slots);
+    let z = weigh(z, assets, slots);
+    match kind {
+        Two::AndV => Costs {
+            sat: both(z.sat, x.sat),
+            dsat: None,
+        },
+        Two::AndB => Costs {
+            sat: both(z.sat, x.sat),
+            dsat: both(z.dsat, x.dsat),
+        },
+        Two::OrB => Costs {
+            sat: least(both(z.dsat, x.sat), both(z.sat, x.dsat)),
+            dsat: both(z.dsat, x.dsat),
+        },
+        Two::OrC => Costs {
+            sat: least(x.sat, both(z.sat, x.dsat)),
+            dsat: None,
+        },
+        Two::OrD => Costs {
+            sat: least(x.sat, both(z.sat, x.dsat)),
+            dsat: both(z.dsat, x.dsat),
+        },
+        Two::OrI => {
+            let (left, right) = (Some(of_item(&[1])), Some(of_item(&[])));
+            Costs {
+                sat: least(both(x.sat, left), both(z.sat, right)),
+                dsat: least(both(x.dsat, left), both(z.dsat, right)),
+            }
+        }
+    }
+}
+
+#[cycle(weigh)]
+fn of_thresh(k: u64, children: &[Tree], assets: &Assets, slots: &mut [Slot]) -> Costs
+    requires in_range { All (λ x. IsInRange (shape x)) children.now }
+    requires typed { All (λ x. IsTyped (shape x)) children.now }
+    requires are { AreAssets assets.now }
+    requires few { measure_of (shapes children.now) ≤ MOST_MEASURE }
+    requires room { measure_of (shapes children.now) ≤ length slots.old }
+    ensures sat { result.sat ≡ weight_of (cheapest_of assets.now (tree.thresh k (shapes children.now))) }
+    ensures dsat { result.dsat ≡ weight_of (dissatisfaction (tree.thresh k (shapes children.now))) }
+{
+    let tally = tally_of(children, assets, slots);
+    let dsat = tally.none_of();
+    let sat = tally.least_of(k, slots);
+    Costs { sat, dsat }
+}
+
+/// The children of a threshold, counted in.
+#[cycle(weigh)]
+pub fn tally_of(children: &[Tree], assets: &Assets, slots: &mut [Slot]) -> Tally
+    requires in_range { All (λ x. IsInRange (shape x)) children.now }
+    requires typed { All (λ x. IsTyped (shape x)) children.now }
+    requires are { AreAssets assets.now }
+    requires few { measure_of (shapes children.now) ≤ MOST_MEASURE }
+    requires room { measure_of (shapes children.now) ≤ length slots.old }
+    ensures fits { Fits result slots.new }
+    ensures told { Tells (costs_of (children_of assets.now children.now)) result slots.new }
+{
+    let mut tally = Tally::new();
+    for child in children {
+        let costs = weigh(child, assets, &mut slots[tally.free..]);
+        tally.add(slots, &costs);
+    }
+    tally
+}
+
+fn of_multi(k: u64, keys: &[Key], assets: &Assets, slots: &mut [Slot]) -> Costs
+    requires enough { k ≤ length keys.now }
+    requires few { length keys.now ≤ MOST_MEASURE }
+    requires are { AreAssets assets.now }
+    requires room { length keys.now ≤ length slots.old }
+    ensures sat { result.sat ≡ weight_of (cheapest_of assets.now (tree.multi k keys.now)) }
+    ensures dsat { result.dsat ≡ weight_of (dissatisfaction (tree.multi k keys.now)) }
+{
+    let tally = tally_of_keys(keys, assets, slots);
+    let signatures = tally.least_of(k, slots);
+    Costs {
+        sat: both(Some(of_item(&[])), signatures),
+        dsat: Some((k + 1) * of_item(&[])),
+    }
+}
+
+/// The keys of a `multi`, counted in as children: a key is satisfied by its signature, and passed over
+/// by nothing.
+pub fn tally_of_keys(keys: &[Key], assets: &Assets, slots: &mut [Slot]) -> Tally
+    requires few { length keys.now ≤ MOST_MEASURE }
+    requires are { AreAssets assets.now }
+    requires room { length keys.now ≤ length slots.old }
+    ensures fits { Fits result slots.new }
+    ensures told { Tells (costs_of (children_of_keys assets.now keys.now)) result slots.new }
+{
+    let mut tally = Tally::new();
+    for key in keys {
+        tally.add(slots, &of_key(key, assets));
+    }
+    tally
+}
+
+/// A key of a `multi` as a child.
+pub fn of_key(key: &Key, assets: &Assets) -> Costs
+    requires { AreAssets assets.now }
+    ensures costs { result ≡ costs_of_child (child_of_key assets.now key.now) }
+    ensures light { IsLight result }
+{
+    Costs {
+        sat: of_signature(key, assets),
+        dsat: Some(0),
+    }
+}
+
+#[cycle(weigh)]
+fn of_wrap(wrapper: Wrapper, x: &Tree, assets: &Assets, slots: &mut [Slot]) -> Costs
+    requires { IsReady (shape x.now) assets.now (length slots.old) }
+    ensures sat { result.sat ≡ weight_of (cheapest_of assets.now (tree.wrap wrapper (shape x.now))) }
+    ensures dsat { result.dsat ≡ weight_of (dissatisfaction (tree.wrap wrapper (shape x.now))) }
+{
+    let x = weigh(x, assets, slots);
+    match wrapper {
+        Wrapper::A | Wrapper::S | Wrapper::C | Wrapper::N => x,
+        Wrapper::D => Costs {
+            sat: both(x.sat, Some(of_item(&[1]))),
+            dsat: Some(of_item(&[])),
+        },
+        Wrapper::V => Costs {
+            sat: x.sat,
+            dsat: None,
+        },
+        Wrapper::J => Costs {
+            sat: x.sat,
+            dsat: Some(of_item(&[])),
+        },
+    }
+}
