@@ -8,3 +8,5 @@ pub mod Bounds
 pub mod Leaves
 pub mod Trees
 pub mod Lightest
+pub mod Pushed
+pub mod Taken

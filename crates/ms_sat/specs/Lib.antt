@@ -3,3 +3,4 @@ pub mod Choice
 pub mod Tally
 pub mod Children
 pub mod Least
+pub mod Pushed

@@ -1,5 +1,6 @@
 ghost use Rattle.std.specs.Prelude.{◌≡◌};
 ghost use Rattle.ms_sat.specs.Costs.{sum_of, lesser, IsLightOption};
+ghost use Rattle.ms_sat.specs.Pushed.{is_former as the_is_former};
 
 /// The least weight of a canonical satisfaction and of a canonical dissatisfaction, where there is one.
 #[derive(Clone, Copy, Debug, PartialEq, Eq)]
@@ -28,5 +29,15 @@ pub fn least(former: Option<u64>, latter: Option<u64>) -> Option<u64>
         (Some(former), Some(latter)) => Some(former.min(latter)),
         (Some(former), None) => Some(former),
         (None, latter) => latter,
+    }
+}
+
+/// Whether the former of two options is taken: there is one, and the latter doesn't weigh less.
+pub fn is_former(former: Option<u64>, latter: Option<u64>) -> bool
+    ensures { result ≡ the_is_former former latter }
+{
+    match (former, latter) {
+        (Some(former), Some(latter)) => former <= latter,
+        (former, _) => former.is_some(),
     }
 }

@@ -2,8 +2,11 @@
 #![tactic(auto)]
 
 mod cost;
+mod dissatisfy;
+mod satisfy;
 mod tally;
 mod weigh;
 
 pub use cost::Costs;
+pub use satisfy::cheapest;
 pub use weigh::costs;

@@ -93,7 +93,7 @@ fn of_leaf(leaf: Leaf, assets: &Assets) -> Costs
 }
 
 /// The weight of an item.
-fn of_item(item: &[u8]) -> u64
+pub fn of_item(item: &[u8]) -> u64
     ensures { result ≡ 1 + length item.now }
 {
     1 + item.len() as u64
