@@ -9,7 +9,7 @@ use Rattle.def_machine.specs.Limits.{MAX_SCRIPT_ELEMENT_SIZE}
 use Rattle.def_machine.specs.Stacks.{Stack, is_empty}
 use Rattle.def_machine.specs.Machine.{Given, State, is_live}
 use Rattle.def_tree.specs.Tree.{Tree, hash}
-use Rattle.def_tree.specs.Range.{IsWritable}
+use Rattle.def_tree.specs.Range.{IsWritable, IsInRange}
 use Rattle.def_types.specs.declared.Base.TheVariants.{B}
 use Rattle.def_types.specs.declared.Ty.{Ty}
 use Rattle.def_types.specs.declared.Mall.{Mall}
@@ -74,12 +74,12 @@ Dissatisfiable =
     HasType tree ty → IsTrue ty.d → HashesCanBeMissed tree →
     (stack : List Bytes) × FullDsat tree (without_signatures locks) mode stack
 
--- u, unit: carried out from a stack that ends in a satisfaction, a miniscript of type B leaves the byte 1 in its
--- place, or stops at a limit. No element of the satisfaction is too long, since no run starts with such a one
+-- u, unit: carried out from a stack that ends in a satisfaction, a miniscript in range of type B leaves the byte 1
+-- in its place, or stops at a limit. No element of the satisfaction is too long, since no run starts with such a one
 abbrev pub UnitValue : Type 0
 UnitValue =
     (tree : Tree) (ty : Ty) (given : Given) (stack : List Bytes) (below : Stack) (s : State) (place : ℕ) →
-    HasType tree ty → (ty.base ≡ B) → IsTrue ty.u →
+    IsInRange tree → HasType tree ty → (ty.base ≡ B) → IsTrue ty.u →
     FullSat tree given any stack → All (λ item. length item ≤ MAX_SCRIPT_ELEMENT_SIZE) stack →
     IsTrue (is_live s) → s.main ≡ reverse stack ++ below →
     StopFrom tree given s place ⊎ LeaveFrom tree given s place (ONE ∷ below)

@@ -1,0 +1,204 @@
+-- The interpreter accepts the canonical satisfactions of a valid miniscript; and what it accepts are satisfactions.
+use Rattle.std.proofs.Common.{◌≡◌, ℕ, ◌+◌, ◌^◌, ◌<◌, ◌≤◌, nat_le, Bool, true, false, List, [], ◌∷◌, ◌++◌, length, reverse, All, Ok, refl, sym, ◌∙◌, ap, subst, ◌⊎◌, inl, inr, arith}
+use Rattle.std.specs.List.{list_all}
+use Rattle.std.proofs.lemmas.Bool.{leb-true}
+use Rattle.std.proofs.lemmas.List.{append-nil, length-reverse, reverse-reverse}
+use Rattle.std.proofs.lemmas.List.Elements.{All-head, All-tail, All-nil, All-cons}
+use Rattle.def_script.specs.Bytes.{Bytes}
+use Rattle.def_script.specs.Decode.{truth}
+use Rattle.def_machine.specs.Limits.{MAX_SCRIPT_ELEMENT_SIZE}
+use Rattle.def_machine.specs.Stacks.{Stack, Pairs}
+use Rattle.def_machine.specs.Machine.{Given}
+use Rattle.def_machine.specs.declared.ScriptFault.{ScriptFault}
+use Rattle.def_machine.specs.Run.{run, accepted, refused}
+use Rattle.def_tree.specs.Tree.{Tree}
+use Rattle.def_tree.specs.Range.{IsWritable}
+use Rattle.def_types.specs.Typed.{type_of}
+use Rattle.def_types.proofs.Facts.{both_true}
+use Rattle.def_emit.specs.Emit.{emit, script_of}
+use Rattle.def_assets.specs.Assets.{Assets, AreAssets, known}
+use Rattle.def_sane.specs.declared.Limits.{Limits}
+use Rattle.def_sane.specs.Limits.{AreLimits, opcode_count}
+use Rattle.def_sane.specs.Unfit.{IsValid}
+use Rattle.def_sane.proofs.Meanings.{valid_means}
+use Rattle.def_satisfaction.specs.Setting.{Setting, any, only}
+use Rattle.def_satisfaction.specs.Rows.{row}
+use Rattle.def_satisfaction.specs.Satisfaction.{canonical, full, Sat, FullSat, Holds}
+use Rattle.def_satisfaction.proofs.Canonical.{held}
+use Rattle.def_satisfaction.proofs.Wider.{IsWider, row_within}
+use Rattle.def_choice.specs.NonMalleable.{IsAccepted, given_with}
+use Rattle.def_promises.specs.Acceptance.{CanonicalIsAccepted, AcceptedIsSatisfaction, SatisfactionIsAccepted}
+use Rattle.def_promises.specs.Limited.{StopsAtLimit}
+use Rattle.ms_laws.proofs.Log.{Log}
+use Rattle.ms_laws.proofs.Den.{den}
+use Rattle.ms_laws.proofs.Logs.{sat_log}
+use Rattle.ms_laws.proofs.Values.{Value, truth-natural}
+use Rattle.ms_laws.proofs.Few.{few_valid}
+use Rattle.ms_laws.proofs.Ends.{left, Short, Ends, EndsB}
+use Rattle.ms_laws.proofs.Goes.{sat_ends}
+use Rattle.ms_laws.proofs.Back.{Back, BackB, logged, Took, same_top, same_rest}
+use Rattle.ms_laws.proofs.Inverse.{inverts}
+use Rattle.ms_laws.proofs.Heights.{few_rises}
+use Rattle.ms_laws.proofs.Within.{sized_sat, within_limits, few_ops, valid_limits}
+use Rattle.ms_laws.proofs.Runs.{accepted_run, run_accepted, run_or_limit, too_long}
+
+-- from a whole satisfaction
+pub satisfied : (s : Setting) (t : Tree) → IsWritable t → IsValid t → (w : Stack) → Short w → (r : (row s t).sat w) → (v : Bytes) × (den s.given t w ≡ Ok (left (v ∷ []) (sat_log s t w r))) × (truth v ≡ true)
+satisfied s t writable valid w short r =
+    let means = (valid_means t).0 valid in
+    let e : EndsB (type_of t).u true (den s.given t) w [] (sat_log s t w r) =
+    subst (λ b. Ends s.given.table b (type_of t).u true (den s.given t) w [] (sat_log s t w r)) means.1 (sat_ends s t writable means.0 (few_valid t valid) w [] short r) in
+    let value = e.1 in
+    (e.0, ap (den s.given t) (sym (append-nil w)) ∙ e.2, ap truth value.is ∙ truth-natural value.number value.small ∙ value.truth)
+
+-- the canonical rows, under a table that holds the assets' pairs
+abbrev pub canonical_with : Assets → Pairs → Setting
+canonical_with assets table = record { given = given_with assets table; mode = only (known assets); all_rows = false }
+
+pub with_is_wider : (assets : Assets) (table : Pairs) → Holds table assets → IsWider (canonical assets) (canonical_with assets table)
+with_is_wider assets table holds = record {
+  signatures = held assets table holds;
+  older = λ n h. h;
+  after = λ n h. h;
+  preimages = λ kind value preimage h. h;
+  keys = λ key other h. h;
+  rows = λ h. h;
+}
+
+pub sat_with : (tree : Tree) (assets : Assets) (table : Pairs) (w : Stack) → Holds table assets → (row (canonical assets) tree).sat w → (row (canonical_with assets table) tree).sat w
+sat_with tree assets table w holds sat = (row_within _ _ (with_is_wider assets table holds) tree).sat w sat
+
+-- short items
+pub short_items : (most : ℕ) → most < 2 ^ 31 → (w : Stack) → All (λ item. length item ≤ most) w → Short w
+short_items most low [] h = tt
+short_items most low (x ∷ w) h =
+    let i = All-head (λ item. length item ≤ most) x w h in
+    (omega (arith, i, low), short_items most low w (All-tail (λ item. length item ≤ most) x w h))
+
+fit_items : (most : ℕ) → most ≤ 520 → (w : Stack) → All (λ item. length item ≤ most) w → All (λ item. length item ≤ 520) w
+fit_items most low [] h = All-nil (λ item. length item ≤ 520)
+fit_items most low (x ∷ w) h =
+    let i = All-head (λ item. length item ≤ most) x w h in
+    All-cons (λ item. length item ≤ 520) x w (omega (arith, i, low)) (fit_items most low w (All-tail (λ item. length item ≤ most) x w h))
+
+-- a canonical satisfaction's run, with what it passes
+pub record Accepts (tree : Tree) (limits : Limits) (assets : Assets) (table : Pairs) (stack : List Bytes) (r : (row (canonical_with assets table) tree).sat (reverse stack)) : Type 0 where
+  pub peak : ℕ
+  pub run : run (given_with assets table) (script_of tree) stack ≡ accepted (opcode_count (emit tree) + (sat_log (canonical_with assets table) tree (reverse stack) r).keys) peak (sat_log (canonical_with assets table) tree (reverse stack) r).checks
+  pub few_ops : opcode_count (emit tree) + (sat_log (canonical_with assets table) tree (reverse stack) r).keys ≤ limits.ops
+
+-- by the run of the stack turned round twice
+by_turned : (tree : Tree) (limits : Limits) (assets : Assets) (table : Pairs) (stack : List Bytes) (r : (row (canonical_with assets table) tree).sat (reverse stack)) →
+    ((peak : ℕ) × (run (given_with assets table) (script_of tree) (reverse (reverse stack)) ≡ accepted (opcode_count (emit tree) + (sat_log (canonical_with assets table) tree (reverse stack) r).keys) peak (sat_log (canonical_with assets table) tree (reverse stack) r).checks)) →
+    opcode_count (emit tree) + (sat_log (canonical_with assets table) tree (reverse stack) r).keys ≤ limits.ops → Accepts tree limits assets table stack r
+by_turned tree limits assets table stack r done few = record {
+  peak = done.0;
+  run = ap (run (given_with assets table) (script_of tree)) (sym (reverse-reverse stack)) ∙ done.1;
+  few_ops = few;
+}
+
+-- every row of a canonical satisfaction tells what its run logs
+pub accepts_row : (tree : Tree) (limits : Limits) (assets : Assets) (table : Pairs) (stack : List Bytes) → IsWritable tree → IsValid tree → AreLimits tree limits → AreAssets assets → Sat tree assets stack → (r : (row (canonical_with assets table) tree).sat (reverse stack)) → Accepts tree limits assets table stack r
+accepts_row tree limits assets table stack writable valid are_limits are sat r =
+    let s = canonical_with assets table in
+    let w = reverse stack in
+    let sized = sized_sat assets are tree writable w sat in
+    let ends = satisfied s tree writable valid w (short_items 73 (omega arith) w sized.short) r in
+    let few = few_ops tree limits s w writable are_limits refl r in
+    let most = valid_limits tree limits valid are_limits in
+    let within = within_limits tree limits assets stack writable are_limits are sat in
+    let size : length (script_of tree) ≤ 10000 = (let e = are_limits.size in omega (arith, e, most.0)) in
+    let rise = few_rises tree writable valid in
+    by_turned tree limits assets table stack r
+    (accepted_run s.given tree w (left (ends.0 ∷ []) (sat_log s tree w r)) ends.0 writable size (fit_items 73 (omega arith) w sized.short) ends.1 refl ends.2
+    (omega (arith, few, most.1)) (omega (arith, length-reverse stack, within.0, most.2, rise)))
+    few
+
+pub accepts : (tree : Tree) (limits : Limits) (assets : Assets) (table : Pairs) (stack : List Bytes) → IsWritable tree → IsValid tree → AreLimits tree limits → AreAssets assets → (holds : Holds table assets) → (sat : Sat tree assets stack) → Accepts tree limits assets table stack (sat_with tree assets table (reverse stack) holds sat)
+accepts tree limits assets table stack writable valid are_limits are holds sat =
+    accepts_row tree limits assets table stack writable valid are_limits are sat (sat_with tree assets table (reverse stack) holds sat)
+
+pub canonical_is_accepted : CanonicalIsAccepted
+canonical_is_accepted tree limits assets table stack writable valid are_limits are holds sat =
+    let a = accepts tree limits assets table stack writable valid are_limits are holds sat in
+    let within = within_limits tree limits assets stack writable are_limits are sat in
+    record {
+      ops = _;
+      peak = a.peak;
+      checks = _;
+      run = a.run;
+      few_ops = a.few_ops;
+      few_items = within.0;
+      light = within.1;
+    }
+
+-- the row of an accepted stack, and the pairs that its run found good
+pub record Accounted (tree : Tree) (given : Given) (stack : List Bytes) (checks : Pairs) : Type 0 where
+  pub row : FullSat tree given any stack
+  pub log : checks ≡ (sat_log (full given any) tree (reverse stack) row).checks
+
+pub accounted : (tree : Tree) (given : Given) (stack : List Bytes) (checks : Pairs) → IsWritable tree → IsValid tree → IsAccepted tree given stack checks → Accounted tree given stack checks
+accounted tree given stack checks writable valid is =
+    let means = (valid_means tree).0 valid in
+    let a = run_accepted given tree stack is.ops is.peak checks writable is.run in
+    let b : BackB (type_of tree).u (logged (full given any) tree) (reverse stack) a.0.main a.0.log =
+    subst (λ c. Back given.table c (type_of tree).u (logged (full given any) tree) (reverse stack) a.0.main a.0.log) means.1
+    (inverts given tree writable means.0 (few_valid tree valid) (reverse stack) a.0.main a.0.log a.2) in
+    let at : a.1 ∷ [] ≡ b.3 ∷ b.2 = sym a.3 ∙ b.5 in
+    let none : b.2 ≡ [] = sym (same_rest a.1 b.3 [] b.2 at) in
+    let top : a.1 ≡ b.3 = same_top a.1 b.3 [] b.2 at in
+    let whole : reverse stack ≡ b.1 = b.4 ∙ ap (λ v. b.1 ++ v) none ∙ append-nil b.1 in
+    go b.0 b.1 a.0.log whole (true_value (type_of tree).u b.0 b.3 b.6 (ap truth (sym top) ∙ a.4)) b.7 a.6
+  where
+    true_value : (u b : Bool) (v : Bytes) → Value u b v → truth v ≡ true → b ≡ true
+    true_value u b v value e = sym value.truth ∙ sym (truth-natural value.number value.small) ∙ ap truth (sym value.is) ∙ e
+
+    false_is : false ≡ true → ⊥
+    false_is e = cc
+
+    go : (b : Bool) (w : Stack) (l : Log) → reverse stack ≡ w → b ≡ true → Took (logged (full given any) tree) b w l → checks ≡ l.checks → Accounted tree given stack checks
+    go true w l e i took c =
+        let q = subst (λ v. (logged (full given any) tree).sat v l) (sym e) took in
+        record { row = q.0; log = c ∙ sym (ap (λ z. z.checks) q.1) }
+    go false w l e i took c = absurd (false_is i)
+
+pub accepted_is_satisfaction : AcceptedIsSatisfaction
+accepted_is_satisfaction tree given stack checks writable valid is = (accounted tree given stack checks writable valid is).row
+
+-- items that the interpreter takes
+pub fit_short : (w : Stack) → list_all (λ x. nat_le (length x) MAX_SCRIPT_ELEMENT_SIZE) w ≡ true → Short w
+fit_short [] e = tt
+fit_short (x ∷ w) e =
+    let p = both_true (nat_le (length x) 520) (list_all (λ x. nat_le (length x) MAX_SCRIPT_ELEMENT_SIZE) w) e in
+    let l = leb-true (length x) 520 p.0 in
+    (omega arith, fit_short w p.1)
+
+-- a satisfaction is accepted, or stops at a limit
+pub satisfaction_is_accepted : SatisfactionIsAccepted
+satisfaction_is_accepted tree given stack writable valid sat = go (list_all (λ x. nat_le (length x) MAX_SCRIPT_ELEMENT_SIZE) (reverse stack)) refl
+  where
+    size : length (script_of tree) ≤ 10000
+    size = let means = (valid_means tree).0 valid in let e : length (script_of tree) ≤ 3600 = means.2 in omega arith
+
+    go : (b : Bool) → list_all (λ x. nat_le (length x) MAX_SCRIPT_ELEMENT_SIZE) (reverse stack) ≡ b → ((checks : Pairs) × IsAccepted tree given stack checks) ⊎ StopsAtLimit tree given stack
+    go true short =
+        let ends = satisfied (full given any) tree writable valid (reverse stack) (fit_short (reverse stack) short) sat in
+        elim (run_or_limit given tree stack _ ends.0 writable size ends.1 refl ends.2) [
+          | inl fine ↦ inl (_, record { ops = fine.0; peak = fine.1; run = fine.2 })
+          | inr stops ↦ inr stops
+        ]
+    go false long = inr (too_long given tree stack writable size long)
+
+-- what is accepted has no item that is too long
+pub accepted_short : (tree : Tree) (given : Given) (stack : List Bytes) (checks : Pairs) → IsWritable tree → IsValid tree → IsAccepted tree given stack checks → Short (reverse stack)
+accepted_short tree given stack checks writable valid is = go (list_all (λ x. nat_le (length x) MAX_SCRIPT_ELEMENT_SIZE) (reverse stack)) refl
+  where
+    size : length (script_of tree) ≤ 10000
+    size = let means = (valid_means tree).0 valid in let e : length (script_of tree) ≤ 3600 = means.2 in omega arith
+
+    no_refusal : (fault : ScriptFault) (place ops peak : ℕ) (c : Pairs) → refused fault place ≡ accepted ops peak c → ⊥
+    no_refusal fault place ops peak c e = cc
+
+    go : (b : Bool) → list_all (λ x. nat_le (length x) MAX_SCRIPT_ELEMENT_SIZE) (reverse stack) ≡ b → Short (reverse stack)
+    go true short = fit_short (reverse stack) short
+    go false long = let stops = too_long given tree stack writable size long in absurd (no_refusal stops.fault stops.place is.ops is.peak checks (sym stops.run ∙ is.run))

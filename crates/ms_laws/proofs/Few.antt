@@ -1,0 +1,143 @@
+-- Thresholds with so few children that their sums are numbers.
+use Rattle.std.proofs.Common.{ℕ, ◌+◌, ◌^◌, ◌<◌, ◌≤◌, [], ◌∷◌, inl, inr, arith}
+use Rattle.std.specs.Prelude.{⊤}
+use Rattle.def_script.specs.declared.Op.TheVariants as op
+use Rattle.def_script.specs.Instruction.{code}
+use Rattle.def_tree.specs.declared.Two.TheVariants as kind
+use Rattle.def_tree.specs.declared.Wrapper.TheVariants as wrapper
+use Rattle.def_machine.specs.Stacks.{Stack}
+use Rattle.def_tree.specs.Tree.{Tree, Trees, just_0, just_1, pk_k, pk_h, older, after, hash, and_or, two, thresh, multi, wrap, none, more}
+use Rattle.def_tree.specs.Range.{count}
+use Rattle.def_tree.specs.Size.{measure, measure_of}
+use Rattle.def_emit.specs.Emit.{number, emit, emit_sum, emit_added}
+use Rattle.def_sane.specs.Limits.{opcode_count}
+use Rattle.def_sane.specs.Most.{most_sat, number_of}
+use Rattle.def_sane.specs.Unfit.{IsValid}
+use Rattle.def_sane.proofs.Meanings.{valid_means}
+use Rattle.def_satisfaction.specs.Setting.{Setting}
+use Rattle.def_satisfaction.specs.Rows.{parts}
+use Rattle.ms_laws.proofs.Pieces.{opcodes-append, opcodes_of, opcodes-verified}
+
+abbrev mutual
+  pub Few : Tree → Type 0
+  Few just_0 = ⊤
+  Few just_1 = ⊤
+  Few (pk_k key) = ⊤
+  Few (pk_h key) = ⊤
+  Few (older n) = ⊤
+  Few (after n) = ⊤
+  Few (hash kind value) = ⊤
+  Few (and_or x y z) = Few x × Few y × Few z
+  Few (two kind x y) = Few x × Few y
+  Few (thresh k xs) = (count xs < 2 ^ 30) × AllFew xs
+  Few (multi k keys) = ⊤
+  Few (wrap wrapper x) = Few x
+
+  pub AllFew : Trees → Type 0
+  AllFew none = ⊤
+  AllFew (more x xs) = Few x × AllFew xs
+
+-- no more children are satisfied than there are
+pub parts_few : (s : Setting) (xs : Trees) (n : ℕ) (w : Stack) → parts s xs n w → n ≤ count xs
+parts_few s none n w r = let e = r.0 in omega arith
+parts_few s (more x xs) n w (inl r) = let l = parts_few s xs r.0 r.2.0 r.2.2 in let e = r.1 in omega arith
+parts_few s (more x xs) n w (inr r) = let l = parts_few s xs n r.0 r.2 in omega arith
+
+-- behind each child but the first stands an opcode
+few_added : (xs : Trees) → count xs ≤ opcode_count (emit_added xs)
+few_added none = omega arith
+few_added (more x xs) =
+    let e = opcodes-append (emit x) (code op.Add ∷ emit_added xs) in
+    let i = few_added xs in
+    omega arith
+
+few_summed : (xs : Trees) → count xs ≤ opcode_count (emit_sum xs) + 1
+few_summed none = omega arith
+few_summed (more x xs) =
+    let e = opcodes-append (emit x) (emit_added xs) in
+    let i = few_added xs in
+    omega arith
+
+-- a Script with few opcodes is that of a miniscript with few children
+mutual
+  pub few_opcodes : (t : Tree) → opcode_count (emit t) < 2 ^ 29 → Few t
+  few_opcodes just_0 low = tt
+  few_opcodes just_1 low = tt
+  few_opcodes (pk_k key) low = tt
+  few_opcodes (pk_h key) low = tt
+  few_opcodes (older n) low = tt
+  few_opcodes (after n) low = tt
+  few_opcodes (hash kind value) low = tt
+  few_opcodes (and_or x y z) low =
+      let e = opcodes_of (emit x) ((code op.NotIf ∷ emit z) ∷ (code op.Else ∷ emit y) ∷ (code op.EndIf ∷ []) ∷ []) in
+      (few_opcodes x (omega arith), few_opcodes y (omega arith), few_opcodes z (omega arith))
+  few_opcodes (two kind.AndV x y) low = let e = opcodes-append (emit x) (emit y) in (few_opcodes x (omega arith), few_opcodes y (omega arith))
+  few_opcodes (two kind.AndB x y) low = let e = opcodes_of (emit x) (emit y ∷ (code op.BoolAnd ∷ []) ∷ []) in (few_opcodes x (omega arith), few_opcodes y (omega arith))
+  few_opcodes (two kind.OrB x y) low = let e = opcodes_of (emit x) (emit y ∷ (code op.BoolOr ∷ []) ∷ []) in (few_opcodes x (omega arith), few_opcodes y (omega arith))
+  few_opcodes (two kind.OrC x y) low = let e = opcodes_of (emit x) ((code op.NotIf ∷ emit y) ∷ (code op.EndIf ∷ []) ∷ []) in (few_opcodes x (omega arith), few_opcodes y (omega arith))
+  few_opcodes (two kind.OrD x y) low = let e = opcodes_of (emit x) ((code op.IfDup ∷ code op.NotIf ∷ emit y) ∷ (code op.EndIf ∷ []) ∷ []) in (few_opcodes x (omega arith), few_opcodes y (omega arith))
+  few_opcodes (two kind.OrI x y) low = let e = opcodes_of (code op.If ∷ emit x) ((code op.Else ∷ emit y) ∷ (code op.EndIf ∷ []) ∷ []) in (few_opcodes x (omega arith), few_opcodes y (omega arith))
+  few_opcodes (thresh k xs) low =
+      let e = opcodes-append (emit_sum xs) (number k ∷ code op.Equal ∷ []) in
+      let i = few_summed xs in
+      (omega arith, few_sum xs (omega arith))
+  few_opcodes (multi k keys) low = tt
+  few_opcodes (wrap wrapper.A x) low = let e = opcodes-append (code op.ToAltStack ∷ emit x) (code op.FromAltStack ∷ []) in few_opcodes x (omega arith)
+  few_opcodes (wrap wrapper.S x) low = few_opcodes x (omega arith)
+  few_opcodes (wrap wrapper.C x) low = let e = opcodes-append (emit x) (code op.CheckSig ∷ []) in few_opcodes x (omega arith)
+  few_opcodes (wrap wrapper.D x) low = let e = opcodes-append (code op.Dup ∷ code op.If ∷ emit x) (code op.EndIf ∷ []) in few_opcodes x (omega arith)
+  few_opcodes (wrap wrapper.V x) low = let e = opcodes-verified (emit x) in few_opcodes x (omega arith)
+  few_opcodes (wrap wrapper.J x) low = let e = opcodes-append (code op.Size ∷ code op.ZeroNotEqual ∷ code op.If ∷ emit x) (code op.EndIf ∷ []) in few_opcodes x (omega arith)
+  few_opcodes (wrap wrapper.N x) low = let e = opcodes-append (emit x) (code op.ZeroNotEqual ∷ []) in few_opcodes x (omega arith)
+
+  few_sum : (xs : Trees) → opcode_count (emit_sum xs) < 2 ^ 29 → AllFew xs
+  few_sum none low = tt
+  few_sum (more x xs) low = let e = opcodes-append (emit x) (emit_added xs) in (few_opcodes x (omega arith), few_rest xs (omega arith))
+
+  few_rest : (xs : Trees) → opcode_count (emit_added xs) < 2 ^ 29 → AllFew xs
+  few_rest none low = tt
+  few_rest (more x xs) low = let e = opcodes-append (emit x) (code op.Add ∷ emit_added xs) in (few_opcodes x (omega arith), few_rest xs (omega arith))
+
+-- so is every valid miniscript, and every one in range
+pub few_valid : (t : Tree) → IsValid t → Few t
+few_valid t valid =
+    let means = (valid_means t).0 valid in
+    let ops : opcode_count (emit t) + number_of (λ x. x.keys) (most_sat t) ≤ 201 = means.3 in
+    few_opcodes t (omega arith)
+
+mutual
+  pub few_measured : (t : Tree) → measure t < 2 ^ 30 → Few t
+  few_measured just_0 low = tt
+  few_measured just_1 low = tt
+  few_measured (pk_k key) low = tt
+  few_measured (pk_h key) low = tt
+  few_measured (older n) low = tt
+  few_measured (after n) low = tt
+  few_measured (hash kind value) low = tt
+  few_measured (and_or x y z) low = (few_measured x (omega arith), few_measured y (omega arith), few_measured z (omega arith))
+  few_measured (two kind x y) low = (few_measured x (omega arith), few_measured y (omega arith))
+  few_measured (thresh k xs) low = let i = counted_measure xs in (omega arith, all_measured xs (omega arith))
+  few_measured (multi k keys) low = tt
+  few_measured (wrap wrapper x) low = few_measured x (omega arith)
+
+  all_measured : (xs : Trees) → measure_of xs < 2 ^ 30 → AllFew xs
+  all_measured none low = tt
+  all_measured (more x xs) low = (few_measured x (omega arith), all_measured xs (omega arith))
+
+  counted_measure : (xs : Trees) → count xs ≤ measure_of xs
+  counted_measure none = omega arith
+  counted_measure (more x xs) = let i = counted_measure xs in let j = some_measure x in omega arith
+
+  some_measure : (t : Tree) → 1 ≤ measure t
+  some_measure just_0 = omega arith
+  some_measure just_1 = omega arith
+  some_measure (pk_k key) = omega arith
+  some_measure (pk_h key) = omega arith
+  some_measure (older n) = omega arith
+  some_measure (after n) = omega arith
+  some_measure (hash kind value) = omega arith
+  some_measure (and_or x y z) = omega arith
+  some_measure (two kind x y) = omega arith
+  some_measure (thresh k xs) = omega arith
+  some_measure (multi k keys) = omega arith
+  some_measure (wrap wrapper x) = omega arith

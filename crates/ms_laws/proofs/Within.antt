@@ -1,0 +1,127 @@
+-- A canonical satisfaction keeps within the limits of its miniscript.
+use Rattle.std.proofs.Common.{◌≡◌, ℕ, ◌+◌, ◌≤◌, ◌&&◌, ◌||◌, not, Bool, true, false, List, [], ◌∷◌, ◌++◌, length, reverse, All, inl, inr, IsTrue, refl, sym, ◌∙◌, ap, subst, arith}
+use Rattle.std.specs.Prelude.{⊤}
+use Rattle.std.specs.Str.{bytes_eq}
+use Rattle.std.proofs.lemmas.Slice.Eq.{bytes_eq-Decides}
+use Rattle.std.proofs.lemmas.List.{length-reverse, reverse-reverse}
+use Rattle.std.proofs.lemmas.List.Elements.{All-nil, All-cons, All-head, All-tail, All-same, All-append}
+use Rattle.def_script.specs.Bytes.{Bytes}
+use Rattle.def_machine.specs.Stacks.{Stack, Pairs, member, is_empty}
+use Rattle.def_machine.specs.MultiSig.{is_good}
+use Rattle.def_tree.specs.Tree.{Tree, Trees}
+use Rattle.def_tree.specs.Range.{IsWritable, AreWritable}
+use Rattle.def_types.proofs.Facts.{both_true}
+use Rattle.def_emit.specs.Emit.{emit}
+use Rattle.def_assets.specs.Assets.{Assets, AreAssets, IsSignature}
+use Rattle.def_sane.specs.declared.Limits.{Limits}
+use Rattle.def_sane.specs.Limits.{opcode_count, IsGreatest, AreLimits}
+use Rattle.def_sane.specs.Unfit.{IsValid}
+use Rattle.def_sane.specs.Formal.{Takes, FormalSat, FormalDsat, FormalParts}
+use Rattle.def_sane.proofs.Meanings.{valid_means}
+use Rattle.def_sane.proofs.Greatest.{limits_are_unique}
+use Rattle.def_satisfaction.specs.Weight.{weight}
+use Rattle.def_satisfaction.specs.Setting.{Setting}
+use Rattle.def_satisfaction.specs.Rows.{row, parts}
+use Rattle.def_satisfaction.specs.Satisfaction.{Sat, canonical}
+use Rattle.def_choice.proofs.Weights.{reverse-cons, weight-reverse}
+use Rattle.ms_laws.proofs.Logs.{sat_log, dsat_log, parts_log}
+use Rattle.ms_laws.proofs.Sized.{IsShort, AreShort, SizedIf, not_true, sized_if_sat, sized_if_dsat, sized_if_parts}
+
+-- a signature that assets hold
+held_short : (pairs : Pairs) → All (λ pair. IsSignature pair.1) pairs → (key sig : Bytes) → member pairs key sig ≡ true → length sig ≤ 73
+held_short [] all key sig h = absurd (not_true h)
+held_short (pair ∷ pairs) all key sig h =
+    go (bytes_eq pair.0 key) (bytes_eq pair.1 sig) refl h (held_short pairs (All-tail (λ p. IsSignature p.1) pair pairs all) key sig)
+  where
+    is : IsSignature pair.1
+    is = All-head (λ p. IsSignature p.1) pair pairs all
+
+    go : (first second : Bool) → bytes_eq pair.1 sig ≡ second → ((first && second) || member pairs key sig) ≡ true →
+        (member pairs key sig ≡ true → length sig ≤ 73) → length sig ≤ 73
+    go true true e k next =
+        let f : length pair.1 ≡ length sig = ap length ((bytes_eq-Decides pair.1 sig).0 e) in
+        let l = is.few in
+        omega (arith, f, l)
+    go true false e k next = next k
+    go false second e k next = next k
+
+good_short : (assets : Assets) → AreAssets assets → (key sig : Bytes) → IsTrue (is_good assets.pairs key sig) → length sig ≤ 73
+good_short assets are key sig h =
+    held_short assets.pairs are.signatures key sig (both_true (not (is_empty sig)) (member assets.pairs key sig) h).1
+
+-- a formal one with as many items and keys, and as much weight or more
+pub record Sized (P : Takes → Type 0) (w : Stack) (tries : ℕ) : Type 0 where
+  pub takes : Takes
+  pub formal : P takes
+  pub items : length w ≡ takes.items
+  pub weight : weight w ≤ takes.weight
+  pub keys : tries ≡ takes.keys
+  pub short : AreShort w
+
+sized : (P : Takes → Type 0) (w : Stack) (n : ℕ) → SizedIf ⊤ P w n → Sized P w n
+sized P w n p = record {
+  takes = p.takes;
+  formal = p.formal;
+  items = p.items;
+  weight = p.light tt;
+  keys = p.keys;
+  short = p.short tt;
+}
+
+module _ (assets : Assets) (are : AreAssets assets) where
+  pub sized_sat : (t : Tree) → IsWritable t → (w : Stack) (r : (row (canonical assets) t).sat w) → Sized (FormalSat t) w (sat_log (canonical assets) t w r).keys
+  sized_sat t h w r = sized _ _ _ (sized_if_sat (canonical assets) not_true ⊤ (λ i. good_short assets are) t h w r)
+
+  pub sized_dsat : (t : Tree) → IsWritable t → (w : Stack) (r : (row (canonical assets) t).dsat w) → Sized (FormalDsat t) w (dsat_log (canonical assets) t w r).keys
+  sized_dsat t h w r = sized _ _ _ (sized_if_dsat (canonical assets) not_true ⊤ (λ i. good_short assets are) t h w r)
+
+  pub sized_parts : (xs : Trees) → AreWritable xs → (n : ℕ) (w : Stack) (r : parts (canonical assets) xs n w) →
+      Sized (FormalParts xs n) w (parts_log (canonical assets) xs n w r).keys
+  sized_parts xs h n w r = sized _ _ _ (sized_if_parts (canonical assets) not_true ⊤ (λ i. good_short assets are) xs h n w r)
+
+-- whatever the table of signatures
+pub keys_formal : (s : Setting) → s.all_rows ≡ false → (t : Tree) → IsWritable t → (w : Stack) (r : (row s t).sat w) →
+    (takes : Takes) × FormalSat t takes × ((sat_log s t w r).keys ≡ takes.keys)
+keys_formal s e t h w r =
+    let p = sized_if_sat s (λ i. not_true (sym e ∙ i)) ⊥ (λ i. absurd i) t h w r in
+    (p.takes, p.formal, p.keys)
+
+-- no more than the greatest
+below_greatest : (P : Takes → Type 0) (number : Takes → ℕ) (n : ℕ) → IsGreatest P number n → (t : Takes) → P t → number t ≤ n
+below_greatest P number n (inl g) t h = g.3 t h
+below_greatest P number n (inr g) t h = absurd (g.0 t h)
+
+short-reverse : (w : Stack) → AreShort w → AreShort (reverse w)
+short-reverse [] h = h
+short-reverse (x ∷ w) h =
+    All-same IsShort (reverse (x ∷ w)) (reverse w ++ x ∷ []) (reverse-cons x w)
+    (All-append IsShort (reverse w) (x ∷ []) (short-reverse w (All-tail IsShort x w h)) (All-cons IsShort x [] (All-head IsShort x w h) (All-nil IsShort)))
+
+-- a canonical satisfaction keeps within the limits of its miniscript
+pub within_limits : (tree : Tree) (limits : Limits) (assets : Assets) (stack : List Bytes) → IsWritable tree → AreLimits tree limits → AreAssets assets →
+    Sat tree assets stack → (length stack ≤ limits.items) × (weight stack ≤ limits.weight) × AreShort stack
+within_limits tree limits assets stack writable are_limits are sat =
+    let p = sized_sat assets are tree writable (reverse stack) sat in
+    let i = below_greatest (FormalSat tree) (λ t. t.items) limits.items are_limits.items p.takes p.formal in
+    let l = below_greatest (FormalSat tree) (λ t. t.weight) limits.weight are_limits.weight p.takes p.formal in
+    let items = p.items in
+    let light = p.weight in (
+      omega (arith, i, items, length-reverse stack),
+      omega (arith, l, light, weight-reverse stack),
+      subst AreShort (reverse-reverse stack) (short-reverse (reverse stack) p.short),
+    )
+
+-- so do the opcodes of its Script with the keys that are tried
+pub few_ops : (tree : Tree) (limits : Limits) (s : Setting) (w : Stack) → IsWritable tree → AreLimits tree limits → s.all_rows ≡ false →
+    (r : (row s tree).sat w) → opcode_count (emit tree) + (sat_log s tree w r).keys ≤ limits.ops
+few_ops tree limits s w writable are_limits e r =
+    let k = keys_formal s e tree writable w r in
+    let l = below_greatest (FormalSat tree) (λ t. t.keys) are_limits.ops.0 are_limits.ops.1 k.0 k.1 in
+    let same : limits.ops ≡ opcode_count (emit tree) + are_limits.ops.0 = are_limits.ops.2 in
+    omega (arith, l, same, k.2)
+
+-- the limits of a valid miniscript
+pub valid_limits : (tree : Tree) (limits : Limits) → IsValid tree → AreLimits tree limits → (limits.size ≤ 3600) × (limits.ops ≤ 201) × (limits.items ≤ 100)
+valid_limits tree limits valid are =
+    let means = (valid_means tree).0 valid in
+    rw (limits_are_unique tree limits are) (means.2, means.3, means.4)

@@ -1,0 +1,19 @@
+use Rattle.ms_laws.proofs.laws.strict.Goals as goal
+use Rattle.ms_laws.proofs.StrictFound.{strict_exists}
+use Rattle.ms_laws.proofs.Unchanged.{strict_is_non_malleable, nothing_to_accept, tight_is_non_malleable}
+use Rattle.ms_laws.proofs.TightNeeded.{strict_is_lightest}
+
+pub returns-clause-exists : goal.returns-clause-exists
+returns-clause-exists c = strict_exists
+
+pub returns-clause-non_malleable : goal.returns-clause-non_malleable
+returns-clause-non_malleable c = strict_is_non_malleable
+
+pub returns-clause-nothing : goal.returns-clause-nothing
+returns-clause-nothing c = nothing_to_accept
+
+pub returns-clause-tight : goal.returns-clause-tight
+returns-clause-tight c = tight_is_non_malleable
+
+pub returns-clause-lightest : goal.returns-clause-lightest
+returns-clause-lightest c = strict_is_lightest
