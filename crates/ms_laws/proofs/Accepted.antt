@@ -1,7 +1,7 @@
 -- The interpreter accepts the canonical satisfactions of a valid miniscript; and what it accepts are satisfactions.
 use Rattle.std.proofs.Common.{◌≡◌, ℕ, ◌+◌, ◌^◌, ◌<◌, ◌≤◌, nat_le, Bool, true, false, List, [], ◌∷◌, ◌++◌, length, reverse, All, Ok, refl, sym, ◌∙◌, ap, subst, ◌⊎◌, inl, inr, arith}
 use Rattle.std.specs.List.{list_all}
-use Rattle.std.proofs.lemmas.Bool.{leb-true}
+use Rattle.std.proofs.lemmas.Bool.{leb-true, false≢true}
 use Rattle.std.proofs.lemmas.List.{append-nil, length-reverse, reverse-reverse}
 use Rattle.std.proofs.lemmas.List.Elements.{All-head, All-tail, All-nil, All-cons}
 use Rattle.def_script.specs.Bytes.{Bytes}
@@ -153,14 +153,11 @@ accounted tree given stack checks writable valid is =
     true_value : (u b : Bool) (v : Bytes) → Value u b v → truth v ≡ true → b ≡ true
     true_value u b v value e = sym value.truth ∙ sym (truth-natural value.number value.small) ∙ ap truth (sym value.is) ∙ e
 
-    false_is : false ≡ true → ⊥
-    false_is e = cc
-
     go : (b : Bool) (w : Stack) (l : Log) → reverse stack ≡ w → b ≡ true → Took (logged (full given any) tree) b w l → checks ≡ l.checks → Accounted tree given stack checks
     go true w l e i took c =
         let q = subst (λ v. (logged (full given any) tree).sat v l) (sym e) took in
         record { row = q.0; log = c ∙ sym (ap (λ z. z.checks) q.1) }
-    go false w l e i took c = absurd (false_is i)
+    go false w l e i took c = absurd (false≢true i)
 
 pub accepted_is_satisfaction : AcceptedIsSatisfaction
 accepted_is_satisfaction tree given stack checks writable valid is = (accounted tree given stack checks writable valid is).row

@@ -1,5 +1,6 @@
 -- What the main stack was where a fragment or wrapper with children went on, over any children of which that is known.
 use Rattle.std.proofs.Common.{◌≡◌, ◌≢◌, ◌&&◌, ◌||◌, Bool, true, false, [], ◌∷◌, ◌++◌, Ok, refl, sym, ◌∙◌, ap, subst, ◌⊎◌, inl, inr}
+use Rattle.std.proofs.lemmas.Bool.{true≢false}
 use Rattle.def_machine.specs.Faults.{OrFault}
 use Rattle.def_machine.specs.Stacks.{Stack, Pairs, bool_bytes}
 use Rattle.def_machine.specs.Effects.{if_dup, bool_and, bool_or}
@@ -84,16 +85,13 @@ if_dup_back h false s end l e =
 pub or_d_back : (table : Pairs) (u : Bool) (f h : Effect) (X Z R : Logged) → ((w : Stack) (l : Log) → X.sat w l → R.sat w l) → ((b : Bool) → Rows2 b X.dsat (Took Z b) R) → ((m end : Stack) (l : Log) → f m ≡ Ok (left end l) → BackB true X m end l) → ((m end : Stack) (l : Log) → h m ≡ Ok (left end l) → BackB u Z m end l) → (m end : Stack) (l : Log) → both f (both (plain if_dup) (choose silent h)) m ≡ Ok (left end l) → BackB u R m end l
 or_d_back table u f h X Z R rows others x z = behind_unit table B u f (both (plain if_dup) (choose silent h)) X R next x
   where
-    not_both : true ≡ false → ⊥
-    not_both e = cc
-
     on : (b : Bool) (m w s end : Stack) (k l : Log) → m ≡ w ++ s → Took X b w k → ((b ≡ true) × (end ≡ ONE ∷ s) × (l ≡ quiet)) ⊎ ((b ≡ false) × (h s ≡ Ok (left end l))) → BackB u R m end (then_log k l)
     on true m w s end k l i took (inl p) =
         (true, w, s, ONE, i, p.1, bool_value u true, subst (R.sat w) (sym (ap (then_log k) p.2 ∙ quiet_right k)) (rows w k took))
     on false m w s end k l i took (inr p) =
         prepend table B u R Z (then_log k) m w s end l (λ e. cc) (keeps_behind k) i (λ b v n q. others b w v k n took q) (z s end l p.1)
-    on true m w s end k l i took (inr p) = absurd (not_both p.0)
-    on false m w s end k l i took (inl p) = absurd (not_both (sym p.0))
+    on true m w s end k l i took (inr p) = absurd (true≢false p.0)
+    on false m w s end k l i took (inl p) = absurd (true≢false (sym p.0))
 
     next : (b : Bool) (m w s end : Stack) (k l : Log) → m ≡ w ++ s → Took X b w k → both (plain if_dup) (choose silent h) (bool_bytes b ∷ s) ≡ Ok (left end l) → BackB u R m end (then_log k l)
     next b m w s end k l i took e = on b m w s end k l i took (if_dup_back h b s end l e)

@@ -1,7 +1,7 @@
 -- What the main stack was where a fragment without children went on.
 use Rattle.std.proofs.Common.{◌≡◌, ℕ, zero, suc, ◌+◌, ◌/◌, ◌%◌, ◌^◌, ◌<◌, nat_lt, Bool, true, false, IsTrue, [], ◌∷◌, length, Ok, refl, sym, ◌∙◌, ap, inl, inr, if◌then◌else◌, arith}
 use Rattle.std.specs.Str.{bytes_eq}
-use Rattle.std.proofs.lemmas.Bool.{cases_Bool}
+use Rattle.std.proofs.lemmas.Bool.{cases_Bool, false≢true}
 use Rattle.std.proofs.lemmas.Slice.Eq.{bytes_eq-Decides}
 use Rattle.def_hash.specs.declared.HashKind.{HashKind}
 use Rattle.def_hash.specs.declared.HashKind.TheVariants as hash_kind
@@ -155,10 +155,7 @@ hash_tail kind value = both (plain (hash_top kind)) (both (pushes value) (plain 
 
 hash_took : (given : Given) (kind : HashKind) (value x : Bytes) (l : Log) → length x ≡ 32 → l ≡ quiet → (b : Bool) → bytes_eq (digest_of kind x) value ≡ b → Took (logged (full given any) (hash kind value)) b (x ∷ []) l
 hash_took given kind value x l long log true e = ((x, ((long, (bytes_eq-Decides (digest_of kind x) value).0 e), tt), refl), sym log)
-hash_took given kind value x l long log false e = (inr (refl, (x, (long, λ same. false_is (sym e ∙ (bytes_eq-Decides (digest_of kind x) value).1 same)), refl)), sym log)
-  where
-    false_is : false ≡ true → ⊥
-    false_is e = cc
+hash_took given kind value x l long log false e = (inr (refl, (x, (long, λ same. false≢true (sym e ∙ (bytes_eq-Decides (digest_of kind x) value).1 same)), refl)), sym log)
 
 pub hash_back : (given : Given) (kind : HashKind) (value : Bytes) (m end : Stack) (l : Log) → den given (hash kind value) m ≡ Ok (left end l) → BackB true (logged (full given any) (hash kind value)) m end l
 unfolding size hash_top equal

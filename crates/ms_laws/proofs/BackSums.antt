@@ -2,7 +2,7 @@
 use Rattle.std.proofs.Common.{◌≡◌, ℕ, ◌+◌, ◌^◌, ◌<◌, ◌≤◌, nat_lt, Bool, true, false, IsTrue, List, [], ◌∷◌, ◌++◌, length, reverse, replicate, take, drop, Option, Some, None, Ok, Err, refl, sym, ◌∙◌, ap, subst, ◌⊎◌, inl, inr, arith}
 use Rattle.std.specs.List.{list_all}
 use Rattle.std.specs.Str.{bytes_eq}
-use Rattle.std.proofs.lemmas.Bool.{cases_Bool, ltb-false}
+use Rattle.std.proofs.lemmas.Bool.{cases_Bool, ltb-false, false≢true, true≢false}
 use Rattle.std.proofs.lemmas.List.{take-append-drop, length-take, length-reverse}
 use Rattle.def_script.specs.Bytes.{Bytes}
 use Rattle.def_script.specs.Numbers.{natural_bytes}
@@ -192,10 +192,7 @@ tries_signs table (key ∷ keys) (sig ∷ sigs) found all e =
 all_empties : (sigs : Stack) → list_all is_empty sigs ≡ true → sigs ≡ replicate (length sigs) EMPTY
 all_empties [] e = refl
 all_empties ([] ∷ sigs) e = ap (λ v. EMPTY ∷ v) (all_empties sigs e)
-all_empties ((b ∷ sig) ∷ sigs) e = absurd (false_is e)
-  where
-    false_is : false ≡ true → ⊥
-    false_is e = cc
+all_empties ((b ∷ sig) ∷ sigs) e = absurd (false≢true e)
 
 -- what CHECKMULTISIG found, and where
 pub record Tried (table : Pairs) (keys : List Key) (k : ℕ) (m end : Stack) (l : Log) : Type 0 where
@@ -248,7 +245,7 @@ tried_back table keys k m end l e =
           tries_signs table (reverse keys) a.0.0 [] p.0 (c.1 ∙ ap ok_found p.1),
           sym (ap (λ z. z.log) same) ∙ ap (λ v. log_of (length keys) v.1) p.2 ∙ ap (λ t. log_of (length keys) (found_in t)) (sym (c.1 ∙ ap ok_found p.1)),
         );
-        unsigned = λ i. absurd (true_is i);
+        unsigned = λ i. absurd (true≢false i);
       }
       | inr p ↦ record {
         sigs = a.0.0;
@@ -257,13 +254,10 @@ tried_back table keys k m end l e =
         at = at;
         count = off.1;
         main = sym (ap (λ z. z.main) same) ∙ ap (λ v. bool_bytes v.0 ∷ b.0.1) p.1;
-        signed = λ i. absurd (true_is (sym i));
+        signed = λ i. absurd (true≢false (sym i));
         unsigned = λ i. (p.0 ∙ ap (λ n. replicate n EMPTY) off.1, sym (ap (λ z. z.log) same) ∙ ap (λ v. log_of (length keys) v.1) p.1);
       }
     ]
-  where
-    true_is : true ≡ false → ⊥
-    true_is e = cc
 
 pub multi_tried : (table : Pairs) (keys : List Key) (k : ℕ) (m end : Stack) (l : Log) → length keys ≤ 20 → k ≤ length keys → multi_effect table k keys m ≡ Ok (left end l) → Tried table keys k m end l
 multi_tried table keys k m end l few low e =

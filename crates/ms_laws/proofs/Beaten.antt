@@ -1,7 +1,7 @@
 -- A canonical satisfaction that isn't tight is beaten: another one needs fewer of its signatures, and no other.
 use Rattle.std.proofs.Common.{◌≡◌, ℕ, suc, ◌+◌, ◌≤◌, Bool, true, false, [], ◌∷◌, ◌++◌, Option, refl, subst, ◌⊎◌, inl, inr, arith, if◌then◌else◌}
 use Rattle.std.specs.List.{list_all}
-use Rattle.std.proofs.lemmas.Bool.{leb-true}
+use Rattle.std.proofs.lemmas.Bool.{leb-true, false≢true}
 use Rattle.def_script.specs.Bytes.{Bytes}
 use Rattle.def_machine.specs.Stacks.{Stack, Pairs}
 use Rattle.def_tree.specs.declared.Two.TheVariants as kind
@@ -29,9 +29,6 @@ use Rattle.ms_laws.proofs.TightOnes.{one_or_none, free_best, free_dsat_best}
 use Rattle.ms_laws.proofs.Found.{Disjoint, distinct_parts, in_none}
 use Rattle.ms_laws.proofs.Fewer.{HasPair, IsWithin, Fewer, Apart, has_right, apart_none, apart_turned, apart_inside, fewer_none, fewer_within, within_right, fewer_left, fewer_right, has_cases}
 use Rattle.ms_laws.proofs.Checks.{checks, dsat_checks, parts_checks, dsat_quiet, free_quiet, both_free, either_left, either_right, free_or_pair, keys_within, keys_of_parts}
-
-not_true : false ≡ true → ⊥
-not_true h = cc
 
 third : {P Q R : Type 0} → P ⊎ Q → P ⊎ (Q ⊎ R)
 third (inl p) = inl p
@@ -281,7 +278,7 @@ module _ (assets : Assets) (are : AreAssets assets) where
         (best_both _ _ _ _ (free_dsat_best assets are z k.1) (free_best assets are x k.0))
         (best_both _ _ _ _ (free_best assets are z k.1) (free_dsat_best assets are x k.0)))
         (λ one. free_beats (two kind.OrB x z) t one.0 (third one.1) _))
-    beats (two kind.OrB x z) k t m d w (inr (inr r)) = absurd (not_true r.0)
+    beats (two kind.OrB x z) k t m d w (inr (inr r)) = absurd (false≢true r.0)
     beats (two kind.OrC x z) k t m d w (inl r) =
         let q = distinct_parts (keys x) (keys z) d in
         either_left _ _ _ (settled _ _ _ _ _

@@ -1,6 +1,7 @@
 -- Where there is a satisfaction with what assets hold, there is a canonical one; and one without signatures, where
 -- none of the miniscript's keys has one.
-use Rattle.std.proofs.Common.{◌≡◌, ℕ, true, false, IsTrue, List, [], ◌∷◌, ◌++◌, reverse, Contains, inl, inr, refl, sym, ◌∙◌, subst, arith}
+use Rattle.std.proofs.Common.{◌≡◌, ℕ, true, IsTrue, List, [], ◌∷◌, ◌++◌, reverse, Contains, inl, inr, refl, sym, ◌∙◌, subst, arith}
+use Rattle.std.proofs.lemmas.Bool.{false≢true}
 use Rattle.std.proofs.lemmas.List.Elements.{Contains-append_left, Contains-append_right}
 use Rattle.def_hash.specs.Hash.{hash160}
 use Rattle.def_hash.specs.declared.HashKind.{HashKind}
@@ -147,13 +148,10 @@ module _ (s t : Setting) (has : HasAssets s t) where
         (sat_gives x k.0 typed.0 safe.0 (give_left s t (keys x) (keys_of_all xs) h)) (free_dsat t x k.0 safe.0 p.0)
         (parts_sat_give xs k.1 typed.1 safe.1 (give_right s t (keys x) (keys_of_all xs) h) p.1) n
 
-false_is : false ≡ true → ⊥
-false_is e = cc
-
 -- where the table has none of the miniscript's keys
 pub free_sat : (s t : Setting) → HasAssets s t → (tree : Tree) → IsWritable tree → IsTyped tree → IsNonMalleable tree → NoKeys s (keys tree) → Gives (row s tree).sat (row t tree).sat
 free_sat s t has tree k typed safe h =
-    sat_gives s t has tree k typed safe (λ key other sig i same counts good. absurd (false_is (sym (h key other sig i same counts) ∙ good)))
+    sat_gives s t has tree k typed safe (λ key other sig i same counts good. absurd (false≢true (sym (h key other sig i same counts) ∙ good)))
 
 -- where it is the table of the assets
 pub canonical_sat : (assets : Assets) (tree : Tree) → IsWritable tree → IsTyped tree → IsNonMalleable tree → Gives (row (full (given_of assets) (only (known assets))) tree).sat (row (canonical assets) tree).sat

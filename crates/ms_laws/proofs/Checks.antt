@@ -1,6 +1,7 @@
 -- What a run logs along a canonical row: nothing along a dissatisfaction and along a satisfaction without
 -- signatures, and otherwise pairs with keys of the miniscript.
-use Rattle.std.proofs.Common.{◌≡◌, ℕ, ◌≤◌, true, false, List, [], ◌∷◌, ◌++◌, length, reverse, All, refl, sym, subst, ◌⊎◌, inl, inr, arith}
+use Rattle.std.proofs.Common.{◌≡◌, ℕ, ◌≤◌, List, [], ◌∷◌, ◌++◌, length, reverse, All, refl, sym, subst, ◌⊎◌, inl, inr, arith}
+use Rattle.std.proofs.lemmas.Bool.{false≢true}
 use Rattle.std.proofs.lemmas.List.Elements.{Contains-append_left, Contains-append_right}
 use Rattle.def_script.specs.Bytes.{Bytes}
 use Rattle.def_machine.specs.Stacks.{Stack, Pairs}
@@ -25,9 +26,6 @@ use Rattle.ms_laws.proofs.Sole.{Inside, inside_both}
 use Rattle.ms_laws.proofs.Quiet.{quiet_dsat}
 use Rattle.ms_laws.proofs.FreeStacks.{signed_dsat, signs}
 use Rattle.ms_laws.proofs.Fewer.{HasPair, pair_left, pair_right, both_none, has_cases, has_one}
-
-not_true : false ≡ true → ⊥
-not_true h = cc
 
 -- where signatures are found there is a pair
 first_pair : (key sig : Bytes) (rest : Pairs) → HasPair ((key, sig) ∷ rest)
@@ -72,10 +70,10 @@ on_right c ks ls f k s h = Contains-append_right ks ls k (f k s h)
 
 own_inside : (key sig : Bytes) → Inside ((key, sig) ∷ []) (key ∷ [])
 own_inside key sig k s h =
-    elim (first_or_later key sig [] k s h) [ inl p ↦ (0, omega arith, p.0) | inr i ↦ absurd (not_true i) ]
+    elim (first_or_later key sig [] k s h) [ inl p ↦ (0, omega arith, p.0) | inr i ↦ absurd (false≢true i) ]
 
 none_inside : (ks : List Key) → Inside [] ks
-none_inside ks k s h = absurd (not_true h)
+none_inside ks k s h = absurd (false≢true h)
 
 module _ (assets : Assets) where
   -- the pairs that are logged
@@ -95,7 +93,7 @@ module _ (assets : Assets) where
 
   -- a dissatisfaction logs nothing
   pub dsat_quiet : (tree : Tree) (w : Stack) (r : (signed_row assets tree).dsat w) → dsat_checks tree w r ≡ []
-  dsat_quiet tree w r = quiet_dsat (canonical assets) not_true tree w r
+  dsat_quiet tree w r = quiet_dsat (canonical assets) false≢true tree w r
 
   -- a free stack, by a row along which nothing is logged
   abbrev pub IsQuiet : (tree : Tree) (w : Stack) → Type 0
@@ -136,7 +134,7 @@ module _ (assets : Assets) where
         let d = signed_dsat assets x f.1 f.3 in
         let j = free_quiet z t.1 f.0 f.2 in
         (inr (inl (f.0, f.1, j.0, d, f.4)), both_none _ _ (dsat_quiet x f.1 d) j.1)
-    free_quiet (two kind.OrB x z) t w (inr (inr f)) = absurd (not_true f.0)
+    free_quiet (two kind.OrB x z) t w (inr (inr f)) = absurd (false≢true f.0)
     free_quiet (two kind.OrC x z) t w (inl f) = let i = free_quiet x t.0 w f in (inl i.0, i.1)
     free_quiet (two kind.OrC x z) t w (inr f) =
         let d = signed_dsat assets x f.1 f.3 in
@@ -192,7 +190,7 @@ module _ (assets : Assets) where
     free_or_pair (two kind.OrB x z) k t w (inr (inl r)) =
         either_right _ _ _ (either_left _ _ _
         (both_free _ _ _ _ w r.0 r.1 r.4 (free_or_pair z k.1 t.1 r.0 r.2) (inl (free_dsat assets x r.1 r.3))))
-    free_or_pair (two kind.OrB x z) k t w (inr (inr r)) = absurd (not_true r.0)
+    free_or_pair (two kind.OrB x z) k t w (inr (inr r)) = absurd (false≢true r.0)
     free_or_pair (two kind.OrC x z) k t w (inl r) = either_left _ _ _ (free_or_pair x k.0 t.0 w r)
     free_or_pair (two kind.OrC x z) k t w (inr r) =
         either_right _ _ _ (both_free _ _ _ _ w r.0 r.1 r.4 (free_or_pair z k.1 t.1 r.0 r.2) (inl (free_dsat assets x r.1 r.3)))
@@ -243,7 +241,7 @@ module _ (assets : Assets) where
         on_left _ (keys x) (keys z) (first_inside _ _ (keys x) (dsat_quiet z r.0 r.2) (keys_within x k.0 r.1 r.3))
     keys_within (two kind.OrB x z) k w (inr (inl r)) =
         on_right _ (keys x) (keys z) (second_inside _ _ (keys z) (dsat_quiet x r.1 r.3) (keys_within z k.1 r.0 r.2))
-    keys_within (two kind.OrB x z) k w (inr (inr r)) = absurd (not_true r.0)
+    keys_within (two kind.OrB x z) k w (inr (inr r)) = absurd (false≢true r.0)
     keys_within (two kind.OrC x z) k w (inl r) = on_left _ (keys x) (keys z) (keys_within x k.0 w r)
     keys_within (two kind.OrC x z) k w (inr r) =
         on_right _ (keys x) (keys z) (second_inside _ _ (keys z) (dsat_quiet x r.1 r.3) (keys_within z k.1 r.0 r.2))

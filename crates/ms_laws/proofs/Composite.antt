@@ -1,5 +1,6 @@
 -- How the fragments and wrappers with children go on, over any children that go on.
 use Rattle.std.proofs.Common.{◌≡◌, ◌≢◌, ℕ, ◌^◌, ◌<◌, ◌&&◌, ◌||◌, Bool, true, false, not, IsTrue, [], ◌∷◌, ◌++◌, length, Ok, refl, sym, ◌∙◌, ap, subst, inl, inr, arith}
+use Rattle.std.proofs.lemmas.Bool.{true≢false}
 use Rattle.std.specs.Prelude.{pos}
 use Rattle.def_script.specs.Bytes.{Bytes}
 use Rattle.def_script.specs.Numbers.{natural_bytes}
@@ -223,10 +224,7 @@ unfolding size
 sized x s = refl
 
 pub some_length : (x : Bytes) → is_empty x ≡ false → is_nonzero (pos (length x)) ≡ true
-some_length [] e = absurd (true_is e)
-  where
-    true_is : true ≡ false → ⊥
-    true_is e = cc
+some_length [] e = absurd (true≢false e)
 some_length (b ∷ x) e = refl
 
 abbrev pub measured : Effect → Effect

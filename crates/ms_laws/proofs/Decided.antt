@@ -1,7 +1,7 @@
 -- Whether a stack satisfies or dissatisfies a miniscript can be decided.
 use Rattle.std.proofs.Common.{◌≡◌, ◌≢◌, ℕ, zero, suc, ◌+◌, ◌<◌, ◌==◌, Bool, true, false, IsTrue, List, [], ◌∷◌, ◌++◌, length, reverse, replicate, Option, Some, None, refl, sym, ◌∙◌, ap, subst, ◌⊎◌, inl, inr, arith}
 use Rattle.std.specs.Str.{bytes_eq}
-use Rattle.std.proofs.lemmas.Bool.{cases_Bool, cases_lt, eqb-true, eqb-false}
+use Rattle.std.proofs.lemmas.Bool.{cases_Bool, cases_lt, eqb-true, eqb-false, false≢true, true≢false}
 use Rattle.std.proofs.lemmas.Slice.Eq.{bytes_eq-Decides}
 use Rattle.def_hash.specs.declared.HashKind.{HashKind}
 use Rattle.def_hash.specs.Hash.{digest_of, hash160}
@@ -27,20 +27,17 @@ DecidedSet P = (w : Stack) → Decided (P w)
 
 true_or_not : (b : Bool) → Decided (IsTrue b)
 true_or_not true = inl refl
-true_or_not false = inr (λ e. false_is e)
-  where
-    false_is : false ≡ true → ⊥
-    false_is e = cc
+true_or_not false = inr (λ e. false≢true e)
 
 same_bytes : (x y : Bytes) → Decided (x ≡ y)
 same_bytes x y = go (bytes_eq x y) refl
   where
-    false_is : false ≡ true → ⊥
-    false_is e = cc
+    false≢true : false ≡ true → ⊥
+    false≢true e = cc
 
     go : (b : Bool) → bytes_eq x y ≡ b → Decided (x ≡ y)
     go true e = inl ((bytes_eq-Decides x y).0 e)
-    go false e = inr (λ i. false_is (sym e ∙ (bytes_eq-Decides x y).1 i))
+    go false e = inr (λ i. false≢true (sym e ∙ (bytes_eq-Decides x y).1 i))
 
 same_stack_or_not : (m n : Stack) → Decided (m ≡ n)
 same_stack_or_not [] [] = inl refl
@@ -240,12 +237,9 @@ decided_top (x ∷ w) = go (is_empty x) refl
     heads : (x y : Bytes) (m n : Stack) → x ∷ m ≡ y ∷ n → x ≡ y
     heads x y m n e = cc
 
-    true_is : true ≡ false → ⊥
-    true_is e = cc
-
     go : (b : Bool) → is_empty x ≡ b → Decided (HasTop (x ∷ w))
     go false e = inl (x, w, refl, e)
-    go true e = inr (λ r. true_is (sym e ∙ ap is_empty (heads x r.0 w r.1 r.2) ∙ r.3))
+    go true e = inr (λ r. true≢false (sym e ∙ ap is_empty (heads x r.0 w r.1 r.2) ∙ r.3))
 
 -- a number up to a bound
 some_number : (P : ℕ → Type 0) (bound : ℕ) → ((n : ℕ) → Decided (P n)) → ((n : ℕ) → P n → n < bound) → Decided ((n : ℕ) × P n)

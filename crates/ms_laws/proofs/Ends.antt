@@ -1,6 +1,7 @@
 -- How the Script of a miniscript goes on from a stack that ends in a satisfaction or a dissatisfaction of it, by its
 -- base type.
 use Rattle.std.proofs.Common.{◌≡◌, ◌≢◌, ℕ, zero, suc, ◌+◌, ◌^◌, ◌<◌, ◌≤◌, Bool, true, false, IsTrue, [], ◌∷◌, ◌++◌, length, Ok, refl, sym, ◌∙◌, ap, ◌⊎◌, arith}
+use Rattle.std.proofs.lemmas.Bool.{true≢false}
 use Rattle.std.specs.Prelude.{⊤, pos}
 use Rattle.std.proofs.lemmas.List.{append_assoc}
 use Rattle.def_script.specs.Bytes.{Bytes}
@@ -167,7 +168,4 @@ false_value u v value = value.is ∙ go value.number value.truth
   where
     go : (n : ℕ) → is_nonzero (pos n) ≡ false → natural_bytes n ≡ EMPTY
     go zero e = refl
-    go (suc n) e = absurd (true_is e)
-      where
-        true_is : true ≡ false → ⊥
-        true_is e = cc
+    go (suc n) e = absurd (true≢false e)

@@ -1,7 +1,7 @@
 -- Which pairs CHECKMULTISIG finds good, and that a table with no other pairs of its keys leaves no other signatures.
 use Rattle.std.proofs.Common.{◌≡◌, ◌≤◌, nat_lt, Bool, true, false, ◌&&◌, IsTrue, List, [], ◌∷◌, ◌++◌, length, reverse, All, Contains, Option, Some, None, Ok, Err, refl, sym, ◌∙◌, ap, subst, ◌⊎◌, inl, inr, arith, if◌then◌else◌, not}
 use Rattle.std.specs.Str.{bytes_eq}
-use Rattle.std.proofs.lemmas.Bool.{or_cases}
+use Rattle.std.proofs.lemmas.Bool.{or_cases, false≢true}
 use Rattle.std.proofs.lemmas.List.{append-nil, append_assoc}
 use Rattle.std.proofs.lemmas.List.Folds.{list_any-append}
 use Rattle.std.proofs.lemmas.List.Elements.{All-nil, All-cons, All-append, All-head, All-tail, Contains-append_left, Contains-append_right, Contains-append_cases, Contains-push_cases}
@@ -22,9 +22,6 @@ use Rattle.ms_laws.proofs.Logs.{found_in, multi_log}
 use Rattle.ms_laws.proofs.Multis.{good_tries}
 use Rattle.ms_laws.proofs.Unsigned.{contains-reverse}
 
-false_is : false ≡ true → ⊥
-false_is e = cc
-
 -- the pairs of a table
 pub same_pair : (key sig : Bytes) → member ((key, sig) ∷ []) key sig ≡ true
 same_pair key sig = rw ((bytes_eq-Decides key key).1 refl, (bytes_eq-Decides sig sig).1 refl) refl
@@ -41,7 +38,7 @@ in_either p q key sig h =
     or_cases (member p key sig) (member q key sig) (sym (list_any-append (λ pair. bytes_eq pair.0 key && bytes_eq pair.1 sig) p q) ∙ h)
 
 pub in_none : (p : Pairs) (key sig : Bytes) → p ≡ [] → member p key sig ≡ true → ⊥
-in_none p key sig e h = false_is (sym (ap (λ q. member q key sig) e) ∙ h)
+in_none p key sig e h = false≢true (sym (ap (λ q. member q key sig) e) ∙ h)
 
 -- no key is in both lists
 abbrev pub Disjoint : List Key → List Key → Type 0

@@ -1,5 +1,6 @@
 -- Satisfactions without a signature: they are canonical with signatures too, and with the letter s there is none.
-use Rattle.std.proofs.Common.{◌≡◌, true, false, refl, sym, ◌∙◌}
+use Rattle.std.proofs.Common.{◌≡◌, true, refl, sym, ◌∙◌}
+use Rattle.std.proofs.lemmas.Bool.{false≢true}
 use Rattle.def_machine.specs.Stacks.{Stack}
 use Rattle.def_tree.specs.Tree.{Tree}
 use Rattle.def_types.specs.Typed.{IsTyped, mall_of}
@@ -11,12 +12,9 @@ use Rattle.def_choice.specs.Tight.{signed_row, free_row}
 use Rattle.ms_laws.proofs.Unsigned.{needs}
 use Rattle.ms_laws.proofs.Properties.{bare_is_bad, no_table}
 
-not_true : false ≡ true → ⊥
-not_true h = cc
-
 free_is_wider : (assets : Assets) → IsWider (canonical (unsigned assets)) (canonical assets)
 free_is_wider assets = record {
-  signatures = λ key sig h. absurd (not_true (sym (bare_is_bad key sig) ∙ h));
+  signatures = λ key sig h. absurd (false≢true (sym (bare_is_bad key sig) ∙ h));
   older = λ n h. h;
   after = λ n h. h;
   preimages = λ kind value preimage h. h;

@@ -1,5 +1,6 @@
 -- Where the Script of a miniscript goes on, the stack ended in a satisfaction or a dissatisfaction of it.
 use Rattle.std.proofs.Common.{◌≡◌, ◌≢◌, ℕ, zero, suc, ◌+◌, ◌^◌, ◌<◌, ◌≤◌, ◌&&◌, ◌||◌, Bool, true, false, List, [], ◌∷◌, ◌++◌, length, Ok, refl, sym, ◌∙◌, ap, subst, inl, inr, arith}
+use Rattle.std.proofs.lemmas.Bool.{false≢true}
 use Rattle.std.specs.Str.{bytes_eq}
 use Rattle.std.proofs.lemmas.Slice.Eq.{bytes_eq-Decides}
 use Rattle.std.proofs.lemmas.List.{append_assoc}
@@ -141,10 +142,7 @@ thresh_took given k n xs w l low small r log = go (bytes_eq (natural_bytes n) (n
 
     go : (b : Bool) → bytes_eq (natural_bytes n) (natural_bytes k) ≡ b → Took (of_tree given (thresh k xs)) b w l
     go true e = subst (Counts given xs w l) (same_number n k low small ((bytes_eq-Decides (natural_bytes n) (natural_bytes k)).0 e)) (r, log)
-    go false e = none_of n (λ i. differ (sym e ∙ (bytes_eq-Decides (natural_bytes n) (natural_bytes k)).1 (ap natural_bytes i))) (r, log)
-      where
-        differ : false ≡ true → ⊥
-        differ e = cc
+    go false e = none_of n (λ i. false≢true (sym e ∙ (bytes_eq-Decides (natural_bytes n) (natural_bytes k)).1 (ap natural_bytes i))) (r, log)
 
 -- the children behind the first one, wherever they went on
 abbrev PartsInvert : Given → Trees → Type 0

@@ -1,5 +1,6 @@
 -- A stack satisfies a miniscript also under a table that has only the pairs which its run found good.
 use Rattle.std.proofs.Common.{◌≡◌, ℕ, true, false, IsTrue, List, [], ◌∷◌, ◌++◌, reverse, All, Some, sym, subst, inl, inr}
+use Rattle.std.proofs.lemmas.Bool.{false≢true}
 use Rattle.def_script.specs.Bytes.{Bytes}
 use Rattle.def_machine.specs.Stacks.{Stack, Pairs, is_key}
 use Rattle.def_machine.specs.MultiSig.{is_good, tries}
@@ -36,17 +37,14 @@ good_alone : (table : Pairs) (key sig : Bytes) → IsTrue (is_good table key sig
 good_alone table key sig good k g h =
     elim (first_or_later key sig [] k g h) [
       | inl same ↦ subst (λ x. IsTrue (is_good table k x)) same.1 (subst (λ x. IsTrue (is_good table x sig)) same.0 good)
-      | inr nowhere ↦ absurd (false_is nowhere)
+      | inr nowhere ↦ absurd (false≢true nowhere)
     ]
-  where
-    false_is : false ≡ true → ⊥
-    false_is e = cc
 
 good_none : (table : Pairs) → AreGood table []
-good_none table key sig h = absurd (false_is h)
+good_none table key sig h = absurd (false≢true h)
   where
-    false_is : false ≡ true → ⊥
-    false_is e = cc
+    false≢true : false ≡ true → ⊥
+    false≢true e = cc
 
 -- a setting with another table
 abbrev pub with_table : Setting → Pairs → Setting

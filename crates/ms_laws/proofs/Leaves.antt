@@ -1,5 +1,6 @@
 -- How the fragments without children go on.
 use Rattle.std.proofs.Common.{◌≡◌, ◌≢◌, ℕ, zero, suc, ◌^◌, ◌<◌, ◌≤◌, ◌==◌, ◌||◌, Bool, true, false, IsTrue, [], ◌∷◌, ◌++◌, length, Ok, refl, sym, ◌∙◌, ap, ◌⊎◌, inl, inr, slice_index, arith}
+use Rattle.std.proofs.lemmas.Bool.{false≢true}
 use Rattle.std.specs.Prelude.{pos}
 use Rattle.std.specs.Str.{bytes_eq}
 use Rattle.std.proofs.lemmas.Slice.Eq.{bytes_eq-Decides}
@@ -46,10 +47,7 @@ some_number zero low = absurd (omega arith)
 some_number (suc n) low = refl
 
 pub number_value : (n : ℕ) → 1 ≤ n → n < 2 ^ 31 → Value false true (natural_bytes n)
-number_value n some low = record { number = n; is = refl; small = low; truth = some_number n some; unit = λ e. absurd (false_is e) }
-  where
-    false_is : false ≡ true → ⊥
-    false_is e = cc
+number_value n some low = record { number = n; is = refl; small = low; truth = some_number n some; unit = λ e. absurd (false≢true e) }
 
 locked_run : (holds : ℕ → Bool) (n : ℕ) (w s : Stack) → w ≡ [] → n < 2 ^ 31 → IsTrue (holds n) → both (pushes (natural_bytes n)) (plain (lock holds)) (w ++ s) ≡ Ok (left (natural_bytes n ∷ s) quiet)
 locked_run holds n w s e low h = ap (λ m. both (pushes (natural_bytes n)) (plain (lock holds)) (m ++ s)) e ∙ rw (lock_run holds n s low h) refl

@@ -1,6 +1,6 @@
 -- A miniscript with the letter d has a dissatisfaction without a signature, where its hashes can be missed.
-use Rattle.std.proofs.Common.{◌≡◌, ◌+◌, true, false, List, [], ◌∷◌, ◌++◌, replicate, Contains, refl, inl, inr, arith, IsTrue}
-use Rattle.std.proofs.lemmas.Bool.{or_cases}
+use Rattle.std.proofs.Common.{◌≡◌, ◌+◌, true, List, [], ◌∷◌, ◌++◌, replicate, Contains, refl, inl, inr, arith, IsTrue}
+use Rattle.std.proofs.lemmas.Bool.{or_cases, false≢true}
 use Rattle.std.proofs.lemmas.List.Elements.{Contains-append_left, Contains-append_right}
 use Rattle.def_hash.specs.declared.HashKind.{HashKind}
 use Rattle.def_script.specs.Bytes.{Bytes}
@@ -31,20 +31,17 @@ missed_left a b h kind value i = h kind value (Contains-append_left a b (hash ki
 missed_right : (a b : List Tree) → AreMissed (a ++ b) → AreMissed b
 missed_right a b h kind value i = h kind value (Contains-append_right a b (hash kind value) i)
 
-false_is : false ≡ true → ⊥
-false_is e = cc
-
 module _ (s : Setting) (all : IsTrue s.all_rows) where
   mutual
     unfolding corr_rows
 
     pub missed_dsat : (t : Tree) → IsWritable t → IsTyped t → (type_of t).d ≡ true → AreMissed (all_nodes t) → HasOne (row s t).dsat
     missed_dsat just_0 k typed e h = ([], refl)
-    missed_dsat just_1 k typed e h = absurd (false_is e)
+    missed_dsat just_1 k typed e h = absurd (false≢true e)
     missed_dsat (pk_k key) k typed e h = (EMPTY ∷ [], refl)
     missed_dsat (pk_h key) k typed e h = (key ∷ EMPTY ∷ [], (key, key_form key k, refl, counts_itself s.mode key, (EMPTY ∷ [], key ∷ [], refl, refl, refl)))
-    missed_dsat (older n) k typed e h = absurd (false_is e)
-    missed_dsat (after n) k typed e h = absurd (false_is e)
+    missed_dsat (older n) k typed e h = absurd (false≢true e)
+    missed_dsat (after n) k typed e h = absurd (false≢true e)
     missed_dsat (hash kind value) k typed e h = let m = h kind value (0, omega arith, refl) in (m.0 ∷ [], inr (all, (m.0, m.1, refl)))
     missed_dsat (and_or x y z) k typed e h =
         let p = typed-and_or x y z typed in
@@ -54,7 +51,7 @@ module _ (s : Setting) (all : IsTrue s.all_rows) where
         (missed_dsat z k.2 p.2 e (missed_right (all_nodes x ++ all_nodes y) (all_nodes z) h_all))
         (missed_dsat x k.0 p.0 p.4 (missed_left (all_nodes x) (all_nodes y) h_xy)) in
         (one.0, inl one.1)
-    missed_dsat (two kind.AndV x y) k typed e h = absurd (false_is e)
+    missed_dsat (two kind.AndV x y) k typed e h = absurd (false≢true e)
     missed_dsat (two kind.AndB x y) k typed e h =
         let p = both_true (type_of x).d (type_of y).d e in
         let h_all = missed_left (all_nodes x ++ all_nodes y) (two kind.AndB x y ∷ []) h in
@@ -68,7 +65,7 @@ module _ (s : Setting) (all : IsTrue s.all_rows) where
         one_both _ _
         (missed_dsat z k.1 p.1 p.5 (missed_right (all_nodes x) (all_nodes z) h_all))
         (missed_dsat x k.0 p.0 p.3 (missed_left (all_nodes x) (all_nodes z) h_all))
-    missed_dsat (two kind.OrC x z) k typed e h = absurd (false_is e)
+    missed_dsat (two kind.OrC x z) k typed e h = absurd (false≢true e)
     missed_dsat (two kind.OrD x z) k typed e h =
         let p = typed-or_d x z typed in
         let h_all = missed_left (all_nodes x ++ all_nodes z) (two kind.OrD x z ∷ []) h in
@@ -98,7 +95,7 @@ module _ (s : Setting) (all : IsTrue s.all_rows) where
     missed_dsat (wrap wrapper.S x) k typed e h = missed_dsat x k typed.0 e (missed_left (all_nodes x) (wrap wrapper.S x ∷ []) h)
     missed_dsat (wrap wrapper.C x) k typed e h = missed_dsat x k typed.0 e (missed_left (all_nodes x) (wrap wrapper.C x ∷ []) h)
     missed_dsat (wrap wrapper.D x) k typed e h = (EMPTY ∷ [], refl)
-    missed_dsat (wrap wrapper.V x) k typed e h = absurd (false_is e)
+    missed_dsat (wrap wrapper.V x) k typed e h = absurd (false≢true e)
     missed_dsat (wrap wrapper.J x) k typed e h = (EMPTY ∷ [], inl refl)
     missed_dsat (wrap wrapper.N x) k typed e h = missed_dsat x k typed.0 e (missed_left (all_nodes x) (wrap wrapper.N x ∷ []) h)
 

@@ -1,7 +1,7 @@
 -- How CHECKMULTISIG goes on from signatures in the order of their keys, and from empty strings alone.
 use Rattle.std.proofs.Common.{◌≡◌, ℕ, zero, suc, ◌+◌, ◌^◌, ◌<◌, ◌≤◌, nat_lt, Bool, true, false, IsTrue, List, [], ◌∷◌, ◌++◌, length, reverse, replicate, All, Option, Some, None, Ok, refl, sym, ◌∙◌, ap, subst, inl, inr, arith}
 use Rattle.std.specs.List.{list_all}
-use Rattle.std.proofs.lemmas.Bool.{cases_Bool, le-ltb, le-leb}
+use Rattle.std.proofs.lemmas.Bool.{cases_Bool, le-ltb, le-leb, false≢true}
 use Rattle.std.proofs.lemmas.List.Elements.{All-nil, All-cons, All-append, All-head, All-tail}
 use Rattle.std.proofs.lemmas.List.{append_assoc, length-append, length-reverse}
 use Rattle.std.proofs.Math.Seq.{take-append_seam, drop-append_seam}
@@ -86,10 +86,7 @@ rest_good table key sig keys sigs (inl h) = h.1
 rest_good table key sig keys sigs (inr h) = signatures_drop table keys sig sigs h
 
 rest_bad : (table : Pairs) (key sig : Bytes) (keys sigs : Stack) → is_good table key sig ≡ false → AreSignatures table (key ∷ keys) (sig ∷ sigs) → AreSignatures table keys (sig ∷ sigs)
-rest_bad table key sig keys sigs bad (inl h) = absurd (false_is (sym bad ∙ h.0))
-  where
-    false_is : false ≡ true → ⊥
-    false_is e = cc
+rest_bad table key sig keys sigs bad (inl h) = absurd (false≢true (sym bad ∙ h.0))
 rest_bad table key sig keys sigs bad (inr h) = h
 
 -- trying the keys one after the other finds the signatures

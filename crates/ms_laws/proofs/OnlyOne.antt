@@ -1,5 +1,6 @@
 -- A tight satisfaction is the only satisfaction under the pairs of its own run.
-use Rattle.std.proofs.Common.{◌≡◌, ℕ, true, false, List, [], ◌∷◌, reverse, refl, sym, ◌∙◌, ap, inl, inr, arith}
+use Rattle.std.proofs.Common.{◌≡◌, ℕ, true, List, [], ◌∷◌, reverse, refl, sym, ◌∙◌, ap, inl, inr, arith}
+use Rattle.std.proofs.lemmas.Bool.{false≢true}
 use Rattle.def_script.specs.Bytes.{Bytes}
 use Rattle.def_machine.specs.Stacks.{Stack, Pairs}
 use Rattle.def_machine.specs.MultiSig.{is_good}
@@ -24,9 +25,6 @@ use Rattle.ms_laws.proofs.Quiet.{quiet_dsat}
 use Rattle.ms_laws.proofs.Found.{Covered, in_none, matched_log}
 use Rattle.ms_laws.proofs.Sole.{Sole, SoleParts, both_sole, item_sole, sat_part, dsat_part}
 use Rattle.ms_laws.proofs.Options.{Fits, AllFit, fit_wrap, fit_two, fit_and_or, fit_more, at, under, Sats, freed, no_pairs, dsat_sole, fixed_sole, pk_k_sole, pk_h_stack, pk_h_sole, some_same, multi_sole, or_b_first, or_b_second, or_first, or_second, or_i_first, or_i_second, and_or_first, and_or_second}
-
-false_is : false ≡ true → ⊥
-false_is e = cc
 
 module _ (assets : Assets) (table : Pairs) (holds : Holds table assets) where
   abbrev here : Setting
@@ -168,7 +166,7 @@ module _ (assets : Assets) (table : Pairs) (holds : Holds table assets) where
         let j = one_parts xs t.1 es.1 n below rest in (
           inr (below, above, j.0, i.0, eq),
           dsat_part (keys x) (keys_of_all xs) _ _ n (λ other. row (under assets other) x) (λ other k. parts (under assets other) xs k) w above below t.2 i.2 j.1 eq
-              (λ other c v h. unfree (freed assets other x t.0 (no_pairs assets other (keys x) _ (quiet_dsat here false_is x above i.0) c) v h)),
+              (λ other c v h. unfree (freed assets other x t.0 (no_pairs assets other (keys x) _ (quiet_dsat here false≢true x above i.0) c) v h)),
         )
 
 -- a tight satisfaction has a row under each table that holds the assets' pairs; and under no table, which of the

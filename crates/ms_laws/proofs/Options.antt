@@ -1,7 +1,7 @@
 -- The fragments with options: a tight satisfaction takes one of them, and under the pairs of its run the other has
 -- no satisfaction.
 use Rattle.std.proofs.Common.{◌≡◌, ℕ, true, false, ◌||◌, IsTrue, List, [], ◌∷◌, ◌++◌, length, reverse, Contains, Option, Some, refl, sym, ◌∙◌, ap, subst, inl, inr, arith}
-use Rattle.std.proofs.lemmas.Bool.{or_cases}
+use Rattle.std.proofs.lemmas.Bool.{or_cases, false≢true}
 use Rattle.std.proofs.lemmas.List.Elements.{Contains-append_left, Contains-append_right, Contains-append_cases}
 use Rattle.def_script.specs.Bytes.{Bytes}
 use Rattle.def_machine.specs.Stacks.{Stack, Pairs, member}
@@ -32,9 +32,6 @@ use Rattle.ms_laws.proofs.Properties.{no_table}
 use Rattle.ms_laws.proofs.Quiet.{quiet_dsat}
 use Rattle.ms_laws.proofs.Found.{Covered, Disjoint, Matched, first_or_later, in_either, in_none, first_in, distinct_parts, distinct_reverse, matched_inside, matched_only}
 use Rattle.ms_laws.proofs.Sole.{Inside, Among, NoneOf, Sole, none_of, both_sole, item_sole, more_keys, first_sole, second_sole}
-
-false_is : false ≡ true → ⊥
-false_is e = cc
 
 -- what is asked of the miniscript
 pub record Fits (t : Tree) : Type 0 where
@@ -145,9 +142,9 @@ module _ (assets : Assets) where
     pub dsat_sole : (t : Tree) → Fits t → (mall_of t).e ≡ true → (w : Stack) → (row (canonical assets) t).dsat w →
         (r : (row s0 t).dsat w) × ((keys' : List Key) → Inside (dsat_log s0 t w r).checks keys') × Sole (keys t) (dsat_log s0 t w r).checks (Dsats t) w
     dsat_sole t f e w d =
-        let r = dsat_within (canonical assets) s0 false_is (λ key other h. h) t w d in
-        let q = quiet_dsat s0 false_is t w r in
-        let b = dsat_within (canonical assets) bare false_is (λ key other h. h) t w d in (
+        let r = dsat_within (canonical assets) s0 false≢true (λ key other h. h) t w d in
+        let q = quiet_dsat s0 false≢true t w r in
+        let b = dsat_within (canonical assets) bare false≢true (λ key other h. h) t w d in (
           r,
           λ own key sig h. absurd (in_none _ key sig q h),
           record {

@@ -1,5 +1,6 @@
 -- What the letters d, s, f and e promise.
 use Rattle.std.proofs.Common.{◌≡◌, Bool, true, false, ◌&&◌, not, List, [], reverse, refl, sym, ◌∙◌, ap, subst}
+use Rattle.std.proofs.lemmas.Bool.{false≢true}
 use Rattle.std.proofs.lemmas.List.{reverse-reverse}
 use Rattle.def_script.specs.Bytes.{Bytes}
 use Rattle.def_machine.specs.Stacks.{is_empty}
@@ -56,9 +57,6 @@ forced tree ty properties locks mode stack h e dsat =
     let m = has_properties tree ty properties h in
     (needs (full (without_signatures locks) mode) tree t.0 (no_table (full (without_signatures locks) mode) (keys tree) refl)).dsat (sym (ap (λ a. a.f) m.1) ∙ e) (reverse stack) dsat
 
-not_true : false ≡ true → ⊥
-not_true h = cc
-
 pub expressive : Expressive
 expressive tree ty properties locks assets h e =
     let t = has_type tree ty h.type in
@@ -67,7 +65,7 @@ expressive tree ty properties locks assets h e =
     let there = full (without_signatures locks) (only (known assets)) in
     let w = h.type in
     let one = free_dsat (canonical assets) tree w.writable m.0 e_is in
-    let wide = dsat_within (canonical assets) there not_true (λ key other k. k) tree one.0 one.1 in
+    let wide = dsat_within (canonical assets) there false≢true (λ key other k. k) tree one.0 one.1 in
     let bare = no_table there (keys tree) refl in (
       reverse one.0,
       subst (row there tree).dsat (sym (reverse-reverse one.0)) wide,

@@ -1,8 +1,8 @@
 -- Dissatisfactions without signatures: where a miniscript has the letter e there is one of them, and where the
 -- table has none of its keys it is the only one.
-use Rattle.std.proofs.Common.{◌≡◌, ℕ, suc, ◌+◌, Bool, true, false, ◌&&◌, ◌||◌, List, [], ◌∷◌, ◌++◌, replicate, refl, sym, ◌∙◌, ap, inl, inr, arith, if◌then◌else◌}
+use Rattle.std.proofs.Common.{◌≡◌, ℕ, suc, ◌+◌, Bool, true, ◌&&◌, ◌||◌, List, [], ◌∷◌, ◌++◌, replicate, refl, sym, ◌∙◌, ap, inl, inr, arith, if◌then◌else◌}
 use Rattle.std.specs.List.{list_all}
-use Rattle.std.proofs.lemmas.Bool.{or_cases}
+use Rattle.std.proofs.lemmas.Bool.{or_cases, false≢true}
 use Rattle.def_machine.specs.Stacks.{Stack}
 use Rattle.def_tree.specs.declared.Two.TheVariants as kind
 use Rattle.def_tree.specs.declared.Wrapper.TheVariants as wrapper
@@ -21,9 +21,6 @@ use Rattle.def_satisfaction.proofs.Wider.{Within}
 use Rattle.def_choice.specs.Tight.{HasOne}
 use Rattle.ms_laws.proofs.Leaves.{key_form}
 use Rattle.ms_laws.proofs.Unsigned.{NoKeys, Needs, FewSat, IsEmpty, none_left, none_right, counts_itself, needs, few_satisfied}
-
-false_is : false ≡ true → ⊥
-false_is e = cc
 
 pub one_both : (P Q : StackSet) → HasOne P → HasOne Q → HasOne (Both P Q)
 one_both P Q p q = (q.0 ++ p.0, (p.0, q.0, p.1, q.1, refl))
@@ -47,17 +44,17 @@ mutual
 
   pub free_dsat : (s : Setting) (t : Tree) → IsWritable t → IsNonMalleable t → (mall_of t).e ≡ true → HasOne (row s t).dsat
   free_dsat s just_0 k safe e = ([], refl)
-  free_dsat s just_1 k safe e = absurd (false_is e)
+  free_dsat s just_1 k safe e = absurd (false≢true e)
   free_dsat s (pk_k key) k safe e = (EMPTY ∷ [], refl)
   free_dsat s (pk_h key) k safe e = (key ∷ EMPTY ∷ [], (key, key_form key k, refl, counts_itself s.mode key, (EMPTY ∷ [], key ∷ [], refl, refl, refl)))
-  free_dsat s (older n) k safe e = absurd (false_is e)
-  free_dsat s (after n) k safe e = absurd (false_is e)
-  free_dsat s (hash kind value) k safe e = absurd (false_is e)
+  free_dsat s (older n) k safe e = absurd (false≢true e)
+  free_dsat s (after n) k safe e = absurd (false≢true e)
+  free_dsat s (hash kind value) k safe e = absurd (false≢true e)
   free_dsat s (and_or x y z) k safe e =
       let p = both_true (mall_of z).e ((mall_of x).s || (mall_of y).f) e in
       let one = one_both _ _ (free_dsat s z k.2 safe.2 p.0) (free_dsat s x k.0 safe.0 safe.3.0) in
       (one.0, inl one.1)
-  free_dsat s (two kind.AndV x y) k safe e = absurd (false_is e)
+  free_dsat s (two kind.AndV x y) k safe e = absurd (false≢true e)
   free_dsat s (two kind.AndB x y) k safe e =
       let p = and_b_e (mall_of x).e (mall_of y).e (mall_of x).s (mall_of y).s e in
       let one = one_both _ _ (free_dsat s y k.1 safe.1 p.1) (free_dsat s x k.0 safe.0 p.0) in
@@ -65,7 +62,7 @@ mutual
   free_dsat s (two kind.OrB x z) k safe e =
       let p = both_true (mall_of x).e (mall_of z).e safe.2.0 in
       one_both _ _ (free_dsat s z k.1 safe.1 p.1) (free_dsat s x k.0 safe.0 p.0)
-  free_dsat s (two kind.OrC x z) k safe e = absurd (false_is e)
+  free_dsat s (two kind.OrC x z) k safe e = absurd (false≢true e)
   free_dsat s (two kind.OrD x z) k safe e = one_both _ _ (free_dsat s z k.1 safe.1 e) (free_dsat s x k.0 safe.0 safe.2.0)
   free_dsat s (two kind.OrI x z) k safe e =
       elim (or_cases ((mall_of x).e && (mall_of z).f) ((mall_of z).e && (mall_of x).f) e) [
@@ -84,7 +81,7 @@ mutual
   free_dsat s (wrap wrapper.S x) k safe e = free_dsat s x k safe.0 e
   free_dsat s (wrap wrapper.C x) k safe e = free_dsat s x k safe.0 e
   free_dsat s (wrap wrapper.D x) k safe e = (EMPTY ∷ [], refl)
-  free_dsat s (wrap wrapper.V x) k safe e = absurd (false_is e)
+  free_dsat s (wrap wrapper.V x) k safe e = absurd (false≢true e)
   free_dsat s (wrap wrapper.J x) k safe e = (EMPTY ∷ [], inl refl)
   free_dsat s (wrap wrapper.N x) k safe e = free_dsat s x k safe.0 e
 
@@ -171,12 +168,12 @@ module _ (s t : Setting) (own_s : OwnKeys s) (own_t : OwnKeys t) where
 
     pub one_dsat : (tree : Tree) → IsTyped tree → IsNonMalleable tree → NoKeys s (keys tree) → NoKeys t (keys tree) → (mall_of tree).e ≡ true → AreOne (row s tree).dsat (row t tree).dsat
     one_dsat just_0 typed safe h i e = is_one []
-    one_dsat just_1 typed safe h i e = absurd (false_is e)
+    one_dsat just_1 typed safe h i e = absurd (false≢true e)
     one_dsat (pk_k key) typed safe h i e = is_one _
     one_dsat (pk_h key) typed safe h i e = pk_h_one s t key own_s own_t
-    one_dsat (older n) typed safe h i e = absurd (false_is e)
-    one_dsat (after n) typed safe h i e = absurd (false_is e)
-    one_dsat (hash kind value) typed safe h i e = absurd (false_is e)
+    one_dsat (older n) typed safe h i e = absurd (false≢true e)
+    one_dsat (after n) typed safe h i e = absurd (false≢true e)
+    one_dsat (hash kind value) typed safe h i e = absurd (false≢true e)
     one_dsat (and_or x y z) typed safe h i e =
         let p = both_true (mall_of z).e ((mall_of x).s || (mall_of y).f) e in
         let h_xy = none_left s (keys x ++ keys y) (keys z) h in
@@ -191,7 +188,7 @@ module _ (s t : Setting) (own_s : OwnKeys s) (own_t : OwnKeys t) where
         (and_or_left s (mall_of x) (mall_of y) (row s x) (row s y) (row s z) (needs s x typed.0 h_x) (needs s y typed.1 h_y) p.1)
         (and_or_left t (mall_of x) (mall_of y) (row t x) (row t y) (row t z) (needs t x typed.0 i_x) (needs t y typed.1 i_y) p.1)
         (both_one _ _ _ _ (one_dsat z typed.2 safe.2 h_z i_z p.0) (one_dsat x typed.0 safe.0 h_x i_x safe.3.0))
-    one_dsat (two kind.AndV x y) typed safe h i e = absurd (false_is e)
+    one_dsat (two kind.AndV x y) typed safe h i e = absurd (false≢true e)
     one_dsat (two kind.AndB x y) typed safe h i e =
         let p = and_b_e (mall_of x).e (mall_of y).e (mall_of x).s (mall_of y).s e in
         let h_x = none_left s (keys x) (keys y) h in
@@ -207,7 +204,7 @@ module _ (s t : Setting) (own_s : OwnKeys s) (own_t : OwnKeys t) where
         both_one _ _ _ _
         (one_dsat z typed.1 safe.1 (none_right s (keys x) (keys z) h) (none_right t (keys x) (keys z) i) p.1)
         (one_dsat x typed.0 safe.0 (none_left s (keys x) (keys z) h) (none_left t (keys x) (keys z) i) p.0)
-    one_dsat (two kind.OrC x z) typed safe h i e = absurd (false_is e)
+    one_dsat (two kind.OrC x z) typed safe h i e = absurd (false≢true e)
     one_dsat (two kind.OrD x z) typed safe h i e =
         both_one _ _ _ _
         (one_dsat z typed.1 safe.1 (none_right s (keys x) (keys z) h) (none_right t (keys x) (keys z) i) e)
@@ -241,7 +238,7 @@ module _ (s t : Setting) (own_s : OwnKeys s) (own_t : OwnKeys t) where
     one_dsat (wrap wrapper.S x) typed safe h i e = one_dsat x typed.0 safe.0 h i e
     one_dsat (wrap wrapper.C x) typed safe h i e = one_dsat x typed.0 safe.0 h i e
     one_dsat (wrap wrapper.D x) typed safe h i e = is_one _
-    one_dsat (wrap wrapper.V x) typed safe h i e = absurd (false_is e)
+    one_dsat (wrap wrapper.V x) typed safe h i e = absurd (false≢true e)
     one_dsat (wrap wrapper.J x) typed safe h i e =
         within_one _ _ _ _
         (wrap_j_left s (mall_of x) (row s x) (needs s x typed.0 h) e)

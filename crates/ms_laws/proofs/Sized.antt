@@ -1,6 +1,6 @@
 -- The size of a canonical satisfaction: there is a formal one that takes as many items, no less weight, and as many
 -- keys of the `multi` fragments that are executed.
-use Rattle.std.proofs.Common.{◌≡◌, ℕ, zero, suc, ◌+◌, ◌*◌, ◌≤◌, ◌==◌, ◌||◌, true, false, List, [], ◌∷◌, ◌++◌, length, reverse, replicate, All, inl, inr, IsTrue, refl, sym, ◌∙◌, ap, subst, arith}
+use Rattle.std.proofs.Common.{◌≡◌, ℕ, zero, suc, ◌+◌, ◌*◌, ◌≤◌, ◌==◌, ◌||◌, List, [], ◌∷◌, ◌++◌, length, reverse, replicate, All, inl, inr, IsTrue, refl, sym, ◌∙◌, ap, subst, arith}
 use Rattle.std.specs.Prelude.{slice_index}
 use Rattle.std.proofs.lemmas.Bool.{eqb-true}
 use Rattle.std.proofs.lemmas.List.{length-append, length-replicate}
@@ -20,9 +20,6 @@ use Rattle.def_satisfaction.specs.Setting.{Setting}
 use Rattle.def_satisfaction.specs.Rows.{EMPTY, ONE, ZEROS, AreSignatures, row, parts}
 use Rattle.def_choice.proofs.Weights.{weight-append}
 use Rattle.ms_laws.proofs.Logs.{sat_log, dsat_log, parts_log}
-
-pub not_true : false ≡ true → ⊥
-not_true h = cc
 
 -- a string has the length of a signature or less
 abbrev pub IsShort : Bytes → Type 0

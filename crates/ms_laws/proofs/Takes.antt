@@ -1,6 +1,6 @@
 -- How many items the rows of the satisfaction table have (the letters z and o of a type).
-use Rattle.std.proofs.Common.{◌≡◌, ℕ, ◌+◌, Bool, true, false, ◌&&◌, ◌||◌, [], ◌∷◌, length, refl, ◌∙◌, ap, ◌⊎◌, inl, inr, arith}
-use Rattle.std.proofs.lemmas.Bool.{or_cases}
+use Rattle.std.proofs.Common.{◌≡◌, ℕ, ◌+◌, Bool, true, ◌&&◌, ◌||◌, [], ◌∷◌, length, refl, ◌∙◌, ap, ◌⊎◌, inl, inr, arith}
+use Rattle.std.proofs.lemmas.Bool.{or_cases, false≢true}
 use Rattle.std.proofs.lemmas.List.{length-append}
 use Rattle.def_script.specs.Bytes.{Bytes}
 use Rattle.def_hash.specs.declared.HashKind.{HashKind}
@@ -128,9 +128,6 @@ thresh_takes s a k P j = record { dsat = λ w r. dsat w r; sat = j k }
 nothing_takes : (w : Stack) → w ≡ [] → length w ≡ 0
 nothing_takes w r = ap length r
 
-false_is : false ≡ true → ⊥
-false_is e = cc
-
 -- z, zero-arg
 mutual
   unfolding corr_rows
@@ -138,11 +135,11 @@ mutual
   pub takes_none : (s : Setting) (t : Tree) → (type_of t).z ≡ true → TakesRow 0 (row s t)
   takes_none s just_0 e = record { dsat = nothing_takes; sat = λ w r. absurd r }
   takes_none s just_1 e = record { dsat = λ w r. absurd r; sat = nothing_takes }
-  takes_none s (pk_k key) e = absurd (false_is e)
-  takes_none s (pk_h key) e = absurd (false_is e)
+  takes_none s (pk_k key) e = absurd (false≢true e)
+  takes_none s (pk_h key) e = absurd (false≢true e)
   takes_none s (older n) e = record { dsat = λ w r. absurd r; sat = λ w r. nothing_takes w r.1 }
   takes_none s (after n) e = record { dsat = λ w r. absurd r; sat = λ w r. nothing_takes w r.1 }
-  takes_none s (hash kind value) e = absurd (false_is e)
+  takes_none s (hash kind value) e = absurd (false≢true e)
   takes_none s (and_or x y z) e =
       let p = all_true (type_of x).z (type_of y).z (type_of z).z e in
       and_or_takes s 0 0 (row s x) (row s y) (row s z) (takes_none s x p.0) (takes_none s y p.1) (takes_none s z p.2)
@@ -161,15 +158,15 @@ mutual
   takes_none s (two kind.OrD x y) e =
       let p = both_true (type_of x).z (type_of y).z e in
       or_d_takes 0 (row s x) (row s y) (takes_none s x p.0) (takes_none s y p.1)
-  takes_none s (two kind.OrI x y) e = absurd (false_is e)
+  takes_none s (two kind.OrI x y) e = absurd (false≢true e)
   takes_none s (thresh k xs) e = thresh_takes s 0 k (parts s xs) (parts_take_none s xs e)
-  takes_none s (multi k keys) e = absurd (false_is e)
-  takes_none s (wrap wrapper.A x) e = absurd (false_is e)
-  takes_none s (wrap wrapper.S x) e = absurd (false_is e)
-  takes_none s (wrap wrapper.C x) e = absurd (false_is e)
-  takes_none s (wrap wrapper.D x) e = absurd (false_is e)
+  takes_none s (multi k keys) e = absurd (false≢true e)
+  takes_none s (wrap wrapper.A x) e = absurd (false≢true e)
+  takes_none s (wrap wrapper.S x) e = absurd (false≢true e)
+  takes_none s (wrap wrapper.C x) e = absurd (false≢true e)
+  takes_none s (wrap wrapper.D x) e = absurd (false≢true e)
   takes_none s (wrap wrapper.V x) e = wrap_v_takes 0 (row s x) (takes_none s x e)
-  takes_none s (wrap wrapper.J x) e = absurd (false_is e)
+  takes_none s (wrap wrapper.J x) e = absurd (false≢true e)
   takes_none s (wrap wrapper.N x) e = takes_none s x e
 
   pub parts_take_none : (s : Setting) (xs : Trees) → all_z (types_of xs) ≡ true → (n : ℕ) → Takes 0 (parts s xs n)
@@ -200,12 +197,12 @@ mutual
   unfolding corr_rows
 
   pub takes_one : (s : Setting) (t : Tree) → IsTyped t → (type_of t).o ≡ true → TakesRow 1 (row s t)
-  takes_one s just_0 typed e = absurd (false_is e)
-  takes_one s just_1 typed e = absurd (false_is e)
+  takes_one s just_0 typed e = absurd (false≢true e)
+  takes_one s just_1 typed e = absurd (false≢true e)
   takes_one s (pk_k key) typed e = record { dsat = is_takes EMPTY; sat = signature_takes s key }
-  takes_one s (pk_h key) typed e = absurd (false_is e)
-  takes_one s (older n) typed e = absurd (false_is e)
-  takes_one s (after n) typed e = absurd (false_is e)
+  takes_one s (pk_h key) typed e = absurd (false≢true e)
+  takes_one s (older n) typed e = absurd (false≢true e)
+  takes_one s (after n) typed e = absurd (false≢true e)
   takes_one s (hash kind value) typed e = hash_takes s kind value
   takes_one s (and_or x y z) typed e =
       elim (either_three (type_of x).z (type_of y).o (type_of z).o (type_of x).o (type_of y).z (type_of z).z e) [
@@ -237,9 +234,9 @@ mutual
       let p = both_true (type_of x).z (type_of y).z e in
       or_i_takes (row s x) (row s y) (takes_none s x p.0) (takes_none s y p.1)
   takes_one s (thresh k xs) typed e = thresh_takes s 1 k (parts s xs) (parts_take_one s xs typed.0 e)
-  takes_one s (multi k keys) typed e = absurd (false_is e)
-  takes_one s (wrap wrapper.A x) typed e = absurd (false_is e)
-  takes_one s (wrap wrapper.S x) typed e = absurd (false_is e)
+  takes_one s (multi k keys) typed e = absurd (false≢true e)
+  takes_one s (wrap wrapper.A x) typed e = absurd (false≢true e)
+  takes_one s (wrap wrapper.S x) typed e = absurd (false≢true e)
   takes_one s (wrap wrapper.C x) typed e = takes_one s x typed.0 e
   takes_one s (wrap wrapper.D x) typed e = wrap_d_takes (row s x) (takes_none s x (typed-wrap_d x typed).2)
   takes_one s (wrap wrapper.V x) typed e = wrap_v_takes 1 (row s x) (takes_one s x typed.0 e)
@@ -247,7 +244,7 @@ mutual
   takes_one s (wrap wrapper.N x) typed e = takes_one s x typed.0 e
 
   pub parts_take_one : (s : Setting) (xs : Trees) → AreTyped xs → all_z_but_one (types_of xs) ≡ true → (n : ℕ) → Takes 1 (parts s xs n)
-  parts_take_one s none typed e n = absurd (false_is e)
+  parts_take_one s none typed e n = absurd (false≢true e)
   parts_take_one s (more x xs) typed e n =
       elim (either_pair (type_of x).o (all_z (types_of xs)) (type_of x).z (all_z_but_one (types_of xs)) e) [
         | inl p ↦ parts_of_takes 1 0 (row s x) (parts s xs) (takes_one s x typed.0 p.0) (parts_take_none s xs p.1) n

@@ -1,7 +1,7 @@
 -- A tight satisfaction exists wherever a canonical one does.
 use Rattle.std.proofs.Common.{◌≡◌, ℕ, zero, suc, ◌+◌, ◌≤◌, nat_le, Bool, true, false, ◌++◌, [], Option, Some, None, refl, sym, subst, ◌⊎◌, inl, inr, arith, if◌then◌else◌}
 use Rattle.std.specs.List.{list_all}
-use Rattle.std.proofs.lemmas.Bool.{leb-true, leb-false}
+use Rattle.std.proofs.lemmas.Bool.{leb-true, leb-false, false≢true}
 use Rattle.def_machine.specs.Stacks.{Stack}
 use Rattle.def_tree.specs.declared.Two.TheVariants as kind
 use Rattle.def_tree.specs.declared.Wrapper.TheVariants as wrapper
@@ -27,9 +27,6 @@ use Rattle.def_choice.proofs.StrictTight.{unsigned_are}
 use Rattle.def_choice.proofs.TightFree.{tight_free, free_dsat}
 use Rattle.ms_laws.proofs.Single.{one_both, free_dsat as has_dsat}
 use Rattle.ms_laws.proofs.FreeStacks.{free_within, signed_dsat, signs}
-
-not_true : false ≡ true → ⊥
-not_true h = cc
 
 not_some : (w : Stack) → None ≡ Some w → ⊥
 not_some w h = cc
@@ -73,7 +70,7 @@ one_first F G P Q S T (inr f) (inr g) fs gt p q pf qg one = go one
 not_third : (P Q R : StackSet) (assets : Assets) → HasOne (Either P (Either Q (NotCanonical (canonical assets) R))) → HasOne (Either P Q)
 not_third P Q R assets (stack, inl h) = (stack, inl h)
 not_third P Q R assets (stack, inr (inl h)) = (stack, inr h)
-not_third P Q R assets (stack, inr (inr h)) = absurd (not_true h.0)
+not_third P Q R assets (stack, inr (inr h)) = absurd (false≢true h.0)
 
 -- how many stacks an option has
 abbrev pub one_if : Option Stack → ℕ

@@ -1,6 +1,6 @@
 -- The rows of a miniscript with the letter n have an item, and the top item of a satisfaction isn't empty.
 use Rattle.std.proofs.Common.{◌≡◌, ℕ, zero, suc, ◌+◌, ◌≤◌, true, false, ◌&&◌, IsTrue, List, [], ◌∷◌, ◌++◌, length, reverse, replicate, refl, sym, ◌∙◌, ap, subst, inl, inr, arith}
-use Rattle.std.proofs.lemmas.Bool.{or_cases}
+use Rattle.std.proofs.lemmas.Bool.{or_cases, false≢true}
 use Rattle.std.proofs.lemmas.List.{length-append}
 use Rattle.def_hash.specs.declared.HashKind.{HashKind}
 use Rattle.def_script.specs.Bytes.{Bytes}
@@ -21,16 +21,13 @@ pub record TopRow (r : Row) : Type 0 where
   pub dsat : (w : Stack) → r.dsat w → 1 ≤ length w
   pub sat : (w : Stack) → r.sat w → HasTop w
 
-false_is : false ≡ true → ⊥
-false_is e = cc
-
 -- strings that aren't empty
 pub good_is_some : (table : Pairs) (key sig : Bytes) → IsTrue (is_good table key sig) → is_empty sig ≡ false
-good_is_some table key [] e = absurd (false_is e)
+good_is_some table key [] e = absurd (false≢true e)
 good_is_some table key (b ∷ sig) e = refl
 
 pub key_is_some : (key : Bytes) → IsTrue (is_key key) → is_empty key ≡ false
-key_is_some [] e = absurd (false_is e)
+key_is_some [] e = absurd (false≢true e)
 key_is_some (b ∷ key) e = refl
 
 long_is_some : (bytes : Bytes) → 1 ≤ length bytes → is_empty bytes ≡ false
@@ -110,14 +107,14 @@ wrap_d_top x = record { dsat = is_long EMPTY; sat = both_top x.sat (Is ONE) (λ 
 -- n, nonzero
 pub takes_item : (s : Setting) (t : Tree) → IsTyped t → (type_of t).n ≡ true → TopRow (row s t)
 unfolding corr_rows
-takes_item s just_0 typed e = absurd (false_is e)
-takes_item s just_1 typed e = absurd (false_is e)
+takes_item s just_0 typed e = absurd (false≢true e)
+takes_item s just_1 typed e = absurd (false≢true e)
 takes_item s (pk_k key) typed e = record { dsat = is_long EMPTY; sat = signature_top s key }
 takes_item s (pk_h key) typed e = pk_h_top s key
-takes_item s (older n) typed e = absurd (false_is e)
-takes_item s (after n) typed e = absurd (false_is e)
+takes_item s (older n) typed e = absurd (false≢true e)
+takes_item s (after n) typed e = absurd (false≢true e)
 takes_item s (hash kind value) typed e = hash_top s kind value
-takes_item s (and_or x y z) typed e = absurd (false_is e)
+takes_item s (and_or x y z) typed e = absurd (false≢true e)
 takes_item s (two kind.AndV x y) typed e =
     elim (or_cases (type_of x).n ((type_of x).z && (type_of y).n) e) [
       | inl p ↦ let i = takes_item s x typed.0 p in record {
@@ -156,14 +153,14 @@ takes_item s (two kind.AndB x y) typed e =
     below w j (inl r) = below_long _ _ j.dsat w r
     below w j (inr (fact, inl r)) = below_long _ _ (λ v h. top_length v (j.sat v h)) w r
     below w j (inr (fact, inr r)) = below_long _ _ j.dsat w r
-takes_item s (two kind.OrB x y) typed e = absurd (false_is e)
-takes_item s (two kind.OrC x y) typed e = absurd (false_is e)
-takes_item s (two kind.OrD x y) typed e = absurd (false_is e)
-takes_item s (two kind.OrI x y) typed e = absurd (false_is e)
-takes_item s (thresh k xs) typed e = absurd (false_is e)
+takes_item s (two kind.OrB x y) typed e = absurd (false≢true e)
+takes_item s (two kind.OrC x y) typed e = absurd (false≢true e)
+takes_item s (two kind.OrD x y) typed e = absurd (false≢true e)
+takes_item s (two kind.OrI x y) typed e = absurd (false≢true e)
+takes_item s (thresh k xs) typed e = absurd (false≢true e)
 takes_item s (multi k keys) typed e = multi_top s k keys (typed-multi k keys typed).0
-takes_item s (wrap wrapper.A x) typed e = absurd (false_is e)
-takes_item s (wrap wrapper.S x) typed e = absurd (false_is e)
+takes_item s (wrap wrapper.A x) typed e = absurd (false≢true e)
+takes_item s (wrap wrapper.S x) typed e = absurd (false≢true e)
 takes_item s (wrap wrapper.C x) typed e = takes_item s x typed.0 e
 takes_item s (wrap wrapper.D x) typed e = wrap_d_top (row s x)
 takes_item s (wrap wrapper.V x) typed e = let i = takes_item s x typed.0 e in record { dsat = λ w r. absurd r; sat = i.sat }

@@ -1,5 +1,6 @@
 -- Nobody can change a tight satisfaction; and where there is no canonical one, all that is accepted is fresh.
 use Rattle.std.proofs.Common.{◌≡◌, ◌≢◌, Bool, true, false, IsTrue, List, [], ◌∷◌, reverse, Some, None, refl, sym, ◌∙◌, ap, subst, ◌⊎◌, inl, inr}
+use Rattle.std.proofs.lemmas.Bool.{false≢true}
 use Rattle.std.proofs.lemmas.List.{reverse-reverse}
 use Rattle.def_script.specs.Bytes.{Bytes}
 use Rattle.def_machine.specs.Stacks.{Stack, Pairs, member}
@@ -35,16 +36,13 @@ use Rattle.ms_laws.proofs.CanonicalOnes.{canonical_sat}
 use Rattle.ms_laws.proofs.StrictFound.{strict_exists}
 use Rattle.ms_laws.proofs.TightNeeded.{tight_if_non_malleable}
 
-not_true : false ≡ true → ⊥
-not_true e = cc
-
 -- all pairs of the one list stand in the other, or one doesn't
 all_or_new : (these those : Pairs) → ((key sig : Bytes) → Has these key sig → Has those key sig) ⊎ HasNewPair these those
-all_or_new [] those = inl (λ key sig h. absurd (not_true h))
+all_or_new [] those = inl (λ key sig h. absurd (false≢true h))
 all_or_new (pair ∷ rest) those = go (member those pair.0 pair.1) refl (all_or_new rest those)
   where
     go : (b : Bool) → member those pair.0 pair.1 ≡ b → ((key sig : Bytes) → Has rest key sig → Has those key sig) ⊎ HasNewPair rest those → ((key sig : Bytes) → Has (pair ∷ rest) key sig → Has those key sig) ⊎ HasNewPair (pair ∷ rest) those
-    go false e h = inr (pair.0, pair.1, has_left (pair ∷ []) rest pair.0 pair.1 (has_one pair.0 pair.1), λ i. not_true (sym e ∙ i))
+    go false e h = inr (pair.0, pair.1, has_left (pair ∷ []) rest pair.0 pair.1 (has_one pair.0 pair.1), λ i. false≢true (sym e ∙ i))
     go true e (inl all) = inl (λ key sig h. elim (first_or_later pair.0 pair.1 rest key sig h) [
       | inl same ↦ subst (λ k. Has those k sig) same.0 (subst (λ g. Has those pair.0 g) same.1 e)
       | inr later ↦ all key sig later

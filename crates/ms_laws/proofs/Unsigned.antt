@@ -1,6 +1,6 @@
 -- Which rows need a signature of a miniscript's keys (the letters s and f of its properties).
 use Rattle.std.proofs.Common.{◌≡◌, ℕ, ◌+◌, ◌-◌, ◌≤◌, Bool, true, false, ◌&&◌, ◌||◌, List, [], ◌∷◌, ◌++◌, length, reverse, Contains, refl, sym, ◌∙◌, ap, inl, inr, arith, if◌then◌else◌}
-use Rattle.std.proofs.lemmas.Bool.{or_cases, cases_Bool, ltb-true}
+use Rattle.std.proofs.lemmas.Bool.{or_cases, cases_Bool, ltb-true, false≢true}
 use Rattle.std.proofs.lemmas.List.{length-reverse, get_or-reverse}
 use Rattle.std.proofs.lemmas.List.Elements.{Contains-append_left, Contains-append_right}
 use Rattle.def_hash.specs.Hash.{hash160}
@@ -32,9 +32,6 @@ NoKeys s keys =
 abbrev pub IsEmpty : StackSet → Type 0
 IsEmpty P = (w : Stack) → P w → ⊥
 
-false_is : false ≡ true → ⊥
-false_is e = cc
-
 pub none_left : (s : Setting) (a b : List Key) → NoKeys s (a ++ b) → NoKeys s a
 none_left s a b h key other sig i = h key other sig (Contains-append_left a b key i)
 
@@ -60,20 +57,20 @@ pub record Needs (m : Mall) (r : Row) : Type 0 where
   pub dsat : m.f ≡ true → IsEmpty r.dsat
 
 no_signature : (s : Setting) (key : Key) → ((sig : Bytes) → is_good s.given.table key sig ≡ false) → IsEmpty (Signature s key)
-no_signature s key bad w r = false_is (sym (bad r.0) ∙ r.1)
+no_signature s key bad w r = false≢true (sym (bad r.0) ∙ r.1)
 
 pk_k_needs : (s : Setting) (key : Key) → NoKeys s (key ∷ []) → Needs mall.key_row.gives (pk_k_row s key)
 unfolding mall_rows
 pk_k_needs s key h = record {
   sat = λ e. no_signature s key (λ sig. own_is_bad s (key ∷ []) h key sig (0, omega arith, refl));
-  dsat = λ e. absurd (false_is e);
+  dsat = λ e. absurd (false≢true e);
 }
 
 pk_h_needs : (s : Setting) (key : Key) → NoKeys s (key ∷ []) → Needs mall.key_row.gives (pk_h_row s key)
 unfolding mall_rows
 pk_h_needs s key h = record {
   sat = λ e w r. no_signature s r.0 (λ sig. h key r.0 sig (0, omega arith, refl) r.2 r.3) r.4.0 r.4.2;
-  dsat = λ e. absurd (false_is e);
+  dsat = λ e. absurd (false≢true e);
 }
 
 and_or_needs : (s : Setting) (mx my mz : Mall) (x y z : Row) → Needs mx x → Needs my y → Needs mz z → Needs (mall.and_or_row mx my mz).gives (and_or_row s x y z)
@@ -125,7 +122,7 @@ and_b_needs s mx my x y i j = record {
 
 or_b_needs : (s : Setting) (mx mz : Mall) (x z : Row) → Needs mx x → Needs mz z → Needs (mall.or_b_row mx mz).gives (or_b_row s x z)
 unfolding mall_rows
-or_b_needs s mx mz x z i k = record { sat = λ e w r. sat (both_true mx.s mz.s e) w r; dsat = λ e. absurd (false_is e) }
+or_b_needs s mx mz x z i k = record { sat = λ e w r. sat (both_true mx.s mz.s e) w r; dsat = λ e. absurd (false≢true e) }
   where
     sat : (mx.s ≡ true) × (mz.s ≡ true) → IsEmpty (or_b_row s x z).sat
     sat e w (inl r) = i.sat e.0 r.1 r.3
@@ -182,14 +179,14 @@ thresh_needs : (s : Setting) (k : ℕ) (ms : List Mall) (P : ℕ → StackSet) �
 unfolding mall_rows
 thresh_needs s k ms P few = record {
   sat = λ e w r. (let f = few k w r in let l = ltb-true (count_not_s ms) k e in omega arith);
-  dsat = λ e. absurd (false_is e);
+  dsat = λ e. absurd (false≢true e);
 }
 
 -- there is none among the signatures of keys without
 no_signatures : (table : Pairs) (keys : List Key) → ((key : Key) (sig : Bytes) → Contains keys key → is_good table key sig ≡ false) → (sigs : Stack) → AreSignatures table keys sigs → length sigs ≡ 0
 no_signatures table keys bad [] h = refl
 no_signatures table [] bad (sig ∷ sigs) h = absurd h
-no_signatures table (key ∷ keys) bad (sig ∷ sigs) (inl h) = absurd (false_is (sym (bad key sig (0, omega arith, refl)) ∙ h.0))
+no_signatures table (key ∷ keys) bad (sig ∷ sigs) (inl h) = absurd (false≢true (sym (bad key sig (0, omega arith, refl)) ∙ h.0))
 no_signatures table (key ∷ keys) bad (sig ∷ sigs) (inr h) = no_signatures table keys (λ k g i. bad k g (Contains-append_right (key ∷ []) keys k i)) (sig ∷ sigs) h
 
 pub contains-reverse : (xs : List Bytes) (x : Bytes) → Contains (reverse xs) x → Contains xs x
@@ -203,12 +200,12 @@ multi_needs s k keys some h = record {
   sat = λ e w r.
       let n = no_signatures s.given.table (reverse keys) (λ key sig i. own_is_bad s keys h key sig (contains-reverse keys key i)) r.1 r.3.1 in
       let l = r.3.0 in omega arith;
-  dsat = λ e. absurd (false_is e);
+  dsat = λ e. absurd (false≢true e);
 }
 
 wrap_d_needs : (m : Mall) (x : Row) → Needs m x → Needs (mall.wrap_d_row m).gives (wrap_d_row x)
 unfolding mall_rows
-wrap_d_needs m x i = record { sat = λ e w r. i.sat e r.0 r.2; dsat = λ e. absurd (false_is e) }
+wrap_d_needs m x i = record { sat = λ e w r. i.sat e r.0 r.2; dsat = λ e. absurd (false≢true e) }
 
 wrap_v_needs : (m : Mall) (x : Row) → Needs m x → Needs (mall.wrap_v_row m).gives (wrap_v_row x)
 unfolding mall_rows
@@ -216,7 +213,7 @@ wrap_v_needs m x i = record { sat = i.sat; dsat = λ e w r. r }
 
 wrap_j_needs : (s : Setting) (m : Mall) (x : Row) → Needs m x → Needs (mall.wrap_j_row m).gives (wrap_j_row s x)
 unfolding mall_rows
-wrap_j_needs s m x i = record { sat = i.sat; dsat = λ e. absurd (false_is e) }
+wrap_j_needs s m x i = record { sat = i.sat; dsat = λ e. absurd (false≢true e) }
 
 b_not_k : B ≡ K → ⊥
 b_not_k e = cc
@@ -274,13 +271,13 @@ mutual
   unfolding mall_rows
 
   pub needs : (s : Setting) (t : Tree) → IsTyped t → NoKeys s (keys t) → Needs (mall_of t) (row s t)
-  needs s just_0 typed h = record { sat = λ e w r. r; dsat = λ e. absurd (false_is e) }
-  needs s just_1 typed h = record { sat = λ e. absurd (false_is e); dsat = λ e w r. r }
+  needs s just_0 typed h = record { sat = λ e w r. r; dsat = λ e. absurd (false≢true e) }
+  needs s just_1 typed h = record { sat = λ e. absurd (false≢true e); dsat = λ e w r. r }
   needs s (pk_k key) typed h = pk_k_needs s key h
   needs s (pk_h key) typed h = pk_h_needs s key h
-  needs s (older n) typed h = record { sat = λ e. absurd (false_is e); dsat = λ e w r. r }
-  needs s (after n) typed h = record { sat = λ e. absurd (false_is e); dsat = λ e w r. r }
-  needs s (hash kind value) typed h = record { sat = λ e. absurd (false_is e); dsat = λ e. absurd (false_is e) }
+  needs s (older n) typed h = record { sat = λ e. absurd (false≢true e); dsat = λ e w r. r }
+  needs s (after n) typed h = record { sat = λ e. absurd (false≢true e); dsat = λ e w r. r }
+  needs s (hash kind value) typed h = record { sat = λ e. absurd (false≢true e); dsat = λ e. absurd (false≢true e) }
   needs s (and_or x y z) typed h =
       let h_xy = none_left s (keys x ++ keys y) (keys z) h in
       and_or_needs s (mall_of x) (mall_of y) (mall_of z) (row s x) (row s y) (row s z)

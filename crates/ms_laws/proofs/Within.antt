@@ -1,5 +1,6 @@
 -- A canonical satisfaction keeps within the limits of its miniscript.
 use Rattle.std.proofs.Common.{◌≡◌, ℕ, ◌+◌, ◌≤◌, ◌&&◌, ◌||◌, not, Bool, true, false, List, [], ◌∷◌, ◌++◌, length, reverse, All, inl, inr, IsTrue, refl, sym, ◌∙◌, ap, subst, arith}
+use Rattle.std.proofs.lemmas.Bool.{false≢true}
 use Rattle.std.specs.Prelude.{⊤}
 use Rattle.std.specs.Str.{bytes_eq}
 use Rattle.std.proofs.lemmas.Slice.Eq.{bytes_eq-Decides}
@@ -25,11 +26,11 @@ use Rattle.def_satisfaction.specs.Rows.{row, parts}
 use Rattle.def_satisfaction.specs.Satisfaction.{Sat, canonical}
 use Rattle.def_choice.proofs.Weights.{reverse-cons, weight-reverse}
 use Rattle.ms_laws.proofs.Logs.{sat_log, dsat_log, parts_log}
-use Rattle.ms_laws.proofs.Sized.{IsShort, AreShort, SizedIf, not_true, sized_if_sat, sized_if_dsat, sized_if_parts}
+use Rattle.ms_laws.proofs.Sized.{IsShort, AreShort, SizedIf, sized_if_sat, sized_if_dsat, sized_if_parts}
 
 -- a signature that assets hold
 held_short : (pairs : Pairs) → All (λ pair. IsSignature pair.1) pairs → (key sig : Bytes) → member pairs key sig ≡ true → length sig ≤ 73
-held_short [] all key sig h = absurd (not_true h)
+held_short [] all key sig h = absurd (false≢true h)
 held_short (pair ∷ pairs) all key sig h =
     go (bytes_eq pair.0 key) (bytes_eq pair.1 sig) refl h (held_short pairs (All-tail (λ p. IsSignature p.1) pair pairs all) key sig)
   where
@@ -70,20 +71,20 @@ sized P w n p = record {
 
 module _ (assets : Assets) (are : AreAssets assets) where
   pub sized_sat : (t : Tree) → IsWritable t → (w : Stack) (r : (row (canonical assets) t).sat w) → Sized (FormalSat t) w (sat_log (canonical assets) t w r).keys
-  sized_sat t h w r = sized _ _ _ (sized_if_sat (canonical assets) not_true ⊤ (λ i. good_short assets are) t h w r)
+  sized_sat t h w r = sized _ _ _ (sized_if_sat (canonical assets) false≢true ⊤ (λ i. good_short assets are) t h w r)
 
   pub sized_dsat : (t : Tree) → IsWritable t → (w : Stack) (r : (row (canonical assets) t).dsat w) → Sized (FormalDsat t) w (dsat_log (canonical assets) t w r).keys
-  sized_dsat t h w r = sized _ _ _ (sized_if_dsat (canonical assets) not_true ⊤ (λ i. good_short assets are) t h w r)
+  sized_dsat t h w r = sized _ _ _ (sized_if_dsat (canonical assets) false≢true ⊤ (λ i. good_short assets are) t h w r)
 
   pub sized_parts : (xs : Trees) → AreWritable xs → (n : ℕ) (w : Stack) (r : parts (canonical assets) xs n w) →
       Sized (FormalParts xs n) w (parts_log (canonical assets) xs n w r).keys
-  sized_parts xs h n w r = sized _ _ _ (sized_if_parts (canonical assets) not_true ⊤ (λ i. good_short assets are) xs h n w r)
+  sized_parts xs h n w r = sized _ _ _ (sized_if_parts (canonical assets) false≢true ⊤ (λ i. good_short assets are) xs h n w r)
 
 -- whatever the table of signatures
 pub keys_formal : (s : Setting) → s.all_rows ≡ false → (t : Tree) → IsWritable t → (w : Stack) (r : (row s t).sat w) →
     (takes : Takes) × FormalSat t takes × ((sat_log s t w r).keys ≡ takes.keys)
 keys_formal s e t h w r =
-    let p = sized_if_sat s (λ i. not_true (sym e ∙ i)) ⊥ (λ i. absurd i) t h w r in
+    let p = sized_if_sat s (λ i. false≢true (sym e ∙ i)) ⊥ (λ i. absurd i) t h w r in
     (p.takes, p.formal, p.keys)
 
 -- no more than the greatest
