@@ -6,3 +6,6 @@ pub mod Children
 pub mod Accepted
 pub mod Tallies
 mod Known
+mod Mixed
+mod Unions
+mod Repeated

@@ -4,3 +4,5 @@ pub mod Slots
 pub mod Tally
 pub mod Most
 pub mod Place
+pub mod Mixing
+pub mod Repeats

@@ -2,15 +2,21 @@
 #![tactic(auto)]
 
 mod choice;
+mod keys;
+mod kinds;
+mod mixing;
 mod most;
 mod resources;
+mod sane;
 mod takes;
 #[cfg(test)]
 mod tests;
 mod valid;
 mod work;
 
-pub use def_sane::{Limits, Unfit, Valid};
+pub use def_sane::{Limits, Sane, Unfit, Valid};
+pub use mixing::mix;
 pub use resources::limits;
+pub use sane::check_sane;
 pub use valid::check_valid;
 pub use work::{Slot, Work};

@@ -1,10 +1,12 @@
-ghost use Rattle.std.specs.Prelude.{◌≤◌, length};
-ghost use Rattle.def_tree.specs.Range.{MOST_MEASURE};
+ghost use Rattle.std.specs.Prelude.{◌≤◌, length, IfOk};
+ghost use Rattle.def_tree.specs.Range.{MOST_MEASURE, IsKey};
 ghost use Rattle.ms_sane.specs.Takes.{IsLightOption};
 
 use crate::choice::Tally;
 use crate::takes::{Most, Takes};
 use crate::*;
+use ms_tree::{Key, Leaf, Two, Wrapper, leaf, two, wrap};
+use ms_types::Base;
 use std::test::Fail;
 
 /// Items, weight and keys.
@@ -104,4 +106,65 @@ fn choices_are_the_greatest(rt: HostRuntime) {
         };
         assert_eq!(rt; chosen(children, count, &mut slots), wanted);
     }
+}
+
+fn key(first: u8) -> Result<Key, &'static str>
+    ensures { IfOk result IsKey }
+{
+    Key::from_bytes(&[first; 33]).ok_or("a key")
+}
+
+#[test]
+fn a_key_is_sane(rt: HostRuntime) -> Result<(), Fail> {
+    let alloc = rt.alloc();
+    let tree = wrap(alloc, Wrapper::C, leaf(alloc, Leaf::PkK(key(2)?))?)
+        .ok()
+        .ok_or("memory")?;
+    let mut work = Work::new(alloc, &tree)?;
+    let sane = check_sane(&tree, &mut work).ok().ok_or("a sane tree")?;
+    let limits = Limits {
+        size: 35,
+        ops: 1,
+        items: 1,
+        weight: 74,
+    };
+    assert_eq!(rt; sane.limits, limits);
+    assert_eq!(rt; sane.ty.base, Base::B);
+    assert_eq!(rt;
+        [sane.mall.s, sane.mall.f, sane.mall.e],
+        [true, false, true]
+    );
+    assert_eq!(rt; mix(&tree), None);
+    Ok(())
+}
+
+#[test]
+fn a_height_and_a_time_are_mixed(rt: HostRuntime) -> Result<(), Fail> {
+    let alloc = rt.alloc();
+    let height = leaf(alloc, Leaf::Older(10))?;
+    let time = wrap(alloc, Wrapper::A, leaf(alloc, Leaf::Older(4_194_314))?)
+        .ok()
+        .ok_or("memory")?;
+    let both = two(alloc, Two::AndB, height, time).ok().ok_or("memory")?;
+    assert_eq!(rt; mix(&both), Some(3));
+    Ok(())
+}
+
+#[test]
+fn a_key_stands_once(rt: HostRuntime) -> Result<(), Fail> {
+    let alloc = rt.alloc();
+    let first = wrap(alloc, Wrapper::C, leaf(alloc, Leaf::PkK(key(2)?))?)
+        .ok()
+        .ok_or("memory")?;
+    let verified = wrap(alloc, Wrapper::V, first).ok().ok_or("memory")?;
+    let again = wrap(alloc, Wrapper::C, leaf(alloc, Leaf::PkH(key(2)?))?)
+        .ok()
+        .ok_or("memory")?;
+    let tree = two(alloc, Two::AndV, verified, again).ok().ok_or("memory")?;
+    let mut work = Work::new(alloc, &tree)?;
+    assert_eq!(rt;
+        check_sane(&tree, &mut work).err(),
+        Some(Unfit::RepeatedKey(3))
+    );
+    Ok(())
 }

@@ -1,4 +1,4 @@
-mod Seen
+pub mod Seen
 mod OneMore
 mod OfRows
 mod Places

@@ -1,7 +1,5 @@
 -- The children of a threshold, seen one after the other.
-use Rattle.std.proofs.Common.{◌≡◌, ◌<◌, ◌≤◌, ℕ, drop, get_or, zero, suc, ◌+◌, List, [], ◌∷◌, length, Result, Ok, Err, refl, ap, arith}
-use Rattle.def_tree.specs.Tree as model
-use Rattle.def_tree.specs.Tree.{Tree, Trees, more}
+use Rattle.std.proofs.Common.{◌≡◌, ◌<◌, ℕ, drop, get_or, zero, suc, ◌+◌, List, [], ◌∷◌, length, Result, Ok, Err, refl, ap, arith}
 use Rattle.def_tree.specs.Size.{nodes, nodes_of}
 use Rattle.def_types.specs.declared.rule.RuleAt.{RuleAt}
 use Rattle.ms_tree.specs.declared.tree.Tree as trees
@@ -18,22 +16,3 @@ pub nodes_left : (xs : List trees.Tree) (i : ℕ) (x : trees.Tree) → i < lengt
 nodes_left [] i x below at = absurd (omega (arith, below))
 nodes_left (y ∷ xs) zero x below at = ap (λ z. nodes (shape z) + nodes_of (shapes xs)) at
 nodes_left (y ∷ xs) (suc i) x below at = nodes_left xs i x (omega (arith, below)) at
-
--- each child has a node
-nodes-positive : (t : model.Tree) → 1 ≤ nodes t
-nodes-positive model.just_0 = omega arith
-nodes-positive model.just_1 = omega arith
-nodes-positive (model.pk_k key) = omega arith
-nodes-positive (model.pk_h key) = omega arith
-nodes-positive (model.older n) = omega arith
-nodes-positive (model.after n) = omega arith
-nodes-positive (model.hash kind value) = omega arith
-nodes-positive (model.and_or x y z) = omega arith
-nodes-positive (model.two kind x y) = omega arith
-nodes-positive (model.thresh k xs) = omega arith
-nodes-positive (model.multi k keys) = omega arith
-nodes-positive (model.wrap wrapper x) = omega arith
-
-pub nodes-cover : (xs : List trees.Tree) → length xs ≤ nodes_of (shapes xs)
-nodes-cover [] = omega arith
-nodes-cover (x ∷ xs) = omega (arith, nodes-positive (shape x), nodes-cover xs)

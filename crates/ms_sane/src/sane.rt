@@ -1,0 +1,47 @@
+//! Whether a miniscript is sane, and the first reason against one that isn't.
+ghost use Rattle.std.specs.Prelude.{◌≡◌, ◌*◌, ◌≤◌, Some, IfOk, IfErr, vec_len};
+ghost use Rattle.def_tree.specs.Range.{IsInRange};
+ghost use Rattle.def_tree.specs.Size.{measure};
+ghost use Rattle.def_sane.specs.Unfit.{first_unfit, IsKnownSane};
+ghost use Rattle.ms_tree.specs.Shape.{shape};
+ghost use Rattle.ms_sane.specs.Place.{IsOfTree};
+
+use crate::keys::repeated_key;
+use crate::mixing::mix;
+use crate::valid::check_valid;
+use crate::work::Work;
+use def_sane::{Sane, Unfit};
+use ms_tree::Tree;
+use ms_types::mall;
+
+/// Both types and the limits of a sane tree, or the first reason against the tree: one against its being
+/// valid, a requirement on its malleability properties that is false, a top that can be satisfied without
+/// a signature, a node that mixes timelocks, or a node with a key that stands before.
+pub fn check_sane(tree: &Tree, work: &mut Work) -> Result<Sane, Unfit>
+    requires in_range { IsInRange (shape tree.now) }
+    requires room { 4 * measure (shape tree.now) ≤ vec_len work.old.slots }
+    ensures sane { IfOk result (λ sane. IsKnownSane (shape tree.now) sane) }
+    ensures unfit { IfErr result (λ unfit. first_unfit (shape tree.now) ≡ Some unfit) }
+    ensures place { IfErr result (λ unfit. IsOfTree (shape tree.now) unfit) }
+    ensures room { vec_len work.new.slots ≡ vec_len work.old.slots }
+{
+    let valid = check_valid(tree, work)?;
+    let mall = match mall(tree) {
+        Ok(mall) => mall,
+        Err(at) => return Err(Unfit::Malleable(at)),
+    };
+    if !mall.s {
+        return Err(Unfit::NoSignature);
+    }
+    if let Some(node) = mix(tree) {
+        return Err(Unfit::MixedLocks(node));
+    }
+    if let Some(node) = repeated_key(tree) {
+        return Err(Unfit::RepeatedKey(node));
+    }
+    Ok(Sane {
+        ty: valid.ty,
+        mall,
+        limits: valid.limits,
+    })
+}
