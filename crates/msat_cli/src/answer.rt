@@ -49,7 +49,7 @@ pub fn tree_answer(alloc: Global, kind: TextCommand, text: &TextTree) -> Result<
 }
 
 /// The line of a reason against a tree.
-fn unfit_line(alloc: Global, text: &TextTree, unfit: Unfit) -> Result<String, AllocError>
+pub fn unfit_line(alloc: Global, text: &TextTree, unfit: Unfit) -> Result<String, AllocError>
     requires { IsOfTree (shape text.now.tree) unfit }
     ensures { IfOk result (λ report. string_bytes report ≡ the_unfit_line text.now.offsets.items unfit) }
 {

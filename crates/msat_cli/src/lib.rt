@@ -15,6 +15,8 @@ mod report;
 mod run_tests;
 mod runs;
 #[cfg(test)]
+mod sane_tests;
+#[cfg(test)]
 mod tests;
 mod word;
 mod words;

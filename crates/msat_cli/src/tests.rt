@@ -99,7 +99,7 @@ fn a_chain_gives_its_script(rt: HostRuntime) -> Result<(), Fail> {
 }
 
 /// The key of the private key 1.
-const KEY_B: &str = "0279be667ef9dcbbac55a06295ce870b07029bfcdb2dce28d959f2815b16f81798";
+pub const KEY_B: &str = "0279be667ef9dcbbac55a06295ce870b07029bfcdb2dce28d959f2815b16f81798";
 
 #[test]
 fn a_key_hash_and_a_lock_give_their_script(rt: HostRuntime) -> Result<(), Fail> {
