@@ -18,11 +18,15 @@ pub trait TypeSystem: Copy {
     /// What the type of a threshold needs to know of its children's types.
     type Children: Copy;
 
+    // The rows of the fragments, and what they answer for a tree and for several side by side.
+
     ghost rows: { Rows Self };
 
     ghost typed: { ℕ → model.Tree → Result Self the_refusal };
 
     ghost typed_all: { ℕ → model.Trees → Result (List Self) the_refusal };
+
+    // What is kept of children of these types.
 
     ghost seen: { List Self → Self.Children };
 
