@@ -1,3 +1,4 @@
+mod Accepted
 mod Computed
 mod Items
 mod Loop

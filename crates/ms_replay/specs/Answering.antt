@@ -1,8 +1,9 @@
 -- What the calls answer.
-use Rattle.std.specs.Prelude.{◌≡◌, Result, Ok, Err}
+use Rattle.std.specs.Prelude.{◌≡◌, ℕ, Result, Ok, Err}
 use Rattle.ms_interp.specs.declared.report.RunReport.{RunReport}
 use Rattle.ms_interp.specs.declared.report.RunStop.{RunStop}
 use Rattle.ms_interp.specs.declared.report.RunStop.TheVariants as run_stop
+use Rattle.def_machine.specs.Stacks.{Pairs}
 use Rattle.def_machine.specs.Run.{accepted, refused}
 use Rattle.ms_replay.specs.declared.fault.WitnessFault.{WitnessFault}
 use Rattle.ms_replay.specs.declared.fault.WitnessFault.TheVariants as fault
@@ -41,3 +42,10 @@ Replays (Err (stop.Witness why)) replayed = replayed ≡ unread why
 Replays (Err (stop.WrongProgram wanted found)) replayed = replayed ≡ wrong_program wanted found
 Replays (Err (stop.Refused why place)) replayed = replayed ≡ ran (refused why place)
 Replays (Err stop.Memory) replayed = Unit {0}
+
+-- the replay comes to a run, which is accepted
+pub record IsAccepting (replayed : Replayed) : Type 0 where
+  pub ops : ℕ
+  pub peak : ℕ
+  pub checks : Pairs
+  pub is : replayed ≡ ran (accepted ops peak checks)

@@ -1,0 +1,111 @@
+ghost use Rattle.std.specs.Prelude.{◌≡◌, ◌≤◌, IfOk};
+ghost use Rattle.def_answer.specs.Program.{program_of as the_program_of};
+ghost use Rattle.def_choice.specs.NonMalleable.{given_with};
+ghost use Rattle.def_emit.specs.Emit.{script_of};
+ghost use Rattle.def_machine.specs.Run.{run as the_run, accepted};
+ghost use Rattle.def_machine.specs.Stacks.{Pairs};
+ghost use Rattle.def_promises.specs.Acceptance.{IsAcceptedWithin};
+ghost use Rattle.def_sane.specs.Limits.{AreLimits};
+ghost use Rattle.def_sane.specs.Unfit.{IsValid};
+ghost use Rattle.def_sane.specs.declared.Limits.{Limits};
+ghost use Rattle.def_satisfaction.specs.Satisfaction.{Holds, Sat};
+ghost use Rattle.def_script.specs.Witness.{witness_text};
+ghost use Rattle.def_tree.specs.Range.{IsInRange};
+ghost use Rattle.ms_interp.specs.Answering.{given_by};
+ghost use Rattle.ms_oracle.specs.Sound.{table_of, IsSound};
+ghost use Rattle.ms_replay.specs.Answering.{IsAccepting};
+ghost use Rattle.ms_replay.specs.Replaying.{replay as the_replay, ran};
+ghost use Rattle.ms_tree.specs.Shape.{shape};
+
+use crate::program::program_of;
+use crate::replaying::{ReplayStop, replay};
+use crate::witness::witness_bytes;
+use ms_assets::Assets;
+use ms_emit::emit;
+use ms_interp::RunReport;
+use ms_oracle::{Locks, SigCheck};
+use ms_script::{Blob, Stack, encode};
+use ms_tree::Tree;
+use std::alloc::{AllocError, Global};
+
+/// A canonical satisfaction as it is spent.
+#[derive(Debug, Drop)]
+pub struct Carried {
+    /// The tree's Script.
+    pub script: Blob,
+    /// The program of the Script's P2WSH output.
+    pub program: [u8; 34],
+    /// The witness: the satisfaction, and the Script as its last item.
+    pub witness: Blob,
+    /// What the run of the witness did, which is accepted.
+    pub report: RunReport,
+}
+
+/// Carries a satisfaction of a tree to its witness: makes the tree's Script, its program and the witness, and
+/// replays it.
+///
+/// The tree is valid, the stack is a canonical satisfaction of it with these assets, and the table of `sigs` holds
+/// the assets' signatures with their keys. The interpreter accepts each such stack, so `AllocError` comes only where
+/// memory is wanting.
+pub fn carry<F: Fn(&[u8], &[u8]) -> bool>(
+    alloc: Global,
+    tree: &Tree,
+    stack: &Stack,
+    assets: &Assets,
+    sigs: &SigCheck<'_, F>,
+) -> Result<Carried, AllocError>
+    requires in_range { IsInRange (shape tree.now) }
+    requires valid { IsValid (shape tree.now) }
+    requires satisfies { Sat (shape tree.now) assets.now stack.now }
+    requires holds { Holds (table_of sigs.now) assets.now }
+    requires sound { IsSound F.Fn sigs.now }
+    ensures script { IfOk result (λ carried. carried.script ≡ script_of (shape tree.now)) }
+    ensures program { IfOk result (λ carried. carried.program ≡ the_program_of (script_of (shape tree.now))) }
+    ensures witness { IfOk result (λ carried. carried.witness ≡ witness_text stack.now (script_of (shape tree.now))) }
+    // The report is that of the run, which is accepted.
+    ensures report { IfOk result (λ carried. the_run (given_with assets.now (table_of sigs.now)) (script_of (shape tree.now)) stack.now ≡ accepted carried.report.ops carried.report.peak carried.report.checks) }
+    ensures few_ops { (limits : Limits) → AreLimits (shape tree.now) limits → IfOk result (λ carried. carried.report.ops ≤ limits.ops) }
+    // So it is under every table that holds the signatures, and within the tree's limits.
+    ensures within { (limits : Limits) → (table : Pairs) → AreLimits (shape tree.now) limits → Holds table assets.now → IsAcceptedWithin (shape tree.now) limits (given_with assets.now table) stack.now }
+{
+    let locks = assets.locks();
+    let script = script_of_tree(alloc, tree)?;
+    let program = program_of(script.as_slice());
+    let witness = witness_bytes(alloc, stack, script.as_slice())?;
+    let report = replay_accepted(alloc, &program, witness.as_slice(), &locks, sigs)?;
+    Ok(Carried {
+        script,
+        program,
+        witness,
+        report,
+    })
+}
+
+/// The Script of a tree, as bytes.
+fn script_of_tree(alloc: Global, tree: &Tree) -> Result<Blob, AllocError>
+    requires { IsInRange (shape tree.now) }
+    ensures { IfOk result (λ script. script ≡ script_of (shape tree.now)) }
+{
+    encode(alloc, &emit(alloc, tree)?)
+}
+
+/// Replays a witness whose run is accepted.
+fn replay_accepted<F: Fn(&[u8], &[u8]) -> bool>(
+    alloc: Global,
+    program: &[u8; 34],
+    bytes: &[u8],
+    locks: &Locks,
+    sigs: &SigCheck<'_, F>,
+) -> Result<RunReport, AllocError>
+    requires accepted { IsAccepting (the_replay (given_by (table_of sigs.now) locks.now) program.now bytes.now) }
+    requires sound { IsSound F.Fn sigs.now }
+    ensures { IfOk result (λ report. the_replay (given_by (table_of sigs.now) locks.now) program.now bytes.now ≡ ran (accepted report.ops report.peak report.checks)) }
+{
+    match replay(alloc, program, bytes, locks, sigs) {
+        Ok(report) => Ok(report),
+        Err(ReplayStop::Memory) => Err(AllocError),
+        Err(
+            ReplayStop::Witness(_) | ReplayStop::WrongProgram { .. } | ReplayStop::Refused(_, _),
+        ) => unreachable!(),
+    }
+}
