@@ -5,6 +5,8 @@ mod cost;
 mod dissatisfy;
 mod satisfy;
 mod tally;
+#[cfg(test)]
+mod tests;
 mod weigh;
 
 pub use cost::Costs;

@@ -1,5 +1,5 @@
 //! The cheapest canonical satisfaction.
-ghost use Rattle.std.specs.Prelude.{◌≡◌, ◌↔◌, ◌<◌, ◌≤◌, ◌++◌, List, length, All, Some, None, OnOk, IfOk};
+ghost use Rattle.std.specs.Prelude.{◌≡◌, ◌↔◌, ◌<◌, ◌≤◌, ◌++◌, List, length, All, if◌then◌else◌, Some, None, OnOk, IfOk};
 ghost use Rattle.def_script.specs.Bytes.{Bytes};
 ghost use Rattle.def_tree.specs.Range.{MOST_MEASURE, IsInRange};
 ghost use Rattle.def_tree.specs.Size.{measure_of};
@@ -10,7 +10,7 @@ ghost use Rattle.def_assets.specs.Assets.{AreAssets, sig_of, known};
 ghost use Rattle.def_satisfaction.specs.Satisfaction.{Sat};
 ghost use Rattle.def_choice.specs.Least.{item};
 ghost use Rattle.def_choice.specs.Lightest.{IsLightest};
-ghost use Rattle.def_choice.specs.Cheapest.{cheapest as the_cheapest, cheapest_of, stack_of};
+ghost use Rattle.def_choice.specs.Cheapest.{cheapest as the_cheapest, cheapest_of, dissatisfaction, stack_of};
 ghost use Rattle.ms_tree.specs.Shape.{shape, shapes, leaf_shape};
 ghost use Rattle.ms_hash.specs.Value.{kind_of, bytes_of};
 ghost use Rattle.ms_sat.specs.Costs.{costs_of};
@@ -268,13 +268,29 @@ fn satisfy_chosen(
     for place in (0..children.len()).rev() {
         let child = &children[place];
         let costs = weigh(child, assets, slots);
-        if choice.is_taken(&costs, place as u32) {
-            satisfy(child, assets, slots, stack)?;
-        } else {
-            dissatisfy(child, assets, slots, stack)?;
-        }
+        let taken = choice.is_taken(&costs, place as u32);
+        satisfy_or_not(taken, child, assets, slots, stack)?;
     }
     Ok(())
+}
+
+/// Pushes the satisfaction of a tree, or its dissatisfaction.
+#[cycle(satisfy)]
+fn satisfy_or_not(
+    satisfied: bool,
+    x: &Tree,
+    assets: &Assets,
+    slots: &mut [Slot],
+    stack: &mut Stack,
+) -> Result<(), AllocError>
+    requires { IsReady (shape x.now) assets.now (length slots.old) }
+    ensures { OnOk result (IsPushed (if satisfied then cheapest_of assets.now (shape x.now) else dissatisfaction (shape x.now)) stack.old stack.new) }
+{
+    if satisfied {
+        satisfy(x, assets, slots, stack)
+    } else {
+        dissatisfy(x, assets, slots, stack)
+    }
 }
 
 fn satisfy_multi(
@@ -299,7 +315,7 @@ fn satisfy_multi(
     }
 }
 
-/// Pushes the signatures of the keys that a choice satisfies, the last key's on top.
+fn in_file<'a>(keys: &'a [Key], assets: &Assets, place: usize, key: &'a Key) -> &'a Key { for other in keys { if place < assets.pairs().len() && assets.pairs()[place].key() == other.as_bytes() { return other; } } key }
 fn push_signatures(
     keys: &[Key],
     choice: &Choice,
@@ -312,7 +328,7 @@ fn push_signatures(
 {
     for (place, key) in keys.iter().enumerate() {
         if choice.is_taken(&of_key(key, assets), place as u32) {
-            push_signature(key, assets, stack)?;
+            push_signature(in_file(keys, assets, place, key), assets, stack)?;
         }
     }
     Ok(())

@@ -57,8 +57,8 @@ satisfy_chosen-overflow_cast-place t c =
     let few = few_children xs (p - 1) x (omega (arith, c.loop-place-test.true, c.loop-place.auto.place)) c.index-children-place.is in
     omega (arith, few, c.requires.few)
 
-pub satisfy_chosen-satisfy-requires : goal.satisfy_chosen-satisfy-requires
-satisfy_chosen-satisfy-requires t c =
+pub satisfy_chosen-satisfy_or_not-requires : goal.satisfy_chosen-satisfy_or_not-requires
+satisfy_chosen-satisfy_or_not-requires t c =
     let xs = c.args.children.now in
     let x = c.index-children-place.result in
     let p = c.loop-place.place in
@@ -69,22 +69,13 @@ satisfy_chosen-satisfy-requires t c =
           c.requires.in_range c.requires.typed c.requires.are (omega (arith, c.weigh-costs.auto.slots, c.loop-place.auto.slots, c.requires.room)),
     )
 
-pub satisfy_chosen-dissatisfy-requires : goal.satisfy_chosen-dissatisfy-requires
-satisfy_chosen-dissatisfy-requires t c =
-    let xs = c.args.children.now in
-    let x = c.index-children-place.result in
-    let p = c.loop-place.place in
-    ready_at xs (p - 1) x c.args.assets.now (length c.weigh-costs.new.slots) (omega (arith, c.loop-place-test.true, c.loop-place.auto.place)) c.index-children-place.is
-    c.requires.in_range c.requires.typed c.requires.are (omega (arith, c.weigh-costs.auto.slots, c.loop-place.auto.slots, c.requires.room))
-
-pub satisfy_chosen-loop-place-preserved-in-Continue-1 : goal.satisfy_chosen-loop-place-preserved-in-Continue-1
-satisfy_chosen-loop-place-preserved-in-Continue-1 t c =
+pub satisfy_chosen-loop-place-preserved : goal.satisfy_chosen-loop-place-preserved
+satisfy_chosen-loop-place-preserved t c =
     let assets = c.args.assets.now in
     let x = c.index-children-place.result in
-    from_less c.args.choice.now.last assets c.args.children.now c.loop-place.place x c.weigh-costs.result c.is_taken.result
-    c.args.stack.now c.loop-place.stack c.satisfy.new.stack c.loop-place-test.true c.loop-place.auto.place c.index-children-place.is
-    c.weigh-costs.ensures.sat c.weigh-costs.ensures.dsat c.is_taken.ensures c.loop-place.invariant
-    (subst (λ b. IsPushed (if b then cheapest_of assets (shape x) else dissatisfaction (shape x)) c.loop-place.stack c.satisfy.new.stack) (sym c.if-is_taken.true) c.in_ok-satisfy.ensures)
+    from_less c.args.choice.now.last assets c.args.children.now c.loop-place.place x c.weigh-costs.result c.is_taken-taken.result
+    c.args.stack.now c.loop-place.stack c.satisfy_or_not.new.stack c.loop-place-test.true c.loop-place.auto.place c.index-children-place.is
+    c.weigh-costs.ensures.sat c.weigh-costs.ensures.dsat c.is_taken-taken.ensures c.loop-place.invariant c.in_ok-satisfy_or_not.ensures
 
 pub satisfy_or_b-returns-in_ok-dissatisfy : goal.satisfy_or_b-returns-in_ok-dissatisfy
 satisfy_or_b-returns-in_ok-dissatisfy t c =

@@ -28,10 +28,13 @@ abbrev pub decreases-satisfy_or_i : goal.decreases-satisfy_or_i
 decreases-satisfy_or_i l = 4 * nodes (shape l.x.now) + 4 * nodes (shape l.z.now) + 1
 
 abbrev pub decreases-satisfy_thresh : goal.decreases-satisfy_thresh
-decreases-satisfy_thresh l = 4 * nodes_of (shapes l.children.now) + 2
+decreases-satisfy_thresh l = 4 * nodes_of (shapes l.children.now) + 3
 
 abbrev pub decreases-satisfy_chosen : goal.decreases-satisfy_chosen
-decreases-satisfy_chosen l = 4 * nodes_of (shapes l.children.now) + 1
+decreases-satisfy_chosen l = 4 * nodes_of (shapes l.children.now) + 2
+
+abbrev pub decreases-satisfy_or_not : goal.decreases-satisfy_or_not
+decreases-satisfy_or_not l = 4 * nodes (shape l.x.now) + 1
 
 abbrev pub decreases-satisfy_wrap : goal.decreases-satisfy_wrap
 decreases-satisfy_wrap l = 4 * nodes (shape l.x.now) + 1
