@@ -19,7 +19,6 @@ pub trait TypeSystem: Copy {
     type Children: Copy;
 
     // The rows of the fragments, and what they answer for a tree and for several side by side.
-
     ghost rows: { Rows Self };
 
     ghost typed: { ℕ → model.Tree → Result Self the_refusal };
@@ -27,7 +26,6 @@ pub trait TypeSystem: Copy {
     ghost typed_all: { ℕ → model.Trees → Result (List Self) the_refusal };
 
     // What is kept of children of these types.
-
     ghost seen: { List Self → Self.Children };
 
     fn of_leaf(leaf: &Leaf) -> Result<Self, Rule>
