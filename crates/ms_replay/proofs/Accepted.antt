@@ -1,5 +1,5 @@
 -- The witness of a canonical satisfaction fits, and its replay is an accepted run.
-use Rattle.std.proofs.Common.{◌≡◌, ℕ, ◌+◌, ◌≤◌, List, [], ◌∷◌, length, All, refl, sym, ap, subst, ◌∙◌, arith}
+use Rattle.std.proofs.Common.{◌≡◌, ℕ, ◌≤◌, List, [], ◌∷◌, length, All, sym, ap, ◌∙◌, arith}
 use Rattle.std.proofs.lemmas.List.Elements.{All-head, All-tail, All-nil, All-cons}
 use Rattle.def_script.specs.Bytes.{Bytes}
 use Rattle.def_script.specs.Witness.{witness_text}

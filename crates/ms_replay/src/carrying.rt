@@ -104,8 +104,7 @@ fn replay_accepted<F: Fn(&[u8], &[u8]) -> bool>(
     match replay(alloc, program, bytes, locks, sigs) {
         Ok(report) => Ok(report),
         Err(ReplayStop::Memory) => Err(AllocError),
-        Err(
-            ReplayStop::Witness(_) | ReplayStop::WrongProgram { .. } | ReplayStop::Refused(_, _),
-        ) => unreachable!(),
+        Err(ReplayStop::Witness(_) | ReplayStop::WrongProgram { .. } | ReplayStop::Refused(_, _)) =>
+            unreachable!(),
     }
 }

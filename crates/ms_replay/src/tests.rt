@@ -1,9 +1,16 @@
 use crate::*;
+use ms_assets::Assets;
 use ms_hash::sha256;
 use ms_interp::{RunReport, ScriptFault};
 use ms_oracle::{Locks, Pairs, SigCheck, member};
+use ms_sane::{Work, check_valid};
+use ms_sat::cheapest;
 use ms_script::Stack;
+use ms_text::read_text;
+use ms_tree::Key;
 use std::alloc::{AllocError, Global};
+use std::cell::Cell;
+use std::process::Abort;
 use std::test::Fail;
 
 const LOCKS: Locks = Locks {
@@ -36,6 +43,46 @@ fn joined(alloc: Global, parts: &[&[u8]]) -> Result<Vec<u8>, AllocError> {
         bytes.extend_from_slice(part)?;
     }
     Ok(bytes)
+}
+
+// The Script of `multi(2,A,B,C)`.
+fn two_of_three_script(alloc: Global) -> Result<Vec<u8>, AllocError> {
+    joined(
+        alloc,
+        &[
+            b"\x52\x21",
+            &key(0x02, 0x01),
+            b"\x21",
+            &KEY_B,
+            b"\x21",
+            &key(0x03, 0x03),
+            b"\x53\xae",
+        ],
+    )
+}
+
+// The Script of a threshold of three hashes and two keys, of which two are met.
+fn hashes_or_keys_script(alloc: Global) -> Result<Vec<u8>, AllocError> {
+    let lock = b"\x82\x01\x20\x88\xa8\x20";
+    joined(
+        alloc,
+        &[
+            b"\x82\x92\x63",
+            lock,
+            &sha256(&[0x11; 32]),
+            b"\x88",
+            lock,
+            &sha256(&[0x22; 32]),
+            b"\x88",
+            lock,
+            &sha256(&[0x33; 32]),
+            b"\x88\x51\x68\x7c\x21",
+            &key(0x02, 0x01),
+            b"\xac\x93\x7c\x21",
+            &KEY_B,
+            b"\xac\x93\x52\x87",
+        ],
+    )
 }
 
 #[test]
@@ -126,18 +173,7 @@ fn replays_are_refused(rt: HostRuntime) {
 fn two_of_three_keys_sign(rt: HostRuntime) -> Result<(), Fail> {
     let alloc = rt.alloc();
     let (key_a, key_c) = (key(0x02, 0x01), key(0x03, 0x03));
-    let script = joined(
-        alloc,
-        &[
-            b"\x52\x21",
-            &key_a,
-            b"\x21",
-            &KEY_B,
-            b"\x21",
-            &key_c,
-            b"\x53\xae",
-        ],
-    )?;
+    let script = two_of_three_script(alloc)?;
     assert!(rt; script.len() <= 10_000);
     let mut stack = Stack::new(alloc);
     stack.push(b"")?;
@@ -167,26 +203,7 @@ fn three_preimages_and_a_signature(rt: HostRuntime) -> Result<(), Fail> {
     let alloc = rt.alloc();
     let key_a = key(0x02, 0x01);
     let [first, second, third] = [[0x11; 32], [0x22; 32], [0x33; 32]];
-    let lock = b"\x82\x01\x20\x88\xa8\x20";
-    let script = joined(
-        alloc,
-        &[
-            b"\x82\x92\x63",
-            lock,
-            &sha256(&first),
-            b"\x88",
-            lock,
-            &sha256(&second),
-            b"\x88",
-            lock,
-            &sha256(&third),
-            b"\x88\x51\x68\x7c\x21",
-            &key_a,
-            b"\xac\x93\x7c\x21",
-            &KEY_B,
-            b"\xac\x93\x52\x87",
-        ],
-    )?;
+    let script = hashes_or_keys_script(alloc)?;
     assert!(rt; script.len() <= 10_000);
     let mut stack = Stack::new(alloc);
     stack.push(b"")?;
@@ -220,5 +237,118 @@ fn three_preimages_and_a_signature(rt: HostRuntime) -> Result<(), Fail> {
     let program = program_of(&script);
     let report = replay(alloc, &program, witness.as_slice(), &LOCKS, &sigs)?;
     assert_eq!(rt; (report.ops, report.peak), (23, 7));
+    Ok(())
+}
+
+// `multi(2,A,B,C)`.
+const TWO_OF_THREE: &str =
+    "multi(2,020101010101010101010101010101010101010101010101010101010101010101,0279be667ef9dcbbac55a06295ce870b07029bfcdb2dce28d959f2815b16f81798,030303030303030303030303030303030303030303030303030303030303030303)";
+
+// `thresh(2,j:and_v(v:sha256(h1),and_v(v:sha256(h2),and_v(v:sha256(h3),1))),s:pk(A),s:pk(B))`.
+const HASHES_OR_KEYS: &str =
+    "thresh(2,j:and_v(v:sha256(02d449a31fbb267c8f352e9968a79e3e5fc95c1bbeaa502fd6454ebde5a4bedc),and_v(v:sha256(9f72ea0cf49536e3c66c787f705186df9a4378083753ae9536d65b3ad7fcddc4),and_v(v:sha256(deb0e38ced1e41de6f92e70e80c418d2d356afaaa99e26f5939dbc7d3ef4772a),1))),s:pk(020101010101010101010101010101010101010101010101010101010101010101),s:pk(0279be667ef9dcbbac55a06295ce870b07029bfcdb2dce28d959f2815b16f81798))";
+
+// What a text and assets come to by their cheapest satisfaction, which has these items. The number of questions
+// about signatures is counted.
+fn carried(
+    alloc: Global,
+    text: &str,
+    assets: &Assets,
+    items: &[&[u8]],
+    asked: &Cell<u32>,
+) -> Result<Carried, Fail> {
+    let text = read_text(alloc, text)?;
+    let tree = text.tree();
+    let mut work = Work::new(alloc, tree)?;
+    check_valid(tree, &mut work)?;
+    let Some(stack) = cheapest(alloc, tree, assets)? else {
+        return Err("no satisfaction")?;
+    };
+    if !has_items(&stack, items) {
+        return Err("other items")?;
+    }
+    let table = assets.pairs();
+    let sigs = SigCheck::new(table, |key: &[u8], sig: &[u8]| {
+        asked.set(asked.get().saturating_add(1));
+        member(table, key, sig)
+    });
+    Ok(carry(alloc, tree, &stack, assets, &sigs)?)
+}
+
+// Whether the stack has these items, bottom first.
+fn has_items(stack: &Stack, items: &[&[u8]]) -> bool {
+    if stack.len() != items.len() {
+        return false;
+    }
+    for i in 0..stack.len() {
+        if stack.item(i) != items[i] {
+            return false;
+        }
+    }
+    true
+}
+
+// Assets with a signature of each of these keys.
+fn signed(alloc: Global, pairs: &[(&[u8], &[u8])]) -> Result<Assets, Fail> {
+    let mut assets = Assets::new(alloc, LOCKS);
+    for (bytes, sig) in pairs {
+        let key = Key::from_bytes(bytes).ok_or("no key")?;
+        assets.add_sig(&key, sig)?;
+    }
+    Ok(assets)
+}
+
+// Compares the Script, its program, and the witness, which is these bytes and the Script.
+fn compare(
+    rt: &impl Abort,
+    alloc: Global,
+    carried: &Carried,
+    script: &[u8],
+    before: &[&[u8]],
+) -> Result<(), Fail> {
+    assert_eq!(rt; carried.script.as_slice(), script);
+    let program = joined(alloc, &[b"\x00\x20", &sha256(script)])?;
+    assert_eq!(rt; carried.program.as_slice(), program.as_slice());
+    let mut witness = joined(alloc, before)?;
+    witness.extend_from_slice(script)?;
+    assert_eq!(rt; carried.witness.as_slice(), witness.as_slice());
+    Ok(())
+}
+
+#[test]
+fn two_of_three_keys_are_carried(rt: HostRuntime) -> Result<(), Fail> {
+    let alloc = rt.alloc();
+    let (key_a, key_c) = (key(0x02, 0x01), key(0x03, 0x03));
+    let assets = signed(
+        alloc,
+        &[(&key_c, &SIG_C), (&KEY_B, &SIG_B), (&key_a, &SIG_A)],
+    )?;
+    let asked = Cell::new(0);
+    let items: [&[u8]; 3] = [b"", &SIG_A, &SIG_C];
+    let carried = carried(alloc, TWO_OF_THREE, &assets, &items, &asked)?;
+    // The last key with the last signature, then the other two with the first one.
+    assert_eq!(rt; asked.get(), 3);
+    let script = two_of_three_script(alloc)?;
+    let before: [&[u8]; 5] = [b"\x04\x00\x47", &SIG_A, b"\x46", &SIG_C, b"\x69"];
+    compare(&rt, alloc, &carried, &script, &before)?;
+    assert_eq!(rt; (carried.report.ops, carried.report.peak), (4, 8));
+    Ok(())
+}
+
+#[test]
+fn two_signatures_are_carried(rt: HostRuntime) -> Result<(), Fail> {
+    let alloc = rt.alloc();
+    let mut assets = signed(alloc, &[(&key(0x02, 0x01), &SIG_A), (&KEY_B, &SIG_B)])?;
+    for preimage in [[0x11; 32], [0x22; 32], [0x33; 32]] {
+        assets.add_preimage(&preimage)?;
+    }
+    let asked = Cell::new(0);
+    let items: [&[u8]; 3] = [&SIG_B, &SIG_A, b""];
+    let carried = carried(alloc, HASHES_OR_KEYS, &assets, &items, &asked)?;
+    assert_eq!(rt; asked.get(), 2);
+    let script = hashes_or_keys_script(alloc)?;
+    let before: [&[u8]; 5] = [b"\x04\x48", &SIG_B, b"\x47", &SIG_A, b"\x00\xc6"];
+    compare(&rt, alloc, &carried, &script, &before)?;
+    assert_eq!(rt; (carried.report.ops, carried.report.peak), (23, 4));
     Ok(())
 }

@@ -39,6 +39,7 @@ pub fn cheapest(alloc: Global, tree: &Tree, assets: &Assets) -> Result<Option<St
     ensures lightest { IfOk result (λ found. IsLightest (Sat (shape tree.now) assets.now) found) }
     ensures none { IfOk result (λ found. (found ≡ None) ↔ ((stack : List Bytes) → Sat (shape tree.now) assets.now stack → ⊥)) }
 {
+    // Its clauses tell what assets always are.
     let _locks = assets.locks();
     let mut work = Work::new(alloc, tree)?;
     if costs(tree, assets, &mut work).sat.is_none() {
@@ -315,7 +316,7 @@ fn satisfy_multi(
     }
 }
 
-fn in_file<'a>(keys: &'a [Key], assets: &Assets, place: usize, key: &'a Key) -> &'a Key { for other in keys { if place < assets.pairs().len() && assets.pairs()[place].key() == other.as_bytes() { return other; } } key }
+/// Pushes the signatures of the keys that a choice satisfies, the last key's on top.
 fn push_signatures(
     keys: &[Key],
     choice: &Choice,
@@ -328,7 +329,7 @@ fn push_signatures(
 {
     for (place, key) in keys.iter().enumerate() {
         if choice.is_taken(&of_key(key, assets), place as u32) {
-            push_signature(in_file(keys, assets, place, key), assets, stack)?;
+            push_signature(key, assets, stack)?;
         }
     }
     Ok(())

@@ -12,7 +12,7 @@ witness_bytes-requires g c =
     let same : c.as_slice-2.result.now ≡ script_of (shape c.args.tree.now) = search rules in
     subst (FitsWitness c.args.stack.now) (sym same)
     (fits_witness (shape c.args.tree.now) c.args.assets.now c.args.stack.now
-      (record { in_range = c.requires.in_range; valid = c.requires.valid; few = c.locks-locks.ensures.few; sat = c.requires.satisfies }))
+    (record { in_range = c.requires.in_range; valid = c.requires.valid; few = c.locks-locks.ensures.few; sat = c.requires.satisfies }))
 
 pub replay_accepted-requires-clause-accepted : goal.replay_accepted-requires-clause-accepted
 replay_accepted-requires-clause-accepted g c =

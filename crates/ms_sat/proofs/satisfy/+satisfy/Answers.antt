@@ -1,8 +1,6 @@
-use Rattle.std.proofs.Common.{◌-◌, ◌<◌, ◌∙◌, ap, subst, sym, arith, length, if◌then◌else◌}
+use Rattle.std.proofs.Common.{◌-◌, ◌<◌, ◌∙◌, ap, subst, sym, arith, length}
 use Rattle.def_tree.specs.Tree as model
 use Rattle.def_tree.specs.Size.{nodes}
-use Rattle.def_choice.specs.Cheapest.{cheapest_of, dissatisfaction}
-use Rattle.ms_tree.specs.Shape.{shape}
 use Rattle.ms_tree.proofs.Parts.{nodes_at}
 use Rattle.ms_sane.proofs.Children.{few_children, typed_children}
 use Rattle.ms_sat.specs.Children.{IsReady, children_of}
