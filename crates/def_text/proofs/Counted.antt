@@ -37,7 +37,7 @@ NextAgrees (Some n) ns = Agrees n.0 n.1 ns
 
 -- ---- words
 
-length_of_run : (a : ℕ) (ls : List Letter) (fs : List Frame) → length (run_frames a ls fs) ≡ length fs + length ls
+pub length_of_run : (a : ℕ) (ls : List Letter) (fs : List Frame) → length (run_frames a ls fs) ≡ length fs + length ls
 length_of_run a [] fs = omega arith
 length_of_run a (l ∷ ls) fs = let e = length_of_run (a + 1) ls (letter_frame l a ∷ fs) in omega arith
 

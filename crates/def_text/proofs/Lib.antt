@@ -15,3 +15,7 @@ pub mod OneAnswer
 pub mod OffsetCount
 pub mod PrintedWords
 pub mod PrintedSpells
+pub mod SpelledWritable
+pub mod SpelledMeasure
+pub mod SpelledDepth
+pub mod SpelledInRange

@@ -1,9 +1,10 @@
--- Laws of the definitions: each text has exactly one answer, and a printed form spells its tree.
+-- Laws of the definitions: each text has exactly one answer, a printed form spells its tree, and what a text spells
+-- is in range.
 use Rattle.std.specs.Prelude.{◌≡◌, ◌≢◌, ◌⊎◌, ℕ, List, IsUtf8, length}
 use Rattle.def_script.specs.Bytes.{Bytes}
 use Rattle.def_tree.specs.Tree.{Tree}
 use Rattle.def_tree.specs.Size.{nodes}
-use Rattle.def_tree.specs.Range.{IsWritable}
+use Rattle.def_tree.specs.Range.{IsWritable, IsInRange}
 use Rattle.def_text.specs.Print.{printed}
 use Rattle.def_text.specs.declared.TextFault.{TextFault}
 use Rattle.def_text.specs.declared.TextFault.TheVariants.{Memory}
@@ -40,3 +41,8 @@ SomeAnswer =
 -- the printed form of a tree spells it, where its arguments can be written
 abbrev pub PrintedIsSpelled : Type 0
 PrintedIsSpelled = (x : Tree) → IsWritable x → (os : List ℕ) × SpellsText (tokens (printed x)) x os
+
+-- the tree of a text of UTF-8 is in range. Of other bytes it may be too deep: behind a byte 80 no text of UTF-8 has
+-- these tokens, so none of them is too deep, however many letters stand there
+abbrev pub SpelledInRange : Type 0
+SpelledInRange = (text : Bytes) (x : Tree) (os : List ℕ) → IsUtf8 text → TextReads text x os → IsInRange x
