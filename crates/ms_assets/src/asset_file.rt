@@ -10,6 +10,7 @@ ghost use Rattle.ms_assets.specs.Parts.{first_refused, Reads, ReadsOrMemory, IsO
 
 use crate::assets::{Assets, MOST_PREIMAGES, MOST_SIGNATURES, holds_key};
 use crate::members::{pair_list, read_json, read_locks, text_list};
+use crate::preimage::Preimage;
 use crate::texts::{read_pairs, read_strings};
 use def_files::{AssetFault, Member};
 use ms_oracle::{Locks, Pairs, SigPair};
@@ -42,7 +43,7 @@ pub fn read_assets(alloc: Global, bytes: &[u8]) -> Result<Assets, AssetFault>
 pub struct AssetParts {
     pub locks: Locks,
     pub pairs: Pairs,
-    pub preimages: Vec<[u8; 32]>,
+    pub preimages: Vec<Preimage>,
 }
 
 /// What stands in an asset file.
@@ -133,16 +134,16 @@ fn check_sigs(pairs: &[SigPair]) -> Result<(), AssetFault>
 }
 
 /// The preimages, or the refusal of the first that hasn't 32 bytes.
-fn read_preimages(alloc: Global, strings: &Stack) -> Result<Vec<[u8; 32]>, AssetFault>
+fn read_preimages(alloc: Global, strings: &Stack) -> Result<Vec<Preimage>, AssetFault>
     requires { length strings.now < 2 ^ 32 }
     ensures { ReadsOrMemory (first_refused is_preimage AssetFault.PreimageLength strings.now) (λ preimages. preimages.items) strings.now result }
 {
     let mut preimages = Vec::new(alloc);
     for i in 0..strings.len() {
-        let Ok(preimage) = <[u8; 32]>::try_from(strings.item(i)) else {
+        let Ok(bytes) = <[u8; 32]>::try_from(strings.item(i)) else {
             return Err(AssetFault::PreimageLength(i as u32));
         };
-        if preimages.push(preimage).is_err() {
+        if preimages.push(Preimage::new(bytes)).is_err() {
             return Err(AssetFault::Memory);
         }
     }

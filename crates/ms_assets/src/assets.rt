@@ -10,7 +10,8 @@ ghost use Rattle.ms_hash.specs.Value.{kind_of, bytes_of};
 ghost use Rattle.ms_assets.specs.Adding.{sig_stop, preimage_stop, Answers};
 
 use crate::asset_file::AssetParts;
-use ms_hash::{HashVal, hash_of};
+use crate::preimage::Preimage;
+use ms_hash::HashVal;
 use ms_oracle::{Locks, Pairs, SigPair};
 use ms_tree::Key;
 use std::alloc::Global;
@@ -41,7 +42,7 @@ pub enum AddStop {
 pub struct Assets {
     locks: Locks,
     pairs: Pairs,
-    preimages: Vec<[u8; 32]>,
+    preimages: Vec<Preimage>,
 }
 
 impl Model for Assets {
@@ -110,7 +111,7 @@ impl Assets {
         if self.preimages.len() >= MOST_PREIMAGES {
             return Err(AddStop::TooMany);
         }
-        if self.preimages.push(*preimage).is_err() {
+        if self.preimages.push(Preimage::new(*preimage)).is_err() {
             return Err(AddStop::Memory);
         }
         Ok(())
@@ -201,20 +202,13 @@ fn sig_with<'a>(pairs: &'a [SigPair], key: &[u8]) -> Option<&'a [u8]>
 }
 
 /// The first preimage that hashes to a value.
-fn first_hashing_to<'a>(preimages: &'a [[u8; 32]], value: &HashVal) -> Option<&'a [u8]>
+fn first_hashing_to<'a>(preimages: &'a [Preimage], value: &HashVal) -> Option<&'a [u8]>
     ensures { option_map (λ preimage. preimage.now) result ≡ find (λ preimage. bytes_eq (digest_of (kind_of value.now) preimage) (bytes_of value.now)) preimages.entry.now }
 {
     for preimage in preimages {
-        if hashes_to(preimage, value) {
-            return Some(preimage);
+        if preimage.digest(value.kind()) == value.as_bytes() {
+            return Some(preimage.as_bytes());
         }
     }
     None
-}
-
-/// Whether the hash value of a preimage is this one.
-fn hashes_to(preimage: &[u8], value: &HashVal) -> bool
-    ensures { result ≡ bytes_eq (digest_of (kind_of value.now) preimage.now) (bytes_of value.now) }
-{
-    hash_of(value.kind(), preimage).as_bytes() == value.as_bytes()
 }

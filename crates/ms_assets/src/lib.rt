@@ -13,6 +13,7 @@ pub use run_file::{RunFile, read_run};
 mod asset_file;
 mod assets;
 mod members;
+mod preimage;
 mod run_file;
 #[cfg(test)]
 mod tests;

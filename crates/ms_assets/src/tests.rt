@@ -77,6 +77,36 @@ fn preimages_are_found_by_their_hashes(rt: HostRuntime) -> Result<(), Fail> {
 }
 
 #[test]
+fn one_preimage_answers_for_the_four_functions(rt: HostRuntime) -> Result<(), Fail> {
+    let file =
+        "{\"preimages\":[\"0000000000000000000000000000000000000000000000000000000000000000\"]}";
+    let assets = read_assets(rt.alloc(), file.as_bytes())
+        .ok()
+        .ok_or("refused")?;
+    // Of 32 zero bytes, from Python's hashlib, over OpenSSL 3.0.
+    let digests = [
+        "66687aadf862bd776c8fc18b8e9f8e20089714856ee233b3902a591d0d5f2925",
+        "2b32db6c2c0a6235fb1397e8225ea85e0f0e6e8c7b126d0016ccbde0e667151e",
+        "d1a70126ff7a149ca6f9b638db084480440ff842",
+        "b8bcb07f6344b42ab04250c86a6e8b75d3fdbbc6",
+    ];
+    let sha256 = hex::decode(rt.alloc(), digests[0]).ok().ok_or("digits")?;
+    let hash256 = hex::decode(rt.alloc(), digests[1]).ok().ok_or("digits")?;
+    let ripemd160 = hex::decode(rt.alloc(), digests[2]).ok().ok_or("digits")?;
+    let hash160 = hex::decode(rt.alloc(), digests[3]).ok().ok_or("digits")?;
+    let values = [
+        HashVal::Sha256(sha256.as_slice().try_into().ok().ok_or("length")?),
+        HashVal::Hash256(hash256.as_slice().try_into().ok().ok_or("length")?),
+        HashVal::Ripemd160(ripemd160.as_slice().try_into().ok().ok_or("length")?),
+        HashVal::Hash160(hash160.as_slice().try_into().ok().ok_or("length")?),
+    ];
+    for value in values {
+        assert_eq!(rt; assets.preimage_of(&value), Some([0; 32].as_slice()));
+    }
+    Ok(())
+}
+
+#[test]
 fn timelocks_hold(rt: HostRuntime) -> Result<(), Fail> {
     // operand, whether a relative lock of it holds, and an absolute one
     let cases: [(u64, bool, bool); 7] = [
