@@ -219,11 +219,11 @@ nothing_is_met = record {
 
 pub key_has_letters : KeyHasLetters
 unfolding computing corr_rows mall_rows
-key_has_letters = (record { type = record { writable = key_a_form; corr = refl }; mall = refl }, (sig_a, refl, refl), refl)
+key_has_letters = (record { writable = key_a_form; valid = refl; among = (1, omega arith, refl); corr = refl; mall = refl }, (sig_a, refl, refl), refl)
 
 pub one_has_letters : OneHasLetters
 unfolding computing corr_rows mall_rows
-one_has_letters = (record { type = record { writable = tt; corr = refl }; mall = refl }, refl)
+one_has_letters = (record { writable = tt; valid = refl; among = (0, omega arith, refl); corr = refl; mall = refl }, refl)
 
 -- the tree, where it is a hash, can be missed
 abbrev IsMissed : Tree → Type 0

@@ -35,18 +35,15 @@ CanonicalIsAccepted =
     Sat tree assets stack →
     IsAcceptedWithin tree limits (given_with assets table) stack
 
--- what is accepted is a satisfaction
-abbrev pub AcceptedIsSatisfaction : Type 0
-AcceptedIsSatisfaction =
-    (tree : Tree) (given : Given) (stack : List Bytes) (checks : Pairs) →
-    IsWritable tree → IsValid tree →
-    IsAccepted tree given stack checks →
-    FullSat tree given any stack
+-- what is accepted is a satisfaction; and a satisfaction is accepted, or stops at a limit of the interpreter
+pub record Inversion (tree : Tree) : Type 0 where
+  pub satisfaction :
+      (given : Given) (stack : List Bytes) (checks : Pairs) →
+      IsAccepted tree given stack checks → FullSat tree given any stack
+  pub acceptance :
+      (given : Given) (stack : List Bytes) → FullSat tree given any stack →
+      ((checks : Pairs) × IsAccepted tree given stack checks) ⊎ StopsAtLimit tree given stack
 
--- a satisfaction is accepted, or stops at a limit of the interpreter
-abbrev pub SatisfactionIsAccepted : Type 0
-SatisfactionIsAccepted =
-    (tree : Tree) (given : Given) (stack : List Bytes) →
-    IsWritable tree → IsValid tree →
-    FullSat tree given any stack →
-    ((checks : Pairs) × IsAccepted tree given stack checks) ⊎ StopsAtLimit tree given stack
+-- of every valid miniscript
+abbrev pub InversionHolds : Type 0
+InversionHolds = (tree : Tree) → IsWritable tree → IsValid tree → Inversion tree

@@ -1,16 +1,21 @@
 -- The promises speak of something: what they presuppose is met, here by some miniscripts each.
-use Rattle.std.specs.Prelude.{◌≡◌, ◌≢◌, true, false, List, [], ◌∷◌, Some, None}
+use Rattle.std.specs.Prelude.{◌≡◌, ◌≢◌, true, false, List, [], ◌∷◌, Contains, Some, None, Ok}
 use Rattle.def_script.specs.Bytes.{Bytes}
 use Rattle.def_machine.specs.Samples.{key_a, sig_a, sig_b}
 use Rattle.def_machine.specs.Stacks.{Pairs}
 use Rattle.def_machine.specs.Machine.{Given}
-use Rattle.def_tree.specs.Tree.{just_1}
+use Rattle.def_tree.specs.Tree.{Tree, just_1}
 use Rattle.def_tree.specs.Range.{IsWritable}
 use Rattle.def_types.specs.declared.Base.TheVariants.{B}
+use Rattle.def_types.specs.declared.Ty.{Ty}
+use Rattle.def_types.specs.declared.Mall.{Mall}
+use Rattle.def_types.specs.Corr.{corr}
+use Rattle.def_types.specs.Malleable.{mall}
 use Rattle.def_types.specs.Samples.{pk, sha256}
 use Rattle.def_assets.specs.Assets.{Assets, AreAssets}
 use Rattle.def_sane.specs.declared.Limits.{Limits}
 use Rattle.def_sane.specs.Limits.{AreLimits}
+use Rattle.def_sane.specs.Nodes.{all_nodes}
 use Rattle.def_sane.specs.Unfit.{IsValid, IsSane}
 use Rattle.def_satisfaction.specs.Setting.{any}
 use Rattle.def_satisfaction.specs.Rows.{EMPTY, ONE}
@@ -19,7 +24,7 @@ use Rattle.def_satisfaction.specs.Samples.{pair_a, pair_b, preimage_1, preimage_
 use Rattle.def_choice.specs.Strict.{strict}
 use Rattle.def_choice.specs.NonMalleable.{IsAccepted, HasNewPair, Fresh, NonMalleable, given_with}
 use Rattle.def_promises.specs.Acceptance.{IsAcceptedWithin}
-use Rattle.def_promises.specs.Letters.{HasProperties, HashesCanBeMissed}
+use Rattle.def_promises.specs.Letters.{HashesCanBeMissed}
 
 -- `and_v(v:pk(B),or_i(pk(A),and_v(v:sha256(h1),and_v(v:sha256(h2),sha256(h3)))))`: by the key A and by the
 -- preimages
@@ -75,16 +80,24 @@ pub record NothingIsMet : Type 0 where
 abbrev pub given_a : Given
 given_a = given_of (with_preimages [] (pair_a ∷ []))
 
+-- a node of a valid miniscript has this type and these properties
+pub record HasLetters (tree node : Tree) (ty : Ty) (properties : Mall) : Type 0 where
+  pub writable : IsWritable tree
+  pub valid : IsValid tree
+  pub among : Contains (all_nodes tree) node
+  pub corr : corr node ≡ Ok ty
+  pub mall : mall node ≡ Ok properties
+
 abbrev pub KeyHasLetters : Type 0
 KeyHasLetters =
-    HasProperties (pk key_a)
+    HasLetters (pk key_a) (pk key_a)
     (record { base = B; z = false; o = true; n = true; d = true; u = true }) (record { s = true; f = false; e = true }) ×
     FullSat (pk key_a) given_a any (sig_a ∷ []) × FullDsat (pk key_a) given_a any (EMPTY ∷ [])
 
 -- `1` is Bzuf
 abbrev pub OneHasLetters : Type 0
 OneHasLetters =
-    HasProperties just_1
+    HasLetters just_1 just_1
     (record { base = B; z = true; o = false; n = false; d = false; u = true }) (record { s = false; f = true; e = false }) ×
     FullSat just_1 given_a any []
 

@@ -1,6 +1,5 @@
 -- What the letters of a type mean (BIP 379: z, o, n, d, u of correctness; s, f, e of malleability), over all
--- satisfactions and dissatisfactions. They hold of every miniscript that has a type, so of each node of a
--- valid one.
+-- satisfactions and dissatisfactions of each node of a valid miniscript, as a miniscript of its own.
 use Rattle.std.specs.Prelude.{◌≡◌, ℕ, ◌≤◌, ◌⊎◌, IsTrue, false, List, [], ◌∷◌, ◌++◌, length, reverse, All, Contains, Ok}
 use Rattle.def_hash.specs.declared.HashKind.{HashKind}
 use Rattle.def_script.specs.Bytes.{Bytes}
@@ -9,7 +8,7 @@ use Rattle.def_machine.specs.Limits.{MAX_SCRIPT_ELEMENT_SIZE}
 use Rattle.def_machine.specs.Stacks.{Stack, is_empty}
 use Rattle.def_machine.specs.Machine.{Given, State, is_live}
 use Rattle.def_tree.specs.Tree.{Tree, hash}
-use Rattle.def_tree.specs.Range.{IsWritable, IsInRange}
+use Rattle.def_tree.specs.Range.{IsWritable}
 use Rattle.def_types.specs.declared.Base.TheVariants.{B}
 use Rattle.def_types.specs.declared.Ty.{Ty}
 use Rattle.def_types.specs.declared.Mall.{Mall}
@@ -17,94 +16,104 @@ use Rattle.def_types.specs.Corr.{corr}
 use Rattle.def_types.specs.Malleable.{mall}
 use Rattle.def_assets.specs.Assets.{Assets, known}
 use Rattle.def_sane.specs.Nodes.{all_nodes}
+use Rattle.def_sane.specs.Unfit.{IsValid}
 use Rattle.def_satisfaction.specs.Setting.{Mode, any, only}
 use Rattle.def_satisfaction.specs.Rows.{ONE, IsNoPreimageOf}
 use Rattle.def_satisfaction.specs.Satisfaction.{Dsat, FullSat, FullDsat}
 use Rattle.def_promises.specs.Limited.{StopFrom, LeaveFrom}
-
--- the miniscript has this type
-pub record HasType (tree : Tree) (ty : Ty) : Type 0 where
-  pub writable : IsWritable tree
-  pub corr : corr tree ≡ Ok ty
-
--- and these properties of malleability
-pub record HasProperties (tree : Tree) (ty : Ty) (properties : Mall) : Type 0 where
-  pub type : HasType tree ty
-  pub mall : mall tree ≡ Ok properties
 
 -- no signature at all
 abbrev pub without_signatures : Locks → Given
 without_signatures locks = record { table = []; locks = locks }
 
 -- z, zero-arg: every satisfaction and dissatisfaction has no item
-abbrev pub ZeroArg : Type 0
-ZeroArg =
-    (tree : Tree) (ty : Ty) (given : Given) (mode : Mode) (stack : List Bytes) →
-    HasType tree ty → IsTrue ty.z →
-    FullSat tree given mode stack ⊎ FullDsat tree given mode stack →
+abbrev pub ZeroArg : Tree → Ty → Type 0
+ZeroArg node ty =
+    (given : Given) (mode : Mode) (stack : List Bytes) → IsTrue ty.z →
+    FullSat node given mode stack ⊎ FullDsat node given mode stack →
     length stack ≡ 0
 
 -- o, one-arg: every one has one item
-abbrev pub OneArg : Type 0
-OneArg =
-    (tree : Tree) (ty : Ty) (given : Given) (mode : Mode) (stack : List Bytes) →
-    HasType tree ty → IsTrue ty.o →
-    FullSat tree given mode stack ⊎ FullDsat tree given mode stack →
+abbrev pub OneArg : Tree → Ty → Type 0
+OneArg node ty =
+    (given : Given) (mode : Mode) (stack : List Bytes) → IsTrue ty.o →
+    FullSat node given mode stack ⊎ FullDsat node given mode stack →
     length stack ≡ 1
 
 -- n, nonzero: every one has an item, and the top item of a satisfaction isn't empty
-abbrev pub NonZero : Type 0
-NonZero =
-    (tree : Tree) (ty : Ty) (given : Given) (mode : Mode) (stack : List Bytes) →
-    HasType tree ty → IsTrue ty.n →
-    (FullDsat tree given mode stack → 1 ≤ length stack) ×
-    (FullSat tree given mode stack →
+abbrev pub NonZero : Tree → Ty → Type 0
+NonZero node ty =
+    (given : Given) (mode : Mode) (stack : List Bytes) → IsTrue ty.n →
+    (FullDsat node given mode stack → 1 ≤ length stack) ×
+    (FullSat node given mode stack →
     (below : List Bytes) × (top : Bytes) × (stack ≡ below ++ top ∷ []) × (is_empty top ≡ false))
 
 -- of each hash fragment some 32 bytes don't hash to the value
 abbrev pub HashesCanBeMissed : Tree → Type 0
-HashesCanBeMissed tree =
-    (kind : HashKind) (value : Bytes) → Contains (all_nodes tree) (hash kind value) →
+HashesCanBeMissed node =
+    (kind : HashKind) (value : Bytes) → Contains (all_nodes node) (hash kind value) →
     (bytes : Bytes) × IsNoPreimageOf kind value bytes
 
 -- d, dissatisfiable: there is a dissatisfaction without a signature
-abbrev pub Dissatisfiable : Type 0
-Dissatisfiable =
-    (tree : Tree) (ty : Ty) (locks : Locks) (mode : Mode) →
-    HasType tree ty → IsTrue ty.d → HashesCanBeMissed tree →
-    (stack : List Bytes) × FullDsat tree (without_signatures locks) mode stack
+abbrev pub Dissatisfiable : Tree → Ty → Type 0
+Dissatisfiable node ty =
+    (locks : Locks) (mode : Mode) → IsTrue ty.d → HashesCanBeMissed node →
+    (stack : List Bytes) × FullDsat node (without_signatures locks) mode stack
 
--- u, unit: carried out from a stack that ends in a satisfaction, a miniscript in range of type B leaves the byte 1
--- in its place, or stops at a limit. No element of the satisfaction is too long, since no run starts with such a one
-abbrev pub UnitValue : Type 0
-UnitValue =
-    (tree : Tree) (ty : Ty) (given : Given) (stack : List Bytes) (below : Stack) (s : State) (place : ℕ) →
-    IsInRange tree → HasType tree ty → (ty.base ≡ B) → IsTrue ty.u →
-    FullSat tree given any stack → All (λ item. length item ≤ MAX_SCRIPT_ELEMENT_SIZE) stack →
+-- u, unit: carried out from a stack that ends in a satisfaction, a miniscript of type B leaves the byte 1 in its place,
+-- or stops at a limit. No element of the satisfaction is too long, since no run starts with such a one
+abbrev pub UnitValue : Tree → Ty → Type 0
+UnitValue node ty =
+    (given : Given) (stack : List Bytes) (below : Stack) (s : State) (place : ℕ) → (ty.base ≡ B) → IsTrue ty.u →
+    FullSat node given any stack → All (λ item. length item ≤ MAX_SCRIPT_ELEMENT_SIZE) stack →
     IsTrue (is_live s) → s.main ≡ reverse stack ++ below →
-    StopFrom tree given s place ⊎ LeaveFrom tree given s place (ONE ∷ below)
+    StopFrom node given s place ⊎ LeaveFrom node given s place (ONE ∷ below)
+
+-- the letters of correctness
+pub record TypeLetters (node : Tree) (ty : Ty) : Type 0 where
+  pub zero_arg : ZeroArg node ty
+  pub one_arg : OneArg node ty
+  pub non_zero : NonZero node ty
+  pub dissatisfiable : Dissatisfiable node ty
+  pub unit : UnitValue node ty
 
 -- s, signed: every satisfaction needs a signature
-abbrev pub Signed : Type 0
-Signed =
-    (tree : Tree) (ty : Ty) (properties : Mall) (locks : Locks) (mode : Mode) (stack : List Bytes) →
-    HasProperties tree ty properties → IsTrue properties.s →
-    ¬ FullSat tree (without_signatures locks) mode stack
+abbrev pub Signed : Tree → Mall → Type 0
+Signed node properties =
+    (locks : Locks) (mode : Mode) (stack : List Bytes) → IsTrue properties.s →
+    ¬ FullSat node (without_signatures locks) mode stack
 
 -- f, forced: every dissatisfaction needs one
-abbrev pub Forced : Type 0
-Forced =
-    (tree : Tree) (ty : Ty) (properties : Mall) (locks : Locks) (mode : Mode) (stack : List Bytes) →
-    HasProperties tree ty properties → IsTrue properties.f →
-    ¬ FullDsat tree (without_signatures locks) mode stack
+abbrev pub Forced : Tree → Mall → Type 0
+Forced node properties =
+    (locks : Locks) (mode : Mode) (stack : List Bytes) → IsTrue properties.f →
+    ¬ FullDsat node (without_signatures locks) mode stack
 
 -- e, expressive: with the known preimages alone there is one dissatisfaction without a signature, and it is
 -- canonical
-abbrev pub Expressive : Type 0
-Expressive =
-    (tree : Tree) (ty : Ty) (properties : Mall) (locks : Locks) (assets : Assets) →
-    HasProperties tree ty properties → IsTrue properties.e →
+abbrev pub Expressive : Tree → Mall → Type 0
+Expressive node properties =
+    (locks : Locks) (assets : Assets) → IsTrue properties.e →
     (stack : List Bytes) ×
-    FullDsat tree (without_signatures locks) (only (known assets)) stack ×
-    Dsat tree assets stack ×
-    ((other : List Bytes) → FullDsat tree (without_signatures locks) (only (known assets)) other → other ≡ stack)
+    FullDsat node (without_signatures locks) (only (known assets)) stack ×
+    Dsat node assets stack ×
+    ((other : List Bytes) → FullDsat node (without_signatures locks) (only (known assets)) other → other ≡ stack)
+
+-- the letters of malleability
+pub record MallLetters (node : Tree) (properties : Mall) : Type 0 where
+  pub signed : Signed node properties
+  pub forced : Forced node properties
+  pub expressive : Expressive node properties
+
+-- each node has a type, and the letters of its type hold; where it has properties of malleability, theirs do
+pub record Letters (tree : Tree) : Type 0 where
+  pub types :
+      (node : Tree) → Contains (all_nodes tree) node →
+      (ty : Ty) × (corr node ≡ Ok ty) × TypeLetters node ty
+  pub properties :
+      (node : Tree) (properties : Mall) → Contains (all_nodes tree) node → mall node ≡ Ok properties →
+      MallLetters node properties
+
+-- of every valid miniscript
+abbrev pub LettersHold : Type 0
+LettersHold = (tree : Tree) → IsWritable tree → IsValid tree → Letters tree

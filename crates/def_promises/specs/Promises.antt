@@ -12,33 +12,10 @@ use Rattle.def_sane.specs.Nodes.{all_nodes}
 use Rattle.def_sane.specs.Unfit.{IsSane}
 use Rattle.def_satisfaction.specs.Weight.{weight}
 use Rattle.def_satisfaction.specs.Rows.{IsPreimageOf}
-use Rattle.def_satisfaction.specs.Satisfaction.{Sat}
+use Rattle.def_satisfaction.specs.Satisfaction.{Sat, Holds}
 use Rattle.def_choice.specs.Strict.{strict}
 use Rattle.def_choice.specs.Tight.{Tight}
-use Rattle.def_choice.specs.NonMalleable.{IsAccepted, Fresh, NonMalleable, given_with}
-
--- there is a strict choice exactly where there is a canonical satisfaction
-abbrev pub StrictExists : Type 0
-StrictExists =
-    (tree : Tree) (assets : Assets) →
-    IsWritable tree → IsSane tree → AreAssets assets →
-    ((stack : List Bytes) × (strict tree assets ≡ Some stack)) ↔ ((stack : List Bytes) × Sat tree assets stack)
-
--- nobody can change it
-abbrev pub StrictIsNonMalleable : Type 0
-StrictIsNonMalleable =
-    (tree : Tree) (assets : Assets) (stack : List Bytes) →
-    IsWritable tree → IsSane tree → AreAssets assets →
-    strict tree assets ≡ Some stack → NonMalleable tree assets stack
-
--- where there is none, every stack that is accepted under the assets' own pairs is fresh
-abbrev pub NothingToAccept : Type 0
-NothingToAccept =
-    (tree : Tree) (assets : Assets) (stack : List Bytes) (checks : Pairs) →
-    IsWritable tree → IsSane tree → AreAssets assets →
-    strict tree assets ≡ None →
-    IsAccepted tree (given_with assets assets.pairs) stack checks →
-    Fresh tree assets assets.pairs stack
+use Rattle.def_choice.specs.NonMalleable.{IsAccepted, HasNewPair, Fresh, NonMalleable, given_with}
 
 -- the stack has a preimage of a hash of the miniscript that isn't the known one
 pub record HasUnknownPreimage (tree : Tree) (assets : Assets) (stack : List Bytes) : Type 0 where
@@ -66,6 +43,47 @@ FreshHasItem =
     (tree : Tree) (assets : Assets) (table : Pairs) (stack : List Bytes) →
     Fresh tree assets table stack → HasUnknownPreimage tree assets stack ⊎ HasOtherKey tree stack
 
+-- under every table that holds the pairs of the assets, the stack is accepted; and every other stack that is accepted
+-- passes a check that this one doesn't, or is fresh and has an unknown preimage or a substitute key
+abbrev pub Unchangeable : Tree → Assets → (stack : List Bytes) → Type 0
+Unchangeable tree assets stack =
+    (table : Pairs) → Holds table assets →
+    (checks : Pairs) × IsAccepted tree (given_with assets table) stack checks ×
+    ((other : List Bytes) (others : Pairs) →
+    IsAccepted tree (given_with assets table) other others → other ≢ stack →
+    HasNewPair others checks ⊎
+    (Fresh tree assets table other × (HasUnknownPreimage tree assets other ⊎ HasOtherKey tree other)))
+
+-- there is a strict choice exactly where there is a canonical satisfaction
+abbrev pub StrictExists : Type 0
+StrictExists =
+    (tree : Tree) (assets : Assets) →
+    IsWritable tree → IsSane tree → AreAssets assets →
+    ((stack : List Bytes) × (strict tree assets ≡ Some stack)) ↔ ((stack : List Bytes) × Sat tree assets stack)
+
+-- nobody can change it
+abbrev pub StrictIsNonMalleable : Type 0
+StrictIsNonMalleable =
+    (tree : Tree) (assets : Assets) (stack : List Bytes) →
+    IsWritable tree → IsSane tree → AreAssets assets →
+    strict tree assets ≡ Some stack → NonMalleable tree assets stack
+
+-- and every other stack that is accepted shows what it has
+abbrev pub StrictIsUnchangeable : Type 0
+StrictIsUnchangeable =
+    (tree : Tree) (assets : Assets) (stack : List Bytes) →
+    IsWritable tree → IsSane tree → AreAssets assets →
+    strict tree assets ≡ Some stack → Unchangeable tree assets stack
+
+-- where there is none, every stack that is accepted under the assets' own pairs is fresh
+abbrev pub NothingToAccept : Type 0
+NothingToAccept =
+    (tree : Tree) (assets : Assets) (stack : List Bytes) (checks : Pairs) →
+    IsWritable tree → IsSane tree → AreAssets assets →
+    strict tree assets ≡ None →
+    IsAccepted tree (given_with assets assets.pairs) stack checks →
+    Fresh tree assets assets.pairs stack
+
 -- a canonical satisfaction can't be changed exactly where it is tight
 abbrev pub TightIsNonMalleable : Type 0
 TightIsNonMalleable =
@@ -73,6 +91,13 @@ TightIsNonMalleable =
     IsWritable tree → IsSane tree → AreAssets assets →
     Sat tree assets stack →
     NonMalleable tree assets stack ↔ Tight tree assets stack
+
+-- and of a tight one every other stack that is accepted shows what it has
+abbrev pub TightIsUnchangeable : Type 0
+TightIsUnchangeable =
+    (tree : Tree) (assets : Assets) (stack : List Bytes) →
+    IsWritable tree → IsSane tree → AreAssets assets →
+    Sat tree assets stack → Tight tree assets stack → Unchangeable tree assets stack
 
 -- the strict choice weighs no more than any canonical satisfaction that can't be changed
 abbrev pub StrictIsLightest : Type 0

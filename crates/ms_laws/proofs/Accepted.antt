@@ -27,7 +27,7 @@ use Rattle.def_satisfaction.specs.Satisfaction.{canonical, full, Sat, FullSat, H
 use Rattle.def_satisfaction.proofs.Canonical.{held}
 use Rattle.def_satisfaction.proofs.Wider.{IsWider, row_within}
 use Rattle.def_choice.specs.NonMalleable.{IsAccepted, given_with}
-use Rattle.def_promises.specs.Acceptance.{CanonicalIsAccepted, AcceptedIsSatisfaction, SatisfactionIsAccepted}
+use Rattle.def_promises.specs.Acceptance.{CanonicalIsAccepted, InversionHolds}
 use Rattle.def_promises.specs.Limited.{StopsAtLimit}
 use Rattle.ms_laws.proofs.Log.{Log}
 use Rattle.ms_laws.proofs.Den.{den}
@@ -159,7 +159,7 @@ accounted tree given stack checks writable valid is =
         record { row = q.0; log = c ∙ sym (ap (λ z. z.checks) q.1) }
     go false w l e i took c = absurd (false≢true i)
 
-pub accepted_is_satisfaction : AcceptedIsSatisfaction
+accepted_is_satisfaction : (tree : Tree) (given : Given) (stack : List Bytes) (checks : Pairs) → IsWritable tree → IsValid tree → IsAccepted tree given stack checks → FullSat tree given any stack
 accepted_is_satisfaction tree given stack checks writable valid is = (accounted tree given stack checks writable valid is).row
 
 -- items that the interpreter takes
@@ -171,7 +171,7 @@ fit_short (x ∷ w) e =
     (omega arith, fit_short w p.1)
 
 -- a satisfaction is accepted, or stops at a limit
-pub satisfaction_is_accepted : SatisfactionIsAccepted
+satisfaction_is_accepted : (tree : Tree) (given : Given) (stack : List Bytes) → IsWritable tree → IsValid tree → FullSat tree given any stack → ((checks : Pairs) × IsAccepted tree given stack checks) ⊎ StopsAtLimit tree given stack
 satisfaction_is_accepted tree given stack writable valid sat = go (list_all (λ x. nat_le (length x) MAX_SCRIPT_ELEMENT_SIZE) (reverse stack)) refl
   where
     size : length (script_of tree) ≤ 10000
@@ -185,6 +185,12 @@ satisfaction_is_accepted tree given stack writable valid sat = go (list_all (λ 
           | inr stops ↦ inr stops
         ]
     go false long = inr (too_long given tree stack writable size long)
+
+pub inversion_of : InversionHolds
+inversion_of tree writable valid = record {
+  satisfaction = λ given stack checks is. accepted_is_satisfaction tree given stack checks writable valid is;
+  acceptance = λ given stack sat. satisfaction_is_accepted tree given stack writable valid sat;
+}
 
 -- what is accepted has no item that is too long
 pub accepted_short : (tree : Tree) (given : Given) (stack : List Bytes) (checks : Pairs) → IsWritable tree → IsValid tree → IsAccepted tree given stack checks → Short (reverse stack)

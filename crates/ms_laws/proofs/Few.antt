@@ -8,7 +8,6 @@ use Rattle.def_tree.specs.declared.Wrapper.TheVariants as wrapper
 use Rattle.def_machine.specs.Stacks.{Stack}
 use Rattle.def_tree.specs.Tree.{Tree, Trees, just_0, just_1, pk_k, pk_h, older, after, hash, and_or, two, thresh, multi, wrap, none, more}
 use Rattle.def_tree.specs.Range.{count}
-use Rattle.def_tree.specs.Size.{measure, measure_of}
 use Rattle.def_emit.specs.Emit.{number, emit, emit_sum, emit_added}
 use Rattle.def_sane.specs.Limits.{opcode_count}
 use Rattle.def_sane.specs.Most.{most_sat, number_of}
@@ -98,46 +97,9 @@ mutual
   few_rest none low = tt
   few_rest (more x xs) low = let e = opcodes-append (emit x) (code op.Add ∷ emit_added xs) in (few_opcodes x (omega arith), few_rest xs (omega arith))
 
--- so is every valid miniscript, and every one in range
+-- so is every valid miniscript
 pub few_valid : (t : Tree) → IsValid t → Few t
 few_valid t valid =
     let means = (valid_means t).0 valid in
     let ops : opcode_count (emit t) + number_of (λ x. x.keys) (most_sat t) ≤ 201 = means.3 in
     few_opcodes t (omega arith)
-
-mutual
-  pub few_measured : (t : Tree) → measure t < 2 ^ 30 → Few t
-  few_measured just_0 low = tt
-  few_measured just_1 low = tt
-  few_measured (pk_k key) low = tt
-  few_measured (pk_h key) low = tt
-  few_measured (older n) low = tt
-  few_measured (after n) low = tt
-  few_measured (hash kind value) low = tt
-  few_measured (and_or x y z) low = (few_measured x (omega arith), few_measured y (omega arith), few_measured z (omega arith))
-  few_measured (two kind x y) low = (few_measured x (omega arith), few_measured y (omega arith))
-  few_measured (thresh k xs) low = let i = counted_measure xs in (omega arith, all_measured xs (omega arith))
-  few_measured (multi k keys) low = tt
-  few_measured (wrap wrapper x) low = few_measured x (omega arith)
-
-  all_measured : (xs : Trees) → measure_of xs < 2 ^ 30 → AllFew xs
-  all_measured none low = tt
-  all_measured (more x xs) low = (few_measured x (omega arith), all_measured xs (omega arith))
-
-  counted_measure : (xs : Trees) → count xs ≤ measure_of xs
-  counted_measure none = omega arith
-  counted_measure (more x xs) = let i = counted_measure xs in let j = some_measure x in omega arith
-
-  some_measure : (t : Tree) → 1 ≤ measure t
-  some_measure just_0 = omega arith
-  some_measure just_1 = omega arith
-  some_measure (pk_k key) = omega arith
-  some_measure (pk_h key) = omega arith
-  some_measure (older n) = omega arith
-  some_measure (after n) = omega arith
-  some_measure (hash kind value) = omega arith
-  some_measure (and_or x y z) = omega arith
-  some_measure (two kind x y) = omega arith
-  some_measure (thresh k xs) = omega arith
-  some_measure (multi k keys) = omega arith
-  some_measure (wrap wrapper x) = omega arith

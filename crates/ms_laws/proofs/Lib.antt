@@ -58,3 +58,5 @@ pub mod Checks
 pub mod Beaten
 pub mod Unchanged
 pub mod TightNeeded
+pub mod Inherited
+pub mod NodeLetters

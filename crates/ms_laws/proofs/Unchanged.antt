@@ -19,7 +19,8 @@ use Rattle.def_satisfaction.specs.Satisfaction.{canonical, full, Sat}
 use Rattle.def_choice.specs.Tight.{Tight}
 use Rattle.def_choice.proofs.Chosen.{strict_is_tight, strict_is_canonical}
 use Rattle.def_choice.specs.NonMalleable.{IsAccepted, HasNewPair, Fresh, NonMalleable, given_with}
-use Rattle.def_promises.specs.Promises.{StrictIsNonMalleable, NothingToAccept, TightIsNonMalleable}
+use Rattle.def_promises.specs.Promises.{Unchangeable, StrictIsNonMalleable, StrictIsUnchangeable, NothingToAccept, TightIsNonMalleable, TightIsUnchangeable}
+use Rattle.def_promises.proofs.FreshItems.{fresh_has_item}
 use Rattle.ms_laws.proofs.Logs.{sat_log}
 use Rattle.ms_laws.proofs.Ends.{left}
 use Rattle.ms_laws.proofs.Accepted.{accounted, accepts_row, accepted_short, satisfied}
@@ -83,8 +84,8 @@ against tree assets table stack checks writable valid unique other others is dif
         good_there : (key sig : Bytes) → Has checks key sig → IsTrue (is_good table key sig) → IsTrue (is_good checks key sig)
         good_there key sig held good = rw (good_is_some table key sig good, held) refl
 
-pub tight_is_unchanged : (tree : Tree) (assets : Assets) (stack : List Bytes) → IsWritable tree → IsSane tree → AreAssets assets → Sat tree assets stack → Tight tree assets stack → NonMalleable tree assets stack
-tight_is_unchanged tree assets stack writable sane are sat tight table holds =
+pub tight_is_unchangeable : TightIsUnchangeable
+tight_is_unchangeable tree assets stack writable sane are sat tight table holds =
     let s = (sane_means tree).0 sane in
     let v = (valid_means tree).0 s.0 in
     let one = only_sat assets table holds tree writable v.0 s.1 s.4 (reverse stack) tight in
@@ -92,14 +93,29 @@ tight_is_unchanged tree assets stack writable sane are sat tight table holds =
     let checks = (sat_log (at assets table) tree (reverse stack) one.0).checks in (
       checks,
       record { ops = _; peak = run.peak; run = run.run },
-      λ other others is differs. against tree assets table stack checks writable s.0 one.1 other others is differs,
+      λ other others is differs. elim (against tree assets table stack checks writable s.0 one.1 other others is differs) [
+        | inl new ↦ inl new
+        | inr fresh ↦ inr (fresh, fresh_has_item tree assets table other fresh)
+      ],
+    )
+
+unchangeable_is_non_malleable : (tree : Tree) (assets : Assets) (stack : List Bytes) → Unchangeable tree assets stack → NonMalleable tree assets stack
+unchangeable_is_non_malleable tree assets stack unchangeable table holds =
+    let u = unchangeable table holds in (
+      u.0,
+      u.1,
+      λ other others is differs. elim (u.2 other others is differs) [ inl new ↦ inl new | inr fresh ↦ inr fresh.0 ],
     )
 
 -- nobody can change the strict choice
+pub strict_is_unchangeable : StrictIsUnchangeable
+strict_is_unchangeable tree assets stack writable sane are e =
+    tight_is_unchangeable tree assets stack writable sane are
+    (strict_is_canonical tree assets stack writable are e) (strict_is_tight tree assets stack writable are e)
+
 pub strict_is_non_malleable : StrictIsNonMalleable
 strict_is_non_malleable tree assets stack writable sane are e =
-    tight_is_unchanged tree assets stack writable sane are
-    (strict_is_canonical tree assets stack writable are e) (strict_is_tight tree assets stack writable are e)
+    unchangeable_is_non_malleable tree assets stack (strict_is_unchangeable tree assets stack writable sane are e)
 
 -- where there is no canonical satisfaction, what is accepted is fresh
 pub nothing_to_accept : NothingToAccept
@@ -119,5 +135,7 @@ nothing_to_accept tree assets stack checks writable sane are nowhere is =
 
 -- a canonical satisfaction can't be changed exactly where it is tight
 pub tight_is_non_malleable : TightIsNonMalleable
-tight_is_non_malleable tree assets stack writable sane are sat =
-    (tight_if_non_malleable tree assets stack writable sane are sat, tight_is_unchanged tree assets stack writable sane are sat)
+tight_is_non_malleable tree assets stack writable sane are sat = (
+  tight_if_non_malleable tree assets stack writable sane are sat,
+  λ tight. unchangeable_is_non_malleable tree assets stack (tight_is_unchangeable tree assets stack writable sane are sat tight),
+)

@@ -1,27 +1,19 @@
 //! What the interpreter accepts of a miniscript, what the letters of its types mean, and what nobody can change.
 
-ghost use Rattle.def_promises.specs.Acceptance.{CanonicalIsAccepted, AcceptedIsSatisfaction, SatisfactionIsAccepted};
-ghost use Rattle.def_promises.specs.Letters.{ZeroArg, OneArg, NonZero, Dissatisfiable, UnitValue, Signed, Forced, Expressive};
-ghost use Rattle.def_promises.specs.Promises.{StrictExists, StrictIsNonMalleable, NothingToAccept, TightIsNonMalleable, StrictIsLightest};
+ghost use Rattle.def_promises.specs.Acceptance.{CanonicalIsAccepted, InversionHolds};
+ghost use Rattle.def_promises.specs.Letters.{LettersHold};
+ghost use Rattle.def_promises.specs.Promises.{StrictExists, StrictIsNonMalleable, StrictIsUnchangeable, NothingToAccept, TightIsNonMalleable, TightIsUnchangeable, StrictIsLightest};
 
 /// The interpreter accepts the canonical satisfactions of a valid miniscript, within its limits; and what it
-/// accepts is a satisfaction.
+/// accepts is a satisfaction, which it accepts but for its limits.
 pub fn acceptance()
     ensures canonical { CanonicalIsAccepted }
-    ensures satisfaction { AcceptedIsSatisfaction }
-    ensures accepted { SatisfactionIsAccepted }
+    ensures inversion { InversionHolds }
 {}
 
-/// The letters of a type say of all satisfactions and dissatisfactions what BIP 379 says of them.
+/// The letters of each node's type say of all satisfactions and dissatisfactions what BIP 379 says of them.
 pub fn letters()
-    ensures zero_arg { ZeroArg }
-    ensures one_arg { OneArg }
-    ensures non_zero { NonZero }
-    ensures dissatisfiable { Dissatisfiable }
-    ensures unit { UnitValue }
-    ensures signed { Signed }
-    ensures forced { Forced }
-    ensures expressive { Expressive }
+    ensures letters { LettersHold }
 {}
 
 /// The strict choice of a sane miniscript exists wherever a canonical satisfaction does, nobody can change it,
@@ -29,7 +21,9 @@ pub fn letters()
 pub fn strict()
     ensures exists { StrictExists }
     ensures non_malleable { StrictIsNonMalleable }
+    ensures unchangeable { StrictIsUnchangeable }
     ensures nothing { NothingToAccept }
     ensures tight { TightIsNonMalleable }
+    ensures tight_unchangeable { TightIsUnchangeable }
     ensures lightest { StrictIsLightest }
 {}

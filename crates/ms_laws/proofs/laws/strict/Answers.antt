@@ -1,6 +1,6 @@
 use Rattle.ms_laws.proofs.laws.strict.Goals as goal
 use Rattle.ms_laws.proofs.StrictFound.{strict_exists}
-use Rattle.ms_laws.proofs.Unchanged.{strict_is_non_malleable, nothing_to_accept, tight_is_non_malleable}
+use Rattle.ms_laws.proofs.Unchanged.{strict_is_non_malleable, strict_is_unchangeable, nothing_to_accept, tight_is_non_malleable, tight_is_unchangeable}
 use Rattle.ms_laws.proofs.TightNeeded.{strict_is_lightest}
 
 pub returns-clause-exists : goal.returns-clause-exists
@@ -17,3 +17,9 @@ returns-clause-tight c = tight_is_non_malleable
 
 pub returns-clause-lightest : goal.returns-clause-lightest
 returns-clause-lightest c = strict_is_lightest
+
+pub returns-clause-unchangeable : goal.returns-clause-unchangeable
+returns-clause-unchangeable c = strict_is_unchangeable
+
+pub returns-clause-tight_unchangeable : goal.returns-clause-tight_unchangeable
+returns-clause-tight_unchangeable c = tight_is_unchangeable
