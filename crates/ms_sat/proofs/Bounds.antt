@@ -35,11 +35,11 @@ abbrev pub Within : ℕ → Option Stack → Type 0
 Within n None = ⊤
 Within n (Some v) = weight v ≤ n
 
-weaker : (m n : ℕ) (o : Option Stack) → m ≤ n → Within m o → Within n o
+pub weaker : (m n : ℕ) (o : Option Stack) → m ≤ n → Within m o → Within n o
 weaker m n None le h = tt
 weaker m n (Some v) le h = omega (arith, h)
 
-within_both : (m n : ℕ) (o p : Option Stack) → Within m o → Within n p → Within (m + n) (both o p)
+pub within_both : (m n : ℕ) (o p : Option Stack) → Within m o → Within n p → Within (m + n) (both o p)
 within_both m n None p a b = tt
 within_both m n (Some v) None a b = tt
 within_both m n (Some v) (Some w) a b = omega (arith, a, b, weight-append w v)
@@ -54,10 +54,10 @@ within_lighter n (Some v) (Some w) a b = go (nat_lt (weight w) (weight v))
     go false = a
 
 -- the first of two options
-within_two : (n : ℕ) (o p : Option Stack) → Within n o → Within n p → Within n (least (o ∷ p ∷ []))
+pub within_two : (n : ℕ) (o p : Option Stack) → Within n o → Within n p → Within n (least (o ∷ p ∷ []))
 within_two n o p a b = within_lighter n o (lighter p None) a (within_lighter n p None b tt)
 
-within_counted : (m n : ℕ) (sat dsat : Option Stack) (others : ℕ → Option Stack) (k : ℕ) → Within m sat → Within m dsat → ((j : ℕ) → Within n (others j)) → Within (n + m) (counted sat dsat others k)
+pub within_counted : (m n : ℕ) (sat dsat : Option Stack) (others : ℕ → Option Stack) (k : ℕ) → Within m sat → Within m dsat → ((j : ℕ) → Within n (others j)) → Within (n + m) (counted sat dsat others k)
 within_counted m n sat dsat others zero s d o = within_both n m (others zero) dsat (o zero) d
 within_counted m n sat dsat others (suc k) s d o =
     within_lighter (n + m) (both (others k) sat) (both (others (suc k)) dsat) (within_both n m (others k) sat (o k) s) (within_both n m (others (suc k)) dsat (o (suc k)) d)
@@ -99,7 +99,7 @@ known_within assets are kind value = go (known assets kind value) (found IsPreim
     go None h = tt
     go (Some preimage) h = let f = h.length in omega (arith, f)
 
-within_if : (n : ℕ) (test : Bool) (o p : Option Stack) → Within n o → Within n p → Within n (if test then o else p)
+pub within_if : (n : ℕ) (test : Bool) (o p : Option Stack) → Within n o → Within n p → Within n (if test then o else p)
 within_if n true o p a b = a
 within_if n false o p a b = b
 
@@ -131,10 +131,10 @@ pub thresh_choose : (assets : Assets) (xs : Trees) (k : ℕ) → least (map (sta
 thresh_choose assets xs k =
     ap (λ n. least (map (stack_of (cheapest_children assets xs)) (sets n k))) (count_is assets xs) ∙ chosen_is (cheapest_children assets xs) k
 
-pushed_one : Within 2 (Some (ONE ∷ []))
+pub pushed_one : Within 2 (Some (ONE ∷ []))
 pushed_one = omega arith
 
-pushed_empty : Within 2 (Some (EMPTY ∷ []))
+pub pushed_empty : Within 2 (Some (EMPTY ∷ []))
 pushed_empty = omega arith
 
 mutual
@@ -225,7 +225,7 @@ module _ (assets : Assets) (are : AreAssets assets) where
         (within_counted (128 * measure x) (128 * measure_of xs) (cheapest_of assets x) (dissatisfaction x) (choose (cheapest_children assets xs)) k
         (sat_within x w.0 h.0) (dsat_within x w.0 h.0) (parts_within xs w.1 h.1))
 
-light_option : (n : ℕ) (o : Option ℕ) (p : Option Stack) → n < 2 ^ 32 → o ≡ weight_of p → Within n p → IsLightOption o
+pub light_option : (n : ℕ) (o : Option ℕ) (p : Option Stack) → n < 2 ^ 32 → o ≡ weight_of p → Within n p → IsLightOption o
 light_option n None p small is h = tt
 light_option n (Some v) None small is h = absurd (let never : ⊥ = cc in never)
 light_option n (Some v) (Some w) small is h = let e : v ≡ weight w = cc in omega (arith, e, h, small)

@@ -18,7 +18,7 @@ choose [] zero = Some []
 choose [] (suc k) = None
 choose (c ∷ cs) k = counted c.sat c.dsat (choose cs) k
 
-counted_same : (sat dsat : Option Stack) (these those : ℕ → Option Stack) → ((k : ℕ) → these k ≡ those k) → (k : ℕ) → counted sat dsat these k ≡ counted sat dsat those k
+pub counted_same : (sat dsat : Option Stack) (these those : ℕ → Option Stack) → ((k : ℕ) → these k ≡ those k) → (k : ℕ) → counted sat dsat these k ≡ counted sat dsat those k
 counted_same sat dsat these those same zero = ap (λ o. both o dsat) (same zero)
 counted_same sat dsat these those same (suc k) =
     ap (λ o. lighter (both o sat) (both (these (suc k)) dsat)) (same k) ∙

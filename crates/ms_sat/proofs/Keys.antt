@@ -55,7 +55,7 @@ turned-item None others = ap turned (both-none others)
 turned-item (Some sig) None = refl
 turned-item (Some sig) (Some others) = ap Some (reverse-cons sig others)
 
-both-nothing : (others : Option Stack) → both others (Some []) ≡ others
+pub both-nothing : (others : Option Stack) → both others (Some []) ≡ others
 both-nothing None = refl
 both-nothing (Some others) = refl
 

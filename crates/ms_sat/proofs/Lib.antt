@@ -10,3 +10,9 @@ pub mod Trees
 pub mod Lightest
 pub mod Pushed
 pub mod Taken
+pub mod Tables
+pub mod Ways
+pub mod Rules
+pub mod Counts
+pub mod Rows
+pub mod StrictBounds

@@ -1,5 +1,5 @@
 -- The weight of a lightest stack is the least one.
-use Rattle.std.proofs.Common.{◌≡◌, ℕ, List, reverse, Option, Some, None, refl, sym, ap, subst, arith}
+use Rattle.std.proofs.Common.{◌≡◌, ◌↔◌, ℕ, List, reverse, Option, Some, None, refl, sym, ap, subst, arith}
 use Rattle.std.specs.Option.{option_map}
 use Rattle.def_script.specs.Bytes.{Bytes}
 use Rattle.def_machine.specs.Stacks.{Stack}
@@ -39,3 +39,8 @@ least_weight P m o is best = subst (IsLeastWeight P) (sym is) (of_lightest P m b
 
 pub typed_valid : (t : Tree) → IsValid t → IsTyped t
 typed_valid t valid = ((valid_means t).0 valid).0
+
+-- and there is none exactly where there is no stack
+pub none_lightest : (P : List Bytes → Type 0) (m : Option (List Bytes)) → IsLightest P m → (m ≡ None) ↔ ((stack : List Bytes) → P stack → ⊥)
+none_lightest P None best = (λ e v h. let k = best.lightest v h in let i = k.1 in cc, λ h. refl)
+none_lightest P (Some w) best = (λ e. absurd (let never : ⊥ = cc in never), λ h. absurd (h w (best.is w refl)))

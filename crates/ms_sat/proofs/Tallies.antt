@@ -28,7 +28,7 @@ use Rattle.ms_sat.proofs.Sorted.{slot_cmp, same, Apart, front_of, total_ones}
 abbrev pub costs : (sat dsat : Option ℕ) → Costs
 costs s d = record { sat = s; dsat = d }
 
-over_free-push : (f : ℤ → ℕ → ℕ) (i : ℕ) (cs : List Costs) (c : Costs) → over_free f i (cs ++ c ∷ []) ≡ over_free f i cs + free_by f (i + length cs) c.sat c.dsat
+pub over_free-push : (f : ℤ → ℕ → ℕ) (i : ℕ) (cs : List Costs) (c : Costs) → over_free f i (cs ++ c ∷ []) ≡ over_free f i cs + free_by f (i + length cs) c.sat c.dsat
 over_free-push f i [] c =
     let e : i ≡ i + 0 = omega arith in
     let same : free_by f i c.sat c.dsat ≡ free_by f (i + 0) c.sat c.dsat = ap (λ k. free_by f k c.sat c.dsat) e in

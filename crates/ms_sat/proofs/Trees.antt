@@ -1,5 +1,5 @@
 -- The children of a threshold as the definitions have them.
-use Rattle.std.proofs.Common.{◌≡◌, ℕ, ◌+◌, ◌<◌, List, [], ◌∷◌, ◌++◌, length, get_or, take, refl, sym, ◌∙◌, ap}
+use Rattle.std.proofs.Common.{◌≡◌, ℕ, ◌+◌, ◌<◌, List, [], ◌∷◌, ◌++◌, length, map, get_or, take, refl, sym, ◌∙◌, ap}
 use Rattle.std.proofs.lemmas.List.{map_more, map_push}
 use Rattle.def_tree.specs.Tree as model
 use Rattle.def_assets.specs.Assets.{Assets}
@@ -29,13 +29,16 @@ all_choose assets (model.more x xs) = ap (λ o. both o (dissatisfaction x)) (all
 pub all_chosen : (assets : Assets) (xs : List Tree) → all_dissatisfied (shapes xs) ≡ chosen (children_of assets xs) 0
 all_chosen assets xs = all_choose assets (shapes xs) ∙ ap (λ cs. choose cs 0) (children_are assets xs) ∙ sym (chosen_is (children_of assets xs) 0)
 
+-- the weights of a child
+pub costs_child : (assets : Assets) (x : Tree) (c : Costs) → c.sat ≡ weight_of (cheapest_of assets (shape x)) → c.dsat ≡ weight_of (dissatisfaction (shape x))
+    → c ≡ costs_of_child (child_of_tree assets (shape x))
+costs_child assets x c sat dsat = λ j. record { sat = sat j; dsat = dsat j }
+
 -- a further child, with its weights
-pub costs_more : (assets : Assets) (xs : List Tree) (i : ℕ) (x : Tree) (c : Costs) → i < length xs → x ≡ get_or xs i x
-    → c.sat ≡ weight_of (cheapest_of assets (shape x)) → c.dsat ≡ weight_of (dissatisfaction (shape x))
-    → costs_of (children_of assets (take i xs)) ++ c ∷ [] ≡ costs_of (children_of assets (take (i + 1) xs))
-costs_more assets xs i x c below at sat dsat =
-    let child : Tree → Child = λ y. child_of_tree assets (shape y) in
-    let this : c ≡ costs_of_child (child (get_or xs i x)) = (λ j. record { sat = sat j; dsat = dsat j }) ∙ ap (λ y. costs_of_child (child y)) at in
-    ap (λ d. costs_of (children_of assets (take i xs)) ++ d ∷ []) this ∙
-    sym (map_push costs_of_child (children_of assets (take i xs)) (child (get_or xs i x))) ∙
+pub costs_more : (child : Tree → Child) (xs : List Tree) (i : ℕ) (x : Tree) (c : Costs) → i < length xs → x ≡ get_or xs i x → c ≡ costs_of_child (child x)
+    → costs_of (map child (take i xs)) ++ c ∷ [] ≡ costs_of (map child (take (i + 1) xs))
+costs_more child xs i x c below at is =
+    let this : c ≡ costs_of_child (child (get_or xs i x)) = is ∙ ap (λ y. costs_of_child (child y)) at in
+    ap (λ d. costs_of (map child (take i xs)) ++ d ∷ []) this ∙
+    sym (map_push costs_of_child (map child (take i xs)) (child (get_or xs i x))) ∙
     sym (ap costs_of (map_more child xs i x below))

@@ -1,5 +1,5 @@
 -- The lightest choice of so many among the children of a threshold.
-use Rattle.std.specs.Prelude.{◌≡◌, ℕ, suc, ℤ, pos, ◌-ℤ◌, ◌+◌, nat_le, Bool, true, false, ◌&&◌, ◌||◌, int_lt, List, [], ◌∷◌, length, map, Option, Some, None}
+use Rattle.std.specs.Prelude.{◌≡◌, ℕ, suc, ℤ, pos, ◌-ℤ◌, ◌+◌, nat_eq, nat_le, Bool, true, false, ◌&&◌, ◌||◌, int_lt, List, [], ◌∷◌, length, map, Option, Some, None}
 use Rattle.std.specs.Ordering.{int_eq}
 use Rattle.def_machine.specs.Stacks.{Stack}
 use Rattle.def_choice.specs.Sets.{sets}
@@ -51,6 +51,10 @@ base = total (λ c. base_by c.sat c.dsat)
 abbrev pub over_free : (f : ℤ → ℕ → ℕ) → (place : ℕ) → List Costs → ℕ
 over_free f place [] = 0
 over_free f place (c ∷ cs) = free_by f place c.sat c.dsat + over_free f (suc place) cs
+
+-- so many of the children can be satisfied and the others dissatisfied
+abbrev pub is_allowed : (forced stuck free : ℕ) → ℕ → Bool
+is_allowed forced stuck free count = nat_eq stuck 0 && nat_le forced count && nat_le count (forced + free)
 
 -- a free child stands at or before the last one that is satisfied, in the order of differences and places
 abbrev pub is_within : (last : Option Slot) → (difference : ℤ) → (place : ℕ) → Bool

@@ -4,3 +4,7 @@ pub mod Tally
 pub mod Children
 pub mod Least
 pub mod Pushed
+pub mod Rule
+pub mod Table
+pub mod Way
+pub mod Count

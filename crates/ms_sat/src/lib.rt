@@ -2,13 +2,16 @@
 #![tactic(auto)]
 
 mod cost;
-mod dissatisfy;
+mod rule;
 mod satisfy;
+mod table;
 mod tally;
 #[cfg(test)]
 mod tests;
+mod way;
 mod weigh;
 
 pub use cost::Costs;
-pub use satisfy::cheapest;
+pub use rule::Rule;
+pub use satisfy::{cheapest, satisfaction};
 pub use weigh::costs;

@@ -1,76 +1,254 @@
-//! The cheapest canonical satisfaction.
-ghost use Rattle.std.specs.Prelude.{◌≡◌, ◌↔◌, ◌<◌, ◌≤◌, ◌++◌, List, length, All, if◌then◌else◌, Some, None, OnOk, IfOk};
+//! The satisfaction that a rule chooses.
+ghost use Rattle.std.specs.Prelude.{◌≡◌, ℕ, ◌↔◌, ◌<◌, ◌≤◌, ◌++◌, ◌+◌, List, length, replicate, All, if◌then◌else◌, reverse, Some, None, OnOk, IfOk};
+ghost use Rattle.std.specs.Option.{option_map};
 ghost use Rattle.def_script.specs.Bytes.{Bytes};
 ghost use Rattle.def_tree.specs.Range.{MOST_MEASURE, IsInRange};
 ghost use Rattle.def_tree.specs.Size.{measure_of};
 ghost use Rattle.def_tree.specs.Tree as tree;
-ghost use Rattle.def_types.specs.Typed.{IsTyped};
+ghost use Rattle.def_sane.specs.Nodes.{nodes_of_all};
 ghost use Rattle.def_sane.specs.Unfit.{IsValid};
-ghost use Rattle.def_assets.specs.Assets.{AreAssets, sig_of, known};
+ghost use Rattle.def_assets.specs.Assets.{AreAssets, Assets as Held, sig_of, known};
+ghost use Rattle.def_satisfaction.specs.Rows.{EMPTY};
 ghost use Rattle.def_satisfaction.specs.Satisfaction.{Sat};
 ghost use Rattle.def_choice.specs.Least.{item};
 ghost use Rattle.def_choice.specs.Lightest.{IsLightest};
-ghost use Rattle.def_choice.specs.Cheapest.{cheapest as the_cheapest, cheapest_of, dissatisfaction, stack_of};
+ghost use Rattle.def_choice.specs.Cheapest.{cheapest as the_cheapest, cheapest_of, dissatisfaction, all_dissatisfied, stack_of};
+ghost use Rattle.def_promises.specs.Acceptance.{Inversion};
+ghost use Rattle.def_promises.specs.Letters.{Letters};
 ghost use Rattle.ms_tree.specs.Shape.{shape, shapes, leaf_shape};
 ghost use Rattle.ms_hash.specs.Value.{kind_of, bytes_of};
+ghost use Rattle.ms_sat.specs.declared.rule.Rule.{Rule as By};
 ghost use Rattle.ms_sat.specs.Costs.{costs_of};
-ghost use Rattle.ms_sat.specs.Choice.{set_by};
-ghost use Rattle.ms_sat.specs.Children.{IsReady, children_of, children_of_keys};
+ghost use Rattle.ms_sat.specs.Choice.{chosen, set_by};
+ghost use Rattle.ms_sat.specs.Children.{children_of_keys};
 ghost use Rattle.ms_sat.specs.Pushed.{IsPushed};
+ghost use Rattle.ms_sat.specs.Rule.{stack_by, children_by};
+ghost use Rattle.ms_sat.specs.Table.{AreEntries, IsFound};
+ghost use Rattle.ms_sat.specs.Way.{tree_of, stack_of_part, stack_of_way, IsSeen, IsSeenPart, IsSeenWay, HasTable, HaveTables, AreSeen, sat_of, dsat_of};
 
-use crate::cost::{both, is_former};
-use crate::dissatisfy::dissatisfy;
+use crate::rule::Rule;
+use crate::table::{Entry, weigh_nodes};
 use crate::tally::Choice;
-use crate::weigh::{costs, of_item, of_key, tally_of, tally_of_keys, weigh};
+use crate::way::{
+    Part, Seen, Way, Ways, dissatisfactions_of_and_or, dissatisfactions_of_two,
+    dissatisfactions_of_wrap, satisfactions_of_and_or, satisfactions_of_two, satisfactions_of_wrap,
+    see_last, see_two,
+};
+use crate::weigh::{ZEROS, of_key};
 use ms_assets::Assets;
 use ms_hash::HashVal;
-use ms_sane::{Slot, Work};
+use ms_sane::Work;
 use ms_script::Stack;
-use ms_tree::{Key, Leaf, Tree, Two, View, Wrapper};
+use ms_tree::{Key, Leaf, Tree, View};
 use std::alloc::{AllocError, Global};
 
 /// The cheapest canonical satisfaction of a tree with these assets: at each fragment the option of least
 /// weight, and of several of that weight the first one. `None` where there is no canonical satisfaction.
-/// The tree is valid.
+/// The tree is valid. So what the interpreter accepts of it is a satisfaction, and the letters of its types and of
+/// its nodes' say of all stacks what BIP 379 says of them.
 pub fn cheapest(alloc: Global, tree: &Tree, assets: &Assets) -> Result<Option<Stack>, AllocError>
     requires in_range { IsInRange (shape tree.now) }
     requires valid { IsValid (shape tree.now) }
     ensures choice { IfOk result (λ found. found ≡ the_cheapest (shape tree.now) assets.now) }
     ensures lightest { IfOk result (λ found. IsLightest (Sat (shape tree.now) assets.now) found) }
     ensures none { IfOk result (λ found. (found ≡ None) ↔ ((stack : List Bytes) → Sat (shape tree.now) assets.now stack → ⊥)) }
+    ensures inversion { Inversion (shape tree.now) }
+    ensures letters { Letters (shape tree.now) }
+{
+    // Its clauses tell what assets always are.
+    let _locks = assets.locks();
+    satisfaction(alloc, Rule::Cheapest, tree, assets)
+}
+
+/// The canonical satisfaction of a tree with these assets that a rule chooses. `None` where there is none. The tree
+/// is valid. Each node is weighed once, and what was weighed is kept until the stack is made.
+pub fn satisfaction(
+    alloc: Global,
+    rule: Rule,
+    tree: &Tree,
+    assets: &Assets,
+) -> Result<Option<Stack>, AllocError>
+    requires in_range { IsInRange (shape tree.now) }
+    requires valid { IsValid (shape tree.now) }
+    ensures { IfOk result (λ found. found ≡ option_map reverse (stack_by rule assets.now (shape tree.now))) }
 {
     // Its clauses tell what assets always are.
     let _locks = assets.locks();
     let mut work = Work::new(alloc, tree)?;
-    if costs(tree, assets, &mut work).sat.is_none() {
+    let mut table = Vec::new(alloc);
+    let weighed = weigh_nodes(tree, rule, assets, &mut work.slots, &mut table)?;
+    if weighed.costs.sat.is_none() {
         return Ok(None);
     }
     let mut stack = Stack::new(alloc);
-    satisfy(tree, assets, &mut work.slots, &mut stack)?;
+    let seen = Seen {
+        tree,
+        table: &table,
+    };
+    satisfy(seen, assets, &mut stack)?;
     Ok(Some(stack))
 }
 
-/// Pushes the cheapest satisfaction of a tree, where it has one.
+/// Pushes the satisfaction of a tree by the rule that it was weighed by, where it has one.
 #[cycle(satisfy)]
-fn satisfy(
-    tree: &Tree,
-    assets: &Assets,
-    slots: &mut [Slot],
-    stack: &mut Stack,
-) -> Result<(), AllocError>
-    requires { IsReady (shape tree.now) assets.now (length slots.old) }
-    ensures { OnOk result (IsPushed (cheapest_of assets.now (shape tree.now)) stack.old stack.new) }
+fn satisfy(seen: Seen<'_>, assets: &Assets, stack: &mut Stack) -> Result<(), AllocError>
+    requires { (rule : By) × IsSeen rule assets.now seen }
+    ensures { OnOk result ((rule : By) → IsSeen rule assets.now seen.entry → IsPushed (stack_by rule assets.now (tree_of seen.entry)) stack.old stack.new) }
 {
-    match tree.view() {
+    let below = seen.below();
+    match seen.tree.view() {
         View::Leaf(leaf) => satisfy_leaf(leaf, assets, stack),
-        View::AndOr(x, y, z) => satisfy_and_or(x, y, z, assets, slots, stack),
-        View::Two(kind, x, z) => satisfy_two(kind, x, z, assets, slots, stack),
-        View::Thresh(k, children) => satisfy_thresh(k, children, assets, slots, stack),
-        View::Multi(k, keys) => satisfy_multi(k, keys, assets, slots, stack),
-        View::Wrap(wrapper, x) => satisfy_wrap(wrapper, x, assets, slots, stack),
+        View::AndOr(x, y, z) => {
+            let (before, z) = see_last(z, below);
+            let (x, y) = see_two(x, y, before);
+            push_satisfying(satisfactions_of_and_or(x, y, z), assets, stack)
+        }
+        View::Two(kind, x, z) => {
+            let (x, z) = see_two(x, z, below);
+            push_satisfying(satisfactions_of_two(kind, x, z), assets, stack)
+        }
+        View::Thresh(_, children) => {
+            push_children(children, below, &seen.weighed().choice, assets, stack)
+        }
+        View::Multi(_, keys) => push_multi(keys, &seen.weighed().choice, assets, stack),
+        View::Wrap(wrapper, x) => {
+            let x = Seen {
+                tree: x,
+                table: below,
+            };
+            push_satisfying(satisfactions_of_wrap(wrapper, x), assets, stack)
+        }
     }
 }
 
+/// Pushes the dissatisfaction of a tree, where it has one.
+#[cycle(satisfy)]
+fn dissatisfy(seen: Seen<'_>, assets: &Assets, stack: &mut Stack) -> Result<(), AllocError>
+    requires { (rule : By) × IsSeen rule assets.now seen }
+    ensures { OnOk result (IsPushed (dissatisfaction (tree_of seen.entry)) stack.old stack.new) }
+{
+    let below = seen.below();
+    match seen.tree.view() {
+        View::Leaf(leaf) => dissatisfy_leaf(leaf, stack),
+        View::AndOr(x, y, z) => {
+            let (before, z) = see_last(z, below);
+            let (x, _) = see_two(x, y, before);
+            push_dissatisfying(dissatisfactions_of_and_or(x, z), assets, stack)
+        }
+        View::Two(kind, x, z) => {
+            let (x, z) = see_two(x, z, below);
+            push_dissatisfying(dissatisfactions_of_two(kind, x, z), assets, stack)
+        }
+        View::Thresh(_, children) => dissatisfy_all(children, below, assets, stack),
+        View::Multi(k, _) => push_empty(k + 1, stack),
+        View::Wrap(wrapper, x) => {
+            let x = Seen {
+                tree: x,
+                table: below,
+            };
+            push_dissatisfying(dissatisfactions_of_wrap(wrapper, x), assets, stack)
+        }
+    }
+}
+
+#[cycle(satisfy)]
+fn push_satisfying(ways: Ways<'_>, assets: &Assets, stack: &mut Stack) -> Result<(), AllocError>
+    requires { (rule : By) × AreSeen rule assets.now ways }
+    ensures { OnOk result ((rule : By) → AreSeen rule assets.now ways.entry → IsPushed (sat_of rule assets.now ways.entry) stack.old stack.new) }
+{
+    match ways.satisfying() {
+        Some(way) => push_way(way, assets, stack),
+        None => Ok(()),
+    }
+}
+
+#[cycle(satisfy)]
+fn push_dissatisfying(ways: Ways<'_>, assets: &Assets, stack: &mut Stack) -> Result<(), AllocError>
+    requires { (rule : By) × AreSeen rule assets.now ways }
+    ensures { OnOk result ((rule : By) → AreSeen rule assets.now ways.entry → IsPushed (dsat_of rule assets.now ways.entry) stack.old stack.new) }
+{
+    match ways.dissatisfying() {
+        Some(way) => push_way(way, assets, stack),
+        None => Ok(()),
+    }
+}
+
+#[cycle(satisfy)]
+fn push_way(way: Way<'_>, assets: &Assets, stack: &mut Stack) -> Result<(), AllocError>
+    requires { (rule : By) × IsSeenWay rule assets.now way }
+    ensures { OnOk result ((rule : By) → IsSeenWay rule assets.now way.entry → IsPushed (stack_of_way rule assets.now way.entry) stack.old stack.new) }
+{
+    push_part(way.below, assets, stack)?;
+    push_part(way.above, assets, stack)
+}
+
+#[cycle(satisfy)]
+fn push_part(part: Part<'_>, assets: &Assets, stack: &mut Stack) -> Result<(), AllocError>
+    requires { (rule : By) × IsSeenPart rule assets.now part }
+    ensures { OnOk result ((rule : By) → IsSeenPart rule assets.now part.entry → IsPushed (stack_of_part rule assets.now part.entry) stack.old stack.new) }
+{
+    match part {
+        Part::Sat(x) => satisfy(x, assets, stack),
+        Part::Dsat(x) => dissatisfy(x, assets, stack),
+        Part::One => stack.push(&[1]),
+        Part::Empty => stack.push(&[]),
+        Part::Nothing => Ok(()),
+    }
+}
+
+/// Pushes the satisfactions of the children that a choice satisfies and the dissatisfactions of the
+/// others, the first child's on top. The entries are those of all children, one behind the other.
+#[cycle(satisfy)]
+fn push_children(
+    children: &[Tree],
+    table: &[Entry],
+    choice: &Option<Choice>,
+    assets: &Assets,
+    stack: &mut Stack,
+) -> Result<(), AllocError>
+    requires in_range { All (λ x. IsInRange (shape x)) children.now }
+    requires few { measure_of (shapes children.now) ≤ MOST_MEASURE }
+    requires table { (rule : By) × AreEntries rule assets.now (nodes_of_all (shapes children.now)) table.now }
+    ensures { OnOk result ((rule : By) (k : ℕ) → AreEntries rule assets.now (nodes_of_all (shapes children.now)) table.now → IsFound (children_by rule assets.now (shapes children.now)) k choice.now → IsPushed (chosen (children_by rule assets.now (shapes children.now)) k) stack.old stack.new) }
+{
+    let Some(choice) = choice else {
+        return Ok(());
+    };
+    let mut before = table;
+    for place in (0..children.len()).rev() {
+        let (others, child) = see_last(&children[place], before);
+        before = others;
+        if choice.is_taken(&child.weighed().as_child(), place as u32) {
+            satisfy(child, assets, stack)?;
+        } else {
+            dissatisfy(child, assets, stack)?;
+        }
+    }
+    Ok(())
+}
+
+/// Pushes the dissatisfactions of all children, the first one's on top.
+#[cycle(satisfy)]
+fn dissatisfy_all(
+    children: &[Tree],
+    table: &[Entry],
+    assets: &Assets,
+    stack: &mut Stack,
+) -> Result<(), AllocError>
+    requires in_range { All (λ x. IsInRange (shape x)) children.now }
+    requires table { (rule : By) × AreEntries rule assets.now (nodes_of_all (shapes children.now)) table.now }
+    ensures { OnOk result (IsPushed (all_dissatisfied (shapes children.now)) stack.old stack.new) }
+{
+    let mut before = table;
+    for place in (0..children.len()).rev() {
+        let (others, child) = see_last(&children[place], before);
+        before = others;
+        dissatisfy(child, assets, stack)?;
+    }
+    Ok(())
+}
+
+/// Pushes the satisfaction of a leaf, where it has one.
 fn satisfy_leaf(leaf: Leaf, assets: &Assets, stack: &mut Stack) -> Result<(), AllocError>
     ensures { OnOk result (IsPushed (cheapest_of assets.now (leaf_shape leaf)) stack.old stack.new) }
 {
@@ -105,212 +283,22 @@ fn push_preimage(value: &HashVal, assets: &Assets, stack: &mut Stack) -> Result<
     }
 }
 
-#[cycle(satisfy)]
-fn satisfy_and_or(
-    x: &Tree,
-    y: &Tree,
-    z: &Tree,
-    assets: &Assets,
-    slots: &mut [Slot],
-    stack: &mut Stack,
-) -> Result<(), AllocError>
-    requires x { IsReady (shape x.now) assets.now (length slots.old) }
-    requires y { IsReady (shape y.now) assets.now (length slots.old) }
-    requires z { IsReady (shape z.now) assets.now (length slots.old) }
-    ensures { OnOk result (IsPushed (cheapest_of assets.now (tree.and_or (shape x.now) (shape y.now) (shape z.now))) stack.old stack.new) }
-{
-    let x_costs = weigh(x, assets, slots);
-    let with_x = both(weigh(y, assets, slots).sat, x_costs.sat);
-    let without_x = both(weigh(z, assets, slots).sat, x_costs.dsat);
-    if is_former(with_x, without_x) {
-        satisfy(y, assets, slots, stack)?;
-        satisfy(x, assets, slots, stack)
-    } else {
-        satisfy(z, assets, slots, stack)?;
-        dissatisfy(x, assets, slots, stack)
-    }
-}
-
-#[cycle(satisfy)]
-fn satisfy_two(
-    kind: Two,
-    x: &Tree,
-    z: &Tree,
-    assets: &Assets,
-    slots: &mut [Slot],
-    stack: &mut Stack,
-) -> Result<(), AllocError>
-    requires x { IsReady (shape x.now) assets.now (length slots.old) }
-    requires z { IsReady (shape z.now) assets.now (length slots.old) }
-    ensures { OnOk result (IsPushed (cheapest_of assets.now (tree.two kind (shape x.now) (shape z.now))) stack.old stack.new) }
-{
-    match kind {
-        Two::AndV | Two::AndB => {
-            satisfy(z, assets, slots, stack)?;
-            satisfy(x, assets, slots, stack)
-        }
-        Two::OrB => satisfy_or_b(x, z, assets, slots, stack),
-        Two::OrC | Two::OrD => satisfy_or_c(x, z, assets, slots, stack),
-        Two::OrI => satisfy_or_i(x, z, assets, slots, stack),
-    }
-}
-
-#[cycle(satisfy)]
-fn satisfy_or_b(
-    x: &Tree,
-    z: &Tree,
-    assets: &Assets,
-    slots: &mut [Slot],
-    stack: &mut Stack,
-) -> Result<(), AllocError>
-    requires x { IsReady (shape x.now) assets.now (length slots.old) }
-    requires z { IsReady (shape z.now) assets.now (length slots.old) }
-    ensures { OnOk result (IsPushed (cheapest_of assets.now (tree.two Two.OrB (shape x.now) (shape z.now))) stack.old stack.new) }
-{
-    let x_costs = weigh(x, assets, slots);
-    let z_costs = weigh(z, assets, slots);
-    if is_former(
-        both(z_costs.dsat, x_costs.sat),
-        both(z_costs.sat, x_costs.dsat),
-    ) {
-        dissatisfy(z, assets, slots, stack)?;
-        satisfy(x, assets, slots, stack)
-    } else {
-        satisfy(z, assets, slots, stack)?;
-        dissatisfy(x, assets, slots, stack)
-    }
-}
-
-/// `or_c` and `or_d`.
-#[cycle(satisfy)]
-fn satisfy_or_c(
-    x: &Tree,
-    z: &Tree,
-    assets: &Assets,
-    slots: &mut [Slot],
-    stack: &mut Stack,
-) -> Result<(), AllocError>
-    requires x { IsReady (shape x.now) assets.now (length slots.old) }
-    requires z { IsReady (shape z.now) assets.now (length slots.old) }
-    ensures { OnOk result (IsPushed (cheapest_of assets.now (tree.two Two.OrC (shape x.now) (shape z.now))) stack.old stack.new) }
-{
-    let x_costs = weigh(x, assets, slots);
-    let without_x = both(weigh(z, assets, slots).sat, x_costs.dsat);
-    if is_former(x_costs.sat, without_x) {
-        satisfy(x, assets, slots, stack)
-    } else {
-        satisfy(z, assets, slots, stack)?;
-        dissatisfy(x, assets, slots, stack)
-    }
-}
-
-#[cycle(satisfy)]
-fn satisfy_or_i(
-    x: &Tree,
-    z: &Tree,
-    assets: &Assets,
-    slots: &mut [Slot],
-    stack: &mut Stack,
-) -> Result<(), AllocError>
-    requires x { IsReady (shape x.now) assets.now (length slots.old) }
-    requires z { IsReady (shape z.now) assets.now (length slots.old) }
-    ensures { OnOk result (IsPushed (cheapest_of assets.now (tree.two Two.OrI (shape x.now) (shape z.now))) stack.old stack.new) }
-{
-    let left = both(weigh(x, assets, slots).sat, Some(of_item(&[1])));
-    let right = both(weigh(z, assets, slots).sat, Some(of_item(&[])));
-    if is_former(left, right) {
-        satisfy(x, assets, slots, stack)?;
-        stack.push(&[1])
-    } else {
-        satisfy(z, assets, slots, stack)?;
-        stack.push(&[])
-    }
-}
-
-#[cycle(satisfy)]
-fn satisfy_thresh(
-    k: u64,
-    children: &[Tree],
-    assets: &Assets,
-    slots: &mut [Slot],
-    stack: &mut Stack,
-) -> Result<(), AllocError>
-    requires in_range { All (λ x. IsInRange (shape x)) children.now }
-    requires typed { All (λ x. IsTyped (shape x)) children.now }
-    requires are { AreAssets assets.now }
-    requires few { measure_of (shapes children.now) ≤ MOST_MEASURE }
-    requires room { measure_of (shapes children.now) ≤ length slots.old }
-    ensures { OnOk result (IsPushed (cheapest_of assets.now (tree.thresh k (shapes children.now))) stack.old stack.new) }
-{
-    let tally = tally_of(children, assets, slots);
-    match tally.cheapest_of(k, slots) {
-        Some(choice) => satisfy_chosen(children, &choice, assets, slots, stack),
-        None => Ok(()),
-    }
-}
-
-/// Pushes the satisfactions of the children that a choice satisfies and the dissatisfactions of the
-/// others, the first child's on top.
-#[cycle(satisfy)]
-fn satisfy_chosen(
-    children: &[Tree],
-    choice: &Choice,
-    assets: &Assets,
-    slots: &mut [Slot],
-    stack: &mut Stack,
-) -> Result<(), AllocError>
-    requires in_range { All (λ x. IsInRange (shape x)) children.now }
-    requires typed { All (λ x. IsTyped (shape x)) children.now }
-    requires are { AreAssets assets.now }
-    requires few { measure_of (shapes children.now) ≤ MOST_MEASURE }
-    requires room { measure_of (shapes children.now) ≤ length slots.old }
-    ensures { OnOk result (IsPushed (stack_of (children_of assets.now children.now) (set_by choice.now.last 0 (costs_of (children_of assets.now children.now)))) stack.old stack.new) }
-{
-    for place in (0..children.len()).rev() {
-        let child = &children[place];
-        let costs = weigh(child, assets, slots);
-        let taken = choice.is_taken(&costs, place as u32);
-        satisfy_or_not(taken, child, assets, slots, stack)?;
-    }
-    Ok(())
-}
-
-/// Pushes the satisfaction of a tree, or its dissatisfaction.
-#[cycle(satisfy)]
-fn satisfy_or_not(
-    satisfied: bool,
-    x: &Tree,
-    assets: &Assets,
-    slots: &mut [Slot],
-    stack: &mut Stack,
-) -> Result<(), AllocError>
-    requires { IsReady (shape x.now) assets.now (length slots.old) }
-    ensures { OnOk result (IsPushed (if satisfied then cheapest_of assets.now (shape x.now) else dissatisfaction (shape x.now)) stack.old stack.new) }
-{
-    if satisfied {
-        satisfy(x, assets, slots, stack)
-    } else {
-        dissatisfy(x, assets, slots, stack)
-    }
-}
-
-fn satisfy_multi(
-    k: u64,
+/// Pushes an empty item and the signatures of a `multi` that a choice takes, where there is one.
+fn push_multi(
     keys: &[Key],
+    choice: &Option<Choice>,
     assets: &Assets,
-    slots: &mut [Slot],
     stack: &mut Stack,
 ) -> Result<(), AllocError>
-    requires few { length keys.now ≤ MOST_MEASURE }
-    requires are { AreAssets assets.now }
-    requires room { length keys.now ≤ length slots.old }
-    ensures { OnOk result (IsPushed (cheapest_of assets.now (tree.multi k keys.now)) stack.old stack.new) }
+    requires { length keys.now ≤ MOST_MEASURE }
+    ensures { OnOk result ((k : ℕ) → IsFound (children_of_keys assets.now keys.now) k choice.now → IsPushed (cheapest_of assets.now (tree.multi k keys.now)) stack.old stack.new) }
 {
-    let tally = tally_of_keys(keys, assets, slots);
-    match tally.cheapest_of(k, slots) {
+    // Its clauses tell what assets always are.
+    let _locks = assets.locks();
+    match choice {
         Some(choice) => {
             stack.push(&[])?;
-            push_signatures(keys, &choice, assets, stack)
+            push_signatures(keys, choice, assets, stack)
         }
         None => Ok(()),
     }
@@ -335,20 +323,26 @@ fn push_signatures(
     Ok(())
 }
 
-#[cycle(satisfy)]
-fn satisfy_wrap(
-    wrapper: Wrapper,
-    x: &Tree,
-    assets: &Assets,
-    slots: &mut [Slot],
-    stack: &mut Stack,
-) -> Result<(), AllocError>
-    requires { IsReady (shape x.now) assets.now (length slots.old) }
-    ensures { OnOk result (IsPushed (cheapest_of assets.now (tree.wrap wrapper (shape x.now))) stack.old stack.new) }
+fn dissatisfy_leaf(leaf: Leaf, stack: &mut Stack) -> Result<(), AllocError>
+    ensures { OnOk result (IsPushed (dissatisfaction (leaf_shape leaf)) stack.old stack.new) }
 {
-    satisfy(x, assets, slots, stack)?;
-    match wrapper {
-        Wrapper::D => stack.push(&[1]),
-        _ => Ok(()),
+    match leaf {
+        Leaf::Zero | Leaf::One | Leaf::Older(_) | Leaf::After(_) => Ok(()),
+        Leaf::PkK(_) => stack.push(&[]),
+        Leaf::PkH(key) => {
+            stack.push(&[])?;
+            stack.push(key.as_bytes())
+        }
+        Leaf::Hash(_) => stack.push(&ZEROS),
     }
+}
+
+/// Pushes so many empty items.
+fn push_empty(count: u64, stack: &mut Stack) -> Result<(), AllocError>
+    ensures { OnOk result (IsPushed (Some (replicate count EMPTY)) stack.old stack.new) }
+{
+    for _ in 0..count {
+        stack.push(&[])?;
+    }
+    Ok(())
 }

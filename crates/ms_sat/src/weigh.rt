@@ -67,7 +67,8 @@ pub fn weigh(tree: &Tree, assets: &Assets, slots: &mut [Slot]) -> Costs
     }
 }
 
-fn of_leaf(leaf: Leaf, assets: &Assets) -> Costs
+/// The least weights of a leaf.
+pub fn of_leaf(leaf: Leaf, assets: &Assets) -> Costs
     requires typed { IsTyped (leaf_shape leaf) }
     requires are { AreAssets assets.now }
     ensures sat { result.sat ≡ weight_of (cheapest_of assets.now (leaf_shape leaf)) }
@@ -248,7 +249,8 @@ pub fn tally_of(children: &[Tree], assets: &Assets, slots: &mut [Slot]) -> Tally
     tally
 }
 
-fn of_multi(k: u64, keys: &[Key], assets: &Assets, slots: &mut [Slot]) -> Costs
+/// The least weights of a `multi`.
+pub fn of_multi(k: u64, keys: &[Key], assets: &Assets, slots: &mut [Slot]) -> Costs
     requires enough { k ≤ length keys.now }
     requires few { length keys.now ≤ MOST_MEASURE }
     requires are { AreAssets assets.now }

@@ -1,131 +1,256 @@
-use Rattle.std.proofs.Common.{◌-◌, ◌<◌, ◌∙◌, ap, subst, sym, arith, length}
+use Rattle.std.proofs.Common.{◌≡◌, ◌-◌, ◌++◌, map, take, drop, is_some, sym, ◌∙◌, ap, subst, arith}
 use Rattle.def_tree.specs.Tree as model
 use Rattle.def_tree.specs.Size.{nodes}
+use Rattle.def_sane.specs.Nodes.{all_nodes, nodes_of_all}
+use Rattle.def_choice.specs.Cheapest.{dissatisfaction, all_dissatisfied, stack_of}
+use Rattle.ms_tree.specs.declared.tree.Tree.{Tree}
+use Rattle.ms_tree.specs.Shape.{shape, shapes}
 use Rattle.ms_tree.proofs.Parts.{nodes_at}
-use Rattle.ms_sane.proofs.Children.{few_children, typed_children}
-use Rattle.ms_sat.specs.Children.{IsReady, children_of}
+use Rattle.ms_sane.proofs.Children.{few_children}
+use Rattle.ms_sat.specs.Costs.{costs_of}
+use Rattle.ms_sat.specs.Choice.{chosen, set_by}
 use Rattle.ms_sat.specs.Pushed.{IsPushed}
-use Rattle.ms_sat.proofs.Pushed.{pushed_both, former_pushed, latter_pushed, on_ok}
-use Rattle.ms_sat.proofs.Taken.{ready_at, from_less}
-use Rattle.ms_sat.proofs.Trees.{thresh_chosen}
-use Rattle.ms_sat.proofs.Weights.{both_weighs}
+use Rattle.ms_sat.specs.Rule.{stack_by, free_by, child_by, children_by}
+use Rattle.ms_sat.specs.Table.{AreEntries, Chooses, IsFound, below}
+use Rattle.ms_sat.specs.Way.{tree_of}
+use Rattle.ms_sat.proofs.Pushed.{on_ok}
+use Rattle.ms_sat.proofs.Counts.{child_costs}
+use Rattle.ms_sat.proofs.Rows.{last_entries, dissatisfied_less, pushed_unless, same_weighed}
+use Rattle.ms_sat.proofs.Rules.{thresh_stack, children_shapes}
+use Rattle.ms_sat.proofs.Taken.{FromOn, ChildPushed, from_less}
 use Rattle.ms_sat.proofs.satisfy.+satisfy.Goals as goal
 
-pub satisfy-satisfy_thresh-requires : goal.satisfy-satisfy_thresh-requires
-satisfy-satisfy_thresh-requires t c =
-    let shows = c.in-Thresh.ensures.shows in
-    let Ready : model.Tree → Type 0 = λ s. IsReady s c.args.assets.now (length c.args.slots.now) in
-    let ready = subst Ready shows c.requires in
-    let fewer = ap nodes shows in
-    (omega (arith, c.decreases, fewer), (c.in-Thresh.ensures.in_range.1, (typed_children c.in-Thresh.children.now ready.typed.0, (ready.are, (omega (arith, ready.in_range.measure), omega (arith, ready.room))))))
+pub dissatisfy-returns-in-AndOr : goal.dissatisfy-returns-in-AndOr
+dissatisfy-returns-in-AndOr t c =
+    let rule = c.requires.0 in
+    let assets = c.args.assets.now in
+    let shows = c.in-AndOr.ensures.shows in
+    let xs = all_nodes (shape c.in-AndOr.x.now) ++ all_nodes (shape c.in-AndOr.y.now) in
+    let entries = subst (λ s. AreEntries rule assets (below s) c.below-below.result.now) shows (c.below-below.ensures rule assets c.requires.1) in
+    let z = c.see_last.ensures.seen rule assets xs entries in
+    let xy = c.see_two.ensures.seen rule assets (c.see_last.ensures.before rule assets xs entries) in
+    let ways = c.dissatisfactions_of_and_or.ensures.seen rule assets xy.0 z in
+    let same : model.and_or (tree_of c.see_two.result.0) (tree_of c.see_two.result.1) (tree_of c.see_last.result.1) ≡ tree_of c.args.seen =
+    (λ i. model.and_or (c.see_two.ensures.x i) (c.see_two.ensures.z i) (c.see_last.ensures.tree i)) ∙ sym shows in
+    let is = sym (c.dissatisfactions_of_and_or.ensures.dsat rule assets (tree_of c.see_two.result.1)) ∙ ap dissatisfaction same in
+    on_ok c.push_dissatisfying.result _ _
+    (λ pushed. subst (λ o. IsPushed o c.args.stack.now c.push_dissatisfying.new.stack) is (pushed rule ways)) c.push_dissatisfying.ensures
 
-pub satisfy_and_or-returns-in_ok-satisfy : goal.satisfy_and_or-returns-in_ok-satisfy
-satisfy_and_or-returns-in_ok-satisfy t c =
-    on_ok c.satisfy-then-is_former.result _ _
-    (λ pushed. former_pushed _ _ _ _ c.is_former.result c.args.stack.now c.satisfy-then-is_former.new.stack
-    (c.both-with_x.ensures ∙ both_weighs _ _ _ _ c.weigh.ensures.sat c.weigh-x_costs.ensures.sat)
-    (c.both-without_x.ensures ∙ both_weighs _ _ _ _ c.weigh-2.ensures.sat c.weigh-x_costs.ensures.dsat)
-    c.is_former.ensures c.if-is_former.true
-    (pushed_both _ _ c.args.stack.now c.satisfy.new.stack c.satisfy-then-is_former.new.stack c.in_ok-satisfy.ensures pushed))
-    c.satisfy-then-is_former.ensures
+pub dissatisfy-returns-in-Two : goal.dissatisfy-returns-in-Two
+dissatisfy-returns-in-Two t c =
+    let rule = c.requires.0 in
+    let assets = c.args.assets.now in
+    let shows = c.in-Two.ensures.shows in
+    let entries = subst (λ s. AreEntries rule assets (below s) c.below-below.result.now) shows (c.below-below.ensures rule assets c.requires.1) in
+    let xz = c.see_two-in-Two.ensures.seen rule assets entries in
+    let ways = c.dissatisfactions_of_two.ensures.seen rule assets xz.0 xz.1 in
+    let same : model.two c.in-Two.kind (tree_of c.see_two-in-Two.result.0) (tree_of c.see_two-in-Two.result.1) ≡ tree_of c.args.seen =
+    (λ i. model.two c.in-Two.kind (c.see_two-in-Two.ensures.x i) (c.see_two-in-Two.ensures.z i)) ∙ sym shows in
+    let is = sym (c.dissatisfactions_of_two.ensures.dsat rule assets) ∙ ap dissatisfaction same in
+    on_ok c.push_dissatisfying-in-Two.result _ _
+    (λ pushed. subst (λ o. IsPushed o c.args.stack.now c.push_dissatisfying-in-Two.new.stack) is (pushed rule ways)) c.push_dissatisfying-in-Two.ensures
 
-pub satisfy_and_or-returns-in_ok-satisfy-2 : goal.satisfy_and_or-returns-in_ok-satisfy-2
-satisfy_and_or-returns-in_ok-satisfy-2 t c =
-    on_ok c.dissatisfy.result _ _
-    (λ pushed. latter_pushed _ _ _ _ c.is_former.result c.args.stack.now c.dissatisfy.new.stack
-    (c.both-with_x.ensures ∙ both_weighs _ _ _ _ c.weigh.ensures.sat c.weigh-x_costs.ensures.sat)
-    (c.both-without_x.ensures ∙ both_weighs _ _ _ _ c.weigh-2.ensures.sat c.weigh-x_costs.ensures.dsat)
-    c.is_former.ensures c.if-is_former.false
-    (pushed_both _ _ c.args.stack.now c.satisfy-else-is_former.new.stack c.dissatisfy.new.stack c.in_ok-satisfy-2.ensures pushed))
-    c.dissatisfy.ensures
+pub dissatisfy-returns-in-Wrap : goal.dissatisfy-returns-in-Wrap
+dissatisfy-returns-in-Wrap t c =
+    let rule = c.requires.0 in
+    let assets = c.args.assets.now in
+    let shows = c.in-Wrap.ensures.shows in
+    let entries = subst (λ s. AreEntries rule assets (below s) c.below-below.result.now) shows (c.below-below.ensures rule assets c.requires.1) in
+    let ways = c.dissatisfactions_of_wrap.ensures.seen rule assets (record { in_range = c.in-Wrap.ensures.in_range; entries = entries }) in
+    let is = sym (c.dissatisfactions_of_wrap.ensures.dsat rule assets) ∙ ap dissatisfaction (sym shows) in
+    on_ok c.push_dissatisfying-in-Wrap.result _ _
+    (λ pushed. subst (λ o. IsPushed o c.args.stack.now c.push_dissatisfying-in-Wrap.new.stack) is (pushed rule ways)) c.push_dissatisfying-in-Wrap.ensures
 
-pub satisfy_chosen-weigh-costs-requires : goal.satisfy_chosen-weigh-costs-requires
-satisfy_chosen-weigh-costs-requires t c =
+pub dissatisfy_all-see_last-requires-clause-table : goal.dissatisfy_all-see_last-requires-clause-table
+dissatisfy_all-see_last-requires-clause-table t c =
+    let rule = c.requires.table.0 in
+    let assets = c.args.assets.now in
     let xs = c.args.children.now in
-    let x = c.index-children-place.result in
-    let p = c.loop-place.place in
-    ready_at xs (p - 1) x c.args.assets.now (length c.loop-place.slots) (omega (arith, c.loop-place-test.true, c.loop-place.auto.place)) c.index-children-place.is
-    c.requires.in_range c.requires.typed c.requires.are (omega (arith, c.loop-place.auto.slots, c.requires.room))
+    let p = c.loop-place.place in (
+      rule,
+      assets,
+      nodes_of_all (shapes (take (p - 1) xs)),
+      last_entries rule assets xs p c.index-children-place.result c.loop-place.before.now (omega (arith, c.loop-place-test.true)) c.loop-place.auto.place c.index-children-place.is
+          (c.loop-place.invariant.before rule c.requires.table.1),
+    )
 
-pub satisfy_chosen-overflow_cast-place : goal.satisfy_chosen-overflow_cast-place
-satisfy_chosen-overflow_cast-place t c =
+pub dissatisfy_all-dissatisfy-requires : goal.dissatisfy_all-dissatisfy-requires
+dissatisfy_all-dissatisfy-requires t c =
+    let xs = c.args.children.now in
+    let p = c.loop-place.place in
+    let x = c.index-children-place.result in
+    let few = nodes_at xs (p - 1) x (omega (arith, c.loop-place-test.true, c.loop-place.auto.place)) c.index-children-place.is in
+    let same = ap nodes c.see_last.ensures.tree in
+    let rule = c.requires.table.0 in
+    let assets = c.args.assets.now in
+    let last = last_entries rule assets xs p x c.loop-place.before.now (omega (arith, c.loop-place-test.true)) c.loop-place.auto.place c.index-children-place.is
+    (c.loop-place.invariant.before rule c.requires.table.1)
+    in
+    (omega (arith, c.decreases, few, same), (rule, c.see_last.ensures.seen rule assets (nodes_of_all (shapes (take (p - 1) xs))) last))
+
+pub dissatisfy_all-returns : goal.dissatisfy_all-returns
+dissatisfy_all-returns t c =
+    let first : c.loop-place.place ≡ 0 = omega (arith, c.loop-place-test.false) in
+    subst (λ n. IsPushed (all_dissatisfied (shapes (drop n c.args.children.now))) c.args.stack.now c.loop-place.stack) first c.loop-place.invariant.pushed
+
+pub push_children-see_last-requires-clause-table : goal.push_children-see_last-requires-clause-table
+push_children-see_last-requires-clause-table t c =
+    let rule = c.requires.table.0 in
+    let assets = c.args.assets.now in
+    let xs = c.args.children.now in
+    let p = c.loop-place.place in (
+      rule,
+      assets,
+      nodes_of_all (shapes (take (p - 1) xs)),
+      last_entries rule assets xs p c.index-children-place.result c.loop-place.before.now (omega (arith, c.loop-place-test.true)) c.loop-place.auto.place c.index-children-place.is
+          (c.loop-place.invariant.before rule c.requires.table.1),
+    )
+
+pub push_children-weighed-requires : goal.push_children-weighed-requires
+push_children-weighed-requires t c =
+    let rule = c.requires.table.0 in
+    let assets = c.args.assets.now in
+    let xs = c.args.children.now in
+    let p = c.loop-place.place in
+    let last = last_entries rule assets xs p c.index-children-place.result c.loop-place.before.now (omega (arith, c.loop-place-test.true)) c.loop-place.auto.place c.index-children-place.is
+    (c.loop-place.invariant.before rule c.requires.table.1)
+    in
+    (rule, assets, c.see_last.ensures.seen rule assets (nodes_of_all (shapes (take (p - 1) xs))) last)
+
+pub push_children-overflow_cast-place : goal.push_children-overflow_cast-place
+push_children-overflow_cast-place t c =
     let xs = c.args.children.now in
     let x = c.index-children-place.result in
     let p = c.loop-place.place in
     let few = few_children xs (p - 1) x (omega (arith, c.loop-place-test.true, c.loop-place.auto.place)) c.index-children-place.is in
     omega (arith, few, c.requires.few)
 
-pub satisfy_chosen-satisfy_or_not-requires : goal.satisfy_chosen-satisfy_or_not-requires
-satisfy_chosen-satisfy_or_not-requires t c =
+pub push_children-satisfy-requires : goal.push_children-satisfy-requires
+push_children-satisfy-requires t c =
     let xs = c.args.children.now in
-    let x = c.index-children-place.result in
     let p = c.loop-place.place in
-    let below : p - 1 < length xs = omega (arith, c.loop-place-test.true, c.loop-place.auto.place) in
-    let few = nodes_at xs (p - 1) x below c.index-children-place.is in (
-      omega (arith, c.decreases, few),
-      ready_at xs (p - 1) x c.args.assets.now (length c.weigh-costs.new.slots) below c.index-children-place.is
-          c.requires.in_range c.requires.typed c.requires.are (omega (arith, c.weigh-costs.auto.slots, c.loop-place.auto.slots, c.requires.room)),
-    )
-
-pub satisfy_chosen-loop-place-preserved : goal.satisfy_chosen-loop-place-preserved
-satisfy_chosen-loop-place-preserved t c =
-    let assets = c.args.assets.now in
     let x = c.index-children-place.result in
-    from_less c.args.choice.now.last assets c.args.children.now c.loop-place.place x c.weigh-costs.result c.is_taken-taken.result
-    c.args.stack.now c.loop-place.stack c.satisfy_or_not.new.stack c.loop-place-test.true c.loop-place.auto.place c.index-children-place.is
-    c.weigh-costs.ensures.sat c.weigh-costs.ensures.dsat c.is_taken-taken.ensures c.loop-place.invariant c.in_ok-satisfy_or_not.ensures
+    let few = nodes_at xs (p - 1) x (omega (arith, c.loop-place-test.true, c.loop-place.auto.place)) c.index-children-place.is in
+    let same = ap nodes c.see_last.ensures.tree in
+    let rule = c.requires.table.0 in
+    let assets = c.args.assets.now in
+    let last = last_entries rule assets xs p x c.loop-place.before.now (omega (arith, c.loop-place-test.true)) c.loop-place.auto.place c.index-children-place.is
+    (c.loop-place.invariant.before rule c.requires.table.1)
+    in
+    (omega (arith, c.decreases, few, same), (rule, c.see_last.ensures.seen rule assets (nodes_of_all (shapes (take (p - 1) xs))) last))
 
-pub satisfy_or_b-returns-in_ok-dissatisfy : goal.satisfy_or_b-returns-in_ok-dissatisfy
-satisfy_or_b-returns-in_ok-dissatisfy t c =
-    on_ok c.satisfy.result _ _
-    (λ pushed. former_pushed _ _ _ _ c.is_former.result c.args.stack.now c.satisfy.new.stack
-    (c.both.ensures ∙ both_weighs _ _ _ _ c.weigh-z_costs.ensures.dsat c.weigh-x_costs.ensures.sat)
-    (c.both-2.ensures ∙ both_weighs _ _ _ _ c.weigh-z_costs.ensures.sat c.weigh-x_costs.ensures.dsat)
-    c.is_former.ensures c.if-is_former.true
-    (pushed_both _ _ c.args.stack.now c.dissatisfy.new.stack c.satisfy.new.stack c.in_ok-dissatisfy.ensures pushed))
-    c.satisfy.ensures
+pub push_children-dissatisfy-requires : goal.push_children-dissatisfy-requires
+push_children-dissatisfy-requires t c =
+    let xs = c.args.children.now in
+    let p = c.loop-place.place in
+    let x = c.index-children-place.result in
+    let few = nodes_at xs (p - 1) x (omega (arith, c.loop-place-test.true, c.loop-place.auto.place)) c.index-children-place.is in
+    let same = ap nodes c.see_last.ensures.tree in
+    let rule = c.requires.table.0 in
+    let assets = c.args.assets.now in
+    let last = last_entries rule assets xs p x c.loop-place.before.now (omega (arith, c.loop-place-test.true)) c.loop-place.auto.place c.index-children-place.is
+    (c.loop-place.invariant.before rule c.requires.table.1)
+    in
+    (omega (arith, c.decreases, few, same), (rule, c.see_last.ensures.seen rule assets (nodes_of_all (shapes (take (p - 1) xs))) last))
 
-pub satisfy_or_b-returns-in_ok-satisfy : goal.satisfy_or_b-returns-in_ok-satisfy
-satisfy_or_b-returns-in_ok-satisfy t c =
-    on_ok c.dissatisfy-else-is_former.result _ _
-    (λ pushed. latter_pushed _ _ _ _ c.is_former.result c.args.stack.now c.dissatisfy-else-is_former.new.stack
-    (c.both.ensures ∙ both_weighs _ _ _ _ c.weigh-z_costs.ensures.dsat c.weigh-x_costs.ensures.sat)
-    (c.both-2.ensures ∙ both_weighs _ _ _ _ c.weigh-z_costs.ensures.sat c.weigh-x_costs.ensures.dsat)
-    c.is_former.ensures c.if-is_former.false
-    (pushed_both _ _ c.args.stack.now c.satisfy-else-is_former.new.stack c.dissatisfy-else-is_former.new.stack c.in_ok-satisfy.ensures pushed))
-    c.dissatisfy-else-is_former.ensures
-
-pub satisfy_or_c-returns-then-is_former : goal.satisfy_or_c-returns-then-is_former
-satisfy_or_c-returns-then-is_former t c =
-    on_ok c.satisfy.result _ _
-    (λ pushed. former_pushed _ _ _ _ c.is_former.result c.args.stack.now c.satisfy.new.stack
-    c.weigh-x_costs.ensures.sat
-    (c.both-without_x.ensures ∙ both_weighs _ _ _ _ c.weigh.ensures.sat c.weigh-x_costs.ensures.dsat)
-    c.is_former.ensures c.if-is_former.true pushed)
-    c.satisfy.ensures
-
-pub satisfy_or_c-returns-in_ok-satisfy : goal.satisfy_or_c-returns-in_ok-satisfy
-satisfy_or_c-returns-in_ok-satisfy t c =
-    on_ok c.dissatisfy.result _ _
-    (λ pushed. latter_pushed _ _ _ _ c.is_former.result c.args.stack.now c.dissatisfy.new.stack
-    c.weigh-x_costs.ensures.sat
-    (c.both-without_x.ensures ∙ both_weighs _ _ _ _ c.weigh.ensures.sat c.weigh-x_costs.ensures.dsat)
-    c.is_former.ensures c.if-is_former.false
-    (pushed_both _ _ c.args.stack.now c.satisfy-else-is_former.new.stack c.dissatisfy.new.stack c.in_ok-satisfy.ensures pushed))
-    c.dissatisfy.ensures
-
-pub satisfy_thresh-returns-in-Some : goal.satisfy_thresh-returns-in-Some
-satisfy_thresh-returns-in-Some t c =
+pub push_children-returns : goal.push_children-returns
+push_children-returns t c =
+    λ rule k h found.
     let assets = c.args.assets.now in
     let xs = c.args.children.now in
-    let choice = c.in-Some.ensures.chosen (children_of assets xs) c.tally_of-tally.ensures.told in
-    on_ok c.satisfy_chosen.result _ _
-    (subst (λ o. IsPushed o c.args.stack.now c.satisfy_chosen.new.stack) (sym choice.set ∙ sym (thresh_chosen assets c.args.k xs)))
-    c.satisfy_chosen.ensures
+    let child = λ (x : Tree). child_by rule assets (shape x) in
+    let choice = c.in-Some.choice in
+    let first : c.loop-place.place ≡ 0 = omega (arith, c.loop-place-test.false) in
+    let pushed = subst (λ n. FromOn child choice.last n (drop n xs) c.args.stack.now c.loop-place.stack) first (c.loop-place.invariant.pushed rule h) in
+    let is = subst (IsFound (children_by rule assets (shapes xs)) k) c.in-Some.is found in
+    let whole : chosen (children_by rule assets (shapes xs)) k ≡ stack_of (map child xs) (set_by choice.last 0 (costs_of (map child xs))) =
+    is.set ∙ ap (λ cs. stack_of cs (set_by choice.last 0 (costs_of cs))) (children_shapes rule assets xs) in
+    subst (λ o. IsPushed o c.args.stack.now c.loop-place.stack) (sym whole) pushed
 
-pub satisfy_thresh-returns-in-None : goal.satisfy_thresh-returns-in-None
-satisfy_thresh-returns-in-None t c =
+pub push_dissatisfying-push_way-requires : goal.push_dissatisfying-push_way-requires
+push_dissatisfying-push_way-requires t c =
+    let way = c.in-Some.ensures.way c.requires.0 c.args.assets.now c.requires.1 in
+    (omega (arith, c.decreases, c.in-Some.ensures.fewer), (c.requires.0, way.seen))
+
+pub push_satisfying-push_way-requires : goal.push_satisfying-push_way-requires
+push_satisfying-push_way-requires t c =
+    let way = c.in-Some.ensures.way c.requires.0 c.args.assets.now c.requires.1 in
+    (omega (arith, c.decreases, c.in-Some.ensures.fewer), (c.requires.0, way.seen))
+
+pub satisfy-returns-in-Thresh : goal.satisfy-returns-in-Thresh
+satisfy-returns-in-Thresh t c =
+    let rule = c.requires.0 in
+    let assets = c.args.assets.now in
+    let shows = c.in-Thresh.ensures.shows in
+    let xs = c.in-Thresh.children.now in
+    on_ok c.push_children.result _ _
+    (λ pushed. λ rule seen.
+    let entries = subst (λ s. AreEntries rule assets (below s) c.below-below.result.now) shows (c.below-below.ensures rule assets seen) in
+    let weighed = c.weighed.ensures.weighed rule assets seen in
+    let found = subst (λ s. Chooses rule assets s c.weighed.result.now.choice) shows weighed.choice in
+    let is = sym (ap (stack_by rule assets) shows ∙ thresh_stack rule assets c.in-Thresh.field-0 xs) in
+    subst (λ o. IsPushed o c.args.stack.now c.push_children.new.stack) is (pushed rule c.in-Thresh.field-0 entries found))
+    c.push_children.ensures
+
+pub dissatisfy_all-loop-place-preserved : goal.dissatisfy_all-loop-place-preserved
+dissatisfy_all-loop-place-preserved t c =
     let assets = c.args.assets.now in
     let xs = c.args.children.now in
-    let none = c.cheapest_of.ensures.none c.in-None.is (children_of assets xs) c.tally_of-tally.ensures.told in
-    subst (λ o. IsPushed o c.args.stack.now c.args.stack.now) (sym none ∙ sym (thresh_chosen assets c.args.k xs)) tt
+    let p = c.loop-place.place in
+    let x = c.index-children-place.result in
+    let some = c.loop-place-test.true in
+    let pushed = subst (λ s. IsPushed (dissatisfaction s) c.loop-place.stack c.dissatisfy.new.stack) c.see_last.ensures.tree c.in_ok-dissatisfy.ensures in
+    record {
+      before = λ rule h.
+          c.see_last.ensures.before rule assets (nodes_of_all (shapes (take (p - 1) xs)))
+          (last_entries rule assets xs p x c.loop-place.before.now (omega (arith, some)) c.loop-place.auto.place c.index-children-place.is (c.loop-place.invariant.before rule h));
+      pushed = dissatisfied_less xs p x c.args.stack.now c.loop-place.stack c.dissatisfy.new.stack (omega (arith, some)) c.loop-place.auto.place c.index-children-place.is
+          c.loop-place.invariant.pushed pushed;
+    }
+
+pub push_children-loop-place-preserved-in-Continue-1 : goal.push_children-loop-place-preserved-in-Continue-1
+push_children-loop-place-preserved-in-Continue-1 t c =
+    let assets = c.args.assets.now in
+    let xs = c.args.children.now in
+    let p = c.loop-place.place in
+    let x = c.index-children-place.result in
+    let some = c.loop-place-test.true in
+    record {
+      before = λ rule h.
+          c.see_last.ensures.before rule assets (nodes_of_all (shapes (take (p - 1) xs)))
+          (last_entries rule assets xs p x c.loop-place.before.now (omega (arith, some)) c.loop-place.auto.place c.index-children-place.is (c.loop-place.invariant.before rule h));
+      pushed = λ rule h.
+          let child = λ (y : Tree). child_by rule assets (shape y) in
+          let last = last_entries rule assets xs p x c.loop-place.before.now (omega (arith, some)) c.loop-place.auto.place c.index-children-place.is (c.loop-place.invariant.before rule h) in
+          let seen = c.see_last.ensures.seen rule assets (nodes_of_all (shapes (take (p - 1) xs))) last in
+          let weighed = same_weighed rule assets _ (shape x) c.weighed.result.now c.see_last.ensures.tree (c.weighed.ensures.weighed rule assets seen) in
+          let costs = child_costs rule assets (shape x) c.weighed.result.now c.as_child.result weighed c.as_child.ensures.sat c.as_child.ensures.dsat in
+          let pushed = subst (λ s. IsPushed (stack_by rule assets s) c.loop-place.stack c.satisfy.new.stack) c.see_last.ensures.tree (c.in_ok-satisfy.ensures rule seen) in
+          from_less child c.in-Some.choice.last xs p x c.as_child.result c.is_taken.result c.args.stack.now c.loop-place.stack c.satisfy.new.stack
+          (omega (arith, some)) c.loop-place.auto.place c.index-children-place.is costs c.is_taken.ensures (c.loop-place.invariant.pushed rule h)
+          (subst (λ b. ChildPushed child c.in-Some.choice.last b x c.loop-place.stack c.satisfy.new.stack) (sym c.if-is_taken.true) pushed);
+    }
+
+pub push_children-loop-place-preserved : goal.push_children-loop-place-preserved
+push_children-loop-place-preserved t c =
+    let assets = c.args.assets.now in
+    let xs = c.args.children.now in
+    let p = c.loop-place.place in
+    let x = c.index-children-place.result in
+    let some = c.loop-place-test.true in
+    record {
+      before = λ rule h.
+          c.see_last.ensures.before rule assets (nodes_of_all (shapes (take (p - 1) xs)))
+          (last_entries rule assets xs p x c.loop-place.before.now (omega (arith, some)) c.loop-place.auto.place c.index-children-place.is (c.loop-place.invariant.before rule h));
+      pushed = λ rule h.
+          let child = λ (y : Tree). child_by rule assets (shape y) in
+          let last = last_entries rule assets xs p x c.loop-place.before.now (omega (arith, some)) c.loop-place.auto.place c.index-children-place.is (c.loop-place.invariant.before rule h) in
+          let seen = c.see_last.ensures.seen rule assets (nodes_of_all (shapes (take (p - 1) xs))) last in
+          let weighed = same_weighed rule assets _ (shape x) c.weighed.result.now c.see_last.ensures.tree (c.weighed.ensures.weighed rule assets seen) in
+          let costs = child_costs rule assets (shape x) c.weighed.result.now c.as_child.result weighed c.as_child.ensures.sat c.as_child.ensures.dsat in
+          let this = subst (λ s. IsPushed (dissatisfaction s) c.loop-place.stack c.dissatisfy.new.stack) c.see_last.ensures.tree c.in_ok-dissatisfy.ensures in
+          let pushed = pushed_unless (is_some (free_by rule assets (shape x))) (dissatisfaction (shape x)) c.loop-place.stack c.dissatisfy.new.stack this in
+          from_less child c.in-Some.choice.last xs p x c.as_child.result c.is_taken.result c.args.stack.now c.loop-place.stack c.dissatisfy.new.stack
+          (omega (arith, some)) c.loop-place.auto.place c.index-children-place.is costs c.is_taken.ensures (c.loop-place.invariant.pushed rule h)
+          (subst (λ b. ChildPushed child c.in-Some.choice.last b x c.loop-place.stack c.dissatisfy.new.stack) (sym c.if-is_taken.false) pushed);
+    }

@@ -1,44 +1,55 @@
--- Four times the number of nodes, and some more for a tree that is taken apart.
-use Rattle.std.proofs.Common.{◌+◌, ◌*◌, drop}
+-- Five times the number of nodes, and some more for a tree that is taken apart.
+use Rattle.std.proofs.Common.{◌+◌, ◌*◌, take, drop}
 use Rattle.def_tree.specs.Size.{nodes, nodes_of}
-use Rattle.def_choice.specs.Cheapest.{stack_of}
+use Rattle.def_sane.specs.Nodes.{nodes_of_all}
+use Rattle.def_choice.specs.Cheapest.{all_dissatisfied}
 use Rattle.ms_tree.specs.Shape.{shape, shapes}
-use Rattle.ms_sat.specs.Costs.{costs_of}
-use Rattle.ms_sat.specs.Choice.{set_by}
-use Rattle.ms_sat.specs.Children.{children_of}
+use Rattle.ms_sat.specs.declared.rule.Rule.{Rule}
 use Rattle.ms_sat.specs.Pushed.{IsPushed}
+use Rattle.ms_sat.specs.Rule.{child_by}
+use Rattle.ms_sat.specs.Table.{AreEntries}
+use Rattle.ms_sat.specs.Way.{tree_of, nodes_of_part, nodes_of_way, nodes_of_ways}
+use Rattle.ms_sat.proofs.Taken.{FromOn}
 use Rattle.ms_sat.proofs.satisfy.+satisfy.Given as goal
 
 abbrev pub decreases-satisfy : goal.decreases-satisfy
-decreases-satisfy l = 4 * nodes (shape l.tree.now)
+decreases-satisfy l = 5 * nodes (tree_of l.seen)
 
-abbrev pub decreases-satisfy_and_or : goal.decreases-satisfy_and_or
-decreases-satisfy_and_or l = 4 * nodes (shape l.x.now) + 4 * nodes (shape l.y.now) + 4 * nodes (shape l.z.now) + 1
+abbrev pub decreases-dissatisfy : goal.decreases-dissatisfy
+decreases-dissatisfy l = 5 * nodes (tree_of l.seen)
 
-abbrev pub decreases-satisfy_two : goal.decreases-satisfy_two
-decreases-satisfy_two l = 4 * nodes (shape l.x.now) + 4 * nodes (shape l.z.now) + 2
+abbrev pub decreases-push_satisfying : goal.decreases-push_satisfying
+decreases-push_satisfying l = 5 * nodes_of_ways l.ways + 3
 
-abbrev pub decreases-satisfy_or_b : goal.decreases-satisfy_or_b
-decreases-satisfy_or_b l = 4 * nodes (shape l.x.now) + 4 * nodes (shape l.z.now) + 1
+abbrev pub decreases-push_dissatisfying : goal.decreases-push_dissatisfying
+decreases-push_dissatisfying l = 5 * nodes_of_ways l.ways + 3
 
-abbrev pub decreases-satisfy_or_c : goal.decreases-satisfy_or_c
-decreases-satisfy_or_c l = 4 * nodes (shape l.x.now) + 4 * nodes (shape l.z.now) + 1
+abbrev pub decreases-push_way : goal.decreases-push_way
+decreases-push_way l = 5 * nodes_of_way l.way + 2
 
-abbrev pub decreases-satisfy_or_i : goal.decreases-satisfy_or_i
-decreases-satisfy_or_i l = 4 * nodes (shape l.x.now) + 4 * nodes (shape l.z.now) + 1
+abbrev pub decreases-push_part : goal.decreases-push_part
+decreases-push_part l = 5 * nodes_of_part l.part + 1
 
-abbrev pub decreases-satisfy_thresh : goal.decreases-satisfy_thresh
-decreases-satisfy_thresh l = 4 * nodes_of (shapes l.children.now) + 3
+abbrev pub decreases-push_children : goal.decreases-push_children
+decreases-push_children l = 5 * nodes_of (shapes l.children.now) + 1
 
-abbrev pub decreases-satisfy_chosen : goal.decreases-satisfy_chosen
-decreases-satisfy_chosen l = 4 * nodes_of (shapes l.children.now) + 2
+abbrev pub decreases-dissatisfy_all : goal.decreases-dissatisfy_all
+decreases-dissatisfy_all l = 5 * nodes_of (shapes l.children.now) + 1
 
-abbrev pub decreases-satisfy_or_not : goal.decreases-satisfy_or_not
-decreases-satisfy_or_not l = 4 * nodes (shape l.x.now) + 1
+abbrev pub invariant-dissatisfy_all-loop-place : goal.invariant-dissatisfy_all-loop-place
+invariant-dissatisfy_all-loop-place l = record {
+  before :
+      (rule : Rule) → AreEntries rule l.assets (nodes_of_all (shapes l.children)) l.fn.table →
+      AreEntries rule l.assets (nodes_of_all (shapes (take l.place l.children))) l.before;
+  pushed : IsPushed (all_dissatisfied (shapes (drop l.place l.children))) l.fn.stack l.stack;
+}
 
-abbrev pub decreases-satisfy_wrap : goal.decreases-satisfy_wrap
-decreases-satisfy_wrap l = 4 * nodes (shape l.x.now) + 1
-
-abbrev pub invariant-satisfy_chosen-loop-place : goal.invariant-satisfy_chosen-loop-place
-invariant-satisfy_chosen-loop-place l =
-    IsPushed (stack_of (children_of l.assets (drop l.place l.children)) (set_by l.choice.last l.place (costs_of (children_of l.assets (drop l.place l.children))))) l.fn.stack l.stack
+abbrev pub invariant-push_children-loop-place : goal.invariant-push_children-loop-place
+invariant-push_children-loop-place l = record {
+  before :
+      (rule : Rule) → AreEntries rule l.assets (nodes_of_all (shapes l.children)) l.fn.table →
+      AreEntries rule l.assets (nodes_of_all (shapes (take l.place l.children))) l.before;
+  pushed :
+      (rule : Rule) → AreEntries rule l.assets (nodes_of_all (shapes l.children)) l.fn.table →
+      FromOn (λ x. child_by rule l.assets (shape x)) l.choice.last l.place (drop l.place l.children) l.fn.stack l.stack;
+}

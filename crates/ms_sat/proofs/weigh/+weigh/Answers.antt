@@ -10,11 +10,11 @@ use Rattle.ms_tree.proofs.Parts.{nodes_at, in_range_at}
 use Rattle.ms_sane.proofs.Bounds.{multi_enough}
 use Rattle.ms_sane.proofs.Children.{measure_at, few_children, typed_at, typed_children, length_written}
 use Rattle.ms_sat.specs.Costs.{weight_of, costs_of}
-use Rattle.ms_sat.specs.Children.{IsReady, children_of}
+use Rattle.ms_sat.specs.Children.{IsReady, child_of_tree, children_of}
 use Rattle.ms_sat.specs.Tally.{Tells}
 use Rattle.ms_sat.proofs.Bounds.{light_of}
 use Rattle.ms_sat.proofs.Tallies.{told_written}
-use Rattle.ms_sat.proofs.Trees.{thresh_chosen, all_chosen, costs_more}
+use Rattle.ms_sat.proofs.Trees.{thresh_chosen, all_chosen, costs_child, costs_more}
 use Rattle.ms_sat.proofs.Weights.{both_weighs, least_weighs}
 use Rattle.ms_sat.proofs.weigh.+weigh.Goals as goal
 
@@ -131,7 +131,9 @@ tally_of-loop-child-preserved t c =
     let slots = c.loop-child.slots in
     let before = children_of assets (take i xs) in
     let told = told_written (costs_of before) tally slots c.weigh-costs.new.slots (length slots - tally.free) c.loop-child.invariant.fits.room c.loop-child.invariant.told in
-    let more = costs_more assets xs i c.child-item.result c.weigh-costs.result c.loop-child-test.true c.child-item.is c.weigh-costs.ensures.sat c.weigh-costs.ensures.dsat in
+    let x = c.child-item.result in
+    let is = costs_child assets x c.weigh-costs.result c.weigh-costs.ensures.sat c.weigh-costs.ensures.dsat in
+    let more = costs_more (λ y. child_of_tree assets (shape y)) xs i x c.weigh-costs.result c.loop-child-test.true c.child-item.is is in
     record {
       fits = c.add.ensures.fits;
       told = subst (λ cs. Tells cs c.add.new.self c.add.new.slots) more (c.add.ensures.told (costs_of before) told);

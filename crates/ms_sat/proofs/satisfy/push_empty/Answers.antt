@@ -1,7 +1,7 @@
 use Rattle.std.proofs.Common.{◌≡◌, ◌∙◌, ◌++◌, replicate, sym, ap, arith}
 use Rattle.def_satisfaction.specs.Rows.{EMPTY}
 use Rattle.ms_sat.proofs.Pushed.{reverse-replicate}
-use Rattle.ms_sat.proofs.dissatisfy.push_empty.Goals as goal
+use Rattle.ms_sat.proofs.satisfy.push_empty.Goals as goal
 
 pub returns : goal.returns
 returns c =

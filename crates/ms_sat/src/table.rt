@@ -1,0 +1,368 @@
+//! What is weighed of a tree: of each of its nodes once, and kept in a table in the order of their numbers.
+ghost use Rattle.std.specs.Prelude.{◌≡◌, ◌+◌, ◌≤◌, ◌<◌, ◌++◌, [], ◌∷◌, List, length, All, is_some, true, false, if◌then◌else◌, Some, None, IfOk, OnOk};
+ghost use Rattle.def_tree.specs.Range.{MOST_MEASURE, IsInRange};
+ghost use Rattle.def_tree.specs.Size.{measure_of};
+ghost use Rattle.def_tree.specs.Tree as tree;
+ghost use Rattle.def_tree.specs.Tree.{Tree as Model};
+ghost use Rattle.def_types.specs.Typed.{IsTyped};
+ghost use Rattle.def_assets.specs.Assets.{AreAssets, Assets as Held};
+ghost use Rattle.def_sane.specs.Nodes.{all_nodes, nodes_of_all};
+ghost use Rattle.def_choice.specs.Cheapest.{dissatisfaction};
+ghost use Rattle.ms_tree.specs.Shape.{shape, shapes, trees_of, leaf_shape};
+ghost use Rattle.ms_sat.specs.declared.rule.Rule.{Rule as By};
+ghost use Rattle.std.specs.Option.{option_map};
+ghost use Rattle.ms_sat.specs.Costs.{weight_of as stack_weight, sum_of, IsLight, IsLightOption};
+ghost use Rattle.ms_sat.specs.Choice.{is_allowed};
+ghost use Rattle.ms_sat.specs.Children.{IsReady};
+ghost use Rattle.ms_sat.specs.Tally.{Fits, Tells};
+ghost use Rattle.ms_sat.specs.Rule.{has_key};
+ghost use Rattle.ms_sane.specs.declared.work.Slot.{Slot};
+ghost use Rattle.ms_sat.specs.Table.{IsWeighed, AreEntries, Adds, below};
+ghost use Rattle.ms_sat.specs.Way.{HaveTables, AreSeen, sat_of, dsat_of, is_free};
+ghost use Rattle.ms_sat.specs.Count.{IsFew, counted, IsBounded, AreFew, AreTold};
+
+use crate::cost::{Costs, both};
+use crate::rule::Rule;
+use crate::tally::{Choice, Tally};
+use crate::way::{
+    Price, Seen, Ways, dissatisfactions_of_and_or, dissatisfactions_of_two,
+    dissatisfactions_of_wrap, satisfactions_of_and_or, satisfactions_of_two, satisfactions_of_wrap,
+    see_last, see_two,
+};
+use crate::weigh::{of_item, of_leaf, tally_of_keys};
+use ms_assets::Assets;
+use ms_sane::Slot;
+use ms_tree::{Key, Leaf, Tree, Two, View, Wrapper};
+use std::alloc::AllocError;
+
+/// What was weighed of a node: its satisfaction by a rule, and its dissatisfaction.
+#[derive(Clone, Copy)]
+pub struct Weighed {
+    pub costs: Costs,
+    /// The rule asks for a satisfaction without a signature, and there is one.
+    pub free: bool,
+    /// Which children of a threshold, and which keys of a `multi`, are satisfied.
+    pub choice: Option<Choice>,
+}
+
+/// What was weighed of a node, and how many nodes it and the trees below it have.
+#[derive(Clone, Copy)]
+pub struct Entry {
+    pub weighed: Weighed,
+    pub nodes: usize,
+}
+
+impl Weighed {
+    /// As a child of a threshold: one that has a satisfaction without a signature isn't dissatisfied.
+    pub fn as_child(&self) -> Costs
+        ensures sat { result.sat ≡ self.now.costs.sat }
+        ensures dsat { result.dsat ≡ (if self.now.free then None else self.now.costs.dsat) }
+    {
+        Costs {
+            sat: self.costs.sat,
+            dsat: if self.free { None } else { self.costs.dsat },
+        }
+    }
+}
+
+/// How many children of a threshold can only be satisfied, can be neither satisfied nor dissatisfied, and can be both.
+#[derive(Clone, Copy)]
+pub struct Count {
+    pub forced: u64,
+    pub stuck: u64,
+    pub free: u64,
+}
+
+impl Count {
+    fn add(&mut self, sat: bool, dsat: bool)
+        requires { IsFew self.old MOST_MEASURE }
+        ensures { self.new ≡ counted self.old sat dsat }
+    {
+        match (sat, dsat) {
+            (true, true) => self.free += 1,
+            (true, false) => self.forced += 1,
+            (false, true) => {}
+            (false, false) => self.stuck += 1,
+        }
+    }
+
+    /// Whether so many of the children can be satisfied and the others dissatisfied.
+    fn allows(&self, count: u64) -> bool
+        requires { IsFew self.now (MOST_MEASURE + 1) }
+        ensures { result ≡ is_allowed self.now.forced self.now.stuck self.now.free count }
+    {
+        self.stuck == 0 && self.forced <= count && count <= self.forced + self.free
+    }
+}
+
+/// Children of a threshold, counted in one after the other: for the choice of those that are satisfied, for whether
+/// a choice needs no signature, and the weight of their dissatisfactions.
+#[derive(Drop)]
+pub struct Children {
+    pub tally: Tally,
+    pub free: Count,
+    pub dsat: Option<u64>,
+}
+
+impl Children {
+    fn none() -> Children
+        ensures few { (slots : List Slot) → AreFew result slots }
+        ensures told { (rule : By) (assets : Held) (slots : List Slot) → AreTold rule assets [] result slots }
+        ensures free { result.tally.free ≡ 0 }
+        ensures place { result.tally.place ≡ 0 }
+    {
+        Children {
+            tally: Tally::new(),
+            free: Count {
+                forced: 0,
+                stuck: 0,
+                free: 0,
+            },
+            dsat: Some(0),
+        }
+    }
+
+    /// Counts a further child in.
+    fn add(&mut self, slots: &mut [Slot], child: &Weighed)
+        requires few { AreFew self.old slots.old }
+        requires room { self.old.tally.free < length slots.old }
+        requires place { self.old.tally.place < MOST_MEASURE }
+        requires light { IsLight child.now.costs }
+        ensures few { AreFew self.new slots.new }
+        ensures told { (rule : By) (assets : Held) (ts : List Model) (t : Model) → AreTold rule assets ts self.old slots.old → IsWeighed rule assets t child.now → AreTold rule assets (ts ++ t ∷ []) self.new slots.new }
+        ensures free { self.new.tally.free ≤ self.old.tally.free + 1 }
+        ensures place { self.new.tally.place ≡ self.old.tally.place + 1 }
+    {
+        self.tally.add(slots, &child.as_child());
+        self.free.add(child.free, child.costs.dsat.is_some());
+        self.dsat = with_others(self.dsat, child.costs.dsat);
+    }
+
+    /// The threshold of which so many of them are satisfied. It sorts the slots.
+    fn weighed(&self, count: u64, slots: &mut [Slot]) -> Weighed
+        requires few { AreFew self.now slots.old }
+        requires told { (rule : By) × (assets : Held) × (ts : List Model) × AreTold rule assets ts self.now slots.old }
+        requires some { 1 ≤ count }
+        ensures { (rule : By) (assets : Held) (ts : List Model) → AreTold rule assets ts self.now slots.old → IsWeighed rule assets (tree.thresh count (trees_of ts)) result }
+    {
+        let choice = self.tally.cheapest_of(count, slots);
+        Weighed {
+            costs: Costs {
+                sat: weight_of(&choice),
+                dsat: self.dsat,
+            },
+            free: self.free.allows(count),
+            choice,
+        }
+    }
+}
+
+/// The weight of a further dissatisfaction and of the others.
+fn with_others(others: Option<u64>, dsat: Option<u64>) -> Option<u64>
+    requires others { IsBounded MOST_MEASURE others }
+    requires dsat { IsLightOption dsat }
+    ensures { result ≡ sum_of others dsat }
+{
+    match (others, dsat) {
+        (Some(others), Some(dsat)) => Some(others + dsat),
+        _ => None,
+    }
+}
+
+/// What a choice weighs, where there is one.
+fn weight_of(choice: &Option<Choice>) -> Option<u64>
+    ensures { result ≡ option_map (λ c. c.weight) choice.now }
+{
+    match choice {
+        Some(choice) => Some(choice.weight),
+        None => None,
+    }
+}
+
+/// Weighs a tree by a rule, and adds what was weighed of each of its nodes to the table. Of the slots it writes at most
+/// as many as the tree's measure.
+#[cycle(weigh_nodes)]
+pub fn weigh_nodes(
+    tree: &Tree,
+    rule: Rule,
+    assets: &Assets,
+    slots: &mut [Slot],
+    table: &mut Vec<Entry>,
+) -> Result<Weighed, AllocError>
+    requires { IsReady (shape tree.now) assets.now (length slots.old) }
+    ensures weighed { IfOk result (IsWeighed rule assets.now (shape tree.now)) }
+    ensures light { IfOk result (λ weighed. IsLight weighed.costs) }
+    ensures added { OnOk result (Adds rule assets.now (all_nodes (shape tree.now)) table.old.items table.new.items) }
+{
+    let start = table.len();
+    let weighed = weigh_root(tree, rule, assets, slots, table)?;
+    let nodes = table.len() - start + 1;
+    table.push(Entry { weighed, nodes })?;
+    Ok(weighed)
+}
+
+/// Weighs a tree, and adds the nodes below its root.
+#[cycle(weigh_nodes)]
+fn weigh_root(
+    tree: &Tree,
+    rule: Rule,
+    assets: &Assets,
+    slots: &mut [Slot],
+    table: &mut Vec<Entry>,
+) -> Result<Weighed, AllocError>
+    requires { IsReady (shape tree.now) assets.now (length slots.old) }
+    ensures weighed { IfOk result (IsWeighed rule assets.now (shape tree.now)) }
+    ensures added { OnOk result (Adds rule assets.now (below (shape tree.now)) table.old.items table.new.items) }
+{
+    let start = table.len();
+    match tree.view() {
+        View::Leaf(leaf) => Ok(weigh_leaf(leaf, rule, assets)),
+        View::AndOr(x, y, z) => {
+            weigh_nodes(x, rule, assets, slots, table)?;
+            weigh_nodes(y, rule, assets, slots, table)?;
+            weigh_nodes(z, rule, assets, slots, table)?;
+            Ok(weigh_and_or(x, y, z, &table[start..]))
+        }
+        View::Two(kind, x, z) => {
+            weigh_nodes(x, rule, assets, slots, table)?;
+            weigh_nodes(z, rule, assets, slots, table)?;
+            Ok(weigh_two(kind, x, z, &table[start..]))
+        }
+        View::Thresh(k, children) => weigh_thresh(k, children, rule, assets, slots, table),
+        View::Multi(k, keys) => Ok(weigh_multi(k, keys, assets, slots)),
+        View::Wrap(wrapper, x) => {
+            weigh_nodes(x, rule, assets, slots, table)?;
+            Ok(weigh_wrap(wrapper, x, &table[start..]))
+        }
+    }
+}
+
+#[cycle(weigh_nodes)]
+fn weigh_thresh(
+    k: u64,
+    children: &[Tree],
+    rule: Rule,
+    assets: &Assets,
+    slots: &mut [Slot],
+    table: &mut Vec<Entry>,
+) -> Result<Weighed, AllocError>
+    requires in_range { All (λ x. IsInRange (shape x)) children.now }
+    requires typed { All (λ x. IsTyped (shape x)) children.now }
+    requires are { AreAssets assets.now }
+    requires few { measure_of (shapes children.now) ≤ MOST_MEASURE }
+    requires room { measure_of (shapes children.now) ≤ length slots.old }
+    requires some { 1 ≤ k }
+    ensures weighed { IfOk result (IsWeighed rule assets.now (tree.thresh k (shapes children.now))) }
+    ensures added { OnOk result (Adds rule assets.now (nodes_of_all (shapes children.now)) table.old.items table.new.items) }
+{
+    let mut all = Children::none();
+    for child in children {
+        let weighed = weigh_nodes(child, rule, assets, &mut slots[all.tally.free..], table)?;
+        all.add(slots, &weighed);
+    }
+    Ok(all.weighed(k, slots))
+}
+
+fn weigh_leaf(leaf: Leaf, rule: Rule, assets: &Assets) -> Weighed
+    requires typed { IsTyped (leaf_shape leaf) }
+    requires are { AreAssets assets.now }
+    ensures { IsWeighed rule assets.now (leaf_shape leaf) result }
+{
+    let costs = of_leaf(leaf, assets);
+    let free = match rule {
+        Rule::Cheapest => false,
+        Rule::Strict => costs.sat.is_some() && !needs_signature(&leaf),
+    };
+    Weighed {
+        costs,
+        free,
+        choice: None,
+    }
+}
+
+fn needs_signature(leaf: &Leaf) -> bool
+    ensures { result ≡ has_key leaf.now }
+{
+    matches!(leaf, Leaf::PkK(_) | Leaf::PkH(_))
+}
+
+/// Of a key only its signature satisfies, so a `multi` has no free satisfaction.
+fn weigh_multi(k: u64, keys: &[Key], assets: &Assets, slots: &mut [Slot]) -> Weighed
+    requires some { 1 ≤ k }
+    requires enough { k ≤ length keys.now }
+    requires few { length keys.now ≤ MOST_MEASURE }
+    requires are { AreAssets assets.now }
+    requires room { length keys.now ≤ length slots.old }
+    ensures { (rule : By) → IsWeighed rule assets.now (tree.multi k keys.now) result }
+{
+    let tally = tally_of_keys(keys, assets, slots);
+    let choice = tally.cheapest_of(k, slots);
+    Weighed {
+        costs: Costs {
+            sat: both(Some(of_item(&[])), weight_of(&choice)),
+            dsat: Some((k + 1) * of_item(&[])),
+        },
+        free: false,
+        choice,
+    }
+}
+
+/// The entries are those of the three parts, one behind the other.
+fn weigh_and_or(x: &Tree, y: &Tree, z: &Tree, table: &[Entry]) -> Weighed
+    requires x { IsInRange (shape x.now) }
+    requires y { IsInRange (shape y.now) }
+    requires z { IsInRange (shape z.now) }
+    requires table { (rule : By) × (assets : Held) × AreEntries rule assets (all_nodes (shape x.now) ++ all_nodes (shape y.now) ++ all_nodes (shape z.now)) table.now }
+    ensures { (rule : By) (assets : Held) → AreEntries rule assets (all_nodes (shape x.now) ++ all_nodes (shape y.now) ++ all_nodes (shape z.now)) table.now → IsWeighed rule assets (tree.and_or (shape x.now) (shape y.now) (shape z.now)) result }
+{
+    let (before, z) = see_last(z, table);
+    let (x, y) = see_two(x, y, before);
+    weigh_ways(
+        satisfactions_of_and_or(x, y, z),
+        dissatisfactions_of_and_or(x, z),
+    )
+}
+
+fn weigh_two(kind: Two, x: &Tree, z: &Tree, table: &[Entry]) -> Weighed
+    requires x { IsInRange (shape x.now) }
+    requires z { IsInRange (shape z.now) }
+    requires table { (rule : By) × (assets : Held) × AreEntries rule assets (all_nodes (shape x.now) ++ all_nodes (shape z.now)) table.now }
+    ensures { (rule : By) (assets : Held) → AreEntries rule assets (all_nodes (shape x.now) ++ all_nodes (shape z.now)) table.now → IsWeighed rule assets (tree.two kind (shape x.now) (shape z.now)) result }
+{
+    let (x, z) = see_two(x, z, table);
+    weigh_ways(
+        satisfactions_of_two(kind, x, z),
+        dissatisfactions_of_two(kind, x, z),
+    )
+}
+
+fn weigh_wrap(wrapper: Wrapper, x: &Tree, table: &[Entry]) -> Weighed
+    requires x { IsInRange (shape x.now) }
+    requires table { (rule : By) × (assets : Held) × AreEntries rule assets (all_nodes (shape x.now)) table.now }
+    ensures { (rule : By) (assets : Held) → AreEntries rule assets (all_nodes (shape x.now)) table.now → IsWeighed rule assets (tree.wrap wrapper (shape x.now)) result }
+{
+    let x = Seen { tree: x, table };
+    weigh_ways(
+        satisfactions_of_wrap(wrapper, x),
+        dissatisfactions_of_wrap(wrapper, x),
+    )
+}
+
+/// What is weighed of a fragment that has these ways.
+fn weigh_ways(satisfactions: Ways<'_>, dissatisfactions: Ways<'_>) -> Weighed
+    requires tables { (rule : By) × (assets : Held) × AreSeen rule assets satisfactions × AreSeen rule assets dissatisfactions }
+    ensures sat { (rule : By) (assets : Held) → AreSeen rule assets satisfactions.entry → result.costs.sat ≡ stack_weight (sat_of rule assets satisfactions.entry) }
+    ensures dsat { (rule : By) (assets : Held) → AreSeen rule assets dissatisfactions.entry → result.costs.dsat ≡ stack_weight (dsat_of rule assets dissatisfactions.entry) }
+    ensures free { (rule : By) (assets : Held) → AreSeen rule assets satisfactions.entry → result.free ≡ is_free rule assets satisfactions.entry }
+    ensures choice { result.choice ≡ None }
+{
+    let sat = satisfactions.sat();
+    Weighed {
+        costs: Costs {
+            sat: sat.weight,
+            dsat: dissatisfactions.dsat(),
+        },
+        free: sat.free,
+        choice: None,
+    }
+}
