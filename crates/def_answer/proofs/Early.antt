@@ -1,5 +1,5 @@
--- The statuses of answers, and what needs no source.
-use Rattle.std.proofs.Common.{◌≡◌, inl, inr, ℕ, Bool, true, false, nat_lt, if◌then◌else◌, List, Option, Some, None, Result, Ok, Err, length, refl, sym, subst, ◌∙◌}
+-- The statuses of answers.
+use Rattle.std.proofs.Common.{◌≡◌, inl, inr, ℕ, Bool, true, false, nat_lt, if◌then◌else◌, List, Option, Some, None, Result, Ok, Err, length, refl, sym, subst}
 use Rattle.std.proofs.lemmas.Bool.{lt-ltb}
 use Rattle.def_script.specs.Bytes.{Bytes}
 use Rattle.def_machine.specs.Run.{Outcome, accepted, refused, run}
@@ -14,20 +14,19 @@ use Rattle.def_files.specs.AssetFile.{assets_of}
 use Rattle.def_files.specs.RunFile.{run_of}
 use Rattle.def_answer.specs.declared.status.Status.{Status}
 use Rattle.def_answer.specs.declared.status.Status.TheVariants as status
-use Rattle.def_answer.specs.Words.{Command, script, check, satisfy, satisfy_malleable, gen, IsForm}
+use Rattle.def_answer.specs.Words.{Command, script, check, satisfy, satisfy_malleable, gen}
 use Rattle.def_answer.specs.Words as words
 use Rattle.def_answer.specs.Lines.{file_too_long_line}
 use Rattle.def_answer.specs.Reading.{Reading}
 use Rattle.def_answer.specs.Reading as reading
 use Rattle.def_answer.specs.Reply.{Reply, reply, unless_unfit, text_reply, unless_refused, MOST_FILE, file_reply, chosen_reply, satisfy_reply, outcome_reply, run_reply}
 use Rattle.def_answer.specs.Answer.{script_reply, check_reply, gen_reply, RepliesToText, Replies, RepliesToWords}
-use Rattle.def_answer.specs.Laws.{IsAnswered, AnswersHaveStatus, NeedsNoSource, AnswerWithoutSource, IsEarly, EarlyAnswer, LongAssetFile, LongRunFile}
-use Rattle.def_answer.proofs.Unique.{one_form}
+use Rattle.def_answer.specs.Laws.{IsAnswered, AnswersHaveStatus, LongAssetFile, LongRunFile}
 
 -- ---- the replies to files and runs
 
 -- a fact of the status of replies
-abbrev OfStatus : (Status → Type 0) → Reply → Type 0
+abbrev pub OfStatus : (Status → Type 0) → Reply → Type 0
 OfStatus P r = P r.status
 
 refused_status : {A : Type 0} (P : Status → Type 0) (next : A → Reply) (read : Result A AssetFault) → P status.FileRefused
@@ -52,7 +51,7 @@ chosen_status : (P : Status → Type 0) (tree : Tree) (assets : Assets) (choice 
 chosen_status P tree assets None done never = never
 chosen_status P tree assets (Some stack) done never = done
 
-satisfy_status : (P : Status → Type 0) (choice : Tree → Assets → Option (List Bytes)) (source : Bytes) (tree : Tree) →
+pub satisfy_status : (P : Status → Type 0) (choice : Tree → Assets → Option (List Bytes)) (source : Bytes) (tree : Tree) →
     P status.FileRefused → P status.Done
     → P status.NoSatisfaction → OfStatus P (satisfy_reply choice source tree)
 satisfy_status P choice source tree refusal done never =
@@ -105,85 +104,6 @@ answered_words ws source r (inr h) = subst (OfStatus IsAnswered) (sym h.1) tt
 
 pub answers_have_status : AnswersHaveStatus
 answers_have_status ws source s p h = answered_words ws source (reply s p) h.replies
-
--- ---- what needs no source
-
-without_source : (c : Command) (source other : Bytes) (r : Reply) → NeedsNoSource c → Replies c source r → Replies c other r
-without_source (script text) source other r none h = h
-without_source (check text) source other r none h = h
-without_source (satisfy text) source other r none h = absurd none
-without_source (satisfy_malleable text) source other r none h = absurd none
-without_source words.run source other r none h = absurd none
-without_source (gen n) source other r none h = h
-
-words_without_source : (ws : List Bytes) (source other : Bytes) (c : Command) (r : Reply) → IsForm ws c → NeedsNoSource c
-    → RepliesToWords ws source r → RepliesToWords ws other r
-words_without_source ws source other c r form none (inl h) =
-    inl (h.0, h.1, without_source h.0 source other r (subst NeedsNoSource (one_form ws c h.0 form h.1) none) h.2)
-words_without_source ws source other c r form none (inr h) = inr h
-
-pub answer_without_source : AnswerWithoutSource
-answer_without_source ws source other c s p form none h =
-    record { replies = words_without_source ws source other c (reply s p) form none h.replies }
-
--- no status of this kind
-abbrev IsLate : Status → Type 0
-IsLate s = ¬ IsEarly s
-
-late : (s : Status) → ¬ (s ≡ status.Usage) → ¬ (s ≡ status.TextRefused) → IsLate s
-late s no_usage no_refusal (inl e) = no_usage e
-late s no_usage no_refusal (inr e) = no_refusal e
-
-late_file : IsLate status.FileRefused
-late_file = late status.FileRefused (λ e. cc e) (λ e. cc e)
-
-late_done : IsLate status.Done
-late_done = late status.Done (λ e. cc e) (λ e. cc e)
-
-late_never : IsLate status.NoSatisfaction
-late_never = late status.NoSatisfaction (λ e. cc e) (λ e. cc e)
-
-late_script : IsLate status.ScriptRefused
-late_script = late status.ScriptRefused (λ e. cc e) (λ e. cc e)
-
-early_unfit : (reason : Option Unfit) (offsets : List ℕ) (f g : Reply) → OfStatus IsLate f →
-    OfStatus IsEarly (unless_unfit reason offsets f)
-    → unless_unfit reason offsets f ≡ unless_unfit reason offsets g
-early_unfit None offsets f g never early = absurd (never early)
-early_unfit (Some unfit) offsets f g never early = refl
-
-early_text : (reason : Tree → Option Unfit) (f g : Tree → Reply) (r : Reading) → ((tree : Tree) → OfStatus IsLate (f tree))
-    → OfStatus IsEarly (text_reply reason f r) → text_reply reason f r ≡ text_reply reason g r
-early_text reason f g (reading.read tree offsets) never early =
-    early_unfit (reason tree) offsets (f tree) (g tree) (never tree) early
-early_text reason f g (reading.refused fault) never early = refl
-
-early_to_text : (text : Bytes) (reason : Tree → Option Unfit) (f g : Tree → Reply) (r : Reply) → ((tree : Tree) →
-    OfStatus IsLate (f tree)) → OfStatus IsEarly r
-    → RepliesToText text reason f r → RepliesToText text reason g r
-early_to_text text reason f g r never early h =
-    (h.0, h.1, h.2 ∙ early_text reason f g h.0 never (subst (OfStatus IsEarly) h.2 early))
-
-early_reply : (c : Command) (source other : Bytes) (r : Reply) → OfStatus IsEarly r → Replies c source r → Replies c other r
-early_reply (script text) source other r early h = h
-early_reply (check text) source other r early h = h
-early_reply (satisfy text) source other r early h =
-    early_to_text text first_unfit (satisfy_reply strict source) (satisfy_reply strict other) r
-    (λ tree. satisfy_status IsLate strict source tree late_file late_done late_never) early h
-early_reply (satisfy_malleable text) source other r early h =
-    early_to_text text first_unfit_valid (satisfy_reply cheapest source) (satisfy_reply cheapest other) r
-    (λ tree. satisfy_status IsLate cheapest source tree late_file late_done late_never) early h
-early_reply words.run source other r early h =
-    absurd (run_status IsLate source late_file late_done late_script (subst (OfStatus IsEarly) h early))
-early_reply (gen n) source other r early h = h
-
-early_words : (ws : List Bytes) (source other : Bytes) (r : Reply) → OfStatus IsEarly r → RepliesToWords ws source r →
-    RepliesToWords ws other r
-early_words ws source other r early (inl h) = inl (h.0, h.1, early_reply h.0 source other r early h.2)
-early_words ws source other r early (inr h) = inr h
-
-pub early_answer : EarlyAnswer
-early_answer ws source other s p early h = record { replies = early_words ws source other (reply s p) early h.replies }
 
 -- ---- files that are too long
 

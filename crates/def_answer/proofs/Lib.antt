@@ -2,11 +2,13 @@ pub mod Forms
 pub mod Answered
 pub mod Unique
 pub mod Early
+pub mod Sources
 pub mod Computing
 pub mod TextRows
 pub mod SatisfyRows
 pub mod RunRows
 pub mod GenRows
+pub mod SourceRows
 pub mod UpTo
 pub mod GeneratedRead
 pub mod GeneratedHeld

@@ -38,7 +38,7 @@ text_of_words P (satisfy_malleable text) h = h 2 [] (omega arith)
 text_of_words P run h = tt
 text_of_words P (gen n) h = tt
 
-text_of_form : (words : List Bytes) (c : Command) → All IsUtf8 words → IsForm words c → OnText IsUtf8 c
+pub text_of_form : (words : List Bytes) (c : Command) → All IsUtf8 words → IsForm words c → OnText IsUtf8 c
 text_of_form words c h form = text_of_words IsUtf8 c (subst (All IsUtf8) form.same h)
 
 -- ---- readings
@@ -55,7 +55,7 @@ one_text_reply : (text : Bytes) (reason : Tree → Option Unfit) (next : Tree �
     → RepliesToText text reason next a → RepliesToText text reason next b → a ≡ b
 one_text_reply text reason next a b utf8 h k = h.2 ∙ ap (text_reply reason next) (one_reading text h.0 k.0 utf8 h.1 k.1) ∙ sym k.2
 
-one_reply : (c : Command) (source : Bytes) (a b : Reply) → OnText IsUtf8 c → Replies c source a → Replies c source b → a ≡ b
+pub one_reply : (c : Command) (source : Bytes) (a b : Reply) → OnText IsUtf8 c → Replies c source a → Replies c source b → a ≡ b
 one_reply (script text) source a b utf8 h k = one_text_reply text first_unfit_valid script_reply a b utf8 h k
 one_reply (check text) source a b utf8 h k = one_text_reply text first_unfit check_reply a b utf8 h k
 one_reply (satisfy text) source a b utf8 h k = one_text_reply text first_unfit (satisfy_reply strict source) a b utf8 h k

@@ -9,11 +9,12 @@ use Rattle.def_choice.specs.Cheapest.{cheapest}
 use Rattle.def_choice.specs.Strict.{strict}
 use Rattle.def_answer.specs.declared.status.Status.{Status}
 use Rattle.def_answer.specs.declared.status.Status.TheVariants as status
-use Rattle.def_answer.specs.Words.{Command, script, check, satisfy, satisfy_malleable, run, gen, MOST_CHILDREN, IsForm, HasNoForm}
+use Rattle.def_answer.specs.Words.{Command, MOST_CHILDREN, IsForm, HasNoForm}
 use Rattle.def_answer.specs.Lines.{file_too_long_line}
 use Rattle.def_answer.specs.Generated.{generated_text, generated_tree, generated_assets}
 use Rattle.def_answer.specs.Reply.{reply, MOST_FILE, satisfy_reply, run_reply}
 use Rattle.def_answer.specs.Answer.{Answer}
+use Rattle.def_answer.specs.Sources.{ReadsSource, IsOfSource, IsToFile}
 
 -- ---- forms
 
@@ -52,32 +53,25 @@ abbrev pub AnswersHaveStatus : Type 0
 AnswersHaveStatus =
     (words : List Bytes) (source : Bytes) (s : Status) (p : Bytes) → Answer words source s p → IsAnswered s
 
--- ---- what needs no source
+-- ---- what needs the source
 
--- the command reads no source
-abbrev pub NeedsNoSource : Command → Type 0
-NeedsNoSource (script text) = ⊤
-NeedsNoSource (check text) = ⊤
-NeedsNoSource (satisfy text) = ⊥
-NeedsNoSource (satisfy_malleable text) = ⊥
-NeedsNoSource run = ⊥
-NeedsNoSource (gen n) = ⊤
-
--- its answer is the same with every source
+-- words that don't read the source have the same answer with every source
 abbrev pub AnswerWithoutSource : Type 0
 AnswerWithoutSource =
-    (words : List Bytes) (source other : Bytes) (c : Command) (s : Status) (p : Bytes) → IsForm words c →
-    NeedsNoSource c →
+    (words : List Bytes) (source other : Bytes) (s : Status) (p : Bytes) → ¬ ReadsSource words →
     Answer words source s p → Answer words other s p
 
--- so is one to words or to a text alone
-abbrev pub IsEarly : Status → Type 0
-IsEarly s = (s ≡ status.Usage) ⊎ (s ≡ status.TextRefused)
+-- and its status tells nothing of the source
+abbrev pub StatusWithoutSource : Type 0
+StatusWithoutSource =
+    (words : List Bytes) (source : Bytes) (s : Status) (p : Bytes) → ¬ ReadsSource words → Answer words source s p →
+    ¬ IsOfSource s
 
-abbrev pub EarlyAnswer : Type 0
-EarlyAnswer =
-    (words : List Bytes) (source other : Bytes) (s : Status) (p : Bytes) → IsEarly s → Answer words source s p →
-    Answer words other s p
+-- words that read it are answered by what it holds: neither they nor their text are refused
+abbrev pub StatusWithSource : Type 0
+StatusWithSource =
+    (words : List Bytes) (source : Bytes) (s : Status) (p : Bytes) → All IsUtf8 words → ReadsSource words →
+    Answer words source s p → IsToFile s
 
 -- a file that is too long is refused, whatever it says
 abbrev pub LongAssetFile : Type 0

@@ -8,9 +8,11 @@ pub mod Generated
 pub mod Reading
 pub mod Reply
 pub mod Answer
+pub mod Sources
 pub mod Laws
 pub mod Samples
 pub mod TextExamples
 pub mod SatisfyExamples
 pub mod RunExamples
 pub mod GenExamples
+pub mod SourceExamples

@@ -47,6 +47,10 @@ ghost use Rattle.def_answer.specs.GenExamples.{
   GenOne,
   GenFour,
 };
+ghost use Rattle.def_answer.specs.SourceExamples.{
+  WordsThatRead,
+  WordsThatDoNot,
+};
 
 /// Answers to words without a form, and to `script TEXT` and `check TEXT`.
 pub fn texts()
@@ -101,4 +105,10 @@ pub fn runs()
 pub fn generated()
     ensures gen_one { GenOne }
     ensures gen_four { GenFour }
+{}
+
+/// Words that need the source, and words that don't.
+pub fn sources()
+    ensures read { WordsThatRead }
+    ensures do_not { WordsThatDoNot }
 {}

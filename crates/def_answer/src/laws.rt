@@ -7,7 +7,8 @@ ghost use Rattle.def_answer.specs.Laws.{
   SomeAnswer,
   AnswersHaveStatus,
   AnswerWithoutSource,
-  EarlyAnswer,
+  StatusWithoutSource,
+  StatusWithSource,
   LongAssetFile,
   LongRunFile,
   GeneratedIsRead,
@@ -25,10 +26,11 @@ pub fn answers()
     ensures status { AnswersHaveStatus }
 {}
 
-/// Which answers need no source, and what comes of a long one.
+/// Which answers need the source, and what comes of a long one.
 pub fn sources()
     ensures without { AnswerWithoutSource }
-    ensures early { EarlyAnswer }
+    ensures status_without { StatusWithoutSource }
+    ensures status_with { StatusWithSource }
     ensures long_asset_file { LongAssetFile }
     ensures long_run_file { LongRunFile }
 {}

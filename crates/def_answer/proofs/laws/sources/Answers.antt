@@ -1,11 +1,15 @@
 use Rattle.def_answer.proofs.laws.sources.Goals as goal
-use Rattle.def_answer.proofs.Early.{answer_without_source, early_answer, long_asset_file, long_run_file}
+use Rattle.def_answer.proofs.Early.{long_asset_file, long_run_file}
+use Rattle.def_answer.proofs.Sources.{answer_without_source, status_without_source, status_with_source}
 
 pub returns-clause-without : goal.returns-clause-without
 returns-clause-without c = answer_without_source
 
-pub returns-clause-early : goal.returns-clause-early
-returns-clause-early c = early_answer
+pub returns-clause-status_without : goal.returns-clause-status_without
+returns-clause-status_without c = status_without_source
+
+pub returns-clause-status_with : goal.returns-clause-status_with
+returns-clause-status_with c = status_with_source
 
 pub returns-clause-long_asset_file : goal.returns-clause-long_asset_file
 returns-clause-long_asset_file c = long_asset_file
