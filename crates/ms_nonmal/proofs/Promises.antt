@@ -1,0 +1,46 @@
+-- What is promised of the strict choice, of a stack that was found.
+use Rattle.std.proofs.Common.{◌≡◌, ◌↔◌, ◌≤◌, List, Option, Some, None, refl, sym, ◌∙◌}
+use Rattle.def_script.specs.Bytes.{Bytes}
+use Rattle.def_machine.specs.Stacks.{Pairs}
+use Rattle.def_tree.specs.Tree.{Tree}
+use Rattle.def_tree.specs.Range.{IsWritable}
+use Rattle.def_assets.specs.Assets.{Assets, AreAssets}
+use Rattle.def_sane.specs.Unfit.{IsSane}
+use Rattle.def_satisfaction.specs.Weight.{weight}
+use Rattle.def_satisfaction.specs.Satisfaction.{Sat}
+use Rattle.def_choice.specs.Strict.{strict}
+use Rattle.def_choice.specs.NonMalleable.{IsAccepted, Fresh, NonMalleable, given_with}
+use Rattle.def_choice.proofs.Chosen.{strict_is_canonical}
+use Rattle.def_promises.specs.Promises.{Unchangeable}
+use Rattle.ms_laws.proofs.StrictFound.{strict_exists}
+use Rattle.ms_laws.proofs.Unchanged.{strict_is_non_malleable, strict_is_unchangeable, nothing_to_accept}
+use Rattle.ms_laws.proofs.TightNeeded.{strict_is_lightest}
+
+not_some : (stack : List Bytes) → ◌≡◌ {A = Option (List Bytes)} None (Some stack) → ⊥
+not_some stack e = cc
+
+module _ (tree : Tree) (assets : Assets) (found : Option (List Bytes)) (writable : IsWritable tree) (sane : IsSane tree) (are : AreAssets assets) (is : found ≡ strict tree assets) where
+  pub found_sat : (stack : List Bytes) → found ≡ Some stack → Sat tree assets stack
+  found_sat stack e = strict_is_canonical tree assets stack writable are (sym is ∙ e)
+
+  pub found_none : (found ≡ None) ↔ ((stack : List Bytes) → Sat tree assets stack → ⊥)
+  found_none = (
+    λ e stack sat. let s = (strict_exists tree assets writable sane are).1 (stack, sat) in not_some s.0 (sym e ∙ is ∙ s.1),
+    λ never. go found (λ stack e. never stack (found_sat stack e)),
+  )
+    where
+      go : (o : Option (List Bytes)) → ((stack : List Bytes) → o ≡ Some stack → ⊥) → o ≡ None
+      go None h = refl
+      go (Some stack) h = absurd (h stack refl)
+
+  pub found_non_malleable : (stack : List Bytes) → found ≡ Some stack → NonMalleable tree assets stack × Unchangeable tree assets stack
+  found_non_malleable stack e =
+      (strict_is_non_malleable tree assets stack writable sane are (sym is ∙ e), strict_is_unchangeable tree assets stack writable sane are (sym is ∙ e))
+
+  pub found_nothing : found ≡ None → (stack : List Bytes) (checks : Pairs) → IsAccepted tree (given_with assets assets.pairs) stack checks → Fresh tree assets assets.pairs stack
+  found_nothing e stack checks accepted = nothing_to_accept tree assets stack checks writable sane are (sym is ∙ e) accepted
+
+  pub found_lightest : (other : List Bytes) → Sat tree assets other → NonMalleable tree assets other → (stack : List Bytes) × (found ≡ Some stack) × (weight stack ≤ weight other)
+  found_lightest other sat unchanged =
+      let s = strict_is_lightest tree assets other writable sane are sat unchanged in
+      (s.0, is ∙ s.1, s.2)

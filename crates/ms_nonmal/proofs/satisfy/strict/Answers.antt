@@ -1,0 +1,36 @@
+use Rattle.std.proofs.lemmas.Result.{IfOk-weaker}
+use Rattle.ms_tree.specs.Shape.{shape}
+use Rattle.ms_laws.proofs.Unchanged.{tight_is_non_malleable}
+use Rattle.ms_nonmal.proofs.Promises.{found_sat, found_none, found_non_malleable, found_nothing, found_lightest}
+use Rattle.ms_nonmal.proofs.satisfy.strict.Goals as goal
+
+pub returns-clause-sat : goal.returns-clause-sat
+returns-clause-sat c =
+    IfOk-weaker c.satisfaction.result _ _
+    (λ found is. found_sat (shape c.args.tree.now) c.args.assets.now found c.requires.in_range.writable c.requires.sane c.locks-locks.ensures.few.held is) c.satisfaction.ensures
+
+pub returns-clause-none : goal.returns-clause-none
+returns-clause-none c =
+    IfOk-weaker c.satisfaction.result _ _
+    (λ found is. found_none (shape c.args.tree.now) c.args.assets.now found c.requires.in_range.writable c.requires.sane c.locks-locks.ensures.few.held is) c.satisfaction.ensures
+
+pub returns-clause-non_malleable : goal.returns-clause-non_malleable
+returns-clause-non_malleable c =
+    IfOk-weaker c.satisfaction.result _ _
+    (λ found is. found_non_malleable (shape c.args.tree.now) c.args.assets.now found c.requires.in_range.writable c.requires.sane c.locks-locks.ensures.few.held is) c.satisfaction.ensures
+
+pub returns-clause-nothing : goal.returns-clause-nothing
+returns-clause-nothing c =
+    IfOk-weaker c.satisfaction.result _ _
+    (λ found is. found_nothing (shape c.args.tree.now) c.args.assets.now found c.requires.in_range.writable c.requires.sane c.locks-locks.ensures.few.held is) c.satisfaction.ensures
+
+pub returns-clause-lightest : goal.returns-clause-lightest
+returns-clause-lightest c =
+    IfOk-weaker c.satisfaction.result _ _
+    (λ found is. found_lightest (shape c.args.tree.now) c.args.assets.now found c.requires.in_range.writable c.requires.sane c.locks-locks.ensures.few.held is) c.satisfaction.ensures
+
+pub returns-clause-tight : goal.returns-clause-tight
+returns-clause-tight c =
+    IfOk-weaker c.satisfaction.result _ _
+    (λ found is stack sat.
+    tight_is_non_malleable (shape c.args.tree.now) c.args.assets.now stack c.requires.in_range.writable c.requires.sane c.locks-locks.ensures.few.held sat) c.satisfaction.ensures

@@ -1,0 +1,41 @@
+//! The strict satisfaction of a miniscript, which nobody can change.
+ghost use Rattle.std.specs.Prelude.{◌≡◌, ◌↔◌, ◌≤◌, List, Some, None, IfOk};
+ghost use Rattle.def_script.specs.Bytes.{Bytes};
+ghost use Rattle.def_machine.specs.Stacks.{Pairs};
+ghost use Rattle.def_tree.specs.Range.{IsInRange};
+ghost use Rattle.def_sane.specs.Unfit.{IsSane};
+ghost use Rattle.def_satisfaction.specs.Weight.{weight};
+ghost use Rattle.def_satisfaction.specs.Satisfaction.{Sat};
+ghost use Rattle.def_choice.specs.Strict.{strict as the_strict};
+ghost use Rattle.def_choice.specs.Tight.{Tight};
+ghost use Rattle.def_choice.specs.NonMalleable.{IsAccepted, Fresh, NonMalleable, given_with};
+ghost use Rattle.def_promises.specs.Promises.{Unchangeable};
+ghost use Rattle.ms_tree.specs.Shape.{shape};
+
+use ms_assets::Assets;
+use ms_sat::{Rule, satisfaction};
+use ms_script::Stack;
+use ms_tree::Tree;
+use std::alloc::{AllocError, Global};
+
+/// The strict satisfaction of a tree with these assets, which nobody without further signatures can
+/// change: at each fragment an option that needs no signature is taken before one that does, every child
+/// of a threshold that needs none is satisfied, and all else is as in the cheapest satisfaction. `None`
+/// where there is no canonical satisfaction. The tree is sane. Every other stack that is accepted in the same locks passes
+/// a check of a signature that this one's run doesn't, or has a preimage that isn't the known one, or another key with
+/// the hash of a key of the tree.
+pub fn strict(alloc: Global, tree: &Tree, assets: &Assets) -> Result<Option<Stack>, AllocError>
+    requires in_range { IsInRange (shape tree.now) }
+    requires sane { IsSane (shape tree.now) }
+    ensures choice { IfOk result (λ found. found ≡ the_strict (shape tree.now) assets.now) }
+    ensures sat { IfOk result (λ found. (stack : List Bytes) → found ≡ Some stack → Sat (shape tree.now) assets.now stack) }
+    ensures none { IfOk result (λ found. (found ≡ None) ↔ ((stack : List Bytes) → Sat (shape tree.now) assets.now stack → ⊥)) }
+    ensures non_malleable { IfOk result (λ found. (stack : List Bytes) → found ≡ Some stack → NonMalleable (shape tree.now) assets.now stack × Unchangeable (shape tree.now) assets.now stack) }
+    ensures nothing { IfOk result (λ found. found ≡ None → (stack : List Bytes) (checks : Pairs) → IsAccepted (shape tree.now) (given_with assets.now assets.now.pairs) stack checks → Fresh (shape tree.now) assets.now assets.now.pairs stack) }
+    ensures lightest { IfOk result (λ found. (other : List Bytes) → Sat (shape tree.now) assets.now other → NonMalleable (shape tree.now) assets.now other → (stack : List Bytes) × (found ≡ Some stack) × (weight stack ≤ weight other)) }
+    ensures tight { IfOk result (λ found. (stack : List Bytes) → Sat (shape tree.now) assets.now stack → NonMalleable (shape tree.now) assets.now stack ↔ Tight (shape tree.now) assets.now stack) }
+{
+    // Its clauses tell what assets always are.
+    let _locks = assets.locks();
+    satisfaction(alloc, Rule::Strict, tree, assets)
+}
