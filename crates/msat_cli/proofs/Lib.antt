@@ -1,3 +1,8 @@
-mod AnswerLemmas
+mod FileLemmas
 mod ReportLemmas
-mod LawsLemmas
+mod WordLemmas
+mod StepLemmas
+mod EndLemmas
+mod SatisfactionLemmas
+mod RefusalLemmas
+mod GeneratorLemmas

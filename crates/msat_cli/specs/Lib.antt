@@ -1,3 +1,4 @@
-pub mod Answer
-pub mod Names
-pub mod Laws
+pub mod Sides
+pub mod Steps
+pub mod Ends
+pub mod Satisfactions

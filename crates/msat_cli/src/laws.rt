@@ -1,9 +1,6 @@
 ghost use Rattle.std.specs.Prelude.{◌≡◌, ◌⊎◌, ℕ, List};
-ghost use Rattle.def_answer.specs.Reading.{Reading, HasReading};
-ghost use Rattle.def_answer.specs.Reply.{run_reply};
-ghost use Rattle.msat_cli.specs.Answer.{AskFor, IsRun, HasNoForm, status_of};
-ghost use Rattle.msat_cli.specs.Laws.{ScriptHasAnswer, RunHasAnswer};
-ghost use Rattle.msat_cli.specs.declared.words.TextCommand.{TextCommand};
+ghost use Rattle.def_answer.specs.Answer.{Answer};
+ghost use Rattle.def_answer.specs.Words.{HasNoForm};
 
 use crate::program::msat;
 use crate::word::Word;
@@ -11,8 +8,8 @@ use def_answer::Status;
 use ms_io::{NullSink, SureSource};
 use std::alloc::Global;
 
-/// `msat` over a source and a sink that never fail: the words, and for a run the source's bytes, tell the
-/// status, want of memory aside.
+/// `msat` over a source and a sink that never fail: the words and what the source holds tell the status, want of
+/// memory aside.
 pub fn msat_without_faults(
     alloc: Global,
     words: &[Word],
@@ -20,14 +17,7 @@ pub fn msat_without_faults(
     sink: &mut NullSink,
 ) -> Status
     ensures usage { HasNoForm words.now → result ≡ Status.Usage }
-    ensures text { (kind : TextCommand) (text : List ℕ) (reading : Reading) → AskFor words.now kind text → HasReading text reading → (result ≡ status_of kind reading) ⊎ (result ≡ Status.Memory) }
-    ensures run { IsRun words.now → (result ≡ (run_reply source.old).status) ⊎ (result ≡ Status.Memory) }
+    ensures answered { (s : Status) (report : List ℕ) → Answer words.now source.old s report → (result ≡ s) ⊎ (result ≡ Status.Memory) }
 {
     msat(alloc, words, source, sink)
 }
-
-/// The answers to `script` and to `run` are those of the whole program's definition.
-pub fn answers_of_the_whole()
-    ensures script { ScriptHasAnswer }
-    ensures run { RunHasAnswer }
-{}

@@ -2,11 +2,16 @@
 #![tactic(auto)]
 
 pub use def_answer::Status;
-pub use laws::{answers_of_the_whole, msat_without_faults};
+pub use generator::generated;
+pub use laws::msat_without_faults;
 pub use program::msat;
 pub use word::Word;
 
 mod answer;
+mod files;
+mod generator;
+#[cfg(test)]
+mod generator_tests;
 mod laws;
 mod names;
 mod program;
@@ -17,6 +22,10 @@ mod runs;
 #[cfg(test)]
 mod sane_tests;
 #[cfg(test)]
+mod satisfy_tests;
+mod satisfying;
+#[cfg(test)]
 mod tests;
+mod texts;
 mod word;
 mod words;

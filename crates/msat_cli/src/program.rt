@@ -1,98 +1,86 @@
-ghost use Rattle.std.specs.Prelude.{◌≡◌, ◌≤◌, ◌⊎◌, ℕ, List, [], ◌∷◌, Some, IsUtf8};
-ghost use Rattle.std.specs.Io.KnownBytes.{Appends};
-ghost use Rattle.def_answer.specs.Reading.{Reading, HasReading};
-ghost use Rattle.def_answer.specs.Reply.{run_reply};
-ghost use Rattle.def_answer.specs.Words.{run as the_run, words_of};
+ghost use Rattle.std.specs.Prelude.{◌≡◌, ◌≤◌};
+ghost use Rattle.def_answer.specs.Sources.{ReadsSource, IsOfSource};
 ghost use Rattle.ms_io.specs.Faults.{Rose};
-ghost use Rattle.ms_io.specs.Moves.{AppendsPrefix};
-ghost use Rattle.msat_cli.specs.declared.words.TextCommand.{TextCommand as the_command};
-ghost use Rattle.msat_cli.specs.Answer.{AskFor, IsRun, HasNoForm, command_of, Side, side, status_of, Ends, IsOrFault, ReadsFront};
+ghost use Rattle.msat_cli.specs.Sides.{side, ReadsFront, IsUnread};
+ghost use Rattle.msat_cli.specs.Steps.{Writes, WritesResult};
+ghost use Rattle.msat_cli.specs.Ends.{call, Ends, EndsAsUsage, EndsAsAnswered, IsReadFor};
+ghost use Rattle.msat_cli.specs.Satisfactions.{FindsWhereOneExists, ShowsCanonical, ShowsWitness, ShowsAccepted, ShowsNonMalleable, FindsNothingToAccept, RefusesOtherTexts, ShowsLightest};
 
-use crate::answer::{TOO_LONG, USAGE, text_line, tree_answer};
-use crate::runs::{FILE_TOO_LONG, run_answer};
+use crate::answer::{Answer, Stop, answer_words};
 use crate::word::Word;
-use crate::words::{TextCommand, is_run, text_command};
 use def_answer::Status;
-use ms_io::{ReadStop, Sink, Source, put_all, read_all};
-use ms_text::{TextFault, read_text};
+use ms_io::{Sink, Source, put_all};
 use std::alloc::Global;
 
-/// How many bytes a file may have.
-const MOST_FILE: usize = 1_048_576;
+const USAGE: &[u8] = b"refused usage\n";
 
-/// Answers the words of a command line: makes the report, writes it to the sink by one call of
-/// `put_all`, and gives the status. The words that are stated so far are `script TEXT`, `check TEXT` and
-/// `run`, which alone reads the source.
+const TEXT_TOO_LONG: &[u8] = b"refused text TooLong\n";
+
+const FILE_TOO_LONG: &[u8] = b"refused file TooLong\n";
+
+/// Answers the words of a command line: makes the report, writes it to the sink by one call of `put_all`, and gives
+/// the status. The words are `script TEXT`, `check TEXT`, `satisfy TEXT`, `satisfy --malleable TEXT`, `run` and
+/// `gen N`. The source is read only for `run`, and for `satisfy` where the text was neither refused nor unfit.
 pub fn msat<S: Source, K: Sink>(
     alloc: Global,
     words: &[Word],
     source: &mut S,
     sink: &mut K,
 ) -> Status
-    ensures end { Ends words.now (side (S.left source.old) (S.left source.new) (S.faults source.old) (S.faults source.new)) (side (K.written sink.old) (K.written sink.new) (K.faults sink.old) (K.faults sink.new)) result }
-    ensures faults_later { K.faults sink.old ≤ K.faults sink.new }
-    ensures read_faults_later { S.faults source.old ≤ S.faults source.new }
-    ensures fault { result ≡ Status.WriteFault → Rose (K.faults sink.old) (K.faults sink.new) }
+    // How the call ends: the answer to the words and to the source, written whole, or a fault, or want of memory.
+    ensures end { Ends (call words.now (side S.left S.faults source.old source.new) (side K.written K.faults sink.old sink.new) result) }
+    ensures usage { EndsAsUsage (call words.now (side S.left S.faults source.old source.new) (side K.written K.faults sink.old sink.new) result) }
+    ensures answered { EndsAsAnswered (call words.now (side S.left S.faults source.old source.new) (side K.written K.faults sink.old sink.new) result) }
+
+    // Faults are counted, and come only where the count rose.
     ensures read_fault { result ≡ Status.ReadFault → Rose (S.faults source.old) (S.faults source.new) }
-
-    // Which status comes for which words, memory and faults aside.
-    ensures usage { HasNoForm words.now → (result ≡ Status.Usage) ⊎ (result ≡ Status.WriteFault) }
-    ensures text { (kind : the_command) (text : List ℕ) (reading : Reading) → AskFor words.now kind text → HasReading text reading → IsOrFault (status_of kind reading) result }
-    ensures run { (bytes : List ℕ) → IsRun words.now → S.left source.old ≡ Some bytes → IsOrFault (run_reply bytes).status result ⊎ (result ≡ Status.ReadFault) }
-
-    // A front of the source is read, and without a run nothing.
-    ensures front { ReadsFront (S.left source.old) (S.left source.new) }
-    ensures unread { (IsRun words.now → ⊥) → S.left source.new ≡ S.left source.old }
-    ensures unread_faults { (IsRun words.now → ⊥) → S.faults source.new ≡ S.faults source.old }
-{
-    if is_run(words) {
-        return answer_run(alloc, source, sink);
-    }
-    match text_command(words) {
-        Some((kind, text)) => answer_text(alloc, kind, text, sink),
-        None => write(sink, Status::Usage, USAGE),
-    }
-}
-
-/// Answers a command on a text.
-fn answer_text<K: Sink>(alloc: Global, kind: TextCommand, text: &str, sink: &mut K) -> Status
-    ensures end { (source : Side) → Ends (words_of (command_of kind text.now)) source (side (K.written sink.old) (K.written sink.new) (K.faults sink.old) (K.faults sink.new)) result }
-    ensures faults_later { K.faults sink.old ≤ K.faults sink.new }
-{
-    match read_text(alloc, text) {
-        Ok(text) => match tree_answer(alloc, kind, &text) {
-            Ok(answer) => write(sink, answer.status, answer.report.as_bytes()),
-            Err(_) => Status::Memory,
-        },
-        Err(TextFault::TooLong) => write(sink, Status::TextRefused, TOO_LONG),
-        Err(fault) => match text_line(alloc, fault) {
-            Ok(report) => write(sink, Status::TextRefused, report.as_bytes()),
-            Err(_) => Status::Memory,
-        },
-    }
-}
-
-/// Answers the run of the file that the source holds.
-fn answer_run<S: Source, K: Sink>(alloc: Global, source: &mut S, sink: &mut K) -> Status
-    ensures end { Ends (words_of the_run) (side (S.left source.old) (S.left source.new) (S.faults source.old) (S.faults source.new)) (side (K.written sink.old) (K.written sink.new) (K.faults sink.old) (K.faults sink.new)) result }
-    ensures faults_later { K.faults sink.old ≤ K.faults sink.new }
+    ensures write_fault { result ≡ Status.WriteFault → Rose (K.faults sink.old) (K.faults sink.new) }
     ensures read_faults_later { S.faults source.old ≤ S.faults source.new }
+    ensures write_faults_later { K.faults sink.old ≤ K.faults sink.new }
+
+    // The source is read to its end for words that need it, and stays as it is for others.
     ensures front { ReadsFront (S.left source.old) (S.left source.new) }
+    ensures read { ReadsSource words.now → IsReadFor result (side S.left S.faults source.old source.new) }
+    ensures unread { ¬ ReadsSource words.now → IsUnread (side S.left S.faults source.old source.new) }
+    ensures without_source { ¬ ReadsSource words.now → ¬ IsOfSource result }
+
+    // For every sane text and readable asset file, `satisfy TEXT` writes a canonical satisfaction exactly where one
+    // exists, as a witness with its Script; the interpreter accepts it within the printed limits; every other stack that
+    // it accepts passes a check that this one doesn't, or holds an unknown preimage or another key; and other texts are
+    // refused, by their place or by the first reason against their tree.
+    ensures exists { FindsWhereOneExists (call words.now (side S.left S.faults source.old source.new) (side K.written K.faults sink.old sink.new) result) }
+    ensures canonical { ShowsCanonical (call words.now (side S.left S.faults source.old source.new) (side K.written K.faults sink.old sink.new) result) }
+    ensures witness { ShowsWitness (call words.now (side S.left S.faults source.old source.new) (side K.written K.faults sink.old sink.new) result) }
+    ensures accepted { ShowsAccepted (call words.now (side S.left S.faults source.old source.new) (side K.written K.faults sink.old sink.new) result) }
+    ensures non_malleable { ShowsNonMalleable (call words.now (side S.left S.faults source.old source.new) (side K.written K.faults sink.old sink.new) result) }
+    ensures nothing { FindsNothingToAccept (call words.now (side S.left S.faults source.old source.new) (side K.written K.faults sink.old sink.new) result) }
+    ensures other_texts { RefusesOtherTexts (call words.now (side S.left S.faults source.old source.new) (side K.written K.faults sink.old sink.new) result) }
+
+    // `satisfy --malleable TEXT` does so for every valid text, but its satisfaction weighs least, and may be changed.
+    ensures lightest { ShowsLightest (call words.now (side S.left S.faults source.old source.new) (side K.written K.faults sink.old sink.new) result) }
 {
-    match read_all(alloc, source, MOST_FILE) {
-        Ok(bytes) => match run_answer(alloc, &bytes) {
-            Ok(answer) => write(sink, answer.status, answer.report.as_bytes()),
-            Err(_) => Status::Memory,
-        },
-        Err(ReadStop::TooLong) => write(sink, Status::FileRefused, FILE_TOO_LONG),
-        Err(ReadStop::Fault) => Status::ReadFault,
-        Err(ReadStop::Memory) => Status::Memory,
+    let answer = answer_words(alloc, words, source);
+    write_answer(sink, answer)
+}
+
+/// Writes the report of an answer, and gives its status.
+fn write_answer<K: Sink>(sink: &mut K, answer: Result<Answer, Stop>) -> Status
+    ensures end { WritesResult answer (side K.written K.faults sink.old sink.new) result }
+    ensures faults_later { K.faults sink.old ≤ K.faults sink.new }
+{
+    match answer {
+        Ok(answer) => write(sink, answer.status, answer.report.as_bytes()),
+        Err(Stop::Usage) => write(sink, Status::Usage, USAGE),
+        Err(Stop::TextTooLong) => write(sink, Status::TextRefused, TEXT_TOO_LONG),
+        Err(Stop::FileTooLong) => write(sink, Status::FileRefused, FILE_TOO_LONG),
+        Err(Stop::ReadFault) => Status::ReadFault,
+        Err(Stop::Memory) => Status::Memory,
     }
 }
 
-/// Writes the whole report of an answer with this status.
+/// Writes a report with this status.
 fn write<K: Sink>(sink: &mut K, status: Status, report: &[u8]) -> Status
-    ensures end { ((result ≡ status) × Appends (K.written sink.old) (K.written sink.new) report.now) ⊎ ((result ≡ Status.WriteFault) × AppendsPrefix (K.written sink.old) (K.written sink.new) report.now × Rose (K.faults sink.old) (K.faults sink.new)) }
+    ensures end { Writes status report.now (side K.written K.faults sink.old sink.new) result }
     ensures faults_later { K.faults sink.old ≤ K.faults sink.new }
 {
     match put_all(sink, report) {

@@ -1,42 +1,23 @@
-//! What the commands print of a valid tree.
+//! What the commands print of a tree that passed.
 ghost use Rattle.std.specs.Prelude.{◌≡◌, ◌++◌, Bool, IfOk, OnOk, codes};
 ghost use Rattle.std.specs.String.{string_bytes};
 ghost use Rattle.hex.specs.Hex.{encode_lower};
 ghost use Rattle.def_tree.specs.Range.{IsInRange};
 ghost use Rattle.def_emit.specs.Emit.{script_of};
-ghost use Rattle.def_sane.specs.Unfit.{IsKnownValid};
+ghost use Rattle.def_sane.specs.Unfit.{IsKnownSane};
 ghost use Rattle.ms_tree.specs.Shape.{shape};
 ghost use Rattle.def_answer.specs.Lines.{line, script_line, program_line, limits_line as the_limits_line};
-ghost use Rattle.def_answer.specs.Report.{script_report as the_script_report, type_letters as the_type_letters, letter};
-ghost use Rattle.msat_cli.specs.Answer.{no_mall, tree_reply, valid_report};
+ghost use Rattle.def_answer.specs.Report.{script_report as the_script_report, check_report as the_check_report, type_letters as the_type_letters, letter};
 
 use crate::names::base_letter;
-use crate::words::TextCommand;
 use ms_emit::emit;
 use ms_replay::program_of;
-use ms_sane::{Limits, Valid};
+use ms_sane::{Limits, Sane};
 use ms_script::{Blob, encode};
 use ms_text::print_text;
 use ms_tree::Tree;
-use ms_types::Ty;
+use ms_types::{Mall, Ty};
 use std::alloc::{AllocError, Global};
-
-/// The report of a command on a valid tree.
-pub fn report(
-    alloc: Global,
-    kind: TextCommand,
-    tree: &Tree,
-    valid: &Valid,
-) -> Result<String, AllocError>
-    requires range { IsInRange (shape tree.now) }
-    requires valid { IsKnownValid (shape tree.now) valid.now }
-    ensures { IfOk result (λ report. string_bytes report ≡ (tree_reply kind (shape tree.now)).report) }
-{
-    match kind {
-        TextCommand::Script => script_report(alloc, tree),
-        TextCommand::Check => check_report(alloc, tree, valid),
-    }
-}
 
 /// The bytes of a tree's Script.
 fn script_bytes(alloc: Global, tree: &Tree) -> Result<Blob, AllocError>
@@ -48,7 +29,7 @@ fn script_bytes(alloc: Global, tree: &Tree) -> Result<Blob, AllocError>
 
 /// The Script in lower-case digits.
 #[tactic(auto, unfolding(def_answer::specs::Report::script_report))]
-fn script_report(alloc: Global, tree: &Tree) -> Result<String, AllocError>
+pub fn script_report(alloc: Global, tree: &Tree) -> Result<String, AllocError>
     requires { IsInRange (shape tree.now) }
     ensures { IfOk result (λ report. string_bytes report ≡ the_script_report (shape tree.now)) }
 {
@@ -59,22 +40,25 @@ fn script_report(alloc: Global, tree: &Tree) -> Result<String, AllocError>
 }
 
 /// The printed form, the type, the Script, its program and the limits.
-#[tactic(auto, unfolding(crate::specs::Answer::valid_report))]
-fn check_report(alloc: Global, tree: &Tree, valid: &Valid) -> Result<String, AllocError>
+pub fn check_report(alloc: Global, tree: &Tree, sane: &Sane) -> Result<String, AllocError>
     requires range { IsInRange (shape tree.now) }
-    requires valid { IsKnownValid (shape tree.now) valid.now }
-    ensures { IfOk result (λ report. string_bytes report ≡ valid_report (shape tree.now)) }
+    requires sane { IsKnownSane (shape tree.now) sane.now }
+    ensures { IfOk result (λ report. string_bytes report ≡ the_check_report (shape tree.now)) }
 {
     let mut report = String::new(alloc);
     push_line(&mut report, "text ", &print_text(alloc, tree)?)?;
-    push_line(&mut report, "type ", &type_letters(alloc, valid.ty)?)?;
+    push_line(
+        &mut report,
+        "type ",
+        &type_letters(alloc, sane.ty, sane.mall)?,
+    )?;
     push_output(alloc, &mut report, script_bytes(alloc, tree)?.as_slice())?;
-    report.push_str(&limits_line(alloc, valid.limits)?)?;
+    report.push_str(&limits_line(alloc, sane.limits)?)?;
     Ok(report)
 }
 
 /// Adds the lines of a Script and of the output that it stands behind.
-fn push_output(alloc: Global, report: &mut String, script: &[u8]) -> Result<(), AllocError>
+pub fn push_output(alloc: Global, report: &mut String, script: &[u8]) -> Result<(), AllocError>
     ensures { OnOk result (string_bytes report.new ≡ string_bytes report.old ++ script_line script.now ++ program_line script.now) }
 {
     push_line(report, "script ", &hex::encode(alloc, script)?)?;
@@ -86,7 +70,7 @@ fn push_output(alloc: Global, report: &mut String, script: &[u8]) -> Result<(), 
 }
 
 /// Adds a line: a name, what it names, and a line feed.
-fn push_line(report: &mut String, name: &str, value: &str) -> Result<(), AllocError>
+pub fn push_line(report: &mut String, name: &str, value: &str) -> Result<(), AllocError>
     ensures { OnOk result (string_bytes report.new ≡ string_bytes report.old ++ line (name.now ++ value.now)) }
 {
     report.push_str(name)?;
@@ -95,8 +79,8 @@ fn push_line(report: &mut String, name: &str, value: &str) -> Result<(), AllocEr
 }
 
 /// The base type's letter, and those of the properties that hold.
-fn type_letters(alloc: Global, ty: Ty) -> Result<String, AllocError>
-    ensures { IfOk result (λ letters. string_bytes letters ≡ the_type_letters ty no_mall) }
+fn type_letters(alloc: Global, ty: Ty, mall: Mall) -> Result<String, AllocError>
+    ensures { IfOk result (λ letters. string_bytes letters ≡ the_type_letters ty mall) }
 {
     let mut letters = String::from_str(alloc, base_letter(ty.base))?;
     push_letter(&mut letters, ty.z, "z")?;
@@ -104,6 +88,9 @@ fn type_letters(alloc: Global, ty: Ty) -> Result<String, AllocError>
     push_letter(&mut letters, ty.n, "n")?;
     push_letter(&mut letters, ty.d, "d")?;
     push_letter(&mut letters, ty.u, "u")?;
+    push_letter(&mut letters, mall.s, "s")?;
+    push_letter(&mut letters, mall.f, "f")?;
+    push_letter(&mut letters, mall.e, "e")?;
     Ok(letters)
 }
 
@@ -118,7 +105,7 @@ fn push_letter(letters: &mut String, holds: bool, name: &str) -> Result<(), Allo
 }
 
 /// The line of a tree's limits.
-fn limits_line(alloc: Global, limits: Limits) -> Result<String, AllocError>
+pub fn limits_line(alloc: Global, limits: Limits) -> Result<String, AllocError>
     ensures { IfOk result (λ text. string_bytes text ≡ the_limits_line limits) }
 {
     let Limits {

@@ -255,3 +255,20 @@ fn a_fault_of_the_source_writes_nothing(rt: HostRuntime) -> Result<(), Fail> {
     assert_eq!(rt; report.as_str(), "accepted ops 0 peak 1\n");
     Ok(())
 }
+
+// The Script of `or_b(pk(A),s:pk(B))`, which takes both signatures, though no satisfaction has two.
+#[test]
+fn both_sides_of_an_or_b_can_sign(rt: HostRuntime) -> Result<(), Fail> {
+    let alloc = rt.alloc();
+    let (a, b) = (key(alloc, "02", "01")?, key(alloc, "02", "be")?);
+    let (of_a, of_b) = (repeated(alloc, "aa", 71)?, repeated(alloc, "bb", 72)?);
+    let script = format!(in alloc; "21{a}ac7c21{b}ac9b")?;
+    let table = format!(in alloc;
+        "\"signatures\":[{{\"key\":\"{a}\",\"sig\":\"{of_a}\"}},{{\"key\":\"{b}\",\"sig\":\"{of_b}\"}}]"
+    )?;
+    let both = format!(in alloc; ",\"witness\":[\"{of_b}\",\"{of_a}\"],{table}")?;
+    let counts = format!(in alloc; "ops 4 peak 3\ncheck {a} {of_a}\ncheck {b} {of_b}")?;
+    is_accepted(&rt, alloc, &script, &both, &counts)?;
+    let twice = format!(in alloc; ",\"witness\":[\"{of_a}\",\"{of_a}\"],{table}")?;
+    is_refused(&rt, alloc, &script, &twice, "NullFail at 4")
+}

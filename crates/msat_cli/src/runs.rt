@@ -1,33 +1,43 @@
 //! What is answered to a run file.
-ghost use Rattle.std.specs.Prelude.{◌≡◌, ◌≢◌, ◌≤◌, ◌++◌, length, IfOk, OnOk};
+ghost use Rattle.std.specs.Prelude.{◌≡◌, ◌≤◌, ◌++◌, ⊤, length, IfOk, OnOk};
 ghost use Rattle.std.specs.String.{string_bytes};
 ghost use Rattle.def_machine.specs.Run.{accepted, refused, run as the_run};
-ghost use Rattle.def_answer.specs.Lines.{file_line as the_file_line};
 ghost use Rattle.def_answer.specs.Reply.{reply, MOST_FILE, outcome_reply, run_reply};
 ghost use Rattle.def_answer.specs.Report.{run_report, check_line};
+ghost use Rattle.ms_io.specs.Faults.{Rose};
+ghost use Rattle.msat_cli.specs.Sides.{side, ReadsFront};
+ghost use Rattle.msat_cli.specs.Steps.{AnswersFile, Ended};
 
-use crate::answer::Answer;
+use crate::answer::{Answer, Stop, or_memory};
+use crate::files::{file_answer, read_file};
 use crate::names::script_fault_name;
 use def_answer::Status;
-use ms_assets::{AssetFault, RunFile, member_name, read_run};
+use ms_assets::{RunFile, read_run};
 use ms_interp::{RunReport, RunStop, ScriptFault, run};
+use ms_io::Source;
 use ms_oracle::{SigCheck, SigPair, member};
 use std::alloc::{AllocError, Global};
 
-pub const FILE_TOO_LONG: &[u8] = b"refused file TooLong\n";
+/// Answers the run of the file that the source holds.
+pub fn answer_run<S: Source>(alloc: Global, source: &mut S) -> Result<Answer, Stop>
+    ensures answer { Ended (AnswersFile run_reply (side S.left S.faults source.old source.new)) (Rose (S.faults source.old) (S.faults source.new)) ⊤ result }
+    ensures later { S.faults source.old ≤ S.faults source.new }
+    ensures front { ReadsFront (S.left source.old) (S.left source.new) }
+{
+    match read_file(alloc, source) {
+        Ok(bytes) => or_memory(run_answer(alloc, &bytes)),
+        Err(stop) => Err(stop),
+    }
+}
 
 /// The answer to a run file of these bytes: the file's refusal, or what its run came to.
-pub fn run_answer(alloc: Global, bytes: &[u8]) -> Result<Answer, AllocError>
+fn run_answer(alloc: Global, bytes: &[u8]) -> Result<Answer, AllocError>
     requires { length bytes.now ≤ MOST_FILE }
     ensures { IfOk result (λ answer. reply answer.status (string_bytes answer.report) ≡ run_reply bytes.now) }
 {
     match read_run(alloc, bytes) {
         Ok(file) => outcome_answer(alloc, &file),
-        Err(AssetFault::Memory) => Err(AllocError),
-        Err(fault) => Ok(Answer {
-            status: Status::FileRefused,
-            report: file_line(alloc, fault)?,
-        }),
+        Err(fault) => file_answer(alloc, fault),
     }
 }
 
@@ -93,36 +103,4 @@ fn push_check(alloc: Global, text: &mut String, pair: &SigPair) -> Result<(), Al
     text.push(' ')?;
     text.push_str(&sig)?;
     text.push('\n')
-}
-
-/// The line of a file's refusal.
-fn file_line(alloc: Global, fault: AssetFault) -> Result<String, AllocError>
-    ensures { IfOk result (λ line. string_bytes line ≡ the_file_line fault) }
-{
-    match fault {
-        AssetFault::NotJson => String::from_str(alloc, "refused file NotJson\n"),
-        AssetFault::Shape(member) => {
-            let name = member_name(member);
-            format!(in alloc; "refused file Shape {name}\n")
-        }
-        AssetFault::Number(member) => {
-            let name = member_name(member);
-            format!(in alloc; "refused file Number {name}\n")
-        }
-        AssetFault::Hex(member, place) => {
-            let name = member_name(member);
-            format!(in alloc; "refused file Hex {name} {place}\n")
-        }
-        AssetFault::KeyForm(place) => format!(in alloc; "refused file KeyForm {place}\n"),
-        AssetFault::SigLength(place) => format!(in alloc; "refused file SigLength {place}\n"),
-        AssetFault::PreimageLength(place) => {
-            format!(in alloc; "refused file PreimageLength {place}\n")
-        }
-        AssetFault::TooMany(member) => {
-            let name = member_name(member);
-            format!(in alloc; "refused file TooMany {name}\n")
-        }
-        AssetFault::RepeatedKey(place) => format!(in alloc; "refused file RepeatedKey {place}\n"),
-        AssetFault::Memory => Err(AllocError),
-    }
 }

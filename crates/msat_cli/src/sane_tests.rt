@@ -3,9 +3,9 @@ ghost use Rattle.std.specs.Prelude.{IfOk};
 ghost use Rattle.def_tree.specs.Range.{IsInRange};
 ghost use Rattle.ms_tree.specs.Shape.{shape};
 
-use crate::answer::unfit_line;
 use crate::names::{base_letter, rule_name};
 use crate::tests::{KEY_B, key, repeated};
+use crate::texts::unfit_line;
 use ms_sane::{Limits, Sane, Work, check_sane, mix};
 use ms_text::{TextTree, read_text};
 use ms_types::mall;

@@ -128,7 +128,7 @@ fn a_key_is_checked(rt: HostRuntime) -> Result<(), Fail> {
     let alloc = rt.alloc();
     let text = format!(in alloc; "pk({KEY_B})")?;
     let wanted = format!(in alloc;
-        "text c:pk_k({KEY_B})\ntype Bondu\nscript 21{KEY_B}ac\n\
+        "text c:pk_k({KEY_B})\ntype Bonduse\nscript 21{KEY_B}ac\n\
         program 00201863143c14c5166804bd19203356da136c985678cd4d27a1b8c6329604903262\n\
         limits size 35 ops 1 items 1 weight 74\n"
     )?;
@@ -142,7 +142,7 @@ fn a_chain_is_checked(rt: HostRuntime) -> Result<(), Fail> {
     let text = format!(in alloc; "and_v(v:and_v(v:pk({a}),pk({KEY_B})),pk({c}))")?;
     let printed = format!(in alloc; "and_v(v:and_v(vc:pk_k({a}),c:pk_k({KEY_B})),c:pk_k({c}))")?;
     let wanted = format!(in alloc;
-        "text {printed}\ntype Bnu\nscript 21{a}ad21{KEY_B}ad21{c}ac\n\
+        "text {printed}\ntype Bnusf\nscript 21{a}ad21{KEY_B}ad21{c}ac\n\
         program 00207a9b398521487a097172611af6e3c75c21ade0e69e498e7d8eedb71fac23a5cc\n\
         limits size 105 ops 3 items 3 weight 222\n"
     )?;
@@ -150,11 +150,56 @@ fn a_chain_is_checked(rt: HostRuntime) -> Result<(), Fail> {
 }
 
 #[test]
-fn one_is_checked(rt: HostRuntime) -> Result<(), Fail> {
-    let wanted = "text 1\ntype Bzu\nscript 51\n\
-        program 00204ae81572f06e1b88fd5ced7a1a000945432e83e1551e6f721ee9c00b8cc33260\n\
+fn zero_is_checked(rt: HostRuntime) -> Result<(), Fail> {
+    let wanted = "text 0\ntype Bzduse\nscript 00\n\
+        program 00206e340b9cffb37a989ca544e6bb780a2c78901d3fb33738768511a30617afa01d\n\
         limits size 1 ops 0 items 0 weight 0\n";
-    is_checked(&rt, rt.alloc(), "1", wanted)
+    is_checked(&rt, rt.alloc(), "0", wanted)
+}
+
+#[test]
+fn locks_of_two_branches_are_checked(rt: HostRuntime) -> Result<(), Fail> {
+    let alloc = rt.alloc();
+    let a = key(alloc, "02", "01")?;
+    let text = format!(in alloc;
+        "and_v(v:pk({a}),or_i(and_v(v:pk({KEY_B}),older(10)),older(4194314)))"
+    )?;
+    let wanted = format!(in alloc;
+        "text and_v(vc:pk_k({a}),or_i(and_v(vc:pk_k({KEY_B}),older(10)),older(4194314)))\n\
+        type Bnsf\nscript 21{a}ad6321{KEY_B}ad5ab267030a0040b268\n\
+        program 0020110861cc4dc7523ee12dfca75787aa7449c5c1e6c4d5dce495435dc09324b859\n\
+        limits size 80 ops 7 items 3 weight 150\n"
+    )?;
+    is_checked(&rt, alloc, &text, &wanted)
+}
+
+#[test]
+fn valid_texts_that_are_not_sane_are_refused(rt: HostRuntime) -> Result<(), Fail> {
+    let alloc = rt.alloc();
+    let a = key(alloc, "02", "01")?;
+    let hash = repeated(alloc, "11", 32)?;
+    let branches = format!(in alloc; "or_b(sha256({hash}),s:pk({a}))")?;
+    let threshold = format!(in alloc; "thresh(1,sha256({hash}),s:pk({a}))")?;
+    let locks = format!(in alloc; "and_v(v:pk({a}),and_b(older(10),a:older(4194314)))")?;
+    let twice = format!(in alloc; "and_v(v:pk({a}),pkh({a}))")?;
+    let cases: [(&str, &str); 5] = [
+        (&branches, "Malleable OrBE at 0"),
+        (&threshold, "Malleable ThreshE at 0"),
+        ("1", "NoSignature"),
+        (&locks, "MixedLocks at 79"),
+        (&twice, "RepeatedKey at 79"),
+    ];
+    for (text, refusal) in cases {
+        let wanted = format!(in alloc; "refused text {refusal}\n")?;
+        for command in ["check", "satisfy"] {
+            let (status, report) = answer(alloc, &[command, text])?;
+            assert_eq!(rt; status, Status::TextRefused);
+            assert_eq!(rt; report.as_str(), wanted.as_str());
+        }
+        let (status, _) = answer(alloc, &["script", text])?;
+        assert_eq!(rt; status, Status::Done);
+    }
+    Ok(())
 }
 
 /// Adds a new key. `next` is its number, and then that of the next one.
@@ -268,13 +313,19 @@ fn a_tree_is_read_from_any_text(rt: HostRuntime) -> Result<(), Fail> {
     Ok(())
 }
 
-/// Asks for the Script of each text, and whether it is valid, and compares what follows the words
-/// `refused text`.
+/// Asks for the Script of each text, whether it is sane, and for its satisfactions, and compares what follows the
+/// words `refused text`.
 fn are_refused(rt: &impl Abort, alloc: Global, cases: &[(&str, &str)]) -> Result<(), Fail> {
     for &(text, refusal) in cases {
         let wanted = format!(in alloc; "refused text {refusal}\n")?;
-        for command in ["script", "check"] {
-            let (status, report) = answer(alloc, &[command, text])?;
+        let forms: [&[&str]; 4] = [
+            &["script", text],
+            &["check", text],
+            &["satisfy", text],
+            &["satisfy", "--malleable", text],
+        ];
+        for words in forms {
+            let (status, report) = answer(alloc, words)?;
             assert_eq!(rt; status, Status::TextRefused);
             assert_eq!(rt; report.as_str(), wanted.as_str());
         }
@@ -423,9 +474,19 @@ fn refused_texts_have_their_places(rt: HostRuntime) -> Result<(), Fail> {
 #[test]
 fn other_words_are_refused(rt: HostRuntime) -> Result<(), Fail> {
     let alloc = rt.alloc();
-    let cases: [&[&str]; 7] = [
+    let cases: [&[&str]; 17] = [
         &[],
         &["script"],
+        &["satisfy"],
+        &["satisfy", "--cheapest", "0"],
+        &["satisfy", "--malleable", "0", "0"],
+        &["check", "--malleable", "0"],
+        &["gen"],
+        &["gen", "0"],
+        &["gen", "31"],
+        &["gen", "05"],
+        &["gen", "+4"],
+        &["gen", "4", "4"],
         &["run", "x"],
         &["Run"],
         &["script", "a", "b"],

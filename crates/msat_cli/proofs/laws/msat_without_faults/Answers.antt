@@ -1,7 +1,7 @@
-use Rattle.std.proofs.Common.{arith}
-use Rattle.msat_cli.proofs.AnswerLemmas.{unless_fault}
+use Rattle.std.proofs.Common.{inr, refl, arith}
+use Rattle.msat_cli.proofs.EndLemmas.{unless_fault}
 use Rattle.msat_cli.proofs.laws.msat_without_faults.Goals as goal
 
-pub returns-clause-text : goal.returns-clause-text
-returns-clause-text c kind text reading is has =
-    unless_fault _ _ (λ fault. omega (arith, c.msat.ensures.fault fault)) (c.msat.ensures.text kind text reading is has)
+pub returns-clause-answered : goal.returns-clause-answered
+returns-clause-answered c s report answer =
+    unless_fault s c.msat.result _ _ (λ rose. omega (arith, rose)) (λ rose. omega (arith, rose)) (c.msat.ensures.answered _ s report (inr refl) answer)

@@ -1,34 +1,59 @@
-use Rattle.std.proofs.Common.{inl, refl, sym, subst, ◌∙◌}
-use Rattle.std.proofs.lemmas.Bool.{true≢false}
-use Rattle.std.specs.Str.{IsUtf8}
-use Rattle.msat_cli.specs.Answer.{HasNoForm}
-use Rattle.msat_cli.proofs.AnswerLemmas.{ends_with, fault_rose, read_fault_rose, same_text, text_ends, none_read}
+use Rattle.msat_cli.specs.Sides.{side}
+use Rattle.msat_cli.specs.Ends.{Call, call}
+use Rattle.msat_cli.proofs.EndLemmas.{ends, ends_as_usage, ends_as_answered, fault_rose, read_fault_rose, tells_nothing, was_read}
+use Rattle.msat_cli.proofs.SatisfactionLemmas.{finds_where_one_exists, shows_canonical, shows_witness, shows_accepted, shows_non_malleable, finds_nothing_to_accept, shows_lightest}
+use Rattle.msat_cli.proofs.RefusalLemmas.{refuses_other_texts}
+use Rattle.msat_cli.proofs.program.msat.Given.{Over}
 use Rattle.msat_cli.proofs.program.msat.Goals as goal
 
-pub returns-then-is_run-clause-end : goal.returns-then-is_run-clause-end
-returns-then-is_run-clause-end g c = rw (c.is_run.ensures.0 c.if-is_run.true) c.answer_run.ensures.end
+-- the call, as the clauses see it
+abbrev this : (g : Over) → goal.After-write_answer g → Call
+this g c =
+    call c.args.words.now (side g.S.Source.left g.S.Source.faults c.args.source.now c.answer_words-answer.new.source)
+    (side g.K.Sink.written g.K.Sink.faults c.args.sink.now c.write_answer.new.sink) c.write_answer.result
 
-pub returns-in-Some-clause-end : goal.returns-in-Some-clause-end
-returns-in-Some-clause-end g c = rw c.in-Some.ensures.form (c.answer_text.ensures.end _)
+pub returns-clause-end : goal.returns-clause-end
+returns-clause-end g c = ends (this g c) c.answer_words-answer.result c.answer_words-answer.ensures.answer c.write_answer.ensures.end
 
-pub returns-in-Some-clause-text : goal.returns-in-Some-clause-text
-returns-in-Some-clause-text g c kind text reading is has =
-    text_ends c.args.words.now _ _ _ (returns-in-Some-clause-end g c) kind text reading
-    (subst IsUtf8 (same_text _ _ _ _ _ c.in-Some.ensures.form is) c.in-Some.ensures.utf8) is has
+pub returns-clause-usage : goal.returns-clause-usage
+returns-clause-usage g c = ends_as_usage (this g c) (returns-clause-end g c)
 
-pub returns-in-Some-clause-fault : goal.returns-in-Some-clause-fault
-returns-in-Some-clause-fault g c = fault_rose c.args.words.now _ _ _ (returns-in-Some-clause-end g c)
+pub returns-clause-answered : goal.returns-clause-answered
+returns-clause-answered g c = ends_as_answered (this g c) c.answer_words-answer.ensures.utf8 (returns-clause-end g c)
 
-pub returns-in-Some-clause-read_fault : goal.returns-in-Some-clause-read_fault
-returns-in-Some-clause-read_fault g c = read_fault_rose c.args.words.now _ _ _ (returns-in-Some-clause-end g c)
+pub returns-clause-read_fault : goal.returns-clause-read_fault
+returns-clause-read_fault g c = read_fault_rose (this g c) (returns-clause-end g c)
 
-pub returns-in-None-clause-end : goal.returns-in-None-clause-end
-returns-in-None-clause-end g c =
-    let none : HasNoForm c.args.words.now = record { no_text = c.in-None.ensures.form; no_run = λ is. true≢false (sym (c.is_run.ensures.1 is) ∙ c.if-is_run.false) } in
-    ends_with _ _ _ _ _ _ (inl (none, refl, refl)) c.write.ensures.end
+pub returns-clause-write_fault : goal.returns-clause-write_fault
+returns-clause-write_fault g c = fault_rose (this g c) (returns-clause-end g c)
 
-pub returns-in-Some-clause-front : goal.returns-in-Some-clause-front
-returns-in-Some-clause-front g c = none_read _
+pub returns-clause-read : goal.returns-clause-read
+returns-clause-read g c =
+    was_read (this g c) c.answer_words-answer.result c.answer_words-answer.ensures.utf8 c.answer_words-answer.ensures.answer c.write_answer.ensures.end
 
-pub returns-in-None-clause-front : goal.returns-in-None-clause-front
-returns-in-None-clause-front g c = none_read _
+pub returns-clause-without_source : goal.returns-clause-without_source
+returns-clause-without_source g c = tells_nothing (this g c) (returns-clause-end g c)
+
+pub returns-clause-exists : goal.returns-clause-exists
+returns-clause-exists g c = finds_where_one_exists (this g c) c.answer_words-answer.ensures.utf8 (returns-clause-end g c)
+
+pub returns-clause-canonical : goal.returns-clause-canonical
+returns-clause-canonical g c = shows_canonical (this g c) c.answer_words-answer.ensures.utf8 (returns-clause-end g c)
+
+pub returns-clause-witness : goal.returns-clause-witness
+returns-clause-witness g c = shows_witness (this g c) c.answer_words-answer.ensures.utf8 (returns-clause-end g c)
+
+pub returns-clause-accepted : goal.returns-clause-accepted
+returns-clause-accepted g c = shows_accepted (this g c) c.answer_words-answer.ensures.utf8 (returns-clause-end g c)
+
+pub returns-clause-non_malleable : goal.returns-clause-non_malleable
+returns-clause-non_malleable g c = shows_non_malleable (this g c) c.answer_words-answer.ensures.utf8 (returns-clause-end g c)
+
+pub returns-clause-nothing : goal.returns-clause-nothing
+returns-clause-nothing g c = finds_nothing_to_accept (this g c) c.answer_words-answer.ensures.utf8 (returns-clause-end g c)
+
+pub returns-clause-other_texts : goal.returns-clause-other_texts
+returns-clause-other_texts g c = refuses_other_texts (this g c) c.answer_words-answer.ensures.utf8 (returns-clause-end g c)
+
+pub returns-clause-lightest : goal.returns-clause-lightest
+returns-clause-lightest g c = shows_lightest (this g c) c.answer_words-answer.ensures.utf8 (returns-clause-end g c)

@@ -1,11 +1,11 @@
 use Rattle.std.proofs.Common.{◌∙◌}
 use Rattle.ms_tree.specs.Shape.{shape}
-use Rattle.msat_cli.proofs.ReportLemmas.{valid_lines}
+use Rattle.msat_cli.proofs.ReportLemmas.{sane_lines}
 use Rattle.msat_cli.proofs.report.check_report.Goals as goal
 
 pub returns : goal.returns
 returns c =
-    valid_lines (shape c.args.tree.now) c.args.valid.now _ _ _ _ _ _ _ _ _ c.requires.valid
+    sane_lines (shape c.args.tree.now) c.args.sane.now _ _ _ _ _ _ _ _ _ c.requires.sane
     (c.deref.ensures ∙ c.in_ok-print_text.ensures.printed) (c.deref-2.ensures ∙ c.in_ok-type_letters.ensures)
     (c.as_slice-2.ensures ∙ c.in_ok-script_bytes.ensures) (c.deref-3.ensures ∙ c.in_ok-limits_line.ensures)
     c.new-report.ensures.bytes c.in_ok-push_line.ensures c.in_ok-push_line-2.ensures c.in_ok-push_output.ensures c.in_ok-push_str.ensures.bytes

@@ -1,0 +1,121 @@
+-- How a call of `msat` ends.
+use Rattle.std.specs.Prelude.{◌≡◌, ◌⊎◌, ℕ, ◌≤◌, ⊤, List, length, Option, None, Some}
+use Rattle.std.specs.Io.KnownBytes.{Appends, IsAtEnd, Keeps}
+use Rattle.def_script.specs.Bytes.{Bytes}
+use Rattle.def_text.specs.Refusal.{MOST_BYTES}
+use Rattle.ms_io.specs.Faults.{Rose}
+use Rattle.ms_io.specs.Moves.{AppendsPrefix}
+use Rattle.def_answer.specs.declared.status.Status.{Status}
+use Rattle.def_answer.specs.declared.status.Status.TheVariants as status
+use Rattle.def_answer.specs.Answer.{Answer}
+use Rattle.def_answer.specs.Reply.{MOST_FILE}
+use Rattle.def_answer.specs.Sources.{ReadsSource}
+use Rattle.def_answer.specs.Words.{Command, script, check, satisfy, satisfy_malleable, run, gen, IsForm, HasNoForm}
+use Rattle.msat_cli.specs.Sides.{Side, AreTold}
+
+-- the words of a call, what it did to the source and to the sink, and its status
+pub record Call : Type 0 where
+  pub words : List Bytes
+  pub source : Side
+  pub sink : Side
+  pub status : Status
+
+abbrev pub call : (words : List Bytes) → (source sink : Side) → Status → Call
+call words source sink status = record { words = words; source = source; sink = sink; status = status }
+
+-- ---- how it ends
+
+-- the answer to the words and to the bytes that the source held
+abbrev pub HasAnswer : (words : List Bytes) → (source : Side) → Status → (report : Bytes) → Type 0
+HasAnswer words source status report = (bytes : Bytes) × AreTold source.old bytes × Answer words bytes status report
+
+-- the answer's report was written whole
+abbrev pub WritesAnswer : Call → Type 0
+WritesAnswer call =
+    (report : Bytes) × HasAnswer call.words call.source call.status report
+    × Appends call.sink.old call.sink.new report
+
+-- the sink failed, and its count of faults rose: a prefix of the answer's report was written
+abbrev pub WritesPrefix : Call → Type 0
+WritesPrefix call =
+    (call.status ≡ status.WriteFault) × Rose call.sink.before call.sink.now
+    × ((answer : Status) × (report : Bytes) × HasAnswer call.words call.source answer report
+    × AppendsPrefix call.sink.old call.sink.new report)
+
+-- the source failed, and its count of faults rose: nothing was written, and the words are such that read it
+abbrev pub FailsToRead : Call → Type 0
+FailsToRead call =
+    (call.status ≡ status.ReadFault) × Rose call.source.before call.source.now
+    × Keeps call.sink.old call.sink.new × ReadsSource call.words
+
+-- the TEXT of the command, where it has one, isn't too long
+abbrev pub HasShortText : Command → Type 0
+HasShortText (script text) = length text ≤ MOST_BYTES
+HasShortText (check text) = length text ≤ MOST_BYTES
+HasShortText (satisfy text) = length text ≤ MOST_BYTES
+HasShortText (satisfy_malleable text) = length text ≤ MOST_BYTES
+HasShortText run = ⊤
+HasShortText (gen n) = ⊤
+
+-- the words have a form, and their TEXT isn't too long
+abbrev pub TakesMemory : (words : List Bytes) → Type 0
+TakesMemory words = (command : Command) × IsForm words command × HasShortText command
+
+-- memory was wanting: nothing was written
+abbrev pub WantsMemory : Call → Type 0
+WantsMemory call =
+    (call.status ≡ status.Memory) × Keeps call.sink.old call.sink.new × TakesMemory call.words
+
+abbrev pub Ends : Call → Type 0
+Ends call = WritesAnswer call ⊎ (WritesPrefix call ⊎ (FailsToRead call ⊎ WantsMemory call))
+
+-- ---- which status comes
+
+-- memory was wanting, or a fault came, which was counted
+abbrev pub IsFault : Status → (source sink : Side) → Type 0
+IsFault status.Done source sink = ⊥
+IsFault status.Usage source sink = ⊥
+IsFault status.TextRefused source sink = ⊥
+IsFault status.FileRefused source sink = ⊥
+IsFault status.NoSatisfaction source sink = ⊥
+IsFault status.ReadFault source sink = Rose source.before source.now
+IsFault status.WriteFault source sink = Rose sink.before sink.now
+IsFault status.Memory source sink = ⊤
+IsFault status.ScriptRefused source sink = ⊥
+
+-- with this status, unless memory was wanting or a fault came
+abbrev pub EndsAs : Status → Call → Type 0
+EndsAs wanted call = (call.status ≡ wanted) ⊎ IsFault call.status call.source call.sink
+
+-- words without a form are refused, whatever memory there is
+abbrev pub EndsAsUsage : Call → Type 0
+EndsAsUsage call =
+    HasNoForm call.words →
+    (call.status ≡ status.Usage) ⊎ ((call.status ≡ status.WriteFault) × Rose call.sink.before call.sink.now)
+
+-- the call ends with the answer's status: of words that don't read the source whatever it holds, and of others
+-- where it tells what it holds
+abbrev pub EndsAsAnswered : Call → Type 0
+EndsAsAnswered call =
+    (bytes : Bytes) (s : Status) (report : Bytes) →
+    (¬ ReadsSource call.words) ⊎ (call.source.old ≡ Some bytes) →
+    Answer call.words bytes s report → EndsAs s call
+
+-- ---- what is read
+
+-- the source tells a file that isn't too long
+abbrev pub TellsShortFile : Option Bytes → Type 0
+TellsShortFile None = ⊥
+TellsShortFile (Some bytes) = length bytes ≤ MOST_FILE
+
+-- the source was read to its end, for a refusal of the file unless it is too long
+abbrev pub IsReadFor : Status → (source : Side) → Type 0
+IsReadFor status.Done source = IsAtEnd source.new
+IsReadFor status.Usage source = ⊤
+IsReadFor status.TextRefused source = ⊤
+IsReadFor status.FileRefused source = TellsShortFile source.old → IsAtEnd source.new
+IsReadFor status.NoSatisfaction source = IsAtEnd source.new
+IsReadFor status.ReadFault source = ⊤
+IsReadFor status.WriteFault source = ⊤
+IsReadFor status.Memory source = ⊤
+IsReadFor status.ScriptRefused source = IsAtEnd source.new

@@ -1,0 +1,158 @@
+-- What a call of `msat` for `satisfy TEXT` or `satisfy --malleable TEXT` shows of a satisfaction.
+use Rattle.std.specs.Prelude.{◌≡◌, ◌≢◌, ◌⊎◌, ℕ, ◌≤◌, ◌∷◌, ◌++◌, List, length, flat_map, codes, decimal, None, Some, Ok}
+use Rattle.std.specs.Io.KnownBytes.{Appends}
+use Rattle.hex.specs.Hex.{encode_lower}
+use Rattle.def_hash.specs.Hash.{sha256}
+use Rattle.def_script.specs.Bytes.{Bytes}
+use Rattle.def_script.specs.Witness.{witness_text}
+use Rattle.def_machine.specs.Stacks.{Pairs}
+use Rattle.def_machine.specs.Run.{run, accepted}
+use Rattle.def_tree.specs.Tree.{Tree}
+use Rattle.def_emit.specs.Emit.{script_of}
+use Rattle.def_text.specs.declared.TextFault.{TextFault}
+use Rattle.def_text.specs.declared.TextFault.TheVariants.{Memory}
+use Rattle.def_text.specs.Refusal.{TextReads, TextRefusal}
+use Rattle.def_sane.specs.declared.Unfit.{Unfit}
+use Rattle.def_assets.specs.Assets.{Assets}
+use Rattle.def_files.specs.AssetFile.{assets_of}
+use Rattle.def_sane.specs.Most.{limits_of}
+use Rattle.def_satisfaction.specs.Weight.{weight}
+use Rattle.def_satisfaction.specs.Satisfaction.{given_of, Sat, Holds}
+use Rattle.def_choice.specs.NonMalleable.{IsAccepted, Fresh, NonMalleable, given_with}
+use Rattle.def_promises.specs.Acceptance.{IsAcceptedWithin}
+use Rattle.def_promises.specs.Promises.{HasUnknownPreimage, HasOtherKey}
+use Rattle.def_answer.specs.declared.status.Status.TheVariants as status
+use Rattle.def_answer.specs.Lines.{line, limits_line, text_line, unfit_line}
+use Rattle.def_answer.specs.Report.{item_line, satisfy_report}
+use Rattle.def_answer.specs.Reply.{MOST_FILE}
+use Rattle.def_answer.specs.Words.{IsForm}
+use Rattle.msat_cli.specs.declared.words.Choice.{Choice}
+use Rattle.msat_cli.specs.declared.words.Choice.TheVariants as choice
+use Rattle.msat_cli.specs.Steps.{satisfy_by, reason_by, chosen_by}
+use Rattle.msat_cli.specs.Sides.{Side}
+use Rattle.msat_cli.specs.Ends.{Call, EndsAs}
+
+-- ---- what is asked, and what is shown
+
+-- the words ask for a satisfaction of a text, which is read as this tree against which there is no reason; and the
+-- source tells an asset file, which is read as these assets
+pub record IsAsked (choice : Choice) (call : Call) (tree : Tree) (assets : Assets) : Type 0 where
+  pub text : Bytes
+  pub form : IsForm call.words (satisfy_by choice text)
+  pub offsets : List ℕ
+  pub reads : TextReads text tree offsets
+  pub fit : reason_by choice tree ≡ None
+  pub bytes : Bytes
+  pub told : call.source.old ≡ Some bytes
+  pub short : length bytes ≤ MOST_FILE
+  pub file : assets_of bytes ≡ Ok assets
+
+-- the stack is the one that is chosen, and its report was written whole
+pub record Shows (choice : Choice) (call : Call) (tree : Tree) (assets : Assets) (stack : List Bytes) : Type 0 where
+  pub chosen : chosen_by choice tree assets ≡ Some stack
+  pub written : Appends call.sink.old call.sink.new (satisfy_report tree assets stack)
+
+-- a call that was asked for a satisfaction and is done shows a stack, of which this holds
+abbrev pub ShowsSuch : (choice : Choice) → Call → (Tree → Assets → List Bytes → Type 0) → Type 0
+ShowsSuch choice call P =
+    (tree : Tree) (assets : Assets) → IsAsked choice call tree assets → call.status ≡ status.Done →
+    (stack : List Bytes) × Shows choice call tree assets stack × P tree assets stack
+
+-- ---- other texts are refused
+
+-- faults and want of memory aside, the text is refused, and this line was written
+pub record RefusesText (call : Call) (refusal : Bytes) : Type 0 where
+  pub ends : EndsAs status.TextRefused call
+  pub written : call.status ≡ status.TextRefused → Appends call.sink.old call.sink.new refusal
+
+-- by its place, or by the first reason against its tree
+abbrev pub RefusesOtherTexts : Call → Type 0
+RefusesOtherTexts call =
+    (choice : Choice) (text : Bytes) → IsForm call.words (satisfy_by choice text) →
+    ((fault : TextFault) → fault ≢ Memory → TextRefusal text fault → RefusesText call (text_line fault))
+    × ((tree : Tree) (offsets : List ℕ) (unfit : Unfit) → TextReads text tree offsets → reason_by choice tree ≡ Some unfit →
+    RefusesText call (unfit_line offsets unfit))
+
+-- ---- exactly where one exists
+
+-- faults and want of memory aside, the call is done exactly where a canonical satisfaction exists, and ends with
+-- the other status exactly where none does
+pub record IsExact (call : Call) (tree : Tree) (assets : Assets) : Type 0 where
+  pub where_some : (stack : List Bytes) → Sat tree assets stack → EndsAs status.Done call
+  pub where_none : ((stack : List Bytes) → ¬ Sat tree assets stack) → EndsAs status.NoSatisfaction call
+  pub some : call.status ≡ status.Done → (stack : List Bytes) × Sat tree assets stack
+  pub none : call.status ≡ status.NoSatisfaction → (stack : List Bytes) → ¬ Sat tree assets stack
+
+abbrev pub FindsWhereOneExists : Call → Type 0
+FindsWhereOneExists call =
+    (choice : Choice) (tree : Tree) (assets : Assets) → IsAsked choice call tree assets → IsExact call tree assets
+
+-- ---- what is shown is a canonical satisfaction, as a witness
+
+abbrev pub ShowsCanonical : Call → Type 0
+ShowsCanonical call = (choice : Choice) → ShowsSuch choice call Sat
+
+-- what the sink got: the Script, its program, the limits, the items, the witness of them and of the Script, and the
+-- counts of the run of it under the assets' own signatures, which is accepted
+pub record Prints (sink : Side) (tree : Tree) (assets : Assets) (stack : List Bytes) : Type 0 where
+  pub ops : ℕ
+  pub peak : ℕ
+  pub checks : Pairs
+  pub run : run (given_of assets) (script_of tree) stack ≡ accepted ops peak checks
+  pub written : Appends sink.old sink.new (
+      line (codes "script " ++ encode_lower (script_of tree))
+      ++ line (codes "program " ++ encode_lower (0x00 ∷ 0x20 ∷ sha256 (script_of tree)))
+      ++ limits_line (limits_of tree)
+      ++ flat_map item_line stack
+      ++ line (codes "witness " ++ encode_lower (witness_text stack (script_of tree)))
+      ++ line (codes "replay ops " ++ decimal ops ++ codes " items " ++ decimal (length stack)
+      ++ codes " weight " ++ decimal (weight stack) ++ codes " peak " ++ decimal peak))
+
+abbrev pub ShowsWitness : Call → Type 0
+ShowsWitness call = (choice : Choice) → ShowsSuch choice call (Prints call.sink)
+
+-- ---- the interpreter accepts it
+
+-- under every table that holds the assets' signatures, within the printed limits
+pub record IsAcceptedByAll (tree : Tree) (assets : Assets) (stack : List Bytes) : Type 0 where
+  pub size : length (script_of tree) ≡ (limits_of tree).size
+  pub within : (table : Pairs) → Holds table assets → IsAcceptedWithin tree (limits_of tree) (given_with assets table) stack
+
+abbrev pub ShowsAccepted : Call → Type 0
+ShowsAccepted call = (choice : Choice) → ShowsSuch choice call IsAcceptedByAll
+
+-- ---- nobody can change it
+
+-- a fresh stack has an unknown preimage, or another key with the same hash
+abbrev pub FreshOnesHaveItem : Tree → Assets → Type 0
+FreshOnesHaveItem tree assets =
+    (table : Pairs) (stack : List Bytes) → Fresh tree assets table stack →
+    HasUnknownPreimage tree assets stack ⊎ HasOtherKey tree stack
+
+-- every other stack that is accepted passes a check that this one doesn't, or is fresh
+abbrev pub IsUnchangeable : Tree → Assets → (stack : List Bytes) → Type 0
+IsUnchangeable tree assets stack = NonMalleable tree assets stack × FreshOnesHaveItem tree assets
+
+abbrev pub ShowsNonMalleable : Call → Type 0
+ShowsNonMalleable call = ShowsSuch choice.Strict call IsUnchangeable
+
+-- where there is none, what is accepted under the assets' own signatures is fresh
+pub record NothingToAccept (tree : Tree) (assets : Assets) : Type 0 where
+  pub none : (stack : List Bytes) → ¬ Sat tree assets stack
+  pub accepted : (stack : List Bytes) (checks : Pairs) → IsAccepted tree (given_with assets assets.pairs) stack checks →
+      Fresh tree assets assets.pairs stack
+  pub fresh : FreshOnesHaveItem tree assets
+
+abbrev pub FindsNothingToAccept : Call → Type 0
+FindsNothingToAccept call =
+    (tree : Tree) (assets : Assets) → IsAsked choice.Strict call tree assets → call.status ≡ status.NoSatisfaction →
+    NothingToAccept tree assets
+
+-- ---- it is the lightest
+
+-- no canonical satisfaction weighs less
+abbrev pub WeighsLeast : Tree → Assets → (stack : List Bytes) → Type 0
+WeighsLeast tree assets stack = (other : List Bytes) → Sat tree assets other → weight stack ≤ weight other
+
+abbrev pub ShowsLightest : Call → Type 0
+ShowsLightest call = ShowsSuch choice.Cheapest call WeighsLeast

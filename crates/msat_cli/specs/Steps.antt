@@ -1,0 +1,188 @@
+-- The steps on the way to an answer: what the words ask for, the reasons against a tree, and what a step answers.
+use Rattle.std.specs.Prelude.{◌≡◌, ◌≢◌, ℕ, ◌<◌, length, List, ⊤, IsUtf8, Option, None, Result, Ok, Err, ◌⊎◌}
+use Rattle.std.specs.Io.KnownBytes.{Appends, Keeps}
+use Rattle.std.specs.String.{string_bytes}
+use Rattle.def_script.specs.Bytes.{Bytes}
+use Rattle.def_tree.specs.Tree.{Tree}
+use Rattle.def_text.specs.declared.TextFault.{TextFault}
+use Rattle.def_text.specs.declared.TextFault.TheVariants as text_fault
+use Rattle.def_sane.specs.declared.Unfit.{Unfit}
+use Rattle.def_sane.specs.Unfit.{first_unfit, first_unfit_valid}
+use Rattle.def_assets.specs.Assets.{Assets}
+use Rattle.def_choice.specs.Cheapest.{cheapest}
+use Rattle.def_choice.specs.Strict.{strict}
+use Rattle.ms_io.specs.Faults.{Rose}
+use Rattle.ms_io.specs.Moves.{AppendsPrefix}
+use Rattle.def_answer.specs.declared.status.Status.{Status}
+use Rattle.def_answer.specs.declared.status.Status.TheVariants as status
+use Rattle.def_answer.specs.Answer.{script_reply, check_reply, Replies}
+use Rattle.def_answer.specs.Lines.{usage_line, text_line, file_too_long_line}
+use Rattle.def_answer.specs.Reply.{Reply, reply, usage_reply, unless_unfit, MOST_FILE, satisfy_reply}
+use Rattle.def_answer.specs.Sources.{NeedsSource, ReadsSource}
+use Rattle.def_answer.specs.Words.{Command, script, check, satisfy, satisfy_malleable, run, gen, IsForm, HasNoForm}
+use Rattle.msat_cli.specs.declared.answer.Answer.{Answer}
+use Rattle.msat_cli.specs.declared.answer.Stop.{Stop}
+use Rattle.msat_cli.specs.declared.answer.Stop.TheVariants as stop
+use Rattle.msat_cli.specs.declared.words.Choice.{Choice}
+use Rattle.msat_cli.specs.declared.words.Choice.TheVariants as choice
+use Rattle.msat_cli.specs.declared.words.TextCommand.{TextCommand}
+use Rattle.msat_cli.specs.declared.words.TextCommand.TheVariants as kind
+use Rattle.msat_cli.specs.declared.words.Command.{Command as Asked}
+use Rattle.msat_cli.specs.declared.words.Command.TheVariants as asked
+use Rattle.msat_cli.specs.Sides.{Side, IsUnread, Held}
+
+-- ---- what the words ask for
+
+-- the satisfaction of a TEXT that is chosen so
+abbrev pub satisfy_by : Choice → (text : Bytes) → Command
+satisfy_by choice.Strict = satisfy
+satisfy_by choice.Cheapest = satisfy_malleable
+
+-- the command with its TEXT
+abbrev pub command_of : TextCommand → (text : Bytes) → Command
+command_of kind.Script = script
+command_of kind.Check = check
+command_of (kind.Satisfy choice) = satisfy_by choice
+
+abbrev pub seen : Asked → Command
+seen (asked.Text kind text) = command_of kind text.now
+seen asked.Run = run
+seen (asked.Gen n) = gen n
+
+-- its TEXT, where it has one, is UTF-8
+abbrev pub HasUtf8 : Command → Type 0
+HasUtf8 (script text) = IsUtf8 text
+HasUtf8 (check text) = IsUtf8 text
+HasUtf8 (satisfy text) = IsUtf8 text
+HasUtf8 (satisfy_malleable text) = IsUtf8 text
+HasUtf8 run = ⊤
+HasUtf8 (gen n) = ⊤
+
+-- so is that of words with a form
+abbrev pub HaveUtf8 : (words : List Bytes) → Type 0
+HaveUtf8 words = (command : Command) → IsForm words command → HasUtf8 command
+
+-- ---- what is done with a tree
+
+-- the satisfaction that is chosen
+abbrev pub chosen_by : Choice → Tree → Assets → Option (List Bytes)
+chosen_by choice.Strict = strict
+chosen_by choice.Cheapest = cheapest
+
+-- the reasons against a tree that is to be satisfied
+abbrev pub reason_by : Choice → Tree → Option Unfit
+reason_by choice.Strict = first_unfit
+reason_by choice.Cheapest = first_unfit_valid
+
+-- the reasons against a tree that are tested
+abbrev pub reason_of : TextCommand → Tree → Option Unfit
+reason_of kind.Script = first_unfit_valid
+reason_of kind.Check = first_unfit
+reason_of (kind.Satisfy choice) = reason_by choice
+
+-- what is replied where there is none
+abbrev pub reply_of : TextCommand → (source : Bytes) → Tree → Reply
+reply_of kind.Script source = script_reply
+reply_of kind.Check source = check_reply
+reply_of (kind.Satisfy choice) source = satisfy_reply (chosen_by choice) source
+
+-- a file is read for it
+abbrev pub ReadsFor : TextCommand → Tree → Type 0
+ReadsFor kind.Script tree = ⊥
+ReadsFor kind.Check tree = ⊥
+ReadsFor (kind.Satisfy choice) tree = reason_by choice tree ≡ None
+
+-- the reply to a tree with these offsets, with every source: nothing was read
+pub record AnswersAtOnce (kind : TextCommand) (tree : Tree) (offsets : List ℕ) (source : Side) (r : Reply) : Type 0 where
+  pub needless : ¬ ReadsFor kind tree
+  pub unread : IsUnread source
+  pub replies : (bytes : Bytes) → r ≡ unless_unfit (reason_of kind tree) offsets (reply_of kind bytes tree)
+
+-- the reply to what the source held
+pub record AnswersFile (next : Bytes → Reply) (source : Side) (r : Reply) : Type 0 where
+  pub bytes : Bytes
+  pub held : Held source bytes
+  pub replies : r ≡ next bytes
+
+-- the reply to a tree
+abbrev pub AnswersTree : TextCommand → Tree → (offsets : List ℕ) → (source : Side) → Reply → Type 0
+AnswersTree kind tree offsets source r =
+    AnswersAtOnce kind tree offsets source r ⊎ (ReadsFor kind tree × AnswersFile (λ bytes. reply_of kind bytes tree) source r)
+
+-- the reply to a text that is refused
+abbrev pub IsRefusal : TextFault → Reply → Type 0
+IsRefusal fault r = (fault ≢ text_fault.Memory) × (r ≡ reply status.TextRefused (text_line fault))
+
+-- why the file isn't read whole
+abbrev pub StopsReading : (source : Side) → Stop → Type 0
+StopsReading source stop.Usage = ⊥
+StopsReading source stop.TextTooLong = ⊥
+StopsReading source stop.FileTooLong = (bytes : Bytes) × Held source bytes × (MOST_FILE < length bytes)
+StopsReading source stop.ReadFault = Rose source.before source.now
+StopsReading source stop.Memory = ⊤
+
+-- ---- answers
+
+-- the reply to the command, with every source: nothing was read
+pub record RepliesUnread (command : Command) (source : Side) (r : Reply) : Type 0 where
+  pub needless : ¬ NeedsSource command
+  pub unread : IsUnread source
+  pub replies : (bytes : Bytes) → Replies command bytes r
+
+-- the reply to the command, with what the source held
+pub record RepliesToFile (command : Command) (source : Side) (r : Reply) : Type 0 where
+  pub needed : NeedsSource command
+  pub bytes : Bytes
+  pub held : Held source bytes
+  pub replies : Replies command bytes r
+
+-- the reply to the command
+abbrev pub Answers : Command → (source : Side) → Reply → Type 0
+Answers command source r = RepliesUnread command source r ⊎ RepliesToFile command source r
+
+-- the reply to words without a form
+pub record RepliesUsage (words : List Bytes) (r : Reply) : Type 0 where
+  pub none : HasNoForm words
+  pub replies : r ≡ usage_reply
+
+-- the reply to the words
+abbrev pub AnswersWords : (words : List Bytes) → (source : Side) → Reply → Type 0
+AnswersWords words source r =
+    RepliesUsage words r ⊎ ((command : Command) × IsForm words command × Answers command source r)
+
+-- ---- how a step ends
+
+-- with a reply that is an answer, with a fault of the source, or for want of memory
+abbrev pub Ended : (IsAnswer : Reply → Type 0) → (Fails Wants : Type 0) → Result Answer Stop → Type 0
+Ended IsAnswer Fails Wants (Ok answer) = IsAnswer (reply answer.status (string_bytes answer.report))
+Ended IsAnswer Fails Wants (Err stop.Usage) = IsAnswer usage_reply
+Ended IsAnswer Fails Wants (Err stop.TextTooLong) = IsAnswer (reply status.TextRefused (text_line text_fault.TooLong))
+Ended IsAnswer Fails Wants (Err stop.FileTooLong) = IsAnswer (reply status.FileRefused file_too_long_line)
+Ended IsAnswer Fails Wants (Err stop.ReadFault) = Fails
+Ended IsAnswer Fails Wants (Err stop.Memory) = Wants
+
+-- an answer that takes memory alone
+abbrev pub AsMade : {E : Type 0} → Result Answer E → Result Answer Stop → Type 0
+AsMade (Ok answer) result = result ≡ Ok answer
+AsMade (Err e) result = result ≡ Err stop.Memory
+
+-- ---- how a report is written
+
+-- whole, or up to a fault of the sink, which was counted
+abbrev pub Writes : Status → (report : Bytes) → (sink : Side) → Status → Type 0
+Writes answer report sink result =
+    ((result ≡ answer) × Appends sink.old sink.new report)
+    ⊎ ((result ≡ status.WriteFault) × AppendsPrefix sink.old sink.new report × Rose sink.before sink.now)
+
+-- nothing is written
+abbrev pub WritesNothing : Status → (sink : Side) → Status → Type 0
+WritesNothing wanted sink result = (result ≡ wanted) × Keeps sink.old sink.new
+
+-- what is written of an answer, and with which status
+abbrev pub WritesResult : Result Answer Stop → (sink : Side) → Status → Type 0
+WritesResult (Ok answer) = Writes answer.status (string_bytes answer.report)
+WritesResult (Err stop.Usage) = Writes status.Usage usage_line
+WritesResult (Err stop.TextTooLong) = Writes status.TextRefused (text_line text_fault.TooLong)
+WritesResult (Err stop.FileTooLong) = Writes status.FileRefused file_too_long_line
+WritesResult (Err stop.ReadFault) = WritesNothing status.ReadFault
+WritesResult (Err stop.Memory) = WritesNothing status.Memory

@@ -1,0 +1,204 @@
+//! What is answered to a text.
+ghost use Rattle.std.specs.Prelude.{◌≡◌, ◌≢◌, ◌*◌, ◌≤◌, ⊤, IfOk, IfErr, Some, None, vec_len};
+ghost use Rattle.std.specs.String.{string_bytes};
+ghost use Rattle.def_tree.specs.Range.{IsInRange};
+ghost use Rattle.def_tree.specs.Size.{measure};
+ghost use Rattle.def_sane.specs.Limits.{AreLimits};
+ghost use Rattle.def_sane.specs.Unfit.{first_unfit, first_unfit_valid};
+ghost use Rattle.ms_tree.specs.Shape.{shape};
+ghost use Rattle.ms_sane.specs.Place.{IsOfTree};
+ghost use Rattle.ms_io.specs.Faults.{Rose};
+ghost use Rattle.def_answer.specs.Answer.{script_reply, check_reply};
+ghost use Rattle.def_answer.specs.Lines.{text_line as the_text_line, unfit_line as the_unfit_line};
+ghost use Rattle.def_answer.specs.Reply.{reply, unless_unfit};
+ghost use Rattle.def_answer.specs.Sources.{NeedsSource};
+ghost use Rattle.msat_cli.specs.Sides.{side, ReadsFront, IsUnread};
+ghost use Rattle.msat_cli.specs.Steps.{command_of, reason_by, ReadsFor, Answers, AnswersTree, IsRefusal, Ended};
+ghost use Rattle.msat_cli.specs.Ends.{HasShortText};
+
+use crate::answer::{Answer, Stop, or_memory};
+use crate::names::rule_name;
+use crate::report::{check_report, script_report};
+use crate::satisfying::answer_satisfaction;
+use crate::words::{Choice, TextCommand};
+use def_answer::Status;
+use def_text::TextFault;
+use ms_io::Source;
+use ms_sane::{Limits, Unfit, Work, check_sane, check_valid};
+use ms_text::{TextTree, read_text};
+use ms_tree::Tree;
+use std::alloc::{AllocError, Global};
+
+/// Answers a command on a text: the text's refusal, or what is answered to its tree.
+pub fn answer_text<S: Source>(
+    alloc: Global,
+    kind: TextCommand,
+    text: &str,
+    source: &mut S,
+) -> Result<Answer, Stop>
+    ensures answer { Ended (Answers (command_of kind text.now) (side S.left S.faults source.old source.new)) (NeedsSource (command_of kind text.now) × Rose (S.faults source.old) (S.faults source.new)) (HasShortText (command_of kind text.now)) result }
+    ensures later { S.faults source.old ≤ S.faults source.new }
+    ensures front { ReadsFront (S.left source.old) (S.left source.new) }
+    ensures unread { ¬ NeedsSource (command_of kind text.now) → IsUnread (side S.left S.faults source.old source.new) }
+{
+    match read_text(alloc, text) {
+        Ok(text) => answer_tree(alloc, kind, &text, source),
+        Err(fault) => refuse_text(alloc, fault),
+    }
+}
+
+/// Answers a command on a text that was read: the first reason against its tree, or what the command does with it.
+fn answer_tree<S: Source>(
+    alloc: Global,
+    kind: TextCommand,
+    text: &TextTree,
+    source: &mut S,
+) -> Result<Answer, Stop>
+    requires { IsInRange (shape text.now.tree) }
+    ensures answer { Ended (AnswersTree kind (shape text.now.tree) text.now.offsets.items (side S.left S.faults source.old source.new)) (ReadsFor kind (shape text.now.tree) × Rose (S.faults source.old) (S.faults source.new)) ⊤ result }
+    ensures later { S.faults source.old ≤ S.faults source.new }
+    ensures front { ReadsFront (S.left source.old) (S.left source.new) }
+    ensures unread { ¬ ReadsFor kind (shape text.now.tree) → IsUnread (side S.left S.faults source.old source.new) }
+{
+    match kind {
+        TextCommand::Script => or_memory(script_answer(alloc, text)),
+        TextCommand::Check => or_memory(check_answer(alloc, text)),
+        TextCommand::Satisfy(choice) => answer_satisfy(alloc, choice, text, source),
+    }
+}
+
+/// Answers with the satisfaction of a tree, or with the first reason against its being satisfied by this choice.
+fn answer_satisfy<S: Source>(
+    alloc: Global,
+    choice: Choice,
+    text: &TextTree,
+    source: &mut S,
+) -> Result<Answer, Stop>
+    requires { IsInRange (shape text.now.tree) }
+    ensures answer { Ended (AnswersTree (TextCommand.Satisfy choice) (shape text.now.tree) text.now.offsets.items (side S.left S.faults source.old source.new)) (ReadsFor (TextCommand.Satisfy choice) (shape text.now.tree) × Rose (S.faults source.old) (S.faults source.new)) ⊤ result }
+    ensures later { S.faults source.old ≤ S.faults source.new }
+    ensures front { ReadsFront (S.left source.old) (S.left source.new) }
+    ensures unread { ¬ ReadsFor (TextCommand.Satisfy choice) (shape text.now.tree) → IsUnread (side S.left S.faults source.old source.new) }
+{
+    let tree = text.tree();
+    let Ok(mut work) = Work::new(alloc, tree) else {
+        return Err(Stop::Memory);
+    };
+    match check_for(choice, tree, &mut work) {
+        Ok(limits) => answer_satisfaction(alloc, choice, tree, limits, source),
+        Err(unfit) => or_memory(unfit_answer(alloc, text, unfit)),
+    }
+}
+
+/// The limits of a tree that can be satisfied by this choice, or the first reason against it.
+fn check_for(choice: Choice, tree: &Tree, work: &mut Work) -> Result<Limits, Unfit>
+    requires in_range { IsInRange (shape tree.now) }
+    requires room { 4 * measure (shape tree.now) ≤ vec_len work.old.slots }
+    ensures fit { IfOk result (λ limits. reason_by choice (shape tree.now) ≡ None) }
+    ensures limits { IfOk result (λ limits. AreLimits (shape tree.now) limits) }
+    ensures unfit { IfErr result (λ unfit. reason_by choice (shape tree.now) ≡ Some unfit) }
+    ensures place { IfErr result (λ unfit. IsOfTree (shape tree.now) unfit) }
+{
+    match choice {
+        Choice::Strict => match check_sane(tree, work) {
+            Ok(sane) => Ok(sane.limits),
+            Err(unfit) => Err(unfit),
+        },
+        Choice::Cheapest => match check_valid(tree, work) {
+            Ok(valid) => Ok(valid.limits),
+            Err(unfit) => Err(unfit),
+        },
+    }
+}
+
+/// The Script of a valid tree, or the first reason against its being valid.
+fn script_answer(alloc: Global, text: &TextTree) -> Result<Answer, AllocError>
+    requires { IsInRange (shape text.now.tree) }
+    ensures { IfOk result (λ answer. reply answer.status (string_bytes answer.report) ≡ unless_unfit (first_unfit_valid (shape text.now.tree)) text.now.offsets.items (script_reply (shape text.now.tree))) }
+{
+    let tree = text.tree();
+    let mut work = Work::new(alloc, tree)?;
+    match check_valid(tree, &mut work) {
+        Ok(_) => Ok(Answer {
+            status: Status::Done,
+            report: script_report(alloc, tree)?,
+        }),
+        Err(unfit) => unfit_answer(alloc, text, unfit),
+    }
+}
+
+/// What is known of a sane tree, or the first reason against its being sane.
+fn check_answer(alloc: Global, text: &TextTree) -> Result<Answer, AllocError>
+    requires { IsInRange (shape text.now.tree) }
+    ensures { IfOk result (λ answer. reply answer.status (string_bytes answer.report) ≡ unless_unfit (first_unfit (shape text.now.tree)) text.now.offsets.items (check_reply (shape text.now.tree))) }
+{
+    let tree = text.tree();
+    let mut work = Work::new(alloc, tree)?;
+    match check_sane(tree, &mut work) {
+        Ok(sane) => Ok(Answer {
+            status: Status::Done,
+            report: check_report(alloc, tree, &sane)?,
+        }),
+        Err(unfit) => unfit_answer(alloc, text, unfit),
+    }
+}
+
+/// The refusal of a tree for a reason against it.
+fn unfit_answer(alloc: Global, text: &TextTree, unfit: Unfit) -> Result<Answer, AllocError>
+    requires { IsOfTree (shape text.now.tree) unfit }
+    ensures { IfOk result (λ answer. reply answer.status (string_bytes answer.report) ≡ reply Status.TextRefused (the_unfit_line text.now.offsets.items unfit)) }
+{
+    Ok(Answer {
+        status: Status::TextRefused,
+        report: unfit_line(alloc, text, unfit)?,
+    })
+}
+
+/// The line of a reason against a tree.
+pub fn unfit_line(alloc: Global, text: &TextTree, unfit: Unfit) -> Result<String, AllocError>
+    requires { IsOfTree (shape text.now.tree) unfit }
+    ensures { IfOk result (λ report. string_bytes report ≡ the_unfit_line text.now.offsets.items unfit) }
+{
+    match unfit {
+        Unfit::Rule(at) => {
+            let (name, place) = (rule_name(at.rule), text.offset(at.node));
+            format!(in alloc; "refused text Rule {name} at {place}\n")
+        }
+        Unfit::TopNotB => String::from_str(alloc, "refused text TopNotB\n"),
+        Unfit::Size(n) => format!(in alloc; "refused text Size {n}\n"),
+        Unfit::Ops(n) => format!(in alloc; "refused text Ops {n}\n"),
+        Unfit::Items(n) => format!(in alloc; "refused text Items {n}\n"),
+        Unfit::Malleable(at) => {
+            let (name, place) = (rule_name(at.rule), text.offset(at.node));
+            format!(in alloc; "refused text Malleable {name} at {place}\n")
+        }
+        Unfit::NoSignature => String::from_str(alloc, "refused text NoSignature\n"),
+        Unfit::MixedLocks(node) => {
+            let place = text.offset(node);
+            format!(in alloc; "refused text MixedLocks at {place}\n")
+        }
+        Unfit::RepeatedKey(node) => {
+            let place = text.offset(node);
+            format!(in alloc; "refused text RepeatedKey at {place}\n")
+        }
+    }
+}
+
+/// The refusal of a text.
+fn refuse_text(alloc: Global, fault: TextFault) -> Result<Answer, Stop>
+    ensures { Ended (IsRefusal fault) ⊥ (fault ≢ TextFault.TooLong) result }
+{
+    let line = match fault {
+        TextFault::TooLong => return Err(Stop::TextTooLong),
+        TextFault::Syntax(at) => format!(in alloc; "refused text Syntax at {at}\n"),
+        TextFault::TooDeep(at) => format!(in alloc; "refused text TooDeep at {at}\n"),
+        TextFault::Memory => return Err(Stop::Memory),
+    };
+    match line {
+        Ok(report) => Ok(Answer {
+            status: Status::TextRefused,
+            report,
+        }),
+        Err(_) => Err(Stop::Memory),
+    }
+}
