@@ -10,10 +10,10 @@ use hash_baseline::{ripemd160, ripemd_block_by_rounds, sha256};
 use std::ops::{Add, Sub};
 use std::process::exit;
 
-type Key = [u8; 33];
+pub type Key = [u8; 33];
 
 #[derive(Clone, Copy)]
-enum HashKind {
+pub enum HashKind {
     Sha256,
     Hash256,
     Ripemd160,
@@ -21,7 +21,7 @@ enum HashKind {
 }
 
 #[derive(Clone, Copy)]
-enum Two {
+pub enum Two {
     AndV,
     AndB,
     OrB,
@@ -30,7 +30,7 @@ enum Two {
     OrI,
 }
 
-enum Tree {
+pub enum Tree {
     Zero,
     One,
     PkK(Key),
@@ -181,7 +181,7 @@ fn wrapped(letter: u8, x: Tree) -> Option<Tree> {
     })
 }
 
-fn decoded(digits: &[u8]) -> Option<Vec<u8>> {
+pub fn decoded(digits: &[u8]) -> Option<Vec<u8>> {
     let value = |digit: u8| char::from(digit).to_digit(16);
     let (pairs, rest) = digits.as_chunks::<2>();
     if !rest.is_empty() {
@@ -192,7 +192,7 @@ fn decoded(digits: &[u8]) -> Option<Vec<u8>> {
 
 // Printing.
 
-fn put_digits(out: &mut String, bytes: &[u8]) {
+pub fn put_digits(out: &mut String, bytes: &[u8]) {
     const DIGITS: &[u8; 16] = b"0123456789abcdef";
     for byte in bytes {
         out.push(DIGITS[(byte >> 4) as usize].into());
@@ -616,8 +616,17 @@ fn threshold(k: usize, children: &[Costs]) -> Option<Most> {
     Some(sum + Most { items: greatest(|x| x.items), weight: greatest(|x| x.weight), keys: greatest(|x| x.keys) })
 }
 
+/// A valid tree, its type, its Script and its limits.
+pub struct Valid {
+    pub tree: Tree,
+    pub script: Vec<u8>,
+    kind: Type,
+    ops: u64,
+    most: Most,
+}
+
 /// None where the text is refused.
-fn report(text: &str) -> Option<String> {
+pub fn valid(text: &str) -> Option<Valid> {
     if text.len() > 65_536 {
         return None;
     }
@@ -630,18 +639,29 @@ fn report(text: &str) -> Option<String> {
     let mut script = Script::default();
     script.tree(&tree);
     let most = costs(&tree).sat.unwrap_or_default();
-    let size = script.bytes.len();
     let ops = script.opcodes + most.keys as u64;
-    if size > 3_600 || ops > 201 || most.items > 100 {
-        return None;
+    let script = script.bytes;
+    (script.len() <= 3_600 && ops <= 201 && most.items <= 100).then_some(Valid { tree, script, kind, ops, most })
+}
+
+impl Valid {
+    /// The lines on the Script, its program and the limits.
+    pub fn put_script(&self, out: &mut String) {
+        out.push_str("script ");
+        put_digits(out, &self.script);
+        out.push_str("\nprogram 0020");
+        put_digits(out, &sha256(&self.script));
+        let (size, ops, most) = (self.script.len(), self.ops, self.most);
+        out.push_str(&format!("\nlimits size {size} ops {ops} items {} weight {}\n", most.items, most.weight));
     }
+}
+
+fn report(text: &str) -> Option<String> {
+    let valid = valid(text)?;
     let mut out = String::from("text ");
-    put_tree(&mut out, &tree);
-    out.push_str(&format!("\ntype {}\nscript ", kind.letters()));
-    put_digits(&mut out, &script.bytes);
-    out.push_str("\nprogram 0020");
-    put_digits(&mut out, &sha256(&script.bytes));
-    out.push_str(&format!("\nlimits size {size} ops {ops} items {} weight {}\n", most.items, most.weight));
+    put_tree(&mut out, &valid.tree);
+    out.push_str(&format!("\ntype {}\n", valid.kind.letters()));
+    valid.put_script(&mut out);
     Some(out)
 }
 

@@ -1,6 +1,11 @@
 //! A plain Script interpreter, to be measured beside the proved one.
 //! Usage: interp_baseline KIND TIMES. The exit status is the number of opcodes.
 
+#[allow(dead_code)]
+#[path = "hash_baseline.rs"]
+mod hash_baseline;
+
+use hash_baseline::{ripemd160, ripemd_block_by_rounds};
 use std::process::exit;
 
 const CONSTANTS: [u32; 64] = [
@@ -69,8 +74,31 @@ fn truth(bytes: &[u8]) -> bool {
     bytes.iter().enumerate().any(|(i, b)| *b != 0 && !(i + 1 == bytes.len() && *b == 0x80))
 }
 
-fn number(bytes: &[u8]) -> Option<i64> {
-    if bytes.len() > 4 {
+/// The values of the locks.
+pub struct Locks {
+    pub version: u32,
+    pub sequence: u32,
+    pub locktime: u32,
+}
+
+impl Locks {
+    pub fn hold_older(&self, n: u64) -> bool {
+        let sequence = self.sequence as u64;
+        n & 1 << 31 != 0
+            || self.version >= 2
+                && sequence & 1 << 31 == 0
+                && n & 1 << 22 == sequence & 1 << 22
+                && n & 0x40_ffff <= sequence & 0x40_ffff
+    }
+
+    pub fn hold_after(&self, n: u64) -> bool {
+        let locktime = self.locktime as u64;
+        (n < 500_000_000) == (locktime < 500_000_000) && n <= locktime && self.sequence != u32::MAX
+    }
+}
+
+fn number(bytes: &[u8], most: usize) -> Option<i64> {
+    if bytes.len() > most {
         return None;
     }
     let Some((last, front)) = bytes.split_last() else {
@@ -114,12 +142,17 @@ fn is_key(bytes: &[u8]) -> bool {
     bytes.len() == 33 && (bytes[0] == 2 || bytes[0] == 3)
 }
 
-/// The opcodes that are counted and the peak, or None where the run is refused.
-fn run(script: &[u8], given: &[Vec<u8>], table: &Table) -> Option<(u32, usize, Vec<(Vec<u8>, Vec<u8>)>)> {
-    if script.len() > 10_000 || given.iter().any(|x| x.len() > 520) {
+/// The opcodes that are counted, the peak and the good pairs, or None where the run is refused.
+pub fn run(
+    script: &[u8],
+    given: &[impl AsRef<[u8]>],
+    locks: &Locks,
+    is_good: impl Fn(&[u8], &[u8]) -> bool,
+) -> Option<(u32, usize, Vec<(Vec<u8>, Vec<u8>)>)> {
+    if script.len() > 10_000 || given.iter().any(|x| x.as_ref().len() > 520) {
         return None;
     }
-    let mut main = given.to_vec();
+    let mut main: Vec<Vec<u8>> = given.iter().map(|x| x.as_ref().to_vec()).collect();
     let mut alt: Vec<Vec<u8>> = Vec::new();
     let mut branches: Vec<bool> = Vec::new();
     let mut checks = Vec::new();
@@ -217,28 +250,33 @@ fn run(script: &[u8], given: &[Vec<u8>], table: &Table) -> Option<(u32, usize, V
                     }
                 }
                 0x92 => {
-                    let x = number(&main.pop()?)?;
+                    let x = number(&main.pop()?, 4)?;
                     main.push(boolean(x != 0));
                 }
                 0x93 | 0x9a | 0x9b => {
                     let (b, a) = (main.pop()?, main.pop()?);
-                    let (b, a) = (number(&b)?, number(&a)?);
+                    let (b, a) = (number(&b, 4)?, number(&a, 4)?);
                     main.push(match first {
                         0x93 => spelled(a + b),
                         0x9a => boolean(a != 0 && b != 0),
                         _ => boolean(a != 0 || b != 0),
                     });
                 }
-                0xa8 => {
+                0xa6 | 0xa8 | 0xa9 | 0xaa => {
                     let x = main.pop()?;
-                    main.push(sha256(&x).to_vec());
+                    main.push(match first {
+                        0xa6 => ripemd160(&x, ripemd_block_by_rounds).to_vec(),
+                        0xa8 => sha256(&x).to_vec(),
+                        0xa9 => ripemd160(&sha256(&x), ripemd_block_by_rounds).to_vec(),
+                        _ => sha256(&sha256(&x)).to_vec(),
+                    });
                 }
                 0xac | 0xad => {
                     let (key, sig) = (main.pop()?, main.pop()?);
                     if !is_key(&key) {
                         return None;
                     }
-                    let good = !sig.is_empty() && member(table, &key, &sig);
+                    let good = !sig.is_empty() && is_good(&key, &sig);
                     if !good && !sig.is_empty() {
                         return None;
                     }
@@ -251,7 +289,7 @@ fn run(script: &[u8], given: &[Vec<u8>], table: &Table) -> Option<(u32, usize, V
                     }
                 }
                 0xae | 0xaf => {
-                    let n = number(&main.pop()?)?;
+                    let n = number(&main.pop()?, 4)?;
                     if !(0..=20).contains(&n) {
                         return None;
                     }
@@ -260,7 +298,7 @@ fn run(script: &[u8], given: &[Vec<u8>], table: &Table) -> Option<(u32, usize, V
                         return None;
                     }
                     let keys = main.split_off(main.len().checked_sub(n as usize)?);
-                    let m = number(&main.pop()?)?;
+                    let m = number(&main.pop()?, 4)?;
                     if !(0..=n).contains(&m) {
                         return None;
                     }
@@ -273,7 +311,7 @@ fn run(script: &[u8], given: &[Vec<u8>], table: &Table) -> Option<(u32, usize, V
                             return None;
                         }
                         k -= 1;
-                        if !sigs[s - 1].is_empty() && member(table, &keys[k], &sigs[s - 1]) {
+                        if !sigs[s - 1].is_empty() && is_good(&keys[k], &sigs[s - 1]) {
                             s -= 1;
                             found.push((keys[k].clone(), sigs[s].clone()));
                         }
@@ -286,6 +324,12 @@ fn run(script: &[u8], given: &[Vec<u8>], table: &Table) -> Option<(u32, usize, V
                     }
                     main.push(boolean(s == 0));
                     if first == 0xaf && !truth(&main.pop()?) {
+                        return None;
+                    }
+                }
+                0xb1 | 0xb2 => {
+                    let n = u64::try_from(number(main.last()?, 5)?).ok()?;
+                    if !(if first == 0xb1 { locks.hold_after(n) } else { locks.hold_older(n) }) {
                         return None;
                     }
                 }
@@ -343,9 +387,11 @@ fn main() {
         }
     }
     let table = vec![(key, sig)];
+    let locks = Locks { version: 2, sequence: 4_294_967_294, locktime: 0 };
+    let is_good = |key: &[u8], sig: &[u8]| member(&table, key, sig);
     let mut ops = 0;
     for _ in 0..times {
-        ops = match std::hint::black_box(run(&script, &stack, &table)) {
+        ops = match std::hint::black_box(run(&script, &stack, &locks, is_good)) {
             Some(report) => report.0,
             None => 253,
         };

@@ -1,0 +1,725 @@
+//! What `msat satisfy TEXT` and `msat satisfy --malleable TEXT` do, by plain Rust over boxed trees, to be measured beside the proved
+//! program. Refusals aren't told apart.
+//! Usage: satisfy_baseline [--malleable] TEXT, with an asset file on standard input. The exit status is 0, 2 where `refused` is printed, or 4
+//! where there is no satisfaction.
+//! Usage: satisfy_baseline fragments, with an asset file on standard input. Prints a hash fragment for each of its preimages, of the four
+//! functions in turn.
+
+#[allow(dead_code)]
+#[path = "check_baseline.rs"]
+mod check_baseline;
+#[allow(dead_code)]
+#[path = "hash_baseline.rs"]
+mod hash_baseline;
+#[allow(dead_code)]
+#[path = "interp_baseline.rs"]
+mod interp_baseline;
+
+use check_baseline::{HashKind, Key, Tree, Two, Valid, decoded, put_digits, valid};
+use hash_baseline::{ripemd160, ripemd_block_by_rounds, sha256};
+use interp_baseline::{Locks, run};
+use std::collections::{HashMap, HashSet};
+use std::io::{Read, stdin};
+use std::process::exit;
+
+// Sanity.
+
+/// Each satisfaction needs a signature; each dissatisfaction does; there is one dissatisfaction that needs none.
+#[derive(Clone, Copy)]
+struct Mall {
+    s: bool,
+    f: bool,
+    e: bool,
+}
+
+/// None where a requirement is false.
+fn mall_of(tree: &Tree) -> Option<Mall> {
+    let (fits, mall) = match tree {
+        Tree::Zero | Tree::PkK(_) | Tree::PkH(_) | Tree::Multi(..) => (true, Mall { s: true, f: false, e: true }),
+        Tree::One | Tree::Older(_) | Tree::After(_) => (true, Mall { s: false, f: true, e: false }),
+        Tree::Hash(..) => (true, Mall { s: false, f: false, e: false }),
+        Tree::AndOr(x, y, z) => {
+            let (x, y, z) = (mall_of(x)?, mall_of(y)?, mall_of(z)?);
+            let forced = x.s || y.f;
+            (x.e && (x.s || y.s || z.s), Mall { s: z.s && (x.s || y.s), f: z.f && forced, e: z.e && forced })
+        }
+        Tree::Two(kind, x, z) => mall_of_two(*kind, mall_of(x)?, mall_of(z)?),
+        Tree::Thresh(k, children) => {
+            let all = children.iter().map(mall_of).collect::<Option<Vec<_>>>()?;
+            let unsigned = all.iter().filter(|x| !x.s).count() as u64;
+            (all.iter().all(|x| x.e) && unsigned <= *k, Mall { s: unsigned < *k, f: false, e: unsigned == 0 })
+        }
+        Tree::Wrap(letter, x) => {
+            let x = mall_of(x)?;
+            let mall = match letter {
+                b'c' => Mall { s: true, ..x },
+                b'd' => Mall { s: x.s, f: false, e: true },
+                b'v' => Mall { s: x.s, f: true, e: false },
+                b'j' => Mall { s: x.s, f: false, e: x.f },
+                _ => x,
+            };
+            (true, mall)
+        }
+    };
+    fits.then_some(mall)
+}
+
+fn mall_of_two(kind: Two, x: Mall, y: Mall) -> (bool, Mall) {
+    let (both, either) = (x.s && y.s, x.s || y.s);
+    match kind {
+        Two::AndV => (true, Mall { s: either, f: x.s || y.f, e: false }),
+        Two::AndB => (true, Mall { s: either, f: x.f && y.f || x.s && x.f || y.s && y.f, e: x.e && y.e && both }),
+        Two::OrB => (x.e && y.e && either, Mall { s: both, f: false, e: true }),
+        Two::OrC => (x.e && either, Mall { s: both, f: true, e: false }),
+        Two::OrD => (x.e && either, Mall { s: both, f: y.f, e: y.e }),
+        Two::OrI => (either, Mall { s: both, f: x.f && y.f, e: x.e && y.f || y.e && x.f }),
+    }
+}
+
+/// Which kinds of timelocks there are.
+#[derive(Clone, Copy, Default)]
+struct Kinds {
+    relative_time: bool,
+    relative_height: bool,
+    absolute_time: bool,
+    absolute_height: bool,
+}
+
+impl Kinds {
+    fn with(self, other: Kinds) -> Kinds {
+        Kinds {
+            relative_time: self.relative_time || other.relative_time,
+            relative_height: self.relative_height || other.relative_height,
+            absolute_time: self.absolute_time || other.absolute_time,
+            absolute_height: self.absolute_height || other.absolute_height,
+        }
+    }
+
+    fn mix_with(self, other: Kinds) -> bool {
+        self.relative_time && other.relative_height
+            || self.relative_height && other.relative_time
+            || self.absolute_time && other.absolute_height
+            || self.absolute_height && other.absolute_time
+    }
+}
+
+/// None where a node mixes a time and a height.
+fn kinds_of(tree: &Tree) -> Option<Kinds> {
+    let none = Kinds::default();
+    match tree {
+        Tree::Older(n) if n & 1 << 22 != 0 => Some(Kinds { relative_time: true, ..none }),
+        Tree::Older(_) => Some(Kinds { relative_height: true, ..none }),
+        Tree::After(n) if *n >= 500_000_000 => Some(Kinds { absolute_time: true, ..none }),
+        Tree::After(_) => Some(Kinds { absolute_height: true, ..none }),
+        Tree::AndOr(x, y, z) => {
+            let (x, y, z) = (kinds_of(x)?, kinds_of(y)?, kinds_of(z)?);
+            (!x.mix_with(y)).then_some(x.with(y).with(z))
+        }
+        Tree::Two(kind, x, z) => {
+            let (x, z) = (kinds_of(x)?, kinds_of(z)?);
+            let needs_both = matches!(kind, Two::AndV | Two::AndB);
+            (!needs_both || !x.mix_with(z)).then_some(x.with(z))
+        }
+        Tree::Thresh(k, children) => {
+            let mut all = none;
+            for child in children {
+                let kinds = kinds_of(child)?;
+                if *k >= 2 && all.mix_with(kinds) {
+                    return None;
+                }
+                all = all.with(kinds);
+            }
+            Some(all)
+        }
+        Tree::Wrap(_, x) => kinds_of(x),
+        _ => Some(none),
+    }
+}
+
+/// Whether no key of the tree has been seen, here or earlier in it.
+fn has_new_keys<'t>(tree: &'t Tree, seen: &mut HashSet<&'t Key>) -> bool {
+    match tree {
+        Tree::PkK(key) | Tree::PkH(key) => seen.insert(key),
+        Tree::Multi(_, keys) => keys.iter().all(|key| seen.insert(key)),
+        Tree::AndOr(x, y, z) => has_new_keys(x, seen) && has_new_keys(y, seen) && has_new_keys(z, seen),
+        Tree::Two(_, x, z) => has_new_keys(x, seen) && has_new_keys(z, seen),
+        Tree::Thresh(_, children) => children.iter().all(|child| has_new_keys(child, seen)),
+        Tree::Wrap(_, x) => has_new_keys(x, seen),
+        _ => true,
+    }
+}
+
+fn is_sane(tree: &Tree) -> bool {
+    mall_of(tree).is_some_and(|top| top.s) && kinds_of(tree).is_some() && has_new_keys(tree, &mut HashSet::new())
+}
+
+// The asset file.
+
+/// Of a number only the whole ones of 32 bits are kept.
+enum Value {
+    Number(u32),
+    Text(String),
+    List(Vec<Value>),
+    Object(Vec<(String, Value)>),
+    Other,
+}
+
+impl Value {
+    /// The last member of this name.
+    fn member(&self, name: &str) -> Option<&Value> {
+        match self {
+            Value::Object(members) => members.iter().rev().find(|(key, _)| key == name).map(|(_, value)| value),
+            _ => None,
+        }
+    }
+
+    fn text(&self) -> Option<&str> {
+        match self {
+            Value::Text(text) => Some(text),
+            _ => None,
+        }
+    }
+}
+
+struct Json<'t> {
+    bytes: &'t [u8],
+    at: usize,
+}
+
+impl Json<'_> {
+    fn space(&mut self) {
+        while matches!(self.bytes.get(self.at), Some(b' ' | b'\t' | b'\r' | b'\n')) {
+            self.at += 1;
+        }
+    }
+
+    /// Passes a byte with the space before it, where it is there.
+    fn is_next(&mut self, byte: u8) -> bool {
+        self.space();
+        let is_there = self.bytes.get(self.at) == Some(&byte);
+        self.at += is_there as usize;
+        is_there
+    }
+
+    fn value(&mut self) -> Option<Value> {
+        self.space();
+        match self.bytes.get(self.at)? {
+            b'{' => self.elements(b'}', |json| json.pair()).map(Value::Object),
+            b'[' => self.elements(b']', |json| json.value()).map(Value::List),
+            b'"' => self.text().map(Value::Text),
+            b't' => self.word("true"),
+            b'f' => self.word("false"),
+            b'n' => self.word("null"),
+            _ => self.number(),
+        }
+    }
+
+    /// What stands between commas, from the opening to the closing bracket.
+    fn elements<T>(&mut self, end: u8, read: impl Fn(&mut Self) -> Option<T>) -> Option<Vec<T>> {
+        self.at += 1;
+        let mut all = Vec::new();
+        if self.is_next(end) {
+            return Some(all);
+        }
+        loop {
+            all.push(read(self)?);
+            if self.is_next(end) {
+                return Some(all);
+            }
+            self.is_next(b',').then_some(())?;
+        }
+    }
+
+    fn pair(&mut self) -> Option<(String, Value)> {
+        self.space();
+        let name = self.text()?;
+        self.is_next(b':').then_some(())?;
+        Some((name, self.value()?))
+    }
+
+    fn text(&mut self) -> Option<String> {
+        (self.bytes.get(self.at) == Some(&b'"')).then_some(())?;
+        self.at += 1;
+        let mut text = Vec::new();
+        loop {
+            let rest = &self.bytes[self.at..];
+            let end = rest.iter().position(|b| matches!(b, b'"' | b'\\' | 0..0x20))?;
+            text.extend_from_slice(&rest[..end]);
+            self.at += end + 1;
+            match rest[end] {
+                b'"' => return String::from_utf8(text).ok(),
+                b'\\' => text.extend_from_slice(self.escaped()?.encode_utf8(&mut [0; 4]).as_bytes()),
+                _ => return None,
+            }
+        }
+    }
+
+    /// A character beyond 16 bits isn't read.
+    fn escaped(&mut self) -> Option<char> {
+        let letter = *self.bytes.get(self.at)?;
+        self.at += 1;
+        Some(match letter {
+            b'"' | b'\\' | b'/' => letter.into(),
+            b'b' => '\x08',
+            b'f' => '\x0c',
+            b'n' => '\n',
+            b'r' => '\r',
+            b't' => '\t',
+            b'u' => {
+                let digits = decoded(self.bytes.get(self.at..self.at + 4)?)?;
+                self.at += 4;
+                char::from_u32(u32::from(digits[0]) << 8 | u32::from(digits[1]))?
+            }
+            _ => return None,
+        })
+    }
+
+    fn word(&mut self, word: &str) -> Option<Value> {
+        self.bytes[self.at..].starts_with(word.as_bytes()).then_some(())?;
+        self.at += word.len();
+        Some(Value::Other)
+    }
+
+    fn number(&mut self) -> Option<Value> {
+        let rest = &self.bytes[self.at..];
+        let length = rest.iter().position(|b| !matches!(b, b'0'..=b'9' | b'-' | b'+' | b'.' | b'e' | b'E')).unwrap_or(rest.len());
+        let digits = std::str::from_utf8(&rest[..length]).ok()?;
+        self.at += length;
+        digits.parse::<f64>().ok()?;
+        Some(digits.parse().map_or(Value::Other, Value::Number))
+    }
+}
+
+/// What a wallet holds: a preimage under each of its four hash values, by the function's place in `HashKind`.
+struct Assets {
+    locks: Locks,
+    signatures: HashMap<Key, Vec<u8>>,
+    preimages: [HashMap<Vec<u8>, [u8; 32]>; 4],
+}
+
+impl Assets {
+    /// With room for so many signatures and preimages.
+    fn new(locks: Locks, signatures: usize, preimages: usize) -> Assets {
+        Assets {
+            locks,
+            signatures: HashMap::with_capacity(signatures),
+            preimages: [(); 4].map(|()| HashMap::with_capacity(preimages)),
+        }
+    }
+
+    fn add_signature(&mut self, key: &str, signature: &str) -> Option<()> {
+        let key: Key = decoded(key.as_bytes())?.try_into().ok()?;
+        let signature = decoded(signature.as_bytes())?;
+        let fits = (key[0] == 2 || key[0] == 3) && (1..=73).contains(&signature.len());
+        (fits && self.signatures.insert(key, signature).is_none()).then_some(())
+    }
+
+    /// The first of two with the same hash value is kept.
+    fn add_preimage(&mut self, preimage: [u8; 32]) {
+        for (known, digest) in self.preimages.iter_mut().zip(digests(&preimage)) {
+            known.entry(digest).or_insert(preimage);
+        }
+    }
+
+    fn signature(&self, key: &Key) -> Option<&[u8]> {
+        self.signatures.get(key).map(Vec::as_slice)
+    }
+
+    fn preimage(&self, kind: HashKind, value: &[u8]) -> Option<&[u8]> {
+        self.preimages[kind as usize].get(value).map(|preimage| preimage.as_slice())
+    }
+}
+
+/// By the four functions, in the order of `HashKind`.
+fn digests(message: &[u8]) -> [Vec<u8>; 4] {
+    let once = sha256(message);
+    let twice = sha256(&once);
+    let ripemd = |message: &[u8]| ripemd160(message, ripemd_block_by_rounds).to_vec();
+    [once.to_vec(), twice.to_vec(), ripemd(message), ripemd(&once)]
+}
+
+/// None where the file is refused, here and in the next two.
+fn assets_of(file: &[u8]) -> Option<Assets> {
+    if file.len() > 1_048_576 {
+        return None;
+    }
+    let mut json = Json { bytes: file, at: 0 };
+    let file = json.value()?;
+    json.space();
+    if json.at < json.bytes.len() || !matches!(file, Value::Object(_)) {
+        return None;
+    }
+    let locks = Locks {
+        version: number(&file, "version", 2)?,
+        sequence: number(&file, "sequence", 4_294_967_294)?,
+        locktime: number(&file, "locktime", 0)?,
+    };
+    let (signatures, preimages) = (list(&file, "signatures")?, list(&file, "preimages")?);
+    let mut assets = Assets::new(locks, signatures.len(), preimages.len());
+    for signature in signatures {
+        assets.add_signature(signature.member("key")?.text()?, signature.member("sig")?.text()?)?;
+    }
+    for preimage in preimages {
+        assets.add_preimage(decoded(preimage.text()?.as_bytes())?.try_into().ok()?);
+    }
+    Some(assets)
+}
+
+fn number(file: &Value, name: &str, default: u32) -> Option<u32> {
+    match file.member(name) {
+        None => Some(default),
+        Some(Value::Number(n)) => Some(*n),
+        Some(_) => None,
+    }
+}
+
+fn list<'f>(file: &'f Value, name: &str) -> Option<&'f [Value]> {
+    match file.member(name) {
+        None => Some(&[]),
+        Some(Value::List(elements)) if elements.len() <= 256 => Some(elements),
+        Some(_) => None,
+    }
+}
+
+// The choice.
+
+/// What a stack weighs, and whether it has no signature.
+#[derive(Clone, Copy)]
+struct Way {
+    weight: i64,
+    is_free: bool,
+}
+
+const NOTHING: Option<Way> = Some(Way { weight: 0, is_free: true });
+
+fn item(length: usize) -> Option<Way> {
+    Some(Way { weight: 1 + length as i64, is_free: true })
+}
+
+fn signed(length: usize) -> Option<Way> {
+    Some(Way { weight: 1 + length as i64, is_free: false })
+}
+
+fn both(x: Option<Way>, y: Option<Way>) -> Option<Way> {
+    let (x, y) = (x?, y?);
+    Some(Way { weight: x.weight + y.weight, is_free: x.is_free && y.is_free })
+}
+
+/// How a tree is satisfied and dissatisfied. A wrapper has its child's plan, with other ways.
+#[derive(Default)]
+struct Plan {
+    sat: Option<Way>,
+    dsat: Option<Way>,
+    /// Whether the second option is taken.
+    sat_is_second: bool,
+    dsat_is_second: bool,
+    /// The children of a threshold that are satisfied, the keys of a `multi` that sign.
+    chosen: Vec<bool>,
+    parts: Vec<Plan>,
+}
+
+impl Plan {
+    fn leaf(sat: Option<Way>, dsat: Option<Way>) -> Plan {
+        Plan { sat, dsat, ..Plan::default() }
+    }
+}
+
+struct Choice<'a> {
+    assets: &'a Assets,
+    is_strict: bool,
+    /// The hash values of 32 zero bytes.
+    of_zeros: [Vec<u8>; 4],
+}
+
+impl<'a> Choice<'a> {
+    fn plan(&self, tree: &Tree) -> Plan {
+        match tree {
+            Tree::Zero => Plan::leaf(None, NOTHING),
+            Tree::One => Plan::leaf(NOTHING, None),
+            Tree::PkK(key) => Plan::leaf(self.signature(key), item(0)),
+            Tree::PkH(key) => Plan::leaf(both(self.signature(key), item(33)), both(item(0), item(33))),
+            Tree::Older(n) => Plan::leaf(NOTHING.filter(|_| self.assets.locks.hold_older(*n)), None),
+            Tree::After(n) => Plan::leaf(NOTHING.filter(|_| self.assets.locks.hold_after(*n)), None),
+            Tree::Hash(kind, value) => {
+                let is_of_zeros = self.of_zeros[*kind as usize] == *value;
+                let sat = self.assets.preimage(*kind, value).and_then(|preimage| item(preimage.len()));
+                Plan::leaf(sat, item(32).filter(|_| !is_of_zeros))
+            }
+            Tree::AndOr(x, y, z) => {
+                let parts = [x, y, z].map(|part| self.plan(part));
+                let [x, y, z] = &parts;
+                let (sat, sat_is_second) = self.either(both(y.sat, x.sat), both(z.sat, x.dsat));
+                let dsat = both(z.dsat, x.dsat);
+                Plan { sat, dsat, sat_is_second, parts: parts.into(), ..Plan::default() }
+            }
+            Tree::Two(kind, x, z) => self.plan_of_two(*kind, [x, z].map(|part| self.plan(part))),
+            Tree::Thresh(k, children) => self.threshold(*k as usize, children.iter().map(|child| self.plan(child)).collect()),
+            Tree::Multi(k, keys) => self.multi(*k as usize, keys),
+            Tree::Wrap(letter, x) => {
+                let x = self.plan(x);
+                match letter {
+                    b'd' => Plan { sat: both(x.sat, item(1)), dsat: item(0), ..x },
+                    b'v' => Plan { dsat: None, ..x },
+                    b'j' => Plan { dsat: item(0), ..x },
+                    _ => x,
+                }
+            }
+        }
+    }
+
+    fn signature(&self, key: &Key) -> Option<Way> {
+        self.assets.signature(key).and_then(|signature| signed(signature.len()))
+    }
+
+    fn plan_of_two(&self, kind: Two, parts: [Plan; 2]) -> Plan {
+        let [x, z] = &parts;
+        let none = both(z.dsat, x.dsat);
+        let second = both(z.sat, x.dsat);
+        let ((sat, sat_is_second), (dsat, dsat_is_second)) = match kind {
+            Two::AndV => ((both(z.sat, x.sat), false), (None, false)),
+            Two::AndB => ((both(z.sat, x.sat), false), (none, false)),
+            Two::OrB => (self.either(both(z.dsat, x.sat), second), (none, false)),
+            Two::OrC => (self.either(x.sat, second), (None, false)),
+            Two::OrD => (self.either(x.sat, second), (none, false)),
+            Two::OrI => (
+                self.either(both(x.sat, item(1)), both(z.sat, item(0))),
+                lighter(both(x.dsat, item(1)), both(z.dsat, item(0))),
+            ),
+        };
+        Plan { sat, dsat, sat_is_second, dsat_is_second, parts: parts.into(), ..Plan::default() }
+    }
+
+    /// Of two options the one that is taken, and whether it is the second.
+    fn either(&self, first: Option<Way>, second: Option<Way>) -> (Option<Way>, bool) {
+        let is_free = |way: Option<Way>| self.is_strict && way.is_some_and(|way| way.is_free);
+        if is_free(first) {
+            (first, false)
+        } else if is_free(second) {
+            (second, true)
+        } else {
+            lighter(first, second)
+        }
+    }
+
+    /// Satisfied are the children that must be, and those whose satisfaction adds least.
+    fn threshold(&self, k: usize, parts: Vec<Plan>) -> Plan {
+        let mut chosen = vec![false; parts.len()];
+        let mut added = Vec::new();
+        let mut left = k as i64;
+        for (i, part) in parts.iter().enumerate() {
+            let Some(sat) = part.sat else {
+                continue;
+            };
+            match part.dsat {
+                Some(dsat) if !self.is_strict || !sat.is_free => added.push((sat.weight - dsat.weight, i)),
+                _ => {
+                    chosen[i] = true;
+                    left -= 1;
+                }
+            }
+        }
+        added.sort_unstable();
+        for (_, i) in added.iter().take(left.max(0) as usize) {
+            chosen[*i] = true;
+        }
+        let sat = if left < 0 || left > added.len() as i64 {
+            None
+        } else {
+            parts.iter().zip(&chosen).fold(NOTHING, |sum, (part, chosen)| both(sum, if *chosen { part.sat } else { part.dsat }))
+        };
+        let dsat = parts.iter().fold(NOTHING, |sum, part| both(sum, part.dsat));
+        Plan { sat, dsat, chosen, parts, ..Plan::default() }
+    }
+
+    /// The shortest signatures sign.
+    fn multi(&self, k: usize, keys: &[Key]) -> Plan {
+        let mut chosen = vec![false; keys.len()];
+        let length = |(i, key): (usize, &Key)| Some((self.assets.signature(key)?.len(), i));
+        let mut signatures: Vec<_> = keys.iter().enumerate().filter_map(length).collect();
+        signatures.sort_unstable();
+        let sat = signatures.get(..k).and_then(|shortest| {
+            shortest.iter().fold(item(0), |sum, (length, i)| {
+                chosen[*i] = true;
+                both(sum, signed(*length))
+            })
+        });
+        Plan { sat, dsat: Some(Way { weight: k as i64 + 1, is_free: true }), chosen, ..Plan::default() }
+    }
+
+    /// Puts a satisfaction or a dissatisfaction on a stack, by a plan that has it.
+    fn put<'s>(&self, tree: &'s Tree, plan: &Plan, is_sat: bool, stack: &mut Vec<&'s [u8]>)
+    where
+        'a: 's,
+    {
+        match (tree, plan.parts.as_slice()) {
+            (Tree::PkK(key), _) => stack.push(self.signature_or_empty(key, is_sat)),
+            (Tree::PkH(key), _) => stack.extend([self.signature_or_empty(key, is_sat), key]),
+            (Tree::Hash(kind, value), _) => {
+                stack.push(self.assets.preimage(*kind, value).filter(|_| is_sat).unwrap_or(&[0; 32]));
+            }
+            (Tree::AndOr(x, y, z), [of_x, of_y, of_z]) => {
+                if is_sat && !plan.sat_is_second {
+                    self.put(y, of_y, true, stack);
+                    self.put(x, of_x, true, stack);
+                } else {
+                    self.put(z, of_z, is_sat, stack);
+                    self.put(x, of_x, false, stack);
+                }
+            }
+            (Tree::Two(kind, x, z), [of_x, of_z]) => {
+                let is_second = if is_sat { plan.sat_is_second } else { plan.dsat_is_second };
+                match kind {
+                    Two::AndV | Two::AndB => {
+                        self.put(z, of_z, is_sat, stack);
+                        self.put(x, of_x, is_sat, stack);
+                    }
+                    Two::OrI => {
+                        let (part, plan, top): (_, _, &[u8]) = if is_second { (z, of_z, &[]) } else { (x, of_x, &[1]) };
+                        self.put(part, plan, is_sat, stack);
+                        stack.push(top);
+                    }
+                    _ => {
+                        if !matches!(kind, Two::OrC | Two::OrD) || !is_sat || is_second {
+                            self.put(z, of_z, is_second, stack);
+                        }
+                        self.put(x, of_x, is_sat && !is_second, stack);
+                    }
+                }
+            }
+            (Tree::Thresh(_, children), plans) => {
+                for ((child, of_child), chosen) in children.iter().zip(plans).zip(&plan.chosen).rev() {
+                    self.put(child, of_child, is_sat && *chosen, stack);
+                }
+            }
+            (Tree::Multi(k, keys), _) => {
+                stack.push(&[]);
+                if is_sat {
+                    let signers = keys.iter().zip(&plan.chosen).filter(|(_, chosen)| **chosen);
+                    stack.extend(signers.map(|(key, _)| self.signature_or_empty(key, true)));
+                } else {
+                    stack.extend((0..*k).map(|_| &[] as &[u8]));
+                }
+            }
+            (Tree::Wrap(b'd' | b'j', _), _) if !is_sat => stack.push(&[]),
+            (Tree::Wrap(letter, x), _) => {
+                self.put(x, plan, is_sat, stack);
+                if *letter == b'd' {
+                    stack.push(&[1]);
+                }
+            }
+            _ => {}
+        }
+    }
+
+    fn signature_or_empty(&self, key: &Key, is_sat: bool) -> &'a [u8] {
+        self.assets.signature(key).filter(|_| is_sat).unwrap_or_default()
+    }
+}
+
+/// The first option, unless the second weighs less; and whether it is the second.
+fn lighter(first: Option<Way>, second: Option<Way>) -> (Option<Way>, bool) {
+    let is_second = match (first, second) {
+        (Some(first), Some(second)) => second.weight < first.weight,
+        (first, _) => first.is_none(),
+    };
+    (if is_second { second } else { first }, is_second)
+}
+
+// The report.
+
+fn put_size(witness: &mut Vec<u8>, size: usize) {
+    if size < 253 {
+        witness.push(size as u8);
+    } else {
+        witness.push(253);
+        witness.extend_from_slice(&(size as u16).to_le_bytes());
+    }
+}
+
+/// None where the interpreter refuses the stack.
+fn report(valid: &Valid, assets: &Assets, stack: &[&[u8]]) -> Option<String> {
+    let is_good = |key: &[u8], signature: &[u8]| {
+        key.try_into().is_ok_and(|key: &Key| assets.signature(key) == Some(signature))
+    };
+    let (ops, peak, _) = run(&valid.script, stack, &assets.locks, is_good)?;
+    let mut out = String::new();
+    valid.put_script(&mut out);
+    let mut witness = Vec::new();
+    put_size(&mut witness, stack.len() + 1);
+    for item in stack {
+        out.push_str("item ");
+        if item.is_empty() {
+            out.push('-');
+        }
+        put_digits(&mut out, item);
+        out.push('\n');
+        put_size(&mut witness, item.len());
+        witness.extend_from_slice(item);
+    }
+    put_size(&mut witness, valid.script.len());
+    witness.extend_from_slice(&valid.script);
+    out.push_str("witness ");
+    put_digits(&mut out, &witness);
+    let weight: usize = stack.iter().map(|item| 1 + item.len()).sum();
+    out.push_str(&format!("\nreplay ops {ops} items {} weight {weight} peak {peak}\n", stack.len()));
+    Some(out)
+}
+
+fn file() -> Vec<u8> {
+    let mut file = Vec::new();
+    stdin().read_to_end(&mut file).expect("an asset file");
+    file
+}
+
+/// None where the text or the file is refused; Some(None) where there is no satisfaction.
+fn satisfy(text: &str, is_strict: bool) -> Option<Option<String>> {
+    let valid = valid(text)?;
+    if is_strict && !is_sane(&valid.tree) {
+        return None;
+    }
+    let assets = assets_of(&file())?;
+    let choice = Choice { assets: &assets, is_strict, of_zeros: digests(&[0; 32]) };
+    let plan = choice.plan(&valid.tree);
+    if plan.sat.is_none() {
+        return Some(None);
+    }
+    let mut stack = Vec::new();
+    choice.put(&valid.tree, &plan, true, &mut stack);
+    Some(Some(report(&valid, &assets, &stack).expect("an accepted run")))
+}
+
+fn fragments() -> Option<String> {
+    let file = Json { bytes: &file(), at: 0 }.value()?;
+    let mut out = String::new();
+    for (i, preimage) in list(&file, "preimages")?.iter().enumerate() {
+        let name = ["sha256", "hash256", "ripemd160", "hash160"][i % 4];
+        let value = &digests(&decoded(preimage.text()?.as_bytes())?)[i % 4];
+        out.push_str(name);
+        out.push('(');
+        put_digits(&mut out, value);
+        out.push_str(")\n");
+    }
+    Some(out)
+}
+
+fn main() {
+    let words: Vec<String> = std::env::args().skip(1).collect();
+    let words: Vec<&str> = words.iter().map(String::as_str).collect();
+    let answer = match words[..] {
+        ["fragments"] => fragments().map(Some),
+        ["--malleable", text] => satisfy(text, false),
+        [text] => satisfy(text, true),
+        _ => panic!("a text"),
+    };
+    match answer {
+        Some(Some(out)) => print!("{out}"),
+        Some(None) => {
+            println!("no satisfaction");
+            exit(4);
+        }
+        None => {
+            println!("refused");
+            exit(2);
+        }
+    }
+}
