@@ -1,8 +1,8 @@
 //! Definitions of the program: its reports, and its answer to each list of words.
 #![tactic(auto)]
 
-mod examples;
-mod laws;
+pub mod examples;
+pub mod laws;
 mod status;
 
 pub use status::Status;

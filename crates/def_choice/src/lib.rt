@@ -1,5 +1,5 @@
 //! Definitions of which satisfaction is chosen, and of which satisfactions nobody can change.
 #![tactic(auto)]
 
-mod examples;
-mod laws;
+pub mod examples;
+pub mod laws;

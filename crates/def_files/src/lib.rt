@@ -1,8 +1,8 @@
 //! Definitions of the asset file and the run file: what their bytes give, and why they are refused.
 #![tactic(auto)]
 
-mod examples;
-mod laws;
+pub mod examples;
+pub mod laws;
 
 /// A part of a file that a refusal names, in the order in which parts are named.
 #[derive(Clone, Copy, Debug, PartialEq, Eq)]

@@ -1,8 +1,8 @@
 //! Definitions of the hash functions that Script knows: RIPEMD-160, SHA-256, and their compositions.
 #![tactic(auto)]
 
-mod examples;
-mod laws;
+pub mod examples;
+pub mod laws;
 
 /// A hash function that a hash lock names, by the name of its fragment (BIP 379).
 #[derive(Clone, Copy, Debug, PartialEq, Eq)]

@@ -1,8 +1,8 @@
 //! Definitions of the Script interpreter: its locks, its machine, and what a run gives.
 #![tactic(auto)]
 
-mod examples;
-mod laws;
+pub mod examples;
+pub mod laws;
 
 /// What the input and the transaction say of timelocks: the version and the locktime of the transaction, and
 /// the sequence number of the input.

@@ -1,5 +1,5 @@
 //! What is promised of satisfactions and of choices, as statements.
 #![tactic(auto)]
 
-mod examples;
-mod laws;
+pub mod examples;
+pub mod laws;

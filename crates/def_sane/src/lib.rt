@@ -1,8 +1,8 @@
 //! Definitions of a miniscript's limits, and of the reasons why it is refused.
 #![tactic(auto)]
 
-mod examples;
-mod laws;
+pub mod examples;
+pub mod laws;
 
 pub use def_types::{Mall, RuleAt, Ty};
 

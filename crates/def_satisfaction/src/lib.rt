@@ -1,5 +1,5 @@
 //! Definitions of satisfactions: which stacks satisfy a miniscript, and what a stack weighs.
 #![tactic(auto)]
 
-mod examples;
-mod laws;
+pub mod examples;
+pub mod laws;

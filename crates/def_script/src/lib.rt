@@ -1,8 +1,8 @@
 //! Definitions of Script: its opcodes, its instructions, and how they are spelled as bytes.
 #![tactic(auto)]
 
-mod examples;
-mod laws;
+pub mod examples;
+pub mod laws;
 
 use thiserror::Error;
 

@@ -1,8 +1,8 @@
 //! Definitions of miniscript's two type systems: correctness and malleability (BIP 379).
 #![tactic(auto)]
 
-mod examples;
-mod laws;
+pub mod examples;
+pub mod laws;
 mod rule;
 
 pub use rule::{Rule, RuleAt};
