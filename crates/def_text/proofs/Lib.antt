@@ -11,6 +11,7 @@ pub mod Ends
 pub mod Deep
 pub mod Report
 pub mod Outcomes
+pub mod ByMachine
 pub mod OneAnswer
 pub mod OffsetCount
 pub mod PrintedWords

@@ -154,7 +154,23 @@ LoneRunIsTooDeep = TextRefusal (replicate 257 (byte "n")) (TooDeep 0)
 abbrev pub NestedLetterIsTooDeep : Type 0
 NestedLetterIsTooDeep = TextRefusal (concat (replicate 256 (codes "and_v(")) ++ codes "n:0") (TooDeep 1536)
 
--- 65,537 bytes
+-- where a wrong token and one that is too deep meet, the one that stands first is named: a run of 257 letters is too
+-- deep before the `)` is wrong, and the comma behind `0` is wrong before the run is too deep
+abbrev pub DepthComesFirst : Type 0
+DepthComesFirst = TextRefusal (replicate 257 (byte "n") ++ codes ")") (TooDeep 0)
+
+abbrev pub SyntaxComesFirst : Type 0
+SyntaxComesFirst = TextRefusal (codes "0," ++ replicate 257 (byte "n") ++ codes ":0") (Syntax 1)
+
+-- of one token: where no expression may begin, a run is no number, however long; and behind 256 letters `x` has no
+-- depth, since it is neither a name nor a run
+abbrev pub RunAsNumberIsWrong : Type 0
+RunAsNumberIsWrong = TextRefusal (codes "older(" ++ replicate 257 (byte "n") ++ codes ")") (Syntax 6)
+
+abbrev pub NoNameIsNotDeep : Type 0
+NoNameIsNotDeep = TextRefusal (replicate 256 (byte "n") ++ codes ":x") (Syntax 257)
+
+-- 65,537 bytes, which are a run that is too deep besides
 abbrev pub LongTextIsRefused : Type 0
 LongTextIsRefused = TextRefusal (replicate 65537 (byte "n")) TooLong
 

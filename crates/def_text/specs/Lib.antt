@@ -7,3 +7,4 @@ pub mod Print
 pub mod Reader
 pub mod Laws
 pub mod Examples
+pub mod FormExamples
