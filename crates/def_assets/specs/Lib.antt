@@ -1,1 +1,2 @@
 pub mod Assets
+pub mod Examples
