@@ -3,7 +3,7 @@ use Rattle.std.proofs.Common.{refl}
 use Rattle.def_machine.specs.Samples.{key_a}
 use Rattle.def_types.specs.Samples.{pk}
 use Rattle.def_choice.specs.Strict.{strict}
-use Rattle.def_answer.specs.SatisfyExamples.{TwoOfThree, LateKey, TooEarly, VoidLock, TimeLock, NoTime, StrictThreshold, CheapestThreshold, StrictEither, CheapestEither, LockInThreshold, LockTooEarly, ZerosAsPreimage, ZerosUnknown, TextsFirst, ZeroHasNone, RefusedFiles, FileTooLong}
+use Rattle.def_answer.specs.SatisfyExamples.{TwoOfThree, LateKey, TooEarly, VoidLock, TimeLock, NoTime, StrictThreshold, CheapestThreshold, StrictEither, CheapestEither, LockInThreshold, LockTooEarly, SignaturesForLock, ZerosAsPreimage, ZerosUnknown, TextsFirst, ZeroHasNone, RefusedFiles, FileTooLong}
 use Rattle.def_answer.proofs.Answered.{answered}
 use Rattle.def_answer.proofs.Early.{long_asset_file}
 use Rattle.def_answer.proofs.Computing.{answers_on_literals}
@@ -55,6 +55,10 @@ lock_in_threshold = answered refl refl
 pub lock_too_early : LockTooEarly
 unfolding answers_on_literals
 lock_too_early = answered refl refl
+
+pub signatures_for_lock : SignaturesForLock
+unfolding answers_on_literals
+signatures_for_lock = answered refl refl
 
 pub zeros_as_preimage : ZerosAsPreimage
 unfolding answers_on_literals

@@ -220,6 +220,19 @@ LockInThreshold =
 abbrev pub LockTooEarly : Type 0
 LockTooEarly = NoneSatisfies lock_text (number (codes "sequence") 31 ∷ signatures (sig_a ∷ sig_c ∷ []) ∷ [])
 
+-- a block too early, with all three signatures: the lock's child is dissatisfied by the selector of its `0`
+abbrev pub SignaturesForLock : Type 0
+SignaturesForLock =
+    Satisfies lock_text (number (codes "sequence") 31 ∷ signatures (sig_a ∷ sig_c ∷ sig_b ∷ []) ∷ []) (
+    known lock_script (codes "size 121 ops 15 items 4 weight 224")
+    ++ codes "item 01"
+    ∷ (codes "item " ++ SIG_C)
+    ∷ (codes "item " ++ SIG_B)
+    ∷ (codes "item " ++ SIG_A)
+    ∷ (codes "witness 05010146" ++ SIG_C ++ codes "48" ++ SIG_B ++ codes "47" ++ SIG_A ++ codes "79" ++ lock_script)
+    ∷ codes "replay ops 15 items 4 weight 218 peak 5"
+    ∷ [])
+
 -- `thresh(1,sha256(Z),s:pk(A))` where 32 zero bytes hash to Z: they are no dissatisfaction, but a preimage
 abbrev pub zeros_text : Bytes
 zeros_text = codes "thresh(1," ++ sha H0 ++ codes ",s:" ++ pk A ++ codes ")"

@@ -27,6 +27,7 @@ ghost use Rattle.def_answer.specs.SatisfyExamples.{
   CheapestEither,
   LockInThreshold,
   LockTooEarly,
+  SignaturesForLock,
   ZerosAsPreimage,
   ZerosUnknown,
   TextsFirst,
@@ -82,6 +83,7 @@ pub fn satisfactions()
     ensures cheapest_either { CheapestEither }
     ensures lock_in_threshold { LockInThreshold }
     ensures lock_too_early { LockTooEarly }
+    ensures signatures_for_lock { SignaturesForLock }
     ensures zeros_as_preimage { ZerosAsPreimage }
     ensures zeros_unknown { ZerosUnknown }
     ensures texts_first { TextsFirst }

@@ -1,5 +1,5 @@
 use Rattle.def_answer.proofs.examples.satisfactions.Goals as goal
-use Rattle.def_answer.proofs.SatisfyRows.{two_of_three, late_key, too_early, void_lock, time_lock, no_time, strict_threshold, cheapest_threshold, strict_either, cheapest_either, lock_in_threshold, lock_too_early, zeros_as_preimage, zeros_unknown, texts_first, zero_has_none, refused_files, file_too_long}
+use Rattle.def_answer.proofs.SatisfyRows.{two_of_three, late_key, too_early, void_lock, time_lock, no_time, strict_threshold, cheapest_threshold, strict_either, cheapest_either, lock_in_threshold, lock_too_early, signatures_for_lock, zeros_as_preimage, zeros_unknown, texts_first, zero_has_none, refused_files, file_too_long}
 
 pub returns-clause-two_of_three : goal.returns-clause-two_of_three
 returns-clause-two_of_three c = two_of_three
@@ -36,6 +36,9 @@ returns-clause-lock_in_threshold c = lock_in_threshold
 
 pub returns-clause-lock_too_early : goal.returns-clause-lock_too_early
 returns-clause-lock_too_early c = lock_too_early
+
+pub returns-clause-signatures_for_lock : goal.returns-clause-signatures_for_lock
+returns-clause-signatures_for_lock c = signatures_for_lock
 
 pub returns-clause-zeros_as_preimage : goal.returns-clause-zeros_as_preimage
 returns-clause-zeros_as_preimage c = zeros_as_preimage
