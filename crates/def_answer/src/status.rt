@@ -1,31 +1,34 @@
+//! How a call of the program ended.
 ghost use Rattle.std.specs.Prelude.{◌≡◌};
 ghost use Rattle.def_answer.specs.Status.{code_of};
 
-/// How a call of the program ended.
+/// How a call of the program ended, in the order of the exit codes, from 0 on. `Done`, `Usage`, `TextRefused`,
+/// `FileRefused`, `NoSatisfaction` and `ScriptRefused` are answers to the words and the source, with a report;
+/// the others come of faults and of want of memory.
 #[derive(Clone, Copy, Debug, PartialEq, Eq)]
 pub enum Status {
-    /// What was asked for was written.
+    /// What was asked for was written whole.
     Done,
-    /// The words are no stated form.
+    /// The words are those of no command.
     Usage,
-    /// The text has no tree, or its tree is unfit.
+    /// The text has no tree, or there is a reason against its tree, of those that the command asks for.
     TextRefused,
-    /// The file is refused.
+    /// The asset file or the run file is refused, or has over 1,048,576 bytes.
     FileRefused,
-    /// No canonical satisfaction exists.
+    /// No canonical satisfaction of the text exists with the file's assets.
     NoSatisfaction,
-    /// The source failed.
+    /// The source failed, and nothing was written.
     ReadFault,
-    /// The sink failed.
+    /// The sink failed, and has a front of the report.
     WriteFault,
-    /// Memory was wanting.
+    /// Memory was wanting, and nothing was written.
     Memory,
-    /// The interpreter refused the script.
+    /// The interpreter refused the script of a run file.
     ScriptRefused,
 }
 
 impl Status {
-    /// The status as the program's exit code.
+    /// The status as the program's exit code: its place in the list, 0 to 8. Takes no memory.
     pub fn code(&self) -> u8
         ensures { result ≡ code_of self.now }
     {

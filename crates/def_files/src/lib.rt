@@ -26,27 +26,30 @@ pub enum Member {
 }
 
 /// Why a file is refused, in the order in which the reasons are tested. A number is the place of an element
-/// in its list, from 0.
+/// in its list, from 0. A run file is refused by `NotJson`, `Shape`, `Number`, `Hex` and `TooMany` alone.
 #[derive(Clone, Copy, Debug, PartialEq, Eq)]
 pub enum AssetFault {
-    /// The bytes are no JSON text.
+    /// The bytes are no UTF-8, or no JSON text (RFC 8259), or one whose lists and objects nest more than 127
+    /// deep, or which has a number over the greatest float of 64 bits.
     NotJson,
-    /// The file is no object, or the member or an element of it has the wrong shape.
+    /// The file is no object, or the member or an element of it has the wrong shape. The script of a run
+    /// file has it too where it is missing.
     Shape(Member),
-    /// The member is no whole number below 2^32.
+    /// The member is no whole number below 2^32, written with no fraction, no exponent and no minus sign.
     Number(Member),
-    /// A text of the element has an odd number of characters or one that is no hexadecimal digit.
+    /// A text of the element has an odd number of characters or one that is no hexadecimal digit. The place
+    /// is 0 for a script.
     Hex(Member, u32),
-    /// The key of the signature isn't 33 bytes that begin with 2 or 3.
+    /// The key of the signature isn't 33 bytes that begin with 2 or 3, as BIP 143 asks of P2WSH.
     KeyForm(u32),
-    /// The signature hasn't 1 to 73 bytes.
+    /// The signature hasn't 1 to 73 bytes: BIP 66 has at most 72 and the hash type.
     SigLength(u32),
     /// The preimage hasn't 32 bytes.
     PreimageLength(u32),
-    /// The list has too many elements.
+    /// The list has too many elements: over 256 signatures or preimages, or over 2,000 elements of a stack.
     TooMany(Member),
     /// The key of the signature is that of an earlier one.
     RepeatedKey(u32),
-    /// There was no memory.
+    /// There was no memory. No file has this as its answer; a reader gives it in place of any answer.
     Memory,
 }

@@ -23,7 +23,8 @@ use std::alloc::Global;
 /// be missing, and bytes are spelled by hexadecimal digits.
 ///
 /// Of the refusals that apply the first in the order of `AssetFault` is given, then the first in the
-/// order of `Member`, then the one with the least place. `bytes` has at most 2^31 bytes.
+/// order of `Member`, then the one with the least place. Want of memory, `Memory`, may come in place of
+/// any answer. `bytes` has at most 2^31 bytes.
 #[tactic(auto, unfolding(def_files::specs::AssetFile::assets_of))]
 pub fn read_assets(alloc: Global, bytes: &[u8]) -> Result<Assets, AssetFault>
     requires { length bytes.now ≤ 2 ^ 31 }

@@ -1,3 +1,4 @@
+//! Assets: signatures with their keys, preimages, and the values of the locks.
 ghost use Rattle.std.specs.Prelude.{◌≡◌, ◌^◌, ◌<◌, ◌≤◌, List, [], ◌∷◌, ◌++◌, find, option_map, OnOk, OnErr};
 ghost use Rattle.std.specs.List.{list_any};
 ghost use Rattle.std.specs.Str.{bytes_eq};
@@ -17,22 +18,22 @@ use ms_tree::Key;
 use std::alloc::Global;
 use std::marker::Model;
 
-/// How many signatures assets and run files hold.
+/// How many signatures assets and run files hold at most.
 pub const MOST_SIGNATURES: usize = 256;
 
-/// How many preimages assets hold.
+/// How many preimages assets hold at most.
 pub const MOST_PREIMAGES: usize = 256;
 
 /// Why a signature or a preimage isn't added, in the order in which the reasons are tested.
 #[derive(Clone, Copy, Debug, PartialEq, Eq)]
 pub enum AddStop {
-    /// The signature hasn't 1 to 73 bytes.
+    /// The signature hasn't 1 to 73 bytes: BIP 66 has at most 72 and the hash type.
     SigLength,
-    /// 256 are held.
+    /// 256 of its kind are held.
     TooMany,
-    /// A signature is held with the key.
+    /// A signature is held with the key already.
     RepeatedKey,
-    /// There was no memory.
+    /// There was no memory. Only where no other reason applies.
     Memory,
 }
 
@@ -57,7 +58,7 @@ impl Model for Assets {
 }
 
 impl Assets {
-    /// Assets with no signature and no preimage. Takes no memory.
+    /// Assets with these values of the locks, no signature and no preimage. Takes no memory.
     pub fn new(alloc: Global, locks: Locks) -> Assets
         ensures { result ≡ record { locks = locks; pairs = []; preimages = [] } }
     {
@@ -80,7 +81,8 @@ impl Assets {
         }
     }
 
-    /// Adds a signature with its key at the end.
+    /// Adds a signature with its key at the end: 1 to 73 bytes, of which nothing else is asked. Refused, in this
+    /// order, by `SigLength`, `TooMany`, `RepeatedKey` and `Memory`; the assets are then what they were.
     pub fn add_sig(&mut self, key: &Key, sig: &[u8]) -> Result<(), AddStop>
         ensures answer { Answers (sig_stop self.old key.now sig.now) result }
         ensures ok { OnOk result (self.new ≡ record self.old { pairs = self.old.pairs ++ (key.now, sig.now) ∷ [] }) }
@@ -102,7 +104,8 @@ impl Assets {
         Ok(())
     }
 
-    /// Adds a preimage at the end.
+    /// Adds a preimage at the end. It may be held already. Refused by `TooMany`, and else by `Memory`; the assets
+    /// are then what they were.
     pub fn add_preimage(&mut self, preimage: &[u8; 32]) -> Result<(), AddStop>
         ensures answer { Answers (preimage_stop self.old) result }
         ensures ok { OnOk result (self.new ≡ record self.old { preimages = self.old.preimages ++ preimage.now ∷ [] }) }
@@ -118,7 +121,7 @@ impl Assets {
     }
 
     /// The values of the locks. What is held is at most one signature a key, and all is few and has its
-    /// form.
+    /// form: at most 256 signatures of 1 to 73 bytes, and at most 256 preimages of 32. Takes no memory.
     pub fn locks(&self) -> Locks
         ensures locks { result ≡ self.now.locks }
         ensures few { AreFewAssets self.now }
@@ -126,28 +129,31 @@ impl Assets {
         self.locks
     }
 
-    /// The signatures with their keys, first one first.
+    /// The signatures with their keys, in the order in which they were added or stand in the file. Takes no
+    /// memory.
     pub fn pairs(&self) -> &[SigPair]
         ensures { result.now ≡ self.now.pairs }
     {
         self.pairs.as_slice()
     }
 
-    /// The signature that is held with a key. Takes no memory.
+    /// The signature that is held with a key, or `None` where none is. Takes no memory.
     pub fn sig_of(&self, key: &Key) -> Option<&[u8]>
         ensures { option_map (λ sig. sig.now) result ≡ the_sig_of self.now key.now }
     {
         sig_with(self.pairs.as_slice(), key.as_bytes())
     }
 
-    /// The known preimage of a hash value: the first that hashes to it. Takes no memory.
+    /// The known preimage of a hash value, its 32 bytes: the first in their order that hashes to it, or `None`
+    /// where none does. Takes no memory.
     pub fn preimage_of(&self, value: &HashVal) -> Option<&[u8]>
         ensures { option_map (λ preimage. preimage.now) result ≡ known self.now (kind_of value.now) (bytes_of value.now) }
     {
         first_hashing_to(&self.preimages, value)
     }
 
-    /// Whether a relative timelock holds (BIP 112). `n` is its operand, from 1 to 2^31 - 1.
+    /// Whether a relative timelock holds (BIP 112; its bits are those of BIP 68) in a transaction of this version,
+    /// at an input with this sequence number. `n` is its operand, from 1 to 2^31 - 1. Takes no memory.
     #[tactic(auto, unfolding(def_machine::specs::Locks::older_holds))]
     pub fn holds_older(&self, n: u64) -> bool
         requires least { 1 ≤ n }
@@ -163,7 +169,9 @@ impl Assets {
                 && n & 0x0040_ffff <= sequence & 0x0040_ffff)
     }
 
-    /// Whether an absolute timelock holds (BIP 65). `n` is its operand, from 1 to 2^31 - 1.
+    /// Whether an absolute timelock holds (BIP 65) in a transaction of this locktime, at an input with this
+    /// sequence number. `n` is its operand, from 1 to 2^31 - 1: a height below 500,000,000, and a time in seconds
+    /// from there on. Takes no memory.
     #[tactic(auto, unfolding(def_machine::specs::Locks::after_holds))]
     pub fn holds_after(&self, n: u64) -> bool
         requires least { 1 ≤ n }

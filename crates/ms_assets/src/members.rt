@@ -24,7 +24,7 @@ pub fn read_json(alloc: Global, bytes: &[u8]) -> Result<Value, AssetFault>
     }
 }
 
-/// The name of a member in a file. The file as a whole is `file`.
+/// The name of a member in a file, as reports print it too. The file as a whole is `file`. Takes no memory.
 pub fn member_name(member: Member) -> &'static str
     ensures { result.now ≡ the_member_name member }
 {

@@ -1,3 +1,4 @@
+//! Preimages with their digests.
 ghost use Rattle.std.specs.Prelude.{◌≡◌};
 ghost use Rattle.def_hash.specs.Hash.{digest_of};
 
@@ -43,6 +44,7 @@ impl Preimage {
         }
     }
 
+    /// Its 32 bytes.
     pub(crate) fn as_bytes(&self) -> &[u8]
         ensures { result.now ≡ self.now }
     {

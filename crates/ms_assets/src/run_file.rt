@@ -25,7 +25,7 @@ const MOST_ELEMENTS: usize = 2000;
 pub struct RunFile {
     /// The bytes of the script.
     pub script: Blob,
-    /// The stack, without the script.
+    /// The stack, bottom first, without the script: at most 2,000 elements of any length.
     pub stack: Stack,
     /// The values of the locks.
     pub locks: Locks,
@@ -34,10 +34,13 @@ pub struct RunFile {
 }
 
 /// Reads a run file: a JSON object with the text `script`, the list `witness` of texts, bottom first,
-/// and the numbers and signatures of an asset file. All but the script may be missing.
+/// and the numbers and signatures of an asset file. All but the script may be missing, and `preimages`
+/// is passed over. Keys and signatures have any form and length, and a key may stand twice, so
+/// `KeyForm`, `SigLength`, `PreimageLength` and `RepeatedKey` never come.
 ///
-/// Of the refusals that apply the one is given that `read_assets` would give. `bytes` has at most 2^31
-/// bytes.
+/// Of the refusals that apply the first in the order of `AssetFault` is given, then the first in the
+/// order of `Member`, then the one with the least place. Want of memory, `Memory`, may come in place of
+/// any answer. `bytes` has at most 2^31 bytes.
 #[tactic(auto, unfolding(def_files::specs::RunFile::run_of))]
 pub fn read_run(alloc: Global, bytes: &[u8]) -> Result<RunFile, AssetFault>
     requires { length bytes.now ≤ 2 ^ 31 }

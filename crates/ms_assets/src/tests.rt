@@ -1,3 +1,4 @@
+//! Tests of assets and of both files.
 use crate::*;
 use ms_hash::{HashKind, HashVal, hash_of};
 use ms_oracle::Locks;
