@@ -15,7 +15,7 @@ use Rattle.def_tree.specs.declared.Wrapper.{Wrapper}
 use Rattle.def_tree.specs.declared.Wrapper.TheVariants as wrapper
 use Rattle.def_tree.specs.Tree.{Tree, Trees, Key, just_0, just_1, pk_k, pk_h, older, after, hash, and_or, two, thresh, multi, wrap, none, more}
 use Rattle.def_assets.specs.Assets.{Assets, known}
-use Rattle.def_sane.specs.Nodes.{all_nodes, nodes_of_all}
+use Rattle.def_tree.specs.Nodes.{all_nodes, nodes_of_all}
 use Rattle.def_satisfaction.specs.StackSet.{StackSet, Is, Both, Either}
 use Rattle.def_satisfaction.specs.Setting.{Setting, any, only}
 use Rattle.def_satisfaction.specs.Rows.{Row, NotCanonical, Signature, WithHashOf, IsPreimageOf, PartsOf, thresh_row, row, parts, EMPTY}

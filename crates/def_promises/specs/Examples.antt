@@ -15,7 +15,7 @@ use Rattle.def_types.specs.Samples.{pk, sha256}
 use Rattle.def_assets.specs.Assets.{Assets, AreAssets}
 use Rattle.def_sane.specs.declared.Limits.{Limits}
 use Rattle.def_sane.specs.Limits.{AreLimits}
-use Rattle.def_sane.specs.Nodes.{all_nodes}
+use Rattle.def_tree.specs.Nodes.{all_nodes}
 use Rattle.def_sane.specs.Unfit.{IsValid, IsSane}
 use Rattle.def_satisfaction.specs.Setting.{any}
 use Rattle.def_satisfaction.specs.Rows.{EMPTY, ONE}

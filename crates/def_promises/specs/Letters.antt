@@ -15,7 +15,7 @@ use Rattle.def_types.specs.declared.Mall.{Mall}
 use Rattle.def_types.specs.Corr.{corr}
 use Rattle.def_types.specs.Malleable.{mall}
 use Rattle.def_assets.specs.Assets.{Assets, known}
-use Rattle.def_sane.specs.Nodes.{all_nodes}
+use Rattle.def_tree.specs.Nodes.{all_nodes}
 use Rattle.def_sane.specs.Unfit.{IsValid}
 use Rattle.def_satisfaction.specs.Setting.{Mode, any, only}
 use Rattle.def_satisfaction.specs.Rows.{ONE, IsNoPreimageOf}

@@ -8,7 +8,7 @@ use Rattle.def_machine.specs.Stacks.{Pairs, is_key}
 use Rattle.def_tree.specs.Tree.{Tree, Key, pk_h, hash}
 use Rattle.def_tree.specs.Range.{IsWritable}
 use Rattle.def_assets.specs.Assets.{Assets, AreAssets, known}
-use Rattle.def_sane.specs.Nodes.{all_nodes}
+use Rattle.def_tree.specs.Nodes.{all_nodes}
 use Rattle.def_sane.specs.Unfit.{IsSane}
 use Rattle.def_satisfaction.specs.Weight.{weight}
 use Rattle.def_satisfaction.specs.Rows.{IsPreimageOf}

@@ -2,7 +2,7 @@
 use Rattle.std.specs.Option.{option_or}
 use Rattle.std.proofs.Common.{◌++◌, length, ◌≡◌, ℕ, zero, suc, ◌+◌, ◌<◌, Bool, true, false, cond, List, [], ◌∷◌, Option, Some, None, slice_get, refl, sym, ◌∙◌, ap, arith, subst, MatchOption}
 use Rattle.std.specs.List.{position_from}
-use Rattle.def_sane.specs.Nodes.{all_nodes}
+use Rattle.def_tree.specs.Nodes.{all_nodes}
 use Rattle.def_sane.specs.Locks.{Mixes, mixes, mix}
 use Rattle.def_sane.specs.Laws.{MixIsFirst}
 

@@ -9,13 +9,13 @@ use Rattle.std.proofs.lemmas.Map.Views.{list_any-from_Contains, Contains-from_an
 use Rattle.std.proofs.lemmas.Slice.Eq.{bytes_eq-Decides}
 use Rattle.std.proofs.lemmas.Cmp.{nat_list_eq_equiv}
 use Rattle.def_tree.specs.Tree.{Tree, Key}
-use Rattle.def_sane.specs.Nodes.{all_nodes}
+use Rattle.def_tree.specs.Nodes.{all_nodes}
 use Rattle.def_sane.specs.Keys.{keys, own_keys, repeats, repeated_from, AreDistinct}
 use Rattle.def_sane.specs.Laws.{NoneIsRepeated}
 use Rattle.def_sane.proofs.NodeLists.{keys_of_nodes}
 
 -- no key of the list stands before, or earlier in the list
-abbrev Free : List Key → List Key → Type 0
+abbrev pub Free : List Key → List Key → Type 0
 Free before [] = ⊤
 Free before (key ∷ rest) = (¬ Contains before key) × Free (before ++ key ∷ []) rest
 
@@ -30,7 +30,7 @@ not_there key before h = go (list_any (bytes_eq key) before) refl
     go true e = absurd (h (Contains-from_any (λ x y. (bytes_eq-Decides x y).0) key before e))
     go false e = refl
 
-free_from_test : (before own : List Key) → repeats before own ≡ false → Free before own
+pub free_from_test : (before own : List Key) → repeats before own ≡ false → Free before own
 free_from_test before [] e = tt
 free_from_test before (key ∷ rest) e = go (list_any (bytes_eq key) before) refl (free_from_test (before ++ key ∷ []) rest) e
   where

@@ -3,7 +3,9 @@ pub mod Greatest
 pub mod NodeLists
 pub mod FirstMix
 pub mod FirstRepeat
+pub mod Repeating
 pub mod Meanings
 pub mod Computed
 pub mod Refused
+pub mod FirstNodes
 pub mod Translated

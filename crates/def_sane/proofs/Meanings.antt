@@ -9,8 +9,7 @@ use Rattle.def_types.specs.declared.rule.RuleAt.{RuleAt}
 use Rattle.def_types.specs.Corr.{is_b, corr}
 use Rattle.def_types.specs.Malleable.{mall}
 use Rattle.def_types.specs.Typed.{type_of, IsTyped, mall_of, IsNonMalleable}
-use Rattle.def_types.proofs.Typing.{corr_is_typed}
-use Rattle.def_types.proofs.NonMalleable.{mall_is_non_malleable}
+use Rattle.def_types.proofs.Typing.{corr_is_typed, mall_is_non_malleable}
 use Rattle.def_sane.specs.declared.Unfit.{Unfit}
 use Rattle.def_sane.specs.Most.{limits_of}
 use Rattle.def_sane.specs.Locks.{mix}

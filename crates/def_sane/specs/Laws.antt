@@ -1,15 +1,13 @@
 -- Laws of limits, and of valid and sane miniscripts.
-use Rattle.std.specs.Prelude.{◌≡◌, ◌↔◌, ℕ, ◌<◌, ◌≤◌, None, IsTrue, MatchOption, length}
+use Rattle.std.specs.Prelude.{◌≡◌, ◌↔◌, ℕ, ◌<◌, ◌≤◌, None, IsTrue, MatchOption}
 use Rattle.def_tree.specs.Tree.{Tree}
-use Rattle.def_tree.specs.Size.{nodes}
 use Rattle.def_types.specs.declared.Base.TheVariants.{B}
 use Rattle.def_types.specs.Typed.{type_of, IsTyped, mall_of, IsNonMalleable}
 use Rattle.def_sane.specs.declared.Limits.{Limits}
-use Rattle.def_sane.specs.Nodes.{all_nodes}
 use Rattle.def_sane.specs.Limits.{AreLimits}
 use Rattle.def_sane.specs.Most.{limits_of}
 use Rattle.def_sane.specs.Locks.{Mixes, mix}
-use Rattle.def_sane.specs.Keys.{keys, AreDistinct, repeated_key}
+use Rattle.def_sane.specs.Keys.{keys, Repeats, AreDistinct, repeated_key}
 use Rattle.def_sane.specs.Unfit.{MOST_SIZE, MOST_OPS, MOST_ITEMS, IsValid, IsSane}
 
 -- the computed limits are limits
@@ -20,10 +18,6 @@ LimitsAreComputed = (tree : Tree) → AreLimits tree (limits_of tree)
 abbrev pub LimitsAreUnique : Type 0
 LimitsAreUnique = (tree : Tree) (limits : Limits) → AreLimits tree limits → limits ≡ limits_of tree
 
--- the list of nodes has all nodes
-abbrev pub NodesAreAll : Type 0
-NodesAreAll = (tree : Tree) → length (all_nodes tree) ≡ nodes tree
-
 -- `mix` is the first node that mixes, and there is none exactly where it is none
 abbrev pub MixIsFirst : Type 0
 MixIsFirst =
@@ -31,6 +25,14 @@ MixIsFirst =
     MatchOption (mix tree)
     ((node : ℕ) → ¬ Mixes tree node)
     (λ first. Mixes tree first × ((node : ℕ) → node < first → ¬ Mixes tree node))
+
+-- `repeated_key` is the first node that repeats a key, and there is none exactly where it is none
+abbrev pub RepeatedIsFirst : Type 0
+RepeatedIsFirst =
+    (tree : Tree) →
+    MatchOption (repeated_key tree)
+    ((node : ℕ) → ¬ Repeats tree node)
+    (λ first. Repeats tree first × ((node : ℕ) → node < first → ¬ Repeats tree node))
 
 -- no key is repeated exactly where all keys of the tree are distinct
 abbrev pub NoneIsRepeated : Type 0

@@ -1,4 +1,3 @@
-pub mod Nodes
 pub mod Formal
 pub mod Limits
 pub mod Most
@@ -7,5 +6,6 @@ pub mod Locks
 pub mod Keys
 pub mod Unfit
 pub mod Examples
+pub mod FirstNodes
 pub mod Refusals
 pub mod Scripts

@@ -14,6 +14,7 @@ ghost use Rattle.def_sane.specs.Examples.{
   EachByItself,
   ZeroLimits,
 };
+ghost use Rattle.def_sane.specs.FirstNodes.{MixedOnes, UnmixedOnes, RepeatedOnes};
 ghost use Rattle.def_sane.specs.Scripts.{NumberScripts, KeyScript, ChainScript, KeysScript, KeyHashScript, LockScripts, EitherKeyScript, ThresholdScript, LockedThresholdScript};
 ghost use Rattle.def_sane.specs.Refusals.{
   SaneOnes,
@@ -81,4 +82,11 @@ pub fn reasons()
     ensures too_many_ops { TooManyOps }
     ensures most_size { MostSize }
     ensures too_large { TooLarge }
+{}
+
+/// These nodes are the first that mix timelocks, or that repeat a key, or there is none.
+pub fn first_nodes()
+    ensures mixed_ones { MixedOnes }
+    ensures unmixed_ones { UnmixedOnes }
+    ensures repeated_ones { RepeatedOnes }
 {}

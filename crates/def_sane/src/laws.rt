@@ -3,8 +3,8 @@
 ghost use Rattle.def_sane.specs.Laws.{
   LimitsAreComputed,
   LimitsAreUnique,
-  NodesAreAll,
   MixIsFirst,
+  RepeatedIsFirst,
   NoneIsRepeated,
   ValidMeans,
   SaneMeans,
@@ -16,11 +16,11 @@ pub fn limits()
     ensures unique { LimitsAreUnique }
 {}
 
-/// The list of nodes has them all, and what is said of the first node is so.
+/// What is said of the first node is so.
 pub fn nodes()
-    ensures all { NodesAreAll }
     ensures mix { MixIsFirst }
-    ensures repeated { NoneIsRepeated }
+    ensures repeated { RepeatedIsFirst }
+    ensures distinct { NoneIsRepeated }
 {}
 
 /// What it means that no reason stands against a miniscript.

@@ -1,3 +1,5 @@
 pub mod Tree
 pub mod Size
+pub mod Nodes
 pub mod Range
+pub mod Laws

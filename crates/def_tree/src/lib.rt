@@ -1,6 +1,8 @@
 //! Definitions of miniscript trees: their fragments, and their size.
 #![tactic(auto)]
 
+mod laws;
+
 pub use def_hash::HashKind;
 
 /// A wrapper, by its letter (BIP 379).

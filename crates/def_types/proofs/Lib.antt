@@ -1,6 +1,6 @@
 pub mod Rows
 pub mod Computed
-pub mod Answers
+pub mod Signed
+pub mod Refused
 pub mod Typing
-pub mod NonMalleable
 pub mod Facts

@@ -1,20 +1,20 @@
 -- Correctness types (BIP 379, type system, correctness). `or_d_row` and its like are the table's rows:
 -- what a fragment requires, and the type that it has. A row calls a child's type by the child's letter,
 -- and 'z.d' is the property d of the child Z.
-use Rattle.std.specs.Prelude.{ℕ, ◌+◌, ◌^◌, Bool, true, false, ◌&&◌, ◌||◌, nat_lt, nat_le, List, [], ◌∷◌, length, Result, Ok}
+use Rattle.std.specs.Prelude.{ℕ, ◌^◌, Bool, true, false, ◌&&◌, ◌||◌, nat_lt, nat_le, List, [], ◌∷◌, length, Result}
 use Rattle.std.specs.List.{list_all}
 use Rattle.def_tree.specs.declared.Two.{Two}
 use Rattle.def_tree.specs.declared.Two.TheVariants as two_kind
 use Rattle.def_tree.specs.declared.Wrapper.{Wrapper}
 use Rattle.def_tree.specs.declared.Wrapper.TheVariants as wrapper
-use Rattle.def_tree.specs.Tree.{Tree, Trees, Key, just_0, just_1, pk_k, pk_h, older, after, hash, and_or, two, thresh, multi, wrap, none, more}
-use Rattle.def_tree.specs.Size.{nodes, nodes_of}
+use Rattle.def_tree.specs.Tree.{Tree, Key}
 use Rattle.def_types.specs.declared.Base.{Base}
 use Rattle.def_types.specs.declared.Base.TheVariants.{B, V, K, W}
 use Rattle.def_types.specs.declared.Ty.{Ty}
 use Rattle.def_types.specs.declared.rule.RuleAt.{RuleAt}
 use Rattle.def_types.specs.declared.rule.Rule.TheVariants as rule
-use Rattle.def_types.specs.Row.{Row, need, answer, if_ok}
+use Rattle.def_types.specs.Row.{Row, Rows, need}
+use Rattle.def_types.specs.System.{typed_from}
 
 abbrev pub is_b : Base → Bool
 is_b B = true
@@ -287,38 +287,23 @@ wrap_row wrapper.V x = wrap_v_row x
 wrap_row wrapper.J x = wrap_j_row x
 wrap_row wrapper.N x = wrap_n_row x
 
--- the type, or the first requirement that is false: by node, children first and left to right, and then in
--- the order of the row. The nodes of the tree are numbered from `first` on
-abbrev mutual
-  pub corr_from : (first : ℕ) → Tree → Result Ty RuleAt
-  corr_from first just_0 = answer first just_0_row
-  corr_from first just_1 = answer first just_1_row
-  corr_from first (pk_k key) = answer first pk_k_row
-  corr_from first (pk_h key) = answer first pk_h_row
-  corr_from first (older n) = answer first (older_row n)
-  corr_from first (after n) = answer first (after_row n)
-  corr_from first (hash kind value) = answer first hash_row
-  corr_from first (and_or x y z) =
-      if_ok (corr_from first x) (λ x_type.
-      if_ok (corr_from (first + nodes x) y) (λ y_type.
-      if_ok (corr_from (first + nodes x + nodes y) z) (λ z_type.
-      answer (first + nodes x + nodes y + nodes z) (and_or_row x_type y_type z_type))))
-  corr_from first (two kind x y) =
-      if_ok (corr_from first x) (λ x_type.
-      if_ok (corr_from (first + nodes x) y) (λ y_type.
-      answer (first + nodes x + nodes y) (two_row kind x_type y_type)))
-  corr_from first (thresh k xs) =
-      if_ok (corr_all first xs) (λ types. answer (first + nodes_of xs) (thresh_row k types))
-  corr_from first (multi k keys) = answer first (multi_row k keys)
-  corr_from first (wrap wrapper x) =
-      if_ok (corr_from first x) (λ x_type. answer (first + nodes x) (wrap_row wrapper x_type))
+-- the rows of the table
+abbrev pub correctness : Rows Ty
+correctness = record {
+  just_0 = just_0_row;
+  just_1 = just_1_row;
+  pk_k = pk_k_row;
+  pk_h = pk_h_row;
+  older = older_row;
+  after = after_row;
+  hash = hash_row;
+  and_or = and_or_row;
+  two = two_row;
+  thresh = thresh_row;
+  multi = multi_row;
+  wrap = wrap_row;
+}
 
-  pub corr_all : (first : ℕ) → Trees → Result (List Ty) RuleAt
-  corr_all first none = Ok []
-  corr_all first (more x xs) =
-      if_ok (corr_from first x) (λ x_type.
-      if_ok (corr_all (first + nodes x) xs) (λ types.
-      Ok (x_type ∷ types)))
-
+-- the type, or the first requirement that is false
 abbrev pub corr : Tree → Result Ty RuleAt
-corr tree = corr_from 0 tree
+corr tree = typed_from correctness 0 tree

@@ -1,7 +1,10 @@
 pub mod Row
+pub mod System
 pub mod Corr
 pub mod Malleable
 pub mod Samples
 pub mod Examples
+pub mod Properties
+pub mod Refusals
 pub mod Typed
 pub mod Laws

@@ -1,17 +1,17 @@
 -- Malleability properties (BIP 379, type system, malleability). The rows and their letters are read as in `Corr`;
 -- what a fragment requires is asked of every node.
-use Rattle.std.specs.Prelude.{ℕ, ◌+◌, true, false, ◌&&◌, ◌||◌, nat_lt, nat_le, List, [], ◌∷◌, Result, Ok, if◌then◌else◌}
+use Rattle.std.specs.Prelude.{ℕ, ◌+◌, true, false, ◌&&◌, ◌||◌, nat_lt, nat_le, List, [], ◌∷◌, Result, if◌then◌else◌}
 use Rattle.std.specs.List.{list_all}
 use Rattle.def_tree.specs.declared.Two.{Two}
 use Rattle.def_tree.specs.declared.Two.TheVariants as two_kind
 use Rattle.def_tree.specs.declared.Wrapper.{Wrapper}
 use Rattle.def_tree.specs.declared.Wrapper.TheVariants as wrapper
-use Rattle.def_tree.specs.Tree.{Tree, Trees, just_0, just_1, pk_k, pk_h, older, after, hash, and_or, two, thresh, multi, wrap, none, more}
-use Rattle.def_tree.specs.Size.{nodes, nodes_of}
+use Rattle.def_tree.specs.Tree.{Tree}
 use Rattle.def_types.specs.declared.Mall.{Mall}
 use Rattle.def_types.specs.declared.rule.RuleAt.{RuleAt}
 use Rattle.def_types.specs.declared.rule.Rule.TheVariants as rule
-use Rattle.def_types.specs.Row.{Row, need, answer, if_ok}
+use Rattle.def_types.specs.Row.{Row, Rows, need}
+use Rattle.def_types.specs.System.{typed_from}
 
 unfoldable pub just_0_row : Row Mall
 just_0_row = record { needs = []; gives = record { s = true; f = false; e = true } }
@@ -140,38 +140,23 @@ wrap_row wrapper.V x = wrap_v_row x
 wrap_row wrapper.J x = wrap_j_row x
 wrap_row wrapper.N x = record { needs = []; gives = x }
 
--- the properties, or the first requirement that is false, by node and then in the order of the row. The
--- nodes of the tree are numbered from `first` on
-abbrev mutual
-  pub mall_from : (first : ℕ) → Tree → Result Mall RuleAt
-  mall_from first just_0 = answer first just_0_row
-  mall_from first just_1 = answer first just_1_row
-  mall_from first (pk_k key) = answer first key_row
-  mall_from first (pk_h key) = answer first key_row
-  mall_from first (older n) = answer first lock_row
-  mall_from first (after n) = answer first lock_row
-  mall_from first (hash kind value) = answer first hash_row
-  mall_from first (and_or x y z) =
-      if_ok (mall_from first x) (λ x_mall.
-      if_ok (mall_from (first + nodes x) y) (λ y_mall.
-      if_ok (mall_from (first + nodes x + nodes y) z) (λ z_mall.
-      answer (first + nodes x + nodes y + nodes z) (and_or_row x_mall y_mall z_mall))))
-  mall_from first (two kind x y) =
-      if_ok (mall_from first x) (λ x_mall.
-      if_ok (mall_from (first + nodes x) y) (λ y_mall.
-      answer (first + nodes x + nodes y) (two_row kind x_mall y_mall)))
-  mall_from first (thresh k xs) =
-      if_ok (mall_all first xs) (λ malls. answer (first + nodes_of xs) (thresh_row k malls))
-  mall_from first (multi k keys) = answer first key_row
-  mall_from first (wrap wrapper x) =
-      if_ok (mall_from first x) (λ x_mall. answer (first + nodes x) (wrap_row wrapper x_mall))
+-- the rows of the table
+abbrev pub malleability : Rows Mall
+malleability = record {
+  just_0 = just_0_row;
+  just_1 = just_1_row;
+  pk_k = key_row;
+  pk_h = key_row;
+  older = λ n. lock_row;
+  after = λ n. lock_row;
+  hash = hash_row;
+  and_or = and_or_row;
+  two = two_row;
+  thresh = thresh_row;
+  multi = λ k keys. key_row;
+  wrap = wrap_row;
+}
 
-  pub mall_all : (first : ℕ) → Trees → Result (List Mall) RuleAt
-  mall_all first none = Ok []
-  mall_all first (more x xs) =
-      if_ok (mall_from first x) (λ x_mall.
-      if_ok (mall_all (first + nodes x) xs) (λ malls.
-      Ok (x_mall ∷ malls)))
-
+-- the properties, or the first requirement that is false
 abbrev pub mall : Tree → Result Mall RuleAt
-mall tree = mall_from 0 tree
+mall tree = typed_from malleability 0 tree

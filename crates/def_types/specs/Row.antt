@@ -1,6 +1,9 @@
 -- The rows of a type system: what a fragment requires of its children's types, in the order in which it
 -- is tested, and the type that it has where all of that holds.
-use Rattle.std.specs.Prelude.{ℕ, Bool, List, [], ◌∷◌, Result, Ok, Err, if◌then◌else◌}
+use Rattle.std.specs.Prelude.{ℕ, Bool, ⊤, IsTrue, List, [], ◌∷◌, Result, Ok, Err, if◌then◌else◌}
+use Rattle.def_tree.specs.declared.Two.{Two}
+use Rattle.def_tree.specs.declared.Wrapper.{Wrapper}
+use Rattle.def_tree.specs.Tree.{Key}
 use Rattle.def_types.specs.declared.rule.Rule.{Rule}
 use Rattle.def_types.specs.declared.rule.RuleAt.{RuleAt}
 
@@ -11,6 +14,11 @@ pub record Need : Type 0 where
 
 abbrev pub need : Rule → Bool → Need
 need rule holds = record { rule = rule; holds = holds }
+
+-- each of the requirements holds
+abbrev pub AllHold : List Need → Type 0
+AllHold [] = ⊤
+AllHold (n ∷ needs) = IsTrue n.holds × AllHold needs
 
 -- a row: its requirements, and what it gives
 pub record Row (A : Type 0) : Type 0 where
@@ -31,3 +39,18 @@ answer node row = unless_broken node row.needs row.gives
 abbrev pub if_ok : {A B E : Type 0} → Result A E → (A → Result B E) → Result B E
 if_ok (Ok value) next = next value
 if_ok (Err error) next = Err error
+
+-- a type system: the row of each fragment and wrapper, of its arguments and its children's types
+pub record Rows (A : Type 0) : Type 0 where
+  pub just_0 : Row A
+  pub just_1 : Row A
+  pub pk_k : Row A
+  pub pk_h : Row A
+  pub older : (n : ℕ) → Row A
+  pub after : (n : ℕ) → Row A
+  pub hash : Row A
+  pub and_or : (x y z : A) → Row A
+  pub two : Two → (x y : A) → Row A
+  pub thresh : (k : ℕ) → (children : List A) → Row A
+  pub multi : (k : ℕ) → (keys : List Key) → Row A
+  pub wrap : Wrapper → (x : A) → Row A

@@ -22,9 +22,9 @@ macro_rules! opcodes {
 macro_rules! leaf_arms {
     (
         ($out:ident, $leaf:ident)
-        numbers { $([$number:ident $digit:literal $none:literal $pushed:tt])* }
-        keys { $([$key:ident $key_name:literal $one_key:literal $before_key:tt $push:ident $behind_key:tt])* }
-        locks { $([$lock:ident $lock_name:literal $one_lock:literal $needs:tt $before_lock:tt $behind_lock:tt])* }
+        numbers { $([$number:ident $digit:literal 0 $pushed:tt])* }
+        keys { $([$key:ident $key_name:literal 1 $before_key:tt $push:ident $behind_key:tt])* }
+        locks { $([$lock:ident $lock_name:literal 1 $needs:tt $before_lock:tt $behind_lock:tt])* }
         $($others:tt)*
     ) => {
         match $leaf {
@@ -50,7 +50,7 @@ macro_rules! hash_arms {
     (
         ($out:ident, $value:ident)
         numbers $numbers:tt keys $keys:tt locks $locks:tt
-        hashes { $([$variant:ident $name:literal $one:literal $before:tt $behind:tt])* }
+        hashes { $([$variant:ident $name:literal 1 $before:tt $behind:tt])* }
         $($others:tt)*
     ) => {
         match $value {
@@ -67,7 +67,7 @@ macro_rules! and_or_arm {
     (
         ($out:ident, $x:ident, $y:ident, $z:ident)
         numbers $numbers:tt keys $keys:tt locks $locks:tt hashes $hashes:tt
-        and_or { [$variant:ident $name:literal $three:literal $needs:tt $before:tt $behind_x:tt $behind_z:tt $behind_y:tt] }
+        and_or { [$variant:ident $name:literal 3 $needs:tt $properties:tt $before:tt $behind_x:tt $behind_z:tt $behind_y:tt] }
         $($others:tt)*
     ) => {
         opcodes!($out, $before);
@@ -84,7 +84,7 @@ macro_rules! pair_arms {
     (
         ($out:ident, $kind:ident, $x:ident, $z:ident)
         numbers $numbers:tt keys $keys:tt locks $locks:tt hashes $hashes:tt and_or $and_or:tt
-        pairs { $([$variant:ident $name:literal $two:literal $needs:tt $before:tt $between:tt $behind:tt])* }
+        pairs { $([$variant:ident $name:literal 2 $needs:tt $properties:tt $before:tt $between:tt $behind:tt])* }
         $($others:tt)*
     ) => {
         match $kind {
@@ -99,11 +99,39 @@ macro_rules! pair_arms {
     };
 }
 
+/// The opcodes of a threshold behind each further child and at its end, and those at the end of a `multi`.
+macro_rules! list_opcodes {
+    (
+        ($out:ident, further child)
+        numbers $numbers:tt keys $keys:tt locks $locks:tt hashes $hashes:tt and_or $and_or:tt pairs $pairs:tt
+        lists { [Thresh $name:literal $needs:tt $properties:tt $further:tt $behind:tt] $multi:tt }
+        $($others:tt)*
+    ) => {
+        opcodes!($out, $further);
+    };
+    (
+        ($out:ident, thresh)
+        numbers $numbers:tt keys $keys:tt locks $locks:tt hashes $hashes:tt and_or $and_or:tt pairs $pairs:tt
+        lists { [Thresh $name:literal $needs:tt $properties:tt $further:tt $behind:tt] $multi:tt }
+        $($others:tt)*
+    ) => {
+        opcodes!($out, $behind);
+    };
+    (
+        ($out:ident, multi)
+        numbers $numbers:tt keys $keys:tt locks $locks:tt hashes $hashes:tt and_or $and_or:tt pairs $pairs:tt
+        lists { $thresh:tt [Multi $name:literal $needs:tt $properties:tt $behind:tt] }
+        $($others:tt)*
+    ) => {
+        opcodes!($out, $behind);
+    };
+}
+
 macro_rules! wrapper_arms {
     (
         ($out:ident, $wrapper:ident, $x:ident)
         numbers $numbers:tt keys $keys:tt locks $locks:tt hashes $hashes:tt and_or $and_or:tt pairs $pairs:tt lists $lists:tt
-        wrappers { $([$variant:ident $letter:literal $one:literal $needs:tt $before:tt $behind:tt])* }
+        wrappers { $([$variant:ident $letter:literal 1 $needs:tt $before:tt $behind:tt])* }
     ) => {
         match $wrapper {
             $(Wrapper::$variant => {
@@ -118,6 +146,7 @@ macro_rules! wrapper_arms {
 pub(crate) use and_or_arm;
 pub(crate) use hash_arms;
 pub(crate) use leaf_arms;
+pub(crate) use list_opcodes;
 pub(crate) use opcodes;
 pub(crate) use pair_arms;
 pub(crate) use wrapper_arms;

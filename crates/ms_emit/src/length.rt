@@ -12,7 +12,9 @@ ghost use Rattle.ms_hash.specs.Value.{kind_of, bytes_of};
 ghost use Rattle.ms_tree.specs.Shape.{shape, shapes, leaf_shape};
 ghost use Rattle.ms_emit.specs.Extent.{counted, counted_all};
 
-use crate::arms::{and_or_arm, hash_arms, leaf_arms, opcodes, pair_arms, wrapper_arms};
+use crate::arms::{
+    and_or_arm, hash_arms, leaf_arms, list_opcodes, opcodes, pair_arms, wrapper_arms,
+};
 use crate::extent::Extent;
 use ms_script::{Op, num_encode};
 use ms_tree::{HashVal, Key, Leaf, Tree, Two, View, Wrapper, fragment_rows};
@@ -120,7 +122,8 @@ fn add_thresh(extent: &mut Extent, k: u64, children: &[Tree]) -> Result<(), Infa
 {
     add_sum(extent, children)?;
     push_number(extent, k)?;
-    extent.code(Op::Equal)
+    fragment_rows!(list_opcodes!(extent, thresh));
+    Ok(())
 }
 
 #[cycle(add_tree)]
@@ -144,7 +147,7 @@ fn add_others(extent: &mut Extent, children: &[Tree]) -> Result<(), Infallible>
 {
     for child in children {
         add_tree(extent, child)?;
-        extent.code(Op::Add)?;
+        fragment_rows!(list_opcodes!(extent, further child));
     }
     Ok(())
 }
@@ -158,7 +161,8 @@ fn add_multi(extent: &mut Extent, k: u64, keys: &[Key]) -> Result<(), Infallible
     push_number(extent, k)?;
     add_keys(extent, keys)?;
     push_number(extent, keys.len() as u64)?;
-    extent.code(Op::CheckMultiSig)
+    fragment_rows!(list_opcodes!(extent, multi));
+    Ok(())
 }
 
 fn add_keys(extent: &mut Extent, keys: &[Key]) -> Result<(), Infallible>

@@ -7,7 +7,9 @@ ghost use Rattle.def_tree.specs.Tree as tree;
 ghost use Rattle.ms_hash.specs.Value.{kind_of, bytes_of};
 ghost use Rattle.ms_tree.specs.Shape.{shape, shapes, leaf_shape};
 
-use crate::arms::{and_or_arm, hash_arms, leaf_arms, opcodes, pair_arms, wrapper_arms};
+use crate::arms::{
+    and_or_arm, hash_arms, leaf_arms, list_opcodes, opcodes, pair_arms, wrapper_arms,
+};
 use ms_hash::hash160;
 use ms_script::{Op, Script, num_encode};
 use ms_tree::{HashVal, Key, Leaf, Tree, Two, View, Wrapper, fragment_rows};
@@ -98,7 +100,8 @@ fn add_thresh(script: &mut Script, k: u64, children: &[Tree]) -> Result<(), Allo
         add_others(script, others)?;
     }
     push_number(script, k)?;
-    script.code(Op::Equal)
+    fragment_rows!(list_opcodes!(script, thresh));
+    Ok(())
 }
 
 #[cycle(add_tree)]
@@ -108,7 +111,7 @@ fn add_others(script: &mut Script, children: &[Tree]) -> Result<(), AllocError>
 {
     for child in children {
         add_tree(script, child)?;
-        script.code(Op::Add)?;
+        fragment_rows!(list_opcodes!(script, further child));
     }
     Ok(())
 }
@@ -124,7 +127,8 @@ fn add_multi(script: &mut Script, k: u64, keys: &[Key]) -> Result<(), AllocError
         script.push(key.as_bytes())?;
     }
     push_number(script, keys.len() as u64)?;
-    script.code(Op::CheckMultiSig)
+    fragment_rows!(list_opcodes!(script, multi));
+    Ok(())
 }
 
 #[cycle(add_tree)]

@@ -11,7 +11,7 @@ use Rattle.def_tree.specs.Range.{IsWritable, AreWritable}
 use Rattle.def_types.specs.Typed.{type_of, IsTyped, AreTyped}
 use Rattle.def_types.proofs.Rows.{corr_rows}
 use Rattle.def_types.proofs.Facts.{both_true, typed-and_or, typed-or_b, typed-or_d, typed-thresh, typed-thresh_none, OthersFit}
-use Rattle.def_sane.specs.Nodes.{all_nodes, nodes_of_all}
+use Rattle.def_tree.specs.Nodes.{all_nodes, nodes_of_all}
 use Rattle.def_satisfaction.specs.StackSet.{Is}
 use Rattle.def_satisfaction.specs.Setting.{Setting}
 use Rattle.def_satisfaction.specs.Rows.{EMPTY, ONE, IsNoPreimageOf, row, parts}

@@ -7,9 +7,8 @@ use Rattle.def_types.specs.declared.Mall.{Mall}
 use Rattle.def_types.specs.Corr.{corr}
 use Rattle.def_types.specs.Malleable.{mall}
 use Rattle.def_types.specs.Typed.{type_of, IsTyped, mall_of}
-use Rattle.def_types.proofs.Typing.{corr_is_typed}
-use Rattle.def_types.proofs.NonMalleable.{mall_is_non_malleable}
-use Rattle.def_sane.specs.Nodes.{all_nodes}
+use Rattle.def_types.proofs.Typing.{corr_is_typed, mall_is_non_malleable}
+use Rattle.def_tree.specs.Nodes.{all_nodes}
 use Rattle.def_sane.specs.Unfit.{IsValid}
 use Rattle.def_sane.proofs.Meanings.{valid_means}
 use Rattle.def_promises.specs.Letters.{TypeLetters, MallLetters, Letters, LettersHold}

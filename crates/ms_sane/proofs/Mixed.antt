@@ -10,9 +10,9 @@ use Rattle.def_tree.specs.declared.Wrapper.{Wrapper}
 use Rattle.def_tree.specs.Tree.{Tree, Trees, just_0, just_1, pk_k, pk_h, older, after, hash, and_or, two, thresh, multi, wrap, none, more}
 use Rattle.def_tree.specs.Size.{nodes, nodes_of}
 use Rattle.def_types.specs.Row.{if_ok}
-use Rattle.def_sane.specs.Nodes.{all_nodes, nodes_of_all}
+use Rattle.def_tree.specs.Nodes.{all_nodes, nodes_of_all}
 use Rattle.def_sane.specs.Locks.{Kinds, union, conflict, kinds, kinds_of_all, kinds_of_each, some_conflict, mixes, mix}
-use Rattle.def_sane.proofs.NodeLists.{nodes_are_all, trees_are_all}
+use Rattle.def_tree.proofs.NodeLists.{nodes_are_all, trees_are_all}
 use Rattle.def_sane.proofs.FirstMix.{position_from-append}
 use Rattle.ms_sane.specs.Mixing.{kinds_from, kinds_from_each, of_node, asks_both, union_all}
 

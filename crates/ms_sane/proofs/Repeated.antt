@@ -11,9 +11,10 @@ use Rattle.std.proofs.Math.Seq.{take-append_seam}
 use Rattle.def_tree.specs.Tree.{Tree, Trees, Key, just_0, just_1, pk_k, pk_h, older, after, hash, and_or, two, thresh, multi, wrap, none, more}
 use Rattle.def_tree.specs.Size.{nodes, nodes_of, measure, measure_of}
 use Rattle.def_types.specs.Row.{if_ok}
-use Rattle.def_sane.specs.Nodes.{all_nodes, nodes_of_all}
+use Rattle.def_tree.specs.Nodes.{all_nodes, nodes_of_all}
 use Rattle.def_sane.specs.Keys.{keys, keys_of_all, own_keys, repeats, repeated_from, repeated_key}
-use Rattle.def_sane.proofs.NodeLists.{nodes_are_all, trees_are_all, keys_of_nodes, keys_of_node_list}
+use Rattle.def_tree.proofs.NodeLists.{nodes_are_all, trees_are_all}
+use Rattle.def_sane.proofs.NodeLists.{keys_of_nodes, keys_of_node_list}
 use Rattle.ms_tree.specs.declared.tree.Tree as trees
 use Rattle.ms_tree.specs.Shape.{shape, shapes}
 use Rattle.ms_sane.specs.Repeats.{is_among, is_found, is_found_in, repeats_at, of_own, repeats_from, repeats_from_each}

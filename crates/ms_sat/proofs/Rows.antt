@@ -5,7 +5,7 @@ use Rattle.def_script.specs.Bytes.{Bytes}
 use Rattle.def_machine.specs.Stacks.{Stack}
 use Rattle.def_tree.specs.Tree as model
 use Rattle.def_assets.specs.Assets.{Assets}
-use Rattle.def_sane.specs.Nodes.{all_nodes, nodes_of_all}
+use Rattle.def_tree.specs.Nodes.{all_nodes, nodes_of_all}
 use Rattle.def_choice.specs.Cheapest.{dissatisfaction, all_dissatisfied}
 use Rattle.ms_tree.specs.declared.tree.Tree.{Tree}
 use Rattle.ms_tree.specs.Shape.{shape, shapes, trees_of}

@@ -5,8 +5,8 @@ use lib.Seq.{take_all}
 use Rattle.def_tree.specs.Tree.{Tree, just_0, just_1, pk_k, pk_h, older, after, hash, and_or, two, thresh, multi, wrap}
 use Rattle.def_tree.specs.Size.{nodes}
 use Rattle.def_assets.specs.Assets.{Assets}
-use Rattle.def_sane.specs.Nodes.{all_nodes}
-use Rattle.def_sane.proofs.NodeLists.{nodes_are_all}
+use Rattle.def_tree.specs.Nodes.{all_nodes}
+use Rattle.def_tree.proofs.NodeLists.{nodes_are_all}
 use Rattle.ms_sat.specs.declared.rule.Rule.{Rule}
 use Rattle.ms_sat.specs.declared.table.Entry.{Entry}
 use Rattle.ms_sat.specs.Table.{IsEntry, AreEntries, Adds, below}

@@ -4,7 +4,7 @@ use Rattle.def_tree.specs.Tree.{Tree, just_0, just_1, pk_k, pk_h, older, after, 
 use Rattle.def_tree.specs.Range.{IsInRange}
 use Rattle.def_tree.specs.Size.{nodes}
 use Rattle.def_assets.specs.Assets.{Assets}
-use Rattle.def_sane.specs.Nodes.{all_nodes, nodes_of_all}
+use Rattle.def_tree.specs.Nodes.{all_nodes, nodes_of_all}
 use Rattle.def_choice.specs.Cheapest.{dissatisfaction, Child}
 use Rattle.ms_sat.specs.declared.rule.Rule.{Rule}
 use Rattle.ms_sat.specs.declared.table.Weighed.{Weighed}

@@ -5,7 +5,7 @@ ghost use Rattle.def_script.specs.Bytes.{Bytes};
 ghost use Rattle.def_tree.specs.Range.{MOST_MEASURE, IsInRange};
 ghost use Rattle.def_tree.specs.Size.{measure_of};
 ghost use Rattle.def_tree.specs.Tree as tree;
-ghost use Rattle.def_sane.specs.Nodes.{nodes_of_all};
+ghost use Rattle.def_tree.specs.Nodes.{nodes_of_all};
 ghost use Rattle.def_sane.specs.Unfit.{IsValid};
 ghost use Rattle.def_assets.specs.Assets.{AreAssets, Assets as Held, sig_of, known};
 ghost use Rattle.def_satisfaction.specs.Rows.{EMPTY};

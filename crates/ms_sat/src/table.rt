@@ -6,7 +6,7 @@ ghost use Rattle.def_tree.specs.Tree as tree;
 ghost use Rattle.def_tree.specs.Tree.{Tree as Model};
 ghost use Rattle.def_types.specs.Typed.{IsTyped};
 ghost use Rattle.def_assets.specs.Assets.{AreAssets, Assets as Held};
-ghost use Rattle.def_sane.specs.Nodes.{all_nodes, nodes_of_all};
+ghost use Rattle.def_tree.specs.Nodes.{all_nodes, nodes_of_all};
 ghost use Rattle.def_choice.specs.Cheapest.{dissatisfaction};
 ghost use Rattle.ms_tree.specs.Shape.{shape, shapes, trees_of, leaf_shape};
 ghost use Rattle.ms_sat.specs.declared.rule.Rule.{Rule as By};

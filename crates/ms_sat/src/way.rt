@@ -9,7 +9,7 @@ ghost use Rattle.def_assets.specs.Assets.{Assets as Held};
 ghost use Rattle.def_choice.specs.Cheapest.{dissatisfaction};
 ghost use Rattle.ms_sat.specs.declared.rule.Rule.{Rule};
 ghost use Rattle.ms_sat.specs.Rule.{stack_by, free_by};
-ghost use Rattle.def_sane.specs.Nodes.{all_nodes};
+ghost use Rattle.def_tree.specs.Nodes.{all_nodes};
 ghost use Rattle.ms_tree.specs.Shape.{shape};
 ghost use Rattle.ms_sat.specs.Costs.{weight_of, IsLight, IsLightOption};
 ghost use Rattle.ms_sat.specs.Table.{IsWeighed, AreEntries, EndsWith, below};

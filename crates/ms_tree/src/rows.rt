@@ -1,13 +1,16 @@
 /// The table of fragments (BIP 379, translation table). It hands its rows to a macro of the caller's,
 /// which makes arms of them: `fragment_rows!(make!(given))` is `make! { (given) leaves {..} .. }`.
 ///
-/// A row has the variant, the name and, where it is fixed, the number of arguments. Where the fragment
-/// requires something, the list of its requirements follows: each has the name of its rule, and what is
-/// asked of the child whose turn it is, one of these base types and all of these properties, or that it
-/// has the type of the next child; a range stands by its name alone. Last come the opcodes before,
-/// between and behind what the fragment holds: a leaf its argument, and the others their children, those
-/// of `andor` in the order of the Script, which is X, Z, Y. A number among the opcodes is the push of
-/// that number; a key is pushed as it is or by its hash.
+/// A row has the variant, the name and, where it is fixed, the number of arguments. Two lists of
+/// requirements follow, the second one for fragments with several children alone: those of the
+/// correctness types, where there may be some, and those of the malleability properties. Of the former
+/// each has the name of its rule, and what is asked of the child whose turn it is, one of these base
+/// types and all of these properties, or that it has the type of the next child; a range stands by its
+/// name alone. Of the latter each has the name of its rule, and asks for e of all children that it names,
+/// or for s of one of them. Last come the opcodes before, between and behind what the fragment holds: a
+/// leaf its argument, and the others their children, those of `andor` in the order of the Script, which is
+/// X, Z, Y; of `thresh` those behind each further child and at the end, of `multi` those at the end. A
+/// number among the opcodes is the push of that number; a key is pushed as it is or by its hash.
 #[macro_export]
 macro_rules! fragment_rows {
     ($make:ident ! ($($given:tt)*)) => {
@@ -32,18 +35,18 @@ macro_rules! fragment_rows {
                 [Hash160 "hash160" 1 (Size 32 EqualVerify Hash160) (Equal)]
             }
             and_or {
-                [AndOr "andor" 3 ((AndOrX [B] d u) (AndOrYZ same)) () (NotIf) (Else) (EndIf)]
+                [AndOr "andor" 3 ((AndOrX [B] d u) (AndOrYZ same)) ((AndOrE e x) (AndOrS s x y z)) () (NotIf) (Else) (EndIf)]
             }
             pairs {
-                [AndV "and_v" 2 ((AndVX [V]) (AndVY [B K V])) () () ()]
-                [AndB "and_b" 2 ((AndBX [B]) (AndBY [W])) () () (BoolAnd)]
-                [OrB "or_b" 2 ((OrBX [B] d) (OrBZ [W] d)) () () (BoolOr)]
-                [OrC "or_c" 2 ((OrCX [B] d u) (OrCZ [V])) () (NotIf) (EndIf)]
-                [OrD "or_d" 2 ((OrDX [B] d u) (OrDZ [B])) () (IfDup NotIf) (EndIf)]
-                [OrI "or_i" 2 ((OrIXZ same)) (If) (Else) (EndIf)]
+                [AndV "and_v" 2 ((AndVX [V]) (AndVY [B K V])) () () () ()]
+                [AndB "and_b" 2 ((AndBX [B]) (AndBY [W])) () () () (BoolAnd)]
+                [OrB "or_b" 2 ((OrBX [B] d) (OrBZ [W] d)) ((OrBE e x z) (OrBS s x z)) () () (BoolOr)]
+                [OrC "or_c" 2 ((OrCX [B] d u) (OrCZ [V])) ((OrCE e x) (OrCS s x z)) () (NotIf) (EndIf)]
+                [OrD "or_d" 2 ((OrDX [B] d u) (OrDZ [B])) ((OrDE e x) (OrDS s x z)) () (IfDup NotIf) (EndIf)]
+                [OrI "or_i" 2 ((OrIXZ same)) ((OrIS s x z)) (If) (Else) (EndIf)]
             }
             lists {
-                [Thresh "thresh" ((ThreshRange) (ThreshFirst [B] d u) (ThreshOther [W] d u)) (Add) (Equal)]
+                [Thresh "thresh" ((ThreshRange) (ThreshFirst [B] d u) (ThreshOther [W] d u)) ((ThreshE e) (ThreshS s)) (Add) (Equal)]
                 [Multi "multi" ((MultiRange)) () (CheckMultiSig)]
             }
             wrappers {

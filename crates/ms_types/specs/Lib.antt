@@ -1,5 +1,4 @@
 pub mod Rows
-pub mod Systems
 pub mod Checked
 pub mod Properties
 pub mod Children

@@ -1,11 +1,9 @@
 ghost use Rattle.std.specs.Prelude.{◌≡◌, ◌<◌, IfErr};
 ghost use Rattle.def_tree.specs.Range.{IsInRange};
 ghost use Rattle.def_tree.specs.Size.{nodes};
-ghost use Rattle.def_types.specs.Corr.{corr as the_corr, corr_from, corr_all};
+ghost use Rattle.def_types.specs.Corr.{correctness, corr as the_corr};
 ghost use Rattle.ms_tree.specs.Shape.{shape};
 ghost use Rattle.ms_types.specs.Children.{seen as children_seen};
-ghost use Rattle.ms_types.specs.Rows.{correctness};
-ghost use Rattle.ms_types.specs.Systems.{corr_answers};
 
 use crate::children::Children;
 use crate::properties::{and_or_type, leaf_type, multi_type, thresh_type, two_type, wrap_type};
@@ -31,10 +29,6 @@ impl TypeSystem for Ty {
     type Children = Children;
 
     ghost rows = { correctness };
-
-    ghost typed = { corr_from };
-
-    ghost typed_all = { corr_all };
 
     ghost seen = { children_seen };
 
@@ -75,6 +69,4 @@ impl TypeSystem for Ty {
         require_wrap(wrapper, x)?;
         Ok(wrap_type(wrapper, x))
     }
-
-    ghost answers = { corr_answers };
 }

@@ -3,18 +3,16 @@
 ghost use Rattle.std.specs.Prelude.{◌≡◌, ◌<◌, IfErr};
 ghost use Rattle.def_tree.specs.Range.{IsInRange};
 ghost use Rattle.def_tree.specs.Size.{nodes};
-ghost use Rattle.def_types.specs.Malleable.{mall as the_mall, mall_from, mall_all, two_row, wrap_row};
+ghost use Rattle.def_types.specs.Malleable.{malleability, mall as the_mall, two_row, wrap_row};
 ghost use Rattle.ms_tree.specs.Shape.{shape};
 ghost use Rattle.ms_types.specs.Checked.{requirements};
-ghost use Rattle.ms_types.specs.Rows.{malleability};
 ghost use Rattle.ms_types.specs.Signed.{signed};
-ghost use Rattle.ms_types.specs.Systems.{mall_answers};
 
 use crate::children::Signed;
 use crate::requirements::require;
 use crate::system::{TypeSystem, typed};
 use def_types::{Mall, Rule, RuleAt};
-use ms_tree::{Key, Leaf, Tree, Two, Wrapper};
+use ms_tree::{Key, Leaf, Tree, Two, Wrapper, fragment_rows};
 
 /// The malleability properties of a tree (BIP 379, type system, malleability), or the first requirement
 /// that is false: by the number of its node, and then in the order of the table. A requirement is asked
@@ -43,14 +41,81 @@ const NONE: Mall = Mall {
     e: false,
 };
 
+/// A property of a child that a row names: X, Y and Z of `andor`, X and Z of the others.
+macro_rules! property {
+    (($x:ident, $($others:ident),*) x $property:ident) => {
+        $x.$property
+    };
+    (($x:ident, $y:ident, $z:ident) y $property:ident) => {
+        $y.$property
+    };
+    (($x:ident, $y:ident, $z:ident) z $property:ident) => {
+        $z.$property
+    };
+    (($x:ident, $z:ident) z $property:ident) => {
+        $z.$property
+    };
+}
+
+/// Refuses unless all children that a requirement names have the property e, or one of them has s.
+macro_rules! require_property {
+    ($children:tt, ($rule:ident e $($child:ident)*)) => {
+        require!($rule, $(property!($children $child e))&&*);
+    };
+    ($children:tt, ($rule:ident s $($child:ident)*)) => {
+        require!($rule, $(property!($children $child s))||*);
+    };
+}
+
+/// Refuses unless the children have what their row requires of them.
+macro_rules! require_properties {
+    ($children:tt, ($($requirement:tt)*)) => {
+        $(require_property!($children, $requirement);)*
+    };
+}
+
+macro_rules! and_or_arm {
+    (
+        ($x:ident, $y:ident, $z:ident)
+        numbers $numbers:tt keys $keys:tt locks $locks:tt hashes $hashes:tt
+        and_or { [$variant:ident $name:literal 3 $needs:tt $properties:tt $($ops:tt)*] }
+        $($rows:tt)*
+    ) => {
+        require_properties!(($x, $y, $z), $properties);
+    };
+}
+
+macro_rules! pair_arms {
+    (
+        ($kind:ident, $x:ident, $z:ident)
+        numbers $numbers:tt keys $keys:tt locks $locks:tt hashes $hashes:tt and_or $and_or:tt
+        pairs { $([$variant:ident $name:literal 2 $needs:tt $properties:tt $($ops:tt)*])* }
+        $($rows:tt)*
+    ) => {
+        match $kind {
+            $(Two::$variant => {
+                require_properties!(($x, $z), $properties);
+            })*
+        }
+    };
+}
+
+macro_rules! thresh_arm {
+    (
+        ($k:ident, $children:ident)
+        numbers $numbers:tt keys $keys:tt locks $locks:tt hashes $hashes:tt and_or $and_or:tt pairs $pairs:tt
+        lists { [Thresh $name:literal $needs:tt (($all:ident e) ($few:ident s)) $($ops:tt)*] $multi:tt }
+        $($rows:tt)*
+    ) => {
+        require!($all, $children.all_e);
+        require!($few, $children.unsigned <= $k);
+    };
+}
+
 impl TypeSystem for Mall {
     type Children = Signed;
 
     ghost rows = { malleability };
-
-    ghost typed = { mall_from };
-
-    ghost typed_all = { mall_all };
 
     ghost seen = { signed };
 
@@ -63,8 +128,7 @@ impl TypeSystem for Mall {
     }
 
     fn of_and_or(x: Mall, y: Mall, z: Mall) -> Result<Mall, Rule> {
-        require!(AndOrE, x.e);
-        require!(AndOrS, x.s || y.s || z.s);
+        fragment_rows!(and_or_arm!(x, y, z));
         Ok(Mall {
             s: z.s && (x.s || y.s),
             f: z.f && (x.s || y.f),
@@ -87,8 +151,7 @@ impl TypeSystem for Mall {
 
     #[tactic(auto, using(crate::proofs::Signing::all_s), unfolding(def_types::proofs::Rows::mall_rows))]
     fn of_thresh(k: u64, children: Signed) -> Result<Mall, Rule> {
-        require!(ThreshE, children.all_e);
-        require!(ThreshS, children.unsigned <= k);
+        fragment_rows!(thresh_arm!(k, children));
         Ok(Mall {
             s: children.unsigned < k,
             f: false,
@@ -119,30 +182,13 @@ impl TypeSystem for Mall {
             },
         })
     }
-
-    ghost answers = { mall_answers };
 }
 
 /// What a fragment with two children requires of their properties.
 fn require_two(kind: Two, x: Mall, y: Mall) -> Result<(), Rule>
     ensures { result ≡ requirements (two_row kind x y) }
 {
-    match kind {
-        Two::AndV | Two::AndB => {}
-        Two::OrB => {
-            require!(OrBE, x.e && y.e);
-            require!(OrBS, x.s || y.s);
-        }
-        Two::OrC => {
-            require!(OrCE, x.e);
-            require!(OrCS, x.s || y.s);
-        }
-        Two::OrD => {
-            require!(OrDE, x.e);
-            require!(OrDS, x.s || y.s);
-        }
-        Two::OrI => require!(OrIS, x.s || y.s),
-    }
+    fragment_rows!(pair_arms!(kind, x, y));
     Ok(())
 }
 

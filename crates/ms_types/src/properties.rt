@@ -1,11 +1,11 @@
 //! The types of fragments whose requirements are met (BIP 379, type system, correctness).
 ghost use Rattle.std.specs.Prelude.{◌≡◌, ◌&&◌, ◌||◌, ℕ, List};
 ghost use Rattle.def_types.specs.declared.Ty.{Ty as the_ty};
-ghost use Rattle.def_types.specs.Corr.{and_or_row, two_row, thresh_row, multi_row, wrap_row};
+ghost use Rattle.def_types.specs.Corr.{correctness, and_or_row, two_row, thresh_row, multi_row, wrap_row};
 ghost use Rattle.def_tree.specs.Tree.{Key};
 ghost use Rattle.ms_types.specs.Children.{seen};
 ghost use Rattle.ms_types.specs.Properties.{bare as the_bare};
-ghost use Rattle.ms_types.specs.Rows.{correctness, leaf_row};
+ghost use Rattle.ms_types.specs.Rows.{leaf_row};
 
 use crate::children::Children;
 use def_types::{Base, Ty};

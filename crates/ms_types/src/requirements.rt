@@ -1,11 +1,12 @@
-//! What fragments require (BIP 379, type system, correctness), by the table of fragments.
+//! What fragments require of their children's correctness types (BIP 379, type system, correctness), by the
+//! table of fragments.
 ghost use Rattle.std.specs.Prelude.{◌≡◌, ◌&&◌, ℕ, List, length};
 ghost use Rattle.def_tree.specs.Tree.{Key};
 ghost use Rattle.def_types.specs.declared.Ty.{Ty as the_ty};
-ghost use Rattle.def_types.specs.Corr.{is_b, is_w, are_same as the_are_same, and_or_row, two_row, thresh_row, multi_row, wrap_row};
+ghost use Rattle.def_types.specs.Corr.{correctness, is_b, is_w, are_same as the_are_same, and_or_row, two_row, thresh_row, multi_row, wrap_row};
 ghost use Rattle.ms_types.specs.Checked.{requirements};
 ghost use Rattle.ms_types.specs.Children.{seen};
-ghost use Rattle.ms_types.specs.Rows.{correctness, leaf_row};
+ghost use Rattle.ms_types.specs.Rows.{leaf_row};
 
 use crate::children::Children;
 use def_types::{Base, Rule, Ty};
@@ -58,7 +59,7 @@ macro_rules! lock_arms {
     (
         ($leaf:ident)
         numbers $numbers:tt keys $keys:tt
-        locks { $([$lock:ident $name:literal $one:literal (($rule:ident)) $before:tt $behind:tt])* }
+        locks { $([$lock:ident $name:literal 1 (($rule:ident)) $before:tt $behind:tt])* }
         $($others:tt)*
     ) => {
         match $leaf {
@@ -80,7 +81,7 @@ macro_rules! and_or_arm {
     (
         ($x:ident, $y:ident, $z:ident)
         numbers $numbers:tt keys $keys:tt locks $locks:tt hashes $hashes:tt
-        and_or { [$variant:ident $name:literal $three:literal ($of_x:tt $of_y_z:tt) $($ops:tt)*] }
+        and_or { [$variant:ident $name:literal 3 ($of_x:tt $of_y_z:tt) $properties:tt $($ops:tt)*] }
         $($rows:tt)*
     ) => {
         require_type!($x, $of_x);
@@ -100,7 +101,7 @@ macro_rules! pair_arms {
     (
         ($kind:ident, $x:ident, $y:ident)
         numbers $numbers:tt keys $keys:tt locks $locks:tt hashes $hashes:tt and_or $and_or:tt
-        pairs { $([$variant:ident $name:literal $two:literal $needs:tt $($ops:tt)*])* }
+        pairs { $([$variant:ident $name:literal 2 $needs:tt $properties:tt $($ops:tt)*])* }
         $($rows:tt)*
     ) => {
         match $kind {
@@ -123,7 +124,7 @@ macro_rules! first_child {
     (
         ($x:ident)
         numbers $numbers:tt keys $keys:tt locks $locks:tt hashes $hashes:tt and_or $and_or:tt pairs $pairs:tt
-        lists { [Thresh $name:literal ($range:tt ($first:ident $($wanted:tt)*) $other:tt) $($ops:tt)*] $multi:tt }
+        lists { [Thresh $name:literal ($range:tt ($first:ident $($wanted:tt)*) $other:tt) $properties:tt $($ops:tt)*] $multi:tt }
         $($rows:tt)*
     ) => {
         has_type!($x, $($wanted)*)
@@ -134,7 +135,7 @@ macro_rules! other_child {
     (
         ($x:ident)
         numbers $numbers:tt keys $keys:tt locks $locks:tt hashes $hashes:tt and_or $and_or:tt pairs $pairs:tt
-        lists { [Thresh $name:literal ($range:tt $first:tt ($other:ident $($wanted:tt)*)) $($ops:tt)*] $multi:tt }
+        lists { [Thresh $name:literal ($range:tt $first:tt ($other:ident $($wanted:tt)*)) $properties:tt $($ops:tt)*] $multi:tt }
         $($rows:tt)*
     ) => {
         has_type!($x, $($wanted)*)
@@ -159,7 +160,7 @@ macro_rules! thresh_arm {
     (
         ($k:ident, $children:ident)
         numbers $numbers:tt keys $keys:tt locks $locks:tt hashes $hashes:tt and_or $and_or:tt pairs $pairs:tt
-        lists { [Thresh $name:literal (($range:ident) ($first:ident $($one:tt)*) ($other:ident $($each:tt)*)) $($ops:tt)*] $multi:tt }
+        lists { [Thresh $name:literal (($range:ident) ($first:ident $($one:tt)*) ($other:ident $($each:tt)*)) $properties:tt $($ops:tt)*] $multi:tt }
         $($rows:tt)*
     ) => {
         require!($range, 1 <= $k && $k <= $children.count);
@@ -183,7 +184,7 @@ macro_rules! multi_arm {
     (
         ($k:ident, $count:ident)
         numbers $numbers:tt keys $keys:tt locks $locks:tt hashes $hashes:tt and_or $and_or:tt pairs $pairs:tt
-        lists { $thresh:tt [Multi $multi:literal (($range:ident)) $($ops:tt)*] }
+        lists { $thresh:tt [Multi $multi:literal (($range:ident)) $properties:tt $($ops:tt)*] }
         $($rows:tt)*
     ) => {
         require!($range, 1 <= $k && $k <= $count && $count <= MOST_KEYS)
@@ -202,7 +203,7 @@ macro_rules! wrapper_arms {
     (
         ($wrapper:ident, $x:ident)
         numbers $numbers:tt keys $keys:tt locks $locks:tt hashes $hashes:tt and_or $and_or:tt pairs $pairs:tt lists $lists:tt
-        wrappers { $([$variant:ident $letter:literal $one:literal ($need:tt) $($ops:tt)*])* }
+        wrappers { $([$variant:ident $letter:literal 1 ($need:tt) $($ops:tt)*])* }
     ) => {
         match $wrapper {
             $(Wrapper::$variant => {

@@ -1,12 +1,12 @@
 //! A type system's answer for a tree.
-ghost use Rattle.std.specs.Prelude.{◌≡◌, ◌+◌, ◌<◌, ◌^◌, ◌++◌, [], ◌∷◌, ℕ, length, All, IfOk, List, Result};
+ghost use Rattle.std.specs.Prelude.{◌≡◌, ◌+◌, ◌<◌, ◌^◌, ◌++◌, [], ◌∷◌, length, All, IfOk, List};
 ghost use Rattle.def_tree.specs.Range.{IsInRange};
 ghost use Rattle.def_tree.specs.Size.{nodes, nodes_of};
-ghost use Rattle.def_tree.specs.Tree as model;
-ghost use Rattle.def_types.specs.declared.rule.RuleAt.{RuleAt as the_refusal};
+ghost use Rattle.def_types.specs.Row.{Rows};
+ghost use Rattle.def_types.specs.System.{typed_from, typed_each};
 ghost use Rattle.ms_tree.specs.Shape.{shape, shapes};
 ghost use Rattle.ms_types.specs.Checked.{checked, at_node};
-ghost use Rattle.ms_types.specs.Rows.{Rows, Answers, leaf_row};
+ghost use Rattle.ms_types.specs.Rows.{leaf_row};
 ghost use Rattle.ms_types.specs.Seen.{seen_of};
 
 use def_types::{Rule, RuleAt};
@@ -18,12 +18,8 @@ pub trait TypeSystem: Copy {
     /// What the type of a threshold needs to know of its children's types.
     type Children: Copy;
 
-    // The rows of the fragments, and what they answer for a tree and for several side by side.
+    // The rows of the fragments.
     ghost rows: { Rows Self };
-
-    ghost typed: { ℕ → model.Tree → Result Self the_refusal };
-
-    ghost typed_all: { ℕ → model.Trees → Result (List Self) the_refusal };
 
     // What is kept of children of these types.
     ghost seen: { List Self → Self.Children };
@@ -54,8 +50,6 @@ pub trait TypeSystem: Copy {
 
     fn of_wrap(wrapper: Wrapper, x: Self) -> Result<Self, Rule>
         ensures { result ≡ checked (rows.wrap wrapper x) };
-
-    ghost answers: { Answers rows typed typed_all };
 }
 
 /// The type of a tree whose nodes are numbered from `next` on, or the first requirement that is false.
@@ -64,7 +58,7 @@ pub trait TypeSystem: Copy {
 pub fn typed<T: TypeSystem>(tree: &Tree, next: &mut u32) -> Result<T, RuleAt>
     requires range { IsInRange (shape tree.now) }
     requires room { next.old + nodes (shape tree.now) < 2 ^ 32 }
-    ensures typed { result ≡ T.typed next.old (shape tree.now) }
+    ensures typed { result ≡ typed_from T.rows next.old (shape tree.now) }
     ensures next { IfOk result (λ value. next.new ≡ next.old + nodes (shape tree.now)) }
 {
     match tree.view() {
@@ -97,7 +91,7 @@ pub fn typed<T: TypeSystem>(tree: &Tree, next: &mut u32) -> Result<T, RuleAt>
 fn typed_children<T: TypeSystem>(children: &[Tree], next: &mut u32) -> Result<T::Children, RuleAt>
     requires range { All (λ x. IsInRange (shape x)) children.now }
     requires room { next.old + nodes_of (shapes children.now) < 2 ^ 32 }
-    ensures children { result ≡ seen_of T.seen (T.typed_all next.old (shapes children.now)) }
+    ensures children { result ≡ seen_of T.seen (typed_each T.rows next.old (shapes children.now)) }
     ensures next { IfOk result (λ seen. next.new ≡ next.old + nodes_of (shapes children.now)) }
 {
     let mut seen = T::no_children();

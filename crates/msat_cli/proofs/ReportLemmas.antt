@@ -18,8 +18,7 @@ use Rattle.def_choice.specs.NonMalleable.{given_with}
 use Rattle.ms_laws.proofs.Within.{within_limits, valid_limits}
 use Rattle.def_tree.specs.Tree.{Tree}
 use Rattle.def_types.specs.Typed.{type_of, mall_of}
-use Rattle.def_types.proofs.NonMalleable.{mall_is_non_malleable}
-use Rattle.def_types.proofs.Typing.{corr_is_typed}
+use Rattle.def_types.proofs.Typing.{corr_is_typed, mall_is_non_malleable}
 use Rattle.def_sane.specs.declared.Sane.{Sane}
 use Rattle.def_sane.specs.Most.{limits_of}
 use Rattle.def_sane.specs.Unfit.{IsValid, IsKnownSane}

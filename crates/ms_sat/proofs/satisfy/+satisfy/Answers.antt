@@ -1,7 +1,7 @@
 use Rattle.std.proofs.Common.{◌≡◌, ◌-◌, ◌++◌, map, take, drop, is_some, sym, ◌∙◌, ap, subst, arith}
 use Rattle.def_tree.specs.Tree as model
 use Rattle.def_tree.specs.Size.{nodes}
-use Rattle.def_sane.specs.Nodes.{all_nodes, nodes_of_all}
+use Rattle.def_tree.specs.Nodes.{all_nodes, nodes_of_all}
 use Rattle.def_choice.specs.Cheapest.{dissatisfaction, all_dissatisfied, stack_of}
 use Rattle.ms_tree.specs.declared.tree.Tree.{Tree}
 use Rattle.ms_tree.specs.Shape.{shape, shapes}

@@ -1,7 +1,7 @@
 -- Five times the number of nodes, and some more for a tree that is taken apart.
 use Rattle.std.proofs.Common.{◌+◌, ◌*◌, take, drop}
 use Rattle.def_tree.specs.Size.{nodes, nodes_of}
-use Rattle.def_sane.specs.Nodes.{nodes_of_all}
+use Rattle.def_tree.specs.Nodes.{nodes_of_all}
 use Rattle.def_choice.specs.Cheapest.{all_dissatisfied}
 use Rattle.ms_tree.specs.Shape.{shape, shapes}
 use Rattle.ms_sat.specs.declared.rule.Rule.{Rule}

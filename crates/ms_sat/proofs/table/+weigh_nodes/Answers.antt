@@ -1,8 +1,8 @@
 use Rattle.std.proofs.Common.{◌≡◌, ◌-◌, ◌+◌, ◌++◌, ◌∷◌, [], length, map, take, drop, sym, ◌∙◌, ap, subst, arith, length-append, length-take, length-drop}
 use Rattle.def_tree.specs.Tree as model
 use Rattle.def_tree.specs.Size.{nodes}
-use Rattle.def_sane.specs.Nodes.{all_nodes, nodes_of_all}
-use Rattle.def_sane.proofs.NodeLists.{nodes_are_all}
+use Rattle.def_tree.specs.Nodes.{all_nodes, nodes_of_all}
+use Rattle.def_tree.proofs.NodeLists.{nodes_are_all}
 use Rattle.ms_tree.specs.Shape.{shape, shapes}
 use Rattle.ms_tree.proofs.Parts.{nodes_at, in_range_at}
 use Rattle.ms_sane.proofs.Bounds.{multi_enough}

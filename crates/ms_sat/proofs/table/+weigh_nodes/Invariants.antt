@@ -1,7 +1,7 @@
 -- Three times the number of nodes, and some more for a tree that is taken apart.
 use Rattle.std.proofs.Common.{◌≡◌, ◌≤◌, ◌+◌, ◌*◌, map, take}
 use Rattle.def_tree.specs.Size.{nodes, nodes_of}
-use Rattle.def_sane.specs.Nodes.{nodes_of_all}
+use Rattle.def_tree.specs.Nodes.{nodes_of_all}
 use Rattle.ms_tree.specs.Shape.{shape, shapes}
 use Rattle.ms_sat.specs.Table.{Adds}
 use Rattle.ms_sat.specs.Count.{AreFew, AreTold}

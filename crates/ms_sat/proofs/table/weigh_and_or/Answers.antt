@@ -1,5 +1,5 @@
 use Rattle.std.proofs.Common.{◌++◌, ◌∙◌, sym, ap}
-use Rattle.def_sane.specs.Nodes.{all_nodes}
+use Rattle.def_tree.specs.Nodes.{all_nodes}
 use Rattle.def_tree.specs.Tree as model
 use Rattle.ms_tree.specs.Shape.{shape}
 use Rattle.ms_sat.specs.Costs.{weight_of}

@@ -1,5 +1,5 @@
 use Rattle.std.proofs.Common.{arith, subst, sym}
-use Rattle.def_sane.specs.Nodes.{all_nodes}
+use Rattle.def_tree.specs.Nodes.{all_nodes}
 use Rattle.ms_tree.specs.Shape.{shape}
 use Rattle.ms_sat.specs.Table.{AreEntries}
 use Rattle.ms_sat.proofs.Tables.{some_entries, last_entry, last_fits, split_front, split_back}

@@ -1,5 +1,5 @@
 use Rattle.std.proofs.Common.{[]}
-use Rattle.def_sane.specs.Nodes.{all_nodes}
+use Rattle.def_tree.specs.Nodes.{all_nodes}
 use Rattle.ms_tree.specs.Shape.{shape}
 use Rattle.ms_sat.proofs.way.see_two.Goals as goal
 

@@ -1,9 +1,7 @@
 use Rattle.std.proofs.Common.{arith}
-use Rattle.def_types.specs.Corr.{corr_from, corr_all}
+use Rattle.def_types.specs.Corr.{correctness}
 use Rattle.ms_tree.specs.Shape.{shape}
 use Rattle.ms_tree.proofs.Parts.{nodes-le-measure}
-use Rattle.ms_types.specs.Rows.{correctness}
-use Rattle.ms_types.specs.Systems.{corr_answers}
 use Rattle.ms_types.proofs.Places.{refused_within}
 use Rattle.ms_types.proofs.correctness.corr.Goals as goal
 
@@ -12,4 +10,4 @@ typed-requires-clause-room c = omega (arith, c.requires.measure, nodes-le-measur
 
 pub returns-clause-node : goal.returns-clause-node
 returns-clause-node c =
-    refused_within correctness corr_from corr_all corr_answers (shape c.args.tree.now) c.typed.result c.typed.ensures.typed
+    refused_within correctness (shape c.args.tree.now) c.typed.result c.typed.ensures.typed

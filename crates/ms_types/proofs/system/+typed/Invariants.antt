@@ -2,6 +2,7 @@
 use Rattle.std.proofs.Common.{◌≡◌, ◌+◌, ◌*◌, List, drop, length}
 use Rattle.def_tree.specs.Size.{nodes, nodes_of}
 use Rattle.ms_tree.specs.Shape.{shape, shapes}
+use Rattle.def_types.specs.System.{typed_each}
 use Rattle.ms_types.specs.Seen.{behind}
 use Rattle.ms_types.proofs.system.+typed.Given as goal
 
@@ -16,6 +17,6 @@ invariant-typed_children-loop-child g l = record {
   types : List g.row.T.Denot;
   seen : l.seen ≡ g.T.TypeSystem.seen types;
   count : length types ≡ l.child-index;
-  behind : behind types (g.T.TypeSystem.typed_all l.next (shapes (drop l.child-index l.children))) ≡ g.T.TypeSystem.typed_all l.initial.next (shapes l.children);
+  behind : behind types (typed_each g.T.TypeSystem.rows l.next (shapes (drop l.child-index l.children))) ≡ typed_each g.T.TypeSystem.rows l.initial.next (shapes l.children);
   next : l.next + nodes_of (shapes (drop l.child-index l.children)) ≡ l.initial.next + nodes_of (shapes l.children);
 }

@@ -1,0 +1,97 @@
+-- The first node that repeats a key.
+use Rattle.std.proofs.Common.{◌≡◌, ℕ, zero, suc, ◌+◌, ◌<◌, Bool, true, false, ◌||◌, List, [], ◌∷◌, ◌++◌, take, slice_get, Option, Some, None, Contains, MatchOption, refl, sym, subst, arith, append_assoc, if◌then◌else◌}
+use Rattle.std.specs.Str.{bytes_eq}
+use Rattle.std.specs.List.{list_any, flat_map}
+use Rattle.std.proofs.lemmas.List.{append-nil}
+use Rattle.std.proofs.lemmas.List.Elements.{Contains-append_left}
+use Rattle.std.proofs.lemmas.Map.Views.{Contains-from_any}
+use Rattle.std.proofs.lemmas.Slice.Eq.{bytes_eq-Decides}
+use Rattle.def_tree.specs.Tree.{Tree, Key}
+use Rattle.def_tree.specs.Nodes.{all_nodes}
+use Rattle.def_sane.specs.Keys.{own_keys, repeats, repeated_from, repeated_key, Repeats}
+use Rattle.def_sane.specs.Laws.{RepeatedIsFirst}
+use Rattle.def_sane.proofs.FirstRepeat.{Free, free_from_test}
+
+-- some key of a list stands before, or earlier in the list
+abbrev Again : (before own : List Key) → Type 0
+Again before own = (place : ℕ) × (key : Key) × (slice_get own place ≡ Some key) × Contains (before ++ take place own) key
+
+again_from_test : (before own : List Key) → repeats before own ≡ true → Again before own
+again_from_test before [] e = cc
+again_from_test before (k ∷ rest) e = go (list_any (bytes_eq k) before) refl (again_from_test (before ++ k ∷ []) rest) e
+  where
+    go : (b : Bool) → list_any (bytes_eq k) before ≡ b → (repeats (before ++ k ∷ []) rest ≡ true → Again (before ++ k ∷ []) rest) → (b || repeats (before ++ k ∷ []) rest) ≡ true → Again before (k ∷ rest)
+    go true q later e = (zero, k, refl, Contains-append_left before [] k (Contains-from_any (λ x y. (bytes_eq-Decides x y).0) k before q))
+    go false q later e =
+        let a = later e in
+        (suc a.0, a.1, a.2, subst (λ (l : List Key). Contains l a.1) (append_assoc before (k ∷ []) (take a.0 rest)) a.3)
+
+none_again : (before own : List Key) → Free before own → (place : ℕ) (key : Key) → slice_get own place ≡ Some key → ¬ Contains (before ++ take place own) key
+none_again before [] h place key e c = cc
+none_again before (k ∷ rest) h zero key e c =
+    let same : key ≡ k = cc in
+    h.0 (subst (λ (x : Key). Contains before x) same (subst (λ (l : List Key). Contains l key) (append-nil before) c))
+none_again before (k ∷ rest) h (suc place) key e c =
+    none_again (before ++ k ∷ []) rest h.1 place key e (subst (λ (l : List Key). Contains l key) (sym (append_assoc before (k ∷ []) (take place rest))) c)
+
+-- the node at place n of a list repeats a key, where these keys stand before the list
+abbrev RepeatsAt : (before : List Key) → List Tree → (n : ℕ) → Type 0
+RepeatsAt before nodes n =
+    (node : Tree) × (slice_get nodes n ≡ Some node) × Again (before ++ flat_map own_keys (take n nodes)) (own_keys node)
+
+-- the first one doesn't
+first_apart : (before : List Key) (t : Tree) (nodes : List Tree) → repeats before (own_keys t) ≡ false → ¬ RepeatsAt before (t ∷ nodes) zero
+first_apart before t nodes q r =
+    let same : r.0 ≡ t = let e = r.1 in cc in
+    let a : Again before (own_keys t) = subst (λ (x : Tree). Again before (own_keys x)) same (subst (λ (l : List Key). Again l (own_keys r.0)) (append-nil before) r.2) in
+    none_again before (own_keys t) (free_from_test before (own_keys t) q) a.0 a.1 a.2 a.3
+
+-- one behind it, behind its keys
+later : (before : List Key) (t : Tree) (nodes : List Tree) (n : ℕ) → RepeatsAt (before ++ own_keys t) nodes n → RepeatsAt before (t ∷ nodes) (suc n)
+later before t nodes n r = (r.0, r.1, subst (λ (l : List Key). Again l (own_keys r.0)) (append_assoc before (own_keys t) (flat_map own_keys (take n nodes))) r.2)
+
+earlier : (before : List Key) (t : Tree) (nodes : List Tree) (n : ℕ) → RepeatsAt before (t ∷ nodes) (suc n) → RepeatsAt (before ++ own_keys t) nodes n
+earlier before t nodes n r = (r.0, r.1, subst (λ (l : List Key). Again l (own_keys r.0)) (sym (append_assoc before (own_keys t) (flat_map own_keys (take n nodes)))) r.2)
+
+none_repeats : (first : ℕ) (before : List Key) (nodes : List Tree) → repeated_from first before nodes ≡ None → (n : ℕ) → ¬ RepeatsAt before nodes n
+none_repeats first before [] e n r = let f = r.1 in cc
+none_repeats first before (t ∷ nodes) e n r = go (repeats before (own_keys t)) refl (none_repeats (first + 1) (before ++ own_keys t) nodes) e n r
+  where
+    go : (b : Bool) → repeats before (own_keys t) ≡ b → (repeated_from (first + 1) (before ++ own_keys t) nodes ≡ None → (n : ℕ) → ¬ RepeatsAt (before ++ own_keys t) nodes n)
+        → (if b then Some first else repeated_from (first + 1) (before ++ own_keys t) nodes) ≡ None → (n : ℕ) → ¬ RepeatsAt before (t ∷ nodes) n
+    go true q rest e n r = cc
+    go false q rest e zero r = first_apart before t nodes q r
+    go false q rest e (suc n) r = rest e n (earlier before t nodes n r)
+
+-- the node at place k is the first one that does
+abbrev FirstAt : (before : List Key) → List Tree → (k : ℕ) → Type 0
+FirstAt before nodes k = RepeatsAt before nodes k × ((n : ℕ) → n < k → ¬ RepeatsAt before nodes n)
+
+first_repeats : (first : ℕ) (before : List Key) (nodes : List Tree) (node : ℕ) → repeated_from first before nodes ≡ Some node → (k : ℕ) × (node ≡ first + k) × FirstAt before nodes k
+first_repeats first before [] node e = cc
+first_repeats first before (t ∷ nodes) node e = go (repeats before (own_keys t)) refl (first_repeats (first + 1) (before ++ own_keys t) nodes node) e
+  where
+    none_before : (k : ℕ) → repeats before (own_keys t) ≡ false → ((n : ℕ) → n < k → ¬ RepeatsAt (before ++ own_keys t) nodes n) → (n : ℕ) → n < suc k → ¬ RepeatsAt before (t ∷ nodes) n
+    none_before k q rest zero below r = first_apart before t nodes q r
+    none_before k q rest (suc n) below r = rest n (omega arith) (earlier before t nodes n r)
+
+    go : (b : Bool) → repeats before (own_keys t) ≡ b → (repeated_from (first + 1) (before ++ own_keys t) nodes ≡ Some node → (k : ℕ) × (node ≡ first + 1 + k) × FirstAt (before ++ own_keys t) nodes k)
+        → (if b then Some first else repeated_from (first + 1) (before ++ own_keys t) nodes) ≡ Some node → (k : ℕ) × (node ≡ first + k) × FirstAt before (t ∷ nodes) k
+    go true q rest e =
+        let same : first ≡ node = cc in
+        let again : Again (before ++ []) (own_keys t) = subst (λ (l : List Key). Again l (own_keys t)) (sym (append-nil before)) (again_from_test before (own_keys t) q) in
+        (zero, omega arith, ((t, refl, again), λ n below r. absurd (omega arith)))
+    go false q rest e =
+        let r = rest e in
+        (suc r.0, (let s = r.1 in omega arith), (later before t nodes r.0 r.2.0, none_before r.0 q r.2.1))
+
+-- as the law says it
+pub repeated_is_first : RepeatedIsFirst
+repeated_is_first tree = go (repeated_key tree) refl
+  where
+    go : (o : Option ℕ) → repeated_key tree ≡ o → MatchOption o ((node : ℕ) → ¬ Repeats tree node) (λ first. Repeats tree first × ((node : ℕ) → node < first → ¬ Repeats tree node))
+    go None e = λ node r. none_repeats 0 [] (all_nodes tree) e node r
+    go (Some first) e =
+        let f = first_repeats 0 [] (all_nodes tree) first e in
+        let same : f.0 ≡ first = let s = f.1 in omega arith in
+        subst (λ (n : ℕ). FirstAt [] (all_nodes tree) n) same f.2
