@@ -1,2 +1,3 @@
 pub mod Behind
 pub mod Short
+pub mod Computed

@@ -1,2 +1,4 @@
 //! Definitions of the translation from miniscript trees to Script.
 #![tactic(auto)]
+
+mod examples;
