@@ -10,3 +10,5 @@ pub mod TightFree
 pub mod StrictTight
 pub mod Listed
 pub mod Chosen
+pub mod Ties
+pub mod TightComputed

@@ -6,4 +6,6 @@ pub mod Strict
 pub mod Tight
 pub mod NonMalleable
 pub mod Examples
+pub mod TieExamples
+pub mod TightExamples
 pub mod Laws

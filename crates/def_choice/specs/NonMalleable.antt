@@ -1,6 +1,6 @@
 -- Which satisfactions nobody can change (BIP 379, malleability).
-use Rattle.std.specs.Prelude.{◌≡◌, ◌≢◌, ◌⊎◌, ℕ, IsTrue, List}
-use Rattle.def_script.specs.Bytes.{Bytes}
+use Rattle.std.specs.Prelude.{◌≡◌, ◌≢◌, ◌⊎◌, ℕ, IsTrue, List, All}
+use Rattle.def_script.specs.Bytes.{Bytes, IsBytes}
 use Rattle.def_machine.specs.Stacks.{Pairs, member}
 use Rattle.def_machine.specs.Machine.{Given}
 use Rattle.def_machine.specs.Run.{run, accepted}
@@ -31,12 +31,16 @@ Fresh tree assets table stack =
     FullSat tree (given_with assets table) any stack ×
     ¬ FullSat tree (given_with assets table) (only (known assets)) stack
 
--- under every table that holds the pairs of the assets, the stack is accepted; and every other stack that is
--- accepted passes a check that this one doesn't, or is fresh
+-- the keys and the signatures of a table consist of bytes
+abbrev pub IsTableOfBytes : Pairs → Type 0
+IsTableOfBytes table = All (λ pair. IsBytes pair.0 × IsBytes pair.1) table
+
+-- under every table of bytes that holds the pairs of the assets, the stack is accepted; and every other stack of
+-- bytes that is accepted passes a check that this one doesn't, or is fresh
 abbrev pub NonMalleable : Tree → Assets → (stack : List Bytes) → Type 0
 NonMalleable tree assets stack =
-    (table : Pairs) → Holds table assets →
+    (table : Pairs) → IsTableOfBytes table → Holds table assets →
     (checks : Pairs) × IsAccepted tree (given_with assets table) stack checks ×
-    ((other : List Bytes) (others : Pairs) →
+    ((other : List Bytes) (others : Pairs) → All IsBytes other →
     IsAccepted tree (given_with assets table) other others → other ≢ stack →
     HasNewPair others checks ⊎ Fresh tree assets table other)

@@ -21,6 +21,25 @@ ghost use Rattle.def_choice.specs.Examples.{
   ZerosCannotMiss,
   ZerosAsPreimage,
 };
+ghost use Rattle.def_assets.specs.Assets.{Assets};
+ghost use Rattle.def_choice.specs.TieExamples.{
+  TieOfAndOr,
+  TieOfOrB,
+  TieOfOrC,
+  TieOfOrD,
+  TieOfOrI,
+  TieOfThreshold,
+  TieOfMulti,
+  TieOfDissatisfactions,
+  KeySignsTwice,
+};
+ghost use Rattle.def_choice.specs.TightExamples.{
+  HashNeedsNone,
+  LockNeedsNone,
+  TightBranches,
+  TightChildren,
+  OtherSigns,
+};
 
 /// These satisfactions are chosen.
 pub fn choices()
@@ -43,4 +62,26 @@ pub fn choices()
     ensures lock_left { LockLeft }
     ensures zeros_cannot_miss { ZerosCannotMiss }
     ensures zeros_as_preimage { ZerosAsPreimage }
+{}
+
+/// Of options of equal weight the first is chosen.
+pub fn ties()
+    ensures and_or { TieOfAndOr }
+    ensures or_b { TieOfOrB }
+    ensures or_c { TieOfOrC }
+    ensures or_d { TieOfOrD }
+    ensures or_i { TieOfOrI }
+    ensures threshold { TieOfThreshold }
+    ensures multi { TieOfMulti }
+    ensures dissatisfactions { (assets : Assets) → TieOfDissatisfactions assets }
+    ensures key_twice { KeySignsTwice }
+{}
+
+/// What needs no signature, what is tight, and what another signature changes.
+pub fn tightness()
+    ensures hash_needs_none { HashNeedsNone }
+    ensures lock_needs_none { LockNeedsNone }
+    ensures branches { TightBranches }
+    ensures children { TightChildren }
+    ensures other_signs { OtherSigns }
 {}

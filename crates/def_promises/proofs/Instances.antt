@@ -1,9 +1,9 @@
 -- The examples: what the promises presuppose is met.
-use Rattle.std.proofs.Common.{◌≡◌, ◌≢◌, ℕ, zero, suc, Bool, true, false, ◌&&◌, ◌||◌, not, List, [], ◌∷◌, length, refl, sym, ◌∙◌, ap, subst, ◌⊎◌, inl, inr, IsTrue, Some, None, arith}
+use Rattle.std.proofs.Common.{◌≡◌, ◌≢◌, ℕ, zero, suc, Bool, true, false, ◌&&◌, ◌||◌, not, List, [], ◌∷◌, length, refl, sym, ◌∙◌, ap, subst, ◌⊎◌, inl, inr, IsTrue, All, Some, None, arith}
 use Rattle.std.specs.List.{IsDistinct}
 use Rattle.std.specs.Str.{bytes_eq}
 use Rattle.std.proofs.lemmas.List.Elements.{All-nil, All-from_recursion}
-use Rattle.def_script.specs.Bytes.{Bytes}
+use Rattle.def_script.specs.Bytes.{Bytes, IsBytes}
 use Rattle.def_machine.specs.Samples.{key_a, key_b, sig_a, sig_b}
 use Rattle.def_machine.specs.Stacks.{Stack, Pairs, member, is_empty}
 use Rattle.def_types.proofs.Rows.{corr_rows, mall_rows}
@@ -21,9 +21,10 @@ use Rattle.def_satisfaction.specs.Samples.{pair_a, pair_b, preimage_1, preimage_
 use Rattle.def_satisfaction.proofs.Computing.{computing}
 use Rattle.def_satisfaction.proofs.Computed.{right_branch, left_branch}
 use Rattle.def_satisfaction.proofs.Canonical.{sat_is_full_sat, only_is_any}
-use Rattle.def_choice.specs.NonMalleable.{IsAccepted, HasNewPair, Fresh, given_with}
-use Rattle.def_promises.specs.Examples.{by_key, by_preimages, only_key_b, AcceptanceIsMet, StrictIsMet, KeyCanBeChanged, NothingIsMet, KeyHasLetters, OneHasLetters, HashIsMissed}
-use Rattle.def_promises.proofs.Forms.{key_form, digest_form, signature_form, preimage_form}
+use Rattle.def_satisfaction.proofs.OfBytes.{sat_is_of_bytes}
+use Rattle.def_choice.specs.NonMalleable.{IsAccepted, HasNewPair, Fresh, IsTableOfBytes, given_with}
+use Rattle.def_promises.specs.Examples.{by_key, by_preimages, only_key_b, chain, AcceptanceIsMet, StrictIsMet, KeyCanBeChanged, NothingIsMet, KeyHasLetters, OneHasLetters, DeepHasLetters, HashIsMissed}
+use Rattle.def_satisfaction.proofs.Forms.{bytes, key_form, digest_form, signature_form, preimage_form}
 
 key_a_form : IsKey key_a
 key_a_form = key_form key_a refl (inl refl) refl
@@ -145,15 +146,23 @@ no_new_pair : (checks : Pairs) → pair_b ∷ pair_a ∷ [] ≡ checks → HasNe
 no_new_pair checks same h =
     h.3 (subst (λ c. IsTrue (member c h.0 h.1)) same (or_left (bytes_eq key_b h.0 && bytes_eq sig_b h.1) (member (pair_a ∷ []) h.0 h.1) h.2))
 
+table_of_bytes : IsTableOfBytes keys_and_preimages.pairs
+table_of_bytes =
+    All-from_recursion (λ pair. IsBytes pair.0 × IsBytes pair.1) (pair_a ∷ pair_b ∷ [])
+    ((key_a_form.bytes, signature_a.bytes), ((key_b_form.bytes, signature_b.bytes), tt))
+
+by_preimages_bytes : All IsBytes by_preimages
+by_preimages_bytes = sat_is_of_bytes key_and_key_or_hashes keys_and_preimages by_preimages writable assets_form right_branch.sat
+
 pub key_can_be_changed : KeyCanBeChanged
 key_can_be_changed =
     let l = left_branch in (
       l.sat,
       λ n.
-          let r = n keys_and_preimages.pairs (λ key sig h. h) in
+          let r = n keys_and_preimages.pairs table_of_bytes (λ key sig h. h) in
           let a = r.1 in
           let same = checks_same 17 4 a.ops a.peak (pair_b ∷ pair_a ∷ []) r.0 (sym run_by_key ∙ a.run) in
-          go r.0 same (r.2 by_preimages (pair_b ∷ []) accepted_by_preimages (λ e. by_key_differs (sym e))),
+          go r.0 same (r.2 by_preimages (pair_b ∷ []) by_preimages_bytes accepted_by_preimages (λ e. by_key_differs (sym e))),
     )
   where
     go : (checks : Pairs) → pair_b ∷ pair_a ∷ [] ≡ checks → HasNewPair (pair_b ∷ []) checks ⊎ Fresh key_and_key_or_hashes keys_and_preimages keys_and_preimages.pairs by_preimages → ⊥
@@ -225,17 +234,31 @@ pub one_has_letters : OneHasLetters
 unfolding computing corr_rows mall_rows
 one_has_letters = (record { writable = tt; valid = refl; among = (0, omega arith, refl); corr = refl; mall = refl }, refl)
 
+chain_writable : (n : ℕ) → IsWritable (chain n)
+chain_writable zero = key_a_form
+chain_writable (suc n) = (chain_writable n, tt)
+
+pub deep_has_letters : DeepHasLetters
+unfolding corr_rows mall_rows
+deep_has_letters = record {
+  deep = omega arith;
+  letters = record { writable = chain_writable 150; valid = refl; among = (451, omega arith, refl); corr = refl; mall = refl };
+}
+
 -- the tree, where it is a hash, can be missed
 abbrev IsMissed : Tree → Type 0
-IsMissed (hash kind value) = (bytes : Bytes) × IsNoPreimageOf kind value bytes
+IsMissed (hash kind value) = (bytes : Bytes) × IsBytes bytes × IsNoPreimageOf kind value bytes
 IsMissed other = Unit {0}
 
 numbers_same : (x y : ℕ) (xs ys : Bytes) → x ∷ xs ≡ y ∷ ys → x ≡ y
 numbers_same x y xs ys h = cc
 
+preimage_2_bytes : IsBytes preimage_2
+preimage_2_bytes = bytes preimage_2 refl
+
 hash_1_missed : IsMissed (sha256_of hash_1)
 unfolding computing
-hash_1_missed = (preimage_2, (refl, λ h. let e : 0x9f ≡ 0x02 = numbers_same _ _ _ _ h in omega (arith, e)))
+hash_1_missed = (preimage_2, preimage_2_bytes, (refl, λ h. let e : 0x9f ≡ 0x02 = numbers_same _ _ _ _ h in omega (arith, e)))
 
 pub hash_is_missed : HashIsMissed
 hash_is_missed kind value (zero, below, e) = subst IsMissed e hash_1_missed

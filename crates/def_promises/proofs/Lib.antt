@@ -1,3 +1,3 @@
-pub mod Forms
 pub mod Instances
 pub mod FreshItems
+pub mod Unchangeable

@@ -1,17 +1,18 @@
 -- The promises speak of something: what they presuppose is met, here by some miniscripts each.
-use Rattle.std.specs.Prelude.{◌≡◌, ◌≢◌, true, false, List, [], ◌∷◌, Contains, Some, None, Ok}
+use Rattle.std.specs.Prelude.{◌≡◌, ◌≢◌, ◌<◌, ℕ, zero, suc, true, false, List, [], ◌∷◌, Contains, Some, None, Ok}
 use Rattle.def_script.specs.Bytes.{Bytes}
 use Rattle.def_machine.specs.Samples.{key_a, sig_a, sig_b}
 use Rattle.def_machine.specs.Stacks.{Pairs}
 use Rattle.def_machine.specs.Machine.{Given}
 use Rattle.def_tree.specs.Tree.{Tree, just_1}
-use Rattle.def_tree.specs.Range.{IsWritable}
+use Rattle.def_tree.specs.Range.{MOST_DEPTH, IsWritable}
+use Rattle.def_tree.specs.Size.{depth}
 use Rattle.def_types.specs.declared.Base.TheVariants.{B}
 use Rattle.def_types.specs.declared.Ty.{Ty}
 use Rattle.def_types.specs.declared.Mall.{Mall}
 use Rattle.def_types.specs.Corr.{corr}
 use Rattle.def_types.specs.Malleable.{mall}
-use Rattle.def_types.specs.Samples.{pk, sha256}
+use Rattle.def_types.specs.Samples.{pk, sha256, v, and_v}
 use Rattle.def_assets.specs.Assets.{Assets, AreAssets}
 use Rattle.def_sane.specs.declared.Limits.{Limits}
 use Rattle.def_sane.specs.Limits.{AreLimits}
@@ -100,6 +101,17 @@ OneHasLetters =
     HasLetters just_1 just_1
     (record { base = B; z = true; o = false; n = false; d = false; u = true }) (record { s = false; f = true; e = false }) ×
     FullSat just_1 given_a any []
+
+-- a valid miniscript that is deeper than all that a text spells: `pk(A)` under 150 times `and_v(v:.,1)`, which is Bonu
+abbrev pub chain : ℕ → Tree
+chain zero = pk key_a
+chain (suc n) = and_v (v (chain n)) just_1
+
+pub record DeepHasLetters : Type 0 where
+  pub deep : MOST_DEPTH < depth (chain 150)
+  pub letters :
+      HasLetters (chain 150) (chain 150)
+      (record { base = B; z = false; o = true; n = true; d = false; u = true }) (record { s = true; f = true; e = false })
 
 -- 32 bytes that don't hash to the value of a hash
 abbrev pub HashIsMissed : Type 0

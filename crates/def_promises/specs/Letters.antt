@@ -2,7 +2,7 @@
 -- satisfactions and dissatisfactions of each node of a valid miniscript, as a miniscript of its own.
 use Rattle.std.specs.Prelude.{◌≡◌, ℕ, ◌≤◌, ◌⊎◌, IsTrue, false, List, [], ◌∷◌, ◌++◌, length, reverse, All, Contains, Ok}
 use Rattle.def_hash.specs.declared.HashKind.{HashKind}
-use Rattle.def_script.specs.Bytes.{Bytes}
+use Rattle.def_script.specs.Bytes.{Bytes, IsBytes}
 use Rattle.def_machine.specs.declared.Locks.{Locks}
 use Rattle.def_machine.specs.Limits.{MAX_SCRIPT_ELEMENT_SIZE}
 use Rattle.def_machine.specs.Stacks.{Stack, is_empty}
@@ -52,13 +52,13 @@ NonZero node ty =
 abbrev pub HashesCanBeMissed : Tree → Type 0
 HashesCanBeMissed node =
     (kind : HashKind) (value : Bytes) → Contains (all_nodes node) (hash kind value) →
-    (bytes : Bytes) × IsNoPreimageOf kind value bytes
+    (bytes : Bytes) × IsBytes bytes × IsNoPreimageOf kind value bytes
 
--- d, dissatisfiable: there is a dissatisfaction without a signature
+-- d, dissatisfiable: there is a dissatisfaction without a signature, and it consists of bytes
 abbrev pub Dissatisfiable : Tree → Ty → Type 0
 Dissatisfiable node ty =
     (locks : Locks) (mode : Mode) → IsTrue ty.d → HashesCanBeMissed node →
-    (stack : List Bytes) × FullDsat node (without_signatures locks) mode stack
+    (stack : List Bytes) × All IsBytes stack × FullDsat node (without_signatures locks) mode stack
 
 -- u, unit: carried out from a stack that ends in a satisfaction, a miniscript of type B leaves the byte 1 in its place,
 -- or stops at a limit. No element of the satisfaction is too long, since no run starts with such a one
@@ -89,12 +89,12 @@ Forced node properties =
     (locks : Locks) (mode : Mode) (stack : List Bytes) → IsTrue properties.f →
     ¬ FullDsat node (without_signatures locks) mode stack
 
--- e, expressive: with the known preimages alone there is one dissatisfaction without a signature, and it is
--- canonical
+-- e, expressive: with the known preimages alone there is one dissatisfaction without a signature; it is canonical
+-- and consists of bytes
 abbrev pub Expressive : Tree → Mall → Type 0
 Expressive node properties =
     (locks : Locks) (assets : Assets) → IsTrue properties.e →
-    (stack : List Bytes) ×
+    (stack : List Bytes) × All IsBytes stack ×
     FullDsat node (without_signatures locks) (only (known assets)) stack ×
     Dsat node assets stack ×
     ((other : List Bytes) → FullDsat node (without_signatures locks) (only (known assets)) other → other ≡ stack)

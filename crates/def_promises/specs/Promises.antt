@@ -43,8 +43,9 @@ FreshHasItem =
     (tree : Tree) (assets : Assets) (table : Pairs) (stack : List Bytes) →
     Fresh tree assets table stack → HasUnknownPreimage tree assets stack ⊎ HasOtherKey tree stack
 
--- under every table that holds the pairs of the assets, the stack is accepted; and every other stack that is accepted
--- passes a check that this one doesn't, or is fresh and has an unknown preimage or a substitute key
+-- more than `NonMalleable`: under every table that holds the pairs of the assets, also one of numbers that are no
+-- bytes, the stack is accepted; and every other stack that is accepted, of bytes or not, passes a check that this one
+-- doesn't, or is fresh and has an unknown preimage or a substitute key
 abbrev pub Unchangeable : Tree → Assets → (stack : List Bytes) → Type 0
 Unchangeable tree assets stack =
     (table : Pairs) → Holds table assets →
@@ -53,6 +54,11 @@ Unchangeable tree assets stack =
     IsAccepted tree (given_with assets table) other others → other ≢ stack →
     HasNewPair others checks ⊎
     (Fresh tree assets table other × (HasUnknownPreimage tree assets other ⊎ HasOtherKey tree other)))
+
+abbrev pub UnchangeableIsNonMalleable : Type 0
+UnchangeableIsNonMalleable =
+    (tree : Tree) (assets : Assets) (stack : List Bytes) →
+    Unchangeable tree assets stack → NonMalleable tree assets stack
 
 -- there is a strict choice exactly where there is a canonical satisfaction
 abbrev pub StrictExists : Type 0

@@ -7,6 +7,7 @@ ghost use Rattle.def_promises.specs.Examples.{
   NothingIsMet,
   KeyHasLetters,
   OneHasLetters,
+  DeepHasLetters,
   HashIsMissed,
 };
 
@@ -18,5 +19,6 @@ pub fn instances()
     ensures nothing { NothingIsMet }
     ensures key_has_letters { KeyHasLetters }
     ensures one_has_letters { OneHasLetters }
+    ensures deep_has_letters { DeepHasLetters }
     ensures hash_is_missed { HashIsMissed }
 {}

@@ -1,11 +1,12 @@
 -- What the definitions imply.
-use Rattle.std.specs.Prelude.{◌↔◌, Option, List}
+use Rattle.std.specs.Prelude.{◌↔◌, Option, List, All}
 use Rattle.def_hash.specs.declared.HashKind.{HashKind}
-use Rattle.def_script.specs.Bytes.{Bytes}
+use Rattle.def_script.specs.Bytes.{Bytes, IsBytes}
 use Rattle.def_machine.specs.Stacks.{Pairs}
 use Rattle.def_machine.specs.Machine.{Given}
 use Rattle.def_tree.specs.Tree.{Tree}
-use Rattle.def_assets.specs.Assets.{Assets, known, unsigned}
+use Rattle.def_tree.specs.Range.{IsWritable}
+use Rattle.def_assets.specs.Assets.{Assets, AreAssets, known, unsigned}
 use Rattle.def_satisfaction.specs.Setting.{any, only}
 use Rattle.def_satisfaction.specs.Satisfaction.{Sat, Dsat, FullSat, FullDsat, Holds}
 
@@ -36,3 +37,15 @@ abbrev pub DsatNeedsNoSignature : Type 0
 DsatNeedsNoSignature =
     (tree : Tree) (assets : Assets) (stack : List Bytes) →
     Dsat tree assets stack ↔ Dsat tree (unsigned assets) stack
+
+-- the items of a canonical satisfaction consist of bytes
+abbrev pub SatIsOfBytes : Type 0
+SatIsOfBytes =
+    (tree : Tree) (assets : Assets) (stack : List Bytes) → IsWritable tree → AreAssets assets →
+    Sat tree assets stack → All IsBytes stack
+
+-- so do those of a canonical dissatisfaction
+abbrev pub DsatIsOfBytes : Type 0
+DsatIsOfBytes =
+    (tree : Tree) (assets : Assets) (stack : List Bytes) → IsWritable tree →
+    Dsat tree assets stack → All IsBytes stack

@@ -2,16 +2,14 @@
 use Rattle.std.proofs.Common.{◌≡◌, refl, sym, subst, Contains, Ok}
 use Rattle.def_tree.specs.Tree.{Tree}
 use Rattle.def_tree.specs.Range.{IsWritable}
-use Rattle.def_types.specs.declared.Ty.{Ty}
 use Rattle.def_types.specs.declared.Mall.{Mall}
-use Rattle.def_types.specs.Corr.{corr}
 use Rattle.def_types.specs.Malleable.{mall}
 use Rattle.def_types.specs.Typed.{type_of, IsTyped, mall_of}
 use Rattle.def_types.proofs.Typing.{corr_is_typed, mall_is_non_malleable}
 use Rattle.def_tree.specs.Nodes.{all_nodes}
 use Rattle.def_sane.specs.Unfit.{IsValid}
 use Rattle.def_sane.proofs.Meanings.{valid_means}
-use Rattle.def_promises.specs.Letters.{TypeLetters, MallLetters, Letters, LettersHold}
+use Rattle.def_promises.specs.Letters.{TypeLetters, MallLetters, LettersHold}
 use Rattle.ms_laws.proofs.Few.{few_valid}
 use Rattle.ms_laws.proofs.Inherited.{node_is_writable, node_is_typed, node_is_few}
 use Rattle.ms_laws.proofs.Letters.{zero_arg, one_arg, non_zero, unit_value}

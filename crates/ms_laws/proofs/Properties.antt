@@ -14,6 +14,7 @@ use Rattle.def_satisfaction.specs.Setting.{Setting, only}
 use Rattle.def_satisfaction.specs.Rows.{row}
 use Rattle.def_satisfaction.specs.Satisfaction.{canonical, full}
 use Rattle.def_satisfaction.proofs.Bare.{dsat_within}
+use Rattle.def_satisfaction.proofs.OfBytes.{dsat_bytes, turned_bytes}
 use Rattle.def_promises.specs.Letters.{without_signatures, Dissatisfiable, Signed, Forced, Expressive}
 use Rattle.ms_laws.proofs.Unsigned.{NoKeys, needs}
 use Rattle.ms_laws.proofs.Single.{free_dsat, one_dsat}
@@ -33,7 +34,7 @@ no_table s keys e key other sig h i j = ap (λ table. is_good table other sig) e
 pub dissatisfiable : (node : Tree) → IsWritable node → IsTyped node → Dissatisfiable node (type_of node)
 dissatisfiable node writable typed locks mode d missed =
     let one = missed_dsat (full (without_signatures locks) mode) refl node writable typed d missed in
-    (reverse one.0, subst (row (full (without_signatures locks) mode) node).dsat (sym (reverse-reverse one.0)) one.1)
+    (reverse one.0, turned_bytes one.0 one.1, subst (row (full (without_signatures locks) mode) node).dsat (sym (reverse-reverse one.0)) one.2)
 
 pub signed : (node : Tree) → IsTyped node → Signed node (mall_of node)
 signed node typed locks mode stack s sat =
@@ -52,6 +53,7 @@ expressive node writable typed non_malleable locks assets e =
     let wide = dsat_within (canonical assets) there false≢true (λ key other k. k) node one.0 one.1 in
     let bare = no_table there (keys node) refl in (
       reverse one.0,
+      turned_bytes one.0 (dsat_bytes assets node writable one.0 one.1),
       subst (row there node).dsat (sym (reverse-reverse one.0)) wide,
       subst (row (canonical assets) node).dsat (sym (reverse-reverse one.0)) one.1,
       λ other d.

@@ -1,7 +1,7 @@
 -- A canonical satisfaction that nobody can change is tight.
-use Rattle.std.proofs.Common.{◌≡◌, ◌≢◌, ℕ, ◌+◌, List, [], ◌∷◌, reverse, Ok, sym, ◌∙◌, ap, subst, ◌⊎◌, inl, inr, IsTrue, arith}
+use Rattle.std.proofs.Common.{◌≡◌, ◌≢◌, ℕ, ◌+◌, List, [], ◌∷◌, reverse, Ok, sym, ◌∙◌, ap, subst, ◌⊎◌, inl, inr, IsTrue, All, arith}
 use Rattle.std.proofs.lemmas.List.{reverse-reverse}
-use Rattle.def_script.specs.Bytes.{Bytes}
+use Rattle.def_script.specs.Bytes.{Bytes, IsBytes}
 use Rattle.def_machine.specs.Faults.{OrFault}
 use Rattle.def_machine.specs.Stacks.{Stack, Pairs, member}
 use Rattle.def_machine.specs.Run.{accepted}
@@ -18,8 +18,9 @@ use Rattle.def_satisfaction.specs.Setting.{Setting}
 use Rattle.def_satisfaction.specs.Rows.{row}
 use Rattle.def_satisfaction.specs.Satisfaction.{canonical, Sat, Holds}
 use Rattle.def_satisfaction.proofs.Canonical.{sat_is_full_sat}
+use Rattle.def_satisfaction.proofs.OfBytes.{sat_is_of_bytes}
 use Rattle.def_choice.specs.Tight.{Tight}
-use Rattle.def_choice.specs.NonMalleable.{NonMalleable, IsAccepted, HasNewPair, Fresh, given_with}
+use Rattle.def_choice.specs.NonMalleable.{NonMalleable, IsAccepted, HasNewPair, Fresh, IsTableOfBytes, given_with}
 use Rattle.def_promises.specs.Promises.{StrictIsLightest}
 use Rattle.ms_laws.proofs.Log.{Left}
 use Rattle.ms_laws.proofs.Logs.{sat_log}
@@ -82,12 +83,16 @@ accepts_own tree assets stack writable valid are sat =
 pub one_run : (tree : Tree) (assets : Assets) (table : Pairs) (stack : List Bytes) (c d : Pairs) → IsAccepted tree (given_with assets table) stack c → IsAccepted tree (given_with assets table) stack d → c ≡ d
 one_run tree assets table stack c d p q = same_checks p.ops q.ops p.peak q.peak c d (sym p.run ∙ q.run)
 
+-- the assets' own pairs are a table of bytes
+pairs_of_bytes : (assets : Assets) → AreAssets assets → IsTableOfBytes assets.pairs
+pairs_of_bytes assets are k d h = ((are.keys k d h).bytes, (are.signatures k d h).bytes)
+
 pub tight_if_non_malleable : (tree : Tree) (assets : Assets) (stack : List Bytes) → IsWritable tree → IsSane tree → AreAssets assets → Sat tree assets stack →
     NonMalleable tree assets stack → Tight tree assets stack
 tight_if_non_malleable tree assets stack writable sane are sat non_malleable =
     elim (tight_or_beaten tree assets stack writable sane are sat) [
       | inl tight ↦ tight
-      | inr b ↦ absurd (beaten b (non_malleable assets.pairs (λ key sig h. h)))
+      | inr b ↦ absurd (beaten b (non_malleable assets.pairs (pairs_of_bytes assets are) (λ key sig h. h)))
     ]
   where
     valid : IsValid tree
@@ -95,7 +100,7 @@ tight_if_non_malleable tree assets stack writable sane are sat non_malleable =
 
     beaten : IsBeaten tree assets (checks assets tree (reverse stack) sat) →
         ((c : Pairs) × IsAccepted tree (given_with assets assets.pairs) stack c ×
-        ((other : List Bytes) (others : Pairs) → IsAccepted tree (given_with assets assets.pairs) other others → other ≢ stack →
+        ((other : List Bytes) (others : Pairs) → All IsBytes other → IsAccepted tree (given_with assets assets.pairs) other others → other ≢ stack →
         HasNewPair others c ⊎ Fresh tree assets assets.pairs other)) → ⊥
     beaten b n =
         let own = accepts_own tree assets stack writable valid are sat in
@@ -107,7 +112,7 @@ tight_if_non_malleable tree assets stack writable sane are sat non_malleable =
         let differs : b.other ≢ stack = λ e.
         let at : others ≡ n.0 = one_run tree assets assets.pairs stack _ _ (subst (λ v. IsAccepted tree (given_with assets assets.pairs) v others) e is) n.1 in
         missing.3 (subst (λ c. IsTrue (member c missing.0 missing.1)) (sym at) missing.2) in
-        elim (n.2 b.other others is differs) [
+        elim (n.2 b.other others (sat_is_of_bytes tree assets b.other writable are b.sat) is differs) [
           | inl new ↦ new.3 (fewer.1 new.0 new.1 new.2)
           | inr fresh ↦ fresh.1 (sat_is_full_sat tree assets assets.pairs b.other (λ key sig h. h) b.sat)
         ]

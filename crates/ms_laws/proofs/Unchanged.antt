@@ -7,20 +7,20 @@ use Rattle.def_machine.specs.Stacks.{Stack, Pairs, member}
 use Rattle.def_machine.specs.MultiSig.{is_good}
 use Rattle.def_tree.specs.Tree.{Tree}
 use Rattle.def_tree.specs.Range.{IsWritable}
-use Rattle.def_assets.specs.Assets.{Assets, AreAssets, known}
+use Rattle.def_assets.specs.Assets.{Assets, known}
 use Rattle.def_sane.specs.Keys.{keys}
 use Rattle.def_sane.specs.Most.{limits_of}
-use Rattle.def_sane.specs.Unfit.{IsValid, IsSane}
+use Rattle.def_sane.specs.Unfit.{IsValid}
 use Rattle.def_sane.proofs.Meanings.{valid_means, sane_means}
 use Rattle.def_sane.proofs.Greatest.{limits_are_computed}
 use Rattle.def_satisfaction.specs.Setting.{only}
 use Rattle.def_satisfaction.specs.Rows.{row}
-use Rattle.def_satisfaction.specs.Satisfaction.{canonical, full, Sat}
-use Rattle.def_choice.specs.Tight.{Tight}
+use Rattle.def_satisfaction.specs.Satisfaction.{canonical, full}
 use Rattle.def_choice.proofs.Chosen.{strict_is_tight, strict_is_canonical}
-use Rattle.def_choice.specs.NonMalleable.{IsAccepted, HasNewPair, Fresh, NonMalleable, given_with}
-use Rattle.def_promises.specs.Promises.{Unchangeable, StrictIsNonMalleable, StrictIsUnchangeable, NothingToAccept, TightIsNonMalleable, TightIsUnchangeable}
+use Rattle.def_choice.specs.NonMalleable.{IsAccepted, HasNewPair, Fresh, given_with}
+use Rattle.def_promises.specs.Promises.{StrictIsNonMalleable, StrictIsUnchangeable, NothingToAccept, TightIsNonMalleable, TightIsUnchangeable}
 use Rattle.def_promises.proofs.FreshItems.{fresh_has_item}
+use Rattle.def_promises.proofs.Unchangeable.{unchangeable_is_non_malleable}
 use Rattle.ms_laws.proofs.Logs.{sat_log}
 use Rattle.ms_laws.proofs.Ends.{left}
 use Rattle.ms_laws.proofs.Accepted.{accounted, accepts_row, accepted_short, satisfied}
@@ -97,14 +97,6 @@ tight_is_unchangeable tree assets stack writable sane are sat tight table holds 
         | inl new ↦ inl new
         | inr fresh ↦ inr (fresh, fresh_has_item tree assets table other fresh)
       ],
-    )
-
-unchangeable_is_non_malleable : (tree : Tree) (assets : Assets) (stack : List Bytes) → Unchangeable tree assets stack → NonMalleable tree assets stack
-unchangeable_is_non_malleable tree assets stack unchangeable table holds =
-    let u = unchangeable table holds in (
-      u.0,
-      u.1,
-      λ other others is differs. elim (u.2 other others is differs) [ inl new ↦ inl new | inr fresh ↦ inr fresh.0 ],
     )
 
 -- nobody can change the strict choice

@@ -34,6 +34,7 @@ pub fn strict(alloc: Global, tree: &Tree, assets: &Assets) -> Result<Option<Stac
     ensures nothing { IfOk result (λ found. found ≡ None → (stack : List Bytes) (checks : Pairs) → IsAccepted (shape tree.now) (given_with assets.now assets.now.pairs) stack checks → Fresh (shape tree.now) assets.now assets.now.pairs stack) }
     ensures lightest { IfOk result (λ found. (other : List Bytes) → Sat (shape tree.now) assets.now other → NonMalleable (shape tree.now) assets.now other → (stack : List Bytes) × (found ≡ Some stack) × (weight stack ≤ weight other)) }
     ensures tight { IfOk result (λ found. (stack : List Bytes) → Sat (shape tree.now) assets.now stack → NonMalleable (shape tree.now) assets.now stack ↔ Tight (shape tree.now) assets.now stack) }
+    ensures tight_unchangeable { IfOk result (λ found. (stack : List Bytes) → Tight (shape tree.now) assets.now stack → Unchangeable (shape tree.now) assets.now stack) }
 {
     // Its clauses tell what assets always are.
     let _locks = assets.locks();

@@ -24,10 +24,11 @@ use Rattle.def_satisfaction.specs.Satisfaction.{Sat}
 use Rattle.def_choice.specs.Cheapest.{cheapest}
 use Rattle.def_choice.specs.Strict.{strict}
 use Rattle.def_choice.proofs.Chosen.{cheapest_is_lightest, strict_is_canonical}
+use Rattle.def_promises.specs.Promises.{Unchangeable}
 use Rattle.def_promises.proofs.FreshItems.{fresh_has_item}
 use Rattle.ms_laws.proofs.Accepted.{canonical_is_accepted}
 use Rattle.ms_laws.proofs.StrictFound.{strict_exists}
-use Rattle.ms_laws.proofs.Unchanged.{strict_is_non_malleable, nothing_to_accept}
+use Rattle.ms_laws.proofs.Unchanged.{strict_is_unchangeable, nothing_to_accept}
 use Rattle.def_answer.specs.Answer.{RepliesToText, Replies, RepliesToWords, Answer}
 use Rattle.def_answer.specs.Lines.{script_line, program_line, limits_line}
 use Rattle.def_answer.specs.Reading.{read}
@@ -43,7 +44,7 @@ use Rattle.msat_cli.specs.declared.words.Choice.TheVariants as choice
 use Rattle.msat_cli.specs.Sides.{Side}
 use Rattle.msat_cli.specs.Steps.{HaveUtf8, satisfy_by, reason_by, chosen_by}
 use Rattle.msat_cli.specs.Ends.{Call, HasAnswer, Ends, EndsAs}
-use Rattle.msat_cli.specs.Satisfactions.{IsAsked, Shows, ShowsSuch, IsExact, IsAcceptedByAll, IsUnchangeable, WeighsLeast, FindsWhereOneExists, ShowsCanonical, Prints, ShowsWitness, ShowsAccepted, ShowsNonMalleable, FindsNothingToAccept, ShowsLightest}
+use Rattle.msat_cli.specs.Satisfactions.{IsAsked, Shows, ShowsSuch, IsExact, IsAcceptedByAll, WeighsLeast, FindsWhereOneExists, ShowsCanonical, Prints, ShowsWitness, ShowsAccepted, ShowsNonMalleable, FindsNothingToAccept, ShowsLightest}
 use Rattle.msat_cli.proofs.EndLemmas.{told_answer, ends_as_answered}
 
 -- ---- what is asked
@@ -262,10 +263,8 @@ shows_witness call utf8 e choice =
 
 pub shows_non_malleable : (call : Call) → HaveUtf8 call.words → Ends call → ShowsNonMalleable call
 shows_non_malleable call utf8 e =
-    shows_such choice.Strict call IsUnchangeable utf8 e (λ tree assets stack asked shown. (
-      strict_is_non_malleable tree assets stack (writable choice.Strict call tree assets utf8 asked) asked.fit (are_held asked) shown.chosen,
-      λ table other fresh. fresh_has_item tree assets table other fresh,
-    ))
+    shows_such choice.Strict call Unchangeable utf8 e (λ tree assets stack asked shown.
+    strict_is_unchangeable tree assets stack (writable choice.Strict call tree assets utf8 asked) asked.fit (are_held asked) shown.chosen)
 
 pub finds_nothing_to_accept : (call : Call) → HaveUtf8 call.words → Ends call → FindsNothingToAccept call
 finds_nothing_to_accept call utf8 e tree assets asked is =

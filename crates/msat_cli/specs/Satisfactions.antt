@@ -18,9 +18,9 @@ use Rattle.def_files.specs.AssetFile.{assets_of}
 use Rattle.def_sane.specs.Most.{limits_of}
 use Rattle.def_satisfaction.specs.Weight.{weight}
 use Rattle.def_satisfaction.specs.Satisfaction.{given_of, Sat, Holds}
-use Rattle.def_choice.specs.NonMalleable.{IsAccepted, Fresh, NonMalleable, given_with}
+use Rattle.def_choice.specs.NonMalleable.{IsAccepted, Fresh, given_with}
 use Rattle.def_promises.specs.Acceptance.{IsAcceptedWithin}
-use Rattle.def_promises.specs.Promises.{HasUnknownPreimage, HasOtherKey}
+use Rattle.def_promises.specs.Promises.{HasUnknownPreimage, HasOtherKey, Unchangeable}
 use Rattle.def_answer.specs.declared.status.Status.TheVariants as status
 use Rattle.def_answer.specs.Lines.{line, limits_line, text_line, unfit_line}
 use Rattle.def_answer.specs.Report.{item_line, satisfy_report}
@@ -123,18 +123,16 @@ ShowsAccepted call = (choice : Choice) → ShowsSuch choice call IsAcceptedByAll
 
 -- ---- nobody can change it
 
+-- every other stack that is accepted passes a check that this one doesn't, or is fresh and has an unknown preimage or
+-- another key with the same hash
+abbrev pub ShowsNonMalleable : Call → Type 0
+ShowsNonMalleable call = ShowsSuch choice.Strict call Unchangeable
+
 -- a fresh stack has an unknown preimage, or another key with the same hash
 abbrev pub FreshOnesHaveItem : Tree → Assets → Type 0
 FreshOnesHaveItem tree assets =
     (table : Pairs) (stack : List Bytes) → Fresh tree assets table stack →
     HasUnknownPreimage tree assets stack ⊎ HasOtherKey tree stack
-
--- every other stack that is accepted passes a check that this one doesn't, or is fresh
-abbrev pub IsUnchangeable : Tree → Assets → (stack : List Bytes) → Type 0
-IsUnchangeable tree assets stack = NonMalleable tree assets stack × FreshOnesHaveItem tree assets
-
-abbrev pub ShowsNonMalleable : Call → Type 0
-ShowsNonMalleable call = ShowsSuch choice.Strict call IsUnchangeable
 
 -- where there is none, what is accepted under the assets' own signatures is fresh
 pub record NothingToAccept (tree : Tree) (assets : Assets) : Type 0 where

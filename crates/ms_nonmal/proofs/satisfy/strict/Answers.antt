@@ -1,6 +1,7 @@
 use Rattle.std.proofs.lemmas.Result.{IfOk-weaker}
 use Rattle.ms_tree.specs.Shape.{shape}
-use Rattle.ms_laws.proofs.Unchanged.{tight_is_non_malleable}
+use Rattle.def_choice.proofs.Chosen.{tight_is_canonical}
+use Rattle.ms_laws.proofs.Unchanged.{tight_is_unchangeable, tight_is_non_malleable}
 use Rattle.ms_nonmal.proofs.Promises.{found_sat, found_none, found_non_malleable, found_nothing, found_lightest}
 use Rattle.ms_nonmal.proofs.satisfy.strict.Goals as goal
 
@@ -34,3 +35,10 @@ returns-clause-tight c =
     IfOk-weaker c.satisfaction.result _ _
     (λ found is stack sat.
     tight_is_non_malleable (shape c.args.tree.now) c.args.assets.now stack c.requires.in_range.writable c.requires.sane c.locks-locks.ensures.few.held sat) c.satisfaction.ensures
+
+pub returns-clause-tight_unchangeable : goal.returns-clause-tight_unchangeable
+returns-clause-tight_unchangeable c =
+    IfOk-weaker c.satisfaction.result _ _
+    (λ found is stack tight.
+    tight_is_unchangeable (shape c.args.tree.now) c.args.assets.now stack c.requires.in_range.writable c.requires.sane c.locks-locks.ensures.few.held
+    (tight_is_canonical (shape c.args.tree.now) c.args.assets.now stack tight) tight) c.satisfaction.ensures
