@@ -1,3 +1,4 @@
 pub mod Faults
 pub mod Fragments
+pub mod LockRuns
 pub mod Joined

@@ -1,9 +1,10 @@
--- Runs that show each fault, and where it stops short.
+-- Runs that show each fault, and where it stops short. Each is refused for the reason that its line says and for no
+-- other; timelocks stand in LockRows.
 use Rattle.std.specs.Prelude.{◌≡◌, [], ◌∷◌, ◌++◌, replicate}
 use Rattle.def_hash.specs.Hex.{from_hex}
 use Rattle.def_machine.specs.declared.ScriptFault.TheVariants as fault
 use Rattle.def_machine.specs.Run.{run, accepted, refused}
-use Rattle.def_machine.specs.Samples.{key_a, key_b, key_c, sig_a, sig_c, push_key, nothing, with_table, with_locktime}
+use Rattle.def_machine.specs.Samples.{key_a, key_b, key_c, sig_a, sig_c, push_key, nothing, with_table}
 
 -- the script has 10,001 bytes
 abbrev pub ScriptTooLong : Type 0
@@ -23,6 +24,11 @@ PushTooLong = run nothing (from_hex "4d0902" ++ replicate 521 0x00) []
 -- PUSHDATA1 without its length
 abbrev pub PushWithoutLength : Type 0
 PushWithoutLength = run nothing (from_hex "514c") []
+    ≡ refused fault.Truncated 1
+
+-- a push of two bytes, of which one is there
+abbrev pub PushWithoutByte : Type 0
+PushWithoutByte = run nothing (from_hex "510201") []
     ≡ refused fault.Truncated 1
 
 -- 1 has an opcode of its own
@@ -50,6 +56,21 @@ abbrev pub MostOpcodes : Type 0
 MostOpcodes = run nothing (0x51 ∷ replicate 201 0x92) []
     ≡ accepted 201 1 []
 
+-- an opcode that isn't carried out is counted too
+abbrev pub SkippedOpcodeCounted : Type 0
+SkippedOpcodeCounted = run nothing (from_hex "0063766851") []
+    ≡ accepted 3 1 []
+
+-- a multisignature counts for one opcode and one more a key: 181 opcodes and 20 keys
+abbrev pub MostOpcodesWithKeys : Type 0
+MostOpcodesWithKeys = run nothing (0x51 ∷ replicate 179 0x92 ++ from_hex "690000" ++ replicate 20 0x51 ++ from_hex "0114ae") []
+    ≡ accepted 201 23 []
+
+-- 182 opcodes and 20 keys
+abbrev pub TooManyOpcodesWithKeys : Type 0
+TooManyOpcodesWithKeys = run nothing (0x51 ∷ replicate 180 0x92 ++ from_hex "690000" ++ replicate 20 0x51 ++ from_hex "0114ae") []
+    ≡ refused fault.OpCount 205
+
 -- DUP on an empty stack
 abbrev pub DupOfNothing : Type 0
 DupOfNothing = run nothing (from_hex "76") []
@@ -70,9 +91,19 @@ abbrev pub EndIfWithoutIf : Type 0
 EndIfWithoutIf = run nothing (from_hex "68") []
     ≡ refused fault.Unbalanced 0
 
+-- ELSE without IF
+abbrev pub ElseWithoutIf : Type 0
+ElseWithoutIf = run nothing (from_hex "67") []
+    ≡ refused fault.Unbalanced 0
+
 -- IF takes the number 2
 abbrev pub IfOfTwo : Type 0
 IfOfTwo = run nothing (from_hex "6351675168") (from_hex "02" ∷ [])
+    ≡ refused fault.MinimalIf 0
+
+-- IF takes the number 1 in two bytes
+abbrev pub IfOfTwoBytes : Type 0
+IfOfTwoBytes = run nothing (from_hex "6351675168") (from_hex "0100" ∷ [])
     ≡ refused fault.MinimalIf 0
 
 -- VERIFY takes the empty string
@@ -85,25 +116,25 @@ abbrev pub NumberWithZeroByte : Type 0
 NumberWithZeroByte = run nothing (from_hex "92") (from_hex "0100" ∷ [])
     ≡ refused fault.NumberForm 0
 
--- the locktime -1
-abbrev pub LockOfMinusOne : Type 0
-LockOfMinusOne = run nothing (from_hex "4fb1") []
-    ≡ refused fault.NegativeLock 1
-
--- the locktime 2, and the transaction's is 1
-abbrev pub LockOfTwo : Type 0
-LockOfTwo = run (with_locktime 1) (from_hex "52b1") []
-    ≡ refused fault.UnmetLock 1
-
--- a relative lock with bit 31 set
-abbrev pub VoidSequenceLock : Type 0
-VoidSequenceLock = run nothing (from_hex "050000008000b2") []
-    ≡ accepted 1 1 []
+-- a number of five bytes
+abbrev pub NumberOfFiveBytes : Type 0
+NumberOfFiveBytes = run nothing (from_hex "92") (from_hex "0000000001" ∷ [])
+    ≡ refused fault.NumberForm 0
 
 -- a key of two bytes, with an empty signature
 abbrev pub ShortKey : Type 0
 ShortKey = run nothing (from_hex "020202ac") ([] ∷ [])
     ≡ refused fault.KeyForm 1
+
+-- a key of 33 bytes that begins with 4, with an empty signature
+abbrev pub KeyOfOtherForm : Type 0
+KeyOfOtherForm = run nothing (push_key (0x04 ∷ replicate 32 0x01) ++ from_hex "ac") ([] ∷ [])
+    ≡ refused fault.KeyForm 1
+
+-- a key in its form, with an empty signature
+abbrev pub EmptySignature : Type 0
+EmptySignature = run nothing (push_key key_a ++ from_hex "ac") ([] ∷ [])
+    ≡ refused fault.EvalFalse 2
 
 -- a signature that no table holds
 abbrev pub UnknownSignature : Type 0
@@ -131,20 +162,40 @@ abbrev pub TooManyKeys : Type 0
 TooManyKeys = run nothing (from_hex "0115ae") []
     ≡ refused fault.KeyCount 1
 
+-- a multisignature of -1 keys
+abbrev pub LessThanNoKeys : Type 0
+LessThanNoKeys = run nothing (from_hex "4fae") []
+    ≡ refused fault.KeyCount 1
+
 -- two signatures of one key
 abbrev pub TooManySignatures : Type 0
 TooManySignatures = run nothing (from_hex "52" ++ push_key key_a ++ from_hex "51ae") []
     ≡ refused fault.SigCount 3
+
+-- -1 signatures of no key
+abbrev pub LessThanNoSignatures : Type 0
+LessThanNoSignatures = run nothing (from_hex "4f00ae") []
+    ≡ refused fault.SigCount 2
 
 -- 1,001 elements
 abbrev pub TooManyElements : Type 0
 TooManyElements = run nothing (replicate 1001 0x51) []
     ≡ refused fault.StackSize 1000
 
+-- 1,001 elements on both stacks together
+abbrev pub TooManyElementsOnBoth : Type 0
+TooManyElementsOnBoth = run nothing (replicate 1000 0x51 ++ from_hex "6b51") []
+    ≡ refused fault.StackSize 1001
+
 -- two elements are left
 abbrev pub TwoElementsLeft : Type 0
 TwoElementsLeft = run nothing (from_hex "5151") []
     ≡ refused fault.CleanStack 2
+
+-- no element is left
+abbrev pub NoElementLeft : Type 0
+NoElementLeft = run nothing [] []
+    ≡ refused fault.CleanStack 0
 
 -- a negative zero is left
 abbrev pub NegativeZeroLeft : Type 0

@@ -8,5 +8,6 @@ pub mod Machine
 pub mod Run
 pub mod Samples
 pub mod FaultRows
+pub mod LockRows
 pub mod FragmentRows
 pub mod Laws

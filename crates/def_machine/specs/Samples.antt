@@ -29,19 +29,19 @@ sig_c = replicate 70 0xcc
 abbrev pub push_key : Bytes → Bytes
 push_key key = 0x21 ∷ key
 
--- version 2, the final sequence number and no locktime
-abbrev pub final_locks : Locks
-final_locks = record { version = 2; sequence = 0xffffffff; locktime = 0 }
+-- version 2, a sequence number that neither ends the locktime nor asks for a delay, and no locktime
+abbrev pub plain_locks : Locks
+plain_locks = record { version = 2; sequence = 0xfffffffe; locktime = 0 }
 
 abbrev pub with_table : Pairs → Given
-with_table table = record { table = table; locks = final_locks }
-
-abbrev pub with_locktime : ℕ → Given
-with_locktime locktime = record { table = []; locks = record final_locks { locktime = locktime } }
+with_table table = record { table = table; locks = plain_locks }
 
 abbrev pub with_sequence : ℕ → Pairs → Given
-with_sequence sequence table = record { table = table; locks = record final_locks { sequence = sequence } }
+with_sequence sequence table = record { table = table; locks = record plain_locks { sequence = sequence } }
 
 -- no good signature
+abbrev pub with_locks : Locks → Given
+with_locks locks = record { table = []; locks = locks }
+
 abbrev pub nothing : Given
-nothing = with_table []
+nothing = with_locks plain_locks

@@ -154,34 +154,23 @@ impl Assets {
 
     /// Whether a relative timelock holds (BIP 112; its bits are those of BIP 68) in a transaction of this version,
     /// at an input with this sequence number. `n` is its operand, from 1 to 2^31 - 1. Takes no memory.
-    #[tactic(auto, unfolding(def_machine::specs::Locks::older_holds))]
     pub fn holds_older(&self, n: u64) -> bool
         requires least { 1 ≤ n }
         requires most { n < 2 ^ 31 }
         ensures { result ≡ older_holds n self.now.locks }
     {
-        let version = self.locks.version;
-        let sequence = self.locks.sequence as u64;
-        n & 0x8000_0000 != 0
-            || (version >= 2
-                && sequence & 0x8000_0000 == 0
-                && n & 0x0040_0000 == sequence & 0x0040_0000
-                && n & 0x0040_ffff <= sequence & 0x0040_ffff)
+        self.locks.older_holds(n)
     }
 
     /// Whether an absolute timelock holds (BIP 65) in a transaction of this locktime, at an input with this
     /// sequence number. `n` is its operand, from 1 to 2^31 - 1: a height below 500,000,000, and a time in seconds
     /// from there on. Takes no memory.
-    #[tactic(auto, unfolding(def_machine::specs::Locks::after_holds))]
     pub fn holds_after(&self, n: u64) -> bool
         requires least { 1 ≤ n }
         requires most { n < 2 ^ 31 }
         ensures { result ≡ after_holds n self.now.locks }
     {
-        let locktime = self.locks.locktime as u64;
-        let same_kind = (n < 500_000_000 && locktime < 500_000_000)
-            || (500_000_000 <= n && 500_000_000 <= locktime);
-        same_kind && n <= locktime && self.locks.sequence != 0xffff_ffff
+        self.locks.after_holds(n)
     }
 }
 

@@ -5,8 +5,8 @@ use Rattle.def_machine.specs.Stacks.{Stack, Pairs}
 use Rattle.ms_interp.specs.declared.machine.Machine.{Machine}
 use Rattle.ms_interp.specs.declared.stop.Stop.{Stop}
 use Rattle.ms_interp.specs.declared.stop.Stop.TheVariants.{Fault, Memory}
-use Rattle.ms_interp.specs.Stops.{Leaves}
-use Rattle.ms_interp.specs.Compact.{on_main, on_both, on_checks, on_multi}
+use Rattle.ms_interp.specs.Scaffolding.Stops.{Leaves}
+use Rattle.ms_interp.specs.Scaffolding.Compact.{on_main, on_both, on_checks, on_multi}
 
 pub on_main_leaves : {X : Type 0} (f : Stack → OrFault Stack) (m : Machine) (result : Result X Stop) (main : Stack)
     → Leaves result main (f m.main) → Leaves result (record m { main = main }) (on_main f m)

@@ -18,8 +18,8 @@ use Rattle.def_machine.specs.Machine.{Given, State, height, is_live, is_branchin
 use Rattle.def_machine.specs.Run.{Outcome, leads as the_leads, finish as the_finish, balanced as the_balanced, is_clean, ended as the_ended, steps as the_steps}
 use Rattle.ms_interp.specs.declared.branches.Branches.{Branches}
 use Rattle.ms_interp.specs.declared.machine.Machine.{Machine}
-use Rattle.ms_interp.specs.Branches.{first_with, first_false, first_outside, first_turned, branches_of, is_none, with_branch, turned, closed, balanced}
-use Rattle.ms_interp.specs.Compact.{machine_of, on_main, on_both, on_checks, on_multi, on_branches, opened, open_branch, act, only_if, pushed, carry_push, count_op, carry_op, carry_out, settle, step, leads, finish, steps}
+use Rattle.ms_interp.specs.Scaffolding.Branches.{first_with, first_false, first_outside, first_turned, branches_of, is_none, with_branch, turned, closed, balanced}
+use Rattle.ms_interp.specs.Scaffolding.Compact.{machine_of, on_main, on_both, on_checks, on_multi, on_branches, opened, open_branch, act, only_if, pushed, carry_push, count_op, carry_op, carry_out, settle, step, leads, finish, steps}
 
 -- a state as the code keeps it, or the fault
 abbrev seen : OrFault State → OrFault Machine

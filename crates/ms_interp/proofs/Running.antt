@@ -19,9 +19,9 @@ use Rattle.ms_interp.specs.declared.stop.Stop.{Stop}
 use Rattle.ms_interp.specs.declared.stop.Stop.TheVariants as stop_kind
 use Rattle.ms_interp.specs.declared.report.RunReport.{RunReport}
 use Rattle.ms_interp.specs.declared.report.RunStop.{RunStop}
-use Rattle.ms_interp.specs.Stops.{StopsAs}
-use Rattle.ms_interp.specs.Answering.{Answers, run_stop}
-use Rattle.ms_interp.specs.Compact.{machine_of, carry_out, step, ended, steps}
+use Rattle.ms_interp.specs.Scaffolding.Stops.{StopsAs, run_stop}
+use Rattle.ms_interp.specs.Answering.{Answers}
+use Rattle.ms_interp.specs.Scaffolding.Compact.{machine_of, carry_out, step, ended, steps}
 use Rattle.ms_interp.proofs.Refines.{steps_is}
 
 -- the instructions from a place on lead where all of them lead

@@ -4,8 +4,6 @@ use Rattle.def_machine.specs.declared.Locks.{Locks}
 use Rattle.def_machine.specs.Stacks.{Pairs}
 use Rattle.def_machine.specs.Machine.{Given}
 use Rattle.def_machine.specs.Run.{Outcome, accepted, refused}
-use Rattle.ms_interp.specs.declared.stop.Stop.{Stop}
-use Rattle.ms_interp.specs.declared.stop.Stop.TheVariants as stop
 use Rattle.ms_interp.specs.declared.report.RunReport.{RunReport}
 use Rattle.ms_interp.specs.declared.report.RunStop.{RunStop}
 use Rattle.ms_interp.specs.declared.report.RunStop.TheVariants.{Refused, Memory}
@@ -13,11 +11,6 @@ use Rattle.ms_interp.specs.declared.report.RunStop.TheVariants.{Refused, Memory}
 -- what a run is given
 abbrev pub given_by : Pairs → Locks → Given
 given_by table locks = record { table = table; locks = locks }
-
--- a stop at a place
-abbrev pub run_stop : Stop → (place : ℕ) → RunStop
-run_stop (stop.Fault fault) place = Refused fault place
-run_stop stop.Memory place = Memory
 
 -- a report is that of an accepted run, and a refusal has its fault and place; only want of memory
 -- may come in their place

@@ -1,5 +1,2 @@
-pub mod Stops
-pub mod Branches
-pub mod Multi
+pub mod Scaffolding
 pub mod Answering
-pub mod Compact

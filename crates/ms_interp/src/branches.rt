@@ -1,6 +1,7 @@
+//! The open branches of IF and NOTIF, as two numbers.
 ghost use Rattle.std.specs.Prelude.{◌≡◌, ◌==◌, ◌+◌, ◌<◌, ◌≤◌, Ok};
-ghost use Rattle.ms_interp.specs.Stops.{IsResult};
-ghost use Rattle.ms_interp.specs.Branches.{all_taken, with_branch, turned, closed};
+ghost use Rattle.ms_interp.specs.Scaffolding.Stops.{IsResult};
+ghost use Rattle.ms_interp.specs.Scaffolding.Branches.{all_taken, with_branch, turned, closed};
 
 use def_machine::ScriptFault;
 

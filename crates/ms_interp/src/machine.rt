@@ -1,3 +1,4 @@
+//! The machine, and one step of it.
 ghost use Rattle.std.specs.Prelude.{◌≡◌, ℕ, ◌+◌, ◌<◌, ◌≤◌, length, [], None};
 ghost use Rattle.def_script.specs.Item as item;
 ghost use Rattle.def_machine.specs.Effects.{verify as the_verify, equal as the_equal, check_sig as the_check_sig};
@@ -5,10 +6,10 @@ ghost use Rattle.def_machine.specs.Machine.{is_branching as the_is_branching};
 ghost use Rattle.def_machine.specs.MultiSig.{check_multi_sig as the_check_multi_sig};
 ghost use Rattle.ms_script.specs.Reads.{item_of};
 ghost use Rattle.ms_oracle.specs.Sound.{table_of, IsSound};
-ghost use Rattle.ms_interp.specs.Stops.{Leaves};
+ghost use Rattle.ms_interp.specs.Scaffolding.Stops.{Leaves};
 ghost use Rattle.ms_interp.specs.Answering.{given_by};
-ghost use Rattle.ms_interp.specs.Branches.{turned, closed};
-ghost use Rattle.ms_interp.specs.Compact.{on_main, on_checks, on_multi, on_branches, open_branch as the_open_branch, act as the_act, count_op as the_count_op, pushed, carry_push as the_carry_push, carry_op as the_carry_op, carry_out as the_carry_out, settle as the_settle, step as the_step};
+ghost use Rattle.ms_interp.specs.Scaffolding.Branches.{turned, closed};
+ghost use Rattle.ms_interp.specs.Scaffolding.Compact.{on_main, on_checks, on_multi, on_branches, open_branch as the_open_branch, act as the_act, count_op as the_count_op, pushed, carry_push as the_carry_push, carry_op as the_carry_op, carry_out as the_carry_out, settle as the_settle, step as the_step};
 
 use crate::branches::Branches;
 use crate::effects::{
@@ -88,7 +89,7 @@ impl Machine {
     }
 
     /// IF and NOTIF: opens a branch that is taken where the condition is as wanted.
-    #[tactic(auto, unfolding(crate::specs::Compact::open_branch))]
+    #[tactic(auto, unfolding(crate::specs::Scaffolding::Compact::open_branch))]
     fn open_branch(&mut self, wanted: bool) -> Result<(), Stop>
         requires { self.old.branches.depth < usize.MAX }
         ensures value { Leaves result self.new (the_open_branch wanted self.old) }
@@ -120,7 +121,7 @@ impl Machine {
     }
 
     /// What each opcode does.
-    #[tactic(auto, unfolding(crate::specs::Compact::act), using(crate::proofs::Leaving::leaving))]
+    #[tactic(auto, unfolding(crate::specs::Scaffolding::Compact::act), using(crate::proofs::Leaving::leaving))]
     fn act<F: Fn(&[u8], &[u8]) -> bool>(
         &mut self,
         sigs: &SigCheck<'_, F>,
@@ -181,7 +182,7 @@ impl Machine {
     }
 
     /// Counts an opcode, also where the branches aren't taken, and carries it out.
-    #[tactic(auto, unfolding(crate::specs::Compact::carry_op))]
+    #[tactic(auto, unfolding(crate::specs::Scaffolding::Compact::carry_op))]
     fn carry_op<F: Fn(&[u8], &[u8]) -> bool>(
         &mut self,
         sigs: &SigCheck<'_, F>,
@@ -201,7 +202,7 @@ impl Machine {
     }
 
     /// Puts a string on the main stack where the branches are taken; its push must be minimal then.
-    #[tactic(auto, unfolding(crate::specs::Compact::carry_push, crate::specs::Compact::pushed))]
+    #[tactic(auto, unfolding(crate::specs::Scaffolding::Compact::carry_push, crate::specs::Scaffolding::Compact::pushed))]
     fn carry_push(&mut self, bytes: &[u8], minimal: bool) -> Result<(), Stop>
         ensures value { Leaves result self.new (the_carry_push bytes.now minimal self.old) }
         ensures branches { self.new.branches ≡ self.old.branches }
@@ -219,7 +220,7 @@ impl Machine {
         Ok(())
     }
 
-    #[tactic(auto, unfolding(crate::specs::Compact::carry_out))]
+    #[tactic(auto, unfolding(crate::specs::Scaffolding::Compact::carry_out))]
     fn carry_out<F: Fn(&[u8], &[u8]) -> bool>(
         &mut self,
         sigs: &SigCheck<'_, F>,
@@ -242,7 +243,7 @@ impl Machine {
     }
 
     /// Tests how high the stacks are, and keeps the greatest height.
-    #[tactic(auto, unfolding(crate::specs::Compact::settle))]
+    #[tactic(auto, unfolding(crate::specs::Scaffolding::Compact::settle))]
     fn settle(&mut self) -> Result<(), Stop>
         ensures value { Leaves result self.new (the_settle self.old) }
         ensures branches { self.new.branches ≡ self.old.branches }
@@ -256,7 +257,7 @@ impl Machine {
     }
 
     /// One instruction.
-    #[tactic(auto, unfolding(crate::specs::Compact::step))]
+    #[tactic(auto, unfolding(crate::specs::Scaffolding::Compact::step))]
     pub fn step<F: Fn(&[u8], &[u8]) -> bool>(
         &mut self,
         sigs: &SigCheck<'_, F>,

@@ -1,10 +1,11 @@
+//! CHECKMULTISIG, and the count of opcodes with its keys.
 ghost use Rattle.std.specs.Prelude.{◌≡◌, ℕ, ◌+◌, [], ◌++◌, ◌<◌, length, slice_index_or, OnOk};
 ghost use Rattle.std.specs.List.{list_all};
 ghost use Rattle.def_machine.specs.Stacks.{is_empty};
 ghost use Rattle.def_machine.specs.MultiSig.{counted, is_good as the_is_good, some_off as the_some_off, tries as the_tries, verdict as the_verdict, check_multi_sig as the_check_multi_sig};
 ghost use Rattle.ms_oracle.specs.Sound.{table_of, IsSound};
-ghost use Rattle.ms_interp.specs.Stops.{Leaves, Gives, GivesFault};
-ghost use Rattle.ms_interp.specs.Multi.{found_by, judged_seen};
+ghost use Rattle.ms_interp.specs.Scaffolding.Stops.{Leaves, Gives, GivesFault};
+ghost use Rattle.ms_interp.specs.Scaffolding.Multi.{found_by, judged_seen};
 
 use crate::operands::{count, is_key};
 use crate::pile::Pile;

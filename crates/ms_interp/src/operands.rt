@@ -1,8 +1,9 @@
+//! What opcodes take from the stack: keys, numbers, counts and conditions.
 ghost use Rattle.std.specs.Prelude.{◌≡◌, ℕ, ◌≤◌, IfOk};
 ghost use Rattle.def_machine.specs.Stacks.{is_key as the_is_key};
 ghost use Rattle.def_machine.specs.Effects.{operand as the_operand, one_number as the_one_number, two_numbers as the_two_numbers, condition as the_condition};
 ghost use Rattle.def_machine.specs.MultiSig.{count as the_count};
-ghost use Rattle.ms_interp.specs.Stops.{GivesFault, HasRoom};
+ghost use Rattle.ms_interp.specs.Scaffolding.Stops.{GivesFault, HasRoom};
 
 use crate::pile::Pile;
 use def_machine::ScriptFault;

@@ -1,3 +1,4 @@
+//! A stack of the machine.
 ghost use Rattle.std.specs.Prelude.{◌≡◌, [], ◌∷◌, length, reverse, OnOk, IfOk, MatchOption};
 ghost use Rattle.def_machine.specs.Stacks.{bool_bytes};
 

@@ -1,3 +1,5 @@
+//! What a run answers: a report, or why there is none.
+
 use def_machine::ScriptFault;
 use ms_oracle::Pairs;
 use thiserror::Error;
@@ -5,21 +7,25 @@ use thiserror::Error;
 /// What an accepted run did.
 #[derive(Debug, Drop)]
 pub struct RunReport {
-    /// How many opcodes above `60` there were, with the keys of executed multisignatures.
+    /// How many opcodes above hex 60 there were, also in branches that weren't taken, with the keys of executed
+    /// multisignatures: the number that Bitcoin Core's `MAX_OPS_PER_SCRIPT` bounds, from 0 to 201.
     pub ops: u32,
-    /// The greatest number of elements of both stacks together, at the start and after each instruction.
+    /// The greatest number of elements of the main and the alternative stack together, at the start and after each
+    /// instruction.
     pub peak: u32,
-    /// The pairs of a key and a signature that were found good, in order.
+    /// The pairs of a key and a signature that were found good, in the order in which they were: of a
+    /// multisignature the last key's first. At most as many as `ops`.
     pub checks: Pairs,
 }
 
 /// Why there is no report.
 #[derive(Clone, Copy, Debug, PartialEq, Eq, Error)]
 pub enum RunStop {
-    /// The run is refused, at the instruction with this number, from 0.
+    /// The run meets this fault, at the instruction with this number, from 0. Before the first instruction the
+    /// number is 0, and after the last the number of instructions.
     #[error("the run is refused: {0:?} at instruction {1}")]
     Refused(ScriptFault, u32),
-    /// Memory was wanting.
+    /// Memory was wanting, for the stacks or for the list of pairs found good.
     #[error("no memory is left")]
     Memory,
 }

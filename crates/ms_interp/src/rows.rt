@@ -1,4 +1,4 @@
-//! Runs, and what comes of them.
+//! Runs for the tests, and what comes of them.
 
 use def_machine::ScriptFault;
 use ms_oracle::Locks;
@@ -56,15 +56,15 @@ pub struct Row {
     pub outcome: Outcome,
 }
 
-#[derive(Clone, Copy, Debug, PartialEq, Eq)]
+#[derive(Clone, Copy, Debug)]
 pub enum Outcome {
     Refused(ScriptFault, u32),
-    /// The opcodes, the peak and how many checks there were.
-    Accepted(u32, u32, usize),
-    Memory,
+    /// The opcodes, the peak and the pairs that were found good, in order.
+    Accepted(u32, u32, &'static [(&'static [u8], &'static [u8])]),
 }
 
-pub const REFUSED: [Row; 26] = [
+/// Each fault, and runs that just pass.
+pub const RUNS: [Row; 29] = [
     Row {
         script: &[&[0x51; 10001]],
         items: &[],
@@ -101,6 +101,13 @@ pub const REFUSED: [Row; 26] = [
         outcome: Outcome::Refused(ScriptFault::NonMinimalPush, 0),
     },
     Row {
+        script: &[b"\x00\x63\x01\x01\x68\x51"],
+        items: &[],
+        locks: LOCKS,
+        table: &[],
+        outcome: Outcome::Accepted(2, 1, &[]),
+    },
+    Row {
         script: &[b"\x00\x63\x61\x68\x51"],
         items: &[],
         locks: LOCKS,
@@ -113,6 +120,13 @@ pub const REFUSED: [Row; 26] = [
         locks: LOCKS,
         table: &[],
         outcome: Outcome::Refused(ScriptFault::OpCount, 202),
+    },
+    Row {
+        script: &[b"\x51", &[0x92; 201]],
+        items: &[],
+        locks: LOCKS,
+        table: &[],
+        outcome: Outcome::Accepted(201, 1, &[]),
     },
     Row {
         script: &[b"\x76"],
@@ -178,6 +192,13 @@ pub const REFUSED: [Row; 26] = [
         outcome: Outcome::Refused(ScriptFault::UnmetLock, 1),
     },
     Row {
+        script: &[b"\x05\x00\x00\x00\x80\x00\xb2"],
+        items: &[],
+        locks: LOCKS,
+        table: &[],
+        outcome: Outcome::Accepted(1, 1, &[]),
+    },
+    Row {
         script: &[b"\x02\x02\x02\xac"],
         items: &[b""],
         locks: LOCKS,
@@ -190,6 +211,13 @@ pub const REFUSED: [Row; 26] = [
         locks: LOCKS,
         table: &[],
         outcome: Outcome::Refused(ScriptFault::NullFail, 1),
+    },
+    Row {
+        script: &[b"\x21", A, b"\xac"],
+        items: &[SA],
+        locks: LOCKS,
+        table: &[(A, SA)],
+        outcome: Outcome::Accepted(1, 2, &[(A, SA)]),
     },
     Row {
         script: &[b"\x52\x21", A, b"\x21", B, b"\x21", C, b"\x53\xae"],
@@ -240,6 +268,18 @@ pub const REFUSED: [Row; 26] = [
         table: &[],
         outcome: Outcome::Refused(ScriptFault::EvalFalse, 0),
     },
+];
+
+/// Runs of whole expressions: `or_b(pk(A),s:pk(B))` with both signatures and with that of A twice,
+/// `multi(2,A,B,C)`, `or_d(pk(A),and_v(v:pkh(B),older(144)))` and `thresh(1,sha256(Z),s:pk(A))`.
+pub const EXPRESSIONS: [Row; 5] = [
+    Row {
+        script: &[b"\x21", A, b"\xac\x7c\x21", B, b"\xac\x9b"],
+        items: &[SB, SA],
+        locks: LOCKS,
+        table: &[(B, SB), (A, SA)],
+        outcome: Outcome::Accepted(4, 3, &[(A, SA), (B, SB)]),
+    },
     Row {
         script: &[b"\x21", A, b"\xac\x7c\x21", B, b"\xac\x9b"],
         items: &[SA, SA],
@@ -247,43 +287,12 @@ pub const REFUSED: [Row; 26] = [
         table: &[(A, SA)],
         outcome: Outcome::Refused(ScriptFault::NullFail, 4),
     },
-];
-
-pub const ACCEPTED: [Row; 7] = [
     Row {
-        script: &[b"\x00\x63\x01\x01\x68\x51"],
-        items: &[],
+        script: &[b"\x52\x21", A, b"\x21", B, b"\x21", C, b"\x53\xae"],
+        items: &[b"", SA, SC],
         locks: LOCKS,
-        table: &[],
-        outcome: Outcome::Accepted(2, 1, 0),
-    },
-    Row {
-        script: &[b"\x51", &[0x92; 201]],
-        items: &[],
-        locks: LOCKS,
-        table: &[],
-        outcome: Outcome::Accepted(201, 1, 0),
-    },
-    Row {
-        script: &[b"\x05\x00\x00\x00\x80\x00\xb2"],
-        items: &[],
-        locks: LOCKS,
-        table: &[],
-        outcome: Outcome::Accepted(1, 1, 0),
-    },
-    Row {
-        script: &[b"\x21", A, b"\xac"],
-        items: &[SA],
-        locks: LOCKS,
-        table: &[(A, SA)],
-        outcome: Outcome::Accepted(1, 2, 1),
-    },
-    Row {
-        script: &[b"\x21", A, b"\xac\x7c\x21", B, b"\xac\x9b"],
-        items: &[SB, SA],
-        locks: LOCKS,
-        table: &[(B, SB), (A, SA)],
-        outcome: Outcome::Accepted(4, 3, 2),
+        table: &[(C, SC), (B, SB), (A, SA)],
+        outcome: Outcome::Accepted(4, 8, &[(C, SC), (A, SA)]),
     },
     Row {
         script: &[
@@ -296,7 +305,7 @@ pub const ACCEPTED: [Row; 7] = [
         items: &[SB, B, b""],
         locks: SEQUENCE_144,
         table: &[(B, SB)],
-        outcome: Outcome::Accepted(9, 4, 1),
+        outcome: Outcome::Accepted(9, 4, &[(B, SB)]),
     },
     Row {
         script: &[
@@ -309,6 +318,6 @@ pub const ACCEPTED: [Row; 7] = [
         items: &[b"", &[0; 32]],
         locks: LOCKS,
         table: &[],
-        outcome: Outcome::Accepted(8, 4, 0),
+        outcome: Outcome::Accepted(8, 4, &[]),
     },
 ];

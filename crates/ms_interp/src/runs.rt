@@ -1,3 +1,4 @@
+//! A run: the tests at its start, its instructions in order, and the tests at its end.
 ghost use Rattle.std.specs.Prelude.{◌≡◌, ℕ, ◌≤◌, nat_le, length, reverse, IfOk};
 ghost use Rattle.std.specs.List.{list_all};
 ghost use Rattle.def_script.specs.Bytes.{Bytes};
@@ -5,8 +6,9 @@ ghost use Rattle.def_script.specs.Items.{items};
 ghost use Rattle.def_machine.specs.Machine.{fault_of as the_fault_of};
 ghost use Rattle.def_machine.specs.Run.{run as the_run};
 ghost use Rattle.ms_oracle.specs.Sound.{table_of, IsSound};
-ghost use Rattle.ms_interp.specs.Answering.{given_by, run_stop, Answers, IsSmall};
-ghost use Rattle.ms_interp.specs.Compact.{ended as the_ended, steps as the_steps};
+ghost use Rattle.ms_interp.specs.Answering.{given_by, Answers, IsSmall};
+ghost use Rattle.ms_interp.specs.Scaffolding.Stops.{run_stop};
+ghost use Rattle.ms_interp.specs.Scaffolding.Compact.{ended as the_ended, steps as the_steps};
 
 use crate::machine::Machine;
 use crate::pile::Pile;
@@ -17,13 +19,20 @@ use ms_oracle::SigCheck;
 use ms_script::{InstrFault, Stack, next_instr, truth};
 use std::alloc::{AllocError, Global};
 
-/// Runs a Script on a stack, with the limits of Bitcoin Core's `EvalScript` and the rules for P2WSH (BIP 141,
-/// BIP 143, BIP 146, BIP 147). `locks` tells the timelocks of the spending input, and `sigs` which
-/// signatures are good.
+/// Runs a Script on a stack, with the limits of Bitcoin Core's `EvalScript` and the rules of
+/// `ExecuteWitnessScript` for P2WSH (BIP 141, BIP 143, BIP 146, BIP 147, and minimal pushes, numbers and conditions
+/// as Bitcoin Core's policy asks for them).
 ///
-/// A run is accepted where it leaves exactly one element, which is true, and no branch is open. `Refused`
-/// comes exactly where the run meets a fault, with the number of the instruction, from 0; `Memory` only where
-/// memory is wanting.
+/// `script` is the witness script as bytes, `stack` the elements below it in the witness, the bottom first, at most
+/// 2^31 of them. `locks` tells version and locktime of the spending transaction and the sequence number of its
+/// input, for BIP 65 and BIP 112. `sigs` tells which signatures are good; that it answers for its table is what
+/// `SigCheck::new` promises.
+///
+/// A run is accepted where it leaves exactly one element, which is true, and no branch is open. `Refused` comes
+/// exactly where the run meets a fault, the first in the order of the instructions, with the instruction's number
+/// from 0: 0 where the script or an element is too long, the number of instructions where a test at the end fails.
+/// `Memory` comes only where memory is wanting, and may come in place of any of these but a script or an element
+/// that is too long.
 pub fn run<F: Fn(&[u8], &[u8]) -> bool>(
     alloc: Global,
     script: &[u8],
@@ -103,7 +112,7 @@ fn steps<F: Fn(&[u8], &[u8]) -> bool>(
 }
 
 /// The report at the end, where no branch is open and exactly one element is left, which is true.
-#[tactic(auto, unfolding(crate::specs::Compact::finish))]
+#[tactic(auto, unfolding(crate::specs::Scaffolding::Compact::finish))]
 fn ended(machine: Machine, place: u32) -> Result<RunReport, RunStop>
     ensures { Answers result (the_ended place machine) }
 {

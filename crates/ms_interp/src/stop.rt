@@ -1,3 +1,4 @@
+//! What stops an instruction.
 ghost use Rattle.std.specs.Prelude.{◌≡◌};
 ghost use Rattle.ms_interp.specs.declared.stop.Stop.TheVariants.{Fault, Memory};
 

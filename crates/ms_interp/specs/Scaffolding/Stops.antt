@@ -1,7 +1,9 @@
 -- What a call of the interpreter left, and what a definition gives.
-use Rattle.std.specs.Prelude.{◌≡◌, ◌^◌, ◌≤ℤ◌, ℤ, pos, neg_ℤ, Result, Ok, Err}
+use Rattle.std.specs.Prelude.{◌≡◌, ◌^◌, ◌≤ℤ◌, ℕ, ℤ, pos, neg_ℤ, Result, Ok, Err}
 use Rattle.def_machine.specs.declared.ScriptFault.{ScriptFault}
 use Rattle.def_machine.specs.Faults.{OrFault}
+use Rattle.ms_interp.specs.declared.report.RunStop.{RunStop}
+use Rattle.ms_interp.specs.declared.report.RunStop.TheVariants as ended
 use Rattle.ms_interp.specs.declared.stop.Stop.{Stop}
 use Rattle.ms_interp.specs.declared.stop.Stop.TheVariants.{Fault, Memory}
 
@@ -33,3 +35,8 @@ Leaves (Err stop) left expected = StopsAs stop expected
 abbrev pub Gives : {X A : Type 0} → Result X Stop → (X → A) → OrFault A → Type 0
 Gives (Ok x) seen expected = expected ≡ Ok (seen x)
 Gives (Err stop) seen expected = StopsAs stop expected
+
+-- a stop at a place
+abbrev pub run_stop : Stop → (place : ℕ) → RunStop
+run_stop (Fault fault) place = ended.Refused fault place
+run_stop Memory place = ended.Memory

@@ -18,7 +18,7 @@ use Rattle.def_machine.specs.Machine.{Given, State, is_branching, fault_of}
 use Rattle.def_machine.specs.Run.{Outcome, accepted, refused, is_clean}
 use Rattle.ms_interp.specs.declared.branches.Branches.{Branches}
 use Rattle.ms_interp.specs.declared.machine.Machine.{Machine}
-use Rattle.ms_interp.specs.Branches.{branches_of, all_taken, with_branch, turned, closed, balanced}
+use Rattle.ms_interp.specs.Scaffolding.Branches.{branches_of, all_taken, with_branch, turned, closed, balanced}
 
 -- a state as the code keeps it
 abbrev pub machine_of : State → Machine
