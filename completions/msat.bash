@@ -1,0 +1,15 @@
+# Completion of msat's words for bash. A TEXT is written by hand, or by "$(cat FILE)".
+_msat() {
+    local word=${COMP_WORDS[COMP_CWORD]}
+    COMPREPLY=()
+    case $COMP_CWORD in
+    1) COMPREPLY=($(compgen -W "script check satisfy run gen" -- "$word")) ;;
+    2)
+        case ${COMP_WORDS[1]} in
+        satisfy) COMPREPLY=($(compgen -W "--malleable" -- "$word")) ;;
+        gen) COMPREPLY=($(compgen -W "$(seq 30)" -- "$word")) ;;
+        esac
+        ;;
+    esac
+}
+complete -o default -F _msat msat
