@@ -5,12 +5,12 @@ use Rattle.def_hash.specs.declared.HashKind.{HashKind}
 use Rattle.def_hash.specs.declared.HashKind.TheVariants.{Sha256, Hash256}
 use Rattle.def_hash.specs.Hash.{digest_of}
 use Rattle.def_script.specs.Bytes.{Bytes}
-use Rattle.def_machine.specs.Samples.{final_locks, key_a, key_b, sig_a, sig_b, sig_c}
+use Rattle.def_machine.specs.Samples.{plain_locks, key_a, key_b, sig_a, sig_b, sig_c}
 use Rattle.def_machine.specs.Stacks.{Pairs}
 use Rattle.def_assets.specs.Assets.{Assets, sig_of, known, unsigned}
 
 abbrev pub holding : Pairs → (preimages : List Bytes) → Assets
-holding pairs preimages = record { locks = final_locks; pairs = pairs; preimages = preimages }
+holding pairs preimages = record { locks = plain_locks; pairs = pairs; preimages = preimages }
 
 -- of two signatures with one key the first is found
 abbrev pub FirstSignature : Type 0
