@@ -5,6 +5,7 @@ use Rattle.std.proofs.Math.Seq.{take-append_seam}
 use Rattle.std.proofs.KnownBytes.{Appends-trans, Appends-kept, Consumes-trans}
 use Rattle.std.specs.declared.option.Option.{Option}
 use Rattle.std.specs.Io.KnownBytes.{Appends, Consumes, Keeps}
+use Rattle.ms_io.specs.Calls.{Offers, one_call}
 use Rattle.ms_io.specs.Moves.{AppendsPrefix, WritesSoFar, GivesWithin, GivesOver}
 
 -- one more piece was taken
@@ -16,6 +17,12 @@ writes_more old now new bytes rest n so_far taken = record {
       ∙ sym (append_assoc so_far.done (take n rest) (take (length rest - n) (drop n rest)));
   appended = Appends-trans old now new so_far.done (take n rest) so_far.appended taken;
 }
+
+-- one more piece was taken by a call that was offered all that was left
+pub offers_more : {Sink : Type 0} (takes : Sink → List ℕ → ℕ → Sink → Type 0) (old now next : Sink) (bytes rest : List ℕ) (n : ℕ) → Offers takes old bytes now rest → 0 < length rest → takes now rest n next
+    → Offers takes old bytes next (take (length rest - n) (drop n rest))
+offers_more takes old now next bytes rest n offered left taken =
+    subst (Offers takes old bytes next) (sym (take_rest rest n)) (one_call now next rest n offered left taken)
 
 -- nothing more was taken: what was written is a prefix
 pub writes_stop : (old now new : Option (List ℕ)) (bytes rest : List ℕ) → WritesSoFar old now bytes rest → Keeps now new → AppendsPrefix old new bytes

@@ -1,17 +1,14 @@
 -- A sink and a source over memory that fail where they are told to.
-use Rattle.std.specs.Prelude.{ℕ, ◌+◌, ◌-◌, ◌^◌, ◌==◌, ◌&&◌, ◌||◌, min, nat_lt, Bool, List, length, take, drop, ◌++◌, if◌then◌else◌}
+use Rattle.std.specs.Prelude.{◌≡◌, ℕ, ◌-◌, ◌==◌, ◌&&◌, ◌||◌, min, nat_lt, Bool, true, false, List, length, take, drop, ◌++◌, if◌then◌else◌}
 use Rattle.std.specs.List.{list_any}
+use Rattle.ms_io.specs.Faults.{LAST_COUNT, next_count}
 
 -- ---- numbers of calls
-
--- one more, up to the last value of a 64-bit counter
-abbrev pub next_count : ℕ → ℕ
-next_count n = min (n + 1) (2 ^ 64 - 1)
 
 -- a call fails where its number is listed. The last value of the counter is the number of all calls from
 -- there on, and none of them fails
 abbrev pub call_fails : (fail_at : List ℕ) → (call : ℕ) → Bool
-call_fails fail_at call = nat_lt call (2 ^ 64 - 1) && list_any (λ n. n == call) fail_at
+call_fails fail_at call = nat_lt call LAST_COUNT && list_any (λ n. n == call) fail_at
 
 -- ---- the sink
 
@@ -46,6 +43,13 @@ abbrev pub after_put : Memory → List ℕ → Memory
 after_put m piece =
     if put_fails m piece then record m { calls = next_count m.calls; failures = next_count m.failures }
     else record m { bytes = m.bytes ++ take (put_count m piece) piece; calls = next_count m.calls }
+
+-- a call of `put` that takes so many bytes of a piece, and one that fails
+abbrev pub PutTakes : Memory → (piece : List ℕ) → (count : ℕ) → Memory → Type 0
+PutTakes old piece count new = (put_fails old piece ≡ false) × (count ≡ put_count old piece) × (new ≡ after_put old piece)
+
+abbrev pub PutFails : Memory → (piece : List ℕ) → Memory → Type 0
+PutFails old piece new = (put_fails old piece ≡ true) × (new ≡ after_put old piece)
 
 -- ---- the source
 

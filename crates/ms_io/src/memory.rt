@@ -1,8 +1,10 @@
-ghost use Rattle.std.specs.Prelude.{◌≡◌, ℕ, ◌+◌, ◌-◌, ◌^◌, ◌<◌, ◌≤◌, ◌↔◌, min, List, [], length, take, ◌++◌, IsTrue, IsErr, IfOk, Some, vec_capacity};
+//! A sink over memory that fails where it is told to, to try what writes to a sink.
+
+ghost use Rattle.std.specs.Prelude.{◌≡◌, ℕ, ◌+◌, ◌-◌, ◌^◌, ◌<◌, ◌≤◌, ◌↔◌, min, List, [], length, take, ◌++◌, IsTrue, IsErr, IfOk, MatchResult, Some, vec_capacity};
 ghost use Rattle.std.specs.Io.{WritesAtMost};
 ghost use Rattle.std.specs.Io.KnownBytes.{WriteAppends};
 ghost use Rattle.ms_io.specs.Faults.{HasCause};
-ghost use Rattle.ms_io.specs.Memory.{Memory, call_fails, put_fails, put_count, after_put};
+ghost use Rattle.ms_io.specs.Memory.{Memory, call_fails, put_fails, put_count, after_put, PutTakes, PutFails};
 
 use crate::sink::{Sink, SinkFailed};
 use std::alloc::{AllocError, Global};
@@ -29,8 +31,11 @@ impl Model for MemSink {
 }
 
 impl MemSink {
-    /// Takes the memory for `room` bytes at once, and copies `fail_at`, the numbers of the calls of
-    /// `put` that fail, from 0. `chunk` is how many bytes a call takes at most.
+    /// An empty sink with room for `room` bytes, at most 2^31, that takes at most `chunk` bytes a call, at least 1.
+    /// The calls of `put` with the numbers of `fail_at`, counted from 0, fail, in any order and however often listed.
+    ///
+    /// Takes the memory for all `room` bytes and for a copy of `fail_at` at once, and answers `AllocError` only where
+    /// that is wanting: no call of `put` takes memory.
     pub fn new(
         alloc: Global,
         room: usize,
@@ -53,7 +58,7 @@ impl MemSink {
         })
     }
 
-    /// The bytes that were written.
+    /// The bytes that were written, first one first.
     pub fn written(&self) -> &[u8]
         ensures { result.now ≡ self.now.bytes }
     {
@@ -66,12 +71,18 @@ impl Sink for MemSink {
 
     ghost faults = { λ s. s.failures };
 
-    /// Takes no memory.
+    ghost takes = { PutTakes };
+
+    ghost fails = { PutFails };
+
+    /// Takes the least of the chunk, the piece's length and the room that is left. Fails exactly where the number of
+    /// the call is listed, or the piece isn't empty and no room is left. Takes no memory.
     fn put(&mut self, piece: &[u8]) -> Result<usize, SinkFailed>
         ensures bound { WritesAtMost result piece.now }
         ensures progress { 0 < length piece.now → IfOk result (λ n. 0 < n) }
         ensures bytes { WriteAppends (Some self.old.bytes) (Some self.new.bytes) result piece.now }
         ensures cause { HasCause self.old.failures self.new.failures result }
+        ensures call { MatchResult result (λ n. PutTakes self.old piece.now n self.new) (λ _. PutFails self.old piece.now self.new) }
         ensures fails { IsErr result ↔ IsTrue (put_fails self.old piece.now) }
         ensures count { IfOk result (λ n. n ≡ put_count self.old piece.now) }
         ensures after { self.new ≡ after_put self.old piece.now }

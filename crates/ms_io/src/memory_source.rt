@@ -1,3 +1,5 @@
+//! A source over memory that fails where it is told to, to try what reads from a source.
+
 ghost use Rattle.std.specs.Prelude.{◌≡◌, ℕ, ◌+◌, ◌-◌, ◌^◌, ◌<◌, ◌≤◌, ◌↔◌, min, List, length, take, drop, IsTrue, IsErr, IfOk, Some};
 ghost use Rattle.std.specs.Io.{ReadsAtMost};
 ghost use Rattle.std.specs.Io.KnownBytes.{ReadConsumes};
@@ -30,8 +32,8 @@ impl Model for MemSource {
 }
 
 impl MemSource {
-    /// A source of `bytes`. `chunk` is how many bytes a call of `read` gives at most, and `fail_at` has
-    /// the numbers of the calls that fail, from 0. Takes no memory.
+    /// A source of `bytes`, first one first, that gives at most `chunk` bytes a call, at least 1. The calls of `read`
+    /// with the numbers of `fail_at`, counted from 0, fail. Takes no memory and never fails.
     pub fn new(bytes: Vec<u8>, chunk: usize, fail_at: Vec<u64>) -> MemSource
         requires { 1 ≤ chunk }
         ensures { result ≡ record { left = bytes.items; chunk = chunk; fail_at = fail_at.items; calls = 0; failures = 0 } }
@@ -52,7 +54,8 @@ impl Source for MemSource {
 
     ghost faults = { λ s. s.failures };
 
-    /// Gives the least of the chunk, the buffer's length and the bytes that are left.
+    /// Gives the least of the chunk, the buffer's length and the bytes that are left. Fails exactly where the number
+    /// of the call is listed, and gives nothing then.
     fn read(&mut self, buf: &mut [u8]) -> Result<usize, SourceFailed>
         ensures bound { ReadsAtMost result buf.new }
         ensures bytes { ReadConsumes (Some self.old.left) (Some self.new.left) result buf.new }

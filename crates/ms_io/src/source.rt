@@ -1,3 +1,5 @@
+//! Sources: what every one of them promises, and reading one to its end.
+
 ghost use Rattle.std.specs.Prelude.{◌≡◌, ◌≢◌, ℕ, ◌^◌, ◌≤◌, List, length, IfOk};
 ghost use Rattle.std.specs.declared.option.Option.{Option};
 ghost use Rattle.std.specs.Io.{ReadsAtMost};
@@ -7,7 +9,7 @@ ghost use Rattle.ms_io.specs.Moves.{GivesAll, GivesWithin, GivesOver};
 
 use std::alloc::Global;
 
-/// A read that failed. The source's count of faults rose in that call.
+/// A read that failed. The source's count of faults rose in that call, or stood at its last value.
 #[derive(Clone, Copy, Debug, PartialEq, Eq)]
 pub struct SourceFailed;
 
@@ -20,7 +22,7 @@ pub trait Source {
     ghost faults: { Self → ℕ };
 
     /// Reads into the front of `buf`, and answers how many bytes it gave. 0 for a buffer that isn't
-    /// empty is the end of the input.
+    /// empty is the end of the input. A read that fails has given nothing, and is counted.
     fn read(&mut self, buf: &mut [u8]) -> Result<usize, SourceFailed>
         ensures bound { ReadsAtMost result buf.new }
         ensures bytes { ReadConsumes (left self.old) (left self.new) result buf.new }
@@ -38,10 +40,10 @@ pub enum ReadStop {
     Memory,
 }
 
-/// Reads to the end, and gives all bytes. `limit` is how many they may be.
+/// Reads to the end, and gives all bytes, first one first. `limit` is how many they may be, at most 2^31.
 ///
-/// Where it stops before, a front of the bytes was read: over `limit` of them exactly where the answer
-/// is `TooLong`.
+/// `Fault` comes where a read failed, and `Memory` where there was none for the bytes. Where it stops before the end,
+/// a front of the bytes was read: over `limit` of them exactly where the answer is `TooLong`.
 pub fn read_all<S: Source>(alloc: Global, source: &mut S, limit: usize) -> Result<Vec<u8>, ReadStop>
     requires { limit ≤ 2 ^ 31 }
     ensures all { IfOk result (λ bytes. GivesAll (S.left source.old) (S.left source.new) bytes.items) }

@@ -1,4 +1,6 @@
-ghost use Rattle.std.specs.Prelude.{◌≡◌, ℕ, ◌+◌, ◌-◌, ◌^◌, ◌<◌, ◌≤◌, min, List, length, take, drop, ⊤, None, Some, Ok, Err, IfOk, OnErr};
+//! A source and a sink that never fail.
+
+ghost use Rattle.std.specs.Prelude.{◌≡◌, ℕ, ◌+◌, ◌-◌, ◌^◌, ◌<◌, ◌≤◌, min, List, length, take, drop, ⊤, None, Some, Ok, Err, IfOk, OnErr, MatchResult};
 ghost use Rattle.std.specs.Io.{ReadsAtMost, WritesAtMost};
 ghost use Rattle.std.specs.Io.KnownBytes.{ReadConsumes, WriteAppends};
 ghost use Rattle.ms_io.specs.Faults.{HasCause};
@@ -23,6 +25,7 @@ impl Model for SureSource {
 }
 
 impl SureSource {
+    /// A source of `bytes`, first one first. Takes no memory.
     pub fn new(bytes: Vec<u8>) -> SureSource
         ensures { result ≡ bytes.items }
     {
@@ -64,6 +67,7 @@ pub(crate) fn copy_front(from: &[u8], to: &mut [u8]) -> usize
 pub struct NullSink;
 
 impl NullSink {
+    /// The sink, which has nothing inside. Takes no memory.
     pub fn new() -> NullSink {
         NullSink
     }
@@ -80,11 +84,17 @@ impl Sink for NullSink {
 
     ghost faults = { λ _. 0 };
 
+    ghost takes = { λ _ piece count _. count ≡ length piece };
+
+    ghost fails = { λ _ _ _. ⊥ };
+
+    /// Takes all of the piece.
     fn put(&mut self, piece: &[u8]) -> Result<usize, SinkFailed>
         ensures bound { WritesAtMost result piece.now }
         ensures progress { 0 < length piece.now → IfOk result (λ n. 0 < n) }
         ensures bytes { WriteAppends None None result piece.now }
         ensures cause { HasCause 0 0 result }
+        ensures call { MatchResult result (λ n. n ≡ length piece.now) (λ _. ⊥) }
         ensures whole { result ≡ Ok (length piece.now) }
     {
         Ok(piece.len())

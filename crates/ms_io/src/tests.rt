@@ -1,8 +1,10 @@
-ghost use Rattle.std.specs.Prelude.{◌≤◌, ◌^◌};
+//! Tests: worked reads and writes, and the adapters over a reader and a writer whose call fails.
+
+ghost use Rattle.std.specs.Prelude.{◌≤◌, ◌^◌, IfOk};
 
 use crate::*;
 use std::alloc::{AllocError, Global};
-use std::io::Cursor;
+use std::io::{self, Cursor, ErrorKind, Read, Write};
 use std::test::Fail;
 
 #[test]
@@ -34,6 +36,118 @@ fn a_full_writer_is_a_fault(rt: HostRuntime) -> Result<(), Fail> {
     let mut room = [0; 4];
     let mut sink = StdSink::new(room.as_mut_slice());
     assert_eq!(rt; put_all(&mut sink, b"abcde"), Err(SinkFailed));
+    assert_eq!(rt; sink.faults, 1);
+    Ok(())
+}
+
+// A reader or a writer that moves at most `chunk` bytes a call. The call of the number `fails`, from 0, fails.
+#[derive(Drop)]
+struct Halting<T> {
+    inner: T,
+    chunk: usize,
+    fails: u8,
+    calls: u8,
+}
+
+impl<T> Halting<T> {
+    fn new(inner: T, chunk: usize, fails: u8) -> Halting<T> {
+        Halting {
+            inner,
+            chunk,
+            fails,
+            calls: 0,
+        }
+    }
+
+    // How many of so many bytes the next call may move.
+    fn moved(&mut self, most: usize) -> io::Result<usize>
+        ensures { IfOk result (λ n. n ≤ most) }
+    {
+        let call = self.calls;
+        self.calls = self.calls.saturating_add(1);
+        if call == self.fails {
+            return Err(io::Error::from(ErrorKind::WouldBlock));
+        }
+        Ok(self.chunk.min(most))
+    }
+}
+
+impl<T: Read> Read for Halting<T> {
+    fn read(&mut self, buf: &mut [u8]) -> io::Result<usize> {
+        let count = self.moved(buf.len())?;
+        self.inner.read(&mut buf[..count])
+    }
+}
+
+impl<T: Write> Write for Halting<T> {
+    fn write(&mut self, buf: &[u8]) -> io::Result<usize> {
+        let count = self.moved(buf.len())?;
+        self.inner.write(&buf[..count])
+    }
+
+    fn flush(&mut self) -> io::Result<()> {
+        self.inner.flush()
+    }
+}
+
+// A number of no call.
+const NEVER: u8 = 255;
+
+#[test]
+fn std_sources_are_read_whole(rt: HostRuntime) -> Result<(), Fail> {
+    // bytes a call, limit, what stops the reading
+    let cases: [(usize, usize, Option<ReadStop>); 4] = [
+        (9, 7, None),
+        (1, 7, None),
+        (3, 9, None),
+        (3, 6, Some(ReadStop::TooLong)),
+    ];
+    for (chunk, limit, stop) in cases {
+        assert!(rt; limit <= 9);
+        let reader = Halting::new(Cursor::new(b"abcdefg"), chunk, NEVER);
+        let mut source = StdSource::new(reader);
+        match read_all(rt.alloc(), &mut source, limit) {
+            Ok(bytes) => {
+                assert_eq!(rt; stop, None);
+                assert_eq!(rt; bytes.as_slice(), b"abcdefg".as_slice());
+            }
+            Err(why) => assert_eq!(rt; stop, Some(why)),
+        }
+        assert_eq!(rt; source.faults, 0);
+    }
+    Ok(())
+}
+
+#[test]
+fn a_reader_that_fails_is_a_fault(rt: HostRuntime) -> Result<(), Fail> {
+    let reader = Halting::new(Cursor::new(b"abcdefghij"), 6, 1);
+    let mut source = StdSource::new(reader);
+    let mut buf = [0; 8];
+    assert_eq!(rt; source.read(&mut buf), Ok(6));
+    assert_eq!(rt; &buf[..6], b"abcdef".as_slice());
+    assert_eq!(rt; source.faults, 0);
+    assert_eq!(rt; source.read(&mut buf), Err(SourceFailed));
+    assert_eq!(rt; source.faults, 1);
+    assert_eq!(rt; source.read(&mut buf), Ok(4));
+    assert_eq!(rt; &buf[..4], b"ghij".as_slice());
+    assert_eq!(rt; source.faults, 1);
+    let reader = Halting::new(Cursor::new(b"abcdefg"), 3, 2);
+    let mut source = StdSource::new(reader);
+    let read = read_all(rt.alloc(), &mut source, 7);
+    assert_eq!(rt; read.map(|bytes| bytes.len()), Err(ReadStop::Fault));
+    assert_eq!(rt; source.faults, 1);
+    Ok(())
+}
+
+#[test]
+fn a_writer_that_fails_is_a_fault(rt: HostRuntime) -> Result<(), Fail> {
+    let writer = Halting::new(Vec::new(rt.alloc()), 3, 1);
+    let mut sink = StdSink::new(writer);
+    assert_eq!(rt; put_all(&mut sink, b"abcdefg"), Err(SinkFailed));
+    assert_eq!(rt; sink.writer.inner.as_slice(), b"abc".as_slice());
+    assert_eq!(rt; sink.faults, 1);
+    assert_eq!(rt; put_all(&mut sink, b"defg"), Ok(()));
+    assert_eq!(rt; sink.writer.inner.as_slice(), b"abcdefg".as_slice());
     assert_eq!(rt; sink.faults, 1);
     Ok(())
 }
