@@ -1,3 +1,4 @@
 pub mod ReadingLemmas
 mod NumberLemmas
 mod ScriptLemmas
+mod SizeLemmas

@@ -1,5 +1,5 @@
 -- What is read of a Script, as contracts see it.
-use Rattle.std.specs.Prelude.{◌≡◌, ℕ, ◌+◌, ◌<◌, ◌≤◌, ◌≤ℤ◌, pos, negsuc, ◌⊎◌, true, [], ◌∷◌, length, drop, Option, Some, None, Result, Ok, Err}
+use Rattle.std.specs.Prelude.{◌≡◌, ℕ, ◌+◌, ◌<◌, ◌≤◌, ◌≤ℤ◌, ◌==◌, ◌&&◌, ◌||◌, nat_le, pos, negsuc, ◌⊎◌, Bool, true, false, [], ◌∷◌, length, drop, Option, Some, None, Result, Ok, Err}
 use Rattle.def_script.specs.declared.InstrFault.{InstrFault}
 use Rattle.def_script.specs.Bytes.{Bytes}
 use Rattle.def_script.specs.Numbers.{number_bytes}
@@ -45,6 +45,30 @@ IsItems script from (Ok None) = from ≡ length script
 IsItems script from (Ok (Some next)) =
     (from < next.1) × (next.1 ≤ length script) × (items (drop from script) ≡ item_of next.0 ∷ items (drop next.1 script))
 IsItems script from (Err fault) = items (drop from script) ≡ item.fault fault ∷ []
+
+-- a byte that stands for the number -1 or 1 to 16
+abbrev pub is_number_byte : ℕ → Bool
+is_number_byte byte = byte == 0x4f || (nat_le 0x51 byte && nat_le byte 0x60)
+
+-- such a byte begins a rest of a Script
+abbrev pub begins_with_number : Bytes → Bool
+begins_with_number [] = false
+begins_with_number (byte ∷ rest) = is_number_byte byte
+
+-- an instruction that is given as a small number
+abbrev pub is_number : InstrRef → Bool
+is_number (Push bytes minimal) = false
+is_number (Small n) = true
+is_number (Code op) = false
+
+abbrev pub gives_number : Result (Option (InstrRef × ℕ)) InstrFault → Bool
+gives_number (Ok None) = false
+gives_number (Ok (Some next)) = is_number next.0
+gives_number (Err fault) = false
+
+abbrev pub takes_number : Result Read InstrFault → Bool
+takes_number (Ok r) = is_number r.instr
+takes_number (Err fault) = false
 
 -- a small number is -1 or 1 to 16
 abbrev pub IsSmallNumber : InstrRef → Type 0

@@ -1,3 +1,5 @@
+//! Byte strings that own their bytes.
+
 ghost use Rattle.std.specs.Prelude.{◌≡◌, ℕ, List, IfOk};
 
 use std::alloc::{AllocError, Global};
@@ -16,7 +18,7 @@ impl Model for Blob {
 }
 
 impl Blob {
-    /// Copies the bytes.
+    /// A copy of the bytes. `AllocError` comes only where memory is wanting.
     pub fn from_slice(alloc: Global, bytes: &[u8]) -> Result<Blob, AllocError>
         ensures { IfOk result (λ blob. blob ≡ bytes.now) }
     {
@@ -24,13 +26,14 @@ impl Blob {
         Ok(Blob { bytes })
     }
 
-    /// Takes the bytes over, without taking memory.
+    /// The bytes themselves, which it takes over. Takes no memory.
     pub fn from_vec(bytes: Vec<u8>) -> Blob
         ensures { result ≡ bytes.items }
     {
         Blob { bytes }
     }
 
+    /// The bytes, first one first.
     pub fn as_slice(&self) -> &[u8]
         ensures { result.now ≡ self.now }
     {

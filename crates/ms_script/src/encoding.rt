@@ -1,5 +1,9 @@
-ghost use Rattle.std.specs.Prelude.{◌≡◌, ℕ, ◌≤◌, ◌++◌, length, IfOk, OnOk, All};
+//! The bytes of a Script, in its shortest spelling.
+
+ghost use Rattle.std.specs.Prelude.{◌≡◌, ℕ, ◌≤◌, ◌++◌, length, IfOk, OnOk, All, map};
 ghost use Rattle.def_script.specs.Spell.{opcode_byte as the_opcode_byte, shortest_push, sized_push, IsShort, spell_one, spell};
+ghost use Rattle.def_script.specs.Items.{items};
+ghost use Rattle.def_script.specs.Laws.{item_of};
 ghost use Rattle.ms_script.specs.Views.{instruction_of};
 
 use crate::blob::Blob;
@@ -7,10 +11,14 @@ use crate::script::{Instr, Script};
 use def_script::Op;
 use std::alloc::{AllocError, Global};
 
-/// The bytes of a Script: each push in its shortest spelling (Bitcoin Core, `CheckMinimalPush`).
+/// The bytes of a Script: its instructions, first one first, each push in its shortest spelling (Bitcoin Core:
+/// `CheckMinimalPush`). Read as instructions, they give the same ones, with every push minimal.
+///
+/// It demands that each push has at most 520 bytes. `AllocError` comes only where memory is wanting.
 pub fn encode(alloc: Global, script: &Script) -> Result<Blob, AllocError>
     requires { All IsShort script.now }
-    ensures { IfOk result (λ bytes. bytes ≡ spell script.now) }
+    ensures spelling { IfOk result (λ bytes. bytes ≡ spell script.now) }
+    ensures decoded { IfOk result (λ bytes. items bytes ≡ map item_of script.now) }
 {
     let mut bytes = Vec::new(alloc);
     for instr in script.instrs() {
@@ -62,7 +70,7 @@ fn encode_sized(bytes: &mut Vec<u8>, pushed: &[u8]) -> Result<(), AllocError>
     bytes.extend_from_slice(pushed)
 }
 
-/// The byte that stands for an opcode.
+/// The byte that stands for an opcode (Bitcoin Core: `opcodetype`).
 pub fn opcode_byte(op: Op) -> u8
     ensures { result ≡ the_opcode_byte op }
 {

@@ -1,3 +1,5 @@
+//! Script numbers and truth values: their spelling and their reading.
+
 ghost use Rattle.std.specs.Prelude.{◌≡◌, ℕ, ◌+◌, ◌*◌, ◌%◌, ◌^◌, ◌<◌, ◌≤◌, nat_abs, pos, neg_ℤ, ◌≤ℤ◌, IfOk, List, length, take, ◌++◌, ◌∷◌, [], if◌then◌else◌, Ok};
 ghost use Rattle.def_script.specs.Numbers.{sign_bit, signed_bytes as the_signed_bytes, number_bytes};
 ghost use Rattle.def_script.specs.Decode.{magnitude as the_magnitude, is_negative as the_is_negative, is_minimal as the_is_minimal, number, num_decode as the_num_decode, truth as the_truth};
@@ -33,6 +35,7 @@ impl NumBytes {
 
 /// The shortest spelling of a Script number (Bitcoin Core: `CScriptNum::serialize`). It has at most five
 /// bytes, which hold the numbers between -2^39 and 2^39; of a greater number the low bytes alone are written.
+/// Takes no memory and never refuses.
 pub fn num_encode(value: i64) -> NumBytes
     ensures spelling { result ≡ number_bytes value }
     ensures decoded { nat_abs value < 2 ^ 39 → the_num_decode 5 result ≡ Ok value }
@@ -76,9 +79,10 @@ fn last_byte(negative: bool, left: u8) -> u8
     if negative { left + 128 } else { left }
 }
 
-/// The number that at most `max` bytes spell in their shortest spelling (Bitcoin Core: `CScriptNum`).
+/// The number that at most `max` bytes, which is at most 5, spell in their shortest spelling (Bitcoin Core:
+/// `CScriptNum`). Low byte first, with the sign in the top bit of the last byte. Takes no memory.
 ///
-/// `TooLong` comes exactly where there are more bytes, and `NotMinimal` exactly where a shorter spelling
+/// `TooLong` comes exactly where there are more bytes, and else `NotMinimal` exactly where a shorter spelling
 /// stands for the same number.
 pub fn num_decode(bytes: &[u8], max: usize) -> Result<i64, NumFault>
     requires { max ≤ 5 }
@@ -145,7 +149,7 @@ fn is_minimal(bytes: &[u8]) -> bool
 }
 
 /// Whether a string is true: false are those of zeros alone, also before a last byte `80`, which is a
-/// negative zero (Bitcoin Core: `CastToBool`).
+/// negative zero (Bitcoin Core: `CastToBool`). Takes no memory and never refuses.
 pub fn truth(bytes: &[u8]) -> bool
     ensures { result ≡ the_truth bytes.now }
 {

@@ -1,17 +1,24 @@
-ghost use Rattle.std.specs.Prelude.{◌≡◌, ℕ, ◌==◌, ◌<◌, ◌≤◌, length, drop, slice_index, IfOk};
+//! Reading the instructions of a Script from its bytes.
+
+ghost use Rattle.std.specs.Prelude.{◌≡◌, ℕ, ◌==◌, ◌<◌, ◌≤◌, length, drop, slice_index, false, IfOk};
 ghost use Rattle.def_script.specs.Spell.{sized_push};
 ghost use Rattle.def_script.specs.Items.{is_minimal_push as the_is_minimal_push, read_push as the_read_push, read_number_or_op as the_read_number_or_op, first_item};
 ghost use Rattle.def_script.specs.Items.{op_of_byte as the_op_of_byte};
-ghost use Rattle.ms_script.specs.Reads.{next_item, seen, taken, IsItems, IsSmall, IsSmallNumber};
+ghost use Rattle.ms_script.specs.Reads.{next_item, seen, taken, IsItems, IsSmall, IsSmallNumber, begins_with_number, gives_number, takes_number, is_number_byte};
 
 use def_script::{InstrFault, Op};
 
 /// An instruction in the bytes of a Script.
 #[derive(Clone, Copy, Debug, PartialEq, Eq)]
 pub enum InstrRef<'a> {
-    /// A push of the bytes that follow, and whether it has its shortest spelling.
-    Push { bytes: &'a [u8], minimal: bool },
-    /// A push of the number -1 or 1 to 16, which has an opcode of its own.
+    /// A push of bytes of the Script, or of none.
+    Push {
+        /// The bytes that it pushes, first one first.
+        bytes: &'a [u8],
+        /// Whether it begins as its shortest spelling does (Bitcoin Core: `CheckMinimalPush`).
+        minimal: bool,
+    },
+    /// A push of the number -1 or 1 to 16 by its opcode, the byte `4f` or `51` to `60`.
     Small(i64),
     /// An opcode that isn't a push.
     Code(Op),
@@ -24,8 +31,9 @@ struct Reading<'a> {
     taken: usize,
 }
 
-/// Reads the instruction that begins at `from`, and answers where the next one begins (Bitcoin Core:
-/// `GetScriptOp`). There is none exactly at the end.
+/// Reads the instruction that begins at byte `from`, counted from 0, and answers where the next one begins (Bitcoin
+/// Core: `GetScriptOp`). It demands that `from` is at most the length; there is no instruction exactly at the end.
+/// `Small` comes exactly where the byte is `4f` or `51` to `60`. Takes no memory.
 ///
 /// `Truncated` comes exactly where the bytes end inside the instruction, and `Unsupported` exactly where
 /// the byte begins no instruction that Miniscript outputs use.
@@ -34,6 +42,7 @@ pub fn next_instr(script: &[u8], from: usize) -> Result<Option<(InstrRef<'_>, us
     ensures next { seen result ≡ next_item from (drop from script.now) }
     ensures items { IsItems script.now from result }
     ensures small { IsSmall result }
+    ensures number { gives_number result ≡ begins_with_number (drop from script.now) }
 {
     let Some(first) = script.get(from) else {
         return Ok(None);
@@ -50,6 +59,7 @@ fn read_instr<'a>(first: u8, rest: &'a [u8]) -> Result<Reading<'a>, InstrFault>
     ensures item { taken result ≡ first_item first rest.now }
     ensures within { IfOk result (λ reading. reading.taken ≤ length rest.now) }
     ensures small { IfOk result (λ reading. IsSmallNumber reading.instr) }
+    ensures number { takes_number result ≡ is_number_byte first }
 {
     match first {
         0..=75 => read_push(first, 0, first as usize, rest),
@@ -87,6 +97,7 @@ fn read_push<'a>(
     ensures item { taken result ≡ the_read_push first field count rest.now }
     ensures within { IfOk result (λ reading. reading.taken ≤ length rest.now) }
     ensures small { IfOk result (λ reading. IsSmallNumber reading.instr) }
+    ensures number { takes_number result ≡ false }
 {
     if rest.len() < field + count {
         return Err(InstrFault::Truncated);
@@ -132,6 +143,7 @@ fn read_number_or_op(first: u8) -> Result<Reading<'static>, InstrFault>
     ensures item { taken result ≡ the_read_number_or_op first }
     ensures within { IfOk result (λ reading. reading.taken ≡ 0) }
     ensures small { IfOk result (λ reading. IsSmallNumber reading.instr) }
+    ensures number { takes_number result ≡ is_number_byte first }
 {
     let instr = match first {
         0x4f => InstrRef::Small(-1),

@@ -1,3 +1,5 @@
+//! Scripts under construction.
+
 ghost use Rattle.std.specs.Prelude.{◌≡◌, ℕ, List, [], ◌∷◌, ◌++◌, false, IsTrue, MatchOption, OnOk, OnErr};
 ghost use Rattle.def_script.specs.Instruction.{Instruction, push, code};
 ghost use Rattle.def_script.specs.Verify.{verify_form as the_verify_form, verified, verified_last};
@@ -11,7 +13,9 @@ use std::marker::Model;
 /// An instruction of a Script: a push of bytes, or an opcode that isn't a push.
 #[derive(Debug, Drop)]
 pub enum Instr {
+    /// A push of these bytes, whose spelling `encode` chooses.
     Push(Blob),
+    /// An opcode.
     Code(Op),
 }
 
@@ -51,7 +55,7 @@ impl Script {
         &self.instrs
     }
 
-    /// Adds a push of these bytes.
+    /// Adds a push of these bytes at the end. Where memory is wanting it answers `AllocError`, and nothing changes.
     pub fn push(&mut self, bytes: &[u8]) -> Result<(), AllocError>
         ensures ok { OnOk result (self.new ≡ self.old ++ push bytes.now ∷ []) }
         ensures err { OnErr result (self.new ≡ self.old) }
@@ -61,7 +65,7 @@ impl Script {
         Ok(())
     }
 
-    /// Adds an opcode.
+    /// Adds an opcode at the end. Where memory is wanting it answers `AllocError`, and nothing changes.
     pub fn code(&mut self, op: Op) -> Result<(), AllocError>
         ensures ok { OnOk result (self.new ≡ self.old ++ code op ∷ []) }
         ensures err { OnErr result (self.new ≡ self.old) }
@@ -71,7 +75,7 @@ impl Script {
     }
 
     /// Adds VERIFY at the end: the last opcode becomes its VERIFY form where it has one (BIP 379,
-    /// translation of `v:X`).
+    /// translation of `v:X`). Where memory is wanting it answers `AllocError`, and nothing changes.
     pub fn verify(&mut self) -> Result<(), AllocError>
         ensures ok { OnOk result (self.new ≡ verified self.old) }
         ensures err { OnErr result (self.new ≡ self.old) }

@@ -1,4 +1,6 @@
-ghost use Rattle.std.specs.Prelude.{◌≡◌, ℕ, ◌≤◌, nat_lt, length, drop, if◌then◌else◌, Ok, Err, IfOk};
+//! CompactSize numbers, which stand before the items of a witness: their spelling and their reading.
+
+ghost use Rattle.std.specs.Prelude.{◌≡◌, ℕ, ◌≤◌, nat_lt, List, ◌++◌, length, drop, if◌then◌else◌, Ok, Err, IfOk};
 ghost use Rattle.def_script.specs.Sizes.{size_bytes, read_size as the_read_size};
 ghost use Rattle.ms_script.specs.SizeReads.{size_at, size_seen};
 
@@ -31,10 +33,12 @@ impl SizeBytes {
     }
 }
 
-/// The shortest spelling of a size (Bitcoin Core: `WriteCompactSize`).
+/// The shortest spelling of a size (Bitcoin Core: `WriteCompactSize`), which `read_size` gives back whatever follows.
+/// Takes no memory and never refuses.
 #[tactic(auto, unfolding(def_script::specs::Sizes::size_bytes))]
 pub fn compact_size(value: u64) -> SizeBytes
-    ensures { result ≡ size_bytes value }
+    ensures spelling { result ≡ size_bytes value }
+    ensures decoded { (rest : List ℕ) → the_read_size (result ++ rest) ≡ Ok (value, length result) }
 {
     let [a, b, c, d, e, f, g, h] = value.to_le_bytes();
     if value < 0xfd {
@@ -60,8 +64,8 @@ pub fn compact_size(value: u64) -> SizeBytes
     }
 }
 
-/// Reads the size that begins at `from`, and answers where what follows it begins (Bitcoin Core:
-/// `ReadCompactSize`).
+/// Reads the size that begins at byte `from`, counted from 0, and answers where what follows it begins (Bitcoin Core:
+/// `ReadCompactSize`). It demands that `from` is at most the length. Takes no memory.
 ///
 /// `Truncated` comes exactly where the bytes end inside the size, and `NotShortest` exactly where it is
 /// whole and a shorter spelling stands for the same size.

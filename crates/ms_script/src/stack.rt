@@ -1,3 +1,5 @@
+//! Stacks of byte strings, bottom first.
+
 ghost use Rattle.std.specs.Prelude.{◌≡◌, ℕ, ◌^◌, ◌<◌, ◌≤◌, List, [], ◌∷◌, ◌++◌, length, slice_index_or, OnOk, OnErr};
 ghost use Rattle.ms_script.specs.Stacks.{weight as the_weight};
 
@@ -32,7 +34,7 @@ impl Stack {
         }
     }
 
-    /// Adds a copy of the bytes on top.
+    /// Adds a copy of the bytes on top. Where memory is wanting it answers `AllocError`, and nothing changes.
     pub fn push(&mut self, bytes: &[u8]) -> Result<(), AllocError>
         ensures ok { OnOk result (self.new ≡ self.old ++ bytes.now ∷ []) }
         ensures err { OnErr result (self.new ≡ self.old) }
@@ -49,7 +51,7 @@ impl Stack {
         self.items.len()
     }
 
-    /// The item at a place, counted from 0 at the bottom.
+    /// The item at a place, counted from 0 at the bottom. It demands that there is one.
     pub fn item(&self, i: usize) -> &[u8]
         requires { i < length self.now }
         ensures { result.now ≡ slice_index_or self.now i [] }
@@ -57,7 +59,8 @@ impl Stack {
         self.items[i].as_slice()
     }
 
-    /// The sum over the items of 1 plus the item's length.
+    /// The stack's weight in a witness, in bytes: the sum over the items of 1 plus the item's length, which are as many
+    /// as BIP 141 counts for items of up to 252 bytes. It demands that the sum is at most 2^40.
     pub fn weight(&self) -> u64
         requires { the_weight self.now ≤ 2 ^ 40 }
         ensures { result ≡ the_weight self.now }

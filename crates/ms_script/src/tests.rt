@@ -1,3 +1,5 @@
+//! Tests: worked spellings and readings of instructions, numbers, sizes and stacks.
+
 use crate::*;
 use std::alloc::{AllocError, Global};
 use std::test::Fail;
