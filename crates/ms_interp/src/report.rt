@@ -2,7 +2,6 @@
 
 use def_machine::ScriptFault;
 use ms_oracle::Pairs;
-use thiserror::Error;
 
 /// What an accepted run did.
 #[derive(Debug, Drop)]
@@ -19,13 +18,11 @@ pub struct RunReport {
 }
 
 /// Why there is no report.
-#[derive(Clone, Copy, Debug, PartialEq, Eq, Error)]
+#[derive(Clone, Copy, Debug, PartialEq, Eq)]
 pub enum RunStop {
     /// The run meets this fault, at the instruction with this number, from 0. Before the first instruction the
     /// number is 0, and after the last the number of instructions.
-    #[error("the run is refused: {0:?} at instruction {1}")]
     Refused(ScriptFault, u32),
     /// Memory was wanting, for the stacks or for the list of pairs found good.
-    #[error("no memory is left")]
     Memory,
 }

@@ -1,3 +1,5 @@
+//! The replay of a witness: the run of its Script on its stack, as the spending of an output does it.
+
 ghost use Rattle.std.specs.Prelude.{◌≡◌};
 ghost use Rattle.ms_interp.specs.Answering.{given_by};
 ghost use Rattle.ms_oracle.specs.Sound.{table_of, IsSound};
@@ -10,16 +12,13 @@ use crate::reading::read_witness;
 use ms_interp::{RunReport, RunStop, ScriptFault, run};
 use ms_oracle::{Locks, SigCheck};
 use std::alloc::Global;
-use thiserror::Error;
 
 /// Why the replay of a witness gives no report.
-#[derive(Clone, Copy, Debug, PartialEq, Eq, Error)]
+#[derive(Clone, Copy, Debug, PartialEq, Eq)]
 pub enum ReplayStop {
-    /// The bytes are no witness. Want of memory is `Memory`.
-    #[error("the bytes are no witness: {0}")]
+    /// The bytes are no witness, for this reason, which is never its `Memory`: want of memory is `Memory` below.
     Witness(WitnessFault),
     /// The witness's Script has another program than the output.
-    #[error("the witness's script isn't that of the program")]
     WrongProgram {
         /// The output's program.
         wanted: [u8; 34],
@@ -27,10 +26,8 @@ pub enum ReplayStop {
         found: [u8; 34],
     },
     /// The run of the Script is refused, at the instruction with this number, from 0.
-    #[error("the run is refused: {0:?} at instruction {1}")]
     Refused(ScriptFault, u32),
     /// Memory was wanting.
-    #[error("no memory is left")]
     Memory,
 }
 
@@ -56,11 +53,13 @@ impl From<RunStop> for ReplayStop {
     }
 }
 
-/// Reads a witness, and runs its Script on its stack, as the spending of an output with this program does. `locks`
-/// tells the timelocks of the spending input, and `sigs` which signatures are good.
+/// Reads a witness, and runs its Script on its stack, as the spending of an output with this program does (BIP 141;
+/// Bitcoin Core: `VerifyWitnessProgram`). `locks` tells the timelocks of the spending input, and `sigs` which
+/// signatures are good. It demands that the check in `sigs` is sound for its table.
 ///
-/// The bytes are read first, as by `read_witness`. Then `WrongProgram` comes exactly where the program of the Script
-/// isn't the output's, and `Refused` exactly where the run is refused, as by `run`.
+/// The bytes are read first, as by `read_witness`, whose faults are `Witness`. Then `WrongProgram` comes exactly where
+/// the program of the Script isn't the output's, and `Refused` exactly where the run is refused, as by `run`. Only
+/// `Memory` may come in place of any answer.
 pub fn replay<F: Fn(&[u8], &[u8]) -> bool>(
     alloc: Global,
     program: &[u8; 34],
