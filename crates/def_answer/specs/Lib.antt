@@ -1,6 +1,5 @@
 pub mod Status
 pub mod Names
-pub mod Program
 pub mod Words
 pub mod Lines
 pub mod Report

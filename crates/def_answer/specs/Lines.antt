@@ -13,7 +13,7 @@ use Rattle.def_files.specs.declared.AssetFault.{AssetFault}
 use Rattle.def_files.specs.declared.AssetFault.TheVariants as file_fault
 use Rattle.def_files.specs.Json.{member_name}
 use Rattle.def_answer.specs.Names.{rule_name, script_fault_name}
-use Rattle.def_answer.specs.Program.{program_of}
+use Rattle.def_emit.specs.Program.{program_of}
 
 -- a line ends with a line feed
 abbrev pub line : Bytes → Bytes

@@ -18,7 +18,7 @@ use Rattle.def_sane.specs.Unfit.{IsValid}
 use Rattle.def_sane.proofs.Greatest.{limits_are_computed}
 use Rattle.def_satisfaction.specs.Satisfaction.{Sat, Holds}
 use Rattle.def_choice.specs.NonMalleable.{given_with}
-use Rattle.def_answer.specs.Program.{program_of}
+use Rattle.def_emit.specs.Program.{program_of}
 use Rattle.def_promises.specs.Acceptance.{IsAcceptedWithin}
 use Rattle.ms_laws.proofs.Accepted.{canonical_is_accepted}
 use Rattle.ms_laws.proofs.Within.{within_limits, valid_limits}

@@ -1,5 +1,7 @@
+//! The way of a satisfaction to its witness.
+
 ghost use Rattle.std.specs.Prelude.{◌≡◌, ◌≤◌, IfOk};
-ghost use Rattle.def_answer.specs.Program.{program_of as the_program_of};
+ghost use Rattle.def_emit.specs.Program.{program_of as the_program_of};
 ghost use Rattle.def_choice.specs.NonMalleable.{given_with};
 ghost use Rattle.def_emit.specs.Emit.{script_of};
 ghost use Rattle.def_machine.specs.Run.{run as the_run, accepted};
@@ -28,7 +30,7 @@ use ms_script::{Blob, Stack, encode};
 use ms_tree::Tree;
 use std::alloc::{AllocError, Global};
 
-/// A canonical satisfaction as it is spent.
+/// A canonical satisfaction as it is spent: all that a wallet needs of it, and what its run did.
 #[derive(Debug, Drop)]
 pub struct Carried {
     /// The tree's Script.
@@ -41,12 +43,12 @@ pub struct Carried {
     pub report: RunReport,
 }
 
-/// Carries a satisfaction of a tree to its witness: makes the tree's Script, its program and the witness, and
-/// replays it.
+/// Carries a satisfaction of a tree, bottom first, to its witness: makes the tree's Script, its program and the
+/// witness, and replays it.
 ///
-/// The tree is valid, the stack is a canonical satisfaction of it with these assets, and the table of `sigs` holds
-/// the assets' signatures with their keys. The interpreter accepts each such stack, so `AllocError` comes only where
-/// memory is wanting.
+/// It demands that the tree is valid (BIP 379), that the stack is a canonical satisfaction of it with these assets,
+/// and that the table of `sigs` holds the assets' signatures with their keys and its check is sound. The interpreter
+/// accepts each such stack, so `AllocError` comes only where memory is wanting.
 pub fn carry<F: Fn(&[u8], &[u8]) -> bool>(
     alloc: Global,
     tree: &Tree,

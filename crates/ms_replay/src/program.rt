@@ -1,9 +1,12 @@
+//! The program of an output.
+
 ghost use Rattle.std.specs.Prelude.{◌≡◌};
-ghost use Rattle.def_answer.specs.Program.{program_of as the_program_of};
+ghost use Rattle.def_emit.specs.Program.{program_of as the_program_of};
 
 use ms_hash::sha256;
 
-/// The program of a P2WSH output (BIP 141): version 0, and a push of the 32 bytes of the Script's SHA-256.
+/// The program of the P2WSH output of a Script (BIP 141): version 0, and a push of the 32 bytes of the Script's
+/// SHA-256. Takes no memory and never refuses.
 pub fn program_of(script: &[u8]) -> [u8; 34]
     ensures { result ≡ the_program_of script.now }
 {
