@@ -1,3 +1,5 @@
+//! SHA-256, the functions made of it, and the one that a name asks for.
+
 ghost use Rattle.std.specs.Prelude.{◌≡◌};
 ghost use Rattle.def_hash.specs.Hash.{sha256, ripemd160, hash160, hash256, digest_of};
 ghost use Rattle.ms_hash.specs.Value.{kind_of, bytes_of};
@@ -5,14 +7,14 @@ ghost use Rattle.ms_hash.specs.Value.{kind_of, bytes_of};
 use crate::{HashKind, HashVal, ripemd160};
 use sha2::{Digest, Sha256};
 
-/// SHA-256 of a message (FIPS 180-4).
+/// SHA-256 of a message of any length (FIPS 180-4). Takes no memory and never refuses.
 pub fn sha256(message: &[u8]) -> [u8; 32]
     ensures { result ≡ sha256 message.now }
 {
     Sha256::digest(message)
 }
 
-/// SHA-256 twice (Bitcoin Core: `OP_HASH256`).
+/// SHA-256 of the SHA-256 of a message (Bitcoin Core: `OP_HASH256`). Takes no memory and never refuses.
 #[tactic(auto, unfolding(def_hash::specs::Hash::hash256))]
 pub fn hash256(message: &[u8]) -> [u8; 32]
     ensures { result ≡ hash256 message.now }
@@ -20,7 +22,7 @@ pub fn hash256(message: &[u8]) -> [u8; 32]
     sha256(&sha256(message))
 }
 
-/// RIPEMD-160 of SHA-256 (Bitcoin Core: `OP_HASH160`).
+/// RIPEMD-160 of the SHA-256 of a message (Bitcoin Core: `OP_HASH160`). Takes no memory and never refuses.
 #[tactic(auto, unfolding(def_hash::specs::Hash::hash160))]
 pub fn hash160(message: &[u8]) -> [u8; 20]
     ensures { result ≡ hash160 message.now }
@@ -28,7 +30,7 @@ pub fn hash160(message: &[u8]) -> [u8; 20]
     ripemd160(&sha256(message))
 }
 
-/// The hash value of a message by the named function.
+/// The hash value of a message by the named function, one of the four of BIP 379. Takes no memory and never refuses.
 pub fn hash_of(kind: HashKind, message: &[u8]) -> HashVal
     ensures kind { kind_of result ≡ kind }
     ensures digest { bytes_of result ≡ digest_of kind message.now }

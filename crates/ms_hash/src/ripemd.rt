@@ -1,4 +1,4 @@
-// RIPEMD-160 of a whole message (Dobbertin, Bosselaers and Preneel, 1996, appendix A).
+//! RIPEMD-160 of a whole message (Dobbertin, Bosselaers and Preneel, 1996, appendix A).
 
 ghost use Rattle.std.specs.Prelude.{◌≡◌, ℕ, ◌<◌, ◌≤◌, ◌+◌, ◌*◌, ◌/◌, ◌^◌, List, length, slice_index, take, drop};
 ghost use Rattle.def_hash.specs.Ripemd.{padded_message, word_at, block_words, hash_after, digest_bytes, ripemd160};
@@ -100,7 +100,8 @@ fn digest_bytes(h: State) -> [u8; 20]
     bytes
 }
 
-/// RIPEMD-160 of a message (Dobbertin, Bosselaers and Preneel, 1996).
+/// RIPEMD-160 of a message of any length (Dobbertin, Bosselaers and Preneel, 1996; Bitcoin Core: `OP_RIPEMD160`).
+/// Takes no memory and never refuses.
 #[tactic(auto, unfolding(def_hash::specs::Ripemd::ripemd160))]
 pub fn ripemd160(message: &[u8]) -> [u8; 20]
     ensures { result ≡ ripemd160 message.now }

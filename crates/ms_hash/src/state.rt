@@ -1,3 +1,5 @@
+//! The five words over which RIPEMD-160 works.
+
 ghost use Rattle.std.specs.Prelude.{◌≡◌, ℕ, List, [], ◌∷◌, slice_index};
 
 use std::marker::Model;

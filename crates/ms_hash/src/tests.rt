@@ -1,3 +1,5 @@
+//! Tests: published digests, and digests of messages at the edges of a block.
+
 use crate::*;
 use std::test::Fail;
 

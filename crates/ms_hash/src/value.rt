@@ -1,3 +1,5 @@
+//! Hash values.
+
 ghost use Rattle.std.specs.Prelude.{◌≡◌, length};
 ghost use Rattle.def_hash.specs.Hash.{digest_length};
 ghost use Rattle.ms_hash.specs.Value.{kind_of, bytes_of};
@@ -7,13 +9,13 @@ use crate::HashKind;
 /// A hash value, beside the function that it is of. Contracts see it through `kind_of` and `bytes_of`.
 #[derive(Clone, Copy, Debug, PartialEq, Eq)]
 pub enum HashVal {
-    /// Of SHA-256.
+    /// The 32 bytes of a SHA-256.
     Sha256([u8; 32]),
-    /// Of SHA-256 twice.
+    /// The 32 bytes of a SHA-256 of a SHA-256.
     Hash256([u8; 32]),
-    /// Of RIPEMD-160.
+    /// The 20 bytes of a RIPEMD-160.
     Ripemd160([u8; 20]),
-    /// Of RIPEMD-160 over SHA-256.
+    /// The 20 bytes of a RIPEMD-160 of a SHA-256.
     Hash160([u8; 20]),
 }
 
@@ -30,7 +32,8 @@ impl HashVal {
         }
     }
 
-    /// The value's bytes: 32 of `Sha256` and `Hash256`, 20 of `Ripemd160` and `Hash160`.
+    /// The value's bytes, in the order in which Script pushes them: 32 of `Sha256` and `Hash256`, 20 of `Ripemd160` and
+    /// `Hash160`.
     pub fn as_bytes(&self) -> &[u8]
         ensures bytes { result.now ≡ bytes_of self.now }
         ensures length { length result.now ≡ digest_length (kind_of self.now) }

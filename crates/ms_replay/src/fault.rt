@@ -1,3 +1,5 @@
+//! Why bytes are no witness.
+
 ghost use Rattle.std.specs.Prelude.{◌≡◌};
 ghost use Rattle.ms_replay.specs.Reading.{fault_of};
 ghost use Rattle.ms_replay.specs.declared.fault.WitnessFault.TheVariants.{Memory};
@@ -6,7 +8,7 @@ use ms_script::SizeFault;
 use std::alloc::AllocError;
 use thiserror::Error;
 
-/// Why bytes are no witness. The first place in the bytes decides.
+/// Why bytes are no witness: the fault at the first place of them that is wrong.
 #[derive(Clone, Copy, Debug, PartialEq, Eq, Error)]
 pub enum WitnessFault {
     /// The bytes end inside a size or an item.
@@ -24,7 +26,7 @@ pub enum WitnessFault {
     /// Bytes follow the last item.
     #[error("bytes follow the last item")]
     Trailing,
-    /// Memory was wanting.
+    /// Memory was wanting, which may come in place of any other answer.
     #[error("no memory is left")]
     Memory,
 }

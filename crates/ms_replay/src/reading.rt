@@ -1,3 +1,5 @@
+//! Reading a witness from its bytes.
+
 ghost use Rattle.std.specs.Prelude.{◌≡◌, ◌<◌, List, Ok, IfOk};
 ghost use Rattle.def_script.specs.Bytes.{Bytes};
 ghost use Rattle.def_script.specs.Witness.{witness_text};
@@ -15,8 +17,8 @@ const MOST_WITNESS: u64 = 10_000;
 ///
 /// The first place in the bytes decides why they are refused. Each size is first read, which may be `Truncated` or
 /// `NonMinimalSize`; then a count of 0 is `Empty`, and a count or a length over 10,000 is `TooLong`; only then the
-/// item is read, which may be `Truncated` too. `Trailing` comes where bytes follow the last item, and `Memory` only
-/// where memory is wanting.
+/// item is read, which may be `Truncated` too. `Trailing` comes where bytes follow the last item. Only `Memory` may
+/// come in place of any answer.
 pub fn read_witness(alloc: Global, bytes: &[u8]) -> Result<(Stack, Blob), WitnessFault>
     // What the bytes give, and the first fault.
     ensures reading { Gives result (the_read_witness bytes.now) }

@@ -1,3 +1,5 @@
+//! Tests: programs, witnesses and replays of worked spendings.
+
 use crate::*;
 use ms_assets::Assets;
 use ms_hash::sha256;

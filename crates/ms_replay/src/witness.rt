@@ -1,3 +1,5 @@
+//! Writing a witness as bytes.
+
 ghost use Rattle.std.specs.Prelude.{◌≡◌, ◌++◌, IfOk, OnOk};
 ghost use Rattle.def_script.specs.Sizes.{size_bytes};
 ghost use Rattle.def_script.specs.Witness.{sized, witness_text};
@@ -9,7 +11,8 @@ use std::alloc::{AllocError, Global};
 /// The witness of a P2WSH input (BIP 141): the number of items, and then each item of the stack, bottom first, after
 /// its length, with the Script as the last item.
 ///
-/// The stack has at most 9,999 items; each of them and the Script have at most 10,000 bytes.
+/// It demands that the stack has at most 9,999 items, and that each of them and the Script have at most 10,000 bytes.
+/// `AllocError` comes only where memory is wanting.
 pub fn witness_bytes(alloc: Global, stack: &Stack, script: &[u8]) -> Result<Blob, AllocError>
     requires { FitsWitness stack.now script.now }
     ensures { IfOk result (λ bytes. bytes ≡ witness_text stack.now script.now) }
