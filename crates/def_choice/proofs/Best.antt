@@ -3,6 +3,7 @@ use Rattle.std.proofs.Common.{◌≡◌, ◌≤◌, nat_lt, Bool, true, false, [
 use Rattle.std.specs.Option.{option_map}
 use Rattle.std.proofs.lemmas.Bool.Decides.{nat_tests}
 use Rattle.std.proofs.lemmas.List.{reverse-reverse}
+use Rattle.std.proofs.lemmas.Option.{none-some, same_Some}
 use Rattle.def_machine.specs.Stacks.{Stack}
 use Rattle.def_satisfaction.specs.Weight.{weight}
 use Rattle.def_satisfaction.specs.StackSet.{StackSet, Both, Either}
@@ -10,20 +11,14 @@ use Rattle.def_choice.specs.Least.{both, lighter, least}
 use Rattle.def_choice.specs.Lightest.{IsLightest}
 use Rattle.def_choice.proofs.Weights.{weight-append, weight-reverse}
 
-not_some : (w : Stack) → None ≡ Some w → ⊥
-not_some w h = cc
-
-some_same : (v w : Stack) → Some v ≡ Some w → v ≡ w
-some_same v w h = cc
-
 -- from a set with no stack
 pub none_best : (P : StackSet) → ((w : Stack) → P w → ⊥) → IsLightest P None
-none_best P never = record { is = λ w h. absurd (not_some w h); lightest = λ w h. absurd (never w h) }
+none_best P never = record { is = λ w h. absurd (none-some w h); lightest = λ w h. absurd (never w h) }
 
 -- from a set with one stack
 pub one_best : (P : StackSet) (w : Stack) → P w → ((v : Stack) → P v → v ≡ w) → IsLightest P (Some w)
 one_best P w p only = record {
-  is = λ v h. subst P (some_same w v h) p;
+  is = λ v h. subst P (same_Some w v h) p;
   lightest = λ v h. (w, refl, let e : weight v ≡ weight w = ap weight (only v h) in omega (arith, e));
 }
 
@@ -37,20 +32,20 @@ best_as P Q m to from best = record {
 -- one on top of the other
 pub best_both : (P Q : StackSet) (a b : Option Stack) → IsLightest P a → IsLightest Q b → IsLightest (Both P Q) (both a b)
 best_both P Q None b p q = record {
-  is = λ w h. absurd (not_some w h);
-  lightest = λ w h. let k = p.lightest h.0 h.2 in absurd (not_some k.0 k.1);
+  is = λ w h. absurd (none-some w h);
+  lightest = λ w h. let k = p.lightest h.0 h.2 in absurd (none-some k.0 k.1);
 }
 best_both P Q (Some a) None p q = record {
-  is = λ w h. absurd (not_some w h);
-  lightest = λ w h. let k = q.lightest h.1 h.3 in absurd (not_some k.0 k.1);
+  is = λ w h. absurd (none-some w h);
+  lightest = λ w h. let k = q.lightest h.1 h.3 in absurd (none-some k.0 k.1);
 }
 best_both P Q (Some a) (Some b) p q = record {
-  is = λ w h. (a, b, p.is a refl, q.is b refl, sym (some_same (b ++ a) w h));
+  is = λ w h. (a, b, p.is a refl, q.is b refl, sym (same_Some (b ++ a) w h));
   lightest = λ w h.
       let k = p.lightest h.0 h.2 in
       let l = q.lightest h.1 h.3 in
-      let e : weight k.0 ≡ weight a = ap weight (some_same k.0 a (sym k.1)) in
-      let f : weight l.0 ≡ weight b = ap weight (some_same l.0 b (sym l.1)) in
+      let e : weight k.0 ≡ weight a = ap weight (same_Some k.0 a (sym k.1)) in
+      let f : weight l.0 ≡ weight b = ap weight (same_Some l.0 b (sym l.1)) in
       let g : weight w ≡ weight (h.1 ++ h.0) = ap weight h.4 in
       (b ++ a, refl, omega (arith, e, f, g, k.2, l.2, weight-append b a, weight-append h.1 h.0));
 }
@@ -65,17 +60,17 @@ lighter_than_both v w =
     chosen (nat_lt (weight w) (weight v)) v w (λ h. grind (arith, nat_tests)) (λ h. grind (arith, nat_tests))
 
 one_of_two : (test : Bool) (P Q : StackSet) (v w z : Stack) → P v → Q w → (if test then Some w else Some v) ≡ Some z → Either P Q z
-one_of_two true P Q v w z p q h = inr (subst Q (some_same w z h) q)
-one_of_two false P Q v w z p q h = inl (subst P (some_same v z h) p)
+one_of_two true P Q v w z p q h = inr (subst Q (same_Some w z h) q)
+one_of_two false P Q v w z p q h = inl (subst P (same_Some v z h) p)
 
 pub best_lighter : (P Q : StackSet) (a b : Option Stack) → IsLightest P a → IsLightest Q b → IsLightest (Either P Q) (lighter a b)
 best_lighter P Q None b p q = record {
   is = λ w h. inr (q.is w h);
-  lightest = λ w h. elim h [ inl i ↦ (let k = p.lightest w i in absurd (not_some k.0 k.1)) | inr i ↦ q.lightest w i ];
+  lightest = λ w h. elim h [ inl i ↦ (let k = p.lightest w i in absurd (none-some k.0 k.1)) | inr i ↦ q.lightest w i ];
 }
 best_lighter P Q (Some v) None p q = record {
   is = λ w h. inl (p.is w h);
-  lightest = λ w h. elim h [ inl i ↦ p.lightest w i | inr i ↦ (let k = q.lightest w i in absurd (not_some k.0 k.1)) ];
+  lightest = λ w h. elim h [ inl i ↦ p.lightest w i | inr i ↦ (let k = q.lightest w i in absurd (none-some k.0 k.1)) ];
 }
 best_lighter P Q (Some v) (Some w) p q = record {
   is = λ z h. one_of_two (nat_lt (weight w) (weight v)) P Q v w z (p.is v refl) (q.is w refl) h;
@@ -84,8 +79,8 @@ best_lighter P Q (Some v) (Some w) p q = record {
         c.0,
         c.1,
         elim h [
-          | inl i ↦ (let k = p.lightest z i in let e : weight k.0 ≡ weight v = ap weight (some_same k.0 v (sym k.1)) in omega (arith, e, k.2, c.2))
-          | inr i ↦ (let k = q.lightest z i in let e : weight k.0 ≡ weight w = ap weight (some_same k.0 w (sym k.1)) in omega (arith, e, k.2, c.3))
+          | inl i ↦ (let k = p.lightest z i in let e : weight k.0 ≡ weight v = ap weight (same_Some k.0 v (sym k.1)) in omega (arith, e, k.2, c.2))
+          | inr i ↦ (let k = q.lightest z i in let e : weight k.0 ≡ weight w = ap weight (same_Some k.0 w (sym k.1)) in omega (arith, e, k.2, c.3))
         ],
       );
 }
@@ -102,9 +97,9 @@ best_two P Q a b p q =
 
 -- turned round
 pub turned : (m : Option Stack) (w : Stack) → option_map reverse m ≡ Some w → (v : Stack) × (m ≡ Some v) × (v ≡ reverse w)
-turned None w h = absurd (not_some w h)
+turned None w h = absurd (none-some w h)
 turned (Some v) w h =
-    let e : reverse v ≡ w = some_same (reverse v) w h in
+    let e : reverse v ≡ w = same_Some (reverse v) w h in
     (v, refl, sym (reverse-reverse v) ∙ ap reverse e)
 
 pub best_reverse : (P : StackSet) (m : Option Stack) → IsLightest P m → IsLightest (λ w. P (reverse w)) (option_map reverse m)

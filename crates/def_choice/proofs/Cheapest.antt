@@ -1,5 +1,5 @@
 -- The cheapest satisfaction is the lightest one.
-use Rattle.std.proofs.Common.{◌≡◌, ℕ, zero, suc, ◌+◌, [], ◌∷◌, map, replicate, refl, sym, ◌∙◌, ap, subst, inl, inr}
+use Rattle.std.proofs.Common.{◌≡◌, ℕ, zero, suc, ◌+◌, [], ◌∷◌, map, replicate, refl, sym, ◌∙◌, ap, subst, inl, inr, arith}
 use Rattle.std.proofs.Math.Numerals.{add-one}
 use Rattle.def_machine.specs.Locks.{older_holds, after_holds}
 use Rattle.def_tree.specs.declared.Two.TheVariants as kind
@@ -18,9 +18,6 @@ use Rattle.def_choice.proofs.Best.{none_best, one_best, best_as, best_both, best
 use Rattle.def_choice.proofs.Counted.{counted, least_counted, counted_best}
 use Rattle.def_choice.proofs.Keys.{signature_best, keys_best}
 use Rattle.def_choice.proofs.Leaves.{never_best, nothing_best, is_best, lock_best, canonical_best, no_canonical_best, pk_h_dsat_best, pk_h_sat_best, hash_dsat_best, hash_sat_best}
-
-not_suc : (m : ℕ) → zero ≡ suc m → ⊥
-not_suc m h = cc
 
 suc_not : (m : ℕ) → suc m ≡ zero → ⊥
 suc_not m h = cc
@@ -57,7 +54,7 @@ module _ (assets : Assets) where
     all_best none w = one_best (PartsOfNone 0) [] (refl, refl) (λ v h. h.1)
     all_best (more x xs) w =
         best_as (Both (parts (canonical assets) xs 0) (row (canonical assets) x).dsat) _ _
-        (λ v h. inr h) (λ v h. elim h [ inl i ↦ absurd (not_suc i.0 i.1) | inr i ↦ i ])
+        (λ v h. inr h) (λ v h. elim h [ inl i ↦ absurd (omega (arith, i.1)) | inr i ↦ i ])
         (best_both _ _ _ _ (all_best xs w.1) (dsat_best x w.0))
 
 module _ (assets : Assets) (are : AreAssets assets) where

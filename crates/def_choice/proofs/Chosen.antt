@@ -1,6 +1,8 @@
 -- The laws of the choices, with the top of a stack last.
-use Rattle.std.proofs.Common.{◌≡◌, ◌↔◌, reverse, Option, Some, None, true, false, refl, sym, subst, IsSome}
+use Rattle.std.proofs.Common.{◌↔◌, reverse, Option, Some, None, refl, sym, subst, IsSome}
 use Rattle.std.proofs.lemmas.List.{reverse-reverse}
+use Rattle.std.proofs.lemmas.Option.{none-some}
+use Rattle.std.proofs.lemmas.Bool.{false≢true}
 use Rattle.def_machine.specs.Stacks.{Stack}
 use Rattle.def_assets.specs.Assets.{unsigned}
 use Rattle.def_satisfaction.specs.StackSet.{StackSet}
@@ -26,13 +28,7 @@ dissatisfaction_is_lightest tree assets writable =
 
 -- a choice finds a stack exactly where there is one
 found : (P : StackSet) (m : Option Stack) → IsLightest P m → ((w : Stack) × P (reverse w)) ↔ IsSome m
-found P None best = (λ h. let k = best.lightest (reverse h.0) h.1 in absurd (not_some k.0 k.1), λ h. absurd (not_true h))
-  where
-    not_some : (w : Stack) → None ≡ Some w → ⊥
-    not_some w h = cc
-
-    not_true : false ≡ true → ⊥
-    not_true h = cc
+found P None best = (λ h. let k = best.lightest (reverse h.0) h.1 in absurd (none-some k.0 k.1), λ h. absurd (false≢true h))
 found P (Some v) best = (λ h. refl, λ h. (reverse v, subst P (sym (reverse-reverse v)) (best.is v refl)))
 
 pub unsigned_is_found : UnsignedIsFound

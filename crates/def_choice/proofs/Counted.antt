@@ -125,9 +125,6 @@ least_counted c cs n (suc k) =
     ap (lighter (both (least (map (stack_of cs) (sets n k))) c.sat))
     (least-map_map (stack_of (c ∷ cs)) (λ set. false ∷ set) (sets n (suc k)) ∙ least-above (stack_of cs) c.dsat (sets n (suc k)))
 
-not_suc : (m : ℕ) → zero ≡ suc m → ⊥
-not_suc m h = cc
-
 suc_same : (m n : ℕ) → suc m ≡ suc n → m ≡ n
 suc_same m n h = cc
 
@@ -136,7 +133,7 @@ pub counted_best : (x : Row) (others : ℕ → StackSet) (sat dsat : Option Stac
     (n : ℕ) → IsLightest (PartsOf x others n) (counted sat dsat choice n)
 counted_best x others sat dsat choice p q r zero =
     best_as (Both (others zero) x.dsat) (PartsOf x others zero) (both (choice zero) dsat)
-    (λ w h. inr h) (λ w h. elim h [ inl i ↦ absurd (not_suc i.0 i.1) | inr i ↦ i ])
+    (λ w h. inr h) (λ w h. elim h [ inl i ↦ absurd (omega (arith, i.1)) | inr i ↦ i ])
     (best_both (others zero) x.dsat (choice zero) dsat (r zero) q)
 counted_best x others sat dsat choice p q r (suc n) =
     best_as (Either (Both (others n) x.sat) (Both (others (suc n)) x.dsat)) (PartsOf x others (suc n)) _

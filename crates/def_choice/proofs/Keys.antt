@@ -1,6 +1,7 @@
 -- The signatures of a `multi`: the first of least weight over all sets of keys.
 use Rattle.std.proofs.Common.{◌≡◌, ℕ, zero, suc, Bool, true, false, List, [], ◌∷◌, ◌++◌, length, map, reverse, Option, Some, None, refl, sym, ◌∙◌, ap, subst, ◌⊎◌, inl, inr, IsTrue, arith}
 use Rattle.std.proofs.lemmas.List.{map-append, length-append, reverse-append}
+use Rattle.std.proofs.lemmas.Option.{none-some}
 use Rattle.def_script.specs.Bytes.{Bytes}
 use Rattle.def_machine.specs.Stacks.{Stack, Pairs}
 use Rattle.def_machine.specs.MultiSig.{is_good}
@@ -15,15 +16,12 @@ use Rattle.def_choice.specs.Lightest.{IsLightest}
 use Rattle.def_choice.specs.Cheapest.{signatures_of, signatures}
 use Rattle.def_choice.proofs.Best.{none_best, one_best, best_as, best_both, best_lighter}
 use Rattle.def_choice.proofs.Counted.{least-append, least-map_map, least-below}
-use Rattle.def_choice.proofs.Held.{held_is_good, good_is_held}
+use Rattle.def_satisfaction.proofs.Held.{held_is_good, good_is_held}
 
 -- the signature of a key
 signature_of : (assets : Assets) → AreAssets assets → (key : Key) (held : Option Bytes) → sig_of assets key ≡ held → IsLightest (Signature (canonical assets) key) (item held)
 signature_of assets are key None h =
-    none_best (Signature (canonical assets) key) (λ w s. not_some s.0 (sym h ∙ good_is_held assets are key s.0 s.1))
-  where
-    not_some : (x : Bytes) → None ≡ Some x → ⊥
-    not_some x e = cc
+    none_best (Signature (canonical assets) key) (λ w s. none-some s.0 (sym h ∙ good_is_held assets are key s.0 s.1))
 signature_of assets are key (Some sig) h =
     one_best (Signature (canonical assets) key) (sig ∷ [])
     (sig, held_is_good assets are key sig h, refl)

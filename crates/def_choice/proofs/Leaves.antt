@@ -2,6 +2,8 @@
 use Rattle.std.proofs.Common.{◌≡◌, Bool, true, false, [], ◌∷◌, Option, Some, None, refl, sym, ◌∙◌, ap, subst, inl, inr, IsTrue, if◌then◌else◌}
 use Rattle.std.specs.Str.{bytes_eq}
 use Rattle.std.proofs.lemmas.Slice.Eq.{bytes_eq-Decides}
+use Rattle.std.proofs.lemmas.Option.{none-some, same_Some}
+use Rattle.std.proofs.lemmas.Bool.{false≢true}
 use Rattle.def_hash.specs.declared.HashKind.{HashKind}
 use Rattle.def_hash.specs.Hash.{digest_of}
 use Rattle.def_script.specs.Bytes.{Bytes}
@@ -15,11 +17,8 @@ use Rattle.def_satisfaction.specs.Satisfaction.{canonical}
 use Rattle.def_choice.specs.Least.{item, both}
 use Rattle.def_choice.specs.Lightest.{IsLightest}
 use Rattle.def_choice.proofs.Best.{none_best, one_best, best_as, best_both}
-use Rattle.def_choice.proofs.Held.{key_form, known_is_preimage}
+use Rattle.def_satisfaction.proofs.Held.{key_form, known_is_preimage}
 use Rattle.def_choice.proofs.Keys.{signature_best}
-
-not_true : false ≡ true → ⊥
-not_true h = cc
 
 pub never_best : IsLightest Never None
 never_best = none_best Never (λ w h. h)
@@ -33,14 +32,14 @@ is_best x = one_best (Is x) (x ∷ []) refl (λ v h. h)
 -- a lock
 pub lock_best : (holds : Bool) → IsLightest (If (IsTrue holds) Nothing) (if holds then Some [] else None)
 lock_best true = one_best (If (IsTrue true) Nothing) [] (refl, refl) (λ v h. h.1)
-lock_best false = none_best (If (IsTrue false) Nothing) (λ w h. not_true h.0)
+lock_best false = none_best (If (IsTrue false) Nothing) (λ w h. false≢true h.0)
 
 -- what isn't canonical adds nothing
 pub canonical_best : (assets : Assets) (P Q : StackSet) (m : Option Stack) → IsLightest P m → IsLightest (Either P (NotCanonical (canonical assets) Q)) m
-canonical_best assets P Q m = best_as P (Either P (NotCanonical (canonical assets) Q)) m (λ w h. inl h) (λ w h. elim h [ inl i ↦ i | inr i ↦ absurd (not_true i.0) ])
+canonical_best assets P Q m = best_as P (Either P (NotCanonical (canonical assets) Q)) m (λ w h. inl h) (λ w h. elim h [ inl i ↦ i | inr i ↦ absurd (false≢true i.0) ])
 
 pub no_canonical_best : (assets : Assets) (Q : StackSet) → IsLightest (NotCanonical (canonical assets) Q) None
-no_canonical_best assets Q = none_best (NotCanonical (canonical assets) Q) (λ w h. not_true h.0)
+no_canonical_best assets Q = none_best (NotCanonical (canonical assets) Q) (λ w h. false≢true h.0)
 
 -- the key of a `pk_h`
 module _ (assets : Assets) (key : Key) (form : IsKey key) where
@@ -65,7 +64,7 @@ zeros_best kind value true e =
     none_best (If (IsNoPreimageOf kind value ZEROS) (Is ZEROS)) (λ w h. h.0.1 ((bytes_eq-Decides (digest_of kind ZEROS) value).0 e))
 zeros_best kind value false e =
     one_best (If (IsNoPreimageOf kind value ZEROS) (Is ZEROS)) (ZEROS ∷ [])
-    ((refl, λ same. not_true (sym e ∙ (bytes_eq-Decides (digest_of kind ZEROS) value).1 same)), refl) (λ v h. h.1)
+    ((refl, λ same. false≢true (sym e ∙ (bytes_eq-Decides (digest_of kind ZEROS) value).1 same)), refl) (λ v h. h.1)
 
 pub hash_dsat_best : (assets : Assets) (kind : HashKind) (value : Bytes) →
     IsLightest (hash_row (canonical assets) kind value).dsat (if bytes_eq (digest_of kind ZEROS) value then None else Some (ZEROS ∷ []))
@@ -73,17 +72,13 @@ hash_dsat_best assets kind value = canonical_best assets _ _ _ (zeros_best kind 
 
 known_best : (assets : Assets) → AreAssets assets → (kind : HashKind) (value : Bytes) (held : Option Bytes) → known assets kind value ≡ held →
     IsLightest (hash_row (canonical assets) kind value).sat (item held)
-known_best assets are kind value None e = none_best (hash_row (canonical assets) kind value).sat (λ w h. not_some h.0 (sym e ∙ h.1.1))
-  where
-    not_some : (x : Bytes) → None ≡ Some x → ⊥
-    not_some x e = cc
+known_best assets are kind value None e = none_best (hash_row (canonical assets) kind value).sat (λ w h. none-some h.0 (sym e ∙ h.1.1))
 known_best assets are kind value (Some x) e =
+    let k = known_is_preimage assets are kind value x e in
+    let is = k.0 in
     one_best (hash_row (canonical assets) kind value).sat (x ∷ [])
-    (x, (known_is_preimage assets are kind value x e, e), refl)
-    (λ v h. h.2 ∙ ap (λ y. y ∷ []) (same h.0 (sym h.1.1 ∙ e)))
-  where
-    same : (y : Bytes) → Some y ≡ Some x → y ≡ x
-    same y e = cc
+    (x, ((is.length, k.1), e), refl)
+    (λ v h. h.2 ∙ ap (λ y. y ∷ []) (same_Some h.0 x (sym h.1.1 ∙ e)))
 
 pub hash_sat_best : (assets : Assets) → AreAssets assets → (kind : HashKind) (value : Bytes) →
     IsLightest (hash_row (canonical assets) kind value).sat (item (known assets kind value))

@@ -2,7 +2,6 @@ pub mod Computed
 pub mod Weights
 pub mod Best
 pub mod Counted
-pub mod Held
 pub mod Keys
 pub mod Leaves
 pub mod Cheapest

@@ -4,6 +4,7 @@ use Rattle.std.proofs.Math.Numerals.{add-one}
 use Rattle.std.proofs.lemmas.List.{map-append}
 use Rattle.std.proofs.lemmas.List.Elements.{filter-append, All-nil}
 use Rattle.std.specs.List.{IsDistinct}
+use Rattle.std.proofs.lemmas.Option.{none-some, same_Some}
 use Rattle.def_script.specs.Bytes.{Bytes}
 use Rattle.def_machine.specs.Stacks.{Stack}
 use Rattle.def_tree.specs.declared.Two.TheVariants as kind
@@ -27,23 +28,14 @@ use Rattle.def_choice.proofs.Leaves.{is_best}
 use Rattle.def_choice.proofs.Cheapest.{dsat_best, sat_best}
 use Rattle.def_choice.proofs.TightFree.{tight_free, free_dsat}
 
-not_some : (w : Stack) → None ≡ Some w → ⊥
-not_some w h = cc
-
-some_same : (v w : Stack) → Some v ≡ Some w → v ≡ w
-some_same v w h = cc
-
-not_true : false ≡ true → ⊥
-not_true h = cc
-
 -- what is chosen is a stack of the set
 abbrev Gives : StackSet → Option Stack → Type 0
 Gives P m = (w : Stack) → m ≡ Some w → P w
 
 gives_both : (P Q : StackSet) (a b : Option Stack) → Gives P a → Gives Q b → Gives (Both P Q) (both a b)
-gives_both P Q None b p q w h = absurd (not_some w h)
-gives_both P Q (Some a) None p q w h = absurd (not_some w h)
-gives_both P Q (Some a) (Some b) p q w h = (a, b, p a refl, q b refl, sym (some_same (b ++ a) w h))
+gives_both P Q None b p q w h = absurd (none-some w h)
+gives_both P Q (Some a) None p q w h = absurd (none-some w h)
+gives_both P Q (Some a) (Some b) p q w h = (a, b, p a refl, q b refl, sym (same_Some (b ++ a) w h))
 
 gives_lighter : (P Q : StackSet) (a b : Option Stack) → Gives P a → Gives Q b → Gives (Either P Q) (lighter a b)
 gives_lighter P Q None b p q w h = inr (q w h)
@@ -55,7 +47,7 @@ gives_lighter P Q (Some v) (Some u) p q w h = go (nat_lt (weight u) (weight v)) 
     go false e = inl (p w e)
 
 gives_is : (x : Bytes) → Gives (Is x) (Some (x ∷ []))
-gives_is x w h = sym (some_same (x ∷ []) w h)
+gives_is x w h = sym (same_Some (x ∷ []) w h)
 
 -- assets without their signatures are assets
 pub unsigned_are : (assets : Assets) → AreAssets assets → AreAssets (unsigned assets)
@@ -78,8 +70,8 @@ free_first_tight F G P Q None (Some v) o p ff gg oo pp of pg w h = inr (pp w h, 
 free_first_tight F G P Q None None o p ff gg oo pp of pg w h = go (gives_lighter P Q o (lighter p None) oo (λ v k. pp v (sym (lighter-none p) ∙ k)) w h)
   where
     never : HasOne (Either F G) → ⊥
-    never (v, inl i) = let k = ff.lightest v i in not_some k.0 k.1
-    never (v, inr i) = let k = gg.lightest v i in not_some k.0 k.1
+    never (v, inl i) = let k = ff.lightest v i in none-some k.0 k.1
+    never (v, inr i) = let k = gg.lightest v i in none-some k.0 k.1
 
     go : Either P Q w → FreeFirst F G P Q w
     go (inl i) = inl (i, λ one. absurd (never one))
@@ -159,8 +151,8 @@ gives_counted x others sat dsat choice p q r (suc n) w h =
 -- a child is dissatisfied only where it has no free satisfaction
 gives_unwanted : (F D : StackSet) (f d : Option Stack) → IsLightest F f → Gives D d →
     (w : Stack) → (if is_some f then None else d) ≡ Some w → (HasOne F → ⊥) × D w
-gives_unwanted F D None d ff dd w h = ((λ one. let k = ff.lightest one.0 one.1 in not_some k.0 k.1), dd w h)
-gives_unwanted F D (Some v) d ff dd w h = absurd (not_some w h)
+gives_unwanted F D None d ff dd w h = ((λ one. let k = ff.lightest one.0 one.1 in none-some k.0 k.1), dd w h)
+gives_unwanted F D (Some v) d ff dd w h = absurd (none-some w h)
 
 module _ (assets : Assets) (are : AreAssets assets) where
   free_best : (tree : Tree) → IsWritable tree → IsLightest (free_row assets tree).sat (free assets tree)
@@ -244,8 +236,8 @@ module _ (assets : Assets) (are : AreAssets assets) where
 
     strict_parts : (xs : Trees) → AreWritable xs → (k : ℕ) →
         Gives (TightParts assets xs k) (choice (strict_children assets xs) (free_children assets xs) (count xs) k)
-    strict_parts none w zero v h = (refl, sym (some_same [] v h))
-    strict_parts none w (suc k) v h = absurd (not_some v h)
+    strict_parts none w zero v h = (refl, sym (same_Some [] v h))
+    strict_parts none w (suc k) v h = absurd (none-some v h)
     strict_parts (more x xs) w k v h =
         let c : Child = record { sat = strict_of assets x; dsat = dissatisfaction x } in
         let cs = strict_children assets xs in

@@ -1,8 +1,9 @@
 -- The examples of satisfactions without signatures, of tight ones, and of a larger table.
-use Rattle.std.proofs.Common.{◌≡◌, ◌&&◌, ◌||◌, not, Bool, true, false, [], ◌∷◌, ◌++◌, length, replicate, zero, suc, ℕ, Some, None, refl, ◌∙◌, ap, inl, inr, IsTrue, arith}
+use Rattle.std.proofs.Common.{◌≡◌, ◌&&◌, not, [], ◌∷◌, ◌++◌, length, replicate, zero, suc, ℕ, refl, sym, ◌∙◌, ap, inl, inr, IsTrue, arith}
 use Rattle.std.specs.Str.{bytes_eq}
 use Rattle.std.proofs.lemmas.Bool.{false≢true}
 use Rattle.std.proofs.lemmas.List.Elements.{All-from_recursion}
+use Rattle.std.proofs.lemmas.Option.{none-some}
 use Rattle.def_script.specs.Bytes.{Bytes, IsBytes}
 use Rattle.def_machine.specs.Stacks.{Stack, member, is_empty}
 use Rattle.def_machine.specs.Samples.{key_a, key_b, sig_a, sig_b}
@@ -15,39 +16,23 @@ use Rattle.def_satisfaction.specs.Rows.{EMPTY, ONE, ZEROS, IsNoPreimageOf}
 use Rattle.def_satisfaction.specs.Satisfaction.{Sat}
 use Rattle.def_satisfaction.specs.Samples.{pair_a, pair_b, preimage_1, hash_1, with_sequence}
 use Rattle.def_satisfaction.proofs.Computing.{computing}
-use Rattle.def_satisfaction.proofs.Forms.{bytes}
+use Rattle.def_satisfaction.proofs.EqualParts.{first_same, never_empty}
+use Rattle.def_satisfaction.proofs.Forms.{bytes, never_both, one_of_both}
 use Rattle.def_choice.specs.NonMalleable.{IsTableOfBytes}
 use Rattle.def_choice.specs.Tight.{HasOne, free_row, signed_row, TightParts, Tight}
 use Rattle.def_choice.specs.TightExamples.{with_preimage, without_preimage, key_or_hash, HashNeedsNone, LockNeedsNone, TightBranches, one_of_two, TightChildren, either_key, larger, OtherSigns}
-
-never_both : (b : Bool) → (b && false) ≡ true → ⊥
-never_both true h = false≢true h
-never_both false h = false≢true h
-
-not_some : (x : Bytes) → None ≡ Some x → ⊥
-not_some x h = cc
 
 -- the key has no satisfaction without a signature
 key_needs_one : (assets : Assets) → HasOne (free_row assets (pk key_a)).sat → ⊥
 key_needs_one assets h = never_both (not (is_empty h.1.0)) h.1.1
 
--- what the first item isn't
-first_same : (x y : Bytes) (xs ys : Stack) → x ∷ xs ≡ y ∷ ys → x ≡ y
-first_same x y xs ys h = cc
-
 begins_otherwise : (x y : Bytes) (xs below above : Stack) → (x ≡ y → ⊥) → above ≡ y ∷ [] → x ∷ xs ≡ above ++ below → ⊥
 begins_otherwise x y xs below above differ e h = differ (first_same x y xs below (h ∙ ap (λ items. items ++ below) e))
-
-not_empty : (first : ℕ) (rest : Bytes) → first ∷ rest ≡ EMPTY → ⊥
-not_empty first rest h = cc
-
-numbers_same : (x y : ℕ) (xs ys : Bytes) → x ∷ xs ≡ y ∷ ys → x ≡ y
-numbers_same x y xs ys h = cc
 
 -- 32 zero bytes don't hash to the value
 zeros_miss : IsNoPreimageOf Sha256 hash_1 ZEROS
 unfolding computing
-zeros_miss = (refl, λ h. let e : 0x66 ≡ 0x02 = numbers_same _ _ _ _ h in omega (arith, e))
+zeros_miss = (refl, λ h. let e : 0x66 ≡ 0x02 = first_same _ _ _ _ h in omega (arith, e))
 
 -- the preimage satisfies the hash without a signature
 hash_free : (free_row with_preimage (sha256 hash_1)).sat (preimage_1 ∷ [])
@@ -59,7 +44,7 @@ unfolding computing
 hash_tight = (preimage_1, ((refl, refl), refl), refl)
 
 no_preimage : HasOne (free_row without_preimage (sha256 hash_1)).sat → ⊥
-no_preimage h = not_some h.1.0 h.1.1.1
+no_preimage h = none-some h.1.0 h.1.1.1
 
 free_branch : (free_row with_preimage key_or_hash).sat (EMPTY ∷ preimage_1 ∷ [])
 free_branch = inr (preimage_1 ∷ [], EMPTY ∷ [], hash_free, refl, refl)
@@ -95,7 +80,7 @@ tight_branches = record {
 
     go : Tight key_or_hash with_preimage (sig_a ∷ ONE ∷ []) → ⊥
     go (inl h) = let free = h.1 (EMPTY ∷ preimage_1 ∷ [], free_branch) in key_needs_one with_preimage (free.0, free.2)
-    go (inr h) = let o = h.0 in begins_otherwise ONE EMPTY (sig_a ∷ []) o.0 o.1 (not_empty 1 []) o.3 o.4
+    go (inr h) = let o = h.0 in begins_otherwise ONE EMPTY (sig_a ∷ []) o.0 o.1 (λ e. never_empty 1 [] (sym e)) o.3 o.4
 
 pub tight_children : TightChildren
 tight_children = record {
@@ -141,11 +126,7 @@ tight_children = record {
 
     go : Tight one_of_two with_preimage (ZEROS ∷ sig_a ∷ []) → ⊥
     go (inl h) = hash_left h.0 h.2.0 h.1 h.2.2
-    go (inr h) = begins_otherwise sig_a EMPTY (ZEROS ∷ []) h.0 h.1 (not_empty 0xaa (replicate 70 0xaa)) h.3.1 h.4
-
-or_left : (a b : Bool) → (a || false) ≡ true → (a || b) ≡ true
-or_left true b h = refl
-or_left false b h = absurd (false≢true h)
+    go (inr h) = begins_otherwise sig_a EMPTY (ZEROS ∷ []) h.0 h.1 (λ e. never_empty 0xaa (replicate 70 0xaa) (sym e)) h.3.1 h.4
 
 larger_of_bytes : IsTableOfBytes larger
 unfolding computing
@@ -157,7 +138,7 @@ pub other_signs : OtherSigns
 unfolding computing
 other_signs = record {
   bytes = larger_of_bytes;
-  holds = λ key sig h. or_left (bytes_eq key_a key && bytes_eq sig_a sig) (member (pair_b ∷ []) key sig) h;
+  holds = λ key sig h. one_of_both (bytes_eq key_a key && bytes_eq sig_a sig) (member (pair_b ∷ []) key sig) h;
   chosen = (refl, refl);
   accepted = record { ops = 5; peak = 2; run = refl };
   other = record { ops = 5; peak = 3; run = refl };

@@ -1,6 +1,7 @@
 -- Tight satisfactions are canonical; and where a satisfaction without a signature exists, every tight one is
 -- such a one.
 use Rattle.std.proofs.Common.{◌≡◌, ℕ, ◌≤◌, Bool, true, false, ◌&&◌, not, List, [], ◌∷◌, length, reverse, refl, ap, inl, inr, arith}
+use Rattle.std.proofs.lemmas.Bool.{false≢true}
 use Rattle.def_script.specs.Bytes.{Bytes}
 use Rattle.def_machine.specs.Stacks.{Stack, is_empty}
 use Rattle.def_machine.specs.MultiSig.{is_good}
@@ -14,9 +15,6 @@ use Rattle.def_satisfaction.specs.Satisfaction.{canonical}
 use Rattle.def_satisfaction.proofs.Wider.{Within, both_within, same, parts_of_within}
 use Rattle.def_satisfaction.proofs.Bare.{dsat_within}
 use Rattle.def_choice.specs.Tight.{HasOne, FreeFirst, required, signed_row, free_row, TightSat, TightParts}
-
-not_true : false ≡ true → ⊥
-not_true h = cc
 
 -- the rule for options forgotten
 any_option : (F G P Q P' Q' : StackSet) → Within P P' → Within Q Q' → Within (FreeFirst F G P Q) (Either P' Q')
@@ -71,15 +69,15 @@ module _ (assets : Assets) where
   bare tree = free_row assets tree
 
   pub free_dsat : (tree : Tree) → Within (signed_row assets tree).dsat (bare tree).dsat
-  free_dsat tree = dsat_within (canonical assets) (canonical (unsigned assets)) not_true (λ key other h. h) tree
+  free_dsat tree = dsat_within (canonical assets) (canonical (unsigned assets)) false≢true (λ key other h. h) tree
 
 -- no signature is good under no table
 bare_good : (key sig : Bytes) → is_good [] key sig ≡ true → ⊥
 bare_good key sig h = go (not (is_empty sig)) h
   where
     go : (b : Bool) → (b && false) ≡ true → ⊥
-    go true e = not_true e
-    go false e = not_true e
+    go true e = false≢true e
+    go false e = false≢true e
 
 bare_signatures : (keys : List Key) (sigs : Stack) → AreSignatures [] keys sigs → sigs ≡ []
 bare_signatures keys [] h = refl
@@ -105,7 +103,7 @@ free_option F G P Q one stack (inr h) = inr (h.1 one)
 not_third : (P Q R : StackSet) (assets : Assets) → HasOne (Either P (Either Q (NotCanonical (canonical assets) R))) → HasOne (Either P Q)
 not_third P Q R assets (stack, inl h) = (stack, inl h)
 not_third P Q R assets (stack, inr (inl h)) = (stack, inr h)
-not_third P Q R assets (stack, inr (inr h)) = absurd (not_true h.0)
+not_third P Q R assets (stack, inr (inr h)) = absurd (false≢true h.0)
 
 -- k signatures of no table: k is 0
 free_multi : (assets : Assets) (k : ℕ) (keys : List Key) → HasOne (free_row assets (multi k keys)).sat → Within (signed_row assets (multi k keys)).sat (free_row assets (multi k keys)).sat

@@ -4,6 +4,8 @@ use Rattle.std.specs.Str.{bytes_eq}
 use Rattle.std.proofs.lemmas.Slice.Eq.{bytes_eq-Decides}
 use Rattle.std.proofs.lemmas.List.{length-reverse, get_or-reverse}
 use Rattle.std.proofs.lemmas.List.Elements.{Contains-append_left, Contains-append_right}
+use Rattle.std.proofs.lemmas.Option.{none-some, same_Some}
+use Rattle.std.proofs.lemmas.Bool.{false≢true}
 use Rattle.def_hash.specs.declared.HashKind.{HashKind}
 use Rattle.def_hash.specs.Hash.{hash160}
 use Rattle.def_script.specs.Bytes.{Bytes}
@@ -43,17 +45,8 @@ record Other (nodes : List Tree) (stack : Stack) : Type 0 where
   hash : hash160 other ≡ hash160 key
   differs : other ≢ key
 
-not_true : false ≡ true → ⊥
-not_true h = cc
-
-not_some : (x : Bytes) → None ≡ Some x → ⊥
-not_some x h = cc
-
-some_same : (x y : Bytes) → Some x ≡ Some y → x ≡ y
-some_same x y h = cc
-
 differ : (x y : Bytes) → bytes_eq x y ≡ false → x ≡ y → ⊥
-differ x y h e = not_true (sym h ∙ (bytes_eq-Decides x y).1 e)
+differ x y h e = false≢true (sym h ∙ (bytes_eq-Decides x y).1 e)
 
 alone : (x : Bytes) (stack : Stack) → stack ≡ x ∷ [] → Contains stack x
 alone x stack e = subst (λ v. Contains v x) (sym e) (0, omega arith, refl)
@@ -115,10 +108,10 @@ module _ (assets : Assets) (given : Given) (nodes : List Tree) where
 
       same_or : (stack : Stack) (x y : Bytes) → IsPreimageOf kind value x → stack ≡ x ∷ [] → known assets kind value ≡ Some y → (test : Bool) → bytes_eq y x ≡ test → Either (row knower (hash kind value)).sat Odd stack
       same_or stack x y p e h true t = inl (x, (p, h ∙ ap Some ((bytes_eq-Decides y x).0 t)), e)
-      same_or stack x y p e h false t = inr (unknown stack x p e (λ q. differ y x t (some_same y x (sym h ∙ q))))
+      same_or stack x y p e h false t = inr (unknown stack x p e (λ q. differ y x t (same_Some y x (sym h ∙ q))))
 
       go : (stack : Stack) (x : Bytes) → IsPreimageOf kind value x → stack ≡ x ∷ [] → (held : Option Bytes) → known assets kind value ≡ held → Either (row knower (hash kind value)).sat Odd stack
-      go stack x p e None h = inr (unknown stack x p e (λ q. not_some x (sym h ∙ q)))
+      go stack x p e None h = inr (unknown stack x p e (λ q. none-some x (sym h ∙ q)))
       go stack x p e (Some y) h = same_or stack x y p e h (bytes_eq y x) refl
 
   key_or : (key : Key) → Contains nodes (pk_h key) → (P : Key → StackSet) → Or (WithHashOf anyone key (λ other. Both (P other) (Is other))) (WithHashOf knower key (λ other. Both (P other) (Is other)))
@@ -238,7 +231,7 @@ module _ (assets : Assets) (given : Given) (nodes : List Tree) where
     parts_or (more x xs) h n = counted_or _ _ _ _ (splits x (left (all_nodes x) (nodes_of_all xs) h)) (parts_or xs (right (all_nodes x) (nodes_of_all xs) h)) n
 
 -- an item of a stack that is turned round is one of the stack
-contains-reverse : (xs : List Bytes) (x : Bytes) → Contains (reverse xs) x → Contains xs x
+pub contains-reverse : (xs : List Bytes) (x : Bytes) → Contains (reverse xs) x → Contains xs x
 contains-reverse xs x (k, below, e) =
     let l = length-reverse xs in
     (length xs - 1 - k, omega (arith, l, below), sym (get_or-reverse xs k x (omega (arith, l, below))) ∙ e)

@@ -1,8 +1,10 @@
 -- The examples: what the promises presuppose is met.
-use Rattle.std.proofs.Common.{◌≡◌, ◌≢◌, ℕ, zero, suc, Bool, true, false, ◌&&◌, ◌||◌, not, List, [], ◌∷◌, length, refl, sym, ◌∙◌, ap, subst, ◌⊎◌, inl, inr, IsTrue, All, Some, None, arith}
+use Rattle.std.proofs.Common.{◌≡◌, ◌≢◌, ℕ, zero, suc, ◌&&◌, not, List, [], ◌∷◌, length, refl, sym, ◌∙◌, ap, subst, ◌⊎◌, inl, inr, IsTrue, All, arith}
 use Rattle.std.specs.List.{IsDistinct}
 use Rattle.std.specs.Str.{bytes_eq}
 use Rattle.std.proofs.lemmas.List.Elements.{All-nil, All-from_recursion}
+use Rattle.std.proofs.lemmas.Option.{none-some}
+use Rattle.std.proofs.lemmas.Bool.{false≢true}
 use Rattle.def_script.specs.Bytes.{Bytes, IsBytes}
 use Rattle.def_machine.specs.Samples.{key_a, key_b, sig_a, sig_b}
 use Rattle.def_machine.specs.Stacks.{Stack, Pairs, member, is_empty}
@@ -24,7 +26,8 @@ use Rattle.def_satisfaction.proofs.Canonical.{sat_is_full_sat, only_is_any}
 use Rattle.def_satisfaction.proofs.OfBytes.{sat_is_of_bytes}
 use Rattle.def_choice.specs.NonMalleable.{IsAccepted, HasNewPair, Fresh, IsTableOfBytes, given_with}
 use Rattle.def_promises.specs.Examples.{by_key, by_preimages, only_key_b, chain, AcceptanceIsMet, StrictIsMet, KeyCanBeChanged, NothingIsMet, KeyHasLetters, OneHasLetters, DeepHasLetters, HashIsMissed}
-use Rattle.def_satisfaction.proofs.Forms.{bytes, key_form, digest_form, signature_form, preimage_form}
+use Rattle.def_satisfaction.proofs.EqualParts.{first_same}
+use Rattle.def_satisfaction.proofs.Forms.{bytes, never_both, one_of_both, key_form, digest_form, signature_form, preimage_form}
 
 key_a_form : IsKey key_a
 key_a_form = key_form key_a refl (inl refl) refl
@@ -101,15 +104,6 @@ acceptance_is_met =
       };
     }
 
-not_true : false ≡ true → ⊥
-not_true h = cc
-
-not_some : (x : Bytes) → None ≡ Some x → ⊥
-not_some x h = cc
-
-first_same : (x y : Bytes) (xs ys : List Bytes) → x ∷ xs ≡ y ∷ ys → x ≡ y
-first_same x y xs ys h = cc
-
 by_key_differs : by_key ≢ by_preimages
 by_key_differs h =
     let e : 71 ≡ 32 = ap length (first_same sig_a preimage_3 _ _ h) in
@@ -131,20 +125,16 @@ strict_is_met = record {
   others = pair_b ∷ pair_a ∷ [];
   other = accepted_by_key;
   differs = by_key_differs;
-  more = (key_a, sig_a, refl, not_true);
+  more = (key_a, sig_a, refl, false≢true);
 }
 
 checks_same : (ops peak o p : ℕ) (checks those : Pairs) → accepted ops peak checks ≡ accepted o p those → checks ≡ those
 checks_same ops peak o p checks those h = cc
 
-or_left : (a b : Bool) → (a || false) ≡ true → (a || b) ≡ true
-or_left true b h = refl
-or_left false b h = absurd (not_true h)
-
 -- what the run by the preimages finds good, the run by the key does
 no_new_pair : (checks : Pairs) → pair_b ∷ pair_a ∷ [] ≡ checks → HasNewPair (pair_b ∷ []) checks → ⊥
 no_new_pair checks same h =
-    h.3 (subst (λ c. IsTrue (member c h.0 h.1)) same (or_left (bytes_eq key_b h.0 && bytes_eq sig_b h.1) (member (pair_a ∷ []) h.0 h.1) h.2))
+    h.3 (subst (λ c. IsTrue (member c h.0 h.1)) same (one_of_both (bytes_eq key_b h.0 && bytes_eq sig_b h.1) (member (pair_a ∷ []) h.0 h.1) h.2))
 
 table_of_bytes : IsTableOfBytes keys_and_preimages.pairs
 table_of_bytes =
@@ -181,15 +171,11 @@ only_b_form = record {
   locktime = omega arith;
 }
 
-never_both : (a : Bool) → (a && false) ≡ true → ⊥
-never_both true h = not_true h
-never_both false h = not_true h
-
 -- with the key B alone neither branch is satisfied
 no_branch : (stack : Stack) → (row (full (given_with only_key_b only_key_b.pairs) (only (known only_key_b))) (or_i (pk key_a) (after_two_hashes (sha256_of hash_3)))).sat stack → ⊥
 unfolding computing
 no_branch stack (inl h) = never_both (not (is_empty h.2.0)) h.2.1
-no_branch stack (inr h) = let k = h.2.3 in not_some k.0 k.1.1
+no_branch stack (inr h) = let k = h.2.3 in none-some k.0 k.1.1
 
 fresh : Fresh key_and_key_or_hashes only_key_b only_key_b.pairs by_preimages
 unfolding computing
@@ -250,15 +236,12 @@ abbrev IsMissed : Tree → Type 0
 IsMissed (hash kind value) = (bytes : Bytes) × IsBytes bytes × IsNoPreimageOf kind value bytes
 IsMissed other = Unit {0}
 
-numbers_same : (x y : ℕ) (xs ys : Bytes) → x ∷ xs ≡ y ∷ ys → x ≡ y
-numbers_same x y xs ys h = cc
-
 preimage_2_bytes : IsBytes preimage_2
 preimage_2_bytes = bytes preimage_2 refl
 
 hash_1_missed : IsMissed (sha256_of hash_1)
 unfolding computing
-hash_1_missed = (preimage_2, preimage_2_bytes, (refl, λ h. let e : 0x9f ≡ 0x02 = numbers_same _ _ _ _ h in omega (arith, e)))
+hash_1_missed = (preimage_2, preimage_2_bytes, (refl, λ h. let e : 0x9f ≡ 0x02 = first_same _ _ _ _ h in omega (arith, e)))
 
 pub hash_is_missed : HashIsMissed
 hash_is_missed kind value (zero, below, e) = subst IsMissed e hash_1_missed

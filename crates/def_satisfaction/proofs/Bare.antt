@@ -1,5 +1,5 @@
 -- Canonical dissatisfactions have no signature: they don't depend on the table, nor on the locks.
-use Rattle.std.proofs.Common.{◌≡◌, ℕ, zero, suc, IsTrue}
+use Rattle.std.proofs.Common.{IsTrue, arith}
 use Rattle.def_tree.specs.declared.Two.TheVariants as kind
 use Rattle.def_tree.specs.declared.Wrapper.TheVariants as wrapper
 use Rattle.def_tree.specs.Tree.{Tree, Trees, Key, just_0, just_1, pk_k, pk_h, older, after, hash, and_or, two, thresh, multi, wrap, none, more}
@@ -7,9 +7,6 @@ use Rattle.def_satisfaction.specs.StackSet.{StackSet}
 use Rattle.def_satisfaction.specs.Setting.{Setting, CountsAsKey}
 use Rattle.def_satisfaction.specs.Rows.{NotCanonical, row, parts}
 use Rattle.def_satisfaction.proofs.Wider.{Within, both_within, either_within, same}
-
-not_suc : (m : ℕ) → zero ≡ suc m → ⊥
-not_suc m h = cc
 
 module _ (s t : Setting) (canonical : IsTrue s.all_rows → ⊥) (keys : (key other : Key) → CountsAsKey s.mode key other → CountsAsKey t.mode key other) where
   no_extra : (P Q : StackSet) → Within (NotCanonical s P) Q
@@ -45,4 +42,4 @@ module _ (s t : Setting) (canonical : IsTrue s.all_rows → ⊥) (keys : (key ot
     -- all children dissatisfied
     none_within : (xs : Trees) → Within (parts s xs 0) (parts t xs 0)
     none_within none = same _
-    none_within (more x xs) = either_within _ _ _ _ (λ stack h. absurd (not_suc h.0 h.1)) (both_within _ _ _ _ (none_within xs) (dsat_within x))
+    none_within (more x xs) = either_within _ _ _ _ (λ stack h. absurd (omega (arith, h.1))) (both_within _ _ _ _ (none_within xs) (dsat_within x))

@@ -1,5 +1,6 @@
 -- The laws of canonical rows and of settings.
-use Rattle.std.proofs.Common.{◌≡◌, ◌&&◌, not, Bool, true, false, reverse, Option, refl, IsTrue}
+use Rattle.std.proofs.Common.{◌&&◌, not, Bool, true, false, reverse, Option, refl, IsTrue}
+use Rattle.std.proofs.lemmas.Bool.{false≢true}
 use Rattle.def_hash.specs.declared.HashKind.{HashKind}
 use Rattle.def_script.specs.Bytes.{Bytes}
 use Rattle.def_machine.specs.Stacks.{Pairs, is_empty, member}
@@ -49,15 +50,12 @@ only_is_any tree given known stack =
     let w = row_within _ _ (only_is_any_wider given known) tree in
     (w.sat (reverse stack), w.dsat (reverse stack))
 
-not_true : false ≡ true → ⊥
-not_true h = cc
-
 pub dsat_is_full_dsat : DsatIsFullDsat
 dsat_is_full_dsat tree assets table stack dsat =
-    dsat_within (canonical assets) (full (record { table = table; locks = assets.locks }) (only (known assets))) not_true (λ key other h. h) tree (reverse stack) dsat
+    dsat_within (canonical assets) (full (record { table = table; locks = assets.locks }) (only (known assets))) false≢true (λ key other h. h) tree (reverse stack) dsat
 
 pub dsat_needs_no_signature : DsatNeedsNoSignature
 dsat_needs_no_signature tree assets stack = (
-  λ h. dsat_within (canonical assets) (canonical (unsigned assets)) not_true (λ key other k. k) tree (reverse stack) h,
-  λ h. dsat_within (canonical (unsigned assets)) (canonical assets) not_true (λ key other k. k) tree (reverse stack) h,
+  λ h. dsat_within (canonical assets) (canonical (unsigned assets)) false≢true (λ key other k. k) tree (reverse stack) h,
+  λ h. dsat_within (canonical (unsigned assets)) (canonical assets) false≢true (λ key other k. k) tree (reverse stack) h,
 )

@@ -1,5 +1,7 @@
 -- The examples.
-use Rattle.std.proofs.Common.{◌≡◌, refl, ◌∙◌, ap, inl, inr, ℕ, true, false, [], ◌∷◌, ◌++◌, replicate, None, Some}
+use Rattle.std.proofs.Common.{◌≡◌, refl, ◌∙◌, ap, inl, inr, ℕ, [], ◌∷◌, ◌++◌, replicate}
+use Rattle.std.proofs.lemmas.Option.{none-some}
+use Rattle.std.proofs.lemmas.Bool.{false≢true}
 use Rattle.def_machine.specs.Samples.{key_b, sig_a, sig_b, sig_c}
 use Rattle.def_script.specs.Bytes.{Bytes}
 use Rattle.def_machine.specs.Stacks.{Stack}
@@ -112,21 +114,14 @@ zeros_as_preimage = record {
   run = refl;
 }
 
--- facts that contradict themselves
-not_true : false ≡ true → ⊥
-not_true h = cc
-
-not_some : (x : Bytes) → None ≡ Some x → ⊥
-not_some x h = cc
-
 not_empty : (byte : ℕ) (bytes : Bytes) → byte ∷ bytes ≡ [] → ⊥
 not_empty byte bytes h = cc
 
 pub zeros_are_no_miss : ZerosAreNoMiss
 unfolding computing
-zeros_are_no_miss stack (inl h) = not_some h.2.3.0 h.2.3.1.1
+zeros_are_no_miss stack (inl h) = none-some h.2.3.0 h.2.3.1.1
 zeros_are_no_miss stack (inr (below, above, p, inl q, e)) = q.0.1 refl
-zeros_are_no_miss stack (inr (below, above, p, inr q, e)) = not_true q.0
+zeros_are_no_miss stack (inr (below, above, p, inr q, e)) = false≢true q.0
 
 -- where two items are one item on one other, the lower one is the other
 lower : (a b x y : Bytes) (above below : Stack) → above ≡ x ∷ [] → below ≡ y ∷ [] → a ∷ b ∷ [] ≡ above ++ below → b ≡ y
@@ -145,7 +140,7 @@ not_canonical (inl (below, above, p, q, e)) =
     not_empty 0xbb (replicate 71 0xbb) (lower sig_a sig_b q.0 [] above below q.2 p e)
 not_canonical (inr (inl (below, above, p, q, e))) =
     not_empty 0xaa (replicate 70 0xaa) (upper sig_a sig_b [] p.0 above below q p.2 e)
-not_canonical (inr (inr h)) = not_true h.0
+not_canonical (inr (inr h)) = false≢true h.0
 
 pub both_of_or_b : BothOfOrB
 unfolding computing

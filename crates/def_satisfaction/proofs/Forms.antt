@@ -1,6 +1,8 @@
--- The forms of keys, hash values, signatures and preimages, from tests that compute.
-use Rattle.std.proofs.Common.{◌≡◌, ℕ, zero, suc, ◌≤◌, ◌<◌, nat_lt, nat_le, Bool, true, false, ◌&&◌, [], ◌∷◌, length, slice_index, refl, ◌⊎◌, arith}
+-- The forms of keys, hash values, signatures and preimages, from tests that compute; and what tests tell, for the
+-- examples.
+use Rattle.std.proofs.Common.{◌≡◌, ℕ, zero, suc, ◌≤◌, ◌<◌, nat_lt, nat_le, Bool, true, false, ◌&&◌, ◌||◌, [], ◌∷◌, length, slice_index, refl, ◌⊎◌, arith}
 use Rattle.std.specs.List.{list_all}
+use Rattle.std.proofs.lemmas.Bool.{and_parts, false≢true}
 use Rattle.std.proofs.lemmas.Bool.Decides.{nat_tests}
 use Rattle.def_hash.specs.declared.HashKind.{HashKind}
 use Rattle.def_hash.specs.Hash.{digest_length}
@@ -12,17 +14,13 @@ use Rattle.def_assets.specs.Assets.{IsSignature, IsPreimage}
 abbrev pub all_low : Bytes → Bool
 all_low = list_all (λ b. nat_lt b 256)
 
-both_true : (a b : Bool) → (a && b) ≡ true → (a ≡ true) × (b ≡ true)
-both_true true b h = (refl, h)
-both_true false b h = let k : false ≡ true = h in cc
-
 below : (b : ℕ) → nat_lt b 256 ≡ true → b < 256
 below b h = grind (arith, nat_tests)
 
 pub bytes : (xs : Bytes) → all_low xs ≡ true → IsBytes xs
 bytes [] h i = omega arith
-bytes (x ∷ xs) h zero = below x (both_true (nat_lt x 256) (all_low xs) h).0
-bytes (x ∷ xs) h (suc i) = bytes xs (both_true (nat_lt x 256) (all_low xs) h).1 i
+bytes (x ∷ xs) h zero = below x (and_parts (nat_lt x 256) (all_low xs) h).0
+bytes (x ∷ xs) h (suc i) = bytes xs (and_parts (nat_lt x 256) (all_low xs) h).1 i
 
 pub key_form : (key : Key) → length key ≡ 33 → (slice_index key 0 ≡ 2) ⊎ (slice_index key 0 ≡ 3) → all_low key ≡ true → IsKey key
 key_form key l p b = record { length = l; prefix = p; bytes = bytes key b }
@@ -38,3 +36,11 @@ signature_form sig l m b = record { some = at_most 1 (length sig) l; few = at_mo
 
 pub preimage_form : (x : Bytes) → length x ≡ 32 → all_low x ≡ true → IsPreimage x
 preimage_form x l b = record { length = l; bytes = bytes x b }
+
+pub never_both : (a : Bool) → (a && false) ≡ true → ⊥
+never_both a h = false≢true (and_parts a false h).1
+
+-- what holds of one of two pairs holds of both
+pub one_of_both : (a b : Bool) → (a || false) ≡ true → (a || b) ≡ true
+one_of_both true b h = refl
+one_of_both false b h = absurd (false≢true h)

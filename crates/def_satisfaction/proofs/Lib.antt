@@ -1,7 +1,9 @@
+pub mod EqualParts
 pub mod Computing
 pub mod Computed
 pub mod Wider
 pub mod Bare
 pub mod Canonical
+pub mod Held
 pub mod OfBytes
 pub mod Forms

@@ -1,26 +1,22 @@
 -- Canonical satisfactions and dissatisfactions consist of bytes.
-use Rattle.std.proofs.Common.{◌≡◌, ℕ, zero, suc, Bool, true, false, ◌&&◌, ◌||◌, not, List, [], ◌∷◌, ◌++◌, reverse, replicate, All, Some, None, refl, sym, subst, inl, inr, arith, IsTrue, if◌then◌else◌}
-use Rattle.std.specs.List.{find}
-use Rattle.std.specs.Str.{bytes_eq}
+use Rattle.std.proofs.Common.{◌≡◌, ℕ, zero, suc, List, [], ◌∷◌, ◌++◌, reverse, replicate, All, sym, subst, inl, inr, arith, IsTrue}
 use Rattle.std.proofs.lemmas.Bool.{false≢true}
-use Rattle.std.proofs.lemmas.Slice.Eq.{bytes_eq-Decides}
 use Rattle.std.proofs.lemmas.List.{reverse-reverse, reverse-append}
 use Rattle.std.proofs.lemmas.List.Elements.{All-nil, All-cons, All-head, All-tail, All-same, All-append, All-replicate}
-use Rattle.def_hash.specs.declared.HashKind.{HashKind}
-use Rattle.def_hash.specs.Hash.{digest_of}
 use Rattle.def_script.specs.Bytes.{Bytes, IsBytes}
-use Rattle.def_machine.specs.Stacks.{Stack, Pairs, member, is_empty}
+use Rattle.def_machine.specs.Stacks.{Stack}
 use Rattle.def_machine.specs.MultiSig.{is_good}
 use Rattle.def_tree.specs.declared.Two.TheVariants as kind
 use Rattle.def_tree.specs.declared.Wrapper.TheVariants as wrapper
 use Rattle.def_tree.specs.Tree.{Tree, Trees, Key, just_0, just_1, pk_k, pk_h, older, after, hash, and_or, two, thresh, multi, wrap, none, more}
 use Rattle.def_tree.specs.Range.{IsWritable, AreWritable}
-use Rattle.def_assets.specs.Assets.{Assets, AreAssets, IsSignature, IsPreimage}
+use Rattle.def_assets.specs.Assets.{Assets, AreAssets}
 use Rattle.def_satisfaction.specs.StackSet.{StackSet, Is, If, Both, Either}
 use Rattle.def_satisfaction.specs.Rows.{Row, EMPTY, ONE, ZEROS, NotCanonical, Signature, AreSignatures, PartsOf, row, parts}
 use Rattle.def_satisfaction.specs.Satisfaction.{canonical}
 use Rattle.def_satisfaction.specs.Laws.{SatIsOfBytes, DsatIsOfBytes}
 use Rattle.def_satisfaction.proofs.Wider.{Within}
+use Rattle.def_satisfaction.proofs.Held.{good_is_signature, known_is_preimage}
 
 -- the items of the table
 
@@ -65,49 +61,6 @@ either_bytes P Q p q stack (inr h) = q stack h
 if_bytes : (fact : Type 0) (P : StackSet) → OfBytes P → OfBytes (If fact P)
 if_bytes fact P p stack h = p stack h.1
 
--- what is held consists of bytes
-
-good_held : (full held : Bool) → (not full && held) ≡ true → held ≡ true
-good_held true held h = absurd (false≢true h)
-good_held false held h = h
-
-held_bytes : (pairs : Pairs) → All (λ pair. IsSignature pair.1) pairs → (key sig : Bytes) → member pairs key sig ≡ true → IsBytes sig
-held_bytes [] all key sig h = absurd (false≢true h)
-held_bytes (pair ∷ pairs) all key sig h =
-    go (bytes_eq pair.0 key) (bytes_eq pair.1 sig) refl h (held_bytes pairs (All-tail (λ p. IsSignature p.1) pair pairs all) key sig)
-  where
-    is : IsSignature pair.1
-    is = All-head (λ p. IsSignature p.1) pair pairs all
-
-    go : (first second : Bool) → bytes_eq pair.1 sig ≡ second → ((first && second) || member pairs key sig) ≡ true →
-        (member pairs key sig ≡ true → IsBytes sig) → IsBytes sig
-    go true true e k next = subst IsBytes ((bytes_eq-Decides pair.1 sig).0 e) is.bytes
-    go true false e k next = next k
-    go false second e k next = next k
-
-some_same : (x y : Bytes) → Some x ≡ Some y → x ≡ y
-some_same x y h = cc
-
-not_some : (x : Bytes) → None ≡ Some x → ⊥
-not_some x h = cc
-
-known_bytes : (kind : HashKind) (value : Bytes) (preimages : List Bytes) (x : Bytes) → All IsPreimage preimages →
-    find (λ preimage. bytes_eq (digest_of kind preimage) value) preimages ≡ Some x → IsBytes x
-known_bytes kind value [] x all h = absurd (not_some x h)
-known_bytes kind value (p ∷ ps) x all h =
-    go (bytes_eq (digest_of kind p) value) h (known_bytes kind value ps x (All-tail IsPreimage p ps all))
-  where
-    is : IsPreimage p
-    is = All-head IsPreimage p ps all
-
-    go : (test : Bool) → (if test then Some p else find (λ preimage. bytes_eq (digest_of kind preimage) value) ps) ≡ Some x →
-        (find (λ preimage. bytes_eq (digest_of kind preimage) value) ps ≡ Some x → IsBytes x) → IsBytes x
-    go true e next = subst IsBytes (some_same p x e) is.bytes
-    go false e next = next e
-
-not_suc : (m : ℕ) → zero ≡ suc m → ⊥
-not_suc m h = cc
-
 -- dissatisfactions, which need no assets
 module _ (assets : Assets) where
   extra_bytes : (P : StackSet) → OfBytes (NotCanonical (canonical assets) P)
@@ -144,11 +97,11 @@ module _ (assets : Assets) where
     -- all children dissatisfied
     none_bytes : (xs : Trees) → AreWritable xs → OfBytes (parts (canonical assets) xs 0)
     none_bytes none w = if_bytes _ _ nothing_bytes
-    none_bytes (more x xs) w = either_bytes _ _ (λ stack h. absurd (not_suc h.0 h.1)) (both_bytes _ _ (none_bytes xs w.1) (dsat_bytes x w.0))
+    none_bytes (more x xs) w = either_bytes _ _ (λ stack h. absurd (omega (arith, h.1))) (both_bytes _ _ (none_bytes xs w.1) (dsat_bytes x w.0))
 
 module _ (assets : Assets) (are : AreAssets assets) where
   good_bytes : (key sig : Bytes) → IsTrue (is_good assets.pairs key sig) → IsBytes sig
-  good_bytes key sig h = held_bytes assets.pairs are.signatures key sig (good_held (is_empty sig) (member assets.pairs key sig) h)
+  good_bytes key sig h = let is = good_is_signature assets are key sig h in is.bytes
 
   signature_bytes : (key : Key) → OfBytes (Signature (canonical assets) key)
   signature_bytes key stack h = is_bytes h.0 (good_bytes key h.0 h.1) stack h.2
@@ -172,7 +125,7 @@ module _ (assets : Assets) (are : AreAssets assets) where
         both_bytes _ _ (signature_bytes h.0) (is_bytes h.0 (subst IsBytes (sym h.3) w.bytes)) stack h.4
     sat_bytes (older n) w = if_bytes _ _ nothing_bytes
     sat_bytes (after n) w = if_bytes _ _ nothing_bytes
-    sat_bytes (hash kind value) w = λ stack h. is_bytes h.0 (known_bytes kind value assets.preimages h.0 are.preimages h.1.1) stack h.2
+    sat_bytes (hash kind value) w = λ stack h. is_bytes h.0 (let is = known_is_preimage assets are kind value h.0 h.1.1 in is.0.bytes) stack h.2
     sat_bytes (and_or x y z) w =
         either_bytes _ _ (both_bytes _ _ (sat_bytes y w.1) (sat_bytes x w.0)) (both_bytes _ _ (sat_bytes z w.2) (dsat_bytes assets x w.0))
     sat_bytes (two kind.AndV x y) w = both_bytes _ _ (sat_bytes y w.1) (sat_bytes x w.0)

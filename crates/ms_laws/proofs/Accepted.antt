@@ -1,7 +1,7 @@
 -- The interpreter accepts the canonical satisfactions of a valid miniscript; and what it accepts are satisfactions.
 use Rattle.std.proofs.Common.{◌≡◌, ℕ, ◌+◌, ◌^◌, ◌<◌, ◌≤◌, nat_le, Bool, true, false, List, [], ◌∷◌, ◌++◌, length, reverse, All, Ok, refl, sym, ◌∙◌, ap, subst, ◌⊎◌, inl, inr, arith}
 use Rattle.std.specs.List.{list_all}
-use Rattle.std.proofs.lemmas.Bool.{leb-true, false≢true}
+use Rattle.std.proofs.lemmas.Bool.{leb-true, false≢true, and_parts}
 use Rattle.std.proofs.lemmas.List.{append-nil, length-reverse, reverse-reverse}
 use Rattle.std.proofs.lemmas.List.Elements.{All-head, All-tail, All-nil, All-cons}
 use Rattle.def_script.specs.Bytes.{Bytes}
@@ -14,7 +14,6 @@ use Rattle.def_machine.specs.Run.{run, accepted, refused}
 use Rattle.def_tree.specs.Tree.{Tree}
 use Rattle.def_tree.specs.Range.{IsWritable}
 use Rattle.def_types.specs.Typed.{type_of}
-use Rattle.def_types.proofs.Facts.{both_true}
 use Rattle.def_emit.specs.Emit.{emit, script_of}
 use Rattle.def_assets.specs.Assets.{Assets, AreAssets, known}
 use Rattle.def_sane.specs.declared.Limits.{Limits}
@@ -29,16 +28,17 @@ use Rattle.def_satisfaction.proofs.Wider.{IsWider, row_within}
 use Rattle.def_choice.specs.NonMalleable.{IsAccepted, given_with}
 use Rattle.def_promises.specs.Acceptance.{CanonicalIsAccepted, InversionHolds}
 use Rattle.def_promises.specs.Limited.{StopsAtLimit}
+use Rattle.def_satisfaction.proofs.EqualParts.{first_same, rest_same}
 use Rattle.ms_laws.proofs.Log.{Log}
 use Rattle.ms_laws.proofs.Den.{den}
-use Rattle.ms_laws.proofs.Logs.{sat_log}
+use Rattle.ms_laws.proofs.RowLogs.{sat_log}
 use Rattle.ms_laws.proofs.Values.{Value, truth-natural}
-use Rattle.ms_laws.proofs.Few.{few_valid}
+use Rattle.ms_laws.proofs.FewChildren.{few_valid}
 use Rattle.ms_laws.proofs.Ends.{left, Short, Ends, EndsB}
 use Rattle.ms_laws.proofs.Goes.{sat_ends}
-use Rattle.ms_laws.proofs.Back.{Back, BackB, logged, Took, same_top, same_rest}
+use Rattle.ms_laws.proofs.Back.{Back, BackB, logged, Took}
 use Rattle.ms_laws.proofs.Inverse.{inverts}
-use Rattle.ms_laws.proofs.Heights.{few_rises}
+use Rattle.ms_laws.proofs.ScriptHeights.{few_rises}
 use Rattle.ms_laws.proofs.Within.{sized_sat, within_limits, few_ops, valid_limits}
 use Rattle.ms_laws.proofs.Runs.{accepted_run, run_accepted, run_or_limit, too_long}
 
@@ -145,8 +145,8 @@ accounted tree given stack checks writable valid is =
     subst (λ c. Back given.table c (type_of tree).u (logged (full given any) tree) (reverse stack) a.0.main a.0.log) means.1
     (inverts given tree writable means.0 (few_valid tree valid) (reverse stack) a.0.main a.0.log a.2) in
     let at : a.1 ∷ [] ≡ b.3 ∷ b.2 = sym a.3 ∙ b.5 in
-    let none : b.2 ≡ [] = sym (same_rest a.1 b.3 [] b.2 at) in
-    let top : a.1 ≡ b.3 = same_top a.1 b.3 [] b.2 at in
+    let none : b.2 ≡ [] = sym (rest_same a.1 b.3 [] b.2 at) in
+    let top : a.1 ≡ b.3 = first_same a.1 b.3 [] b.2 at in
     let whole : reverse stack ≡ b.1 = b.4 ∙ ap (λ v. b.1 ++ v) none ∙ append-nil b.1 in
     go b.0 b.1 a.0.log whole (true_value (type_of tree).u b.0 b.3 b.6 (ap truth (sym top) ∙ a.4)) b.7 a.6
   where
@@ -166,7 +166,7 @@ accepted_is_satisfaction tree given stack checks writable valid is = (accounted 
 pub fit_short : (w : Stack) → list_all (λ x. nat_le (length x) MAX_SCRIPT_ELEMENT_SIZE) w ≡ true → Short w
 fit_short [] e = tt
 fit_short (x ∷ w) e =
-    let p = both_true (nat_le (length x) 520) (list_all (λ x. nat_le (length x) MAX_SCRIPT_ELEMENT_SIZE) w) e in
+    let p = and_parts (nat_le (length x) 520) (list_all (λ x. nat_le (length x) MAX_SCRIPT_ELEMENT_SIZE) w) e in
     let l = leb-true (length x) 520 p.0 in
     (omega arith, fit_short w p.1)
 

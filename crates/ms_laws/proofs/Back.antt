@@ -14,7 +14,7 @@ use Rattle.def_types.specs.declared.Base.TheVariants.{B, V, K, W}
 use Rattle.def_satisfaction.specs.Setting.{Setting}
 use Rattle.def_satisfaction.specs.Rows.{EMPTY, ONE, row}
 use Rattle.ms_laws.proofs.Log.{Log, Left, Effect, quiet, then_log, behind, both, on_left, plain, silent, choose}
-use Rattle.ms_laws.proofs.Logs.{check_log, sat_log, dsat_log}
+use Rattle.ms_laws.proofs.RowLogs.{check_log, sat_log, dsat_log}
 use Rattle.ms_laws.proofs.Values.{Value}
 use Rattle.ms_laws.proofs.Ends.{left, Beside, weaker, then_log_assoc}
 
@@ -172,13 +172,6 @@ branched f g ((b ∷ []) ∷ s) end l e =
       | inr other ↦ absurd (no_fault _ (left end l) (rw other at e))
     ]
 branched f g ((b ∷ c ∷ bytes) ∷ s) end l e = absurd (no_fault _ (left end l) e)
-
--- equal stacks have equal parts
-pub same_top : (x y : Bytes) (m n : Stack) → x ∷ m ≡ y ∷ n → x ≡ y
-same_top x y m n e = cc
-
-pub same_rest : (x y : Bytes) (m n : Stack) → x ∷ m ≡ y ∷ n → m ≡ n
-same_rest x y m n e = cc
 
 pub same_stack : (m n : Stack) → ok_stack m ≡ ok_stack n → m ≡ n
 same_stack m n e = cc

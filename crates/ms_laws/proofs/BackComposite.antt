@@ -7,11 +7,12 @@ use Rattle.def_machine.specs.Effects.{if_dup, bool_and, bool_or}
 use Rattle.def_types.specs.declared.Base.{Base}
 use Rattle.def_types.specs.declared.Base.TheVariants.{B, V, W}
 use Rattle.def_satisfaction.specs.Rows.{EMPTY, ONE}
+use Rattle.def_satisfaction.proofs.EqualParts.{first_same, rest_same}
 use Rattle.ms_laws.proofs.Log.{Log, Effect, quiet, then_log, both, plain, silent, choose}
 use Rattle.ms_laws.proofs.Values.{Value, bool_and-natural, bool_or-natural}
 use Rattle.ms_laws.proofs.Ends.{left, quiet_right, choose_one, choose_empty, unit_value, bool_value}
 use Rattle.ms_laws.proofs.Composite.{Takes2, two_values, and_turned, or_turned}
-use Rattle.ms_laws.proofs.Back.{Logged, Took, weaken_back, Back, BackB, BackV, BackW, keeps_same, keeps_behind, prepend, onto, between, plainly, silently, branched, same_stack, same_top, same_rest}
+use Rattle.ms_laws.proofs.Back.{Logged, Took, weaken_back, Back, BackB, BackV, BackW, keeps_same, keeps_behind, prepend, onto, between, plainly, silently, branched, same_stack}
 use Rattle.ms_laws.proofs.BackLeaves.{quietly}
 
 -- with another log
@@ -116,8 +117,8 @@ two_back op with_op takes t u v f g X Y R rows x y m end l e =
     let r = plainly op q.mid end q.second q.after in
     -- what lies on the stack behind the first child is what the second one found there
     let at : i.3 ∷ i.2 ≡ j.1 ∷ (j.2 ++ j.3) = sym i.5 ∙ j.5 in
-    let top : j.1 ≡ i.3 = sym (same_top i.3 j.1 i.2 (j.2 ++ j.3) at) in
-    let below = same_rest i.3 j.1 i.2 (j.2 ++ j.3) at in
+    let top : j.1 ≡ i.3 = sym (first_same i.3 j.1 i.2 (j.2 ++ j.3) at) in
+    let below = rest_same i.3 j.1 i.2 (j.2 ++ j.3) at in
     let done = two_values op with_op takes t u i.0 j.0 j.1 j.4 j.3 q.mid (subst (Value t i.0) (sym top) i.6) j.7 j.6 in
     let log : l ≡ then_log p.first q.first =
     p.log ∙ ap (then_log p.first) (q.log ∙ ap (then_log q.first) r.1 ∙ quiet_right q.first) in (

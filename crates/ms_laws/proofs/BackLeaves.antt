@@ -21,7 +21,7 @@ use Rattle.def_satisfaction.specs.Satisfaction.{full}
 use Rattle.def_satisfaction.specs.Rows.{EMPTY, ONE}
 use Rattle.ms_laws.proofs.Log.{Log, Effect, quiet, then_log, both, plain, pushes}
 use Rattle.ms_laws.proofs.Den.{den}
-use Rattle.ms_laws.proofs.Logs.{check_log}
+use Rattle.ms_laws.proofs.RowLogs.{check_log}
 use Rattle.ms_laws.proofs.Values.{decode_5}
 use Rattle.ms_laws.proofs.Ends.{left, quiet_left, bool_value}
 use Rattle.ms_laws.proofs.Leaves.{number_value}

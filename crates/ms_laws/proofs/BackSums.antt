@@ -14,14 +14,15 @@ use Rattle.def_machine.specs.Effects.{add, equal}
 use Rattle.def_machine.specs.MultiSig.{is_good, some_off, one_off, tries, verdict, null_dummy}
 use Rattle.def_tree.specs.Tree.{Key}
 use Rattle.def_satisfaction.specs.Rows.{EMPTY, AreSignatures}
+use Rattle.def_satisfaction.proofs.EqualParts.{first_same, rest_same}
 use Rattle.ms_laws.proofs.Log.{Log, Left, Effect, quiet, then_log, both, plain, pushes}
 use Rattle.ms_laws.proofs.Den.{pushes_all, checks_multi_sig}
-use Rattle.ms_laws.proofs.Logs.{found_in, multi_log}
+use Rattle.ms_laws.proofs.RowLogs.{found_in, multi_log}
 use Rattle.ms_laws.proofs.Values.{one_if, bool_bytes-natural, equal-bytes}
 use Rattle.ms_laws.proofs.Ends.{left, Beside, quiet_left, quiet_right, unit_value, log_of}
 use Rattle.ms_laws.proofs.Sums.{added}
 use Rattle.ms_laws.proofs.Multis.{pushed_all, count_run, some_off_run, multi_effect}
-use Rattle.ms_laws.proofs.Back.{Logged, Took, BackB, BackW, between, plainly, same_left, same_stack, same_top, same_rest}
+use Rattle.ms_laws.proofs.Back.{Logged, Took, BackB, BackW, between, plainly, same_left, same_stack}
 use Rattle.ms_laws.proofs.BackLeaves.{pushed_on}
 
 -- a child that went on before the others
@@ -42,7 +43,7 @@ added_back X f g a m end l low x e =
     let i = x (natural_bytes a ∷ m) p.mid p.first p.before in
     let q = between (plain add) g p.mid end p.second p.after in
     let r = plainly add p.mid q.mid q.first q.before in
-    let top : i.1 ≡ natural_bytes a = sym (same_top (natural_bytes a) i.1 m (i.2 ++ i.3) i.5) in
+    let top : i.1 ≡ natural_bytes a = sym (first_same (natural_bytes a) i.1 m (i.2 ++ i.3) i.5) in
     let sum = added a i.0 i.4 i.3 p.mid low i.7 (subst (λ v. Beside v i.4 i.3 p.mid) top i.6) in
     let mid : q.mid ≡ natural_bytes (a + one_if i.0) ∷ i.3 = same_stack q.mid _ (sym r.0 ∙ sum) in
     record {
@@ -51,7 +52,7 @@ added_back X f g a m end l low x e =
       s = i.3;
       first = p.first;
       second = q.second;
-      at = same_rest (natural_bytes a) i.1 m (i.2 ++ i.3) i.5;
+      at = rest_same (natural_bytes a) i.1 m (i.2 ++ i.3) i.5;
       took = i.8;
       others = ap g (sym mid) ∙ q.after;
       log = p.log ∙ ap (then_log p.first) (q.log ∙ ap (λ k. then_log k q.second) r.1 ∙ quiet_left q.second);

@@ -10,13 +10,14 @@ use Rattle.def_machine.specs.Stacks.{Stack, Pairs, member, is_empty, is_key, boo
 use Rattle.def_machine.specs.Effects.{dup, swap, size, verify, zero_not_equal, one_number, operand, check_sig}
 use Rattle.def_machine.specs.MultiSig.{is_good}
 use Rattle.def_satisfaction.specs.Rows.{EMPTY, ONE, HasTop}
+use Rattle.def_satisfaction.proofs.EqualParts.{first_same, rest_same}
 use Rattle.ms_laws.proofs.Log.{Log, Left, Effect, quiet, then_log, both, plain, silent, choose, aside, put_back}
 use Rattle.ms_laws.proofs.Den.{checks_sig}
-use Rattle.ms_laws.proofs.Logs.{check_log}
+use Rattle.ms_laws.proofs.RowLogs.{check_log}
 use Rattle.ms_laws.proofs.Values.{Value, truth-natural, zero_not_equal-natural}
 use Rattle.ms_laws.proofs.Ends.{left, quiet_left, quiet_right, choose_one, choose_empty, bool_value}
 use Rattle.ms_laws.proofs.Composite.{sized, nonzero_value, measured}
-use Rattle.ms_laws.proofs.Back.{Logged, Took, BackB, BackV, BackK, BackW, between, plainly, silently, branched, no_fault, same_left, same_stack, no_stack, same_top, same_rest}
+use Rattle.ms_laws.proofs.Back.{Logged, Took, BackB, BackV, BackK, BackW, between, plainly, silently, branched, no_fault, same_left, same_stack, no_stack}
 use Rattle.ms_laws.proofs.BackLeaves.{quietly}
 use Rattle.ms_laws.proofs.Takes.{no_items, one_item}
 
@@ -50,13 +51,13 @@ wrap_s_back u f R one h (x ∷ y ∷ m) end l e =
     let r = h (y ∷ x ∷ m) end l (quietly swap f (x ∷ y ∷ m) (y ∷ x ∷ m) end l refl e) in
     let item = one_item r.1 (one r.0 r.1 l r.7) in
     let at : y ∷ x ∷ m ≡ item.0 ∷ r.2 = r.4 ∙ ap (λ v. v ++ r.2) item.1 in
-    let below = same_rest y item.0 (x ∷ m) r.2 at in (
+    let below = rest_same y item.0 (x ∷ m) r.2 at in (
       r.0,
       x,
       r.1,
       m,
       r.3,
-      ap (λ v. x ∷ v) (ap (λ c. c ∷ m) (same_top y item.0 (x ∷ m) r.2 at) ∙ ap (λ v. v ++ m) (sym item.1)),
+      ap (λ v. x ∷ v) (ap (λ c. c ∷ m) (first_same y item.0 (x ∷ m) r.2 at) ∙ ap (λ v. v ++ m) (sym item.1)),
       inr (r.5 ∙ ap (λ v. r.3 ∷ v) (sym below)),
       r.6,
       r.7,
@@ -120,10 +121,10 @@ wrap_d_back f X R none rows other h [] end l e = absurd (no_fault _ (left end l)
 wrap_d_back f X R none rows other h (x ∷ m) end l e =
     elim (branched f silent (x ∷ x ∷ m) end l (quietly dup (choose f silent) (x ∷ m) (x ∷ x ∷ m) end l refl e)) [
       | inl p ↦
-          let below = same_rest x ONE (x ∷ m) p.0 p.1 in
+          let below = rest_same x ONE (x ∷ m) p.0 p.1 in
           let r = h (x ∷ m) end l (ap f below ∙ p.2) in
           let gone = no_items r.0 (none r.0 l r.2) in
-          let one = same_top x ONE (x ∷ m) p.0 p.1 in (
+          let one = first_same x ONE (x ∷ m) p.0 p.1 in (
             true,
             ONE ∷ [],
             m,
@@ -134,9 +135,9 @@ wrap_d_back f X R none rows other h (x ∷ m) end l e =
             rows l (subst (λ v. X.sat v l) gone r.2),
           )
       | inr p ↦
-          let below = same_rest x EMPTY (x ∷ m) p.0 p.1 in
+          let below = rest_same x EMPTY (x ∷ m) p.0 p.1 in
           let q = silently p.0 end l p.2 in
-          let empty = same_top x EMPTY (x ∷ m) p.0 p.1 in (
+          let empty = first_same x EMPTY (x ∷ m) p.0 p.1 in (
             false,
             EMPTY ∷ [],
             m,
@@ -245,7 +246,7 @@ measured_back f x m end l e =
 
 top_is_some : (x : Bytes) (m w s : Stack) → is_empty x ≡ false → 1 ≤ length w → x ∷ m ≡ w ++ s → HasTop w
 top_is_some x m [] s some long e = absurd (omega arith)
-top_is_some x m (y ∷ w) s some long e = (y, w, refl, ap is_empty (sym (same_top x y m (w ++ s) e)) ∙ some)
+top_is_some x m (y ∷ w) s some long e = (y, w, refl, ap is_empty (sym (first_same x y m (w ++ s) e)) ∙ some)
 
 pub wrap_j_back : (u : Bool) (f : Effect) (X R : Logged) → ((b : Bool) (w : Stack) (l : Log) → Took X b w l → 1 ≤ length w) → ((b : Bool) (w : Stack) (l : Log) → HasTop w → Took X b w l → Took R b w l) → R.dsat (EMPTY ∷ []) quiet → ((m end : Stack) (l : Log) → f m ≡ Ok (left end l) → BackB u X m end l) → (m end : Stack) (l : Log) → measured f m ≡ Ok (left end l) → BackB u R m end l
 unfolding size

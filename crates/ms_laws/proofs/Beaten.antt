@@ -1,7 +1,7 @@
 -- A canonical satisfaction that isn't tight is beaten: another one needs fewer of its signatures, and no other.
 use Rattle.std.proofs.Common.{◌≡◌, ℕ, suc, ◌+◌, ◌≤◌, Bool, true, false, [], ◌∷◌, ◌++◌, Option, refl, subst, ◌⊎◌, inl, inr, arith, if◌then◌else◌}
 use Rattle.std.specs.List.{list_all}
-use Rattle.std.proofs.lemmas.Bool.{leb-true, false≢true}
+use Rattle.std.proofs.lemmas.Bool.{leb-true, false≢true, and_parts}
 use Rattle.def_script.specs.Bytes.{Bytes}
 use Rattle.def_machine.specs.Stacks.{Stack, Pairs}
 use Rattle.def_tree.specs.declared.Two.TheVariants as kind
@@ -11,7 +11,6 @@ use Rattle.def_tree.specs.Range.{IsWritable, AreWritable}
 use Rattle.def_types.specs.Malleable.{count_not_s}
 use Rattle.def_types.specs.Typed.{IsTyped, AreTyped, mall_of, malls_of, IsNonMalleable, AreNonMalleable}
 use Rattle.def_types.proofs.Rows.{mall_rows}
-use Rattle.def_types.proofs.Facts.{both_true}
 use Rattle.def_assets.specs.Assets.{Assets, AreAssets}
 use Rattle.def_sane.specs.Keys.{AreDistinct, keys, keys_of_all}
 use Rattle.def_satisfaction.specs.StackSet.{StackSet, Is, Both, Either}
@@ -23,11 +22,11 @@ use Rattle.def_choice.specs.Tight.{HasOne, signed_row, free_row, TightSat, Tight
 use Rattle.def_choice.proofs.Best.{best_both, best_two}
 use Rattle.def_choice.proofs.Leaves.{is_best}
 use Rattle.def_choice.proofs.TightFree.{free_dsat}
-use Rattle.ms_laws.proofs.Single.{free_dsat as has_dsat}
+use Rattle.ms_laws.proofs.OneDissatisfaction.{free_dsat as has_dsat}
 use Rattle.ms_laws.proofs.FreeStacks.{signs}
 use Rattle.ms_laws.proofs.TightOnes.{one_or_none, free_best, free_dsat_best}
 use Rattle.ms_laws.proofs.Found.{Disjoint, distinct_parts, in_none}
-use Rattle.ms_laws.proofs.Fewer.{HasPair, IsWithin, Fewer, Apart, has_right, apart_none, apart_turned, apart_inside, fewer_none, fewer_within, within_right, fewer_left, fewer_right, has_cases}
+use Rattle.ms_laws.proofs.PairSets.{HasPair, IsWithin, Fewer, Apart, has_right, apart_none, apart_turned, apart_inside, fewer_none, fewer_within, within_right, fewer_left, fewer_right, has_cases}
 use Rattle.ms_laws.proofs.Checks.{checks, dsat_checks, parts_checks, dsat_quiet, free_quiet, both_free, either_left, either_right, free_or_pair, keys_within, keys_of_parts}
 
 third : {P Q R : Type 0} → P ⊎ Q → P ⊎ (Q ⊎ R)
@@ -167,13 +166,13 @@ module _ (assets : Assets) (are : AreAssets assets) where
   down none k t m e d n w r many = absurd (omega (arith, r.0, many))
   down (more x xs) k t m e d n w (inl r) many =
       let g = r.2 in
-      let f = both_true (mall_of x).e (list_all (λ y. y.e) (malls_of xs)) e in
+      let f = and_parts (mall_of x).e (list_all (λ y. y.e) (malls_of xs)) e in
       let p = distinct_parts (keys x) (keys_of_all xs) d in
       down_here x xs k.0 t.0 m.0 f.0 n w r
       (apart_inside _ _ (keys x) (keys_of_all xs) (keys_within assets x k.0 g.1 g.3) (keys_of_parts assets xs k.1 r.0 g.0 g.2) p.2)
       (down xs k.1 t.1 m.1 f.1 p.1 r.0 g.0 g.2) (mall_of x).s refl many
   down (more x xs) k t m e d n w (inr r) many =
-      let f = both_true (mall_of x).e (list_all (λ y. y.e) (malls_of xs)) e in
+      let f = and_parts (mall_of x).e (list_all (λ y. y.e) (malls_of xs)) e in
       let p = distinct_parts (keys x) (keys_of_all xs) d in
       let i = down xs k.1 t.1 m.1 f.1 p.1 n r.0 r.2 (fewer_others (mall_of x).s many) in
       (i.0, i.1, r.1 ++ i.2, inr (i.2, r.1, i.3, r.3, refl), fewer_right _ _ _ i.4 (apart_none _ _ (dsat_quiet assets x r.1 r.3)))

@@ -17,10 +17,10 @@ use Rattle.def_promises.specs.Limited.{is_limit}
 use Rattle.ms_laws.proofs.Log.{Left}
 use Rattle.ms_laws.proofs.Den.{checks_multi_sig}
 use Rattle.ms_laws.proofs.Free.{reached, affect, free_act, free_step, one_more}
-use Rattle.ms_laws.proofs.Peaks.{peaked}
-use Rattle.ms_laws.proofs.Growth.{bind_split, same_ok, verify_grows}
+use Rattle.ms_laws.proofs.PeakUnseen.{peaked}
+use Rattle.ms_laws.proofs.OpcodeGrowth.{bind_split, same_ok, verify_grows}
 use Rattle.ms_laws.proofs.Moves.{bind_same}
-use Rattle.ms_laws.proofs.Climbs.{main_climbs, code_climbs}
+use Rattle.ms_laws.proofs.StepRises.{main_climbs, code_climbs}
 
 -- CHECKMULTISIG behind the number of keys
 abbrev after_count : {A : Type 0} → Pairs → ℕ × Stack → (Stack → Pairs → OrFault A) → OrFault A

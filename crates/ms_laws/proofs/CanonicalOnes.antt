@@ -1,7 +1,7 @@
 -- Where there is a satisfaction with what assets hold, there is a canonical one; and one without signatures, where
 -- none of the miniscript's keys has one.
 use Rattle.std.proofs.Common.{◌≡◌, ℕ, true, IsTrue, List, [], ◌∷◌, ◌++◌, reverse, Contains, inl, inr, refl, sym, ◌∙◌, subst, arith}
-use Rattle.std.proofs.lemmas.Bool.{false≢true}
+use Rattle.std.proofs.lemmas.Bool.{false≢true, and_parts}
 use Rattle.std.proofs.lemmas.List.Elements.{Contains-append_left, Contains-append_right}
 use Rattle.def_hash.specs.Hash.{hash160}
 use Rattle.def_hash.specs.declared.HashKind.{HashKind}
@@ -15,7 +15,6 @@ use Rattle.def_tree.specs.Tree.{Tree, Trees, Key, just_0, just_1, pk_k, pk_h, ol
 use Rattle.def_tree.specs.Range.{IsWritable, AreWritable}
 use Rattle.def_types.specs.Typed.{IsTyped, AreTyped, mall_of, malls_of, IsNonMalleable, AreNonMalleable}
 use Rattle.def_types.proofs.Rows.{mall_rows}
-use Rattle.def_types.proofs.Facts.{both_true}
 use Rattle.def_assets.specs.Assets.{Assets, known, unsigned}
 use Rattle.def_sane.specs.Keys.{keys, keys_of_all}
 use Rattle.def_satisfaction.specs.StackSet.{StackSet, Is, Both, Either}
@@ -23,8 +22,9 @@ use Rattle.def_satisfaction.specs.Setting.{Setting, only, CountsAsPreimage, Coun
 use Rattle.def_satisfaction.specs.Rows.{Row, EMPTY, ONE, PartsOf, AreSignatures, pk_h_row, or_b_row, row, parts}
 use Rattle.def_satisfaction.specs.Satisfaction.{canonical, full, given_of}
 use Rattle.def_choice.specs.Tight.{HasOne}
-use Rattle.ms_laws.proofs.Unsigned.{NoKeys, counts_itself, contains-reverse}
-use Rattle.ms_laws.proofs.Single.{one_both, free_dsat, all_e}
+use Rattle.def_promises.proofs.FreshItems.{contains-reverse}
+use Rattle.ms_laws.proofs.Unsigned.{NoKeys, counts_itself}
+use Rattle.ms_laws.proofs.OneDissatisfaction.{one_both, free_dsat, all_e}
 
 -- the locks and preimages of the one setting are those of the other
 pub record HasAssets (s t : Setting) : Type 0 where
@@ -114,7 +114,7 @@ module _ (s t : Setting) (has : HasAssets s t) where
     sat_gives (two kind.AndB x y) k typed safe h =
         both_gives _ _ _ _ (sat_gives y k.1 typed.1 safe.1 (give_right s t (keys x) (keys y) h)) (sat_gives x k.0 typed.0 safe.0 (give_left s t (keys x) (keys y) h))
     sat_gives (two kind.OrB x z) k typed safe h =
-        let p = both_true (mall_of x).e (mall_of z).e safe.2.0 in
+        let p = and_parts (mall_of x).e (mall_of z).e safe.2.0 in
         or_b_gives s t (row s x) (row s z) (row t x) (row t z)
         (sat_gives x k.0 typed.0 safe.0 (give_left s t (keys x) (keys z) h)) (sat_gives z k.1 typed.1 safe.1 (give_right s t (keys x) (keys z) h))
         (free_dsat t x k.0 safe.0 p.0) (free_dsat t z k.1 safe.1 p.1)
@@ -143,7 +143,7 @@ module _ (s t : Setting) (has : HasAssets s t) where
     pub parts_sat_give : (xs : Trees) → AreWritable xs → AreTyped xs → AreNonMalleable xs → KeysGive s t (keys_of_all xs) → all_e (malls_of xs) ≡ true → (n : ℕ) → Gives (parts s xs n) (parts t xs n)
     parts_sat_give none k typed safe h e n = λ w r. (w, r)
     parts_sat_give (more x xs) k typed safe h e n =
-        let p = both_true (mall_of x).e (all_e (malls_of xs)) e in
+        let p = and_parts (mall_of x).e (all_e (malls_of xs)) e in
         parts_give (row s x) (row t x) (parts s xs) (parts t xs)
         (sat_gives x k.0 typed.0 safe.0 (give_left s t (keys x) (keys_of_all xs) h)) (free_dsat t x k.0 safe.0 p.0)
         (parts_sat_give xs k.1 typed.1 safe.1 (give_right s t (keys x) (keys_of_all xs) h) p.1) n

@@ -19,13 +19,13 @@ use Rattle.def_satisfaction.specs.Rows.{AreSignatures, parts}
 use Rattle.def_satisfaction.specs.Satisfaction.{canonical}
 use Rattle.def_choice.specs.Tight.{signed_row, free_row}
 use Rattle.def_choice.proofs.TightFree.{free_dsat}
-use Rattle.ms_laws.proofs.Logs.{multi_log, sat_log, dsat_log, parts_log}
-use Rattle.ms_laws.proofs.Unsigned.{contains-reverse}
+use Rattle.ms_laws.proofs.RowLogs.{multi_log, sat_log, dsat_log, parts_log}
+use Rattle.def_promises.proofs.FreshItems.{contains-reverse}
 use Rattle.ms_laws.proofs.Found.{Matched, matched_log, matched_inside, first_or_later, in_none}
-use Rattle.ms_laws.proofs.Sole.{Inside, inside_both}
+use Rattle.ms_laws.proofs.OnlyUnderPairs.{Inside, inside_both}
 use Rattle.ms_laws.proofs.Quiet.{quiet_dsat}
 use Rattle.ms_laws.proofs.FreeStacks.{signed_dsat, signs}
-use Rattle.ms_laws.proofs.Fewer.{HasPair, pair_left, pair_right, both_none, has_cases, has_one}
+use Rattle.ms_laws.proofs.PairSets.{HasPair, pair_left, pair_right, both_none, has_cases, has_one}
 
 -- where signatures are found there is a pair
 first_pair : (key sig : Bytes) (rest : Pairs) → HasPair ((key, sig) ∷ rest)

@@ -1,6 +1,6 @@
 -- How the fragments and wrappers with children go on, over any children that go on.
 use Rattle.std.proofs.Common.{◌≡◌, ◌≢◌, ℕ, ◌^◌, ◌<◌, ◌&&◌, ◌||◌, Bool, true, false, not, IsTrue, [], ◌∷◌, ◌++◌, length, Ok, refl, sym, ◌∙◌, ap, subst, inl, inr, arith}
-use Rattle.std.proofs.lemmas.Bool.{true≢false}
+use Rattle.std.proofs.lemmas.Bool.{true≢false, and_parts}
 use Rattle.std.specs.Prelude.{pos}
 use Rattle.def_script.specs.Bytes.{Bytes}
 use Rattle.def_script.specs.Numbers.{natural_bytes}
@@ -11,11 +11,10 @@ use Rattle.def_machine.specs.Effects.{dup, if_dup, swap, size, verify, zero_not_
 use Rattle.def_machine.specs.MultiSig.{is_good}
 use Rattle.def_types.specs.declared.Base.{Base}
 use Rattle.def_types.specs.declared.Base.TheVariants.{W}
-use Rattle.def_types.proofs.Facts.{both_true}
 use Rattle.def_satisfaction.specs.Rows.{EMPTY, ONE, HasTop}
 use Rattle.ms_laws.proofs.Log.{Log, Effect, quiet, then_log, both, plain, silent, choose, aside}
 use Rattle.ms_laws.proofs.Den.{checks_sig}
-use Rattle.ms_laws.proofs.Logs.{check_log}
+use Rattle.ms_laws.proofs.RowLogs.{check_log}
 use Rattle.ms_laws.proofs.Values.{Value, bool_and-natural, bool_or-natural, zero_not_equal-natural, verify-natural}
 use Rattle.ms_laws.proofs.Takes.{no_items}
 use Rattle.ms_laws.proofs.Tops.{good_is_some}
@@ -152,7 +151,7 @@ wrap_s_ends u b f w rest l item e h x =
 pub good_check : (table : Pairs) (key sig : Bytes) (s : Stack) → IsTrue (is_key key) → IsTrue (is_good table key sig) → checks_sig table (key ∷ sig ∷ s) ≡ Ok (left (bool_bytes true ∷ s) (check_log key sig))
 unfolding check_sig
 good_check table key sig s form good =
-    rw (form, good_is_some table key sig good, (both_true (not (is_empty sig)) (member table key sig) good).1) refl
+    rw (form, good_is_some table key sig good, (and_parts (not (is_empty sig)) (member table key sig) good).1) refl
 
 pub empty_check : (table : Pairs) (key : Bytes) (s : Stack) → IsTrue (is_key key) → checks_sig table (key ∷ [] ∷ s) ≡ Ok (left (bool_bytes false ∷ s) quiet)
 unfolding check_sig

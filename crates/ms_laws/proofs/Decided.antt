@@ -3,6 +3,7 @@ use Rattle.std.proofs.Common.{◌≡◌, ◌≢◌, ℕ, zero, suc, ◌+◌, ◌
 use Rattle.std.specs.Str.{bytes_eq}
 use Rattle.std.proofs.lemmas.Bool.{cases_Bool, cases_lt, eqb-true, eqb-false, false≢true, true≢false}
 use Rattle.std.proofs.lemmas.Slice.Eq.{bytes_eq-Decides}
+use Rattle.std.proofs.lemmas.Option.{same_Some, none-some}
 use Rattle.def_hash.specs.declared.HashKind.{HashKind}
 use Rattle.def_hash.specs.Hash.{digest_of, hash160}
 use Rattle.def_script.specs.Bytes.{Bytes}
@@ -13,10 +14,11 @@ use Rattle.def_tree.specs.declared.Two.TheVariants as kind
 use Rattle.def_tree.specs.declared.Wrapper.TheVariants as wrapper
 use Rattle.def_tree.specs.Range.{count}
 use Rattle.def_tree.specs.Tree.{Tree, Trees, Key, just_0, just_1, pk_k, pk_h, older, after, hash, and_or, two, thresh, multi, wrap, none, more}
+use Rattle.def_satisfaction.proofs.EqualParts.{first_same, rest_same, never_empty}
 use Rattle.def_satisfaction.specs.StackSet.{StackSet, Item, Is, If, Both, Either, Nothing, Never}
 use Rattle.def_satisfaction.specs.Setting.{Setting, Mode, any, only, CountsAsPreimage, CountsAsKey}
 use Rattle.def_satisfaction.specs.Rows.{Row, EMPTY, ONE, ZEROS, NotCanonical, Signature, WithHashOf, IsPreimageOf, IsNoPreimageOf, PartsOf, AreSignatures, HasTop, row, parts}
-use Rattle.ms_laws.proofs.Few.{parts_few}
+use Rattle.ms_laws.proofs.FewChildren.{parts_few}
 
 -- it holds, or it doesn't
 abbrev pub Decided : Type 0 → Type 0
@@ -32,9 +34,6 @@ true_or_not false = inr (λ e. false≢true e)
 same_bytes : (x y : Bytes) → Decided (x ≡ y)
 same_bytes x y = go (bytes_eq x y) refl
   where
-    false≢true : false ≡ true → ⊥
-    false≢true e = cc
-
     go : (b : Bool) → bytes_eq x y ≡ b → Decided (x ≡ y)
     go true e = inl ((bytes_eq-Decides x y).0 e)
     go false e = inr (λ i. false≢true (sym e ∙ (bytes_eq-Decides x y).1 i))
@@ -44,18 +43,12 @@ same_stack_or_not [] [] = inl refl
 same_stack_or_not [] (y ∷ n) = inr (λ e. cc)
 same_stack_or_not (x ∷ m) [] = inr (λ e. cc)
 same_stack_or_not (x ∷ m) (y ∷ n) = elim (same_bytes x y) [
-  | inr differs ↦ inr (λ e. differs (heads x y m n e))
+  | inr differs ↦ inr (λ e. differs (first_same x y m n e))
   | inl top ↦ elim (same_stack_or_not m n) [
-    | inr differs ↦ inr (λ e. differs (tails x y m n e))
+    | inr differs ↦ inr (λ e. differs (rest_same x y m n e))
     | inl rest ↦ inl (ap (λ z. z ∷ m) top ∙ ap (λ v. y ∷ v) rest)
   ]
 ]
-  where
-    heads : (x y : Bytes) (m n : Stack) → x ∷ m ≡ y ∷ n → x ≡ y
-    heads x y m n e = cc
-
-    tails : (x y : Bytes) (m n : Stack) → x ∷ m ≡ y ∷ n → m ≡ n
-    tails x y m n e = cc
 
 same_number_or_not : (n k : ℕ) → Decided (n ≡ k)
 same_number_or_not n k = elim (cases_Bool (n == k)) [ inl e ↦ inl (eqb-true n k e) | inr e ↦ inr (eqb-false n k e) ]
@@ -96,14 +89,8 @@ cut_or_not R decide [] = elim (decide [] []) [
   where
     at : (below above : Stack) → R below above → [] ≡ above ++ below → R [] []
     at [] [] r e = r
-    at (x ∷ below) [] r e = absurd (never e)
-      where
-        never : [] ≡ x ∷ below → ⊥
-        never e = cc
-    at below (x ∷ above) r e = absurd (never e)
-      where
-        never : [] ≡ x ∷ (above ++ below) → ⊥
-        never e = cc
+    at (x ∷ below) [] r e = absurd (never_empty x below e)
+    at below (x ∷ above) r e = absurd (never_empty x (above ++ below) e)
 cut_or_not R decide (x ∷ w) = elim (decide (x ∷ w) []) [
   | inl r ↦ inl (x ∷ w, [], r, refl)
   | inr whole ↦ elim (cut_or_not (λ below above. R below (x ∷ above)) (λ below above. decide below (x ∷ above)) w) [
@@ -114,13 +101,7 @@ cut_or_not R decide (x ∷ w) = elim (decide (x ∷ w) []) [
   where
     neither : (R (x ∷ w) [] → ⊥) → (Cut (λ below above. R below (x ∷ above)) w → ⊥) → (below above : Stack) → R below above → x ∷ w ≡ above ++ below → ⊥
     neither whole no_cut below [] r e = whole (subst (λ v. R v []) (sym e) r)
-    neither whole no_cut below (y ∷ above) r e = no_cut (below, above, subst (λ v. R below (v ∷ above)) (sym (heads x y w (above ++ below) e)) r, tails x y w (above ++ below) e)
-      where
-        heads : (x y : Bytes) (m n : Stack) → x ∷ m ≡ y ∷ n → x ≡ y
-        heads x y m n e = cc
-
-        tails : (x y : Bytes) (m n : Stack) → x ∷ m ≡ y ∷ n → m ≡ n
-        tails x y m n e = cc
+    neither whole no_cut below (y ∷ above) r e = no_cut (below, above, subst (λ v. R below (v ∷ above)) (sym (first_same x y w (above ++ below) e)) r, rest_same x y w (above ++ below) e)
 
 -- the sets of stacks
 cut_both : (P Q : StackSet) → DecidedSet P → DecidedSet Q → DecidedSet (Both P Q)
@@ -142,21 +123,12 @@ decided_is : (item : Bytes) → DecidedSet (Is item)
 decided_is item w = same_stack_or_not w (item ∷ [])
 
 decided_item : (P : Bytes → Type 0) → ((x : Bytes) → Decided (P x)) → DecidedSet (Item P)
-decided_item P p [] = inr (λ r. never r.0 r.2)
-  where
-    never : (x : Bytes) → [] ≡ x ∷ [] → ⊥
-    never x e = cc
+decided_item P p [] = inr (λ r. never_empty r.0 [] r.2)
 decided_item P p (x ∷ []) = elim (p x) [
   | inl r ↦ inl (x, r, refl)
-  | inr unfit ↦ inr (λ r. unfit (subst P (sym (heads x r.0 r.2)) r.1))
+  | inr unfit ↦ inr (λ r. unfit (subst P (sym (first_same x r.0 [] [] r.2)) r.1))
 ]
-  where
-    heads : (x y : Bytes) → x ∷ [] ≡ y ∷ [] → x ≡ y
-    heads x y e = cc
-decided_item P p (x ∷ y ∷ w) = inr (λ r. never r.0 r.2)
-  where
-    never : (z : Bytes) → x ∷ y ∷ w ≡ z ∷ [] → ⊥
-    never z e = cc
+decided_item P p (x ∷ y ∷ w) = inr (λ r. never_empty y w (sym (rest_same x r.0 (y ∷ w) [] r.2)))
 
 -- a key on top that has the hash of the miniscript's key
 decided_counts_as_key : (mode : Mode) (key other : Key) → Decided (CountsAsKey mode key other)
@@ -166,20 +138,14 @@ decided_counts_as_key (only known) key other = same_bytes other key
 top_is : (P : StackSet) (other x : Bytes) (w : Stack) → Both P (Is other) (x ∷ w) → other ≡ x
 top_is P other x w r = go r.1 r.3 r.4
   where
-    heads : (x y : Bytes) (m n : Stack) → x ∷ m ≡ y ∷ n → y ≡ x
-    heads x y m n e = cc
-
     go : (above : Stack) → above ≡ other ∷ [] → x ∷ w ≡ above ++ r.0 → other ≡ x
-    go above e i = heads x other w r.0 (i ∙ ap (λ v. v ++ r.0) e)
+    go above e i = sym (first_same x other w r.0 (i ∙ ap (λ v. v ++ r.0) e))
 
 decided_with_hash : (s : Setting) (key : Key) (P : Key → StackSet) → ((other : Key) → DecidedSet (P other)) → DecidedSet (WithHashOf s key (λ other. Both (P other) (Is other)))
 decided_with_hash s key P p [] = inr (λ r. never r.4.1 r.4.0 r.0 r.4.3 r.4.4)
   where
     never : (above below : Stack) (other : Bytes) → above ≡ other ∷ [] → [] ≡ above ++ below → ⊥
-    never above below other e i = nothing other below (i ∙ ap (λ v. v ++ below) e)
-      where
-        nothing : (x : Bytes) (m : Stack) → [] ≡ x ∷ m → ⊥
-        nothing x m e = cc
+    never above below other e i = never_empty other below (i ∙ ap (λ v. v ++ below) e)
 decided_with_hash s key P p (x ∷ w) = elim (true_or_not (is_key x)) [
   | inr formless ↦ inr (λ r. formless (subst (λ k. IsTrue (is_key k)) (top_is (P r.0) r.0 x w r.4) r.1))
   | inl form ↦ elim (same_bytes (hash160 x) (hash160 key)) [
@@ -199,15 +165,9 @@ decided_counts_as_preimage : (mode : Mode) (kind : HashKind) (value preimage : B
 decided_counts_as_preimage any kind value preimage = inl tt
 decided_counts_as_preimage (only known) kind value preimage = go (known kind value)
   where
-    some_same : (x y : Bytes) → Some x ≡ Some y → x ≡ y
-    some_same x y e = cc
-
-    never : None ≡ Some preimage → ⊥
-    never e = cc
-
     go : (k : Option Bytes) → Decided (k ≡ Some preimage)
-    go None = inr never
-    go (Some x) = elim (same_bytes x preimage) [ inl e ↦ inl (ap Some e) | inr differs ↦ inr (λ e. differs (some_same x preimage e)) ]
+    go None = inr (none-some preimage)
+    go (Some x) = elim (same_bytes x preimage) [ inl e ↦ inl (ap Some e) | inr differs ↦ inr (λ e. differs (same_Some x preimage e)) ]
 
 decided_preimage : (kind : HashKind) (value x : Bytes) → Decided (IsPreimageOf kind value x)
 decided_preimage kind value x = both_or_not _ _ (same_number_or_not (length x) 32) (same_bytes (digest_of kind x) value)
@@ -228,18 +188,12 @@ decided_signatures table (key ∷ keys) (sig ∷ sigs) =
     either_or_not _ _ (both_or_not _ _ (true_or_not (is_good table key sig)) (decided_signatures table keys sigs)) (decided_signatures table keys (sig ∷ sigs))
 
 decided_top : DecidedSet HasTop
-decided_top [] = inr (λ r. never r.0 r.1 r.2)
-  where
-    never : (x : Bytes) (m : Stack) → [] ≡ x ∷ m → ⊥
-    never x m e = cc
+decided_top [] = inr (λ r. never_empty r.0 r.1 r.2)
 decided_top (x ∷ w) = go (is_empty x) refl
   where
-    heads : (x y : Bytes) (m n : Stack) → x ∷ m ≡ y ∷ n → x ≡ y
-    heads x y m n e = cc
-
     go : (b : Bool) → is_empty x ≡ b → Decided (HasTop (x ∷ w))
     go false e = inl (x, w, refl, e)
-    go true e = inr (λ r. true≢false (sym e ∙ ap is_empty (heads x r.0 w r.1 r.2) ∙ r.3))
+    go true e = inr (λ r. true≢false (sym e ∙ ap is_empty (first_same x r.0 w r.1 r.2) ∙ r.3))
 
 -- a number up to a bound
 some_number : (P : ℕ → Type 0) (bound : ℕ) → ((n : ℕ) → Decided (P n)) → ((n : ℕ) → P n → n < bound) → Decided ((n : ℕ) × P n)

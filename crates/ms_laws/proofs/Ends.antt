@@ -15,7 +15,7 @@ use Rattle.def_types.specs.declared.Base.{Base}
 use Rattle.def_types.specs.declared.Base.TheVariants.{B, V, K, W}
 use Rattle.def_satisfaction.specs.Rows.{EMPTY, ONE}
 use Rattle.ms_laws.proofs.Log.{Log, Left, Effect, quiet, then_log, both, choose}
-use Rattle.ms_laws.proofs.Logs.{check_log}
+use Rattle.ms_laws.proofs.RowLogs.{check_log}
 use Rattle.ms_laws.proofs.Values.{Value}
 
 abbrev pub left : Stack → Log → Left

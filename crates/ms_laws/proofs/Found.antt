@@ -1,7 +1,7 @@
 -- Which pairs CHECKMULTISIG finds good, and that a table with no other pairs of its keys leaves no other signatures.
 use Rattle.std.proofs.Common.{◌≡◌, ◌≤◌, nat_lt, Bool, true, false, ◌&&◌, IsTrue, List, [], ◌∷◌, ◌++◌, length, reverse, All, Contains, Option, Some, None, Ok, Err, refl, sym, ◌∙◌, ap, subst, ◌⊎◌, inl, inr, arith, if◌then◌else◌, not}
 use Rattle.std.specs.Str.{bytes_eq}
-use Rattle.std.proofs.lemmas.Bool.{or_cases, false≢true}
+use Rattle.std.proofs.lemmas.Bool.{or_cases, false≢true, and_parts}
 use Rattle.std.proofs.lemmas.List.{append-nil, append_assoc}
 use Rattle.std.proofs.lemmas.List.Folds.{list_any-append}
 use Rattle.std.proofs.lemmas.List.Elements.{All-nil, All-cons, All-append, All-head, All-tail, Contains-append_left, Contains-append_right, Contains-append_cases, Contains-push_cases}
@@ -13,14 +13,13 @@ use Rattle.def_machine.specs.Stacks.{Stack, Pairs, member, is_empty, is_key}
 use Rattle.def_machine.specs.MultiSig.{is_good, one_try, tries}
 use Rattle.def_tree.specs.Range.{IsKey}
 use Rattle.def_tree.specs.Tree.{Key}
-use Rattle.def_types.proofs.Facts.{both_true}
 use Rattle.def_sane.specs.Keys.{AreDistinct}
 use Rattle.def_choice.proofs.Weights.{reverse-cons}
 use Rattle.def_satisfaction.specs.Rows.{AreSignatures}
 use Rattle.ms_laws.proofs.Leaves.{key_form}
-use Rattle.ms_laws.proofs.Logs.{found_in, multi_log}
+use Rattle.ms_laws.proofs.RowLogs.{found_in, multi_log}
 use Rattle.ms_laws.proofs.Multis.{good_tries}
-use Rattle.ms_laws.proofs.Unsigned.{contains-reverse}
+use Rattle.def_promises.proofs.FreshItems.{contains-reverse}
 
 -- the pairs of a table
 pub same_pair : (key sig : Bytes) → member ((key, sig) ∷ []) key sig ≡ true
@@ -29,7 +28,7 @@ same_pair key sig = rw ((bytes_eq-Decides key key).1 refl, (bytes_eq-Decides sig
 pub first_or_later : (key sig : Bytes) (rest : Pairs) (k g : Bytes) → member ((key, sig) ∷ rest) k g ≡ true → ((key ≡ k) × (sig ≡ g)) ⊎ (member rest k g ≡ true)
 first_or_later key sig rest k g h =
     elim (or_cases (bytes_eq key k && bytes_eq sig g) (member rest k g) h) [
-      | inl a ↦ let p = both_true (bytes_eq key k) (bytes_eq sig g) a in inl ((bytes_eq-Decides key k).0 p.0, (bytes_eq-Decides sig g).0 p.1)
+      | inl a ↦ let p = and_parts (bytes_eq key k) (bytes_eq sig g) a in inl ((bytes_eq-Decides key k).0 p.0, (bytes_eq-Decides sig g).0 p.1)
       | inr a ↦ inr a
     ]
 
@@ -151,7 +150,7 @@ abbrev pub Covered : Pairs → List Key → Pairs → Type 0
 Covered table keys found = (key sig : Bytes) → Contains keys key → IsTrue (is_good table key sig) → IsTrue (member found key sig)
 
 pub covered_itself : (checks : Pairs) (keys : List Key) → Covered checks keys checks
-covered_itself checks keys key sig i good = (both_true (not (is_empty sig)) (member checks key sig) good).1
+covered_itself checks keys key sig i good = (and_parts (not (is_empty sig)) (member checks key sig) good).1
 
 covered_later : (table : Pairs) (key : Key) (keys : List Key) (found : Pairs) → Covered table (key ∷ keys) found → Covered table keys found
 covered_later table key keys found h k g i = h k g (later_in key keys k i)

@@ -1,6 +1,7 @@
 -- A miniscript's Script goes on from each of its satisfactions and dissatisfactions, and leaves what its type says.
 use Rattle.std.proofs.Common.{◌≡◌, ◌≢◌, ℕ, ◌+◌, ◌^◌, ◌<◌, ◌&&◌, Bool, true, false, IsTrue, List, [], ◌∷◌, ◌++◌, All, Ok, refl, sym, ◌∙◌, ap, subst, inl, inr, arith}
 use Rattle.std.proofs.lemmas.List.Elements.{All-nil, All-cons, All-head, All-tail}
+use Rattle.std.proofs.lemmas.Bool.{and_parts}
 use Rattle.def_script.specs.Numbers.{natural_bytes}
 use Rattle.def_machine.specs.Stacks.{Stack, Pairs, is_key}
 use Rattle.def_tree.specs.declared.Two.TheVariants as kind
@@ -11,15 +12,15 @@ use Rattle.def_types.specs.declared.Base.{Base}
 use Rattle.def_types.specs.declared.Base.TheVariants.{B, V, K, W}
 use Rattle.def_types.specs.Typed.{type_of, IsTyped, AreTyped}
 use Rattle.def_types.proofs.Rows.{corr_rows}
-use Rattle.def_types.proofs.Facts.{both_true, typed-and_or, typed-and_v, typed-and_b, typed-or_b, typed-or_c, typed-or_d, typed-or_i, typed-multi, typed-thresh, typed-thresh_none, typed-wrap_a, typed-wrap_s, typed-wrap_c, typed-wrap_d, typed-wrap_v, typed-wrap_j, typed-wrap_n, OthersFit}
+use Rattle.def_types.proofs.Facts.{typed-and_or, typed-and_v, typed-and_b, typed-or_b, typed-or_c, typed-or_d, typed-or_i, typed-multi, typed-thresh, typed-thresh_none, typed-wrap_a, typed-wrap_s, typed-wrap_c, typed-wrap_d, typed-wrap_v, typed-wrap_j, typed-wrap_n, OthersFit}
 use Rattle.def_satisfaction.specs.Setting.{Setting}
 use Rattle.def_satisfaction.specs.Rows.{row, parts}
 use Rattle.ms_laws.proofs.Log.{Log, Effect, quiet, silent}
 use Rattle.ms_laws.proofs.Den.{den, den_sum, den_added}
-use Rattle.ms_laws.proofs.Logs.{sat_log, dsat_log, parts_log}
+use Rattle.ms_laws.proofs.RowLogs.{sat_log, dsat_log, parts_log}
 use Rattle.ms_laws.proofs.Takes.{takes_none, takes_one, one_item}
 use Rattle.ms_laws.proofs.Tops.{takes_item}
-use Rattle.ms_laws.proofs.Few.{Few, AllFew, parts_few}
+use Rattle.ms_laws.proofs.FewChildren.{Few, AllFew, parts_few}
 use Rattle.ms_laws.proofs.Ends.{left, Short, short_above, short_below, Ends, weaken}
 use Rattle.ms_laws.proofs.Leaves.{key_form, just_0_ends, just_1_ends, pk_k_sat_ends, pk_k_dsat_ends, pk_h_sat_ends, pk_h_dsat_ends, older_ends, after_ends, hash_sat_ends, hash_dsat_ends}
 use Rattle.ms_laws.proofs.Composite.{and_v_ends, and_or_true, and_or_false, or_c_true, or_d_true, or_d_false, or_i_true, or_i_false, and_b_ends, or_b_ends, wrap_a_ends, wrap_s_ends, wrap_c_ends, wrap_d_sat_ends, wrap_d_dsat_ends, wrap_v_ends, wrap_n_ends, wrap_j_some_ends, wrap_j_empty_ends}
@@ -63,14 +64,14 @@ mutual
       let j = sat_ends s y k.1 p.1 few.1 r.0 rest (lower w r.1 r.0 r.4 short) r.2 in
       and_or_true s.given.table (type_of y).base ((type_of y).u && (type_of z).u) true (den s.given x) (den s.given y) (den s.given z) w r.1 r.0 rest _ _ p.7 r.4
       (as_type s.given.table _ B _ true true _ _ _ _ p.3 p.5 i)
-      (weaken s.given.table _ _ _ true _ _ _ _ (λ e. (both_true (type_of y).u (type_of z).u e).0) j)
+      (weaken s.given.table _ _ _ true _ _ _ _ (λ e. (and_parts (type_of y).u (type_of z).u e).0) j)
   sat_ends s (and_or x y z) k typed few w rest short (inr r) =
       let p = typed-and_or x y z typed in
       let i = dsat_ends s x k.0 p.0 few.0 r.1 (r.0 ++ rest) (upper w r.1 r.0 r.4 short) r.3 in
       let j = sat_ends s z k.2 p.2 few.2 r.0 rest (lower w r.1 r.0 r.4 short) r.2 in
       and_or_false s.given.table (type_of y).base ((type_of y).u && (type_of z).u) true (den s.given x) (den s.given y) (den s.given z) w r.1 r.0 rest _ _ p.7 r.4
       (as_type s.given.table _ B _ true false _ _ _ _ p.3 p.5 i)
-      (weaken s.given.table _ _ _ true _ _ _ _ (λ e. (both_true (type_of y).u (type_of z).u e).1) (as_base s.given.table _ _ _ true _ _ _ _ (sym p.6) j))
+      (weaken s.given.table _ _ _ true _ _ _ _ (λ e. (and_parts (type_of y).u (type_of z).u e).1) (as_base s.given.table _ _ _ true _ _ _ _ (sym p.6) j))
   sat_ends s (two kind.AndV x y) k typed few w rest short r =
       let p = typed-and_v x y typed in
       let i = sat_ends s x k.0 p.0 few.0 r.1 (r.0 ++ rest) (upper w r.1 r.0 r.4 short) r.3 in
@@ -125,12 +126,12 @@ mutual
       let p = typed-or_i x z typed in
       let i = sat_ends s x k.0 p.0 few.0 r.0 rest (lower w r.1 r.0 r.4 short) r.2 in
       or_i_true s.given.table (type_of x).base ((type_of x).u && (type_of z).u) true (den s.given x) (den s.given z) w r.1 r.0 rest _ p.3 r.3 r.4
-      (weaken s.given.table _ _ _ true _ _ _ _ (λ e. (both_true (type_of x).u (type_of z).u e).0) i)
+      (weaken s.given.table _ _ _ true _ _ _ _ (λ e. (and_parts (type_of x).u (type_of z).u e).0) i)
   sat_ends s (two kind.OrI x z) k typed few w rest short (inr r) =
       let p = typed-or_i x z typed in
       let j = sat_ends s z k.1 p.1 few.1 r.0 rest (lower w r.1 r.0 r.4 short) r.2 in
       or_i_false s.given.table (type_of x).base ((type_of x).u && (type_of z).u) true (den s.given x) (den s.given z) w r.1 r.0 rest _ p.3 r.3 r.4
-      (weaken s.given.table _ _ _ true _ _ _ _ (λ e. (both_true (type_of x).u (type_of z).u e).1) (as_base s.given.table _ _ _ true _ _ _ _ (sym p.2) j))
+      (weaken s.given.table _ _ _ true _ _ _ _ (λ e. (and_parts (type_of x).u (type_of z).u e).1) (as_base s.given.table _ _ _ true _ _ _ _ (sym p.2) j))
   sat_ends s (thresh k none) writable typed few w rest short r = absurd (typed-thresh_none k typed)
   sat_ends s (thresh k (more x xs)) writable typed few w rest short r =
       counted_ends k k true (den_sum s.given (more x xs)) w rest _ (is_count k k refl)
@@ -178,14 +179,14 @@ mutual
       let j = dsat_ends s z k.2 p.2 few.2 r.0 rest (lower w r.1 r.0 r.4 short) r.2 in
       and_or_false s.given.table (type_of y).base ((type_of y).u && (type_of z).u) false (den s.given x) (den s.given y) (den s.given z) w r.1 r.0 rest _ _ p.7 r.4
       (as_type s.given.table _ B _ true false _ _ _ _ p.3 p.5 i)
-      (weaken s.given.table _ _ _ false _ _ _ _ (λ e. (both_true (type_of y).u (type_of z).u e).1) (as_base s.given.table _ _ _ false _ _ _ _ (sym p.6) j))
+      (weaken s.given.table _ _ _ false _ _ _ _ (λ e. (and_parts (type_of y).u (type_of z).u e).1) (as_base s.given.table _ _ _ false _ _ _ _ (sym p.6) j))
   dsat_ends s (and_or x y z) k typed few w rest short (inr (fact, r)) =
       let p = typed-and_or x y z typed in
       let i = sat_ends s x k.0 p.0 few.0 r.1 (r.0 ++ rest) (upper w r.1 r.0 r.4 short) r.3 in
       let j = dsat_ends s y k.1 p.1 few.1 r.0 rest (lower w r.1 r.0 r.4 short) r.2 in
       and_or_true s.given.table (type_of y).base ((type_of y).u && (type_of z).u) false (den s.given x) (den s.given y) (den s.given z) w r.1 r.0 rest _ _ p.7 r.4
       (as_type s.given.table _ B _ true true _ _ _ _ p.3 p.5 i)
-      (weaken s.given.table _ _ _ false _ _ _ _ (λ e. (both_true (type_of y).u (type_of z).u e).0) j)
+      (weaken s.given.table _ _ _ false _ _ _ _ (λ e. (and_parts (type_of y).u (type_of z).u e).0) j)
   dsat_ends s (two kind.AndV x y) k typed few w rest short (fact, r) =
       let p = typed-and_v x y typed in
       let i = sat_ends s x k.0 p.0 few.0 r.1 (r.0 ++ rest) (upper w r.1 r.0 r.4 short) r.3 in
@@ -227,12 +228,12 @@ mutual
       let p = typed-or_i x z typed in
       let i = dsat_ends s x k.0 p.0 few.0 r.0 rest (lower w r.1 r.0 r.4 short) r.2 in
       or_i_true s.given.table (type_of x).base ((type_of x).u && (type_of z).u) false (den s.given x) (den s.given z) w r.1 r.0 rest _ p.3 r.3 r.4
-      (weaken s.given.table _ _ _ false _ _ _ _ (λ e. (both_true (type_of x).u (type_of z).u e).0) i)
+      (weaken s.given.table _ _ _ false _ _ _ _ (λ e. (and_parts (type_of x).u (type_of z).u e).0) i)
   dsat_ends s (two kind.OrI x z) k typed few w rest short (inr r) =
       let p = typed-or_i x z typed in
       let j = dsat_ends s z k.1 p.1 few.1 r.0 rest (lower w r.1 r.0 r.4 short) r.2 in
       or_i_false s.given.table (type_of x).base ((type_of x).u && (type_of z).u) false (den s.given x) (den s.given z) w r.1 r.0 rest _ p.3 r.3 r.4
-      (weaken s.given.table _ _ _ false _ _ _ _ (λ e. (both_true (type_of x).u (type_of z).u e).1) (as_base s.given.table _ _ _ false _ _ _ _ (sym p.2) j))
+      (weaken s.given.table _ _ _ false _ _ _ _ (λ e. (and_parts (type_of x).u (type_of z).u e).1) (as_base s.given.table _ _ _ false _ _ _ _ (sym p.2) j))
   dsat_ends s (thresh k none) writable typed few w rest short r = absurd (typed-thresh_none k typed)
   dsat_ends s (thresh k (more x xs)) writable typed few w rest short (inl r) =
       let p = typed-thresh k x xs typed in

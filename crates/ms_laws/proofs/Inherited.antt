@@ -7,7 +7,7 @@ use Rattle.def_tree.specs.Tree.{Tree, Trees, just_0, just_1, pk_k, pk_h, older, 
 use Rattle.def_tree.specs.Range.{IsWritable, AreWritable}
 use Rattle.def_types.specs.Typed.{IsTyped, AreTyped}
 use Rattle.def_tree.specs.Nodes.{all_nodes, nodes_of_all}
-use Rattle.ms_laws.proofs.Few.{Few, AllFew}
+use Rattle.ms_laws.proofs.FewChildren.{Few, AllFew}
 
 pub record IsInherited (P : Tree → Type 0) (Q : Trees → Type 0) : Type 0 where
   pub three : (x y z : Tree) → P (and_or x y z) → P x × P y × P z

@@ -1,6 +1,6 @@
 -- Where the Script of a miniscript goes on, the stack ended in a satisfaction or a dissatisfaction of it.
 use Rattle.std.proofs.Common.{◌≡◌, ◌≢◌, ℕ, zero, suc, ◌+◌, ◌^◌, ◌<◌, ◌≤◌, ◌&&◌, ◌||◌, Bool, true, false, List, [], ◌∷◌, ◌++◌, length, Ok, refl, sym, ◌∙◌, ap, subst, inl, inr, arith}
-use Rattle.std.proofs.lemmas.Bool.{false≢true}
+use Rattle.std.proofs.lemmas.Bool.{false≢true, and_parts}
 use Rattle.std.specs.Str.{bytes_eq}
 use Rattle.std.proofs.lemmas.Slice.Eq.{bytes_eq-Decides}
 use Rattle.std.proofs.lemmas.List.{append_assoc}
@@ -15,16 +15,16 @@ use Rattle.def_types.specs.declared.Base.{Base}
 use Rattle.def_types.specs.declared.Base.TheVariants.{B, V, K, W}
 use Rattle.def_types.specs.Typed.{type_of, IsTyped, AreTyped}
 use Rattle.def_types.proofs.Rows.{corr_rows}
-use Rattle.def_types.proofs.Facts.{both_true, typed-and_or, typed-and_v, typed-and_b, typed-or_b, typed-or_c, typed-or_d, typed-or_i, typed-multi, typed-thresh, typed-thresh_none, typed-wrap_a, typed-wrap_s, typed-wrap_c, typed-wrap_d, typed-wrap_v, typed-wrap_j, typed-wrap_n, OthersFit}
+use Rattle.def_types.proofs.Facts.{typed-and_or, typed-and_v, typed-and_b, typed-or_b, typed-or_c, typed-or_d, typed-or_i, typed-multi, typed-thresh, typed-thresh_none, typed-wrap_a, typed-wrap_s, typed-wrap_c, typed-wrap_d, typed-wrap_v, typed-wrap_j, typed-wrap_n, OthersFit}
 use Rattle.def_satisfaction.specs.Setting.{Setting, any}
 use Rattle.def_satisfaction.specs.Satisfaction.{full}
 use Rattle.def_satisfaction.specs.Rows.{EMPTY, ONE, HasTop, parts}
 use Rattle.ms_laws.proofs.Log.{Log, Effect, then_log}
 use Rattle.ms_laws.proofs.Den.{den, den_sum, den_added}
-use Rattle.ms_laws.proofs.Logs.{parts_log}
+use Rattle.ms_laws.proofs.RowLogs.{parts_log}
 use Rattle.ms_laws.proofs.Takes.{takes_none, takes_one}
 use Rattle.ms_laws.proofs.Tops.{takes_item, top_length}
-use Rattle.ms_laws.proofs.Few.{Few, AllFew, parts_few}
+use Rattle.ms_laws.proofs.FewChildren.{Few, AllFew, parts_few}
 use Rattle.ms_laws.proofs.Values.{one_if}
 use Rattle.ms_laws.proofs.Ends.{left, bool_value}
 use Rattle.ms_laws.proofs.Sums.{one_if-low, same_number}
@@ -230,7 +230,7 @@ mutual
       let p = typed-and_or x y z typed in
       and_or_back given.table (type_of y).base ((type_of y).u && (type_of z).u) (type_of y).u (type_of z).u (den given x) (den given y) (den given z)
       (of_tree given x) (of_tree given y) (of_tree given z) (of_tree given (and_or x y z)) p.7
-      (λ e. (both_true (type_of y).u (type_of z).u e).0) (λ e. (both_true (type_of y).u (type_of z).u e).1)
+      (λ e. (and_parts (type_of y).u (type_of z).u e).0) (λ e. (and_parts (type_of y).u (type_of z).u e).1)
       (and_or_rows given x y z) (and_or_others given x y z)
       (as_type given.table _ B _ true (den given x) (of_tree given x) p.3 p.5 (inverts given x k.0 p.0 few.0))
       (inverts given y k.1 p.1 few.1)
@@ -271,7 +271,7 @@ mutual
       let p = typed-or_i x z typed in
       or_i_back given.table (type_of x).base ((type_of x).u && (type_of z).u) (type_of x).u (type_of z).u (den given x) (den given z)
       (of_tree given x) (of_tree given z) (of_tree given (two kind.OrI x z)) p.3
-      (λ e. (both_true (type_of x).u (type_of z).u e).0) (λ e. (both_true (type_of x).u (type_of z).u e).1)
+      (λ e. (and_parts (type_of x).u (type_of z).u e).0) (λ e. (and_parts (type_of x).u (type_of z).u e).1)
       (or_i_rows given x z) (or_i_others given x z)
       (inverts given x k.0 p.0 few.0)
       (as_base given.table _ _ _ (den given z) (of_tree given z) (sym p.2) (inverts given z k.1 p.1 few.1))

@@ -1,5 +1,5 @@
 -- A stack satisfies a miniscript also under a table that has only the pairs which its run found good.
-use Rattle.std.proofs.Common.{◌≡◌, ℕ, true, false, IsTrue, List, [], ◌∷◌, ◌++◌, reverse, All, Some, sym, subst, inl, inr}
+use Rattle.std.proofs.Common.{◌≡◌, ℕ, IsTrue, List, [], ◌∷◌, ◌++◌, reverse, All, Some, sym, subst, inl, inr}
 use Rattle.std.proofs.lemmas.Bool.{false≢true}
 use Rattle.def_script.specs.Bytes.{Bytes}
 use Rattle.def_machine.specs.Stacks.{Stack, Pairs, is_key}
@@ -10,12 +10,12 @@ use Rattle.def_tree.specs.Tree.{Tree, Trees, Key, just_0, just_1, pk_k, pk_h, ol
 use Rattle.def_tree.specs.Range.{IsWritable, AreWritable}
 use Rattle.def_satisfaction.specs.Setting.{Setting}
 use Rattle.def_satisfaction.specs.Rows.{AreSignatures, row, parts}
-use Rattle.ms_laws.proofs.Logs.{sat_log, dsat_log, parts_log, found_in, check_log}
+use Rattle.ms_laws.proofs.RowLogs.{sat_log, dsat_log, parts_log, found_in, check_log}
 use Rattle.ms_laws.proofs.Multis.{good_tries, reversed_forms}
 use Rattle.ms_laws.proofs.BackSums.{ok_found, not_found, first_try}
 use Rattle.ms_laws.proofs.Goes.{forms}
 use Rattle.ms_laws.proofs.Found.{first_or_later}
-use Rattle.ms_laws.proofs.Fewer.{Has, has_cases, has_left, has_right, has_one}
+use Rattle.ms_laws.proofs.PairSets.{Has, has_cases, has_left, has_right, has_one}
 
 -- the pairs are good in the table
 abbrev pub AreGood : (table pairs : Pairs) → Type 0
@@ -42,9 +42,6 @@ good_alone table key sig good k g h =
 
 good_none : (table : Pairs) → AreGood table []
 good_none table key sig h = absurd (false≢true h)
-  where
-    false≢true : false ≡ true → ⊥
-    false≢true e = cc
 
 -- a setting with another table
 abbrev pub with_table : Setting → Pairs → Setting

@@ -22,7 +22,7 @@ use Rattle.def_satisfaction.specs.Setting.{Setting}
 use Rattle.def_satisfaction.specs.Rows.{EMPTY, ONE, row}
 use Rattle.ms_laws.proofs.Log.{quiet, both, plain, pushes}
 use Rattle.ms_laws.proofs.Den.{den}
-use Rattle.ms_laws.proofs.Logs.{check_log}
+use Rattle.ms_laws.proofs.RowLogs.{check_log}
 use Rattle.ms_laws.proofs.Values.{Value, decode_5, bytes_eq-same}
 use Rattle.ms_laws.proofs.Ends.{left, Ends, EndsB, quiet_left, bool_value}
 

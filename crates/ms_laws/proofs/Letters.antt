@@ -13,10 +13,10 @@ use Rattle.def_satisfaction.specs.Rows.{ONE}
 use Rattle.def_satisfaction.specs.Satisfaction.{full}
 use Rattle.def_promises.specs.Letters.{ZeroArg, OneArg, NonZero, UnitValue}
 use Rattle.ms_laws.proofs.Den.{den}
-use Rattle.ms_laws.proofs.Logs.{sat_log}
+use Rattle.ms_laws.proofs.RowLogs.{sat_log}
 use Rattle.ms_laws.proofs.Takes.{takes_none, takes_one}
 use Rattle.ms_laws.proofs.Tops.{takes_item}
-use Rattle.ms_laws.proofs.Few.{Few}
+use Rattle.ms_laws.proofs.FewChildren.{Few}
 use Rattle.ms_laws.proofs.Ends.{left, Ends, EndsB}
 use Rattle.ms_laws.proofs.Composite.{unit_ends}
 use Rattle.ms_laws.proofs.Goes.{sat_ends}

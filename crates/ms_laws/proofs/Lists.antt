@@ -11,11 +11,11 @@ use Rattle.def_machine.specs.Stacks.{Pairs}
 use Rattle.def_machine.specs.Machine.{Given, State, step, height}
 use Rattle.def_machine.specs.Run.{Outcome, accepted, refused, leads, steps}
 use Rattle.def_promises.specs.Limited.{is_limit}
-use Rattle.ms_laws.proofs.Rises.{rise, rises}
+use Rattle.ms_laws.proofs.ScriptRise.{rise, rises}
 use Rattle.ms_laws.proofs.Free.{free_step, free_steps}
-use Rattle.ms_laws.proofs.Peaks.{peaked, with_peak, steps_peak}
-use Rattle.ms_laws.proofs.Growth.{bind_split, same_ok}
-use Rattle.ms_laws.proofs.Climbs.{Climbs, step_climbs}
+use Rattle.ms_laws.proofs.PeakUnseen.{peaked, with_peak, steps_peak}
+use Rattle.ms_laws.proofs.OpcodeGrowth.{bind_split, same_ok}
+use Rattle.ms_laws.proofs.StepRises.{Climbs, step_climbs}
 use Rattle.ms_laws.proofs.Bounds.{StopsStep, settled, step_bounded, step_free}
 
 pub steps_climb : (given : Given) (is : List Instruction) (s t : State) → free_steps given is s ≡ Ok t → Climbs s t (rises is)

@@ -1,7 +1,7 @@
 -- A miniscript with the letter d has a dissatisfaction without a signature, of bytes, where its hashes can be missed by
 -- bytes.
 use Rattle.std.proofs.Common.{◌≡◌, ◌+◌, true, List, [], ◌∷◌, ◌++◌, replicate, All, Contains, refl, inl, inr, arith, IsTrue}
-use Rattle.std.proofs.lemmas.Bool.{or_cases, false≢true}
+use Rattle.std.proofs.lemmas.Bool.{or_cases, false≢true, and_parts}
 use Rattle.std.proofs.lemmas.List.Elements.{All-nil, All-cons, All-append, All-replicate, Contains-append_left, Contains-append_right}
 use Rattle.def_hash.specs.declared.HashKind.{HashKind}
 use Rattle.def_script.specs.Bytes.{Bytes, IsBytes}
@@ -12,7 +12,7 @@ use Rattle.def_tree.specs.Tree.{Tree, Trees, just_0, just_1, pk_k, pk_h, older, 
 use Rattle.def_tree.specs.Range.{IsWritable, AreWritable}
 use Rattle.def_types.specs.Typed.{type_of, IsTyped, AreTyped}
 use Rattle.def_types.proofs.Rows.{corr_rows}
-use Rattle.def_types.proofs.Facts.{both_true, typed-and_or, typed-or_b, typed-or_d, typed-thresh, typed-thresh_none, OthersFit}
+use Rattle.def_types.proofs.Facts.{typed-and_or, typed-or_b, typed-or_d, typed-thresh, typed-thresh_none, OthersFit}
 use Rattle.def_tree.specs.Nodes.{all_nodes, nodes_of_all}
 use Rattle.def_satisfaction.specs.StackSet.{StackSet, Is, Both}
 use Rattle.def_satisfaction.specs.Setting.{Setting}
@@ -61,7 +61,7 @@ module _ (s : Setting) (all : IsTrue s.all_rows) where
         (one.0, one.1, inl one.2)
     missed_dsat (two kind.AndV x y) k typed e h = absurd (false≢true e)
     missed_dsat (two kind.AndB x y) k typed e h =
-        let p = both_true (type_of x).d (type_of y).d e in
+        let p = and_parts (type_of x).d (type_of y).d e in
         let h_all = missed_left (all_nodes x ++ all_nodes y) (two kind.AndB x y ∷ []) h in
         let one = bytes_both _ _
         (missed_dsat y k.1 typed.1 p.1 (missed_right (all_nodes x) (all_nodes y) h_all))

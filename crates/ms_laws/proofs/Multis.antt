@@ -16,7 +16,7 @@ use Rattle.def_choice.proofs.Weights.{reverse-cons}
 use Rattle.def_satisfaction.specs.Rows.{EMPTY, AreSignatures}
 use Rattle.ms_laws.proofs.Log.{Log, Effect, quiet, then_log, both, pushes}
 use Rattle.ms_laws.proofs.Den.{pushes_all, checks_multi_sig}
-use Rattle.ms_laws.proofs.Logs.{found_in, multi_log}
+use Rattle.ms_laws.proofs.RowLogs.{found_in, multi_log}
 use Rattle.ms_laws.proofs.Values.{one_number-natural}
 use Rattle.ms_laws.proofs.Ends.{left, EndsB, quiet_left, both_ok, relog, bool_value, log_of}
 

@@ -10,7 +10,7 @@ use Rattle.def_tree.specs.Nodes.{all_nodes}
 use Rattle.def_sane.specs.Unfit.{IsValid}
 use Rattle.def_sane.proofs.Meanings.{valid_means}
 use Rattle.def_promises.specs.Letters.{TypeLetters, MallLetters, LettersHold}
-use Rattle.ms_laws.proofs.Few.{few_valid}
+use Rattle.ms_laws.proofs.FewChildren.{few_valid}
 use Rattle.ms_laws.proofs.Inherited.{node_is_writable, node_is_typed, node_is_few}
 use Rattle.ms_laws.proofs.Letters.{zero_arg, one_arg, non_zero, unit_value}
 use Rattle.ms_laws.proofs.Properties.{dissatisfiable, signed, forced, expressive}

@@ -1,7 +1,7 @@
 -- The fragments with options: a tight satisfaction takes one of them, and under the pairs of its run the other has
 -- no satisfaction.
 use Rattle.std.proofs.Common.{◌≡◌, ℕ, true, false, ◌||◌, IsTrue, List, [], ◌∷◌, ◌++◌, length, reverse, Contains, Option, Some, refl, sym, ◌∙◌, ap, subst, inl, inr, arith}
-use Rattle.std.proofs.lemmas.Bool.{or_cases, false≢true}
+use Rattle.std.proofs.lemmas.Bool.{or_cases, false≢true, and_parts}
 use Rattle.std.proofs.lemmas.List.Elements.{Contains-append_left, Contains-append_right, Contains-append_cases}
 use Rattle.def_script.specs.Bytes.{Bytes}
 use Rattle.def_machine.specs.Stacks.{Stack, Pairs, member}
@@ -13,7 +13,6 @@ use Rattle.def_tree.specs.Tree.{Tree, Trees, Key, pk_k, pk_h, and_or, two, multi
 use Rattle.def_tree.specs.Range.{IsWritable, AreWritable}
 use Rattle.def_types.specs.Typed.{IsTyped, AreTyped, mall_of, IsNonMalleable, AreNonMalleable}
 use Rattle.def_types.proofs.Rows.{mall_rows}
-use Rattle.def_types.proofs.Facts.{both_true}
 use Rattle.def_assets.specs.Assets.{Assets, known, unsigned}
 use Rattle.def_sane.specs.Keys.{keys, keys_of_all, AreDistinct}
 use Rattle.def_satisfaction.specs.StackSet.{StackSet, Is, Both, Either}
@@ -24,14 +23,15 @@ use Rattle.def_satisfaction.proofs.Canonical.{held}
 use Rattle.def_satisfaction.proofs.Bare.{dsat_within}
 use Rattle.def_choice.specs.Tight.{HasOne}
 use Rattle.def_choice.specs.NonMalleable.{given_with}
-use Rattle.ms_laws.proofs.Logs.{dsat_log}
-use Rattle.ms_laws.proofs.Unsigned.{NoKeys, IsEmpty, needs, contains-reverse}
-use Rattle.ms_laws.proofs.Single.{one_both, free_dsat, one_dsat}
+use Rattle.ms_laws.proofs.RowLogs.{dsat_log}
+use Rattle.def_promises.proofs.FreshItems.{contains-reverse}
+use Rattle.ms_laws.proofs.Unsigned.{NoKeys, IsEmpty, needs}
+use Rattle.ms_laws.proofs.OneDissatisfaction.{one_both, free_dsat, one_dsat}
 use Rattle.ms_laws.proofs.CanonicalOnes.{HasAssets, Gives, free_sat}
 use Rattle.ms_laws.proofs.Properties.{no_table}
 use Rattle.ms_laws.proofs.Quiet.{quiet_dsat}
 use Rattle.ms_laws.proofs.Found.{Covered, Disjoint, Matched, first_or_later, in_either, in_none, first_in, distinct_parts, distinct_reverse, matched_inside, matched_only}
-use Rattle.ms_laws.proofs.Sole.{Inside, Among, NoneOf, Sole, none_of, both_sole, item_sole, more_keys, first_sole, second_sole}
+use Rattle.ms_laws.proofs.OnlyUnderPairs.{Inside, Among, NoneOf, Sole, none_of, both_sole, item_sole, more_keys, first_sole, second_sole}
 
 -- what is asked of the miniscript
 pub record Fits (t : Tree) : Type 0 where
@@ -249,7 +249,7 @@ module _ (assets : Assets) where
   or_b_first x z p q w above below f e i j inside free =
       let t = fit_two kind.OrB x z f in
       let safe = f.safe in
-      let es = both_true (mall_of x).e (mall_of z).e safe.2.0 in
+      let es = and_parts (mall_of x).e (mall_of z).e safe.2.0 in
       let no : (table : Pairs) → Covered table (keys x ++ keys z) (p ++ q) → IsEmpty (Sats assets z table) =
       λ table. no_second x z (p ++ q) table t.0 t.1 t.2 safe.2.1.0 (inside_all (keys x) p q i.inside inside)
       (λ one. let b = one_both _ _ one (free_other x t.0 es.0) in let g = free (b.0, inr b.1) in (g.1, g.3)) in
@@ -265,7 +265,7 @@ module _ (assets : Assets) where
   or_b_second x z p q w above below f e i j inside free =
       let t = fit_two kind.OrB x z f in
       let safe = f.safe in
-      let es = both_true (mall_of x).e (mall_of z).e safe.2.0 in
+      let es = and_parts (mall_of x).e (mall_of z).e safe.2.0 in
       let no : (table : Pairs) → Covered table (keys x ++ keys z) (p ++ q) → IsEmpty (Sats assets x table) =
       λ table. no_first x z (p ++ q) table t.0 t.1 t.2 safe.2.1.0 (inside_all (keys z) p q inside j.inside)
       (λ one. let b = one_both _ _ (free_other z t.1 es.1) one in let g = free (b.0, inl b.1) in (g.0, g.2)) in

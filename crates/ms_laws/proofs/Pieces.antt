@@ -13,7 +13,7 @@ use Rattle.def_tree.specs.declared.Wrapper.TheVariants as wrapper
 use Rattle.def_tree.specs.Tree.{Tree, just_0, just_1, pk_k, pk_h, older, after, hash, and_or, two, thresh, multi, wrap}
 use Rattle.def_emit.specs.Emit.{number, emit, emit_sum}
 use Rattle.def_sane.specs.Limits.{opcode_count}
-use Rattle.ms_laws.proofs.Rises.{rises}
+use Rattle.ms_laws.proofs.ScriptRise.{rises}
 
 -- how many bytes spell some instructions
 abbrev pub bytes : List Instruction → ℕ

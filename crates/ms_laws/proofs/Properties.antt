@@ -17,7 +17,7 @@ use Rattle.def_satisfaction.proofs.Bare.{dsat_within}
 use Rattle.def_satisfaction.proofs.OfBytes.{dsat_bytes, turned_bytes}
 use Rattle.def_promises.specs.Letters.{without_signatures, Dissatisfiable, Signed, Forced, Expressive}
 use Rattle.ms_laws.proofs.Unsigned.{NoKeys, needs}
-use Rattle.ms_laws.proofs.Single.{free_dsat, one_dsat}
+use Rattle.ms_laws.proofs.OneDissatisfaction.{free_dsat, one_dsat}
 use Rattle.ms_laws.proofs.Missed.{missed_dsat}
 
 -- no table has no good signature

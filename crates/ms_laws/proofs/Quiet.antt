@@ -1,15 +1,12 @@
 -- A run along a canonical dissatisfaction finds no pair good.
-use Rattle.std.proofs.Common.{◌≡◌, ℕ, zero, suc, [], ◌++◌, refl, ◌∙◌, ap, IsTrue, inl, inr}
+use Rattle.std.proofs.Common.{◌≡◌, [], ◌++◌, refl, ◌∙◌, ap, IsTrue, inl, inr, arith}
 use Rattle.def_machine.specs.Stacks.{Stack, Pairs}
 use Rattle.def_tree.specs.declared.Two.TheVariants as kind
 use Rattle.def_tree.specs.declared.Wrapper.TheVariants as wrapper
 use Rattle.def_tree.specs.Tree.{Tree, Trees, just_0, just_1, pk_k, pk_h, older, after, hash, and_or, two, thresh, multi, wrap, none, more}
 use Rattle.def_satisfaction.specs.Setting.{Setting}
 use Rattle.def_satisfaction.specs.Rows.{row, parts}
-use Rattle.ms_laws.proofs.Logs.{dsat_log, parts_log}
-
-not_suc : (m : ℕ) → zero ≡ suc m → ⊥
-not_suc m h = cc
+use Rattle.ms_laws.proofs.RowLogs.{dsat_log, parts_log}
 
 both_empty : (p q : Pairs) → p ≡ [] → q ≡ [] → p ++ q ≡ []
 both_empty p q i j = ap (λ x. x ++ q) i ∙ j
@@ -49,5 +46,5 @@ module _ (s : Setting) (canonical : IsTrue s.all_rows → ⊥) where
     -- all children dissatisfied
     quiet_none : (xs : Trees) (w : Stack) (r : parts s xs 0 w) → (parts_log s xs 0 w r).checks ≡ []
     quiet_none none w r = refl
-    quiet_none (more x xs) w (inl r) = absurd (not_suc r.0 r.1)
+    quiet_none (more x xs) w (inl r) = absurd (omega (arith, r.1))
     quiet_none (more x xs) w (inr r) = both_empty _ _ (quiet_dsat x r.1 r.3) (quiet_none xs r.0 r.2)

@@ -23,10 +23,10 @@ use Rattle.def_sane.specs.Limits.{opcode_count}
 use Rattle.def_promises.specs.Limited.{StopsAtLimit, StopFrom, LeaveFrom}
 use Rattle.ms_laws.proofs.Log.{Left}
 use Rattle.ms_laws.proofs.Den.{den}
-use Rattle.ms_laws.proofs.Rises.{rises}
+use Rattle.ms_laws.proofs.ScriptRise.{rises}
 use Rattle.ms_laws.proofs.Free.{reached, free_steps}
-use Rattle.ms_laws.proofs.Peaks.{peaked}
-use Rattle.ms_laws.proofs.Growth.{bind_split, sure, same_ok}
+use Rattle.ms_laws.proofs.PeakUnseen.{peaked}
+use Rattle.ms_laws.proofs.OpcodeGrowth.{bind_split, sure, same_ok}
 use Rattle.ms_laws.proofs.Does.{goes_from}
 use Rattle.ms_laws.proofs.Trees.{does}
 use Rattle.ms_laws.proofs.Lists.{Ends, Stops, Beyond, bounded, was_reached}

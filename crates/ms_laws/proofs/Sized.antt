@@ -2,7 +2,7 @@
 -- keys of the `multi` fragments that are executed.
 use Rattle.std.proofs.Common.{◌≡◌, ℕ, zero, suc, ◌+◌, ◌*◌, ◌≤◌, ◌==◌, ◌||◌, List, [], ◌∷◌, ◌++◌, length, reverse, replicate, All, inl, inr, IsTrue, refl, sym, ◌∙◌, ap, subst, arith}
 use Rattle.std.specs.Prelude.{slice_index}
-use Rattle.std.proofs.lemmas.Bool.{eqb-true}
+use Rattle.std.proofs.lemmas.Bool.{eqb-true, and_parts}
 use Rattle.std.proofs.lemmas.List.{length-append, length-replicate}
 use Rattle.std.proofs.lemmas.List.Elements.{All-nil, All-cons, All-head, All-tail, All-same, All-append, All-replicate}
 use Rattle.def_script.specs.Bytes.{Bytes}
@@ -12,14 +12,13 @@ use Rattle.def_tree.specs.declared.Two.TheVariants as kind
 use Rattle.def_tree.specs.declared.Wrapper.TheVariants as wrapper
 use Rattle.def_tree.specs.Tree.{Tree, Trees, Key, just_0, just_1, pk_k, pk_h, older, after, hash, and_or, two, thresh, multi, wrap, none, more}
 use Rattle.def_tree.specs.Range.{IsKey, IsWritable, AreWritable}
-use Rattle.def_types.proofs.Facts.{both_true}
 use Rattle.def_sane.specs.Formal.{Takes, nothing, item, same_items, tried, plus, SIGNATURE, empty, Is, Both, Either, FormalSat, FormalDsat, FormalParts}
 use Rattle.def_satisfaction.specs.StackSet as stacks
 use Rattle.def_satisfaction.specs.Weight.{weight}
 use Rattle.def_satisfaction.specs.Setting.{Setting}
 use Rattle.def_satisfaction.specs.Rows.{EMPTY, ONE, ZEROS, AreSignatures, row, parts}
 use Rattle.def_choice.proofs.Weights.{weight-append}
-use Rattle.ms_laws.proofs.Logs.{sat_log, dsat_log, parts_log}
+use Rattle.ms_laws.proofs.RowLogs.{sat_log, dsat_log, parts_log}
 
 -- a string has the length of a signature or less
 abbrev pub IsShort : Bytes → Type 0
@@ -156,7 +155,7 @@ sized-none S (suc n) w e f = absurd (omega (arith, e))
 
 -- a key of 33 bytes
 key_length : (key : Bytes) → IsTrue (is_key key) → length key ≡ 33
-key_length key h = eqb-true (length key) 33 (both_true (length key == 33) ((slice_index key 0 == 2) || (slice_index key 0 == 3)) h).0
+key_length key h = eqb-true (length key) 33 (and_parts (length key == 33) ((slice_index key 0 == 2) || (slice_index key 0 == 3)) h).0
 
 -- signatures, each of the length of one or less
 short_signatures : (table : Pairs) → ((key sig : Bytes) → IsTrue (is_good table key sig) → length sig ≤ 73) →

@@ -2,6 +2,7 @@
 use Rattle.std.proofs.Common.{◌≡◌, ℕ, zero, suc, ◌+◌, Bool, true, false, ◌||◌, [], ◌∷◌, Option, Some, None, is_some, refl, sym, ◌∙◌, ap, subst, inl, inr, if◌then◌else◌}
 use Rattle.std.proofs.Math.Numerals.{add-one}
 use Rattle.std.proofs.lemmas.Bool.{or_cases}
+use Rattle.std.proofs.lemmas.Option.{none-some}
 use Rattle.def_machine.specs.Stacks.{Stack}
 use Rattle.def_tree.specs.declared.Two.TheVariants as kind
 use Rattle.def_tree.specs.declared.Wrapper.TheVariants as wrapper
@@ -25,9 +26,6 @@ use Rattle.def_choice.proofs.TightFree.{tight_free, free_dsat}
 use Rattle.def_choice.proofs.StrictTight.{choice, choice_counted}
 use Rattle.ms_laws.proofs.FreeStacks.{signs}
 use Rattle.ms_laws.proofs.TightOnes.{free_best, free_dsat_best, below_free, always}
-
-not_some : (w : Stack) → None ≡ Some w → ⊥
-not_some w h = cc
 
 suc_not : (m : ℕ) → suc m ≡ zero → ⊥
 suc_not m h = cc
@@ -58,8 +56,8 @@ best_first F G P Q None None o p ff gg oo pp pf qg apart =
     best_as (Either P Q) (FreeFirst F G P Q) _ to from (best_two P Q o p oo pp)
   where
     never : HasOne (Either F G) → ⊥
-    never (v, inl i) = let k = ff.lightest v i in not_some k.0 k.1
-    never (v, inr i) = let k = gg.lightest v i in not_some k.0 k.1
+    never (v, inl i) = let k = ff.lightest v i in none-some k.0 k.1
+    never (v, inr i) = let k = gg.lightest v i in none-some k.0 k.1
 
     to : (w : Stack) → Either P Q w → FreeFirst F G P Q w
     to w (inl h) = inl (h, λ any. absurd (never any))
@@ -72,7 +70,7 @@ best_first F G P Q None None o p ff gg oo pp pf qg apart =
 -- a child is dissatisfied only where it has no free satisfaction
 best_unwanted : (F D : StackSet) (f d : Option Stack) → IsLightest F f → IsLightest D d → IsLightest (If (HasOne F → ⊥) D) (if is_some f then None else d)
 best_unwanted F D None d ff dd =
-    best_as D (If (HasOne F → ⊥) D) d (λ w h. (λ one. let k = ff.lightest one.0 one.1 in not_some k.0 k.1, h)) (λ w h. h.1) dd
+    best_as D (If (HasOne F → ⊥) D) d (λ w h. (λ one. let k = ff.lightest one.0 one.1 in none-some k.0 k.1, h)) (λ w h. h.1) dd
 best_unwanted F D (Some v) d ff dd = none_best (If (HasOne F → ⊥) D) (λ w h. h.0 (v, ff.is v refl))
 
 module _ (assets : Assets) (are : AreAssets assets) where

@@ -1,6 +1,6 @@
 -- How many items the rows of the satisfaction table have (the letters z and o of a type).
 use Rattle.std.proofs.Common.{◌≡◌, ℕ, ◌+◌, Bool, true, ◌&&◌, ◌||◌, [], ◌∷◌, length, refl, ◌∙◌, ap, ◌⊎◌, inl, inr, arith}
-use Rattle.std.proofs.lemmas.Bool.{or_cases, false≢true}
+use Rattle.std.proofs.lemmas.Bool.{or_cases, false≢true, and_parts}
 use Rattle.std.proofs.lemmas.List.{length-append}
 use Rattle.def_script.specs.Bytes.{Bytes}
 use Rattle.def_hash.specs.declared.HashKind.{HashKind}
@@ -11,7 +11,7 @@ use Rattle.def_tree.specs.Tree.{Tree, Trees, just_0, just_1, pk_k, pk_h, older, 
 use Rattle.def_types.specs.Corr.{all_z, all_z_but_one}
 use Rattle.def_types.specs.Typed.{type_of, types_of, IsTyped, AreTyped}
 use Rattle.def_types.proofs.Rows.{corr_rows}
-use Rattle.def_types.proofs.Facts.{both_true, all_true, typed-wrap_d}
+use Rattle.def_types.proofs.Facts.{all_true, typed-wrap_d}
 use Rattle.def_satisfaction.specs.StackSet.{StackSet, Is, Both}
 use Rattle.def_satisfaction.specs.Setting.{Setting}
 use Rattle.def_satisfaction.specs.Rows.{Row, EMPTY, ONE, Signature, PartsOf, hash_row, and_or_row, and_v_row, and_b_row, or_b_row, or_c_row, or_d_row, or_i_row, thresh_row, wrap_d_row, wrap_v_row, wrap_j_row, row, parts}
@@ -144,19 +144,19 @@ mutual
       let p = all_true (type_of x).z (type_of y).z (type_of z).z e in
       and_or_takes s 0 0 (row s x) (row s y) (row s z) (takes_none s x p.0) (takes_none s y p.1) (takes_none s z p.2)
   takes_none s (two kind.AndV x y) e =
-      let p = both_true (type_of x).z (type_of y).z e in
+      let p = and_parts (type_of x).z (type_of y).z e in
       and_v_takes s 0 0 (row s x) (row s y) (takes_none s x p.0) (takes_none s y p.1)
   takes_none s (two kind.AndB x y) e =
-      let p = both_true (type_of x).z (type_of y).z e in
+      let p = and_parts (type_of x).z (type_of y).z e in
       and_b_takes s 0 0 (row s x) (row s y) (takes_none s x p.0) (takes_none s y p.1)
   takes_none s (two kind.OrB x y) e =
-      let p = both_true (type_of x).z (type_of y).z e in
+      let p = and_parts (type_of x).z (type_of y).z e in
       or_b_takes s 0 0 (row s x) (row s y) (takes_none s x p.0) (takes_none s y p.1)
   takes_none s (two kind.OrC x y) e =
-      let p = both_true (type_of x).z (type_of y).z e in
+      let p = and_parts (type_of x).z (type_of y).z e in
       or_c_takes 0 (row s x) (row s y) (takes_none s x p.0) (takes_none s y p.1)
   takes_none s (two kind.OrD x y) e =
-      let p = both_true (type_of x).z (type_of y).z e in
+      let p = and_parts (type_of x).z (type_of y).z e in
       or_d_takes 0 (row s x) (row s y) (takes_none s x p.0) (takes_none s y p.1)
   takes_none s (two kind.OrI x y) e = absurd (false≢true e)
   takes_none s (thresh k xs) e = thresh_takes s 0 k (parts s xs) (parts_take_none s xs e)
@@ -172,7 +172,7 @@ mutual
   pub parts_take_none : (s : Setting) (xs : Trees) → all_z (types_of xs) ≡ true → (n : ℕ) → Takes 0 (parts s xs n)
   parts_take_none s none e n = λ w r. nothing_takes w r.1
   parts_take_none s (more x xs) e n =
-      let p = both_true (type_of x).z (all_z (types_of xs)) e in
+      let p = and_parts (type_of x).z (all_z (types_of xs)) e in
       parts_of_takes 0 0 (row s x) (parts s xs) (takes_none s x p.0) (parts_take_none s xs p.1) n
 
 signature_takes : (s : Setting) (key : Bytes) → Takes 1 (Signature s key)
@@ -187,7 +187,7 @@ hash_takes s kind value = record { dsat = λ w r. dsat w r; sat = λ w r. ap len
 
 -- both of two tests, or both of two others
 either_pair : (a b c d : Bool) → ((a && b) || (c && d)) ≡ true → ((a ≡ true) × (b ≡ true)) ⊎ ((c ≡ true) × (d ≡ true))
-either_pair a b c d e = elim (or_cases (a && b) (c && d) e) [ inl h ↦ inl (both_true a b h) | inr h ↦ inr (both_true c d h) ]
+either_pair a b c d e = elim (or_cases (a && b) (c && d) e) [ inl h ↦ inl (and_parts a b h) | inr h ↦ inr (and_parts c d h) ]
 
 either_three : (a b c d f g : Bool) → ((a && b && c) || (d && f && g)) ≡ true → ((a ≡ true) × (b ≡ true) × (c ≡ true)) ⊎ ((d ≡ true) × (f ≡ true) × (g ≡ true))
 either_three a b c d f g e = elim (or_cases (a && b && c) (d && f && g) e) [ inl h ↦ inl (all_true a b c h) | inr h ↦ inr (all_true d f g h) ]
@@ -225,13 +225,13 @@ mutual
         | inr p ↦ or_b_takes s 1 0 (row s x) (row s y) (takes_one s x typed.0 p.1) (takes_none s y p.0)
       ]
   takes_one s (two kind.OrC x y) typed e =
-      let p = both_true (type_of x).o (type_of y).z e in
+      let p = and_parts (type_of x).o (type_of y).z e in
       or_c_takes 1 (row s x) (row s y) (takes_one s x typed.0 p.0) (takes_none s y p.1)
   takes_one s (two kind.OrD x y) typed e =
-      let p = both_true (type_of x).o (type_of y).z e in
+      let p = and_parts (type_of x).o (type_of y).z e in
       or_d_takes 1 (row s x) (row s y) (takes_one s x typed.0 p.0) (takes_none s y p.1)
   takes_one s (two kind.OrI x y) typed e =
-      let p = both_true (type_of x).z (type_of y).z e in
+      let p = and_parts (type_of x).z (type_of y).z e in
       or_i_takes (row s x) (row s y) (takes_none s x p.0) (takes_none s y p.1)
   takes_one s (thresh k xs) typed e = thresh_takes s 1 k (parts s xs) (parts_take_one s xs typed.0 e)
   takes_one s (multi k keys) typed e = absurd (false≢true e)

@@ -1,8 +1,7 @@
 -- A canonical satisfaction that nobody can change is tight.
-use Rattle.std.proofs.Common.{◌≡◌, ◌≢◌, ℕ, ◌+◌, List, [], ◌∷◌, reverse, Ok, sym, ◌∙◌, ap, subst, ◌⊎◌, inl, inr, IsTrue, All, arith}
+use Rattle.std.proofs.Common.{◌≡◌, ◌≢◌, ℕ, ◌+◌, List, [], ◌∷◌, reverse, sym, ◌∙◌, ap, subst, ◌⊎◌, inl, inr, IsTrue, All, arith}
 use Rattle.std.proofs.lemmas.List.{reverse-reverse}
 use Rattle.def_script.specs.Bytes.{Bytes, IsBytes}
-use Rattle.def_machine.specs.Faults.{OrFault}
 use Rattle.def_machine.specs.Stacks.{Stack, Pairs, member}
 use Rattle.def_machine.specs.Run.{accepted}
 use Rattle.def_tree.specs.Tree.{Tree}
@@ -22,12 +21,12 @@ use Rattle.def_satisfaction.proofs.OfBytes.{sat_is_of_bytes}
 use Rattle.def_choice.specs.Tight.{Tight}
 use Rattle.def_choice.specs.NonMalleable.{NonMalleable, IsAccepted, HasNewPair, Fresh, IsTableOfBytes, given_with}
 use Rattle.def_promises.specs.Promises.{StrictIsLightest}
-use Rattle.ms_laws.proofs.Log.{Left}
-use Rattle.ms_laws.proofs.Logs.{sat_log}
+use Rattle.ms_laws.proofs.Back.{same_left}
+use Rattle.ms_laws.proofs.RowLogs.{sat_log}
 use Rattle.ms_laws.proofs.Ends.{left, Short}
 use Rattle.ms_laws.proofs.Within.{sized_sat}
 use Rattle.ms_laws.proofs.Accepted.{satisfied, sat_with, short_items, accepts}
-use Rattle.ms_laws.proofs.Fewer.{Fewer}
+use Rattle.ms_laws.proofs.PairSets.{Fewer}
 use Rattle.ms_laws.proofs.Checks.{checks}
 use Rattle.ms_laws.proofs.Beaten.{beats}
 use Rattle.ms_laws.proofs.StrictFound.{lightest_of_tight}
@@ -52,9 +51,6 @@ tight_or_beaten tree assets stack writable sane are sat =
     ]
 
 -- what is logged depends on the stack alone
-same_left : (a b : Left) → ◌≡◌ {A = OrFault Left} (Ok a) (Ok b) → a ≡ b
-same_left a b h = cc
-
 same_log : (s : Setting) (t : Tree) → IsWritable t → IsValid t → (w : Stack) → Short w → (r q : (row s t).sat w) → sat_log s t w r ≡ sat_log s t w q
 same_log s t writable valid w short r q =
     let a = satisfied s t writable valid w short r in

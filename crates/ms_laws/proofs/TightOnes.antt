@@ -1,7 +1,8 @@
 -- A tight satisfaction exists wherever a canonical one does.
 use Rattle.std.proofs.Common.{◌≡◌, ℕ, zero, suc, ◌+◌, ◌≤◌, nat_le, Bool, true, false, ◌++◌, [], Option, Some, None, refl, sym, subst, ◌⊎◌, inl, inr, arith, if◌then◌else◌}
 use Rattle.std.specs.List.{list_all}
-use Rattle.std.proofs.lemmas.Bool.{leb-true, leb-false, false≢true}
+use Rattle.std.proofs.lemmas.Bool.{leb-true, leb-false, false≢true, and_parts}
+use Rattle.std.proofs.lemmas.Option.{none-some}
 use Rattle.def_machine.specs.Stacks.{Stack}
 use Rattle.def_tree.specs.declared.Two.TheVariants as kind
 use Rattle.def_tree.specs.declared.Wrapper.TheVariants as wrapper
@@ -10,7 +11,6 @@ use Rattle.def_tree.specs.Range.{IsWritable, AreWritable}
 use Rattle.def_types.specs.Malleable.{count_not_s}
 use Rattle.def_types.specs.Typed.{IsTyped, AreTyped, mall_of, malls_of, IsNonMalleable, AreNonMalleable}
 use Rattle.def_types.proofs.Rows.{mall_rows}
-use Rattle.def_types.proofs.Facts.{both_true}
 use Rattle.def_assets.specs.Assets.{Assets, AreAssets, unsigned}
 use Rattle.def_satisfaction.specs.StackSet.{StackSet, Both, Either}
 use Rattle.def_satisfaction.specs.Rows.{EMPTY, ONE, NotCanonical, PartsOf, parts}
@@ -25,15 +25,12 @@ use Rattle.def_choice.proofs.Leaves.{is_best}
 use Rattle.def_choice.proofs.Cheapest.{dsat_best, sat_best}
 use Rattle.def_choice.proofs.StrictTight.{unsigned_are}
 use Rattle.def_choice.proofs.TightFree.{tight_free, free_dsat}
-use Rattle.ms_laws.proofs.Single.{one_both, free_dsat as has_dsat}
+use Rattle.ms_laws.proofs.OneDissatisfaction.{one_both, free_dsat as has_dsat}
 use Rattle.ms_laws.proofs.FreeStacks.{free_within, signed_dsat, signs}
-
-not_some : (w : Stack) → None ≡ Some w → ⊥
-not_some w h = cc
 
 -- whether there is one
 pub one_or_none : (P : StackSet) (m : Option Stack) → IsLightest P m → HasOne P ⊎ (HasOne P → ⊥)
-one_or_none P None best = inr (λ one. let k = best.lightest one.0 one.1 in not_some k.0 k.1)
+one_or_none P None best = inr (λ one. let k = best.lightest one.0 one.1 in none-some k.0 k.1)
 one_or_none P (Some w) best = inl (w, best.is w refl)
 
 one_mapped : (P Q P' Q' : StackSet) → (HasOne P → HasOne P') → (HasOne Q → HasOne Q') → HasOne (Both P Q) → HasOne (Both P' Q')
@@ -108,12 +105,12 @@ module _ (F S D C : StackSet) (T : ℕ → StackSet) where
       below None h = omega (arith, h)
       below (Some w) h = omega (arith, h)
   one_more u c None None ff ss fs sc cf d uc t n low high =
-      left_out n (λ one. let k = ff.lightest one.0 one.1 in not_some k.0 k.1) d (t n (omega (arith, low)) (omega (arith, high)))
+      left_out n (λ one. let k = ff.lightest one.0 one.1 in none-some k.0 k.1) d (t n (omega (arith, low)) (omega (arith, high)))
   one_more u c None (Some w) ff ss fs sc cf d uc t n low high = go (nat_le n c) n refl low high
     where
       go : (b : Bool) (n : ℕ) → nat_le n c ≡ b → 0 + u ≤ n → n ≤ 1 + c → HasOne (Tight n)
       go true n e low high =
-          left_out n (λ one. let k = ff.lightest one.0 one.1 in not_some k.0 k.1) d (t n (omega (arith, low)) (leb-true n c e))
+          left_out n (λ one. let k = ff.lightest one.0 one.1 in none-some k.0 k.1) d (t n (omega (arith, low)) (leb-true n c e))
       go false zero e low high = let below = leb-false zero c e in absurd (omega (arith, below))
       go false (suc m) e low high =
           let below = leb-false (suc m) c e in
@@ -123,7 +120,7 @@ module _ (F S D C : StackSet) (T : ℕ → StackSet) where
 free_is_met : (F S : StackSet) (u c : ℕ) (f s : Option Stack) → IsLightest F f → IsLightest S s → Within F S → u ≤ c → one_if f + u ≤ one_if s + c
 free_is_met F S u c None None ff ss fs h = omega (arith, h)
 free_is_met F S u c None (Some w) ff ss fs h = omega (arith, h)
-free_is_met F S u c (Some v) None ff ss fs h = let k = ss.lightest v (fs v (ff.is v refl)) in absurd (not_some k.0 k.1)
+free_is_met F S u c (Some v) None ff ss fs h = let k = ss.lightest v (fs v (ff.is v refl)) in absurd (none-some k.0 k.1)
 free_is_met F S u c (Some v) (Some w) ff ss fs h = omega (arith, h)
 
 -- with s a child isn't free
@@ -135,7 +132,7 @@ not_free F u c (Some v) false ff never h = omega (arith, h)
 
 -- a child that is satisfied is one that can be
 met_more : (S : StackSet) (m c : ℕ) (w : Stack) (s : Option Stack) → IsLightest S s → S w → m ≤ c → suc m ≤ one_if s + c
-met_more S m c w None ss p h = let k = ss.lightest w p in absurd (not_some k.0 k.1)
+met_more S m c w None ss p h = let k = ss.lightest w p in absurd (none-some k.0 k.1)
 met_more S m c w (Some v) ss p h = omega (arith, h)
 
 met_less : (n c : ℕ) (s : Option Stack) → n ≤ c → n ≤ one_if s + c
@@ -258,7 +255,7 @@ module _ (assets : Assets) (are : AreAssets assets) where
         (n : ℕ) → count_free assets xs ≤ n → n ≤ count_met assets xs → HasOne (TightParts assets xs n)
     tight_parts none w t m e n low high = ([], (omega (arith, high), refl))
     tight_parts (more x xs) w t m e n low high =
-        let f = both_true (mall_of x).e (list_all (λ y. y.e) (malls_of xs)) e in
+        let f = and_parts (mall_of x).e (list_all (λ y. y.e) (malls_of xs)) e in
         one_more (free_row assets x).sat (signed_row assets x).sat (signed_row assets x).dsat (TightSat assets x) (TightParts assets xs)
         (count_free assets xs) (count_met assets xs) (free assets x) (cheapest_of assets x)
         (free_best x w.0) (sat_best assets are x w.0) (free_within assets x)

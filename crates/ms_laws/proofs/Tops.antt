@@ -1,6 +1,6 @@
 -- The rows of a miniscript with the letter n have an item, and the top item of a satisfaction isn't empty.
 use Rattle.std.proofs.Common.{◌≡◌, ℕ, zero, suc, ◌+◌, ◌≤◌, true, false, ◌&&◌, IsTrue, List, [], ◌∷◌, ◌++◌, length, reverse, replicate, refl, sym, ◌∙◌, ap, subst, inl, inr, arith}
-use Rattle.std.proofs.lemmas.Bool.{or_cases, false≢true}
+use Rattle.std.proofs.lemmas.Bool.{or_cases, false≢true, and_parts}
 use Rattle.std.proofs.lemmas.List.{length-append}
 use Rattle.def_hash.specs.declared.HashKind.{HashKind}
 use Rattle.def_script.specs.Bytes.{Bytes}
@@ -11,7 +11,7 @@ use Rattle.def_tree.specs.declared.Wrapper.TheVariants as wrapper
 use Rattle.def_tree.specs.Tree.{Tree, Key, just_0, just_1, pk_k, pk_h, older, after, hash, and_or, two, thresh, multi, wrap}
 use Rattle.def_types.specs.Typed.{type_of, IsTyped}
 use Rattle.def_types.proofs.Rows.{corr_rows}
-use Rattle.def_types.proofs.Facts.{both_true, typed-multi, typed-wrap_j}
+use Rattle.def_types.proofs.Facts.{typed-multi, typed-wrap_j}
 use Rattle.def_satisfaction.specs.StackSet.{StackSet, Is, Both}
 use Rattle.def_satisfaction.specs.Setting.{Setting}
 use Rattle.def_satisfaction.specs.Rows.{Row, EMPTY, ONE, HasTop, Signature, AreSignatures, pk_h_row, hash_row, multi_row, wrap_d_row, wrap_j_row, row}
@@ -122,7 +122,7 @@ takes_item s (two kind.AndV x y) typed e =
         sat = both_top _ _ i.sat;
       }
       | inr p ↦
-          let q = both_true (type_of x).z (type_of y).n p in
+          let q = and_parts (type_of x).z (type_of y).n p in
           let i = takes_none s x q.0 in
           let j = takes_item s y typed.1 q.1 in record {
             dsat = λ w r. below_long _ _ j.dsat w r.1;
@@ -136,7 +136,7 @@ takes_item s (two kind.AndB x y) typed e =
         sat = both_top _ _ i.sat;
       }
       | inr p ↦
-          let q = both_true (type_of x).z (type_of y).n p in
+          let q = and_parts (type_of x).z (type_of y).n p in
           let i = takes_none s x q.0 in
           let j = takes_item s y typed.1 q.1 in record {
             dsat = λ w r. below w j r;

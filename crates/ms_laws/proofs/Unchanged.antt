@@ -1,7 +1,8 @@
 -- Nobody can change a tight satisfaction; and where there is no canonical one, all that is accepted is fresh.
-use Rattle.std.proofs.Common.{◌≡◌, ◌≢◌, Bool, true, false, IsTrue, List, [], ◌∷◌, reverse, Some, None, refl, sym, ◌∙◌, ap, subst, ◌⊎◌, inl, inr}
+use Rattle.std.proofs.Common.{◌≡◌, ◌≢◌, Bool, true, false, IsTrue, List, [], ◌∷◌, reverse, refl, sym, ◌∙◌, ap, subst, ◌⊎◌, inl, inr}
 use Rattle.std.proofs.lemmas.Bool.{false≢true}
 use Rattle.std.proofs.lemmas.List.{reverse-reverse}
+use Rattle.std.proofs.lemmas.Option.{none-some}
 use Rattle.def_script.specs.Bytes.{Bytes}
 use Rattle.def_machine.specs.Stacks.{Stack, Pairs, member}
 use Rattle.def_machine.specs.MultiSig.{is_good}
@@ -21,18 +22,18 @@ use Rattle.def_choice.specs.NonMalleable.{IsAccepted, HasNewPair, Fresh, given_w
 use Rattle.def_promises.specs.Promises.{StrictIsNonMalleable, StrictIsUnchangeable, NothingToAccept, TightIsNonMalleable, TightIsUnchangeable}
 use Rattle.def_promises.proofs.FreshItems.{fresh_has_item}
 use Rattle.def_promises.proofs.Unchangeable.{unchangeable_is_non_malleable}
-use Rattle.ms_laws.proofs.Logs.{sat_log}
+use Rattle.ms_laws.proofs.RowLogs.{sat_log}
 use Rattle.ms_laws.proofs.Ends.{left}
 use Rattle.ms_laws.proofs.Accepted.{accounted, accepts_row, accepted_short, satisfied}
 use Rattle.ms_laws.proofs.Runs.{run_accepted}
 use Rattle.ms_laws.proofs.Back.{same_left}
 use Rattle.ms_laws.proofs.Kept.{sat_good, sat_kept}
-use Rattle.ms_laws.proofs.Fewer.{Has, has_left, has_right, has_one}
+use Rattle.ms_laws.proofs.PairSets.{Has, has_left, has_right, has_one}
 use Rattle.ms_laws.proofs.Found.{Covered, first_or_later, covered_itself}
 use Rattle.ms_laws.proofs.Tops.{good_is_some}
 use Rattle.ms_laws.proofs.Options.{at, under}
 use Rattle.ms_laws.proofs.Decided.{sat_or_not}
-use Rattle.ms_laws.proofs.OnlyOne.{only_sat}
+use Rattle.ms_laws.proofs.TightIsOnly.{only_sat}
 use Rattle.ms_laws.proofs.CanonicalOnes.{canonical_sat}
 use Rattle.ms_laws.proofs.StrictFound.{strict_exists}
 use Rattle.ms_laws.proofs.TightNeeded.{tight_if_non_malleable}
@@ -119,11 +120,8 @@ nothing_to_accept tree assets stack checks writable sane are nowhere is =
       | inl own ↦
           let found = canonical_sat assets tree writable v.0 s.1 (reverse stack) own in
           let exists = (strict_exists tree assets writable sane are).1 (reverse found.0, subst (λ w. (row (canonical assets) tree).sat w) (sym (reverse-reverse found.0)) found.1) in
-          absurd (some_none exists.0 (sym nowhere ∙ exists.1))
+          absurd (none-some exists.0 (sym nowhere ∙ exists.1))
     ]
-  where
-    some_none : (stack : List Bytes) → None ≡ Some stack → ⊥
-    some_none stack e = cc
 
 -- a canonical satisfaction can't be changed exactly where it is tight
 pub tight_is_non_malleable : TightIsNonMalleable

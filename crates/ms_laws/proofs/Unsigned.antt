@@ -1,7 +1,6 @@
 -- Which rows need a signature of a miniscript's keys (the letters s and f of its properties).
-use Rattle.std.proofs.Common.{◌≡◌, ℕ, ◌+◌, ◌-◌, ◌≤◌, Bool, true, false, ◌&&◌, ◌||◌, List, [], ◌∷◌, ◌++◌, length, reverse, Contains, refl, sym, ◌∙◌, ap, inl, inr, arith, if◌then◌else◌}
-use Rattle.std.proofs.lemmas.Bool.{or_cases, cases_Bool, ltb-true, false≢true}
-use Rattle.std.proofs.lemmas.List.{length-reverse, get_or-reverse}
+use Rattle.std.proofs.Common.{◌≡◌, ℕ, ◌+◌, ◌≤◌, Bool, true, false, ◌&&◌, ◌||◌, List, [], ◌∷◌, ◌++◌, length, reverse, Contains, refl, sym, ◌∙◌, ap, inl, inr, arith, if◌then◌else◌}
+use Rattle.std.proofs.lemmas.Bool.{or_cases, cases_Bool, ltb-true, false≢true, and_parts}
 use Rattle.std.proofs.lemmas.List.Elements.{Contains-append_left, Contains-append_right}
 use Rattle.def_hash.specs.Hash.{hash160}
 use Rattle.def_script.specs.Bytes.{Bytes}
@@ -16,11 +15,12 @@ use Rattle.def_types.specs.Malleable as mall
 use Rattle.def_types.specs.Malleable.{count_not_s}
 use Rattle.def_types.specs.Typed.{type_of, IsTyped, AreTyped, mall_of, malls_of}
 use Rattle.def_types.proofs.Rows.{corr_rows, mall_rows}
-use Rattle.def_types.proofs.Facts.{both_true, typed-and_or, typed-or_i, typed-multi, typed-wrap_c}
+use Rattle.def_types.proofs.Facts.{typed-and_or, typed-or_i, typed-multi, typed-wrap_c}
 use Rattle.def_sane.specs.Keys.{keys, keys_of_all}
 use Rattle.def_satisfaction.specs.StackSet.{StackSet, Both}
 use Rattle.def_satisfaction.specs.Setting.{Setting, Mode, any, only, CountsAsKey}
 use Rattle.def_satisfaction.specs.Rows.{Row, Signature, AreSignatures, PartsOf, pk_k_row, pk_h_row, and_or_row, and_v_row, and_b_row, or_b_row, or_c_row, or_d_row, or_i_row, thresh_row, multi_row, wrap_d_row, wrap_v_row, wrap_j_row, row, parts}
+use Rattle.def_promises.proofs.FreshItems.{contains-reverse}
 
 -- the table has no good signature of these keys, nor of those that count for them
 abbrev pub NoKeys : Setting → List Key → Type 0
@@ -76,8 +76,8 @@ pk_h_needs s key h = record {
 and_or_needs : (s : Setting) (mx my mz : Mall) (x y z : Row) → Needs mx x → Needs my y → Needs mz z → Needs (mall.and_or_row mx my mz).gives (and_or_row s x y z)
 unfolding mall_rows
 and_or_needs s mx my mz x y z i j k = record {
-  sat = λ e w r. sat (both_true mz.s (mx.s || my.s) e) w r;
-  dsat = λ e w r. dsat (both_true mz.f (mx.s || my.f) e) w r;
+  sat = λ e w r. sat (and_parts mz.s (mx.s || my.s) e) w r;
+  dsat = λ e w r. dsat (and_parts mz.f (mx.s || my.f) e) w r;
 }
   where
     sat : (mz.s ≡ true) × ((mx.s || my.s) ≡ true) → IsEmpty (and_or_row s x y z).sat
@@ -100,8 +100,8 @@ unfolding mall_rows
 and_b_needs s mx my x y i j = record {
   sat = λ e w r. elim (or_cases mx.s my.s e) [ inl a ↦ i.sat a r.1 r.3 | inr a ↦ j.sat a r.0 r.2 ];
   dsat = λ e w r. elim (or_cases ((mx.f && my.f) || (mx.s && mx.f)) (my.s && my.f) e) [
-    | inl a ↦ elim (or_cases (mx.f && my.f) (mx.s && mx.f) a) [ inl b ↦ neither (both_true mx.f my.f b) w r | inr b ↦ of_x (both_true mx.s mx.f b) w r ]
-    | inr a ↦ of_y (both_true my.s my.f a) w r
+    | inl a ↦ elim (or_cases (mx.f && my.f) (mx.s && mx.f) a) [ inl b ↦ neither (and_parts mx.f my.f b) w r | inr b ↦ of_x (and_parts mx.s mx.f b) w r ]
+    | inr a ↦ of_y (and_parts my.s my.f a) w r
   ];
 }
   where
@@ -122,7 +122,7 @@ and_b_needs s mx my x y i j = record {
 
 or_b_needs : (s : Setting) (mx mz : Mall) (x z : Row) → Needs mx x → Needs mz z → Needs (mall.or_b_row mx mz).gives (or_b_row s x z)
 unfolding mall_rows
-or_b_needs s mx mz x z i k = record { sat = λ e w r. sat (both_true mx.s mz.s e) w r; dsat = λ e. absurd (false≢true e) }
+or_b_needs s mx mz x z i k = record { sat = λ e w r. sat (and_parts mx.s mz.s e) w r; dsat = λ e. absurd (false≢true e) }
   where
     sat : (mx.s ≡ true) × (mz.s ≡ true) → IsEmpty (or_b_row s x z).sat
     sat e w (inl r) = i.sat e.0 r.1 r.3
@@ -131,7 +131,7 @@ or_b_needs s mx mz x z i k = record { sat = λ e w r. sat (both_true mx.s mz.s e
 
 or_c_needs : (mx mz : Mall) (x z : Row) → Needs mx x → Needs mz z → Needs (mall.or_c_row mx mz).gives (or_c_row x z)
 unfolding mall_rows
-or_c_needs mx mz x z i k = record { sat = λ e w r. sat (both_true mx.s mz.s e) w r; dsat = λ e w r. r }
+or_c_needs mx mz x z i k = record { sat = λ e w r. sat (and_parts mx.s mz.s e) w r; dsat = λ e w r. r }
   where
     sat : (mx.s ≡ true) × (mz.s ≡ true) → IsEmpty (or_c_row x z).sat
     sat e w (inl r) = i.sat e.0 w r
@@ -139,7 +139,7 @@ or_c_needs mx mz x z i k = record { sat = λ e w r. sat (both_true mx.s mz.s e) 
 
 or_d_needs : (mx mz : Mall) (x z : Row) → Needs mx x → Needs mz z → Needs (mall.or_d_row mx mz).gives (or_d_row x z)
 unfolding mall_rows
-or_d_needs mx mz x z i k = record { sat = λ e w r. sat (both_true mx.s mz.s e) w r; dsat = λ e w r. k.dsat e r.0 r.2 }
+or_d_needs mx mz x z i k = record { sat = λ e w r. sat (and_parts mx.s mz.s e) w r; dsat = λ e w r. k.dsat e r.0 r.2 }
   where
     sat : (mx.s ≡ true) × (mz.s ≡ true) → IsEmpty (or_d_row x z).sat
     sat e w (inl r) = i.sat e.0 w r
@@ -148,8 +148,8 @@ or_d_needs mx mz x z i k = record { sat = λ e w r. sat (both_true mx.s mz.s e) 
 or_i_needs : (mx mz : Mall) (x z : Row) → Needs mx x → Needs mz z → Needs (mall.or_i_row mx mz).gives (or_i_row x z)
 unfolding mall_rows
 or_i_needs mx mz x z i k = record {
-  sat = λ e w r. sat (both_true mx.s mz.s e) w r;
-  dsat = λ e w r. dsat (both_true mx.f mz.f e) w r;
+  sat = λ e w r. sat (and_parts mx.s mz.s e) w r;
+  dsat = λ e w r. dsat (and_parts mx.f mz.f e) w r;
 }
   where
     sat : (mx.s ≡ true) × (mz.s ≡ true) → IsEmpty (or_i_row x z).sat
@@ -188,11 +188,6 @@ no_signatures table keys bad [] h = refl
 no_signatures table [] bad (sig ∷ sigs) h = absurd h
 no_signatures table (key ∷ keys) bad (sig ∷ sigs) (inl h) = absurd (false≢true (sym (bad key sig (0, omega arith, refl)) ∙ h.0))
 no_signatures table (key ∷ keys) bad (sig ∷ sigs) (inr h) = no_signatures table keys (λ k g i. bad k g (Contains-append_right (key ∷ []) keys k i)) (sig ∷ sigs) h
-
-pub contains-reverse : (xs : List Bytes) (x : Bytes) → Contains (reverse xs) x → Contains xs x
-contains-reverse xs x (k, below, e) =
-    let l = length-reverse xs in
-    (length xs - 1 - k, omega (arith, l, below), sym (get_or-reverse xs k x (omega (arith, l, below))) ∙ e)
 
 multi_needs : (s : Setting) (k : ℕ) (keys : List Key) → 1 ≤ k → NoKeys s keys → Needs mall.key_row.gives (multi_row s k keys)
 unfolding mall_rows

@@ -1,19 +1,16 @@
 -- A canonical satisfaction keeps within the limits of its miniscript.
-use Rattle.std.proofs.Common.{◌≡◌, ℕ, ◌+◌, ◌≤◌, ◌&&◌, ◌||◌, not, Bool, true, false, List, [], ◌∷◌, ◌++◌, length, reverse, All, inl, inr, IsTrue, refl, sym, ◌∙◌, ap, subst, arith}
+use Rattle.std.proofs.Common.{◌≡◌, ℕ, ◌+◌, ◌≤◌, false, List, [], ◌∷◌, ◌++◌, length, reverse, inl, inr, IsTrue, sym, ◌∙◌, subst, arith}
 use Rattle.std.proofs.lemmas.Bool.{false≢true}
 use Rattle.std.specs.Prelude.{⊤}
-use Rattle.std.specs.Str.{bytes_eq}
-use Rattle.std.proofs.lemmas.Slice.Eq.{bytes_eq-Decides}
 use Rattle.std.proofs.lemmas.List.{length-reverse, reverse-reverse}
 use Rattle.std.proofs.lemmas.List.Elements.{All-nil, All-cons, All-head, All-tail, All-same, All-append}
 use Rattle.def_script.specs.Bytes.{Bytes}
-use Rattle.def_machine.specs.Stacks.{Stack, Pairs, member, is_empty}
+use Rattle.def_machine.specs.Stacks.{Stack}
 use Rattle.def_machine.specs.MultiSig.{is_good}
 use Rattle.def_tree.specs.Tree.{Tree, Trees}
 use Rattle.def_tree.specs.Range.{IsWritable, AreWritable}
-use Rattle.def_types.proofs.Facts.{both_true}
 use Rattle.def_emit.specs.Emit.{emit}
-use Rattle.def_assets.specs.Assets.{Assets, AreAssets, IsSignature}
+use Rattle.def_assets.specs.Assets.{Assets, AreAssets}
 use Rattle.def_sane.specs.declared.Limits.{Limits}
 use Rattle.def_sane.specs.Limits.{opcode_count, IsGreatest, AreLimits}
 use Rattle.def_sane.specs.Unfit.{IsValid}
@@ -24,31 +21,13 @@ use Rattle.def_satisfaction.specs.Weight.{weight}
 use Rattle.def_satisfaction.specs.Setting.{Setting}
 use Rattle.def_satisfaction.specs.Rows.{row, parts}
 use Rattle.def_satisfaction.specs.Satisfaction.{Sat, canonical}
+use Rattle.def_satisfaction.proofs.Held.{good_is_signature}
 use Rattle.def_choice.proofs.Weights.{reverse-cons, weight-reverse}
-use Rattle.ms_laws.proofs.Logs.{sat_log, dsat_log, parts_log}
+use Rattle.ms_laws.proofs.RowLogs.{sat_log, dsat_log, parts_log}
 use Rattle.ms_laws.proofs.Sized.{IsShort, AreShort, SizedIf, sized_if_sat, sized_if_dsat, sized_if_parts}
 
--- a signature that assets hold
-held_short : (pairs : Pairs) → All (λ pair. IsSignature pair.1) pairs → (key sig : Bytes) → member pairs key sig ≡ true → length sig ≤ 73
-held_short [] all key sig h = absurd (false≢true h)
-held_short (pair ∷ pairs) all key sig h =
-    go (bytes_eq pair.0 key) (bytes_eq pair.1 sig) refl h (held_short pairs (All-tail (λ p. IsSignature p.1) pair pairs all) key sig)
-  where
-    is : IsSignature pair.1
-    is = All-head (λ p. IsSignature p.1) pair pairs all
-
-    go : (first second : Bool) → bytes_eq pair.1 sig ≡ second → ((first && second) || member pairs key sig) ≡ true →
-        (member pairs key sig ≡ true → length sig ≤ 73) → length sig ≤ 73
-    go true true e k next =
-        let f : length pair.1 ≡ length sig = ap length ((bytes_eq-Decides pair.1 sig).0 e) in
-        let l = is.few in
-        omega (arith, f, l)
-    go true false e k next = next k
-    go false second e k next = next k
-
 good_short : (assets : Assets) → AreAssets assets → (key sig : Bytes) → IsTrue (is_good assets.pairs key sig) → length sig ≤ 73
-good_short assets are key sig h =
-    held_short assets.pairs are.signatures key sig (both_true (not (is_empty sig)) (member assets.pairs key sig) h).1
+good_short assets are key sig h = let is = good_is_signature assets are key sig h in is.few
 
 -- a formal one with as many items and keys, and as much weight or more
 pub record Sized (P : Takes → Type 0) (w : Stack) (tries : ℕ) : Type 0 where

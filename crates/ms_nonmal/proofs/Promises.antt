@@ -1,5 +1,6 @@
 -- What is promised of the strict choice, of a stack that was found.
 use Rattle.std.proofs.Common.{◌≡◌, ◌↔◌, ◌≤◌, List, Option, Some, None, refl, sym, ◌∙◌}
+use Rattle.std.proofs.lemmas.Option.{none-some}
 use Rattle.def_script.specs.Bytes.{Bytes}
 use Rattle.def_machine.specs.Stacks.{Pairs}
 use Rattle.def_tree.specs.Tree.{Tree}
@@ -16,16 +17,13 @@ use Rattle.ms_laws.proofs.StrictFound.{strict_exists}
 use Rattle.ms_laws.proofs.Unchanged.{strict_is_non_malleable, strict_is_unchangeable, nothing_to_accept}
 use Rattle.ms_laws.proofs.TightNeeded.{strict_is_lightest}
 
-not_some : (stack : List Bytes) → ◌≡◌ {A = Option (List Bytes)} None (Some stack) → ⊥
-not_some stack e = cc
-
 module _ (tree : Tree) (assets : Assets) (found : Option (List Bytes)) (writable : IsWritable tree) (sane : IsSane tree) (are : AreAssets assets) (is : found ≡ strict tree assets) where
   pub found_sat : (stack : List Bytes) → found ≡ Some stack → Sat tree assets stack
   found_sat stack e = strict_is_canonical tree assets stack writable are (sym is ∙ e)
 
   pub found_none : (found ≡ None) ↔ ((stack : List Bytes) → Sat tree assets stack → ⊥)
   found_none = (
-    λ e stack sat. let s = (strict_exists tree assets writable sane are).1 (stack, sat) in not_some s.0 (sym e ∙ is ∙ s.1),
+    λ e stack sat. let s = (strict_exists tree assets writable sane are).1 (stack, sat) in none-some s.0 (sym e ∙ is ∙ s.1),
     λ never. go found (λ stack e. never stack (found_sat stack e)),
   )
     where

@@ -18,7 +18,7 @@ use Rattle.def_sane.specs.Limits.{opcode_count}
 use Rattle.def_sane.specs.Most.{most_sat, number_of}
 use Rattle.def_sane.specs.Unfit.{IsValid}
 use Rattle.def_sane.proofs.Meanings.{valid_means}
-use Rattle.ms_laws.proofs.Rises.{rises}
+use Rattle.ms_laws.proofs.ScriptRise.{rises}
 use Rattle.ms_laws.proofs.Pieces.{rises-append, opcodes-append, rises_of, opcodes_of, rises-verified, opcodes-verified, extra, extra-right, has_first}
 use Rattle.ms_laws.proofs.Lengths.{multi_keys, multi_keys_of, keys_are_pushed}
 

@@ -10,9 +10,9 @@ use Rattle.def_machine.specs.Locks.{after_holds, older_holds}
 use Rattle.def_machine.specs.Effects.{verify, condition, to_alt_stack, from_alt_stack, if_dup, dup, swap, size, equal, zero_not_equal, add, bool_and, bool_or, hash, check_sig, lock}
 use Rattle.def_machine.specs.Machine.{Given, State, on_main, on_both, on_checks, on_branches, opened, open_branch, turned, closed, act, only_if, is_branching, is_live, height}
 use Rattle.ms_laws.proofs.Den.{checks_multi_sig}
-use Rattle.ms_laws.proofs.Rises.{rise_of, rise}
+use Rattle.ms_laws.proofs.ScriptRise.{rise_of, rise}
 use Rattle.ms_laws.proofs.Free.{reached, affect, free_act, free_step, one_more}
-use Rattle.ms_laws.proofs.Growth.{bind_split, sure, same_ok, Grows, verify_grows, if_dup_grows, dup_grows, swap_grows, size_grows, equal_grows, hash_grows, lock_grows, zero_not_equal_grows, add_grows, bool_and_grows, bool_or_grows, condition_takes, check_sig_takes, checks_multi_sig_takes}
+use Rattle.ms_laws.proofs.OpcodeGrowth.{bind_split, sure, same_ok, Grows, verify_grows, if_dup_grows, dup_grows, swap_grows, size_grows, equal_grows, hash_grows, lock_grows, zero_not_equal_grows, add_grows, bool_and_grows, bool_or_grows, condition_takes, check_sig_takes, checks_multi_sig_takes}
 
 pub record Climbs (s t : State) (n : ℕ) : Type 0 where
   pub ops : s.ops ≤ t.ops

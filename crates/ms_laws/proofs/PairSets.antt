@@ -1,6 +1,6 @@
 -- Lists of pairs of a key and a signature, compared as sets.
-use Rattle.std.proofs.Common.{◌≡◌, ◌&&◌, ◌||◌, Bool, true, false, List, [], ◌∷◌, ◌++◌, refl, ◌⊎◌, ◌∙◌, ap, inl, inr, IsTrue}
-use Rattle.std.proofs.lemmas.Bool.{false≢true}
+use Rattle.std.proofs.Common.{◌≡◌, ◌&&◌, List, [], ◌∷◌, ◌++◌, ◌⊎◌, ◌∙◌, ap, inl, inr, IsTrue}
+use Rattle.std.proofs.lemmas.Bool.{or_left, or_right}
 use Rattle.std.specs.Str.{bytes_eq}
 use Rattle.std.proofs.lemmas.List.Folds.{list_any-append}
 use Rattle.def_script.specs.Bytes.{Bytes}
@@ -8,7 +8,7 @@ use Rattle.def_machine.specs.Stacks.{Pairs, member}
 use Rattle.def_tree.specs.Tree.{Key}
 use Rattle.def_choice.specs.NonMalleable.{HasNewPair}
 use Rattle.ms_laws.proofs.Found.{Disjoint, same_pair, in_either, in_none}
-use Rattle.ms_laws.proofs.Sole.{Inside}
+use Rattle.ms_laws.proofs.OnlyUnderPairs.{Inside}
 
 abbrev pub Has : Pairs → (key sig : Bytes) → Type 0
 Has pairs key sig = IsTrue (member pairs key sig)
@@ -34,14 +34,6 @@ has_one = same_pair
 
 pub has_cases : (a b : Pairs) (key sig : Bytes) → Has (a ++ b) key sig → Has a key sig ⊎ Has b key sig
 has_cases = in_either
-
-or_left : (a b : Bool) → a ≡ true → (a || b) ≡ true
-or_left true b h = refl
-or_left false b h = absurd (false≢true h)
-
-or_right : (a b : Bool) → b ≡ true → (a || b) ≡ true
-or_right true b h = refl
-or_right false b h = h
 
 pub has_left : (a b : Pairs) (key sig : Bytes) → Has a key sig → Has (a ++ b) key sig
 has_left a b key sig h =

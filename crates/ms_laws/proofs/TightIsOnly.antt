@@ -1,6 +1,6 @@
 -- A tight satisfaction is the only satisfaction under the pairs of its own run.
 use Rattle.std.proofs.Common.{◌≡◌, ℕ, true, List, [], ◌∷◌, reverse, refl, sym, ◌∙◌, ap, inl, inr, arith}
-use Rattle.std.proofs.lemmas.Bool.{false≢true}
+use Rattle.std.proofs.lemmas.Bool.{false≢true, and_parts}
 use Rattle.def_script.specs.Bytes.{Bytes}
 use Rattle.def_machine.specs.Stacks.{Stack, Pairs}
 use Rattle.def_machine.specs.MultiSig.{is_good}
@@ -10,7 +10,6 @@ use Rattle.def_tree.specs.Tree.{Tree, Trees, Key, just_0, just_1, pk_k, pk_h, ol
 use Rattle.def_tree.specs.Range.{IsWritable}
 use Rattle.def_types.specs.Typed.{IsTyped, mall_of, malls_of, IsNonMalleable}
 use Rattle.def_types.proofs.Rows.{mall_rows}
-use Rattle.def_types.proofs.Facts.{both_true}
 use Rattle.def_assets.specs.Assets.{Assets, known}
 use Rattle.def_sane.specs.Keys.{keys, keys_of_all, AreDistinct}
 use Rattle.def_satisfaction.specs.Setting.{Setting, only}
@@ -19,11 +18,11 @@ use Rattle.def_satisfaction.specs.Satisfaction.{full, Holds}
 use Rattle.def_satisfaction.proofs.Canonical.{held}
 use Rattle.def_choice.specs.Tight.{TightSat, TightParts}
 use Rattle.def_choice.specs.NonMalleable.{given_with}
-use Rattle.ms_laws.proofs.Logs.{sat_log, parts_log}
-use Rattle.ms_laws.proofs.Single.{all_e}
+use Rattle.ms_laws.proofs.RowLogs.{sat_log, parts_log}
+use Rattle.ms_laws.proofs.OneDissatisfaction.{all_e}
 use Rattle.ms_laws.proofs.Quiet.{quiet_dsat}
 use Rattle.ms_laws.proofs.Found.{Covered, in_none, matched_log}
-use Rattle.ms_laws.proofs.Sole.{Sole, SoleParts, both_sole, item_sole, sat_part, dsat_part}
+use Rattle.ms_laws.proofs.OnlyUnderPairs.{Sole, SoleParts, both_sole, item_sole, sat_part, dsat_part}
 use Rattle.ms_laws.proofs.Options.{Fits, AllFit, fit_wrap, fit_two, fit_and_or, fit_more, at, under, Sats, freed, no_pairs, dsat_sole, fixed_sole, pk_k_sole, pk_h_stack, pk_h_sole, some_same, multi_sole, or_b_first, or_b_second, or_first, or_second, or_i_first, or_i_second, and_or_first, and_or_second}
 
 module _ (assets : Assets) (table : Pairs) (holds : Holds table assets) where
@@ -87,12 +86,12 @@ module _ (assets : Assets) (table : Pairs) (holds : Holds table assets) where
         let t = fit_two kind.OrB x z f in
         let safe = f.safe in
         let i = one_sat x t.0 r.1 r.3 in
-        let j = dsat_sole assets table z t.1 (both_true (mall_of x).e (mall_of z).e safe.2.0).1 r.0 r.2 in
+        let j = dsat_sole assets table z t.1 (and_parts (mall_of x).e (mall_of z).e safe.2.0).1 r.0 r.2 in
         (inl (r.0, r.1, j.0, i.0, r.4), or_b_first assets x z _ _ w r.1 r.0 f r.4 i.1 j.2 (j.1 (keys x)) free)
     one_sat (two kind.OrB x z) f w (inr (r, free)) =
         let t = fit_two kind.OrB x z f in
         let safe = f.safe in
-        let i = dsat_sole assets table x t.0 (both_true (mall_of x).e (mall_of z).e safe.2.0).0 r.1 r.3 in
+        let i = dsat_sole assets table x t.0 (and_parts (mall_of x).e (mall_of z).e safe.2.0).0 r.1 r.3 in
         let j = one_sat z t.1 r.0 r.2 in
         (inr (inl (r.0, r.1, j.0, i.0, r.4)), or_b_second assets x z _ _ w r.1 r.0 f r.4 i.2 j.1 (i.1 (keys z)) free)
     one_sat (two kind.OrC x z) f w (inl (r, free)) =
@@ -153,7 +152,7 @@ module _ (assets : Assets) (table : Pairs) (holds : Holds table assets) where
         (r, record { inside = λ key sig h. absurd (in_none [] key sig refl h); only = λ other c m v h. (let i = h.0 in let j = r.0 in (omega arith, λ same. h.1 ∙ sym r.1)) })
     one_parts (more x xs) f e n w (inl (m, g, (below, above, rest, taken, eq))) =
         let t = fit_more x xs f in
-        let es = both_true (mall_of x).e (all_e (malls_of xs)) e in
+        let es = and_parts (mall_of x).e (all_e (malls_of xs)) e in
         let i = one_sat x t.0 above taken.0 in
         let j = one_parts xs t.1 es.1 m below rest in (
           inl (m, g, (below, above, j.0, i.0, eq)),
@@ -161,7 +160,7 @@ module _ (assets : Assets) (table : Pairs) (holds : Holds table assets) where
         )
     one_parts (more x xs) f e n w (inr (below, above, rest, (unfree, taken), eq)) =
         let t = fit_more x xs f in
-        let es = both_true (mall_of x).e (all_e (malls_of xs)) e in
+        let es = and_parts (mall_of x).e (all_e (malls_of xs)) e in
         let i = dsat_sole assets table x t.0 es.0 above taken in
         let j = one_parts xs t.1 es.1 n below rest in (
           inr (below, above, j.0, i.0, eq),

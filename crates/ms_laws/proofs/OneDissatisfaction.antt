@@ -1,8 +1,8 @@
 -- Dissatisfactions without signatures: where a miniscript has the letter e there is one of them, and where the
 -- table has none of its keys it is the only one.
-use Rattle.std.proofs.Common.{◌≡◌, ℕ, suc, ◌+◌, Bool, true, ◌&&◌, ◌||◌, List, [], ◌∷◌, ◌++◌, replicate, refl, sym, ◌∙◌, ap, inl, inr, arith, if◌then◌else◌}
+use Rattle.std.proofs.Common.{◌≡◌, ℕ, ◌+◌, Bool, true, ◌&&◌, ◌||◌, List, [], ◌∷◌, ◌++◌, replicate, refl, sym, ◌∙◌, ap, inl, inr, arith, if◌then◌else◌}
 use Rattle.std.specs.List.{list_all}
-use Rattle.std.proofs.lemmas.Bool.{or_cases, false≢true}
+use Rattle.std.proofs.lemmas.Bool.{or_cases, false≢true, and_parts}
 use Rattle.def_machine.specs.Stacks.{Stack}
 use Rattle.def_tree.specs.declared.Two.TheVariants as kind
 use Rattle.def_tree.specs.declared.Wrapper.TheVariants as wrapper
@@ -12,7 +12,6 @@ use Rattle.def_types.specs.declared.Mall.{Mall}
 use Rattle.def_types.specs.Malleable.{count_not_s}
 use Rattle.def_types.specs.Typed.{IsTyped, AreTyped, mall_of, malls_of, IsNonMalleable, AreNonMalleable}
 use Rattle.def_types.proofs.Rows.{mall_rows}
-use Rattle.def_types.proofs.Facts.{both_true}
 use Rattle.def_sane.specs.Keys.{keys, keys_of_all}
 use Rattle.def_satisfaction.specs.StackSet.{StackSet, Is, Both}
 use Rattle.def_satisfaction.specs.Setting.{Setting, CountsAsKey}
@@ -27,9 +26,9 @@ one_both P Q p q = (q.0 ++ p.0, (p.0, q.0, p.1, q.1, refl))
 
 and_b_e : (a b c d : Bool) → (a && b && c && d) ≡ true → (a ≡ true) × (b ≡ true) × (c ≡ true) × (d ≡ true)
 and_b_e a b c d e =
-    let p = both_true (a && b && c) d e in
-    let q = both_true (a && b) c p.0 in
-    let r = both_true a b q.0 in
+    let p = and_parts (a && b && c) d e in
+    let q = and_parts (a && b) c p.0 in
+    let r = and_parts a b q.0 in
     (r.0, r.1, q.1, p.1)
 
 -- the requirement e of a threshold, and what the letter e of a threshold says
@@ -51,7 +50,7 @@ mutual
   free_dsat s (after n) k safe e = absurd (false≢true e)
   free_dsat s (hash kind value) k safe e = absurd (false≢true e)
   free_dsat s (and_or x y z) k safe e =
-      let p = both_true (mall_of z).e ((mall_of x).s || (mall_of y).f) e in
+      let p = and_parts (mall_of z).e ((mall_of x).s || (mall_of y).f) e in
       let one = one_both _ _ (free_dsat s z k.2 safe.2 p.0) (free_dsat s x k.0 safe.0 safe.3.0) in
       (one.0, inl one.1)
   free_dsat s (two kind.AndV x y) k safe e = absurd (false≢true e)
@@ -60,17 +59,17 @@ mutual
       let one = one_both _ _ (free_dsat s y k.1 safe.1 p.1) (free_dsat s x k.0 safe.0 p.0) in
       (one.0, inl one.1)
   free_dsat s (two kind.OrB x z) k safe e =
-      let p = both_true (mall_of x).e (mall_of z).e safe.2.0 in
+      let p = and_parts (mall_of x).e (mall_of z).e safe.2.0 in
       one_both _ _ (free_dsat s z k.1 safe.1 p.1) (free_dsat s x k.0 safe.0 p.0)
   free_dsat s (two kind.OrC x z) k safe e = absurd (false≢true e)
   free_dsat s (two kind.OrD x z) k safe e = one_both _ _ (free_dsat s z k.1 safe.1 e) (free_dsat s x k.0 safe.0 safe.2.0)
   free_dsat s (two kind.OrI x z) k safe e =
       elim (or_cases ((mall_of x).e && (mall_of z).f) ((mall_of z).e && (mall_of x).f) e) [
         | inl p ↦
-            let one = one_both _ (Is ONE) (free_dsat s x k.0 safe.0 (both_true (mall_of x).e (mall_of z).f p).0) (ONE ∷ [], refl) in
+            let one = one_both _ (Is ONE) (free_dsat s x k.0 safe.0 (and_parts (mall_of x).e (mall_of z).f p).0) (ONE ∷ [], refl) in
             (one.0, inl one.1)
         | inr p ↦
-            let one = one_both _ (Is EMPTY) (free_dsat s z k.1 safe.1 (both_true (mall_of z).e (mall_of x).f p).0) (EMPTY ∷ [], refl) in
+            let one = one_both _ (Is EMPTY) (free_dsat s z k.1 safe.1 (and_parts (mall_of z).e (mall_of x).f p).0) (EMPTY ∷ [], refl) in
             (one.0, inr one.1)
       ]
   free_dsat s (thresh k xs) writable safe e =
@@ -89,7 +88,7 @@ mutual
   pub free_none : (s : Setting) (xs : Trees) → AreWritable xs → AreNonMalleable xs → all_e (malls_of xs) ≡ true → HasOne (parts s xs 0)
   free_none s none k safe e = ([], (refl, refl))
   free_none s (more x xs) k safe e =
-      let p = both_true (mall_of x).e (all_e (malls_of xs)) e in
+      let p = and_parts (mall_of x).e (all_e (malls_of xs)) e in
       let one = one_both _ _ (free_none s xs k.1 safe.1 p.1) (free_dsat s x k.0 safe.0 p.0) in
       (one.0, inr one.1)
 
@@ -128,7 +127,7 @@ or_i_right mx mz x z i e w (inr r) = r
 none_not_s : (ms : List Mall) → all_s ms ≡ true → count_not_s ms ≡ 0
 none_not_s [] e = refl
 none_not_s (m ∷ ms) e =
-    let p = both_true m.s (all_s ms) e in
+    let p = and_parts m.s (all_s ms) e in
     ap (λ b. (if b then 0 else 1) + count_not_s ms) p.0 ∙ (let l = none_not_s ms p.1 in omega arith)
 
 thresh_left : (s : Setting) (k : ℕ) (ms : List Mall) (P : ℕ → StackSet) → FewSat ms P → all_s ms ≡ true → Within (thresh_row s k P).dsat (P 0)
@@ -143,10 +142,7 @@ wrap_j_left s m x i e w (inl r) = r
 wrap_j_left s m x i e w (inr (fact, (top, r))) = absurd (i.dsat e w r)
 
 parts_left : (x : Row) (P : ℕ → StackSet) → Within (PartsOf x P 0) (Both (P 0) x.dsat)
-parts_left x P w (inl r) = absurd (not_suc r.0 r.1)
-  where
-    not_suc : (m : ℕ) → 0 ≡ suc m → ⊥
-    not_suc m h = cc
+parts_left x P w (inl r) = absurd (omega (arith, r.1))
 parts_left x P w (inr r) = r
 
 -- only a key itself counts for it
@@ -175,7 +171,7 @@ module _ (s t : Setting) (own_s : OwnKeys s) (own_t : OwnKeys t) where
     one_dsat (after n) typed safe h i e = absurd (false≢true e)
     one_dsat (hash kind value) typed safe h i e = absurd (false≢true e)
     one_dsat (and_or x y z) typed safe h i e =
-        let p = both_true (mall_of z).e ((mall_of x).s || (mall_of y).f) e in
+        let p = and_parts (mall_of z).e ((mall_of x).s || (mall_of y).f) e in
         let h_xy = none_left s (keys x ++ keys y) (keys z) h in
         let h_x = none_left s (keys x) (keys y) h_xy in
         let h_y = none_right s (keys x) (keys y) h_xy in
@@ -200,7 +196,7 @@ module _ (s t : Setting) (own_s : OwnKeys s) (own_t : OwnKeys t) where
         (and_b_left t (mall_of x) (mall_of y) (row t x) (row t y) (needs t x typed.0 i_x) (needs t y typed.1 i_y) p.2 p.3)
         (both_one _ _ _ _ (one_dsat y typed.1 safe.1 h_y i_y p.1) (one_dsat x typed.0 safe.0 h_x i_x p.0))
     one_dsat (two kind.OrB x z) typed safe h i e =
-        let p = both_true (mall_of x).e (mall_of z).e safe.2.0 in
+        let p = and_parts (mall_of x).e (mall_of z).e safe.2.0 in
         both_one _ _ _ _
         (one_dsat z typed.1 safe.1 (none_right s (keys x) (keys z) h) (none_right t (keys x) (keys z) i) p.1)
         (one_dsat x typed.0 safe.0 (none_left s (keys x) (keys z) h) (none_left t (keys x) (keys z) i) p.0)
@@ -216,13 +212,13 @@ module _ (s t : Setting) (own_s : OwnKeys s) (own_t : OwnKeys t) where
         let i_z = none_right t (keys x) (keys z) i in
         elim (or_cases ((mall_of x).e && (mall_of z).f) ((mall_of z).e && (mall_of x).f) e) [
           | inl a ↦
-              let p = both_true (mall_of x).e (mall_of z).f a in
+              let p = and_parts (mall_of x).e (mall_of z).f a in
               within_one _ _ _ _
               (or_i_left (mall_of x) (mall_of z) (row s x) (row s z) (needs s z typed.1 h_z) p.1)
               (or_i_left (mall_of x) (mall_of z) (row t x) (row t z) (needs t z typed.1 i_z) p.1)
               (both_one _ _ _ _ (one_dsat x typed.0 safe.0 h_x i_x p.0) (is_one _))
           | inr a ↦
-              let p = both_true (mall_of z).e (mall_of x).f a in
+              let p = and_parts (mall_of z).e (mall_of x).f a in
               within_one _ _ _ _
               (or_i_right (mall_of x) (mall_of z) (row s x) (row s z) (needs s x typed.0 h_x) p.1)
               (or_i_right (mall_of x) (mall_of z) (row t x) (row t z) (needs t x typed.0 i_x) p.1)
@@ -250,7 +246,7 @@ module _ (s t : Setting) (own_s : OwnKeys s) (own_t : OwnKeys t) where
     pub one_none : (xs : Trees) → AreTyped xs → AreNonMalleable xs → NoKeys s (keys_of_all xs) → NoKeys t (keys_of_all xs) → all_e (malls_of xs) ≡ true → AreOne (parts s xs 0) (parts t xs 0)
     one_none none typed safe h i e = within_one _ _ _ _ (λ w r. r.1) (λ w r. r.1) (is_one [])
     one_none (more x xs) typed safe h i e =
-        let p = both_true (mall_of x).e (all_e (malls_of xs)) e in
+        let p = and_parts (mall_of x).e (all_e (malls_of xs)) e in
         within_one _ _ _ _ (parts_left (row s x) (parts s xs)) (parts_left (row t x) (parts t xs))
         (both_one _ _ _ _
         (one_none xs typed.1 safe.1 (none_right s (keys x) (keys_of_all xs) h) (none_right t (keys x) (keys_of_all xs) i) p.1)
