@@ -1,1 +1,2 @@
+pub mod Scaffolding
 pub mod Sound

@@ -1,11 +1,14 @@
-//! Signatures: tables of pairs of a key and a signature, and the stored check that answers for a table.
+//! Signatures: tables of pairs of a key and a signature, a sorted index over one, and the stored check that answers
+//! for one.
 #![tactic(auto)]
 
 pub use check::SigCheck;
 pub use def_machine::Locks;
+pub use index::PairIndex;
 pub use pairs::{Pairs, SigPair, member};
 
 mod check;
+mod index;
 mod pairs;
 #[cfg(test)]
 mod tests;

@@ -1,3 +1,4 @@
+//! Pairs of a key and a signature, and the tables of them that say which signatures are good.
 ghost use Rattle.std.specs.Prelude.{◌≡◌, ◌&&◌, List, [], ◌∷◌, ◌++◌, IfOk, OnOk, OnErr};
 ghost use Rattle.std.specs.Str.{bytes_eq};
 ghost use Rattle.def_machine.specs.Stacks.{member as the_member};
@@ -6,7 +7,8 @@ use ms_script::Blob;
 use std::alloc::{AllocError, Global};
 use std::marker::Model;
 
-/// A key and a signature. Contracts see the pair of their bytes.
+/// The bytes of a key and of a signature, of any length: a signature is what CHECKSIG takes (BIP 143), with its
+/// hash type as its last byte, and is compared byte for byte. Contracts see the pair of the two byte strings.
 #[derive(Debug, Drop)]
 pub struct SigPair {
     key: Blob,
@@ -22,7 +24,7 @@ impl Model for SigPair {
 }
 
 impl SigPair {
-    /// Copies the key and the signature.
+    /// Copies the key and the signature. Refuses for want of memory alone.
     pub fn new(alloc: Global, key: &[u8], sig: &[u8]) -> Result<SigPair, AllocError>
         ensures { IfOk result (λ pair. pair ≡ (key.now, sig.now)) }
     {
@@ -31,14 +33,14 @@ impl SigPair {
         Ok(SigPair { key, sig })
     }
 
-    /// The bytes of the key.
+    /// The bytes of the key. Takes no memory, and never refuses.
     pub fn key(&self) -> &[u8]
         ensures { result.now ≡ self.now.0 }
     {
         self.key.as_slice()
     }
 
-    /// The bytes of the signature.
+    /// The bytes of the signature. Takes no memory, and never refuses.
     pub fn sig(&self) -> &[u8]
         ensures { result.now ≡ self.now.1 }
     {
@@ -53,7 +55,8 @@ impl SigPair {
     }
 }
 
-/// Pairs of a key and a signature. Contracts see the list of the pairs.
+/// Pairs of a key and a signature, in the order in which they were added; a pair may stand there several times.
+/// Contracts see the list of the pairs.
 #[derive(Debug, Drop)]
 pub struct Pairs {
     alloc: Global,
@@ -70,7 +73,7 @@ impl Model for Pairs {
 }
 
 impl Pairs {
-    /// No pairs. Takes no memory.
+    /// No pairs. Takes no memory, and never refuses; pairs are added with this allocator.
     pub fn new(alloc: Global) -> Pairs
         ensures { result ≡ [] }
     {
@@ -80,7 +83,8 @@ impl Pairs {
         }
     }
 
-    /// Adds a pair at the end.
+    /// Copies a key and a signature, and adds their pair at the end. Refuses for want of memory alone; the pairs are
+    /// then those that they were.
     pub fn push(&mut self, key: &[u8], sig: &[u8]) -> Result<(), AllocError>
         ensures ok { OnOk result (self.new ≡ self.old ++ (key.now, sig.now) ∷ []) }
         ensures err { OnErr result (self.new ≡ self.old) }
@@ -90,7 +94,7 @@ impl Pairs {
         Ok(())
     }
 
-    /// The pairs, first one first.
+    /// The pairs, first one first. Takes no memory, and never refuses.
     pub fn as_slice(&self) -> &[SigPair]
         ensures { result.now ≡ self.now }
     {
@@ -98,7 +102,8 @@ impl Pairs {
     }
 }
 
-/// Whether the table holds the pair. Takes no memory.
+/// Whether the table holds the pair of this key and this signature, byte for byte: a walk over its pairs. Takes no
+/// memory, and never refuses.
 pub fn member(table: &[SigPair], key: &[u8], sig: &[u8]) -> bool
     ensures { result ≡ the_member table.now key.now sig.now }
 {

@@ -21,7 +21,7 @@ use def_text::TextFault;
 use ms_assets::{AddStop, Assets};
 use ms_hash::sha256;
 use ms_nonmal::strict;
-use ms_oracle::{Locks, SigCheck, member};
+use ms_oracle::{Locks, PairIndex, SigCheck};
 use ms_replay::carry;
 use ms_sane::{Work, limits};
 use ms_sat::cheapest;
@@ -257,7 +257,8 @@ fn run_peak(alloc: Global, tree: &Tree, assets: &Assets, stack: &Stack) -> Resul
     ensures { IfOk result (λ peak. peak ≡ peak_of (replay (shape tree.now) assets.now stack.now)) }
 {
     let pairs = assets.pairs();
-    let sigs = SigCheck::new(pairs, |key: &[u8], sig: &[u8]| member(pairs, key, sig));
+    let index = PairIndex::new(alloc, pairs)?;
+    let sigs = SigCheck::new(pairs, |key: &[u8], sig: &[u8]| index.holds(key, sig));
     let carried = carry(alloc, tree, stack, assets, &sigs)?;
     Ok(carried.report.peak)
 }

@@ -15,7 +15,7 @@ use def_answer::Status;
 use ms_assets::{RunFile, read_run};
 use ms_interp::{RunReport, RunStop, ScriptFault, run};
 use ms_io::Source;
-use ms_oracle::{SigCheck, SigPair, member};
+use ms_oracle::{PairIndex, SigCheck, SigPair};
 use std::alloc::{AllocError, Global};
 
 /// Answers the run of the file that the source holds.
@@ -47,7 +47,8 @@ fn outcome_answer(alloc: Global, file: &RunFile) -> Result<Answer, AllocError>
     ensures { IfOk result (λ answer. reply answer.status (string_bytes answer.report) ≡ outcome_reply (the_run (record { table = file.now.pairs; locks = file.now.locks }) file.now.script file.now.stack)) }
 {
     let pairs = file.pairs.as_slice();
-    let sigs = SigCheck::new(pairs, |key: &[u8], sig: &[u8]| member(pairs, key, sig));
+    let index = PairIndex::new(alloc, pairs)?;
+    let sigs = SigCheck::new(pairs, |key: &[u8], sig: &[u8]| index.holds(key, sig));
     match run(
         alloc,
         file.script.as_slice(),

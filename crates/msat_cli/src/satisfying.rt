@@ -23,7 +23,7 @@ use ms_assets::{Assets, read_assets};
 use ms_interp::RunReport;
 use ms_io::Source;
 use ms_nonmal::strict;
-use ms_oracle::{SigCheck, member};
+use ms_oracle::{PairIndex, SigCheck};
 use ms_replay::carry;
 use ms_sane::Limits;
 use ms_sat::cheapest;
@@ -133,7 +133,8 @@ fn satisfy_report(
 {
     let _locks = assets.locks();
     let pairs = assets.pairs();
-    let sigs = SigCheck::new(pairs, |key: &[u8], sig: &[u8]| member(pairs, key, sig));
+    let index = PairIndex::new(alloc, pairs)?;
+    let sigs = SigCheck::new(pairs, |key: &[u8], sig: &[u8]| index.holds(key, sig));
     let carried = carry(alloc, tree, stack, assets, &sigs)?;
     let mut report = String::new(alloc);
     push_output(alloc, &mut report, carried.script.as_slice())?;
