@@ -50,7 +50,8 @@ macro_rules! name_among {
     };
 }
 
-/// The text of a tree.
+/// The printed form of a tree, which spells it. It may be too deep for `read_text` where the tree was read from a text near
+/// the limit: it has `c:pk_k(K)` for `pk(K)`, one level more. The only refusal is want of memory.
 pub fn print_text(alloc: Global, tree: &Tree) -> Result<String, AllocError>
     requires { IsInRange (shape tree.now) }
     ensures printed { IfOk result (λ text. string_bytes text ≡ printed (shape tree.now)) }

@@ -1,3 +1,4 @@
+//! Tests of reading and printing.
 use crate::*;
 use std::alloc::{AllocError, Global};
 use std::test::Fail;

@@ -1,4 +1,4 @@
-//! Reading a text.
+//! Reading a text: its tree with the offsets of the nodes, or the first place that is wrong.
 ghost use Rattle.std.specs.Prelude.{◌≡◌, ◌<◌, ◌≤◌, length, slice_index, IsUtf8, IfOk, IfErr};
 ghost use Rattle.def_tree.specs.Range.{IsInRange};
 ghost use Rattle.def_tree.specs.Size.{nodes};
@@ -13,23 +13,27 @@ use std::alloc::Global;
 /// How many bytes a text may have.
 const MOST_BYTES_READ: usize = 65_536;
 
-/// The tree of a text, and the byte offsets of its nodes in the text, in the order of their numbers.
+/// What a text is read as: its tree, and where each node was written.
 #[derive(Drop)]
 pub struct TextTree {
+    /// The tree, without sugar.
     pub tree: Tree,
+    /// The byte offset in the text of each node, in the order of the nodes' numbers: children before parents and left to right.
+    /// A node has the offset of the name or letter that wrote it, and both nodes of a piece of sugar have its offset.
     pub offsets: Vec<u32>,
     pub ghost offset_each: { length offsets.items ≡ nodes (shape tree) },
 }
 
 impl TextTree {
-    /// The tree.
+    /// The tree, without sugar. Takes no memory.
     pub fn tree(&self) -> &Tree
         ensures { result.now ≡ self.now.tree }
     {
         &self.tree
     }
 
-    /// The byte offset of the name or letter that wrote a node. Nodes are numbered from 0, children before parents and left to right.
+    /// The byte offset of the name or letter that wrote a node, which has to be one of the tree. Nodes are numbered from 0,
+    /// children before parents and left to right. Takes no memory.
     pub fn offset(&self, node: u32) -> u32
         requires { node < nodes (shape self.now.tree) }
         ensures { result ≡ slice_index self.now.offsets.items node }
@@ -38,8 +42,13 @@ impl TextTree {
     }
 }
 
-/// The tree that a text spells, with the offset of each node, or the first cause why it spells none: it has over 65,536 bytes, a
-/// token that no spelled text has there, or a name or letter of written depth over 256 (BIP 379).
+/// The tree that a text spells (BIP 379, translation table and sugar), with the offset of each node. Refused by
+/// - `TooLong`, exactly where it has over 65,536 bytes;
+/// - `Syntax`, with the place of the first token that no spelled text has there, the end counting as a token;
+/// - `TooDeep`, with the place of the first name or run of letters of written depth over 256.
+///
+/// Of the last two the one that stands first is given. Want of memory, `Memory`, may come in place of any answer but
+/// `TooLong`. Numbers have up to ten digits here: their ranges are rules of the types.
 pub fn read_text(alloc: Global, text: &str) -> Result<TextTree, TextFault>
     ensures read { IfOk result (λ t. TextReads text.now (shape t.tree) t.offsets.items) }
     ensures refused { IfErr result (λ e. TextRefusal text.now e) }

@@ -1,4 +1,5 @@
-//! Builders. Each takes memory once, and hands its parts back where that is wanting.
+//! Builders. Each asks that the tree which it makes is in range, takes memory once, and hands its parts
+//! back where that is wanting, which is its only refusal.
 ghost use Rattle.std.specs.Prelude.{◌≡◌, IfOk, MatchResult};
 ghost use Rattle.def_tree.specs.Tree as tree;
 ghost use Rattle.def_tree.specs.Range.{IsInRange};
@@ -9,7 +10,7 @@ use crate::tree::{Leaf, Node, Tree};
 use def_tree::{Two, Wrapper};
 use std::alloc::{AllocError, AllocFailed, Global};
 
-/// The tree of a leaf.
+/// The tree of a leaf. Refused by want of memory alone.
 pub fn leaf(alloc: Global, leaf: Leaf) -> Result<Tree, AllocError>
     requires { IsInRange (leaf_shape leaf) }
     ensures tree { IfOk result (λ t. shape t ≡ leaf_shape leaf) }
@@ -19,7 +20,7 @@ pub fn leaf(alloc: Global, leaf: Leaf) -> Result<Tree, AllocError>
     Ok(Tree { node })
 }
 
-/// The tree `andor(x,y,z)`.
+/// The tree `andor(x,y,z)`, or the three parts where there is no memory.
 pub fn and_or(alloc: Global, x: Tree, y: Tree, z: Tree) -> Result<Tree, (Tree, Tree, Tree)>
     requires { IsInRange (tree.and_or (shape x) (shape y) (shape z)) }
     ensures tree { MatchResult result (λ t. shape t ≡ tree.and_or (shape x) (shape y) (shape z)) (λ parts. parts ≡ (x, y, z)) }
@@ -36,7 +37,7 @@ pub fn and_or(alloc: Global, x: Tree, y: Tree, z: Tree) -> Result<Tree, (Tree, T
     }
 }
 
-/// The tree of a fragment with two children, `x` the first one.
+/// The tree of a fragment with two children, `x` the first one, or both parts where there is no memory.
 pub fn two(alloc: Global, kind: Two, x: Tree, z: Tree) -> Result<Tree, (Tree, Tree)>
     requires { IsInRange (tree.two kind (shape x) (shape z)) }
     ensures tree { MatchResult result (λ t. shape t ≡ tree.two kind (shape x) (shape z)) (λ parts. parts ≡ (x, z)) }
@@ -53,7 +54,8 @@ pub fn two(alloc: Global, kind: Two, x: Tree, z: Tree) -> Result<Tree, (Tree, Tr
     }
 }
 
-/// The tree `thresh(k,..)` of these children.
+/// The tree `thresh(k,x1,..,xn)` of these children, in their order, or the children where there is no
+/// memory. That `k` is 1 to n is a rule of the types.
 pub fn thresh(alloc: Global, k: u64, children: Vec<Tree>) -> Result<Tree, Vec<Tree>>
     requires { IsInRange (tree.thresh k (shapes children.items)) }
     ensures tree { MatchResult result (λ t. shape t ≡ tree.thresh k (shapes children.items)) (λ parts. parts ≡ children) }
@@ -70,7 +72,8 @@ pub fn thresh(alloc: Global, k: u64, children: Vec<Tree>) -> Result<Tree, Vec<Tr
     }
 }
 
-/// The tree `multi(k,..)` of these keys.
+/// The tree `multi(k,key1,..,keyn)` of these keys, in their order, or the keys where there is no memory.
+/// That there are at most 20, and that `k` is 1 to n, are rules of the types.
 pub fn multi(alloc: Global, k: u64, keys: Vec<Key>) -> Result<Tree, Vec<Key>>
     requires { IsInRange (tree.multi k keys.items) }
     ensures tree { MatchResult result (λ t. shape t ≡ tree.multi k keys.items) (λ parts. parts ≡ keys) }
@@ -87,7 +90,7 @@ pub fn multi(alloc: Global, k: u64, keys: Vec<Key>) -> Result<Tree, Vec<Key>>
     }
 }
 
-/// The tree `w:x`.
+/// The tree `w:x` of a wrapper w, or `x` where there is no memory.
 pub fn wrap(alloc: Global, wrapper: Wrapper, x: Tree) -> Result<Tree, Tree>
     requires { IsInRange (tree.wrap wrapper (shape x)) }
     ensures tree { MatchResult result (λ t. shape t ≡ tree.wrap wrapper (shape x)) (λ part. part ≡ x) }

@@ -61,8 +61,8 @@ impl Size {
 impl Tree {
     ghost use Rattle.ms_tree.specs.Size.{size_of};
 
-    /// How many nodes the tree has. They are numbered from 0, children before parents and left to
-    /// right, so the root has the greatest number.
+    /// How many nodes the tree has, at most 131,072. They are numbered from 0, children before parents and
+    /// left to right, so the root has the greatest number. Takes no memory.
     pub fn nodes(&self) -> u32
         requires { IsInRange (shape self.now) }
         ensures { result ≡ size.nodes (shape self.now) }
@@ -70,7 +70,7 @@ impl Tree {
         self.size().nodes
     }
 
-    /// How many nodes and keys of `multi` the tree has.
+    /// How many nodes and keys of `multi` the tree has, at most 131,072. Takes no memory.
     pub fn measure(&self) -> u32
         requires { IsInRange (shape self.now) }
         ensures { result ≡ size.measure (shape self.now) }
@@ -78,7 +78,7 @@ impl Tree {
         self.size().measure
     }
 
-    /// How many nodes the longest path from the root down has.
+    /// How many nodes the longest path from the root down has: 1 of a leaf, at most 257. Takes no memory.
     pub fn depth(&self) -> u32
         requires { IsInRange (shape self.now) }
         ensures { result ≡ size.depth (shape self.now) }

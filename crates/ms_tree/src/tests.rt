@@ -1,3 +1,4 @@
+//! Tests of keys, builders, views and sizes.
 ghost use Rattle.def_tree.specs.Range.{IsInRange};
 ghost use Rattle.ms_tree.specs.Shape.{shape};
 

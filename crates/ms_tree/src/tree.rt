@@ -1,3 +1,4 @@
+//! Trees, and what is seen of one at its root.
 ghost use Rattle.std.specs.Prelude.{◌≡◌};
 ghost use Rattle.def_tree.specs.Range.{IsInRange};
 
@@ -5,45 +6,67 @@ use crate::key::Key;
 use def_tree::{Two, Wrapper};
 use ms_hash::HashVal;
 
-/// A miniscript expression with its arguments. Contracts see it through `shape`.
+/// A miniscript expression with its arguments (BIP 379, translation table), without sugar. Contracts see
+/// it through `shape`. Calls ask that it is in range: at most 131,072 nodes and keys of `multi`, at most
+/// 257 nodes deep, numbers of at most ten digits, and no empty list. The builders give such trees.
 #[cycle(tree)]
 #[derive(Drop)]
 pub struct Tree {
+    /// The root.
     pub node: Box<Node>,
 }
 
-/// The root of a tree.
+/// The root of a tree: a fragment or a wrapper with its arguments, in the order of the text.
 #[cycle(tree)]
 #[derive(Drop)]
 pub enum Node {
+    /// A fragment without children.
     Leaf(Leaf),
+    /// `andor(x,y,z)`.
     AndOr(Tree, Tree, Tree),
+    /// A fragment with two children, `and_v(x,y)` to `or_i(x,z)`.
     Two(Two, Tree, Tree),
+    /// `thresh(k,x1,..,xn)`.
     Thresh(u64, Vec<Tree>),
+    /// `multi(k,key1,..,keyn)`.
     Multi(u64, Vec<Key>),
+    /// A wrapper and what it is put on.
     Wrap(Wrapper, Tree),
 }
 
 /// A fragment without children: `0`, `1`, `pk_k(K)`, `pk_h(K)`, `older(n)`, `after(n)`, or a hash lock.
 #[derive(Clone, Copy, Debug, PartialEq, Eq)]
 pub enum Leaf {
+    /// `0`.
     Zero,
+    /// `1`.
     One,
+    /// `pk_k(key)`.
     PkK(Key),
+    /// `pk_h(key)`.
     PkH(Key),
+    /// `older(n)`, with the operand as it is written (BIP 112). Its range is a rule of the types.
     Older(u64),
+    /// `after(n)`, with the operand as it is written (BIP 65). Its range is a rule of the types.
     After(u64),
+    /// `sha256(h)`, `hash256(h)`, `ripemd160(h)` or `hash160(h)`.
     Hash(HashVal),
 }
 
-/// What a tree is at its root: a leaf, or a fragment and its parts.
+/// What a tree is at its root: a leaf, or a fragment and its parts, in the order of the text.
 #[derive(Clone, Copy)]
 pub enum View<'t> {
+    /// A fragment without children.
     Leaf(Leaf),
+    /// `andor(x,y,z)`.
     AndOr(&'t Tree, &'t Tree, &'t Tree),
+    /// A fragment with two children, `and_v(x,y)` to `or_i(x,z)`.
     Two(Two, &'t Tree, &'t Tree),
+    /// `thresh(k,x1,..,xn)`.
     Thresh(u64, &'t [Tree]),
+    /// `multi(k,key1,..,keyn)`.
     Multi(u64, &'t [Key]),
+    /// A wrapper and what it is put on.
     Wrap(Wrapper, &'t Tree),
 }
 
@@ -51,7 +74,7 @@ impl Tree {
     ghost use Rattle.ms_tree.specs.Shape.{shape};
     ghost use Rattle.ms_tree.specs.View.{Shows, PartsAreInRange};
 
-    /// The root and its parts.
+    /// The root and its parts, which are in range as the tree is. Takes no memory.
     pub fn view(&self) -> View<'_>
         requires { IsInRange (shape self.now) }
         ensures shows { Shows result (shape self.now) }
