@@ -1,10 +1,9 @@
-ghost use Rattle.std.specs.Prelude.{◌≡◌, ◌+◌, ◌≤◌, ℕ, List, length, is_some, OnOk};
+ghost use Rattle.std.specs.Prelude.{◌≡◌, ◌+◌, ◌≤◌, ℕ, List, length, OnOk};
 ghost use Rattle.def_script.specs.Instruction.{push, code};
 ghost use Rattle.def_script.specs.Spell.{shortest_push, sized_push};
-ghost use Rattle.def_script.specs.Verify.{verify_form};
 ghost use Rattle.ms_emit.specs.Extent.{capped, counted, counted_verify};
 
-use ms_script::Op;
+use ms_script::{Op, verify_form_of};
 use std::convert::Infallible;
 
 /// What a Script comes to. It takes instructions as a Script does, and keeps none of them. Each number
@@ -58,7 +57,7 @@ impl Extent {
         ensures { OnOk result (self.new ≡ counted self.old (code op)) }
     {
         self.add_opcode();
-        self.fuses = fuses(op);
+        self.fuses = verify_form_of(op).is_some();
         Ok(())
     }
 
@@ -109,11 +108,4 @@ fn sized_push_length(bytes: &[u8]) -> u64
     } else {
         5 + length
     }
-}
-
-/// Whether an opcode has a form that does VERIFY too.
-fn fuses(op: Op) -> bool
-    ensures { result ≡ is_some (verify_form op) }
-{
-    matches!(op, Op::Equal | Op::CheckSig | Op::CheckMultiSig)
 }

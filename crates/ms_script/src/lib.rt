@@ -6,7 +6,7 @@ pub use def_script::{InstrFault, NumFault, Op, SizeFault};
 pub use encoding::{encode, opcode_byte};
 pub use numbers::{NumBytes, num_decode, num_encode, truth};
 pub use reading::{InstrRef, next_instr};
-pub use script::{Instr, Script};
+pub use script::{Instr, Script, verify_form_of};
 pub use sizes::{SizeBytes, compact_size, read_size};
 pub use stack::Stack;
 

@@ -113,7 +113,9 @@ fn verify_form(instr: &Instr) -> Option<Op>
     }
 }
 
-fn verify_form_of(op: Op) -> Option<Op>
+/// The opcode that does what an opcode does, and VERIFY, where there is one: of EQUAL, CHECKSIG and CHECKMULTISIG
+/// (Bitcoin Core: `OP_EQUALVERIFY` and the like). Takes no memory.
+pub fn verify_form_of(op: Op) -> Option<Op>
     ensures { result ≡ the_verify_form op }
 {
     match op {
