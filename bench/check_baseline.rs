@@ -645,6 +645,15 @@ pub fn valid(text: &str) -> Option<Valid> {
 }
 
 impl Valid {
+    /// What `check` prints, with these letters behind those of the type.
+    pub fn report(&self, letters: &str) -> String {
+        let mut out = String::from("text ");
+        put_tree(&mut out, &self.tree);
+        out.push_str(&format!("\ntype {}{letters}\n", self.kind.letters()));
+        self.put_script(&mut out);
+        out
+    }
+
     /// The lines on the Script, its program and the limits.
     pub fn put_script(&self, out: &mut String) {
         out.push_str("script ");
@@ -656,19 +665,11 @@ impl Valid {
     }
 }
 
-fn report(text: &str) -> Option<String> {
-    let valid = valid(text)?;
-    let mut out = String::from("text ");
-    put_tree(&mut out, &valid.tree);
-    out.push_str(&format!("\ntype {}\n", valid.kind.letters()));
-    valid.put_script(&mut out);
-    Some(out)
-}
 
 fn main() {
     let text = std::env::args().nth(1).expect("a text");
-    match report(&text) {
-        Some(out) => print!("{out}"),
+    match valid(&text) {
+        Some(valid) => print!("{}", valid.report("")),
         None => {
             println!("refused");
             exit(2);

@@ -1,16 +1,12 @@
 #!/bin/sh
-# What `msat run` takes to read run files, which come on standard input: instructions as callgrind counts them, less those of the file
-# {"script":"51"}; milliseconds from start to end, the best of 10 runs; and the greatest resident memory in KiB. First files of four sizes
-# in bytes, each filled by one part, then files of four numbers of signatures or witness items. Prints Markdown rows with the exit status:
-# 0 is an accepted script, 8 a refused one, 3 a refused file. Wants valgrind, GNU time and a `date` that knows %N, and builds `msat` where it
-# isn't built; keeps nothing.
-# Usage: bench/files.sh
-top=$(cd "$(dirname "$0")/.." && pwd)
-work=$(mktemp -d)
-trap 'rm -rf "$work"' EXIT
-echo '{"script":"51"}' >"$work/smallest"
-[ "$("$top/msat" run <"$work/smallest")" = "accepted ops 0 peak 1" ] || exit 1
-program="$top/crates/msat/out/msat"
+# How `msat run` grows with run files: instructions of the product and of the plain program that does the same, and of the product the
+# milliseconds from start to end, the best of 10 runs, and the greatest resident memory in KiB. First files of four sizes in bytes, each
+# filled by one part, then files of four numbers of signatures or witness items. Both programs have to end alike, with status 0 for an
+# accepted script and 8 for a refused one. Wants GNU time besides, and a `date` that knows %N.
+. "$(dirname "$0")/lib.sh"
+wants valgrind rustc /usr/bin/time
+product
+plain satisfy_baseline
 
 # A run file of SHAPE with COUNT items or signatures, and of BYTES bytes, or of what it comes to where BYTES is 0.
 generate() {
@@ -44,64 +40,59 @@ generate() {
             }
             put("}")
             while (written < bytes) put(" ")
-        }' >"$work/file"
+        }' >"$input"
 }
 
-count() {
-    valgrind --tool=callgrind --callgrind-out-file=/dev/null "$program" run <"$1" 2>&1 | sed -n 's/.*Collected : //p'
-}
-
-# The best of 10 runs, in nanoseconds.
+# The best of 10 runs, in milliseconds.
 best() {
-    least=
     for _ in 1 2 3 4 5 6 7 8 9 10; do
         from=$(date +%s%N)
-        "$program" run <"$work/file" >/dev/null
-        took=$(($(date +%s%N) - from))
-        [ -n "$least" ] && [ "$least" -le "$took" ] || least=$took
-    done
-    echo "$least"
+        "$program" run <"$input" >/dev/null
+        echo $(($(date +%s%N) - from))
+    done | sort -n | awk 'NR == 1 { printf "%.1f", $1 / 1000000 }'
 }
 
-row() {
-    /usr/bin/time -q -f %M -o "$work/memory" "$program" run <"$work/file" >"$work/out"
+measure() {
+    /usr/bin/time -q -f %M -o "$work/memory" "$program" run <"$input" >"$work/proved.out"
     status=$?
+    "$plain" run <"$input" >"$work/plain.out"
+    [ $? = "$status" ] || stop "$1 $2: the plain program has another status than $status"
     case $status in
-        0 | 3 | 8) ;;
-        *) echo "$1: status $status"; exit 1 ;;
+    0) cmp "$work/proved.out" "$work/plain.out" >&2 || stop "$1 $2: the outputs differ" ;;
+    8) ;;
+    *) stop "$1 $2: status $status" ;;
     esac
-    bytes=$(($(wc -c <"$work/file")))
-    instructions=$(($(count "$work/file") - smallest))
-    milliseconds=$(best | awk '{ printf "%.1f", $1 / 1000000 }')
-    echo "| $1 | $bytes | $instructions | $((instructions / bytes)) | $milliseconds | $(cat "$work/memory") | $status |"
+    count "$program" run
+    proved=$counted
+    count "$plain" run
+    row run "$1" "$2" "$(wc -c <"$input")" "$proved" "$counted" "$(best)" "$(cat "$work/memory")" "$status"
 }
 
-smallest=$(count "$work/smallest")
-cp "$work/smallest" "$work/file"
-echo "The smallest file: $smallest instructions, $(best | awk '{ printf "%.1f", $1 / 1000000 }') milliseconds."
-echo
-echo '| Run file | Bytes | Instructions | A byte | Milliseconds | KiB | Status |'
-echo '|---|---|---|---|---|---|---|'
-while read -r shape number name; do
+input=$work/file
+columns command shape size bytes proved plain milliseconds kib status
+echo '{"script":"51"}' >"$input"
+measure start 0
+while read -r shape number; do
     for bytes in 65536 262144 524288 1048575; do
         generate "$shape" "$number" "$bytes"
-        row "$name"
+        measure "$shape" "$number"
     done
 done <<'SIZES'
-script 1 a script of many digits
-witness 2000 a witness of 2,000 items
-signatures 256 256 signatures
-text 1 an unknown member, a long text
-numbers 1 an unknown member, a list of zeros
-lists 1 an unknown member, a list of lists with an empty object
-members 1 many unknown members
+script 1
+witness 2000
+signatures 256
+text 1
+numbers 1
+lists 1
+members 1
 SIZES
-while read -r shape numbers name; do
-    for number in $(echo "$numbers" | tr , ' '); do
+while read -r shape numbers; do
+    for number in $numbers; do
         generate "$shape" "$number" 0
-        row "$number $name"
+        measure "$shape of 72 bytes" "$number"
     done
 done <<'NUMBERS'
-signatures 32,64,128,256 signatures of 72 bytes
-witness 250,500,1000,2000 witness items of 72 bytes
+signatures 32 64 128 256
+witness 250 500 1000 2000
 NUMBERS
+finish

@@ -1,18 +1,10 @@
 #!/bin/sh
-# Instructions a block of 64 bytes of RIPEMD-160 and SHA-256, of the proved calls and of plain loops in Rust, as callgrind counts
-# them: the difference between messages of 4,000 and of 2,000 blocks. Wants valgrind, rustc and rt; keeps nothing.
-# Usage: bench/hash.sh
-top=$(cd "$(dirname "$0")/.." && pwd)
-work=$(mktemp -d)
-trap 'rm -rf "$work"' EXIT
-mkdir -p "$work/crates/hash_bench/src"
-cp "$top/HANDLES" "$work"
-for crate in def_hash ms_hash; do
-    cp -r "$top/crates/$crate" "$work/crates/"
-    grep "^$crate:" "$top/crates.txt" >>"$work/crates.txt"
-done
-echo 'hash_bench: ms_hash' >>"$work/crates.txt"
-cat >"$work/crates/hash_bench/src/main.rt" <<'RATTLE'
+# Instructions a block of 64 bytes of RIPEMD-160 and SHA-256, of the proved calls and of plain loops in Rust: the difference between
+# messages of 4,000 and of 2,000 blocks, over 2,000. Of RIPEMD-160 there are two plain loops: one of 80 steps, and one for each round and
+# line, which rustc unrolls.
+. "$(dirname "$0")/lib.sh"
+wants valgrind rustc rt
+small_program hash_bench ms_hash <<'RATTLE'
 //! Hashes a message of so many blocks. The exit status is the digest's first byte.
 #![tactic(auto)]
 
@@ -52,27 +44,25 @@ fn first_byte(alloc: Global, rt: &(impl Env + Alloc<A = Global>)) -> io::Result<
     }
 }
 RATTLE
-rustc --edition 2021 -O -C target-cpu=x86-64-v2 -o "$work/plain" "$top/bench/hash_baseline.rs" || exit 1
-(cd "$work/crates/hash_bench" && rt run -- sha256 0 >"$work/log" 2>&1)
-proved="$work/crates/hash_bench/out/hash_bench"
-[ -x "$proved" ] || { cat "$work/log"; exit 1; }
+plain hash_baseline
 
-# The instructions that PROGRAM takes over FUNCTION and BLOCKS.
-count() {
-    valgrind --tool=callgrind --callgrind-out-file=/dev/null "$1" "$2" "$3" 2>&1 | sed -n 's/.*Collected : //p'
+# Sets `counted` to the instructions a block that a program takes over a function.
+count_a_block() {
+    count "$1" "$2" 2000
+    less=$counted
+    count "$1" "$2" 4000
+    counted=$(((counted - less) / 2000))
 }
 
-# The instructions a block that PROGRAM takes over FUNCTION.
-a_block() {
-    echo $((($(count "$1" "$2" 4000) - $(count "$1" "$2" 2000)) / 2000))
-}
-
-for function in ripemd160 sha256; do
-    "$proved" "$function" 4000
-    proved_first=$?
-    "$work/plain" "$function" 4000
-    plain_first=$?
-    [ "$proved_first" -eq "$plain_first" ] || { echo "$function: $proved_first, and $plain_first by the plain loop"; exit 1; }
-    echo "$function: $(a_block "$proved" "$function") instructions a block, $(a_block "$work/plain" "$function") by a plain loop"
+columns command shape size bytes proved plain
+for function in ripemd160 sha256 ripemd160_by_rounds; do
+    "$program" "${function%_by_rounds}" 4000
+    first=$?
+    "$plain" "$function" 4000
+    [ $? = "$first" ] || stop "$function: the digests differ"
+    count_a_block "$program" "${function%_by_rounds}"
+    proved=$counted
+    count_a_block "$plain" "$function"
+    row hash "$function" 1 64 "$proved" "$counted"
 done
-echo "ripemd160: $(a_block "$work/plain" ripemd160_by_rounds) by a plain loop for each round, unrolled"
+finish

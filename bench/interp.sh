@@ -1,18 +1,8 @@
 #!/bin/sh
-# Instructions a run of the proved interpreter, and of a plain one in Rust, as callgrind counts them: the difference between 30 and
-# 20 runs. Wants valgrind, rustc and rt; keeps nothing.
-# Usage: bench/interp.sh
-top=$(cd "$(dirname "$0")/.." && pwd)
-work=$(mktemp -d)
-trap 'rm -rf "$work"' EXIT
-mkdir -p "$work/crates/interp_bench/src"
-cp "$top/HANDLES" "$work"
-for crate in def_hash def_script def_machine ms_hash ms_script ms_oracle ms_interp; do
-    cp -r "$top/crates/$crate" "$work/crates/"
-    grep "^$crate:" "$top/crates.txt" >>"$work/crates.txt"
-done
-echo 'interp_bench: ms_hash ms_interp ms_oracle ms_script' >>"$work/crates.txt"
-cat >"$work/crates/interp_bench/src/main.rt" <<'RATTLE'
+# Instructions a run of the proved interpreter and of a plain one in Rust: the difference between 30 and 20 runs, over 10.
+. "$(dirname "$0")/lib.sh"
+wants valgrind rustc rt
+small_program interp_bench "ms_hash ms_interp ms_oracle ms_script" <<'RATTLE'
 //! Runs a Script so many times: `ops` is 201 opcodes over small elements, `hashes` 100 hashes of 520 bytes, `digests` the same
 //! hashes alone, and `multisig` 9 multisignatures of 20 keys. The exit status is the number of opcodes.
 #![tactic(auto)]
@@ -106,23 +96,25 @@ fn opcodes(alloc: Global, rt: &(impl Env + Alloc<A = Global>)) -> io::Result<u32
     Ok(ops)
 }
 RATTLE
-rustc --edition 2021 -O -C target-cpu=x86-64-v2 -o "$work/plain" "$top/bench/interp_baseline.rs" || exit 1
-(cd "$work/crates/interp_bench" && rt run -- ops 1 >"$work/log" 2>&1)
-proved="$work/crates/interp_bench/out/interp_bench"
-[ -x "$proved" ] || { cat "$work/log"; exit 1; }
+plain interp_baseline
 
-# The instructions that PROGRAM takes over KIND and TIMES.
-count() {
-    valgrind --tool=callgrind --callgrind-out-file=/dev/null "$1" "$2" "$3" 2>&1 | sed -n 's/.*Collected : //p'
+# Sets `counted` to the instructions a run that a program takes.
+count_a_run() {
+    count "$1" "$2" 20
+    less=$counted
+    count "$1" "$2" 30
+    counted=$(((counted - less) / 10))
 }
 
+columns command shape size bytes proved plain
 for kind in ops hashes digests multisig; do
-    "$proved" "$kind" 1
-    proved_ops=$?
-    "$work/plain" "$kind" 1
-    plain_ops=$?
-    [ "$proved_ops" -eq "$plain_ops" ] || { echo "$kind: $proved_ops, and $plain_ops by the plain interpreter"; exit 1; }
-    of_proved=$((($(count "$proved" "$kind" 30) - $(count "$proved" "$kind" 20)) / 10))
-    of_plain=$((($(count "$work/plain" "$kind" 30) - $(count "$work/plain" "$kind" 20)) / 10))
-    echo "$kind: $of_proved instructions a run, $of_plain by the plain interpreter"
+    "$program" "$kind" 1
+    ops=$?
+    "$plain" "$kind" 1
+    [ $? = "$ops" ] || stop "$kind: the plain interpreter counts other opcodes than $ops"
+    count_a_run "$program" "$kind"
+    proved=$counted
+    count_a_run "$plain" "$kind"
+    row interpreter "$kind" 1 "" "$proved" "$counted"
 done
+finish

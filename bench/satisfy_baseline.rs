@@ -1,7 +1,7 @@
-//! What `msat satisfy TEXT` and `msat satisfy --malleable TEXT` do, by plain Rust over boxed trees, to be measured beside the proved
-//! program. Refusals aren't told apart.
-//! Usage: satisfy_baseline [--malleable] TEXT, with an asset file on standard input. The exit status is 0, 2 where `refused` is printed, or 4
-//! where there is no satisfaction.
+//! What `msat check`, `msat satisfy` and `msat run` do, by plain Rust over boxed trees, to be measured beside the proved program. Refusals
+//! aren't told apart.
+//! Usage: satisfy_baseline check TEXT; satisfy_baseline [--malleable] TEXT, with an asset file on standard input; satisfy_baseline run, with a
+//! run file. The exit status is 0, 2 where `refused` is printed, 4 where there is no satisfaction, or 8 where the run is refused.
 //! Usage: satisfy_baseline fragments, with an asset file on standard input. Prints a hash fragment for each of its preimages, of the four
 //! functions in turn.
 
@@ -151,6 +151,14 @@ fn has_new_keys<'t>(tree: &'t Tree, seen: &mut HashSet<&'t Key>) -> bool {
 
 fn is_sane(tree: &Tree) -> bool {
     mall_of(tree).is_some_and(|top| top.s) && kinds_of(tree).is_some() && has_new_keys(tree, &mut HashSet::new())
+}
+
+/// None where the text is refused.
+fn check(text: &str) -> Option<String> {
+    let valid = valid(text)?;
+    let top = mall_of(&valid.tree).filter(|_| is_sane(&valid.tree))?;
+    let letters = [(top.s, 's'), (top.f, 'f'), (top.e, 'e')];
+    Some(valid.report(&letters.iter().filter(|(holds, _)| *holds).map(|(_, letter)| letter).collect::<String>()))
 }
 
 // The asset file.
@@ -338,24 +346,29 @@ fn digests(message: &[u8]) -> [Vec<u8>; 4] {
     [once.to_vec(), twice.to_vec(), ripemd(message), ripemd(&once)]
 }
 
-/// None where the file is refused, here and in the next two.
-fn assets_of(file: &[u8]) -> Option<Assets> {
+/// None where the file is refused, here and in what follows.
+fn object_of(file: &[u8]) -> Option<Value> {
     if file.len() > 1_048_576 {
         return None;
     }
     let mut json = Json { bytes: file, at: 0 };
     let file = json.value()?;
     json.space();
-    if json.at < json.bytes.len() || !matches!(file, Value::Object(_)) {
-        return None;
-    }
-    let locks = Locks {
-        version: number(&file, "version", 2)?,
-        sequence: number(&file, "sequence", 4_294_967_294)?,
-        locktime: number(&file, "locktime", 0)?,
-    };
-    let (signatures, preimages) = (list(&file, "signatures")?, list(&file, "preimages")?);
-    let mut assets = Assets::new(locks, signatures.len(), preimages.len());
+    (json.at == json.bytes.len() && matches!(file, Value::Object(_))).then_some(file)
+}
+
+fn locks_of(file: &Value) -> Option<Locks> {
+    Some(Locks {
+        version: number(file, "version", 2)?,
+        sequence: number(file, "sequence", 4_294_967_294)?,
+        locktime: number(file, "locktime", 0)?,
+    })
+}
+
+fn assets_of(file: &[u8]) -> Option<Assets> {
+    let file = object_of(file)?;
+    let (signatures, preimages) = (list(&file, "signatures", 256)?, list(&file, "preimages", 256)?);
+    let mut assets = Assets::new(locks_of(&file)?, signatures.len(), preimages.len());
     for signature in signatures {
         assets.add_signature(signature.member("key")?.text()?, signature.member("sig")?.text()?)?;
     }
@@ -373,10 +386,10 @@ fn number(file: &Value, name: &str, default: u32) -> Option<u32> {
     }
 }
 
-fn list<'f>(file: &'f Value, name: &str) -> Option<&'f [Value]> {
+fn list<'f>(file: &'f Value, name: &str, most: usize) -> Option<&'f [Value]> {
     match file.member(name) {
         None => Some(&[]),
-        Some(Value::List(elements)) if elements.len() <= 256 => Some(elements),
+        Some(Value::List(elements)) if elements.len() <= most => Some(elements),
         Some(_) => None,
     }
 }
@@ -688,10 +701,36 @@ fn satisfy(text: &str, is_strict: bool) -> Option<Option<String>> {
     Some(Some(report(&valid, &assets, &stack).expect("an accepted run")))
 }
 
+/// The report of a run file's run. None where the file is refused; Some(None) where the run is.
+fn run_file(file: &[u8]) -> Option<Option<String>> {
+    let file = object_of(file)?;
+    let digits = |value: &Value| decoded(value.text()?.as_bytes());
+    let script = digits(file.member("script")?)?;
+    let stack: Vec<Vec<u8>> = list(&file, "witness", 2_000)?.iter().map(digits).collect::<Option<_>>()?;
+    let mut good: HashMap<Vec<u8>, Vec<Vec<u8>>> = HashMap::new();
+    for pair in list(&file, "signatures", 256)? {
+        good.entry(digits(pair.member("key")?)?).or_default().push(digits(pair.member("sig")?)?);
+    }
+    let locks = locks_of(&file)?;
+    let is_good = |key: &[u8], sig: &[u8]| good.get(key).is_some_and(|sigs| sigs.iter().any(|it| it == sig));
+    let Some((ops, peak, checks)) = run(&script, &stack, &locks, is_good) else {
+        return Some(None);
+    };
+    let mut out = format!("accepted ops {ops} peak {peak}\n");
+    for (key, sig) in checks {
+        out.push_str("check ");
+        put_digits(&mut out, &key);
+        out.push(' ');
+        put_digits(&mut out, &sig);
+        out.push('\n');
+    }
+    Some(Some(out))
+}
+
 fn fragments() -> Option<String> {
     let file = Json { bytes: &file(), at: 0 }.value()?;
     let mut out = String::new();
-    for (i, preimage) in list(&file, "preimages")?.iter().enumerate() {
+    for (i, preimage) in list(&file, "preimages", 256)?.iter().enumerate() {
         let name = ["sha256", "hash256", "ripemd160", "hash160"][i % 4];
         let value = &digests(&decoded(preimage.text()?.as_bytes())?)[i % 4];
         out.push_str(name);
@@ -707,12 +746,18 @@ fn main() {
     let words: Vec<&str> = words.iter().map(String::as_str).collect();
     let answer = match words[..] {
         ["fragments"] => fragments().map(Some),
+        ["run"] => run_file(&file()),
+        ["check", text] => check(text).map(Some),
         ["--malleable", text] => satisfy(text, false),
         [text] => satisfy(text, true),
         _ => panic!("a text"),
     };
     match answer {
         Some(Some(out)) => print!("{out}"),
+        Some(None) if words == ["run"] => {
+            println!("refused script");
+            exit(8);
+        }
         Some(None) => {
             println!("no satisfaction");
             exit(4);
