@@ -21,7 +21,7 @@ use ms_tree::{HashVal, Key, Leaf, Tree, Two, View, Wrapper, fragment_rows};
 use std::convert::Infallible;
 
 /// The length in bytes of the encoded Script of a tree.
-pub fn script_len(tree: &Tree) -> u64
+pub fn script_len(tree: &Tree<'_>) -> u64
     requires { IsInRange (shape tree.now) }
     ensures { result ≡ length (script_of (shape tree.now)) }
 {
@@ -30,7 +30,7 @@ pub fn script_len(tree: &Tree) -> u64
 
 /// How many instructions of a tree's Script aren't pushes. They are the opcodes above hex 60, which
 /// Bitcoin Core counts (`MAX_OPS_PER_SCRIPT`).
-pub fn opcode_count(tree: &Tree) -> u64
+pub fn opcode_count(tree: &Tree<'_>) -> u64
     requires { IsInRange (shape tree.now) }
     ensures count { result ≡ the_opcode_count (the_emit (shape tree.now)) }
     ensures few { result ≤ 8 * measure (shape tree.now) }
@@ -39,7 +39,7 @@ pub fn opcode_count(tree: &Tree) -> u64
 }
 
 /// What the Script of a tree comes to.
-fn extent(tree: &Tree) -> Extent
+fn extent(tree: &Tree<'_>) -> Extent
     requires { IsInRange (shape tree.now) }
     ensures { result ≡ counted_all Extent.NONE (the_emit (shape tree.now)) }
 {
@@ -52,7 +52,7 @@ fn extent(tree: &Tree) -> Extent
 
 /// Adds the Script of a tree.
 #[cycle(add_tree)]
-fn add_tree(extent: &mut Extent, tree: &Tree) -> Result<(), Infallible>
+fn add_tree(extent: &mut Extent, tree: &Tree<'_>) -> Result<(), Infallible>
     requires { IsInRange (shape tree.now) }
     ensures { OnOk result (extent.new ≡ counted_all extent.old (the_emit (shape tree.now))) }
 {
@@ -93,7 +93,12 @@ fn add_hash(extent: &mut Extent, value: &HashVal) -> Result<(), Infallible>
 }
 
 #[cycle(add_tree)]
-fn add_and_or(extent: &mut Extent, x: &Tree, y: &Tree, z: &Tree) -> Result<(), Infallible>
+fn add_and_or(
+    extent: &mut Extent,
+    x: &Tree<'_>,
+    y: &Tree<'_>,
+    z: &Tree<'_>,
+) -> Result<(), Infallible>
     requires x { IsInRange (shape x.now) }
     requires y { IsInRange (shape y.now) }
     requires z { IsInRange (shape z.now) }
@@ -104,7 +109,7 @@ fn add_and_or(extent: &mut Extent, x: &Tree, y: &Tree, z: &Tree) -> Result<(), I
 }
 
 #[cycle(add_tree)]
-fn add_two(extent: &mut Extent, kind: Two, x: &Tree, z: &Tree) -> Result<(), Infallible>
+fn add_two(extent: &mut Extent, kind: Two, x: &Tree<'_>, z: &Tree<'_>) -> Result<(), Infallible>
     requires x { IsInRange (shape x.now) }
     requires z { IsInRange (shape z.now) }
     ensures { OnOk result (extent.new ≡ counted_all extent.old (the_emit (tree.two kind (shape x.now) (shape z.now)))) }
@@ -115,7 +120,7 @@ fn add_two(extent: &mut Extent, kind: Two, x: &Tree, z: &Tree) -> Result<(), Inf
 
 /// The first child, each further one with ADD behind it, the number and EQUAL.
 #[cycle(add_tree)]
-fn add_thresh(extent: &mut Extent, k: u64, children: &[Tree]) -> Result<(), Infallible>
+fn add_thresh(extent: &mut Extent, k: u64, children: &[Tree<'_>]) -> Result<(), Infallible>
     requires k { k < TEN_DIGITS }
     requires children { All (λ x. IsInRange (shape x)) children.now }
     ensures { OnOk result (extent.new ≡ counted_all extent.old (the_emit (tree.thresh k (shapes children.now)))) }
@@ -127,7 +132,7 @@ fn add_thresh(extent: &mut Extent, k: u64, children: &[Tree]) -> Result<(), Infa
 }
 
 #[cycle(add_tree)]
-fn add_sum(extent: &mut Extent, children: &[Tree]) -> Result<(), Infallible>
+fn add_sum(extent: &mut Extent, children: &[Tree<'_>]) -> Result<(), Infallible>
     requires { All (λ x. IsInRange (shape x)) children.now }
     ensures { OnOk result (extent.new ≡ counted_all extent.old (the_sum (shapes children.now))) }
 {
@@ -141,7 +146,7 @@ fn add_sum(extent: &mut Extent, children: &[Tree]) -> Result<(), Infallible>
 }
 
 #[cycle(add_tree)]
-fn add_others(extent: &mut Extent, children: &[Tree]) -> Result<(), Infallible>
+fn add_others(extent: &mut Extent, children: &[Tree<'_>]) -> Result<(), Infallible>
     requires { All (λ x. IsInRange (shape x)) children.now }
     ensures { OnOk result (extent.new ≡ counted_all extent.old (the_added (shapes children.now))) }
 {
@@ -175,7 +180,7 @@ fn add_keys(extent: &mut Extent, keys: &[Key]) -> Result<(), Infallible>
 }
 
 #[cycle(add_tree)]
-fn add_wrap(extent: &mut Extent, wrapper: Wrapper, x: &Tree) -> Result<(), Infallible>
+fn add_wrap(extent: &mut Extent, wrapper: Wrapper, x: &Tree<'_>) -> Result<(), Infallible>
     requires { IsInRange (shape x.now) }
     ensures { OnOk result (extent.new ≡ counted_all extent.old (the_emit (tree.wrap wrapper (shape x.now)))) }
 {

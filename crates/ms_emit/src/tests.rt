@@ -3,6 +3,7 @@ ghost use Rattle.def_tree.specs.Range.{IsInRange, IsKey};
 ghost use Rattle.ms_tree.specs.Shape.{leaf_shape, shape};
 
 use crate::*;
+use bumpalo::Bump;
 use ms_script::{Blob, encode};
 use ms_tree::{HashVal, Key, Leaf, Tree, Two, Wrapper, and_or, leaf, multi, thresh, two, wrap};
 use std::alloc::{AllocError, Global};
@@ -24,7 +25,7 @@ fn joined(alloc: Global, pieces: &[&[u8]]) -> Result<Vec<u8>, AllocError> {
 }
 
 /// The bytes of a tree's Script, where its length is told right.
-fn script_of(alloc: Global, tree: &Tree) -> Result<Blob, Fail>
+fn script_of(alloc: Global, tree: &Tree<'_>) -> Result<Blob, Fail>
     requires { IsInRange (shape tree.now) }
 {
     let script = encode(alloc, &emit(alloc, tree)?)?;
@@ -37,6 +38,7 @@ fn script_of(alloc: Global, tree: &Tree) -> Result<Blob, Fail>
 #[test]
 fn wrappers_are_translated(rt: HostRuntime) -> Result<(), Fail> {
     let alloc = rt.alloc();
+    let arena = Bump::new(alloc);
     // What stands before and behind the child.
     let cases: [(Wrapper, &[u8], &[u8]); 7] = [
         (Wrapper::A, b"\x6b", b"\x6c"),
@@ -48,8 +50,8 @@ fn wrappers_are_translated(rt: HostRuntime) -> Result<(), Fail> {
         (Wrapper::N, b"", b"\x92"),
     ];
     for (wrapper, before, behind) in cases {
-        let x = leaf(alloc, Leaf::PkK(key(2)?))?;
-        let tree = wrap(alloc, wrapper, x).ok().ok_or("memory")?;
+        let x = leaf(&arena, Leaf::PkK(key(2)?))?;
+        let tree = wrap(&arena, wrapper, x)?;
         let script = script_of(alloc, &tree)?;
         let want = joined(alloc, &[before, b"\x21", &[2; 33], behind])?;
         assert_eq!(rt; script.as_slice(), want.as_slice());
@@ -60,6 +62,7 @@ fn wrappers_are_translated(rt: HostRuntime) -> Result<(), Fail> {
 #[test]
 fn pairs_are_translated(rt: HostRuntime) -> Result<(), Fail> {
     let alloc = rt.alloc();
+    let arena = Bump::new(alloc);
     // What stands before, between and behind the children.
     let cases: [(Two, &[u8], &[u8], &[u8]); 6] = [
         (Two::AndV, b"", b"", b""),
@@ -70,9 +73,9 @@ fn pairs_are_translated(rt: HostRuntime) -> Result<(), Fail> {
         (Two::OrI, b"\x63", b"\x67", b"\x68"),
     ];
     for (kind, before, between, behind) in cases {
-        let x = leaf(alloc, Leaf::PkK(key(2)?))?;
-        let z = leaf(alloc, Leaf::PkK(key(3)?))?;
-        let tree = two(alloc, kind, x, z).ok().ok_or("memory")?;
+        let x = leaf(&arena, Leaf::PkK(key(2)?))?;
+        let z = leaf(&arena, Leaf::PkK(key(3)?))?;
+        let tree = two(&arena, kind, x, z)?;
         let script = script_of(alloc, &tree)?;
         let pieces: [&[u8]; 7] = [
             before, b"\x21", &[2; 33], between, b"\x21", &[3; 33], behind,
@@ -86,9 +89,10 @@ fn pairs_are_translated(rt: HostRuntime) -> Result<(), Fail> {
 #[test]
 fn verify_is_fused(rt: HostRuntime) -> Result<(), Fail> {
     let alloc = rt.alloc();
-    let x = leaf(alloc, Leaf::PkK(key(2)?))?;
-    let x = wrap(alloc, Wrapper::C, x).ok().ok_or("memory")?;
-    let x = wrap(alloc, Wrapper::V, x).ok().ok_or("memory")?;
+    let arena = Bump::new(alloc);
+    let x = leaf(&arena, Leaf::PkK(key(2)?))?;
+    let x = wrap(&arena, Wrapper::C, x)?;
+    let x = wrap(&arena, Wrapper::V, x)?;
     let script = script_of(alloc, &x)?;
     let want = joined(alloc, &[b"\x21", &[2; 33], b"\xad"])?;
     assert_eq!(rt; script.as_slice(), want.as_slice());
@@ -99,7 +103,8 @@ fn verify_is_fused(rt: HostRuntime) -> Result<(), Fail> {
 fn leaf_script(alloc: Global, fragment: Leaf) -> Result<Blob, Fail>
     requires { IsInRange (leaf_shape fragment) }
 {
-    script_of(alloc, &leaf(alloc, fragment)?)
+    let arena = Bump::new(alloc);
+    script_of(alloc, &leaf(&arena, fragment)?)
 }
 
 #[test]
@@ -173,12 +178,13 @@ fn hash_locks_are_translated(rt: HostRuntime) -> Result<(), Fail> {
 #[test]
 fn and_or_is_translated(rt: HostRuntime) -> Result<(), Fail> {
     let alloc = rt.alloc();
+    let arena = Bump::new(alloc);
     let (x, y, z) = (
-        leaf(alloc, Leaf::Zero)?,
-        leaf(alloc, Leaf::One)?,
-        leaf(alloc, Leaf::Older(2))?,
+        leaf(&arena, Leaf::Zero)?,
+        leaf(&arena, Leaf::One)?,
+        leaf(&arena, Leaf::Older(2))?,
     );
-    let tree = and_or(alloc, x, y, z).ok().ok_or("memory")?;
+    let tree = and_or(&arena, x, y, z)?;
     let script = script_of(alloc, &tree)?;
     assert_eq!(rt;
         script.as_slice(),
@@ -190,11 +196,12 @@ fn and_or_is_translated(rt: HostRuntime) -> Result<(), Fail> {
 #[test]
 fn lists_are_translated(rt: HostRuntime) -> Result<(), Fail> {
     let alloc = rt.alloc();
+    let arena = Bump::new(alloc);
     let mut children = Vec::new(alloc);
-    children.push(leaf(alloc, Leaf::Zero)?)?;
-    children.push(leaf(alloc, Leaf::One)?)?;
-    children.push(leaf(alloc, Leaf::Older(3))?)?;
-    let tree = thresh(alloc, 2, children).ok().ok_or("memory")?;
+    children.push(leaf(&arena, Leaf::Zero)?)?;
+    children.push(leaf(&arena, Leaf::One)?)?;
+    children.push(leaf(&arena, Leaf::Older(3))?)?;
+    let tree = thresh(&arena, 2, children)?;
     let script = script_of(alloc, &tree)?;
     assert_eq!(rt;
         script.as_slice(),
@@ -205,7 +212,7 @@ fn lists_are_translated(rt: HostRuntime) -> Result<(), Fail> {
     let mut keys = Vec::new(alloc);
     keys.push(key(2)?)?;
     keys.push(key(3)?)?;
-    let tree = multi(alloc, 1, keys).ok().ok_or("memory")?;
+    let tree = multi(&arena, 1, keys)?;
     let script = script_of(alloc, &tree)?;
     let want = joined(
         alloc,
@@ -217,14 +224,14 @@ fn lists_are_translated(rt: HostRuntime) -> Result<(), Fail> {
 
 #[test]
 fn lengths_of_small_scripts(rt: HostRuntime) -> Result<(), Fail> {
-    let alloc = rt.alloc();
-    let x = leaf(alloc, Leaf::PkK(key(2)?))?;
-    let x = wrap(alloc, Wrapper::C, x).ok().ok_or("memory")?;
+    let arena = Bump::new(rt.alloc());
+    let x = leaf(&arena, Leaf::PkK(key(2)?))?;
+    let x = wrap(&arena, Wrapper::C, x)?;
     assert_eq!(rt; script_len(&x), 35);
-    let x = wrap(alloc, Wrapper::V, x).ok().ok_or("memory")?;
-    let z = leaf(alloc, Leaf::PkK(key(3)?))?;
-    let z = wrap(alloc, Wrapper::C, z).ok().ok_or("memory")?;
-    let tree = two(alloc, Two::AndV, x, z).ok().ok_or("memory")?;
+    let x = wrap(&arena, Wrapper::V, x)?;
+    let z = leaf(&arena, Leaf::PkK(key(3)?))?;
+    let z = wrap(&arena, Wrapper::C, z)?;
+    let tree = two(&arena, Two::AndV, x, z)?;
     assert_eq!(rt; script_len(&tree), 70);
     assert_eq!(rt; opcode_count(&tree), 2);
     Ok(())

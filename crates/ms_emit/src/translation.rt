@@ -16,7 +16,7 @@ use ms_tree::{HashVal, Key, Leaf, Tree, Two, View, Wrapper, fragment_rows};
 use std::alloc::{AllocError, Global};
 
 /// The Script of a tree (BIP 379, translation table).
-pub fn emit(alloc: Global, tree: &Tree) -> Result<Script, AllocError>
+pub fn emit(alloc: Global, tree: &Tree<'_>) -> Result<Script, AllocError>
     requires { IsInRange (shape tree.now) }
     ensures script { IfOk result (λ script. script ≡ the_emit (shape tree.now)) }
     ensures encodable { IfOk result (All IsShort) }
@@ -28,7 +28,7 @@ pub fn emit(alloc: Global, tree: &Tree) -> Result<Script, AllocError>
 
 /// Adds the Script of a tree.
 #[cycle(add_tree)]
-fn add_tree(script: &mut Script, tree: &Tree) -> Result<(), AllocError>
+fn add_tree(script: &mut Script, tree: &Tree<'_>) -> Result<(), AllocError>
     requires { IsInRange (shape tree.now) }
     ensures { OnOk result (script.new ≡ script.old ++ the_emit (shape tree.now)) }
 {
@@ -68,7 +68,12 @@ fn add_hash(script: &mut Script, value: &HashVal) -> Result<(), AllocError>
 }
 
 #[cycle(add_tree)]
-fn add_and_or(script: &mut Script, x: &Tree, y: &Tree, z: &Tree) -> Result<(), AllocError>
+fn add_and_or(
+    script: &mut Script,
+    x: &Tree<'_>,
+    y: &Tree<'_>,
+    z: &Tree<'_>,
+) -> Result<(), AllocError>
     requires x { IsInRange (shape x.now) }
     requires y { IsInRange (shape y.now) }
     requires z { IsInRange (shape z.now) }
@@ -79,7 +84,7 @@ fn add_and_or(script: &mut Script, x: &Tree, y: &Tree, z: &Tree) -> Result<(), A
 }
 
 #[cycle(add_tree)]
-fn add_two(script: &mut Script, kind: Two, x: &Tree, z: &Tree) -> Result<(), AllocError>
+fn add_two(script: &mut Script, kind: Two, x: &Tree<'_>, z: &Tree<'_>) -> Result<(), AllocError>
     requires x { IsInRange (shape x.now) }
     requires z { IsInRange (shape z.now) }
     ensures { OnOk result (script.new ≡ script.old ++ the_emit (tree.two kind (shape x.now) (shape z.now))) }
@@ -90,7 +95,7 @@ fn add_two(script: &mut Script, kind: Two, x: &Tree, z: &Tree) -> Result<(), All
 
 /// The first child, each further one with ADD behind it, the number and EQUAL.
 #[cycle(add_tree)]
-fn add_thresh(script: &mut Script, k: u64, children: &[Tree]) -> Result<(), AllocError>
+fn add_thresh(script: &mut Script, k: u64, children: &[Tree<'_>]) -> Result<(), AllocError>
     requires k { k < TEN_DIGITS }
     requires children { All (λ x. IsInRange (shape x)) children.now }
     ensures { OnOk result (script.new ≡ script.old ++ the_emit (tree.thresh k (shapes children.now))) }
@@ -105,7 +110,7 @@ fn add_thresh(script: &mut Script, k: u64, children: &[Tree]) -> Result<(), Allo
 }
 
 #[cycle(add_tree)]
-fn add_others(script: &mut Script, children: &[Tree]) -> Result<(), AllocError>
+fn add_others(script: &mut Script, children: &[Tree<'_>]) -> Result<(), AllocError>
     requires { All (λ x. IsInRange (shape x)) children.now }
     ensures { OnOk result (script.new ≡ script.old ++ the_added (shapes children.now)) }
 {
@@ -132,7 +137,7 @@ fn add_multi(script: &mut Script, k: u64, keys: &[Key]) -> Result<(), AllocError
 }
 
 #[cycle(add_tree)]
-fn add_wrap(script: &mut Script, wrapper: Wrapper, x: &Tree) -> Result<(), AllocError>
+fn add_wrap(script: &mut Script, wrapper: Wrapper, x: &Tree<'_>) -> Result<(), AllocError>
     requires { IsInRange (shape x.now) }
     ensures { OnOk result (script.new ≡ script.old ++ the_emit (tree.wrap wrapper (shape x.now))) }
 {

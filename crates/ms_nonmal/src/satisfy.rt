@@ -24,7 +24,7 @@ use std::alloc::{AllocError, Global};
 /// where there is no canonical satisfaction. The tree is sane. Every other stack that is accepted in the same locks passes
 /// a check of a signature that this one's run doesn't, or has a preimage that isn't the known one, or another key with
 /// the hash of a key of the tree.
-pub fn strict(alloc: Global, tree: &Tree, assets: &Assets) -> Result<Option<Stack>, AllocError>
+pub fn strict(alloc: Global, tree: &Tree<'_>, assets: &Assets) -> Result<Option<Stack>, AllocError>
     requires in_range { IsInRange (shape tree.now) }
     requires sane { IsSane (shape tree.now) }
     ensures choice { IfOk result (λ found. found ≡ the_strict (shape tree.now) assets.now) }

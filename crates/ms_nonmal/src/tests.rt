@@ -3,6 +3,7 @@ ghost use Rattle.def_tree.specs.Range.{IsInRange, IsKey};
 ghost use Rattle.ms_tree.specs.Shape.{shape};
 
 use crate::*;
+use bumpalo::Bump;
 use ms_assets::Assets;
 use ms_oracle::Locks;
 use ms_sane::{Work, check_sane};
@@ -68,11 +69,11 @@ fn filled(alloc: Global, form: &str) -> Result<String, AllocError> {
     Ok(text)
 }
 
-fn tree_of(alloc: Global, form: &str) -> Result<TextTree, Fail>
+fn tree_of<'a>(alloc: Global, arena: &'a Bump<Global>, form: &str) -> Result<TextTree<'a>, Fail>
     ensures { IfOk result (λ text. IsInRange (shape text.tree)) }
 {
     let text = filled(alloc, form)?;
-    Ok(read_text(alloc, &text).ok().ok_or("a tree")?)
+    Ok(read_text(alloc, arena, &text).ok().ok_or("a tree")?)
 }
 
 fn key(bytes: [u8; 33]) -> Result<Key, &'static str>
@@ -133,7 +134,8 @@ fn chooses(
     assets: &Assets,
     items: Option<&str>,
 ) -> Result<(), Fail> {
-    let text = tree_of(alloc, form)?;
+    let arena = Bump::new(alloc);
+    let text = tree_of(alloc, &arena, form)?;
     let tree = text.tree();
     let mut work = Work::new(alloc, tree)?;
     let Ok(_) = check_sane(tree, &mut work) else {

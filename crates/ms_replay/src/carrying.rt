@@ -51,7 +51,7 @@ pub struct Carried {
 /// accepts each such stack, so `AllocError` comes only where memory is wanting.
 pub fn carry<F: Fn(&[u8], &[u8]) -> bool>(
     alloc: Global,
-    tree: &Tree,
+    tree: &Tree<'_>,
     stack: &Stack,
     assets: &Assets,
     sigs: &SigCheck<'_, F>,
@@ -84,7 +84,7 @@ pub fn carry<F: Fn(&[u8], &[u8]) -> bool>(
 }
 
 /// The Script of a tree, as bytes.
-fn script_of_tree(alloc: Global, tree: &Tree) -> Result<Blob, AllocError>
+fn script_of_tree(alloc: Global, tree: &Tree<'_>) -> Result<Blob, AllocError>
     requires { IsInRange (shape tree.now) }
     ensures { IfOk result (λ script. script ≡ script_of (shape tree.now)) }
 {

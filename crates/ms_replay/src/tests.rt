@@ -1,6 +1,7 @@
 //! Tests: programs, witnesses and replays of worked spendings.
 
 use crate::*;
+use bumpalo::Bump;
 use ms_assets::Assets;
 use ms_hash::sha256;
 use ms_interp::{RunReport, ScriptFault};
@@ -259,7 +260,8 @@ fn carried(
     items: &[&[u8]],
     asked: &Cell<u32>,
 ) -> Result<Carried, Fail> {
-    let text = read_text(alloc, text)?;
+    let arena = Bump::new(alloc);
+    let text = read_text(alloc, &arena, text)?;
     let tree = text.tree();
     let mut work = Work::new(alloc, tree)?;
     check_valid(tree, &mut work)?;

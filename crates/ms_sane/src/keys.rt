@@ -12,13 +12,14 @@ use ms_tree::{Key, Leaf, Tree, View};
 /// The first node that holds a key which stands in an earlier node or earlier in itself. Nodes are
 /// numbered from 0, children before parents and left to right. The time that it takes grows as the
 /// square of the number of keys, of which a valid tree has few.
-pub fn repeated_key(tree: &Tree) -> Option<u32>
+pub fn repeated_key(tree: &Tree<'_>) -> Option<u32>
     requires { IsInRange (shape tree.now) }
     ensures first { result ≡ the_repeated_key (shape tree.now) }
     ensures node { IfSome result (λ node. node < nodes (shape tree.now)) }
 {
     let mut place = Place { node: 0, keys: 0 };
-    repeats_from(tree, tree, &mut place).err()
+    let whole = *tree;
+    repeats_from(&whole, tree, &mut place).err()
 }
 
 /// How many nodes and keys were passed.
@@ -30,7 +31,7 @@ struct Place {
 
 /// Passes the nodes of a part of the tree, or names the first of them that repeats a key.
 #[cycle(repeats)]
-fn repeats_from(whole: &Tree, part: &Tree, place: &mut Place) -> Result<(), u32>
+fn repeats_from(whole: &Tree<'_>, part: &Tree<'_>, place: &mut Place) -> Result<(), u32>
     requires whole { IsInRange (shape whole.now) }
     requires part { IsInRange (shape part.now) }
     requires nodes { place.old.node + nodes (shape part.now) < 2 ^ 32 }
@@ -73,7 +74,7 @@ fn repeats_from(whole: &Tree, part: &Tree, place: &mut Place) -> Result<(), u32>
 
 /// The same of several parts side by side.
 #[cycle(repeats)]
-fn repeats_from_all(whole: &Tree, parts: &[Tree], place: &mut Place) -> Result<(), u32>
+fn repeats_from_all(whole: &Tree<'_>, parts: &[Tree<'_>], place: &mut Place) -> Result<(), u32>
     requires whole { IsInRange (shape whole.now) }
     requires parts { All (λ x. IsInRange (shape x)) parts.now }
     requires nodes { place.old.node + nodes_of (shapes parts.now) < 2 ^ 32 }
@@ -89,7 +90,7 @@ fn repeats_from_all(whole: &Tree, parts: &[Tree], place: &mut Place) -> Result<(
 }
 
 /// Passes the next node, which holds these keys itself, or names it.
-fn of_node(whole: &Tree, own: &[Key], place: &mut Place) -> Result<(), u32>
+fn of_node(whole: &Tree<'_>, own: &[Key], place: &mut Place) -> Result<(), u32>
     requires whole { IsInRange (shape whole.now) }
     requires node { place.old.node + 1 < 2 ^ 32 }
     requires keys { place.old.keys + length own.now < 2 ^ 32 }
@@ -108,7 +109,7 @@ fn of_node(whole: &Tree, own: &[Key], place: &mut Place) -> Result<(), u32>
 }
 
 /// Whether a key is one of the first so many keys of a tree.
-fn is_among_first(tree: &Tree, key: &Key, count: u32) -> bool
+fn is_among_first(tree: &Tree<'_>, key: &Key, count: u32) -> bool
     requires { IsInRange (shape tree.now) }
     ensures { result ≡ is_among key.now count (the_keys (shape tree.now)) }
 {
@@ -118,7 +119,7 @@ fn is_among_first(tree: &Tree, key: &Key, count: u32) -> bool
 
 /// Whether a key is one of the first `left` keys of a tree. Those that are passed are taken off `left`.
 #[cycle(found)]
-fn is_found(tree: &Tree, key: &Key, left: &mut u32) -> bool
+fn is_found(tree: &Tree<'_>, key: &Key, left: &mut u32) -> bool
     requires { IsInRange (shape tree.now) }
     ensures found { result ≡ the_is_found key.now left.old (shape tree.now) }
     ensures left { result ≡ false → left.new ≡ left.old - length (the_keys (shape tree.now)) }
@@ -139,7 +140,7 @@ fn is_found(tree: &Tree, key: &Key, left: &mut u32) -> bool
 }
 
 #[cycle(found)]
-fn is_found_in(children: &[Tree], key: &Key, left: &mut u32) -> bool
+fn is_found_in(children: &[Tree<'_>], key: &Key, left: &mut u32) -> bool
     requires { All (λ x. IsInRange (shape x)) children.now }
     ensures found { result ≡ the_is_found_in key.now left.old (shapes children.now) }
     ensures left { result ≡ false → left.new ≡ left.old - length (keys_of_all (shapes children.now)) }

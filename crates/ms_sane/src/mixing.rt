@@ -12,7 +12,7 @@ use ms_tree::{Tree, Two, View};
 /// The first node that mixes timelocks: two of its children that may have to be satisfied together hold
 /// a time and a height, both relative or both absolute. Nodes are numbered from 0, children before
 /// parents and left to right.
-pub fn mix(tree: &Tree) -> Option<u32>
+pub fn mix(tree: &Tree<'_>) -> Option<u32>
     requires { IsInRange (shape tree.now) }
     ensures first { result ≡ the_mix (shape tree.now) }
     ensures node { IfSome result (λ node. node < nodes (shape tree.now)) }
@@ -23,7 +23,7 @@ pub fn mix(tree: &Tree) -> Option<u32>
 /// The kinds of a tree's locks, or the first node that mixes, where the nodes are numbered from `next`
 /// on, which is set behind the last node.
 #[cycle(mix)]
-fn kinds_from(tree: &Tree, next: &mut u32) -> Result<Kinds, u32>
+fn kinds_from(tree: &Tree<'_>, next: &mut u32) -> Result<Kinds, u32>
     requires range { IsInRange (shape tree.now) }
     requires room { next.old + nodes (shape tree.now) < 2 ^ 32 }
     ensures kinds { result ≡ the_kinds_from next.old (shape tree.now) }
@@ -56,7 +56,7 @@ fn kinds_from(tree: &Tree, next: &mut u32) -> Result<Kinds, u32>
 
 /// What a threshold needs to know of its children, whose nodes are numbered from `next` on.
 #[cycle(mix)]
-fn together_from(children: &[Tree], next: &mut u32) -> Result<Together, u32>
+fn together_from(children: &[Tree<'_>], next: &mut u32) -> Result<Together, u32>
     requires range { All (λ x. IsInRange (shape x)) children.now }
     requires room { next.old + nodes_of (shapes children.now) < 2 ^ 32 }
     ensures children { result ≡ together_of (kinds_from_each next.old (shapes children.now)) }

@@ -23,7 +23,7 @@ const PREIMAGE: u64 = 32;
 /// What the formal satisfactions and dissatisfactions of a tree take at most, each number by itself. Of
 /// the slots it writes at most as many as the tree has nodes.
 #[cycle(most)]
-pub fn most(tree: &Tree, slots: &mut [Slot]) -> Most
+pub fn most(tree: &Tree<'_>, slots: &mut [Slot]) -> Most
     requires { IsReady (shape tree.now) (length slots.old) }
     ensures sat { taken result.sat ≡ most_sat (shape tree.now) }
     ensures dsat { taken result.dsat ≡ most_dsat (shape tree.now) }
@@ -71,7 +71,7 @@ fn of_leaf(leaf: Leaf) -> Most
 }
 
 #[cycle(most)]
-fn of_and_or(x: &Tree, y: &Tree, z: &Tree, slots: &mut [Slot]) -> Most
+fn of_and_or(x: &Tree<'_>, y: &Tree<'_>, z: &Tree<'_>, slots: &mut [Slot]) -> Most
     requires x { IsReady (shape x.now) (length slots.old) }
     requires y { IsReady (shape y.now) (length slots.old) }
     requires z { IsReady (shape z.now) (length slots.old) }
@@ -88,7 +88,7 @@ fn of_and_or(x: &Tree, y: &Tree, z: &Tree, slots: &mut [Slot]) -> Most
 }
 
 #[cycle(most)]
-fn of_two(kind: Two, x: &Tree, z: &Tree, slots: &mut [Slot]) -> Most
+fn of_two(kind: Two, x: &Tree<'_>, z: &Tree<'_>, slots: &mut [Slot]) -> Most
     requires x { IsReady (shape x.now) (length slots.old) }
     requires z { IsReady (shape z.now) (length slots.old) }
     ensures sat { taken result.sat ≡ most_sat (tree.two kind (shape x.now) (shape z.now)) }
@@ -128,7 +128,7 @@ fn of_two(kind: Two, x: &Tree, z: &Tree, slots: &mut [Slot]) -> Most
 }
 
 #[cycle(most)]
-fn of_thresh(k: u64, children: &[Tree], slots: &mut [Slot]) -> Most
+fn of_thresh(k: u64, children: &[Tree<'_>], slots: &mut [Slot]) -> Most
     requires in_range { All (λ x. IsInRange (shape x)) children.now }
     requires typed { All (λ x. IsTyped (shape x)) children.now }
     requires few { measure_of (shapes children.now) ≤ MOST_MEASURE }
@@ -161,7 +161,7 @@ fn of_multi(k: u64, keys: &[Key]) -> Most
 }
 
 #[cycle(most)]
-fn of_wrap(wrapper: Wrapper, x: &Tree, slots: &mut [Slot]) -> Most
+fn of_wrap(wrapper: Wrapper, x: &Tree<'_>, slots: &mut [Slot]) -> Most
     requires { IsReady (shape x.now) (length slots.old) }
     ensures sat { taken result.sat ≡ most_sat (tree.wrap wrapper (shape x.now)) }
     ensures dsat { taken result.dsat ≡ most_dsat (tree.wrap wrapper (shape x.now)) }

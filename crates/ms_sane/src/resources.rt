@@ -17,7 +17,7 @@ use ms_tree::Tree;
 /// The limits of a tree: the length of its Script in bytes, its opcodes with the keys of `multi`
 /// fragments that are executed, and the items and the weight of its satisfactions, each the greatest over
 /// all formal satisfactions (BIP 379, resource limits). Items and weight are 0 where there is none.
-pub fn limits(tree: &Tree, work: &mut Work) -> Limits
+pub fn limits(tree: &Tree<'_>, work: &mut Work) -> Limits
     requires in_range { IsInRange (shape tree.now) }
     requires typed { IsOk (corr (shape tree.now)) }
     requires room { 4 * measure (shape tree.now) ≤ vec_len work.old.slots }
@@ -35,7 +35,7 @@ pub fn limits(tree: &Tree, work: &mut Work) -> Limits
 
 /// What the formal satisfactions of a tree take at most, each number by itself, or nothing where it has
 /// none.
-fn most_taken(tree: &Tree, work: &mut Work) -> Takes
+fn most_taken(tree: &Tree<'_>, work: &mut Work) -> Takes
     requires in_range { IsInRange (shape tree.now) }
     requires typed { IsOk (corr (shape tree.now)) }
     requires room { 4 * measure (shape tree.now) ≤ vec_len work.old.slots }

@@ -17,7 +17,7 @@ use ms_types::mall;
 /// Both types and the limits of a sane tree, or the first reason against the tree: one against its being
 /// valid, a requirement on its malleability properties that is false, a top that can be satisfied without
 /// a signature, a node that mixes timelocks, or a node with a key that stands before.
-pub fn check_sane(tree: &Tree, work: &mut Work) -> Result<Sane, Unfit>
+pub fn check_sane(tree: &Tree<'_>, work: &mut Work) -> Result<Sane, Unfit>
     requires in_range { IsInRange (shape tree.now) }
     requires room { 4 * measure (shape tree.now) ≤ vec_len work.old.slots }
     ensures sane { IfOk result (λ sane. IsKnownSane (shape tree.now) sane) }

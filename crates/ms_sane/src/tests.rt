@@ -5,6 +5,7 @@ ghost use Rattle.ms_sane.specs.Takes.{IsLightOption};
 use crate::choice::Tally;
 use crate::takes::{Most, Takes};
 use crate::*;
+use bumpalo::Bump;
 use ms_tree::{Key, Leaf, Two, Wrapper, leaf, two, wrap};
 use ms_types::Base;
 use std::test::Fail;
@@ -117,9 +118,8 @@ fn key(first: u8) -> Result<Key, &'static str>
 #[test]
 fn a_key_is_sane(rt: HostRuntime) -> Result<(), Fail> {
     let alloc = rt.alloc();
-    let tree = wrap(alloc, Wrapper::C, leaf(alloc, Leaf::PkK(key(2)?))?)
-        .ok()
-        .ok_or("memory")?;
+    let arena = Bump::new(alloc);
+    let tree = wrap(&arena, Wrapper::C, leaf(&arena, Leaf::PkK(key(2)?))?)?;
     let mut work = Work::new(alloc, &tree)?;
     let sane = check_sane(&tree, &mut work).ok().ok_or("a sane tree")?;
     let limits = Limits {
@@ -140,12 +140,10 @@ fn a_key_is_sane(rt: HostRuntime) -> Result<(), Fail> {
 
 #[test]
 fn a_height_and_a_time_are_mixed(rt: HostRuntime) -> Result<(), Fail> {
-    let alloc = rt.alloc();
-    let height = leaf(alloc, Leaf::Older(10))?;
-    let time = wrap(alloc, Wrapper::A, leaf(alloc, Leaf::Older(4_194_314))?)
-        .ok()
-        .ok_or("memory")?;
-    let both = two(alloc, Two::AndB, height, time).ok().ok_or("memory")?;
+    let arena = Bump::new(rt.alloc());
+    let height = leaf(&arena, Leaf::Older(10))?;
+    let time = wrap(&arena, Wrapper::A, leaf(&arena, Leaf::Older(4_194_314))?)?;
+    let both = two(&arena, Two::AndB, height, time)?;
     assert_eq!(rt; mix(&both), Some(3));
     Ok(())
 }
@@ -153,14 +151,11 @@ fn a_height_and_a_time_are_mixed(rt: HostRuntime) -> Result<(), Fail> {
 #[test]
 fn a_key_stands_once(rt: HostRuntime) -> Result<(), Fail> {
     let alloc = rt.alloc();
-    let first = wrap(alloc, Wrapper::C, leaf(alloc, Leaf::PkK(key(2)?))?)
-        .ok()
-        .ok_or("memory")?;
-    let verified = wrap(alloc, Wrapper::V, first).ok().ok_or("memory")?;
-    let again = wrap(alloc, Wrapper::C, leaf(alloc, Leaf::PkH(key(2)?))?)
-        .ok()
-        .ok_or("memory")?;
-    let tree = two(alloc, Two::AndV, verified, again).ok().ok_or("memory")?;
+    let arena = Bump::new(alloc);
+    let first = wrap(&arena, Wrapper::C, leaf(&arena, Leaf::PkK(key(2)?))?)?;
+    let verified = wrap(&arena, Wrapper::V, first)?;
+    let again = wrap(&arena, Wrapper::C, leaf(&arena, Leaf::PkH(key(2)?))?)?;
+    let tree = two(&arena, Two::AndV, verified, again)?;
     let mut work = Work::new(alloc, &tree)?;
     assert_eq!(rt;
         check_sane(&tree, &mut work).err(),

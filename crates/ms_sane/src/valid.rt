@@ -24,7 +24,7 @@ const MOST_ITEMS: u64 = 100;
 /// The type and the limits of a valid tree, or the first reason against the tree: a requirement of its
 /// type that is false, a top that isn't B, a Script that is too large, too many opcodes, or too many
 /// items of a satisfaction.
-pub fn check_valid(tree: &Tree, work: &mut Work) -> Result<Valid, Unfit>
+pub fn check_valid(tree: &Tree<'_>, work: &mut Work) -> Result<Valid, Unfit>
     requires in_range { IsInRange (shape tree.now) }
     requires room { 4 * measure (shape tree.now) ≤ vec_len work.old.slots }
     ensures valid { IfOk result (λ valid. IsKnownValid (shape tree.now) valid) }

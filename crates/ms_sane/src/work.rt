@@ -25,7 +25,7 @@ pub struct Work {
 
 impl Work {
     /// Room for this tree: four slots for each node and each key of a `multi`.
-    pub fn new(alloc: Global, tree: &Tree) -> Result<Work, AllocError>
+    pub fn new(alloc: Global, tree: &Tree<'_>) -> Result<Work, AllocError>
         requires { IsInRange (shape tree.now) }
         ensures { IfOk result (λ work. vec_len work.slots ≡ 4 * measure (shape tree.now)) }
     {

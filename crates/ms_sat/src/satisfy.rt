@@ -46,7 +46,11 @@ use std::alloc::{AllocError, Global};
 /// weight, and of several of that weight the first one. `None` where there is no canonical satisfaction.
 /// The tree is valid. So what the interpreter accepts of it is a satisfaction, and the letters of its types and of
 /// its nodes' say of all stacks what BIP 379 says of them.
-pub fn cheapest(alloc: Global, tree: &Tree, assets: &Assets) -> Result<Option<Stack>, AllocError>
+pub fn cheapest(
+    alloc: Global,
+    tree: &Tree<'_>,
+    assets: &Assets,
+) -> Result<Option<Stack>, AllocError>
     requires in_range { IsInRange (shape tree.now) }
     requires valid { IsValid (shape tree.now) }
     ensures choice { IfOk result (λ found. found ≡ the_cheapest (shape tree.now) assets.now) }
@@ -65,7 +69,7 @@ pub fn cheapest(alloc: Global, tree: &Tree, assets: &Assets) -> Result<Option<St
 pub fn satisfaction(
     alloc: Global,
     rule: Rule,
-    tree: &Tree,
+    tree: &Tree<'_>,
     assets: &Assets,
 ) -> Result<Option<Stack>, AllocError>
     requires in_range { IsInRange (shape tree.now) }
@@ -200,7 +204,7 @@ fn push_part(part: Part<'_>, assets: &Assets, stack: &mut Stack) -> Result<(), A
 /// others, the first child's on top. The entries are those of all children, one behind the other.
 #[cycle(satisfy)]
 fn push_children(
-    children: &[Tree],
+    children: &[Tree<'_>],
     table: &[Entry],
     choice: &Option<Choice>,
     assets: &Assets,
@@ -230,7 +234,7 @@ fn push_children(
 /// Pushes the dissatisfactions of all children, the first one's on top.
 #[cycle(satisfy)]
 fn dissatisfy_all(
-    children: &[Tree],
+    children: &[Tree<'_>],
     table: &[Entry],
     assets: &Assets,
     stack: &mut Stack,

@@ -183,7 +183,7 @@ fn weight_of(choice: &Option<Choice>) -> Option<u64>
 /// as many as the tree's measure.
 #[cycle(weigh_nodes)]
 pub fn weigh_nodes(
-    tree: &Tree,
+    tree: &Tree<'_>,
     rule: Rule,
     assets: &Assets,
     slots: &mut [Slot],
@@ -204,7 +204,7 @@ pub fn weigh_nodes(
 /// Weighs a tree, and adds the nodes below its root.
 #[cycle(weigh_nodes)]
 fn weigh_root(
-    tree: &Tree,
+    tree: &Tree<'_>,
     rule: Rule,
     assets: &Assets,
     slots: &mut [Slot],
@@ -240,7 +240,7 @@ fn weigh_root(
 #[cycle(weigh_nodes)]
 fn weigh_thresh(
     k: u64,
-    children: &[Tree],
+    children: &[Tree<'_>],
     rule: Rule,
     assets: &Assets,
     slots: &mut [Slot],
@@ -308,7 +308,7 @@ fn weigh_multi(k: u64, keys: &[Key], assets: &Assets, slots: &mut [Slot]) -> Wei
 }
 
 /// The entries are those of the three parts, one behind the other.
-fn weigh_and_or(x: &Tree, y: &Tree, z: &Tree, table: &[Entry]) -> Weighed
+fn weigh_and_or(x: &Tree<'_>, y: &Tree<'_>, z: &Tree<'_>, table: &[Entry]) -> Weighed
     requires x { IsInRange (shape x.now) }
     requires y { IsInRange (shape y.now) }
     requires z { IsInRange (shape z.now) }
@@ -323,7 +323,7 @@ fn weigh_and_or(x: &Tree, y: &Tree, z: &Tree, table: &[Entry]) -> Weighed
     )
 }
 
-fn weigh_two(kind: Two, x: &Tree, z: &Tree, table: &[Entry]) -> Weighed
+fn weigh_two(kind: Two, x: &Tree<'_>, z: &Tree<'_>, table: &[Entry]) -> Weighed
     requires x { IsInRange (shape x.now) }
     requires z { IsInRange (shape z.now) }
     requires table { (rule : By) × (assets : Held) × AreEntries rule assets (all_nodes (shape x.now) ++ all_nodes (shape z.now)) table.now }
@@ -336,7 +336,7 @@ fn weigh_two(kind: Two, x: &Tree, z: &Tree, table: &[Entry]) -> Weighed
     )
 }
 
-fn weigh_wrap(wrapper: Wrapper, x: &Tree, table: &[Entry]) -> Weighed
+fn weigh_wrap(wrapper: Wrapper, x: &Tree<'_>, table: &[Entry]) -> Weighed
     requires x { IsInRange (shape x.now) }
     requires table { (rule : By) × (assets : Held) × AreEntries rule assets (all_nodes (shape x.now)) table.now }
     ensures { (rule : By) (assets : Held) → AreEntries rule assets (all_nodes (shape x.now)) table.now → IsWeighed rule assets (tree.wrap wrapper (shape x.now)) result }

@@ -5,6 +5,7 @@ ghost use Rattle.ms_sat.specs.Costs.{IsLight, IsLightOption};
 
 use crate::tally::{Choice, Tally};
 use crate::*;
+use bumpalo::Bump;
 use ms_assets::Assets;
 use ms_hash::{HashVal, sha256};
 use ms_oracle::Locks;
@@ -40,17 +41,26 @@ fn key(bytes: [u8; 33]) -> Result<Key, &'static str>
     Key::from_bytes(&bytes).ok_or("a key")
 }
 
-fn with_wrapper(alloc: Global, wrapper: Wrapper, x: Tree) -> Result<Tree, Fail>
+fn with_wrapper<'a>(
+    arena: &'a Bump<Global>,
+    wrapper: Wrapper,
+    x: Tree<'a>,
+) -> Result<Tree<'a>, Fail>
     requires { IsInRange (shape x) }
     ensures { IfOk result (λ t. IsInRange (shape t)) }
 {
     if x.measure() > 1000 || x.depth() > 100 {
         return Err("too large")?;
     }
-    Ok(wrap(alloc, wrapper, x).ok().ok_or("memory")?)
+    Ok(wrap(arena, wrapper, x)?)
 }
 
-fn of_two(alloc: Global, kind: Two, x: Tree, z: Tree) -> Result<Tree, Fail>
+fn of_two<'a>(
+    arena: &'a Bump<Global>,
+    kind: Two,
+    x: Tree<'a>,
+    z: Tree<'a>,
+) -> Result<Tree<'a>, Fail>
     requires x { IsInRange (shape x) }
     requires z { IsInRange (shape z) }
     ensures { IfOk result (λ t. IsInRange (shape t)) }
@@ -58,26 +68,33 @@ fn of_two(alloc: Global, kind: Two, x: Tree, z: Tree) -> Result<Tree, Fail>
     if x.measure() > 1000 || x.depth() > 100 || z.measure() > 1000 || z.depth() > 100 {
         return Err("too large")?;
     }
-    Ok(two(alloc, kind, x, z).ok().ok_or("memory")?)
+    Ok(two(arena, kind, x, z)?)
 }
 
 /// `pk(key)`
-fn pk(alloc: Global, bytes: [u8; 33]) -> Result<Tree, Fail>
+fn pk<'a>(arena: &'a Bump<Global>, bytes: [u8; 33]) -> Result<Tree<'a>, Fail>
     ensures { IfOk result (λ t. IsInRange (shape t)) }
 {
-    let key = leaf(alloc, Leaf::PkK(key(bytes)?))?;
-    with_wrapper(alloc, Wrapper::C, key)
+    let key = leaf(arena, Leaf::PkK(key(bytes)?))?;
+    with_wrapper(arena, Wrapper::C, key)
 }
 
 /// `s:pk(key)`
-fn s_pk(alloc: Global, bytes: [u8; 33]) -> Result<Tree, Fail>
+fn s_pk<'a>(arena: &'a Bump<Global>, bytes: [u8; 33]) -> Result<Tree<'a>, Fail>
     ensures { IfOk result (λ t. IsInRange (shape t)) }
 {
-    with_wrapper(alloc, Wrapper::S, pk(alloc, bytes)?)
+    with_wrapper(arena, Wrapper::S, pk(arena, bytes)?)
 }
 
 /// `thresh(k,x,y,z)`
-fn thresh_of_three(alloc: Global, k: u8, x: Tree, y: Tree, z: Tree) -> Result<Tree, Fail>
+fn thresh_of_three<'a>(
+    alloc: Global,
+    arena: &'a Bump<Global>,
+    k: u8,
+    x: Tree<'a>,
+    y: Tree<'a>,
+    z: Tree<'a>,
+) -> Result<Tree<'a>, Fail>
     requires x { IsInRange (shape x) }
     requires y { IsInRange (shape y) }
     requires z { IsInRange (shape z) }
@@ -90,11 +107,17 @@ fn thresh_of_three(alloc: Global, k: u8, x: Tree, y: Tree, z: Tree) -> Result<Tr
         return Err("too deep")?;
     }
     let children = Vec::from_array(alloc, [x, y, z])?;
-    Ok(thresh(alloc, u64::from(k), children).ok().ok_or("memory")?)
+    Ok(thresh(arena, u64::from(k), children)?)
 }
 
 /// `thresh(k,x,y)`
-fn thresh_of_two(alloc: Global, k: u8, x: Tree, y: Tree) -> Result<Tree, Fail>
+fn thresh_of_two<'a>(
+    alloc: Global,
+    arena: &'a Bump<Global>,
+    k: u8,
+    x: Tree<'a>,
+    y: Tree<'a>,
+) -> Result<Tree<'a>, Fail>
     requires x { IsInRange (shape x) }
     requires y { IsInRange (shape y) }
     ensures { IfOk result (λ t. IsInRange (shape t)) }
@@ -103,28 +126,28 @@ fn thresh_of_two(alloc: Global, k: u8, x: Tree, y: Tree) -> Result<Tree, Fail>
         return Err("too large")?;
     }
     let children = Vec::from_array(alloc, [x, y])?;
-    Ok(thresh(alloc, u64::from(k), children).ok().ok_or("memory")?)
+    Ok(thresh(arena, u64::from(k), children)?)
 }
 
 /// `sha256(h)` of the SHA-256 of a preimage.
-fn hash_lock(alloc: Global, preimage: &[u8; 32]) -> Result<Tree, Fail>
+fn hash_lock<'a>(arena: &'a Bump<Global>, preimage: &[u8; 32]) -> Result<Tree<'a>, Fail>
     ensures { IfOk result (λ t. IsInRange (shape t)) }
 {
-    Ok(leaf(alloc, Leaf::Hash(HashVal::Sha256(sha256(preimage))))?)
+    Ok(leaf(arena, Leaf::Hash(HashVal::Sha256(sha256(preimage))))?)
 }
 
 /// `and_v(v:sha256(h1),and_v(v:sha256(h2),last))`
-fn behind_two_hashes(alloc: Global, last: Tree) -> Result<Tree, Fail>
+fn behind_two_hashes<'a>(arena: &'a Bump<Global>, last: Tree<'a>) -> Result<Tree<'a>, Fail>
     requires { IsInRange (shape last) }
     ensures { IfOk result (λ t. IsInRange (shape t)) }
 {
-    let second = with_wrapper(alloc, Wrapper::V, hash_lock(alloc, &[0x22; 32])?)?;
-    let first = with_wrapper(alloc, Wrapper::V, hash_lock(alloc, &[0x11; 32])?)?;
+    let second = with_wrapper(arena, Wrapper::V, hash_lock(arena, &[0x22; 32])?)?;
+    let first = with_wrapper(arena, Wrapper::V, hash_lock(arena, &[0x11; 32])?)?;
     of_two(
-        alloc,
+        arena,
         Two::AndV,
         first,
-        of_two(alloc, Two::AndV, second, last)?,
+        of_two(arena, Two::AndV, second, last)?,
     )
 }
 
@@ -165,7 +188,7 @@ fn holds(stack: &Stack, items: &[&[u8]]) -> bool {
 fn chooses(
     rt: &impl Abort,
     alloc: Global,
-    tree: &Tree,
+    tree: &Tree<'_>,
     assets: &Assets,
     weights: Costs,
     items: Option<&[&[u8]]>,
@@ -210,8 +233,9 @@ fn the_lightest_signatures_are_taken_in_the_order_of_their_keys(
     rt: HostRuntime,
 ) -> Result<(), Fail> {
     let alloc = rt.alloc();
+    let arena = Bump::new(alloc);
     let keys = Vec::from_array(alloc, [key(A)?, key(B)?, key(C)?])?;
-    let tree = multi(alloc, 2, keys).ok().ok_or("memory")?;
+    let tree = multi(&arena, 2, keys)?;
     let sigs: [([u8; 33], &[u8]); 3] = [(C, &SIG_C), (B, &SIG_B), (A, &SIG_A)];
     let assets = assets_of(alloc, 0, &sigs, &[])?;
     let items: [&[u8]; 3] = [&[], &SIG_A, &SIG_C];
@@ -226,24 +250,25 @@ fn the_lightest_signatures_are_taken_in_the_order_of_their_keys(
 }
 
 /// `or_d(pk(A),and_v(v:pkh(B),older(144)))`
-fn key_or_late_key(alloc: Global) -> Result<Tree, Fail>
+fn key_or_late_key<'a>(arena: &'a Bump<Global>) -> Result<Tree<'a>, Fail>
     ensures { IfOk result (λ t. IsInRange (shape t)) }
 {
-    let pkh = with_wrapper(alloc, Wrapper::C, leaf(alloc, Leaf::PkH(key(B)?))?)?;
-    let lock = leaf(alloc, Leaf::Older(144))?;
+    let pkh = with_wrapper(arena, Wrapper::C, leaf(arena, Leaf::PkH(key(B)?))?)?;
+    let lock = leaf(arena, Leaf::Older(144))?;
     let late = of_two(
-        alloc,
+        arena,
         Two::AndV,
-        with_wrapper(alloc, Wrapper::V, pkh)?,
+        with_wrapper(arena, Wrapper::V, pkh)?,
         lock,
     )?;
-    of_two(alloc, Two::OrD, pk(alloc, A)?, late)
+    of_two(arena, Two::OrD, pk(arena, A)?, late)
 }
 
 #[test]
 fn a_lock_has_to_hold(rt: HostRuntime) -> Result<(), Fail> {
     let alloc = rt.alloc();
-    let tree = key_or_late_key(alloc)?;
+    let arena = Bump::new(alloc);
+    let tree = key_or_late_key(&arena)?;
     let sigs: [([u8; 33], &[u8]); 1] = [(B, &SIG_B)];
     let items: [&[u8]; 3] = [&SIG_B, &B, &[]];
     let assets = assets_of(alloc, 144, &sigs, &[])?;
@@ -258,10 +283,11 @@ fn a_lock_has_to_hold(rt: HostRuntime) -> Result<(), Fail> {
 #[test]
 fn children_of_least_difference_are_satisfied(rt: HostRuntime) -> Result<(), Fail> {
     let alloc = rt.alloc();
-    let third = with_wrapper(alloc, Wrapper::V, hash_lock(alloc, &[0x33; 32])?)?;
-    let last = of_two(alloc, Two::AndV, third, leaf(alloc, Leaf::One)?)?;
-    let hashes = with_wrapper(alloc, Wrapper::J, behind_two_hashes(alloc, last)?)?;
-    let tree = thresh_of_three(alloc, 2, hashes, s_pk(alloc, A)?, s_pk(alloc, B)?)?;
+    let arena = Bump::new(alloc);
+    let third = with_wrapper(&arena, Wrapper::V, hash_lock(&arena, &[0x33; 32])?)?;
+    let last = of_two(&arena, Two::AndV, third, leaf(&arena, Leaf::One)?)?;
+    let hashes = with_wrapper(&arena, Wrapper::J, behind_two_hashes(&arena, last)?)?;
+    let tree = thresh_of_three(alloc, &arena, 2, hashes, s_pk(&arena, A)?, s_pk(&arena, B)?)?;
     let sigs: [([u8; 33], &[u8]); 2] = [(A, &SIG_A), (B, &SIG_B)];
     let preimages = [[0x11; 32], [0x22; 32], [0x33; 32]];
     let assets = assets_of(alloc, 0, &sigs, &preimages)?;
@@ -272,10 +298,11 @@ fn children_of_least_difference_are_satisfied(rt: HostRuntime) -> Result<(), Fai
 #[test]
 fn the_lighter_branch_is_taken(rt: HostRuntime) -> Result<(), Fail> {
     let alloc = rt.alloc();
-    let hashes = behind_two_hashes(alloc, hash_lock(alloc, &[0x33; 32])?)?;
-    let either = of_two(alloc, Two::OrI, pk(alloc, A)?, hashes)?;
-    let first = with_wrapper(alloc, Wrapper::V, pk(alloc, B)?)?;
-    let tree = of_two(alloc, Two::AndV, first, either)?;
+    let arena = Bump::new(alloc);
+    let hashes = behind_two_hashes(&arena, hash_lock(&arena, &[0x33; 32])?)?;
+    let either = of_two(&arena, Two::OrI, pk(&arena, A)?, hashes)?;
+    let first = with_wrapper(&arena, Wrapper::V, pk(&arena, B)?)?;
+    let tree = of_two(&arena, Two::AndV, first, either)?;
     let sigs: [([u8; 33], &[u8]); 2] = [(A, &SIG_A), (B, &SIG_B)];
     let preimages = [[0x11; 32], [0x22; 32], [0x33; 32]];
     let assets = assets_of(alloc, 0, &sigs, &preimages)?;
@@ -286,8 +313,9 @@ fn the_lighter_branch_is_taken(rt: HostRuntime) -> Result<(), Fail> {
 #[test]
 fn zeros_that_hash_to_the_value_dissatisfy_nothing(rt: HostRuntime) -> Result<(), Fail> {
     let alloc = rt.alloc();
-    let hash = hash_lock(alloc, &[0; 32])?;
-    let tree = thresh_of_two(alloc, 1, hash, s_pk(alloc, A)?)?;
+    let arena = Bump::new(alloc);
+    let hash = hash_lock(&arena, &[0; 32])?;
+    let tree = thresh_of_two(alloc, &arena, 1, hash, s_pk(&arena, A)?)?;
     let sigs: [([u8; 33], &[u8]); 1] = [(A, &SIG_A)];
     let assets = assets_of(alloc, 0, &sigs, &[])?;
     chooses(&rt, alloc, &tree, &assets, NEITHER, None)?;
@@ -299,36 +327,38 @@ fn zeros_that_hash_to_the_value_dissatisfy_nothing(rt: HostRuntime) -> Result<()
 #[test]
 fn of_equal_weights_the_first_is_taken(rt: HostRuntime) -> Result<(), Fail> {
     let alloc = rt.alloc();
+    let arena = Bump::new(alloc);
     let other = [0xbb; 71];
     let sigs: [([u8; 33], &[u8]); 2] = [(B, &other), (A, &SIG_A)];
     let assets = assets_of(alloc, 0, &sigs, &[])?;
     let items: [&[u8]; 2] = [&[], &SIG_A];
-    let tree = thresh_of_two(alloc, 1, pk(alloc, A)?, s_pk(alloc, B)?)?;
+    let tree = thresh_of_two(alloc, &arena, 1, pk(&arena, A)?, s_pk(&arena, B)?)?;
     chooses(&rt, alloc, &tree, &assets, weigh(73, 2), Some(&items))?;
     let keys = Vec::from_array(alloc, [key(A)?, key(B)?])?;
-    let tree = multi(alloc, 1, keys).ok().ok_or("memory")?;
+    let tree = multi(&arena, 1, keys)?;
     chooses(&rt, alloc, &tree, &assets, weigh(73, 2), Some(&items))?;
-    let tree = of_two(alloc, Two::OrB, pk(alloc, A)?, s_pk(alloc, B)?)?;
+    let tree = of_two(&arena, Two::OrB, pk(&arena, A)?, s_pk(&arena, B)?)?;
     chooses(&rt, alloc, &tree, &assets, weigh(73, 2), Some(&items))?;
     // The push for the second branch is the lighter one.
     let items: [&[u8]; 2] = [&other, &[]];
-    let tree = of_two(alloc, Two::OrI, pk(alloc, A)?, pk(alloc, B)?)?;
+    let tree = of_two(&arena, Two::OrI, pk(&arena, A)?, pk(&arena, B)?)?;
     chooses(&rt, alloc, &tree, &assets, weigh(73, 2), Some(&items))
 }
 
 #[test]
 fn the_third_of_three_stands_for_the_second(rt: HostRuntime) -> Result<(), Fail> {
     let alloc = rt.alloc();
-    let x = pk(alloc, A)?;
-    let y = pk(alloc, B)?;
-    let z = pk(alloc, C)?;
+    let arena = Bump::new(alloc);
+    let x = pk(&arena, A)?;
+    let y = pk(&arena, B)?;
+    let z = pk(&arena, C)?;
     if x.measure() > 1000 || x.depth() > 100 || y.measure() > 1000 || y.depth() > 100 {
         return Err("too large")?;
     }
     if z.measure() > 1000 || z.depth() > 100 {
         return Err("too large")?;
     }
-    let tree = and_or(alloc, x, y, z).ok().ok_or("memory")?;
+    let tree = and_or(&arena, x, y, z)?;
     let sigs: [([u8; 33], &[u8]); 3] = [(A, &SIG_A), (B, &SIG_B), (C, &SIG_C)];
     let assets = assets_of(alloc, 0, &sigs, &[])?;
     let items: [&[u8]; 2] = [&SIG_C, &[]];

@@ -23,7 +23,7 @@ use ms_tree::{Tree, Two, Wrapper};
 /// A tree, and what was weighed of its nodes, in the order of their numbers.
 #[derive(Clone, Copy)]
 pub struct Seen<'t> {
-    pub tree: &'t Tree,
+    pub tree: &'t Tree<'t>,
     pub table: &'t [Entry],
 }
 
@@ -47,7 +47,7 @@ impl<'t> Seen<'t> {
 }
 
 /// The last one of the trees in a row whose entries these are, and the entries before its own.
-pub fn see_last<'t>(tree: &'t Tree, table: &'t [Entry]) -> (&'t [Entry], Seen<'t>)
+pub fn see_last<'t>(tree: &'t Tree<'t>, table: &'t [Entry]) -> (&'t [Entry], Seen<'t>)
     requires in_range { IsInRange (shape tree.now) }
     requires table { EndsWith (shape tree.now) table.now }
     ensures tree { tree_of result.1 ≡ shape tree.entry.now }
@@ -60,7 +60,7 @@ pub fn see_last<'t>(tree: &'t Tree, table: &'t [Entry]) -> (&'t [Entry], Seen<'t
 }
 
 /// Two trees in a row.
-pub fn see_two<'t>(x: &'t Tree, z: &'t Tree, table: &'t [Entry]) -> (Seen<'t>, Seen<'t>)
+pub fn see_two<'t>(x: &'t Tree<'t>, z: &'t Tree<'t>, table: &'t [Entry]) -> (Seen<'t>, Seen<'t>)
     requires x { IsInRange (shape x.now) }
     requires z { IsInRange (shape z.now) }
     requires table { (rule : Rule) × (assets : Held) × AreEntries rule assets (all_nodes (shape x.now) ++ all_nodes (shape z.now)) table.now }

@@ -34,7 +34,7 @@ pub const ZEROS: [u8; 32] = [0; 32];
 /// The least weight of a canonical satisfaction of a tree with these assets, and of a canonical
 /// dissatisfaction, each `None` where there is none. The tree is valid, and `work` has at least four
 /// slots for each unit of its measure. Takes no memory.
-pub fn costs(tree: &Tree, assets: &Assets, work: &mut Work) -> Costs
+pub fn costs(tree: &Tree<'_>, assets: &Assets, work: &mut Work) -> Costs
     requires in_range { IsInRange (shape tree.now) }
     requires valid { IsValid (shape tree.now) }
     requires room { 4 * measure (shape tree.now) ≤ vec_len work.old.slots }
@@ -51,7 +51,7 @@ pub fn costs(tree: &Tree, assets: &Assets, work: &mut Work) -> Costs
 
 /// The least weights of a tree. Of the slots it writes at most as many as the tree's measure.
 #[cycle(weigh)]
-pub fn weigh(tree: &Tree, assets: &Assets, slots: &mut [Slot]) -> Costs
+pub fn weigh(tree: &Tree<'_>, assets: &Assets, slots: &mut [Slot]) -> Costs
     requires { IsReady (shape tree.now) assets.now (length slots.old) }
     ensures sat { result.sat ≡ weight_of (cheapest_of assets.now (shape tree.now)) }
     ensures dsat { result.dsat ≡ weight_of (dissatisfaction (shape tree.now)) }
@@ -158,7 +158,7 @@ fn zeros_hash_to(value: &HashVal) -> bool
 }
 
 #[cycle(weigh)]
-fn of_and_or(x: &Tree, y: &Tree, z: &Tree, assets: &Assets, slots: &mut [Slot]) -> Costs
+fn of_and_or(x: &Tree<'_>, y: &Tree<'_>, z: &Tree<'_>, assets: &Assets, slots: &mut [Slot]) -> Costs
     requires x { IsReady (shape x.now) assets.now (length slots.old) }
     requires y { IsReady (shape y.now) assets.now (length slots.old) }
     requires z { IsReady (shape z.now) assets.now (length slots.old) }
@@ -175,7 +175,7 @@ fn of_and_or(x: &Tree, y: &Tree, z: &Tree, assets: &Assets, slots: &mut [Slot]) 
 }
 
 #[cycle(weigh)]
-fn of_two(kind: Two, x: &Tree, z: &Tree, assets: &Assets, slots: &mut [Slot]) -> Costs
+fn of_two(kind: Two, x: &Tree<'_>, z: &Tree<'_>, assets: &Assets, slots: &mut [Slot]) -> Costs
     requires x { IsReady (shape x.now) assets.now (length slots.old) }
     requires z { IsReady (shape z.now) assets.now (length slots.old) }
     ensures sat { result.sat ≡ weight_of (cheapest_of assets.now (tree.two kind (shape x.now) (shape z.now))) }
@@ -215,7 +215,7 @@ fn of_two(kind: Two, x: &Tree, z: &Tree, assets: &Assets, slots: &mut [Slot]) ->
 }
 
 #[cycle(weigh)]
-fn of_thresh(k: u64, children: &[Tree], assets: &Assets, slots: &mut [Slot]) -> Costs
+fn of_thresh(k: u64, children: &[Tree<'_>], assets: &Assets, slots: &mut [Slot]) -> Costs
     requires in_range { All (λ x. IsInRange (shape x)) children.now }
     requires typed { All (λ x. IsTyped (shape x)) children.now }
     requires are { AreAssets assets.now }
@@ -232,7 +232,7 @@ fn of_thresh(k: u64, children: &[Tree], assets: &Assets, slots: &mut [Slot]) -> 
 
 /// The children of a threshold, counted in.
 #[cycle(weigh)]
-pub fn tally_of(children: &[Tree], assets: &Assets, slots: &mut [Slot]) -> Tally
+pub fn tally_of(children: &[Tree<'_>], assets: &Assets, slots: &mut [Slot]) -> Tally
     requires in_range { All (λ x. IsInRange (shape x)) children.now }
     requires typed { All (λ x. IsTyped (shape x)) children.now }
     requires are { AreAssets assets.now }
@@ -295,7 +295,7 @@ pub fn of_key(key: &Key, assets: &Assets) -> Costs
 }
 
 #[cycle(weigh)]
-fn of_wrap(wrapper: Wrapper, x: &Tree, assets: &Assets, slots: &mut [Slot]) -> Costs
+fn of_wrap(wrapper: Wrapper, x: &Tree<'_>, assets: &Assets, slots: &mut [Slot]) -> Costs
     requires { IsReady (shape x.now) assets.now (length slots.old) }
     ensures sat { result.sat ≡ weight_of (cheapest_of assets.now (tree.wrap wrapper (shape x.now))) }
     ensures dsat { result.dsat ≡ weight_of (dissatisfaction (tree.wrap wrapper (shape x.now))) }

@@ -10,6 +10,7 @@ ghost use Rattle.ms_text.specs.Room.{HasRoom, HaveRoom};
 ghost use Rattle.ms_tree.specs.Shape.{shape, shapes, leaf_shape};
 
 use crate::names::{LeafName, Letter, Pair};
+use bumpalo::Bump;
 use def_text::TextFault;
 use ms_tree::{Key, Leaf, Tree, Two, Wrapper, and_or, leaf, multi, thresh, two, wrap};
 use std::alloc::Global;
@@ -88,24 +89,28 @@ pub fn add_offsets_behind(
 }
 
 /// The tree of a leaf.
-pub fn new_leaf(alloc: Global, value: Leaf) -> Result<Tree, TextFault>
+pub fn new_leaf<'a>(arena: &'a Bump<Global>, value: Leaf) -> Result<Tree<'a>, TextFault>
     requires { IsWritable (leaf_shape value) }
     ensures tree { IfOk result (λ t. shape t ≡ leaf_shape value) }
     ensures memory { IfErr result (λ e. e ≡ TextFault.Memory) }
 {
-    leaf(alloc, value).map_err(|_| TextFault::Memory)
+    leaf(arena, value).map_err(|_| TextFault::Memory)
 }
 
 /// The tree of a fragment whose argument is this leaf's.
-pub fn named_leaf(alloc: Global, name: LeafName, value: Leaf) -> Result<Tree, TextFault>
+pub fn named_leaf<'a>(
+    arena: &'a Bump<Global>,
+    name: LeafName,
+    value: Leaf,
+) -> Result<Tree<'a>, TextFault>
     requires { IsWritable (leaf_shape value) }
     ensures tree { IfOk result (λ t. shape t ≡ leaf_tree name value) }
     ensures memory { IfErr result (λ e. e ≡ TextFault.Memory) }
 {
-    let x = new_leaf(alloc, value)?;
+    let x = new_leaf(arena, value)?;
     match name {
         LeafName::Pk | LeafName::Pkh => {
-            wrap(alloc, Wrapper::C, x).map_err(|_| TextFault::Memory)
+            wrap(arena, Wrapper::C, x).map_err(|_| TextFault::Memory)
         }
         LeafName::PkK | LeafName::PkH | LeafName::Older | LeafName::After | LeafName::Hash(_) => {
             Ok(x)
@@ -114,73 +119,91 @@ pub fn named_leaf(alloc: Global, name: LeafName, value: Leaf) -> Result<Tree, Te
 }
 
 /// The tree of an expression with a letter before it.
-pub fn with_letter(alloc: Global, letter: Letter, x: Tree) -> Result<Tree, TextFault>
+pub fn with_letter<'a>(
+    arena: &'a Bump<Global>,
+    letter: Letter,
+    x: Tree<'a>,
+) -> Result<Tree<'a>, TextFault>
     requires { HasRoom (shape x) }
-    ensures tree { IfOk result (λ t. shape t ≡ letter_tree (letter_of letter) (shape x)) }
+    ensures tree { IfOk result (λ t. shape t ≡ letter_tree (letter_of letter) (shape x.entry)) }
     ensures memory { IfErr result (λ e. e ≡ TextFault.Memory) }
 {
     match letter {
-        Letter::Wrapper(wrapper) => wrap(alloc, wrapper, x).map_err(|_| TextFault::Memory),
+        Letter::Wrapper(wrapper) => wrap(arena, wrapper, x).map_err(|_| TextFault::Memory),
         Letter::T => {
-            let one = new_leaf(alloc, Leaf::One)?;
-            two(alloc, Two::AndV, x, one).map_err(|_| TextFault::Memory)
+            let one = new_leaf(arena, Leaf::One)?;
+            two(arena, Two::AndV, x, one).map_err(|_| TextFault::Memory)
         }
         Letter::L => {
-            let zero = new_leaf(alloc, Leaf::Zero)?;
-            two(alloc, Two::OrI, zero, x).map_err(|_| TextFault::Memory)
+            let zero = new_leaf(arena, Leaf::Zero)?;
+            two(arena, Two::OrI, zero, x).map_err(|_| TextFault::Memory)
         }
         Letter::U => {
-            let zero = new_leaf(alloc, Leaf::Zero)?;
-            two(alloc, Two::OrI, x, zero).map_err(|_| TextFault::Memory)
+            let zero = new_leaf(arena, Leaf::Zero)?;
+            two(arena, Two::OrI, x, zero).map_err(|_| TextFault::Memory)
         }
     }
 }
 
 /// The tree of a fragment of two children.
-pub fn new_pair(alloc: Global, pair: Pair, x: Tree, y: Tree) -> Result<Tree, TextFault>
+pub fn new_pair<'a>(
+    arena: &'a Bump<Global>,
+    pair: Pair,
+    x: Tree<'a>,
+    y: Tree<'a>,
+) -> Result<Tree<'a>, TextFault>
     requires { HaveRoom (shape x) (shape y) }
-    ensures tree { IfOk result (λ t. shape t ≡ pair_tree (pair_of pair) (shape x) (shape y)) }
+    ensures tree { IfOk result (λ t. shape t ≡ pair_tree (pair_of pair) (shape x.entry) (shape y.entry)) }
     ensures memory { IfErr result (λ e. e ≡ TextFault.Memory) }
 {
     match pair {
-        Pair::Two(kind) => two(alloc, kind, x, y).map_err(|_| TextFault::Memory),
+        Pair::Two(kind) => two(arena, kind, x, y).map_err(|_| TextFault::Memory),
         Pair::AndN => {
-            let zero = new_leaf(alloc, Leaf::Zero)?;
-            and_or(alloc, x, y, zero).map_err(|_| TextFault::Memory)
+            let zero = new_leaf(arena, Leaf::Zero)?;
+            and_or(arena, x, y, zero).map_err(|_| TextFault::Memory)
         }
     }
 }
 
 /// The tree `andor(x,y,z)`.
-pub fn new_and_or(alloc: Global, x: Tree, y: Tree, z: Tree) -> Result<Tree, TextFault>
+pub fn new_and_or<'a>(
+    arena: &'a Bump<Global>,
+    x: Tree<'a>,
+    y: Tree<'a>,
+    z: Tree<'a>,
+) -> Result<Tree<'a>, TextFault>
     requires { IsInRange (model.and_or (shape x) (shape y) (shape z)) }
-    ensures tree { IfOk result (λ t. shape t ≡ model.and_or (shape x) (shape y) (shape z)) }
+    ensures tree { IfOk result (λ t. shape t ≡ model.and_or (shape x.entry) (shape y.entry) (shape z.entry)) }
     ensures memory { IfErr result (λ e. e ≡ TextFault.Memory) }
 {
-    and_or(alloc, x, y, z).map_err(|_| TextFault::Memory)
+    and_or(arena, x, y, z).map_err(|_| TextFault::Memory)
 }
 
 /// The tree `thresh(k,..)` of these children.
-pub fn new_thresh(alloc: Global, k: u64, children: Vec<Tree>) -> Result<Tree, TextFault>
+pub fn new_thresh<'a>(
+    arena: &'a Bump<Global>,
+    k: u64,
+    children: Vec<Tree<'a>>,
+) -> Result<Tree<'a>, TextFault>
     requires { IsInRange (model.thresh k (shapes children.items)) }
-    ensures tree { IfOk result (λ t. shape t ≡ model.thresh k (shapes children.items)) }
+    ensures tree { IfOk result (λ t. shape t ≡ model.thresh k (shapes children.entry.items)) }
     ensures memory { IfErr result (λ e. e ≡ TextFault.Memory) }
 {
-    thresh(alloc, k, children).map_err(|_| TextFault::Memory)
+    thresh(arena, k, children).map_err(|_| TextFault::Memory)
 }
 
 /// The tree `multi(k,..)` of these keys.
-pub fn new_multi(alloc: Global, k: u64, keys: Vec<Key>) -> Result<Tree, TextFault>
+pub fn new_multi<'a>(arena: &'a Bump<Global>, k: u64, keys: Vec<Key>) -> Result<Tree<'a>, TextFault>
     requires { IsInRange (model.multi k keys.items) }
     ensures tree { IfOk result (λ t. shape t ≡ model.multi k keys.items) }
     ensures memory { IfErr result (λ e. e ≡ TextFault.Memory) }
 {
-    multi(alloc, k, keys).map_err(|_| TextFault::Memory)
+    multi(arena, k, keys).map_err(|_| TextFault::Memory)
 }
 
 /// Adds a child.
-pub fn add_child(children: &mut Vec<Tree>, x: Tree) -> Result<(), TextFault>
-    ensures added { OnOk result (children.new.items ≡ children.old.items ++ x ∷ []) }
+pub fn add_child<'a>(children: &mut Vec<Tree<'a>>, x: Tree<'a>) -> Result<(), TextFault>
+    ensures added { OnOk result (children.new.items ≡ children.old.items ++ x.entry ∷ []) }
     ensures memory { IfErr result (λ e. e ≡ TextFault.Memory) }
 {
     children.push(x).map_err(|_| TextFault::Memory)

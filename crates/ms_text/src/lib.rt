@@ -2,7 +2,7 @@
 #![tactic(auto)]
 
 pub use def_text::TextFault;
-pub use print::print_text;
+pub use print::{copy_out, print_text};
 pub use text::{TextTree, read_text};
 
 mod arguments;

@@ -52,7 +52,7 @@ macro_rules! name_among {
 
 /// The printed form of a tree, which spells it. It may be too deep for `read_text` where the tree was read from a text near
 /// the limit: it has `c:pk_k(K)` for `pk(K)`, one level more. The only refusal is want of memory.
-pub fn print_text(alloc: Global, tree: &Tree) -> Result<String, AllocError>
+pub fn print_text(alloc: Global, tree: &Tree<'_>) -> Result<String, AllocError>
     requires { IsInRange (shape tree.now) }
     ensures printed { IfOk result (λ text. string_bytes text ≡ printed (shape tree.now)) }
     ensures spells { IfOk result (λ text. (os : List ℕ) × SpellsText (tokens (string_bytes text)) (shape tree.now) os) }
@@ -62,9 +62,22 @@ pub fn print_text(alloc: Global, tree: &Tree) -> Result<String, AllocError>
     Ok(out)
 }
 
+/// The bytes of a tree's text, outside the arena in which the tree lies.
+pub fn copy_out(alloc: Global, tree: &Tree<'_>) -> Result<Vec<u8>, AllocError>
+    requires { IsInRange (shape tree.now) }
+    ensures printed { IfOk result (λ bytes. bytes.items ≡ printed (shape tree.now)) }
+{
+    Ok(print_text(alloc, tree)?.into_bytes())
+}
+
 /// Adds a tree's text. `colon` is the colon of the letters before it, or nothing where none stand there.
 #[cycle(print)]
-fn print_tree(alloc: Global, out: &mut String, tree: &Tree, colon: &str) -> Result<(), AllocError>
+fn print_tree(
+    alloc: Global,
+    out: &mut String,
+    tree: &Tree<'_>,
+    colon: &str,
+) -> Result<(), AllocError>
     requires { IsInRange (shape tree.now) }
     ensures { OnOk result (string_bytes out.new ≡ string_bytes out.old ++ printed_behind colon.now (shape tree.now)) }
 {
@@ -100,9 +113,9 @@ fn print_tree(alloc: Global, out: &mut String, tree: &Tree, colon: &str) -> Resu
 fn print_and_or(
     alloc: Global,
     out: &mut String,
-    x: &Tree,
-    y: &Tree,
-    z: &Tree,
+    x: &Tree<'_>,
+    y: &Tree<'_>,
+    z: &Tree<'_>,
 ) -> Result<(), AllocError>
     requires x { IsInRange (shape x.now) }
     requires y { IsInRange (shape y.now) }
@@ -124,8 +137,8 @@ fn print_two(
     alloc: Global,
     out: &mut String,
     kind: Two,
-    x: &Tree,
-    y: &Tree,
+    x: &Tree<'_>,
+    y: &Tree<'_>,
 ) -> Result<(), AllocError>
     requires x { IsInRange (shape x.now) }
     requires y { IsInRange (shape y.now) }
@@ -144,7 +157,7 @@ fn print_thresh(
     alloc: Global,
     out: &mut String,
     k: u64,
-    children: &[Tree],
+    children: &[Tree<'_>],
 ) -> Result<(), AllocError>
     requires { All (λ x. IsInRange (shape x)) children.now }
     ensures { OnOk result (string_bytes out.new ≡ string_bytes out.old ++ printed (model.thresh k (shapes children.now))) }

@@ -19,6 +19,7 @@ use crate::build::{
 use crate::forms::{Part, bare_form, leaf_form, multi_form};
 use crate::names::{Form, Head, Pair, head_of, letter_named};
 use crate::tokens::{Mark, Separator, behind_mark, separator_at, word_at};
+use bumpalo::Bump;
 use def_text::TextFault;
 use ms_tree::{Leaf, Tree};
 use std::alloc::Global;
@@ -28,13 +29,14 @@ const MOST_LEVELS: usize = 256;
 
 /// The expression that has to stand here. The offsets of its nodes are added.
 #[cycle(reader)]
-pub fn expression(
+pub fn expression<'a>(
     alloc: Global,
+    arena: &'a Bump<Global>,
     text: &[u8],
     at: usize,
     depth: usize,
     offsets: &mut Vec<u32>,
-) -> Result<Part, TextFault>
+) -> Result<Part<'a>, TextFault>
     requires place { IsPlace text.now at }
     requires depth { depth ≤ MOST_WRITTEN_DEPTH }
     ensures part { IfOk result (λ r. IsPart text.now at depth (shape r.tree) r.end) }
@@ -48,13 +50,13 @@ pub fn expression(
             if depth == MOST_LEVELS {
                 return Err(TextFault::TooDeep(at as u32));
             }
-            fragment(alloc, text, form, at, end, depth, offsets)
+            fragment(alloc, arena, text, form, at, end, depth, offsets)
         }
         Head::Letters => {
             if word.len() > MOST_LEVELS - depth {
                 return Err(TextFault::TooDeep(at as u32));
             }
-            letters(alloc, text, word, at, end, depth, offsets)
+            letters(alloc, arena, text, word, at, end, depth, offsets)
         }
     }
 }
@@ -62,15 +64,16 @@ pub fn expression(
 /// A colon that has to stand at `end`, the expression behind it, and these letters applied to it, of which the first stands
 /// at `name`.
 #[cycle(reader)]
-fn letters(
+fn letters<'a>(
     alloc: Global,
+    arena: &'a Bump<Global>,
     text: &[u8],
     run: &[u8],
     name: usize,
     end: usize,
     depth: usize,
     offsets: &mut Vec<u32>,
-) -> Result<Part, TextFault>
+) -> Result<Part<'a>, TextFault>
     requires place { IsPlace text.now end }
     requires before { name + length run.now ≤ end }
     requires depth { depth + length run.now ≤ MOST_WRITTEN_DEPTH }
@@ -79,48 +82,59 @@ fn letters(
     ensures reads { (ls : List Letters) (fs : List machine.Frame) → machine.letters_of run.now ≡ Some ls → length fs ≡ depth → Answers (machine_from (machine.colon_next, machine.run_frames name ls fs, machine.run_offsets name ls offsets.old.items) text.now end) result (λ r. machine_from (machine.ended (shape r.tree), fs, offsets.new.items) text.now r.end) }
 {
     let [first, others @ ..] = run else {
-        return child(alloc, text, Mark::Colon, end, depth, offsets);
+        return child(alloc, arena, text, Mark::Colon, end, depth, offsets);
     };
     let Some(letter) = letter_named(*first) else {
         unreachable!();
     };
     add_offset_before(offsets, letter, name)?;
-    let x = letters(alloc, text, others, name + 1, end, depth + 1, offsets)?;
-    let tree = with_letter(alloc, letter, x.tree)?;
+    let x = letters(
+        alloc,
+        arena,
+        text,
+        others,
+        name + 1,
+        end,
+        depth + 1,
+        offsets,
+    )?;
+    let tree = with_letter(arena, letter, x.tree)?;
     add_offsets_behind(offsets, letter, name)?;
     Ok(Part { tree, end: x.end })
 }
 
 /// A mark that has to stand here, and the expression behind it.
 #[cycle(reader)]
-fn child(
+fn child<'a>(
     alloc: Global,
+    arena: &'a Bump<Global>,
     text: &[u8],
     mark: Mark,
     at: usize,
     depth: usize,
     offsets: &mut Vec<u32>,
-) -> Result<Part, TextFault>
+) -> Result<Part<'a>, TextFault>
     requires place { IsPlace text.now at }
     requires depth { depth ≤ MOST_WRITTEN_DEPTH }
     ensures part { IfOk result (λ r. IsPart text.now (at + 1) depth (shape r.tree) r.end) }
     ensures reads { (s : machine.State) (fs : List machine.Frame) → Takes (mark_read mark) s (λ u. (machine.expression, fs, offsets.old.items)) → length fs ≡ depth → Answers (machine_from s text.now at) result (λ r. machine_from (machine.ended (shape r.tree), fs, offsets.new.items) text.now r.end) }
 {
     let at = behind_mark(text, at, mark)?;
-    expression(alloc, text, at, depth, offsets)
+    expression(alloc, arena, text, at, depth, offsets)
 }
 
 /// The rest of a fragment behind its name.
 #[cycle(reader)]
-fn fragment(
+fn fragment<'a>(
     alloc: Global,
+    arena: &'a Bump<Global>,
     text: &[u8],
     form: Form,
     name: usize,
     at: usize,
     depth: usize,
     offsets: &mut Vec<u32>,
-) -> Result<Part, TextFault>
+) -> Result<Part<'a>, TextFault>
     requires place { IsPlace text.now at }
     requires before { name < at }
     requires depth { depth < MOST_WRITTEN_DEPTH }
@@ -128,76 +142,79 @@ fn fragment(
     ensures reads { (fs : List machine.Frame) → length fs ≡ depth → Answers (machine_behind (machine.begin_form (form_of form) name fs offsets.old.items) name text.now at) result (λ r. machine_from (machine.ended (shape r.tree), fs, offsets.new.items) text.now r.end) }
 {
     match form {
-        Form::Zero => bare_form(alloc, text, Leaf::Zero, name, at, offsets),
-        Form::One => bare_form(alloc, text, Leaf::One, name, at, offsets),
-        Form::Leaf(leaf) => leaf_form(alloc, text, leaf, name, at, offsets),
-        Form::AndOr => and_or_form(alloc, text, name, at, depth, offsets),
-        Form::Pair(pair) => pair_form(alloc, text, pair, name, at, depth, offsets),
-        Form::Thresh => thresh_form(alloc, text, name, at, depth, offsets),
-        Form::Multi => multi_form(alloc, text, name, at, offsets),
+        Form::Zero => bare_form(arena, text, Leaf::Zero, name, at, offsets),
+        Form::One => bare_form(arena, text, Leaf::One, name, at, offsets),
+        Form::Leaf(leaf) => leaf_form(arena, text, leaf, name, at, offsets),
+        Form::AndOr => and_or_form(alloc, arena, text, name, at, depth, offsets),
+        Form::Pair(pair) => pair_form(alloc, arena, text, pair, name, at, depth, offsets),
+        Form::Thresh => thresh_form(alloc, arena, text, name, at, depth, offsets),
+        Form::Multi => multi_form(alloc, arena, text, name, at, offsets),
     }
 }
 
 /// The rest of `andor(x,y,z)` behind its name.
 #[cycle(reader)]
-fn and_or_form(
+fn and_or_form<'a>(
     alloc: Global,
+    arena: &'a Bump<Global>,
     text: &[u8],
     name: usize,
     at: usize,
     depth: usize,
     offsets: &mut Vec<u32>,
-) -> Result<Part, TextFault>
+) -> Result<Part<'a>, TextFault>
     requires place { IsPlace text.now at }
     requires before { name < at }
     requires depth { depth < MOST_WRITTEN_DEPTH }
     ensures part { IfOk result (λ r. IsPart text.now name depth (shape r.tree) r.end) }
     ensures reads { (fs : List machine.Frame) → length fs ≡ depth → Answers (machine_from (machine.andor_open name, fs, offsets.old.items) text.now at) result (λ r. machine_from (machine.ended (shape r.tree), fs, offsets.new.items) text.now r.end) }
 {
-    let x = child(alloc, text, Mark::Open, at, depth + 1, offsets)?;
-    let y = child(alloc, text, Mark::Comma, x.end, depth + 1, offsets)?;
-    let z = child(alloc, text, Mark::Comma, y.end, depth + 1, offsets)?;
+    let x = child(alloc, arena, text, Mark::Open, at, depth + 1, offsets)?;
+    let y = child(alloc, arena, text, Mark::Comma, x.end, depth + 1, offsets)?;
+    let z = child(alloc, arena, text, Mark::Comma, y.end, depth + 1, offsets)?;
     let end = behind_mark(text, z.end, Mark::Close)?;
-    let tree = new_and_or(alloc, x.tree, y.tree, z.tree)?;
+    let tree = new_and_or(arena, x.tree, y.tree, z.tree)?;
     add_offset(offsets, name)?;
     Ok(Part { tree, end })
 }
 
 /// The rest of a fragment of two children behind its name.
 #[cycle(reader)]
-fn pair_form(
+fn pair_form<'a>(
     alloc: Global,
+    arena: &'a Bump<Global>,
     text: &[u8],
     pair: Pair,
     name: usize,
     at: usize,
     depth: usize,
     offsets: &mut Vec<u32>,
-) -> Result<Part, TextFault>
+) -> Result<Part<'a>, TextFault>
     requires place { IsPlace text.now at }
     requires before { name < at }
     requires depth { depth < MOST_WRITTEN_DEPTH }
     ensures part { IfOk result (λ r. IsPart text.now name depth (shape r.tree) r.end) }
     ensures reads { (fs : List machine.Frame) → length fs ≡ depth → Answers (machine_from (machine.pair_open (pair_of pair) name, fs, offsets.old.items) text.now at) result (λ r. machine_from (machine.ended (shape r.tree), fs, offsets.new.items) text.now r.end) }
 {
-    let x = child(alloc, text, Mark::Open, at, depth + 1, offsets)?;
-    let y = child(alloc, text, Mark::Comma, x.end, depth + 1, offsets)?;
+    let x = child(alloc, arena, text, Mark::Open, at, depth + 1, offsets)?;
+    let y = child(alloc, arena, text, Mark::Comma, x.end, depth + 1, offsets)?;
     let end = behind_mark(text, y.end, Mark::Close)?;
-    let tree = new_pair(alloc, pair, x.tree, y.tree)?;
+    let tree = new_pair(arena, pair, x.tree, y.tree)?;
     add_pair_offsets(offsets, pair, name)?;
     Ok(Part { tree, end })
 }
 
 /// The rest of `thresh(k,x1,..,xn)` behind its name.
 #[cycle(reader)]
-fn thresh_form(
+fn thresh_form<'a>(
     alloc: Global,
+    arena: &'a Bump<Global>,
     text: &[u8],
     name: usize,
     at: usize,
     depth: usize,
     offsets: &mut Vec<u32>,
-) -> Result<Part, TextFault>
+) -> Result<Part<'a>, TextFault>
     requires place { IsPlace text.now at }
     requires before { name < at }
     requires depth { depth < MOST_WRITTEN_DEPTH }
@@ -206,8 +223,8 @@ fn thresh_form(
 {
     let at = behind_mark(text, at, Mark::Open)?;
     let k = number_at(text, at)?;
-    let read = child_list(alloc, text, k.end, depth + 1, offsets)?;
-    let tree = new_thresh(alloc, k.value, read.trees)?;
+    let read = child_list(alloc, arena, text, k.end, depth + 1, offsets)?;
+    let tree = new_thresh(arena, k.value, read.trees)?;
     add_offset(offsets, name)?;
     Ok(Part {
         tree,
@@ -217,20 +234,21 @@ fn thresh_form(
 
 /// Trees that were read, and the place behind the `)` that ends them.
 #[derive(Drop)]
-struct Children {
-    trees: Vec<Tree>,
+struct Children<'a> {
+    trees: Vec<Tree<'a>>,
     end: usize,
 }
 
 /// One or more expressions that have to stand here, each behind a comma, and the `)` behind them.
 #[cycle(reader)]
-fn child_list(
+fn child_list<'a>(
     alloc: Global,
+    arena: &'a Bump<Global>,
     text: &[u8],
     at: usize,
     depth: usize,
     offsets: &mut Vec<u32>,
-) -> Result<Children, TextFault>
+) -> Result<Children<'a>, TextFault>
     requires place { IsPlace text.now at }
     requires depth { depth ≤ MOST_WRITTEN_DEPTH }
     ensures parts { IfOk result (λ r. AreParts text.now (at + 1) depth (shapes r.trees.items) r.end) }
@@ -239,7 +257,7 @@ fn child_list(
     let mut trees = Vec::new(alloc);
     let mut at = behind_mark(text, at, Mark::Comma)?;
     loop {
-        let x = expression(alloc, text, at, depth, offsets)?;
+        let x = expression(alloc, arena, text, at, depth, offsets)?;
         add_child(&mut trees, x.tree)?;
         let found = separator_at(text, x.end)?;
         at = x.end + 1;

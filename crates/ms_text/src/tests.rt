@@ -1,9 +1,13 @@
 //! Tests of reading and printing.
 use crate::*;
+use bumpalo::Bump;
 use std::alloc::{AllocError, Global};
 use std::test::Fail;
 
-/// A text in which capital letters stand for digits: `A`, `B` and `C` for keys, `X` and `Y` for hash values of 32 and 20 bytes.
+/// The generator of the curve, as a compressed key.
+const GENERATOR: &str = "0279be667ef9dcbbac55a06295ce870b07029bfcdb2dce28d959f2815b16f81798";
+
+/// A text in which capital letters stand for digits: `A` to `D` and `G` for keys, `X` and `Y` for hash values of 32 and 20 bytes.
 fn expanded(alloc: Global, pattern: &str) -> Result<String, AllocError> {
     let mut text = String::new(alloc);
     for letter in pattern.chars() {
@@ -11,6 +15,8 @@ fn expanded(alloc: Global, pattern: &str) -> Result<String, AllocError> {
             'A' => digits(&mut text, "02", "01", 32)?,
             'B' => digits(&mut text, "03", "ab", 32)?,
             'C' => digits(&mut text, "03", "AB", 32)?,
+            'D' => digits(&mut text, "03", "03", 32)?,
+            'G' => text.push_str(GENERATOR)?,
             'X' => digits(&mut text, "", "5c", 32)?,
             'Y' => digits(&mut text, "", "5c", 20)?,
             _ => text.push(letter)?,
@@ -46,6 +52,7 @@ fn repeated(
 #[test]
 fn refusals_name_the_first_wrong_place(rt: HostRuntime) -> Result<(), Fail> {
     let alloc = rt.alloc();
+    let arena = Bump::new(alloc);
     let cases = [
         ("", TextFault::Syntax(0)),
         ("and_", TextFault::Syntax(0)),
@@ -62,7 +69,7 @@ fn refusals_name_the_first_wrong_place(rt: HostRuntime) -> Result<(), Fail> {
     ];
     for (pattern, fault) in cases {
         let text = expanded(alloc, pattern)?;
-        assert_eq!(rt; read_text(alloc, &text).err(), Some(fault));
+        assert_eq!(rt; read_text(alloc, &arena, &text).err(), Some(fault));
     }
     Ok(())
 }
@@ -70,30 +77,35 @@ fn refusals_name_the_first_wrong_place(rt: HostRuntime) -> Result<(), Fail> {
 #[test]
 fn limits_of_depth_and_length(rt: HostRuntime) -> Result<(), Fail> {
     let alloc = rt.alloc();
+    let arena = Bump::new(alloc);
     let deep = repeated(alloc, "", "n", 256, ":0")?;
     assert_eq!(rt;
-        read_text(alloc, &deep).err(),
+        read_text(alloc, &arena, &deep).err(),
         Some(TextFault::TooDeep(257))
     );
     let letters = repeated(alloc, "", "n", 300, "")?;
     assert_eq!(rt;
-        read_text(alloc, &letters).err(),
+        read_text(alloc, &arena, &letters).err(),
         Some(TextFault::TooDeep(0))
     );
     let fits = repeated(alloc, "", "n", 255, ":0")?;
-    assert!(rt; read_text(alloc, &fits).is_ok());
+    assert!(rt; read_text(alloc, &arena, &fits).is_ok());
     let key = expanded(alloc, ",A")?;
     let long = repeated(alloc, "n:multi(1", &key, 978, ")")?;
     assert_eq!(rt; long.len(), 65_536);
-    assert!(rt; read_text(alloc, &long).is_ok());
+    assert!(rt; read_text(alloc, &arena, &long).is_ok());
     let too_long = repeated(alloc, "nn:multi(1", &key, 978, ")")?;
-    assert_eq!(rt; read_text(alloc, &too_long).err(), Some(TextFault::TooLong));
+    assert_eq!(rt;
+        read_text(alloc, &arena, &too_long).err(),
+        Some(TextFault::TooLong)
+    );
     Ok(())
 }
 
 #[test]
 fn texts_are_printed_without_sugar(rt: HostRuntime) -> Result<(), Fail> {
     let alloc = rt.alloc();
+    let arena = Bump::new(alloc);
     let cases = [
         ("0", "0"),
         ("1", "1"),
@@ -129,7 +141,7 @@ fn texts_are_printed_without_sugar(rt: HostRuntime) -> Result<(), Fail> {
     ];
     for (pattern, form) in cases {
         let text = expanded(alloc, pattern)?;
-        let read = read_text(alloc, &text).ok().ok_or("a tree")?;
+        let read = read_text(alloc, &arena, &text).ok().ok_or("a tree")?;
         let printed = print_text(alloc, read.tree())?;
         let want = expanded(alloc, form)?;
         assert_eq!(rt; printed.as_str(), want.as_str());
@@ -140,6 +152,7 @@ fn texts_are_printed_without_sugar(rt: HostRuntime) -> Result<(), Fail> {
 #[test]
 fn nodes_have_the_offsets_of_what_wrote_them(rt: HostRuntime) -> Result<(), Fail> {
     let alloc = rt.alloc();
+    let arena = Bump::new(alloc);
     let cases: [(&str, &[u32]); 4] = [
         ("t:or_c(pk(A),v:pk(B))", &[7, 7, 80, 80, 78, 2, 0, 0]),
         ("l:0", &[0, 2, 0]),
@@ -148,7 +161,7 @@ fn nodes_have_the_offsets_of_what_wrote_them(rt: HostRuntime) -> Result<(), Fail
     ];
     for (pattern, offsets) in cases {
         let text = expanded(alloc, pattern)?;
-        let read = read_text(alloc, &text).ok().ok_or("a tree")?;
+        let read = read_text(alloc, &arena, &text).ok().ok_or("a tree")?;
         assert_eq!(rt; read.offsets.as_slice(), offsets);
         for node in 0..8u32 {
             if (node as usize) < read.offsets.len() {
@@ -156,5 +169,22 @@ fn nodes_have_the_offsets_of_what_wrote_them(rt: HostRuntime) -> Result<(), Fail
             }
         }
     }
+    Ok(())
+}
+
+/// The printed form of a text's tree, of which the arena is gone when it comes.
+fn copied(alloc: Global, text: &str) -> Result<Vec<u8>, Fail> {
+    let arena = Bump::new(alloc);
+    let read = read_text(alloc, &arena, text).ok().ok_or("a tree")?;
+    Ok(copy_out(alloc, read.tree())?)
+}
+
+#[test]
+fn a_copy_outlives_its_arena(rt: HostRuntime) -> Result<(), Fail> {
+    let alloc = rt.alloc();
+    let text = expanded(alloc, "and_v(v:and_v(v:pk(A),pk(G)),pk(D))")?;
+    let bytes = copied(alloc, &text)?;
+    let want = expanded(alloc, "and_v(v:and_v(vc:pk_k(A),c:pk_k(G)),c:pk_k(D))")?;
+    assert_eq!(rt; bytes.as_slice(), want.as_bytes());
     Ok(())
 }

@@ -6,6 +6,7 @@ ghost use Rattle.def_text.specs.Refusal.{MOST_BYTES, TextReads, TextRefusal};
 ghost use Rattle.ms_tree.specs.Shape.{shape};
 
 use crate::reader::expression;
+use bumpalo::Bump;
 use def_text::TextFault;
 use ms_tree::Tree;
 use std::alloc::Global;
@@ -15,18 +16,18 @@ const MOST_BYTES_READ: usize = 65_536;
 
 /// What a text is read as: its tree, and where each node was written.
 #[derive(Drop)]
-pub struct TextTree {
+pub struct TextTree<'a> {
     /// The tree, without sugar.
-    pub tree: Tree,
+    pub tree: Tree<'a>,
     /// The byte offset in the text of each node, in the order of the nodes' numbers: children before parents and left to right.
     /// A node has the offset of the name or letter that wrote it, and both nodes of a piece of sugar have its offset.
     pub offsets: Vec<u32>,
     pub ghost offset_each: { length offsets.items ≡ nodes (shape tree) },
 }
 
-impl TextTree {
+impl<'a> TextTree<'a> {
     /// The tree, without sugar. Takes no memory.
-    pub fn tree(&self) -> &Tree
+    pub fn tree(&self) -> &Tree<'a>
         ensures { result.now ≡ self.now.tree }
     {
         &self.tree
@@ -49,7 +50,11 @@ impl TextTree {
 ///
 /// Of the last two the one that stands first is given. Want of memory, `Memory`, may come in place of any answer but
 /// `TooLong`. Numbers have up to ten digits here: their ranges are rules of the types.
-pub fn read_text(alloc: Global, text: &str) -> Result<TextTree, TextFault>
+pub fn read_text<'a>(
+    alloc: Global,
+    arena: &'a Bump<Global>,
+    text: &str,
+) -> Result<TextTree<'a>, TextFault>
     ensures read { IfOk result (λ t. TextReads text.now (shape t.tree) t.offsets.items) }
     ensures refused { IfErr result (λ e. TextRefusal text.now e) }
     ensures in_range { IfOk result (λ t. IsInRange (shape t.tree)) }
@@ -59,11 +64,15 @@ pub fn read_text(alloc: Global, text: &str) -> Result<TextTree, TextFault>
     if text.len() > MOST_BYTES_READ {
         return Err(TextFault::TooLong);
     }
-    read_bytes(alloc, text.as_bytes())
+    read_bytes(alloc, arena, text.as_bytes())
 }
 
 /// The same for a text that isn't too long.
-fn read_bytes(alloc: Global, text: &[u8]) -> Result<TextTree, TextFault>
+fn read_bytes<'a>(
+    alloc: Global,
+    arena: &'a Bump<Global>,
+    text: &[u8],
+) -> Result<TextTree<'a>, TextFault>
     requires utf8 { IsUtf8 text.now }
     requires short { length text.now ≤ MOST_BYTES }
     ensures read { IfOk result (λ t. TextReads text.now (shape t.tree) t.offsets.items) }
@@ -71,7 +80,7 @@ fn read_bytes(alloc: Global, text: &[u8]) -> Result<TextTree, TextFault>
     ensures in_range { IfOk result (λ t. IsInRange (shape t.tree)) }
 {
     let mut offsets = Vec::new(alloc);
-    let part = expression(alloc, text, 0, 0, &mut offsets)?;
+    let part = expression(alloc, arena, text, 0, 0, &mut offsets)?;
     if part.end < text.len() {
         return Err(TextFault::Syntax(part.end as u32));
     }

@@ -24,15 +24,15 @@ trees_of (x ∷ xs) = model.more x (trees_of xs)
 
 -- a node whose parts are seen
 abbrev pub node_shape : Node-F model.Tree model.Tree → model.Tree
-node_shape (Node-F.Leaf leaf) = leaf_shape leaf
+node_shape (Node-F.Leaf leaf) = leaf_shape leaf.now
 node_shape (Node-F.AndOr x y z) = model.and_or x y z
 node_shape (Node-F.Two kind x y) = model.two kind x y
-node_shape (Node-F.Thresh k xs) = model.thresh k (trees_of xs.items)
-node_shape (Node-F.Multi k keys) = model.multi k keys.items
+node_shape (Node-F.Thresh k xs) = model.thresh k (trees_of xs.now)
+node_shape (Node-F.Multi k keys) = model.multi k keys.now
 node_shape (Node-F.Wrap wrapper x) = model.wrap wrapper x
 
 abbrev pub tree_shape : Tree-F model.Tree model.Tree → model.Tree
-tree_shape t = t.node.value
+tree_shape t = t.node.now
 
 -- a tree, from its leaves up
 abbrev pub shape : Tree → model.Tree

@@ -58,7 +58,7 @@ impl Size {
     }
 }
 
-impl Tree {
+impl Tree<'_> {
     ghost use Rattle.ms_tree.specs.Size.{size_of};
 
     /// How many nodes the tree has, at most 131,072. They are numbered from 0, children before parents and
@@ -104,7 +104,7 @@ impl Tree {
 }
 
 #[cycle(size)]
-fn size_of_all(children: &[Tree]) -> Size
+fn size_of_all(children: &[Tree<'_>]) -> Size
     requires { All (λ t. IsInRange (shape t)) children.now }
     ensures { result ≡ size_of_trees (shapes children.now) }
 {

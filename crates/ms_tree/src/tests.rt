@@ -3,6 +3,7 @@ ghost use Rattle.def_tree.specs.Range.{IsInRange};
 ghost use Rattle.ms_tree.specs.Shape.{shape};
 
 use crate::*;
+use bumpalo::Bump;
 use std::alloc::Global;
 use std::test::Fail;
 
@@ -20,7 +21,7 @@ fn keys_are_compressed(rt: HostRuntime) {
 }
 
 /// Nodes, measure and depth.
-fn size(tree: &Tree) -> (u32, u32, u32)
+fn size(tree: &Tree<'_>) -> (u32, u32, u32)
     requires { IsInRange (shape tree.now) }
 {
     (tree.nodes(), tree.measure(), tree.depth())
@@ -28,6 +29,7 @@ fn size(tree: &Tree) -> (u32, u32, u32)
 
 #[test]
 fn leaves_are_seen(rt: HostRuntime) -> Result<(), Fail> {
+    let arena = Bump::new(rt.alloc());
     let key = Key::from_bytes(&[0x03; 33]).ok_or("a key")?;
     let leaves = [
         Leaf::Zero,
@@ -39,7 +41,7 @@ fn leaves_are_seen(rt: HostRuntime) -> Result<(), Fail> {
         Leaf::Hash(HashVal::Ripemd160([7; 20])),
     ];
     for wanted in leaves {
-        let tree = leaf(rt.alloc(), wanted)?;
+        let tree = leaf(&arena, wanted)?;
         let View::Leaf(found) = tree.view() else {
             return Err("no leaf")?;
         };
@@ -51,11 +53,11 @@ fn leaves_are_seen(rt: HostRuntime) -> Result<(), Fail> {
 
 #[test]
 fn children_are_seen(rt: HostRuntime) -> Result<(), Fail> {
-    let alloc = rt.alloc();
-    let one = leaf(alloc, Leaf::One)?;
-    let x = wrap(alloc, Wrapper::N, one).ok().ok_or("memory")?;
-    let zero = leaf(alloc, Leaf::Zero)?;
-    let either = two(alloc, Two::OrI, x, zero).ok().ok_or("memory")?;
+    let arena = Bump::new(rt.alloc());
+    let one = leaf(&arena, Leaf::One)?;
+    let x = wrap(&arena, Wrapper::N, one)?;
+    let zero = leaf(&arena, Leaf::Zero)?;
+    let either = two(&arena, Two::OrI, x, zero)?;
     assert_eq!(rt; size(&either), (4, 4, 3));
     let View::Two(Two::OrI, x, z) = either.view() else {
         return Err("not or_i")?;
@@ -66,8 +68,8 @@ fn children_are_seen(rt: HostRuntime) -> Result<(), Fail> {
     };
     assert_eq!(rt; size(one), (1, 1, 1));
 
-    let (x, y) = (leaf(alloc, Leaf::Zero)?, leaf(alloc, Leaf::One)?);
-    let tree = and_or(alloc, x, y, either).ok().ok_or("memory")?;
+    let (x, y) = (leaf(&arena, Leaf::Zero)?, leaf(&arena, Leaf::One)?);
+    let tree = and_or(&arena, x, y, either)?;
     assert_eq!(rt; size(&tree), (7, 7, 4));
     let View::AndOr(x, y, z) = tree.view() else {
         return Err("not andor")?;
@@ -82,10 +84,11 @@ fn children_are_seen(rt: HostRuntime) -> Result<(), Fail> {
 #[test]
 fn lists_are_seen(rt: HostRuntime) -> Result<(), Fail> {
     let alloc = rt.alloc();
+    let arena = Bump::new(alloc);
     let mut children = Vec::new(alloc);
-    children.push(leaf(alloc, Leaf::Zero)?)?;
-    children.push(leaf(alloc, Leaf::One)?)?;
-    let tree = thresh(alloc, 2, children).ok().ok_or("memory")?;
+    children.push(leaf(&arena, Leaf::Zero)?)?;
+    children.push(leaf(&arena, Leaf::One)?)?;
+    let tree = thresh(&arena, 2, children)?;
     assert_eq!(rt; size(&tree), (3, 3, 2));
     let View::Thresh(k, found) = tree.view() else {
         return Err("not thresh")?;
@@ -97,11 +100,12 @@ fn lists_are_seen(rt: HostRuntime) -> Result<(), Fail> {
 #[test]
 fn keys_are_seen(rt: HostRuntime) -> Result<(), Fail> {
     let alloc = rt.alloc();
+    let arena = Bump::new(alloc);
     let key = Key::from_bytes(&[0x02; 33]).ok_or("a key")?;
     let mut keys = Vec::new(alloc);
     keys.push(key)?;
     keys.push(key)?;
-    let tree = multi(alloc, 1, keys).ok().ok_or("memory")?;
+    let tree = multi(&arena, 1, keys)?;
     assert_eq!(rt; size(&tree), (1, 3, 1));
     let View::Multi(k, found) = tree.view() else {
         return Err("not multi")?;

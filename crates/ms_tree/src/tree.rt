@@ -6,32 +6,33 @@ use crate::key::Key;
 use def_tree::{Two, Wrapper};
 use ms_hash::HashVal;
 
-/// A miniscript expression with its arguments (BIP 379, translation table), without sugar. Contracts see
-/// it through `shape`. Calls ask that it is in range: at most 131,072 nodes and keys of `multi`, at most
-/// 257 nodes deep, numbers of at most ten digits, and no empty list. The builders give such trees.
+/// A miniscript expression with its arguments (BIP 379, translation table), without sugar: a reference to its
+/// root, which lies in an arena with all its parts. Contracts see it through `shape`. Calls ask that it is in
+/// range: at most 131,072 nodes and keys of `multi`, at most 257 nodes deep, numbers of at most ten digits, and no
+/// empty list. The builders give such trees.
 #[cycle(tree)]
-#[derive(Drop)]
-pub struct Tree {
+#[derive(Clone, Copy)]
+pub struct Tree<'a> {
     /// The root.
-    pub node: Box<Node>,
+    pub node: &'a Node<'a>,
 }
 
 /// The root of a tree: a fragment or a wrapper with its arguments, in the order of the text.
 #[cycle(tree)]
-#[derive(Drop)]
-pub enum Node {
+#[derive(Clone, Copy)]
+pub enum Node<'a> {
     /// A fragment without children.
-    Leaf(Leaf),
+    Leaf(&'a Leaf),
     /// `andor(x,y,z)`.
-    AndOr(Tree, Tree, Tree),
+    AndOr(Tree<'a>, Tree<'a>, Tree<'a>),
     /// A fragment with two children, `and_v(x,y)` to `or_i(x,z)`.
-    Two(Two, Tree, Tree),
+    Two(Two, Tree<'a>, Tree<'a>),
     /// `thresh(k,x1,..,xn)`.
-    Thresh(u64, Vec<Tree>),
+    Thresh(u64, &'a [Tree<'a>]),
     /// `multi(k,key1,..,keyn)`.
-    Multi(u64, Vec<Key>),
+    Multi(u64, &'a [Key]),
     /// A wrapper and what it is put on.
-    Wrap(Wrapper, Tree),
+    Wrap(Wrapper, Tree<'a>),
 }
 
 /// A fragment without children: `0`, `1`, `pk_k(K)`, `pk_h(K)`, `older(n)`, `after(n)`, or a hash lock.
@@ -59,18 +60,18 @@ pub enum View<'t> {
     /// A fragment without children.
     Leaf(Leaf),
     /// `andor(x,y,z)`.
-    AndOr(&'t Tree, &'t Tree, &'t Tree),
+    AndOr(&'t Tree<'t>, &'t Tree<'t>, &'t Tree<'t>),
     /// A fragment with two children, `and_v(x,y)` to `or_i(x,z)`.
-    Two(Two, &'t Tree, &'t Tree),
+    Two(Two, &'t Tree<'t>, &'t Tree<'t>),
     /// `thresh(k,x1,..,xn)`.
-    Thresh(u64, &'t [Tree]),
+    Thresh(u64, &'t [Tree<'t>]),
     /// `multi(k,key1,..,keyn)`.
     Multi(u64, &'t [Key]),
     /// A wrapper and what it is put on.
-    Wrap(Wrapper, &'t Tree),
+    Wrap(Wrapper, &'t Tree<'t>),
 }
 
-impl Tree {
+impl Tree<'_> {
     ghost use Rattle.ms_tree.specs.Shape.{shape};
     ghost use Rattle.ms_tree.specs.View.{Shows, PartsAreInRange};
 
@@ -86,8 +87,8 @@ impl Tree {
     fn root(&self) -> View<'_>
         ensures { Shows result (shape self.now) }
     {
-        match &*self.node {
-            Node::Leaf(leaf) => View::Leaf(*leaf),
+        match self.node {
+            Node::Leaf(leaf) => View::Leaf(**leaf),
             Node::AndOr(x, y, z) => View::AndOr(x, y, z),
             Node::Two(kind, x, z) => View::Two(*kind, x, z),
             Node::Thresh(k, children) => View::Thresh(*k, children),

@@ -17,7 +17,7 @@ use ms_tree::{Key, Leaf, Tree, Two, Wrapper};
 /// The correctness type of a tree (BIP 379, type system, correctness), or the first requirement that is
 /// false: by the number of its node, and then in the order of the table. Nodes are numbered from 0,
 /// children before parents and left to right.
-pub fn corr(tree: &Tree) -> Result<Ty, RuleAt>
+pub fn corr(tree: &Tree<'_>) -> Result<Ty, RuleAt>
     requires { IsInRange (shape tree.now) }
     ensures ty { result ≡ the_corr (shape tree.now) }
     ensures node { IfErr result (λ at. at.node < nodes (shape tree.now)) }

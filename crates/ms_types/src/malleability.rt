@@ -17,7 +17,7 @@ use ms_tree::{Key, Leaf, Tree, Two, Wrapper, fragment_rows};
 /// The malleability properties of a tree (BIP 379, type system, malleability), or the first requirement
 /// that is false: by the number of its node, and then in the order of the table. A requirement is asked
 /// of every node. Nodes are numbered from 0, children before parents and left to right.
-pub fn mall(tree: &Tree) -> Result<Mall, RuleAt>
+pub fn mall(tree: &Tree<'_>) -> Result<Mall, RuleAt>
     requires { IsInRange (shape tree.now) }
     ensures mall { result ≡ the_mall (shape tree.now) }
     ensures node { IfErr result (λ at. at.node < nodes (shape tree.now)) }

@@ -55,7 +55,7 @@ pub trait TypeSystem: Copy {
 /// The type of a tree whose nodes are numbered from `next` on, or the first requirement that is false.
 /// `next` is set behind the last node.
 #[cycle(typed)]
-pub fn typed<T: TypeSystem>(tree: &Tree, next: &mut u32) -> Result<T, RuleAt>
+pub fn typed<T: TypeSystem>(tree: &Tree<'_>, next: &mut u32) -> Result<T, RuleAt>
     requires range { IsInRange (shape tree.now) }
     requires room { next.old + nodes (shape tree.now) < 2 ^ 32 }
     ensures typed { result ≡ typed_from T.rows next.old (shape tree.now) }
@@ -88,7 +88,10 @@ pub fn typed<T: TypeSystem>(tree: &Tree, next: &mut u32) -> Result<T, RuleAt>
 
 /// What the type of a threshold needs to know of its children, whose nodes are numbered from `next` on.
 #[cycle(typed)]
-fn typed_children<T: TypeSystem>(children: &[Tree], next: &mut u32) -> Result<T::Children, RuleAt>
+fn typed_children<T: TypeSystem>(
+    children: &[Tree<'_>],
+    next: &mut u32,
+) -> Result<T::Children, RuleAt>
     requires range { All (λ x. IsInRange (shape x)) children.now }
     requires room { next.old + nodes_of (shapes children.now) < 2 ^ 32 }
     ensures children { result ≡ seen_of T.seen (typed_each T.rows next.old (shapes children.now)) }

@@ -3,6 +3,7 @@ ghost use Rattle.def_tree.specs.Range.{IsKey, IsInRange};
 ghost use Rattle.ms_tree.specs.Shape.{shape};
 
 use crate::*;
+use bumpalo::Bump;
 use ms_tree::{HashVal, Key, Leaf, Tree, Two, Wrapper, leaf, multi, thresh, two, wrap};
 use std::alloc::Global;
 use std::test::Fail;
@@ -20,18 +21,18 @@ fn letters(ty: Ty) -> (Base, [bool; 5]) {
 
 #[test]
 fn each_base_type_is_given(rt: HostRuntime) -> Result<(), Fail> {
-    let alloc = rt.alloc();
-    let bare = leaf(alloc, Leaf::PkK(key(2)?))?;
+    let arena = Bump::new(rt.alloc());
+    let bare = leaf(&arena, Leaf::PkK(key(2)?))?;
     let ty = corr(&bare).ok().ok_or("a type")?;
     assert_eq!(rt; letters(ty), (Base::K, [false, true, true, true, true]));
-    let checked = wrap(alloc, Wrapper::C, bare).ok().ok_or("memory")?;
+    let checked = wrap(&arena, Wrapper::C, bare)?;
     let ty = corr(&checked).ok().ok_or("a type")?;
     assert_eq!(rt; letters(ty), (Base::B, [false, true, true, true, true]));
-    let swapped = wrap(alloc, Wrapper::S, checked).ok().ok_or("memory")?;
+    let swapped = wrap(&arena, Wrapper::S, checked)?;
     let ty = corr(&swapped).ok().ok_or("a type")?;
     assert_eq!(rt; letters(ty), (Base::W, [false, false, false, true, true]));
-    let one = leaf(alloc, Leaf::One)?;
-    let verified = wrap(alloc, Wrapper::V, one).ok().ok_or("memory")?;
+    let one = leaf(&arena, Leaf::One)?;
+    let verified = wrap(&arena, Wrapper::V, one)?;
     let ty = corr(&verified).ok().ok_or("a type")?;
     assert_eq!(rt; letters(ty), (Base::V, [true, false, false, false, false]));
     Ok(())
@@ -44,16 +45,16 @@ fn signed_forced_expressive(mall: Mall) -> [bool; 3] {
 
 #[test]
 fn properties_are_given(rt: HostRuntime) -> Result<(), Fail> {
-    let alloc = rt.alloc();
-    let bare = leaf(alloc, Leaf::PkK(key(2)?))?;
+    let arena = Bump::new(rt.alloc());
+    let bare = leaf(&arena, Leaf::PkK(key(2)?))?;
     let properties = mall(&bare).ok().ok_or("properties")?;
     assert_eq!(rt; signed_forced_expressive(properties), [true, false, true]);
-    let checked = wrap(alloc, Wrapper::C, bare).ok().ok_or("memory")?;
-    let verified = wrap(alloc, Wrapper::V, checked).ok().ok_or("memory")?;
+    let checked = wrap(&arena, Wrapper::C, bare)?;
+    let verified = wrap(&arena, Wrapper::V, checked)?;
     let properties = mall(&verified).ok().ok_or("properties")?;
     assert_eq!(rt; signed_forced_expressive(properties), [true, true, false]);
-    let one = leaf(alloc, Leaf::One)?;
-    let signed = two(alloc, Two::AndV, verified, one).ok().ok_or("memory")?;
+    let one = leaf(&arena, Leaf::One)?;
+    let signed = two(&arena, Two::AndV, verified, one)?;
     let properties = mall(&signed).ok().ok_or("properties")?;
     assert_eq!(rt; signed_forced_expressive(properties), [true, true, false]);
     Ok(())
@@ -61,16 +62,14 @@ fn properties_are_given(rt: HostRuntime) -> Result<(), Fail> {
 
 #[test]
 fn a_malleable_node_is_named(rt: HostRuntime) -> Result<(), Fail> {
-    let alloc = rt.alloc();
+    let arena = Bump::new(rt.alloc());
     let either = two(
-        alloc,
+        &arena,
         Two::OrI,
-        leaf(alloc, Leaf::One)?,
-        leaf(alloc, Leaf::Older(1))?,
+        leaf(&arena, Leaf::One)?,
+        leaf(&arena, Leaf::Older(1))?,
     );
-    let verified = wrap(alloc, Wrapper::V, either.ok().ok_or("memory")?)
-        .ok()
-        .ok_or("memory")?;
+    let verified = wrap(&arena, Wrapper::V, either?)?;
     let wanted = RuleAt {
         node: 2,
         rule: Rule::OrIS,

@@ -12,6 +12,7 @@ use crate::runs::answer_run;
 use crate::texts::answer_text;
 use crate::word::Word;
 use crate::words::{Command, read_words};
+use bumpalo::Bump;
 use def_answer::Status;
 use ms_io::Source;
 use std::alloc::{AllocError, Global};
@@ -34,9 +35,10 @@ pub enum Stop {
     Memory,
 }
 
-/// Answers the words.
+/// Answers the words. A tree lies in the arena, and the answer outside it.
 pub fn answer_words<S: Source>(
     alloc: Global,
+    arena: &Bump<Global>,
     words: &[Word],
     source: &mut S,
 ) -> Result<Answer, Stop>
@@ -47,7 +49,7 @@ pub fn answer_words<S: Source>(
     ensures unread { ¬ ReadsSource words.now → IsUnread (side S.left S.faults source.old source.new) }
 {
     match read_words(words) {
-        Some(command) => answer_command(alloc, command, source),
+        Some(command) => answer_command(alloc, arena, command, source),
         None => Err(Stop::Usage),
     }
 }
@@ -56,6 +58,7 @@ pub fn answer_words<S: Source>(
 /// neither refused nor unfit.
 fn answer_command<S: Source>(
     alloc: Global,
+    arena: &Bump<Global>,
     command: Command<'_>,
     source: &mut S,
 ) -> Result<Answer, Stop>
@@ -66,9 +69,9 @@ fn answer_command<S: Source>(
     ensures unread { ¬ NeedsSource (seen command.entry) → IsUnread (side S.left S.faults source.old source.new) }
 {
     match command {
-        Command::Text(kind, text) => answer_text(alloc, kind, text, source),
+        Command::Text(kind, text) => answer_text(alloc, arena, kind, text, source),
         Command::Run => answer_run(alloc, source),
-        Command::Gen(n) => or_memory(answer_gen(alloc, n)),
+        Command::Gen(n) => or_memory(answer_gen(alloc, arena, n)),
     }
 }
 

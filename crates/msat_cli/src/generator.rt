@@ -16,6 +16,7 @@ ghost use Rattle.def_answer.specs.Words.{MOST_CHILDREN};
 
 use crate::answer::Answer;
 use crate::report::limits_line;
+use bumpalo::Bump;
 use def_answer::Status;
 use def_text::TextFault;
 use ms_assets::{AddStop, Assets};
@@ -158,13 +159,13 @@ fn hash_text(alloc: Global, i: u8) -> Result<String, AllocError>
 
 /// Answers `gen`: makes the text and its assets, satisfies the tree both ways, and shows what that takes.
 #[tactic(auto, unfolding(def_answer::specs::Answer::gen_reply))]
-pub fn answer_gen(alloc: Global, n: u32) -> Result<Answer, AllocError>
+pub fn answer_gen(alloc: Global, arena: &Bump<Global>, n: u32) -> Result<Answer, AllocError>
     requires least { 1 ≤ n }
     requires most { n ≤ MOST_CHILDREN }
     ensures { IfOk result (λ answer. reply answer.status (string_bytes answer.report) ≡ gen_reply n) }
 {
     let (text, assets) = generated(alloc, n)?;
-    let tree = generated_tree(alloc, n, &text)?;
+    let tree = generated_tree(alloc, arena, n, &text)?;
     Ok(Answer {
         status: Status::Done,
         report: gen_report(alloc, n, &tree, &assets)?,
@@ -172,14 +173,14 @@ pub fn answer_gen(alloc: Global, n: u32) -> Result<Answer, AllocError>
 }
 
 /// The tree of the text, which isn't refused.
-fn generated_tree(alloc: Global, n: u32, text: &str) -> Result<Tree, AllocError>
+fn generated_tree<'a>(alloc: Global, arena: &'a Bump<Global>, n: u32, text: &str) -> Result<Tree<'a>, AllocError>
     requires least { 1 ≤ n }
     requires most { n ≤ MOST_CHILDREN }
     requires text { text.now ≡ generated_text n }
     ensures tree { IfOk result (λ tree. shape tree ≡ the_generated_tree n) }
     ensures in_range { IfOk result (λ tree. IsInRange (shape tree)) }
 {
-    match read_text(alloc, text) {
+    match read_text(alloc, arena, text) {
         Ok(read) => Ok(read.tree),
         Err(TextFault::Memory) => Err(AllocError),
         Err(TextFault::TooLong) => unreachable!(),
@@ -190,7 +191,7 @@ fn generated_tree(alloc: Global, n: u32, text: &str) -> Result<Tree, AllocError>
 
 /// The children and the threshold, the limits, and both satisfactions.
 #[tactic(auto, unfolding(def_answer::specs::Answer::gen_report))]
-fn gen_report(alloc: Global, n: u32, tree: &Tree, assets: &Assets) -> Result<String, AllocError>
+fn gen_report(alloc: Global, n: u32, tree: &Tree<'_>, assets: &Assets) -> Result<String, AllocError>
     requires most { n ≤ MOST_CHILDREN }
     requires in_range { IsInRange (shape tree.now) }
     requires sane { IsSane (shape tree.now) }
@@ -219,7 +220,7 @@ fn children_line(alloc: Global, n: u32) -> Result<String, AllocError>
 }
 
 /// The line of the strict satisfaction, with the peak of its run.
-fn strict_line(alloc: Global, tree: &Tree, assets: &Assets) -> Result<String, AllocError>
+fn strict_line(alloc: Global, tree: &Tree<'_>, assets: &Assets) -> Result<String, AllocError>
     requires in_range { IsInRange (shape tree.now) }
     requires sane { IsSane (shape tree.now) }
     requires found { IsSome (the_strict (shape tree.now) assets.now) }
@@ -235,7 +236,7 @@ fn strict_line(alloc: Global, tree: &Tree, assets: &Assets) -> Result<String, Al
 }
 
 /// The line of the cheapest satisfaction.
-fn cheapest_line(alloc: Global, tree: &Tree, assets: &Assets) -> Result<String, AllocError>
+fn cheapest_line(alloc: Global, tree: &Tree<'_>, assets: &Assets) -> Result<String, AllocError>
     requires in_range { IsInRange (shape tree.now) }
     requires valid { IsValid (shape tree.now) }
     requires found { IsSome (the_cheapest (shape tree.now) assets.now) }
@@ -250,7 +251,7 @@ fn cheapest_line(alloc: Global, tree: &Tree, assets: &Assets) -> Result<String, 
 }
 
 /// The greatest height of the stack in the run of a satisfaction.
-fn run_peak(alloc: Global, tree: &Tree, assets: &Assets, stack: &Stack) -> Result<u32, AllocError>
+fn run_peak(alloc: Global, tree: &Tree<'_>, assets: &Assets, stack: &Stack) -> Result<u32, AllocError>
     requires in_range { IsInRange (shape tree.now) }
     requires valid { IsValid (shape tree.now) }
     requires canonical { Sat (shape tree.now) assets.now stack.now }

@@ -2,6 +2,7 @@ ghost use Rattle.std.specs.Prelude.{◌≤◌};
 
 use crate::generator::{answer_gen, generated};
 use crate::tests::repeated;
+use bumpalo::Bump;
 use def_answer::Status;
 use ms_hash::{HashVal, sha256};
 use ms_oracle::Locks;
@@ -17,7 +18,8 @@ fn report(alloc: Global, n: u32) -> Result<String, Fail>
     requires least { 1 ≤ n }
     requires most { n ≤ 30 }
 {
-    let answer = answer_gen(alloc, n)?;
+    let arena = Bump::new(alloc);
+    let answer = answer_gen(alloc, &arena, n)?;
     if answer.status != Status::Done {
         return Err("the status")?;
     }

@@ -8,6 +8,7 @@ ghost use Rattle.msat_cli.specs.Satisfactions.{FindsWhereOneExists, ShowsCanonic
 
 use crate::answer::{Answer, Stop, answer_words};
 use crate::word::Word;
+use bumpalo::Bump;
 use def_answer::Status;
 use ms_io::{Sink, Source, put_all};
 use std::alloc::Global;
@@ -59,7 +60,8 @@ pub fn msat<S: Source, K: Sink>(
     // `satisfy --malleable TEXT` does so for every valid text, but its satisfaction weighs least, and may be changed.
     ensures lightest { ShowsLightest (call words.now (side S.left S.faults source.old source.new) (side K.written K.faults sink.old sink.new) result) }
 {
-    let answer = answer_words(alloc, words, source);
+    let arena = Bump::new(alloc);
+    let answer = answer_words(alloc, &arena, words, source);
     write_answer(sink, answer)
 }
 

@@ -20,7 +20,7 @@ use ms_types::{Mall, Ty};
 use std::alloc::{AllocError, Global};
 
 /// The bytes of a tree's Script.
-fn script_bytes(alloc: Global, tree: &Tree) -> Result<Blob, AllocError>
+fn script_bytes(alloc: Global, tree: &Tree<'_>) -> Result<Blob, AllocError>
     requires { IsInRange (shape tree.now) }
     ensures { IfOk result (λ script. script ≡ script_of (shape tree.now)) }
 {
@@ -29,7 +29,7 @@ fn script_bytes(alloc: Global, tree: &Tree) -> Result<Blob, AllocError>
 
 /// The Script in lower-case digits.
 #[tactic(auto, unfolding(def_answer::specs::Report::script_report))]
-pub fn script_report(alloc: Global, tree: &Tree) -> Result<String, AllocError>
+pub fn script_report(alloc: Global, tree: &Tree<'_>) -> Result<String, AllocError>
     requires { IsInRange (shape tree.now) }
     ensures { IfOk result (λ report. string_bytes report ≡ the_script_report (shape tree.now)) }
 {
@@ -40,7 +40,7 @@ pub fn script_report(alloc: Global, tree: &Tree) -> Result<String, AllocError>
 }
 
 /// The printed form, the type, the Script, its program and the limits.
-pub fn check_report(alloc: Global, tree: &Tree, sane: &Sane) -> Result<String, AllocError>
+pub fn check_report(alloc: Global, tree: &Tree<'_>, sane: &Sane) -> Result<String, AllocError>
     requires range { IsInRange (shape tree.now) }
     requires sane { IsKnownSane (shape tree.now) sane.now }
     ensures { IfOk result (λ report. string_bytes report ≡ the_check_report (shape tree.now)) }

@@ -36,7 +36,7 @@ use std::alloc::{AllocError, Global};
 pub fn answer_satisfaction<S: Source>(
     alloc: Global,
     choice: Choice,
-    tree: &Tree,
+    tree: &Tree<'_>,
     limits: Limits,
     source: &mut S,
 ) -> Result<Answer, Stop>
@@ -57,7 +57,7 @@ pub fn answer_satisfaction<S: Source>(
 fn assets_answer(
     alloc: Global,
     choice: Choice,
-    tree: &Tree,
+    tree: &Tree<'_>,
     limits: Limits,
     bytes: &[u8],
 ) -> Result<Answer, AllocError>
@@ -77,7 +77,7 @@ fn assets_answer(
 fn chosen_answer(
     alloc: Global,
     choice: Choice,
-    tree: &Tree,
+    tree: &Tree<'_>,
     limits: Limits,
     assets: &Assets,
 ) -> Result<Answer, AllocError>
@@ -102,7 +102,7 @@ fn chosen_answer(
 fn satisfaction(
     alloc: Global,
     choice: Choice,
-    tree: &Tree,
+    tree: &Tree<'_>,
     assets: &Assets,
 ) -> Result<Option<Stack>, AllocError>
     requires in_range { IsInRange (shape tree.now) }
@@ -120,7 +120,7 @@ fn satisfaction(
 /// The Script, its program, the limits, the satisfaction, its witness, and what the replay of the witness counted.
 fn satisfy_report(
     alloc: Global,
-    tree: &Tree,
+    tree: &Tree<'_>,
     limits: Limits,
     assets: &Assets,
     stack: &Stack,

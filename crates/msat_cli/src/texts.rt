@@ -21,6 +21,7 @@ use crate::names::rule_name;
 use crate::report::{check_report, script_report};
 use crate::satisfying::answer_satisfaction;
 use crate::words::{Choice, TextCommand};
+use bumpalo::Bump;
 use def_answer::Status;
 use def_text::TextFault;
 use ms_io::Source;
@@ -29,9 +30,10 @@ use ms_text::{TextTree, read_text};
 use ms_tree::Tree;
 use std::alloc::{AllocError, Global};
 
-/// Answers a command on a text: the text's refusal, or what is answered to its tree.
+/// Answers a command on a text: the text's refusal, or what is answered to its tree, which lies in the arena.
 pub fn answer_text<S: Source>(
     alloc: Global,
+    arena: &Bump<Global>,
     kind: TextCommand,
     text: &str,
     source: &mut S,
@@ -41,7 +43,7 @@ pub fn answer_text<S: Source>(
     ensures front { ReadsFront (S.left source.old) (S.left source.new) }
     ensures unread { ¬ NeedsSource (command_of kind text.now) → IsUnread (side S.left S.faults source.old source.new) }
 {
-    match read_text(alloc, text) {
+    match read_text(alloc, arena, text) {
         Ok(text) => answer_tree(alloc, kind, &text, source),
         Err(fault) => refuse_text(alloc, fault),
     }
@@ -51,7 +53,7 @@ pub fn answer_text<S: Source>(
 fn answer_tree<S: Source>(
     alloc: Global,
     kind: TextCommand,
-    text: &TextTree,
+    text: &TextTree<'_>,
     source: &mut S,
 ) -> Result<Answer, Stop>
     requires { IsInRange (shape text.now.tree) }
@@ -71,7 +73,7 @@ fn answer_tree<S: Source>(
 fn answer_satisfy<S: Source>(
     alloc: Global,
     choice: Choice,
-    text: &TextTree,
+    text: &TextTree<'_>,
     source: &mut S,
 ) -> Result<Answer, Stop>
     requires { IsInRange (shape text.now.tree) }
@@ -91,7 +93,7 @@ fn answer_satisfy<S: Source>(
 }
 
 /// The limits of a tree that can be satisfied by this choice, or the first reason against it.
-fn check_for(choice: Choice, tree: &Tree, work: &mut Work) -> Result<Limits, Unfit>
+fn check_for(choice: Choice, tree: &Tree<'_>, work: &mut Work) -> Result<Limits, Unfit>
     requires in_range { IsInRange (shape tree.now) }
     requires room { 4 * measure (shape tree.now) ≤ vec_len work.old.slots }
     ensures fit { IfOk result (λ limits. reason_by choice (shape tree.now) ≡ None) }
@@ -112,7 +114,7 @@ fn check_for(choice: Choice, tree: &Tree, work: &mut Work) -> Result<Limits, Unf
 }
 
 /// The Script of a valid tree, or the first reason against its being valid.
-fn script_answer(alloc: Global, text: &TextTree) -> Result<Answer, AllocError>
+fn script_answer(alloc: Global, text: &TextTree<'_>) -> Result<Answer, AllocError>
     requires { IsInRange (shape text.now.tree) }
     ensures { IfOk result (λ answer. reply answer.status (string_bytes answer.report) ≡ unless_unfit (first_unfit_valid (shape text.now.tree)) text.now.offsets.items (script_reply (shape text.now.tree))) }
 {
@@ -128,7 +130,7 @@ fn script_answer(alloc: Global, text: &TextTree) -> Result<Answer, AllocError>
 }
 
 /// What is known of a sane tree, or the first reason against its being sane.
-fn check_answer(alloc: Global, text: &TextTree) -> Result<Answer, AllocError>
+fn check_answer(alloc: Global, text: &TextTree<'_>) -> Result<Answer, AllocError>
     requires { IsInRange (shape text.now.tree) }
     ensures { IfOk result (λ answer. reply answer.status (string_bytes answer.report) ≡ unless_unfit (first_unfit (shape text.now.tree)) text.now.offsets.items (check_reply (shape text.now.tree))) }
 {
@@ -144,7 +146,7 @@ fn check_answer(alloc: Global, text: &TextTree) -> Result<Answer, AllocError>
 }
 
 /// The refusal of a tree for a reason against it.
-fn unfit_answer(alloc: Global, text: &TextTree, unfit: Unfit) -> Result<Answer, AllocError>
+fn unfit_answer(alloc: Global, text: &TextTree<'_>, unfit: Unfit) -> Result<Answer, AllocError>
     requires { IsOfTree (shape text.now.tree) unfit }
     ensures { IfOk result (λ answer. reply answer.status (string_bytes answer.report) ≡ reply Status.TextRefused (the_unfit_line text.now.offsets.items unfit)) }
 {
@@ -155,7 +157,7 @@ fn unfit_answer(alloc: Global, text: &TextTree, unfit: Unfit) -> Result<Answer, 
 }
 
 /// The line of a reason against a tree.
-pub fn unfit_line(alloc: Global, text: &TextTree, unfit: Unfit) -> Result<String, AllocError>
+pub fn unfit_line(alloc: Global, text: &TextTree<'_>, unfit: Unfit) -> Result<String, AllocError>
     requires { IsOfTree (shape text.now.tree) unfit }
     ensures { IfOk result (λ report. string_bytes report ≡ the_unfit_line text.now.offsets.items unfit) }
 {
