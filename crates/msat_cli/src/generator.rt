@@ -173,7 +173,12 @@ pub fn answer_gen(alloc: Global, arena: &Bump<Global>, n: u32) -> Result<Answer,
 }
 
 /// The tree of the text, which isn't refused.
-fn generated_tree<'a>(alloc: Global, arena: &'a Bump<Global>, n: u32, text: &str) -> Result<Tree<'a>, AllocError>
+fn generated_tree<'a>(
+    alloc: Global,
+    arena: &'a Bump<Global>,
+    n: u32,
+    text: &str,
+) -> Result<Tree<'a>, AllocError>
     requires least { 1 ≤ n }
     requires most { n ≤ MOST_CHILDREN }
     requires text { text.now ≡ generated_text n }
@@ -251,7 +256,12 @@ fn cheapest_line(alloc: Global, tree: &Tree<'_>, assets: &Assets) -> Result<Stri
 }
 
 /// The greatest height of the stack in the run of a satisfaction.
-fn run_peak(alloc: Global, tree: &Tree<'_>, assets: &Assets, stack: &Stack) -> Result<u32, AllocError>
+fn run_peak(
+    alloc: Global,
+    tree: &Tree<'_>,
+    assets: &Assets,
+    stack: &Stack,
+) -> Result<u32, AllocError>
     requires in_range { IsInRange (shape tree.now) }
     requires valid { IsValid (shape tree.now) }
     requires canonical { Sat (shape tree.now) assets.now stack.now }
