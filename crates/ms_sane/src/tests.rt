@@ -1,13 +1,16 @@
 ghost use Rattle.std.specs.Prelude.{◌≤◌, length, IfOk};
-ghost use Rattle.def_tree.specs.Range.{MOST_MEASURE, IsKey};
+ghost use Rattle.def_tree.specs.Range.{MOST_MEASURE, IsKey, IsInRange};
+ghost use Rattle.ms_tree.specs.Shape.{shape};
 ghost use Rattle.ms_sane.specs.Takes.{IsLightOption};
 
 use crate::choice::Tally;
 use crate::takes::{Most, Takes};
 use crate::*;
 use bumpalo::Bump;
+use ms_text::{TextTree, read_text};
 use ms_tree::{Key, Leaf, Two, Wrapper, leaf, two, wrap};
-use ms_types::Base;
+use ms_types::{Base, Rule, RuleAt};
+use std::alloc::{AllocError, Global};
 use std::test::Fail;
 
 /// Items, weight and keys.
@@ -161,5 +164,174 @@ fn a_key_stands_once(rt: HostRuntime) -> Result<(), Fail> {
         check_sane(&tree, &mut work).err(),
         Some(Unfit::RepeatedKey(3))
     );
+    Ok(())
+}
+
+/// The public key of the private key 1.
+const KEY_B: &str = "0279be667ef9dcbbac55a06295ce870b07029bfcdb2dce28d959f2815b16f81798";
+
+/// The tree of a text in which `A`, `B` and `C` stand for keys, and `H` for a hash value of 32 bytes.
+fn tree_of<'a>(alloc: Global, arena: &'a Bump<Global>, form: &str) -> Result<TextTree<'a>, Fail>
+    ensures { IfOk result (λ text. IsInRange (shape text.tree)) }
+{
+    let text = filled(alloc, form)?;
+    Ok(read_text(alloc, arena, &text).ok().ok_or("a tree")?)
+}
+
+fn filled(alloc: Global, form: &str) -> Result<String, AllocError> {
+    let mut text = String::new(alloc);
+    for letter in form.chars() {
+        match letter {
+            'A' => push_digits(&mut text, "02", "01")?,
+            'B' => text.push_str(KEY_B)?,
+            'C' => push_digits(&mut text, "03", "03")?,
+            'H' => push_digits(&mut text, "", "11")?,
+            other => text.push(other)?,
+        }
+    }
+    Ok(text)
+}
+
+/// Adds the digits of a first byte, and of 32 others.
+fn push_digits(text: &mut String, first: &str, other: &str) -> Result<(), AllocError> {
+    text.push_str(first)?;
+    for _ in 0..32 {
+        text.push_str(other)?;
+    }
+    Ok(())
+}
+
+#[test]
+fn sane_texts_have_types_and_limits(rt: HostRuntime) -> Result<(), Fail> {
+    let alloc = rt.alloc();
+    // The properties z, o, n, d and u, then s, f and e; size, opcodes, items and weight.
+    let cases = [
+        ("pk(B)", "onduse", [35, 1, 1, 74]),
+        (
+            "and_v(v:and_v(v:pk(A),pk(B)),pk(C))",
+            "nusf",
+            [105, 3, 3, 222],
+        ),
+        ("0", "zduse", [1, 0, 0, 0]),
+        (
+            "and_v(v:pk(A),or_i(and_v(v:pk(B),older(10)),older(4194314)))",
+            "nsf",
+            [80, 7, 3, 150],
+        ),
+    ];
+    for (form, wanted, [size, ops, items, weight]) in cases {
+        let arena = Bump::new(alloc);
+        let read = tree_of(alloc, &arena, form)?;
+        let mut work = Work::new(alloc, read.tree())?;
+        let sane = check_sane(read.tree(), &mut work)
+            .ok()
+            .ok_or("a sane text")?;
+        let limits = Limits {
+            size,
+            ops,
+            items,
+            weight,
+        };
+        assert_eq!(rt; sane.limits, limits, "{form}");
+        assert_eq!(rt; sane.ty.base, Base::B, "{form}");
+        assert_eq!(rt; letters(alloc, &sane)?.as_str(), wanted, "{form}");
+    }
+    Ok(())
+}
+
+/// The letters of the properties that hold.
+fn letters(alloc: Global, sane: &Sane) -> Result<String, AllocError> {
+    let (ty, mall) = (sane.ty, sane.mall);
+    let properties = [
+        (ty.z, "z"),
+        (ty.o, "o"),
+        (ty.n, "n"),
+        (ty.d, "d"),
+        (ty.u, "u"),
+        (mall.s, "s"),
+        (mall.f, "f"),
+        (mall.e, "e"),
+    ];
+    let mut letters = String::new(alloc);
+    for (holds, letter) in properties {
+        if holds {
+            letters.push_str(letter)?;
+        }
+    }
+    Ok(letters)
+}
+
+fn rule(node: u32, rule: Rule) -> Unfit {
+    Unfit::Rule(RuleAt { node, rule })
+}
+
+fn malleable(node: u32, rule: Rule) -> Unfit {
+    Unfit::Malleable(RuleAt { node, rule })
+}
+
+#[test]
+fn the_first_reason_is_given(rt: HostRuntime) -> Result<(), Fail> {
+    let alloc = rt.alloc();
+    let cases = [
+        ("or_b(sha256(H),s:pk(A))", malleable(4, Rule::OrBE)),
+        ("thresh(1,sha256(H),s:pk(A))", malleable(4, Rule::ThreshE)),
+        ("1", Unfit::NoSignature),
+        (
+            "and_v(v:pk(A),and_b(older(10),a:older(4194314)))",
+            Unfit::MixedLocks(6),
+        ),
+        ("and_v(v:pk(A),pkh(A))", Unfit::RepeatedKey(3)),
+        ("thresh(1,dv:older(1),s:pk(A))", rule(6, Rule::ThreshFirst)),
+        ("thresh(3,pk(A),s:pk(B))", rule(5, Rule::ThreshRange)),
+        ("older(0)", rule(0, Rule::OlderRange)),
+        ("v:pk(A)", Unfit::TopNotB),
+        // A key of a list, behind itself and behind one that stands alone.
+        ("multi(1,A,A)", Unfit::RepeatedKey(0)),
+        ("or_d(pkh(A),multi(1,B,A))", Unfit::RepeatedKey(2)),
+        ("or_d(multi(1,B,A),pk(A))", Unfit::RepeatedKey(1)),
+        // A reason that is tested earlier comes first.
+        ("or_d(multi(1,A,A),sha256(H))", Unfit::NoSignature),
+        ("or_i(older(10),older(4194314))", malleable(2, Rule::OrIS)),
+        ("and_v(v:older(10),older(4194314))", Unfit::NoSignature),
+        (
+            "and_v(v:and_v(v:pk(A),pk(A)),and_v(v:after(1),after(500000000)))",
+            Unfit::MixedLocks(10),
+        ),
+        ("and_b(pk(A),a:pk_k(A))", rule(3, Rule::WrapA)),
+        ("and_b(older(10),a:older(4194314))", Unfit::NoSignature),
+    ];
+    for (form, wanted) in cases {
+        let arena = Bump::new(alloc);
+        let read = tree_of(alloc, &arena, form)?;
+        let mut work = Work::new(alloc, read.tree())?;
+        let found = check_sane(read.tree(), &mut work).err();
+        assert_eq!(rt; found, Some(wanted), "{form}");
+    }
+    Ok(())
+}
+
+#[test]
+fn locks_of_two_kinds_are_mixed(rt: HostRuntime) -> Result<(), Fail> {
+    let alloc = rt.alloc();
+    let cases = [
+        ("and_v(v:older(10),older(4194314))", Some(3)),
+        ("and_b(after(499999999),a:after(500000000))", Some(3)),
+        ("andor(older(10),older(4194314),1)", Some(3)),
+        ("andor(older(10),1,older(4194314))", None),
+        ("or_b(older(10),a:older(4194314))", None),
+        ("or_c(older(10),v:older(4194314))", None),
+        ("or_d(older(10),older(4194314))", None),
+        ("or_i(older(10),older(4194314))", None),
+        ("and_v(v:older(10),after(500000000))", None),
+        ("and_v(v:older(4194304),older(2097152))", Some(3)),
+        ("thresh(1,older(10),a:older(4194314))", None),
+        ("thresh(2,older(10),a:1,a:older(4194314))", Some(5)),
+        ("and_v(v:or_i(older(10),older(4194314)),1)", None),
+    ];
+    for (form, wanted) in cases {
+        let arena = Bump::new(alloc);
+        let read = tree_of(alloc, &arena, form)?;
+        assert_eq!(rt; mix(read.tree()), wanted, "{form}");
+    }
     Ok(())
 }

@@ -20,8 +20,6 @@ mod report;
 mod run_tests;
 mod runs;
 #[cfg(test)]
-mod sane_tests;
-#[cfg(test)]
 mod satisfy_tests;
 mod satisfying;
 #[cfg(test)]
