@@ -77,3 +77,63 @@ fn a_malleable_node_is_named(rt: HostRuntime) -> Result<(), Fail> {
     assert_eq!(rt; mall(&verified).err(), Some(wanted));
     Ok(())
 }
+
+#[test]
+fn pairs_of_keys_have_their_properties(rt: HostRuntime) -> Result<(), Fail> {
+    let arena = Bump::new(rt.alloc());
+    let cases = [
+        (Two::AndV, [true, true, false]),
+        (Two::AndB, [true, false, true]),
+        (Two::OrB, [true, false, true]),
+        (Two::OrC, [true, true, false]),
+        (Two::OrD, [true, false, true]),
+        (Two::OrI, [true, false, false]),
+    ];
+    for (kind, wanted) in cases {
+        let x = leaf(&arena, Leaf::PkK(key(2)?))?;
+        let z = leaf(&arena, Leaf::PkK(key(3)?))?;
+        let tree = two(&arena, kind, x, z)?;
+        let properties = mall(&tree).ok().ok_or("properties")?;
+        assert_eq!(rt; signed_forced_expressive(properties), wanted);
+    }
+    Ok(())
+}
+
+#[test]
+fn pairs_of_locks_are_malleable(rt: HostRuntime) -> Result<(), Fail> {
+    let arena = Bump::new(rt.alloc());
+    let cases = [
+        (Two::OrB, Rule::OrBE),
+        (Two::OrC, Rule::OrCE),
+        (Two::OrD, Rule::OrDE),
+        (Two::OrI, Rule::OrIS),
+    ];
+    for (kind, rule) in cases {
+        let x = leaf(&arena, Leaf::Older(1))?;
+        let z = leaf(&arena, Leaf::Older(2))?;
+        let tree = two(&arena, kind, x, z)?;
+        assert_eq!(rt; mall(&tree).err(), Some(RuleAt { node: 2, rule }));
+    }
+    Ok(())
+}
+
+#[test]
+fn wrapped_keys_have_their_properties(rt: HostRuntime) -> Result<(), Fail> {
+    let arena = Bump::new(rt.alloc());
+    let cases = [
+        (Wrapper::A, [true, false, true]),
+        (Wrapper::S, [true, false, true]),
+        (Wrapper::C, [true, false, true]),
+        (Wrapper::D, [true, false, true]),
+        (Wrapper::V, [true, true, false]),
+        (Wrapper::J, [true, false, false]),
+        (Wrapper::N, [true, false, true]),
+    ];
+    for (wrapper, wanted) in cases {
+        let x = leaf(&arena, Leaf::PkK(key(2)?))?;
+        let tree = wrap(&arena, wrapper, x)?;
+        let properties = mall(&tree).ok().ok_or("properties")?;
+        assert_eq!(rt; signed_forced_expressive(properties), wanted);
+    }
+    Ok(())
+}
