@@ -8,6 +8,8 @@ pub use program::msat;
 pub use word::Word;
 
 mod answer;
+#[cfg(test)]
+mod fault_tests;
 mod files;
 mod generator;
 #[cfg(test)]

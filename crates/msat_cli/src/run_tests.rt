@@ -49,7 +49,7 @@ fn run_file(alloc: Global, script: &str, members: &str) -> Result<String, AllocE
 
 /// Runs the script, with further members of its file, and compares what follows the words `refused
 /// script`.
-fn is_refused(
+pub fn is_refused(
     rt: &impl Abort,
     alloc: Global,
     script: &str,

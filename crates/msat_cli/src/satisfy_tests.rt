@@ -1,13 +1,13 @@
 use crate::tests::{KEY_B, key, repeated};
 use crate::*;
-use ms_io::{MemSink, MemSource};
+use ms_io::{MemSink, MemSource, Source};
 use std::alloc::{AllocError, Global};
 use std::process::Abort;
 use std::test::Fail;
 
 /// What capital letters stand for, all in digits: `A`, `B` and `C` for keys, `H` for the hash of B, `P`, `Q` and `R`
 /// for signatures, `T`, `U`, `V` and `W` for preimages of 32 bytes, and `O`, `X`, `Y` and `Z` for their SHA-256.
-fn filled(alloc: Global, form: &str) -> Result<String, AllocError> {
+pub fn filled(alloc: Global, form: &str) -> Result<String, AllocError> {
     let (a, c) = (key(alloc, "02", "01")?, key(alloc, "03", "03")?);
     let (p, q, r) = (
         repeated(alloc, "aa", 71)?,
@@ -50,7 +50,7 @@ fn filled(alloc: Global, form: &str) -> Result<String, AllocError> {
 
 /// An asset file with these members before the signatures of the keys that are named, in this order, and the
 /// preimages that are named.
-fn asset_file(
+pub fn asset_file(
     alloc: Global,
     members: &str,
     signed: &str,
@@ -87,24 +87,33 @@ fn asset_file(
 
 /// Calls `msat` with these words over a source of this file, which gives `chunk` bytes a call and fails the calls
 /// that `fail_at` lists.
-fn satisfied(
+pub fn satisfied(
     alloc: Global,
     words: &[&str],
     file: &[u8],
     chunk: usize,
     fail_at: &[u64],
 ) -> Result<(Status, String), Fail> {
-    let mut list = Vec::new(alloc);
-    for word in words {
-        list.push(Word::new(String::from_str(alloc, word)?))?;
-    }
     if chunk == 0 {
         return Err("a source's bounds")?;
     }
     let bytes = Vec::from_slice(alloc, file)?;
     let mut source = MemSource::new(bytes, chunk, Vec::from_slice(alloc, fail_at)?);
+    satisfied_of(alloc, words, &mut source)
+}
+
+/// Calls `msat` with these words over this source.
+pub fn satisfied_of<S: Source>(
+    alloc: Global,
+    words: &[&str],
+    source: &mut S,
+) -> Result<(Status, String), Fail> {
+    let mut list = Vec::new(alloc);
+    for word in words {
+        list.push(Word::new(String::from_str(alloc, word)?))?;
+    }
     let mut sink = MemSink::new(alloc, 1_048_576, 1_048_576, &[])?;
-    let status = msat(alloc, &list, &mut source, &mut sink);
+    let status = msat(alloc, &list, source, &mut sink);
     let report = String::from_utf8(Vec::from_slice(alloc, sink.written())?)
         .ok()
         .ok_or("UTF-8")?;
@@ -113,7 +122,7 @@ fn satisfied(
 
 /// How a satisfaction is asked for.
 #[derive(Clone, Copy)]
-enum Form {
+pub enum Form {
     Strict,
     Malleable,
 }
@@ -134,7 +143,7 @@ fn asked(alloc: Global, form: Form, text: &str, file: &str) -> Result<(Status, S
 
 /// What is printed of a satisfaction. Capital letters stand for digits.
 #[derive(Clone, Copy)]
-struct Shown {
+pub struct Shown {
     script: &'static str,
     /// SHA-256 of the Script, by Python's hashlib over OpenSSL.
     digest: &'static str,
@@ -145,7 +154,7 @@ struct Shown {
     replay: &'static str,
 }
 
-fn report_of(alloc: Global, shown: &Shown) -> Result<String, AllocError> {
+pub fn report_of(alloc: Global, shown: &Shown) -> Result<String, AllocError> {
     let script = filled(alloc, shown.script)?;
     let (digest, limits) = (shown.digest, shown.limits);
     let mut report = format!(in alloc;
@@ -179,7 +188,7 @@ fn is_satisfied(
 }
 
 /// The same where no canonical satisfaction exists.
-fn is_unsatisfied(
+pub fn is_unsatisfied(
     rt: &impl Abort,
     alloc: Global,
     form: Form,
@@ -208,21 +217,23 @@ fn signatures_stand_in_the_order_of_the_keys(rt: HostRuntime) -> Result<(), Fail
     is_satisfied(&rt, alloc, Form::Strict, "multi(2,A,B,C)", &file, &shown)
 }
 
-const KEY_OR_LOCK: &str = "or_d(pk(A),and_v(v:pkh(B),older(144)))";
+pub const KEY_OR_LOCK: &str = "or_d(pk(A),and_v(v:pkh(B),older(144)))";
+
+/// What is printed of it where the lock holds and B signs.
+pub const LOCK_HOLDS: Shown = Shown {
+    script: "21Aac736476a914H88ad029000b268",
+    digest: "40c4e29abc7498fa39fb4a9f7db49aa7f3c50c47d2f758fd70e51f1afc5aea65",
+    limits: "67 ops 9 items 3 weight 109",
+    items: &["Q", "B", "-"],
+    witness: "0448Q21B0043",
+    replay: "ops 9 items 3 weight 108 peak 4",
+};
 
 #[test]
 fn a_relative_lock_has_to_hold(rt: HostRuntime) -> Result<(), Fail> {
     let alloc = rt.alloc();
-    let shown = Shown {
-        script: "21Aac736476a914H88ad029000b268",
-        digest: "40c4e29abc7498fa39fb4a9f7db49aa7f3c50c47d2f758fd70e51f1afc5aea65",
-        limits: "67 ops 9 items 3 weight 109",
-        items: &["Q", "B", "-"],
-        witness: "0448Q21B0043",
-        replay: "ops 9 items 3 weight 108 peak 4",
-    };
     let file = asset_file(alloc, "\"sequence\":144,", "B", "")?;
-    is_satisfied(&rt, alloc, Form::Strict, KEY_OR_LOCK, &file, &shown)?;
+    is_satisfied(&rt, alloc, Form::Strict, KEY_OR_LOCK, &file, &LOCK_HOLDS)?;
     for members in [
         "\"sequence\":143,",
         "\"sequence\":4194448,",
@@ -387,7 +398,7 @@ fn zeros_that_hash_to_the_value_dissatisfy_nothing(rt: HostRuntime) -> Result<()
 
 /// Asks for the satisfaction of `pk(A)` with this file in both ways, and compares what follows the words `refused
 /// file`.
-fn is_refused(rt: &impl Abort, alloc: Global, file: &str, refusal: &str) -> Result<(), Fail> {
+pub fn is_refused(rt: &impl Abort, alloc: Global, file: &str, refusal: &str) -> Result<(), Fail> {
     let wanted = format!(in alloc; "refused file {refusal}\n")?;
     for form in [Form::Strict, Form::Malleable] {
         let (status, report) = asked(alloc, form, &filled(alloc, "pk(A)")?, file)?;

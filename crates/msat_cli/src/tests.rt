@@ -24,7 +24,7 @@ pub fn repeated(alloc: Global, letter: &str, count: usize) -> Result<String, All
 
 /// Calls `msat` with these words over a sink with so much room, which takes `chunk` bytes a call
 /// and fails the calls that `fail_at` lists.
-fn written(
+pub fn written(
     alloc: Global,
     words: &[&str],
     room: usize,
@@ -123,16 +123,20 @@ fn is_checked(rt: &impl Abort, alloc: Global, text: &str, wanted: &str) -> Resul
     Ok(())
 }
 
+/// What `check` prints of `pk` of this key.
+pub fn checked_key(alloc: Global) -> Result<String, AllocError> {
+    format!(in alloc;
+        "text c:pk_k({KEY_B})\ntype Bonduse\nscript 21{KEY_B}ac\n\
+        program 00201863143c14c5166804bd19203356da136c985678cd4d27a1b8c6329604903262\n\
+        limits size 35 ops 1 items 1 weight 74\n"
+    )
+}
+
 #[test]
 fn a_key_is_checked(rt: HostRuntime) -> Result<(), Fail> {
     let alloc = rt.alloc();
     let text = format!(in alloc; "pk({KEY_B})")?;
-    let wanted = format!(in alloc;
-        "text c:pk_k({KEY_B})\ntype Bonduse\nscript 21{KEY_B}ac\n\
-        program 00201863143c14c5166804bd19203356da136c985678cd4d27a1b8c6329604903262\n\
-        limits size 35 ops 1 items 1 weight 74\n"
-    )?;
-    is_checked(&rt, alloc, &text, &wanted)
+    is_checked(&rt, alloc, &text, &checked_key(alloc)?)
 }
 
 #[test]
@@ -229,7 +233,7 @@ fn push_multi(text: &mut String, next: &mut u16) -> Result<(), AllocError> {
 
 /// Chains `and_v(v:multi(1,..),..)` of 20 keys each and `and_v(v:pk(..),..)`, so many of either, before
 /// the last fragment.
-fn chain(alloc: Global, multis: usize, keys: usize, last: &str) -> Result<String, AllocError> {
+pub fn chain(alloc: Global, multis: usize, keys: usize, last: &str) -> Result<String, AllocError> {
     let mut text = String::new(alloc);
     let mut next = 0;
     for _ in 0..multis {
@@ -246,6 +250,30 @@ fn chain(alloc: Global, multis: usize, keys: usize, last: &str) -> Result<String
     text.push_str(repeated(alloc, ")", multis)?.as_str())?;
     text.push_str(repeated(alloc, ")", keys)?.as_str())?;
     Ok(text)
+}
+
+/// `pk` of a key that no chain holds.
+pub fn last_key(alloc: Global) -> Result<String, AllocError> {
+    let mut last = String::from_str(alloc, "pk(")?;
+    push_key(&mut last, &mut 65_535)?;
+    last.push(')')?;
+    Ok(last)
+}
+
+/// `or_i` of two `multi(1,..)` of 20 keys each.
+pub fn either(alloc: Global) -> Result<String, AllocError> {
+    let mut either = String::from_str(alloc, "or_i(")?;
+    let mut next = 0;
+    push_multi(&mut either, &mut next)?;
+    either.push(',')?;
+    push_multi(&mut either, &mut next)?;
+    either.push(')')?;
+    Ok(either)
+}
+
+/// A fragment in so many wrappers `n`.
+pub fn wrapped(alloc: Global, letters: usize, fragment: &str) -> Result<String, AllocError> {
+    format!(in alloc; "{}:{fragment}", repeated(alloc, "n", letters)?.as_str())
 }
 
 /// The last line of what `check` prints of a text.
@@ -266,9 +294,7 @@ fn size_and_items_have_their_limits(rt: HostRuntime) -> Result<(), Fail> {
     let over = limits_of(alloc, &chain(alloc, 5, 5, "older(8388608)")?)?;
     assert_eq!(rt; over.as_str(), "refused text Size 3601");
 
-    let mut last = String::from_str(alloc, "pk(")?;
-    push_key(&mut last, &mut 65_535)?;
-    last.push(')')?;
+    let last = last_key(alloc)?;
     let most = limits_of(alloc, &chain(alloc, 0, 99, &last)?)?;
     assert_eq!(rt;
         most.as_str(),
@@ -282,20 +308,12 @@ fn size_and_items_have_their_limits(rt: HostRuntime) -> Result<(), Fail> {
 #[test]
 fn opcodes_have_their_limit(rt: HostRuntime) -> Result<(), Fail> {
     let alloc = rt.alloc();
-    let mut either = String::from_str(alloc, "or_i(")?;
-    let mut next = 0;
-    push_multi(&mut either, &mut next)?;
-    either.push(',')?;
-    push_multi(&mut either, &mut next)?;
-    either.push(')')?;
-    let most = format!(in alloc; "{}:{either}", repeated(alloc, "n", 176)?.as_str())?;
-    let most = limits_of(alloc, &most)?;
+    let most = limits_of(alloc, &wrapped(alloc, 176, &either(alloc)?)?)?;
     assert_eq!(rt; most.as_str().contains(" ops 201 "), true);
-    let over = format!(in alloc; "{}:{either}", repeated(alloc, "n", 177)?.as_str())?;
-    let over = limits_of(alloc, &over)?;
+    let over = limits_of(alloc, &wrapped(alloc, 177, &either(alloc)?)?)?;
     assert_eq!(rt; over.as_str(), "refused text Ops 202");
 
-    let letters = format!(in alloc; "{}:0", repeated(alloc, "n", 255)?.as_str())?;
+    let letters = wrapped(alloc, 255, "0")?;
     are_refused(&rt, alloc, &[(&letters, "Ops 255")])
 }
 
@@ -453,7 +471,7 @@ fn refused_texts_have_their_places(rt: HostRuntime) -> Result<(), Fail> {
     let space = format!(in alloc; "pk ({a})")?;
     let open = format!(in alloc; "pk({a}")?;
     let closed = format!(in alloc; "pk({a}))")?;
-    let deep = format!(in alloc; "{}:0", repeated(alloc, "n", 256)?.as_str())?;
+    let deep = wrapped(alloc, 256, "0")?;
     let letters = repeated(alloc, "n", 300)?;
     let long = repeated(alloc, "n", 65_537)?;
     let cases: [(&str, &str); 10] = [
