@@ -88,6 +88,27 @@ fn hashes_or_keys_script(alloc: Global) -> Result<Vec<u8>, AllocError> {
     )
 }
 
+// The witness of the three preimages, a signature of the first key and none of the second.
+fn hashes_or_keys_witness(alloc: Global) -> Result<Vec<u8>, AllocError> {
+    let script = hashes_or_keys_script(alloc)?;
+    let [first, second, third] = [[0x11; 32], [0x22; 32], [0x33; 32]];
+    joined(
+        alloc,
+        &[
+            b"\x06\x00\x47",
+            &SIG_A,
+            b"\x20",
+            &third,
+            b"\x20",
+            &second,
+            b"\x20",
+            &first,
+            b"\xc6",
+            &script,
+        ],
+    )
+}
+
 #[test]
 fn program_of_a_key(rt: HostRuntime) {
     // The key of the private key 1, and CHECKSIG.
@@ -114,6 +135,17 @@ fn witnesses_are_refused(rt: HostRuntime) {
     for (bytes, fault) in cases {
         assert_eq!(rt; read_witness(rt.alloc(), bytes).err(), Some(fault));
     }
+}
+
+#[test]
+fn each_front_of_a_witness_is_truncated(rt: HostRuntime) -> Result<(), Fail> {
+    let witness = hashes_or_keys_witness(rt.alloc())?;
+    for length in 0..witness.len() {
+        let fault = read_witness(rt.alloc(), &witness[..length]).err();
+        assert_eq!(rt; fault, Some(WitnessFault::Truncated));
+    }
+    assert!(rt; read_witness(rt.alloc(), &witness).is_ok());
+    Ok(())
 }
 
 #[test]
