@@ -1,4 +1,4 @@
 //! Definitions of what a wallet holds: signatures, preimages and lock values.
 #![tactic(auto)]
 
-mod examples;
+pub mod examples;

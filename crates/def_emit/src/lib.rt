@@ -1,4 +1,4 @@
 //! Definitions of the translation from miniscript trees to Script, and of the program of a Script's output.
 #![tactic(auto)]
 
-mod examples;
+pub mod examples;

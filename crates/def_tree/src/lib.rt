@@ -1,7 +1,7 @@
 //! Definitions of miniscript trees: their fragments, and their size.
 #![tactic(auto)]
 
-mod laws;
+pub mod laws;
 
 pub use def_hash::HashKind;
 
