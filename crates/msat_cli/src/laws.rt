@@ -1,6 +1,9 @@
-ghost use Rattle.std.specs.Prelude.{◌≡◌, ◌⊎◌, ℕ, List};
+//! The top call where nothing fails.
+ghost use Rattle.std.specs.Prelude.{◌≡◌, ◌⊎◌, ℕ, List, Some};
 ghost use Rattle.def_answer.specs.Answer.{Answer};
+ghost use Rattle.def_answer.specs.Sources.{ReadsSource};
 ghost use Rattle.def_answer.specs.Words.{HasNoForm};
+ghost use Rattle.msat_cli.specs.Sides.{ReadsFront};
 
 use crate::program::msat;
 use crate::word::Word;
@@ -18,6 +21,8 @@ pub fn msat_without_faults(
 ) -> Status
     ensures usage { HasNoForm words.now → result ≡ Status.Usage }
     ensures answered { (s : Status) (report : List ℕ) → Answer words.now source.old s report → (result ≡ s) ⊎ (result ≡ Status.Memory) }
+    ensures front { ReadsFront (Some source.old) (Some source.new) }
+    ensures unread { ¬ ReadsSource words.now → source.new ≡ source.old }
 {
     msat(alloc, words, source, sink)
 }

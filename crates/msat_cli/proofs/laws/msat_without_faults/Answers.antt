@@ -5,3 +5,6 @@ use Rattle.msat_cli.proofs.laws.msat_without_faults.Goals as goal
 pub returns-clause-answered : goal.returns-clause-answered
 returns-clause-answered c s report answer =
     unless_fault s c.msat.result _ _ (λ rose. omega (arith, rose)) (λ rose. omega (arith, rose)) (c.msat.ensures.answered _ s report (inr refl) answer)
+
+pub returns-clause-unread : goal.returns-clause-unread
+returns-clause-unread c no = let left = (c.msat.ensures.unread no).left in cc
