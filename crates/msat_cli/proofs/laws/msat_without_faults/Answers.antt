@@ -7,4 +7,4 @@ returns-clause-answered c s report answer =
     unless_fault s c.msat.result _ _ (λ rose. omega (arith, rose)) (λ rose. omega (arith, rose)) (c.msat.ensures.answered _ s report (inr refl) answer)
 
 pub returns-clause-unread : goal.returns-clause-unread
-returns-clause-unread c no = let left = (c.msat.ensures.unread no).left in cc
+returns-clause-unread c is_no_reader = let left = (c.msat.ensures.unread is_no_reader).left in cc

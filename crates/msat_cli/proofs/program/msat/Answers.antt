@@ -7,7 +7,7 @@ use Rattle.msat_cli.proofs.program.msat.Given.{Over}
 use Rattle.msat_cli.proofs.program.msat.Goals as goal
 
 -- the call, as the clauses see it
-abbrev this : (g : Over) → goal.After-write_answer g → Call
+abbrev this : (g : Over) → goal.After-drop-arena g → Call
 this g c =
     call c.args.words.now (side g.S.Source.left g.S.Source.faults c.args.source.now c.answer_words-answer.new.source)
     (side g.K.Sink.written g.K.Sink.faults c.args.sink.now c.write_answer.new.sink) c.write_answer.result
