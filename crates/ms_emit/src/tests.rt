@@ -208,7 +208,13 @@ fn lists_are_translated(rt: HostRuntime) -> Result<(), Fail> {
         b"\x00\x51\x93\x53\xb2\x93\x52\x87".as_slice()
     );
     assert_eq!(rt; opcode_count(&tree), 4);
+    Ok(())
+}
 
+#[test]
+fn lists_of_keys_are_translated(rt: HostRuntime) -> Result<(), Fail> {
+    let alloc = rt.alloc();
+    let arena = Bump::new(alloc);
     let mut keys = Vec::new(alloc);
     keys.push(key(2)?)?;
     keys.push(key(3)?)?;
