@@ -193,15 +193,22 @@ fn and_or_is_translated(rt: HostRuntime) -> Result<(), Fail> {
     Ok(())
 }
 
+/// Two of `0`, `1` and `older(3)`.
+fn two_of_three<'a>(alloc: Global, arena: &'a Bump<Global>) -> Result<Tree<'a>, AllocError>
+    ensures { IfOk result (λ tree. IsInRange (shape tree)) }
+{
+    let mut children = Vec::new(alloc);
+    children.push(leaf(arena, Leaf::Zero)?)?;
+    children.push(leaf(arena, Leaf::One)?)?;
+    children.push(leaf(arena, Leaf::Older(3))?)?;
+    thresh(arena, 2, children)
+}
+
 #[test]
 fn lists_are_translated(rt: HostRuntime) -> Result<(), Fail> {
     let alloc = rt.alloc();
     let arena = Bump::new(alloc);
-    let mut children = Vec::new(alloc);
-    children.push(leaf(&arena, Leaf::Zero)?)?;
-    children.push(leaf(&arena, Leaf::One)?)?;
-    children.push(leaf(&arena, Leaf::Older(3))?)?;
-    let tree = thresh(&arena, 2, children)?;
+    let tree = two_of_three(alloc, &arena)?;
     let script = script_of(alloc, &tree)?;
     assert_eq!(rt;
         script.as_slice(),
