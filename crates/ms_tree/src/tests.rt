@@ -1,10 +1,11 @@
 //! Tests of keys, builders, views and sizes.
+ghost use Rattle.std.specs.Prelude.{IfOk};
 ghost use Rattle.def_tree.specs.Range.{IsInRange};
 ghost use Rattle.ms_tree.specs.Shape.{shape};
 
 use crate::*;
 use bumpalo::Bump;
-use std::alloc::Global;
+use std::alloc::{AllocError, Global};
 use std::test::Fail;
 
 #[test]
@@ -81,19 +82,33 @@ fn children_are_seen(rt: HostRuntime) -> Result<(), Fail> {
     Ok(())
 }
 
+/// Two of `0` and `1`.
+fn both<'a>(alloc: Global, arena: &'a Bump<Global>) -> Result<Tree<'a>, AllocError>
+    ensures { IfOk result (λ tree. IsInRange (shape tree)) }
+{
+    let mut children = Vec::new(alloc);
+    children.push(leaf(arena, Leaf::Zero)?)?;
+    children.push(leaf(arena, Leaf::One)?)?;
+    thresh(arena, 2, children)
+}
+
+/// The number and how many children a threshold has.
+fn seen_threshold(tree: &Tree<'_>) -> Option<(u64, usize)>
+    requires { IsInRange (shape tree.now) }
+{
+    match tree.view() {
+        View::Thresh(k, children) => Some((k, children.len())),
+        _ => None,
+    }
+}
+
 #[test]
 fn lists_are_seen(rt: HostRuntime) -> Result<(), Fail> {
     let alloc = rt.alloc();
     let arena = Bump::new(alloc);
-    let mut children = Vec::new(alloc);
-    children.push(leaf(&arena, Leaf::Zero)?)?;
-    children.push(leaf(&arena, Leaf::One)?)?;
-    let tree = thresh(&arena, 2, children)?;
+    let tree = both(alloc, &arena)?;
     assert_eq!(rt; size(&tree), (3, 3, 2));
-    let View::Thresh(k, found) = tree.view() else {
-        return Err("not thresh")?;
-    };
-    assert_eq!(rt; (k, found.len()), (2, 2));
+    assert_eq!(rt; seen_threshold(&tree), Some((2, 2)));
     Ok(())
 }
 
