@@ -2,7 +2,7 @@
 # Lets each allocation, each read and each write of the proved program fail in turn, over the examples of `satisfy`, and over `check`,
 # `run` and `gen`. A failed allocation has to give status 7 and a failed read status 5, with nothing written; a failed write status 6,
 # with just those bytes of the answer that the writes before it took. Where the last call of a kind is granted too, the answer is whole; so
-# it may be where a failed allocation is made good, as that of a collection's first room, which then grows, or of an arena's piece.
+# it may be where a failed allocation is made good; those are counted apart.
 # For this a small library in C stands before the program's `malloc`, `realloc`, `read` and `write`: it counts their calls from the
 # start of the program, fails one of them, and gives 16 bytes a read and takes 10 bytes a write. Then the same by means of the shell
 # alone: a full and a closed standard output, and a directory and nothing as standard input. Prints a table, and ends with 1 where a run
