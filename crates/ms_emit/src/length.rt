@@ -25,7 +25,7 @@ pub fn script_len(tree: &Tree<'_>) -> u64
     requires { IsInRange (shape tree.now) }
     ensures { result ≡ length (script_of (shape tree.now)) }
 {
-    extent(tree).bytes
+    script_extent(tree).bytes
 }
 
 /// How many instructions of a tree's Script aren't pushes. They are the opcodes above hex 60, which
@@ -35,7 +35,17 @@ pub fn opcode_count(tree: &Tree<'_>) -> u64
     ensures count { result ≡ the_opcode_count (the_emit (shape tree.now)) }
     ensures few { result ≤ 8 * measure (shape tree.now) }
 {
-    extent(tree).opcodes
+    script_extent(tree).opcodes
+}
+
+/// Both numbers by one walk.
+pub fn script_extent(tree: &Tree<'_>) -> Extent
+    requires { IsInRange (shape tree.now) }
+    ensures bytes { result.bytes ≡ length (script_of (shape tree.now)) }
+    ensures count { result.opcodes ≡ the_opcode_count (the_emit (shape tree.now)) }
+    ensures few { result.opcodes ≤ 8 * measure (shape tree.now) }
+{
+    extent(tree)
 }
 
 /// What the Script of a tree comes to.

@@ -1,7 +1,8 @@
 //! The translation from miniscript trees to Script, and what it comes to.
 #![tactic(auto)]
 
-pub use length::{opcode_count, script_len};
+pub use extent::Extent;
+pub use length::{opcode_count, script_extent, script_len};
 pub use translation::emit;
 
 mod arms;

@@ -6,3 +6,4 @@ pub mod Most
 pub mod Place
 pub mod Mixing
 pub mod Repeats
+pub mod Short

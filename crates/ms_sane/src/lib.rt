@@ -17,6 +17,6 @@ mod work;
 pub use def_sane::{Limits, Sane, Unfit, Valid};
 pub use mixing::mix;
 pub use resources::limits;
-pub use sane::check_sane;
-pub use valid::check_valid;
+pub use sane::{check_sane, check_sane_of};
+pub use valid::{Short, check_short, check_valid, check_valid_of};
 pub use work::{Slot, Work};

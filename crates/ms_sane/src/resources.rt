@@ -6,12 +6,13 @@ ghost use Rattle.def_types.specs.Corr.{corr};
 ghost use Rattle.def_sane.specs.Most.{number_of, most_sat, limits_of};
 ghost use Rattle.ms_tree.specs.Shape.{shape};
 ghost use Rattle.ms_sane.specs.Takes.{IsLight};
+ghost use Rattle.ms_sane.specs.Short.{IsExtent};
 
 use crate::most::most;
 use crate::takes::Takes;
 use crate::work::Work;
 use def_sane::Limits;
-use ms_emit::{opcode_count, script_len};
+use ms_emit::{Extent, script_extent};
 use ms_tree::Tree;
 
 /// The limits of a tree: the length of its Script in bytes, its opcodes with the keys of `multi`
@@ -24,10 +25,22 @@ pub fn limits(tree: &Tree<'_>, work: &mut Work) -> Limits
     ensures limits { result ≡ limits_of (shape tree.now) }
     ensures room { vec_len work.new.slots ≡ vec_len work.old.slots }
 {
+    limits_from(script_extent(tree), tree, work)
+}
+
+/// The same of a tree whose Script comes to this.
+pub fn limits_from(extent: Extent, tree: &Tree<'_>, work: &mut Work) -> Limits
+    requires extent { IsExtent (shape tree.now) extent }
+    requires in_range { IsInRange (shape tree.now) }
+    requires typed { IsOk (corr (shape tree.now)) }
+    requires room { 4 * measure (shape tree.now) ≤ vec_len work.old.slots }
+    ensures limits { result ≡ limits_of (shape tree.now) }
+    ensures room { vec_len work.new.slots ≡ vec_len work.old.slots }
+{
     let taken = most_taken(tree, work);
     Limits {
-        size: script_len(tree),
-        ops: opcode_count(tree) + taken.keys,
+        size: extent.bytes,
+        ops: extent.opcodes + taken.keys,
         items: taken.items,
         weight: taken.weight,
     }

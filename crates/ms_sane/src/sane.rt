@@ -5,10 +5,11 @@ ghost use Rattle.def_tree.specs.Size.{measure};
 ghost use Rattle.def_sane.specs.Unfit.{first_unfit, IsKnownSane};
 ghost use Rattle.ms_tree.specs.Shape.{shape};
 ghost use Rattle.ms_sane.specs.Place.{IsOfTree};
+ghost use Rattle.ms_sane.specs.Short.{IsShort};
 
 use crate::keys::repeated_key;
 use crate::mixing::mix;
-use crate::valid::check_valid;
+use crate::valid::{Short, check_short, check_valid_of};
 use crate::work::Work;
 use def_sane::{Sane, Unfit};
 use ms_tree::Tree;
@@ -25,7 +26,23 @@ pub fn check_sane(tree: &Tree<'_>, work: &mut Work) -> Result<Sane, Unfit>
     ensures place { IfErr result (λ unfit. IsOfTree (shape tree.now) unfit) }
     ensures room { vec_len work.new.slots ≡ vec_len work.old.slots }
 {
-    let valid = check_valid(tree, work)?;
+    match check_short(tree) {
+        Ok(short) => check_sane_of(short, tree, work),
+        Err(unfit) => Err(unfit),
+    }
+}
+
+/// The same of a tree of which so much is known.
+pub fn check_sane_of(short: Short, tree: &Tree<'_>, work: &mut Work) -> Result<Sane, Unfit>
+    requires short { IsShort (shape tree.now) short }
+    requires in_range { IsInRange (shape tree.now) }
+    requires room { 4 * measure (shape tree.now) ≤ vec_len work.old.slots }
+    ensures sane { IfOk result (λ sane. IsKnownSane (shape tree.now) sane) }
+    ensures unfit { IfErr result (λ unfit. first_unfit (shape tree.now) ≡ Some unfit) }
+    ensures place { IfErr result (λ unfit. IsOfTree (shape tree.now) unfit) }
+    ensures room { vec_len work.new.slots ≡ vec_len work.old.slots }
+{
+    let valid = check_valid_of(short, tree, work)?;
     let mall = match mall(tree) {
         Ok(mall) => mall,
         Err(at) => return Err(Unfit::Malleable(at)),

@@ -3,8 +3,11 @@ use Rattle.def_emit.specs.Emit.{emit}
 use Rattle.def_sane.specs.Limits.{opcode_count}
 use Rattle.ms_tree.specs.Shape.{shape}
 use Rattle.ms_emit.specs.declared.extent.Extent.{Extent}
-use Rattle.ms_emit.proofs.Room.{opcodes_of_script, few_opcodes}
-use Rattle.ms_emit.proofs.length.opcode_count.Goals as goal
+use Rattle.ms_emit.proofs.Room.{bytes_of_script, opcodes_of_script, few_opcodes}
+use Rattle.ms_emit.proofs.length.script_extent.Goals as goal
+
+pub returns-clause-bytes : goal.returns-clause-bytes
+returns-clause-bytes c = ap (λ (e : Extent). e.bytes) c.extent.ensures ∙ bytes_of_script _ (shape c.args.tree.now) refl c.requires
 
 pub returns-clause-count : goal.returns-clause-count
 returns-clause-count c = ap (λ (e : Extent). e.opcodes) c.extent.ensures ∙ opcodes_of_script _ (shape c.args.tree.now) refl c.requires
