@@ -26,8 +26,8 @@ use Rattle.def_choice.proofs.Weights.{weight-append, weight-reverse}
 use Rattle.def_choice.proofs.Counted.{counted}
 use Rattle.ms_sane.proofs.Bounds.{multi_enough}
 use Rattle.ms_sat.specs.declared.cost.Costs.{Costs}
-use Rattle.ms_sat.specs.Costs.{weight_of, costs_of_child, IsLightOption, IsLight}
-use Rattle.ms_sat.specs.Children.{child_of_key, children_of_keys}
+use Rattle.ms_sat.specs.Costs.{weight_of, IsLightOption, IsLight}
+use Rattle.ms_sat.specs.Children.{children_of_keys}
 use Rattle.ms_sat.proofs.Chosen.{choose, chosen_is}
 use Rattle.ms_sat.proofs.Keys.{signatures_are}
 
@@ -241,8 +241,13 @@ light_of t assets c range typed are sat dsat = record {
 pub sig_light : (assets : Assets) → AreAssets assets → (key : Key) (o : Option ℕ) → o ≡ weight_of (item (sig_of assets key)) → IsLightOption o
 sig_light assets are key o is = light_option 74 o (item (sig_of assets key)) (omega arith) is (sig_within assets are key)
 
-pub key_light : (assets : Assets) → AreAssets assets → (key : Key) → IsLight (costs_of_child (child_of_key assets key))
-key_light assets are key = record { sat = sig_light assets are key (weight_of (item (sig_of assets key))) refl; dsat = omega arith }
+-- and of its length
+pub length_light : (assets : Assets) → AreAssets assets → (key : Key) (o : Option ℕ) → o ≡ option_map length (sig_of assets key) → IsLightOption o
+length_light assets are key o is = subst IsLightOption (sym is) (go (sig_of assets key) (sig_within assets are key))
+  where
+    go : (sig : Option Bytes) → Within 74 (item sig) → IsLightOption (option_map length sig)
+    go None h = tt
+    go (Some bytes) h = omega (arith, h)
 
 -- and of the signatures of a `multi`
 pub signatures_light : (assets : Assets) → AreAssets assets → (k : ℕ) (keys : List Key) (o : Option ℕ) → length keys ≤ MOST_MEASURE → o ≡ weight_of (signatures assets k keys) → IsLightOption o

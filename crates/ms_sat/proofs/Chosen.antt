@@ -1,5 +1,5 @@
 -- What the children of a threshold weigh at least, so many of them satisfied, against a mark a - b.
-use Rattle.std.proofs.Common.{◌≡◌, ℕ, zero, suc, ◌+◌, ◌-◌, ◌*◌, ◌<◌, ◌≤◌, ◌⊎◌, nat_lt, Bool, true, false, subst, if◌then◌else◌, List, [], ◌∷◌, length, Option, Some, None, refl, ◌∙◌, ap, inl, inr, arith}
+use Rattle.std.proofs.Common.{◌≡◌, ℕ, zero, suc, ◌+◌, ◌-◌, ◌*◌, ◌≤◌, nat_lt, Bool, true, false, subst, if◌then◌else◌, List, [], ◌∷◌, length, Option, Some, None, refl, ◌∙◌, ap, inl, inr, arith}
 use Rattle.std.specs.Prelude.{⊤, ℤ, pos, ◌-ℤ◌}
 use Rattle.std.proofs.lemmas.Int.{ints}
 use borrow.Author.Differences.{up, down}
@@ -10,7 +10,7 @@ use Rattle.def_choice.specs.Cheapest.{Child}
 use Rattle.def_choice.proofs.Weights.{weight-append}
 use Rattle.def_choice.proofs.Counted.{counted, least_counted}
 use Rattle.ms_sat.specs.Costs.{costs_of}
-use Rattle.ms_sat.specs.Choice.{chosen, forced, stuck, base, over_free}
+use Rattle.ms_sat.specs.Choice.{chosen, forced, stuck, base, over_free, CannotChoose}
 
 -- the choice by a recursion over the children
 abbrev pub choose : List Child → ℕ → Option Stack
@@ -112,12 +112,15 @@ module _ (a b : ℕ) where
       (dissatisfied c.sat c.dsat i cs (suc k) (choose cs (suc k)) (choice_above (suc i) cs (suc k)))
 
 none_when : (cs : List Child) (k : ℕ) (o : Option Stack) → Whenever o (λ v. Above 0 0 0 cs k (weight v))
-    → (0 < stuck (costs_of cs)) ⊎ ((k < forced (costs_of cs)) ⊎ (forced (costs_of cs) + over_free one 0 (costs_of cs) < k)) → o ≡ None
+    → CannotChoose (costs_of cs) k → o ≡ None
 none_when cs k None above out = refl
 none_when cs k (Some v) above (inl many) = absurd (omega (arith, many, above.stuck))
 none_when cs k (Some v) above (inr (inl few)) = absurd (omega (arith, few, above.enough))
 none_when cs k (Some v) above (inr (inr many)) = absurd (omega (arith, many, above.room))
 
 -- where there is no choice of k
-pub none_chosen : (cs : List Child) (k : ℕ) → (0 < stuck (costs_of cs)) ⊎ ((k < forced (costs_of cs)) ⊎ (forced (costs_of cs) + over_free one 0 (costs_of cs) < k)) → choose cs k ≡ None
+pub none_chosen : (cs : List Child) (k : ℕ) → CannotChoose (costs_of cs) k → choose cs k ≡ None
 none_chosen cs k out = none_when cs k (choose cs k) (choice_above 0 0 0 cs k) out
+
+pub cannot_chosen : (cs : List Child) (k : ℕ) → CannotChoose (costs_of cs) k → chosen cs k ≡ None
+cannot_chosen cs k out = chosen_is cs k ∙ none_chosen cs k out

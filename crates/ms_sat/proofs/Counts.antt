@@ -107,13 +107,13 @@ dsat_push (s ∷ ts) t =
 -- ---- the choice that was found
 
 pub found_choice : (P : List Child → Type 0) (cs : List Child) (k : ℕ) (o : Option Choice) → P cs → (o ≡ None → (ds : List Child) → P ds → chosen ds k ≡ None)
-    → IfSome o (λ c. (ds : List Child) → P ds → IsChoice ds k c) → IsFound cs k o
+    → IfSome o (λ c. (ds : List Child) → P ds → IsChoice (costs_of ds) ds k c) → IsFound (costs_of cs) cs k o
 found_choice P cs k None h none some = none refl cs h
 found_choice P cs k (Some choice) h none some = some cs h
 
-pub found_weight : (cs : List Child) (k : ℕ) (o : Option Choice) → IsFound cs k o → option_map (λ (c : Choice). c.weight) o ≡ weight_of (chosen cs k)
-found_weight cs k None none = sym (ap weight_of none)
-found_weight cs k (Some choice) some = sym some.weight
+pub found_weight : (costs : List Costs) (cs : List Child) (k : ℕ) (o : Option Choice) → IsFound costs cs k o → option_map (λ (c : Choice). c.weight) o ≡ weight_of (chosen cs k)
+found_weight costs cs k None none = sym (ap weight_of none)
+found_weight costs cs k (Some choice) some = sym some.weight
 
 -- ---- what is written behind the slots of the free children changes nothing
 

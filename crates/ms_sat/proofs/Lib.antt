@@ -4,6 +4,7 @@ pub mod Marks
 pub mod Sorted
 pub mod Tallies
 pub mod Keys
+pub mod Lengths
 pub mod Bounds
 pub mod Leaves
 pub mod Trees

@@ -1,5 +1,5 @@
 -- A choice by a mark: of the free children those are satisfied that stand at or before it.
-use Rattle.std.proofs.Common.{◌≡◌, ℕ, zero, suc, ◌+◌, ◌*◌, ◌<◌, ◌≤◌, Bool, true, false, List, [], ◌∷◌, ◌++◌, Option, Some, None, refl, ◌∙◌, ap, ◌⊎◌, inl, inr, arith, if◌then◌else◌}
+use Rattle.std.proofs.Common.{◌≡◌, ℕ, zero, suc, ◌+◌, ◌*◌, ◌<◌, ◌≤◌, Bool, true, false, List, [], ◌∷◌, ◌++◌, Option, Some, None, refl, sym, ◌∙◌, ap, ◌⊎◌, inl, inr, arith, if◌then◌else◌}
 use Rattle.std.specs.Prelude.{ℤ, pos, ◌-ℤ◌, int_lt, nat_le, ◌&&◌}
 use Rattle.std.proofs.lemmas.Int.{ints}
 use Rattle.std.proofs.lemmas.Bool.{cases_lt}
@@ -16,14 +16,11 @@ use Rattle.def_choice.proofs.Best.{lighter-none}
 use Rattle.def_choice.proofs.Counted.{counted, both-none}
 use Rattle.ms_sane.specs.declared.work.Slot.{Slot}
 use Rattle.ms_sat.specs.declared.cost.Costs.{Costs}
-use Rattle.ms_sat.specs.Costs.{costs_of}
-use Rattle.ms_sat.specs.Choice.{forced, stuck, base, over_free, is_within, set_by}
+use Rattle.ms_sat.specs.declared.tally.Choice.{Choice}
+use Rattle.ms_sat.specs.Costs.{weight_of, costs_of}
+use Rattle.ms_sat.specs.Choice.{chosen, forced, stuck, base, over_free, is_within, set_by, where_within, IsMarked, IsChoice}
 use Rattle.ms_sat.proofs.Weights.{keeps_former, takes_latter}
-use Rattle.ms_sat.proofs.Chosen.{choose, child, whenever, below, choice_above}
-
--- a function of a free child that is satisfied
-abbrev pub where_within : (last : Option Slot) → (ℤ → ℕ) → ℤ → ℕ → ℕ
-where_within last f difference place = if is_within last difference place then f difference else 0
+use Rattle.ms_sat.proofs.Chosen.{choose, chosen_is, child, whenever, below, choice_above}
 
 -- 1 and the two parts of the difference, of such a child
 abbrev pub ones : Option Slot → ℤ → ℕ → ℕ
@@ -301,3 +298,11 @@ step last (Some s) (Some d) i cs no_stuck r = free last s d i cs r
 pub attained : (last : Option Slot) (i : ℕ) (cs : List Child) → stuck (costs_of cs) ≡ 0 → Attained last i cs
 attained last i [] no_stuck = record { stack = []; set = refl; choice = refl; weighs = omega arith }
 attained last i (c ∷ cs) no_stuck = step last c.sat c.dsat i cs no_stuck (attained last (suc i) cs (omega (arith, no_stuck)))
+
+-- so a choice by a mark, made by the weights, is the lightest one
+pub marked_choice : (cs : List Child) (k : ℕ) (choice : Choice) → IsMarked (costs_of cs) k choice → IsChoice (costs_of cs) cs k choice
+marked_choice cs k choice marked =
+    let r = attained choice.last 0 cs marked.none_stuck in
+    let is : chosen cs k ≡ Some r.stack = chosen_is cs k ∙ ap (choose cs) (sym marked.members) ∙ r.choice in
+    let weighs : weight r.stack ≡ choice.weight = omega (arith, r.weighs, marked.weight) in
+    record { weight = ap weight_of is ∙ ap Some weighs; set = is ∙ sym r.set }

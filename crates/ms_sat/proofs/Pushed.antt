@@ -15,9 +15,9 @@ use Rattle.def_choice.specs.Cheapest.{stack_of, signatures}
 use Rattle.ms_sane.specs.declared.work.Slot.{Slot}
 use Rattle.def_choice.proofs.Weights.{reverse-cons}
 use Rattle.def_choice.proofs.Best.{lighter-none}
-use Rattle.ms_sat.specs.Costs.{weight_of, costs_of}
+use Rattle.ms_sat.specs.Costs.{weight_of}
 use Rattle.ms_sat.specs.Choice.{chosen, takes, set_by}
-use Rattle.ms_sat.specs.Children.{children_of_keys}
+use Rattle.ms_sat.specs.Children.{children_of_keys, lengths_of_keys}
 use Rattle.ms_sat.specs.Pushed.{IsPushed, is_former}
 use Rattle.ms_sat.proofs.Keys.{signatures_are}
 
@@ -66,7 +66,7 @@ latter_pushed p q former latter b before after e f g is h =
 
 -- the signatures of those keys that stand at or before the last one
 abbrev pub signed : (last : Option Slot) → Assets → (place : ℕ) → List Key → Option Stack
-signed last assets place keys = stack_of (children_of_keys assets keys) (set_by last place (costs_of (children_of_keys assets keys)))
+signed last assets place keys = stack_of (children_of_keys assets keys) (set_by last place (lengths_of_keys assets keys))
 
 -- a key is passed over or signs, and the others are left
 abbrev pub Left : (last : Option Slot) → Assets → (place : ℕ) → List Key → (whole now : List Bytes) → Type 0
@@ -97,7 +97,7 @@ held_pushed (Some s) o rest now after e h = (s, refl, h)
 
 pub signed_more : (last : Option Slot) (assets : Assets) (i : ℕ) (key : Key) (keys : List Key) (b : Bool) (whole now after : List Bytes)
     → Left last assets i (key ∷ keys) whole now
-    → b ≡ takes last i (weight_of (item (sig_of assets key))) (Some 0)
+    → b ≡ takes last i (option_map length (sig_of assets key)) (Some 0)
     → (b ≡ true → IsPushed (item (sig_of assets key)) now after) → (b ≡ false → after ≡ now)
     → Left last assets (suc i) keys whole after
 signed_more last assets i key keys b whole now after left is t f =
@@ -110,7 +110,7 @@ signed_more last assets i key keys b whole now after left is t f =
 -- the same of a list that a loop is at, and at its end
 pub signed_at : (last : Option Slot) (assets : Assets) (keys : List Key) (i : ℕ) (key : Key) (b : Bool) (whole now after : List Bytes)
     → i < length keys → key ≡ get_or keys i key → Left last assets i (drop i keys) whole now
-    → b ≡ takes last i (weight_of (item (sig_of assets key))) (Some 0)
+    → b ≡ takes last i (option_map length (sig_of assets key)) (Some 0)
     → (b ≡ true → IsPushed (item (sig_of assets key)) now after) → (b ≡ false → after ≡ now)
     → Left last assets (i + 1) (drop (i + 1) keys) whole after
 signed_at last assets keys i key b whole now after below at left is t f =

@@ -29,7 +29,7 @@ use Rattle.ms_sat.specs.Choice.{chosen, forced, stuck, over_free, is_allowed}
 use Rattle.ms_sat.specs.Children.{child_of_tree, children_of_keys}
 use Rattle.ms_sat.specs.Rule.{stack_by, free_by, child_by, children_by, free_child_by, has_key}
 use Rattle.ms_sat.specs.Count.{Counts}
-use Rattle.ms_sat.proofs.Chosen.{choose, chosen_is, counted_same, one, child, none_chosen}
+use Rattle.ms_sat.proofs.Chosen.{choose, chosen_is, counted_same, one, child, none_chosen, cannot_chosen}
 use Rattle.ms_sat.proofs.Bounds.{thresh_choose}
 use Rattle.ms_sat.proofs.Keys.{signatures_are}
 
@@ -199,7 +199,7 @@ free_multi Cheapest assets k keys some = refl
 free_multi Strict assets k keys some =
     let f = unsigned_keys assets keys in
     let none : chosen (children_of_keys (unsigned assets) keys) k ≡ None =
-    chosen_is (children_of_keys (unsigned assets) keys) k ∙ none_chosen (children_of_keys (unsigned assets) keys) k (inr (inr (omega (arith, f.0, f.1, some))))
+    cannot_chosen (children_of_keys (unsigned assets) keys) k (inr (inr (omega (arith, f.0, f.1, some))))
     in
     let signed : signatures (unsigned assets) k keys ≡ None = signatures_are (unsigned assets) k keys ∙ ap (option_map reverse) none in
     sym (ap (λ o. is_some (both (Some (EMPTY ∷ [])) o)) signed)

@@ -14,9 +14,9 @@ use borrow.Author.Differences.{up, down}
 use Rattle.ms_sane.specs.declared.work.Slot.{Slot}
 use Rattle.ms_sane.specs.Choice.{total}
 use Rattle.ms_sane.proofs.Totals.{total_split}
-use Rattle.ms_sat.specs.Choice.{is_within}
+use Rattle.ms_sat.specs.Choice.{is_within, where_within}
 use Rattle.ms_sat.specs.Tally.{IsFreeSlot}
-use Rattle.ms_sat.proofs.Marks.{where_within, Within, within_decides}
+use Rattle.ms_sat.proofs.Marks.{Within, within_decides}
 
 -- the derived order of slots
 abbrev pub slot_cmp : Slot → Slot → Ordering

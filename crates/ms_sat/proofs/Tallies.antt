@@ -19,10 +19,10 @@ use Rattle.ms_sat.specs.declared.cost.Costs.{Costs}
 use Rattle.ms_sat.specs.declared.tally.Tally.{Tally}
 use Rattle.ms_sat.specs.declared.tally.Choice.{Choice}
 use Rattle.ms_sat.specs.Costs.{weight_of, costs_of}
-use Rattle.ms_sat.specs.Choice.{chosen, forced_by, stuck_by, base_by, free_by, forced, stuck, base, over_free, is_within, IsChoice}
+use Rattle.ms_sat.specs.Choice.{chosen, forced_by, stuck_by, base_by, free_by, forced, stuck, base, over_free, is_within, where_within, CannotChoose, IsMarked}
 use Rattle.ms_sat.specs.Tally.{IsFreeSlot, Tells}
-use Rattle.ms_sat.proofs.Chosen.{choose, chosen_is, none_chosen}
-use Rattle.ms_sat.proofs.Marks.{where_within, ups, downs, members, attained, nobody}
+use Rattle.ms_sat.proofs.Chosen.{choose, chosen_is, cannot_chosen}
+use Rattle.ms_sat.proofs.Marks.{ups, downs, members, attained, nobody}
 use Rattle.ms_sat.proofs.Sorted.{slot_cmp, same, Apart, front_of, total_ones}
 
 abbrev pub costs : (sat dsat : Option ℕ) → Costs
@@ -211,19 +211,31 @@ module _ (cs : List Costs) (t : Tally) (slots : List Slot) (told : Tells cs t sl
       let ups_are = front_told m ys last gain s up in
       omega (arith, s.sum, downs_are, ups_are, told.base, gain_within last 0 cs)
 
-module _ (cs : List Child) (t : Tally) (slots : List Slot) (told : Tells (costs_of cs) t slots) where
   -- where the tally says that there is no choice
+  pub cannot_told : (k : ℕ) → (0 < t.stuck) ⊎ ((k < t.forced) ⊎ (t.forced + t.free < k)) → CannotChoose cs k
+  cannot_told k out = elim out [
+    | inl many ↦ inl (omega (arith, many, told.stuck))
+    | inr others ↦ elim others [
+      | inl few ↦ inr (inl (omega (arith, few, told.forced)))
+      | inr many ↦ inr (inr (omega (arith, many, told.forced, told.free)))
+    ]
+  ]
+
+  -- the base and the gain are what the choice weighs
+  pub marked_told : (k m : ℕ) → t.stuck ≡ 0 → t.forced + m ≡ k → (ys : List Slot) (choice : Choice) (gain : ℤ) → Sorted t slots m ys choice.last gain
+      → choice.weight + down gain ≡ t.base + up gain → IsMarked cs k choice
+  marked_told k m no_stuck wanted ys choice gain s sum =
+      let front = front_told m ys choice.last gain s in
+      let long : length (take m ys) ≡ m = length-take-le m ys s.enough in
+      record {
+        none_stuck = omega (arith, no_stuck, told.stuck);
+        members = omega (arith, wanted, told.forced, front (λ d. 1), total_ones (take m ys), long);
+        weight = omega (arith, sum, s.sum, told.base, front down, front up);
+      }
+
+module _ (cs : List Child) (t : Tally) (slots : List Slot) (told : Tells (costs_of cs) t slots) where
   pub none_told : (k : ℕ) → (0 < t.stuck) ⊎ ((k < t.forced) ⊎ (t.forced + t.free < k)) → chosen cs k ≡ None
-  none_told k out =
-      chosen_is cs k ∙
-      none_chosen cs k
-      (elim out [
-        | inl many ↦ inl (omega (arith, many, told.stuck))
-        | inr others ↦ elim others [
-          | inl few ↦ inr (inl (omega (arith, few, told.forced)))
-          | inr many ↦ inr (inr (omega (arith, many, told.forced, told.free)))
-        ]
-      ])
+  none_told k out = cannot_chosen cs k (cannot_told (costs_of cs) t slots told k out)
 
   -- all dissatisfied
   pub base_told : t.stuck ≡ 0 → t.forced ≡ 0 → Some t.base ≡ weight_of (chosen cs 0)
@@ -232,18 +244,6 @@ module _ (cs : List Child) (t : Tally) (slots : List Slot) (told : Tells (costs_
       let count : members None 0 cs ≡ 0 = omega (arith, no_forced, told.forced, nobody (λ d. 1) 0 (costs_of cs)) in
       let weighs : t.base ≡ weight r.stack = omega (arith, r.weighs, told.base, nobody down 0 (costs_of cs), nobody up 0 (costs_of cs)) in
       ap Some weighs ∙ sym (ap weight_of (chosen_is cs 0 ∙ ap (choose cs) (sym count) ∙ r.choice))
-
-  -- the base and the gain are what the choice weighs
-  pub choice_told : (k m : ℕ) → t.stuck ≡ 0 → t.forced + m ≡ k → (ys : List Slot) (choice : Choice) (gain : ℤ) → Sorted t slots m ys choice.last gain
-      → choice.weight + down gain ≡ t.base + up gain → IsChoice cs k choice
-  choice_told k m no_stuck wanted ys choice gain s sum =
-      let r = attained choice.last 0 cs (omega (arith, no_stuck, told.stuck)) in
-      let front = front_told (costs_of cs) t slots told m ys choice.last gain s in
-      let long : length (take m ys) ≡ m = length-take-le m ys s.enough in
-      let count : members choice.last 0 cs ≡ k = omega (arith, wanted, told.forced, front (λ d. 1), total_ones (take m ys), long) in
-      let is : chosen cs k ≡ Some r.stack = chosen_is cs k ∙ ap (choose cs) (sym count) ∙ r.choice in
-      let weighs : weight r.stack ≡ choice.weight = omega (arith, sum, s.sum, r.weighs, told.base, front down, front up) in
-      record { weight = ap weight_of is ∙ ap Some weighs; set = is ∙ sym r.set }
 
 -- what is written behind the slots of the free children changes nothing
 pub told_written : (cs : List Costs) (t : Tally) (slots written : List Slot) (n : ℕ) → t.free ≤ length slots → Tells cs t slots → Tells cs t (put_mid t.free n slots written)

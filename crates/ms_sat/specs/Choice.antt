@@ -1,6 +1,7 @@
 -- The lightest choice of so many among the children of a threshold.
-use Rattle.std.specs.Prelude.{◌≡◌, ℕ, suc, ℤ, pos, ◌-ℤ◌, ◌+◌, nat_eq, nat_le, Bool, true, false, ◌&&◌, ◌||◌, int_lt, List, [], ◌∷◌, length, map, Option, Some, None}
+use Rattle.std.specs.Prelude.{◌≡◌, ℕ, suc, ℤ, pos, ◌-ℤ◌, ◌+◌, ◌<◌, ◌⊎◌, nat_eq, nat_le, Bool, true, false, ◌&&◌, ◌||◌, int_lt, if◌then◌else◌, List, [], ◌∷◌, length, map, Option, Some, None}
 use Rattle.std.specs.Ordering.{int_eq}
+use borrow.Author.Differences.{up, down}
 use Rattle.def_machine.specs.Stacks.{Stack}
 use Rattle.def_choice.specs.Sets.{sets}
 use Rattle.def_choice.specs.Least.{least}
@@ -9,7 +10,7 @@ use Rattle.ms_sane.specs.declared.work.Slot.{Slot}
 use Rattle.ms_sane.specs.Choice.{total}
 use Rattle.ms_sat.specs.declared.cost.Costs.{Costs}
 use Rattle.ms_sat.specs.declared.tally.Choice.{Choice}
-use Rattle.ms_sat.specs.Costs.{weight_of, costs_of}
+use Rattle.ms_sat.specs.Costs.{weight_of}
 
 -- so many of the children satisfied and the others dissatisfied: the first of the lightest stacks
 abbrev pub chosen : List Child → ℕ → Option Stack
@@ -73,7 +74,22 @@ abbrev pub set_by : (last : Option Slot) → (place : ℕ) → List Costs → Li
 set_by last place [] = []
 set_by last place (c ∷ cs) = takes last place c.sat c.dsat ∷ set_by last (suc place) cs
 
--- the choice of so many of the children: its weight, and which children it satisfies
-pub record IsChoice (children : List Child) (count : ℕ) (choice : Choice) : Type 0 where
+-- a function of the difference of a free child that is satisfied
+abbrev pub where_within : (last : Option Slot) → (f : ℤ → ℕ) → (difference : ℤ) → (place : ℕ) → ℕ
+where_within last f difference place = if is_within last difference place then f difference else 0
+
+-- so many of these children can't be satisfied and the others dissatisfied
+abbrev pub CannotChoose : List Costs → ℕ → Type 0
+CannotChoose cs count = (0 < stuck cs) ⊎ ((count < forced cs) ⊎ (forced cs + over_free (λ difference place. 1) 0 cs < count))
+
+-- by these costs the choice satisfies so many of the children, and has their weight: the base and the
+-- differences of the free children that are satisfied
+pub record IsMarked (cs : List Costs) (count : ℕ) (choice : Choice) : Type 0 where
+  pub none_stuck : stuck cs ≡ 0
+  pub members : forced cs + over_free (where_within choice.last (λ difference. 1)) 0 cs ≡ count
+  pub weight : choice.weight + over_free (where_within choice.last down) 0 cs ≡ base cs + over_free (where_within choice.last up) 0 cs
+
+-- the choice of so many of the children: its weight, and which children it satisfies, by the costs that it compared
+pub record IsChoice (costs : List Costs) (children : List Child) (count : ℕ) (choice : Choice) : Type 0 where
   pub weight : weight_of (chosen children count) ≡ Some choice.weight
-  pub set : chosen children count ≡ stack_of children (set_by choice.last 0 (costs_of children))
+  pub set : chosen children count ≡ stack_of children (set_by choice.last 0 costs)

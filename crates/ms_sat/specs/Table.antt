@@ -10,15 +10,16 @@ use Rattle.ms_sat.specs.declared.rule.Rule.{Rule}
 use Rattle.ms_sat.specs.declared.table.Weighed.{Weighed}
 use Rattle.ms_sat.specs.declared.table.Entry.{Entry}
 use Rattle.ms_sat.specs.declared.tally.Choice.{Choice}
-use Rattle.ms_sat.specs.Costs.{weight_of, IsLight}
+use Rattle.ms_sat.specs.declared.cost.Costs.{Costs}
+use Rattle.ms_sat.specs.Costs.{weight_of, costs_of, IsLight}
 use Rattle.ms_sat.specs.Choice.{chosen, IsChoice}
-use Rattle.ms_sat.specs.Children.{children_of_keys}
+use Rattle.ms_sat.specs.Children.{children_of_keys, lengths_of_keys}
 use Rattle.ms_sat.specs.Rule.{stack_by, free_by, children_by}
 
--- the lightest choice of so many of the children, or that there is none
-abbrev pub IsFound : List Child → ℕ → Option Choice → Type 0
-IsFound children k None = chosen children k ≡ None
-IsFound children k (Some choice) = IsChoice children k choice
+-- the lightest choice of so many of the children by these costs, or that there is none
+abbrev pub IsFound : List Costs → List Child → ℕ → Option Choice → Type 0
+IsFound costs children k None = chosen children k ≡ None
+IsFound costs children k (Some choice) = IsChoice costs children k choice
 
 -- the choice among the children of a threshold, and among the keys of a `multi`
 abbrev pub Chooses : Rule → Assets → Tree → Option Choice → Type 0
@@ -31,8 +32,8 @@ Chooses rule assets (after n) found = ⊤
 Chooses rule assets (hash kind value) found = ⊤
 Chooses rule assets (and_or x y z) found = ⊤
 Chooses rule assets (two kind x z) found = ⊤
-Chooses rule assets (thresh k xs) found = IsFound (children_by rule assets xs) k found
-Chooses rule assets (multi k keys) found = IsFound (children_of_keys assets keys) k found
+Chooses rule assets (thresh k xs) found = IsFound (costs_of (children_by rule assets xs)) (children_by rule assets xs) k found
+Chooses rule assets (multi k keys) found = IsFound (lengths_of_keys assets keys) (children_of_keys assets keys) k found
 Chooses rule assets (wrap wrapper x) found = ⊤
 
 -- what was weighed of a node

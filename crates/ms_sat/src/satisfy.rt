@@ -20,7 +20,7 @@ ghost use Rattle.ms_hash.specs.Value.{kind_of, bytes_of};
 ghost use Rattle.ms_sat.specs.declared.rule.Rule.{Rule as By};
 ghost use Rattle.ms_sat.specs.Costs.{costs_of};
 ghost use Rattle.ms_sat.specs.Choice.{chosen, set_by};
-ghost use Rattle.ms_sat.specs.Children.{children_of_keys};
+ghost use Rattle.ms_sat.specs.Children.{children_of_keys, lengths_of_keys};
 ghost use Rattle.ms_sat.specs.Pushed.{IsPushed};
 ghost use Rattle.ms_sat.specs.Rule.{stack_by, children_by};
 ghost use Rattle.ms_sat.specs.Table.{AreEntries, IsFound};
@@ -213,7 +213,7 @@ fn push_children(
     requires in_range { All (λ x. IsInRange (shape x)) children.now }
     requires few { measure_of (shapes children.now) ≤ MOST_MEASURE }
     requires table { (rule : By) × AreEntries rule assets.now (nodes_of_all (shapes children.now)) table.now }
-    ensures { OnOk result ((rule : By) (k : ℕ) → AreEntries rule assets.now (nodes_of_all (shapes children.now)) table.now → IsFound (children_by rule assets.now (shapes children.now)) k choice.now → IsPushed (chosen (children_by rule assets.now (shapes children.now)) k) stack.old stack.new) }
+    ensures { OnOk result ((rule : By) (k : ℕ) → AreEntries rule assets.now (nodes_of_all (shapes children.now)) table.now → IsFound (costs_of (children_by rule assets.now (shapes children.now))) (children_by rule assets.now (shapes children.now)) k choice.now → IsPushed (chosen (children_by rule assets.now (shapes children.now)) k) stack.old stack.new) }
 {
     let Some(choice) = choice else {
         return Ok(());
@@ -295,7 +295,7 @@ fn push_multi(
     stack: &mut Stack,
 ) -> Result<(), AllocError>
     requires { length keys.now ≤ MOST_MEASURE }
-    ensures { OnOk result ((k : ℕ) → IsFound (children_of_keys assets.now keys.now) k choice.now → IsPushed (cheapest_of assets.now (tree.multi k keys.now)) stack.old stack.new) }
+    ensures { OnOk result ((k : ℕ) → IsFound (lengths_of_keys assets.now keys.now) (children_of_keys assets.now keys.now) k choice.now → IsPushed (cheapest_of assets.now (tree.multi k keys.now)) stack.old stack.new) }
 {
     // Its clauses tell what assets always are.
     let _locks = assets.locks();
@@ -317,7 +317,7 @@ fn push_signatures(
 ) -> Result<(), AllocError>
     requires few { length keys.now ≤ MOST_MEASURE }
     requires are { AreAssets assets.now }
-    ensures { OnOk result ((signatures : List Bytes) → stack_of (children_of_keys assets.now keys.now) (set_by choice.now.last 0 (costs_of (children_of_keys assets.now keys.now))) ≡ Some signatures → stack.new ≡ stack.old ++ signatures) }
+    ensures { OnOk result ((signatures : List Bytes) → stack_of (children_of_keys assets.now keys.now) (set_by choice.now.last 0 (lengths_of_keys assets.now keys.now)) ≡ Some signatures → stack.new ≡ stack.old ++ signatures) }
 {
     for (place, key) in keys.iter().enumerate() {
         if choice.is_taken(&of_key(key, assets), place as u32) {

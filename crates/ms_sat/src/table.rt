@@ -10,7 +10,6 @@ ghost use Rattle.def_tree.specs.Nodes.{all_nodes, nodes_of_all};
 ghost use Rattle.def_choice.specs.Cheapest.{dissatisfaction};
 ghost use Rattle.ms_tree.specs.Shape.{shape, shapes, trees_of, leaf_shape};
 ghost use Rattle.ms_sat.specs.declared.rule.Rule.{Rule as By};
-ghost use Rattle.std.specs.Option.{option_map};
 ghost use Rattle.ms_sat.specs.Costs.{weight_of as stack_weight, sum_of, IsLight, IsLightOption};
 ghost use Rattle.ms_sat.specs.Choice.{is_allowed};
 ghost use Rattle.ms_sat.specs.Children.{IsReady};
@@ -21,15 +20,15 @@ ghost use Rattle.ms_sat.specs.Table.{IsWeighed, AreEntries, Adds, below};
 ghost use Rattle.ms_sat.specs.Way.{HaveTables, AreSeen, sat_of, dsat_of, is_free};
 ghost use Rattle.ms_sat.specs.Count.{IsFew, counted, IsBounded, AreFew, AreTold};
 
-use crate::cost::{Costs, both};
+use crate::cost::Costs;
 use crate::rule::Rule;
-use crate::tally::{Choice, Tally};
+use crate::tally::{Choice, Tally, weight_of_choice};
 use crate::way::{
     Price, Seen, Ways, dissatisfactions_of_and_or, dissatisfactions_of_two,
     dissatisfactions_of_wrap, satisfactions_of_and_or, satisfactions_of_two, satisfactions_of_wrap,
     see_last, see_two,
 };
-use crate::weigh::{of_item, of_leaf, tally_of_keys};
+use crate::weigh::{of_leaf, of_multi};
 use ms_assets::Assets;
 use ms_sane::Slot;
 use ms_tree::{Key, Leaf, Tree, Two, View, Wrapper};
@@ -148,7 +147,7 @@ impl Children {
         let choice = self.tally.cheapest_of(count, slots);
         Weighed {
             costs: Costs {
-                sat: weight_of(&choice),
+                sat: weight_of_choice(&choice),
                 dsat: self.dsat,
             },
             free: self.free.allows(count),
@@ -166,16 +165,6 @@ fn with_others(others: Option<u64>, dsat: Option<u64>) -> Option<u64>
     match (others, dsat) {
         (Some(others), Some(dsat)) => Some(others + dsat),
         _ => None,
-    }
-}
-
-/// What a choice weighs, where there is one.
-fn weight_of(choice: &Option<Choice>) -> Option<u64>
-    ensures { result ≡ option_map (λ c. c.weight) choice.now }
-{
-    match choice {
-        Some(choice) => Some(choice.weight),
-        None => None,
     }
 }
 
@@ -295,13 +284,9 @@ fn weigh_multi(k: u64, keys: &[Key], assets: &Assets, slots: &mut [Slot]) -> Wei
     requires room { length keys.now ≤ length slots.old }
     ensures { (rule : By) → IsWeighed rule assets.now (tree.multi k keys.now) result }
 {
-    let tally = tally_of_keys(keys, assets, slots);
-    let choice = tally.cheapest_of(k, slots);
+    let (costs, choice) = of_multi(k, keys, assets, slots);
     Weighed {
-        costs: Costs {
-            sat: both(Some(of_item(&[])), weight_of(&choice)),
-            dsat: Some((k + 1) * of_item(&[])),
-        },
+        costs,
         free: false,
         choice,
     }

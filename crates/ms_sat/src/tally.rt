@@ -1,5 +1,6 @@
 //! The lightest choice of so many among the children of a threshold, by sorted differences.
 ghost use Rattle.std.specs.Prelude.{◌≡◌, ◌+◌, ◌*◌, ◌<◌, ◌≤◌, ◌^◌, ◌⊎◌, ◌++◌, [], ◌∷◌, pos, ◌-ℤ◌, List, length, All, IfSome, None, Some};
+ghost use Rattle.std.specs.Option.{option_map};
 ghost use borrow.Author.Differences.{up, down};
 ghost use Rattle.def_tree.specs.Range.{MOST_MEASURE};
 ghost use Rattle.def_choice.specs.Cheapest.{Child};
@@ -7,7 +8,7 @@ ghost use Rattle.ms_sane.specs.Choice.{total};
 ghost use Rattle.ms_sane.specs.declared.work.Slot.{Slot};
 ghost use Rattle.ms_sat.specs.declared.cost.Costs.{Costs};
 ghost use Rattle.ms_sat.specs.Costs.{IsLight, weight_of, costs_of};
-ghost use Rattle.ms_sat.specs.Choice.{chosen, is_within, takes, IsChoice};
+ghost use Rattle.ms_sat.specs.Choice.{chosen, is_within, takes, CannotChoose, IsMarked, IsChoice};
 ghost use Rattle.ms_sat.specs.Tally.{IsSmall, IsFreeSlot, Fits, Tells};
 
 use crate::cost::Costs;
@@ -79,6 +80,16 @@ impl Choice {
             }
             None => false,
         }
+    }
+}
+
+/// What a choice weighs, where there is one.
+pub fn weight_of_choice(choice: &Option<Choice>) -> Option<u64>
+    ensures { result ≡ option_map (λ c. c.weight) choice.now }
+{
+    match choice {
+        Some(choice) => Some(choice.weight),
+        None => None,
     }
 }
 
@@ -177,13 +188,13 @@ impl Tally {
         }
     }
 
-    /// The lightest choice of `count` children that are satisfied, where the others are dissatisfied. It
-    /// sorts the slots.
-    pub fn cheapest_of(&self, count: u64, slots: &mut [Slot]) -> Option<Choice>
+    /// Satisfies so many of the free children, in the order of their slots, that `count` children are
+    /// satisfied. It sorts the slots.
+    pub fn choose(&self, count: u64, slots: &mut [Slot]) -> Option<Choice>
         requires fits { Fits self.now slots.old }
         requires told { (cs : List Costs) × Tells cs self.now slots.old }
-        ensures none { result ≡ None → (children : List Child) → Tells (costs_of children) self.now slots.old → chosen children count ≡ None }
-        ensures chosen { IfSome result (λ choice. (children : List Child) → Tells (costs_of children) self.now slots.old → IsChoice children count choice) }
+        ensures none { result ≡ None → (cs : List Costs) → Tells cs self.now slots.old → CannotChoose cs count }
+        ensures marked { IfSome result (λ choice. (cs : List Costs) → Tells cs self.now slots.old → IsMarked cs count choice) }
     {
         let Some(wanted) = self.wanted(count) else {
             return None;
@@ -195,6 +206,17 @@ impl Tally {
             weight: raised(self.base, sum_of(taken)),
             last: taken.last().copied(),
         })
+    }
+
+    /// The lightest choice of `count` children that are satisfied, where the others are dissatisfied. It
+    /// sorts the slots.
+    pub fn cheapest_of(&self, count: u64, slots: &mut [Slot]) -> Option<Choice>
+        requires fits { Fits self.now slots.old }
+        requires told { (cs : List Costs) × Tells cs self.now slots.old }
+        ensures none { result ≡ None → (children : List Child) → Tells (costs_of children) self.now slots.old → chosen children count ≡ None }
+        ensures chosen { IfSome result (λ choice. (children : List Child) → Tells (costs_of children) self.now slots.old → IsChoice (costs_of children) children count choice) }
+    {
+        self.choose(count, slots)
     }
 
     /// The weight of the lightest choice of `count` children. It sorts the slots.

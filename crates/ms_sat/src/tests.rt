@@ -249,6 +249,52 @@ fn the_lightest_signatures_are_taken_in_the_order_of_their_keys(
     chooses(&rt, alloc, &tree, &assets, none, None)
 }
 
+/// After `costs` the first slots of a `multi` hold these lengths and places.
+fn sorts(
+    rt: &impl Abort,
+    alloc: Global,
+    tree: &Tree<'_>,
+    assets: &Assets,
+    sorted: &[(i64, u32)],
+) -> Result<(), Fail>
+    requires { IsInRange (shape tree.now) }
+{
+    let mut work = Work::new(alloc, tree)?;
+    let Ok(_) = check_valid(tree, &mut work) else {
+        return Err("not valid")?;
+    };
+    let _ = costs(tree, assets, &mut work);
+    for (at, (length, place)) in sorted.iter().enumerate() {
+        let slot = Slot {
+            first: *length,
+            second: 0,
+            third: 0,
+            place: *place,
+        };
+        assert_eq!(rt; work.slots.get(at), Some(&slot));
+    }
+    Ok(())
+}
+
+#[test]
+fn slots_hold_the_lengths_of_signatures(rt: HostRuntime) -> Result<(), Fail> {
+    let alloc = rt.alloc();
+    let arena = Bump::new(alloc);
+    let keys = Vec::from_array(alloc, [key(A)?, key(B)?, key(C)?])?;
+    let tree = multi(&arena, 2, keys)?;
+    let sigs: [([u8; 33], &[u8]); 3] = [(A, &SIG_A), (B, &SIG_B), (C, &SIG_C)];
+    let assets = assets_of(alloc, 0, &sigs, &[])?;
+    sorts(&rt, alloc, &tree, &assets, &[(70, 2), (71, 0), (72, 1)])?;
+    // Of equal lengths the lower position comes first.
+    let other = [0xbb; 71];
+    let sigs: [([u8; 33], &[u8]); 3] = [(C, &SIG_C), (B, &other), (A, &SIG_A)];
+    let assets = assets_of(alloc, 0, &sigs, &[])?;
+    sorts(&rt, alloc, &tree, &assets, &[(70, 2), (71, 0), (71, 1)])?;
+    // A key without a signature has no slot.
+    let assets = assets_of(alloc, 0, &sigs[..2], &[])?;
+    sorts(&rt, alloc, &tree, &assets, &[(70, 2), (71, 1)])
+}
+
 /// `or_d(pk(A),and_v(v:pkh(B),older(144)))`
 fn key_or_late_key<'a>(arena: &'a Bump<Global>) -> Result<Tree<'a>, Fail>
     ensures { IfOk result (λ t. IsInRange (shape t)) }

@@ -15,14 +15,15 @@ ghost use Rattle.def_choice.specs.Least.{item};
 ghost use Rattle.def_choice.specs.Cheapest.{cheapest, cheapest_of, dissatisfaction};
 ghost use Rattle.ms_hash.specs.Value.{kind_of, bytes_of};
 ghost use Rattle.ms_tree.specs.Shape.{shape, shapes, leaf_shape};
-ghost use Rattle.ms_sat.specs.Costs.{weight_of, costs_of, costs_of_child, IsLight};
-ghost use Rattle.ms_sat.specs.Children.{IsReady, children_of, child_of_key, children_of_keys};
+ghost use Rattle.ms_sat.specs.Costs.{weight_of, costs_of, IsLight};
+ghost use Rattle.ms_sat.specs.Children.{IsReady, children_of, children_of_keys, length_of_key, lengths_of_keys};
+ghost use Rattle.ms_sat.specs.Table.{IsFound};
 ghost use Rattle.ms_sat.specs.Tally.{Fits, Tells};
 ghost use Rattle.ms_sat.specs.Least.{IsLeastWeight};
 ghost use Rattle.std.specs.Str.{bytes_eq};
 
 use crate::cost::{Costs, both, least};
-use crate::tally::Tally;
+use crate::tally::{Choice, Tally, weight_of_choice};
 use ms_assets::Assets;
 use ms_hash::{HashVal, hash_of};
 use ms_sane::{Slot, Work};
@@ -62,7 +63,7 @@ pub fn weigh(tree: &Tree<'_>, assets: &Assets, slots: &mut [Slot]) -> Costs
         View::AndOr(x, y, z) => of_and_or(x, y, z, assets, slots),
         View::Two(kind, x, z) => of_two(kind, x, z, assets, slots),
         View::Thresh(k, children) => of_thresh(k, children, assets, slots),
-        View::Multi(k, keys) => of_multi(k, keys, assets, slots),
+        View::Multi(k, keys) => of_multi(k, keys, assets, slots).0,
         View::Wrap(wrapper, x) => of_wrap(wrapper, x, assets, slots),
     }
 }
@@ -249,31 +250,57 @@ pub fn tally_of(children: &[Tree<'_>], assets: &Assets, slots: &mut [Slot]) -> T
     tally
 }
 
-/// The least weights of a `multi`.
-pub fn of_multi(k: u64, keys: &[Key], assets: &Assets, slots: &mut [Slot]) -> Costs
+/// The least weights of a `multi`, and the choice of its keys.
+pub fn of_multi(
+    k: u64,
+    keys: &[Key],
+    assets: &Assets,
+    slots: &mut [Slot],
+) -> (Costs, Option<Choice>)
     requires enough { k ≤ length keys.now }
     requires few { length keys.now ≤ MOST_MEASURE }
     requires are { AreAssets assets.now }
     requires room { length keys.now ≤ length slots.old }
-    ensures sat { result.sat ≡ weight_of (cheapest_of assets.now (tree.multi k keys.now)) }
-    ensures dsat { result.dsat ≡ weight_of (dissatisfaction (tree.multi k keys.now)) }
+    ensures sat { result.0.sat ≡ weight_of (cheapest_of assets.now (tree.multi k keys.now)) }
+    ensures dsat { result.0.dsat ≡ weight_of (dissatisfaction (tree.multi k keys.now)) }
+    ensures choice { IsFound (lengths_of_keys assets.now keys.now) (children_of_keys assets.now keys.now) k result.1 }
 {
-    let tally = tally_of_keys(keys, assets, slots);
-    let signatures = tally.least_of(k, slots);
-    Costs {
+    let choice = choice_of_keys(k, keys, assets, slots);
+    let signatures = weight_of_choice(&choice);
+    let costs = Costs {
         sat: both(Some(of_item(&[])), signatures),
         dsat: Some((k + 1) * of_item(&[])),
+    };
+    (costs, choice)
+}
+
+/// The lightest signatures of `k` keys. All choices have as many items, so the lengths are compared, and
+/// the bytes for their sizes are added to what is chosen.
+fn choice_of_keys(k: u64, keys: &[Key], assets: &Assets, slots: &mut [Slot]) -> Option<Choice>
+    requires enough { k ≤ length keys.now }
+    requires few { length keys.now ≤ MOST_MEASURE }
+    requires are { AreAssets assets.now }
+    requires room { length keys.now ≤ length slots.old }
+    ensures { IsFound (lengths_of_keys assets.now keys.now) (children_of_keys assets.now keys.now) k result }
+{
+    let tally = tally_of_keys(keys, assets, slots);
+    match tally.choose(k, slots) {
+        Some(choice) => Some(Choice {
+            weight: choice.weight + k,
+            last: choice.last,
+        }),
+        None => None,
     }
 }
 
 /// The keys of a `multi`, counted in as children: a key is satisfied by its signature, and passed over
 /// by nothing.
-pub fn tally_of_keys(keys: &[Key], assets: &Assets, slots: &mut [Slot]) -> Tally
+fn tally_of_keys(keys: &[Key], assets: &Assets, slots: &mut [Slot]) -> Tally
     requires few { length keys.now ≤ MOST_MEASURE }
     requires are { AreAssets assets.now }
     requires room { length keys.now ≤ length slots.old }
     ensures fits { Fits result slots.new }
-    ensures told { Tells (costs_of (children_of_keys assets.now keys.now)) result slots.new }
+    ensures told { Tells (lengths_of_keys assets.now keys.now) result slots.new }
 {
     let mut tally = Tally::new();
     for key in keys {
@@ -282,15 +309,25 @@ pub fn tally_of_keys(keys: &[Key], assets: &Assets, slots: &mut [Slot]) -> Tally
     tally
 }
 
-/// A key of a `multi` as a child.
+/// A key of a `multi` as a child: the length of its signature.
 pub fn of_key(key: &Key, assets: &Assets) -> Costs
     requires { AreAssets assets.now }
-    ensures costs { result ≡ costs_of_child (child_of_key assets.now key.now) }
+    ensures costs { result ≡ length_of_key assets.now key.now }
     ensures light { IsLight result }
 {
     Costs {
-        sat: of_signature(key, assets),
+        sat: length_of_signature(key, assets),
         dsat: Some(0),
+    }
+}
+
+/// The length of the signature that is held with a key.
+fn length_of_signature(key: &Key, assets: &Assets) -> Option<u64>
+    ensures { result ≡ option_map length (sig_of assets.now key.now) }
+{
+    match assets.sig_of(key) {
+        Some(sig) => Some(sig.len() as u64),
+        None => None,
     }
 }
 

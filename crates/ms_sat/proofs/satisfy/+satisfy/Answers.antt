@@ -162,7 +162,7 @@ push_children-returns t c =
     let choice = c.in-Some.choice in
     let first : c.loop-place.place ≡ 0 = omega (arith, c.loop-place-test.false) in
     let pushed = subst (λ n. FromOn child choice.last n (drop n xs) c.args.stack.now c.loop-place.stack) first (c.loop-place.invariant.pushed rule h) in
-    let is = subst (IsFound (children_by rule assets (shapes xs)) k) c.in-Some.is found in
+    let is = subst (IsFound (costs_of (children_by rule assets (shapes xs))) (children_by rule assets (shapes xs)) k) c.in-Some.is found in
     let whole : chosen (children_by rule assets (shapes xs)) k ≡ stack_of (map child xs) (set_by choice.last 0 (costs_of (map child xs))) =
     is.set ∙ ap (λ cs. stack_of cs (set_by choice.last 0 (costs_of cs))) (children_shapes rule assets xs) in
     subst (λ o. IsPushed o c.args.stack.now c.loop-place.stack) (sym whole) pushed

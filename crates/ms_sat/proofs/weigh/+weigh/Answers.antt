@@ -58,7 +58,7 @@ weigh-returns-in-Thresh-clause-light t c =
 
 pub weigh-returns-in-Multi-clause-light : goal.weigh-returns-in-Multi-clause-light
 weigh-returns-in-Multi-clause-light t c =
-    light_of (shape c.args.tree.now) c.args.assets.now c.of_multi.result c.requires.in_range c.requires.typed c.requires.are
+    light_of (shape c.args.tree.now) c.args.assets.now c.of_multi.result.0 c.requires.in_range c.requires.typed c.requires.are
     (c.of_multi.ensures.sat ∙ sym (ap (λ t. weight_of (cheapest_of c.args.assets.now t)) c.in-Multi.ensures.shows))
     (c.of_multi.ensures.dsat ∙ sym (ap (λ t. weight_of (dissatisfaction t)) c.in-Multi.ensures.shows))
 

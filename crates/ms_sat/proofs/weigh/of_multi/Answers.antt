@@ -1,8 +1,9 @@
 use Rattle.std.proofs.Common.{◌≡◌, ◌∙◌, ◌+◌, ◌*◌, [], ◌∷◌, sym, ap, arith, Some}
 use Rattle.def_satisfaction.specs.Rows.{EMPTY}
 use Rattle.def_choice.specs.Cheapest.{signatures}
-use Rattle.ms_sat.specs.Children.{children_of_keys}
+use Rattle.ms_sat.specs.Children.{children_of_keys, lengths_of_keys}
 use Rattle.ms_sat.proofs.Bounds.{signatures_light, weight-replicate}
+use Rattle.ms_sat.proofs.Counts.{found_weight}
 use Rattle.ms_sat.proofs.Keys.{signatures_weigh}
 use Rattle.ms_sat.proofs.Weights.{both_weighs}
 use Rattle.ms_sat.proofs.weigh.of_multi.Goals as goal
@@ -11,17 +12,17 @@ pub both-requires-clause-above : goal.both-requires-clause-above
 both-requires-clause-above c =
     let assets = c.args.assets.now in
     let keys = c.args.keys.now in
-    signatures_light assets c.requires.are c.args.k keys c.least_of-signatures.result c.requires.few
-    (c.least_of-signatures.ensures (children_of_keys assets keys) c.tally_of_keys-tally.ensures.told ∙ sym (signatures_weigh assets c.args.k keys))
+    signatures_light assets c.requires.are c.args.k keys c.weight_of_choice-signatures.result c.requires.few
+    (c.weight_of_choice-signatures.ensures ∙ found_weight (lengths_of_keys assets keys) (children_of_keys assets keys) c.args.k c.choice_of_keys-choice.result c.choice_of_keys-choice.ensures ∙ sym (signatures_weigh assets c.args.k keys))
 
 pub returns-clause-sat : goal.returns-clause-sat
 returns-clause-sat c =
     let assets = c.args.assets.now in
     let keys = c.args.keys.now in
     c.both.ensures ∙
-    both_weighs (Some c.of_item.result) c.least_of-signatures.result (Some (EMPTY ∷ [])) (signatures assets c.args.k keys)
+    both_weighs (Some c.of_item.result) c.weight_of_choice-signatures.result (Some (EMPTY ∷ [])) (signatures assets c.args.k keys)
     (ap Some c.of_item.ensures)
-    (c.least_of-signatures.ensures (children_of_keys assets keys) c.tally_of_keys-tally.ensures.told ∙ sym (signatures_weigh assets c.args.k keys))
+    (c.weight_of_choice-signatures.ensures ∙ found_weight (lengths_of_keys assets keys) (children_of_keys assets keys) c.args.k c.choice_of_keys-choice.result c.choice_of_keys-choice.ensures ∙ sym (signatures_weigh assets c.args.k keys))
 
 pub returns-clause-dsat : goal.returns-clause-dsat
 returns-clause-dsat c =

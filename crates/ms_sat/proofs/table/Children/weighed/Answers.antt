@@ -13,8 +13,8 @@ returns c = λ rule assets ts told.
     let k = c.args.count in
     let found = found_choice (λ ds. Tells (costs_of ds) c.args.self.now.tally c.args.slots.now) cs k c.cheapest_of-choice.result told.tally c.cheapest_of-choice.ensures.none c.cheapest_of-choice.ensures.chosen in
     record {
-      sat = c.weight_of.ensures ∙ found_weight cs k c.cheapest_of-choice.result found ∙ sym (ap weight_of (thresh_by rule assets k ts));
+      sat = c.weight_of_choice.ensures ∙ found_weight (costs_of cs) cs k c.cheapest_of-choice.result found ∙ sym (ap weight_of (thresh_by rule assets k ts));
       dsat = told.dsat;
       free = c.allows.ensures ∙ free_thresh rule assets k ts c.args.self.now.free c.requires.some told.free;
-      choice = subst (λ l. IsFound l k c.cheapest_of-choice.result) (sym (children_are rule assets ts)) found;
+      choice = subst (λ l. IsFound (costs_of l) l k c.cheapest_of-choice.result) (sym (children_are rule assets ts)) found;
     }

@@ -1,62 +1,13 @@
-use Rattle.std.proofs.Common.{◌-◌, ◌∙◌, Option, refl, arith, length, take, length-take}
-use Rattle.std.specs.List.{slice_get}
-use Rattle.std.proofs.lemmas.Int.{ints}
-use Rattle.std.proofs.lemmas.List.Elements.{All-take}
-use Rattle.std.proofs.lemmas.List.Sorted.{All-permutation, length_permutation}
-use Rattle.ms_sane.specs.declared.work.Slot.{Slot}
-use Rattle.ms_sat.specs.Tally.{IsFreeSlot}
-use Rattle.ms_sat.proofs.Tallies.{Sorted, none_told, gain_low, choice_told}
+use Rattle.std.proofs.lemmas.Option.{IfSome_then}
+use Rattle.ms_sat.specs.Costs.{costs_of}
+use Rattle.ms_sat.proofs.Chosen.{cannot_chosen}
+use Rattle.ms_sat.proofs.Marks.{marked_choice}
 use Rattle.ms_sat.proofs.tally.Tally.cheapest_of.Goals as goal
 
-pub returns-in_default-clause-none : goal.returns-in_default-clause-none
-returns-in_default-clause-none c = λ is cs told.
-    none_told cs c.args.self.now c.args.slots.now told c.args.count (c.wanted.ensures.none c.in_default.is)
-
-pub sum_of-requires-clause-light : goal.sum_of-requires-clause-light
-sum_of-requires-clause-light c =
-    All-take IsFreeSlot _ _ (All-permutation IsFreeSlot _ _ c.sort_unstable.ensures.permutation c.requires.fits.light)
-
-pub raised-requires-clause-low : goal.raised-requires-clause-low
-raised-requires-clause-low c =
-    let m = c.in-Some.wanted in
-    let t = c.args.self.now in
-    let slots = c.args.slots.now in
-    let ys = c.sort_unstable.new.self in
-    let last : Option Slot = slice_get (take m ys) (length (take m ys) - 1) in
-    let same = length_permutation (take t.free slots) ys c.sort_unstable.ensures.permutation in
-    let front = length-take t.free slots in
-    let sorted : Sorted t slots m ys last c.sum_of.result =
-    record {
-      light = c.requires.fits.light;
-      moved = c.sort_unstable.ensures.permutation;
-      sorted = c.sort_unstable.ensures.sorted;
-      enough = omega (arith, same, front, c.requires.fits.room, c.in-Some.ensures.some.2);
-      is_last = refl;
-      sum = c.sum_of.ensures.sum;
-    }
-    in
-    let low = gain_low c.requires.told.0 t slots c.requires.told.1 m ys last c.sum_of.result sorted in
-    omega (arith, ints, low)
+pub returns-clause-none : goal.returns-clause-none
+returns-clause-none c = λ is cs told. cannot_chosen cs c.args.count (c.choose.ensures.none is (costs_of cs) told)
 
 pub returns-clause-chosen : goal.returns-clause-chosen
-returns-clause-chosen c = λ cs told.
-    let m = c.in-Some.wanted in
-    let t = c.args.self.now in
-    let slots = c.args.slots.now in
-    let ys = c.sort_unstable.new.self in
-    let wanted = c.in-Some.ensures.some in
-    let same = length_permutation (take t.free slots) ys c.sort_unstable.ensures.permutation in
-    let front = length-take t.free slots in
-    let sorted : Sorted t slots m ys c.copied.result c.sum_of.result =
-    record {
-      light = c.requires.fits.light;
-      moved = c.sort_unstable.ensures.permutation;
-      sorted = c.sort_unstable.ensures.sorted;
-      enough = omega (arith, same, front, c.requires.fits.room, wanted.2);
-      is_last = c.copied.ensures ∙ c.last.ensures.value;
-      sum = c.sum_of.ensures.sum;
-    }
-    in
-    choice_told cs t slots told c.args.count m wanted.0 wanted.1 ys
-    (record { weight = c.raised.result; last = c.copied.result }) c.sum_of.result sorted
-    (omega (arith, ints, c.raised.ensures))
+returns-clause-chosen c =
+    IfSome_then c.choose.result c.choose.ensures.marked
+    (λ choice marked cs told. marked_choice cs c.args.count choice (marked (costs_of cs) told))
