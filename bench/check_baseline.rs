@@ -200,14 +200,14 @@ pub fn put_digits(out: &mut String, bytes: &[u8]) {
     }
 }
 
-fn put_of(out: &mut String, name: &str, bytes: &[u8]) {
+pub fn put_of(out: &mut String, name: &str, bytes: &[u8]) {
     out.push_str(name);
     out.push('(');
     put_digits(out, bytes);
     out.push(')');
 }
 
-fn put_tree(out: &mut String, tree: &Tree) {
+pub fn put_tree(out: &mut String, tree: &Tree) {
     match tree {
         Tree::Zero => out.push('0'),
         Tree::One => out.push('1'),
@@ -632,8 +632,13 @@ pub fn valid(text: &str) -> Option<Valid> {
     }
     let mut reader = Reader { text: text.as_bytes(), at: 0 };
     let tree = reader.expression(0)?;
+    (reader.at == text.len()).then(|| valid_tree(tree))?
+}
+
+/// None where the tree isn't valid.
+pub fn valid_tree(tree: Tree) -> Option<Valid> {
     let kind = type_of(&tree)?;
-    if reader.at < text.len() || kind.base != Base::B {
+    if kind.base != Base::B {
         return None;
     }
     let mut script = Script::default();

@@ -7,7 +7,7 @@
 
 #[allow(dead_code)]
 #[path = "check_baseline.rs"]
-mod check_baseline;
+pub mod check_baseline;
 #[allow(dead_code)]
 #[path = "hash_baseline.rs"]
 mod hash_baseline;
@@ -149,7 +149,7 @@ fn has_new_keys<'t>(tree: &'t Tree, seen: &mut HashSet<&'t Key>) -> bool {
     }
 }
 
-fn is_sane(tree: &Tree) -> bool {
+pub fn is_sane(tree: &Tree) -> bool {
     mall_of(tree).is_some_and(|top| top.s) && kinds_of(tree).is_some() && has_new_keys(tree, &mut HashSet::new())
 }
 

@@ -16,11 +16,11 @@ use Rattle.def_sane.specs.Unfit.{first_unfit, first_unfit_valid}
 use Rattle.def_choice.specs.Cheapest.{cheapest}
 use Rattle.def_choice.specs.Strict.{strict}
 use Rattle.def_answer.specs.declared.status.Status.{Status}
-use Rattle.def_answer.specs.Words.{Command, script, check, satisfy, satisfy_malleable, run, gen}
+use Rattle.def_answer.specs.Words.{Command, script, check, satisfy, satisfy_malleable, run, gen, policy}
 use Rattle.def_answer.specs.Reading.{Reading, read, refused, HasReading}
 use Rattle.def_answer.specs.Reply.{Reply, reply, usage_reply, text_reply, satisfy_reply, run_reply}
 use Rattle.def_answer.proofs.Forms.{command_of, is_form, none_has_form}
-use Rattle.def_answer.specs.Answer.{script_reply, check_reply, gen_reply, Replies, RepliesToWords, Answer}
+use Rattle.def_answer.specs.Answer.{script_reply, check_reply, policy_reply, gen_reply, Replies, RepliesToWords, Answer}
 
 -- ---- texts
 
@@ -56,6 +56,7 @@ OnText P (satisfy text) = P text
 OnText P (satisfy_malleable text) = P text
 OnText P run = ⊤
 OnText P (gen n) = ⊤
+OnText P (policy text) = P text
 
 abbrev pub reply_to : (source : Bytes) → Command → Reply
 reply_to source (script text) = text_reply first_unfit_valid script_reply (reading_of text)
@@ -64,6 +65,7 @@ reply_to source (satisfy text) = text_reply first_unfit (satisfy_reply strict so
 reply_to source (satisfy_malleable text) = text_reply first_unfit_valid (satisfy_reply cheapest source) (reading_of text)
 reply_to source run = run_reply source
 reply_to source (gen n) = gen_reply n
+reply_to source (policy text) = text_reply first_unfit policy_reply (reading_of text)
 
 replies_to : (command : Command) (source : Bytes) → OnText IsUtf8 command → Replies command source (reply_to source command)
 replies_to (script text) source utf8 = (reading_of text, has_reading text utf8, refl)
@@ -72,6 +74,7 @@ replies_to (satisfy text) source utf8 = (reading_of text, has_reading text utf8,
 replies_to (satisfy_malleable text) source utf8 = (reading_of text, has_reading text utf8, refl)
 replies_to run source utf8 = refl
 replies_to (gen n) source utf8 = refl
+replies_to (policy text) source utf8 = (reading_of text, has_reading text utf8, refl)
 
 abbrev pub reply_to_words : (source : Bytes) → Option Command → Reply
 reply_to_words source None = usage_reply
@@ -98,6 +101,7 @@ is_ascii_text (satisfy text) = list_all is_ascii text
 is_ascii_text (satisfy_malleable text) = list_all is_ascii text
 is_ascii_text run = true
 is_ascii_text (gen n) = true
+is_ascii_text (policy text) = list_all is_ascii text
 
 abbrev pub are_ascii_words : Option Command → Bool
 are_ascii_words None = true
@@ -110,6 +114,7 @@ ascii_text (satisfy text) ascii = ascii_is_utf8 text ascii
 ascii_text (satisfy_malleable text) ascii = ascii_is_utf8 text ascii
 ascii_text run ascii = tt
 ascii_text (gen n) ascii = tt
+ascii_text (policy text) ascii = ascii_is_utf8 text ascii
 
 ascii_words : (o : Option Command) → are_ascii_words o ≡ true → OnWords IsUtf8 o
 ascii_words None ascii = tt

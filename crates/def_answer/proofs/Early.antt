@@ -14,13 +14,13 @@ use Rattle.def_files.specs.AssetFile.{assets_of}
 use Rattle.def_files.specs.RunFile.{run_of}
 use Rattle.def_answer.specs.declared.status.Status.{Status}
 use Rattle.def_answer.specs.declared.status.Status.TheVariants as status
-use Rattle.def_answer.specs.Words.{Command, script, check, satisfy, satisfy_malleable, gen}
+use Rattle.def_answer.specs.Words.{Command, script, check, satisfy, satisfy_malleable, gen, policy}
 use Rattle.def_answer.specs.Words as words
 use Rattle.def_answer.specs.Lines.{file_too_long_line}
 use Rattle.def_answer.specs.Reading.{Reading}
 use Rattle.def_answer.specs.Reading as reading
 use Rattle.def_answer.specs.Reply.{Reply, reply, unless_unfit, text_reply, unless_refused, MOST_FILE, file_reply, chosen_reply, satisfy_reply, outcome_reply, run_reply}
-use Rattle.def_answer.specs.Answer.{script_reply, check_reply, gen_reply, RepliesToText, Replies, RepliesToWords}
+use Rattle.def_answer.specs.Answer.{script_reply, check_reply, policy_reply, gen_reply, RepliesToText, Replies, RepliesToWords}
 use Rattle.def_answer.specs.Laws.{IsAnswered, AnswersHaveStatus, LongAssetFile, LongRunFile}
 
 -- ---- the replies to files and runs
@@ -97,6 +97,7 @@ answered_reply (satisfy_malleable text) source r h =
     answered_text text first_unfit_valid (satisfy_reply cheapest source) r (λ tree. satisfy_status IsAnswered cheapest source tree tt tt tt) h
 answered_reply words.run source r h = subst (OfStatus IsAnswered) (sym h) (run_status IsAnswered source tt tt tt)
 answered_reply (gen n) source r h = subst (OfStatus IsAnswered) (sym h) tt
+answered_reply (policy text) source r h = answered_text text first_unfit policy_reply r (λ tree. tt) h
 
 answered_words : (ws : List Bytes) (source : Bytes) (r : Reply) → RepliesToWords ws source r → OfStatus IsAnswered r
 answered_words ws source r (inl h) = answered_reply h.0 source r h.2

@@ -8,7 +8,7 @@ use Rattle.std.proofs.lemmas.List.Sums.{AllPass-from_list_all}
 use Rattle.std.proofs.lemmas.List.FromFn.{get_or-range_with_len}
 use Rattle.std.proofs.lemmas.Slice.Eq.{bytes_eq-Decides}
 use Rattle.def_script.specs.Bytes.{Bytes}
-use Rattle.def_answer.specs.Words.{Command, script, check, satisfy, satisfy_malleable, run, gen, words_of, MOST_CHILDREN, IsCommand, IsForm, HasNoForm}
+use Rattle.def_answer.specs.Words.{Command, script, check, satisfy, satisfy_malleable, run, gen, policy, words_of, MOST_CHILDREN, IsCommand, IsForm, HasNoForm}
 
 -- the number of 1 to 30 that a word spells
 unfoldable pub children_of : Bytes → Option ℕ
@@ -23,6 +23,7 @@ two_words first second =
     else if bytes_eq first (codes "check") then Some (check second)
     else if bytes_eq first (codes "satisfy") then Some (satisfy second)
     else if bytes_eq first (codes "gen") then option_map gen (children_of second)
+    else if bytes_eq first (codes "policy") then Some (policy second)
     else None
 
 abbrev pub three_words : (first second third : Bytes) → Option Command
@@ -65,6 +66,7 @@ command_found (satisfy text) h = refl
 command_found (satisfy_malleable text) h = refl
 command_found run h = refl
 command_found (gen n) h = ap (option_map gen) (children_found n h.0 h.1)
+command_found (policy text) h = refl
 
 -- ---- and its words are those
 
@@ -121,7 +123,10 @@ two_form first second c e =
           | inl h ↦ same_form _ (satisfy second) c (pair_is first second (codes "satisfy") (is_word first (codes "satisfy") h.0)) tt h.1
           | inr h ↦ elim (if_some (bytes_eq first (codes "gen")) _ _ c h.1) [
             | inl h ↦ gen_form first second (children_of second) c refl (is_word first (codes "gen") h.0) h.1
-            | inr h ↦ cc h.1
+            | inr h ↦ elim (if_some (bytes_eq first (codes "policy")) _ _ c h.1) [
+              | inl h ↦ same_form _ (policy second) c (pair_is first second (codes "policy") (is_word first (codes "policy") h.0)) tt h.1
+              | inr h ↦ cc h.1
+            ]
           ]
         ]
       ]

@@ -1,10 +1,12 @@
 pub mod Forms
 pub mod Answered
 pub mod Unique
+pub mod LeastKeys
 pub mod Early
 pub mod Sources
 pub mod Computing
 pub mod TextRows
+pub mod PolicyRows
 pub mod SatisfyRows
 pub mod RunRows
 pub mod GenRows

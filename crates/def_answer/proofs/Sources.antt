@@ -13,10 +13,10 @@ use Rattle.def_choice.specs.Cheapest.{cheapest}
 use Rattle.def_choice.specs.Strict.{strict}
 use Rattle.def_answer.specs.declared.status.Status.{Status}
 use Rattle.def_answer.specs.declared.status.Status.TheVariants as status
-use Rattle.def_answer.specs.Words.{Command, script, check, satisfy, satisfy_malleable, run, gen}
+use Rattle.def_answer.specs.Words.{Command, script, check, satisfy, satisfy_malleable, run, gen, policy}
 use Rattle.def_answer.specs.Reading.{Reading, read, refused, HasReading}
 use Rattle.def_answer.specs.Reply.{Reply, reply, unless_unfit, text_reply, MOST_FILE, satisfy_reply}
-use Rattle.def_answer.specs.Answer.{script_reply, check_reply, gen_reply, RepliesToText, Replies, RepliesToWords}
+use Rattle.def_answer.specs.Answer.{script_reply, check_reply, policy_reply, gen_reply, RepliesToText, Replies, RepliesToWords}
 use Rattle.def_answer.specs.Sources.{Passes, NeedsSource, ReadsSource, IsOfSource, IsToFile}
 use Rattle.def_answer.specs.Laws.{AnswerWithoutSource, StatusWithoutSource, StatusWithSource}
 use Rattle.def_answer.proofs.Answered.{OnText, reading_of, has_reading}
@@ -63,6 +63,7 @@ reply_without (satisfy_malleable text) source other r never h =
     text_without text first_unfit_valid (satisfy_reply cheapest source) (satisfy_reply cheapest other) r never h
 reply_without run source other r never h = absurd (never tt)
 reply_without (gen n) source other r never h = h
+reply_without (policy text) source other r never h = h
 
 -- no status that tells of the source
 abbrev IsOther : Status → Type 0
@@ -94,6 +95,8 @@ other_status (satisfy_malleable text) source r never h =
     refused_other text first_unfit_valid (satisfy_reply cheapest source) r never h
 other_status run source r never h = absurd (never tt)
 other_status (gen n) source r never h = subst (OfStatus IsOther) (sym h) (λ s. s)
+other_status (policy text) source r never h =
+    subst (OfStatus IsOther) (sym h.2) (other_text first_unfit policy_reply h.0 (λ tree s. s))
 
 words_without : (words : List Bytes) (source other : Bytes) (r : Reply) → ¬ ReadsSource words →
     RepliesToWords words source r → RepliesToWords words other r
@@ -134,6 +137,7 @@ file_status (satisfy_malleable text) source r utf8 needs h =
     (satisfy_status IsToFile cheapest source needs.0 tt tt tt)
 file_status run source r utf8 needs h = subst (OfStatus IsToFile) (sym h) (run_status IsToFile source tt tt tt)
 file_status (gen n) source r utf8 needs h = absurd needs
+file_status (policy text) source r utf8 needs h = absurd needs
 
 -- a file that is too long is refused, whatever it says
 pub long_file : (c : Command) (source : Bytes) (r : Reply) → OnText IsUtf8 c → NeedsSource c → MOST_FILE < length source →
@@ -148,6 +152,7 @@ long_file (satisfy_malleable text) source r utf8 needs long h =
     (passed_text text first_unfit_valid (satisfy_reply cheapest source) r utf8 needs h ∙ long_asset_file cheapest source needs.0 long)
 long_file run source r utf8 needs long h = ap (λ (r : Reply). r.status) (h ∙ long_run_file source long)
 long_file (gen n) source r utf8 needs long h = absurd needs
+long_file (policy text) source r utf8 needs long h = absurd needs
 
 file_words : (words : List Bytes) (source : Bytes) (r : Reply) → All IsUtf8 words → ReadsSource words →
     RepliesToWords words source r → OfStatus IsToFile r

@@ -10,9 +10,9 @@ use Rattle.def_choice.specs.Cheapest.{cheapest}
 use Rattle.def_choice.specs.Strict.{strict}
 use Rattle.def_answer.specs.declared.status.Status.{Status}
 use Rattle.def_answer.specs.declared.status.Status.TheVariants as status
-use Rattle.def_answer.specs.Words.{Command, script, check, satisfy, satisfy_malleable, run, gen, IsForm, HasNoForm}
+use Rattle.def_answer.specs.Words.{Command, script, check, satisfy, satisfy_malleable, run, gen, policy, IsForm, HasNoForm}
 use Rattle.def_answer.specs.Lines.{limits_line}
-use Rattle.def_answer.specs.Report.{script_report, check_report, replay, children_line, strict_line, cheapest_line}
+use Rattle.def_answer.specs.Report.{script_report, check_report, policy_report, replay, children_line, strict_line, cheapest_line}
 use Rattle.def_answer.specs.Generated.{threshold_of, generated_tree, generated_assets}
 use Rattle.def_answer.specs.Reading.{Reading, HasReading}
 use Rattle.def_answer.specs.Reply.{Reply, reply, usage_reply, text_reply, satisfy_reply, run_reply}
@@ -37,6 +37,9 @@ script_reply tree = reply status.Done (script_report tree)
 abbrev pub check_reply : Tree → Reply
 check_reply tree = reply status.Done (check_report tree)
 
+abbrev pub policy_reply : Tree → Reply
+policy_reply tree = reply status.Done (policy_report tree)
+
 -- the reply to a text, by its reading
 abbrev pub RepliesToText : (text : Bytes) → (first_reason : Tree → Option Unfit) → (next : Tree → Reply) → Reply →
     Type 0
@@ -51,6 +54,7 @@ Replies (satisfy text) source r = RepliesToText text first_unfit (satisfy_reply 
 Replies (satisfy_malleable text) source r = RepliesToText text first_unfit_valid (satisfy_reply cheapest source) r
 Replies run source r = r ≡ run_reply source
 Replies (gen n) source r = r ≡ gen_reply n
+Replies (policy text) source r = RepliesToText text first_unfit policy_reply r
 
 -- the reply to words: to their command, or where they have no form
 abbrev pub RepliesToWords : (words : List Bytes) → (source : Bytes) → Reply → Type 0

@@ -5,11 +5,14 @@ use Rattle.def_tree.specs.Tree.{Tree}
 use Rattle.def_assets.specs.Assets.{Assets, AreAssets}
 use Rattle.def_text.specs.Refusal.{TextReads}
 use Rattle.def_sane.specs.Unfit.{IsSane}
+use Rattle.def_policy.specs.Policy.{Policy}
+use Rattle.def_policy.specs.Keys.{AreLeastKeys}
 use Rattle.def_choice.specs.Cheapest.{cheapest}
 use Rattle.def_choice.specs.Strict.{strict}
 use Rattle.def_answer.specs.declared.status.Status.{Status}
 use Rattle.def_answer.specs.declared.status.Status.TheVariants as status
 use Rattle.def_answer.specs.Words.{Command, MOST_CHILDREN, IsForm, HasNoForm}
+use Rattle.def_answer.specs.LeastKeys.{least_keys}
 use Rattle.def_answer.specs.Lines.{file_too_long_line}
 use Rattle.def_answer.specs.Generated.{generated_text, generated_tree, generated_assets}
 use Rattle.def_answer.specs.Reply.{reply, MOST_FILE, satisfy_reply, run_reply}
@@ -82,6 +85,16 @@ LongAssetFile =
 abbrev pub LongRunFile : Type 0
 LongRunFile =
     (source : Bytes) → MOST_FILE < length source → run_reply source ≡ reply status.FileRefused file_too_long_line
+
+-- ---- how many keys have to sign
+
+-- what the smallest set says is the least number of keys
+abbrev pub LeastKeysAreLeast : Type 0
+LeastKeysAreLeast = (policy : Policy) → AreLeastKeys policy (least_keys policy)
+
+-- and there is one such number alone
+abbrev pub OneLeast : Type 0
+OneLeast = (policy : Policy) (n m : Option ℕ) → AreLeastKeys policy n → AreLeastKeys policy m → n ≡ m
 
 -- ---- what is generated
 

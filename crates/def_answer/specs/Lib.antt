@@ -2,6 +2,7 @@ pub mod Status
 pub mod Names
 pub mod Words
 pub mod Lines
+pub mod LeastKeys
 pub mod Report
 pub mod Generated
 pub mod Reading
@@ -11,6 +12,7 @@ pub mod Sources
 pub mod Laws
 pub mod Samples
 pub mod TextExamples
+pub mod PolicyExamples
 pub mod SatisfyExamples
 pub mod RunExamples
 pub mod GenExamples

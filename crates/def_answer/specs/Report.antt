@@ -1,5 +1,5 @@
 -- The report of each command, as a function of what it shows.
-use Rattle.std.specs.Prelude.{ℕ, Bool, List, [], ◌∷◌, ◌++◌, length, codes, decimal, flat_map, if◌then◌else◌}
+use Rattle.std.specs.Prelude.{ℕ, Bool, List, [], ◌∷◌, ◌++◌, length, codes, decimal, flat_map, if◌then◌else◌, Option, Some, None}
 use Rattle.hex.specs.Hex.{encode_lower}
 use Rattle.def_script.specs.Bytes.{Bytes}
 use Rattle.def_script.specs.Witness.{witness_text}
@@ -14,7 +14,12 @@ use Rattle.def_assets.specs.Assets.{Assets}
 use Rattle.def_sane.specs.Most.{limits_of}
 use Rattle.def_satisfaction.specs.Satisfaction.{given_of}
 use Rattle.def_satisfaction.specs.Weight.{weight}
+use Rattle.def_policy.specs.Policy.{Policy}
+use Rattle.def_policy.specs.Plain.{plain}
+use Rattle.def_policy.specs.Simple.{simple}
+use Rattle.def_policy.specs.Print.{printed as printed_policy}
 use Rattle.def_answer.specs.Names.{base_letter}
+use Rattle.def_answer.specs.LeastKeys.{least_keys}
 use Rattle.def_answer.specs.Lines.{line, script_line, program_line, limits_line, script_refused_line}
 
 -- ---- script
@@ -109,3 +114,19 @@ strict_line stack outcome =
 abbrev pub cheapest_line : (stack : List Bytes) → Bytes
 cheapest_line stack =
     line (codes "cheapest items " ++ decimal (length stack) ++ codes " weight " ++ decimal (weight stack))
+
+-- ---- policy
+
+-- the policy of a tree, made simple
+abbrev pub policy_of : Tree → Policy
+policy_of tree = simple (plain tree)
+
+abbrev pub number_or_none : Option ℕ → Bytes
+number_or_none None = codes "none"
+number_or_none (Some n) = decimal n
+
+abbrev pub policy_lines : Policy → (least : Option ℕ) → Bytes
+policy_lines policy least = line (codes "policy " ++ printed_policy policy) ++ line (codes "keys " ++ number_or_none least)
+
+unfoldable pub policy_report : Tree → Bytes
+policy_report tree = policy_lines (policy_of tree) (least_keys (policy_of tree))

@@ -7,7 +7,7 @@ use Rattle.def_sane.specs.declared.Unfit.{Unfit}
 use Rattle.def_sane.specs.Unfit.{first_unfit, first_unfit_valid}
 use Rattle.def_answer.specs.declared.status.Status.{Status}
 use Rattle.def_answer.specs.declared.status.Status.TheVariants as status
-use Rattle.def_answer.specs.Words.{Command, script, check, satisfy, satisfy_malleable, run, gen, IsForm}
+use Rattle.def_answer.specs.Words.{Command, script, check, satisfy, satisfy_malleable, run, gen, policy, IsForm}
 
 -- the text is read as a tree, and there is no reason against it
 abbrev pub Passes : (first_reason : Tree → Option Unfit) → (text : Bytes) → Type 0
@@ -22,6 +22,7 @@ NeedsSource (satisfy text) = Passes first_unfit text
 NeedsSource (satisfy_malleable text) = Passes first_unfit_valid text
 NeedsSource run = ⊤
 NeedsSource (gen n) = ⊥
+NeedsSource (policy text) = ⊥
 
 -- the words are those of such a command
 abbrev pub ReadsSource : (words : List Bytes) → Type 0

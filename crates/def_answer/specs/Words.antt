@@ -15,6 +15,8 @@ pub data Command : Type 0 where
   run : Command
   -- a large text that is made from a number, and its satisfactions
   gen : (n : ℕ) → Command
+  -- the abstract policy of a sane text
+  policy : (text : Bytes) → Command
 
 -- the words of a command
 abbrev pub words_of : Command → List Bytes
@@ -24,6 +26,7 @@ words_of (satisfy text) = codes "satisfy" ∷ text ∷ []
 words_of (satisfy_malleable text) = codes "satisfy" ∷ codes "--malleable" ∷ text ∷ []
 words_of run = codes "run" ∷ []
 words_of (gen n) = codes "gen" ∷ decimal n ∷ []
+words_of (policy text) = codes "policy" ∷ text ∷ []
 
 -- the greatest number that `gen` takes
 abbrev pub MOST_CHILDREN : ℕ
@@ -37,6 +40,7 @@ IsCommand (satisfy text) = ⊤
 IsCommand (satisfy_malleable text) = ⊤
 IsCommand run = ⊤
 IsCommand (gen n) = (1 ≤ n) × (n ≤ MOST_CHILDREN)
+IsCommand (policy text) = ⊤
 
 -- the words are those of the command
 pub record IsForm (words : List Bytes) (command : Command) : Type 0 where

@@ -14,6 +14,13 @@ ghost use Rattle.def_answer.specs.TextExamples.{
   BrokenRules,
   NotSane,
 };
+ghost use Rattle.def_answer.specs.PolicyExamples.{
+  PolicyOfLateKey,
+  PolicyOfLock,
+  PolicyOfHashes,
+  PolicyOfZero,
+  PolicyRefused,
+};
 ghost use Rattle.def_answer.specs.SatisfyExamples.{
   TwoOfThree,
   LateKey,
@@ -67,6 +74,15 @@ pub fn texts()
     ensures too_deep_or_long { TooDeepOrLong }
     ensures broken_rules { BrokenRules }
     ensures not_sane { NotSane }
+{}
+
+/// Answers to `policy TEXT`.
+pub fn policies()
+    ensures late_key { PolicyOfLateKey }
+    ensures lock { PolicyOfLock }
+    ensures hashes { PolicyOfHashes }
+    ensures zero { PolicyOfZero }
+    ensures refused { PolicyRefused }
 {}
 
 /// Answers to `satisfy TEXT` and `satisfy --malleable TEXT`.

@@ -11,6 +11,8 @@ ghost use Rattle.def_answer.specs.Laws.{
   StatusWithSource,
   LongAssetFile,
   LongRunFile,
+  LeastKeysAreLeast,
+  OneLeast,
   GeneratedIsRead,
   GeneratedIsSane,
   GeneratedAreAssets,
@@ -33,6 +35,12 @@ pub fn sources()
     ensures status_with { StatusWithSource }
     ensures long_asset_file { LongAssetFile }
     ensures long_run_file { LongRunFile }
+{}
+
+/// The number of keys that `policy` prints is the least one.
+pub fn policies()
+    ensures least { LeastKeysAreLeast }
+    ensures one { OneLeast }
 {}
 
 /// What is generated: a text that is read as the tree, a sane tree, and assets that satisfy it.

@@ -6,3 +6,4 @@ mod EndLemmas
 mod SatisfactionLemmas
 mod RefusalLemmas
 mod GeneratorLemmas
+mod PolicyLemmas

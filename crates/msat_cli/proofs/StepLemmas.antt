@@ -48,12 +48,14 @@ replies_read kind.Script text bytes tree offsets r reads e = (read tree offsets,
 replies_read kind.Check text bytes tree offsets r reads e = (read tree offsets, reads, e)
 replies_read (kind.Satisfy choice.Strict) text bytes tree offsets r reads e = (read tree offsets, reads, e)
 replies_read (kind.Satisfy choice.Cheapest) text bytes tree offsets r reads e = (read tree offsets, reads, e)
+replies_read kind.Policy text bytes tree offsets r reads e = (read tree offsets, reads, e)
 
 -- a file is read for a tree against which there is no reason
 no_reason : (kind : TextCommand) (tree : Tree) → ReadsFor kind tree → reason_of kind tree ≡ None
 no_reason kind.Script tree h = absurd h
 no_reason kind.Check tree h = absurd h
 no_reason (kind.Satisfy choice) tree h = h
+no_reason kind.Policy tree h = absurd h
 
 pub for_source : (kind : TextCommand) (text : Bytes) (tree : Tree) (offsets : List ℕ) → TextReads text tree offsets → ReadsFor kind tree
     → NeedsSource (command_of kind text)
@@ -61,6 +63,7 @@ for_source kind.Script text tree offsets reads h = absurd h
 for_source kind.Check text tree offsets reads h = absurd h
 for_source (kind.Satisfy choice.Strict) text tree offsets reads h = (tree, offsets, reads, h)
 for_source (kind.Satisfy choice.Cheapest) text tree offsets reads h = (tree, offsets, reads, h)
+for_source kind.Policy text tree offsets reads h = absurd h
 
 -- the tree of the text is the one
 same_reason : (reason : Tree → Option Unfit) (text : Bytes) (tree : Tree) (offsets : List ℕ) → TextReads text tree offsets → Passes reason text
@@ -73,6 +76,7 @@ source_for kind.Script text tree offsets reads h = absurd h
 source_for kind.Check text tree offsets reads h = absurd h
 source_for (kind.Satisfy choice.Strict) text tree offsets reads h = same_reason first_unfit text tree offsets reads h
 source_for (kind.Satisfy choice.Cheapest) text tree offsets reads h = same_reason first_unfit_valid text tree offsets reads h
+source_for kind.Policy text tree offsets reads h = absurd h
 
 tree_answers : (kind : TextCommand) (text : Bytes) (tree : Tree) (offsets : List ℕ) (source : Side) → TextReads text tree offsets
     → (r : Reply) → AnswersTree kind tree offsets source r → Answers (command_of kind text) source r
@@ -96,6 +100,7 @@ short_text kind.Script text short = short
 short_text kind.Check text short = short
 short_text (kind.Satisfy choice.Strict) text short = short
 short_text (kind.Satisfy choice.Cheapest) text short = short
+short_text kind.Policy text short = short
 
 pub tree_ended : (kind : TextCommand) (text : Bytes) (tree : Tree) (offsets : List ℕ) (source : Side) (result : Result Answer Stop)
     → TextReads text tree offsets
@@ -113,6 +118,7 @@ no_source kind.Script text fault utf8 known refusal h = h
 no_source kind.Check text fault utf8 known refusal h = h
 no_source (kind.Satisfy choice.Strict) text fault utf8 known refusal h = absurd (none_beside_tree text h.0 h.1 fault utf8 known h.2 refusal)
 no_source (kind.Satisfy choice.Cheapest) text fault utf8 known refusal h = absurd (none_beside_tree text h.0 h.1 fault utf8 known h.2 refusal)
+no_source kind.Policy text fault utf8 known refusal h = h
 
 replies_refused : (kind : TextCommand) (text bytes : Bytes) (fault : TextFault) (r : Reply) → TextRefusal text fault → IsRefusal fault r
     → Replies (command_of kind text) bytes r
@@ -120,6 +126,7 @@ replies_refused kind.Script text bytes fault r refusal is = (refused fault, (is.
 replies_refused kind.Check text bytes fault r refusal is = (refused fault, (is.0, refusal), is.1)
 replies_refused (kind.Satisfy choice.Strict) text bytes fault r refusal is = (refused fault, (is.0, refusal), is.1)
 replies_refused (kind.Satisfy choice.Cheapest) text bytes fault r refusal is = (refused fault, (is.0, refusal), is.1)
+replies_refused kind.Policy text bytes fault r refusal is = (refused fault, (is.0, refusal), is.1)
 
 -- a text that isn't refused as too long isn't
 short_fault : (text : Bytes) (fault : TextFault) → fault ≢ TooLong → TextRefusal text fault → (fault ≡ Memory → length text ≤ MOST_BYTES)

@@ -2,3 +2,4 @@ pub mod Sides
 pub mod Steps
 pub mod Ends
 pub mod Satisfactions
+pub mod Policies

@@ -16,6 +16,9 @@ mod generator;
 mod generator_tests;
 mod laws;
 mod names;
+mod policies;
+#[cfg(test)]
+mod policy_tests;
 mod program;
 mod report;
 #[cfg(test)]

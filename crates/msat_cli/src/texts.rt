@@ -8,7 +8,7 @@ ghost use Rattle.def_sane.specs.Unfit.{first_unfit, first_unfit_valid};
 ghost use Rattle.ms_tree.specs.Shape.{shape};
 ghost use Rattle.ms_sane.specs.Place.{IsOfTree};
 ghost use Rattle.ms_io.specs.Faults.{Rose};
-ghost use Rattle.def_answer.specs.Answer.{script_reply, check_reply};
+ghost use Rattle.def_answer.specs.Answer.{script_reply, check_reply, policy_reply};
 ghost use Rattle.def_answer.specs.Lines.{text_line as the_text_line, unfit_line as the_unfit_line};
 ghost use Rattle.def_answer.specs.Reply.{reply, unless_unfit};
 ghost use Rattle.def_answer.specs.Sources.{NeedsSource};
@@ -18,6 +18,7 @@ ghost use Rattle.msat_cli.specs.Ends.{HasShortText};
 
 use crate::answer::{Answer, Stop, or_memory};
 use crate::names::rule_name;
+use crate::policies::policy_report;
 use crate::report::{check_report, script_report};
 use crate::satisfying::answer_satisfaction;
 use crate::words::{Choice, TextCommand};
@@ -68,6 +69,7 @@ fn answer_tree<S: Source>(
         TextCommand::Script => or_memory(script_answer(alloc, text)),
         TextCommand::Check => or_memory(check_answer(alloc, text)),
         TextCommand::Satisfy(choice) => answer_satisfy(alloc, choice, text, source),
+        TextCommand::Policy => or_memory(policy_answer(alloc, text)),
     }
 }
 
@@ -150,6 +152,22 @@ fn check_answer(alloc: Global, text: &TextTree<'_>) -> Result<Answer, AllocError
         Ok(sane) => Ok(Answer {
             status: Status::Done,
             report: check_report(alloc, tree, &sane)?,
+        }),
+        Err(unfit) => unfit_answer(alloc, text, unfit),
+    }
+}
+
+/// The abstract policy of a sane tree, or the first reason against its being sane.
+fn policy_answer(alloc: Global, text: &TextTree<'_>) -> Result<Answer, AllocError>
+    requires { IsInRange (shape text.now.tree) }
+    ensures { IfOk result (λ answer. reply answer.status (string_bytes answer.report) ≡ unless_unfit (first_unfit (shape text.now.tree)) text.now.offsets.items (policy_reply (shape text.now.tree))) }
+{
+    let tree = text.tree();
+    let mut work = Work::new(alloc, tree)?;
+    match check_sane(tree, &mut work) {
+        Ok(_) => Ok(Answer {
+            status: Status::Done,
+            report: policy_report(alloc, tree)?,
         }),
         Err(unfit) => unfit_answer(alloc, text, unfit),
     }

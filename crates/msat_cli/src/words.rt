@@ -24,6 +24,7 @@ pub enum TextCommand {
     Script,
     Check,
     Satisfy(Choice),
+    Policy,
 }
 
 /// What the words ask for: something of a TEXT, a run, or a text that is made from a number.
@@ -72,6 +73,9 @@ fn two_words<'a>(name: &str, word: &'a str) -> Option<Command<'a>>
     }
     if name == "gen" {
         return Some(Command::Gen(read_number(word)?));
+    }
+    if name == "policy" {
+        return Some(Command::Text(TextCommand::Policy, word));
     }
     None
 }

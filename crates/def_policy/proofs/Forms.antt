@@ -1,0 +1,111 @@
+-- A policy made simple is simple.
+use Rattle.std.proofs.Common.{◌≡◌, ℕ, false, not, ◌||◌, List, [], ◌∷◌, ◌++◌, filter, flat_map}
+use Rattle.std.specs.Bool.{⊤}
+use Rattle.std.specs.List.{list_any}
+use Rattle.def_policy.specs.declared.Join.{Join}
+use Rattle.def_policy.specs.declared.Join.TheVariants as join
+use Rattle.def_policy.specs.Policy.{Policy, Policies, never, always, key, older, after, hash, all, any, thresh, none, more, list_of, policies_of}
+use Rattle.def_policy.specs.Simple.{is_decisive, opened, gathered, joined, is_always, is_never, threshold, simple_each}
+use Rattle.def_policy.specs.Laws.{IsPart, AreParts, ArePartsOfAll, ArePartsOfAny, IsNoAll, IsNoAny, IsSimple, SimpleIsSimple}
+use Rattle.def_policy.proofs.Joins.{joined_cases, chosen_cases}
+
+abbrev pub Each : (Policy → Type 0) → List Policy → Type 0
+Each P [] = ⊤
+Each P (x ∷ xs) = P x × Each P xs
+
+each_append : (P : Policy → Type 0) (xs ys : List Policy) → Each P xs → Each P ys → Each P (xs ++ ys)
+each_append P [] ys e f = f
+each_append P (x ∷ xs) ys e f = (e.0, each_append P xs ys e.1 f)
+
+-- a part of what is joined in one way
+abbrev pub IsPartOf : Join → Policy → Type 0
+IsPartOf join.All x = IsPart x × IsNoAll x
+IsPartOf join.Any x = IsPart x × IsNoAny x
+
+part_is_simple : (x : Policy) → IsPart x → IsSimple x
+part_is_simple never p = tt
+part_is_simple always p = tt
+part_is_simple (key k) p = tt
+part_is_simple (older n) p = tt
+part_is_simple (after n) p = tt
+part_is_simple (hash kind value) p = tt
+part_is_simple (all parts) p = p
+part_is_simple (any parts) p = p
+part_is_simple (thresh k parts) p = p
+
+parts_of_all : (parts : Policies) → ArePartsOfAll parts → Each (IsPartOf join.All) (list_of parts)
+parts_of_all none p = tt
+parts_of_all (more x xs) p = ((p.0, p.1), parts_of_all xs p.2)
+
+parts_of_any : (parts : Policies) → ArePartsOfAny parts → Each (IsPartOf join.Any) (list_of parts)
+parts_of_any none p = tt
+parts_of_any (more x xs) p = ((p.0, p.1), parts_of_any xs p.2)
+
+all_of_parts : (parts : List Policy) → Each (IsPartOf join.All) parts → ArePartsOfAll (policies_of parts)
+all_of_parts [] p = tt
+all_of_parts (x ∷ xs) p = (p.0.0, p.0.1, all_of_parts xs p.1)
+
+any_of_parts : (parts : List Policy) → Each (IsPartOf join.Any) parts → ArePartsOfAny (policies_of parts)
+any_of_parts [] p = tt
+any_of_parts (x ∷ xs) p = (p.0.0, p.0.1, any_of_parts xs p.1)
+
+these_parts : (parts : List Policy) → Each IsPart parts → AreParts (policies_of parts)
+these_parts [] p = tt
+these_parts (x ∷ xs) p = (p.0, these_parts xs p.1)
+
+opened_form : (how : Join) (parts : List Policy) → Each IsSimple parts → list_any (is_decisive how) parts ≡ false → Each (IsPartOf how) (flat_map (opened how) parts)
+opened_form how [] p e = tt
+opened_form join.All (never ∷ xs) p e = absurd (cc)
+opened_form join.All (always ∷ xs) p e = opened_form join.All xs p.1 e
+opened_form join.All (all parts ∷ xs) p e = each_append (IsPartOf join.All) (list_of parts) _ (parts_of_all parts p.0) (opened_form join.All xs p.1 e)
+opened_form join.All (x ∷ xs) p e = ((p.0, tt), opened_form join.All xs p.1 e)
+opened_form join.Any (always ∷ xs) p e = absurd (cc)
+opened_form join.Any (never ∷ xs) p e = opened_form join.Any xs p.1 e
+opened_form join.Any (any parts ∷ xs) p e = each_append (IsPartOf join.Any) (list_of parts) _ (parts_of_any parts p.0) (opened_form join.Any xs p.1 e)
+opened_form join.Any (x ∷ xs) p e = ((p.0, tt), opened_form join.Any xs p.1 e)
+
+gathered_form : (how : Join) (parts : List Policy) → Each (IsPartOf how) parts → IsSimple (gathered how parts)
+gathered_form join.All [] p = tt
+gathered_form join.Any [] p = tt
+gathered_form join.All (x ∷ []) p = part_is_simple x p.0.0
+gathered_form join.Any (x ∷ []) p = part_is_simple x p.0.0
+gathered_form join.All (x ∷ y ∷ xs) p = all_of_parts (x ∷ y ∷ xs) p
+gathered_form join.Any (x ∷ y ∷ xs) p = any_of_parts (x ∷ y ∷ xs) p
+
+decisive_form : (how : Join) (parts : List Policy) → Each IsSimple parts → IsSimple (joined how parts)
+decisive_form join.All parts p = joined_cases IsSimple join.All parts (λ e. tt) (λ e. gathered_form join.All _ (opened_form join.All parts p e))
+decisive_form join.Any parts p = joined_cases IsSimple join.Any parts (λ e. tt) (λ e. gathered_form join.Any _ (opened_form join.Any parts p e))
+
+-- neither Always nor Never
+left_form : (parts : List Policy) → Each IsSimple parts → Each IsPart (filter (λ part. not (is_always part || is_never part)) parts)
+left_form [] p = tt
+left_form (never ∷ xs) p = left_form xs p.1
+left_form (always ∷ xs) p = left_form xs p.1
+left_form (x ∷ xs) p = (p.0, left_form xs p.1)
+
+parts_are_simple : (parts : List Policy) → Each IsPart parts → Each IsSimple parts
+parts_are_simple [] p = tt
+parts_are_simple (x ∷ xs) p = (part_is_simple x p.0, parts_are_simple xs p.1)
+
+threshold_form : (k : ℕ) (parts : List Policy) → Each IsSimple parts → IsSimple (threshold k parts)
+threshold_form k parts p =
+    let left = left_form parts p in
+    let simple = parts_are_simple _ left in
+    chosen_cases IsSimple _ _ (λ e. tt) (λ e. tt) (λ e. decisive_form join.Any _ simple) (λ e. decisive_form join.All _ simple)
+    (these_parts _ left)
+
+mutual
+  pub simple_is_simple : SimpleIsSimple
+  simple_is_simple never = tt
+  simple_is_simple always = tt
+  simple_is_simple (key k) = tt
+  simple_is_simple (older n) = tt
+  simple_is_simple (after n) = tt
+  simple_is_simple (hash kind value) = tt
+  simple_is_simple (all parts) = decisive_form join.All (simple_each parts) (each_is_simple parts)
+  simple_is_simple (any parts) = decisive_form join.Any (simple_each parts) (each_is_simple parts)
+  simple_is_simple (thresh k parts) = threshold_form k (simple_each parts) (each_is_simple parts)
+
+  each_is_simple : (parts : Policies) → Each IsSimple (simple_each parts)
+  each_is_simple none = tt
+  each_is_simple (more x xs) = (simple_is_simple x, each_is_simple xs)

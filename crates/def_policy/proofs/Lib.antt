@@ -1,0 +1,4 @@
+pub mod Joins
+pub mod Truths
+pub mod Forms
+pub mod Sizes

@@ -1,0 +1,81 @@
+-- What the definitions imply.
+use Rattle.std.specs.Prelude.{◌≡◌, ◌*◌, ◌≤◌, ◌↔◌, IsTrue, List, ⊤}
+use Rattle.def_script.specs.Bytes.{Bytes}
+use Rattle.def_tree.specs.Tree.{Tree}
+use Rattle.def_tree.specs.Range.{IsWritable}
+use Rattle.def_tree.specs.Size as tree_size
+use Rattle.def_assets.specs.Assets.{Assets, AreAssets}
+use Rattle.def_sane.specs.Unfit.{IsSane}
+use Rattle.def_satisfaction.specs.Satisfaction.{Sat}
+use Rattle.def_policy.specs.Policy.{Policy, Policies, never, always, key, older, after, hash, all, any, thresh, none, more}
+use Rattle.def_policy.specs.Plain.{plain}
+use Rattle.def_policy.specs.Simple.{simple}
+use Rattle.def_policy.specs.Truth.{Facts, is_true, facts_of}
+use Rattle.def_policy.specs.Size.{size, depth}
+
+-- making a policy simple doesn't change when it is true
+abbrev pub SimpleKeepsTruth : Type 0
+SimpleKeepsTruth = (facts : Facts) (policy : Policy) → is_true facts (simple policy) ≡ is_true facts policy
+
+-- a part is neither Always nor Never, no All has an All among its parts, and no Any an Any; and so in all parts
+abbrev mutual
+  pub IsPart : Policy → Type 0
+  IsPart never = ⊥
+  IsPart always = ⊥
+  IsPart (key k) = ⊤
+  IsPart (older n) = ⊤
+  IsPart (after n) = ⊤
+  IsPart (hash kind value) = ⊤
+  IsPart (all parts) = ArePartsOfAll parts
+  IsPart (any parts) = ArePartsOfAny parts
+  IsPart (thresh k parts) = AreParts parts
+
+  pub AreParts : Policies → Type 0
+  AreParts none = ⊤
+  AreParts (more x xs) = IsPart x × AreParts xs
+
+  pub ArePartsOfAll : Policies → Type 0
+  ArePartsOfAll none = ⊤
+  ArePartsOfAll (more x xs) = IsPart x × IsNoAll x × ArePartsOfAll xs
+
+  pub ArePartsOfAny : Policies → Type 0
+  ArePartsOfAny none = ⊤
+  ArePartsOfAny (more x xs) = IsPart x × IsNoAny x × ArePartsOfAny xs
+
+  pub IsNoAll : Policy → Type 0
+  IsNoAll (all parts) = ⊥
+  IsNoAll part = ⊤
+
+  pub IsNoAny : Policy → Type 0
+  IsNoAny (any parts) = ⊥
+  IsNoAny part = ⊤
+
+-- Always and Never stand at the root alone
+abbrev pub IsSimple : Policy → Type 0
+IsSimple never = ⊤
+IsSimple always = ⊤
+IsSimple policy = IsPart policy
+
+abbrev pub SimpleIsSimple : Type 0
+SimpleIsSimple = (policy : Policy) → IsSimple (simple policy)
+
+-- it grows neither in size nor in depth
+abbrev pub SimpleIsSmaller : Type 0
+SimpleIsSmaller = (policy : Policy) → (size (simple policy) ≤ size policy) × (depth (simple policy) ≤ depth policy)
+
+-- the policy of a tree is at most twice as large and as deep
+abbrev pub PlainIsSmall : Type 0
+PlainIsSmall =
+    (tree : Tree) →
+    (size (plain tree) ≤ 2 * tree_size.measure tree) × (depth (plain tree) ≤ 2 * tree_size.depth tree)
+
+-- a policy says when a miniscript can be satisfied: under all assets it is true exactly where there is a canonical
+-- satisfaction
+abbrev pub SaysSatisfiable : Tree → Policy → Type 0
+SaysSatisfiable tree policy =
+    (assets : Assets) → AreAssets assets →
+    (IsTrue (is_true (facts_of assets) policy) ↔ ((stack : List Bytes) × Sat tree assets stack))
+
+-- the policy of every sane miniscript does
+abbrev pub PolicyOfSane : Type 0
+PolicyOfSane = (tree : Tree) → IsWritable tree → IsSane tree → SaysSatisfiable tree (simple (plain tree))

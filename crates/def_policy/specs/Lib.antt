@@ -1,0 +1,9 @@
+pub mod Policy
+pub mod Plain
+pub mod Simple
+pub mod Truth
+pub mod Size
+pub mod Keys
+pub mod Print
+pub mod Examples
+pub mod Laws

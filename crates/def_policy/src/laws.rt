@@ -1,0 +1,15 @@
+//! What the definitions imply.
+
+ghost use Rattle.def_policy.specs.Laws.{SimpleKeepsTruth, SimpleIsSimple, SimpleIsSmaller, PlainIsSmall};
+
+/// Making a policy simple changes no truth, and gives a simple one, which is no larger and no deeper.
+pub fn simple()
+    ensures truth { SimpleKeepsTruth }
+    ensures form { SimpleIsSimple }
+    ensures smaller { SimpleIsSmaller }
+{}
+
+/// The policy of a tree is at most twice as large and as deep as the tree.
+pub fn plain()
+    ensures { PlainIsSmall }
+{}

@@ -1,0 +1,7 @@
+-- The sum so far, and that of the numbers that are left.
+use Rattle.std.proofs.Common.{◌≡◌, ◌+◌, drop}
+use Rattle.ms_sane.specs.Choice.{total}
+use Rattle.ms_policy.proofs.keys.sum_of.Given as goal
+
+abbrev pub invariant-loop-n : goal.invariant-loop-n
+invariant-loop-n l = l.sum + total (λ n. n) (drop l.n-index l.numbers) ≡ total (λ n. n) l.numbers

@@ -1,0 +1,6 @@
+pub mod Says
+pub mod Joined
+pub mod Counted
+pub mod Signers
+pub mod Atoms
+pub mod Satisfied

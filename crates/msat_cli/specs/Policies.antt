@@ -1,0 +1,39 @@
+-- What a call of `msat` for `policy TEXT` shows.
+use Rattle.std.specs.Prelude.{◌≡◌, ℕ, ◌++◌, List, codes, Option}
+use Rattle.std.specs.Io.KnownBytes.{Appends}
+use Rattle.def_script.specs.Bytes.{Bytes}
+use Rattle.def_tree.specs.Tree.{Tree}
+use Rattle.def_text.specs.Refusal.{TextReads}
+use Rattle.def_sane.specs.Unfit.{IsSane}
+use Rattle.def_policy.specs.Plain.{plain}
+use Rattle.def_policy.specs.Simple.{simple}
+use Rattle.def_policy.specs.Print.{printed}
+use Rattle.def_policy.specs.Keys.{AreLeastKeys}
+use Rattle.def_answer.specs.declared.status.Status.TheVariants as status
+use Rattle.def_answer.specs.Lines.{line}
+use Rattle.def_answer.specs.Report.{number_or_none}
+use Rattle.def_answer.specs.Words.{policy, IsForm}
+use Rattle.msat_cli.specs.Sides.{Side}
+use Rattle.msat_cli.specs.Ends.{Call, EndsAs}
+
+-- the words ask for the policy of a text, which is read as this tree, a sane one
+pub record AsksPolicy (call : Call) (tree : Tree) : Type 0 where
+  pub text : Bytes
+  pub form : IsForm call.words (policy text)
+  pub offsets : List ℕ
+  pub reads : TextReads text tree offsets
+  pub sane : IsSane tree
+
+-- what the sink got: the policy of the tree, made simple, and the least number of keys that make it true where every hash
+-- and lock is met, or `none` where no keys do
+pub record PrintsPolicy (sink : Side) (tree : Tree) : Type 0 where
+  pub least : Option ℕ
+  pub is_least : AreLeastKeys (simple (plain tree)) least
+  pub written : Appends sink.old sink.new (
+      line (codes "policy " ++ printed (simple (plain tree))) ++ line (codes "keys " ++ number_or_none least))
+
+-- faults and want of memory aside, the call is done, and shows the policy
+abbrev pub ShowsPolicy : Call → Type 0
+ShowsPolicy call =
+    (tree : Tree) → AsksPolicy call tree →
+    EndsAs status.Done call × (call.status ≡ status.Done → PrintsPolicy call.sink tree)
