@@ -1,5 +1,5 @@
 -- The answer, computed: a text is read by the machine that reads tokens one after the other.
-use Rattle.std.proofs.Common.{◌≡◌, ◌≤◌, inl, inr, Bool, true, false, nat_lt, if◌then◌else◌, List, Option, Some, None, length, refl, subst}
+use Rattle.std.proofs.Common.{◌≡◌, ◌≤◌, inl, inr, Bool, true, false, nat_lt, if◌then◌else◌, List, Option, Some, None, All, map, length, refl, subst}
 use Rattle.std.specs.Prelude.{⊤}
 use Rattle.std.specs.Char.{is_ascii}
 use Rattle.std.specs.List.{list_all}
@@ -7,6 +7,8 @@ use Rattle.std.specs.Str.{IsUtf8}
 use Rattle.std.proofs.lemmas.Bool.{ltb-true, ltb-false}
 use Rattle.def_script.specs.Bytes.{Bytes}
 use Rattle.def_text.specs.declared.TextFault.TheVariants.{TooLong, Syntax, TooDeep}
+use Rattle.def_tree.specs.Tree.{Key, Tree}
+use Rattle.def_tree.specs.Range.{IsKey}
 use Rattle.def_text.specs.Token.{tokens}
 use Rattle.def_text.specs.Refusal.{MOST_BYTES}
 use Rattle.def_text.specs.Reader.{START, Outcome, tree_outcome, syntax_outcome, deep_outcome, outcome}
@@ -16,11 +18,13 @@ use Rattle.def_sane.specs.Unfit.{first_unfit, first_unfit_valid}
 use Rattle.def_choice.specs.Cheapest.{cheapest}
 use Rattle.def_choice.specs.Strict.{strict}
 use Rattle.def_answer.specs.declared.status.Status.{Status}
-use Rattle.def_answer.specs.Words.{Command, script, check, satisfy, satisfy_malleable, run, gen, policy}
+use Rattle.def_answer.specs.Words.{Command, script, check, satisfy, satisfy_malleable, run, gen, policy, decode, IsCommand}
 use Rattle.def_answer.specs.Reading.{Reading, read, refused, HasReading}
 use Rattle.def_answer.specs.Reply.{Reply, reply, usage_reply, text_reply, satisfy_reply, run_reply}
+use Rattle.def_answer.proofs.Decided.{decided, decided_is, decided_not}
 use Rattle.def_answer.proofs.Forms.{command_of, is_form, none_has_form}
-use Rattle.def_answer.specs.Answer.{script_reply, check_reply, policy_reply, gen_reply, Replies, RepliesToWords, Answer}
+use Rattle.def_answer.proofs.SpelledKeys.{are_keys}
+use Rattle.def_answer.specs.Answer.{script_reply, check_reply, policy_reply, bytes_of, decode_reply, no_reading_reply, gen_reply, RepliesToScript, Replies, RepliesToWords, Answer}
 
 -- ---- texts
 
@@ -57,6 +61,19 @@ OnText P (satisfy_malleable text) = P text
 OnText P run = ⊤
 OnText P (gen n) = ⊤
 OnText P (policy text) = P text
+OnText P (decode digits keys) = ⊤
+
+-- the reply to a Script
+abbrev pub decided_reply : Option Tree → Reply
+decided_reply None = no_reading_reply
+decided_reply (Some tree) = decode_reply tree
+
+replies_to_script : (keys : List Key) (bytes : Bytes) → All IsKey keys → RepliesToScript keys bytes (decided_reply (decided keys bytes))
+replies_to_script keys bytes all = go (decided keys bytes) refl
+  where
+    go : (o : Option Tree) → decided keys bytes ≡ o → RepliesToScript keys bytes (decided_reply o)
+    go None e = inr (λ tree. decided_not keys bytes tree all e, refl)
+    go (Some tree) e = inl (tree, decided_is keys bytes tree all e, refl)
 
 abbrev pub reply_to : (source : Bytes) → Command → Reply
 reply_to source (script text) = text_reply first_unfit_valid script_reply (reading_of text)
@@ -66,15 +83,17 @@ reply_to source (satisfy_malleable text) = text_reply first_unfit_valid (satisfy
 reply_to source run = run_reply source
 reply_to source (gen n) = gen_reply n
 reply_to source (policy text) = text_reply first_unfit policy_reply (reading_of text)
+reply_to source (decode digits keys) = decided_reply (decided (map bytes_of keys) (bytes_of digits))
 
-replies_to : (command : Command) (source : Bytes) → OnText IsUtf8 command → Replies command source (reply_to source command)
-replies_to (script text) source utf8 = (reading_of text, has_reading text utf8, refl)
-replies_to (check text) source utf8 = (reading_of text, has_reading text utf8, refl)
-replies_to (satisfy text) source utf8 = (reading_of text, has_reading text utf8, refl)
-replies_to (satisfy_malleable text) source utf8 = (reading_of text, has_reading text utf8, refl)
-replies_to run source utf8 = refl
-replies_to (gen n) source utf8 = refl
-replies_to (policy text) source utf8 = (reading_of text, has_reading text utf8, refl)
+replies_to : (command : Command) (source : Bytes) → IsCommand command → OnText IsUtf8 command → Replies command source (reply_to source command)
+replies_to (script text) source is utf8 = (reading_of text, has_reading text utf8, refl)
+replies_to (check text) source is utf8 = (reading_of text, has_reading text utf8, refl)
+replies_to (satisfy text) source is utf8 = (reading_of text, has_reading text utf8, refl)
+replies_to (satisfy_malleable text) source is utf8 = (reading_of text, has_reading text utf8, refl)
+replies_to run source is utf8 = refl
+replies_to (gen n) source is utf8 = refl
+replies_to (policy text) source is utf8 = (reading_of text, has_reading text utf8, refl)
+replies_to (decode digits keys) source is utf8 = replies_to_script (map bytes_of keys) (bytes_of digits) (are_keys keys is.1)
 
 abbrev pub reply_to_words : (source : Bytes) → Option Command → Reply
 reply_to_words source None = usage_reply
@@ -90,7 +109,7 @@ replies_to_words words source utf8 = go (command_of words) refl utf8
   where
     go : (o : Option Command) → command_of words ≡ o → OnWords IsUtf8 o → RepliesToWords words source (reply_to_words source o)
     go None e utf8 = inr (none_has_form words e, refl)
-    go (Some command) e utf8 = inl (command, is_form words command e, replies_to command source utf8)
+    go (Some command) e utf8 = let form = is_form words command e in inl (command, form, replies_to command source form.in_range utf8)
 
 -- ---- answers that are written out
 
@@ -102,6 +121,7 @@ is_ascii_text (satisfy_malleable text) = list_all is_ascii text
 is_ascii_text run = true
 is_ascii_text (gen n) = true
 is_ascii_text (policy text) = list_all is_ascii text
+is_ascii_text (decode digits keys) = true
 
 abbrev pub are_ascii_words : Option Command → Bool
 are_ascii_words None = true
@@ -115,6 +135,7 @@ ascii_text (satisfy_malleable text) ascii = ascii_is_utf8 text ascii
 ascii_text run ascii = tt
 ascii_text (gen n) ascii = tt
 ascii_text (policy text) ascii = ascii_is_utf8 text ascii
+ascii_text (decode digits keys) ascii = tt
 
 ascii_words : (o : Option Command) → are_ascii_words o ≡ true → OnWords IsUtf8 o
 ascii_words None ascii = tt

@@ -14,14 +14,14 @@ use Rattle.def_files.specs.AssetFile.{assets_of}
 use Rattle.def_files.specs.RunFile.{run_of}
 use Rattle.def_answer.specs.declared.status.Status.{Status}
 use Rattle.def_answer.specs.declared.status.Status.TheVariants as status
-use Rattle.def_answer.specs.Words.{Command, script, check, satisfy, satisfy_malleable, gen, policy}
+use Rattle.def_answer.specs.Words.{IsForm, Command, script, check, satisfy, satisfy_malleable, gen, policy, decode}
 use Rattle.def_answer.specs.Words as words
 use Rattle.def_answer.specs.Lines.{file_too_long_line}
 use Rattle.def_answer.specs.Reading.{Reading}
 use Rattle.def_answer.specs.Reading as reading
 use Rattle.def_answer.specs.Reply.{Reply, reply, unless_unfit, text_reply, unless_refused, MOST_FILE, file_reply, chosen_reply, satisfy_reply, outcome_reply, run_reply}
 use Rattle.def_answer.specs.Answer.{script_reply, check_reply, policy_reply, gen_reply, RepliesToText, Replies, RepliesToWords}
-use Rattle.def_answer.specs.Laws.{IsAnswered, AnswersHaveStatus, LongAssetFile, LongRunFile}
+use Rattle.def_answer.specs.Laws.{IsAnswered, AnswersHaveStatus, NoReadingIsOfDecode, LongAssetFile, LongRunFile}
 
 -- ---- the replies to files and runs
 
@@ -98,6 +98,8 @@ answered_reply (satisfy_malleable text) source r h =
 answered_reply words.run source r h = subst (OfStatus IsAnswered) (sym h) (run_status IsAnswered source tt tt tt)
 answered_reply (gen n) source r h = subst (OfStatus IsAnswered) (sym h) tt
 answered_reply (policy text) source r h = answered_text text first_unfit policy_reply r (λ tree. tt) h
+answered_reply (decode digits keys) source r (inl h) = subst (OfStatus IsAnswered) (sym h.2) tt
+answered_reply (decode digits keys) source r (inr h) = subst (OfStatus IsAnswered) (sym h.1) tt
 
 answered_words : (ws : List Bytes) (source : Bytes) (r : Reply) → RepliesToWords ws source r → OfStatus IsAnswered r
 answered_words ws source r (inl h) = answered_reply h.0 source r h.2
@@ -105,6 +107,40 @@ answered_words ws source r (inr h) = subst (OfStatus IsAnswered) (sym h.1) tt
 
 pub answers_have_status : AnswersHaveStatus
 answers_have_status ws source s p h = answered_words ws source (reply s p) h.replies
+
+-- ---- that there is no reading
+
+abbrev IsRead : Status → Type 0
+IsRead s = ¬ (s ≡ status.NoReading)
+
+read_text : (text : Bytes) (reason : Tree → Option Unfit) (next : Tree → Reply) (r : Reply) → ((tree : Tree) → OfStatus IsRead (next tree))
+    → RepliesToText text reason next r → OfStatus IsRead r
+read_text text reason next r after h = subst (OfStatus IsRead) (sym h.2) (text_status IsRead reason next h.0 (λ e. cc e) after)
+
+read_satisfied : (choice : Tree → Assets → Option (List Bytes)) (source : Bytes) (tree : Tree) → OfStatus IsRead (satisfy_reply choice source tree)
+read_satisfied choice source tree = satisfy_status IsRead choice source tree (λ e. cc e) (λ e. cc e) (λ e. cc e)
+
+decodes : (c : Command) (source : Bytes) (r : Reply) → Replies c source r → r.status ≡ status.NoReading
+    → (digits : Bytes) × (keys : List Bytes) × (c ≡ decode digits keys)
+unfolding gen_reply
+decodes (script text) source r h is = absurd (read_text text first_unfit_valid script_reply r (λ tree e. cc e) h is)
+decodes (check text) source r h is = absurd (read_text text first_unfit check_reply r (λ tree e. cc e) h is)
+decodes (satisfy text) source r h is = absurd (read_text text first_unfit (satisfy_reply strict source) r (read_satisfied strict source) h is)
+decodes (satisfy_malleable text) source r h is =
+    absurd (read_text text first_unfit_valid (satisfy_reply cheapest source) r (read_satisfied cheapest source) h is)
+decodes words.run source r h is =
+    absurd (subst (OfStatus IsRead) (sym h) (run_status IsRead source (λ e. cc e) (λ e. cc e) (λ e. cc e)) is)
+decodes (gen n) source r h is = absurd (subst (OfStatus IsRead) (sym h) (λ e. cc e) is)
+decodes (policy text) source r h is = absurd (read_text text first_unfit policy_reply r (λ tree e. cc e) h is)
+decodes (decode digits keys) source r h is = (digits, keys, refl)
+
+decodes_words : (ws : List Bytes) (source : Bytes) (r : Reply) → RepliesToWords ws source r → r.status ≡ status.NoReading
+    → (digits : Bytes) × (keys : List Bytes) × IsForm ws (decode digits keys)
+decodes_words ws source r (inl h) is = let found = decodes h.0 source r h.2 is in (found.0, found.1, subst (IsForm ws) found.2 h.1)
+decodes_words ws source r (inr h) is = absurd (subst (OfStatus IsRead) (sym h.1) (λ e. cc e) is)
+
+pub no_reading_is_of_decode : NoReadingIsOfDecode
+no_reading_is_of_decode ws source p h = decodes_words ws source (reply status.NoReading p) h.replies refl
 
 -- ---- files that are too long
 

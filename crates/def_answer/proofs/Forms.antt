@@ -1,14 +1,18 @@
 -- The command of some words, found.
-use Rattle.std.proofs.Common.{◌≡◌, ℕ, zero, suc, ◌+◌, ◌-◌, ◌≤◌, ◌<◌, ◌⊎◌, inl, inr, Bool, true, false, ◌&&◌, nat_eq, if◌then◌else◌, List, [], ◌∷◌, Option, Some, None, codes, decimal, find, option_map, refl, sym, ap, subst, ◌∙◌, arith, slice_index_or}
-use Rattle.std.specs.List.{list_all, range_with_len}
+use Rattle.std.proofs.Common.{◌≡◌, ℕ, zero, suc, ◌+◌, ◌-◌, ◌%◌, ◌==◌, ◌≤◌, ◌<◌, ◌⊎◌, length, is_some, IsSome, inl, inr, Bool, true, false, ◌&&◌, nat_eq, if◌then◌else◌, List, [], ◌∷◌, Option, Some, None, codes, decimal, find, option_map, refl, sym, ap, subst, ◌∙◌, arith, slice_index_or}
+use Rattle.std.specs.Bool.{Decides}
+use Rattle.std.specs.List.{AllPass, list_all, range_with_len}
 use Rattle.std.specs.Fmt.{digits}
 use Rattle.std.specs.Str.{bytes_eq}
 use Rattle.std.proofs.lemmas.Bool.{eqb-true}
-use Rattle.std.proofs.lemmas.List.Sums.{AllPass-from_list_all}
+use Rattle.std.proofs.lemmas.Bool.Decides.{Decides-and, Decides-eqb, Decides-by_and}
+use Rattle.std.proofs.lemmas.List.Sums.{AllPass-from_list_all, list_all-from_AllPass}
+use Rattle.hex.specs.Hex.{is_hex_digit}
 use Rattle.std.proofs.lemmas.List.FromFn.{get_or-range_with_len}
 use Rattle.std.proofs.lemmas.Slice.Eq.{bytes_eq-Decides}
 use Rattle.def_script.specs.Bytes.{Bytes}
-use Rattle.def_answer.specs.Words.{Command, script, check, satisfy, satisfy_malleable, run, gen, policy, words_of, MOST_CHILDREN, IsCommand, IsForm, HasNoForm}
+use Rattle.def_text.specs.Word.{key_of}
+use Rattle.def_answer.specs.Words.{Command, script, check, satisfy, satisfy_malleable, run, gen, policy, decode, words_of, MOST_CHILDREN, IsCommand, IsForm, HasNoForm}
 
 -- the number of 1 to 30 that a word spells
 unfoldable pub children_of : Bytes → Option ℕ
@@ -30,14 +34,38 @@ abbrev pub three_words : (first second third : Bytes) → Option Command
 three_words first second third =
     if bytes_eq first (codes "satisfy") && bytes_eq second (codes "--malleable") then Some (satisfy_malleable third) else None
 
+abbrev pub are_script_and_keys : (digits : Bytes) → (keys : List Bytes) → Bool
+are_script_and_keys digits keys = ((length digits % 2 == 0) && list_all is_hex_digit digits) && list_all (λ word. is_some (key_of word)) keys
+
+abbrev pub decode_words : (digits : Bytes) → (keys : List Bytes) → Option Command
+decode_words digits keys = if are_script_and_keys digits keys then Some (decode digits keys) else None
+
+abbrev pub several_words : (first second : Bytes) → (more : List Bytes) → Option Command
+several_words first second [] = two_words first second
+several_words first second (third ∷ []) = three_words first second third
+several_words first second (third ∷ fourth ∷ more) = None
+
 abbrev pub command_of : List Bytes → Option Command
 command_of [] = None
 command_of (first ∷ []) = one_word first
-command_of (first ∷ second ∷ []) = two_words first second
-command_of (first ∷ second ∷ third ∷ []) = three_words first second third
-command_of (first ∷ second ∷ third ∷ fourth ∷ more) = None
+command_of (first ∷ second ∷ more) = if bytes_eq first (codes "decode") then decode_words second more else several_words first second more
 
 -- ---- a command is found from its words
+
+hex_tells : (digits : Bytes) → Decides (list_all is_hex_digit digits) (AllPass is_hex_digit digits)
+hex_tells digits = (AllPass-from_list_all is_hex_digit digits, list_all-from_AllPass is_hex_digit digits)
+
+key_tells : (word : Bytes) → Decides (is_some (key_of word)) (IsSome (key_of word))
+key_tells word = (λ e. e, λ h. h)
+
+script_and_keys_tell : (digits : Bytes) (keys : List Bytes) → Decides (are_script_and_keys digits keys) (IsCommand (decode digits keys))
+script_and_keys_tell digits keys =
+    Decides-and _ _ (Decides-and _ _ (Decides-eqb (length digits % 2) 0) (hex_tells digits))
+    (Decides-by_and (λ word. is_some (key_of word)) (λ word. IsSome (key_of word)) (list_all (λ word. is_some (key_of word))) key_tells refl (λ x xs. refl) keys)
+
+if_true : (b : Bool) (c : Command) → b ≡ true → (if b then Some c else None) ≡ Some c
+if_true true c e = refl
+if_true false c e = cc e
 
 found_number : Option ℕ → ℕ → Bool
 found_number None n = false
@@ -67,6 +95,7 @@ command_found (satisfy_malleable text) h = refl
 command_found run h = refl
 command_found (gen n) h = ap (option_map gen) (children_found n h.0 h.1)
 command_found (policy text) h = refl
+command_found (decode digits keys) h = if_true (are_script_and_keys digits keys) (decode digits keys) ((script_and_keys_tell digits keys).1 h)
 
 -- ---- and its words are those
 
@@ -151,12 +180,25 @@ three_form first second third c e =
       | inr h ↦ cc h.1
     ]
 
+several_form : (first second : Bytes) (more : List Bytes) (c : Command) → several_words first second more ≡ Some c → IsForm (first ∷ second ∷ more) c
+several_form first second [] c e = two_form first second c e
+several_form first second (third ∷ []) c e = three_form first second third c e
+several_form first second (third ∷ fourth ∷ more) c e = cc e
+
+decode_form : (first second : Bytes) (more : List Bytes) (c : Command) → first ≡ codes "decode" → decode_words second more ≡ Some c
+    → IsForm (first ∷ second ∷ more) c
+decode_form first second more c is e = elim (if_some (are_script_and_keys second more) _ _ c e) [
+  | inl h ↦ same_form _ (decode second more) c (ap (λ w. w ∷ second ∷ more) is) ((script_and_keys_tell second more).0 h.0) h.1
+  | inr h ↦ cc h.1
+]
+
 pub is_form : (words : List Bytes) (c : Command) → command_of words ≡ Some c → IsForm words c
 is_form [] c e = cc e
 is_form (first ∷ []) c e = one_form first c e
-is_form (first ∷ second ∷ []) c e = two_form first second c e
-is_form (first ∷ second ∷ third ∷ []) c e = three_form first second third c e
-is_form (first ∷ second ∷ third ∷ fourth ∷ more) c e = cc e
+is_form (first ∷ second ∷ more) c e = elim (if_some (bytes_eq first (codes "decode")) _ _ c e) [
+  | inl h ↦ decode_form first second more c (is_word first (codes "decode") h.0) h.1
+  | inr h ↦ several_form first second more c h.1
+]
 
 -- the command of words that have a form
 pub form_found : (words : List Bytes) (c : Command) → IsForm words c → command_of words ≡ Some c

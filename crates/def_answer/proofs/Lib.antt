@@ -1,4 +1,6 @@
 pub mod Forms
+pub mod SpelledKeys
+pub mod Decided
 pub mod Answered
 pub mod Unique
 pub mod LeastKeys
@@ -7,6 +9,7 @@ pub mod Sources
 pub mod Computing
 pub mod TextRows
 pub mod PolicyRows
+pub mod DecodeRows
 pub mod SatisfyRows
 pub mod RunRows
 pub mod GenRows

@@ -1,8 +1,8 @@
 -- Words that need the source, and words that don't, each computed.
-use Rattle.std.proofs.Common.{refl, codes, ◌++◌}
+use Rattle.std.proofs.Common.{refl, codes, ◌++◌, [], ◌∷◌}
 use Rattle.def_sane.specs.Unfit.{first_unfit, first_unfit_valid}
 use Rattle.def_answer.specs.Samples.{A, pk}
-use Rattle.def_answer.specs.Words.{script, check, satisfy, satisfy_malleable, run, gen, policy}
+use Rattle.def_answer.specs.Words.{script, check, satisfy, satisfy_malleable, run, gen, policy, decode}
 use Rattle.def_answer.specs.SourceExamples.{WordsThatRead, WordsThatDoNot}
 use Rattle.def_answer.proofs.Forms.{is_form}
 use Rattle.def_answer.proofs.Sources.{passes, fails, reads_by, none_reads}
@@ -24,6 +24,7 @@ words_that_do_not = (
   reads_by _ (check (pk A)) refl (λ h. h),
   reads_by _ (gen 4) refl (λ h. h),
   reads_by _ (policy (pk A)) refl (λ h. h),
+  reads_by _ (decode (codes "51") (A ∷ [])) refl (λ h. h),
   reads_by _ (satisfy (codes "1")) refl (fails (codes "1") first_unfit refl refl),
   reads_by _ (satisfy_malleable (codes "v:" ++ pk A)) refl (fails (codes "v:" ++ pk A) first_unfit_valid refl refl),
   reads_by _ (satisfy (codes "--malleable")) refl (fails (codes "--malleable") first_unfit refl refl),

@@ -13,7 +13,7 @@ use Rattle.def_choice.specs.Cheapest.{cheapest}
 use Rattle.def_choice.specs.Strict.{strict}
 use Rattle.def_answer.specs.declared.status.Status.{Status}
 use Rattle.def_answer.specs.declared.status.Status.TheVariants as status
-use Rattle.def_answer.specs.Words.{Command, script, check, satisfy, satisfy_malleable, run, gen, policy}
+use Rattle.def_answer.specs.Words.{Command, script, check, satisfy, satisfy_malleable, run, gen, policy, decode}
 use Rattle.def_answer.specs.Reading.{Reading, read, refused, HasReading}
 use Rattle.def_answer.specs.Reply.{Reply, reply, unless_unfit, text_reply, MOST_FILE, satisfy_reply}
 use Rattle.def_answer.specs.Answer.{script_reply, check_reply, policy_reply, gen_reply, RepliesToText, Replies, RepliesToWords}
@@ -64,6 +64,7 @@ reply_without (satisfy_malleable text) source other r never h =
 reply_without run source other r never h = absurd (never tt)
 reply_without (gen n) source other r never h = h
 reply_without (policy text) source other r never h = h
+reply_without (decode digits keys) source other r never h = h
 
 -- no status that tells of the source
 abbrev IsOther : Status → Type 0
@@ -97,6 +98,8 @@ other_status run source r never h = absurd (never tt)
 other_status (gen n) source r never h = subst (OfStatus IsOther) (sym h) (λ s. s)
 other_status (policy text) source r never h =
     subst (OfStatus IsOther) (sym h.2) (other_text first_unfit policy_reply h.0 (λ tree s. s))
+other_status (decode digits keys) source r never (inl h) = subst (OfStatus IsOther) (sym h.2) (λ s. s)
+other_status (decode digits keys) source r never (inr h) = subst (OfStatus IsOther) (sym h.1) (λ s. s)
 
 words_without : (words : List Bytes) (source other : Bytes) (r : Reply) → ¬ ReadsSource words →
     RepliesToWords words source r → RepliesToWords words other r
@@ -138,6 +141,7 @@ file_status (satisfy_malleable text) source r utf8 needs h =
 file_status run source r utf8 needs h = subst (OfStatus IsToFile) (sym h) (run_status IsToFile source tt tt tt)
 file_status (gen n) source r utf8 needs h = absurd needs
 file_status (policy text) source r utf8 needs h = absurd needs
+file_status (decode digits keys) source r utf8 needs h = absurd needs
 
 -- a file that is too long is refused, whatever it says
 pub long_file : (c : Command) (source : Bytes) (r : Reply) → OnText IsUtf8 c → NeedsSource c → MOST_FILE < length source →
@@ -153,6 +157,7 @@ long_file (satisfy_malleable text) source r utf8 needs long h =
 long_file run source r utf8 needs long h = ap (λ (r : Reply). r.status) (h ∙ long_run_file source long)
 long_file (gen n) source r utf8 needs long h = absurd needs
 long_file (policy text) source r utf8 needs long h = absurd needs
+long_file (decode digits keys) source r utf8 needs long h = absurd needs
 
 file_words : (words : List Bytes) (source : Bytes) (r : Reply) → All IsUtf8 words → ReadsSource words →
     RepliesToWords words source r → OfStatus IsToFile r

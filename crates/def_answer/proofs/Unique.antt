@@ -1,18 +1,19 @@
 -- Words that are texts have exactly one answer.
-use Rattle.std.proofs.Common.{◌≡◌, ◌⊎◌, inl, inr, List, [], Option, Some, None, All, refl, sym, ap, subst, ◌∙◌, arith}
+use Rattle.std.proofs.Common.{◌≡◌, ◌⊎◌, inl, inr, List, [], Option, Some, None, All, map, refl, sym, ap, subst, ◌∙◌, arith}
 use Rattle.std.specs.Str.{IsUtf8}
 use Rattle.def_script.specs.Bytes.{Bytes}
-use Rattle.def_tree.specs.Tree.{Tree}
+use Rattle.def_tree.specs.Tree.{Key, Tree}
 use Rattle.def_text.proofs.Complete.{one_tree}
 use Rattle.def_text.proofs.OneAnswer.{one_refusal, none_beside_tree}
+use Rattle.ms_decode_laws.proofs.Decoding.{one_is_decoded}
 use Rattle.def_sane.specs.declared.Unfit.{Unfit}
 use Rattle.def_sane.specs.Unfit.{first_unfit, first_unfit_valid}
 use Rattle.def_choice.specs.Cheapest.{cheapest}
 use Rattle.def_choice.specs.Strict.{strict}
-use Rattle.def_answer.specs.Words.{Command, script, check, satisfy, satisfy_malleable, run, gen, policy, words_of, IsForm, HasNoForm}
+use Rattle.def_answer.specs.Words.{Command, script, check, satisfy, satisfy_malleable, run, gen, policy, decode, words_of, IsForm, HasNoForm}
 use Rattle.def_answer.specs.Reading.{Reading, read, refused, HasReading}
 use Rattle.def_answer.specs.Reply.{Reply, reply, text_reply, satisfy_reply}
-use Rattle.def_answer.specs.Answer.{script_reply, check_reply, policy_reply, RepliesToText, Replies, RepliesToWords}
+use Rattle.def_answer.specs.Answer.{script_reply, check_reply, policy_reply, decode_reply, bytes_of, RepliesToScript, RepliesToText, Replies, RepliesToWords}
 use Rattle.def_answer.specs.Laws.{OneForm, FormOrNone, OneAnswer, SomeAnswer}
 use Rattle.def_answer.proofs.Forms.{command_of, is_form, form_found, none_has_form}
 use Rattle.def_answer.proofs.Answered.{OnText, OnWords, reply_to_words, replies_to_words}
@@ -38,6 +39,7 @@ text_of_words P (satisfy_malleable text) h = h 2 [] (omega arith)
 text_of_words P run h = tt
 text_of_words P (gen n) h = tt
 text_of_words P (policy text) h = h 1 [] (omega arith)
+text_of_words P (decode digits keys) h = tt
 
 pub text_of_form : (words : List Bytes) (c : Command) → All IsUtf8 words → IsForm words c → OnText IsUtf8 c
 text_of_form words c h form = text_of_words IsUtf8 c (subst (All IsUtf8) form.same h)
@@ -56,6 +58,13 @@ one_text_reply : (text : Bytes) (reason : Tree → Option Unfit) (next : Tree �
     → RepliesToText text reason next a → RepliesToText text reason next b → a ≡ b
 one_text_reply text reason next a b utf8 h k = h.2 ∙ ap (text_reply reason next) (one_reading text h.0 k.0 utf8 h.1 k.1) ∙ sym k.2
 
+-- what a Script is decoded to is one tree, and then it can be read
+one_script_reply : (keys : List Key) (bytes : Bytes) (a b : Reply) → RepliesToScript keys bytes a → RepliesToScript keys bytes b → a ≡ b
+one_script_reply keys bytes a b (inl h) (inl k) = h.2 ∙ ap decode_reply (one_is_decoded keys bytes h.0 k.0 h.1 k.1) ∙ sym k.2
+one_script_reply keys bytes a b (inl h) (inr k) = absurd (k.0 h.0 h.1.reading)
+one_script_reply keys bytes a b (inr h) (inl k) = absurd (h.0 k.0 k.1.reading)
+one_script_reply keys bytes a b (inr h) (inr k) = h.1 ∙ sym k.1
+
 pub one_reply : (c : Command) (source : Bytes) (a b : Reply) → OnText IsUtf8 c → Replies c source a → Replies c source b → a ≡ b
 one_reply (script text) source a b utf8 h k = one_text_reply text first_unfit_valid script_reply a b utf8 h k
 one_reply (check text) source a b utf8 h k = one_text_reply text first_unfit check_reply a b utf8 h k
@@ -65,6 +74,7 @@ one_reply (satisfy_malleable text) source a b utf8 h k =
 one_reply run source a b utf8 h k = h ∙ sym k
 one_reply (gen n) source a b utf8 h k = h ∙ sym k
 one_reply (policy text) source a b utf8 h k = one_text_reply text first_unfit policy_reply a b utf8 h k
+one_reply (decode digits keys) source a b utf8 h k = one_script_reply (map bytes_of keys) (bytes_of digits) a b h k
 
 -- ---- answers
 

@@ -1,18 +1,21 @@
 -- The program's answer: for each list of words and each content of the source a status and a report. The
 -- words come first, then the text, the reasons against its tree, the file, and the satisfaction or the run.
-use Rattle.std.specs.Prelude.{◌≡◌, ◌⊎◌, ℕ, ◌++◌, List, [], Option, unwrap_or}
+use Rattle.std.specs.Prelude.{◌≡◌, ◌⊎◌, ℕ, ◌++◌, List, [], map, Option, unwrap_or}
+use Rattle.std.specs.Result.{result_unwrap_or}
+use Rattle.hex.specs.Hex.{decode_of}
 use Rattle.def_script.specs.Bytes.{Bytes}
-use Rattle.def_tree.specs.Tree.{Tree}
+use Rattle.def_tree.specs.Tree.{Key, Tree}
 use Rattle.def_sane.specs.declared.Unfit.{Unfit}
 use Rattle.def_sane.specs.Most.{limits_of}
 use Rattle.def_sane.specs.Unfit.{first_unfit, first_unfit_valid}
 use Rattle.def_choice.specs.Cheapest.{cheapest}
 use Rattle.def_choice.specs.Strict.{strict}
+use Rattle.def_decode.specs.Decoded.{IsReading, IsDecoded}
 use Rattle.def_answer.specs.declared.status.Status.{Status}
 use Rattle.def_answer.specs.declared.status.Status.TheVariants as status
-use Rattle.def_answer.specs.Words.{Command, script, check, satisfy, satisfy_malleable, run, gen, policy, IsForm, HasNoForm}
-use Rattle.def_answer.specs.Lines.{limits_line}
-use Rattle.def_answer.specs.Report.{script_report, check_report, policy_report, replay, children_line, strict_line, cheapest_line}
+use Rattle.def_answer.specs.Words.{Command, script, check, satisfy, satisfy_malleable, run, gen, policy, decode, IsForm, HasNoForm}
+use Rattle.def_answer.specs.Lines.{limits_line, no_reading_line}
+use Rattle.def_answer.specs.Report.{script_report, check_report, policy_report, decode_report, replay, children_line, strict_line, cheapest_line}
 use Rattle.def_answer.specs.Generated.{threshold_of, generated_tree, generated_assets}
 use Rattle.def_answer.specs.Reading.{Reading, HasReading}
 use Rattle.def_answer.specs.Reply.{Reply, reply, usage_reply, text_reply, satisfy_reply, run_reply}
@@ -40,6 +43,22 @@ check_reply tree = reply status.Done (check_report tree)
 abbrev pub policy_reply : Tree → Reply
 policy_reply tree = reply status.Done (policy_report tree)
 
+-- the bytes that digits spell
+abbrev pub bytes_of : (digits : Bytes) → Bytes
+bytes_of digits = result_unwrap_or (decode_of digits) []
+
+abbrev pub decode_reply : Tree → Reply
+decode_reply tree = reply status.Done (decode_report tree)
+
+abbrev pub no_reading_reply : Reply
+no_reading_reply = reply status.NoReading no_reading_line
+
+-- the reply to a Script: the tree that it is decoded to, or that it can't be read
+abbrev pub RepliesToScript : (keys : List Key) → (bytes : Bytes) → Reply → Type 0
+RepliesToScript keys bytes r =
+    ((tree : Tree) × IsDecoded keys bytes tree × (r ≡ decode_reply tree))
+    ⊎ (((tree : Tree) → ¬ IsReading keys bytes tree) × (r ≡ no_reading_reply))
+
 -- the reply to a text, by its reading
 abbrev pub RepliesToText : (text : Bytes) → (first_reason : Tree → Option Unfit) → (next : Tree → Reply) → Reply →
     Type 0
@@ -55,6 +74,7 @@ Replies (satisfy_malleable text) source r = RepliesToText text first_unfit_valid
 Replies run source r = r ≡ run_reply source
 Replies (gen n) source r = r ≡ gen_reply n
 Replies (policy text) source r = RepliesToText text first_unfit policy_reply r
+Replies (decode digits keys) source r = RepliesToScript (map bytes_of keys) (bytes_of digits) r
 
 -- the reply to words: to their command, or where they have no form
 abbrev pub RepliesToWords : (words : List Bytes) → (source : Bytes) → Reply → Type 0

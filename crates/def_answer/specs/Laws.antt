@@ -11,7 +11,7 @@ use Rattle.def_choice.specs.Cheapest.{cheapest}
 use Rattle.def_choice.specs.Strict.{strict}
 use Rattle.def_answer.specs.declared.status.Status.{Status}
 use Rattle.def_answer.specs.declared.status.Status.TheVariants as status
-use Rattle.def_answer.specs.Words.{Command, MOST_CHILDREN, IsForm, HasNoForm}
+use Rattle.def_answer.specs.Words.{Command, decode, MOST_CHILDREN, IsForm, HasNoForm}
 use Rattle.def_answer.specs.LeastKeys.{least_keys}
 use Rattle.def_answer.specs.Lines.{file_too_long_line}
 use Rattle.def_answer.specs.Generated.{generated_text, generated_tree, generated_assets}
@@ -51,10 +51,17 @@ IsAnswered status.ReadFault = ⊥
 IsAnswered status.WriteFault = ⊥
 IsAnswered status.Memory = ⊥
 IsAnswered status.ScriptRefused = ⊤
+IsAnswered status.NoReading = ⊤
 
 abbrev pub AnswersHaveStatus : Type 0
 AnswersHaveStatus =
     (words : List Bytes) (source : Bytes) (s : Status) (p : Bytes) → Answer words source s p → IsAnswered s
+
+-- only `decode` is answered by that there is no reading
+abbrev pub NoReadingIsOfDecode : Type 0
+NoReadingIsOfDecode =
+    (words : List Bytes) (source : Bytes) (p : Bytes) → Answer words source status.NoReading p →
+    (digits : Bytes) × (keys : List Bytes) × IsForm words (decode digits keys)
 
 -- ---- what needs the source
 

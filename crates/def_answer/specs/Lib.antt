@@ -13,6 +13,7 @@ pub mod Laws
 pub mod Samples
 pub mod TextExamples
 pub mod PolicyExamples
+pub mod DecodeExamples
 pub mod SatisfyExamples
 pub mod RunExamples
 pub mod GenExamples

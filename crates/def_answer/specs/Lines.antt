@@ -40,6 +40,9 @@ usage_line = line (codes "refused usage")
 abbrev pub no_satisfaction_line : Bytes
 no_satisfaction_line = line (codes "no satisfaction")
 
+abbrev pub no_reading_line : Bytes
+no_reading_line = line (codes "no reading")
+
 -- of a text; a place is a byte offset. Want of memory has no line
 abbrev pub text_line : TextFault → Bytes
 text_line text_fault.TooLong = line (codes "refused text TooLong")

@@ -130,3 +130,8 @@ policy_lines policy least = line (codes "policy " ++ printed_policy policy) ++ l
 
 unfoldable pub policy_report : Tree → Bytes
 policy_report tree = policy_lines (policy_of tree) (least_keys (policy_of tree))
+
+-- ---- decode
+
+unfoldable pub decode_report : Tree → Bytes
+decode_report tree = line (codes "text " ++ printed tree)

@@ -18,6 +18,7 @@ WordsThatDoNot =
     × ¬ ReadsSource (codes "check" ∷ pk A ∷ [])
     × ¬ ReadsSource (codes "gen" ∷ codes "4" ∷ [])
     × ¬ ReadsSource (codes "policy" ∷ pk A ∷ [])
+    × ¬ ReadsSource (codes "decode" ∷ codes "51" ∷ A ∷ [])
     × ¬ ReadsSource (codes "satisfy" ∷ codes "1" ∷ [])
     × ¬ ReadsSource (codes "satisfy" ∷ codes "--malleable" ∷ (codes "v:" ++ pk A) ∷ [])
     × ¬ ReadsSource (codes "satisfy" ∷ codes "--malleable" ∷ [])

@@ -7,7 +7,7 @@ use Rattle.def_sane.specs.declared.Unfit.{Unfit}
 use Rattle.def_sane.specs.Unfit.{first_unfit, first_unfit_valid}
 use Rattle.def_answer.specs.declared.status.Status.{Status}
 use Rattle.def_answer.specs.declared.status.Status.TheVariants as status
-use Rattle.def_answer.specs.Words.{Command, script, check, satisfy, satisfy_malleable, run, gen, policy, IsForm}
+use Rattle.def_answer.specs.Words.{Command, script, check, satisfy, satisfy_malleable, run, gen, policy, decode, IsForm}
 
 -- the text is read as a tree, and there is no reason against it
 abbrev pub Passes : (first_reason : Tree → Option Unfit) → (text : Bytes) → Type 0
@@ -23,6 +23,7 @@ NeedsSource (satisfy_malleable text) = Passes first_unfit_valid text
 NeedsSource run = ⊤
 NeedsSource (gen n) = ⊥
 NeedsSource (policy text) = ⊥
+NeedsSource (decode digits keys) = ⊥
 
 -- the words are those of such a command
 abbrev pub ReadsSource : (words : List Bytes) → Type 0
@@ -39,6 +40,7 @@ IsOfSource status.ReadFault = ⊤
 IsOfSource status.WriteFault = ⊥
 IsOfSource status.Memory = ⊥
 IsOfSource status.ScriptRefused = ⊤
+IsOfSource status.NoReading = ⊥
 
 -- the statuses of answers to what the source holds
 abbrev pub IsToFile : Status → Type 0
@@ -51,3 +53,4 @@ IsToFile status.ReadFault = ⊥
 IsToFile status.WriteFault = ⊥
 IsToFile status.Memory = ⊥
 IsToFile status.ScriptRefused = ⊤
+IsToFile status.NoReading = ⊥

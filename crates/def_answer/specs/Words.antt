@@ -1,6 +1,9 @@
 -- The forms of words that the program takes. They are exact lists: any other one has no form.
-use Rattle.std.specs.Prelude.{◌≡◌, ℕ, ◌≤◌, ⊤, List, [], ◌∷◌, codes, decimal}
+use Rattle.std.specs.Prelude.{◌≡◌, ℕ, ◌%◌, ◌≤◌, ⊤, List, [], ◌∷◌, length, All, IsSome, codes, decimal}
+use Rattle.std.specs.List.{AllPass}
+use Rattle.hex.specs.Hex.{is_hex_digit}
 use Rattle.def_script.specs.Bytes.{Bytes}
+use Rattle.def_text.specs.Word.{key_of}
 
 pub data Command : Type 0 where
   -- the Script of a valid text
@@ -17,6 +20,8 @@ pub data Command : Type 0 where
   gen : (n : ℕ) → Command
   -- the abstract policy of a sane text
   policy : (text : Bytes) → Command
+  -- the text that a Script is read back as, with the keys that its hashes of keys may have
+  decode : (digits : Bytes) → (keys : List Bytes) → Command
 
 -- the words of a command
 abbrev pub words_of : Command → List Bytes
@@ -27,12 +32,17 @@ words_of (satisfy_malleable text) = codes "satisfy" ∷ codes "--malleable" ∷ 
 words_of run = codes "run" ∷ []
 words_of (gen n) = codes "gen" ∷ decimal n ∷ []
 words_of (policy text) = codes "policy" ∷ text ∷ []
+words_of (decode digits keys) = codes "decode" ∷ digits ∷ keys
 
 -- the greatest number that `gen` takes
 abbrev pub MOST_CHILDREN : ℕ
 MOST_CHILDREN = 30
 
--- the number of `gen` is 1 to 30
+-- an even number of hexadecimal digits of either case
+abbrev pub IsHex : Bytes → Type 0
+IsHex digits = (length digits % 2 ≡ 0) × AllPass is_hex_digit digits
+
+-- the number of `gen` is 1 to 30, and each word after the Script of `decode` spells a key
 abbrev pub IsCommand : Command → Type 0
 IsCommand (script text) = ⊤
 IsCommand (check text) = ⊤
@@ -41,6 +51,7 @@ IsCommand (satisfy_malleable text) = ⊤
 IsCommand run = ⊤
 IsCommand (gen n) = (1 ≤ n) × (n ≤ MOST_CHILDREN)
 IsCommand (policy text) = ⊤
+IsCommand (decode digits keys) = IsHex digits × All (λ word. IsSome (key_of word)) keys
 
 -- the words are those of the command
 pub record IsForm (words : List Bytes) (command : Command) : Type 0 where

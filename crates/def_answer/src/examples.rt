@@ -21,6 +21,13 @@ ghost use Rattle.def_answer.specs.PolicyExamples.{
   PolicyOfZero,
   PolicyRefused,
 };
+ghost use Rattle.def_answer.specs.DecodeExamples.{
+  ReadKey,
+  ReadChain,
+  ReadKeyHash,
+  ReadShort,
+  NoScript,
+};
 ghost use Rattle.def_answer.specs.SatisfyExamples.{
   TwoOfThree,
   LateKey,
@@ -83,6 +90,15 @@ pub fn policies()
     ensures hashes { PolicyOfHashes }
     ensures zero { PolicyOfZero }
     ensures refused { PolicyRefused }
+{}
+
+/// Answers to `decode HEX KEY..`.
+pub fn decodings()
+    ensures key { ReadKey }
+    ensures chain { ReadChain }
+    ensures key_hash { ReadKeyHash }
+    ensures short { ReadShort }
+    ensures no_script { NoScript }
 {}
 
 /// Answers to `satisfy TEXT` and `satisfy --malleable TEXT`.

@@ -6,6 +6,7 @@ ghost use Rattle.def_answer.specs.Laws.{
   OneAnswer,
   SomeAnswer,
   AnswersHaveStatus,
+  NoReadingIsOfDecode,
   AnswerWithoutSource,
   StatusWithoutSource,
   StatusWithSource,
@@ -26,6 +27,7 @@ pub fn answers()
     ensures one_answer { OneAnswer }
     ensures some_answer { SomeAnswer }
     ensures status { AnswersHaveStatus }
+    ensures no_reading { NoReadingIsOfDecode }
 {}
 
 /// Which answers need the source, and what comes of a long one.

@@ -1,21 +1,19 @@
 -- From the answer and what was written of it to how the call ends.
 use Rattle.std.proofs.Common.{◌≡◌, ◌⊎◌, ◌<◌, ◌≤◌, Bool, true, false, nat_lt, Some, None, Ok, Err, inl, inr, refl, sym, ◌∙◌, ap, subst, arith, List, [], length}
 use Rattle.std.proofs.lemmas.Bool.{ltb-true, ltb-false}
-use Rattle.std.specs.Prelude.{⊤, Option, Result}
+use Rattle.std.specs.Prelude.{Option, Result}
 use Rattle.std.specs.Str.{IsUtf8}
 use Rattle.std.specs.String.{string_bytes}
-use Rattle.std.specs.Io.KnownBytes.{Appends, IsAtEnd}
+use Rattle.std.specs.Io.KnownBytes.{IsAtEnd}
 use Rattle.def_script.specs.Bytes.{Bytes}
 use Rattle.ms_io.specs.Faults.{Rose}
-use Rattle.ms_io.specs.Moves.{AppendsPrefix}
 use Rattle.def_answer.specs.declared.status.Status.{Status}
 use Rattle.def_answer.specs.declared.status.Status.TheVariants as status
 use Rattle.def_answer.specs.Answer.{Replies, RepliesToWords, Answer}
 use Rattle.def_answer.specs.Laws.{IsAnswered}
-use Rattle.def_answer.specs.Lines.{usage_line}
-use Rattle.def_answer.specs.Reply.{Reply, reply, usage_reply, MOST_FILE}
+use Rattle.def_answer.specs.Reply.{Reply, reply, MOST_FILE}
 use Rattle.def_answer.specs.Sources.{NeedsSource, ReadsSource, IsOfSource}
-use Rattle.def_answer.specs.Words.{Command, script, check, satisfy, satisfy_malleable, run, gen, policy, IsForm, HasNoForm}
+use Rattle.def_answer.specs.Words.{Command, script, check, satisfy, satisfy_malleable, run, gen, policy, decode, HasNoForm}
 use Rattle.def_answer.proofs.Answered.{OnText}
 use Rattle.def_answer.proofs.Early.{answers_have_status}
 use Rattle.def_answer.proofs.Sources.{answer_without_source, status_without_source, long_file}
@@ -23,9 +21,9 @@ use Rattle.def_answer.proofs.Unique.{one_form, one_reply}
 use Rattle.msat_cli.specs.declared.answer.Answer.{Answer as Made}
 use Rattle.msat_cli.specs.declared.answer.Stop.{Stop}
 use Rattle.msat_cli.specs.declared.answer.Stop.TheVariants as stop
-use Rattle.msat_cli.specs.Sides.{Side, AreTold, Held, IsUnread}
-use Rattle.msat_cli.specs.Steps.{HasUtf8, HaveUtf8, RepliesUnread, RepliesToFile, Answers, RepliesUsage, AnswersWords, Ended, Writes, WritesResult}
-use Rattle.msat_cli.specs.Ends.{Call, HasAnswer, WritesAnswer, Ends, TakesMemory, IsFault, EndsAs, EndsAsUsage, EndsAsAnswered, TellsShortFile, IsReadFor}
+use Rattle.msat_cli.specs.Sides.{Side, AreTold, Held}
+use Rattle.msat_cli.specs.Steps.{HasUtf8, HaveUtf8, AnswersWords, Ended, Writes, WritesResult}
+use Rattle.msat_cli.specs.Ends.{Call, HasAnswer, Ends, TakesMemory, IsFault, EndsAsUsage, EndsAsAnswered, TellsShortFile, IsReadFor}
 
 -- ---- the answer
 
@@ -103,6 +101,7 @@ on_text (satisfy_malleable text) utf8 = utf8
 on_text run utf8 = tt
 on_text (gen n) utf8 = tt
 on_text (policy text) utf8 = utf8
+on_text (decode digits keys) utf8 = tt
 
 pub one_to_words : (words : List Bytes) (bytes : Bytes) (a b : Reply) → HaveUtf8 words → RepliesToWords words bytes a → RepliesToWords words bytes b → a ≡ b
 one_to_words words bytes a b utf8 (inl h) (inl k) =
@@ -175,6 +174,7 @@ read_for s source bytes held long = go (nat_lt MOST_FILE (length bytes)) refl
     at_end status.WriteFault end = tt
     at_end status.Memory end = tt
     at_end status.ScriptRefused end = end
+    at_end status.NoReading end = tt
 
     go : (b : Bool) → nat_lt MOST_FILE (length bytes) ≡ b → IsReadFor s source
     go true e =
@@ -223,3 +223,4 @@ unless_fault wanted result source sink no_read no_write (inr fault) = inr (go re
     go status.WriteFault fault = absurd (no_write fault)
     go status.Memory fault = refl
     go status.ScriptRefused fault = absurd fault
+    go status.NoReading fault = absurd fault

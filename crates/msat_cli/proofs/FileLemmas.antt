@@ -1,5 +1,5 @@
 -- What the source held.
-use Rattle.std.proofs.Common.{[], append-nil, ◌≡◌, Some, None, ◌<◌, ◌≤◌, length, ◌++◌, length-append, refl, sym, ◌∙◌, ap, subst, arith}
+use Rattle.std.proofs.Common.{[], append-nil, Some, None, ◌<◌, length, ◌++◌, length-append, refl, sym, ◌∙◌, ap, subst, arith}
 use Rattle.std.specs.declared.option.Option.{Option}
 use Rattle.std.specs.Io.KnownBytes.{Consumes, IsAtEnd, Keeps}
 use Rattle.def_script.specs.Bytes.{Bytes}

@@ -7,3 +7,5 @@ mod SatisfactionLemmas
 mod RefusalLemmas
 mod GeneratorLemmas
 mod PolicyLemmas
+mod SpellingLemmas
+mod DecodingLemmas

@@ -1,19 +1,18 @@
 -- What a call for a policy shows.
-use Rattle.std.proofs.Common.{◌≡◌, ℕ, ◌++◌, List, [], codes, inl, inr, refl, sym, ap, subst, ◌∙◌}
+use Rattle.std.proofs.Common.{◌≡◌, ℕ, ◌++◌, [], codes, inl, inr, refl, sym, ap, subst, ◌∙◌}
 use Rattle.std.specs.Prelude.{Option}
 use Rattle.std.specs.Io.KnownBytes.{Appends}
 use Rattle.def_script.specs.Bytes.{Bytes}
 use Rattle.def_tree.specs.Tree.{Tree}
-use Rattle.def_sane.specs.Unfit.{first_unfit, IsSane}
 use Rattle.def_policy.specs.Policy.{Policy}
 use Rattle.def_policy.specs.Keys.{AreLeastKeys}
 use Rattle.def_policy.specs.Print.{printed}
-use Rattle.def_answer.specs.Answer.{policy_reply, Replies, RepliesToWords, Answer}
+use Rattle.def_answer.specs.Answer.{policy_reply, Answer}
 use Rattle.def_answer.specs.LeastKeys.{least_keys}
 use Rattle.def_answer.specs.Lines.{line}
 use Rattle.def_answer.specs.Reading.{read}
 use Rattle.def_answer.specs.Reply.{Reply, reply, unless_unfit}
-use Rattle.def_answer.specs.Report.{policy_of, number_or_none, policy_lines, policy_report}
+use Rattle.def_answer.specs.Report.{policy_of, number_or_none, policy_report}
 use Rattle.def_answer.specs.Words.{policy}
 use Rattle.def_answer.specs.declared.status.Status.TheVariants as status
 use Rattle.def_answer.proofs.LeastKeys.{least_keys_are_least, one_least}

@@ -10,7 +10,6 @@ use Rattle.def_text.specs.Refusal.{TextReads, TextRefusal}
 use Rattle.def_sane.specs.declared.Unfit.{Unfit}
 use Rattle.def_choice.specs.Cheapest.{cheapest}
 use Rattle.def_choice.specs.Strict.{strict}
-use Rattle.def_sane.specs.Unfit.{first_unfit, first_unfit_valid}
 use Rattle.def_answer.specs.Answer.{Replies, Answer}
 use Rattle.def_answer.specs.Lines.{text_line, unfit_line}
 use Rattle.def_answer.specs.Reading.{read, refused}

@@ -1,5 +1,5 @@
 -- What a call for a satisfaction shows.
-use Rattle.std.proofs.Common.{◌≡◌, ℕ, ◌≤◌, ◌⊎◌, inl, inr, List, ◌++◌, ◌∷◌, Ok, None, Some, Bool, true, false, nat_lt, if◌then◌else◌, length, refl, sym, ap, subst, ◌∙◌}
+use Rattle.std.proofs.Common.{◌≡◌, ℕ, ◌≤◌, inl, inr, List, ◌++◌, Ok, None, Some, Bool, true, false, nat_lt, if◌then◌else◌, length, refl, sym, ap, subst, ◌∙◌}
 use Rattle.std.specs.Prelude.{Option}
 use Rattle.std.specs.List.{flat_map}
 use Rattle.std.specs.Io.KnownBytes.{Appends}
@@ -16,7 +16,7 @@ use Rattle.def_files.specs.AssetFile.{assets_of}
 use Rattle.def_files.proofs.Given.{asset_file_gives_assets}
 use Rattle.def_sane.specs.declared.Unfit.{Unfit}
 use Rattle.def_sane.specs.Most.{limits_of}
-use Rattle.def_sane.specs.Unfit.{first_unfit, first_unfit_valid, IsValid, IsSane}
+use Rattle.def_sane.specs.Unfit.{first_unfit, first_unfit_valid, IsValid}
 use Rattle.def_sane.proofs.Greatest.{limits_are_computed}
 use Rattle.def_sane.proofs.Meanings.{sane_means}
 use Rattle.def_satisfaction.specs.Weight.{weight}
@@ -34,17 +34,15 @@ use Rattle.def_answer.specs.Lines.{script_line, program_line, limits_line}
 use Rattle.def_answer.specs.Reading.{read}
 use Rattle.def_answer.specs.Reply.{Reply, reply, unless_unfit, unless_refused, MOST_FILE, chosen_reply, satisfy_reply}
 use Rattle.def_answer.specs.Report.{item_line, witness_line, satisfy_report, replay, replay_line}
-use Rattle.def_answer.specs.Words.{IsForm}
 use Rattle.def_answer.specs.declared.status.Status.{Status}
 use Rattle.def_answer.specs.declared.status.Status.TheVariants as status
 use Rattle.def_answer.proofs.Sources.{passed_text}
 use Rattle.def_answer.proofs.Unique.{one_form}
 use Rattle.msat_cli.specs.declared.words.Choice.{Choice}
 use Rattle.msat_cli.specs.declared.words.Choice.TheVariants as choice
-use Rattle.msat_cli.specs.Sides.{Side}
 use Rattle.msat_cli.specs.Steps.{HaveUtf8, satisfy_by, reason_by, chosen_by}
 use Rattle.msat_cli.specs.Ends.{Call, HasAnswer, Ends, EndsAs}
-use Rattle.msat_cli.specs.Satisfactions.{IsAsked, Shows, ShowsSuch, IsExact, IsAcceptedByAll, WeighsLeast, FindsWhereOneExists, ShowsCanonical, Prints, ShowsWitness, ShowsAccepted, ShowsNonMalleable, FindsNothingToAccept, ShowsLightest}
+use Rattle.msat_cli.specs.Satisfactions.{IsAsked, Shows, ShowsSuch, IsAcceptedByAll, WeighsLeast, FindsWhereOneExists, ShowsCanonical, Prints, ShowsWitness, ShowsAccepted, ShowsNonMalleable, FindsNothingToAccept, ShowsLightest}
 use Rattle.msat_cli.proofs.EndLemmas.{told_answer, ends_as_answered}
 
 -- ---- what is asked

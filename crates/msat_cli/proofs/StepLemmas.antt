@@ -15,7 +15,7 @@ use Rattle.ms_io.specs.Faults.{Rose}
 use Rattle.def_answer.specs.Answer.{Replies}
 use Rattle.def_answer.specs.Reading.{read, refused}
 use Rattle.def_answer.specs.Reply.{Reply, unless_unfit, satisfy_reply, run_reply}
-use Rattle.def_answer.specs.Words.{Command, run, IsForm, HasNoForm}
+use Rattle.def_answer.specs.Words.{Command, run, IsForm}
 use Rattle.def_answer.proofs.Unique.{one_form}
 use Rattle.msat_cli.specs.declared.answer.Answer.{Answer}
 use Rattle.msat_cli.specs.declared.answer.Stop.{Stop}
@@ -28,7 +28,7 @@ use Rattle.msat_cli.specs.declared.words.Command.{Command as Asked}
 use Rattle.def_answer.specs.Sources.{Passes, NeedsSource, ReadsSource}
 use Rattle.msat_cli.specs.Sides.{Side, IsUnread}
 use Rattle.msat_cli.specs.Ends.{HasShortText, TakesMemory}
-use Rattle.msat_cli.specs.Steps.{seen, HasUtf8, HaveUtf8, command_of, chosen_by, reason_by, reason_of, reply_of, ReadsFor, Answers, AnswersWords, RepliesUnread, RepliesToFile, AnswersAtOnce, AnswersFile, AnswersTree, IsRefusal, Ended}
+use Rattle.msat_cli.specs.Steps.{seen, HasUtf8, HaveUtf8, command_of, chosen_by, reason_by, reason_of, reply_of, ReadsFor, Answers, AnswersWords, AnswersFile, AnswersTree, IsRefusal, Ended}
 
 -- a step ends as another one does
 pub ended : (P Q : Reply → Type 0) (A B C D : Type 0) → ((r : Reply) → P r → Q r) → (A → C) → (B → D)

@@ -1,5 +1,5 @@
 -- How a call of `msat` ends.
-use Rattle.std.specs.Prelude.{◌≡◌, ◌⊎◌, ℕ, ◌≤◌, ⊤, List, length, Option, None, Some}
+use Rattle.std.specs.Prelude.{◌≡◌, ◌⊎◌, ◌≤◌, ⊤, List, length, Option, None, Some}
 use Rattle.std.specs.Io.KnownBytes.{Appends, IsAtEnd, Keeps}
 use Rattle.def_script.specs.Bytes.{Bytes}
 use Rattle.def_text.specs.Refusal.{MOST_BYTES}
@@ -10,7 +10,7 @@ use Rattle.def_answer.specs.declared.status.Status.TheVariants as status
 use Rattle.def_answer.specs.Answer.{Answer}
 use Rattle.def_answer.specs.Reply.{MOST_FILE}
 use Rattle.def_answer.specs.Sources.{ReadsSource}
-use Rattle.def_answer.specs.Words.{Command, script, check, satisfy, satisfy_malleable, run, gen, policy, IsForm, HasNoForm}
+use Rattle.def_answer.specs.Words.{Command, script, check, satisfy, satisfy_malleable, run, gen, policy, decode, IsForm, HasNoForm}
 use Rattle.msat_cli.specs.Sides.{Side, AreTold}
 
 -- the words of a call, what it did to the source and to the sink, and its status
@@ -57,6 +57,7 @@ HasShortText (satisfy_malleable text) = length text ≤ MOST_BYTES
 HasShortText run = ⊤
 HasShortText (gen n) = ⊤
 HasShortText (policy text) = length text ≤ MOST_BYTES
+HasShortText (decode digits keys) = ⊤
 
 -- the words have a form, and their TEXT isn't too long
 abbrev pub TakesMemory : (words : List Bytes) → Type 0
@@ -83,6 +84,7 @@ IsFault status.ReadFault source sink = Rose source.before source.now
 IsFault status.WriteFault source sink = Rose sink.before sink.now
 IsFault status.Memory source sink = ⊤
 IsFault status.ScriptRefused source sink = ⊥
+IsFault status.NoReading source sink = ⊥
 
 -- with this status, unless memory was wanting or a fault came
 abbrev pub EndsAs : Status → Call → Type 0
@@ -120,3 +122,4 @@ IsReadFor status.ReadFault source = ⊤
 IsReadFor status.WriteFault source = ⊤
 IsReadFor status.Memory source = ⊤
 IsReadFor status.ScriptRefused source = IsAtEnd source.new
+IsReadFor status.NoReading source = ⊤

@@ -3,3 +3,4 @@ pub mod Steps
 pub mod Ends
 pub mod Satisfactions
 pub mod Policies
+pub mod Decodings

@@ -18,8 +18,8 @@ use Rattle.def_answer.specs.declared.status.Status.TheVariants as status
 use Rattle.def_answer.specs.Answer.{script_reply, check_reply, policy_reply, Replies}
 use Rattle.def_answer.specs.Lines.{usage_line, text_line, file_too_long_line}
 use Rattle.def_answer.specs.Reply.{Reply, reply, usage_reply, unless_unfit, MOST_FILE, satisfy_reply}
-use Rattle.def_answer.specs.Sources.{NeedsSource, ReadsSource}
-use Rattle.def_answer.specs.Words.{Command, script, check, satisfy, satisfy_malleable, run, gen, policy, IsForm, HasNoForm}
+use Rattle.def_answer.specs.Sources.{NeedsSource}
+use Rattle.def_answer.specs.Words.{Command, script, check, satisfy, satisfy_malleable, run, gen, policy, decode, IsForm, HasNoForm}
 use Rattle.msat_cli.specs.declared.answer.Answer.{Answer}
 use Rattle.msat_cli.specs.declared.answer.Stop.{Stop}
 use Rattle.msat_cli.specs.declared.answer.Stop.TheVariants as stop
@@ -49,6 +49,7 @@ abbrev pub seen : Asked → Command
 seen (asked.Text kind text) = command_of kind text.now
 seen asked.Run = run
 seen (asked.Gen n) = gen n
+seen (asked.Decode digits keys) = decode digits.now keys.now
 
 -- its TEXT, where it has one, is UTF-8
 abbrev pub HasUtf8 : Command → Type 0
@@ -59,6 +60,7 @@ HasUtf8 (satisfy_malleable text) = IsUtf8 text
 HasUtf8 run = ⊤
 HasUtf8 (gen n) = ⊤
 HasUtf8 (policy text) = IsUtf8 text
+HasUtf8 (decode digits keys) = ⊤
 
 -- so is that of words with a form
 abbrev pub HaveUtf8 : (words : List Bytes) → Type 0

@@ -7,6 +7,7 @@ ghost use Rattle.msat_cli.specs.Sides.{side, ReadsFront, IsUnread};
 ghost use Rattle.msat_cli.specs.Steps.{seen, HaveUtf8, Answers, AnswersWords, Ended, AsMade};
 ghost use Rattle.msat_cli.specs.Ends.{HasShortText, TakesMemory};
 
+use crate::decoding::answer_decode;
 use crate::generator::answer_gen;
 use crate::runs::answer_run;
 use crate::texts::answer_text;
@@ -72,6 +73,7 @@ fn answer_command<S: Source>(
         Command::Text(kind, text) => answer_text(alloc, arena, kind, text, source),
         Command::Run => answer_run(alloc, source),
         Command::Gen(n) => or_memory(answer_gen(alloc, arena, n)),
+        Command::Decode(digits, keys) => or_memory(answer_decode(alloc, arena, digits, keys)),
     }
 }
 

@@ -9,6 +9,9 @@ pub use word::Word;
 
 mod answer;
 #[cfg(test)]
+mod decode_tests;
+mod decoding;
+#[cfg(test)]
 mod fault_tests;
 mod files;
 mod generator;

@@ -4,6 +4,7 @@ ghost use Rattle.ms_io.specs.Faults.{Rose};
 ghost use Rattle.msat_cli.specs.Sides.{side, ReadsFront, IsUnread};
 ghost use Rattle.msat_cli.specs.Steps.{Writes, WritesResult};
 ghost use Rattle.msat_cli.specs.Ends.{call, Ends, EndsAsUsage, EndsAsAnswered, IsReadFor};
+ghost use Rattle.msat_cli.specs.Decodings.{ShowsReading};
 ghost use Rattle.msat_cli.specs.Policies.{ShowsPolicy};
 ghost use Rattle.msat_cli.specs.Satisfactions.{FindsWhereOneExists, ShowsCanonical, ShowsWitness, ShowsAccepted, ShowsNonMalleable, FindsNothingToAccept, RefusesOtherTexts, ShowsLightest};
 
@@ -21,8 +22,8 @@ const TEXT_TOO_LONG: &[u8] = b"refused text TooLong\n";
 const FILE_TOO_LONG: &[u8] = b"refused file TooLong\n";
 
 /// Answers the words of a command line: makes the report, writes it to the sink by one call of `put_all`, and gives
-/// the status. The words are `script TEXT`, `check TEXT`, `satisfy TEXT`, `satisfy --malleable TEXT`, `run`, `gen N` and
-/// `policy TEXT`. The source is read only for `run`, and for `satisfy` where the text was neither refused nor unfit.
+/// the status. The words are `script TEXT`, `check TEXT`, `satisfy TEXT`, `satisfy --malleable TEXT`, `run`, `gen N`,
+/// `policy TEXT` and `decode HEX KEY..`. The source is read only for `run`, and for `satisfy` where the text was neither refused nor unfit.
 pub fn msat<S: Source, K: Sink>(
     alloc: Global,
     words: &[Word],
@@ -63,6 +64,10 @@ pub fn msat<S: Source, K: Sink>(
 
     // For every sane text `policy TEXT` writes its policy, and the least number of keys that make the policy true.
     ensures policy { ShowsPolicy (call words.now (side S.left S.faults source.old source.new) (side K.written K.faults sink.old sink.new) result) }
+
+    // `decode HEX KEY..` writes the text that the Script is read back as, exactly where there is one, and otherwise that
+    // there is none.
+    ensures reading { ShowsReading (call words.now (side S.left S.faults source.old source.new) (side K.written K.faults sink.old sink.new) result) }
 {
     let arena = Bump::new(alloc);
     let answer = answer_words(alloc, &arena, words, source);

@@ -1,10 +1,15 @@
 //! The forms of words.
-ghost use Rattle.std.specs.Prelude.{◌≡◌, ◌≢◌, ℕ, [], ◌∷◌, decimal, IsTrue, ◌↔◌, MatchOption, IfSome};
-ghost use Rattle.def_answer.specs.Words.{IsCommand, IsForm, HasNoForm, gen};
+ghost use Rattle.std.specs.Prelude.{◌≡◌, ◌≢◌, ℕ, [], ◌∷◌, codes, decimal, All, IsTrue, ◌↔◌, MatchOption, IfSome, IsSome};
+ghost use Rattle.std.specs.List.{list_all};
+ghost use Rattle.hex.specs.Hex.{is_hex_digit};
+ghost use Rattle.def_text.specs.Word.{key_of as the_key_of};
+ghost use Rattle.ms_text.specs.Words.{DecodesTo};
+ghost use Rattle.def_answer.specs.Words.{IsHex, IsCommand, IsForm, HasNoForm, gen};
 ghost use Rattle.msat_cli.specs.Steps.{seen, HasUtf8};
 
 use crate::word::Word;
 use itoa::Buffer;
+use ms_tree::Key;
 
 /// The greatest number of `gen`.
 const MOST_CHILDREN: u32 = 30;
@@ -27,24 +32,25 @@ pub enum TextCommand {
     Policy,
 }
 
-/// What the words ask for: something of a TEXT, a run, or a text that is made from a number.
+/// What the words ask for: something of a TEXT, a run, a text that is made from a number, or the text of a Script.
 #[derive(Clone, Copy, Debug)]
 pub enum Command<'a> {
     Text(TextCommand, &'a str),
     Run,
     Gen(u32),
+    /// The digits of a Script, and the words of the keys.
+    Decode(&'a str, &'a [Word]),
 }
 
-/// What the words ask for, or `None` where they have no form.
+/// What the words ask for, or `None` where they have no form. Takes no memory.
 pub fn read_words(words: &[Word]) -> Option<Command<'_>>
     ensures form { MatchOption result (HasNoForm words.now) (λ command. IsForm words.now (seen command)) }
     ensures utf8 { IfSome result (λ command. HasUtf8 (seen command)) }
 {
     match words {
+        [] => None,
         [name] => one_word(name.as_str()),
-        [name, word] => two_words(name.as_str(), word.as_str()),
-        [name, option, text] => three_words(name.as_str(), option.as_str(), text.as_str()),
-        _ => None,
+        [name, word, more @ ..] => several_words(name.as_str(), word.as_str(), more),
     }
 }
 
@@ -58,7 +64,22 @@ fn one_word<'a>(name: &str) -> Option<Command<'a>>
     None
 }
 
+fn several_words<'a>(name: &str, word: &'a str, more: &'a [Word]) -> Option<Command<'a>>
+    ensures form { MatchOption result (HasNoForm (name.now ∷ word.entry.now ∷ more.entry.now)) (λ command. IsForm (name.now ∷ word.entry.now ∷ more.entry.now) (seen command)) }
+    ensures utf8 { IfSome result (λ command. HasUtf8 (seen command)) }
+{
+    if name == "decode" {
+        return decode_words(word, more);
+    }
+    match more {
+        [] => two_words(name, word),
+        [text] => three_words(name, word, text.as_str()),
+        _ => None,
+    }
+}
+
 fn two_words<'a>(name: &str, word: &'a str) -> Option<Command<'a>>
+    requires { name.now ≢ codes "decode" }
     ensures form { MatchOption result (HasNoForm (name.now ∷ word.entry.now ∷ [])) (λ command. IsForm (name.now ∷ word.entry.now ∷ []) (seen command)) }
     ensures utf8 { IfSome result (λ command. HasUtf8 (seen command)) }
 {
@@ -105,6 +126,7 @@ fn is_decimal(n: u32, word: &str) -> bool
 }
 
 fn three_words<'a>(name: &str, option: &str, text: &'a str) -> Option<Command<'a>>
+    requires { name.now ≢ codes "decode" }
     ensures form { MatchOption result (HasNoForm (name.now ∷ option.now ∷ text.entry.now ∷ [])) (λ command. IsForm (name.now ∷ option.now ∷ text.entry.now ∷ []) (seen command)) }
     ensures utf8 { IfSome result (λ command. HasUtf8 (seen command)) }
 {
@@ -112,4 +134,79 @@ fn three_words<'a>(name: &str, option: &str, text: &'a str) -> Option<Command<'a
         return Some(Command::Text(TextCommand::Satisfy(Choice::Cheapest), text));
     }
     None
+}
+
+fn decode_words<'a>(digits: &'a str, keys: &'a [Word]) -> Option<Command<'a>>
+    ensures form { MatchOption result (HasNoForm (codes "decode" ∷ digits.entry.now ∷ keys.entry.now)) (λ command. IsForm (codes "decode" ∷ digits.entry.now ∷ keys.entry.now) (seen command)) }
+    ensures utf8 { IfSome result (λ command. HasUtf8 (seen command)) }
+{
+    if !is_hex(digits.as_bytes()) {
+        return None;
+    }
+    if !are_keys(keys) {
+        return None;
+    }
+    Some(Command::Decode(digits, keys))
+}
+
+/// Whether there is an even number of digits, and nothing else.
+fn is_hex(digits: &[u8]) -> bool
+    ensures { IsTrue result ↔ IsHex digits.now }
+{
+    if digits.len() % 2 == 1 {
+        return false;
+    }
+    are_digits(digits)
+}
+
+/// Whether each byte is a hexadecimal digit of either case.
+fn are_digits(bytes: &[u8]) -> bool
+    ensures { result ≡ list_all is_hex_digit bytes.now }
+{
+    for &byte in bytes {
+        if !is_digit(byte) {
+            return false;
+        }
+    }
+    true
+}
+
+/// Whether a byte is a hexadecimal digit of either case.
+fn is_digit(digit: u8) -> bool
+    ensures { result ≡ is_hex_digit digit }
+{
+    matches!(digit, b'0'..=b'9' | b'a'..=b'f' | b'A'..=b'F')
+}
+
+/// Whether each word spells a key.
+fn are_keys(words: &[Word]) -> bool
+    ensures { IsTrue result ↔ All (λ word. IsSome (the_key_of word)) words.now }
+{
+    for word in words {
+        if key_of(word.as_str()).is_none() {
+            return false;
+        }
+    }
+    true
+}
+
+/// The key that a word spells by 66 digits of either case. Takes no memory.
+pub fn key_of(word: &str) -> Option<Key>
+    ensures { result ≡ the_key_of word.now }
+{
+    let Some(bytes) = spelled(word.as_bytes()) else {
+        return None;
+    };
+    Key::from_bytes(&bytes)
+}
+
+/// The 33 bytes that a word of digits spells.
+fn spelled(word: &[u8]) -> Option<[u8; 33]>
+    ensures { DecodesTo 33 word.now result }
+{
+    let mut bytes = [0; 33];
+    match hex::decode_to_slice(word, &mut bytes) {
+        Ok(()) => Some(bytes),
+        Err(_) => None,
+    }
 }

@@ -1,6 +1,6 @@
 use Rattle.def_answer.proofs.laws.answers.Goals as goal
 use Rattle.def_answer.proofs.Unique.{one_form, form_or_none, one_answer, some_answer}
-use Rattle.def_answer.proofs.Early.{answers_have_status}
+use Rattle.def_answer.proofs.Early.{answers_have_status, no_reading_is_of_decode}
 
 pub returns-clause-one_form : goal.returns-clause-one_form
 returns-clause-one_form c = one_form
@@ -16,3 +16,6 @@ returns-clause-some_answer c = some_answer
 
 pub returns-clause-status : goal.returns-clause-status
 returns-clause-status c = answers_have_status
+
+pub returns-clause-no_reading : goal.returns-clause-no_reading
+returns-clause-no_reading c = no_reading_is_of_decode

@@ -4,6 +4,7 @@ use Rattle.msat_cli.proofs.EndLemmas.{ends, ends_as_usage, ends_as_answered, fau
 use Rattle.msat_cli.proofs.SatisfactionLemmas.{finds_where_one_exists, shows_canonical, shows_witness, shows_accepted, shows_non_malleable, finds_nothing_to_accept, shows_lightest}
 use Rattle.msat_cli.proofs.RefusalLemmas.{refuses_other_texts}
 use Rattle.msat_cli.proofs.PolicyLemmas.{shows_policy}
+use Rattle.msat_cli.proofs.DecodingLemmas.{shows_reading}
 use Rattle.msat_cli.proofs.program.msat.Given.{Over}
 use Rattle.msat_cli.proofs.program.msat.Goals as goal
 
@@ -61,3 +62,6 @@ returns-clause-lightest g c = shows_lightest (this g c) c.answer_words-answer.en
 
 pub returns-clause-policy : goal.returns-clause-policy
 returns-clause-policy g c = shows_policy (this g c) c.answer_words-answer.ensures.utf8 (returns-clause-end g c)
+
+pub returns-clause-reading : goal.returns-clause-reading
+returns-clause-reading g c = shows_reading (this g c) c.answer_words-answer.ensures.utf8 (returns-clause-end g c)

@@ -1,0 +1,4 @@
+pub mod Nested
+pub mod Decoded
+pub mod Laws
+pub mod Examples

@@ -1,0 +1,54 @@
+-- A tree that was found is tried.
+use Rattle.std.proofs.Common.{◌≡◌, List, map, reverse, All, Option, Some, None, sym, ◌∙◌, ap, subst}
+use Rattle.std.specs.List.{Contains}
+use Rattle.std.specs.Str.{bytes_eq}
+use Rattle.def_hash.specs.Hash.{hash160}
+use Rattle.def_script.specs.Bytes.{Bytes}
+use Rattle.def_script.specs.Items.{items}
+use Rattle.def_tree.specs.Tree.{Tree, Key}
+use Rattle.def_tree.specs.Range.{IsKey, IsWritable}
+use Rattle.def_emit.specs.Emit.{emit}
+use Rattle.def_decode.specs.Decoded.{first_with, IsReading, IsDecoded}
+use Rattle.ms_decode_laws.specs.Reader.{read}
+use Rattle.ms_decode_laws.proofs.Decoding.{found_in, items_of, reading_is_found, found_is_decoded}
+use Rattle.ms_decode.specs.declared.codes.Code.{Code}
+use Rattle.ms_decode.specs.Scaffolding.States.{instruction_of, backwards}
+use Rattle.ms_decode.specs.Scaffolding.Codes.{AreCodes, HasNoCodes}
+use Rattle.ms_decode.specs.Scaffolding.Decoding.{IsCandidate, MayBe, IsScriptOf}
+use Rattle.ms_decode.proofs.Listed.{read_has}
+
+-- bytes that aren't the spelling of instructions
+pub no_codes : (keys : List Key) (script : Bytes) → HasNoCodes script → (t : Tree) → IsReading keys script t → ⊥
+no_codes keys script none t h = none (emit t) (ap items (sym h.same) ∙ items_of t h.writable)
+
+-- what the reader finds in these instructions
+pub may_be : (keys : List Key) (script : Bytes) (codes : List Code) (o : Option Tree) → All IsKey keys → AreCodes script codes → o ≡ read (first_with keys) (backwards codes) → MayBe keys script o
+may_be keys script codes (Some t) all are e = record {
+  are_keys = all;
+  instructions = map instruction_of codes;
+  spelled = are;
+  found = sym e;
+}
+may_be keys script codes None all are e = λ t h.
+    let d = reading_is_found keys script (map instruction_of codes) t all are h in
+    let both : None ≡ Some d.tree = e ∙ d.found in
+    cc
+
+-- the tree is valid and has that Script
+pub tried_some : (keys : List Key) (script : Bytes) (t : Tree) → IsCandidate keys script t → IsWritable t → IsScriptOf t script → IsDecoded keys script t
+tried_some keys script t m w s =
+    found_is_decoded keys script m.instructions t m.are_keys m.spelled m.found (record {
+      valid = s.0;
+      writable = w;
+      listed = read_has (λ k. Contains keys k) (first_with keys) (λ v k e. found_in Key (λ key. bytes_eq (hash160 key) v) keys k e) (reverse m.instructions) t m.found;
+      same = s.1;
+    })
+
+-- or it isn't so
+pub tried_none : (keys : List Key) (script : Bytes) (t : Tree) → IsCandidate keys script t → (IsScriptOf t script → ⊥) → (v : Tree) → IsReading keys script v → ⊥
+tried_none keys script t m not v h =
+    let d = reading_is_found keys script m.instructions v m.are_keys m.spelled h in
+    let both : Some d.tree ≡ Some t = sym d.found ∙ m.found in
+    let same : d.tree ≡ t = cc in
+    let r : IsReading keys script t = subst (IsReading keys script) same d.decoded.reading in
+    not (r.valid, r.same)

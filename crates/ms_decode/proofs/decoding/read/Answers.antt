@@ -1,0 +1,24 @@
+use Rattle.std.proofs.Common.{◌≡◌, All, subst, ap, ◌∙◌}
+use Rattle.def_tree.specs.Range.{IsKey}
+use Rattle.def_decode.specs.Decoded.{first_with}
+use Rattle.ms_decode_laws.specs.Reader.{read}
+use Rattle.ms_decode.specs.Scaffolding.Codes.{AreCodes, HasNoCodes}
+use Rattle.ms_decode.specs.Scaffolding.Keys.{keys_of}
+use Rattle.ms_decode.specs.Scaffolding.Parts.{made}
+use Rattle.ms_decode.specs.Scaffolding.States.{backwards}
+use Rattle.ms_decode.proofs.Tried.{no_codes, may_be}
+use Rattle.ms_decode.proofs.decoding.read.Goals as goal
+
+pub returns-in_default : goal.returns-in_default
+returns-in_default c =
+    let none : HasNoCodes c.args.script.now = rw c.in_default.is at c.in_ok-codes.ensures in
+    no_codes c.args.keys.now c.args.script.now none
+
+pub returns : goal.returns
+returns c =
+    let are : AreCodes c.args.script.now c.in-Some.codes.items = rw c.in-Some.is at c.in_ok-codes.ensures in
+    let same : keys_of c.in_ok-hashed.hashed.items ≡ c.args.keys.now = c.in_ok-hashed.ensures.keys in
+    let all : All IsKey c.args.keys.now = subst (All IsKey) same c.in_ok-hashed.ensures.are_keys in
+    let read_so : made c.in_ok-part.part ≡ read (first_with (keys_of c.in_ok-hashed.hashed.items)) (backwards c.in-Some.codes.items) =
+    c.in_ok-part.ensures ∙ ap (λ h. read (first_with (keys_of h)) (backwards c.in-Some.codes.items)) c.deref.ensures.value in
+    may_be c.args.keys.now c.args.script.now c.in-Some.codes.items (made c.in_ok-part.part) all are (read_so ∙ ap (λ keys. read (first_with keys) (backwards c.in-Some.codes.items)) same)

@@ -1,0 +1,80 @@
+//! A Script read back as a miniscript.
+ghost use Rattle.std.specs.Prelude.{◌≡◌, ◌↔◌, IsTrue, All, Ok, None, IfOk, IfSome};
+ghost use Rattle.def_decode.specs.Decoded.{IsReading, IsDecoded};
+ghost use Rattle.def_tree.specs.Range.{IsInRange};
+ghost use Rattle.def_tree.specs.Tree.{Tree as TheTree};
+ghost use Rattle.ms_tree.specs.Shape.{shape};
+ghost use Rattle.ms_decode.specs.Scaffolding.Decoding.{MayBe, IsScriptOf};
+ghost use Rattle.ms_decode.specs.Scaffolding.Parts.{made};
+
+use crate::codes::read_codes;
+use crate::found::hash_keys;
+use crate::part::Part;
+use crate::read::read_back;
+use bumpalo::Bump;
+use ms_emit::emit;
+use ms_sane::{Work, check_valid};
+use ms_script::encode;
+use ms_tree::{Key, Tree};
+use std::alloc::{AllocError, Global};
+
+/// The most bytes of a Script (Bitcoin Core: `MAX_STANDARD_P2WSH_SCRIPT_SIZE`).
+const MOST_SIZE: usize = 3_600;
+
+/// The valid miniscript whose Script these bytes are, with no `and_v` under `c`, `n` or `v` and none as the first child of
+/// an `and_v` or an `and_b`; or none exactly where no valid miniscript, whose `pk_h` keys all stand in the list, has these
+/// bytes as its Script (Bitcoin Core: `DecodeScript`). The Script of a `pk_h` holds a HASH160 alone: it becomes the first
+/// key of the list with it. Want of memory is its only refusal.
+pub fn decode<'a>(
+    alloc: Global,
+    arena: &'a Bump<Global>,
+    script: &[u8],
+    keys: &[Key],
+) -> Result<Option<Tree<'a>>, AllocError>
+    ensures some { IfOk result (λ o. IfSome o (λ t. IsDecoded keys.now script.now (shape t))) }
+    ensures in_range { IfOk result (λ o. IfSome o (λ t. IsInRange (shape t))) }
+    ensures none { result ≡ Ok None → (t : TheTree) → IsReading keys.now script.now t → ⊥ }
+{
+    let Some(part) = read(alloc, arena, script, keys)? else {
+        return Ok(None);
+    };
+    if is_script_of(alloc, &part.tree, script)? {
+        Ok(Some(part.tree))
+    } else {
+        Ok(None)
+    }
+}
+
+/// The one tree in range that may be decoded, where there is one.
+fn read<'a>(
+    alloc: Global,
+    arena: &'a Bump<Global>,
+    script: &[u8],
+    keys: &[Key],
+) -> Result<Option<Part<'a>>, AllocError>
+    ensures { IfOk result (λ o. MayBe keys.now script.now (made o)) }
+{
+    if script.len() > MOST_SIZE {
+        return Ok(None);
+    }
+    let Some(codes) = read_codes(alloc, script)? else {
+        return Ok(None);
+    };
+    let hashed = hash_keys(alloc, keys)?;
+    let part = read_back(alloc, arena, &hashed, codes)?;
+    Ok(part)
+}
+
+/// Whether a tree is a valid miniscript and these bytes are its Script.
+fn is_script_of(alloc: Global, tree: &Tree<'_>, script: &[u8]) -> Result<bool, AllocError>
+    requires { IsInRange (shape tree.now) }
+    ensures { IfOk result (λ is. IsTrue is ↔ IsScriptOf (shape tree.now) script.now) }
+{
+    let mut work = Work::new(alloc, tree)?;
+    let Ok(_) = check_valid(tree, &mut work) else {
+        return Ok(false);
+    };
+    let instructions = emit(alloc, tree)?;
+    let bytes = encode(alloc, &instructions)?;
+    Ok(bytes.as_slice() == script)
+}

@@ -1,0 +1,314 @@
+-- What a Script is decoded to: the tree that the reader finds, where there is one.
+use Rattle.std.proofs.Common.{◌≡◌, ℕ, zero, suc, ◌+◌, ◌<◌, ◌≤◌, ◌==◌, ◌&&◌, nat_le, Bool, true, false, List, [], ◌∷◌, ◌++◌, length, map, reverse, append-nil, slice_index_or, All, Option, Some, None, if◌then◌else◌, refl, sym, ◌∙◌, ap, subst, arith}
+use Rattle.std.specs.List.{find, Contains}
+use Rattle.std.specs.Int.{w16, w32, to_le_bytes}
+use Rattle.std.specs.Str.{bytes_eq}
+use Rattle.std.proofs.lemmas.List.{length-append, reverse-reverse}
+use Rattle.std.proofs.lemmas.List.Elements.{All-head, All-tail}
+use Rattle.std.proofs.lemmas.Slice.Eq.{bytes_eq-Decides}
+use Rattle.def_hash.specs.Hash.{hash160}
+use Rattle.def_script.specs.Bytes.{Bytes}
+use Rattle.def_script.specs.Instruction.{Instruction, push, code}
+use Rattle.def_script.specs.Spell.{sized_push, byte_push, spell_one, spell, IsShort}
+use Rattle.def_script.specs.Items.{items}
+use Rattle.def_script.specs.Laws.{item_of, CanSpell}
+use Rattle.def_script.proofs.Reading.{items-spell}
+use Rattle.def_tree.specs.Tree.{Tree, Trees, Key, just_0, just_1, pk_k, pk_h, older, after, hash, and_or, two, thresh, multi, wrap, none, more}
+use Rattle.def_tree.specs.Size.{measure, depth}
+use Rattle.def_tree.specs.Range.{IsKey, IsWritable, MOST_MEASURE, MOST_DEPTH}
+use Rattle.def_types.specs.declared.Base.TheVariants.{B, W}
+use Rattle.def_types.specs.declared.Ty.{Ty}
+use Rattle.def_types.specs.Typed.{type_of, IsTyped}
+use Rattle.def_emit.specs.Emit.{emit, script_of}
+use Rattle.def_emit.proofs.Short.{short-emit}
+use Rattle.def_sane.specs.declared.Limits.{Limits}
+use Rattle.def_sane.specs.Limits.{opcode_count}
+use Rattle.def_sane.specs.Most.{most_sat, number_of, limits_of}
+use Rattle.def_sane.specs.Unfit.{MOST_SIZE, MOST_OPS, MOST_ITEMS}
+use Rattle.def_sane.proofs.Meanings.{valid_means}
+use Rattle.def_decode.specs.Nested.{RightNested, EachHashed, EachHashedOf}
+use Rattle.def_decode.specs.Decoded.{first_with, IsReading, IsDecoded}
+use Rattle.def_decode.specs.Laws.{HasDecoded, EachIsDecoded, OneIsDecoded}
+use Rattle.ms_decode_laws.specs.Reader.{read}
+use Rattle.ms_decode_laws.proofs.Onto.{back, back_reverse, onto, onto_back}
+use Rattle.ms_decode_laws.proofs.ReadBack.{tree_reads}
+use Rattle.ms_decode_laws.proofs.Nest.{nest, IsNest, is_nest}
+use Rattle.ms_decode_laws.proofs.Low.{ops-onto, low}
+use Rattle.ms_decode_laws.proofs.Few.{few_of}
+use Rattle.ms_decode_laws.proofs.Fitting.{Fit, parses}
+
+-- the first element that passes a test
+module _ (X : Type 0) (p : X → Bool) where
+  passes_on : (x y : X) (xs : List X) (b : Bool) → p x ≡ b → (if b then Some x else find p xs) ≡ Some y → (find p xs ≡ Some y → p y ≡ true) → p y ≡ true
+  passes_on x y xs true q e next = let same : x ≡ y = cc in subst (λ (z : X). p z ≡ true) same q
+  passes_on x y xs false q e next = next e
+
+  found_passes : (xs : List X) (y : X) → find p xs ≡ Some y → p y ≡ true
+  found_passes [] y e = cc
+  found_passes (x ∷ xs) y e = passes_on x y xs (p x) refl e (found_passes xs y)
+
+  at_on : (x : X) (xs : List X) (b : Bool) → p x ≡ b → (z : X) × (find p xs ≡ Some z) → (z : X) × (find p (x ∷ xs) ≡ Some z)
+  at_on x xs true q next = (x, rw q refl)
+  at_on x xs false q next = (next.0, rw q next.1)
+
+  found_at : (xs : List X) (k : ℕ) (d : X) → k < length xs → p (slice_index_or xs k d) ≡ true → (z : X) × (find p xs ≡ Some z)
+  found_at [] k d below e = absurd (omega (arith, below))
+  found_at (x ∷ xs) zero d below e = (x, rw e refl)
+  found_at (x ∷ xs) (suc k) d below e = at_on x xs (p x) refl (found_at xs k d (omega (arith, below)) e)
+
+  in_on : (x y : X) (xs : List X) (b : Bool) → (if b then Some x else find p xs) ≡ Some y → (find p xs ≡ Some y → Contains xs y) → Contains (x ∷ xs) y
+  in_on x y xs true e next = let same : x ≡ y = cc in (0, omega arith, same)
+  in_on x y xs false e next = let r = next e in let below = r.1 in (suc r.0, omega (arith, below), r.2)
+
+  pub found_in : (xs : List X) (y : X) → find p xs ≡ Some y → Contains xs y
+  found_in [] y e = cc
+  found_in (x ∷ xs) y e = in_on x y xs (p x) e (found_in xs y)
+
+  all_on : (Q : X → Type 0) (x y : X) (xs : List X) (b : Bool) → Q x → (if b then Some x else find p xs) ≡ Some y → (find p xs ≡ Some y → Q y) → Q y
+  all_on Q x y xs true h e next = let same : x ≡ y = cc in subst Q same h
+  all_on Q x y xs false h e next = next e
+
+  found_all : (Q : X → Type 0) (xs : List X) (y : X) → All Q xs → find p xs ≡ Some y → Q y
+  found_all Q [] y all e = cc
+  found_all Q (x ∷ xs) y all e = all_on Q x y xs (p x) (All-head Q x xs all) e (found_all Q xs y (All-tail Q x xs all))
+
+-- the first listed key with the HASH160 of a key, or else that key
+abbrev or_key : Option Key → Key → Key
+or_key None key = key
+or_key (Some k) key = k
+
+abbrev first_of : List Key → Key → Key
+first_of keys key = or_key (first_with keys (hash160 key)) key
+
+found_hash : (keys : List Key) (value : Bytes) (k : Key) → first_with keys value ≡ Some k → hash160 k ≡ value
+found_hash keys value k e = (bytes_eq-Decides (hash160 k) value).0 (found_passes Key (λ key. bytes_eq (hash160 key) value) keys k e)
+
+first_same : (keys : List Key) (k : Key) → hash160 (first_of keys k) ≡ hash160 k
+first_same keys k = go (first_with keys (hash160 k)) refl
+  where
+    go : (o : Option Key) → first_with keys (hash160 k) ≡ o → hash160 (or_key o k) ≡ hash160 k
+    go None e = refl
+    go (Some z) e = found_hash keys (hash160 k) z e
+
+-- a listed key has a first one
+record IsFirst (keys : List Key) (k : Key) : Type 0 where
+  first : first_with keys (hash160 (first_of keys k)) ≡ Some (first_of keys k)
+  key : IsKey (first_of keys k)
+
+first_from_listed : (keys : List Key) (k : Key) → All IsKey keys → Contains keys k → IsFirst keys k
+first_from_listed keys k all h =
+    let p : Key → Bool = λ key. bytes_eq (hash160 key) (hash160 k) in
+    let passes : p (slice_index_or keys h.0 k) ≡ true = subst (λ (z : Key). p z ≡ true) (sym h.2) ((bytes_eq-Decides (hash160 k) (hash160 k)).1 refl) in
+    let r = found_at Key p keys h.0 k h.1 passes in
+    let found : first_with keys (hash160 k) ≡ Some r.0 = r.1 in
+    let is : first_of keys k ≡ r.0 = ap (λ (o : Option Key). or_key o k) found in
+    let same : hash160 r.0 ≡ hash160 k = found_hash keys (hash160 k) r.0 found in
+    record {
+      first = subst (λ (z : Key). first_with keys (hash160 z) ≡ Some z) (sym is) (ap (first_with keys) same ∙ found);
+      key = subst IsKey (sym is) (found_all Key p IsKey keys r.0 all found);
+    }
+
+mutual
+  each_map : (P Q : Key → Type 0) (f : (k : Key) → P k → Q k) (t : Tree) → EachHashed P t → EachHashed Q t
+  each_map P Q f just_0 h = tt
+  each_map P Q f just_1 h = tt
+  each_map P Q f (pk_k key) h = tt
+  each_map P Q f (pk_h key) h = f key h
+  each_map P Q f (older n) h = tt
+  each_map P Q f (after n) h = tt
+  each_map P Q f (hash kind value) h = tt
+  each_map P Q f (and_or x y z) h = (each_map P Q f x h.0, each_map P Q f y h.1, each_map P Q f z h.2)
+  each_map P Q f (two kind x y) h = (each_map P Q f x h.0, each_map P Q f y h.1)
+  each_map P Q f (thresh k xs) h = each_map_of P Q f xs h
+  each_map P Q f (multi k keys) h = tt
+  each_map P Q f (wrap w x) h = each_map P Q f x h
+
+  each_map_of : (P Q : Key → Type 0) (f : (k : Key) → P k → Q k) (ts : Trees) → EachHashedOf P ts → EachHashedOf Q ts
+  each_map_of P Q f none h = tt
+  each_map_of P Q f (more x xs) h = (each_map P Q f x h.0, each_map_of P Q f xs h.1)
+
+-- a tree's instructions backwards
+onto_reverse : (t : Tree) → onto t [] ≡ reverse (emit t)
+onto_reverse t = onto_back t [] ∙ back_reverse (emit t) [] ∙ append-nil (reverse (emit t))
+
+-- the same instructions
+same_emit : (t n : Tree) → onto n [] ≡ onto t [] → emit n ≡ emit t
+same_emit t n e =
+    sym (reverse-reverse (emit n)) ∙ ap reverse (sym (onto_reverse n) ∙ e ∙ onto_reverse t) ∙ reverse-reverse (emit t)
+
+-- the same limits
+same_limits : (t n : Tree) → emit n ≡ emit t → most_sat n ≡ most_sat t → limits_of n ≡ limits_of t
+same_limits t n e s = λ k. record {
+  size = length (spell (e k));
+  ops = opcode_count (e k) + number_of (λ t. t.keys) (s k);
+  items = number_of (λ t. t.items) (s k);
+  weight = number_of (λ t. t.weight) (s k);
+}
+
+nest_is_decoded : (keys : List Key) (script : Bytes) (t : Tree) → All IsKey keys → IsReading keys script t → HasDecoded keys script t
+nest_is_decoded keys script t all h =
+    let P : Key → Type 0 = λ k. first_with keys (hash160 k) ≡ Some k in
+    let v = (valid_means t).0 h.valid in
+    let found : EachHashed (λ k. P (first_of keys k) × IsKey (first_of keys k)) t =
+    each_map (λ k. Contains keys k) (λ k. P (first_of keys k) × IsKey (first_of keys k)) (λ k c. let r = first_from_listed keys k all c in (r.first, r.key)) t h.listed in
+    let n = nest (first_of keys) t in
+    let i : IsNest P t n = is_nest P (first_of keys) (first_same keys) t v.0 h.writable found in
+    let e : emit n ≡ emit t = same_emit t n (i.order []) in
+    let l : limits_of n ≡ limits_of t = same_limits t n e i.sat in
+    let size : (limits_of n).size ≤ MOST_SIZE = subst (λ (m : Limits). m.size ≤ MOST_SIZE) (sym l) v.2 in
+    let count : (limits_of n).ops ≤ MOST_OPS = subst (λ (m : Limits). m.ops ≤ MOST_OPS) (sym l) v.3 in
+    let stack : (limits_of n).items ≤ MOST_ITEMS = subst (λ (m : Limits). m.items ≤ MOST_ITEMS) (sym l) v.4 in
+    let base : (type_of n).base ≡ B = ap (λ (ty : Ty). ty.base) i.type ∙ v.1 in
+    let listed : EachHashed (λ k. Contains keys k) n = each_map P (λ k. Contains keys k) (λ k f. found_in Key (λ key. bytes_eq (hash160 key) (hash160 k)) keys k f) n i.hashed in
+    record {
+      nested = n;
+      decoded = record {
+        reading = record {
+          valid = (valid_means n).1 (i.typed, base, size, count, stack);
+          writable = i.writable;
+          listed = listed;
+          same = ap spell e ∙ h.same;
+        };
+        nested = i.nested;
+        first = i.hashed;
+      };
+      type = i.type;
+      limits = l;
+    }
+
+pub each_is_decoded : EachIsDecoded
+each_is_decoded keys script t all h = nest_is_decoded keys script t all h
+
+-- every instruction takes a byte
+sized_some : (bytes : Bytes) → 1 ≤ length (sized_push bytes)
+sized_some bytes = go (nat_le (length bytes) 75) (nat_le (length bytes) 255) (nat_le (length bytes) 65535)
+  where
+    go : (p q r : Bool) → 1 ≤ length (if p then length bytes ∷ bytes else if q then 0x4c ∷ length bytes ∷ bytes else if r then 0x4d ∷ to_le_bytes w16 (length bytes) ++ bytes else 0x4e ∷ to_le_bytes w32 (length bytes) ++ bytes)
+    go true q r = omega arith
+    go false true r = omega arith
+    go false false true = omega arith
+    go false false false = omega arith
+
+byte_some : (b : ℕ) → 1 ≤ length (byte_push b)
+byte_some b = go (nat_le 1 b && nat_le b 16) (b == 0x81)
+  where
+    go : (p q : Bool) → 1 ≤ length (if p then (0x50 + b) ∷ [] else if q then 0x4f ∷ [] else sized_push (b ∷ []))
+    go true q = omega arith
+    go false true = omega arith
+    go false false = sized_some (b ∷ [])
+
+spell_some : (i : Instruction) → 1 ≤ length (spell_one i)
+spell_some (push []) = omega arith
+spell_some (push (b ∷ [])) = byte_some b
+spell_some (push (b ∷ c ∷ bytes)) = sized_some (b ∷ c ∷ bytes)
+spell_some (code op) = omega arith
+
+length-spell : (l : List Instruction) → length l ≤ length (spell l)
+length-spell [] = omega arith
+length-spell (i ∷ l) =
+    let a = spell_some i in
+    let b = length-spell l in
+    let c : length (spell_one i ++ spell l) ≡ length (spell_one i) + length (spell l) = length-append (spell_one i) (spell l) in
+    omega (arith, a, b, c)
+
+length-back : (l is : List Instruction) → length (back l is) ≡ length l + length is
+length-back [] is = omega arith
+length-back (i ∷ l) is = let e = length-back l (i ∷ is) in omega (arith, e)
+
+count-back : (l is : List Instruction) → opcode_count (back l is) ≡ opcode_count l + opcode_count is
+count-back [] is = omega arith
+count-back (push bytes ∷ l) is = let e = count-back l (push bytes ∷ is) in omega (arith, e)
+count-back (code op ∷ l) is = let e = count-back l (code op ∷ is) in omega (arith, e)
+
+-- such a tree is neither too deep nor too large
+deep_within : (t : Tree) → IsTyped t → RightNested t → opcode_count (emit t) ≤ MOST_OPS → depth t ≤ MOST_DEPTH
+deep_within t h n o =
+    let a = (low t h n).four in
+    let b = ops-onto t h n [] in
+    let c : opcode_count (onto t []) ≡ opcode_count (back (emit t) []) = ap opcode_count (onto_back t []) in
+    let d = count-back (emit t) [] in
+    omega (arith, a, b, c, d, o)
+
+large_within : (t : Tree) → length (script_of t) ≤ MOST_SIZE → measure t ≤ MOST_MEASURE
+large_within t s =
+    let a = (few_of t []).few in
+    let b : length (onto t []) ≡ length (back (emit t) []) = ap length (onto_back t []) in
+    let c = length-back (emit t) [] in
+    let d = length-spell (emit t) in
+    omega (arith, a, b, c, d, s)
+
+-- a decoded tree is what the reader finds
+decoded_is_read : (keys : List Key) (script : Bytes) (t : Tree) → IsDecoded keys script t → read (first_with keys) (reverse (emit t)) ≡ Some t
+decoded_is_read keys script t h =
+    let v = (valid_means t).0 h.reading.valid in
+    let o : opcode_count (emit t) ≤ MOST_OPS = let k = v.3 in omega (arith, k) in
+    let f : Fit (first_with keys) t = record {
+      typed = v.0;
+      nested = h.nested;
+      writable = h.reading.writable;
+      found = h.first;
+      deep = deep_within t v.0 h.nested o;
+      large = large_within t v.2;
+    } in
+    ap (read (first_with keys)) (sym (onto_reverse t))
+    ∙ tree_reads (first_with keys) t ((parses (first_with keys) t f).row (λ w. let b = v.1 in let e : B ≡ W = sym b ∙ w in cc))
+
+-- instructions are known by their items
+item_injective : (i j : Instruction) → item_of i ≡ item_of j → i ≡ j
+item_injective (push a) (push b) e = let same : a ≡ b = cc in ap push same
+item_injective (push a) (code p) e = cc
+item_injective (code o) (push b) e = cc
+item_injective (code o) (code p) e = let same : o ≡ p = cc in ap code same
+
+map_injective : (a b : List Instruction) → map item_of a ≡ map item_of b → a ≡ b
+map_injective [] [] e = refl
+map_injective [] (j ∷ b) e = cc
+map_injective (i ∷ a) [] e = cc
+map_injective (i ∷ a) (j ∷ b) e =
+    let first : item_of i ≡ item_of j = cc in
+    let rest : map item_of a ≡ map item_of b = cc in
+    let p = item_injective i j first in
+    let q = map_injective a b rest in
+    λ k. p k ∷ q k
+
+can_spell : (i : Instruction) → IsShort i → CanSpell i
+can_spell (push bytes) h = omega (arith, h)
+can_spell (code op) h = tt
+
+pub items_of : (t : Tree) → IsWritable t → items (script_of t) ≡ map item_of (emit t)
+items_of t w = let short = short-emit t w in items-spell (emit t) (λ k d below. can_spell _ (short.all k d below))
+
+-- so these are the instructions of a tree with this Script
+emit_of : (keys : List Key) (script : Bytes) (t : Tree) (is : List Instruction) → items script ≡ map item_of is → IsReading keys script t → emit t ≡ is
+emit_of keys script t is e h = map_injective (emit t) is (sym (items_of t h.writable) ∙ ap items h.same ∙ e)
+
+-- a Script that can be read: what the reader finds can be read too
+pub record IsFound (keys : List Key) (script : Bytes) (is : List Instruction) : Type 0 where
+  pub tree : Tree
+  pub found : read (first_with keys) (reverse is) ≡ Some tree
+  pub decoded : IsDecoded keys script tree
+
+pub reading_is_found : (keys : List Key) (script : Bytes) (is : List Instruction) (t : Tree) → All IsKey keys → items script ≡ map item_of is → IsReading keys script t → IsFound keys script is
+reading_is_found keys script is t all e h =
+    let d = nest_is_decoded keys script t all h in
+    let same : emit d.nested ≡ is = emit_of keys script d.nested is e d.decoded.reading in
+    record {
+      tree = d.nested;
+      found = ap (λ (l : List Instruction). read (first_with keys) (reverse l)) (sym same) ∙ decoded_is_read keys script d.nested d.decoded;
+      decoded = d.decoded;
+    }
+
+-- and what it finds is decoded where it can be read
+pub found_is_decoded : (keys : List Key) (script : Bytes) (is : List Instruction) (t : Tree) → All IsKey keys → items script ≡ map item_of is → read (first_with keys) (reverse is) ≡ Some t → IsReading keys script t → IsDecoded keys script t
+found_is_decoded keys script is t all e f h =
+    let d = reading_is_found keys script is t all e h in
+    let both : Some d.tree ≡ Some t = sym d.found ∙ f in
+    let same : d.tree ≡ t = cc in
+    subst (IsDecoded keys script) same d.decoded
+
+pub one_is_decoded : OneIsDecoded
+one_is_decoded keys script t v h i =
+    let e : items script ≡ map item_of (emit v) = ap items (sym i.reading.same) ∙ items_of v i.reading.writable in
+    let same : emit t ≡ emit v = emit_of keys script t (emit v) e h.reading in
+    let both : Some t ≡ Some v = sym (decoded_is_read keys script t h) ∙ ap (λ (l : List Instruction). read (first_with keys) (reverse l)) same ∙ decoded_is_read keys script v i in
+    cc

@@ -1,0 +1,9 @@
+pub mod Onto
+pub mod Parsed
+pub mod ReadBack
+pub mod Moves
+pub mod Nest
+pub mod Low
+pub mod Few
+pub mod Fitting
+pub mod Decoding

@@ -1,0 +1,8 @@
+use Rattle.ms_decode_laws.proofs.laws.decoding.Goals as goal
+use Rattle.ms_decode_laws.proofs.Decoding.{each_is_decoded, one_is_decoded}
+
+pub returns-clause-each : goal.returns-clause-each
+returns-clause-each c = each_is_decoded
+
+pub returns-clause-one : goal.returns-clause-one
+returns-clause-one c = one_is_decoded
