@@ -2,7 +2,8 @@
 # Lets each allocation, each read and each write of the proved program fail in turn, over the examples of `satisfy`, and over `check`,
 # `run` and `gen`. A failed allocation has to give status 7 and a failed read status 5, with nothing written; a failed write status 6,
 # with just those bytes of the answer that the writes before it took. Where the last call of a kind is granted too, the answer is whole; so
-# it may be where a failed allocation is made good; those are counted apart.
+# it may be where a failed allocation is made good: an arena that is refused a piece asks for one of half the size, and a list that is made
+# of an iterator does without the room that it wanted first. Those are counted apart.
 # For this a small library in C stands before the program's `malloc`, `realloc`, `read` and `write`: it counts their calls from the
 # start of the program, fails one of them, and gives 16 bytes a read and takes 10 bytes a write. Then the same by means of the shell
 # alone: a full and a closed standard output, and a directory and nothing as standard input. Prints a table, and ends with 1 where a run
@@ -31,6 +32,7 @@ extern void *__libc_realloc(void *block, size_t size);
 enum kind { ALLOCATION, READ, WRITE, KINDS };
 static const char *const names[KINDS] = {"allocation", "read", "write"};
 static long calls[KINDS], failing[KINDS];
+static size_t refused, next;
 static int counting;
 
 __attribute__((constructor)) static void begin(void) {
@@ -45,7 +47,7 @@ __attribute__((destructor)) static void end(void) {
     const char *path = getenv("COUNTS");
     FILE *file = path ? fopen(path, "w") : NULL;
     if (!file) return;
-    fprintf(file, "%ld %ld %ld\n", calls[ALLOCATION], calls[READ], calls[WRITE]);
+    fprintf(file, "%ld %ld %ld %zu %zu\n", calls[ALLOCATION], calls[READ], calls[WRITE], refused, next);
     fclose(file);
 }
 
@@ -57,9 +59,17 @@ static int fails(enum kind kind, int error) {
 
 static size_t least(size_t a, size_t b) { return a < b ? a : b; }
 
-void *malloc(size_t size) { return fails(ALLOCATION, ENOMEM) ? NULL : __libc_malloc(size); }
+// Whether an allocation fails; then its size is kept, and that of the next one.
+static int is_refused(size_t size) {
+    if (counting && refused && !next) next = size;
+    int is = fails(ALLOCATION, ENOMEM);
+    if (is) refused = size;
+    return is;
+}
 
-void *realloc(void *block, size_t size) { return fails(ALLOCATION, ENOMEM) ? NULL : __libc_realloc(block, size); }
+void *malloc(size_t size) { return is_refused(size) ? NULL : __libc_malloc(size); }
+
+void *realloc(void *block, size_t size) { return is_refused(size) ? NULL : __libc_realloc(block, size); }
 
 ssize_t read(int file, void *bytes, size_t count) {
     if (file == 0 && fails(READ, EIO)) return -1;
@@ -94,9 +104,11 @@ with_failing() {
     status=$?
 }
 
-# The same of a failed allocation: status 7 with nothing written, or the whole answer where it was made good.
+# The same of a failed allocation: status 7 with nothing written; or the whole answer, where it was made good by asking again for as much or
+# less.
 compare_allocation() {
-    if [ "$status" -eq "$answer" ] && cmp -s "$work/whole" "$work/out"; then
+    read -r _ _ _ refused again <"$work/counts" || stop "$name: the calls weren't counted"
+    if [ "$status" -eq "$answer" ] && [ "$again" -gt 0 ] && [ "$again" -le "$refused" ] && cmp -s "$work/whole" "$work/out"; then
         made_good=$((made_good + 1))
     else
         compare "$1" 7 0
@@ -132,7 +144,7 @@ try() {
     compare "with nothing failing" "$answer" "$length"
     with_failing none 0 "$@"
     compare "in short reads and writes" "$answer" "$length"
-    read -r allocations reads writes <"$work/counts" || stop "$name: the calls weren't counted"
+    read -r allocations reads writes _ <"$work/counts" || stop "$name: the calls weren't counted"
     each allocation "$allocations" 7 0 "$@"
     each read "$reads" 5 0 "$@"
     each write "$writes" 6 10 "$@"
