@@ -9,3 +9,4 @@ mod GeneratorLemmas
 mod PolicyLemmas
 mod SpellingLemmas
 mod DecodingLemmas
+mod PolicyTells

@@ -4,9 +4,13 @@ use Rattle.std.specs.Prelude.{Option}
 use Rattle.std.specs.Io.KnownBytes.{Appends}
 use Rattle.def_script.specs.Bytes.{Bytes}
 use Rattle.def_tree.specs.Tree.{Tree}
+use Rattle.def_tree.specs.Range.{IsWritable}
+use Rattle.def_text.proofs.SpelledInRange.{spelled_in_range}
+use Rattle.def_sane.specs.Unfit.{IsSane}
 use Rattle.def_policy.specs.Policy.{Policy}
 use Rattle.def_policy.specs.Keys.{AreLeastKeys}
 use Rattle.def_policy.specs.Print.{printed}
+use Rattle.ms_policy_laws.proofs.Satisfied.{policy_of_sane}
 use Rattle.def_answer.specs.Answer.{policy_reply, Answer}
 use Rattle.def_answer.specs.LeastKeys.{least_keys}
 use Rattle.def_answer.specs.Lines.{line}
@@ -51,11 +55,12 @@ answer call tree asked = record {
   );
 }
 
-prints : (call : Call) (tree : Tree) (report : Bytes) → report ≡ policy_report tree → Appends call.sink.old call.sink.new report → PrintsPolicy call.sink tree
+prints : (call : Call) (tree : Tree) (report : Bytes) → IsWritable tree → IsSane tree → report ≡ policy_report tree → Appends call.sink.old call.sink.new report → PrintsPolicy call.sink tree
 unfolding policy_report
-prints call tree report is written = record {
+prints call tree report writes sane is written = record {
   least = least_keys (policy_of tree);
   is_least = least_keys_are_least (policy_of tree);
+  satisfiable = policy_of_sane tree writes sane;
   written = subst (Appends call.sink.old call.sink.new) is written;
 }
 
@@ -67,7 +72,8 @@ shows_policy call utf8 e tree asked =
     go (inl (report, h, w)) is =
         let told = told_answer call.words call.source [] call.status report (inl (unread call tree asked)) h in
         let same = one_to_words call.words [] (reply call.status report) (reply status.Done (policy_report tree)) utf8 told.replies (answer call tree asked).replies in
-        prints call tree report (ap (λ (r : Reply). r.report) same) w
+        let writes = (spelled_in_range asked.text tree asked.offsets (utf8 _ asked.form) asked.reads).writable in
+        prints call tree report writes asked.sane (ap (λ (r : Reply). r.report) same) w
     go (inr (inl w)) is = absurd (cc (sym w.0 ∙ is))
     go (inr (inr (inl r))) is = absurd (cc (sym r.0 ∙ is))
     go (inr (inr (inr m))) is = absurd (cc (sym m.0 ∙ is))

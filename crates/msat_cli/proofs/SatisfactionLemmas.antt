@@ -91,7 +91,7 @@ second_of_two true r s e = cc e
 second_of_two false r s e = refl
 
 -- the reply to a short file that is read
-read_reply : (choose : Tree → Assets → Option (List Bytes)) (source : Bytes) (tree : Tree) (assets : Assets) → length source ≤ MOST_FILE
+pub read_reply : (choose : Tree → Assets → Option (List Bytes)) (source : Bytes) (tree : Tree) (assets : Assets) → length source ≤ MOST_FILE
     → assets_of source ≡ Ok assets → satisfy_reply choose source tree ≡ chosen_reply tree assets (choose tree assets)
 read_reply choose source tree assets short file =
     second_of_two (nat_lt MOST_FILE (length source)) _ _ (le-ltb MOST_FILE (length source) short)

@@ -70,21 +70,22 @@ fn other_scripts_have_no_reading(rt: HostRuntime) -> Result<(), Fail> {
     Ok(())
 }
 
+/// These words after `decode` are no stated form.
+fn is_no_form(rt: &impl Abort, alloc: Global, script: &str, keys: &[&str]) -> Result<(), Fail> {
+    let (status, report) = asked(alloc, script, keys)?;
+    assert_eq!(rt; status, Status::Usage);
+    assert_eq!(rt; report.as_str(), "refused usage\n");
+    Ok(())
+}
+
 #[test]
 fn decode_takes_digits_and_keys(rt: HostRuntime) -> Result<(), Fail> {
     let alloc = rt.alloc();
-    let words: [(&str, &[&str]); 5] = [
-        ("5", &[]),
-        ("5g", &[]),
-        ("51", &["02"]),
-        ("51", &["A", ""]),
-        ("51", &["X"]),
-    ];
-    for (script, keys) in words {
-        let (status, report) = asked(alloc, script, keys)?;
-        assert_eq!(rt; status, Status::Usage);
-        assert_eq!(rt; report.as_str(), "refused usage\n");
-    }
+    is_no_form(&rt, alloc, "5", &[])?;
+    is_no_form(&rt, alloc, "5g", &[])?;
+    is_no_form(&rt, alloc, "51", &["02"])?;
+    is_no_form(&rt, alloc, "51", &["A", ""])?;
+    is_no_form(&rt, alloc, "51", &["X"])?;
     let (status, report) = satisfied(alloc, &["decode"], b"{}", 1, &[0])?;
     assert_eq!(rt; status, Status::Usage);
     assert_eq!(rt; report.as_str(), "refused usage\n");

@@ -1,8 +1,9 @@
-//! The top call where nothing fails.
+//! The top call where nothing fails, and what a policy tells of satisfactions.
 ghost use Rattle.std.specs.Prelude.{◌≡◌, ◌⊎◌, ℕ, List, Some};
 ghost use Rattle.def_answer.specs.Answer.{Answer};
 ghost use Rattle.def_answer.specs.Sources.{ReadsSource};
 ghost use Rattle.def_answer.specs.Words.{HasNoForm};
+ghost use Rattle.msat_cli.specs.Policies.{TellsSatisfied};
 ghost use Rattle.msat_cli.specs.Sides.{ReadsFront};
 
 use crate::program::msat;
@@ -26,3 +27,9 @@ pub fn msat_without_faults(
 {
     msat(alloc, words, source, sink)
 }
+
+/// The policy that `policy TEXT` prints is true of what a file holds exactly where `satisfy TEXT` finds a satisfaction
+/// with that file.
+pub fn policy_tells_satisfied()
+    ensures { TellsSatisfied }
+{}

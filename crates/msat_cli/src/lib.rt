@@ -3,7 +3,7 @@
 
 pub use def_answer::Status;
 pub use generator::generated;
-pub use laws::msat_without_faults;
+pub use laws::{msat_without_faults, policy_tells_satisfied};
 pub use program::msat;
 pub use word::Word;
 

@@ -6,7 +6,8 @@ use std::test::Fail;
 
 /// Asks for the policy of a text, which stands in the letters of `filled`, over a source of which each read fails.
 fn asked(alloc: Global, text: &str) -> Result<(Status, String), Fail> {
-    satisfied(alloc, &["policy", &filled(alloc, text)?], b"{}", 1, &[0])
+    let text = filled(alloc, text)?;
+    satisfied(alloc, &["policy", text.as_str()], b"{}", 1, &[0])
 }
 
 /// Compares the policy of a text and the number of its keys.
