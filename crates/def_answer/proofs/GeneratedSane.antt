@@ -16,6 +16,7 @@ use Rattle.def_sane.specs.Limits.{opcode_count}
 use Rattle.def_sane.specs.Locks.{mix}
 use Rattle.def_sane.specs.Keys.{repeated_key}
 use Rattle.def_sane.specs.Most.{both, either, most_sat, most_dsat, most_parts, number_of, limits_of}
+use Rattle.def_sane.specs.declared.Rules.TheVariants.{Policy}
 use Rattle.def_sane.specs.declared.Unfit.{Unfit}
 use Rattle.def_sane.specs.declared.Unfit.TheVariants as unfit
 use Rattle.def_sane.specs.Unfit.{broken_rule, wrong_top, too_large, too_many_ops, too_many_items, malleable, no_signature, mixed_locks, repeated, first_reason, first_unfit_valid, IsSane}
@@ -167,8 +168,8 @@ sane_tree tree m e takes few =
     let codes : opcode_count (emit tree) ≤ 201 = leb-true (opcode_count (emit tree)) 201 p5.1 in
     let ops : (limits_of tree).ops ≤ 201 = let keys = items.1 in omega (arith, codes, keys) in
     let valid = none_first
-    (broken_rule (corr tree) ∷ wrong_top (corr tree) ∷ too_large (limits_of tree) ∷ too_many_ops (limits_of tree)
-    ∷ too_many_items (limits_of tree) ∷ []) (
+    (broken_rule (corr tree) ∷ wrong_top (corr tree) ∷ too_large Policy (limits_of tree) ∷ too_many_ops (limits_of tree)
+    ∷ too_many_items Policy (limits_of tree) ∷ []) (
       typed.0,
       (
         typed.1,

@@ -8,6 +8,7 @@ use Rattle.std.proofs.lemmas.Bool.{false≢true}
 use Rattle.def_script.specs.Bytes.{Bytes, IsBytes}
 use Rattle.def_machine.specs.Samples.{key_a, key_b, sig_a, sig_b}
 use Rattle.def_machine.specs.Stacks.{Stack, Pairs, member, is_empty}
+use Rattle.def_types.specs.Typed.{IsTyped}
 use Rattle.def_types.proofs.Rows.{corr_rows, mall_rows}
 use Rattle.def_machine.specs.Run.{run, accepted}
 use Rattle.def_tree.specs.Tree.{Tree, hash}
@@ -16,6 +17,9 @@ use Rattle.def_types.specs.Samples.{pk, or_i, sha256 as sha256_of}
 use Rattle.def_emit.specs.Emit.{script_of}
 use Rattle.def_assets.specs.Assets.{Assets, AreAssets, IsSignature, IsPreimage, known}
 use Rattle.def_sane.proofs.Greatest.{limits_are_computed}
+use Rattle.def_sane.specs.declared.Rules.TheVariants.{Consensus}
+use Rattle.def_sane.proofs.Meanings.{valid_means_under}
+use Rattle.def_height.proofs.Found.{height_is_unique}
 use Rattle.def_satisfaction.specs.Rows.{EMPTY, IsNoPreimageOf, row}
 use Rattle.def_satisfaction.specs.Setting.{any, only}
 use Rattle.def_satisfaction.specs.Satisfaction.{given_of, Sat, FullSat, full}
@@ -81,6 +85,10 @@ run_by_key : run (given_of keys_and_preimages) (script_of key_and_key_or_hashes)
 unfolding computing
 run_by_key = refl
 
+has_type : IsTyped key_and_key_or_hashes
+unfolding computing corr_rows mall_rows
+has_type = let means = (valid_means_under Consensus key_and_key_or_hashes).0 refl in means.0
+
 pub acceptance_is_met : AcceptanceIsMet
 unfolding computing corr_rows mall_rows
 acceptance_is_met =
@@ -101,6 +109,7 @@ acceptance_is_met =
         few_ops = omega arith;
         few_items = omega arith;
         light = omega arith;
+        low = λ height is. let e : height ≡ 6 = height_is_unique key_and_key_or_hashes has_type height is in omega (arith, e);
       };
     }
 

@@ -10,14 +10,16 @@ use Rattle.def_emit.specs.Emit.{script_of}
 use Rattle.def_assets.specs.Assets.{Assets, AreAssets}
 use Rattle.def_sane.specs.declared.Limits.{Limits}
 use Rattle.def_sane.specs.Limits.{AreLimits}
-use Rattle.def_sane.specs.Unfit.{IsValid}
+use Rattle.def_sane.specs.declared.Rules.TheVariants.{Consensus}
+use Rattle.def_sane.specs.Unfit.{IsValidUnder}
+use Rattle.def_height.specs.Height.{IsHeight}
 use Rattle.def_satisfaction.specs.Weight.{weight}
 use Rattle.def_satisfaction.specs.Setting.{any}
 use Rattle.def_satisfaction.specs.Satisfaction.{Sat, FullSat, Holds}
 use Rattle.def_choice.specs.NonMalleable.{IsAccepted, given_with}
 use Rattle.def_promises.specs.Limited.{StopsAtLimit}
 
--- the run is accepted, and takes no more than the limits
+-- the run is accepted, it takes no more than the limits, and both stacks together never hold more than the height
 pub record IsAcceptedWithin (tree : Tree) (limits : Limits) (given : Given) (stack : List Bytes) : Type 0 where
   pub ops : ℕ
   pub peak : ℕ
@@ -26,12 +28,14 @@ pub record IsAcceptedWithin (tree : Tree) (limits : Limits) (given : Given) (sta
   pub few_ops : ops ≤ limits.ops
   pub few_items : length stack ≤ limits.items
   pub light : weight stack ≤ limits.weight
+  pub low : (height : ℕ) → IsHeight tree height → peak ≤ height
 
--- a canonical satisfaction is accepted within the limits, under every table that holds the assets' pairs
+-- a canonical satisfaction of a miniscript that is valid under consensus, and so of one that is under policy, is accepted
+-- within its limits and its height, under every table that holds the assets' pairs
 abbrev pub CanonicalIsAccepted : Type 0
 CanonicalIsAccepted =
     (tree : Tree) (limits : Limits) (assets : Assets) (table : Pairs) (stack : List Bytes) →
-    IsWritable tree → IsValid tree → AreLimits tree limits → AreAssets assets → Holds table assets →
+    IsWritable tree → IsValidUnder Consensus tree → AreLimits tree limits → AreAssets assets → Holds table assets →
     Sat tree assets stack →
     IsAcceptedWithin tree limits (given_with assets table) stack
 
@@ -44,6 +48,6 @@ pub record Inversion (tree : Tree) : Type 0 where
       (given : Given) (stack : List Bytes) → FullSat tree given any stack →
       ((checks : Pairs) × IsAccepted tree given stack checks) ⊎ StopsAtLimit tree given stack
 
--- of every valid miniscript
+-- of every miniscript that is valid under consensus
 abbrev pub InversionHolds : Type 0
-InversionHolds = (tree : Tree) → IsWritable tree → IsValid tree → Inversion tree
+InversionHolds = (tree : Tree) → IsWritable tree → IsValidUnder Consensus tree → Inversion tree

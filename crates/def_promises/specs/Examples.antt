@@ -17,7 +17,8 @@ use Rattle.def_assets.specs.Assets.{Assets, AreAssets}
 use Rattle.def_sane.specs.declared.Limits.{Limits}
 use Rattle.def_sane.specs.Limits.{AreLimits}
 use Rattle.def_tree.specs.Nodes.{all_nodes}
-use Rattle.def_sane.specs.Unfit.{IsValid, IsSane}
+use Rattle.def_sane.specs.declared.Rules.TheVariants.{Consensus}
+use Rattle.def_sane.specs.Unfit.{IsValidUnder, IsSaneUnder}
 use Rattle.def_satisfaction.specs.Setting.{any}
 use Rattle.def_satisfaction.specs.Rows.{EMPTY, ONE}
 use Rattle.def_satisfaction.specs.Satisfaction.{given_of, Sat, FullSat, FullDsat, Holds}
@@ -41,7 +42,7 @@ limits = record { size = 190; ops = 17; items = 5; weight = 174 }
 -- of acceptance, with what is promised
 pub record AcceptanceIsMet : Type 0 where
   pub writable : IsWritable key_and_key_or_hashes
-  pub valid : IsValid key_and_key_or_hashes
+  pub valid : IsValidUnder Consensus key_and_key_or_hashes
   pub are_limits : AreLimits key_and_key_or_hashes limits
   pub assets : AreAssets keys_and_preimages
   pub holds : Holds keys_and_preimages.pairs keys_and_preimages
@@ -52,7 +53,7 @@ pub record AcceptanceIsMet : Type 0 where
 -- of the strict choice: the miniscript is sane, there is a strict choice, and another stack is accepted,
 -- which passes a check more
 pub record StrictIsMet : Type 0 where
-  pub sane : IsSane key_and_key_or_hashes
+  pub sane : IsSaneUnder Consensus key_and_key_or_hashes
   pub chosen : strict key_and_key_or_hashes keys_and_preimages ≡ Some by_preimages
   pub checks : Pairs
   pub accepted : IsAccepted key_and_key_or_hashes (given_of keys_and_preimages) by_preimages checks
@@ -84,7 +85,7 @@ given_a = given_of (with_preimages [] (pair_a ∷ []))
 -- a node of a valid miniscript has this type and these properties
 pub record HasLetters (tree node : Tree) (ty : Ty) (properties : Mall) : Type 0 where
   pub writable : IsWritable tree
-  pub valid : IsValid tree
+  pub valid : IsValidUnder Consensus tree
   pub among : Contains (all_nodes tree) node
   pub corr : corr node ≡ Ok ty
   pub mall : mall node ≡ Ok properties

@@ -1,5 +1,6 @@
 -- What the letters of a type mean (BIP 379: z, o, n, d, u of correctness; s, f, e of malleability), over all
--- satisfactions and dissatisfactions of each node of a valid miniscript, as a miniscript of its own.
+-- satisfactions and dissatisfactions of each node of a valid miniscript, as a miniscript of its own. What is valid
+-- by the limits of policy is so by those of consensus.
 use Rattle.std.specs.Prelude.{◌≡◌, ℕ, ◌≤◌, ◌⊎◌, IsTrue, false, List, [], ◌∷◌, ◌++◌, length, reverse, All, Contains, Ok}
 use Rattle.def_hash.specs.declared.HashKind.{HashKind}
 use Rattle.def_script.specs.Bytes.{Bytes, IsBytes}
@@ -16,7 +17,8 @@ use Rattle.def_types.specs.Corr.{corr}
 use Rattle.def_types.specs.Malleable.{mall}
 use Rattle.def_assets.specs.Assets.{Assets, known}
 use Rattle.def_tree.specs.Nodes.{all_nodes}
-use Rattle.def_sane.specs.Unfit.{IsValid}
+use Rattle.def_sane.specs.declared.Rules.TheVariants.{Consensus}
+use Rattle.def_sane.specs.Unfit.{IsValidUnder}
 use Rattle.def_satisfaction.specs.Setting.{Mode, any, only}
 use Rattle.def_satisfaction.specs.Rows.{ONE, IsNoPreimageOf}
 use Rattle.def_satisfaction.specs.Satisfaction.{Dsat, FullSat, FullDsat}
@@ -114,6 +116,6 @@ pub record Letters (tree : Tree) : Type 0 where
       (node : Tree) (properties : Mall) → Contains (all_nodes tree) node → mall node ≡ Ok properties →
       MallLetters node properties
 
--- of every valid miniscript
+-- of every miniscript that is valid under consensus
 abbrev pub LettersHold : Type 0
-LettersHold = (tree : Tree) → IsWritable tree → IsValid tree → Letters tree
+LettersHold = (tree : Tree) → IsWritable tree → IsValidUnder Consensus tree → Letters tree

@@ -1,5 +1,6 @@
 -- What is promised of the strict choice, beside the laws of choices: that it exists wherever it can, that nobody
--- can change it, and that no lighter one can't be changed either.
+-- can change it, and that no lighter one can't be changed either. It is promised of every miniscript that is sane by
+-- the limits of consensus, and so of each that is sane by those of policy.
 use Rattle.std.specs.Prelude.{◌≡◌, ◌≢◌, ◌↔◌, ◌≤◌, ◌⊎◌, IsTrue, List, Contains, Some, None}
 use Rattle.def_hash.specs.declared.HashKind.{HashKind}
 use Rattle.def_hash.specs.Hash.{hash160}
@@ -9,7 +10,8 @@ use Rattle.def_tree.specs.Tree.{Tree, Key, pk_h, hash}
 use Rattle.def_tree.specs.Range.{IsWritable}
 use Rattle.def_assets.specs.Assets.{Assets, AreAssets, known}
 use Rattle.def_tree.specs.Nodes.{all_nodes}
-use Rattle.def_sane.specs.Unfit.{IsSane}
+use Rattle.def_sane.specs.declared.Rules.TheVariants.{Consensus}
+use Rattle.def_sane.specs.Unfit.{IsSaneUnder}
 use Rattle.def_satisfaction.specs.Weight.{weight}
 use Rattle.def_satisfaction.specs.Rows.{IsPreimageOf}
 use Rattle.def_satisfaction.specs.Satisfaction.{Sat, Holds}
@@ -64,28 +66,28 @@ UnchangeableIsNonMalleable =
 abbrev pub StrictExists : Type 0
 StrictExists =
     (tree : Tree) (assets : Assets) →
-    IsWritable tree → IsSane tree → AreAssets assets →
+    IsWritable tree → IsSaneUnder Consensus tree → AreAssets assets →
     ((stack : List Bytes) × (strict tree assets ≡ Some stack)) ↔ ((stack : List Bytes) × Sat tree assets stack)
 
 -- nobody can change it
 abbrev pub StrictIsNonMalleable : Type 0
 StrictIsNonMalleable =
     (tree : Tree) (assets : Assets) (stack : List Bytes) →
-    IsWritable tree → IsSane tree → AreAssets assets →
+    IsWritable tree → IsSaneUnder Consensus tree → AreAssets assets →
     strict tree assets ≡ Some stack → NonMalleable tree assets stack
 
 -- and every other stack that is accepted shows what it has
 abbrev pub StrictIsUnchangeable : Type 0
 StrictIsUnchangeable =
     (tree : Tree) (assets : Assets) (stack : List Bytes) →
-    IsWritable tree → IsSane tree → AreAssets assets →
+    IsWritable tree → IsSaneUnder Consensus tree → AreAssets assets →
     strict tree assets ≡ Some stack → Unchangeable tree assets stack
 
 -- where there is none, every stack that is accepted under the assets' own pairs is fresh
 abbrev pub NothingToAccept : Type 0
 NothingToAccept =
     (tree : Tree) (assets : Assets) (stack : List Bytes) (checks : Pairs) →
-    IsWritable tree → IsSane tree → AreAssets assets →
+    IsWritable tree → IsSaneUnder Consensus tree → AreAssets assets →
     strict tree assets ≡ None →
     IsAccepted tree (given_with assets assets.pairs) stack checks →
     Fresh tree assets assets.pairs stack
@@ -94,7 +96,7 @@ NothingToAccept =
 abbrev pub TightIsNonMalleable : Type 0
 TightIsNonMalleable =
     (tree : Tree) (assets : Assets) (stack : List Bytes) →
-    IsWritable tree → IsSane tree → AreAssets assets →
+    IsWritable tree → IsSaneUnder Consensus tree → AreAssets assets →
     Sat tree assets stack →
     NonMalleable tree assets stack ↔ Tight tree assets stack
 
@@ -102,13 +104,13 @@ TightIsNonMalleable =
 abbrev pub TightIsUnchangeable : Type 0
 TightIsUnchangeable =
     (tree : Tree) (assets : Assets) (stack : List Bytes) →
-    IsWritable tree → IsSane tree → AreAssets assets →
+    IsWritable tree → IsSaneUnder Consensus tree → AreAssets assets →
     Sat tree assets stack → Tight tree assets stack → Unchangeable tree assets stack
 
 -- the strict choice weighs no more than any canonical satisfaction that can't be changed
 abbrev pub StrictIsLightest : Type 0
 StrictIsLightest =
     (tree : Tree) (assets : Assets) (other : List Bytes) →
-    IsWritable tree → IsSane tree → AreAssets assets →
+    IsWritable tree → IsSaneUnder Consensus tree → AreAssets assets →
     Sat tree assets other → NonMalleable tree assets other →
     (stack : List Bytes) × (strict tree assets ≡ Some stack) × (weight stack ≤ weight other)

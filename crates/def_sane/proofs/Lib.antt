@@ -7,5 +7,6 @@ pub mod Repeating
 pub mod Meanings
 pub mod Computed
 pub mod Refused
+pub mod Allowed
 pub mod FirstNodes
 pub mod Translated

@@ -1,6 +1,7 @@
 -- What it means that none of the reasons applies.
-use Rattle.std.proofs.Common.{◌≡◌, ℕ, ◌≤◌, Bool, true, false, nat_lt, List, ◌∷◌, Option, Some, None, Result, Ok, Err, IsTrue, refl, ◌∙◌, ap, subst, if◌then◌else◌}
+use Rattle.std.proofs.Common.{◌≡◌, ◌↔◌, ℕ, ◌≤◌, Bool, true, false, nat_lt, List, ◌∷◌, Option, Some, None, Result, Ok, Err, IsTrue, refl, ◌∙◌, ap, subst, if◌then◌else◌, arith}
 use Rattle.std.proofs.lemmas.Bool.{ltb-false, le-ltb}
+use Rattle.def_tree.specs.Tree.{Tree}
 use Rattle.def_types.specs.declared.Base.{Base}
 use Rattle.def_types.specs.declared.Base.TheVariants.{B, V, K, W}
 use Rattle.def_types.specs.declared.Ty.{Ty}
@@ -10,12 +11,14 @@ use Rattle.def_types.specs.Corr.{is_b, corr}
 use Rattle.def_types.specs.Malleable.{mall}
 use Rattle.def_types.specs.Typed.{type_of, IsTyped, mall_of, IsNonMalleable}
 use Rattle.def_types.proofs.Typing.{corr_is_typed, mall_is_non_malleable}
+use Rattle.def_sane.specs.declared.Rules.{Rules}
+use Rattle.def_sane.specs.declared.Rules.TheVariants.{Policy, Consensus}
 use Rattle.def_sane.specs.declared.Unfit.{Unfit}
 use Rattle.def_sane.specs.Most.{limits_of}
 use Rattle.def_sane.specs.Locks.{mix}
 use Rattle.def_sane.specs.Keys.{keys, AreDistinct, repeated_key}
-use Rattle.def_sane.specs.Unfit.{MOST_SIZE, MOST_OPS, MOST_ITEMS, broken_rule, wrong_top, malleable, no_signature, mixed_locks, repeated, first_reason, IsValid, IsSane}
-use Rattle.def_sane.specs.Laws.{ValidMeans, SaneMeans}
+use Rattle.def_sane.specs.Unfit.{size_limit, are_too_many, MOST_SIZE, MOST_OPS, MOST_ITEMS, broken_rule, wrong_top, malleable, no_signature, mixed_locks, repeated, first_reason, IsValidUnder, IsSaneUnder, IsValid, IsSane}
+use Rattle.def_sane.specs.Laws.{AreFewItems, ValidMeans, SaneMeans, ValidUnderConsensus, SaneUnderConsensus}
 use Rattle.def_sane.proofs.FirstRepeat.{none_is_repeated}
 
 -- a list without a reason, first by first
@@ -36,6 +39,25 @@ within_bound most n reason e = go (nat_lt most n) refl e
 
 bound_within : (most n : ℕ) (reason : Unfit) → n ≤ most → (if nat_lt most n then Some reason else None) ≡ None
 bound_within most n reason h = rw (le-ltb most n h)
+
+-- the items
+pub few_items : (rules : Rules) (items : ℕ) → are_too_many rules items ≡ false → AreFewItems rules items
+few_items Policy items e = ltb-false MOST_ITEMS items e
+few_items Consensus items e = tt
+
+not_too_many : (rules : Rules) (items : ℕ) → AreFewItems rules items → are_too_many rules items ≡ false
+not_too_many Policy items h = le-ltb MOST_ITEMS items h
+not_too_many Consensus items h = refl
+
+items_within : (rules : Rules) (items : ℕ) (reason : Unfit) → (if are_too_many rules items then Some reason else None) ≡ None → AreFewItems rules items
+items_within rules items reason e = few_items rules items (go (are_too_many rules items) e)
+  where
+    go : (b : Bool) → (if b then Some reason else None) ≡ None → b ≡ false
+    go true e = cc
+    go false e = refl
+
+within_items : (rules : Rules) (items : ℕ) (reason : Unfit) → AreFewItems rules items → (if are_too_many rules items then Some reason else None) ≡ None
+within_items rules items reason h = let e = not_too_many rules items h in rw e refl
 
 b_from_test : (base : Base) → is_b base ≡ true → base ≡ B
 b_from_test B e = refl
@@ -58,10 +80,10 @@ b_from_none ty e = b_from_test ty.base (go (is_b ty.base) e)
 wrong_top-b : (ty : Ty) → ty.base ≡ B → wrong_top (Ok ty) ≡ None
 wrong_top-b ty e = rw e
 
-pub valid_means : ValidMeans
-valid_means tree = (forth, back)
+pub valid_means_under : ValidMeans
+valid_means_under rules tree = (forth, back)
   where
-    forth : IsValid tree → IsTyped tree × ((type_of tree).base ≡ B) × ((limits_of tree).size ≤ MOST_SIZE) × ((limits_of tree).ops ≤ MOST_OPS) × ((limits_of tree).items ≤ MOST_ITEMS)
+    forth : IsValidUnder rules tree → IsTyped tree × ((type_of tree).base ≡ B) × ((limits_of tree).size ≤ size_limit rules) × ((limits_of tree).ops ≤ MOST_OPS) × AreFewItems rules (limits_of tree).items
     forth valid =
         let one = no_reason _ _ valid in
         let two = no_reason _ _ one.1 in
@@ -73,19 +95,24 @@ valid_means tree = (forth, back)
         let base : typed.0.base ≡ B = b_from_none typed.0 (subst (λ r. wrong_top r ≡ None) typed.1 two.0) in (
           known.0,
           subst (λ (ty : Ty). ty.base ≡ B) known.1 base,
-          within_bound MOST_SIZE _ _ three.0,
+          within_bound (size_limit rules) _ _ three.0,
           within_bound MOST_OPS _ _ four.0,
-          within_bound MOST_ITEMS _ _ five.0,
+          items_within rules _ _ five.0,
         )
 
-    back : IsTyped tree × ((type_of tree).base ≡ B) × ((limits_of tree).size ≤ MOST_SIZE) × ((limits_of tree).ops ≤ MOST_OPS) × ((limits_of tree).items ≤ MOST_ITEMS) → IsValid tree
+    back : IsTyped tree × ((type_of tree).base ≡ B) × ((limits_of tree).size ≤ size_limit rules) × ((limits_of tree).ops ≤ MOST_OPS) × AreFewItems rules (limits_of tree).items → IsValidUnder rules tree
     back h =
         let typed : corr tree ≡ Ok (type_of tree) = (corr_is_typed tree (type_of tree)).1 (h.0, refl) in
         none_first _ _ (ap broken_rule typed)
         (none_first _ _ (ap wrong_top typed ∙ wrong_top-b (type_of tree) h.1)
-        (none_first _ _ (bound_within MOST_SIZE _ _ h.2)
+        (none_first _ _ (bound_within (size_limit rules) _ _ h.2)
         (none_first _ _ (bound_within MOST_OPS _ _ h.3)
-        (none_first _ _ (bound_within MOST_ITEMS _ _ h.4) refl))))
+        (none_first _ _ (within_items rules _ _ h.4) refl))))
+
+-- of policy
+pub valid_means : (tree : Tree) →
+    IsValid tree ↔ (IsTyped tree × ((type_of tree).base ≡ B) × ((limits_of tree).size ≤ MOST_SIZE) × ((limits_of tree).ops ≤ MOST_OPS) × ((limits_of tree).items ≤ MOST_ITEMS))
+valid_means = valid_means_under Policy
 
 -- properties, and a top with s
 mall_from_none : (r : Result Mall RuleAt) → malleable r ≡ None → (m : Mall) × (r ≡ Ok m)
@@ -110,10 +137,10 @@ repeat_from_none : (o : Option ℕ) → repeated o ≡ None → o ≡ None
 repeat_from_none None e = refl
 repeat_from_none (Some node) e = cc
 
-pub sane_means : SaneMeans
-sane_means tree = (forth, back)
+pub sane_means_under : SaneMeans
+sane_means_under rules tree = (forth, back)
   where
-    forth : IsSane tree → IsValid tree × IsNonMalleable tree × IsTrue (mall_of tree).s × (mix tree ≡ None) × AreDistinct (keys tree)
+    forth : IsSaneUnder rules tree → IsValidUnder rules tree × IsNonMalleable tree × IsTrue (mall_of tree).s × (mix tree ≡ None) × AreDistinct (keys tree)
     forth sane =
         let one = no_reason _ _ sane in
         let two = no_reason _ _ one.1 in
@@ -130,7 +157,7 @@ sane_means tree = (forth, back)
           (none_is_repeated tree).0 (repeat_from_none (repeated_key tree) five.0),
         )
 
-    back : IsValid tree × IsNonMalleable tree × IsTrue (mall_of tree).s × (mix tree ≡ None) × AreDistinct (keys tree) → IsSane tree
+    back : IsValidUnder rules tree × IsNonMalleable tree × IsTrue (mall_of tree).s × (mix tree ≡ None) × AreDistinct (keys tree) → IsSaneUnder rules tree
     back h =
         let typed : mall tree ≡ Ok (mall_of tree) = (mall_is_non_malleable tree (mall_of tree)).1 (h.1, refl) in
         none_first _ _ h.0
@@ -138,3 +165,24 @@ sane_means tree = (forth, back)
         (none_first _ _ (ap no_signature typed ∙ no_signature-s (mall_of tree) h.2)
         (none_first _ _ (ap mixed_locks h.3)
         (none_first _ _ (ap repeated ((none_is_repeated tree).1 h.4)) refl))))
+
+-- of policy
+pub sane_means : (tree : Tree) →
+    IsSane tree ↔ (IsValid tree × IsNonMalleable tree × IsTrue (mall_of tree).s × (mix tree ≡ None) × AreDistinct (keys tree))
+sane_means = sane_means_under Policy
+
+-- the limits of consensus are the widest
+size_limits : (rules : Rules) → size_limit rules ≤ size_limit Consensus
+size_limits Policy = omega arith
+size_limits Consensus = omega arith
+
+pub valid_under_consensus : ValidUnderConsensus
+valid_under_consensus rules tree valid =
+    let means = (valid_means_under rules tree).0 valid in
+    let size = size_limits rules in
+    (valid_means_under Consensus tree).1 (means.0, means.1, omega (arith, means.2, size), means.3, tt)
+
+pub sane_under_consensus : SaneUnderConsensus
+sane_under_consensus rules tree sane =
+    let means = (sane_means_under rules tree).0 sane in
+    (sane_means_under Consensus tree).1 (valid_under_consensus rules tree means.0, means.1, means.2, means.3, means.4)

@@ -1,14 +1,16 @@
 -- Laws of limits, and of valid and sane miniscripts.
-use Rattle.std.specs.Prelude.{◌≡◌, ◌↔◌, ℕ, ◌<◌, ◌≤◌, None, IsTrue, MatchOption}
+use Rattle.std.specs.Prelude.{◌≡◌, ◌↔◌, ℕ, ◌<◌, ◌≤◌, None, ⊤, IsTrue, MatchOption}
 use Rattle.def_tree.specs.Tree.{Tree}
 use Rattle.def_types.specs.declared.Base.TheVariants.{B}
 use Rattle.def_types.specs.Typed.{type_of, IsTyped, mall_of, IsNonMalleable}
 use Rattle.def_sane.specs.declared.Limits.{Limits}
+use Rattle.def_sane.specs.declared.Rules.{Rules}
+use Rattle.def_sane.specs.declared.Rules.TheVariants.{Policy, Consensus}
 use Rattle.def_sane.specs.Limits.{AreLimits}
 use Rattle.def_sane.specs.Most.{limits_of}
 use Rattle.def_sane.specs.Locks.{Mixes, mix}
 use Rattle.def_sane.specs.Keys.{keys, Repeats, AreDistinct, repeated_key}
-use Rattle.def_sane.specs.Unfit.{MOST_SIZE, MOST_OPS, MOST_ITEMS, IsValid, IsSane}
+use Rattle.def_sane.specs.Unfit.{size_limit, MOST_OPS, MOST_ITEMS, IsValidUnder, IsSaneUnder}
 
 -- the computed limits are limits
 abbrev pub LimitsAreComputed : Type 0
@@ -38,17 +40,29 @@ RepeatedIsFirst =
 abbrev pub NoneIsRepeated : Type 0
 NoneIsRepeated = (tree : Tree) → (repeated_key tree ≡ None) ↔ AreDistinct (keys tree)
 
+-- so few items may be under these rules
+abbrev pub AreFewItems : Rules → (items : ℕ) → Type 0
+AreFewItems Policy items = items ≤ MOST_ITEMS
+AreFewItems Consensus items = ⊤
+
 -- a valid tree is of type B, and within the limits
 abbrev pub ValidMeans : Type 0
 ValidMeans =
-    (tree : Tree) →
-    IsValid tree ↔
-    (IsTyped tree × ((type_of tree).base ≡ B) × ((limits_of tree).size ≤ MOST_SIZE) ×
-    ((limits_of tree).ops ≤ MOST_OPS) × ((limits_of tree).items ≤ MOST_ITEMS))
+    (rules : Rules) (tree : Tree) →
+    IsValidUnder rules tree ↔
+    (IsTyped tree × ((type_of tree).base ≡ B) × ((limits_of tree).size ≤ size_limit rules) ×
+    ((limits_of tree).ops ≤ MOST_OPS) × AreFewItems rules (limits_of tree).items)
 
 -- a sane tree is valid, not malleable and signed, and has no mixed locks and no repeated key
 abbrev pub SaneMeans : Type 0
 SaneMeans =
-    (tree : Tree) →
-    IsSane tree ↔
-    (IsValid tree × IsNonMalleable tree × IsTrue (mall_of tree).s × (mix tree ≡ None) × AreDistinct (keys tree))
+    (rules : Rules) (tree : Tree) →
+    IsSaneUnder rules tree ↔
+    (IsValidUnder rules tree × IsNonMalleable tree × IsTrue (mall_of tree).s × (mix tree ≡ None) × AreDistinct (keys tree))
+
+-- what is valid, or sane, under any rules is so under those of consensus
+abbrev pub ValidUnderConsensus : Type 0
+ValidUnderConsensus = (rules : Rules) (tree : Tree) → IsValidUnder rules tree → IsValidUnder Consensus tree
+
+abbrev pub SaneUnderConsensus : Type 0
+SaneUnderConsensus = (rules : Rules) (tree : Tree) → IsSaneUnder rules tree → IsSaneUnder Consensus tree

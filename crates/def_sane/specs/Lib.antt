@@ -8,4 +8,5 @@ pub mod Unfit
 pub mod Examples
 pub mod FirstNodes
 pub mod Refusals
+pub mod Allowed
 pub mod Scripts

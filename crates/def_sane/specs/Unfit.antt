@@ -1,6 +1,6 @@
 -- Valid and sane miniscripts (BIP 379, with the limits of P2WSH), and the reasons against them in the
--- order in which they are tested.
-use Rattle.std.specs.Prelude.{◌≡◌, ℕ, nat_lt, List, [], ◌∷◌, Option, Some, None, Result, Ok, Err, if◌then◌else◌}
+-- order in which they are tested. Where no rules are named, those of policy are meant.
+use Rattle.std.specs.Prelude.{◌≡◌, ℕ, nat_lt, Bool, false, List, [], ◌∷◌, Option, Some, None, Result, Ok, Err, if◌then◌else◌}
 use Rattle.def_tree.specs.Tree.{Tree}
 use Rattle.def_types.specs.declared.Ty.{Ty}
 use Rattle.def_types.specs.declared.Mall.{Mall}
@@ -8,6 +8,8 @@ use Rattle.def_types.specs.declared.rule.RuleAt.{RuleAt}
 use Rattle.def_types.specs.Corr.{is_b, corr}
 use Rattle.def_types.specs.Malleable.{mall}
 use Rattle.def_sane.specs.declared.Limits.{Limits}
+use Rattle.def_sane.specs.declared.Rules.{Rules}
+use Rattle.def_sane.specs.declared.Rules.TheVariants.{Policy, Consensus}
 use Rattle.def_sane.specs.declared.Unfit.{Unfit}
 use Rattle.def_sane.specs.declared.Unfit.TheVariants as unfit
 use Rattle.def_sane.specs.declared.Valid.{Valid}
@@ -17,16 +19,29 @@ use Rattle.def_sane.specs.Most.{limits_of}
 use Rattle.def_sane.specs.Locks.{mix}
 use Rattle.def_sane.specs.Keys.{repeated_key}
 
--- the most bytes of a Script that is relayed (Bitcoin Core, MAX_STANDARD_P2WSH_SCRIPT_SIZE), opcodes of a
--- Script (MAX_OPS_PER_SCRIPT) and stack items that are relayed (MAX_STANDARD_P2WSH_STACK_ITEMS)
+-- the most bytes of a Script that is relayed (Bitcoin Core, MAX_STANDARD_P2WSH_SCRIPT_SIZE), and of one that
+-- runs (MAX_SCRIPT_SIZE)
 abbrev pub MOST_SIZE : ℕ
 MOST_SIZE = 3600
 
+abbrev pub CONSENSUS_SIZE : ℕ
+CONSENSUS_SIZE = 10000
+
+abbrev pub size_limit : Rules → ℕ
+size_limit Policy = MOST_SIZE
+size_limit Consensus = CONSENSUS_SIZE
+
+-- the most opcodes of a Script (MAX_OPS_PER_SCRIPT)
 abbrev pub MOST_OPS : ℕ
 MOST_OPS = 201
 
+-- the most stack items that are relayed (MAX_STANDARD_P2WSH_STACK_ITEMS); consensus has no such limit
 abbrev pub MOST_ITEMS : ℕ
 MOST_ITEMS = 100
+
+abbrev pub are_too_many : Rules → (items : ℕ) → Bool
+are_too_many Policy items = nat_lt MOST_ITEMS items
+are_too_many Consensus items = false
 
 -- 1: a correctness requirement fails; the first
 abbrev pub broken_rule : Result Ty RuleAt → Option Unfit
@@ -39,14 +54,14 @@ wrong_top (Ok ty) = if is_b ty.base then None else Some unfit.TopNotB
 wrong_top (Err at) = None
 
 -- 3, 4, 5: the size, the opcodes or the items are over their limit
-abbrev pub too_large : Limits → Option Unfit
-too_large limits = if nat_lt MOST_SIZE limits.size then Some (unfit.Size limits.size) else None
+abbrev pub too_large : Rules → Limits → Option Unfit
+too_large rules limits = if nat_lt (size_limit rules) limits.size then Some (unfit.Size limits.size) else None
 
 abbrev pub too_many_ops : Limits → Option Unfit
 too_many_ops limits = if nat_lt MOST_OPS limits.ops then Some (unfit.Ops limits.ops) else None
 
-abbrev pub too_many_items : Limits → Option Unfit
-too_many_items limits = if nat_lt MOST_ITEMS limits.items then Some (unfit.Items limits.items) else None
+abbrev pub too_many_items : Rules → Limits → Option Unfit
+too_many_items rules limits = if are_too_many rules limits.items then Some (unfit.Items limits.items) else None
 
 -- 6: a malleability requirement fails; the first
 abbrev pub malleable : Result Mall RuleAt → Option Unfit
@@ -75,32 +90,50 @@ first_reason (None ∷ rest) = first_reason rest
 first_reason (Some reason ∷ rest) = Some reason
 
 -- the first reason of 1 to 5
-abbrev pub first_unfit_valid : Tree → Option Unfit
-first_unfit_valid tree =
+abbrev pub first_unfit_valid_under : Rules → Tree → Option Unfit
+first_unfit_valid_under rules tree =
     let limits = limits_of tree in
     first_reason (
     broken_rule (corr tree) ∷ wrong_top (corr tree) ∷
-    too_large limits ∷ too_many_ops limits ∷ too_many_items limits ∷ [])
+    too_large rules limits ∷ too_many_ops limits ∷ too_many_items rules limits ∷ [])
+
+abbrev pub first_unfit_valid : Tree → Option Unfit
+first_unfit_valid tree = first_unfit_valid_under Policy tree
 
 -- the first reason of 1 to 9
-abbrev pub first_unfit : Tree → Option Unfit
-first_unfit tree =
+abbrev pub first_unfit_under : Rules → Tree → Option Unfit
+first_unfit_under rules tree =
     first_reason (
-    first_unfit_valid tree ∷ malleable (mall tree) ∷ no_signature (mall tree) ∷
+    first_unfit_valid_under rules tree ∷ malleable (mall tree) ∷ no_signature (mall tree) ∷
     mixed_locks (mix tree) ∷ repeated (repeated_key tree) ∷ [])
 
+abbrev pub first_unfit : Tree → Option Unfit
+first_unfit tree = first_unfit_under Policy tree
+
 -- none of 1 to 5 applies
+abbrev pub IsValidUnder : Rules → Tree → Type 0
+IsValidUnder rules tree = first_unfit_valid_under rules tree ≡ None
+
 abbrev pub IsValid : Tree → Type 0
-IsValid tree = first_unfit_valid tree ≡ None
+IsValid tree = IsValidUnder Policy tree
 
 -- none of 1 to 9 applies
+abbrev pub IsSaneUnder : Rules → Tree → Type 0
+IsSaneUnder rules tree = first_unfit_under rules tree ≡ None
+
 abbrev pub IsSane : Tree → Type 0
-IsSane tree = first_unfit tree ≡ None
+IsSane tree = IsSaneUnder Policy tree
 
 -- what is known of a valid tree, and of a sane one
+abbrev pub IsKnownValidUnder : Rules → Tree → Valid → Type 0
+IsKnownValidUnder rules tree valid = IsValidUnder rules tree × (corr tree ≡ Ok valid.ty) × AreLimits tree valid.limits
+
 abbrev pub IsKnownValid : Tree → Valid → Type 0
-IsKnownValid tree valid = IsValid tree × (corr tree ≡ Ok valid.ty) × AreLimits tree valid.limits
+IsKnownValid tree valid = IsKnownValidUnder Policy tree valid
+
+abbrev pub IsKnownSaneUnder : Rules → Tree → Sane → Type 0
+IsKnownSaneUnder rules tree sane =
+    IsSaneUnder rules tree × (corr tree ≡ Ok sane.ty) × (mall tree ≡ Ok sane.mall) × AreLimits tree sane.limits
 
 abbrev pub IsKnownSane : Tree → Sane → Type 0
-IsKnownSane tree sane =
-    IsSane tree × (corr tree ≡ Ok sane.ty) × (mall tree ≡ Ok sane.mall) × AreLimits tree sane.limits
+IsKnownSane tree sane = IsKnownSaneUnder Policy tree sane

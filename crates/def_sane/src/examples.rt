@@ -14,6 +14,7 @@ ghost use Rattle.def_sane.specs.Examples.{
   EachByItself,
   ZeroLimits,
 };
+ghost use Rattle.def_sane.specs.Allowed.{ManyKeys, MostKeys, Largest};
 ghost use Rattle.def_sane.specs.FirstNodes.{MixedOnes, UnmixedOnes, RepeatedOnes};
 ghost use Rattle.def_sane.specs.Scripts.{NumberScripts, KeyScript, ChainScript, KeysScript, KeyHashScript, LockScripts, EitherKeyScript, ThresholdScript, LockedThresholdScript};
 ghost use Rattle.def_sane.specs.Refusals.{
@@ -82,6 +83,13 @@ pub fn reasons()
     ensures too_many_ops { TooManyOps }
     ensures most_size { MostSize }
     ensures too_large { TooLarge }
+{}
+
+/// These miniscripts are valid under consensus and not under policy, or under neither.
+pub fn consensus()
+    ensures many_keys { ManyKeys }
+    ensures most_keys { MostKeys }
+    ensures largest_script { Largest }
 {}
 
 /// These nodes are the first that mix timelocks, or that repeat a key, or there is none.

@@ -8,6 +8,8 @@ ghost use Rattle.def_sane.specs.Laws.{
   NoneIsRepeated,
   ValidMeans,
   SaneMeans,
+  ValidUnderConsensus,
+  SaneUnderConsensus,
 };
 
 /// The computed limits are the limits of a tree, and it has no others.
@@ -27,4 +29,10 @@ pub fn nodes()
 pub fn reasons()
     ensures valid { ValidMeans }
     ensures sane { SaneMeans }
+{}
+
+/// What policy allows, consensus allows.
+pub fn consensus()
+    ensures valid { ValidUnderConsensus }
+    ensures sane { SaneUnderConsensus }
 {}

@@ -16,6 +16,14 @@ pub struct Limits {
     pub weight: u64,
 }
 
+/// Whose limits hold: those of policy, within which nodes relay a transaction, or those of consensus alone, within
+/// which a block may hold it.
+#[derive(Clone, Copy, Debug, PartialEq, Eq)]
+pub enum Rules {
+    Policy,
+    Consensus,
+}
+
 /// Why a miniscript is refused, in the order in which the reasons are tested: a requirement of the
 /// correctness types, a top that isn't `B`, three limits with what they come to, a requirement of the
 /// malleability types, a top without the property s, the first node that mixes timelocks, and the first

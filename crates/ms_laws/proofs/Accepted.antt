@@ -2,7 +2,7 @@
 use Rattle.std.proofs.Common.{◌≡◌, ℕ, ◌+◌, ◌^◌, ◌<◌, ◌≤◌, nat_le, Bool, true, false, List, [], ◌∷◌, ◌++◌, length, reverse, All, Ok, refl, sym, ◌∙◌, ap, subst, ◌⊎◌, inl, inr, arith}
 use Rattle.std.specs.List.{list_all}
 use Rattle.std.proofs.lemmas.Bool.{leb-true, false≢true, and_parts}
-use Rattle.std.proofs.lemmas.List.{append-nil, length-reverse, reverse-reverse}
+use Rattle.std.proofs.lemmas.List.{append-nil, reverse-reverse}
 use Rattle.std.proofs.lemmas.List.Elements.{All-head, All-tail, All-nil, All-cons}
 use Rattle.def_script.specs.Bytes.{Bytes}
 use Rattle.def_script.specs.Decode.{truth}
@@ -13,41 +13,47 @@ use Rattle.def_machine.specs.declared.ScriptFault.{ScriptFault}
 use Rattle.def_machine.specs.Run.{run, accepted, refused}
 use Rattle.def_tree.specs.Tree.{Tree}
 use Rattle.def_tree.specs.Range.{IsWritable}
+use Rattle.def_types.specs.declared.Base.{Base}
 use Rattle.def_types.specs.Typed.{type_of}
 use Rattle.def_emit.specs.Emit.{emit, script_of}
 use Rattle.def_assets.specs.Assets.{Assets, AreAssets, known}
 use Rattle.def_sane.specs.declared.Limits.{Limits}
 use Rattle.def_sane.specs.Limits.{AreLimits, opcode_count}
-use Rattle.def_sane.specs.Unfit.{IsValid}
-use Rattle.def_sane.proofs.Meanings.{valid_means}
+use Rattle.def_sane.proofs.Greatest.{limits_are_unique}
+use Rattle.def_height.specs.Formal.{Way, FormalSat}
+use Rattle.def_height.specs.Height.{IsHeight, peak}
+use Rattle.def_height.specs.Highest.{height_of}
+use Rattle.def_height.proofs.Found.{height_is_computed}
+use Rattle.def_height.proofs.Bounds.{height_is_low}
 use Rattle.def_satisfaction.specs.Setting.{Setting, any, only}
 use Rattle.def_satisfaction.specs.Rows.{row}
 use Rattle.def_satisfaction.specs.Satisfaction.{canonical, full, Sat, FullSat, Holds}
 use Rattle.def_satisfaction.proofs.Canonical.{held}
 use Rattle.def_satisfaction.proofs.Wider.{IsWider, row_within}
 use Rattle.def_choice.specs.NonMalleable.{IsAccepted, given_with}
-use Rattle.def_promises.specs.Acceptance.{CanonicalIsAccepted, InversionHolds}
+use Rattle.def_promises.specs.Acceptance.{IsAcceptedWithin, CanonicalIsAccepted, InversionHolds}
 use Rattle.def_promises.specs.Limited.{StopsAtLimit}
 use Rattle.def_satisfaction.proofs.EqualParts.{first_same, rest_same}
 use Rattle.ms_laws.proofs.Log.{Log}
 use Rattle.ms_laws.proofs.Den.{den}
 use Rattle.ms_laws.proofs.RowLogs.{sat_log}
 use Rattle.ms_laws.proofs.Values.{Value, truth-natural}
-use Rattle.ms_laws.proofs.FewChildren.{few_valid}
+use Rattle.ms_laws.proofs.Consensus.{IsWithinConsensus, valid_consensus, few_children}
 use Rattle.ms_laws.proofs.Ends.{left, Short, Ends, EndsB}
 use Rattle.ms_laws.proofs.Goes.{sat_ends}
 use Rattle.ms_laws.proofs.Back.{Back, BackB, logged, Took}
 use Rattle.ms_laws.proofs.Inverse.{inverts}
-use Rattle.ms_laws.proofs.ScriptHeights.{few_rises}
-use Rattle.ms_laws.proofs.Within.{sized_sat, within_limits, few_ops, valid_limits}
-use Rattle.ms_laws.proofs.Runs.{accepted_run, run_accepted, run_or_limit, too_long}
+use Rattle.ms_laws.proofs.Low.{IsLow}
+use Rattle.ms_laws.proofs.Paths.{Path}
+use Rattle.ms_laws.proofs.RowPaths.{sat_path}
+use Rattle.ms_laws.proofs.Within.{sized_sat, within_limits, few_ops}
+use Rattle.ms_laws.proofs.Runs.{first, accepted_run, run_accepted, run_or_limit, too_long}
 
 -- from a whole satisfaction
-pub satisfied : (s : Setting) (t : Tree) → IsWritable t → IsValid t → (w : Stack) → Short w → (r : (row s t).sat w) → (v : Bytes) × (den s.given t w ≡ Ok (left (v ∷ []) (sat_log s t w r))) × (truth v ≡ true)
-satisfied s t writable valid w short r =
-    let means = (valid_means t).0 valid in
+pub satisfied : (s : Setting) (t : Tree) → IsWritable t → IsWithinConsensus t → (w : Stack) → Short w → (r : (row s t).sat w) → (v : Bytes) × (den s.given t w ≡ Ok (left (v ∷ []) (sat_log s t w r))) × (truth v ≡ true)
+satisfied s t writable consensus w short r =
     let e : EndsB (type_of t).u true (den s.given t) w [] (sat_log s t w r) =
-    subst (λ b. Ends s.given.table b (type_of t).u true (den s.given t) w [] (sat_log s t w r)) means.1 (sat_ends s t writable means.0 (few_valid t valid) w [] short r) in
+    subst (λ b. Ends s.given.table b (type_of t).u true (den s.given t) w [] (sat_log s t w r)) consensus.base (sat_ends s t writable consensus.typed (few_children t consensus) w [] short r) in
     let value = e.1 in
     (e.0, ap (den s.given t) (sym (append-nil w)) ∙ e.2, ap truth value.is ∙ truth-natural value.number value.small ∙ value.truth)
 
@@ -86,41 +92,62 @@ pub record Accepts (tree : Tree) (limits : Limits) (assets : Assets) (table : Pa
   pub peak : ℕ
   pub run : run (given_with assets table) (script_of tree) stack ≡ accepted (opcode_count (emit tree) + (sat_log (canonical_with assets table) tree (reverse stack) r).keys) peak (sat_log (canonical_with assets table) tree (reverse stack) r).checks
   pub few_ops : opcode_count (emit tree) + (sat_log (canonical_with assets table) tree (reverse stack) r).keys ≤ limits.ops
+  pub low : (height : ℕ) → IsHeight tree height → peak ≤ height
 
--- by the run of the stack turned round twice
-by_turned : (tree : Tree) (limits : Limits) (assets : Assets) (table : Pairs) (stack : List Bytes) (r : (row (canonical_with assets table) tree).sat (reverse stack)) →
-    ((peak : ℕ) × (run (given_with assets table) (script_of tree) (reverse (reverse stack)) ≡ accepted (opcode_count (emit tree) + (sat_log (canonical_with assets table) tree (reverse stack) r).keys) peak (sat_log (canonical_with assets table) tree (reverse stack) r).checks)) →
-    opcode_count (emit tree) + (sat_log (canonical_with assets table) tree (reverse stack) r).keys ≤ limits.ops → Accepts tree limits assets table stack r
-by_turned tree limits assets table stack r done few = record {
-  peak = done.0;
-  run = ap (run (given_with assets table) (script_of tree)) (sym (reverse-reverse stack)) ∙ done.1;
-  few_ops = few;
-}
+-- no way is higher than the height
+below_height : (tree : Tree) (h : ℕ) → IsHeight tree h → (way : Way) → FormalSat tree way → peak way ≤ h
+below_height tree h (inl g) way formal = g.3 way formal
+below_height tree h (inr g) way formal = absurd (g.0 way formal)
+
+-- how high the stacks get
+record HasPeak (tree : Tree) (given : Given) (w : Stack) : Type 0 where
+  pub most : ℕ
+  pub low : IsLow given (emit tree) (first w) most
+  pub below : (h : ℕ) → IsHeight tree h → most ≤ h
+
+has_peak : (s : Setting) → s.all_rows ≡ false → (tree : Tree) → IsWritable tree → IsWithinConsensus tree → (w : Stack) → Short w → (row s tree).sat w → HasPeak tree s.given w
+has_peak s canonical tree writable consensus w short r =
+    let path =
+    subst (λ (b : Base). Path s.given b (emit tree) (FormalSat tree) w) consensus.base
+    (sat_path s (λ i. false≢true (sym canonical ∙ i)) tree writable consensus.typed (few_children tree consensus) w short r) in
+    record {
+      most = peak path.way;
+      low = (path.keeps []).low (first w) refl (sym (append-nil w)) (peak path.way) (omega (arith, path.items));
+      below = λ h is. below_height tree h is path.way path.formal;
+    }
 
 -- every row of a canonical satisfaction tells what its run logs
-pub accepts_row : (tree : Tree) (limits : Limits) (assets : Assets) (table : Pairs) (stack : List Bytes) → IsWritable tree → IsValid tree → AreLimits tree limits → AreAssets assets → Sat tree assets stack → (r : (row (canonical_with assets table) tree).sat (reverse stack)) → Accepts tree limits assets table stack r
-accepts_row tree limits assets table stack writable valid are_limits are sat r =
+pub accepts_row : (tree : Tree) (limits : Limits) (assets : Assets) (table : Pairs) (stack : List Bytes) → IsWritable tree → IsWithinConsensus tree → AreLimits tree limits → AreAssets assets → Sat tree assets stack → (r : (row (canonical_with assets table) tree).sat (reverse stack)) → Accepts tree limits assets table stack r
+accepts_row tree limits assets table stack writable consensus are_limits are sat r =
     let s = canonical_with assets table in
     let w = reverse stack in
     let sized = sized_sat assets are tree writable w sat in
-    let ends = satisfied s tree writable valid w (short_items 73 (omega arith) w sized.short) r in
+    let short = short_items 73 (omega arith) w sized.short in
+    let ends = satisfied s tree writable consensus w short r in
     let few = few_ops tree limits s w writable are_limits refl r in
-    let most = valid_limits tree limits valid are_limits in
-    let within = within_limits tree limits assets stack writable are_limits are sat in
-    let size : length (script_of tree) ≤ 10000 = (let e = are_limits.size in omega (arith, e, most.0)) in
-    let rise = few_rises tree writable valid in
-    by_turned tree limits assets table stack r
-    (accepted_run s.given tree w (left (ends.0 ∷ []) (sat_log s tree w r)) ends.0 writable size (fit_items 73 (omega arith) w sized.short) ends.1 refl ends.2
-    (omega (arith, few, most.1)) (omega (arith, length-reverse stack, within.0, most.2, rise)))
-    few
+    let most = ap (λ (l : Limits). l.ops) (limits_are_unique tree limits are_limits) in
+    let top = has_peak s refl tree writable consensus w short r in
+    let height = height_is_computed tree consensus.typed in
+    let done =
+    accepted_run s.given tree w (left (ends.0 ∷ []) (sat_log s tree w r)) ends.0 top.most writable consensus.size (fit_items 73 (omega arith) w sized.short) ends.1 refl ends.2
+    (omega (arith, few, most, consensus.ops)) top.low
+    (omega (arith, top.below (height_of tree) height, height_is_low tree consensus.typed consensus.base consensus.ops (height_of tree) height)) in
+    record {
+      peak = done.0;
+      run = ap (run s.given (script_of tree)) (sym (reverse-reverse stack)) ∙ done.2;
+      few_ops = few;
+      low = λ h is. omega (arith, done.1, top.below h is);
+    }
 
-pub accepts : (tree : Tree) (limits : Limits) (assets : Assets) (table : Pairs) (stack : List Bytes) → IsWritable tree → IsValid tree → AreLimits tree limits → AreAssets assets → (holds : Holds table assets) → (sat : Sat tree assets stack) → Accepts tree limits assets table stack (sat_with tree assets table (reverse stack) holds sat)
-accepts tree limits assets table stack writable valid are_limits are holds sat =
-    accepts_row tree limits assets table stack writable valid are_limits are sat (sat_with tree assets table (reverse stack) holds sat)
+pub accepts : (tree : Tree) (limits : Limits) (assets : Assets) (table : Pairs) (stack : List Bytes) → IsWritable tree → IsWithinConsensus tree → AreLimits tree limits → AreAssets assets → (holds : Holds table assets) → (sat : Sat tree assets stack) → Accepts tree limits assets table stack (sat_with tree assets table (reverse stack) holds sat)
+accepts tree limits assets table stack writable consensus are_limits are holds sat =
+    accepts_row tree limits assets table stack writable consensus are_limits are sat (sat_with tree assets table (reverse stack) holds sat)
 
-pub canonical_is_accepted : CanonicalIsAccepted
-canonical_is_accepted tree limits assets table stack writable valid are_limits are holds sat =
-    let a = accepts tree limits assets table stack writable valid are_limits are holds sat in
+-- a canonical satisfaction is accepted, within the limits and the height, with no word on the number of its items
+pub accepted_in_consensus : (tree : Tree) (limits : Limits) (assets : Assets) (table : Pairs) (stack : List Bytes) → IsWritable tree → IsWithinConsensus tree → AreLimits tree limits → AreAssets assets → Holds table assets →
+    Sat tree assets stack → IsAcceptedWithin tree limits (given_with assets table) stack
+accepted_in_consensus tree limits assets table stack writable consensus are_limits are holds sat =
+    let a = accepts tree limits assets table stack writable consensus are_limits are holds sat in
     let within = within_limits tree limits assets stack writable are_limits are sat in
     record {
       ops = _;
@@ -130,20 +157,24 @@ canonical_is_accepted tree limits assets table stack writable valid are_limits a
       few_ops = a.few_ops;
       few_items = within.0;
       light = within.1;
+      low = a.low;
     }
+
+pub canonical_is_accepted : CanonicalIsAccepted
+canonical_is_accepted tree limits assets table stack writable valid are_limits are holds sat =
+    accepted_in_consensus tree limits assets table stack writable (valid_consensus tree valid) are_limits are holds sat
 
 -- the row of an accepted stack, and the pairs that its run found good
 pub record Accounted (tree : Tree) (given : Given) (stack : List Bytes) (checks : Pairs) : Type 0 where
   pub row : FullSat tree given any stack
   pub log : checks ≡ (sat_log (full given any) tree (reverse stack) row).checks
 
-pub accounted : (tree : Tree) (given : Given) (stack : List Bytes) (checks : Pairs) → IsWritable tree → IsValid tree → IsAccepted tree given stack checks → Accounted tree given stack checks
-accounted tree given stack checks writable valid is =
-    let means = (valid_means tree).0 valid in
+pub accounted : (tree : Tree) (given : Given) (stack : List Bytes) (checks : Pairs) → IsWritable tree → IsWithinConsensus tree → IsAccepted tree given stack checks → Accounted tree given stack checks
+accounted tree given stack checks writable consensus is =
     let a = run_accepted given tree stack is.ops is.peak checks writable is.run in
     let b : BackB (type_of tree).u (logged (full given any) tree) (reverse stack) a.0.main a.0.log =
-    subst (λ c. Back given.table c (type_of tree).u (logged (full given any) tree) (reverse stack) a.0.main a.0.log) means.1
-    (inverts given tree writable means.0 (few_valid tree valid) (reverse stack) a.0.main a.0.log a.2) in
+    subst (λ c. Back given.table c (type_of tree).u (logged (full given any) tree) (reverse stack) a.0.main a.0.log) consensus.base
+    (inverts given tree writable consensus.typed (few_children tree consensus) (reverse stack) a.0.main a.0.log a.2) in
     let at : a.1 ∷ [] ≡ b.3 ∷ b.2 = sym a.3 ∙ b.5 in
     let none : b.2 ≡ [] = sym (rest_same a.1 b.3 [] b.2 at) in
     let top : a.1 ≡ b.3 = first_same a.1 b.3 [] b.2 at in
@@ -159,8 +190,8 @@ accounted tree given stack checks writable valid is =
         record { row = q.0; log = c ∙ sym (ap (λ z. z.checks) q.1) }
     go false w l e i took c = absurd (false≢true i)
 
-accepted_is_satisfaction : (tree : Tree) (given : Given) (stack : List Bytes) (checks : Pairs) → IsWritable tree → IsValid tree → IsAccepted tree given stack checks → FullSat tree given any stack
-accepted_is_satisfaction tree given stack checks writable valid is = (accounted tree given stack checks writable valid is).row
+pub accepted_is_satisfaction : (tree : Tree) (given : Given) (stack : List Bytes) (checks : Pairs) → IsWritable tree → IsWithinConsensus tree → IsAccepted tree given stack checks → FullSat tree given any stack
+accepted_is_satisfaction tree given stack checks writable consensus is = (accounted tree given stack checks writable consensus is).row
 
 -- items that the interpreter takes
 pub fit_short : (w : Stack) → list_all (λ x. nat_le (length x) MAX_SCRIPT_ELEMENT_SIZE) w ≡ true → Short w
@@ -171,37 +202,31 @@ fit_short (x ∷ w) e =
     (omega arith, fit_short w p.1)
 
 -- a satisfaction is accepted, or stops at a limit
-satisfaction_is_accepted : (tree : Tree) (given : Given) (stack : List Bytes) → IsWritable tree → IsValid tree → FullSat tree given any stack → ((checks : Pairs) × IsAccepted tree given stack checks) ⊎ StopsAtLimit tree given stack
-satisfaction_is_accepted tree given stack writable valid sat = go (list_all (λ x. nat_le (length x) MAX_SCRIPT_ELEMENT_SIZE) (reverse stack)) refl
+pub satisfaction_is_accepted : (tree : Tree) (given : Given) (stack : List Bytes) → IsWritable tree → IsWithinConsensus tree → FullSat tree given any stack → ((checks : Pairs) × IsAccepted tree given stack checks) ⊎ StopsAtLimit tree given stack
+satisfaction_is_accepted tree given stack writable consensus sat = go (list_all (λ x. nat_le (length x) MAX_SCRIPT_ELEMENT_SIZE) (reverse stack)) refl
   where
-    size : length (script_of tree) ≤ 10000
-    size = let means = (valid_means tree).0 valid in let e : length (script_of tree) ≤ 3600 = means.2 in omega arith
-
     go : (b : Bool) → list_all (λ x. nat_le (length x) MAX_SCRIPT_ELEMENT_SIZE) (reverse stack) ≡ b → ((checks : Pairs) × IsAccepted tree given stack checks) ⊎ StopsAtLimit tree given stack
     go true short =
-        let ends = satisfied (full given any) tree writable valid (reverse stack) (fit_short (reverse stack) short) sat in
-        elim (run_or_limit given tree stack _ ends.0 writable size ends.1 refl ends.2) [
+        let ends = satisfied (full given any) tree writable consensus (reverse stack) (fit_short (reverse stack) short) sat in
+        elim (run_or_limit given tree stack _ ends.0 writable consensus.size ends.1 refl ends.2) [
           | inl fine ↦ inl (_, record { ops = fine.0; peak = fine.1; run = fine.2 })
           | inr stops ↦ inr stops
         ]
-    go false long = inr (too_long given tree stack writable size long)
+    go false long = inr (too_long given tree stack writable consensus.size long)
 
 pub inversion_of : InversionHolds
 inversion_of tree writable valid = record {
-  satisfaction = λ given stack checks is. accepted_is_satisfaction tree given stack checks writable valid is;
-  acceptance = λ given stack sat. satisfaction_is_accepted tree given stack writable valid sat;
+  satisfaction = λ given stack checks is. accepted_is_satisfaction tree given stack checks writable (valid_consensus tree valid) is;
+  acceptance = λ given stack sat. satisfaction_is_accepted tree given stack writable (valid_consensus tree valid) sat;
 }
 
 -- what is accepted has no item that is too long
-pub accepted_short : (tree : Tree) (given : Given) (stack : List Bytes) (checks : Pairs) → IsWritable tree → IsValid tree → IsAccepted tree given stack checks → Short (reverse stack)
-accepted_short tree given stack checks writable valid is = go (list_all (λ x. nat_le (length x) MAX_SCRIPT_ELEMENT_SIZE) (reverse stack)) refl
+pub accepted_short : (tree : Tree) (given : Given) (stack : List Bytes) (checks : Pairs) → IsWritable tree → IsWithinConsensus tree → IsAccepted tree given stack checks → Short (reverse stack)
+accepted_short tree given stack checks writable consensus is = go (list_all (λ x. nat_le (length x) MAX_SCRIPT_ELEMENT_SIZE) (reverse stack)) refl
   where
-    size : length (script_of tree) ≤ 10000
-    size = let means = (valid_means tree).0 valid in let e : length (script_of tree) ≤ 3600 = means.2 in omega arith
-
     no_refusal : (fault : ScriptFault) (place ops peak : ℕ) (c : Pairs) → refused fault place ≡ accepted ops peak c → ⊥
     no_refusal fault place ops peak c e = cc
 
     go : (b : Bool) → list_all (λ x. nat_le (length x) MAX_SCRIPT_ELEMENT_SIZE) (reverse stack) ≡ b → Short (reverse stack)
     go true short = fit_short (reverse stack) short
-    go false long = let stops = too_long given tree stack writable size long in absurd (no_refusal stops.fault stops.place is.ops is.peak checks (sym stops.run ∙ is.run))
+    go false long = let stops = too_long given tree stack writable consensus.size long in absurd (no_refusal stops.fault stops.place is.ops is.peak checks (sym stops.run ∙ is.run))

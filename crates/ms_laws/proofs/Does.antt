@@ -11,14 +11,10 @@ use Rattle.def_machine.specs.Stacks.{Stack}
 use Rattle.def_machine.specs.Effects.{condition, to_alt_stack, from_alt_stack}
 use Rattle.def_machine.specs.Machine.{Given, State, on_main, is_live, is_branching, opened, open_branch, turned, closed, act}
 use Rattle.def_sane.specs.Limits.{opcode_count}
+use Rattle.def_height.proofs.Opcodes.{opcodes_append}
 use Rattle.ms_laws.proofs.Log.{Left, Effect, both, silent, plain, pushes, choose, chosen, aside, put_back}
 use Rattle.ms_laws.proofs.Free.{reached, affect, free_act, free_step, free_steps, one_more}
 use Rattle.ms_laws.proofs.Moves.{bind_same, bind_ok, free_steps-append, at, Moves, then_moves, moves_as, silent_both, both_silent, plain_moves, main_moves, silent_moves}
-
-pub opcode_count-append : (front back : List Instruction) → opcode_count (front ++ back) ≡ opcode_count front + opcode_count back
-opcode_count-append [] back = omega arith
-opcode_count-append (push bytes ∷ front) back = opcode_count-append front back
-opcode_count-append (code op ∷ front) back = omega (arith, opcode_count-append front back)
 
 -- all branches are taken
 abbrev pub all_taken : List Bool → Bool
@@ -36,7 +32,7 @@ opening true = op.If
 opening false = op.NotIf
 
 -- whether the branch opened is taken
-abbrev side : (wanted top : Bool) → Bool
+abbrev pub side : (wanted top : Bool) → Bool
 side wanted top = if wanted then top else not top
 
 -- an effect where a branch is taken, and none where it isn't
@@ -72,10 +68,10 @@ module _ (given : Given) where
   pub both_does : (c d : List Instruction) (f g : Effect) → Does given c f → Does given d g → Does given (c ++ d) (both f g)
   both_does c d f g x y = record {
     goes = λ branches live.
-        moves_as _ _ (both f g) (both f g) _ _ branches branches (λ s. refl) (λ main. refl) (sym (opcode_count-append c d))
+        moves_as _ _ (both f g) (both f g) _ _ branches branches (λ s. refl) (λ main. refl) (sym (opcodes_append c d))
         (append_moves c d f g _ _ branches branches branches (x.goes branches live) (y.goes branches live));
     skips = λ branches dead.
-        moves_as _ _ (both silent silent) silent _ _ branches branches (λ s. refl) (λ main. refl) (sym (opcode_count-append c d))
+        moves_as _ _ (both silent silent) silent _ _ branches branches (λ s. refl) (λ main. refl) (sym (opcodes_append c d))
         (append_moves c d silent silent _ _ branches branches branches (x.skips branches dead) (y.skips branches dead));
   }
 
@@ -116,7 +112,7 @@ module _ (given : Given) where
   unopened_moves true branches dead = silent_moves 1 branches (false ∷ branches) (free_step given (code op.If)) (λ s. rw dead refl)
   unopened_moves false branches dead = silent_moves 1 branches (false ∷ branches) (free_step given (code op.NotIf)) (λ s. rw dead refl)
 
-  opens : (wanted : Bool) (branches : List Bool) → all_taken branches ≡ true → (s : State) → free_step given (code (opening wanted)) (at s branches) ≡ opened true wanted (at (one_more s) branches)
+  pub opens : (wanted : Bool) (branches : List Bool) → all_taken branches ≡ true → (s : State) → free_step given (code (opening wanted)) (at s branches) ≡ opened true wanted (at (one_more s) branches)
   unfolding act open_branch
   opens true branches live s = rw live refl
   opens false branches live s = rw live refl
@@ -169,7 +165,7 @@ module _ (given : Given) where
       rest = x ++ code op.Else ∷ (y ++ code op.EndIf ∷ [])
 
       counts : opcode_count x + (1 + (opcode_count y + 1)) ≡ opcode_count rest
-      counts = omega (arith, opcode_count-append x (code op.Else ∷ (y ++ code op.EndIf ∷ [])), opcode_count-append y (code op.EndIf ∷ []))
+      counts = omega (arith, opcodes_append x (code op.Else ∷ (y ++ code op.EndIf ∷ [])), opcodes_append y (code op.EndIf ∷ []))
 
       alike : (taken : Bool) (main : Stack) → both (when taken f) (both silent (both (when (not taken) g) silent)) main ≡ either f g taken main
       alike true main = both_silent f main
@@ -180,13 +176,13 @@ module _ (given : Given) where
       Does given (code (opening wanted) ∷ (x ++ code op.EndIf ∷ [])) (choose (either f silent (side wanted true)) (either f silent (side wanted false)))
   only_does wanted x f i = record {
     goes = λ branches live.
-        moves_as _ _ _ _ _ _ branches branches (λ s. refl) (λ main. refl) (ap (λ (n : ℕ). 1 + n) (sym (opcode_count-append x (code op.EndIf ∷ []))))
+        moves_as _ _ _ _ _ _ branches branches (λ s. refl) (λ main. refl) (ap (λ (n : ℕ). 1 + n) (sym (opcodes_append x (code op.EndIf ∷ []))))
         (choice_moves wanted _ (either f silent) (opcode_count x + 1) branches live (λ taken.
         moves_as _ _ _ _ _ _ (taken ∷ branches) branches (λ s. refl) (alike taken) refl
         (append_moves x _ (when taken f) silent _ 1 (taken ∷ branches) (taken ∷ branches) branches (when_moves x f i taken branches live)
         (end_moves taken branches))));
     skips = λ branches dead.
-        moves_as _ _ _ silent _ _ branches branches (λ s. refl) (λ main. refl) (ap (λ (n : ℕ). 1 + n) (sym (opcode_count-append x (code op.EndIf ∷ []))))
+        moves_as _ _ _ silent _ _ branches branches (λ s. refl) (λ main. refl) (ap (λ (n : ℕ). 1 + n) (sym (opcodes_append x (code op.EndIf ∷ []))))
         (cons_moves (code (opening wanted)) _ silent _ 1 _ branches (false ∷ branches) branches (unopened_moves wanted branches dead)
         (append_moves x _ silent silent _ 1 (false ∷ branches) (false ∷ branches) branches (i.skips (false ∷ branches) refl)
         (end_moves false branches)));
@@ -214,7 +210,7 @@ module _ (given : Given) where
   aside_does x f i = record {
     goes = λ branches live. record { moves = λ s. go branches live s s.main };
     skips = λ branches dead.
-        moves_as _ _ (both silent (both silent silent)) silent _ _ branches branches (λ s. refl) (λ main. refl) (ap (λ (n : ℕ). 1 + n) (sym (opcode_count-append x (code op.FromAltStack ∷ []))))
+        moves_as _ _ (both silent (both silent silent)) silent _ _ branches branches (λ s. refl) (λ main. refl) (ap (λ (n : ℕ). 1 + n) (sym (opcodes_append x (code op.FromAltStack ∷ []))))
         (cons_moves (code op.ToAltStack) _ silent (both silent silent) 1 _ branches branches branches
         (silent_moves 1 branches branches (free_step given (code op.ToAltStack)) (λ s. rw dead refl))
         (append_moves x _ silent silent _ 1 branches branches branches (i.skips branches dead) (code_skips op.FromAltStack branches refl dead)));
@@ -233,7 +229,7 @@ module _ (given : Given) where
           ≡ (aside f main >>= λ left. Ok (at (reached s (1 + opcode_count (x ++ code op.FromAltStack ∷ [])) left) branches))
       go branches live s [] = rw live refl
       go branches live s (top ∷ main) =
-          rw (live, opcode_count-append x (code op.FromAltStack ∷ []))
+          rw (live, opcodes_append x (code op.FromAltStack ∷ []))
           (free_steps-append given x (code op.FromAltStack ∷ []) (at (record s { main = main; alt = top ∷ s.alt; ops = s.ops + 1 }) branches)
           ∙ ap (λ (r : OrFault State). r >>= free_steps given (code op.FromAltStack ∷ [])) ((i.goes branches live).moves (record s { main = main; alt = top ∷ s.alt; ops = s.ops + 1 }))
           ∙ last branches live s top main (f main))

@@ -1,21 +1,16 @@
 -- Thresholds with so few children that their sums are numbers.
-use Rattle.std.proofs.Common.{ℕ, ◌+◌, ◌^◌, ◌<◌, ◌≤◌, [], ◌∷◌, inl, inr, arith}
+use Rattle.std.proofs.Common.{ℕ, ◌+◌, ◌^◌, ◌<◌, ◌≤◌, inl, inr, arith}
 use Rattle.std.specs.Prelude.{⊤}
-use Rattle.def_script.specs.declared.Op.TheVariants as op
-use Rattle.def_script.specs.Instruction.{code}
 use Rattle.def_tree.specs.declared.Two.TheVariants as kind
 use Rattle.def_tree.specs.declared.Wrapper.TheVariants as wrapper
 use Rattle.def_machine.specs.Stacks.{Stack}
 use Rattle.def_tree.specs.Tree.{Tree, Trees, just_0, just_1, pk_k, pk_h, older, after, hash, and_or, two, thresh, multi, wrap, none, more}
 use Rattle.def_tree.specs.Range.{count}
-use Rattle.def_emit.specs.Emit.{number, emit, emit_sum, emit_added}
+use Rattle.def_emit.specs.Emit.{emit, emit_sum, emit_added}
 use Rattle.def_sane.specs.Limits.{opcode_count}
-use Rattle.def_sane.specs.Most.{most_sat, number_of}
-use Rattle.def_sane.specs.Unfit.{IsValid}
-use Rattle.def_sane.proofs.Meanings.{valid_means}
 use Rattle.def_satisfaction.specs.Setting.{Setting}
 use Rattle.def_satisfaction.specs.Rows.{parts}
-use Rattle.ms_laws.proofs.Pieces.{opcodes-append, opcodes_of, opcodes-verified}
+use Rattle.def_height.proofs.Opcodes.{opcodes_verified, ops_and_or, ops_and_v, ops_and_b, ops_or_b, ops_or_c, ops_or_d, ops_or_i, ops_thresh, ops_sum, ops_added, ops_a, ops_c, ops_d, ops_j, ops_n}
 
 abbrev mutual
   pub Few : Tree → Type 0
@@ -46,14 +41,14 @@ parts_few s (more x xs) n w (inr r) = let l = parts_few s xs n r.0 r.2 in omega 
 few_added : (xs : Trees) → count xs ≤ opcode_count (emit_added xs)
 few_added none = omega arith
 few_added (more x xs) =
-    let e = opcodes-append (emit x) (code op.Add ∷ emit_added xs) in
+    let e = ops_added x xs in
     let i = few_added xs in
     omega arith
 
 few_summed : (xs : Trees) → count xs ≤ opcode_count (emit_sum xs) + 1
 few_summed none = omega arith
 few_summed (more x xs) =
-    let e = opcodes-append (emit x) (emit_added xs) in
+    let e = ops_sum x xs in
     let i = few_added xs in
     omega arith
 
@@ -68,38 +63,31 @@ mutual
   few_opcodes (after n) low = tt
   few_opcodes (hash kind value) low = tt
   few_opcodes (and_or x y z) low =
-      let e = opcodes_of (emit x) ((code op.NotIf ∷ emit z) ∷ (code op.Else ∷ emit y) ∷ (code op.EndIf ∷ []) ∷ []) in
+      let e = ops_and_or x y z in
       (few_opcodes x (omega arith), few_opcodes y (omega arith), few_opcodes z (omega arith))
-  few_opcodes (two kind.AndV x y) low = let e = opcodes-append (emit x) (emit y) in (few_opcodes x (omega arith), few_opcodes y (omega arith))
-  few_opcodes (two kind.AndB x y) low = let e = opcodes_of (emit x) (emit y ∷ (code op.BoolAnd ∷ []) ∷ []) in (few_opcodes x (omega arith), few_opcodes y (omega arith))
-  few_opcodes (two kind.OrB x y) low = let e = opcodes_of (emit x) (emit y ∷ (code op.BoolOr ∷ []) ∷ []) in (few_opcodes x (omega arith), few_opcodes y (omega arith))
-  few_opcodes (two kind.OrC x y) low = let e = opcodes_of (emit x) ((code op.NotIf ∷ emit y) ∷ (code op.EndIf ∷ []) ∷ []) in (few_opcodes x (omega arith), few_opcodes y (omega arith))
-  few_opcodes (two kind.OrD x y) low = let e = opcodes_of (emit x) ((code op.IfDup ∷ code op.NotIf ∷ emit y) ∷ (code op.EndIf ∷ []) ∷ []) in (few_opcodes x (omega arith), few_opcodes y (omega arith))
-  few_opcodes (two kind.OrI x y) low = let e = opcodes_of (code op.If ∷ emit x) ((code op.Else ∷ emit y) ∷ (code op.EndIf ∷ []) ∷ []) in (few_opcodes x (omega arith), few_opcodes y (omega arith))
+  few_opcodes (two kind.AndV x y) low = let e = ops_and_v x y in (few_opcodes x (omega arith), few_opcodes y (omega arith))
+  few_opcodes (two kind.AndB x y) low = let e = ops_and_b x y in (few_opcodes x (omega arith), few_opcodes y (omega arith))
+  few_opcodes (two kind.OrB x y) low = let e = ops_or_b x y in (few_opcodes x (omega arith), few_opcodes y (omega arith))
+  few_opcodes (two kind.OrC x y) low = let e = ops_or_c x y in (few_opcodes x (omega arith), few_opcodes y (omega arith))
+  few_opcodes (two kind.OrD x y) low = let e = ops_or_d x y in (few_opcodes x (omega arith), few_opcodes y (omega arith))
+  few_opcodes (two kind.OrI x y) low = let e = ops_or_i x y in (few_opcodes x (omega arith), few_opcodes y (omega arith))
   few_opcodes (thresh k xs) low =
-      let e = opcodes-append (emit_sum xs) (number k ∷ code op.Equal ∷ []) in
+      let e = ops_thresh k xs in
       let i = few_summed xs in
       (omega arith, few_sum xs (omega arith))
   few_opcodes (multi k keys) low = tt
-  few_opcodes (wrap wrapper.A x) low = let e = opcodes-append (code op.ToAltStack ∷ emit x) (code op.FromAltStack ∷ []) in few_opcodes x (omega arith)
+  few_opcodes (wrap wrapper.A x) low = let e = ops_a x in few_opcodes x (omega arith)
   few_opcodes (wrap wrapper.S x) low = few_opcodes x (omega arith)
-  few_opcodes (wrap wrapper.C x) low = let e = opcodes-append (emit x) (code op.CheckSig ∷ []) in few_opcodes x (omega arith)
-  few_opcodes (wrap wrapper.D x) low = let e = opcodes-append (code op.Dup ∷ code op.If ∷ emit x) (code op.EndIf ∷ []) in few_opcodes x (omega arith)
-  few_opcodes (wrap wrapper.V x) low = let e = opcodes-verified (emit x) in few_opcodes x (omega arith)
-  few_opcodes (wrap wrapper.J x) low = let e = opcodes-append (code op.Size ∷ code op.ZeroNotEqual ∷ code op.If ∷ emit x) (code op.EndIf ∷ []) in few_opcodes x (omega arith)
-  few_opcodes (wrap wrapper.N x) low = let e = opcodes-append (emit x) (code op.ZeroNotEqual ∷ []) in few_opcodes x (omega arith)
+  few_opcodes (wrap wrapper.C x) low = let e = ops_c x in few_opcodes x (omega arith)
+  few_opcodes (wrap wrapper.D x) low = let e = ops_d x in few_opcodes x (omega arith)
+  few_opcodes (wrap wrapper.V x) low = let e = opcodes_verified (emit x) in few_opcodes x (omega arith)
+  few_opcodes (wrap wrapper.J x) low = let e = ops_j x in few_opcodes x (omega arith)
+  few_opcodes (wrap wrapper.N x) low = let e = ops_n x in few_opcodes x (omega arith)
 
   few_sum : (xs : Trees) → opcode_count (emit_sum xs) < 2 ^ 29 → AllFew xs
   few_sum none low = tt
-  few_sum (more x xs) low = let e = opcodes-append (emit x) (emit_added xs) in (few_opcodes x (omega arith), few_rest xs (omega arith))
+  few_sum (more x xs) low = let e = ops_sum x xs in (few_opcodes x (omega arith), few_rest xs (omega arith))
 
   few_rest : (xs : Trees) → opcode_count (emit_added xs) < 2 ^ 29 → AllFew xs
   few_rest none low = tt
-  few_rest (more x xs) low = let e = opcodes-append (emit x) (code op.Add ∷ emit_added xs) in (few_opcodes x (omega arith), few_rest xs (omega arith))
-
--- so is every valid miniscript
-pub few_valid : (t : Tree) → IsValid t → Few t
-few_valid t valid =
-    let means = (valid_means t).0 valid in
-    let ops : opcode_count (emit t) + number_of (λ x. x.keys) (most_sat t) ≤ 201 = means.3 in
-    few_opcodes t (omega arith)
+  few_rest (more x xs) low = let e = ops_added x xs in (few_opcodes x (omega arith), few_rest xs (omega arith))

@@ -33,10 +33,10 @@ as_type table c d u t b f w s l e i h = subst (λ v. Ends table d v b f w s l) i
 as_base : (table : Pairs) (c d : Base) (u b : Bool) (f : Effect) (w s : Stack) (l : Log) → c ≡ d → Ends table c u b f w s l → Ends table d u b f w s l
 as_base table c d u b f w s l e h = subst (λ a. Ends table a u b f w s l) e h
 
-upper : (w above below : Stack) → w ≡ above ++ below → Short w → Short above
+pub upper : (w above below : Stack) → w ≡ above ++ below → Short w → Short above
 upper w above below e short = short_above above below (subst Short e short)
 
-lower : (w above below : Stack) → w ≡ above ++ below → Short w → Short below
+pub lower : (w above below : Stack) → w ≡ above ++ below → Short w → Short below
 lower w above below e short = short_below above below (subst Short e short)
 
 v_not_w : V ≢ W
@@ -272,7 +272,7 @@ mutual
       wrap_n_ends (type_of x).u false (den s.given x) w rest _ (as_base s.given.table _ B _ false _ _ _ _ p.1 (dsat_ends s x k p.0 few w rest short r))
 
   -- all children of a threshold, n of them satisfied
-  sum_ends : (s : Setting) (k : ℕ) (xs : Trees) → IsWritable (thresh k xs) → IsTyped (thresh k xs) → Few (thresh k xs) → (n : ℕ) (w rest : Stack) → Short w → (r : parts s xs n w) → den_sum s.given xs (w ++ rest) ≡ Ok (left (natural_bytes n ∷ rest) (parts_log s xs n w r))
+  pub sum_ends : (s : Setting) (k : ℕ) (xs : Trees) → IsWritable (thresh k xs) → IsTyped (thresh k xs) → Few (thresh k xs) → (n : ℕ) (w rest : Stack) → Short w → (r : parts s xs n w) → den_sum s.given xs (w ++ rest) ≡ Ok (left (natural_bytes n ∷ rest) (parts_log s xs n w r))
   sum_ends s k none writable typed few n w rest short r = absurd (typed-thresh_none k typed)
   sum_ends s k (more x xs) writable typed few n w rest short (inl (m, is, r)) =
       let p = typed-thresh k x xs typed in

@@ -11,6 +11,7 @@ pub mod Composite
 pub mod Sums
 pub mod Multis
 pub mod FewChildren
+pub mod Consensus
 pub mod Goes
 pub mod Back
 pub mod BackLeaves
@@ -18,9 +19,6 @@ pub mod BackComposite
 pub mod BackWrap
 pub mod BackSums
 pub mod Inverse
-pub mod Pieces
-pub mod Lengths
-pub mod ScriptHeights
 pub mod Sized
 pub mod Within
 pub mod Free
@@ -32,6 +30,13 @@ pub mod Trees
 pub mod PeakUnseen
 pub mod OpcodeGrowth
 pub mod StepRises
+pub mod Low
+pub mod Follows
+pub mod Still
+pub mod Branches
+pub mod Paths
+pub mod FragmentPaths
+pub mod RowPaths
 pub mod Bounds
 pub mod Lists
 pub mod Runs

@@ -1,5 +1,5 @@
 -- Instructions carried out one after the other by the machine with its limits and by the one without.
-use Rattle.std.proofs.Common.{◌≡◌, ℕ, ◌+◌, ◌<◌, ◌⊎◌, inl, inr, List, [], ◌∷◌, length, map, max, All, Ok, Err, refl, sym, ◌∙◌, ap, IsTrue, add-zero, arith}
+use Rattle.std.proofs.Common.{◌≡◌, ℕ, ◌+◌, ◌<◌, ◌≤◌, ◌⊎◌, inl, inr, List, [], ◌∷◌, length, map, max, All, Ok, Err, refl, sym, ◌∙◌, ap, IsTrue, add-zero, arith}
 use Rattle.std.proofs.lemmas.List.Elements.{All-head, All-tail}
 use Rattle.def_script.specs.Instruction.{Instruction}
 use Rattle.def_script.specs.Spell.{IsShort}
@@ -11,11 +11,12 @@ use Rattle.def_machine.specs.Stacks.{Pairs}
 use Rattle.def_machine.specs.Machine.{Given, State, step, height}
 use Rattle.def_machine.specs.Run.{Outcome, accepted, refused, leads, steps}
 use Rattle.def_promises.specs.Limited.{is_limit}
-use Rattle.ms_laws.proofs.ScriptRise.{rise, rises}
+use Rattle.ms_laws.proofs.ScriptRise.{rises}
 use Rattle.ms_laws.proofs.Free.{free_step, free_steps}
-use Rattle.ms_laws.proofs.PeakUnseen.{peaked, with_peak, steps_peak}
+use Rattle.ms_laws.proofs.PeakUnseen.{peaked, with_peak, step_peak, steps_peak}
 use Rattle.ms_laws.proofs.OpcodeGrowth.{bind_split, same_ok}
 use Rattle.ms_laws.proofs.StepRises.{Climbs, step_climbs}
+use Rattle.ms_laws.proofs.Low.{IsLow, low_start}
 use Rattle.ms_laws.proofs.Bounds.{StopsStep, settled, step_bounded, step_free}
 
 pub steps_climb : (given : Given) (is : List Instruction) (s t : State) → free_steps given is s ≡ Ok t → Climbs s t (rises is)
@@ -38,39 +39,56 @@ pub record Stops (given : Given) (is : List Instruction) (s : State) : Type 0 wh
   pub at : ℕ → ℕ
   pub steps : (place : ℕ) (next : ℕ → State → Outcome) → steps given (map item_of is) place s next ≡ refused fault (at place)
 
--- too many opcodes were counted at the end, or the stacks may have been too high on the way
-abbrev pub Beyond : State → State → ℕ → Type 0
-Beyond s t n = (MAX_OPS_PER_SCRIPT < t.ops) ⊎ (MAX_STACK_SIZE < height s + n)
-
 free_peaked : (given : Given) (is : List Instruction) (p : ℕ) (s t : State) → free_steps given is s ≡ Ok t → free_steps given is (peaked p s) ≡ Ok (peaked p t)
 free_peaked given is p s t h = steps_peak p given is s ∙ ap (with_peak p) h
 
-pub bounded : (given : Given) (is : List Instruction) (s t : State) → All IsShort is → free_steps given is s ≡ Ok t →
-    Ends given is s t ⊎ (Stops given is s × Beyond s t (rises is))
+pub bounded : (given : Given) (is : List Instruction) (s t : State) → All IsShort is → free_steps given is s ≡ Ok t → Ends given is s t ⊎ Stops given is s
 unfolding steps
 bounded given [] s t short h = inl (record { peak = s.peak; steps = λ place next. rw (← same_ok s t h, add-zero place) refl })
 bounded given (i ∷ is) s t short h =
     let u = bind_split (free_step given i s) (free_steps given is) t h in
-    go u.0 (step_climbs given i s u.0 u.1) (steps_climb given is u.0 t u.2)
-    (step_bounded given i s u.0 (All-head IsShort i is short) u.1)
+    go u.0 (step_bounded given i s u.0 (All-head IsShort i is short) u.1)
     (bounded given is (settled u.0) (peaked _ t) (All-tail IsShort i is short) (free_peaked given is _ u.0 t u.2))
   where
     longer : (place : ℕ) → place + 1 + length (map item_of is) ≡ place + length (map item_of (i ∷ is))
     longer place = omega arith
 
-    go : (u : State) → Climbs s u (rise i) → Climbs u t (rises is) →
-        (step given (item_of i) s ≡ Ok (settled u)) ⊎ StopsStep (step given (item_of i) s) u →
-        Ends given is (settled u) (peaked (max u.peak (height u)) t) ⊎ (Stops given is (settled u) × Beyond u t (rises is)) →
-        Ends given (i ∷ is) s t ⊎ (Stops given (i ∷ is) s × Beyond s t (rises (i ∷ is)))
-    go u first then (inl e) (inl ends) = inl (record { peak = ends.peak; steps = λ place next. rw (e, ends.steps (place + 1) next, longer place) refl })
-    go u first then (inl e) (inr (stops, inl many)) = inr (record { fault = stops.fault; limit = stops.limit; at = λ place. stops.at (place + 1); steps = λ place next. rw (e, stops.steps (place + 1) next) refl }, inl many)
-    go u first then (inl e) (inr (stops, inr high)) =
-        inr (record { fault = stops.fault; limit = stops.limit; at = λ place. stops.at (place + 1); steps = λ place next. rw (e, stops.steps (place + 1) next) refl }, inr (omega (arith, high, first.high)))
-    go u first then (inr stop) rest = inr (record { fault = stop.fault; limit = stop.limit; at = λ place. place; steps = λ place next. rw (stop.stops) refl }, why stop.why)
+    go : (u : State) → (step given (item_of i) s ≡ Ok (settled u)) ⊎ StopsStep (step given (item_of i) s) u →
+        Ends given is (settled u) (peaked (max u.peak (height u)) t) ⊎ Stops given is (settled u) →
+        Ends given (i ∷ is) s t ⊎ Stops given (i ∷ is) s
+    go u (inl e) (inl ends) = inl (record { peak = ends.peak; steps = λ place next. rw (e, ends.steps (place + 1) next, longer place) refl })
+    go u (inl e) (inr stops) = inr (record { fault = stops.fault; limit = stops.limit; at = λ place. stops.at (place + 1); steps = λ place next. rw (e, stops.steps (place + 1) next) refl })
+    go u (inr stop) rest = inr (record { fault = stop.fault; limit = stop.limit; at = λ place. place; steps = λ place next. rw (stop.stops) refl })
+
+-- within the limits on opcodes and stacks the instructions lead to the end, up to a peak no higher than the stacks get
+pub record LowEnds (given : Given) (is : List Instruction) (s t : State) (n : ℕ) : Type 0 where
+  pub peak : ℕ
+  pub low : peak ≤ n
+  pub steps : (place : ℕ) (next : ℕ → State → Outcome) → steps given (map item_of is) place s next ≡ next (place + length (map item_of is)) (peaked peak t)
+
+pub low_ends : (given : Given) (is : List Instruction) (p n : ℕ) (s t : State) → All IsShort is → free_steps given is s ≡ Ok t → IsLow given is s n → p ≤ n → n ≤ MAX_STACK_SIZE → t.ops ≤ MAX_OPS_PER_SCRIPT → LowEnds given is (peaked p s) t n
+unfolding steps
+low_ends given [] p n s t short h low few room ops = record { peak = p; low = few; steps = λ place next. rw (← same_ok s t h, add-zero place) refl }
+low_ends given (i ∷ is) p n s t short h low few room ops =
+    let u = bind_split (free_step given i s) (free_steps given is) t h in
+    let then = low.1 u.0 u.1 in
+    let high = low_start given is u.0 n then in
+    go u.0 high (steps_climb given is u.0 t u.2)
+    (step_bounded given i (peaked p s) (peaked p u.0) (All-head IsShort i is short) (step_peak p given i s ∙ ap (with_peak p) u.1))
+    (low_ends given is (max p (height u.0)) n u.0 t (All-tail IsShort i is short) u.2 then (omega (arith, few, high)) room ops)
+  where
+    longer : (place : ℕ) → place + 1 + length (map item_of is) ≡ place + length (map item_of (i ∷ is))
+    longer place = omega arith
+
+    go : (u : State) → height u ≤ n → Climbs u t (rises is) →
+        (step given (item_of i) (peaked p s) ≡ Ok (settled (peaked p u))) ⊎ StopsStep (step given (item_of i) (peaked p s)) (peaked p u) →
+        LowEnds given is (peaked (max p (height u)) u) t n → LowEnds given (i ∷ is) (peaked p s) t n
+    go u high climb (inl e) ends = record { peak = ends.peak; low = ends.low; steps = λ place next. rw (e, ends.steps (place + 1) next, longer place) refl }
+    go u high climb (inr stop) ends = absurd (never stop.why)
       where
-        why : (MAX_OPS_PER_SCRIPT < u.ops) ⊎ (MAX_STACK_SIZE < height u) → Beyond s t (rises (i ∷ is))
-        why (inl many) = inl (omega (arith, many, then.ops))
-        why (inr high) = inr (omega (arith, high, first.high))
+        never : (MAX_OPS_PER_SCRIPT < u.ops) ⊎ (MAX_STACK_SIZE < height u) → ⊥
+        never (inl many) = omega (arith, many, climb.ops, ops)
+        never (inr over) = omega (arith, over, high, room)
 
 -- conversely, what is accepted behind instructions was reached by them on the machine without limits
 pub record Reached (given : Given) (is : List Instruction) (place : ℕ) (s : State) (next : ℕ → State → Outcome) (outcome : Outcome) : Type 0 where

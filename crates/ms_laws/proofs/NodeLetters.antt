@@ -4,20 +4,18 @@ use Rattle.def_tree.specs.Tree.{Tree}
 use Rattle.def_tree.specs.Range.{IsWritable}
 use Rattle.def_types.specs.declared.Mall.{Mall}
 use Rattle.def_types.specs.Malleable.{mall}
-use Rattle.def_types.specs.Typed.{type_of, IsTyped, mall_of}
+use Rattle.def_types.specs.Typed.{type_of, IsTyped}
 use Rattle.def_types.proofs.Typing.{corr_is_typed, mall_is_non_malleable}
 use Rattle.def_tree.specs.Nodes.{all_nodes}
-use Rattle.def_sane.specs.Unfit.{IsValid}
-use Rattle.def_sane.proofs.Meanings.{valid_means}
 use Rattle.def_promises.specs.Letters.{TypeLetters, MallLetters, LettersHold}
-use Rattle.ms_laws.proofs.FewChildren.{few_valid}
+use Rattle.ms_laws.proofs.Consensus.{IsWithinConsensus, valid_consensus, few_children}
 use Rattle.ms_laws.proofs.Inherited.{node_is_writable, node_is_typed, node_is_few}
 use Rattle.ms_laws.proofs.Letters.{zero_arg, one_arg, non_zero, unit_value}
 use Rattle.ms_laws.proofs.Properties.{dissatisfiable, signed, forced, expressive}
 
-module _ (tree : Tree) (writable : IsWritable tree) (valid : IsValid tree) where
+module _ (tree : Tree) (writable : IsWritable tree) (consensus : IsWithinConsensus tree) where
   typed : (node : Tree) → Contains (all_nodes tree) node → IsTyped node
-  typed = let means = (valid_means tree).0 valid in node_is_typed tree means.0
+  typed = node_is_typed tree consensus.typed
 
   type_letters : (node : Tree) → Contains (all_nodes tree) node → TypeLetters node (type_of node)
   type_letters node is =
@@ -28,7 +26,7 @@ module _ (tree : Tree) (writable : IsWritable tree) (valid : IsValid tree) where
         one_arg = one_arg node has_type;
         non_zero = non_zero node has_type;
         dissatisfiable = dissatisfiable node can_write has_type;
-        unit = unit_value node can_write has_type (node_is_few tree (few_valid tree valid) node is);
+        unit = unit_value node can_write has_type (node_is_few tree (few_children tree consensus) node is);
       }
 
   mall_letters : (node : Tree) (properties : Mall) → Contains (all_nodes tree) node → mall node ≡ Ok properties → MallLetters node properties
@@ -43,6 +41,6 @@ module _ (tree : Tree) (writable : IsWritable tree) (valid : IsValid tree) where
 
 pub letters_of : LettersHold
 letters_of tree writable valid = record {
-  types = λ node is. (type_of node, (corr_is_typed node (type_of node)).1 (typed tree writable valid node is, refl), type_letters tree writable valid node is);
-  properties = mall_letters tree writable valid;
+  types = λ node is. (type_of node, (corr_is_typed node (type_of node)).1 (typed tree writable (valid_consensus tree valid) node is, refl), type_letters tree writable (valid_consensus tree valid) node is);
+  properties = mall_letters tree writable (valid_consensus tree valid);
 }

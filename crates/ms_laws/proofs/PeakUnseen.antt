@@ -82,7 +82,7 @@ module _ (p : ℕ) where
   only_peak true f s same = same
   only_peak false f s same = refl
 
-  step_peak : (given : Given) (i : Instruction) (s : State) → free_step given i (peaked p s) ≡ with_peak p (free_step given i s)
+  pub step_peak : (given : Given) (i : Instruction) (s : State) → free_step given i (peaked p s) ≡ with_peak p (free_step given i s)
   step_peak given (push bytes) s = only_peak (is_live s) _ s refl
   step_peak given (code op) s = only_peak (is_branching op || is_live s) (free_act given op) (one_more s) (act_peak given op (one_more s))
 

@@ -10,7 +10,7 @@ use Rattle.def_script.specs.Spell.{IsShort}
 use Rattle.def_script.specs.Laws.{item_of, CanSpell}
 use Rattle.def_machine.specs.declared.ScriptFault.TheVariants as fault
 use Rattle.def_machine.specs.Faults.{OrFault}
-use Rattle.def_machine.specs.Limits.{MAX_SCRIPT_SIZE, MAX_SCRIPT_ELEMENT_SIZE}
+use Rattle.def_machine.specs.Limits.{MAX_SCRIPT_SIZE, MAX_SCRIPT_ELEMENT_SIZE, MAX_OPS_PER_SCRIPT, MAX_STACK_SIZE}
 use Rattle.def_machine.specs.Stacks.{Stack, Pairs}
 use Rattle.def_machine.specs.Machine.{Given, State, is_live}
 use Rattle.def_machine.specs.Run.{Outcome, accepted, leads, start, steps, is_clean, finish, ended, run}
@@ -23,13 +23,13 @@ use Rattle.def_sane.specs.Limits.{opcode_count}
 use Rattle.def_promises.specs.Limited.{StopsAtLimit, StopFrom, LeaveFrom}
 use Rattle.ms_laws.proofs.Log.{Left}
 use Rattle.ms_laws.proofs.Den.{den}
-use Rattle.ms_laws.proofs.ScriptRise.{rises}
 use Rattle.ms_laws.proofs.Free.{reached, free_steps}
 use Rattle.ms_laws.proofs.PeakUnseen.{peaked}
 use Rattle.ms_laws.proofs.OpcodeGrowth.{bind_split, sure, same_ok}
 use Rattle.ms_laws.proofs.Does.{goes_from}
 use Rattle.ms_laws.proofs.Trees.{does}
-use Rattle.ms_laws.proofs.Lists.{Ends, Stops, Beyond, bounded, was_reached}
+use Rattle.ms_laws.proofs.Lists.{Ends, Stops, bounded, low_ends, was_reached}
+use Rattle.ms_laws.proofs.Low.{IsLow, low_start}
 
 -- a writable tree's Script can be spelled
 short_spells : (i : Instruction) → IsShort i → CanSpell i
@@ -37,7 +37,7 @@ short_spells (push bytes) short = omega (arith, short)
 short_spells (code op) short = tt
 
 -- the state at the start
-abbrev first : Stack → State
+abbrev pub first : Stack → State
 first w = record { main = w; alt = []; branches = []; ops = 0; peak = length w; checks = [] }
 
 -- the run of a tree's Script carries out its instructions
@@ -66,48 +66,49 @@ ends_well : (place peak n : ℕ) (w : Stack) (left : Left) (x : Bytes) → left.
 unfolding finish
 ends_well place peak n w left x one good = rw (one, good) refl
 
--- the run is accepted, or what is reached is beyond a limit
+-- the run from a stack that is written as a witness is, its top last
+run_is : (given : Given) (t : Tree) (w : Stack) → IsWritable t → length (script_of t) ≤ 10000 → list_all (λ x. nat_le (length x) MAX_SCRIPT_ELEMENT_SIZE) w ≡ true →
+    run given (script_of t) (reverse w) ≡ steps given (map item_of (emit t)) 0 (first w) ended
+run_is given t w writable small short = runs given t (reverse w) writable ∙ rw (reverse-reverse w, starts (script_of t) w small short) refl
+
+-- the number of opcodes at the end
+no_more_ops : (n keys : ℕ) → 0 + n + keys ≡ n + keys
+no_more_ops n keys = omega arith
+
+-- the run is accepted, or stops at a limit
 within : (given : Given) (t : Tree) (w : Stack) (left : Left) (x : Bytes) → IsWritable t → length (script_of t) ≤ 10000 →
     list_all (λ x. nat_le (length x) MAX_SCRIPT_ELEMENT_SIZE) w ≡ true →
     den given t w ≡ Ok left → left.main ≡ x ∷ [] → truth x ≡ true →
-    ((peak : ℕ) × (run given (script_of t) (reverse w) ≡ accepted (opcode_count (emit t) + left.log.keys) peak left.log.checks))
-    ⊎ (StopsAtLimit t given (reverse w) × Beyond (first w) (reached (first w) (opcode_count (emit t)) left) (rises (emit t)))
+    ((peak : ℕ) × (run given (script_of t) (reverse w) ≡ accepted (opcode_count (emit t) + left.log.keys) peak left.log.checks)) ⊎ StopsAtLimit t given (reverse w)
 within given t w left x writable small short h one good =
-    let free = does_first given t w left h in
     let s = short-emit t writable in
-    go (bounded given (emit t) (first w) (reached (first w) (opcode_count (emit t)) left) s.all free)
+    go (bounded given (emit t) (first w) (reached (first w) (opcode_count (emit t)) left) s.all (does_first given t w left h))
   where
-    run_is : run given (script_of t) (reverse w) ≡ steps given (map item_of (emit t)) 0 (first w) ended
-    run_is = runs given t (reverse w) writable ∙ rw (reverse-reverse w, starts (script_of t) w small short) refl
-
-    count : 0 + opcode_count (emit t) + left.log.keys ≡ opcode_count (emit t) + left.log.keys
-    count = omega arith
-
-    go : Ends given (emit t) (first w) (reached (first w) (opcode_count (emit t)) left)
-        ⊎ (Stops given (emit t) (first w) × Beyond (first w) (reached (first w) (opcode_count (emit t)) left) (rises (emit t))) →
-        ((peak : ℕ) × (run given (script_of t) (reverse w) ≡ accepted (opcode_count (emit t) + left.log.keys) peak left.log.checks))
-        ⊎ (StopsAtLimit t given (reverse w) × Beyond (first w) (reached (first w) (opcode_count (emit t)) left) (rises (emit t)))
+    go : Ends given (emit t) (first w) (reached (first w) (opcode_count (emit t)) left) ⊎ Stops given (emit t) (first w) →
+        ((peak : ℕ) × (run given (script_of t) (reverse w) ≡ accepted (opcode_count (emit t) + left.log.keys) peak left.log.checks)) ⊎ StopsAtLimit t given (reverse w)
     go (inl ends) =
         inl (
           ends.peak,
-          run_is ∙ ends.steps 0 ended ∙ ends_well _ ends.peak (opcode_count (emit t)) w left x one good
-              ∙ ap (λ (n : ℕ). accepted n ends.peak left.log.checks) count,
+          run_is given t w writable small short ∙ ends.steps 0 ended ∙ ends_well _ ends.peak (opcode_count (emit t)) w left x one good
+              ∙ ap (λ (n : ℕ). accepted n ends.peak left.log.checks) (no_more_ops (opcode_count (emit t)) left.log.keys),
         )
-    go (inr (stops, beyond)) = inr (record { fault = stops.fault; place = stops.at 0; limit = stops.limit; run = run_is ∙ stops.steps 0 ended }, beyond)
+    go (inr stops) = inr (record { fault = stops.fault; place = stops.at 0; limit = stops.limit; run = run_is given t w writable small short ∙ stops.steps 0 ended })
 
--- within the limits it is accepted
-pub accepted_run : (given : Given) (t : Tree) (w : Stack) (left : Left) (x : Bytes) → IsWritable t → length (script_of t) ≤ 10000 →
+-- within the limits it is accepted, and its peak is no higher than the stacks get
+pub accepted_run : (given : Given) (t : Tree) (w : Stack) (left : Left) (x : Bytes) (n : ℕ) → IsWritable t → length (script_of t) ≤ 10000 →
     All (λ item. length item ≤ 520) w → den given t w ≡ Ok left → left.main ≡ x ∷ [] → truth x ≡ true →
-    opcode_count (emit t) + left.log.keys ≤ 201 → length w + rises (emit t) ≤ 1000 →
-    (peak : ℕ) × (run given (script_of t) (reverse w) ≡ accepted (opcode_count (emit t) + left.log.keys) peak left.log.checks)
-accepted_run given t w left x writable small short h one good few low = go (within given t w left x writable small (all_short w short) h one good)
-  where
-    go : ((peak : ℕ) × (run given (script_of t) (reverse w) ≡ accepted (opcode_count (emit t) + left.log.keys) peak left.log.checks))
-        ⊎ (StopsAtLimit t given (reverse w) × Beyond (first w) (reached (first w) (opcode_count (emit t)) left) (rises (emit t))) →
-        (peak : ℕ) × (run given (script_of t) (reverse w) ≡ accepted (opcode_count (emit t) + left.log.keys) peak left.log.checks)
-    go (inl fine) = fine
-    go (inr (stops, inl many)) = absurd (omega (arith, many, few))
-    go (inr (stops, inr high)) = absurd (omega (arith, high, low))
+    opcode_count (emit t) + left.log.keys ≤ MAX_OPS_PER_SCRIPT → IsLow given (emit t) (first w) n → n ≤ MAX_STACK_SIZE →
+    (peak : ℕ) × (peak ≤ n) × (run given (script_of t) (reverse w) ≡ accepted (opcode_count (emit t) + left.log.keys) peak left.log.checks)
+accepted_run given t w left x n writable small short h one good few low room =
+    let s = short-emit t writable in
+    let e =
+    low_ends given (emit t) (length w) n (first w) (reached (first w) (opcode_count (emit t)) left) s.all (does_first given t w left h) low
+    (omega (arith, low_start given (emit t) (first w) n low)) room (omega (arith, few)) in (
+      e.peak,
+      e.low,
+      run_is given t w writable small (all_short w short) ∙ e.steps 0 ended ∙ ends_well _ e.peak (opcode_count (emit t)) w left x one good
+          ∙ ap (λ (n : ℕ). accepted n e.peak left.log.checks) (no_more_ops (opcode_count (emit t)) left.log.keys),
+    )
 
 -- an element that is too long stops it at the start
 pub too_long : (given : Given) (t : Tree) (stack : List Bytes) → IsWritable t → length (script_of t) ≤ 10000 →
@@ -126,11 +127,10 @@ pub run_or_limit : (given : Given) (t : Tree) (stack : List Bytes) (left : Left)
     ((ops : ℕ) × (peak : ℕ) × (run given (script_of t) stack ≡ accepted ops peak left.log.checks)) ⊎ StopsAtLimit t given stack
 run_or_limit given t stack left x writable small h one good = go (list_all (λ x. nat_le (length x) MAX_SCRIPT_ELEMENT_SIZE) (reverse stack)) refl
   where
-    turned : ((peak : ℕ) × (run given (script_of t) (reverse (reverse stack)) ≡ accepted (opcode_count (emit t) + left.log.keys) peak left.log.checks))
-        ⊎ (StopsAtLimit t given (reverse (reverse stack)) × Beyond (first (reverse stack)) (reached (first (reverse stack)) (opcode_count (emit t)) left) (rises (emit t))) →
+    turned : ((peak : ℕ) × (run given (script_of t) (reverse (reverse stack)) ≡ accepted (opcode_count (emit t) + left.log.keys) peak left.log.checks)) ⊎ StopsAtLimit t given (reverse (reverse stack)) →
         ((ops : ℕ) × (peak : ℕ) × (run given (script_of t) stack ≡ accepted ops peak left.log.checks)) ⊎ StopsAtLimit t given stack
     turned (inl fine) = inl (opcode_count (emit t) + left.log.keys, fine.0, ap (run given (script_of t)) (sym (reverse-reverse stack)) ∙ fine.1)
-    turned (inr (stops, beyond)) = inr (record { fault = stops.fault; place = stops.place; limit = stops.limit; run = ap (run given (script_of t)) (sym (reverse-reverse stack)) ∙ stops.run })
+    turned (inr stops) = inr (record { fault = stops.fault; place = stops.place; limit = stops.limit; run = ap (run given (script_of t)) (sym (reverse-reverse stack)) ∙ stops.run })
 
     go : (all : Bool) → list_all (λ x. nat_le (length x) MAX_SCRIPT_ELEMENT_SIZE) (reverse stack) ≡ all →
         ((ops : ℕ) × (peak : ℕ) × (run given (script_of t) stack ≡ accepted ops peak left.log.checks)) ⊎ StopsAtLimit t given stack
@@ -196,7 +196,7 @@ stop_or_leave given t s place left writable live h =
     let short = short-emit t writable in
     go (bounded given (emit t) s (reached s (opcode_count (emit t)) left) short.all (goes_from given (emit t) (den given t) (does given t) s live ∙ rw h refl))
   where
-    go : Ends given (emit t) s (reached s (opcode_count (emit t)) left) ⊎ (Stops given (emit t) s × Beyond s (reached s (opcode_count (emit t)) left) (rises (emit t))) →
+    go : Ends given (emit t) s (reached s (opcode_count (emit t)) left) ⊎ Stops given (emit t) s →
         StopFrom t given s place ⊎ LeaveFrom t given s place left.main
     go (inl ends) = inr (record { end = peaked ends.peak (reached s (opcode_count (emit t)) left); main = refl; steps = ends.steps place })
-    go (inr (stops, beyond)) = inl (record { fault = stops.fault; at = stops.at place; limit = stops.limit; steps = stops.steps place })
+    go (inr stops) = inl (record { fault = stops.fault; at = stops.at place; limit = stops.limit; steps = stops.steps place })

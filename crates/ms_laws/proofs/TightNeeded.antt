@@ -10,9 +10,10 @@ use Rattle.def_assets.specs.Assets.{Assets, AreAssets}
 use Rattle.def_emit.specs.Emit.{emit}
 use Rattle.def_sane.specs.Limits.{opcode_count}
 use Rattle.def_sane.specs.Most.{limits_of}
-use Rattle.def_sane.specs.Unfit.{IsValid, IsSane}
+use Rattle.def_sane.specs.declared.Rules.TheVariants.{Consensus}
+use Rattle.def_sane.specs.Unfit.{IsSaneUnder}
 use Rattle.def_sane.proofs.Greatest.{limits_are_computed}
-use Rattle.def_sane.proofs.Meanings.{valid_means, sane_means}
+use Rattle.def_sane.proofs.Meanings.{valid_means_under, sane_means_under}
 use Rattle.def_satisfaction.specs.Setting.{Setting}
 use Rattle.def_satisfaction.specs.Rows.{row}
 use Rattle.def_satisfaction.specs.Satisfaction.{canonical, Sat, Holds}
@@ -24,6 +25,7 @@ use Rattle.def_promises.specs.Promises.{StrictIsLightest}
 use Rattle.ms_laws.proofs.Back.{same_left}
 use Rattle.ms_laws.proofs.RowLogs.{sat_log}
 use Rattle.ms_laws.proofs.Ends.{left, Short}
+use Rattle.ms_laws.proofs.Consensus.{IsWithinConsensus, valid_consensus}
 use Rattle.ms_laws.proofs.Within.{sized_sat}
 use Rattle.ms_laws.proofs.Accepted.{satisfied, sat_with, short_items, accepts}
 use Rattle.ms_laws.proofs.PairSets.{Fewer}
@@ -37,11 +39,11 @@ pub record IsBeaten (tree : Tree) (assets : Assets) (pairs : Pairs) : Type 0 whe
   pub sat : Sat tree assets other
   pub fewer : Fewer (checks assets tree (reverse other) sat) pairs
 
-pub tight_or_beaten : (tree : Tree) (assets : Assets) (stack : List Bytes) → IsWritable tree → IsSane tree → AreAssets assets → (sat : Sat tree assets stack) →
+pub tight_or_beaten : (tree : Tree) (assets : Assets) (stack : List Bytes) → IsWritable tree → IsSaneUnder Consensus tree → AreAssets assets → (sat : Sat tree assets stack) →
     Tight tree assets stack ⊎ IsBeaten tree assets (checks assets tree (reverse stack) sat)
 tight_or_beaten tree assets stack writable sane are sat =
-    let s = (sane_means tree).0 sane in
-    let v = (valid_means tree).0 s.0 in
+    let s = (sane_means_under Consensus tree).0 sane in
+    let v = (valid_means_under Consensus tree).0 s.0 in
     elim (beats assets are tree writable v.0 s.1 s.4 (reverse stack) sat) [
       | inl tight ↦ inl tight
       | inr b ↦
@@ -51,23 +53,23 @@ tight_or_beaten tree assets stack writable sane are sat =
     ]
 
 -- what is logged depends on the stack alone
-same_log : (s : Setting) (t : Tree) → IsWritable t → IsValid t → (w : Stack) → Short w → (r q : (row s t).sat w) → sat_log s t w r ≡ sat_log s t w q
-same_log s t writable valid w short r q =
-    let a = satisfied s t writable valid w short r in
-    let b = satisfied s t writable valid w short q in
+same_log : (s : Setting) (t : Tree) → IsWritable t → IsWithinConsensus t → (w : Stack) → Short w → (r q : (row s t).sat w) → sat_log s t w r ≡ sat_log s t w q
+same_log s t writable consensus w short r q =
+    let a = satisfied s t writable consensus w short r in
+    let b = satisfied s t writable consensus w short q in
     ap (λ z. z.log) (same_left (left (a.0 ∷ []) (sat_log s t w r)) (left (b.0 ∷ []) (sat_log s t w q)) (sym a.1 ∙ b.1))
 
 same_checks : (n m p q : ℕ) (c d : Pairs) → accepted n p c ≡ accepted m q d → c ≡ d
 same_checks n m p q c d h = cc
 
 -- a canonical satisfaction's run, under the assets' own pairs
-pub accepts_own : (tree : Tree) (assets : Assets) (stack : List Bytes) → IsWritable tree → IsValid tree → AreAssets assets → (sat : Sat tree assets stack) →
+pub accepts_own : (tree : Tree) (assets : Assets) (stack : List Bytes) → IsWritable tree → IsWithinConsensus tree → AreAssets assets → (sat : Sat tree assets stack) →
     IsAccepted tree (given_with assets assets.pairs) stack (checks assets tree (reverse stack) sat)
-accepts_own tree assets stack writable valid are sat =
+accepts_own tree assets stack writable consensus are sat =
     let holds : Holds assets.pairs assets = λ key sig h. h in
-    let a = accepts tree (limits_of tree) assets assets.pairs stack writable valid (limits_are_computed tree) are holds sat in
+    let a = accepts tree (limits_of tree) assets assets.pairs stack writable consensus (limits_are_computed tree) are holds sat in
     let size = sized_sat assets are tree writable (reverse stack) sat in
-    let same = same_log (canonical assets) tree writable valid (reverse stack) (short_items 73 (omega arith) (reverse stack) size.short)
+    let same = same_log (canonical assets) tree writable consensus (reverse stack) (short_items 73 (omega arith) (reverse stack) size.short)
     (sat_with tree assets assets.pairs (reverse stack) holds sat) sat in
     record {
       ops = opcode_count (emit tree) + (sat_log (canonical assets) tree (reverse stack) sat).keys;
@@ -83,7 +85,7 @@ one_run tree assets table stack c d p q = same_checks p.ops q.ops p.peak q.peak 
 pairs_of_bytes : (assets : Assets) → AreAssets assets → IsTableOfBytes assets.pairs
 pairs_of_bytes assets are k d h = ((are.keys k d h).bytes, (are.signatures k d h).bytes)
 
-pub tight_if_non_malleable : (tree : Tree) (assets : Assets) (stack : List Bytes) → IsWritable tree → IsSane tree → AreAssets assets → Sat tree assets stack →
+pub tight_if_non_malleable : (tree : Tree) (assets : Assets) (stack : List Bytes) → IsWritable tree → IsSaneUnder Consensus tree → AreAssets assets → Sat tree assets stack →
     NonMalleable tree assets stack → Tight tree assets stack
 tight_if_non_malleable tree assets stack writable sane are sat non_malleable =
     elim (tight_or_beaten tree assets stack writable sane are sat) [
@@ -91,16 +93,16 @@ tight_if_non_malleable tree assets stack writable sane are sat non_malleable =
       | inr b ↦ absurd (beaten b (non_malleable assets.pairs (pairs_of_bytes assets are) (λ key sig h. h)))
     ]
   where
-    valid : IsValid tree
-    valid = let s = (sane_means tree).0 sane in s.0
+    consensus : IsWithinConsensus tree
+    consensus = let s = (sane_means_under Consensus tree).0 sane in valid_consensus tree s.0
 
     beaten : IsBeaten tree assets (checks assets tree (reverse stack) sat) →
         ((c : Pairs) × IsAccepted tree (given_with assets assets.pairs) stack c ×
         ((other : List Bytes) (others : Pairs) → All IsBytes other → IsAccepted tree (given_with assets assets.pairs) other others → other ≢ stack →
         HasNewPair others c ⊎ Fresh tree assets assets.pairs other)) → ⊥
     beaten b n =
-        let own = accepts_own tree assets stack writable valid are sat in
-        let is = accepts_own tree assets b.other writable valid are b.sat in
+        let own = accepts_own tree assets stack writable consensus are sat in
+        let is = accepts_own tree assets b.other writable consensus are b.sat in
         let others = checks assets tree (reverse b.other) b.sat in
         let same : checks assets tree (reverse stack) sat ≡ n.0 = one_run tree assets assets.pairs stack _ _ own n.1 in
         let fewer : Fewer others n.0 = subst (Fewer others) same b.fewer in

@@ -7,7 +7,7 @@ use Rattle.def_script.specs.declared.Op.TheVariants as op
 use Rattle.def_script.specs.Instruction.{Instruction, push, code}
 use Rattle.def_script.specs.Numbers.{natural_bytes}
 use Rattle.def_machine.specs.Locks.{after_holds, older_holds}
-use Rattle.def_machine.specs.Effects.{verify, if_dup, dup, swap, size, equal, zero_not_equal, add, bool_and, bool_or, hash, lock}
+use Rattle.def_machine.specs.Effects.{if_dup, dup, swap, size, equal, zero_not_equal, add, bool_and, bool_or, hash, lock}
 use Rattle.def_machine.specs.Machine.{Given, act}
 use Rattle.def_tree.specs.declared.Two.TheVariants as kind
 use Rattle.def_tree.specs.declared.Wrapper.TheVariants as wrapper
@@ -19,9 +19,24 @@ use Rattle.ms_laws.proofs.Does.{Does, does_as, both_does, code_does, push_does, 
 use Rattle.ms_laws.proofs.Signatures.{check_sig_does, check_multi_sig_does, equal_verify_does}
 use Rattle.ms_laws.proofs.Fused.{verified_does}
 
+-- Scripts with branches, in the parts that are carried out one after the other
+pub and_or_script : (x y z : Tree) → emit x ++ (code op.NotIf ∷ (emit z ++ code op.Else ∷ (emit y ++ code op.EndIf ∷ []))) ≡ emit (and_or x y z)
+and_or_script x y z =
+    sym (append_assoc (emit x ++ code op.NotIf ∷ emit z) (code op.Else ∷ emit y) (code op.EndIf ∷ [])
+    ∙ append_assoc (emit x) (code op.NotIf ∷ emit z) (code op.Else ∷ (emit y ++ code op.EndIf ∷ [])))
+
+pub or_c_script : (x y : Tree) → emit x ++ (code op.NotIf ∷ (emit y ++ code op.EndIf ∷ [])) ≡ emit (two kind.OrC x y)
+or_c_script x y = sym (append_assoc (emit x) (code op.NotIf ∷ emit y) (code op.EndIf ∷ []))
+
+pub or_d_script : (x y : Tree) → emit x ++ (code op.IfDup ∷ code op.NotIf ∷ (emit y ++ code op.EndIf ∷ [])) ≡ emit (two kind.OrD x y)
+or_d_script x y = sym (append_assoc (emit x) (code op.IfDup ∷ code op.NotIf ∷ emit y) (code op.EndIf ∷ []))
+
+pub or_i_script : (x y : Tree) → code op.If ∷ (emit x ++ code op.Else ∷ (emit y ++ code op.EndIf ∷ [])) ≡ emit (two kind.OrI x y)
+or_i_script x y = sym (append_assoc (code op.If ∷ emit x) (code op.Else ∷ emit y) (code op.EndIf ∷ []))
+
 module _ (given : Given) where
   -- one after the other
-  then_does : {c d : List Instruction} {f g : Effect} → Does given c f → Does given d g → Does given (c ++ d) (both f g)
+  pub then_does : {c d : List Instruction} {f g : Effect} → Does given c f → Does given d g → Does given (c ++ d) (both f g)
   then_does {c} {d} {f} {g} x y = both_does given c d f g x y
 
   same_script : {c d : List Instruction} {f : Effect} → c ≡ d → Does given c f → Does given d f
@@ -38,23 +53,19 @@ module _ (given : Given) where
   hash_does hash_kind.Ripemd160 = code_does given op.Ripemd160 (hash hash_kind.Ripemd160) refl (λ s. refl)
   hash_does hash_kind.Hash160 = code_does given op.Hash160 (hash hash_kind.Hash160) refl (λ s. refl)
 
-  verify_does : Does given (code op.Verify ∷ []) (plain verify)
-  unfolding act
-  verify_does = code_does given op.Verify verify refl (λ s. refl)
-
-  if_dup_does : Does given (code op.IfDup ∷ []) (plain if_dup)
+  pub if_dup_does : Does given (code op.IfDup ∷ []) (plain if_dup)
   unfolding act
   if_dup_does = code_does given op.IfDup if_dup refl (λ s. refl)
 
-  dup_does : Does given (code op.Dup ∷ []) (plain dup)
+  pub dup_does : Does given (code op.Dup ∷ []) (plain dup)
   unfolding act
   dup_does = code_does given op.Dup dup refl (λ s. refl)
 
-  swap_does : Does given (code op.Swap ∷ []) (plain swap)
+  pub swap_does : Does given (code op.Swap ∷ []) (plain swap)
   unfolding act
   swap_does = code_does given op.Swap swap refl (λ s. refl)
 
-  size_does : Does given (code op.Size ∷ []) (plain size)
+  pub size_does : Does given (code op.Size ∷ []) (plain size)
   unfolding act
   size_does = code_does given op.Size size refl (λ s. refl)
 
@@ -62,11 +73,11 @@ module _ (given : Given) where
   unfolding act
   equal_does = code_does given op.Equal equal refl (λ s. refl)
 
-  zero_not_equal_does : Does given (code op.ZeroNotEqual ∷ []) (plain zero_not_equal)
+  pub zero_not_equal_does : Does given (code op.ZeroNotEqual ∷ []) (plain zero_not_equal)
   unfolding act
   zero_not_equal_does = code_does given op.ZeroNotEqual zero_not_equal refl (λ s. refl)
 
-  add_does : Does given (code op.Add ∷ []) (plain add)
+  pub add_does : Does given (code op.Add ∷ []) (plain add)
   unfolding act
   add_does = code_does given op.Add add refl (λ s. refl)
 
@@ -99,20 +110,19 @@ module _ (given : Given) where
         then_does size_does (then_does (push_does given (natural_bytes 32)) (then_does (equal_verify_does given)
         (then_does (hash_does kind) (then_does (push_does given value) equal_does))))
     does (and_or x y z) =
-        same_script (sym (append_assoc (emit x ++ code op.NotIf ∷ emit z) (code op.Else ∷ emit y) (code op.EndIf ∷ [])
-        ∙ append_assoc (emit x) (code op.NotIf ∷ emit z) (code op.Else ∷ (emit y ++ code op.EndIf ∷ []))))
+        same_script (and_or_script x y z)
         (then_does (does x) (else_does given false (emit z) (emit y) (den given z) (den given y) (does z) (does y)))
     does (two kind.AndV x y) = then_does (does x) (does y)
     does (two kind.AndB x y) = same_script (sym (append_assoc (emit x) (emit y) _)) (then_does (does x) (then_does (does y) bool_and_does))
     does (two kind.OrB x y) = same_script (sym (append_assoc (emit x) (emit y) _)) (then_does (does x) (then_does (does y) bool_or_does))
     does (two kind.OrC x y) =
-        same_script (sym (append_assoc (emit x) (code op.NotIf ∷ emit y) (code op.EndIf ∷ [])))
+        same_script (or_c_script x y)
         (then_does (does x) (only_does given false (emit y) (den given y) (does y)))
     does (two kind.OrD x y) =
-        same_script (sym (append_assoc (emit x) (code op.IfDup ∷ code op.NotIf ∷ emit y) (code op.EndIf ∷ [])))
+        same_script (or_d_script x y)
         (then_does (does x) (then_does if_dup_does (only_does given false (emit y) (den given y) (does y))))
     does (two kind.OrI x y) =
-        same_script (sym (append_assoc (code op.If ∷ emit x) (code op.Else ∷ emit y) (code op.EndIf ∷ [])))
+        same_script (or_i_script x y)
         (else_does given true (emit x) (emit y) (den given x) (den given y) (does x) (does y))
     does (thresh k xs) = then_does (does_sum xs) (then_does (push_does given (natural_bytes k)) equal_does)
     does (multi k keys) =
@@ -125,10 +135,10 @@ module _ (given : Given) where
     does (wrap wrapper.J x) = then_does size_does (then_does zero_not_equal_does (only_does given true (emit x) (den given x) (does x)))
     does (wrap wrapper.N x) = then_does (does x) zero_not_equal_does
 
-    does_sum : (xs : Trees) → Does given (emit_sum xs) (den_sum given xs)
+    pub does_sum : (xs : Trees) → Does given (emit_sum xs) (den_sum given xs)
     does_sum none = nothing_does given
     does_sum (more x xs) = then_does (does x) (does_added xs)
 
-    does_added : (xs : Trees) → Does given (emit_added xs) (den_added given xs)
+    pub does_added : (xs : Trees) → Does given (emit_added xs) (den_added given xs)
     does_added none = nothing_does given
     does_added (more x xs) = then_does (does x) (then_does add_does (does_added xs))

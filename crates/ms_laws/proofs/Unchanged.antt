@@ -11,8 +11,8 @@ use Rattle.def_tree.specs.Range.{IsWritable}
 use Rattle.def_assets.specs.Assets.{Assets, known}
 use Rattle.def_sane.specs.Keys.{keys}
 use Rattle.def_sane.specs.Most.{limits_of}
-use Rattle.def_sane.specs.Unfit.{IsValid}
-use Rattle.def_sane.proofs.Meanings.{valid_means, sane_means}
+use Rattle.def_sane.specs.declared.Rules.TheVariants.{Consensus}
+use Rattle.def_sane.proofs.Meanings.{valid_means_under, sane_means_under}
 use Rattle.def_sane.proofs.Greatest.{limits_are_computed}
 use Rattle.def_satisfaction.specs.Setting.{only}
 use Rattle.def_satisfaction.specs.Rows.{row}
@@ -24,6 +24,7 @@ use Rattle.def_promises.proofs.FreshItems.{fresh_has_item}
 use Rattle.def_promises.proofs.Unchangeable.{unchangeable_is_non_malleable}
 use Rattle.ms_laws.proofs.RowLogs.{sat_log}
 use Rattle.ms_laws.proofs.Ends.{left}
+use Rattle.ms_laws.proofs.Consensus.{IsWithinConsensus, valid_consensus}
 use Rattle.ms_laws.proofs.Accepted.{accounted, accepts_row, accepted_short, satisfied}
 use Rattle.ms_laws.proofs.Runs.{run_accepted}
 use Rattle.ms_laws.proofs.Back.{same_left}
@@ -52,11 +53,11 @@ all_or_new (pair ∷ rest) those = go (member those pair.0 pair.1) refl (all_or_
     go true e (inr n) = inr (n.0, n.1, has_right (pair ∷ []) rest n.0 n.1 n.2, n.3)
 
 -- what a run passes doesn't depend on the row
-same_checks : (tree : Tree) (assets : Assets) (table : Pairs) (stack : List Bytes) (checks : Pairs) → IsWritable tree → IsValid tree → IsAccepted tree (given_with assets table) stack checks → (r : (row (full (given_with assets table) (only (known assets))) tree).sat (reverse stack)) → (sat_log (full (given_with assets table) (only (known assets))) tree (reverse stack) r).checks ≡ checks
-same_checks tree assets table stack checks writable valid is r =
+same_checks : (tree : Tree) (assets : Assets) (table : Pairs) (stack : List Bytes) (checks : Pairs) → IsWritable tree → IsWithinConsensus tree → IsAccepted tree (given_with assets table) stack checks → (r : (row (full (given_with assets table) (only (known assets))) tree).sat (reverse stack)) → (sat_log (full (given_with assets table) (only (known assets))) tree (reverse stack) r).checks ≡ checks
+same_checks tree assets table stack checks writable consensus is r =
     let s = full (given_with assets table) (only (known assets)) in
-    let short = accepted_short tree (given_with assets table) stack checks writable valid is in
-    let ends = satisfied s tree writable valid (reverse stack) short r in
+    let short = accepted_short tree (given_with assets table) stack checks writable consensus is in
+    let ends = satisfied s tree writable consensus (reverse stack) short r in
     let ran = run_accepted (given_with assets table) tree stack is.ops is.peak checks writable is.run in
     let same = same_left (left (ends.0 ∷ []) (sat_log s tree (reverse stack) r)) ran.0 (sym ends.1 ∙ ran.2) in
     ap (λ z. z.log.checks) same ∙ sym ran.6
@@ -66,19 +67,19 @@ abbrev IsOnly : Assets → Tree → (checks : Pairs) → Stack → Type 0
 IsOnly assets tree checks w =
     (other : Pairs) → Covered other (keys tree) checks → (v : Stack) → (row (under assets other) tree).sat v → v ≡ w
 
-against : (tree : Tree) (assets : Assets) (table : Pairs) (stack : List Bytes) (checks : Pairs) → IsWritable tree → IsValid tree → IsOnly assets tree checks (reverse stack) → (other : List Bytes) (others : Pairs) → IsAccepted tree (given_with assets table) other others → other ≢ stack → HasNewPair others checks ⊎ Fresh tree assets table other
-against tree assets table stack checks writable valid unique other others is differs =
+against : (tree : Tree) (assets : Assets) (table : Pairs) (stack : List Bytes) (checks : Pairs) → IsWritable tree → IsWithinConsensus tree → IsOnly assets tree checks (reverse stack) → (other : List Bytes) (others : Pairs) → IsAccepted tree (given_with assets table) other others → other ≢ stack → HasNewPair others checks ⊎ Fresh tree assets table other
+against tree assets table stack checks writable consensus unique other others is differs =
     elim (all_or_new others checks) [
       | inr new ↦ inl new
       | inl all ↦ elim (sat_or_not (under assets table) tree (reverse other)) [
-        | inr unsat ↦ inr ((accounted tree (given_with assets table) other others writable valid is).row, unsat)
+        | inr unsat ↦ inr ((accounted tree (given_with assets table) other others writable consensus is).row, unsat)
         | inl own ↦ absurd (differs (sym (reverse-reverse other) ∙ ap reverse (unique checks (covered_itself checks (keys tree)) (reverse other) (kept own all)) ∙ reverse-reverse stack))
       ]
     ]
   where
     kept : (r : (row (under assets table) tree).sat (reverse other)) → ((key sig : Bytes) → Has others key sig → Has checks key sig) → (row (under assets checks) tree).sat (reverse other)
     kept r all =
-        let same = same_checks tree assets table other others writable valid is r in
+        let same = same_checks tree assets table other others writable consensus is r in
         sat_kept (under assets table) checks tree writable (reverse other) r
         (λ key sig h. good_there key sig (all key sig (subst (λ c. Has c key sig) same h)) (sat_good (under assets table) tree writable (reverse other) r key sig h))
       where
@@ -87,14 +88,14 @@ against tree assets table stack checks writable valid unique other others is dif
 
 pub tight_is_unchangeable : TightIsUnchangeable
 tight_is_unchangeable tree assets stack writable sane are sat tight table holds =
-    let s = (sane_means tree).0 sane in
-    let v = (valid_means tree).0 s.0 in
+    let s = (sane_means_under Consensus tree).0 sane in
+    let v = (valid_means_under Consensus tree).0 s.0 in
     let one = only_sat assets table holds tree writable v.0 s.1 s.4 (reverse stack) tight in
-    let run = accepts_row tree (limits_of tree) assets table stack writable s.0 (limits_are_computed tree) are sat one.0 in
+    let run = accepts_row tree (limits_of tree) assets table stack writable (valid_consensus tree s.0) (limits_are_computed tree) are sat one.0 in
     let checks = (sat_log (at assets table) tree (reverse stack) one.0).checks in (
       checks,
       record { ops = _; peak = run.peak; run = run.run },
-      λ other others is differs. elim (against tree assets table stack checks writable s.0 one.1 other others is differs) [
+      λ other others is differs. elim (against tree assets table stack checks writable (valid_consensus tree s.0) one.1 other others is differs) [
         | inl new ↦ inl new
         | inr fresh ↦ inr (fresh, fresh_has_item tree assets table other fresh)
       ],
@@ -113,10 +114,10 @@ strict_is_non_malleable tree assets stack writable sane are e =
 -- where there is no canonical satisfaction, what is accepted is fresh
 pub nothing_to_accept : NothingToAccept
 nothing_to_accept tree assets stack checks writable sane are nowhere is =
-    let s = (sane_means tree).0 sane in
-    let v = (valid_means tree).0 s.0 in
+    let s = (sane_means_under Consensus tree).0 sane in
+    let v = (valid_means_under Consensus tree).0 s.0 in
     elim (sat_or_not (under assets assets.pairs) tree (reverse stack)) [
-      | inr unsat ↦ ((accounted tree (given_with assets assets.pairs) stack checks writable s.0 is).row, unsat)
+      | inr unsat ↦ ((accounted tree (given_with assets assets.pairs) stack checks writable (valid_consensus tree s.0) is).row, unsat)
       | inl own ↦
           let found = canonical_sat assets tree writable v.0 s.1 (reverse stack) own in
           let exists = (strict_exists tree assets writable sane are).1 (reverse found.0, subst (λ w. (row (canonical assets) tree).sat w) (sym (reverse-reverse found.0)) found.1) in

@@ -13,10 +13,12 @@ use Rattle.def_emit.specs.Emit.{emit}
 use Rattle.def_assets.specs.Assets.{Assets, AreAssets}
 use Rattle.def_sane.specs.declared.Limits.{Limits}
 use Rattle.def_sane.specs.Limits.{opcode_count, IsGreatest, AreLimits}
-use Rattle.def_sane.specs.Unfit.{IsValid}
+use Rattle.def_sane.specs.declared.Rules.TheVariants.{Consensus}
+use Rattle.def_sane.specs.Unfit.{IsValidUnder}
 use Rattle.def_sane.specs.Formal.{Takes, FormalSat, FormalDsat, FormalParts}
-use Rattle.def_sane.proofs.Meanings.{valid_means}
+use Rattle.def_sane.proofs.Meanings.{valid_means_under}
 use Rattle.def_sane.proofs.Greatest.{limits_are_unique}
+use Rattle.def_height.proofs.Bounds.{items_are_within_ops}
 use Rattle.def_satisfaction.specs.Weight.{weight}
 use Rattle.def_satisfaction.specs.Setting.{Setting}
 use Rattle.def_satisfaction.specs.Rows.{row, parts}
@@ -100,8 +102,9 @@ few_ops tree limits s w writable are_limits e r =
     let same : limits.ops ≡ opcode_count (emit tree) + are_limits.ops.0 = are_limits.ops.2 in
     omega (arith, l, same, k.2)
 
--- the limits of a valid miniscript
-pub valid_limits : (tree : Tree) (limits : Limits) → IsValid tree → AreLimits tree limits → (limits.size ≤ 3600) × (limits.ops ≤ 201) × (limits.items ≤ 100)
+-- the limits of a valid miniscript. It takes no more items than it has opcodes
+pub valid_limits : (tree : Tree) (limits : Limits) → IsValidUnder Consensus tree → AreLimits tree limits → (limits.size ≤ 10000) × (limits.ops ≤ 201) × (limits.items ≤ 201)
 valid_limits tree limits valid are =
-    let means = (valid_means tree).0 valid in
-    rw (limits_are_unique tree limits are) (means.2, means.3, means.4)
+    let means = (valid_means_under Consensus tree).0 valid in
+    let few = items_are_within_ops tree means.0 means.1 in
+    rw (limits_are_unique tree limits are) (means.2, means.3, omega (arith, few, means.3))

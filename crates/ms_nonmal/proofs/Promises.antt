@@ -6,7 +6,8 @@ use Rattle.def_machine.specs.Stacks.{Pairs}
 use Rattle.def_tree.specs.Tree.{Tree}
 use Rattle.def_tree.specs.Range.{IsWritable}
 use Rattle.def_assets.specs.Assets.{Assets, AreAssets}
-use Rattle.def_sane.specs.Unfit.{IsSane}
+use Rattle.def_sane.specs.declared.Rules.TheVariants.{Consensus}
+use Rattle.def_sane.specs.Unfit.{IsSaneUnder}
 use Rattle.def_satisfaction.specs.Weight.{weight}
 use Rattle.def_satisfaction.specs.Satisfaction.{Sat}
 use Rattle.def_choice.specs.Strict.{strict}
@@ -17,7 +18,7 @@ use Rattle.ms_laws.proofs.StrictFound.{strict_exists}
 use Rattle.ms_laws.proofs.Unchanged.{strict_is_non_malleable, strict_is_unchangeable, nothing_to_accept}
 use Rattle.ms_laws.proofs.TightNeeded.{strict_is_lightest}
 
-module _ (tree : Tree) (assets : Assets) (found : Option (List Bytes)) (writable : IsWritable tree) (sane : IsSane tree) (are : AreAssets assets) (is : found ≡ strict tree assets) where
+module _ (tree : Tree) (assets : Assets) (found : Option (List Bytes)) (writable : IsWritable tree) (sane : IsSaneUnder Consensus tree) (are : AreAssets assets) (is : found ≡ strict tree assets) where
   pub found_sat : (stack : List Bytes) → found ≡ Some stack → Sat tree assets stack
   found_sat stack e = strict_is_canonical tree assets stack writable are (sym is ∙ e)
 

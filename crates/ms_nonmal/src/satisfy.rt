@@ -3,7 +3,8 @@ ghost use Rattle.std.specs.Prelude.{◌≡◌, ◌↔◌, ◌≤◌, List, Some,
 ghost use Rattle.def_script.specs.Bytes.{Bytes};
 ghost use Rattle.def_machine.specs.Stacks.{Pairs};
 ghost use Rattle.def_tree.specs.Range.{IsInRange};
-ghost use Rattle.def_sane.specs.Unfit.{IsSane};
+ghost use Rattle.def_sane.specs.declared.Rules.TheVariants.{Consensus};
+ghost use Rattle.def_sane.specs.Unfit.{IsSaneUnder};
 ghost use Rattle.def_satisfaction.specs.Weight.{weight};
 ghost use Rattle.def_satisfaction.specs.Satisfaction.{Sat};
 ghost use Rattle.def_choice.specs.Strict.{strict as the_strict};
@@ -21,12 +22,12 @@ use std::alloc::{AllocError, Global};
 /// The strict satisfaction of a tree with these assets, which nobody without further signatures can
 /// change: at each fragment an option that needs no signature is taken before one that does, every child
 /// of a threshold that needs none is satisfied, and all else is as in the cheapest satisfaction. `None`
-/// where there is no canonical satisfaction. The tree is sane. Every other stack that is accepted in the same locks passes
-/// a check of a signature that this one's run doesn't, or has a preimage that isn't the known one, or another key with
-/// the hash of a key of the tree.
+/// where there is no canonical satisfaction. The tree is sane by the limits of consensus, as each is that is sane by
+/// those of policy. Every other stack that is accepted in the same locks passes a check of a signature that this one's
+/// run doesn't, or has a preimage that isn't the known one, or another key with the hash of a key of the tree.
 pub fn strict(alloc: Global, tree: &Tree<'_>, assets: &Assets) -> Result<Option<Stack>, AllocError>
     requires in_range { IsInRange (shape tree.now) }
-    requires sane { IsSane (shape tree.now) }
+    requires sane { IsSaneUnder Consensus (shape tree.now) }
     ensures choice { IfOk result (λ found. found ≡ the_strict (shape tree.now) assets.now) }
     ensures sat { IfOk result (λ found. (stack : List Bytes) → found ≡ Some stack → Sat (shape tree.now) assets.now stack) }
     ensures none { IfOk result (λ found. (found ≡ None) ↔ ((stack : List Bytes) → Sat (shape tree.now) assets.now stack → ⊥)) }

@@ -14,7 +14,8 @@ use Rattle.def_files.specs.Laws.{AreFewAssets}
 use Rattle.def_sane.specs.declared.Limits.{Limits}
 use Rattle.def_sane.specs.Limits.{AreLimits}
 use Rattle.def_sane.specs.Most.{limits_of}
-use Rattle.def_sane.specs.Unfit.{IsValid}
+use Rattle.def_sane.specs.declared.Rules.TheVariants.{Consensus}
+use Rattle.def_sane.specs.Unfit.{IsValidUnder}
 use Rattle.def_sane.proofs.Greatest.{limits_are_computed}
 use Rattle.def_satisfaction.specs.Satisfaction.{Sat, Holds}
 use Rattle.def_choice.specs.NonMalleable.{given_with}
@@ -31,7 +32,7 @@ use Rattle.ms_replay.proofs.Witnesses.{witness_is_replayed}
 -- a canonical satisfaction of a valid miniscript
 pub record Satisfies (tree : Tree) (assets : Assets) (stack : List Bytes) : Type 0 where
   pub in_range : IsInRange tree
-  pub valid : IsValid tree
+  pub valid : IsValidUnder Consensus tree
   pub few : AreFewAssets assets
   pub sat : Sat tree assets stack
 

@@ -8,7 +8,8 @@ ghost use Rattle.def_machine.specs.Run.{run as the_run, accepted};
 ghost use Rattle.def_machine.specs.Stacks.{Pairs};
 ghost use Rattle.def_promises.specs.Acceptance.{IsAcceptedWithin};
 ghost use Rattle.def_sane.specs.Limits.{AreLimits};
-ghost use Rattle.def_sane.specs.Unfit.{IsValid};
+ghost use Rattle.def_sane.specs.declared.Rules.TheVariants.{Consensus};
+ghost use Rattle.def_sane.specs.Unfit.{IsValidUnder};
 ghost use Rattle.def_sane.specs.declared.Limits.{Limits};
 ghost use Rattle.def_satisfaction.specs.Satisfaction.{Holds, Sat};
 ghost use Rattle.def_script.specs.Witness.{witness_text};
@@ -46,9 +47,10 @@ pub struct Carried {
 /// Carries a satisfaction of a tree, bottom first, to its witness: makes the tree's Script, its program and the
 /// witness, and replays it.
 ///
-/// It demands that the tree is valid (BIP 379), that the stack is a canonical satisfaction of it with these assets,
-/// and that the table of `sigs` holds the assets' signatures with their keys and its check is sound. The interpreter
-/// accepts each such stack, so `AllocError` comes only where memory is wanting.
+/// It demands that the tree is valid (BIP 379) by the limits of consensus, as each is that is valid by those of policy;
+/// that the stack is a canonical satisfaction of it with these assets; and that the table of `sigs` holds the assets'
+/// signatures with their keys and its check is sound. The interpreter accepts each such stack, so `AllocError` comes
+/// only where memory is wanting.
 pub fn carry<F: Fn(&[u8], &[u8]) -> bool>(
     alloc: Global,
     tree: &Tree<'_>,
@@ -57,7 +59,7 @@ pub fn carry<F: Fn(&[u8], &[u8]) -> bool>(
     sigs: &SigCheck<'_, F>,
 ) -> Result<Carried, AllocError>
     requires in_range { IsInRange (shape tree.now) }
-    requires valid { IsValid (shape tree.now) }
+    requires valid { IsValidUnder Consensus (shape tree.now) }
     requires satisfies { Sat (shape tree.now) assets.now stack.now }
     requires holds { Holds (table_of sigs.now) assets.now }
     requires sound { IsSound F.Fn sigs.now }

@@ -6,7 +6,8 @@ use Rattle.def_types.specs.declared.Base.TheVariants.{B}
 use Rattle.def_types.specs.Corr.{corr}
 use Rattle.def_emit.specs.Emit.{emit, script_of}
 use Rattle.def_sane.specs.Limits.{opcode_count}
-use Rattle.def_sane.specs.Unfit.{MOST_SIZE}
+use Rattle.def_sane.specs.declared.Rules.{Rules}
+use Rattle.def_sane.specs.Unfit.{size_limit}
 use Rattle.ms_emit.specs.declared.extent.Extent.{Extent}
 use Rattle.ms_sane.specs.declared.valid.Short.{Short}
 
@@ -16,9 +17,9 @@ pub record IsExtent (tree : Tree) (extent : Extent) : Type 0 where
   pub opcodes : extent.opcodes ≡ opcode_count (emit tree)
   pub few : extent.opcodes ≤ 8 * measure tree
 
--- it has this type, its top is B, and its Script comes to this and isn't too large
-pub record IsShort (tree : Tree) (short : Short) : Type 0 where
+-- it has this type, its top is B, and its Script comes to this and isn't too large under these rules
+pub record IsShort (rules : Rules) (tree : Tree) (short : Short) : Type 0 where
   pub typed : corr tree ≡ Ok short.ty
   pub top : short.ty.base ≡ B
   pub extent : IsExtent tree short.extent
-  pub size : short.extent.bytes ≤ MOST_SIZE
+  pub size : short.extent.bytes ≤ size_limit rules

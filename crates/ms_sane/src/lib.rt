@@ -14,9 +14,9 @@ mod tests;
 mod valid;
 mod work;
 
-pub use def_sane::{Limits, Sane, Unfit, Valid};
+pub use def_sane::{Limits, Rules, Sane, Unfit, Valid};
 pub use mixing::mix;
 pub use resources::limits;
-pub use sane::{check_sane, check_sane_of};
-pub use valid::{Short, check_short, check_valid, check_valid_of};
+pub use sane::{check_sane, check_sane_of, check_sane_under};
+pub use valid::{Short, check_short, check_valid, check_valid_of, check_valid_under};
 pub use work::{Slot, Work};

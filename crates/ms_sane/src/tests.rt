@@ -335,3 +335,106 @@ fn locks_of_two_kinds_are_mixed(rt: HostRuntime) -> Result<(), Fail> {
     }
     Ok(())
 }
+
+/// A list of 20 keys, of which one has to sign.
+const KEYS: &str = "multi(1,A,A,A,A,A,A,A,A,A,A,A,A,A,A,A,A,A,A,A,A)";
+
+/// Parts that open a parenthesis, each so many times, one in another around a last part.
+fn nested(alloc: Global, parts: &[(&str, u32)], last: &str) -> Result<String, AllocError> {
+    let mut form = String::new(alloc);
+    let mut closed = String::new(alloc);
+    for (part, count) in parts {
+        for _ in 0..*count {
+            form.push_str(part)?;
+            closed.push(')')?;
+        }
+    }
+    form.push_str(last)?;
+    form.push_str(closed.as_str())?;
+    Ok(form)
+}
+
+/// So many letters.
+fn repeated(alloc: Global, letter: &str, count: u32) -> Result<String, AllocError> {
+    let mut letters = String::new(alloc);
+    for _ in 0..count {
+        letters.push_str(letter)?;
+    }
+    Ok(letters)
+}
+
+/// The first reasons against a text's being valid, by policy and by consensus.
+fn reasons(alloc: Global, form: &str) -> Result<[Option<Unfit>; 2], Fail> {
+    let arena = Bump::new(alloc);
+    let read = tree_of(alloc, &arena, form)?;
+    let mut work = Work::new(alloc, read.tree())?;
+    let by_policy = check_valid(read.tree(), &mut work).err();
+    let by_consensus = check_valid_under(read.tree(), Rules::Consensus, &mut work).err();
+    Ok([by_policy, by_consensus])
+}
+
+#[test]
+fn a_satisfaction_has_few_items_by_policy(rt: HostRuntime) -> Result<(), Fail> {
+    let alloc = rt.alloc();
+    let cases = [
+        (99, [None, None]),
+        (100, [Some(Unfit::Items(101)), None]),
+        (200, [Some(Unfit::Size(7_035)), None]),
+        (201, [Some(Unfit::Size(7_070)), Some(Unfit::Ops(202))]),
+    ];
+    for (count, wanted) in cases {
+        let form = nested(alloc, &[("and_v(v:pk(A),", count)], "pk(B)")?;
+        assert_eq!(rt; reasons(alloc, &form)?, wanted, "{count}");
+    }
+    Ok(())
+}
+
+#[test]
+fn a_script_has_few_bytes(rt: HostRuntime) -> Result<(), Fail> {
+    let alloc = rt.alloc();
+    let and_key = "and_v(v:pk(A),";
+    let and_keys = format!(in alloc; "and_v(v:{KEYS},")?;
+    let most = nested(alloc, &[(&and_keys, 5), (and_key, 5)], "older(32768)")?;
+    assert_eq!(rt; reasons(alloc, &most)?, [None, None]);
+    let over = nested(alloc, &[(&and_keys, 5), (and_key, 5)], "older(8388608)")?;
+    assert_eq!(rt; reasons(alloc, &over)?, [Some(Unfit::Size(3_601)), None]);
+
+    let or_keys = format!(in alloc; "or_i({KEYS},")?;
+    let most = nested(alloc, &[(and_key, 11), (&or_keys, 13)], KEYS)?;
+    assert_eq!(rt; reasons(alloc, &most)?, [Some(Unfit::Size(10_000)), None]);
+    let n_or_keys = format!(in alloc; "n:or_i({KEYS},")?;
+    let over = nested(
+        alloc,
+        &[(and_key, 11), (&n_or_keys, 1), (&or_keys, 12)],
+        KEYS,
+    )?;
+    let too_large = Some(Unfit::Size(10_001));
+    assert_eq!(rt; reasons(alloc, &over)?, [too_large, too_large]);
+    Ok(())
+}
+
+#[test]
+fn a_script_has_few_opcodes(rt: HostRuntime) -> Result<(), Fail> {
+    let alloc = rt.alloc();
+    let or_keys = format!(in alloc; "or_i({KEYS},")?;
+    let either = nested(alloc, &[(&or_keys, 1)], KEYS)?;
+    let most = format!(in alloc; "{}:{either}", repeated(alloc, "n", 176)?)?;
+    assert_eq!(rt; reasons(alloc, &most)?, [None, None]);
+    let over = format!(in alloc; "{}:{either}", repeated(alloc, "n", 177)?)?;
+    let too_many = Some(Unfit::Ops(202));
+    assert_eq!(rt; reasons(alloc, &over)?, [too_many, too_many]);
+    Ok(())
+}
+
+#[test]
+fn what_policy_allows_is_sane_by_consensus(rt: HostRuntime) -> Result<(), Fail> {
+    let alloc = rt.alloc();
+    let arena = Bump::new(alloc);
+    let read = tree_of(alloc, &arena, "and_v(v:pk(A),and_v(v:pk(B),pk(C)))")?;
+    let mut work = Work::new(alloc, read.tree())?;
+    let by_policy = check_sane(read.tree(), &mut work).ok();
+    let by_consensus = check_sane_under(read.tree(), Rules::Consensus, &mut work).ok();
+    assert_eq!(rt; by_policy.is_some(), true);
+    assert_eq!(rt; by_policy, by_consensus);
+    Ok(())
+}

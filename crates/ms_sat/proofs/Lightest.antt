@@ -4,8 +4,9 @@ use Rattle.std.specs.Option.{option_map}
 use Rattle.def_script.specs.Bytes.{Bytes}
 use Rattle.def_machine.specs.Stacks.{Stack}
 use Rattle.def_tree.specs.Tree.{Tree}
-use Rattle.def_sane.specs.Unfit.{IsValid}
-use Rattle.def_sane.proofs.Meanings.{valid_means}
+use Rattle.def_sane.specs.declared.Rules.TheVariants.{Consensus}
+use Rattle.def_sane.specs.Unfit.{IsValidUnder}
+use Rattle.def_sane.proofs.Meanings.{valid_means_under}
 use Rattle.def_types.specs.Typed.{IsTyped}
 use Rattle.def_satisfaction.specs.Weight.{weight}
 use Rattle.def_choice.specs.Lightest.{IsLightest}
@@ -37,8 +38,8 @@ of_lightest P (Some w) best = record {
 pub least_weight : (P : List Bytes → Type 0) (m : Option (List Bytes)) (o : Option ℕ) → o ≡ option_map weight m → IsLightest P m → IsLeastWeight P o
 least_weight P m o is best = subst (IsLeastWeight P) (sym is) (of_lightest P m best)
 
-pub typed_valid : (t : Tree) → IsValid t → IsTyped t
-typed_valid t valid = ((valid_means t).0 valid).0
+pub typed_valid : (t : Tree) → IsValidUnder Consensus t → IsTyped t
+typed_valid t valid = ((valid_means_under Consensus t).0 valid).0
 
 -- and there is none exactly where there is no stack
 pub none_lightest : (P : List Bytes → Type 0) (m : Option (List Bytes)) → IsLightest P m → (m ≡ None) ↔ ((stack : List Bytes) → P stack → ⊥)

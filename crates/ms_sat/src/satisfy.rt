@@ -6,7 +6,8 @@ ghost use Rattle.def_tree.specs.Range.{MOST_MEASURE, IsInRange};
 ghost use Rattle.def_tree.specs.Size.{measure_of};
 ghost use Rattle.def_tree.specs.Tree as tree;
 ghost use Rattle.def_tree.specs.Nodes.{nodes_of_all};
-ghost use Rattle.def_sane.specs.Unfit.{IsValid};
+ghost use Rattle.def_sane.specs.declared.Rules.TheVariants.{Consensus};
+ghost use Rattle.def_sane.specs.Unfit.{IsValidUnder};
 ghost use Rattle.def_assets.specs.Assets.{AreAssets, Assets as Held, sig_of, known};
 ghost use Rattle.def_satisfaction.specs.Rows.{EMPTY};
 ghost use Rattle.def_satisfaction.specs.Satisfaction.{Sat};
@@ -44,15 +45,16 @@ use std::alloc::{AllocError, Global};
 
 /// The cheapest canonical satisfaction of a tree with these assets: at each fragment the option of least
 /// weight, and of several of that weight the first one. `None` where there is no canonical satisfaction.
-/// The tree is valid. So what the interpreter accepts of it is a satisfaction, and the letters of its types and of
-/// its nodes' say of all stacks what BIP 379 says of them.
+/// The tree is valid by the limits of consensus, as each is that is valid by those of policy. So what the interpreter
+/// accepts of it is a satisfaction, and the letters of its types and of its nodes' say of all stacks what BIP 379 says
+/// of them.
 pub fn cheapest(
     alloc: Global,
     tree: &Tree<'_>,
     assets: &Assets,
 ) -> Result<Option<Stack>, AllocError>
     requires in_range { IsInRange (shape tree.now) }
-    requires valid { IsValid (shape tree.now) }
+    requires valid { IsValidUnder Consensus (shape tree.now) }
     ensures choice { IfOk result (λ found. found ≡ the_cheapest (shape tree.now) assets.now) }
     ensures lightest { IfOk result (λ found. IsLightest (Sat (shape tree.now) assets.now) found) }
     ensures none { IfOk result (λ found. (found ≡ None) ↔ ((stack : List Bytes) → Sat (shape tree.now) assets.now stack → ⊥)) }
@@ -65,7 +67,7 @@ pub fn cheapest(
 }
 
 /// The canonical satisfaction of a tree with these assets that a rule chooses. `None` where there is none. The tree
-/// is valid. Each node is weighed once, and what was weighed is kept until the stack is made.
+/// is valid by the limits of consensus. Each node is weighed once, and what was weighed is kept until the stack is made.
 pub fn satisfaction(
     alloc: Global,
     rule: Rule,
@@ -73,7 +75,7 @@ pub fn satisfaction(
     assets: &Assets,
 ) -> Result<Option<Stack>, AllocError>
     requires in_range { IsInRange (shape tree.now) }
-    requires valid { IsValid (shape tree.now) }
+    requires valid { IsValidUnder Consensus (shape tree.now) }
     ensures { IfOk result (λ found. found ≡ option_map reverse (stack_by rule assets.now (shape tree.now))) }
 {
     // Its clauses tell what assets always are.

@@ -8,7 +8,8 @@ ghost use Rattle.def_types.specs.Typed.{IsTyped};
 ghost use Rattle.def_assets.specs.Assets.{AreAssets, sig_of, known};
 ghost use Rattle.def_hash.specs.Hash.{digest_of};
 ghost use Rattle.def_satisfaction.specs.Rows.{ZEROS as the_zeros};
-ghost use Rattle.def_sane.specs.Unfit.{IsValid};
+ghost use Rattle.def_sane.specs.declared.Rules.TheVariants.{Consensus};
+ghost use Rattle.def_sane.specs.Unfit.{IsValidUnder};
 ghost use Rattle.def_satisfaction.specs.Weight.{weight};
 ghost use Rattle.def_satisfaction.specs.Satisfaction.{Sat, Dsat};
 ghost use Rattle.def_choice.specs.Least.{item};
@@ -33,11 +34,11 @@ use ms_tree::{Key, Leaf, Tree, Two, View, Wrapper};
 pub const ZEROS: [u8; 32] = [0; 32];
 
 /// The least weight of a canonical satisfaction of a tree with these assets, and of a canonical
-/// dissatisfaction, each `None` where there is none. The tree is valid, and `work` has at least four
-/// slots for each unit of its measure. Takes no memory.
+/// dissatisfaction, each `None` where there is none. The tree is valid by the limits of consensus, as each is that is
+/// valid by those of policy, and `work` has at least four slots for each unit of its measure. Takes no memory.
 pub fn costs(tree: &Tree<'_>, assets: &Assets, work: &mut Work) -> Costs
     requires in_range { IsInRange (shape tree.now) }
-    requires valid { IsValid (shape tree.now) }
+    requires valid { IsValidUnder Consensus (shape tree.now) }
     requires room { 4 * measure (shape tree.now) ≤ vec_len work.old.slots }
     ensures sat { result.sat ≡ option_map weight (cheapest (shape tree.now) assets.now) }
     ensures dsat { result.dsat ≡ option_map weight (option_map reverse (dissatisfaction (shape tree.now))) }

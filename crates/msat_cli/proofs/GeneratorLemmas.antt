@@ -19,9 +19,10 @@ use Rattle.def_text.proofs.OneAnswer.{none_beside_tree}
 use Rattle.def_assets.specs.Assets.{Assets, AreAssets}
 use Rattle.def_files.specs.AssetFile.{is_signature}
 use Rattle.def_sane.specs.Most.{limits_of}
-use Rattle.def_sane.specs.Unfit.{IsSane, IsValid}
+use Rattle.def_sane.specs.declared.Rules.TheVariants.{Policy, Consensus}
+use Rattle.def_sane.specs.Unfit.{IsSane, IsSaneUnder, IsValidUnder}
 use Rattle.def_sane.proofs.Greatest.{limits_are_computed}
-use Rattle.def_sane.proofs.Meanings.{sane_means}
+use Rattle.def_sane.proofs.Meanings.{sane_means_under, sane_under_consensus}
 use Rattle.def_satisfaction.specs.Satisfaction.{Sat}
 use Rattle.def_choice.specs.Cheapest.{cheapest}
 use Rattle.def_choice.specs.Strict.{strict}
@@ -126,11 +127,11 @@ no_refusal n text e some few is utf8 refused known =
 
 -- ---- both satisfactions
 
-pub sane_is_valid : (tree : Tree) → IsSane tree → IsValid tree
-sane_is_valid tree sane = ((sane_means tree).0 sane).0
+pub sane_is_valid : (tree : Tree) → IsSaneUnder Consensus tree → IsValidUnder Consensus tree
+sane_is_valid tree sane = ((sane_means_under Consensus tree).0 sane).0
 
-pub generated_sane : (n : ℕ) (tree : Tree) → 1 ≤ n → n ≤ 30 → tree ≡ generated_tree n → IsSane tree
-generated_sane n tree some few is = subst IsSane (sym is) (generated_is_sane n some few)
+pub generated_sane : (n : ℕ) (tree : Tree) → 1 ≤ n → n ≤ 30 → tree ≡ generated_tree n → IsSaneUnder Consensus tree
+generated_sane n tree some few is = sane_under_consensus Policy tree (subst IsSane (sym is) (generated_is_sane n some few))
 
 -- the tree has both
 pub both_found : (n : ℕ) (tree : Tree) (assets : Assets) → 1 ≤ n → n ≤ 30 → tree ≡ generated_tree n → assets ≡ generated_assets n
@@ -143,7 +144,7 @@ pub strict_sat : (tree : Tree) (assets : Assets) (answer : Option (List Bytes)) 
 strict_sat tree assets answer stack in_range held is some = strict_is_canonical tree assets stack in_range.writable held (sym is ∙ some)
 
 -- the weight of a satisfaction is small
-pub light : (tree : Tree) (assets : Assets) (stack : List Bytes) → IsInRange tree → IsValid tree → AreAssets assets → Sat tree assets stack
+pub light : (tree : Tree) (assets : Assets) (stack : List Bytes) → IsInRange tree → IsValidUnder Consensus tree → AreAssets assets → Sat tree assets stack
     → stacks.weight stack ≤ 2 ^ 40
 light tree assets stack in_range valid held sat = light_stack tree _ assets stack in_range valid (limits_are_computed tree) held sat
 

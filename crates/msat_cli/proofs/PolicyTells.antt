@@ -6,7 +6,9 @@ use Rattle.def_script.specs.Bytes.{Bytes}
 use Rattle.def_tree.specs.Tree.{Tree}
 use Rattle.def_text.specs.Refusal.{TextReads}
 use Rattle.def_text.proofs.SpelledInRange.{spelled_in_range}
+use Rattle.def_sane.specs.declared.Rules.TheVariants.{Policy}
 use Rattle.def_sane.specs.Unfit.{first_unfit, IsSane}
+use Rattle.def_sane.proofs.Meanings.{sane_under_consensus}
 use Rattle.def_assets.specs.Assets.{Assets}
 use Rattle.def_files.specs.AssetFile.{assets_of}
 use Rattle.def_files.proofs.Given.{asset_file_gives_assets}
@@ -74,7 +76,7 @@ tells_satisfied text tree offsets bytes assets utf8 reads sane short file =
     let writes = (spelled_in_range text tree offsets utf8 reads).writable in
     let held = (asset_file_gives_assets bytes assets file).held in
     let says = policy_of_sane tree writes sane assets held in
-    let exists = strict_exists tree assets writes sane held in (
+    let exists = strict_exists tree assets writes (sane_under_consensus Policy tree sane) held in (
       λ true. let found = exists.1 (says.0 true) in (satisfy_report tree assets found.0, done_with text tree offsets bytes assets found.0 g found.1),
       λ done. says.1 (exists.0 (done_by text tree offsets bytes assets done.0 g done.1)),
     )

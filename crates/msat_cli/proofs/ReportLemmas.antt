@@ -21,7 +21,8 @@ use Rattle.def_types.specs.Typed.{type_of, mall_of}
 use Rattle.def_types.proofs.Typing.{corr_is_typed, mall_is_non_malleable}
 use Rattle.def_sane.specs.declared.Sane.{Sane}
 use Rattle.def_sane.specs.Most.{limits_of}
-use Rattle.def_sane.specs.Unfit.{IsValid, IsKnownSane}
+use Rattle.def_sane.specs.declared.Rules.TheVariants.{Consensus}
+use Rattle.def_sane.specs.Unfit.{IsValidUnder, IsKnownSane}
 use Rattle.def_sane.proofs.Greatest.{limits_are_unique}
 use Rattle.def_text.specs.Print.{printed}
 use Rattle.def_emit.specs.Emit.{script_of}
@@ -79,7 +80,7 @@ light_items (item ∷ stack) h =
     let rest = light_items stack (All-tail (λ item. length item ≤ 73) item stack h) in
     omega (arith, first, rest)
 
-pub light_stack : (tree : Tree) (limits : Limits) (assets : Assets) (stack : List Bytes) → IsInRange tree → IsValid tree → AreLimits tree limits → AreAssets assets
+pub light_stack : (tree : Tree) (limits : Limits) (assets : Assets) (stack : List Bytes) → IsInRange tree → IsValidUnder Consensus tree → AreLimits tree limits → AreAssets assets
     → Sat tree assets stack → stacks.weight stack ≤ 2 ^ 40
 light_stack tree limits assets stack in_range valid are_limits are_assets sat =
     let within = within_limits tree limits assets stack in_range.writable are_limits are_assets sat in

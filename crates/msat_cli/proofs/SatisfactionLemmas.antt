@@ -16,9 +16,10 @@ use Rattle.def_files.specs.AssetFile.{assets_of}
 use Rattle.def_files.proofs.Given.{asset_file_gives_assets}
 use Rattle.def_sane.specs.declared.Unfit.{Unfit}
 use Rattle.def_sane.specs.Most.{limits_of}
-use Rattle.def_sane.specs.Unfit.{first_unfit, first_unfit_valid, IsValid}
+use Rattle.def_sane.specs.declared.Rules.TheVariants.{Policy, Consensus}
+use Rattle.def_sane.specs.Unfit.{first_unfit, first_unfit_valid, IsValidUnder, IsSaneUnder}
 use Rattle.def_sane.proofs.Greatest.{limits_are_computed}
-use Rattle.def_sane.proofs.Meanings.{sane_means}
+use Rattle.def_sane.proofs.Meanings.{sane_means_under, valid_under_consensus, sane_under_consensus}
 use Rattle.def_satisfaction.specs.Weight.{weight}
 use Rattle.def_satisfaction.specs.Satisfaction.{Sat}
 use Rattle.def_choice.specs.Cheapest.{cheapest}
@@ -54,9 +55,13 @@ writable choice.Cheapest call tree assets utf8 asked = (spelled_in_range asked.t
 are_held : {choice : Choice} {call : Call} {tree : Tree} {assets : Assets} → IsAsked choice call tree assets → AreAssets assets
 are_held asked = (asset_file_gives_assets _ _ asked.file).held
 
-is_valid : (choice : Choice) (tree : Tree) → reason_by choice tree ≡ None → IsValid tree
-is_valid choice.Strict tree sane = ((sane_means tree).0 sane).0
-is_valid choice.Cheapest tree valid = valid
+-- what is sane or valid by policy is so by consensus
+pub is_sane : (tree : Tree) → reason_by choice.Strict tree ≡ None → IsSaneUnder Consensus tree
+is_sane = sane_under_consensus Policy
+
+pub is_valid : (choice : Choice) (tree : Tree) → reason_by choice tree ≡ None → IsValidUnder Consensus tree
+is_valid choice.Strict tree sane = ((sane_means_under Consensus tree).0 (is_sane tree sane)).0
+is_valid choice.Cheapest tree valid = valid_under_consensus Policy tree valid
 
 -- ---- the stack that is chosen
 
@@ -67,7 +72,7 @@ chosen_is_canonical choice.Cheapest tree assets stack writes held is = (cheapest
 
 chosen_where_some : (choice : Choice) (tree : Tree) (assets : Assets) (stack : List Bytes) → IsWritable tree → reason_by choice tree ≡ None
     → AreAssets assets → Sat tree assets stack → (found : List Bytes) × (chosen_by choice tree assets ≡ Some found)
-chosen_where_some choice.Strict tree assets stack writes sane held sat = (strict_exists tree assets writes sane held).1 (stack, sat)
+chosen_where_some choice.Strict tree assets stack writes sane held sat = (strict_exists tree assets writes (is_sane tree sane) held).1 (stack, sat)
 chosen_where_some choice.Cheapest tree assets stack writes valid held sat =
     let found = (cheapest_is_lightest tree assets writes held).lightest stack sat in (found.0, found.1)
 
@@ -262,7 +267,7 @@ shows_witness call utf8 e choice =
 pub shows_non_malleable : (call : Call) → HaveUtf8 call.words → Ends call → ShowsNonMalleable call
 shows_non_malleable call utf8 e =
     shows_such choice.Strict call Unchangeable utf8 e (λ tree assets stack asked shown.
-    strict_is_unchangeable tree assets stack (writable choice.Strict call tree assets utf8 asked) asked.fit (are_held asked) shown.chosen)
+    strict_is_unchangeable tree assets stack (writable choice.Strict call tree assets utf8 asked) (is_sane tree asked.fit) (are_held asked) shown.chosen)
 
 pub finds_nothing_to_accept : (call : Call) → HaveUtf8 call.words → Ends call → FindsNothingToAccept call
 finds_nothing_to_accept call utf8 e tree assets asked is =
@@ -271,7 +276,7 @@ finds_nothing_to_accept call utf8 e tree assets asked is =
     let none = nothing_chosen choice.Strict call tree assets utf8 e asked is in
     record {
       none = λ stack. none_where_none choice.Strict tree assets stack writes asked.fit held none;
-      accepted = λ stack checks accepted. nothing_to_accept tree assets stack checks writes asked.fit held none accepted;
+      accepted = λ stack checks accepted. nothing_to_accept tree assets stack checks writes (is_sane tree asked.fit) held none accepted;
       fresh = λ table stack fresh. fresh_has_item tree assets table stack fresh;
     }
 

@@ -3,7 +3,8 @@ ghost use Rattle.std.specs.Prelude.{◌≡◌, ◌+◌, ◌<◌, ◌≤◌, [], 
 ghost use Rattle.std.specs.String.{string_bytes};
 ghost use Rattle.def_choice.specs.Cheapest.{cheapest as the_cheapest};
 ghost use Rattle.def_choice.specs.Strict.{strict as the_strict};
-ghost use Rattle.def_sane.specs.Unfit.{IsSane, IsValid};
+ghost use Rattle.def_sane.specs.declared.Rules.TheVariants.{Consensus};
+ghost use Rattle.def_sane.specs.Unfit.{IsSaneUnder, IsValidUnder};
 ghost use Rattle.def_satisfaction.specs.Satisfaction.{Sat};
 ghost use Rattle.def_tree.specs.Range.{IsInRange};
 ghost use Rattle.ms_assets.specs.Adding.{Answers as Adds};
@@ -199,7 +200,7 @@ fn generated_tree<'a>(
 fn gen_report(alloc: Global, n: u32, tree: &Tree<'_>, assets: &Assets) -> Result<String, AllocError>
     requires most { n ≤ MOST_CHILDREN }
     requires in_range { IsInRange (shape tree.now) }
-    requires sane { IsSane (shape tree.now) }
+    requires sane { IsSaneUnder Consensus (shape tree.now) }
     requires tree { shape tree.now ≡ the_generated_tree n }
     requires assets { assets.now ≡ generated_assets n }
     requires strict { IsSome (the_strict (shape tree.now) assets.now) }
@@ -227,7 +228,7 @@ fn children_line(alloc: Global, n: u32) -> Result<String, AllocError>
 /// The line of the strict satisfaction, with the peak of its run.
 fn strict_line(alloc: Global, tree: &Tree<'_>, assets: &Assets) -> Result<String, AllocError>
     requires in_range { IsInRange (shape tree.now) }
-    requires sane { IsSane (shape tree.now) }
+    requires sane { IsSaneUnder Consensus (shape tree.now) }
     requires found { IsSome (the_strict (shape tree.now) assets.now) }
     ensures { IfOk result (λ line. string_bytes line ≡ the_strict_line (unwrap_or (the_strict (shape tree.now) assets.now) []) (replay (shape tree.now) assets.now (unwrap_or (the_strict (shape tree.now) assets.now) []))) }
 {
@@ -243,7 +244,7 @@ fn strict_line(alloc: Global, tree: &Tree<'_>, assets: &Assets) -> Result<String
 /// The line of the cheapest satisfaction.
 fn cheapest_line(alloc: Global, tree: &Tree<'_>, assets: &Assets) -> Result<String, AllocError>
     requires in_range { IsInRange (shape tree.now) }
-    requires valid { IsValid (shape tree.now) }
+    requires valid { IsValidUnder Consensus (shape tree.now) }
     requires found { IsSome (the_cheapest (shape tree.now) assets.now) }
     ensures { IfOk result (λ line. string_bytes line ≡ the_cheapest_line (unwrap_or (the_cheapest (shape tree.now) assets.now) [])) }
 {
@@ -263,7 +264,7 @@ fn run_peak(
     stack: &Stack,
 ) -> Result<u32, AllocError>
     requires in_range { IsInRange (shape tree.now) }
-    requires valid { IsValid (shape tree.now) }
+    requires valid { IsValidUnder Consensus (shape tree.now) }
     requires canonical { Sat (shape tree.now) assets.now stack.now }
     ensures { IfOk result (λ peak. peak ≡ peak_of (replay (shape tree.now) assets.now stack.now)) }
 {

@@ -3,7 +3,8 @@ ghost use Rattle.std.specs.Prelude.{◌≡◌, ◌≤◌, ◌^◌, ◌++◌, ⊤
 ghost use Rattle.std.specs.String.{string_bytes};
 ghost use Rattle.def_tree.specs.Range.{IsInRange};
 ghost use Rattle.def_sane.specs.Limits.{AreLimits};
-ghost use Rattle.def_sane.specs.Unfit.{IsValid};
+ghost use Rattle.def_sane.specs.declared.Rules.TheVariants.{Consensus};
+ghost use Rattle.def_sane.specs.Unfit.{IsValidUnder};
 ghost use Rattle.def_satisfaction.specs.Satisfaction.{Sat};
 ghost use Rattle.def_machine.specs.Run.{accepted};
 ghost use Rattle.ms_tree.specs.Shape.{shape};
@@ -107,7 +108,7 @@ fn satisfaction(
 ) -> Result<Option<Stack>, AllocError>
     requires in_range { IsInRange (shape tree.now) }
     requires fit { reason_by choice (shape tree.now) ≡ None }
-    ensures valid { IfOk result (λ found. IsValid (shape tree.now)) }
+    ensures valid { IfOk result (λ found. IsValidUnder Consensus (shape tree.now)) }
     ensures choice { IfOk result (λ found. found ≡ chosen_by choice (shape tree.now) assets.now) }
     ensures canonical { IfOk result (λ found. IfSome found (Sat (shape tree.now) assets.now)) }
 {
@@ -126,7 +127,7 @@ fn satisfy_report(
     stack: &Stack,
 ) -> Result<String, AllocError>
     requires in_range { IsInRange (shape tree.now) }
-    requires valid { IsValid (shape tree.now) }
+    requires valid { IsValidUnder Consensus (shape tree.now) }
     requires limits { AreLimits (shape tree.now) limits }
     requires canonical { Sat (shape tree.now) assets.now stack.now }
     ensures { IfOk result (λ report. string_bytes report ≡ the_satisfy_report (shape tree.now) assets.now stack.now) }

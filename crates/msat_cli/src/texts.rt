@@ -27,7 +27,7 @@ use def_answer::Status;
 use def_text::TextFault;
 use ms_io::Source;
 use ms_sane::{
-    Limits, Unfit, Work, check_sane, check_sane_of, check_short, check_valid, check_valid_of,
+    Limits, Rules, Unfit, Work, check_sane, check_sane_of, check_short, check_valid, check_valid_of,
 };
 use ms_text::{TextTree, read_text};
 use ms_tree::Tree;
@@ -123,12 +123,12 @@ fn script_answer(alloc: Global, text: &TextTree<'_>) -> Result<Answer, AllocErro
     ensures { IfOk result (λ answer. reply answer.status (string_bytes answer.report) ≡ unless_unfit (first_unfit_valid (shape text.now.tree)) text.now.offsets.items (script_reply (shape text.now.tree))) }
 {
     let tree = text.tree();
-    let short = match check_short(tree) {
+    let short = match check_short(tree, Rules::Policy) {
         Ok(short) => short,
         Err(unfit) => return unfit_answer(alloc, text, unfit),
     };
     let mut work = Work::new(alloc, tree)?;
-    match check_valid_of(short, tree, &mut work) {
+    match check_valid_of(short, tree, Rules::Policy, &mut work) {
         Ok(_) => Ok(Answer {
             status: Status::Done,
             report: script_report(alloc, tree)?,
@@ -143,12 +143,12 @@ fn check_answer(alloc: Global, text: &TextTree<'_>) -> Result<Answer, AllocError
     ensures { IfOk result (λ answer. reply answer.status (string_bytes answer.report) ≡ unless_unfit (first_unfit (shape text.now.tree)) text.now.offsets.items (check_reply (shape text.now.tree))) }
 {
     let tree = text.tree();
-    let short = match check_short(tree) {
+    let short = match check_short(tree, Rules::Policy) {
         Ok(short) => short,
         Err(unfit) => return unfit_answer(alloc, text, unfit),
     };
     let mut work = Work::new(alloc, tree)?;
-    match check_sane_of(short, tree, &mut work) {
+    match check_sane_of(short, tree, Rules::Policy, &mut work) {
         Ok(sane) => Ok(Answer {
             status: Status::Done,
             report: check_report(alloc, tree, &sane)?,

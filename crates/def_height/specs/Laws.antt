@@ -1,0 +1,44 @@
+-- Laws of heights.
+use Rattle.std.specs.Prelude.{◌≡◌, ℕ, ◌+◌, ◌≤◌}
+use Rattle.def_tree.specs.Tree.{Tree}
+use Rattle.def_types.specs.declared.Base.TheVariants.{B}
+use Rattle.def_types.specs.Typed.{type_of, IsTyped}
+use Rattle.def_sane.specs.Formal as sane
+use Rattle.def_sane.specs.Most.{limits_of}
+use Rattle.def_height.specs.Course.{Course, IsRise, rise}
+use Rattle.def_height.specs.Formal.{Way, FormalSat}
+use Rattle.def_height.specs.Height.{IsHeight}
+use Rattle.def_height.specs.Highest.{height_of}
+
+-- the computed rise is the greatest running total
+abbrev pub RiseIsGreatest : Type 0
+RiseIsGreatest = (course : Course) → IsRise course (rise course)
+
+-- a formal satisfaction with a course is one that the limits speak of, of as many items
+abbrev pub CoursesAreOfFormals : Type 0
+CoursesAreOfFormals = (tree : Tree) (w : Way) → FormalSat tree w → (t : sane.Takes) × sane.FormalSat tree t × (t.items ≡ w.items)
+
+-- and each of those has a course
+abbrev pub FormalsHaveCourses : Type 0
+FormalsHaveCourses = (tree : Tree) (t : sane.Takes) → sane.FormalSat tree t → (w : Way) × FormalSat tree w × (w.items ≡ t.items)
+
+-- the computed height is the height
+abbrev pub HeightIsComputed : Type 0
+HeightIsComputed = (tree : Tree) → IsTyped tree → IsHeight tree (height_of tree)
+
+-- a tree has no other height
+abbrev pub HeightIsUnique : Type 0
+HeightIsUnique = (tree : Tree) → IsTyped tree → (h : ℕ) → IsHeight tree h → h ≡ height_of tree
+
+-- a tree of type B takes no more items than it has ops
+abbrev pub ItemsAreWithinOps : Type 0
+ItemsAreWithinOps = (tree : Tree) → IsTyped tree → (type_of tree).base ≡ B → (limits_of tree).items ≤ (limits_of tree).ops
+
+-- the height is at most the items, the ops and 24
+abbrev pub HeightIsWithin : Type 0
+HeightIsWithin = (tree : Tree) → IsTyped tree → (h : ℕ) → IsHeight tree h → h ≤ (limits_of tree).items + (limits_of tree).ops + 24
+
+-- so within the 201 ops of consensus the height stays far below the 1,000 elements that both stacks may hold
+abbrev pub HeightIsLow : Type 0
+HeightIsLow =
+    (tree : Tree) → IsTyped tree → (type_of tree).base ≡ B → (limits_of tree).ops ≤ 201 → (h : ℕ) → IsHeight tree h → h ≤ 426

@@ -1,0 +1,9 @@
+pub mod Bounds
+pub mod Children
+pub mod Keeping
+pub mod Tallies
+pub mod Tops
+pub mod Marks
+pub mod Choices
+pub mod Exact
+pub mod Walks

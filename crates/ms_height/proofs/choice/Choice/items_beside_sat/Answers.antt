@@ -1,0 +1,16 @@
+use Rattle.std.proofs.Common.{arith}
+use Rattle.ms_height.specs.Chosen.{more_sats, more_dsats}
+use Rattle.ms_height.proofs.choice.Choice.items_beside_sat.Goals as goal
+
+pub overflow_add-result : goal.overflow_add-result
+overflow_add-result c = let t = c.requires.told in omega (arith, t.6.light, t.7, c.sum_of_fewer.ensures.low)
+
+pub overflow_add-result-2 : goal.overflow_add-result-2
+overflow_add-result-2 c = let t = c.requires.told in omega (arith, t.6.light, t.7, c.sum_of_fewer.ensures.low, c.sum.ensures.low)
+
+pub returns-clause-items : goal.returns-clause-items
+returns-clause-items c = λ ps ms t u left cs is.
+    omega (arith, is.base, c.sum_of_fewer.ensures.sum ps t (more_sats cs) is.sats, c.sum.ensures.sum ms u (more_dsats cs) is.dsats)
+
+pub returns-clause-low : goal.returns-clause-low
+returns-clause-low c = let t = c.requires.told in omega (arith, t.6.light, t.7, c.sum_of_fewer.ensures.low, c.sum.ensures.low)

@@ -1,0 +1,11 @@
+use Rattle.std.proofs.Common.{arith}
+use Rattle.ms_tree.specs.Shape.{shape}
+use Rattle.ms_sane.proofs.Accepted.{typed_of}
+use Rattle.ms_height.proofs.stacks.highest.Goals as goal
+
+pub heights-requires : goal.heights-requires
+heights-requires c = record {
+  in_range = c.requires.in_range;
+  typed = typed_of (shape c.args.tree.now) c.requires.typed;
+  room = omega (arith, c.deref_mut.ensures.len, c.requires.room);
+}

@@ -1,0 +1,193 @@
+//! How high satisfactions and dissatisfactions go, without memory.
+ghost use Rattle.std.specs.Prelude.{◌≡◌, ◌+◌, ◌*◌, ◌<◌, ◌≤◌, length, All};
+ghost use Rattle.def_tree.specs.Range.{MOST_MEASURE, IsInRange};
+ghost use Rattle.def_tree.specs.Size.{measure_of};
+ghost use Rattle.def_tree.specs.Tree as tree;
+ghost use Rattle.def_types.specs.Typed.{IsTyped};
+ghost use Rattle.def_height.specs.Highest.{highest_sat, highest_dsat};
+ghost use Rattle.ms_tree.specs.Shape.{shape, shapes, leaf_shape};
+ghost use Rattle.ms_height.specs.Kept.{heights_in, heights_of};
+ghost use Rattle.ms_height.specs.Low.{IsLowHeights};
+ghost use Rattle.ms_height.specs.Ready.{IsReady};
+
+use crate::highest::{Heights, at_least, both, either, only};
+use crate::kept::slot_of;
+use crate::threshold::chosen;
+use ms_sane::Slot;
+use ms_tree::{Key, Leaf, Tree, Two, View, Wrapper};
+
+/// The greatest items and heights of the formal satisfactions and dissatisfactions of a tree, each number by
+/// itself.
+#[cycle(heights)]
+pub fn heights(tree: &Tree<'_>, slots: &mut [Slot]) -> Heights
+    requires { IsReady (shape tree.now) (length slots.old) }
+    ensures sat { result.sat ≡ highest_sat (shape tree.now) }
+    ensures dsat { result.dsat ≡ highest_dsat (shape tree.now) }
+    ensures low { IsLowHeights result }
+{
+    match tree.view() {
+        View::Leaf(leaf) => of_leaf(leaf),
+        View::AndOr(x, y, z) => of_and_or(x, y, z, slots),
+        View::Two(kind, x, z) => of_two(kind, x, z, slots),
+        View::Thresh(k, children) => of_thresh(k, children, slots),
+        View::Multi(k, keys) => of_multi(k, keys),
+        View::Wrap(wrapper, x) => of_wrap(wrapper, x, slots),
+    }
+}
+
+fn of_leaf(leaf: Leaf) -> Heights
+    ensures sat { result.sat ≡ highest_sat (leaf_shape leaf) }
+    ensures dsat { result.dsat ≡ highest_dsat (leaf_shape leaf) }
+{
+    match leaf {
+        Leaf::Zero => Heights {
+            sat: None,
+            dsat: only(0, 1),
+        },
+        Leaf::One | Leaf::Older(_) | Leaf::After(_) => Heights {
+            sat: only(0, 1),
+            dsat: None,
+        },
+        Leaf::PkK(_) => Heights {
+            sat: only(1, 2),
+            dsat: only(1, 2),
+        },
+        Leaf::PkH(_) => Heights {
+            sat: only(2, 4),
+            dsat: only(2, 4),
+        },
+        Leaf::Hash(_) => Heights {
+            sat: only(1, 3),
+            dsat: only(1, 3),
+        },
+    }
+}
+
+#[cycle(heights)]
+fn of_and_or(x: &Tree<'_>, y: &Tree<'_>, z: &Tree<'_>, slots: &mut [Slot]) -> Heights
+    requires x { IsReady (shape x.now) (length slots.old) }
+    requires y { IsReady (shape y.now) (length slots.old) }
+    requires z { IsReady (shape z.now) (length slots.old) }
+    ensures sat { result.sat ≡ highest_sat (tree.and_or (shape x.now) (shape y.now) (shape z.now)) }
+    ensures dsat { result.dsat ≡ highest_dsat (tree.and_or (shape x.now) (shape y.now) (shape z.now)) }
+{
+    let x = heights(x, slots);
+    let y = heights(y, slots);
+    let z = heights(z, slots);
+    Heights {
+        sat: either(both(0, x.sat, y.sat), both(0, x.dsat, z.sat)),
+        dsat: both(0, x.dsat, z.dsat),
+    }
+}
+
+#[cycle(heights)]
+fn of_two(kind: Two, x: &Tree<'_>, z: &Tree<'_>, slots: &mut [Slot]) -> Heights
+    requires x { IsReady (shape x.now) (length slots.old) }
+    requires z { IsReady (shape z.now) (length slots.old) }
+    ensures sat { result.sat ≡ highest_sat (tree.two kind (shape x.now) (shape z.now)) }
+    ensures dsat { result.dsat ≡ highest_dsat (tree.two kind (shape x.now) (shape z.now)) }
+{
+    let x = heights(x, slots);
+    let z = heights(z, slots);
+    match kind {
+        Two::AndV => Heights {
+            sat: both(0, x.sat, z.sat),
+            dsat: None,
+        },
+        Two::AndB => Heights {
+            sat: both(1, x.sat, z.sat),
+            dsat: both(1, x.dsat, z.dsat),
+        },
+        Two::OrB => Heights {
+            sat: either(both(1, x.sat, z.dsat), both(1, x.dsat, z.sat)),
+            dsat: both(1, x.dsat, z.dsat),
+        },
+        Two::OrC => Heights {
+            sat: either(x.sat, both(0, x.dsat, z.sat)),
+            dsat: None,
+        },
+        Two::OrD => Heights {
+            sat: either(at_least(2, x.sat), both(0, x.dsat, z.sat)),
+            dsat: both(0, x.dsat, z.dsat),
+        },
+        Two::OrI => {
+            let choice = only(1, 1);
+            Heights {
+                sat: either(both(0, choice, x.sat), both(0, choice, z.sat)),
+                dsat: either(both(0, choice, x.dsat), both(0, choice, z.dsat)),
+            }
+        }
+    }
+}
+
+#[cycle(heights)]
+fn of_thresh(k: u64, children: &[Tree<'_>], slots: &mut [Slot]) -> Heights
+    requires in_range { All (λ x. IsInRange (shape x)) children.now }
+    requires typed { All (λ x. IsTyped (shape x)) children.now }
+    requires few { measure_of (shapes children.now) ≤ MOST_MEASURE }
+    requires room { 4 * measure_of (shapes children.now) + 4 ≤ length slots.old }
+    ensures sat { result.sat ≡ highest_sat (tree.thresh k (shapes children.now)) }
+    ensures dsat { result.dsat ≡ highest_dsat (tree.thresh k (shapes children.now)) }
+{
+    let (sats, rest) = slots.split_at_mut(children.len());
+    let (dsats, rest) = rest.split_at_mut(children.len());
+    keep_children(children, sats, dsats, rest);
+    Heights {
+        sat: at_least(2, chosen(k, sats, dsats, rest)),
+        dsat: at_least(2, chosen(0, sats, dsats, rest)),
+    }
+}
+
+/// Keeps what each child of a threshold takes, with the rest of the slots for each of them.
+#[cycle(heights)]
+fn keep_children(children: &[Tree<'_>], sats: &mut [Slot], dsats: &mut [Slot], rest: &mut [Slot])
+    requires in_range { All (λ x. IsInRange (shape x)) children.now }
+    requires typed { All (λ x. IsTyped (shape x)) children.now }
+    requires sats { length sats.old ≡ length children.now }
+    requires dsats { length dsats.old ≡ length children.now }
+    requires room { 4 * measure_of (shapes children.now) + 4 ≤ 2 * length children.now + length rest.old }
+    ensures { heights_in sats.new dsats.new ≡ heights_of (shapes children.now) }
+{
+    for index in 0..children.len() {
+        let child = heights(&children[index], rest);
+        sats[index] = slot_of(child.sat);
+        dsats[index] = slot_of(child.dsat);
+    }
+}
+
+fn of_multi(k: u64, keys: &[Key]) -> Heights
+    requires enough { k ≤ length keys.now }
+    requires few { length keys.now ≤ MOST_MEASURE }
+    ensures sat { result.sat ≡ highest_sat (tree.multi k keys.now) }
+    ensures dsat { result.dsat ≡ highest_dsat (tree.multi k keys.now) }
+{
+    let of_each = only(k + 1, keys.len() as u64 + k + 3);
+    Heights {
+        sat: of_each,
+        dsat: of_each,
+    }
+}
+
+#[cycle(heights)]
+fn of_wrap(wrapper: Wrapper, x: &Tree<'_>, slots: &mut [Slot]) -> Heights
+    requires { IsReady (shape x.now) (length slots.old) }
+    ensures sat { result.sat ≡ highest_sat (tree.wrap wrapper (shape x.now)) }
+    ensures dsat { result.dsat ≡ highest_dsat (tree.wrap wrapper (shape x.now)) }
+{
+    let x = heights(x, slots);
+    match wrapper {
+        Wrapper::A | Wrapper::S | Wrapper::C | Wrapper::N => x,
+        Wrapper::D => Heights {
+            sat: both(1, only(1, 2), x.sat),
+            dsat: only(1, 2),
+        },
+        Wrapper::V => Heights {
+            sat: x.sat,
+            dsat: None,
+        },
+        Wrapper::J => Heights {
+            sat: both(0, only(0, 1), x.sat),
+            dsat: only(1, 2),
+        },
+    }
+}

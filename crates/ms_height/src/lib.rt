@@ -1,0 +1,15 @@
+//! The height of a miniscript: how many elements both stacks hold at most while a satisfaction is run.
+#![tactic(auto)]
+
+mod choice;
+mod heights;
+mod highest;
+mod kept;
+mod stacks;
+mod sums;
+mod tally;
+#[cfg(test)]
+mod tests;
+mod threshold;
+
+pub use stacks::height;

@@ -1,0 +1,39 @@
+//! The height of a tree.
+ghost use Rattle.std.specs.Prelude.{◌≡◌, ◌*◌, ◌≤◌, IsOk, vec_len};
+ghost use Rattle.def_tree.specs.Range.{IsInRange};
+ghost use Rattle.def_tree.specs.Size.{measure};
+ghost use Rattle.def_types.specs.Corr.{corr};
+ghost use Rattle.def_height.specs.Height.{IsHeight};
+ghost use Rattle.def_height.specs.Highest.{height_of_option, highest_sat};
+ghost use Rattle.ms_tree.specs.Shape.{shape};
+
+use crate::heights::heights;
+use ms_sane::Work;
+use ms_tree::Tree;
+
+/// The height of a tree, in elements: how many the main stack and the alternative stack hold together at
+/// most while a formal satisfaction of the tree is run, or 0 where it has none (Bitcoin Core,
+/// MAX_STACK_SIZE: they may hold 1,000). The tree has a correctness type. Takes no memory, and leaves the
+/// number of slots.
+pub fn height(tree: &Tree<'_>, work: &mut Work) -> u64
+    requires in_range { IsInRange (shape tree.now) }
+    requires typed { IsOk (corr (shape tree.now)) }
+    requires room { 4 * measure (shape tree.now) ≤ vec_len work.old.slots }
+    ensures height { IsHeight (shape tree.now) result }
+    ensures room { vec_len work.new.slots ≡ vec_len work.old.slots }
+{
+    highest(tree, work)
+}
+
+fn highest(tree: &Tree<'_>, work: &mut Work) -> u64
+    requires in_range { IsInRange (shape tree.now) }
+    requires typed { IsOk (corr (shape tree.now)) }
+    requires room { 4 * measure (shape tree.now) ≤ vec_len work.old.slots }
+    ensures height { result ≡ height_of_option (highest_sat (shape tree.now)) }
+    ensures room { vec_len work.new.slots ≡ vec_len work.old.slots }
+{
+    match heights(tree, &mut work.slots).sat {
+        Some(sat) => sat.height,
+        None => 0,
+    }
+}

@@ -1,0 +1,193 @@
+ghost use Rattle.std.specs.Prelude.{IfOk};
+ghost use Rattle.def_tree.specs.Range.{IsInRange};
+ghost use Rattle.ms_tree.specs.Shape.{shape};
+
+use crate::height;
+use bumpalo::Bump;
+use ms_sane::Work;
+use ms_text::{TextTree, read_text};
+use ms_types::corr;
+use std::alloc::{AllocError, Global};
+use std::test::Fail;
+
+/// The public key of the private key 1.
+const KEY_B: &str = "0279be667ef9dcbbac55a06295ce870b07029bfcdb2dce28d959f2815b16f81798";
+
+/// The tree of a text in which `A`, `B` and `C` stand for keys, and `H` for a hash value of 32 bytes.
+fn tree_of<'a>(alloc: Global, arena: &'a Bump<Global>, form: &str) -> Result<TextTree<'a>, Fail>
+    ensures { IfOk result (λ text. IsInRange (shape text.tree)) }
+{
+    let text = filled(alloc, form)?;
+    Ok(read_text(alloc, arena, &text).ok().ok_or("a tree")?)
+}
+
+fn filled(alloc: Global, form: &str) -> Result<String, AllocError> {
+    let mut text = String::new(alloc);
+    for letter in form.chars() {
+        match letter {
+            'A' => push_digits(&mut text, "02", "01")?,
+            'B' => text.push_str(KEY_B)?,
+            'C' => push_digits(&mut text, "03", "03")?,
+            'H' => push_digits(&mut text, "", "11")?,
+            other => text.push(other)?,
+        }
+    }
+    Ok(text)
+}
+
+/// Adds the digits of a first byte, and of 32 others.
+fn push_digits(text: &mut String, first: &str, other: &str) -> Result<(), AllocError> {
+    text.push_str(first)?;
+    for _ in 0..32 {
+        text.push_str(other)?;
+    }
+    Ok(())
+}
+
+/// The height of the tree of such a text.
+fn height_of(alloc: Global, form: &str) -> Result<u64, Fail> {
+    let arena = Bump::new(alloc);
+    let text = tree_of(alloc, &arena, form)?;
+    let mut work = Work::new(alloc, text.tree())?;
+    match corr(text.tree()) {
+        Ok(_) => Ok(height(text.tree(), &mut work)),
+        Err(_) => Err("a type")?,
+    }
+}
+
+/// A text, a part so many times, and another text.
+fn repeated(
+    alloc: Global,
+    first: &str,
+    part: &str,
+    count: u32,
+    last: &str,
+) -> Result<String, AllocError> {
+    let mut form = String::new(alloc);
+    form.push_str(first)?;
+    for _ in 0..count {
+        form.push_str(part)?;
+    }
+    form.push_str(last)?;
+    Ok(form)
+}
+
+#[test]
+fn satisfactions_reach_these_heights(rt: HostRuntime) -> Result<(), Fail> {
+    let alloc = rt.alloc();
+    let cases = [
+        ("0", 0),
+        ("pk(B)", 2),
+        ("and_v(v:and_v(v:pk(A),pk(B)),pk(C))", 4),
+        ("multi(2,A,B,C)", 8),
+        ("or_d(pk(A),and_v(v:pkh(B),older(144)))", 4),
+        ("and_v(v:pk(A),older(65536))", 2),
+        (
+            "thresh(2,j:and_v(v:sha256(H),and_v(v:sha256(H),and_v(v:sha256(H),1))),s:pk(A),s:pk(B))",
+            7,
+        ),
+        (
+            "and_v(v:pk(B),or_i(pk(A),and_v(v:sha256(H),and_v(v:sha256(H),sha256(H)))))",
+            6,
+        ),
+        ("thresh(3,pk(A),s:pk(B),s:pk(C),sln:older(32))", 5),
+        ("thresh(1,sha256(H),s:pk(A))", 4),
+        // IFDUP over an item that stays, and a satisfaction that lies below what a dissatisfaction takes.
+        ("or_d(n:0,pk(A))", 2),
+        ("or_d(n:or_i(0,1),0)", 2),
+        ("or_d(pk(A),or_i(0,0))", 2),
+        ("thresh(1,pk(A))", 2),
+    ];
+    for (form, wanted) in cases {
+        assert_eq!(rt; height_of(alloc, form)?, wanted, "{form}");
+    }
+    Ok(())
+}
+
+#[test]
+fn thresholds_reach_these_heights(rt: HostRuntime) -> Result<(), Fail> {
+    let alloc = rt.alloc();
+    // By listing all formal satisfactions with their courses.
+    let cases = [
+        ("thresh(1,pk(A),s:pk(B))", 3),
+        ("thresh(1,pkh(A),a:0)", 4),
+        ("thresh(1,0)", 0),
+        // Children that take more items satisfied, and ones that take more dissatisfied.
+        ("thresh(1,0,al:and_v(vlll:1,1),a:or_i(1,llll:0))", 10),
+        ("thresh(2,0,al:and_v(vlll:1,1),a:or_i(1,llll:0))", 6),
+        ("thresh(3,0,al:and_v(vlll:1,1),a:or_i(1,llll:0))", 0),
+        ("thresh(1,0,a:or_i(1,llll:0),al:and_v(vlll:1,1))", 10),
+        ("thresh(2,0,a:or_i(1,llll:0),al:and_v(vlll:1,1))", 6),
+        (
+            "thresh(3,multi(1,A,B,C),a:or_i(1,llll:0),al:and_v(vlll:1,1),s:pk(A))",
+            17,
+        ),
+        (
+            "thresh(4,multi(1,A,B,C),a:or_i(1,llll:0),al:and_v(vlll:1,1),s:pk(A))",
+            13,
+        ),
+        (
+            "thresh(2,0,al:and_v(vlll:1,1),al:and_v(vll:1,1),al:and_v(vl:1,1),a:or_i(1,l:0))",
+            11,
+        ),
+        (
+            "thresh(2,0,a:or_i(1,llll:0),a:or_i(1,lll:0),a:or_i(1,ll:0),al:1)",
+            12,
+        ),
+        ("thresh(3,sha256(H),al:and_v(vlll:1,1),a:multi(1,A,B))", 9),
+        // A threshold below another one.
+        (
+            "thresh(2,thresh(1,0,al:and_v(vlll:1,1),a:or_i(1,llll:0)),a:thresh(2,0,al:1,a:or_i(1,lll:0)),s:pk(A))",
+            16,
+        ),
+    ];
+    for (form, wanted) in cases {
+        assert_eq!(rt; height_of(alloc, form)?, wanted, "{form}");
+    }
+    Ok(())
+}
+
+#[test]
+fn thousands_of_children_reach_these_heights(rt: HostRuntime) -> Result<(), Fail> {
+    let alloc = rt.alloc();
+    // By a table of all numbers of satisfied children, as the definition says it.
+    let children = ",al:and_v(vl:1,1),al:and_v(vlll:1,1),a:or_i(1,ll:0),a:or_i(1,llll:0),al:1,a:0";
+    let cases = [
+        ("thresh(1,0", 1, 15),
+        ("thresh(3,0", 1, 16),
+        ("thresh(6,0", 1, 0),
+        ("thresh(4,0", 2, 31),
+        ("thresh(9,0", 2, 23),
+        ("thresh(1,0", 350, 3854),
+        ("thresh(300,0", 350, 4751),
+        ("thresh(900,0", 350, 5251),
+        ("thresh(1450,0", 350, 4351),
+        ("thresh(1750,0", 350, 3151),
+        ("thresh(1751,0", 350, 0),
+    ];
+    for (first, count, wanted) in cases {
+        let form = repeated(alloc, first, children, count, ")")?;
+        assert_eq!(rt; height_of(alloc, &form)?, wanted, "{first}, {count} times");
+    }
+    Ok(())
+}
+
+#[test]
+fn many_keys_reach_these_heights(rt: HostRuntime) -> Result<(), Fail> {
+    let alloc = rt.alloc();
+    // A signature for each child, and the key of the first.
+    let of_30 = repeated(alloc, "thresh(15,pk(A)", ",s:pk(A)", 29, ")")?;
+    assert_eq!(rt; height_of(alloc, &of_30)?, 31);
+    let of_four = repeated(alloc, "thresh(2,pk(A)", ",s:pk(A)", 3, ")")?;
+    assert_eq!(rt; height_of(alloc, &of_four)?, 5);
+    // A chain: a signature for each key, and one key.
+    for (others, wanted) in [(100, 102), (200, 202)] {
+        let chain = repeated(alloc, "", "and_v(v:pk(A),", others, "pk(A)")?;
+        let closed = repeated(alloc, &chain, ")", others, "")?;
+        assert_eq!(rt; height_of(alloc, &closed)?, wanted, "{others} others");
+    }
+    // The dummy item, a signature, two numbers and 20 keys.
+    let of_20 = repeated(alloc, "multi(1,A", ",A", 19, ")")?;
+    assert_eq!(rt; height_of(alloc, &of_20)?, 24);
+    Ok(())
+}
