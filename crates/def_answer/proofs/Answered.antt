@@ -18,9 +18,9 @@ use Rattle.def_sane.specs.Unfit.{first_unfit, first_unfit_valid}
 use Rattle.def_choice.specs.Cheapest.{cheapest}
 use Rattle.def_choice.specs.Strict.{strict}
 use Rattle.def_answer.specs.declared.status.Status.{Status}
-use Rattle.def_answer.specs.Words.{Command, script, check, satisfy, satisfy_malleable, run, gen, policy, decode, IsCommand}
+use Rattle.def_answer.specs.Words.{Command, script, check, satisfy, satisfy_malleable, run, gen, policy, plan, decode, IsCommand}
 use Rattle.def_answer.specs.Reading.{Reading, read, refused, HasReading}
-use Rattle.def_answer.specs.Reply.{Reply, reply, usage_reply, text_reply, satisfy_reply, run_reply}
+use Rattle.def_answer.specs.Reply.{Reply, reply, usage_reply, text_reply, satisfy_reply, run_reply, plan_reply}
 use Rattle.def_answer.proofs.Decided.{decided, decided_is, decided_not}
 use Rattle.def_answer.proofs.Forms.{command_of, is_form, none_has_form}
 use Rattle.def_answer.proofs.SpelledKeys.{are_keys}
@@ -61,6 +61,7 @@ OnText P (satisfy_malleable text) = P text
 OnText P run = ⊤
 OnText P (gen n) = ⊤
 OnText P (policy text) = P text
+OnText P (plan text) = P text
 OnText P (decode digits keys) = ⊤
 
 -- the reply to a Script
@@ -83,6 +84,7 @@ reply_to source (satisfy_malleable text) = text_reply first_unfit_valid (satisfy
 reply_to source run = run_reply source
 reply_to source (gen n) = gen_reply n
 reply_to source (policy text) = text_reply first_unfit policy_reply (reading_of text)
+reply_to source (plan text) = text_reply first_unfit (plan_reply source) (reading_of text)
 reply_to source (decode digits keys) = decided_reply (decided (map bytes_of keys) (bytes_of digits))
 
 replies_to : (command : Command) (source : Bytes) → IsCommand command → OnText IsUtf8 command → Replies command source (reply_to source command)
@@ -93,6 +95,7 @@ replies_to (satisfy_malleable text) source is utf8 = (reading_of text, has_readi
 replies_to run source is utf8 = refl
 replies_to (gen n) source is utf8 = refl
 replies_to (policy text) source is utf8 = (reading_of text, has_reading text utf8, refl)
+replies_to (plan text) source is utf8 = (reading_of text, has_reading text utf8, refl)
 replies_to (decode digits keys) source is utf8 = replies_to_script (map bytes_of keys) (bytes_of digits) (are_keys keys is.1)
 
 abbrev pub reply_to_words : (source : Bytes) → Option Command → Reply
@@ -121,6 +124,7 @@ is_ascii_text (satisfy_malleable text) = list_all is_ascii text
 is_ascii_text run = true
 is_ascii_text (gen n) = true
 is_ascii_text (policy text) = list_all is_ascii text
+is_ascii_text (plan text) = list_all is_ascii text
 is_ascii_text (decode digits keys) = true
 
 abbrev pub are_ascii_words : Option Command → Bool
@@ -135,6 +139,7 @@ ascii_text (satisfy_malleable text) ascii = ascii_is_utf8 text ascii
 ascii_text run ascii = tt
 ascii_text (gen n) ascii = tt
 ascii_text (policy text) ascii = ascii_is_utf8 text ascii
+ascii_text (plan text) ascii = ascii_is_utf8 text ascii
 ascii_text (decode digits keys) ascii = tt
 
 ascii_words : (o : Option Command) → are_ascii_words o ≡ true → OnWords IsUtf8 o

@@ -9,19 +9,20 @@ use Rattle.def_sane.specs.declared.Unfit.{Unfit}
 use Rattle.def_sane.specs.Unfit.{first_unfit, first_unfit_valid}
 use Rattle.def_choice.specs.Cheapest.{cheapest}
 use Rattle.def_choice.specs.Strict.{strict}
-use Rattle.def_files.specs.declared.AssetFault.{AssetFault}
 use Rattle.def_files.specs.AssetFile.{assets_of}
 use Rattle.def_files.specs.RunFile.{run_of}
+use Rattle.def_plan.specs.Plan.{Plan, plan_of}
+use Rattle.def_plan.specs.PlanFile.{plan_file_of}
 use Rattle.def_answer.specs.declared.status.Status.{Status}
 use Rattle.def_answer.specs.declared.status.Status.TheVariants as status
-use Rattle.def_answer.specs.Words.{IsForm, Command, script, check, satisfy, satisfy_malleable, gen, policy, decode}
+use Rattle.def_answer.specs.Words.{IsForm, Command, script, check, satisfy, satisfy_malleable, gen, policy, plan, decode}
 use Rattle.def_answer.specs.Words as words
-use Rattle.def_answer.specs.Lines.{file_too_long_line}
+use Rattle.def_answer.specs.Lines.{file_too_long_line, file_line, plan_file_line}
 use Rattle.def_answer.specs.Reading.{Reading}
 use Rattle.def_answer.specs.Reading as reading
-use Rattle.def_answer.specs.Reply.{Reply, reply, unless_unfit, text_reply, unless_refused, MOST_FILE, file_reply, chosen_reply, satisfy_reply, outcome_reply, run_reply}
+use Rattle.def_answer.specs.Reply.{Reply, reply, unless_unfit, text_reply, unless_refused, MOST_FILE, file_reply, chosen_reply, satisfy_reply, outcome_reply, run_reply, planned_reply, plan_reply}
 use Rattle.def_answer.specs.Answer.{script_reply, check_reply, policy_reply, gen_reply, RepliesToText, Replies, RepliesToWords}
-use Rattle.def_answer.specs.Laws.{IsAnswered, AnswersHaveStatus, NoReadingIsOfDecode, LongAssetFile, LongRunFile}
+use Rattle.def_answer.specs.Laws.{IsAnswered, AnswersHaveStatus, NoReadingIsOfDecode, LongAssetFile, LongRunFile, LongPlanFile}
 
 -- ---- the replies to files and runs
 
@@ -29,21 +30,21 @@ use Rattle.def_answer.specs.Laws.{IsAnswered, AnswersHaveStatus, NoReadingIsOfDe
 abbrev pub OfStatus : (Status → Type 0) → Reply → Type 0
 OfStatus P r = P r.status
 
-refused_status : {A : Type 0} (P : Status → Type 0) (next : A → Reply) (read : Result A AssetFault) → P status.FileRefused
-    → ((file : A) → OfStatus P (next file)) → OfStatus P (unless_refused next read)
-refused_status P next (Ok file) refusal after = after file
-refused_status P next (Err fault) refusal after = refusal
+refused_status : {A E : Type 0} (P : Status → Type 0) (line : E → Bytes) (next : A → Reply) (read : Result A E) → P status.FileRefused
+    → ((file : A) → OfStatus P (next file)) → OfStatus P (unless_refused line next read)
+refused_status P line next (Ok file) refusal after = after file
+refused_status P line next (Err fault) refusal after = refusal
 
 either_status : (P : Status → Type 0) (b : Bool) (r s : Reply) → OfStatus P r → OfStatus P s → OfStatus P (if b then r else s)
 either_status P true r s left right = left
 either_status P false r s left right = right
 
-file_status : {A : Type 0} (P : Status → Type 0) (file_of : Bytes → Result A AssetFault) (next : A → Reply) (source : Bytes) →
+file_status : {A E : Type 0} (P : Status → Type 0) (line : E → Bytes) (file_of : Bytes → Result A E) (next : A → Reply) (source : Bytes) →
     P status.FileRefused
-    → ((file : A) → OfStatus P (next file)) → OfStatus P (file_reply file_of next source)
-file_status P file_of next source refusal after =
-    either_status P (nat_lt MOST_FILE (length source)) (reply status.FileRefused file_too_long_line) (unless_refused next (file_of source)) refusal
-    (refused_status P next (file_of source) refusal after)
+    → ((file : A) → OfStatus P (next file)) → OfStatus P (file_reply line file_of next source)
+file_status P line file_of next source refusal after =
+    either_status P (nat_lt MOST_FILE (length source)) (reply status.FileRefused file_too_long_line) (unless_refused line next (file_of source)) refusal
+    (refused_status P line next (file_of source) refusal after)
 
 chosen_status : (P : Status → Type 0) (tree : Tree) (assets : Assets) (choice : Option (List Bytes)) → P status.Done →
     P status.NoSatisfaction
@@ -55,7 +56,7 @@ pub satisfy_status : (P : Status → Type 0) (choice : Tree → Assets → Optio
     P status.FileRefused → P status.Done
     → P status.NoSatisfaction → OfStatus P (satisfy_reply choice source tree)
 satisfy_status P choice source tree refusal done never =
-    file_status P assets_of (λ assets. chosen_reply tree assets (choice tree assets)) source refusal
+    file_status P file_line assets_of (λ assets. chosen_reply tree assets (choice tree assets)) source refusal
     (λ assets. chosen_status P tree assets (choice tree assets) done never)
 
 outcome_status : (P : Status → Type 0) (o : Outcome) → P status.Done → P status.ScriptRefused → OfStatus P (outcome_reply o)
@@ -65,8 +66,18 @@ outcome_status P (refused fault place) done refusal = refusal
 pub run_status : (P : Status → Type 0) (source : Bytes) → P status.FileRefused → P status.Done → P status.ScriptRefused →
     OfStatus P (run_reply source)
 run_status P source file done refusal =
-    file_status P run_of (λ f. outcome_reply (run (record { table = f.pairs; locks = f.locks }) f.script f.stack)) source file
+    file_status P file_line run_of (λ f. outcome_reply (run (record { table = f.pairs; locks = f.locks }) f.script f.stack)) source file
     (λ f. outcome_status P (run (record { table = f.pairs; locks = f.locks }) f.script f.stack) done refusal)
+
+planned_status : (P : Status → Type 0) (planned : Option Plan) → P status.Done → P status.NoSatisfaction → OfStatus P (planned_reply planned)
+planned_status P None done never = never
+planned_status P (Some found) done never = done
+
+pub plan_status : (P : Status → Type 0) (source : Bytes) (tree : Tree) → P status.FileRefused → P status.Done → P status.NoSatisfaction →
+    OfStatus P (plan_reply source tree)
+plan_status P source tree refusal done never =
+    file_status P plan_file_line plan_file_of (λ file. planned_reply (plan_of tree file.assets file.table)) source refusal
+    (λ file. planned_status P (plan_of tree file.assets file.table) done never)
 
 -- ---- the replies to texts
 
@@ -98,6 +109,8 @@ answered_reply (satisfy_malleable text) source r h =
 answered_reply words.run source r h = subst (OfStatus IsAnswered) (sym h) (run_status IsAnswered source tt tt tt)
 answered_reply (gen n) source r h = subst (OfStatus IsAnswered) (sym h) tt
 answered_reply (policy text) source r h = answered_text text first_unfit policy_reply r (λ tree. tt) h
+answered_reply (plan text) source r h =
+    answered_text text first_unfit (plan_reply source) r (λ tree. plan_status IsAnswered source tree tt tt tt) h
 answered_reply (decode digits keys) source r (inl h) = subst (OfStatus IsAnswered) (sym h.2) tt
 answered_reply (decode digits keys) source r (inr h) = subst (OfStatus IsAnswered) (sym h.1) tt
 
@@ -132,6 +145,8 @@ decodes words.run source r h is =
     absurd (subst (OfStatus IsRead) (sym h) (run_status IsRead source (λ e. cc e) (λ e. cc e) (λ e. cc e)) is)
 decodes (gen n) source r h is = absurd (subst (OfStatus IsRead) (sym h) (λ e. cc e) is)
 decodes (policy text) source r h is = absurd (read_text text first_unfit policy_reply r (λ tree e. cc e) h is)
+decodes (plan text) source r h is =
+    absurd (read_text text first_unfit (plan_reply source) r (λ tree. plan_status IsRead source tree (λ e. cc e) (λ e. cc e) (λ e. cc e)) h is)
 decodes (decode digits keys) source r h is = (digits, keys, refl)
 
 decodes_words : (ws : List Bytes) (source : Bytes) (r : Reply) → RepliesToWords ws source r → r.status ≡ status.NoReading
@@ -154,3 +169,6 @@ long_asset_file choice source tree long =
 
 pub long_run_file : LongRunFile
 long_run_file source long = first_of_two (nat_lt MOST_FILE (length source)) _ _ (lt-ltb MOST_FILE (length source) long)
+
+pub long_plan_file : LongPlanFile
+long_plan_file source tree long = first_of_two (nat_lt MOST_FILE (length source)) _ _ (lt-ltb MOST_FILE (length source) long)

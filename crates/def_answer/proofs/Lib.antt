@@ -10,6 +10,7 @@ pub mod Computing
 pub mod TextRows
 pub mod PolicyRows
 pub mod DecodeRows
+pub mod PlanRows
 pub mod SatisfyRows
 pub mod RunRows
 pub mod GenRows

@@ -2,7 +2,7 @@
 use Rattle.std.proofs.Common.{refl, codes, ◌++◌, [], ◌∷◌}
 use Rattle.def_sane.specs.Unfit.{first_unfit, first_unfit_valid}
 use Rattle.def_answer.specs.Samples.{A, pk}
-use Rattle.def_answer.specs.Words.{script, check, satisfy, satisfy_malleable, run, gen, policy, decode}
+use Rattle.def_answer.specs.Words.{script, check, satisfy, satisfy_malleable, run, gen, policy, plan, decode}
 use Rattle.def_answer.specs.SourceExamples.{WordsThatRead, WordsThatDoNot}
 use Rattle.def_answer.proofs.Forms.{is_form}
 use Rattle.def_answer.proofs.Sources.{passes, fails, reads_by, none_reads}
@@ -14,6 +14,7 @@ words_that_read = (
   (run, is_form _ run refl, tt),
   (satisfy (pk A), is_form _ (satisfy (pk A)) refl, passes (pk A) first_unfit refl refl),
   (satisfy_malleable (codes "1"), is_form _ (satisfy_malleable (codes "1")) refl, passes (codes "1") first_unfit_valid refl refl),
+  (plan (pk A), is_form _ (plan (pk A)) refl, passes (pk A) first_unfit refl refl),
 )
 
 pub words_that_do_not : WordsThatDoNot
@@ -28,4 +29,6 @@ words_that_do_not = (
   reads_by _ (satisfy (codes "1")) refl (fails (codes "1") first_unfit refl refl),
   reads_by _ (satisfy_malleable (codes "v:" ++ pk A)) refl (fails (codes "v:" ++ pk A) first_unfit_valid refl refl),
   reads_by _ (satisfy (codes "--malleable")) refl (fails (codes "--malleable") first_unfit refl refl),
+  reads_by _ (plan (codes "1")) refl (fails (codes "1") first_unfit refl refl),
+  none_reads _ refl,
 )

@@ -13,14 +13,14 @@ use Rattle.def_choice.specs.Cheapest.{cheapest}
 use Rattle.def_choice.specs.Strict.{strict}
 use Rattle.def_answer.specs.declared.status.Status.{Status}
 use Rattle.def_answer.specs.declared.status.Status.TheVariants as status
-use Rattle.def_answer.specs.Words.{Command, script, check, satisfy, satisfy_malleable, run, gen, policy, decode}
+use Rattle.def_answer.specs.Words.{Command, script, check, satisfy, satisfy_malleable, run, gen, policy, plan, decode}
 use Rattle.def_answer.specs.Reading.{Reading, read, refused, HasReading}
-use Rattle.def_answer.specs.Reply.{Reply, reply, unless_unfit, text_reply, MOST_FILE, satisfy_reply}
+use Rattle.def_answer.specs.Reply.{Reply, reply, unless_unfit, text_reply, MOST_FILE, satisfy_reply, plan_reply}
 use Rattle.def_answer.specs.Answer.{script_reply, check_reply, policy_reply, gen_reply, RepliesToText, Replies, RepliesToWords}
 use Rattle.def_answer.specs.Sources.{Passes, NeedsSource, ReadsSource, IsOfSource, IsToFile}
 use Rattle.def_answer.specs.Laws.{AnswerWithoutSource, StatusWithoutSource, StatusWithSource}
 use Rattle.def_answer.proofs.Answered.{OnText, reading_of, has_reading}
-use Rattle.def_answer.proofs.Early.{OfStatus, satisfy_status, run_status, long_asset_file, long_run_file}
+use Rattle.def_answer.proofs.Early.{OfStatus, satisfy_status, run_status, plan_status, long_asset_file, long_run_file, long_plan_file}
 use Rattle.def_answer.proofs.Forms.{command_of, form_found}
 use Rattle.def_answer.proofs.Unique.{one_form, one_reading, text_of_form}
 
@@ -64,6 +64,7 @@ reply_without (satisfy_malleable text) source other r never h =
 reply_without run source other r never h = absurd (never tt)
 reply_without (gen n) source other r never h = h
 reply_without (policy text) source other r never h = h
+reply_without (plan text) source other r never h = text_without text first_unfit (plan_reply source) (plan_reply other) r never h
 reply_without (decode digits keys) source other r never h = h
 
 -- no status that tells of the source
@@ -98,6 +99,7 @@ other_status run source r never h = absurd (never tt)
 other_status (gen n) source r never h = subst (OfStatus IsOther) (sym h) (λ s. s)
 other_status (policy text) source r never h =
     subst (OfStatus IsOther) (sym h.2) (other_text first_unfit policy_reply h.0 (λ tree s. s))
+other_status (plan text) source r never h = refused_other text first_unfit (plan_reply source) r never h
 other_status (decode digits keys) source r never (inl h) = subst (OfStatus IsOther) (sym h.2) (λ s. s)
 other_status (decode digits keys) source r never (inr h) = subst (OfStatus IsOther) (sym h.1) (λ s. s)
 
@@ -141,6 +143,9 @@ file_status (satisfy_malleable text) source r utf8 needs h =
 file_status run source r utf8 needs h = subst (OfStatus IsToFile) (sym h) (run_status IsToFile source tt tt tt)
 file_status (gen n) source r utf8 needs h = absurd needs
 file_status (policy text) source r utf8 needs h = absurd needs
+file_status (plan text) source r utf8 needs h =
+    subst (OfStatus IsToFile) (sym (passed_text text first_unfit (plan_reply source) r utf8 needs h))
+    (plan_status IsToFile source needs.0 tt tt tt)
 file_status (decode digits keys) source r utf8 needs h = absurd needs
 
 -- a file that is too long is refused, whatever it says
@@ -157,6 +162,8 @@ long_file (satisfy_malleable text) source r utf8 needs long h =
 long_file run source r utf8 needs long h = ap (λ (r : Reply). r.status) (h ∙ long_run_file source long)
 long_file (gen n) source r utf8 needs long h = absurd needs
 long_file (policy text) source r utf8 needs long h = absurd needs
+long_file (plan text) source r utf8 needs long h =
+    ap (λ (r : Reply). r.status) (passed_text text first_unfit (plan_reply source) r utf8 needs h ∙ long_plan_file source needs.0 long)
 long_file (decode digits keys) source r utf8 needs long h = absurd needs
 
 file_words : (words : List Bytes) (source : Bytes) (r : Reply) → All IsUtf8 words → ReadsSource words →

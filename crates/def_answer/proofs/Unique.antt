@@ -10,9 +10,9 @@ use Rattle.def_sane.specs.declared.Unfit.{Unfit}
 use Rattle.def_sane.specs.Unfit.{first_unfit, first_unfit_valid}
 use Rattle.def_choice.specs.Cheapest.{cheapest}
 use Rattle.def_choice.specs.Strict.{strict}
-use Rattle.def_answer.specs.Words.{Command, script, check, satisfy, satisfy_malleable, run, gen, policy, decode, words_of, IsForm, HasNoForm}
+use Rattle.def_answer.specs.Words.{Command, script, check, satisfy, satisfy_malleable, run, gen, policy, plan, decode, words_of, IsForm, HasNoForm}
 use Rattle.def_answer.specs.Reading.{Reading, read, refused, HasReading}
-use Rattle.def_answer.specs.Reply.{Reply, reply, text_reply, satisfy_reply}
+use Rattle.def_answer.specs.Reply.{Reply, reply, text_reply, satisfy_reply, plan_reply}
 use Rattle.def_answer.specs.Answer.{script_reply, check_reply, policy_reply, decode_reply, bytes_of, RepliesToScript, RepliesToText, Replies, RepliesToWords}
 use Rattle.def_answer.specs.Laws.{OneForm, FormOrNone, OneAnswer, SomeAnswer}
 use Rattle.def_answer.proofs.Forms.{command_of, is_form, form_found, none_has_form}
@@ -39,6 +39,7 @@ text_of_words P (satisfy_malleable text) h = h 2 [] (omega arith)
 text_of_words P run h = tt
 text_of_words P (gen n) h = tt
 text_of_words P (policy text) h = h 1 [] (omega arith)
+text_of_words P (plan text) h = h 1 [] (omega arith)
 text_of_words P (decode digits keys) h = tt
 
 pub text_of_form : (words : List Bytes) (c : Command) → All IsUtf8 words → IsForm words c → OnText IsUtf8 c
@@ -74,6 +75,7 @@ one_reply (satisfy_malleable text) source a b utf8 h k =
 one_reply run source a b utf8 h k = h ∙ sym k
 one_reply (gen n) source a b utf8 h k = h ∙ sym k
 one_reply (policy text) source a b utf8 h k = one_text_reply text first_unfit policy_reply a b utf8 h k
+one_reply (plan text) source a b utf8 h k = one_text_reply text first_unfit (plan_reply source) a b utf8 h k
 one_reply (decode digits keys) source a b utf8 h k = one_script_reply (map bytes_of keys) (bytes_of digits) a b h k
 
 -- ---- answers

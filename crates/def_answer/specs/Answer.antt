@@ -1,5 +1,5 @@
 -- The program's answer: for each list of words and each content of the source a status and a report. The
--- words come first, then the text, the reasons against its tree, the file, and the satisfaction or the run.
+-- words come first, then the text, the reasons against its tree, the file, and the satisfaction, the run or the plan.
 use Rattle.std.specs.Prelude.{◌≡◌, ◌⊎◌, ℕ, ◌++◌, List, [], map, Option, unwrap_or}
 use Rattle.std.specs.Result.{result_unwrap_or}
 use Rattle.hex.specs.Hex.{decode_of}
@@ -13,12 +13,12 @@ use Rattle.def_choice.specs.Strict.{strict}
 use Rattle.def_decode.specs.Decoded.{IsReading, IsDecoded}
 use Rattle.def_answer.specs.declared.status.Status.{Status}
 use Rattle.def_answer.specs.declared.status.Status.TheVariants as status
-use Rattle.def_answer.specs.Words.{Command, script, check, satisfy, satisfy_malleable, run, gen, policy, decode, IsForm, HasNoForm}
+use Rattle.def_answer.specs.Words.{Command, script, check, satisfy, satisfy_malleable, run, gen, policy, plan, decode, IsForm, HasNoForm}
 use Rattle.def_answer.specs.Lines.{limits_line, no_reading_line}
 use Rattle.def_answer.specs.Report.{script_report, check_report, policy_report, decode_report, replay, children_line, strict_line, cheapest_line}
 use Rattle.def_answer.specs.Generated.{threshold_of, generated_tree, generated_assets}
 use Rattle.def_answer.specs.Reading.{Reading, HasReading}
-use Rattle.def_answer.specs.Reply.{Reply, reply, usage_reply, text_reply, satisfy_reply, run_reply}
+use Rattle.def_answer.specs.Reply.{Reply, reply, usage_reply, text_reply, satisfy_reply, run_reply, plan_reply}
 
 -- what `gen` prints, from its two satisfactions
 unfoldable pub gen_report : (n : ℕ) → (strict cheapest : List Bytes) → Bytes
@@ -74,6 +74,7 @@ Replies (satisfy_malleable text) source r = RepliesToText text first_unfit_valid
 Replies run source r = r ≡ run_reply source
 Replies (gen n) source r = r ≡ gen_reply n
 Replies (policy text) source r = RepliesToText text first_unfit policy_reply r
+Replies (plan text) source r = RepliesToText text first_unfit (plan_reply source) r
 Replies (decode digits keys) source r = RepliesToScript (map bytes_of keys) (bytes_of digits) r
 
 -- the reply to words: to their command, or where they have no form

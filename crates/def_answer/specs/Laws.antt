@@ -15,7 +15,7 @@ use Rattle.def_answer.specs.Words.{Command, decode, MOST_CHILDREN, IsForm, HasNo
 use Rattle.def_answer.specs.LeastKeys.{least_keys}
 use Rattle.def_answer.specs.Lines.{file_too_long_line}
 use Rattle.def_answer.specs.Generated.{generated_text, generated_tree, generated_assets}
-use Rattle.def_answer.specs.Reply.{reply, MOST_FILE, satisfy_reply, run_reply}
+use Rattle.def_answer.specs.Reply.{reply, MOST_FILE, satisfy_reply, run_reply, plan_reply}
 use Rattle.def_answer.specs.Answer.{Answer}
 use Rattle.def_answer.specs.Sources.{ReadsSource, IsOfSource, IsToFile}
 
@@ -92,6 +92,10 @@ LongAssetFile =
 abbrev pub LongRunFile : Type 0
 LongRunFile =
     (source : Bytes) → MOST_FILE < length source → run_reply source ≡ reply status.FileRefused file_too_long_line
+
+abbrev pub LongPlanFile : Type 0
+LongPlanFile =
+    (source : Bytes) (tree : Tree) → MOST_FILE < length source → plan_reply source tree ≡ reply status.FileRefused file_too_long_line
 
 -- ---- how many keys have to sign
 

@@ -14,6 +14,7 @@ pub mod Samples
 pub mod TextExamples
 pub mod PolicyExamples
 pub mod DecodeExamples
+pub mod PlanExamples
 pub mod SatisfyExamples
 pub mod RunExamples
 pub mod GenExamples

@@ -12,6 +12,9 @@ use Rattle.def_sane.specs.declared.Unfit.TheVariants as unfit
 use Rattle.def_files.specs.declared.AssetFault.{AssetFault}
 use Rattle.def_files.specs.declared.AssetFault.TheVariants as file_fault
 use Rattle.def_files.specs.Json.{member_name}
+use Rattle.def_plan.specs.declared.PlanFault.{PlanFault}
+use Rattle.def_plan.specs.declared.PlanFault.TheVariants as plan_fault
+use Rattle.def_plan.specs.Names.{plan_member_name}
 use Rattle.def_answer.specs.Names.{rule_name, script_fault_name}
 use Rattle.def_emit.specs.Program.{program_of}
 
@@ -82,6 +85,19 @@ file_line (file_fault.PreimageLength i) = line (codes "refused file PreimageLeng
 file_line (file_fault.TooMany m) = line (codes "refused file TooMany " ++ member_name m)
 file_line (file_fault.RepeatedKey i) = line (codes "refused file RepeatedKey " ++ decimal i)
 file_line file_fault.Memory = []
+
+-- of a plan file
+abbrev pub plan_file_line : PlanFault → Bytes
+plan_file_line plan_fault.NotJson = line (codes "refused file NotJson")
+plan_file_line (plan_fault.Shape m) = line (codes "refused file Shape " ++ plan_member_name m)
+plan_file_line (plan_fault.Number m) = line (codes "refused file Number " ++ plan_member_name m)
+plan_file_line (plan_fault.Hex m i) = line (codes "refused file Hex " ++ plan_member_name m ++ codes " " ++ decimal i)
+plan_file_line (plan_fault.KeyForm i) = line (codes "refused file KeyForm " ++ decimal i)
+plan_file_line (plan_fault.Length i) = line (codes "refused file Length " ++ decimal i)
+plan_file_line (plan_fault.PreimageLength i) = line (codes "refused file PreimageLength " ++ decimal i)
+plan_file_line (plan_fault.TooMany m) = line (codes "refused file TooMany " ++ plan_member_name m)
+plan_file_line (plan_fault.RepeatedKey i) = line (codes "refused file RepeatedKey " ++ decimal i)
+plan_file_line plan_fault.Memory = []
 
 -- of a script, at the instruction of this number
 abbrev pub script_refused_line : ScriptFault → (place : ℕ) → Bytes

@@ -1,19 +1,20 @@
--- What the program replies to a text, a file and a run: a status and a report.
+-- What the program replies to a text, a file, a run and a plan: a status and a report.
 use Rattle.std.specs.Prelude.{ℕ, nat_lt, List, length, if◌then◌else◌, Option, Some, None, Result, Ok, Err}
 use Rattle.def_script.specs.Bytes.{Bytes}
 use Rattle.def_machine.specs.Run.{Outcome, accepted, refused, run}
 use Rattle.def_tree.specs.Tree.{Tree}
 use Rattle.def_assets.specs.Assets.{Assets}
 use Rattle.def_sane.specs.declared.Unfit.{Unfit}
-use Rattle.def_files.specs.declared.AssetFault.{AssetFault}
 use Rattle.def_files.specs.AssetFile.{assets_of}
 use Rattle.def_files.specs.RunFile.{run_of}
+use Rattle.def_plan.specs.Plan.{Plan, plan_of}
+use Rattle.def_plan.specs.PlanFile.{plan_file_of}
 use Rattle.def_answer.specs.declared.status.Status.{Status}
 use Rattle.def_answer.specs.declared.status.Status.TheVariants as status
-use Rattle.def_answer.specs.Lines.{usage_line, no_satisfaction_line, text_line, unfit_line, file_too_long_line, file_line}
+use Rattle.def_answer.specs.Lines.{usage_line, no_satisfaction_line, text_line, unfit_line, file_too_long_line, file_line, plan_file_line}
 use Rattle.def_answer.specs.Reading.{Reading}
 use Rattle.def_answer.specs.Reading as reading
-use Rattle.def_answer.specs.Report.{satisfy_report, run_report}
+use Rattle.def_answer.specs.Report.{satisfy_report, run_report, plan_report}
 
 pub record Reply : Type 0 where
   pub status : Status
@@ -43,16 +44,17 @@ text_reply first_reason next (reading.refused fault) = reply status.TextRefused 
 abbrev pub MOST_FILE : ℕ
 MOST_FILE = 1048576
 
-abbrev pub unless_refused : {A : Type 0} → (next : A → Reply) → Result A AssetFault → Reply
-unless_refused next (Ok file) = next file
-unless_refused next (Err fault) = reply status.FileRefused (file_line fault)
+-- the refusal, whose line this is, or else what comes next
+abbrev pub unless_refused : {A E : Type 0} → (line : E → Bytes) → (next : A → Reply) → Result A E → Reply
+unless_refused line next (Ok file) = next file
+unless_refused line next (Err fault) = reply status.FileRefused (line fault)
 
 -- the refusal of a file, or else what comes next
-abbrev pub file_reply : {A : Type 0} → (file_of : Bytes → Result A AssetFault) → (next : A → Reply) →
+abbrev pub file_reply : {A E : Type 0} → (line : E → Bytes) → (file_of : Bytes → Result A E) → (next : A → Reply) →
     (source : Bytes) → Reply
-file_reply file_of next source =
+file_reply line file_of next source =
     if nat_lt MOST_FILE (length source) then reply status.FileRefused file_too_long_line
-    else unless_refused next (file_of source)
+    else unless_refused line next (file_of source)
 
 -- ---- satisfactions and runs
 
@@ -63,7 +65,7 @@ chosen_reply tree assets (Some stack) = reply status.Done (satisfy_report tree a
 
 abbrev pub satisfy_reply : (choice : Tree → Assets → Option (List Bytes)) → (source : Bytes) → Tree → Reply
 satisfy_reply choice source tree =
-    file_reply assets_of (λ assets. chosen_reply tree assets (choice tree assets)) source
+    file_reply file_line assets_of (λ assets. chosen_reply tree assets (choice tree assets)) source
 
 abbrev pub outcome_reply : Outcome → Reply
 outcome_reply (accepted ops peak checks) = reply status.Done (run_report (accepted ops peak checks))
@@ -71,4 +73,14 @@ outcome_reply (refused fault place) = reply status.ScriptRefused (run_report (re
 
 abbrev pub run_reply : (source : Bytes) → Reply
 run_reply source =
-    file_reply run_of (λ file. outcome_reply (run (record { table = file.pairs; locks = file.locks }) file.script file.stack)) source
+    file_reply file_line run_of (λ file. outcome_reply (run (record { table = file.pairs; locks = file.locks }) file.script file.stack)) source
+
+-- ---- plans
+
+-- the plan, if there is one
+abbrev pub planned_reply : Option Plan → Reply
+planned_reply None = reply status.NoSatisfaction no_satisfaction_line
+planned_reply (Some plan) = reply status.Done (plan_report plan)
+
+abbrev pub plan_reply : (source : Bytes) → Tree → Reply
+plan_reply source tree = file_reply plan_file_line plan_file_of (λ file. planned_reply (plan_of tree file.assets file.table)) source

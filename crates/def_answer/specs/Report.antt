@@ -18,6 +18,7 @@ use Rattle.def_policy.specs.Policy.{Policy}
 use Rattle.def_policy.specs.Plain.{plain}
 use Rattle.def_policy.specs.Simple.{simple}
 use Rattle.def_policy.specs.Print.{printed as printed_policy}
+use Rattle.def_plan.specs.Plan.{Plan}
 use Rattle.def_answer.specs.Names.{base_letter}
 use Rattle.def_answer.specs.LeastKeys.{least_keys}
 use Rattle.def_answer.specs.Lines.{line, script_line, program_line, limits_line, script_refused_line}
@@ -130,6 +131,18 @@ policy_lines policy least = line (codes "policy " ++ printed_policy policy) ++ l
 
 unfoldable pub policy_report : Tree → Bytes
 policy_report tree = policy_lines (policy_of tree) (least_keys (policy_of tree))
+
+-- ---- plan
+
+-- a key to ask for a signature
+abbrev pub ask_line : (key : Bytes) → Bytes
+ask_line key = line (codes "ask " ++ encode_lower key)
+
+abbrev pub weight_line : (weight : ℕ) → Bytes
+weight_line weight = line (codes "weight at most " ++ decimal weight)
+
+unfoldable pub plan_report : Plan → Bytes
+plan_report plan = flat_map ask_line plan.keys ++ weight_line plan.weight
 
 -- ---- decode
 

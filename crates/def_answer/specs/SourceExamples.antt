@@ -9,6 +9,7 @@ WordsThatRead =
     ReadsSource (codes "run" ∷ [])
     × ReadsSource (codes "satisfy" ∷ pk A ∷ [])
     × ReadsSource (codes "satisfy" ∷ codes "--malleable" ∷ codes "1" ∷ [])
+    × ReadsSource (codes "plan" ∷ pk A ∷ [])
 
 -- no form; other commands; a text that isn't sane, that isn't valid, or that isn't spelled
 abbrev pub WordsThatDoNot : Type 0
@@ -22,3 +23,5 @@ WordsThatDoNot =
     × ¬ ReadsSource (codes "satisfy" ∷ codes "1" ∷ [])
     × ¬ ReadsSource (codes "satisfy" ∷ codes "--malleable" ∷ (codes "v:" ++ pk A) ∷ [])
     × ¬ ReadsSource (codes "satisfy" ∷ codes "--malleable" ∷ [])
+    × ¬ ReadsSource (codes "plan" ∷ codes "1" ∷ [])
+    × ¬ ReadsSource (codes "plan" ∷ pk A ∷ pk A ∷ [])

@@ -7,7 +7,7 @@ use Rattle.def_sane.specs.declared.Unfit.{Unfit}
 use Rattle.def_sane.specs.Unfit.{first_unfit, first_unfit_valid}
 use Rattle.def_answer.specs.declared.status.Status.{Status}
 use Rattle.def_answer.specs.declared.status.Status.TheVariants as status
-use Rattle.def_answer.specs.Words.{Command, script, check, satisfy, satisfy_malleable, run, gen, policy, decode, IsForm}
+use Rattle.def_answer.specs.Words.{Command, script, check, satisfy, satisfy_malleable, run, gen, policy, plan, decode, IsForm}
 
 -- the text is read as a tree, and there is no reason against it
 abbrev pub Passes : (first_reason : Tree → Option Unfit) → (text : Bytes) → Type 0
@@ -23,6 +23,7 @@ NeedsSource (satisfy_malleable text) = Passes first_unfit_valid text
 NeedsSource run = ⊤
 NeedsSource (gen n) = ⊥
 NeedsSource (policy text) = ⊥
+NeedsSource (plan text) = Passes first_unfit text
 NeedsSource (decode digits keys) = ⊥
 
 -- the words are those of such a command

@@ -20,6 +20,8 @@ pub data Command : Type 0 where
   gen : (n : ℕ) → Command
   -- the abstract policy of a sane text
   policy : (text : Bytes) → Command
+  -- which keys to ask for a signature for a sane text, with a plan file
+  plan : (text : Bytes) → Command
   -- the text that a Script is read back as, with the keys that its hashes of keys may have
   decode : (digits : Bytes) → (keys : List Bytes) → Command
 
@@ -32,6 +34,7 @@ words_of (satisfy_malleable text) = codes "satisfy" ∷ codes "--malleable" ∷ 
 words_of run = codes "run" ∷ []
 words_of (gen n) = codes "gen" ∷ decimal n ∷ []
 words_of (policy text) = codes "policy" ∷ text ∷ []
+words_of (plan text) = codes "plan" ∷ text ∷ []
 words_of (decode digits keys) = codes "decode" ∷ digits ∷ keys
 
 -- the greatest number that `gen` takes
@@ -51,6 +54,7 @@ IsCommand (satisfy_malleable text) = ⊤
 IsCommand run = ⊤
 IsCommand (gen n) = (1 ≤ n) × (n ≤ MOST_CHILDREN)
 IsCommand (policy text) = ⊤
+IsCommand (plan text) = ⊤
 IsCommand (decode digits keys) = IsHex digits × All (λ word. IsSome (key_of word)) keys
 
 -- the words are those of the command

@@ -21,6 +21,14 @@ ghost use Rattle.def_answer.specs.PolicyExamples.{
   PolicyOfZero,
   PolicyRefused,
 };
+ghost use Rattle.def_answer.specs.PlanExamples.{
+  ShortestTwo,
+  LockCounts,
+  TooFewKeys,
+  RefusedPlanFiles,
+  PlanRefused,
+  PlanFileTooLong,
+};
 ghost use Rattle.def_answer.specs.DecodeExamples.{
   ReadKey,
   ReadChain,
@@ -90,6 +98,16 @@ pub fn policies()
     ensures hashes { PolicyOfHashes }
     ensures zero { PolicyOfZero }
     ensures refused { PolicyRefused }
+{}
+
+/// Answers to `plan TEXT`.
+pub fn plans()
+    ensures shortest_two { ShortestTwo }
+    ensures lock_counts { LockCounts }
+    ensures too_few_keys { TooFewKeys }
+    ensures refused_plan_files { RefusedPlanFiles }
+    ensures plan_refused { PlanRefused }
+    ensures plan_file_too_long { PlanFileTooLong }
 {}
 
 /// Answers to `decode HEX KEY..`.

@@ -12,6 +12,7 @@ ghost use Rattle.def_answer.specs.Laws.{
   StatusWithSource,
   LongAssetFile,
   LongRunFile,
+  LongPlanFile,
   LeastKeysAreLeast,
   OneLeast,
   GeneratedIsRead,
@@ -37,6 +38,7 @@ pub fn sources()
     ensures status_with { StatusWithSource }
     ensures long_asset_file { LongAssetFile }
     ensures long_run_file { LongRunFile }
+    ensures long_plan_file { LongPlanFile }
 {}
 
 /// The number of keys that `policy` prints is the least one.

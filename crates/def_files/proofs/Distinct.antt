@@ -7,7 +7,6 @@ use Rattle.std.proofs.lemmas.List.{length-append}
 use Rattle.std.proofs.lemmas.List.Folds.{list_any-append}
 use Rattle.std.proofs.lemmas.Slice.Eq.{bytes_eq-Decides}
 use Rattle.def_script.specs.Bytes.{Bytes}
-use Rattle.def_files.specs.declared.AssetFault.TheVariants as fault
 use Rattle.def_files.specs.Refusals.{no_repeat}
 use Rattle.def_files.proofs.Passing.{each_held}
 
@@ -66,5 +65,5 @@ free_after all before (key ∷ keys) e h =
     let both = split before key keys rest.0 in
     ((free, both.0), (both.1, rest.1))
 
-pub distinct_keys : (keys : List Bytes) → no_repeat keys ≡ None → IsDistinct bytes_eq keys
-distinct_keys keys e = (free_after keys [] keys refl (each_held (is_new keys) fault.RepeatedKey (enumerate_from 0 keys) e)).1
+pub distinct_keys : {E : Type 0} (fault : ℕ → E) (keys : List Bytes) → no_repeat fault keys ≡ None → IsDistinct bytes_eq keys
+distinct_keys fault keys e = (free_after keys [] keys refl (each_held (is_new keys) fault (enumerate_from 0 keys) e)).1

@@ -9,16 +9,16 @@ use Rattle.def_files.specs.declared.AssetFault.TheVariants.{NotJson}
 use Rattle.def_files.specs.Refusals.{Refusal, unless, unless_each, unless_refused, given}
 
 -- none of the refusals applies
-abbrev pub NoneApplies : List Refusal → Type 0
+abbrev pub NoneApplies : {E : Type 0} → List (Option E) → Type 0
 NoneApplies [] = ⊤
 NoneApplies (r ∷ rs) = (r ≡ None) × NoneApplies rs
 
-pub none_applies : {A : Type 0} (rs : List Refusal) (v w : A) → unless_refused rs v ≡ Ok w → NoneApplies rs × (v ≡ w)
+pub none_applies : {A E : Type 0} (rs : List (Option E)) (v w : A) → unless_refused rs v ≡ Ok w → NoneApplies rs × (v ≡ w)
 none_applies [] v w e = (tt, cc e)
 none_applies (None ∷ rs) v w e = let rest = none_applies rs v w e in ((refl, rest.0), rest.1)
 none_applies (Some fault ∷ rs) v w e = cc e
 
-pub held : (b : Bool) (fault : AssetFault) → unless b fault ≡ None → b ≡ true
+pub held : {E : Type 0} (b : Bool) (fault : E) → unless b fault ≡ None → b ≡ true
 held true fault e = refl
 held false fault e = cc e
 
@@ -32,11 +32,11 @@ all_from holds i (x ∷ xs) e = go (holds x) refl (all_from holds (i + 1) xs) e
     go true q rest e = rest e
     go false q rest e = cc e
 
-not_mapped : (fault : ℕ → AssetFault) (found : Option ℕ) → option_map fault found ≡ None → found ≡ None
+not_mapped : {E : Type 0} (fault : ℕ → E) (found : Option ℕ) → option_map fault found ≡ None → found ≡ None
 not_mapped fault None e = refl
 not_mapped fault (Some i) e = cc e
 
-pub each_held : {A : Type 0} (holds : A → Bool) (fault : ℕ → AssetFault) (xs : List A) → unless_each holds fault xs ≡ None →
+pub each_held : {A E : Type 0} (holds : A → Bool) (fault : ℕ → E) (xs : List A) → unless_each holds fault xs ≡ None →
     list_all holds xs ≡ true
 each_held holds fault xs e =
     all_from holds 0 xs (sym (position_from-zero (λ x. not (holds x)) xs) ∙ not_mapped fault (position (λ x. not (holds x)) xs) e)
@@ -50,29 +50,29 @@ given_ok f (Some file) value e = (file, e)
 -- ---- which refusals come
 
 -- a refusal is one of some kind, where it applies; so are those of a list
-abbrev pub Tells : (AssetFault → Type 0) → Refusal → Type 0
+abbrev pub Tells : {E : Type 0} → (E → Type 0) → Option E → Type 0
 Tells P None = ⊤
 Tells P (Some fault) = P fault
 
-abbrev pub AllTell : (AssetFault → Type 0) → List Refusal → Type 0
+abbrev pub AllTell : {E : Type 0} → (E → Type 0) → List (Option E) → Type 0
 AllTell P [] = ⊤
 AllTell P (r ∷ rs) = Tells P r × AllTell P rs
 
-pub unless_tells : (P : AssetFault → Type 0) (b : Bool) (fault : AssetFault) → P fault → Tells P (unless b fault)
+pub unless_tells : {E : Type 0} (P : E → Type 0) (b : Bool) (fault : E) → P fault → Tells P (unless b fault)
 unless_tells P true fault h = tt
 unless_tells P false fault h = h
 
-mapped_tells : (P : AssetFault → Type 0) (fault : ℕ → AssetFault) (found : Option ℕ) → ((i : ℕ) → P (fault i)) →
+mapped_tells : {E : Type 0} (P : E → Type 0) (fault : ℕ → E) (found : Option ℕ) → ((i : ℕ) → P (fault i)) →
     Tells P (option_map fault found)
 mapped_tells P fault None h = tt
 mapped_tells P fault (Some i) h = h i
 
-pub each_tells : {A : Type 0} (P : AssetFault → Type 0) (holds : A → Bool) (fault : ℕ → AssetFault) (xs : List A) → ((i : ℕ) →
+pub each_tells : {A E : Type 0} (P : E → Type 0) (holds : A → Bool) (fault : ℕ → E) (xs : List A) → ((i : ℕ) →
     P (fault i)) → Tells P (unless_each holds fault xs)
 each_tells P holds fault xs h = mapped_tells P fault (position (λ x. not (holds x)) xs) h
 
 -- so is the one that is given
-pub first_tells : {A : Type 0} (P : AssetFault → Type 0) (rs : List Refusal) (value : A) (e : AssetFault) → AllTell P rs →
+pub first_tells : {A E : Type 0} (P : E → Type 0) (rs : List (Option E)) (value : A) (e : E) → AllTell P rs →
     unless_refused rs value ≡ Err e → P e
 first_tells P [] value e h q = cc q
 first_tells P (None ∷ rs) value e h q = first_tells P rs value e h.1 q

@@ -44,7 +44,7 @@ asset_refusals file =
     too_many MOST_SIGNATURES member.Signatures file ∷
     too_many MOST_PREIMAGES member.Preimages file ∷
     -- 9, a key has one signature
-    no_repeat (map key_of (elements member.Signatures file)) ∷ []
+    no_repeat fault.RepeatedKey (map key_of (elements member.Signatures file)) ∷ []
 
 -- the assets of a file
 abbrev pub assets_in : Data → Assets

@@ -1,4 +1,4 @@
--- Why a file is refused. The refusals are listed in the order of their numbers, and those of one number in
+-- Why a file is refused, by the faults of its kind. The refusals are listed in the order of their numbers, and those of one number in
 -- the order of the members; the first that applies is the one that is given, with the least place.
 use Rattle.std.specs.Prelude.{ℕ, not, nat_le, Bool, is_some, if◌then◌else◌, List, [], ◌∷◌, length, take, position, Option, Some, None, option_map, Result, Ok, Err}
 use Rattle.std.specs.List.{list_any, enumerate_from}
@@ -12,20 +12,20 @@ use Rattle.def_files.specs.declared.AssetFault.TheVariants as fault
 use Rattle.def_files.specs.Json.{is_object, is_list_of}
 use Rattle.def_files.specs.Parts.{version, sequence, locktime, list, elements}
 
--- a refusal, where it applies
+-- a refusal of an asset file or a run file, where it applies
 abbrev pub Refusal : Type 0
 Refusal = Option AssetFault
 
 -- a refusal unless a test holds
-abbrev pub unless : Bool → AssetFault → Refusal
+abbrev pub unless : {E : Type 0} → Bool → E → Option E
 unless holds fault = if holds then None else Some fault
 
 -- the refusal of the first element for which a test doesn't hold
-abbrev pub unless_each : {A : Type 0} → (holds : A → Bool) → (ℕ → AssetFault) → List A → Refusal
+abbrev pub unless_each : {A E : Type 0} → (holds : A → Bool) → (ℕ → E) → List A → Option E
 unless_each holds fault xs = option_map fault (position (λ x. not (holds x)) xs)
 
 -- the value, unless one of the refusals applies: then the first of them
-abbrev pub unless_refused : {A : Type 0} → List Refusal → A → Result A AssetFault
+abbrev pub unless_refused : {A E : Type 0} → List (Option E) → A → Result A E
 unless_refused [] value = Ok value
 unless_refused (None ∷ refusals) value = unless_refused refusals value
 unless_refused (Some fault ∷ refusals) value = Err fault
@@ -64,9 +64,9 @@ abbrev pub too_many : (most : ℕ) → Member → Data → Refusal
 too_many most m file = unless (nat_le (length (elements m file)) most) (fault.TooMany m)
 
 -- the first key that stands earlier in the list too
-abbrev pub no_repeat : List Bytes → Refusal
-no_repeat keys =
-    unless_each (λ entry. not (list_any (bytes_eq entry.1) (take entry.0 keys))) fault.RepeatedKey (enumerate_from 0 keys)
+abbrev pub no_repeat : {E : Type 0} → (ℕ → E) → List Bytes → Option E
+no_repeat fault keys =
+    unless_each (λ entry. not (list_any (bytes_eq entry.1) (take entry.0 keys))) fault (enumerate_from 0 keys)
 
 -- how many signatures a file may have
 abbrev pub MOST_SIGNATURES : ℕ

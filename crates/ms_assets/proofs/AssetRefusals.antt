@@ -88,9 +88,9 @@ sigs_same list =
     first_refused-map (λ (pair : Bytes × Bytes). is_signature pair.1) fault.SigLength pair_of list
     ∙ sym (each_first is_signature fault.SigLength (map sig_of list) ∙ first_refused-map is_signature fault.SigLength sig_of list)
 
-repeats_same : (list : List Data) → repeated (map pair_of list) ≡ no_repeat (map key_of list)
+repeats_same : (list : List Data) → repeated fault.RepeatedKey (map pair_of list) ≡ no_repeat fault.RepeatedKey (map key_of list)
 unfolding repeated
-repeats_same list = ap no_repeat (firsts list)
+repeats_same list = ap (no_repeat fault.RepeatedKey) (firsts list)
 
 -- those of the byte strings of a file are the last six of its refusals
 last_same : (file : Data) → value_refusals (pairs file) (strings member.Preimages file) ≡ drop 8 (asset_refusals file)

@@ -1,6 +1,6 @@
 mod AssetRefusals
-mod Few
+mod FewHeld
 mod Json
-mod Refusals
-mod Repeats
+pub mod Refusals
+pub mod Repeats
 mod RunRefusals

@@ -1,5 +1,5 @@
 -- What reading a part of a file answers.
-use Rattle.std.specs.Prelude.{◌≡◌, ◌⊎◌, ℕ, not, nat_le, Bool, List, [], ◌∷◌, length, map, Some, None, option_map, Result, Ok, Err}
+use Rattle.std.specs.Prelude.{◌≡◌, ◌⊎◌, ℕ, not, nat_le, Bool, List, [], ◌∷◌, length, map, Option, Some, None, option_map, Result, Ok, Err}
 use Rattle.std.specs.List.{position_from}
 use Rattle.def_script.specs.Bytes.{Bytes}
 use Rattle.def_files.specs.declared.AssetFault.{AssetFault}
@@ -10,32 +10,39 @@ use Rattle.def_files.specs.Refusals.{Refusal, unless, no_repeat, MOST_SIGNATURES
 use Rattle.def_files.specs.AssetFile.{is_signature, is_preimage, MOST_PREIMAGES}
 
 -- the first of refusals that applies
-abbrev pub first : List Refusal → Refusal
+abbrev pub first : {E : Type 0} → List (Option E) → Option E
 first [] = None
 first (None ∷ refusals) = first refusals
 first (Some fault ∷ refusals) = Some fault
 
 -- the refusal of the first element for which a test doesn't hold
-abbrev pub first_refused : {A : Type 0} → (holds : A → Bool) → (ℕ → AssetFault) → List A → Refusal
+abbrev pub first_refused : {A E : Type 0} → (holds : A → Bool) → (ℕ → E) → List A → Option E
 first_refused holds fault xs = option_map fault (position_from (λ x. not (holds x)) 0 xs)
 
 -- a part of a file is refused, or isn't and has this value, as contracts see what was read
-abbrev pub Reads : {A B : Type 0} → Refusal → (seen : B → A) → A → Result B AssetFault → Type 0
+abbrev pub Reads : {A B E : Type 0} → Option E → (seen : B → A) → A → Result B E → Type 0
 Reads refusal seen value (Ok part) = (refusal ≡ None) × (seen part ≡ value)
 Reads refusal seen value (Err why) = refusal ≡ Some why
 
--- the same, want of memory aside
-abbrev pub ReadsOrMemory : {A B : Type 0} → Refusal → (seen : B → A) → A → Result B AssetFault → Type 0
-ReadsOrMemory refusal seen value (Ok part) = (refusal ≡ None) × (seen part ≡ value)
-ReadsOrMemory refusal seen value (Err why) = (why ≡ fault.Memory) ⊎ (refusal ≡ Some why)
+-- the same, want of memory aside, which is this fault
+abbrev pub ReadsOr : {A B E : Type 0} → (memory : E) → Option E → (seen : B → A) → A → Result B E → Type 0
+ReadsOr memory refusal seen value (Ok part) = (refusal ≡ None) × (seen part ≡ value)
+ReadsOr memory refusal seen value (Err why) = (why ≡ memory) ⊎ (refusal ≡ Some why)
 
 -- this is the answer, want of memory aside
+abbrev pub IsOr : {A E : Type 0} → (memory : E) → (answer result : Result A E) → Type 0
+IsOr memory answer result = (result ≡ answer) ⊎ (result ≡ Err memory)
+
+-- of an asset file or a run file
+abbrev pub ReadsOrMemory : {A B : Type 0} → Refusal → (seen : B → A) → A → Result B AssetFault → Type 0
+ReadsOrMemory refusal seen value result = ReadsOr fault.Memory refusal seen value result
+
 abbrev pub IsOrMemory : {A : Type 0} → (answer result : Result A AssetFault) → Type 0
-IsOrMemory answer result = (result ≡ answer) ⊎ (result ≡ Err fault.Memory)
+IsOrMemory answer result = IsOr fault.Memory answer result
 
 -- the first key that stands earlier too
-unfoldable pub repeated : Pairs → Refusal
-repeated pairs = no_repeat (map (λ pair. pair.0) pairs)
+unfoldable pub repeated : {B E : Type 0} → (ℕ → E) → List (Bytes × B) → Option E
+repeated fault pairs = no_repeat fault (map (λ pair. pair.0) pairs)
 
 -- the refusals of an asset file that speak of its byte strings
 abbrev pub value_refusals : Pairs → (preimages : List Bytes) → List Refusal
@@ -45,4 +52,4 @@ value_refusals pairs preimages =
     first_refused is_preimage fault.PreimageLength preimages ∷
     unless (nat_le (length pairs) MOST_SIGNATURES) (fault.TooMany member.Signatures) ∷
     unless (nat_le (length preimages) MOST_PREIMAGES) (fault.TooMany member.Preimages) ∷
-    repeated pairs ∷ []
+    repeated fault.RepeatedKey pairs ∷ []

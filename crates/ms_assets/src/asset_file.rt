@@ -6,9 +6,10 @@ ghost use Rattle.def_machine.specs.Stacks.{is_key as the_is_key};
 ghost use Rattle.def_files.specs.AssetFile.{is_signature as the_is_signature, is_preimage, asset_refusals, assets_in as the_assets_in, assets_of};
 ghost use Rattle.def_files.specs.Refusals.{unless_refused};
 ghost use Rattle.ms_assets.specs.Seen.{parts_seen};
-ghost use Rattle.ms_assets.specs.Parts.{first_refused, Reads, ReadsOrMemory, IsOrMemory, repeated, value_refusals};
+ghost use Rattle.ms_assets.specs.Parts.{first_refused, Reads, ReadsOr, ReadsOrMemory, IsOrMemory, repeated, value_refusals};
 
 use crate::assets::{Assets, MOST_PREIMAGES, MOST_SIGNATURES, holds_key};
+use crate::list_fault::ListFault;
 use crate::members::{pair_list, read_json, read_locks, text_list};
 use crate::preimage::Preimage;
 use crate::texts::{read_pairs, read_strings};
@@ -30,7 +31,7 @@ pub fn read_assets(alloc: Global, bytes: &[u8]) -> Result<Assets, AssetFault>
     requires { length bytes.now ≤ 2 ^ 31 }
     ensures { IsOrMemory (assets_of bytes.now) result }
 {
-    match read_json(alloc, bytes) {
+    match read_json(alloc, bytes, AssetFault::NotJson, AssetFault::Memory) {
         Ok(file) => match assets_in(alloc, &file) {
             Ok(parts) => Ok(Assets::from_parts(parts)),
             Err(why) => Err(why),
@@ -55,8 +56,18 @@ fn assets_in(alloc: Global, file: &Value) -> Result<AssetParts, AssetFault>
         return Err(AssetFault::Shape(Member::Whole));
     }
     let signatures = pair_list(file)?;
-    let preimages = text_list(file, Member::Preimages)?;
-    let locks = read_locks(file)?;
+    let preimages = text_list(
+        file,
+        Member::Preimages,
+        AssetFault::Shape(Member::Preimages),
+        AssetFault::Memory,
+    )?;
+    let locks = read_locks(
+        file,
+        AssetFault::Number(Member::Version),
+        AssetFault::Number(Member::Sequence),
+        AssetFault::Number(Member::Locktime),
+    )?;
     let pairs = read_pairs(alloc, signatures)?;
     let strings = read_strings(alloc, preimages, Member::Preimages)?;
     check_parts(alloc, locks, pairs, &strings)
@@ -90,8 +101,8 @@ fn check_parts(
     })
 }
 
-/// Whether this is a compressed public key.
-fn is_key(key: &[u8]) -> bool
+/// Whether this is a compressed public key: 33 bytes of which the first is 2 or 3. Takes no memory.
+pub fn is_key(key: &[u8]) -> bool
     ensures { result ≡ the_is_key key.now }
 {
     key.len() == 33 && (key[0] == 0x02 || key[0] == 0x03)
@@ -139,13 +150,25 @@ fn read_preimages(alloc: Global, strings: &Stack) -> Result<Vec<Preimage>, Asset
     requires { length strings.now < 2 ^ 32 }
     ensures { ReadsOrMemory (first_refused is_preimage AssetFault.PreimageLength strings.now) (λ preimages. preimages.items) strings.now result }
 {
+    match preimages_of(alloc, strings) {
+        Ok(preimages) => Ok(preimages),
+        Err(ListFault::At(place)) => Err(AssetFault::PreimageLength(place)),
+        Err(ListFault::Memory) => Err(AssetFault::Memory),
+    }
+}
+
+/// The preimages that these byte strings are, or the place of the first that hasn't 32 bytes.
+pub fn preimages_of(alloc: Global, strings: &Stack) -> Result<Vec<Preimage>, ListFault>
+    requires { length strings.now < 2 ^ 32 }
+    ensures { ReadsOr ListFault.Memory (first_refused is_preimage ListFault.At strings.now) (λ preimages. preimages.items) strings.now result }
+{
     let mut preimages = Vec::new(alloc);
     for i in 0..strings.len() {
         let Ok(bytes) = <[u8; 32]>::try_from(strings.item(i)) else {
-            return Err(AssetFault::PreimageLength(i as u32));
+            return Err(ListFault::At(i as u32));
         };
         if preimages.push(Preimage::new(bytes)).is_err() {
-            return Err(AssetFault::Memory);
+            return Err(ListFault::Memory);
         }
     }
     Ok(preimages)
@@ -154,7 +177,7 @@ fn read_preimages(alloc: Global, strings: &Stack) -> Result<Vec<Preimage>, Asset
 /// Refuses the first key that stands earlier too.
 fn check_repeats(pairs: &[SigPair]) -> Result<(), AssetFault>
     requires { length pairs.now < 2 ^ 32 }
-    ensures { Reads (repeated pairs.now) (λ unit. unit) tt result }
+    ensures { Reads (repeated AssetFault.RepeatedKey pairs.now) (λ unit. unit) tt result }
 {
     for i in 0..pairs.len() {
         if holds_key(&pairs[..i], pairs[i].key()) {

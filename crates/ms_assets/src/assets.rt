@@ -1,10 +1,10 @@
 //! Assets: signatures with their keys, preimages, and the values of the locks.
-ghost use Rattle.std.specs.Prelude.{◌≡◌, ◌^◌, ◌<◌, ◌≤◌, List, [], ◌∷◌, ◌++◌, find, option_map, OnOk, OnErr};
+ghost use Rattle.std.specs.Prelude.{◌≡◌, ◌^◌, ◌<◌, ◌≤◌, List, [], ◌∷◌, ◌++◌, find, option_map, IfOk, OnOk, OnErr};
 ghost use Rattle.std.specs.List.{list_any};
 ghost use Rattle.std.specs.Str.{bytes_eq};
 ghost use Rattle.def_hash.specs.Hash.{digest_of};
 ghost use Rattle.def_machine.specs.Locks.{after_holds, older_holds};
-ghost use Rattle.def_assets.specs.Assets.{sig_of as the_sig_of, known};
+ghost use Rattle.def_assets.specs.Assets.{sig_of as the_sig_of, known, unsigned};
 ghost use Rattle.def_files.specs.Laws.{AreFewAssets};
 ghost use Rattle.ms_assets.specs.Seen.{held};
 ghost use Rattle.ms_hash.specs.Value.{kind_of, bytes_of};
@@ -15,7 +15,7 @@ use crate::preimage::Preimage;
 use ms_hash::HashVal;
 use ms_oracle::{Locks, Pairs, SigPair};
 use ms_tree::Key;
-use std::alloc::Global;
+use std::alloc::{AllocError, Global};
 use std::marker::Model;
 
 /// How many signatures assets and run files hold at most.
@@ -78,6 +78,41 @@ impl Assets {
             locks: parts.locks,
             pairs: parts.pairs,
             preimages: parts.preimages,
+        }
+    }
+
+    /// Assets with these values of the locks and these preimages, and no signature. There are at most 256 preimages. Takes
+    /// no memory.
+    pub fn of_preimages(alloc: Global, locks: Locks, preimages: Vec<Preimage>) -> Assets
+        requires { AreFewAssets (record { locks = locks; pairs = []; preimages = preimages.items }) }
+        ensures { result ≡ record { locks = locks; pairs = []; preimages = preimages.items } }
+    {
+        Assets {
+            locks,
+            pairs: Pairs::new(alloc),
+            preimages,
+        }
+    }
+
+    /// These assets without their signatures: the same values of the locks and the same preimages. Refuses for want of
+    /// memory alone.
+    pub fn without_signatures(&self, alloc: Global) -> Result<Assets, AllocError>
+        ensures { IfOk result (λ made. made ≡ unsigned self.now) }
+    {
+        let mut made = Assets::new(alloc, self.locks);
+        for preimage in &self.preimages {
+            made.add_copy(preimage)?;
+        }
+        Ok(made)
+    }
+
+    /// Adds a preimage that other assets hold.
+    fn add_copy(&mut self, preimage: &Preimage) -> Result<(), AllocError>
+        ensures { OnOk result (self.new ≡ record self.old { preimages = self.old.preimages ++ preimage.now ∷ [] }) }
+    {
+        match self.add_preimage(preimage.as_array()) {
+            Ok(()) => Ok(()),
+            Err(_) => Err(AllocError),
         }
     }
 

@@ -1,17 +1,23 @@
 //! What a wallet holds for a spend: signatures, preimages and the values of the locks.
 //!
 //! They are made by calls, or read from an asset file. A run file gives a script, its stack, its locks
-//! and the signatures that are good.
+//! and the signatures that are good. Other files have parts of an asset file: the functions that read these are public.
 #![tactic(auto)]
 
-pub use asset_file::read_assets;
+pub use asset_file::{is_key, preimages_of, read_assets};
 pub use assets::{AddStop, Assets};
 pub use def_files::{AssetFault, Member};
-pub use members::member_name;
+pub use list_fault::ListFault;
+pub use members::{
+    few, list_at, member_name, number_of, read_json, read_locks, text_at, text_list,
+};
+pub use preimage::Preimage;
 pub use run_file::{RunFile, read_run};
+pub use texts::{spelled_at, strings_of};
 
 mod asset_file;
 mod assets;
+mod list_fault;
 mod members;
 mod preimage;
 mod run_file;

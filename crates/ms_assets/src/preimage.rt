@@ -8,7 +8,7 @@ use std::marker::Model;
 /// A preimage with its four digests, each of which is taken once, when the preimage is made. Contracts
 /// see it as its 32 bytes.
 #[derive(Debug, Drop)]
-pub(crate) struct Preimage {
+pub struct Preimage {
     bytes: [u8; 32],
     sha256: [u8; 32],
     hash256: [u8; 32],
@@ -42,6 +42,13 @@ impl Preimage {
             ripemd160: ripemd160(&bytes),
             hash160: ripemd160(&once),
         }
+    }
+
+    /// The 32 bytes.
+    pub(crate) fn as_array(&self) -> &[u8; 32]
+        ensures { result.now ≡ self.now }
+    {
+        &self.bytes
     }
 
     /// Its 32 bytes.

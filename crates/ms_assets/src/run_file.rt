@@ -47,7 +47,7 @@ pub fn read_run(alloc: Global, bytes: &[u8]) -> Result<RunFile, AssetFault>
     ensures run { IsOrMemory (run_of bytes.now) (run_seen result) }
     ensures few { IfOk result (λ file. length file.stack ≤ 2000) }
 {
-    match read_json(alloc, bytes) {
+    match read_json(alloc, bytes, AssetFault::NotJson, AssetFault::Memory) {
         Ok(file) => run_in(alloc, &file),
         Err(why) => Err(why),
     }
@@ -63,8 +63,18 @@ fn run_in(alloc: Global, file: &Value) -> Result<RunFile, AssetFault>
     }
     let signatures = pair_list(file)?;
     let text = script_text(file)?;
-    let witness = text_list(file, Member::Witness)?;
-    let locks = read_locks(file)?;
+    let witness = text_list(
+        file,
+        Member::Witness,
+        AssetFault::Shape(Member::Witness),
+        AssetFault::Memory,
+    )?;
+    let locks = read_locks(
+        file,
+        AssetFault::Number(Member::Version),
+        AssetFault::Number(Member::Sequence),
+        AssetFault::Number(Member::Locktime),
+    )?;
     let pairs = read_pairs(alloc, signatures)?;
     let script = read_script(alloc, text)?;
     let stack = read_strings(alloc, witness, Member::Witness)?;

@@ -4,8 +4,9 @@ ghost use Rattle.std.specs.Prelude.{◌≡◌, ◌^◌, ◌<◌, List, [], ◌�
 ghost use Rattle.serde_json.specs.View.{view};
 ghost use Rattle.def_files.specs.Json.{spelled as the_spelled, text_at as the_text_at};
 ghost use Rattle.def_files.specs.Parts.{is_hex, is_hex_pair, key_of, sig_of, bytes_of};
-ghost use Rattle.ms_assets.specs.Parts.{first_refused, ReadsOrMemory};
+ghost use Rattle.ms_assets.specs.Parts.{first_refused, ReadsOr, ReadsOrMemory};
 
+use crate::list_fault::ListFault;
 use crate::members::text_at;
 use def_files::{AssetFault, Member};
 use hex::FromHexError;
@@ -14,7 +15,8 @@ use ms_script::Stack;
 use serde_json::Value;
 use std::alloc::{AllocError, Global};
 
-/// The bytes that a text spells by two hexadecimal digits each, or `None` where it spells none.
+/// The bytes that a text spells by two hexadecimal digits each, in either case, or `None` where it spells none. Refuses for
+/// want of memory alone.
 pub fn spelled(alloc: Global, text: &str) -> Result<Option<Vec<u8>>, AllocError>
     ensures { IfOk result (λ made. option_map (λ bytes. bytes.items) made ≡ the_spelled (Some text.now)) }
 {
@@ -25,8 +27,8 @@ pub fn spelled(alloc: Global, text: &str) -> Result<Option<Vec<u8>>, AllocError>
     }
 }
 
-/// The bytes that an object's member spells.
-fn spelled_at(alloc: Global, value: &Value, name: &str) -> Result<Option<Vec<u8>>, AllocError>
+/// The bytes that an object's member spells, or `None` where it spells none. Refuses for want of memory alone.
+pub fn spelled_at(alloc: Global, value: &Value, name: &str) -> Result<Option<Vec<u8>>, AllocError>
     ensures { IfOk result (λ made. option_map (λ bytes. bytes.items) made ≡ the_spelled (the_text_at name.now (view value.now))) }
 {
     match text_at(value, name) {
@@ -87,13 +89,25 @@ pub fn read_strings(alloc: Global, elements: &[Value], member: Member) -> Result
     requires { length elements.now < 2 ^ 32 }
     ensures { ReadsOrMemory (first_refused is_hex (AssetFault.Hex member) (map view elements.now)) (λ strings. strings) (map bytes_of (map view elements.now)) result }
 {
+    match strings_of(alloc, elements) {
+        Ok(strings) => Ok(strings),
+        Err(ListFault::At(place)) => Err(AssetFault::Hex(member, place)),
+        Err(ListFault::Memory) => Err(AssetFault::Memory),
+    }
+}
+
+/// The byte strings that elements spell by hexadecimal digits, or the place of the first that spells none.
+pub fn strings_of(alloc: Global, elements: &[Value]) -> Result<Stack, ListFault>
+    requires { length elements.now < 2 ^ 32 }
+    ensures { ReadsOr ListFault.Memory (first_refused is_hex ListFault.At (map view elements.now)) (λ strings. strings) (map bytes_of (map view elements.now)) result }
+{
     let mut strings = Stack::new(alloc);
     let mut place = 0;
     for element in elements {
         match push_string(alloc, &mut strings, element) {
             Ok(true) => place += 1,
-            Ok(false) => return Err(AssetFault::Hex(member, place)),
-            Err(AllocError) => return Err(AssetFault::Memory),
+            Ok(false) => return Err(ListFault::At(place)),
+            Err(AllocError) => return Err(ListFault::Memory),
         }
     }
     Ok(strings)

@@ -24,12 +24,6 @@ abbrev pub equal : (mark : ℕ) → List ℕ → ℕ
 equal mark [] = 0
 equal mark (x ∷ xs) = cond (nat_eq mark x) 1 0 + equal mark xs
 
--- the mark is none, or as many as are wanted reach it
-pub record IsRising (top : Top) (xs : List ℕ) : Type 0 where
-  pub above : top.above ≡ above top.mark xs
-  pub excess : top.excess ≡ excess top.mark xs
-  pub many : (top.mark ≡ 0) ⊎ (top.count ≤ reached top.mark xs)
-
 -- each slot says how many of the numbers are its place
 pub record IsCounted (slots : List Slot) (xs : List ℕ) : Type 0 where
   pub each : (v : ℕ) → v < length slots → (get_or slots v blank).place ≡ equal v xs
@@ -37,7 +31,13 @@ pub record IsCounted (slots : List Slot) (xs : List ℕ) : Type 0 where
   pub few : length xs ≤ MOST_MEASURE
   pub small : All (λ x. x < 2 ^ 32) xs
 
--- and at most one fewer are above it
+-- a mark over the numbers: it is 0, or as many of them as are wanted reach it
+pub record IsRising (top : Top) (xs : List ℕ) : Type 0 where
+  pub above : top.above ≡ above top.mark xs
+  pub excess : top.excess ≡ excess top.mark xs
+  pub many : (top.mark ≡ 0) ⊎ (top.count ≤ reached top.mark xs)
+
+-- a mark over numbers that the slots count: besides, at most one fewer than `count` are above it
 pub record IsTop (top : Top) (slots : List Slot) (count : ℕ) (xs : List ℕ) : Type 0 where
   pub counted : IsCounted slots xs
   pub rising : IsRising top xs

@@ -48,7 +48,7 @@ impl Choice {
         self.base + self.sats.sum() + self.dsats.sum()
     }
 
-    /// The items at most with one free child satisfied less, and with one dissatisfied less.
+    /// The items at most where one fewer of the free children may be satisfied.
     fn items_beside_sat(&self) -> u64
         requires told { IsOfSome self.now }
         ensures items { (ps ms : List slot.Slot) (t u left : ℕ) (cs : List found.Heights) → IsChoice self.now ps ms t u left cs → result ≡ items_of cs (t - 1) u }
@@ -57,6 +57,7 @@ impl Choice {
         self.base + self.sats.sum_of_fewer() + self.dsats.sum()
     }
 
+    /// The items at most where one fewer may be dissatisfied.
     fn items_beside_dsat(&self) -> u64
         requires told { IsOfSome self.now }
         ensures items { (ps ms : List slot.Slot) (t u left : ℕ) (cs : List found.Heights) → IsChoice self.now ps ms t u left cs → result ≡ items_of cs t (u - 1) }

@@ -189,5 +189,12 @@ fn many_keys_reach_these_heights(rt: HostRuntime) -> Result<(), Fail> {
     // The dummy item, a signature, two numbers and 20 keys.
     let of_20 = repeated(alloc, "multi(1,A", ",A", 19, ")")?;
     assert_eq!(rt; height_of(alloc, &of_20)?, 24);
+    // 14 such lists under `or_i`, behind 11 keys: the largest Script that there may be.
+    let list = repeated(alloc, "multi(1", ",A", 20, ")")?;
+    let choice = repeated(alloc, "or_i(", &list, 1, ",")?;
+    let choices = repeated(alloc, "", &choice, 13, &list)?;
+    let largest = repeated(alloc, "", "and_v(v:pk(A),", 11, &choices)?;
+    let closed = repeated(alloc, &largest, ")", 24, "")?;
+    assert_eq!(rt; height_of(alloc, &closed)?, 27);
     Ok(())
 }

@@ -13,7 +13,7 @@ use Rattle.def_answer.specs.Answer.{Replies, RepliesToWords, Answer}
 use Rattle.def_answer.specs.Laws.{IsAnswered}
 use Rattle.def_answer.specs.Reply.{Reply, reply, MOST_FILE}
 use Rattle.def_answer.specs.Sources.{NeedsSource, ReadsSource, IsOfSource}
-use Rattle.def_answer.specs.Words.{Command, script, check, satisfy, satisfy_malleable, run, gen, policy, decode, HasNoForm}
+use Rattle.def_answer.specs.Words.{Command, script, check, satisfy, satisfy_malleable, run, gen, policy, plan, decode, HasNoForm}
 use Rattle.def_answer.proofs.Answered.{OnText}
 use Rattle.def_answer.proofs.Early.{answers_have_status}
 use Rattle.def_answer.proofs.Sources.{answer_without_source, status_without_source, long_file}
@@ -101,6 +101,7 @@ on_text (satisfy_malleable text) utf8 = utf8
 on_text run utf8 = tt
 on_text (gen n) utf8 = tt
 on_text (policy text) utf8 = utf8
+on_text (plan text) utf8 = utf8
 on_text (decode digits keys) utf8 = tt
 
 pub one_to_words : (words : List Bytes) (bytes : Bytes) (a b : Reply) → HaveUtf8 words → RepliesToWords words bytes a → RepliesToWords words bytes b → a ≡ b

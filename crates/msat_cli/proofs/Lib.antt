@@ -6,6 +6,7 @@ mod EndLemmas
 mod SatisfactionLemmas
 mod RefusalLemmas
 mod GeneratorLemmas
+mod PlanLemmas
 mod PolicyLemmas
 mod SpellingLemmas
 mod DecodingLemmas

@@ -31,7 +31,7 @@ use Rattle.ms_laws.proofs.Accepted.{canonical_is_accepted}
 use Rattle.ms_laws.proofs.StrictFound.{strict_exists}
 use Rattle.ms_laws.proofs.Unchanged.{strict_is_unchangeable, nothing_to_accept}
 use Rattle.def_answer.specs.Answer.{RepliesToText, Replies, RepliesToWords, Answer}
-use Rattle.def_answer.specs.Lines.{script_line, program_line, limits_line}
+use Rattle.def_answer.specs.Lines.{script_line, program_line, limits_line, file_line}
 use Rattle.def_answer.specs.Reading.{read}
 use Rattle.def_answer.specs.Reply.{Reply, reply, unless_unfit, unless_refused, MOST_FILE, chosen_reply, satisfy_reply}
 use Rattle.def_answer.specs.Report.{item_line, witness_line, satisfy_report, replay, replay_line}
@@ -91,7 +91,7 @@ none_where_none choice tree assets stack writes fit held is sat =
 
 -- ---- the answer to what is asked
 
-second_of_two : (b : Bool) (r s : Reply) → b ≡ false → (if b then r else s) ≡ s
+pub second_of_two : (b : Bool) (r s : Reply) → b ≡ false → (if b then r else s) ≡ s
 second_of_two true r s e = cc e
 second_of_two false r s e = refl
 
@@ -100,7 +100,7 @@ pub read_reply : (choose : Tree → Assets → Option (List Bytes)) (source : By
     → assets_of source ≡ Ok assets → satisfy_reply choose source tree ≡ chosen_reply tree assets (choose tree assets)
 read_reply choose source tree assets short file =
     second_of_two (nat_lt MOST_FILE (length source)) _ _ (le-ltb MOST_FILE (length source) short)
-    ∙ ap (unless_refused (λ assets. chosen_reply tree assets (choose tree assets))) file
+    ∙ ap (unless_refused file_line (λ assets. chosen_reply tree assets (choose tree assets))) file
 
 -- so it is the one reply to a text that passes
 one_reply : (choice : Choice) (call : Call) (tree : Tree) (assets : Assets) (r : Reply) (asked : IsAsked choice call tree assets) → HaveUtf8 call.words

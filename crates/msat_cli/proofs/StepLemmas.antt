@@ -14,7 +14,7 @@ use Rattle.def_sane.specs.Unfit.{first_unfit, first_unfit_valid}
 use Rattle.ms_io.specs.Faults.{Rose}
 use Rattle.def_answer.specs.Answer.{Replies}
 use Rattle.def_answer.specs.Reading.{read, refused}
-use Rattle.def_answer.specs.Reply.{Reply, unless_unfit, satisfy_reply, run_reply}
+use Rattle.def_answer.specs.Reply.{Reply, unless_unfit, satisfy_reply, run_reply, plan_reply}
 use Rattle.def_answer.specs.Words.{Command, run, IsForm}
 use Rattle.def_answer.proofs.Unique.{one_form}
 use Rattle.msat_cli.specs.declared.answer.Answer.{Answer}
@@ -49,6 +49,7 @@ replies_read kind.Check text bytes tree offsets r reads e = (read tree offsets, 
 replies_read (kind.Satisfy choice.Strict) text bytes tree offsets r reads e = (read tree offsets, reads, e)
 replies_read (kind.Satisfy choice.Cheapest) text bytes tree offsets r reads e = (read tree offsets, reads, e)
 replies_read kind.Policy text bytes tree offsets r reads e = (read tree offsets, reads, e)
+replies_read kind.Plan text bytes tree offsets r reads e = (read tree offsets, reads, e)
 
 -- a file is read for a tree against which there is no reason
 no_reason : (kind : TextCommand) (tree : Tree) → ReadsFor kind tree → reason_of kind tree ≡ None
@@ -56,6 +57,7 @@ no_reason kind.Script tree h = absurd h
 no_reason kind.Check tree h = absurd h
 no_reason (kind.Satisfy choice) tree h = h
 no_reason kind.Policy tree h = absurd h
+no_reason kind.Plan tree h = h
 
 pub for_source : (kind : TextCommand) (text : Bytes) (tree : Tree) (offsets : List ℕ) → TextReads text tree offsets → ReadsFor kind tree
     → NeedsSource (command_of kind text)
@@ -64,6 +66,7 @@ for_source kind.Check text tree offsets reads h = absurd h
 for_source (kind.Satisfy choice.Strict) text tree offsets reads h = (tree, offsets, reads, h)
 for_source (kind.Satisfy choice.Cheapest) text tree offsets reads h = (tree, offsets, reads, h)
 for_source kind.Policy text tree offsets reads h = absurd h
+for_source kind.Plan text tree offsets reads h = (tree, offsets, reads, h)
 
 -- the tree of the text is the one
 same_reason : (reason : Tree → Option Unfit) (text : Bytes) (tree : Tree) (offsets : List ℕ) → TextReads text tree offsets → Passes reason text
@@ -77,6 +80,7 @@ source_for kind.Check text tree offsets reads h = absurd h
 source_for (kind.Satisfy choice.Strict) text tree offsets reads h = same_reason first_unfit text tree offsets reads h
 source_for (kind.Satisfy choice.Cheapest) text tree offsets reads h = same_reason first_unfit_valid text tree offsets reads h
 source_for kind.Policy text tree offsets reads h = absurd h
+source_for kind.Plan text tree offsets reads h = same_reason first_unfit text tree offsets reads h
 
 tree_answers : (kind : TextCommand) (text : Bytes) (tree : Tree) (offsets : List ℕ) (source : Side) → TextReads text tree offsets
     → (r : Reply) → AnswersTree kind tree offsets source r → Answers (command_of kind text) source r
@@ -101,6 +105,7 @@ short_text kind.Check text short = short
 short_text (kind.Satisfy choice.Strict) text short = short
 short_text (kind.Satisfy choice.Cheapest) text short = short
 short_text kind.Policy text short = short
+short_text kind.Plan text short = short
 
 pub tree_ended : (kind : TextCommand) (text : Bytes) (tree : Tree) (offsets : List ℕ) (source : Side) (result : Result Answer Stop)
     → TextReads text tree offsets
@@ -119,6 +124,7 @@ no_source kind.Check text fault utf8 known refusal h = h
 no_source (kind.Satisfy choice.Strict) text fault utf8 known refusal h = absurd (none_beside_tree text h.0 h.1 fault utf8 known h.2 refusal)
 no_source (kind.Satisfy choice.Cheapest) text fault utf8 known refusal h = absurd (none_beside_tree text h.0 h.1 fault utf8 known h.2 refusal)
 no_source kind.Policy text fault utf8 known refusal h = h
+no_source kind.Plan text fault utf8 known refusal h = absurd (none_beside_tree text h.0 h.1 fault utf8 known h.2 refusal)
 
 replies_refused : (kind : TextCommand) (text bytes : Bytes) (fault : TextFault) (r : Reply) → TextRefusal text fault → IsRefusal fault r
     → Replies (command_of kind text) bytes r
@@ -127,6 +133,7 @@ replies_refused kind.Check text bytes fault r refusal is = (refused fault, (is.0
 replies_refused (kind.Satisfy choice.Strict) text bytes fault r refusal is = (refused fault, (is.0, refusal), is.1)
 replies_refused (kind.Satisfy choice.Cheapest) text bytes fault r refusal is = (refused fault, (is.0, refusal), is.1)
 replies_refused kind.Policy text bytes fault r refusal is = (refused fault, (is.0, refusal), is.1)
+replies_refused kind.Plan text bytes fault r refusal is = (refused fault, (is.0, refusal), is.1)
 
 -- a text that isn't refused as too long isn't
 short_fault : (text : Bytes) (fault : TextFault) → fault ≢ TooLong → TextRefusal text fault → (fault ≡ Memory → length text ≤ MOST_BYTES)
@@ -166,6 +173,16 @@ pub satisfied_ended : (choice : Choice) (tree : Tree) (offsets : List ℕ) (sour
 satisfied_ended choice tree offsets source result fit h =
     ended (AnswersFile (λ bytes. satisfy_reply (chosen_by choice) bytes tree) source) (AnswersTree (kind.Satisfy choice) tree offsets source)
     (Rose source.before source.now) ⊤ (ReadsFor (kind.Satisfy choice) tree × Rose source.before source.now) ⊤
+    (λ r file. inr (fit, file)) (λ rose. (fit, rose)) (λ m. m) result h
+
+-- ---- plans
+
+pub planned_ended : (tree : Tree) (offsets : List ℕ) (source : Side) (result : Result Answer Stop) → first_unfit tree ≡ None
+    → Ended (AnswersFile (λ bytes. plan_reply bytes tree) source) (Rose source.before source.now) ⊤ result
+    → Ended (AnswersTree kind.Plan tree offsets source) (ReadsFor kind.Plan tree × Rose source.before source.now) ⊤ result
+planned_ended tree offsets source result fit h =
+    ended (AnswersFile (λ bytes. plan_reply bytes tree) source) (AnswersTree kind.Plan tree offsets source)
+    (Rose source.before source.now) ⊤ (ReadsFor kind.Plan tree × Rose source.before source.now) ⊤
     (λ r file. inr (fit, file)) (λ rose. (fit, rose)) (λ m. m) result h
 
 -- ---- words

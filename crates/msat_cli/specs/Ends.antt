@@ -10,7 +10,7 @@ use Rattle.def_answer.specs.declared.status.Status.TheVariants as status
 use Rattle.def_answer.specs.Answer.{Answer}
 use Rattle.def_answer.specs.Reply.{MOST_FILE}
 use Rattle.def_answer.specs.Sources.{ReadsSource}
-use Rattle.def_answer.specs.Words.{Command, script, check, satisfy, satisfy_malleable, run, gen, policy, decode, IsForm, HasNoForm}
+use Rattle.def_answer.specs.Words.{Command, script, check, satisfy, satisfy_malleable, run, gen, policy, plan, decode, IsForm, HasNoForm}
 use Rattle.msat_cli.specs.Sides.{Side, AreTold}
 
 -- the words of a call, what it did to the source and to the sink, and its status
@@ -57,6 +57,7 @@ HasShortText (satisfy_malleable text) = length text ≤ MOST_BYTES
 HasShortText run = ⊤
 HasShortText (gen n) = ⊤
 HasShortText (policy text) = length text ≤ MOST_BYTES
+HasShortText (plan text) = length text ≤ MOST_BYTES
 HasShortText (decode digits keys) = ⊤
 
 -- the words have a form, and their TEXT isn't too long

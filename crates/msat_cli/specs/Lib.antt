@@ -2,5 +2,6 @@ pub mod Sides
 pub mod Steps
 pub mod Ends
 pub mod Satisfactions
+pub mod Plans
 pub mod Policies
 pub mod Decodings

@@ -17,9 +17,9 @@ use Rattle.def_answer.specs.declared.status.Status.{Status}
 use Rattle.def_answer.specs.declared.status.Status.TheVariants as status
 use Rattle.def_answer.specs.Answer.{script_reply, check_reply, policy_reply, Replies}
 use Rattle.def_answer.specs.Lines.{usage_line, text_line, file_too_long_line}
-use Rattle.def_answer.specs.Reply.{Reply, reply, usage_reply, unless_unfit, MOST_FILE, satisfy_reply}
+use Rattle.def_answer.specs.Reply.{Reply, reply, usage_reply, unless_unfit, MOST_FILE, satisfy_reply, plan_reply}
 use Rattle.def_answer.specs.Sources.{NeedsSource}
-use Rattle.def_answer.specs.Words.{Command, script, check, satisfy, satisfy_malleable, run, gen, policy, decode, IsForm, HasNoForm}
+use Rattle.def_answer.specs.Words.{Command, script, check, satisfy, satisfy_malleable, run, gen, policy, plan, decode, IsForm, HasNoForm}
 use Rattle.msat_cli.specs.declared.answer.Answer.{Answer}
 use Rattle.msat_cli.specs.declared.answer.Stop.{Stop}
 use Rattle.msat_cli.specs.declared.answer.Stop.TheVariants as stop
@@ -44,6 +44,7 @@ command_of kind.Script = script
 command_of kind.Check = check
 command_of (kind.Satisfy choice) = satisfy_by choice
 command_of kind.Policy = policy
+command_of kind.Plan = plan
 
 abbrev pub seen : Asked → Command
 seen (asked.Text kind text) = command_of kind text.now
@@ -60,6 +61,7 @@ HasUtf8 (satisfy_malleable text) = IsUtf8 text
 HasUtf8 run = ⊤
 HasUtf8 (gen n) = ⊤
 HasUtf8 (policy text) = IsUtf8 text
+HasUtf8 (plan text) = IsUtf8 text
 HasUtf8 (decode digits keys) = ⊤
 
 -- so is that of words with a form
@@ -84,6 +86,7 @@ reason_of kind.Script = first_unfit_valid
 reason_of kind.Check = first_unfit
 reason_of (kind.Satisfy choice) = reason_by choice
 reason_of kind.Policy = first_unfit
+reason_of kind.Plan = first_unfit
 
 -- what is replied where there is none
 abbrev pub reply_of : TextCommand → (source : Bytes) → Tree → Reply
@@ -91,6 +94,7 @@ reply_of kind.Script source = script_reply
 reply_of kind.Check source = check_reply
 reply_of (kind.Satisfy choice) source = satisfy_reply (chosen_by choice) source
 reply_of kind.Policy source = policy_reply
+reply_of kind.Plan source = plan_reply source
 
 -- a file is read for it
 abbrev pub ReadsFor : TextCommand → Tree → Type 0
@@ -98,6 +102,7 @@ ReadsFor kind.Script tree = ⊥
 ReadsFor kind.Check tree = ⊥
 ReadsFor (kind.Satisfy choice) tree = reason_by choice tree ≡ None
 ReadsFor kind.Policy tree = ⊥
+ReadsFor kind.Plan tree = first_unfit tree ≡ None
 
 -- the reply to a tree with these offsets, with every source: nothing was read
 pub record AnswersAtOnce (kind : TextCommand) (tree : Tree) (offsets : List ℕ) (source : Side) (r : Reply) : Type 0 where

@@ -19,6 +19,9 @@ mod generator;
 mod generator_tests;
 mod laws;
 mod names;
+#[cfg(test)]
+mod plan_tests;
+mod plans;
 mod policies;
 #[cfg(test)]
 mod policy_tests;

@@ -5,6 +5,7 @@ ghost use Rattle.msat_cli.specs.Sides.{side, ReadsFront, IsUnread};
 ghost use Rattle.msat_cli.specs.Steps.{Writes, WritesResult};
 ghost use Rattle.msat_cli.specs.Ends.{call, Ends, EndsAsUsage, EndsAsAnswered, IsReadFor};
 ghost use Rattle.msat_cli.specs.Decodings.{ShowsReading};
+ghost use Rattle.msat_cli.specs.Plans.{ShowsPlan};
 ghost use Rattle.msat_cli.specs.Policies.{ShowsPolicy};
 ghost use Rattle.msat_cli.specs.Satisfactions.{FindsWhereOneExists, ShowsCanonical, ShowsWitness, ShowsAccepted, ShowsNonMalleable, FindsNothingToAccept, RefusesOtherTexts, ShowsLightest};
 
@@ -23,7 +24,8 @@ const FILE_TOO_LONG: &[u8] = b"refused file TooLong\n";
 
 /// Answers the words of a command line: makes the report, writes it to the sink by one call of `put_all`, and gives
 /// the status. The words are `script TEXT`, `check TEXT`, `satisfy TEXT`, `satisfy --malleable TEXT`, `run`, `gen N`,
-/// `policy TEXT` and `decode HEX KEY..`. The source is read only for `run`, and for `satisfy` where the text was neither refused nor unfit.
+/// `policy TEXT`, `plan TEXT` and `decode HEX KEY..`. The source is read only for `run`, and for `satisfy` and `plan` where the
+/// text was neither refused nor unfit.
 pub fn msat<S: Source, K: Sink>(
     alloc: Global,
     words: &[Word],
@@ -64,6 +66,11 @@ pub fn msat<S: Source, K: Sink>(
 
     // For every sane text `policy TEXT` writes its policy, and the least number of keys that make the policy true.
     ensures policy { ShowsPolicy (call words.now (side S.left S.faults source.old source.new) (side K.written K.faults sink.old sink.new) result) }
+
+    // For every sane text and readable plan file `plan TEXT` writes which keys to ask, exactly where those that are listed are
+    // enough: signatures of these alone are, where none is longer than estimated the strict satisfaction weighs no more than
+    // was written, where none is shorter no satisfaction that nobody can change weighs less, and no key is asked in vain.
+    ensures plan { ShowsPlan (call words.now (side S.left S.faults source.old source.new) (side K.written K.faults sink.old sink.new) result) }
 
     // `decode HEX KEY..` writes the text that the Script is read back as, exactly where there is one, and otherwise that
     // there is none.

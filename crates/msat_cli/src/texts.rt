@@ -18,6 +18,7 @@ ghost use Rattle.msat_cli.specs.Ends.{HasShortText};
 
 use crate::answer::{Answer, Stop, or_memory};
 use crate::names::rule_name;
+use crate::plans::answer_plan;
 use crate::policies::policy_report;
 use crate::report::{check_report, script_report};
 use crate::satisfying::answer_satisfaction;
@@ -70,6 +71,7 @@ fn answer_tree<S: Source>(
         TextCommand::Check => or_memory(check_answer(alloc, text)),
         TextCommand::Satisfy(choice) => answer_satisfy(alloc, choice, text, source),
         TextCommand::Policy => or_memory(policy_answer(alloc, text)),
+        TextCommand::Plan => answer_planned(alloc, text, source),
     }
 }
 
@@ -92,6 +94,28 @@ fn answer_satisfy<S: Source>(
     };
     match check_for(choice, tree, &mut work) {
         Ok(limits) => answer_satisfaction(alloc, choice, tree, limits, source),
+        Err(unfit) => or_memory(unfit_answer(alloc, text, unfit)),
+    }
+}
+
+/// Answers which keys to ask for a sane tree, or with the first reason against its being sane.
+fn answer_planned<S: Source>(
+    alloc: Global,
+    text: &TextTree<'_>,
+    source: &mut S,
+) -> Result<Answer, Stop>
+    requires { IsInRange (shape text.now.tree) }
+    ensures answer { Ended (AnswersTree TextCommand.Plan (shape text.now.tree) text.now.offsets.items (side S.left S.faults source.old source.new)) (ReadsFor TextCommand.Plan (shape text.now.tree) × Rose (S.faults source.old) (S.faults source.new)) ⊤ result }
+    ensures later { S.faults source.old ≤ S.faults source.new }
+    ensures front { ReadsFront (S.left source.old) (S.left source.new) }
+    ensures unread { ¬ ReadsFor TextCommand.Plan (shape text.now.tree) → IsUnread (side S.left S.faults source.old source.new) }
+{
+    let tree = text.tree();
+    let Ok(mut work) = Work::new(alloc, tree) else {
+        return Err(Stop::Memory);
+    };
+    match check_for(Choice::Strict, tree, &mut work) {
+        Ok(_) => answer_plan(alloc, tree, source),
         Err(unfit) => or_memory(unfit_answer(alloc, text, unfit)),
     }
 }

@@ -30,6 +30,7 @@ pub enum TextCommand {
     Check,
     Satisfy(Choice),
     Policy,
+    Plan,
 }
 
 /// What the words ask for: something of a TEXT, a run, a text that is made from a number, or the text of a Script.
@@ -97,6 +98,9 @@ fn two_words<'a>(name: &str, word: &'a str) -> Option<Command<'a>>
     }
     if name == "policy" {
         return Some(Command::Text(TextCommand::Policy, word));
+    }
+    if name == "plan" {
+        return Some(Command::Text(TextCommand::Plan, word));
     }
     None
 }

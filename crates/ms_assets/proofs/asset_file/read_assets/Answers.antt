@@ -1,4 +1,4 @@
-use Rattle.ms_assets.proofs.Few.{file_few}
+use Rattle.ms_assets.proofs.FewHeld.{file_few}
 use Rattle.ms_assets.proofs.asset_file.read_assets.Goals as goal
 
 pub from_parts-requires : goal.from_parts-requires

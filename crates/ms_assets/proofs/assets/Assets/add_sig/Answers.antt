@@ -1,7 +1,7 @@
 use Rattle.std.proofs.Common.{◌≤◌, length, sym, ◌∙◌, ap, arith}
 use Rattle.std.proofs.lemmas.Bool.Decides.{nat_tests}
 use Rattle.def_assets.specs.Assets.{IsSignature}
-use Rattle.ms_assets.proofs.Few.{added_few, when_ok}
+use Rattle.ms_assets.proofs.FewHeld.{added_few, when_ok}
 use Rattle.ms_assets.proofs.assets.Assets.add_sig.Goals as goal
 
 pub invariant_of-self-2 : goal.invariant_of-self-2

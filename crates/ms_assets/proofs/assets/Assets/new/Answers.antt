@@ -1,5 +1,5 @@
 use Rattle.std.proofs.Common.{rules}
-use Rattle.ms_assets.proofs.Few.{none_few}
+use Rattle.ms_assets.proofs.FewHeld.{none_few}
 use Rattle.ms_assets.proofs.assets.Assets.new.Goals as goal
 
 pub invariant_of-result : goal.invariant_of-result

@@ -1,0 +1,9 @@
+pub mod Lengths
+pub mod Taken
+pub mod Plan
+pub mod PlanFile
+pub mod Names
+pub mod Examples
+pub mod FileExamples
+pub mod FileLaws
+pub mod Laws

@@ -1,0 +1,4 @@
+pub mod Estimates
+pub mod Marks
+pub mod Marked
+pub mod Reading

@@ -1,0 +1,106 @@
+-- What assets hold beside a table: signatures that are found and held, and signatures of estimated lengths.
+use Rattle.std.proofs.Common.{◌≡◌, ℕ, zero, suc, ◌≤◌, Bool, true, false, List, [], ◌∷◌, length, map, replicate, find, Contains, Option, Some, None, IsSome, refl, sym, ◌∙◌, ap, subst, arith, if◌then◌else◌}
+use Rattle.std.specs.Option.{option_map}
+use Rattle.std.specs.List.{IsDistinct}
+use Rattle.std.specs.Str.{bytes_eq}
+use Rattle.std.proofs.lemmas.Bool.{false≢true}
+use Rattle.std.proofs.lemmas.Option.{none-some, same_Some}
+use Rattle.std.proofs.lemmas.List.{length-replicate}
+use Rattle.std.proofs.lemmas.List.Elements.{All-map, Contains-append_right}
+use Rattle.std.proofs.lemmas.Slice.Eq.{bytes_eq-Decides}
+use Rattle.def_script.specs.Bytes.{Bytes, IsBytes}
+use Rattle.def_machine.specs.declared.Locks.{Locks}
+use Rattle.def_machine.specs.Stacks.{Pairs}
+use Rattle.def_tree.specs.Tree.{Key}
+use Rattle.def_tree.specs.Range.{IsKey}
+use Rattle.def_assets.specs.Assets.{Assets, IsSignature, sig_of}
+use Rattle.def_plan.specs.Lengths.{Lengths, length_of, IsLike, IsEstimate}
+use Rattle.def_plan.specs.Laws.{EstimateExists}
+use Rattle.ms_plan_laws.proofs.Moved.{with_pairs}
+
+-- what is found
+pub some_or_none : {A : Type 0} (o : Option A) → IsSome o → (x : A) × (o ≡ Some x)
+some_or_none None h = absurd (false≢true h)
+some_or_none (Some x) h = (x, refl)
+
+pub some_is : {A : Type 0} (o : Option A) (x : A) → o ≡ Some x → IsSome o
+some_is o x h = rw h refl
+
+abbrev found_in : Pairs → Key → Option Bytes
+found_in pairs key = option_map (λ pair. pair.1) (find (λ pair. bytes_eq pair.0 key) pairs)
+
+held_in : (pairs : Pairs) (key sig : Bytes) → found_in pairs key ≡ Some sig → Contains pairs (key, sig)
+held_in [] key sig h = absurd (none-some sig h)
+held_in (pair ∷ pairs) key sig h = go (bytes_eq pair.0 key) refl h (held_in pairs key sig)
+  where
+    go : (test : Bool) → bytes_eq pair.0 key ≡ test → option_map (λ p. p.1) (if test then Some pair else find (λ p. bytes_eq p.0 key) pairs) ≡ Some sig →
+        (found_in pairs key ≡ Some sig → Contains pairs (key, sig)) → Contains (pair ∷ pairs) (key, sig)
+    go true e k more = (0, omega arith, ap (λ x. (x, pair.1)) ((bytes_eq-Decides pair.0 key).0 e) ∙ ap (λ x. (key, x)) (same_Some pair.1 sig k))
+    go false e k more = Contains-append_right (pair ∷ []) pairs (key, sig) (more k)
+
+pub held_of : (assets : Assets) (key sig : Bytes) → sig_of assets key ≡ Some sig → Contains assets.pairs (key, sig)
+held_of assets key sig h = held_in assets.pairs key sig h
+
+-- an estimate has the estimated lengths
+abbrev lengths_of : Pairs → Lengths
+lengths_of pairs = map (λ pair. (pair.0, length pair.1)) pairs
+
+length_found : (pairs : Pairs) (key : Key) → length_of (lengths_of pairs) key ≡ option_map length (found_in pairs key)
+length_found [] key = refl
+length_found (pair ∷ pairs) key = go (bytes_eq pair.0 key) (length_found pairs key)
+  where
+    go : (test : Bool) → length_of (lengths_of pairs) key ≡ option_map length (found_in pairs key) → option_map (λ entry. entry.1) (if test then Some (pair.0, length pair.1) else find (λ entry. bytes_eq entry.0 key) (lengths_of pairs)) ≡
+        option_map length (option_map (λ p. p.1) (if test then Some pair else find (λ p. bytes_eq p.0 key) pairs))
+    go true more = refl
+    go false more = more
+
+pub length_is : (assets : Assets) (table : Lengths) (other : Assets) → IsEstimate assets table other → (key : Key) → length_of table key ≡ option_map length (sig_of other key)
+length_is assets table other estimate key = subst (λ t. length_of t key ≡ option_map length (sig_of other key)) estimate.lengths (length_found other.pairs key)
+
+-- the same assets but for the signatures
+pub like_with : (assets other : Assets) → IsLike assets other → other ≡ with_pairs assets other.pairs
+like_with assets other like = go other.locks other.preimages like.locks like.preimages
+  where
+    go : (l : Locks) (p : List Bytes) → l ≡ assets.locks → p ≡ assets.preimages → record { locks = l; pairs = other.pairs; preimages = p } ≡ with_pairs assets other.pairs
+    go l p e f = rw (e, f) refl
+
+pub like_both : (assets one other : Assets) → IsLike assets one → IsLike assets other → IsLike one other
+like_both assets one other h k = record { locks = k.locks ∙ sym h.locks; preimages = k.preimages ∙ sym h.preimages }
+
+-- signatures of zeros
+zero_bytes : (n : ℕ) → IsBytes (replicate n 0)
+zero_bytes zero i = omega arith
+zero_bytes (suc n) zero = omega arith
+zero_bytes (suc n) (suc i) = zero_bytes n i
+
+zero_signature : (n : ℕ) → (1 ≤ n) × (n ≤ 73) → IsSignature (replicate n 0)
+zero_signature n h = record {
+  some = rw (length-replicate {A = ℕ} n 0) h.0;
+  few = rw (length-replicate {A = ℕ} n 0) h.1;
+  bytes = zero_bytes n;
+}
+
+abbrev zeros_of : Lengths → Pairs
+zeros_of table = map (λ entry. (entry.0, replicate entry.1 0)) table
+
+zeros_long : (table : Lengths) → lengths_of (zeros_of table) ≡ table
+zeros_long [] = refl
+zeros_long (entry ∷ table) = ap (λ n. (entry.0, n) ∷ lengths_of (zeros_of table)) (length-replicate {A = ℕ} entry.1 0) ∙ ap (λ t. entry ∷ t) (zeros_long table)
+
+zeros_keys : (table : Lengths) → map (λ entry. entry.0) table ≡ map (λ pair. pair.0) (zeros_of table)
+zeros_keys [] = refl
+zeros_keys (entry ∷ table) = ap (λ t. entry.0 ∷ t) (zeros_keys table)
+
+pub estimate_exists : EstimateExists
+estimate_exists assets table are lengths = (
+  record { like = record { locks = refl; preimages = refl }; lengths = zeros_long table },
+  record {
+    keys = All-map (λ pair. IsKey pair.0) (λ entry. (entry.0, replicate entry.1 0)) table lengths.keys;
+    signatures = All-map (λ pair. IsSignature pair.1) (λ entry. (entry.0, replicate entry.1 0)) table (λ i d h. zero_signature _ (lengths.some i d h, lengths.short i d h));
+    distinct = subst (IsDistinct bytes_eq) (zeros_keys table) lengths.distinct;
+    preimages = are.preimages;
+    version = are.version;
+    sequence = are.sequence;
+    locktime = are.locktime;
+  },
+)

@@ -1,0 +1,517 @@
+-- No key is taken in vain: under signatures of the keys that are taken, but for one of them, nothing satisfies.
+use Rattle.std.proofs.Common.{◌≡◌, ℕ, suc, ◌≤◌, Bool, true, false, not, ◌&&◌, ◌||◌, List, [], ◌∷◌, ◌++◌, length, reverse, Contains, Option, Some, None, is_some, refl, sym, ◌∙◌, ap, subst, ◌⊎◌, inl, inr, arith, if◌then◌else◌}
+use Rattle.std.specs.Str.{bytes_eq}
+use Rattle.std.proofs.lemmas.Bool.{false≢true, or_cases, cases_Bool}
+use Rattle.std.proofs.lemmas.Option.{none-some}
+use Rattle.std.proofs.lemmas.List.{reverse-append}
+use Rattle.std.proofs.lemmas.List.Elements.{Contains-append_left, Contains-append_right, Contains-append_cases}
+use Rattle.std.proofs.lemmas.Slice.Eq.{bytes_eq-Decides}
+use Rattle.def_script.specs.Bytes.{Bytes}
+use Rattle.def_machine.specs.Stacks.{Stack, Pairs}
+use Rattle.def_machine.specs.MultiSig.{is_good}
+use Rattle.def_tree.specs.declared.Two.TheVariants as kind
+use Rattle.def_tree.specs.declared.Wrapper.TheVariants as wrapper
+use Rattle.def_tree.specs.Tree.{Tree, Trees, Key, just_0, just_1, pk_k, pk_h, older, after, hash, and_or, two, thresh, multi, wrap, none, more}
+use Rattle.def_tree.specs.Range.{count}
+use Rattle.def_types.specs.Typed.{mall_of}
+use Rattle.def_types.proofs.Rows.{mall_rows}
+use Rattle.def_assets.specs.Assets.{Assets, AreAssets, unsigned}
+use Rattle.def_sane.specs.Keys.{keys, keys_of_all, AreDistinct}
+use Rattle.def_satisfaction.specs.StackSet.{StackSet, Is, Both, Either}
+use Rattle.def_satisfaction.specs.Rows.{EMPTY, ONE, AreSignatures, parts}
+use Rattle.def_satisfaction.specs.Satisfaction.{canonical}
+use Rattle.def_choice.specs.Sets.{sets}
+use Rattle.def_choice.specs.Least.{both}
+use Rattle.def_choice.specs.Lightest.{IsLightest}
+use Rattle.def_choice.specs.Cheapest.{dissatisfaction, stack_of, signatures_of, signatures}
+use Rattle.def_choice.specs.Strict.{free, free_first, free_children, has_all, strict_of, strict_children}
+use Rattle.def_choice.specs.Tight.{HasOne, signed_row, free_row}
+use Rattle.def_choice.proofs.Best.{best_both}
+use Rattle.def_choice.proofs.Leaves.{is_best}
+use Rattle.ms_laws.proofs.Unsigned.{IsEmpty}
+use Rattle.ms_laws.proofs.OneDissatisfaction.{one_both, free_dsat}
+use Rattle.ms_laws.proofs.CanonicalOnes.{HasAssets, free_sat}
+use Rattle.ms_laws.proofs.FreeStacks.{signs}
+use Rattle.ms_laws.proofs.Found.{Disjoint, first_in, later_in, no_element}
+use Rattle.ms_laws.proofs.Options.{Fits, AllFit, fit_wrap, fit_two, fit_and_or, fit_more}
+use Rattle.ms_laws.proofs.TightOnes.{free_best, free_dsat_best}
+use Rattle.std.proofs.lemmas.Bool.{and_parts}
+use Rattle.def_plan.specs.Taken.{takes_former, children_taken, signers_taken, keys_of_set, taken, taken_of_children}
+use Rattle.ms_plan_laws.proofs.Options.{first_taken, both_joined}
+use Rattle.ms_plan_laws.proofs.Sets.{each-filter, ones, IsSet, sets_are, set_is_taken}
+use Rattle.ms_plan_laws.proofs.Moved.{with_pairs}
+use Rattle.ms_plan_laws.proofs.Enough.{not_wanted, wanted_or_not, not_free}
+use Rattle.ms_plan_laws.proofs.Order.{taken_in, children_in, first_or_other, in_part, set_part}
+
+-- where the former of two options is taken and the latter is free, the former is free too
+former_free : (F G : StackSet) (f g a b : Option Stack) → IsLightest F f → IsLightest G g → takes_former f g a b ≡ true → HasOne G → HasOne F
+former_free F G (Some v) g a b ff gg e one = (v, ff.is v refl)
+former_free F G None (Some v) a b ff gg e one = absurd (false≢true e)
+former_free F G None None a b ff gg e one = let k = gg.lightest one.0 one.1 in absurd (none-some k.0 k.1)
+
+-- where the latter is taken, the former isn't free
+latter_free : (F : StackSet) (f g a b : Option Stack) → IsLightest F f → takes_former f g a b ≡ false → HasOne F → ⊥
+latter_free F (Some v) g a b ff e one = false≢true (sym e)
+latter_free F None g a b ff e one = let k = ff.lightest one.0 one.1 in none-some k.0 k.1
+
+-- which option is taken, and what that says of free ones
+option_taken : (F G : StackSet) (f g a b : Option Stack) → IsLightest F f → IsLightest G g → (w : Stack) → free_first f g a b ≡ Some w →
+    ((takes_former f g a b ≡ true) × (a ≡ Some w) × (HasOne G → HasOne F)) ⊎ ((takes_former f g a b ≡ false) × (b ≡ Some w) × (HasOne F → ⊥))
+option_taken F G f g a b ff gg w e =
+    elim (first_taken f g a b w e) [
+      | inl h ↦ inl (h.0, h.1, former_free F G f g a b ff gg h.0)
+      | inr h ↦ inr (h.0, h.1, latter_free F f g a b ff h.0)
+    ]
+
+-- the signatures of a `multi`, of which the last key may be the last one
+last_or_not : (table : Pairs) (own : List Key) (key : Key) (sigs : Stack) → AreSignatures table (own ++ key ∷ []) sigs →
+    AreSignatures table own sigs ⊎ ((rest : Stack) × (sig : Bytes) × (is_good table key sig ≡ true) × AreSignatures table own rest × (length sigs ≡ suc (length rest)))
+last_or_not table own key [] h = inl tt
+last_or_not table [] key (sig ∷ sigs) (inl h) = inr ([], sig, h.0, tt, ap suc (empty sigs h.1))
+  where
+    empty : (sigs : Stack) → AreSignatures table [] sigs → length sigs ≡ 0
+    empty [] h = refl
+    empty (g ∷ sigs) h = absurd h
+last_or_not table [] key (sig ∷ sigs) (inr h) = absurd h
+last_or_not table (k ∷ own) key (sig ∷ sigs) (inl h) =
+    elim (last_or_not table own key sigs h.1) [
+      | inl i ↦ inl (inl (h.0, i))
+      | inr l ↦ inr (sig ∷ l.0, l.1, l.2, inl (h.0, l.3), ap suc l.4)
+    ]
+last_or_not table (k ∷ own) key (sig ∷ sigs) (inr h) =
+    elim (last_or_not table own key (sig ∷ sigs) h) [
+      | inl i ↦ inl (inr i)
+      | inr l ↦ inr (l.0, l.1, l.2, more l.0 l.3, l.4)
+    ]
+  where
+    more : (v : Stack) → AreSignatures table own v → AreSignatures table (k ∷ own) v
+    more [] h = tt
+    more (g ∷ v) h = inr h
+
+turned : (key : Key) (own : List Key) → reverse (key ∷ own) ≡ reverse own ++ key ∷ []
+turned key own = reverse-append (key ∷ []) own
+
+-- a set but for one key
+abbrev without : Key → List Key → List Bool → List Bool
+without k [] set = []
+without k (key ∷ own) [] = []
+without k (key ∷ own) (b ∷ set) = (b && not (bytes_eq key k)) ∷ without k own set
+
+no_more : (k : Key) (own : List Key) (set : List Bool) → ones (without k own set) ≤ ones set
+no_more k [] set = omega arith
+no_more k (c ∷ own) [] = omega arith
+no_more k (c ∷ own) (false ∷ set) = no_more k own set
+no_more k (c ∷ own) (true ∷ set) = step (not (bytes_eq c k)) (no_more k own set)
+  where
+    step : (b : Bool) → ones (without k own set) ≤ ones set → ones (b ∷ without k own set) ≤ suc (ones set)
+    step true n = omega (arith, n)
+    step false n = omega (arith, n)
+
+fewer_ones : (own : List Key) (set : List Bool) (k : Key) → Contains (keys_of_set own set) k → suc (ones (without k own set)) ≤ ones set
+fewer_ones [] set k i = absurd (no_element k i)
+fewer_ones (key ∷ own) [] k i = absurd (no_element k i)
+fewer_ones (key ∷ own) (false ∷ set) k i = fewer_ones own set k i
+fewer_ones (key ∷ own) (true ∷ set) k i =
+    elim (cases_Bool (bytes_eq key k)) [
+      | inl same ↦ rw same (let n = no_more k own set in omega (arith, n))
+      | inr other ↦ rw other (elim (first_or_other key (keys_of_set own set) k i) [
+        | inl e ↦ absurd (false≢true (sym other ∙ (bytes_eq-Decides key k).1 (sym e)))
+        | inr j ↦ (let n = fewer_ones own set k j in omega (arith, n))
+      ])
+    ]
+
+module _ (assets : Assets) (are : AreAssets assets) (pairs : Pairs) where
+  abbrev there : Assets
+  there = with_pairs assets pairs
+
+  abbrev Sats : Tree → StackSet
+  Sats t = (signed_row there t).sat
+
+  -- no key of these signs; of some keys only these do; one of these doesn't
+  abbrev NoneSigns : List Key → Type 0
+  NoneSigns own = (key sig : Bytes) → Contains own key → is_good pairs key sig ≡ false
+
+  abbrev OnlySign : (some own : List Key) → Type 0
+  OnlySign some own = (key sig : Bytes) → Contains own key → is_good pairs key sig ≡ true → Contains some key
+
+  abbrev Missing : List Key → Type 0
+  Missing some = (key : Key) × Contains some key × ((sig : Bytes) → is_good pairs key sig ≡ false)
+
+  -- those of a part
+  only_of : (some own a b : List Key) → ((key : Key) → Contains b key → Contains own key) → ((key : Key) → Contains b key → Contains some key → Contains a key) → OnlySign some own → OnlySign a b
+  only_of some own a b among back h key sig i good = back key i (h key sig (among key i) good)
+
+  none_of : (some own b : List Key) → ((key : Key) → Contains b key → Contains own key) → ((key : Key) → Contains b key → Contains some key → ⊥) → OnlySign some own → NoneSigns b
+  none_of some own b among apart h key sig i =
+      elim (cases_Bool (is_good pairs key sig)) [ inl good ↦ absurd (apart key i (h key sig (among key i) good)) | inr bad ↦ bad ]
+
+  freed : (t : Tree) → Fits t → NoneSigns (keys t) → (w : Stack) → Sats t w → HasOne (free_row assets t).sat
+  freed t f h =
+      let has : HasAssets (canonical there) (canonical (unsigned assets)) = record { older = λ n i. i; after = λ n i. i; preimages = λ kind value preimage i. i } in
+      free_sat (canonical there) (canonical (unsigned assets)) has t f.writable f.typed f.safe
+      (λ key other sig i same counts. ap (λ k. is_good pairs k sig) counts ∙ h key sig i)
+
+  bare_dsat : (t : Tree) → Fits t → (mall_of t).e ≡ true → HasOne (free_row assets t).dsat
+  bare_dsat t f e = free_dsat (canonical (unsigned assets)) t f.writable f.safe e
+
+  clash : (x z : Tree) → Fits x → Fits z → ((mall_of x).s || (mall_of z).s) ≡ true → HasOne (free_row assets x).sat → HasOne (free_row assets z).sat → ⊥
+  clash x z f g e p q =
+      elim (or_cases (mall_of x).s (mall_of z).s e) [ inl a ↦ signs assets x f.typed a p.0 p.1 | inr a ↦ signs assets z g.typed a q.0 q.1 ]
+
+  -- two parts of a tree: both, of which one lacks a signature
+  left_keys : (x y : Tree) → Disjoint (keys x) (keys y) → OnlySign (taken assets x ++ taken assets y) (keys x ++ keys y) → OnlySign (taken assets x) (keys x)
+  left_keys x y apart =
+      only_of (taken assets x ++ taken assets y) (keys x ++ keys y) (taken assets x) (keys x) (Contains-append_left (keys x) (keys y))
+      (λ key i j. elim (Contains-append_cases (taken assets x) (taken assets y) key j) [ inl k ↦ k | inr k ↦ absurd (apart key i (taken_in assets y key k)) ])
+
+  right_keys : (x y : Tree) → Disjoint (keys x) (keys y) → OnlySign (taken assets x ++ taken assets y) (keys x ++ keys y) → OnlySign (taken assets y) (keys y)
+  right_keys x y apart =
+      only_of (taken assets x ++ taken assets y) (keys x ++ keys y) (taken assets y) (keys y) (Contains-append_right (keys x) (keys y))
+      (λ key i j. elim (Contains-append_cases (taken assets x) (taken assets y) key j) [ inl k ↦ absurd (apart key (taken_in assets x key k) i) | inr k ↦ k ])
+
+  both_empty : (x y : Tree) → Disjoint (keys x) (keys y) → OnlySign (taken assets x ++ taken assets y) (keys x ++ keys y) → Missing (taken assets x ++ taken assets y) →
+      (OnlySign (taken assets x) (keys x) → Missing (taken assets x) → IsEmpty (Sats x)) →
+      (OnlySign (taken assets y) (keys y) → Missing (taken assets y) → IsEmpty (Sats y)) → IsEmpty (Both (Sats y) (Sats x))
+  both_empty x y apart only missing of_x of_y w (below, above, i, j, e) =
+      elim (Contains-append_cases (taken assets x) (taken assets y) missing.0 missing.1) [
+        | inl k ↦ of_x (left_keys x y apart only) (missing.0, k, missing.2) above j
+        | inr k ↦ of_y (right_keys x y apart only) (missing.0, k, missing.2) below i
+      ]
+
+  -- two options: the one that is taken lacks a signature
+  sub_left : (x z : Tree) (some : List Key) → OnlySign some (keys x ++ keys z) → OnlySign some (keys x)
+  sub_left x z some = only_of some (keys x ++ keys z) some (keys x) (Contains-append_left (keys x) (keys z)) (λ key i j. j)
+
+  sub_right : (x z : Tree) (some : List Key) → OnlySign some (keys x ++ keys z) → OnlySign some (keys z)
+  sub_right x z some = only_of some (keys x ++ keys z) some (keys z) (Contains-append_right (keys x) (keys z)) (λ key i j. j)
+
+  no_latter : (x z : Tree) → Disjoint (keys x) (keys z) → OnlySign (taken assets x) (keys x ++ keys z) → NoneSigns (keys z)
+  no_latter x z apart =
+      none_of (taken assets x) (keys x ++ keys z) (keys z) (Contains-append_right (keys x) (keys z)) (λ key i j. apart key (taken_in assets x key j) i)
+
+  no_former : (x z : Tree) → Disjoint (keys x) (keys z) → OnlySign (taken assets z) (keys x ++ keys z) → NoneSigns (keys x)
+  no_former x z apart =
+      none_of (taken assets z) (keys x ++ keys z) (keys x) (Contains-append_left (keys x) (keys z)) (λ key i j. apart key i (taken_in assets z key j))
+
+  -- the facts of the option that is taken
+  abbrev OnOption : Bool → (former latter : List Key) → (own : List Key) → Type 0
+  OnOption test former latter own = OnlySign (if test then former else latter) own × Missing (if test then former else latter)
+
+  if_former : (test : Bool) (a b own : List Key) → OnOption test a b own → test ≡ true → OnlySign a own × Missing a
+  if_former true a b own h e = h
+  if_former false a b own h e = absurd (false≢true e)
+
+  if_latter : (test : Bool) (a b own : List Key) → OnOption test a b own → test ≡ false → OnlySign b own × Missing b
+  if_latter true a b own h e = absurd (false≢true (sym e))
+  if_latter false a b own h e = h
+
+  few_signers : (own : List Key) (set : List Bool) (k : Key) → AreDistinct own → OnlySign (keys_of_set own set) own → ((sig : Bytes) → is_good pairs k sig ≡ false) →
+      (sigs : Stack) → AreSignatures pairs (reverse own) sigs → length sigs ≤ ones (without k own set)
+  few_signers [] set k d only bad [] h = omega arith
+  few_signers [] set k d only bad (sig ∷ sigs) h = absurd h
+  few_signers (key ∷ own) [] k d only bad sigs h =
+      elim (last_or_not pairs (reverse own) key sigs (subst (λ ks. AreSignatures pairs ks sigs) (turned key own) h)) [
+        | inl i ↦ (let n = few_signers own [] k d.1 (λ c sig j good. absurd (no_element c (only c sig (later_in key own c j) good))) bad sigs i in let m = no_more k own [] in omega (arith, n, m))
+        | inr l ↦ absurd (no_element key (only key l.1 (first_in key own) l.2))
+      ]
+  few_signers (key ∷ own) (b ∷ set) k d only bad sigs h =
+      let rest : OnlySign (keys_of_set own set) own = λ c sig j good. tail b c j (only c sig (later_in key own c j) good) in
+      elim (last_or_not pairs (reverse own) key sigs (subst (λ ks. AreSignatures pairs ks sigs) (turned key own) h)) [
+        | inl i ↦ (let n = few_signers own set k d.1 rest bad sigs i in at_least (b && not (bytes_eq key k)) n)
+        | inr l ↦ (let n = few_signers own set k d.1 rest bad l.0 l.3 in let e = l.4 in one_more b (only key l.1 (first_in key own) l.2) l.1 l.2 n e)
+      ]
+    where
+      tail : (b : Bool) (c : Key) → Contains own c → Contains (if b then key ∷ keys_of_set own set else keys_of_set own set) c → Contains (keys_of_set own set) c
+      tail false c j i = i
+      tail true c j i = elim (first_or_other key (keys_of_set own set) c i) [ inl e ↦ absurd (d.0 (subst (Contains own) e j)) | inr i ↦ i ]
+
+      at_least : (c : Bool) → length sigs ≤ ones (without k own set) → length sigs ≤ ones (c ∷ without k own set)
+      at_least true n = omega (arith, n)
+      at_least false n = n
+
+      one_more : (b : Bool) → Contains (if b then key ∷ keys_of_set own set else keys_of_set own set) key → (sig : Bytes) → is_good pairs key sig ≡ true → {m : ℕ} → m ≤ ones (without k own set) → length sigs ≡ suc m →
+          length sigs ≤ ones ((b && not (bytes_eq key k)) ∷ without k own set)
+      one_more false i sig good n e = absurd (d.0 (in_part (keys_of_set own set) own (set_part own set) key i))
+      one_more true i sig good n e =
+          elim (cases_Bool (bytes_eq key k)) [
+            | inl same ↦ absurd (false≢true (sym (bad sig) ∙ subst (λ c. is_good pairs c sig ≡ true) ((bytes_eq-Decides key k).0 same) good))
+            | inr other ↦ rw other (omega (arith, n, e))
+          ]
+
+  -- `or_c` and `or_d`
+  or_empty : (x z : Tree) → Fits x → Fits z → Disjoint (keys x) (keys z) → (mall_of x).e ≡ true → ((mall_of x).s || (mall_of z).s) ≡ true → (w : Stack) →
+      free_first (free assets x) (both (free assets z) (dissatisfaction x)) (strict_of assets x) (both (strict_of assets z) (dissatisfaction x)) ≡ Some w →
+      OnOption (takes_former (free assets x) (both (free assets z) (dissatisfaction x)) (strict_of assets x) (both (strict_of assets z) (dissatisfaction x)))
+      (taken assets x) (taken assets z) (keys x ++ keys z) →
+      ((v : Stack) → strict_of assets x ≡ Some v → OnlySign (taken assets x) (keys x) → Missing (taken assets x) → IsEmpty (Sats x)) →
+      ((v : Stack) → strict_of assets z ≡ Some v → OnlySign (taken assets z) (keys z) → Missing (taken assets z) → IsEmpty (Sats z)) →
+      IsEmpty (Either (Sats x) (Both (Sats z) (signed_row there x).dsat))
+  or_empty x z f g apart e s w h on of_x of_z =
+      let ff = free_best assets are x f.writable in
+      let gg = best_both _ _ _ _ (free_best assets are z g.writable) (free_dsat_best assets are x f.writable) in
+      elim (option_taken _ _ (free assets x) (both (free assets z) (dissatisfaction x)) (strict_of assets x) (both (strict_of assets z) (dissatisfaction x)) ff gg w h) [
+        | inl h ↦ (
+            let o = if_former _ (taken assets x) (taken assets z) (keys x ++ keys z) on h.0 in
+            λ v r. elim r [
+              | inl a ↦ of_x w h.1 (sub_left x z (taken assets x) o.0) o.1 v a
+              | inr a ↦ (
+                  let free_z = freed z g (no_latter x z apart o.0) a.0 a.2 in
+                  clash x z f g s (h.2 (one_both _ _ free_z (bare_dsat x f e))) free_z)
+            ])
+        | inr h ↦ (
+            let o = if_latter _ (taken assets x) (taken assets z) (keys x ++ keys z) on h.0 in
+            let j = both_joined _ _ w h.1 in
+            λ v r. elim r [
+              | inl a ↦ h.2 (freed x f (no_former x z apart o.0) v a)
+              | inr a ↦ of_z j.below j.left (sub_right x z (taken assets z) o.0) o.1 a.0 a.2
+            ])
+      ]
+
+  -- the children of a threshold: no more are satisfied than are chosen
+  rest_only : (x : Tree) (xs : Trees) (set : List Bool) → Disjoint (keys x) (keys_of_all xs) →
+      OnlySign (taken assets x ++ taken_of_children assets xs set) (keys x ++ keys_of_all xs) → OnlySign (taken_of_children assets xs set) (keys_of_all xs)
+  rest_only x xs set apart =
+      only_of _ _ (taken_of_children assets xs set) (keys_of_all xs) (Contains-append_right (keys x) (keys_of_all xs))
+      (λ key i j. elim (Contains-append_cases (taken assets x) (taken_of_children assets xs set) key j) [ inl k ↦ absurd (apart key (taken_in assets x key k) i) | inr k ↦ k ])
+
+  child_only : (x : Tree) (xs : Trees) (set : List Bool) → Disjoint (keys x) (keys_of_all xs) →
+      OnlySign (taken assets x ++ taken_of_children assets xs set) (keys x ++ keys_of_all xs) → OnlySign (taken assets x) (keys x)
+  child_only x xs set apart =
+      only_of _ _ (taken assets x) (keys x) (Contains-append_left (keys x) (keys_of_all xs))
+      (λ key i j. elim (Contains-append_cases (taken assets x) (taken_of_children assets xs set) key j) [ inl k ↦ k | inr k ↦ absurd (apart key i (children_in assets xs set key k)) ])
+
+  others_only : (x : Tree) (xs : Trees) (set : List Bool) → OnlySign (taken_of_children assets xs set) (keys x ++ keys_of_all xs) → OnlySign (taken_of_children assets xs set) (keys_of_all xs)
+  others_only x xs set = only_of _ _ (taken_of_children assets xs set) (keys_of_all xs) (Contains-append_right (keys x) (keys_of_all xs)) (λ key i j. j)
+
+  -- a child that isn't chosen isn't satisfied
+  not_chosen : (x : Tree) (xs : Trees) (set : List Bool) → Fits x → Disjoint (keys x) (keys_of_all xs) → is_some (free assets x) ≡ false →
+      OnlySign (taken_of_children assets xs set) (keys x ++ keys_of_all xs) → IsEmpty (Sats x)
+  not_chosen x xs set f apart e only v h =
+      not_free assets pairs are x f.writable e
+      (freed x f (none_of _ _ (keys x) (Contains-append_left (keys x) (keys_of_all xs)) (λ key i j. apart key i (children_in assets xs set key j)) only) v h)
+
+  few_parts : (xs : Trees) → AllFit xs → (set : List Bool) → (w : Stack) → stack_of (strict_children assets xs) set ≡ Some w → has_all (free_children assets xs) set ≡ true →
+      OnlySign (taken_of_children assets xs set) (keys_of_all xs) → (n : ℕ) (v : Stack) → parts (canonical there) xs n v → n ≤ ones set
+  few_parts none f set w e all only n v h = let z = h.0 in omega (arith, z)
+  few_parts (more x xs) f [] w e all only n v h = absurd (none-some w e)
+  few_parts (more x xs) f (true ∷ set) w e all only n v (inl h) =
+      let t = fit_more x xs f in
+      let j = both_joined _ _ w e in
+      let r = few_parts xs t.1 set j.below j.left (wanted_or_not (is_some (free assets x)) _ all) (rest_only x xs set t.2 only) h.0 h.2.0 h.2.2 in
+      let s = h.1 in
+      omega (arith, r, s)
+  few_parts (more x xs) f (true ∷ set) w e all only n v (inr h) =
+      let t = fit_more x xs f in
+      let j = both_joined _ _ w e in
+      let r = few_parts xs t.1 set j.below j.left (wanted_or_not (is_some (free assets x)) _ all) (rest_only x xs set t.2 only) n h.0 h.2 in
+      omega (arith, r)
+  few_parts (more x xs) f (false ∷ set) w e all only n v (inl h) =
+      let t = fit_more x xs f in
+      let u = not_wanted (is_some (free assets x)) _ all in
+      absurd (not_chosen x xs set t.0 t.2 u.0 only h.2.1 h.2.3)
+  few_parts (more x xs) f (false ∷ set) w e all only n v (inr h) =
+      let t = fit_more x xs f in
+      let j = both_joined _ _ w e in
+      let u = not_wanted (is_some (free assets x)) _ all in
+      few_parts xs t.1 set j.below j.left u.1 (others_only x xs set only) n h.0 h.2
+
+  mutual
+    unfolding mall_rows
+
+    pub vain : (t : Tree) → Fits t → (w : Stack) → strict_of assets t ≡ Some w → OnlySign (taken assets t) (keys t) → Missing (taken assets t) → IsEmpty (Sats t)
+    vain just_0 f w e only missing = absurd (no_element missing.0 missing.1)
+    vain just_1 f w e only missing = absurd (no_element missing.0 missing.1)
+    vain (pk_k key) f w e only missing =
+        λ v h. elim (first_or_other key [] missing.0 missing.1) [
+          | inl same ↦ false≢true (sym (missing.2 h.0) ∙ subst (λ k. is_good pairs k h.0 ≡ true) (sym same) h.1)
+          | inr i ↦ no_element missing.0 i
+        ]
+    vain (pk_h key) f w e only missing =
+        λ v h. let s = h.4.2 in elim (first_or_other key [] missing.0 missing.1) [
+          | inl same ↦ false≢true (sym (missing.2 s.0) ∙ subst (λ k. is_good pairs k s.0 ≡ true) (h.3 ∙ sym same) s.1)
+          | inr i ↦ no_element missing.0 i
+        ]
+    vain (older n) f w e only missing = absurd (no_element missing.0 missing.1)
+    vain (after n) f w e only missing = absurd (no_element missing.0 missing.1)
+    vain (hash kind value) f w e only missing = absurd (no_element missing.0 missing.1)
+    vain (and_or x y z) f w e only missing =
+        let t = fit_and_or x y z f in
+        let safe = f.safe in
+        let ff = best_both _ _ _ _ (free_best assets are y t.1.writable) (free_best assets are x t.0.writable) in
+        let gg = best_both _ _ _ _ (free_best assets are z t.2.writable) (free_dsat_best assets are x t.0.writable) in
+        elim (option_taken _ _
+        (both (free assets y) (free assets x)) (both (free assets z) (dissatisfaction x)) (both (strict_of assets y) (strict_of assets x)) (both (strict_of assets z) (dissatisfaction x))
+        ff gg w e) [
+          | inl h ↦ (
+              let o = if_former _ (taken assets x ++ taken assets y) (taken assets z) (keys (and_or x y z)) (only, missing) h.0 in
+              let j = both_joined _ _ w h.1 in
+              let xy = taken assets x ++ taken assets y in
+              let bare_z = none_of xy (keys (and_or x y z)) (keys z) (Contains-append_right (keys x ++ keys y) (keys z))
+              (λ key i l. t.4 key (elim (Contains-append_cases (taken assets x) (taken assets y) key l) [
+                | inl k ↦ Contains-append_left (keys x) (keys y) key (taken_in assets x key k)
+                | inr k ↦ Contains-append_right (keys x) (keys y) key (taken_in assets y key k)
+              ]) i) o.0 in
+              λ v r. elim r [
+                | inl two_sats ↦ both_empty x y t.3
+                    (only_of xy (keys (and_or x y z)) xy (keys x ++ keys y) (Contains-append_left (keys x ++ keys y) (keys z)) (λ key i l. l) o.0) o.1
+                    (vain x t.0 j.above j.right) (vain y t.1 j.below j.left) v two_sats
+                | inr other ↦ (
+                    let free_z = freed z t.2 bare_z other.0 other.2 in
+                    let first = h.2 (one_both _ _ free_z (bare_dsat x t.0 safe.3.0)) in
+                    elim (or_cases ((mall_of x).s || (mall_of y).s) (mall_of z).s safe.3.1.0) [
+                      | inl s ↦ elim (or_cases (mall_of x).s (mall_of y).s s) [
+                        | inl a ↦ signs assets x t.0.typed a first.1.1 first.1.3
+                        | inr a ↦ signs assets y t.1.typed a first.1.0 first.1.2
+                      ]
+                      | inr s ↦ signs assets z t.2.typed s free_z.0 free_z.1
+                    ])
+              ])
+          | inr h ↦ (
+              let o = if_latter _ (taken assets x ++ taken assets y) (taken assets z) (keys (and_or x y z)) (only, missing) h.0 in
+              let j = both_joined _ _ w h.1 in
+              let apart : (key : Key) → Contains (keys x ++ keys y) key → Contains (taken assets z) key → ⊥ = λ key i l. t.4 key i (taken_in assets z key l) in
+              let bare = none_of (taken assets z) (keys (and_or x y z)) (keys x ++ keys y) (Contains-append_left (keys x ++ keys y) (keys z)) apart o.0 in
+              λ v r. elim r [
+                | inl two_sats ↦
+                    h.2
+                    (one_both _ _ (freed y t.1 (λ key sig i. bare key sig (Contains-append_right (keys x) (keys y) key i)) two_sats.0 two_sats.2)
+                    (freed x t.0 (λ key sig i. bare key sig (Contains-append_left (keys x) (keys y) key i)) two_sats.1 two_sats.3))
+                | inr other ↦
+                    vain z t.2 j.below j.left
+                    (only_of (taken assets z) (keys (and_or x y z)) (taken assets z) (keys z) (Contains-append_right (keys x ++ keys y) (keys z)) (λ key i l. l) o.0) o.1
+                    other.0 other.2
+              ])
+        ]
+    vain (two kind.AndV x y) f w e only missing =
+        let t = fit_two kind.AndV x y f in
+        let j = both_joined _ _ w e in
+        both_empty x y t.2 only missing (vain x t.0 j.above j.right) (vain y t.1 j.below j.left)
+    vain (two kind.AndB x y) f w e only missing =
+        let t = fit_two kind.AndB x y f in
+        let j = both_joined _ _ w e in
+        both_empty x y t.2 only missing (vain x t.0 j.above j.right) (vain y t.1 j.below j.left)
+    vain (two kind.OrB x z) f w e only missing =
+        let t = fit_two kind.OrB x z f in
+        let safe = f.safe in
+        let es = and_parts (mall_of x).e (mall_of z).e safe.2.0 in
+        let ff = best_both _ _ _ _ (free_dsat_best assets are z t.1.writable) (free_best assets are x t.0.writable) in
+        let gg = best_both _ _ _ _ (free_best assets are z t.1.writable) (free_dsat_best assets are x t.0.writable) in
+        elim (option_taken _ _
+        (both (dissatisfaction z) (free assets x)) (both (free assets z) (dissatisfaction x)) (both (dissatisfaction z) (strict_of assets x)) (both (strict_of assets z) (dissatisfaction x))
+        ff gg w e) [
+          | inl h ↦ (
+              let o = if_former _ (taken assets x) (taken assets z) (keys x ++ keys z) (only, missing) h.0 in
+              let j = both_joined _ _ w h.1 in
+              λ v r. elim r [
+                | inl a ↦ vain x t.0 j.above j.right (sub_left x z (taken assets x) o.0) o.1 a.1 a.3
+                | inr b ↦ elim b [
+                  | inl a ↦ (
+                      let free_z = freed z t.1 (no_latter x z t.2 o.0) a.0 a.2 in
+                      let first = h.2 (one_both _ _ free_z (bare_dsat x t.0 es.0)) in
+                      clash x z t.0 t.1 safe.2.1.0 (first.1.1, first.1.3) free_z)
+                  | inr c ↦ false≢true c.0
+                ]
+              ])
+          | inr h ↦ (
+              let o = if_latter _ (taken assets x) (taken assets z) (keys x ++ keys z) (only, missing) h.0 in
+              let j = both_joined _ _ w h.1 in
+              λ v r. elim r [
+                | inl a ↦ h.2 (one_both _ _ (bare_dsat z t.1 es.1) (freed x t.0 (no_former x z t.2 o.0) a.1 a.3))
+                | inr b ↦ elim b [
+                  | inl a ↦ vain z t.1 j.below j.left (sub_right x z (taken assets z) o.0) o.1 a.0 a.2
+                  | inr c ↦ false≢true c.0
+                ]
+              ])
+        ]
+    vain (two kind.OrC x z) f w e only missing =
+        let t = fit_two kind.OrC x z f in
+        let safe = f.safe in
+        or_empty x z t.0 t.1 t.2 safe.2.0 safe.2.1.0 w e (only, missing) (vain x t.0) (vain z t.1)
+    vain (two kind.OrD x z) f w e only missing =
+        let t = fit_two kind.OrD x z f in
+        let safe = f.safe in
+        or_empty x z t.0 t.1 t.2 safe.2.0 safe.2.1.0 w e (only, missing) (vain x t.0) (vain z t.1)
+    vain (two kind.OrI x z) f w e only missing =
+        let t = fit_two kind.OrI x z f in
+        let safe = f.safe in
+        let ff = best_both _ _ _ _ (free_best assets are x t.0.writable) (is_best ONE) in
+        let gg = best_both _ _ _ _ (free_best assets are z t.1.writable) (is_best EMPTY) in
+        elim (option_taken _ _
+        (both (free assets x) (Some (ONE ∷ []))) (both (free assets z) (Some (EMPTY ∷ []))) (both (strict_of assets x) (Some (ONE ∷ []))) (both (strict_of assets z) (Some (EMPTY ∷ [])))
+        ff gg w e) [
+          | inl h ↦ (
+              let o = if_former _ (taken assets x) (taken assets z) (keys x ++ keys z) (only, missing) h.0 in
+              let j = both_joined _ _ w h.1 in
+              λ v r. elim r [
+                | inl a ↦ vain x t.0 j.below j.left (sub_left x z (taken assets x) o.0) o.1 a.0 a.2
+                | inr a ↦ (
+                    let free_z = freed z t.1 (no_latter x z t.2 o.0) a.0 a.2 in
+                    let first = h.2 (one_both _ (Is EMPTY) free_z (EMPTY ∷ [], refl)) in
+                    clash x z t.0 t.1 safe.2.0 (first.1.0, first.1.2) free_z)
+              ])
+          | inr h ↦ (
+              let o = if_latter _ (taken assets x) (taken assets z) (keys x ++ keys z) (only, missing) h.0 in
+              let j = both_joined _ _ w h.1 in
+              λ v r. elim r [
+                | inl a ↦ h.2 (one_both _ (Is ONE) (freed x t.0 (no_former x z t.2 o.0) a.0 a.2) (ONE ∷ [], refl))
+                | inr a ↦ vain z t.1 j.below j.left (sub_right x z (taken assets z) o.0) o.1 a.0 a.2
+              ])
+        ]
+    vain (thresh k xs) f w e only missing =
+        let all = f.writable in
+        let typed = f.typed in
+        let safe = f.safe in
+        let fits : AllFit xs = record { writable = all.2; typed = typed.0; safe = safe.0; distinct = f.distinct } in
+        let t = set_is_taken (λ set. IsSet (count xs) k set × (has_all (free_children assets xs) set ≡ true)) (stack_of (strict_children assets xs)) _
+        (each-filter (IsSet (count xs) k) (has_all (free_children assets xs)) (sets (count xs) k) (sets_are (count xs) k)) w e in
+        λ v h.
+        let n = fewer_parts xs fits (children_taken assets k xs) w t.1 t.0.1 only missing k v h in
+        let m = t.0.0.1 in
+        absurd (omega (arith, n, m))
+    vain (multi k own) f w e only missing =
+        let j = both_joined (Some (EMPTY ∷ [])) (signatures assets k own) w e in
+        let t = set_is_taken (IsSet (length own) k) (signatures_of assets own) (sets (length own) k) (sets_are (length own) k) j.above j.right in
+        λ v h.
+        let n = few_signers own (signers_taken assets k own) missing.0 f.distinct only missing.2 h.1 h.3.1 in
+        let m = fewer_ones own (signers_taken assets k own) missing.0 missing.1 in
+        let c = t.0.1 in
+        let d = h.3.0 in
+        absurd (omega (arith, n, m, c, d))
+    vain (wrap wrapper.A x) f w e only missing = vain x (fit_wrap wrapper.A x f) w e only missing
+    vain (wrap wrapper.S x) f w e only missing = vain x (fit_wrap wrapper.S x f) w e only missing
+    vain (wrap wrapper.C x) f w e only missing = vain x (fit_wrap wrapper.C x f) w e only missing
+    vain (wrap wrapper.D x) f w e only missing =
+        let j = both_joined _ _ w e in
+        λ v h. vain x (fit_wrap wrapper.D x f) j.below j.left only missing h.0 h.2
+    vain (wrap wrapper.V x) f w e only missing = vain x (fit_wrap wrapper.V x f) w e only missing
+    vain (wrap wrapper.J x) f w e only missing = vain x (fit_wrap wrapper.J x f) w e only missing
+    vain (wrap wrapper.N x) f w e only missing = vain x (fit_wrap wrapper.N x f) w e only missing
+
+    fewer_parts : (xs : Trees) → AllFit xs → (set : List Bool) → (w : Stack) → stack_of (strict_children assets xs) set ≡ Some w → has_all (free_children assets xs) set ≡ true →
+        OnlySign (taken_of_children assets xs set) (keys_of_all xs) → Missing (taken_of_children assets xs set) →
+        (n : ℕ) (v : Stack) → parts (canonical there) xs n v → suc n ≤ ones set
+    fewer_parts none f set w e all only missing n v h = absurd (no_element missing.0 missing.1)
+    fewer_parts (more x xs) f [] w e all only missing n v h = absurd (none-some w e)
+    fewer_parts (more x xs) f (true ∷ set) w e all only missing n v h =
+        let t = fit_more x xs f in
+        let j = both_joined _ _ w e in
+        let others = wanted_or_not (is_some (free assets x)) _ all in
+        let rest = rest_only x xs set t.2 only in
+        elim (Contains-append_cases (taken assets x) (taken_of_children assets xs set) missing.0 missing.1) [
+          | inl i ↦ elim h [
+            | inl a ↦ absurd (vain x t.0 j.above j.right (child_only x xs set t.2 only) (missing.0, i, missing.2) a.2.1 a.2.3)
+            | inr a ↦ (let r = few_parts xs t.1 set j.below j.left others rest n a.0 a.2 in omega (arith, r))
+          ]
+          | inr i ↦ elim h [
+            | inl a ↦ (let r = fewer_parts xs t.1 set j.below j.left others rest (missing.0, i, missing.2) a.0 a.2.0 a.2.2 in let s = a.1 in omega (arith, r, s))
+            | inr a ↦ (let r = fewer_parts xs t.1 set j.below j.left others rest (missing.0, i, missing.2) n a.0 a.2 in omega (arith, r))
+          ]
+        ]
+    fewer_parts (more x xs) f (false ∷ set) w e all only missing n v h =
+        let t = fit_more x xs f in
+        let j = both_joined _ _ w e in
+        let u = not_wanted (is_some (free assets x)) _ all in
+        elim h [
+          | inl a ↦ absurd (not_chosen x xs set t.0 t.2 u.0 only a.2.1 a.2.3)
+          | inr a ↦ fewer_parts xs t.1 set j.below j.left u.1 (others_only x xs set only) missing n a.0 a.2
+        ]

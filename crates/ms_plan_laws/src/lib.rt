@@ -1,0 +1,4 @@
+//! What is promised of plans, proved over the definitions.
+#![tactic(auto)]
+
+mod laws;
