@@ -239,7 +239,7 @@ for folder in "$top"/examples/*/; do
     [ "$words" != "gen 30" ] || continue
     wanted=$(cat "$folder/status" 2>/dev/null || echo 0)
     source=/dev/null
-    for file in assets run; do
+    for file in assets run plan; do
         [ ! -e "$folder/$file.json" ] || source=$folder/$file.json
     done
     label="\`$words\`, $(basename "$folder")"

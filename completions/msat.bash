@@ -6,8 +6,14 @@ _msat() {
     1) COMPREPLY=($(compgen -W "script check satisfy run gen policy plan decode" -- "$word")) ;;
     2)
         case ${COMP_WORDS[1]} in
-        satisfy) COMPREPLY=($(compgen -W "--malleable" -- "$word")) ;;
+        script | check) COMPREPLY=($(compgen -W "--consensus" -- "$word")) ;;
+        satisfy) COMPREPLY=($(compgen -W "--malleable --consensus" -- "$word")) ;;
         gen) COMPREPLY=($(compgen -W "$(seq 30)" -- "$word")) ;;
+        esac
+        ;;
+    3)
+        case "${COMP_WORDS[1]} ${COMP_WORDS[2]}" in
+        "satisfy --malleable") COMPREPLY=($(compgen -W "--consensus" -- "$word")) ;;
         esac
         ;;
     esac

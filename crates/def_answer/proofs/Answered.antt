@@ -14,7 +14,7 @@ use Rattle.def_text.specs.Refusal.{MOST_BYTES}
 use Rattle.def_text.specs.Reader.{START, Outcome, tree_outcome, syntax_outcome, deep_outcome, outcome}
 use Rattle.def_text.proofs.Completion.{ascii_is_utf8}
 use Rattle.def_text.proofs.Report.{Reports, report}
-use Rattle.def_sane.specs.Unfit.{first_unfit, first_unfit_valid}
+use Rattle.def_sane.specs.Unfit.{first_unfit, first_unfit_under, first_unfit_valid_under}
 use Rattle.def_choice.specs.Cheapest.{cheapest}
 use Rattle.def_choice.specs.Strict.{strict}
 use Rattle.def_answer.specs.declared.status.Status.{Status}
@@ -54,10 +54,10 @@ has_reading text utf8 = go (nat_lt MOST_BYTES (length text)) refl
 
 -- what holds of the text of a command
 abbrev pub OnText : (Bytes → Type 0) → Command → Type 0
-OnText P (script text) = P text
-OnText P (check text) = P text
-OnText P (satisfy text) = P text
-OnText P (satisfy_malleable text) = P text
+OnText P (script rules text) = P text
+OnText P (check rules text) = P text
+OnText P (satisfy rules text) = P text
+OnText P (satisfy_malleable rules text) = P text
 OnText P run = ⊤
 OnText P (gen n) = ⊤
 OnText P (policy text) = P text
@@ -77,10 +77,10 @@ replies_to_script keys bytes all = go (decided keys bytes) refl
     go (Some tree) e = inl (tree, decided_is keys bytes tree all e, refl)
 
 abbrev pub reply_to : (source : Bytes) → Command → Reply
-reply_to source (script text) = text_reply first_unfit_valid script_reply (reading_of text)
-reply_to source (check text) = text_reply first_unfit check_reply (reading_of text)
-reply_to source (satisfy text) = text_reply first_unfit (satisfy_reply strict source) (reading_of text)
-reply_to source (satisfy_malleable text) = text_reply first_unfit_valid (satisfy_reply cheapest source) (reading_of text)
+reply_to source (script rules text) = text_reply (first_unfit_valid_under rules) script_reply (reading_of text)
+reply_to source (check rules text) = text_reply (first_unfit_under rules) (check_reply rules) (reading_of text)
+reply_to source (satisfy rules text) = text_reply (first_unfit_under rules) (satisfy_reply rules strict source) (reading_of text)
+reply_to source (satisfy_malleable rules text) = text_reply (first_unfit_valid_under rules) (satisfy_reply rules cheapest source) (reading_of text)
 reply_to source run = run_reply source
 reply_to source (gen n) = gen_reply n
 reply_to source (policy text) = text_reply first_unfit policy_reply (reading_of text)
@@ -88,10 +88,10 @@ reply_to source (plan text) = text_reply first_unfit (plan_reply source) (readin
 reply_to source (decode digits keys) = decided_reply (decided (map bytes_of keys) (bytes_of digits))
 
 replies_to : (command : Command) (source : Bytes) → IsCommand command → OnText IsUtf8 command → Replies command source (reply_to source command)
-replies_to (script text) source is utf8 = (reading_of text, has_reading text utf8, refl)
-replies_to (check text) source is utf8 = (reading_of text, has_reading text utf8, refl)
-replies_to (satisfy text) source is utf8 = (reading_of text, has_reading text utf8, refl)
-replies_to (satisfy_malleable text) source is utf8 = (reading_of text, has_reading text utf8, refl)
+replies_to (script rules text) source is utf8 = (reading_of text, has_reading text utf8, refl)
+replies_to (check rules text) source is utf8 = (reading_of text, has_reading text utf8, refl)
+replies_to (satisfy rules text) source is utf8 = (reading_of text, has_reading text utf8, refl)
+replies_to (satisfy_malleable rules text) source is utf8 = (reading_of text, has_reading text utf8, refl)
 replies_to run source is utf8 = refl
 replies_to (gen n) source is utf8 = refl
 replies_to (policy text) source is utf8 = (reading_of text, has_reading text utf8, refl)
@@ -117,10 +117,10 @@ replies_to_words words source utf8 = go (command_of words) refl utf8
 -- ---- answers that are written out
 
 abbrev pub is_ascii_text : Command → Bool
-is_ascii_text (script text) = list_all is_ascii text
-is_ascii_text (check text) = list_all is_ascii text
-is_ascii_text (satisfy text) = list_all is_ascii text
-is_ascii_text (satisfy_malleable text) = list_all is_ascii text
+is_ascii_text (script rules text) = list_all is_ascii text
+is_ascii_text (check rules text) = list_all is_ascii text
+is_ascii_text (satisfy rules text) = list_all is_ascii text
+is_ascii_text (satisfy_malleable rules text) = list_all is_ascii text
 is_ascii_text run = true
 is_ascii_text (gen n) = true
 is_ascii_text (policy text) = list_all is_ascii text
@@ -132,10 +132,10 @@ are_ascii_words None = true
 are_ascii_words (Some command) = is_ascii_text command
 
 ascii_text : (command : Command) → is_ascii_text command ≡ true → OnText IsUtf8 command
-ascii_text (script text) ascii = ascii_is_utf8 text ascii
-ascii_text (check text) ascii = ascii_is_utf8 text ascii
-ascii_text (satisfy text) ascii = ascii_is_utf8 text ascii
-ascii_text (satisfy_malleable text) ascii = ascii_is_utf8 text ascii
+ascii_text (script rules text) ascii = ascii_is_utf8 text ascii
+ascii_text (check rules text) ascii = ascii_is_utf8 text ascii
+ascii_text (satisfy rules text) ascii = ascii_is_utf8 text ascii
+ascii_text (satisfy_malleable rules text) ascii = ascii_is_utf8 text ascii
 ascii_text run ascii = tt
 ascii_text (gen n) ascii = tt
 ascii_text (policy text) ascii = ascii_is_utf8 text ascii

@@ -5,8 +5,9 @@ use Rattle.def_script.specs.Bytes.{Bytes}
 use Rattle.def_machine.specs.Run.{Outcome, accepted, refused, run}
 use Rattle.def_tree.specs.Tree.{Tree}
 use Rattle.def_assets.specs.Assets.{Assets}
+use Rattle.def_sane.specs.declared.Rules.{Rules}
 use Rattle.def_sane.specs.declared.Unfit.{Unfit}
-use Rattle.def_sane.specs.Unfit.{first_unfit, first_unfit_valid}
+use Rattle.def_sane.specs.Unfit.{first_unfit, first_unfit_under, first_unfit_valid_under}
 use Rattle.def_choice.specs.Cheapest.{cheapest}
 use Rattle.def_choice.specs.Strict.{strict}
 use Rattle.def_files.specs.AssetFile.{assets_of}
@@ -46,18 +47,18 @@ file_status P line file_of next source refusal after =
     either_status P (nat_lt MOST_FILE (length source)) (reply status.FileRefused file_too_long_line) (unless_refused line next (file_of source)) refusal
     (refused_status P line next (file_of source) refusal after)
 
-chosen_status : (P : Status → Type 0) (tree : Tree) (assets : Assets) (choice : Option (List Bytes)) → P status.Done →
+chosen_status : (P : Status → Type 0) (rules : Rules) (tree : Tree) (assets : Assets) (choice : Option (List Bytes)) → P status.Done →
     P status.NoSatisfaction
-    → OfStatus P (chosen_reply tree assets choice)
-chosen_status P tree assets None done never = never
-chosen_status P tree assets (Some stack) done never = done
+    → OfStatus P (chosen_reply rules tree assets choice)
+chosen_status P rules tree assets None done never = never
+chosen_status P rules tree assets (Some stack) done never = done
 
-pub satisfy_status : (P : Status → Type 0) (choice : Tree → Assets → Option (List Bytes)) (source : Bytes) (tree : Tree) →
+pub satisfy_status : (P : Status → Type 0) (rules : Rules) (choice : Tree → Assets → Option (List Bytes)) (source : Bytes) (tree : Tree) →
     P status.FileRefused → P status.Done
-    → P status.NoSatisfaction → OfStatus P (satisfy_reply choice source tree)
-satisfy_status P choice source tree refusal done never =
-    file_status P file_line assets_of (λ assets. chosen_reply tree assets (choice tree assets)) source refusal
-    (λ assets. chosen_status P tree assets (choice tree assets) done never)
+    → P status.NoSatisfaction → OfStatus P (satisfy_reply rules choice source tree)
+satisfy_status P rules choice source tree refusal done never =
+    file_status P file_line assets_of (λ assets. chosen_reply rules tree assets (choice tree assets)) source refusal
+    (λ assets. chosen_status P rules tree assets (choice tree assets) done never)
 
 outcome_status : (P : Status → Type 0) (o : Outcome) → P status.Done → P status.ScriptRefused → OfStatus P (outcome_reply o)
 outcome_status P (accepted ops peak checks) done refusal = done
@@ -100,12 +101,12 @@ answered_text text reason next r after h = subst (OfStatus IsAnswered) (sym h.2)
 
 answered_reply : (c : Command) (source : Bytes) (r : Reply) → Replies c source r → OfStatus IsAnswered r
 unfolding gen_reply
-answered_reply (script text) source r h = answered_text text first_unfit_valid script_reply r (λ tree. tt) h
-answered_reply (check text) source r h = answered_text text first_unfit check_reply r (λ tree. tt) h
-answered_reply (satisfy text) source r h =
-    answered_text text first_unfit (satisfy_reply strict source) r (λ tree. satisfy_status IsAnswered strict source tree tt tt tt) h
-answered_reply (satisfy_malleable text) source r h =
-    answered_text text first_unfit_valid (satisfy_reply cheapest source) r (λ tree. satisfy_status IsAnswered cheapest source tree tt tt tt) h
+answered_reply (script rules text) source r h = answered_text text (first_unfit_valid_under rules) script_reply r (λ tree. tt) h
+answered_reply (check rules text) source r h = answered_text text (first_unfit_under rules) (check_reply rules) r (λ tree. tt) h
+answered_reply (satisfy rules text) source r h =
+    answered_text text (first_unfit_under rules) (satisfy_reply rules strict source) r (λ tree. satisfy_status IsAnswered rules strict source tree tt tt tt) h
+answered_reply (satisfy_malleable rules text) source r h =
+    answered_text text (first_unfit_valid_under rules) (satisfy_reply rules cheapest source) r (λ tree. satisfy_status IsAnswered rules cheapest source tree tt tt tt) h
 answered_reply words.run source r h = subst (OfStatus IsAnswered) (sym h) (run_status IsAnswered source tt tt tt)
 answered_reply (gen n) source r h = subst (OfStatus IsAnswered) (sym h) tt
 answered_reply (policy text) source r h = answered_text text first_unfit policy_reply r (λ tree. tt) h
@@ -130,17 +131,17 @@ read_text : (text : Bytes) (reason : Tree → Option Unfit) (next : Tree → Rep
     → RepliesToText text reason next r → OfStatus IsRead r
 read_text text reason next r after h = subst (OfStatus IsRead) (sym h.2) (text_status IsRead reason next h.0 (λ e. cc e) after)
 
-read_satisfied : (choice : Tree → Assets → Option (List Bytes)) (source : Bytes) (tree : Tree) → OfStatus IsRead (satisfy_reply choice source tree)
-read_satisfied choice source tree = satisfy_status IsRead choice source tree (λ e. cc e) (λ e. cc e) (λ e. cc e)
+read_satisfied : (rules : Rules) (choice : Tree → Assets → Option (List Bytes)) (source : Bytes) (tree : Tree) → OfStatus IsRead (satisfy_reply rules choice source tree)
+read_satisfied rules choice source tree = satisfy_status IsRead rules choice source tree (λ e. cc e) (λ e. cc e) (λ e. cc e)
 
 decodes : (c : Command) (source : Bytes) (r : Reply) → Replies c source r → r.status ≡ status.NoReading
     → (digits : Bytes) × (keys : List Bytes) × (c ≡ decode digits keys)
 unfolding gen_reply
-decodes (script text) source r h is = absurd (read_text text first_unfit_valid script_reply r (λ tree e. cc e) h is)
-decodes (check text) source r h is = absurd (read_text text first_unfit check_reply r (λ tree e. cc e) h is)
-decodes (satisfy text) source r h is = absurd (read_text text first_unfit (satisfy_reply strict source) r (read_satisfied strict source) h is)
-decodes (satisfy_malleable text) source r h is =
-    absurd (read_text text first_unfit_valid (satisfy_reply cheapest source) r (read_satisfied cheapest source) h is)
+decodes (script rules text) source r h is = absurd (read_text text (first_unfit_valid_under rules) script_reply r (λ tree e. cc e) h is)
+decodes (check rules text) source r h is = absurd (read_text text (first_unfit_under rules) (check_reply rules) r (λ tree e. cc e) h is)
+decodes (satisfy rules text) source r h is = absurd (read_text text (first_unfit_under rules) (satisfy_reply rules strict source) r (read_satisfied rules strict source) h is)
+decodes (satisfy_malleable rules text) source r h is =
+    absurd (read_text text (first_unfit_valid_under rules) (satisfy_reply rules cheapest source) r (read_satisfied rules cheapest source) h is)
 decodes words.run source r h is =
     absurd (subst (OfStatus IsRead) (sym h) (run_status IsRead source (λ e. cc e) (λ e. cc e) (λ e. cc e)) is)
 decodes (gen n) source r h is = absurd (subst (OfStatus IsRead) (sym h) (λ e. cc e) is)
@@ -164,7 +165,7 @@ first_of_two true r s e = refl
 first_of_two false r s e = cc e
 
 pub long_asset_file : LongAssetFile
-long_asset_file choice source tree long =
+long_asset_file rules choice source tree long =
     first_of_two (nat_lt MOST_FILE (length source)) _ _ (lt-ltb MOST_FILE (length source) long)
 
 pub long_run_file : LongRunFile

@@ -12,6 +12,7 @@ use Rattle.std.proofs.lemmas.List.FromFn.{get_or-range_with_len}
 use Rattle.std.proofs.lemmas.Slice.Eq.{bytes_eq-Decides}
 use Rattle.def_script.specs.Bytes.{Bytes}
 use Rattle.def_text.specs.Word.{key_of}
+use Rattle.def_sane.specs.declared.Rules.TheVariants.{Policy, Consensus}
 use Rattle.def_answer.specs.Words.{Command, script, check, satisfy, satisfy_malleable, run, gen, policy, plan, decode, words_of, MOST_CHILDREN, IsCommand, IsForm, HasNoForm}
 
 -- the number of 1 to 30 that a word spells
@@ -23,17 +24,32 @@ one_word first = if bytes_eq first (codes "run") then Some run else None
 
 abbrev pub two_words : (first second : Bytes) → Option Command
 two_words first second =
-    if bytes_eq first (codes "script") then Some (script second)
-    else if bytes_eq first (codes "check") then Some (check second)
-    else if bytes_eq first (codes "satisfy") then Some (satisfy second)
+    if bytes_eq first (codes "script") then Some (script Policy second)
+    else if bytes_eq first (codes "check") then Some (check Policy second)
+    else if bytes_eq first (codes "satisfy") then Some (satisfy Policy second)
     else if bytes_eq first (codes "gen") then option_map gen (children_of second)
     else if bytes_eq first (codes "policy") then Some (policy second)
     else if bytes_eq first (codes "plan") then Some (plan second)
     else None
 
+abbrev pub consensus_words : (first text : Bytes) → Option Command
+consensus_words first text =
+    if bytes_eq first (codes "script") then Some (script Consensus text)
+    else if bytes_eq first (codes "check") then Some (check Consensus text)
+    else if bytes_eq first (codes "satisfy") then Some (satisfy Consensus text)
+    else None
+
 abbrev pub three_words : (first second third : Bytes) → Option Command
 three_words first second third =
-    if bytes_eq first (codes "satisfy") && bytes_eq second (codes "--malleable") then Some (satisfy_malleable third) else None
+    if bytes_eq first (codes "satisfy") && bytes_eq second (codes "--malleable") then Some (satisfy_malleable Policy third)
+    else if bytes_eq second (codes "--consensus") then consensus_words first third
+    else None
+
+abbrev pub four_words : (first second third fourth : Bytes) → Option Command
+four_words first second third fourth =
+    if bytes_eq first (codes "satisfy") && (bytes_eq second (codes "--malleable") && bytes_eq third (codes "--consensus")) then
+    Some (satisfy_malleable Consensus fourth)
+    else None
 
 abbrev pub are_script_and_keys : (digits : Bytes) → (keys : List Bytes) → Bool
 are_script_and_keys digits keys = ((length digits % 2 == 0) && list_all is_hex_digit digits) && list_all (λ word. is_some (key_of word)) keys
@@ -44,7 +60,8 @@ decode_words digits keys = if are_script_and_keys digits keys then Some (decode 
 abbrev pub several_words : (first second : Bytes) → (more : List Bytes) → Option Command
 several_words first second [] = two_words first second
 several_words first second (third ∷ []) = three_words first second third
-several_words first second (third ∷ fourth ∷ more) = None
+several_words first second (third ∷ fourth ∷ []) = four_words first second third fourth
+several_words first second (third ∷ fourth ∷ fifth ∷ more) = None
 
 abbrev pub command_of : List Bytes → Option Command
 command_of [] = None
@@ -89,10 +106,14 @@ children_found n some few =
     found_is (children_of (decimal n)) n (subst (λ m. found_number (children_of (decimal m)) m ≡ true) here at)
 
 pub command_found : (command : Command) → IsCommand command → command_of (words_of command) ≡ Some command
-command_found (script text) h = refl
-command_found (check text) h = refl
-command_found (satisfy text) h = refl
-command_found (satisfy_malleable text) h = refl
+command_found (script Policy text) h = refl
+command_found (script Consensus text) h = refl
+command_found (check Policy text) h = refl
+command_found (check Consensus text) h = refl
+command_found (satisfy Policy text) h = refl
+command_found (satisfy Consensus text) h = refl
+command_found (satisfy_malleable Policy text) h = refl
+command_found (satisfy_malleable Consensus text) h = refl
 command_found run h = refl
 command_found (gen n) h = ap (option_map gen) (children_found n h.0 h.1)
 command_found (policy text) h = refl
@@ -147,11 +168,11 @@ gen_form first second (Some n) c found e h =
 two_form : (first second : Bytes) (c : Command) → two_words first second ≡ Some c → IsForm (first ∷ second ∷ []) c
 two_form first second c e =
     elim (if_some (bytes_eq first (codes "script")) _ _ c e) [
-      | inl h ↦ same_form _ (script second) c (pair_is first second (codes "script") (is_word first (codes "script") h.0)) tt h.1
+      | inl h ↦ same_form _ (script Policy second) c (pair_is first second (codes "script") (is_word first (codes "script") h.0)) tt h.1
       | inr h ↦ elim (if_some (bytes_eq first (codes "check")) _ _ c h.1) [
-        | inl h ↦ same_form _ (check second) c (pair_is first second (codes "check") (is_word first (codes "check") h.0)) tt h.1
+        | inl h ↦ same_form _ (check Policy second) c (pair_is first second (codes "check") (is_word first (codes "check") h.0)) tt h.1
         | inr h ↦ elim (if_some (bytes_eq first (codes "satisfy")) _ _ c h.1) [
-          | inl h ↦ same_form _ (satisfy second) c (pair_is first second (codes "satisfy") (is_word first (codes "satisfy") h.0)) tt h.1
+          | inl h ↦ same_form _ (satisfy Policy second) c (pair_is first second (codes "satisfy") (is_word first (codes "satisfy") h.0)) tt h.1
           | inr h ↦ elim (if_some (bytes_eq first (codes "gen")) _ _ c h.1) [
             | inl h ↦ gen_form first second (children_of second) c refl (is_word first (codes "gen") h.0) h.1
             | inr h ↦ elim (if_some (bytes_eq first (codes "policy")) _ _ c h.1) [
@@ -173,22 +194,58 @@ one_form first c e =
       | inr h ↦ cc h.1
     ]
 
+consensus_is : (first second third wanted : Bytes) → first ≡ wanted → second ≡ codes "--consensus" →
+    (first ∷ second ∷ third ∷ []) ≡ (wanted ∷ codes "--consensus" ∷ third ∷ [])
+consensus_is first second third wanted e f = ap (λ w. w ∷ second ∷ third ∷ []) e ∙ ap (λ w. wanted ∷ w ∷ third ∷ []) f
+
+consensus_form : (first second third : Bytes) (c : Command) → second ≡ codes "--consensus" → consensus_words first third ≡ Some c →
+    IsForm (first ∷ second ∷ third ∷ []) c
+consensus_form first second third c is e =
+    elim (if_some (bytes_eq first (codes "script")) _ _ c e) [
+      | inl h ↦ same_form _ (script Consensus third) c (consensus_is first second third (codes "script") (is_word first (codes "script") h.0) is) tt h.1
+      | inr h ↦ elim (if_some (bytes_eq first (codes "check")) _ _ c h.1) [
+        | inl h ↦ same_form _ (check Consensus third) c (consensus_is first second third (codes "check") (is_word first (codes "check") h.0) is) tt h.1
+        | inr h ↦ elim (if_some (bytes_eq first (codes "satisfy")) _ _ c h.1) [
+          | inl h ↦ same_form _ (satisfy Consensus third) c (consensus_is first second third (codes "satisfy") (is_word first (codes "satisfy") h.0) is) tt h.1
+          | inr h ↦ cc h.1
+        ]
+      ]
+    ]
+
 three_form : (first second third : Bytes) (c : Command) → three_words first second third ≡ Some c → IsForm (first ∷ second
     ∷ third ∷ []) c
 three_form first second third c e =
     elim (if_some (bytes_eq first (codes "satisfy") && bytes_eq second (codes "--malleable")) _ _ c e) [
       | inl h ↦
           let both = both_true (bytes_eq first (codes "satisfy")) (bytes_eq second (codes "--malleable")) h.0 in
-          same_form _ (satisfy_malleable third) c
+          same_form _ (satisfy_malleable Policy third) c
           (ap (λ w. w ∷ second ∷ third ∷ []) (is_word first (codes "satisfy") both.0) ∙ ap (λ w. codes "satisfy" ∷ w ∷ third
           ∷ []) (is_word second (codes "--malleable") both.1)) tt h.1
+      | inr h ↦ elim (if_some (bytes_eq second (codes "--consensus")) _ _ c h.1) [
+        | inl h ↦ consensus_form first second third c (is_word second (codes "--consensus") h.0) h.1
+        | inr h ↦ cc h.1
+      ]
+    ]
+
+four_form : (first second third fourth : Bytes) (c : Command) → four_words first second third fourth ≡ Some c →
+    IsForm (first ∷ second ∷ third ∷ fourth ∷ []) c
+four_form first second third fourth c e =
+    elim (if_some (bytes_eq first (codes "satisfy") && (bytes_eq second (codes "--malleable") && bytes_eq third (codes "--consensus"))) _ _ c e) [
+      | inl h ↦
+          let both = both_true (bytes_eq first (codes "satisfy")) _ h.0 in
+          let more = both_true (bytes_eq second (codes "--malleable")) (bytes_eq third (codes "--consensus")) both.1 in
+          same_form _ (satisfy_malleable Consensus fourth) c
+          (ap (λ w. w ∷ second ∷ third ∷ fourth ∷ []) (is_word first (codes "satisfy") both.0)
+          ∙ ap (λ w. codes "satisfy" ∷ w ∷ third ∷ fourth ∷ []) (is_word second (codes "--malleable") more.0)
+          ∙ ap (λ w. codes "satisfy" ∷ codes "--malleable" ∷ w ∷ fourth ∷ []) (is_word third (codes "--consensus") more.1)) tt h.1
       | inr h ↦ cc h.1
     ]
 
 several_form : (first second : Bytes) (more : List Bytes) (c : Command) → several_words first second more ≡ Some c → IsForm (first ∷ second ∷ more) c
 several_form first second [] c e = two_form first second c e
 several_form first second (third ∷ []) c e = three_form first second third c e
-several_form first second (third ∷ fourth ∷ more) c e = cc e
+several_form first second (third ∷ fourth ∷ []) c e = four_form first second third fourth c e
+several_form first second (third ∷ fourth ∷ fifth ∷ more) c e = cc e
 
 decode_form : (first second : Bytes) (more : List Bytes) (c : Command) → first ≡ codes "decode" → decode_words second more ≡ Some c
     → IsForm (first ∷ second ∷ more) c

@@ -15,6 +15,7 @@ pub mod SatisfyRows
 pub mod RunRows
 pub mod GenRows
 pub mod SourceRows
+mod ConsensusRows
 pub mod UpTo
 pub mod GeneratedRead
 pub mod GeneratedHeld

@@ -2,6 +2,7 @@
 use Rattle.std.proofs.Common.{refl}
 use Rattle.def_machine.specs.Samples.{key_a}
 use Rattle.def_types.specs.Samples.{pk}
+use Rattle.def_sane.specs.declared.Rules.TheVariants.{Policy}
 use Rattle.def_choice.specs.Strict.{strict}
 use Rattle.def_answer.specs.SatisfyExamples.{TwoOfThree, LateKey, TooEarly, VoidLock, TimeLock, NoTime, StrictThreshold, CheapestThreshold, StrictEither, CheapestEither, LockInThreshold, LockTooEarly, SignaturesForLock, ZerosAsPreimage, ZerosUnknown, TextsFirst, ZeroHasNone, RefusedFiles, FileTooLong}
 use Rattle.def_answer.proofs.Answered.{answered}
@@ -83,4 +84,4 @@ refused_files =
 
 pub file_too_long : FileTooLong
 unfolding answers_on_literals
-file_too_long = λ source long. answered refl (long_asset_file strict source (pk key_a) long)
+file_too_long = λ source long. answered refl (long_asset_file Policy strict source (pk key_a) long)

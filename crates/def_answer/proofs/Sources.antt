@@ -8,7 +8,7 @@ use Rattle.def_script.specs.Bytes.{Bytes}
 use Rattle.def_tree.specs.Tree.{Tree}
 use Rattle.def_text.proofs.Completion.{ascii_is_utf8}
 use Rattle.def_sane.specs.declared.Unfit.{Unfit}
-use Rattle.def_sane.specs.Unfit.{first_unfit, first_unfit_valid}
+use Rattle.def_sane.specs.Unfit.{first_unfit, first_unfit_under, first_unfit_valid_under}
 use Rattle.def_choice.specs.Cheapest.{cheapest}
 use Rattle.def_choice.specs.Strict.{strict}
 use Rattle.def_answer.specs.declared.status.Status.{Status}
@@ -55,12 +55,12 @@ text_without text reason f g r never h = (h.0, h.1, h.2 ∙ same_without text re
 -- ---- replies without the source
 
 reply_without : (c : Command) (source other : Bytes) (r : Reply) → ¬ NeedsSource c → Replies c source r → Replies c other r
-reply_without (script text) source other r never h = h
-reply_without (check text) source other r never h = h
-reply_without (satisfy text) source other r never h =
-    text_without text first_unfit (satisfy_reply strict source) (satisfy_reply strict other) r never h
-reply_without (satisfy_malleable text) source other r never h =
-    text_without text first_unfit_valid (satisfy_reply cheapest source) (satisfy_reply cheapest other) r never h
+reply_without (script rules text) source other r never h = h
+reply_without (check rules text) source other r never h = h
+reply_without (satisfy rules text) source other r never h =
+    text_without text (first_unfit_under rules) (satisfy_reply rules strict source) (satisfy_reply rules strict other) r never h
+reply_without (satisfy_malleable rules text) source other r never h =
+    text_without text (first_unfit_valid_under rules) (satisfy_reply rules cheapest source) (satisfy_reply rules cheapest other) r never h
 reply_without run source other r never h = absurd (never tt)
 reply_without (gen n) source other r never h = h
 reply_without (policy text) source other r never h = h
@@ -88,13 +88,13 @@ refused_other text reason next r never h =
 
 other_status : (c : Command) (source : Bytes) (r : Reply) → ¬ NeedsSource c → Replies c source r → OfStatus IsOther r
 unfolding gen_reply
-other_status (script text) source r never h =
-    subst (OfStatus IsOther) (sym h.2) (other_text first_unfit_valid script_reply h.0 (λ tree s. s))
-other_status (check text) source r never h =
-    subst (OfStatus IsOther) (sym h.2) (other_text first_unfit check_reply h.0 (λ tree s. s))
-other_status (satisfy text) source r never h = refused_other text first_unfit (satisfy_reply strict source) r never h
-other_status (satisfy_malleable text) source r never h =
-    refused_other text first_unfit_valid (satisfy_reply cheapest source) r never h
+other_status (script rules text) source r never h =
+    subst (OfStatus IsOther) (sym h.2) (other_text (first_unfit_valid_under rules) script_reply h.0 (λ tree s. s))
+other_status (check rules text) source r never h =
+    subst (OfStatus IsOther) (sym h.2) (other_text (first_unfit_under rules) (check_reply rules) h.0 (λ tree s. s))
+other_status (satisfy rules text) source r never h = refused_other text (first_unfit_under rules) (satisfy_reply rules strict source) r never h
+other_status (satisfy_malleable rules text) source r never h =
+    refused_other text (first_unfit_valid_under rules) (satisfy_reply rules cheapest source) r never h
 other_status run source r never h = absurd (never tt)
 other_status (gen n) source r never h = subst (OfStatus IsOther) (sym h) (λ s. s)
 other_status (policy text) source r never h =
@@ -132,14 +132,14 @@ passed_text text reason next r utf8 passes h =
 
 file_status : (c : Command) (source : Bytes) (r : Reply) → OnText IsUtf8 c → NeedsSource c → Replies c source r →
     OfStatus IsToFile r
-file_status (script text) source r utf8 needs h = absurd needs
-file_status (check text) source r utf8 needs h = absurd needs
-file_status (satisfy text) source r utf8 needs h =
-    subst (OfStatus IsToFile) (sym (passed_text text first_unfit (satisfy_reply strict source) r utf8 needs h))
-    (satisfy_status IsToFile strict source needs.0 tt tt tt)
-file_status (satisfy_malleable text) source r utf8 needs h =
-    subst (OfStatus IsToFile) (sym (passed_text text first_unfit_valid (satisfy_reply cheapest source) r utf8 needs h))
-    (satisfy_status IsToFile cheapest source needs.0 tt tt tt)
+file_status (script rules text) source r utf8 needs h = absurd needs
+file_status (check rules text) source r utf8 needs h = absurd needs
+file_status (satisfy rules text) source r utf8 needs h =
+    subst (OfStatus IsToFile) (sym (passed_text text (first_unfit_under rules) (satisfy_reply rules strict source) r utf8 needs h))
+    (satisfy_status IsToFile rules strict source needs.0 tt tt tt)
+file_status (satisfy_malleable rules text) source r utf8 needs h =
+    subst (OfStatus IsToFile) (sym (passed_text text (first_unfit_valid_under rules) (satisfy_reply rules cheapest source) r utf8 needs h))
+    (satisfy_status IsToFile rules cheapest source needs.0 tt tt tt)
 file_status run source r utf8 needs h = subst (OfStatus IsToFile) (sym h) (run_status IsToFile source tt tt tt)
 file_status (gen n) source r utf8 needs h = absurd needs
 file_status (policy text) source r utf8 needs h = absurd needs
@@ -151,14 +151,14 @@ file_status (decode digits keys) source r utf8 needs h = absurd needs
 -- a file that is too long is refused, whatever it says
 pub long_file : (c : Command) (source : Bytes) (r : Reply) → OnText IsUtf8 c → NeedsSource c → MOST_FILE < length source →
     Replies c source r → r.status ≡ status.FileRefused
-long_file (script text) source r utf8 needs long h = absurd needs
-long_file (check text) source r utf8 needs long h = absurd needs
-long_file (satisfy text) source r utf8 needs long h =
+long_file (script rules text) source r utf8 needs long h = absurd needs
+long_file (check rules text) source r utf8 needs long h = absurd needs
+long_file (satisfy rules text) source r utf8 needs long h =
     ap (λ (r : Reply). r.status)
-    (passed_text text first_unfit (satisfy_reply strict source) r utf8 needs h ∙ long_asset_file strict source needs.0 long)
-long_file (satisfy_malleable text) source r utf8 needs long h =
+    (passed_text text (first_unfit_under rules) (satisfy_reply rules strict source) r utf8 needs h ∙ long_asset_file rules strict source needs.0 long)
+long_file (satisfy_malleable rules text) source r utf8 needs long h =
     ap (λ (r : Reply). r.status)
-    (passed_text text first_unfit_valid (satisfy_reply cheapest source) r utf8 needs h ∙ long_asset_file cheapest source needs.0 long)
+    (passed_text text (first_unfit_valid_under rules) (satisfy_reply rules cheapest source) r utf8 needs h ∙ long_asset_file rules cheapest source needs.0 long)
 long_file run source r utf8 needs long h = ap (λ (r : Reply). r.status) (h ∙ long_run_file source long)
 long_file (gen n) source r utf8 needs long h = absurd needs
 long_file (policy text) source r utf8 needs long h = absurd needs

@@ -6,8 +6,9 @@ use Rattle.def_tree.specs.Tree.{Key, Tree}
 use Rattle.def_text.proofs.Complete.{one_tree}
 use Rattle.def_text.proofs.OneAnswer.{one_refusal, none_beside_tree}
 use Rattle.ms_decode_laws.proofs.Decoding.{one_is_decoded}
+use Rattle.def_sane.specs.declared.Rules.TheVariants.{Policy, Consensus}
 use Rattle.def_sane.specs.declared.Unfit.{Unfit}
-use Rattle.def_sane.specs.Unfit.{first_unfit, first_unfit_valid}
+use Rattle.def_sane.specs.Unfit.{first_unfit, first_unfit_under, first_unfit_valid_under}
 use Rattle.def_choice.specs.Cheapest.{cheapest}
 use Rattle.def_choice.specs.Strict.{strict}
 use Rattle.def_answer.specs.Words.{Command, script, check, satisfy, satisfy_malleable, run, gen, policy, plan, decode, words_of, IsForm, HasNoForm}
@@ -32,10 +33,14 @@ form_or_none words = go (command_of words) refl
 
 -- the text of a command is one of its words
 text_of_words : (P : Bytes → Type 0) (c : Command) → All P (words_of c) → OnText P c
-text_of_words P (script text) h = h 1 [] (omega arith)
-text_of_words P (check text) h = h 1 [] (omega arith)
-text_of_words P (satisfy text) h = h 1 [] (omega arith)
-text_of_words P (satisfy_malleable text) h = h 2 [] (omega arith)
+text_of_words P (script Policy text) h = h 1 [] (omega arith)
+text_of_words P (script Consensus text) h = h 2 [] (omega arith)
+text_of_words P (check Policy text) h = h 1 [] (omega arith)
+text_of_words P (check Consensus text) h = h 2 [] (omega arith)
+text_of_words P (satisfy Policy text) h = h 1 [] (omega arith)
+text_of_words P (satisfy Consensus text) h = h 2 [] (omega arith)
+text_of_words P (satisfy_malleable Policy text) h = h 2 [] (omega arith)
+text_of_words P (satisfy_malleable Consensus text) h = h 3 [] (omega arith)
 text_of_words P run h = tt
 text_of_words P (gen n) h = tt
 text_of_words P (policy text) h = h 1 [] (omega arith)
@@ -67,11 +72,11 @@ one_script_reply keys bytes a b (inr h) (inl k) = absurd (h.0 k.0 k.1.reading)
 one_script_reply keys bytes a b (inr h) (inr k) = h.1 ∙ sym k.1
 
 pub one_reply : (c : Command) (source : Bytes) (a b : Reply) → OnText IsUtf8 c → Replies c source a → Replies c source b → a ≡ b
-one_reply (script text) source a b utf8 h k = one_text_reply text first_unfit_valid script_reply a b utf8 h k
-one_reply (check text) source a b utf8 h k = one_text_reply text first_unfit check_reply a b utf8 h k
-one_reply (satisfy text) source a b utf8 h k = one_text_reply text first_unfit (satisfy_reply strict source) a b utf8 h k
-one_reply (satisfy_malleable text) source a b utf8 h k =
-    one_text_reply text first_unfit_valid (satisfy_reply cheapest source) a b utf8 h k
+one_reply (script rules text) source a b utf8 h k = one_text_reply text (first_unfit_valid_under rules) script_reply a b utf8 h k
+one_reply (check rules text) source a b utf8 h k = one_text_reply text (first_unfit_under rules) (check_reply rules) a b utf8 h k
+one_reply (satisfy rules text) source a b utf8 h k = one_text_reply text (first_unfit_under rules) (satisfy_reply rules strict source) a b utf8 h k
+one_reply (satisfy_malleable rules text) source a b utf8 h k =
+    one_text_reply text (first_unfit_valid_under rules) (satisfy_reply rules cheapest source) a b utf8 h k
 one_reply run source a b utf8 h k = h ∙ sym k
 one_reply (gen n) source a b utf8 h k = h ∙ sym k
 one_reply (policy text) source a b utf8 h k = one_text_reply text first_unfit policy_reply a b utf8 h k

@@ -5,9 +5,10 @@ use Rattle.std.specs.Result.{result_unwrap_or}
 use Rattle.hex.specs.Hex.{decode_of}
 use Rattle.def_script.specs.Bytes.{Bytes}
 use Rattle.def_tree.specs.Tree.{Key, Tree}
+use Rattle.def_sane.specs.declared.Rules.{Rules}
 use Rattle.def_sane.specs.declared.Unfit.{Unfit}
 use Rattle.def_sane.specs.Most.{limits_of}
-use Rattle.def_sane.specs.Unfit.{first_unfit, first_unfit_valid}
+use Rattle.def_sane.specs.Unfit.{first_unfit, first_unfit_under, first_unfit_valid_under}
 use Rattle.def_choice.specs.Cheapest.{cheapest}
 use Rattle.def_choice.specs.Strict.{strict}
 use Rattle.def_decode.specs.Decoded.{IsReading, IsDecoded}
@@ -37,8 +38,8 @@ gen_reply n =
 abbrev pub script_reply : Tree → Reply
 script_reply tree = reply status.Done (script_report tree)
 
-abbrev pub check_reply : Tree → Reply
-check_reply tree = reply status.Done (check_report tree)
+abbrev pub check_reply : Rules → Tree → Reply
+check_reply rules tree = reply status.Done (check_report rules tree)
 
 abbrev pub policy_reply : Tree → Reply
 policy_reply tree = reply status.Done (policy_report tree)
@@ -67,10 +68,10 @@ RepliesToText text first_reason next r =
 
 -- the reply to a command
 abbrev pub Replies : Command → (source : Bytes) → Reply → Type 0
-Replies (script text) source r = RepliesToText text first_unfit_valid script_reply r
-Replies (check text) source r = RepliesToText text first_unfit check_reply r
-Replies (satisfy text) source r = RepliesToText text first_unfit (satisfy_reply strict source) r
-Replies (satisfy_malleable text) source r = RepliesToText text first_unfit_valid (satisfy_reply cheapest source) r
+Replies (script rules text) source r = RepliesToText text (first_unfit_valid_under rules) script_reply r
+Replies (check rules text) source r = RepliesToText text (first_unfit_under rules) (check_reply rules) r
+Replies (satisfy rules text) source r = RepliesToText text (first_unfit_under rules) (satisfy_reply rules strict source) r
+Replies (satisfy_malleable rules text) source r = RepliesToText text (first_unfit_valid_under rules) (satisfy_reply rules cheapest source) r
 Replies run source r = r ≡ run_reply source
 Replies (gen n) source r = r ≡ gen_reply n
 Replies (policy text) source r = RepliesToText text first_unfit policy_reply r

@@ -4,6 +4,7 @@ use Rattle.def_script.specs.Bytes.{Bytes}
 use Rattle.def_tree.specs.Tree.{Tree}
 use Rattle.def_assets.specs.Assets.{Assets, AreAssets}
 use Rattle.def_text.specs.Refusal.{TextReads}
+use Rattle.def_sane.specs.declared.Rules.{Rules}
 use Rattle.def_sane.specs.Unfit.{IsSane}
 use Rattle.def_policy.specs.Policy.{Policy}
 use Rattle.def_policy.specs.Keys.{AreLeastKeys}
@@ -86,8 +87,8 @@ StatusWithSource =
 -- a file that is too long is refused, whatever it says
 abbrev pub LongAssetFile : Type 0
 LongAssetFile =
-    (choice : Tree → Assets → Option (List Bytes)) (source : Bytes) (tree : Tree) → MOST_FILE < length source →
-    satisfy_reply choice source tree ≡ reply status.FileRefused file_too_long_line
+    (rules : Rules) (choice : Tree → Assets → Option (List Bytes)) (source : Bytes) (tree : Tree) → MOST_FILE < length source →
+    satisfy_reply rules choice source tree ≡ reply status.FileRefused file_too_long_line
 
 abbrev pub LongRunFile : Type 0
 LongRunFile =

@@ -19,3 +19,4 @@ pub mod SatisfyExamples
 pub mod RunExamples
 pub mod GenExamples
 pub mod SourceExamples
+pub mod ConsensusExamples

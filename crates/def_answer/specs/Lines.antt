@@ -7,6 +7,8 @@ use Rattle.def_machine.specs.declared.ScriptFault.{ScriptFault}
 use Rattle.def_text.specs.declared.TextFault.{TextFault}
 use Rattle.def_text.specs.declared.TextFault.TheVariants as text_fault
 use Rattle.def_sane.specs.declared.Limits.{Limits}
+use Rattle.def_sane.specs.declared.Rules.{Rules}
+use Rattle.def_sane.specs.declared.Rules.TheVariants.{Policy, Consensus}
 use Rattle.def_sane.specs.declared.Unfit.{Unfit}
 use Rattle.def_sane.specs.declared.Unfit.TheVariants as unfit
 use Rattle.def_files.specs.declared.AssetFault.{AssetFault}
@@ -30,10 +32,18 @@ script_line script = line (codes "script " ++ encode_lower script)
 abbrev pub program_line : (script : Bytes) → Bytes
 program_line script = line (codes "program " ++ encode_lower (program_of script))
 
+abbrev pub limits_text : Limits → Bytes
+limits_text limits =
+    codes "limits size " ++ decimal limits.size ++ codes " ops " ++ decimal limits.ops
+    ++ codes " items " ++ decimal limits.items ++ codes " weight " ++ decimal limits.weight
+
 abbrev pub limits_line : Limits → Bytes
-limits_line limits =
-    line (codes "limits size " ++ decimal limits.size ++ codes " ops " ++ decimal limits.ops
-    ++ codes " items " ++ decimal limits.items ++ codes " weight " ++ decimal limits.weight)
+limits_line limits = line (limits_text limits)
+
+-- under consensus the height is told too, since nothing else bounds the items
+abbrev pub limits_line_under : Rules → Limits → (height : ℕ) → Bytes
+limits_line_under Policy limits height = limits_line limits
+limits_line_under Consensus limits height = line (limits_text limits ++ codes " height " ++ decimal height)
 
 -- ---- refusals
 

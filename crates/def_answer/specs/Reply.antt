@@ -4,6 +4,7 @@ use Rattle.def_script.specs.Bytes.{Bytes}
 use Rattle.def_machine.specs.Run.{Outcome, accepted, refused, run}
 use Rattle.def_tree.specs.Tree.{Tree}
 use Rattle.def_assets.specs.Assets.{Assets}
+use Rattle.def_sane.specs.declared.Rules.{Rules}
 use Rattle.def_sane.specs.declared.Unfit.{Unfit}
 use Rattle.def_files.specs.AssetFile.{assets_of}
 use Rattle.def_files.specs.RunFile.{run_of}
@@ -59,13 +60,13 @@ file_reply line file_of next source =
 -- ---- satisfactions and runs
 
 -- the stack that was chosen, if there is one
-abbrev pub chosen_reply : Tree → Assets → Option (List Bytes) → Reply
-chosen_reply tree assets None = reply status.NoSatisfaction no_satisfaction_line
-chosen_reply tree assets (Some stack) = reply status.Done (satisfy_report tree assets stack)
+abbrev pub chosen_reply : Rules → Tree → Assets → Option (List Bytes) → Reply
+chosen_reply rules tree assets None = reply status.NoSatisfaction no_satisfaction_line
+chosen_reply rules tree assets (Some stack) = reply status.Done (satisfy_report rules tree assets stack)
 
-abbrev pub satisfy_reply : (choice : Tree → Assets → Option (List Bytes)) → (source : Bytes) → Tree → Reply
-satisfy_reply choice source tree =
-    file_reply file_line assets_of (λ assets. chosen_reply tree assets (choice tree assets)) source
+abbrev pub satisfy_reply : Rules → (choice : Tree → Assets → Option (List Bytes)) → (source : Bytes) → Tree → Reply
+satisfy_reply rules choice source tree =
+    file_reply file_line assets_of (λ assets. chosen_reply rules tree assets (choice tree assets)) source
 
 abbrev pub outcome_reply : Outcome → Reply
 outcome_reply (accepted ops peak checks) = reply status.Done (run_report (accepted ops peak checks))

@@ -11,7 +11,9 @@ use Rattle.def_types.specs.declared.Mall.{Mall}
 use Rattle.def_types.specs.Typed.{type_of, mall_of}
 use Rattle.def_emit.specs.Emit.{script_of}
 use Rattle.def_assets.specs.Assets.{Assets}
+use Rattle.def_sane.specs.declared.Rules.{Rules}
 use Rattle.def_sane.specs.Most.{limits_of}
+use Rattle.def_height.specs.Highest.{height_of}
 use Rattle.def_satisfaction.specs.Satisfaction.{given_of}
 use Rattle.def_satisfaction.specs.Weight.{weight}
 use Rattle.def_policy.specs.Policy.{Policy}
@@ -21,7 +23,7 @@ use Rattle.def_policy.specs.Print.{printed as printed_policy}
 use Rattle.def_plan.specs.Plan.{Plan}
 use Rattle.def_answer.specs.Names.{base_letter}
 use Rattle.def_answer.specs.LeastKeys.{least_keys}
-use Rattle.def_answer.specs.Lines.{line, script_line, program_line, limits_line, script_refused_line}
+use Rattle.def_answer.specs.Lines.{line, script_line, program_line, limits_line_under, script_refused_line}
 
 -- ---- script
 
@@ -41,13 +43,17 @@ type_letters ty mall =
     ++ letter ty.d (codes "d")
     ++ letter ty.u (codes "u") ++ letter mall.s (codes "s") ++ letter mall.f (codes "f") ++ letter mall.e (codes "e")
 
-unfoldable pub check_report : Tree → Bytes
-check_report tree =
+-- the limits of a tree
+abbrev pub tree_limits_line : Rules → Tree → Bytes
+tree_limits_line rules tree = limits_line_under rules (limits_of tree) (height_of tree)
+
+unfoldable pub check_report : Rules → Tree → Bytes
+check_report rules tree =
     line (codes "text " ++ printed tree)
     ++ line (codes "type " ++ type_letters (type_of tree) (mall_of tree))
     ++ script_line (script_of tree)
     ++ program_line (script_of tree)
-    ++ limits_line (limits_of tree)
+    ++ tree_limits_line rules tree
 
 -- ---- satisfy
 
@@ -81,11 +87,11 @@ abbrev pub replay : Tree → Assets → (stack : List Bytes) → Outcome
 replay tree assets stack = run (given_of assets) (script_of tree) stack
 
 -- the stack's items are printed bottom first
-unfoldable pub satisfy_report : Tree → Assets → (stack : List Bytes) → Bytes
-satisfy_report tree assets stack =
+unfoldable pub satisfy_report : Rules → Tree → Assets → (stack : List Bytes) → Bytes
+satisfy_report rules tree assets stack =
     script_line (script_of tree)
     ++ program_line (script_of tree)
-    ++ limits_line (limits_of tree)
+    ++ tree_limits_line rules tree
     ++ flat_map item_line stack
     ++ witness_line stack (script_of tree)
     ++ replay_line stack (replay tree assets stack)

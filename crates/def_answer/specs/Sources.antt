@@ -4,7 +4,7 @@ use Rattle.def_script.specs.Bytes.{Bytes}
 use Rattle.def_tree.specs.Tree.{Tree}
 use Rattle.def_text.specs.Refusal.{TextReads}
 use Rattle.def_sane.specs.declared.Unfit.{Unfit}
-use Rattle.def_sane.specs.Unfit.{first_unfit, first_unfit_valid}
+use Rattle.def_sane.specs.Unfit.{first_unfit, first_unfit_under, first_unfit_valid_under}
 use Rattle.def_answer.specs.declared.status.Status.{Status}
 use Rattle.def_answer.specs.declared.status.Status.TheVariants as status
 use Rattle.def_answer.specs.Words.{Command, script, check, satisfy, satisfy_malleable, run, gen, policy, plan, decode, IsForm}
@@ -16,10 +16,10 @@ Passes first_reason text =
 
 -- the command wants a file, and its text, where it has one, passes
 abbrev pub NeedsSource : Command → Type 0
-NeedsSource (script text) = ⊥
-NeedsSource (check text) = ⊥
-NeedsSource (satisfy text) = Passes first_unfit text
-NeedsSource (satisfy_malleable text) = Passes first_unfit_valid text
+NeedsSource (script rules text) = ⊥
+NeedsSource (check rules text) = ⊥
+NeedsSource (satisfy rules text) = Passes (first_unfit_under rules) text
+NeedsSource (satisfy_malleable rules text) = Passes (first_unfit_valid_under rules) text
 NeedsSource run = ⊤
 NeedsSource (gen n) = ⊥
 NeedsSource (policy text) = ⊥

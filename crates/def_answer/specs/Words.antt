@@ -1,19 +1,21 @@
 -- The forms of words that the program takes. They are exact lists: any other one has no form.
-use Rattle.std.specs.Prelude.{◌≡◌, ℕ, ◌%◌, ◌≤◌, ⊤, List, [], ◌∷◌, length, All, IsSome, codes, decimal}
+use Rattle.std.specs.Prelude.{◌≡◌, ℕ, ◌%◌, ◌≤◌, ⊤, List, [], ◌∷◌, ◌++◌, length, All, IsSome, codes, decimal}
 use Rattle.std.specs.List.{AllPass}
 use Rattle.hex.specs.Hex.{is_hex_digit}
 use Rattle.def_script.specs.Bytes.{Bytes}
 use Rattle.def_text.specs.Word.{key_of}
+use Rattle.def_sane.specs.declared.Rules.{Rules}
+use Rattle.def_sane.specs.declared.Rules.TheVariants.{Policy, Consensus}
 
 pub data Command : Type 0 where
-  -- the Script of a valid text
-  script : (text : Bytes) → Command
-  -- what is known of a sane text
-  check : (text : Bytes) → Command
-  -- the strict satisfaction of a sane text, with an asset file
-  satisfy : (text : Bytes) → Command
-  -- the cheapest satisfaction of a valid text, with an asset file
-  satisfy_malleable : (text : Bytes) → Command
+  -- the Script of a text that is valid under these rules
+  script : (rules : Rules) → (text : Bytes) → Command
+  -- what is known of a text that is sane under these rules
+  check : (rules : Rules) → (text : Bytes) → Command
+  -- the strict satisfaction of a text that is sane under these rules, with an asset file
+  satisfy : (rules : Rules) → (text : Bytes) → Command
+  -- the cheapest satisfaction of a text that is valid under these rules, with an asset file
+  satisfy_malleable : (rules : Rules) → (text : Bytes) → Command
   -- a run of a script on a stack, with a run file
   run : Command
   -- a large text that is made from a number, and its satisfactions
@@ -25,12 +27,17 @@ pub data Command : Type 0 where
   -- the text that a Script is read back as, with the keys that its hashes of keys may have
   decode : (digits : Bytes) → (keys : List Bytes) → Command
 
+-- the rules of consensus are asked for by a word, those of policy by none
+abbrev pub rules_words : Rules → List Bytes
+rules_words Policy = []
+rules_words Consensus = codes "--consensus" ∷ []
+
 -- the words of a command
 abbrev pub words_of : Command → List Bytes
-words_of (script text) = codes "script" ∷ text ∷ []
-words_of (check text) = codes "check" ∷ text ∷ []
-words_of (satisfy text) = codes "satisfy" ∷ text ∷ []
-words_of (satisfy_malleable text) = codes "satisfy" ∷ codes "--malleable" ∷ text ∷ []
+words_of (script rules text) = codes "script" ∷ (rules_words rules ++ text ∷ [])
+words_of (check rules text) = codes "check" ∷ (rules_words rules ++ text ∷ [])
+words_of (satisfy rules text) = codes "satisfy" ∷ (rules_words rules ++ text ∷ [])
+words_of (satisfy_malleable rules text) = codes "satisfy" ∷ codes "--malleable" ∷ (rules_words rules ++ text ∷ [])
 words_of run = codes "run" ∷ []
 words_of (gen n) = codes "gen" ∷ decimal n ∷ []
 words_of (policy text) = codes "policy" ∷ text ∷ []
@@ -47,10 +54,10 @@ IsHex digits = (length digits % 2 ≡ 0) × AllPass is_hex_digit digits
 
 -- the number of `gen` is 1 to 30, and each word after the Script of `decode` spells a key
 abbrev pub IsCommand : Command → Type 0
-IsCommand (script text) = ⊤
-IsCommand (check text) = ⊤
-IsCommand (satisfy text) = ⊤
-IsCommand (satisfy_malleable text) = ⊤
+IsCommand (script rules text) = ⊤
+IsCommand (check rules text) = ⊤
+IsCommand (satisfy rules text) = ⊤
+IsCommand (satisfy_malleable rules text) = ⊤
 IsCommand run = ⊤
 IsCommand (gen n) = (1 ≤ n) × (n ≤ MOST_CHILDREN)
 IsCommand (policy text) = ⊤

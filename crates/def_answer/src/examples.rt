@@ -70,6 +70,15 @@ ghost use Rattle.def_answer.specs.GenExamples.{
   GenOne,
   GenFour,
 };
+ghost use Rattle.def_answer.specs.ConsensusExamples.{
+  ScriptByConsensus,
+  CheckByConsensus,
+  StrictByConsensus,
+  CheapestByConsensus,
+  RefusedByConsensus,
+  TextIsConsensus,
+  NoFormByConsensus,
+};
 ghost use Rattle.def_answer.specs.SourceExamples.{
   WordsThatRead,
   WordsThatDoNot,
@@ -140,6 +149,17 @@ pub fn satisfactions()
     ensures zero_has_none { ZeroHasNone }
     ensures refused_files { RefusedFiles }
     ensures file_too_long { FileTooLong }
+{}
+
+/// Answers to the forms with `--consensus`.
+pub fn consensus()
+    ensures script_by_consensus { ScriptByConsensus }
+    ensures check_by_consensus { CheckByConsensus }
+    ensures strict_by_consensus { StrictByConsensus }
+    ensures cheapest_by_consensus { CheapestByConsensus }
+    ensures refused_by_consensus { RefusedByConsensus }
+    ensures text_is_consensus { TextIsConsensus }
+    ensures no_form_by_consensus { NoFormByConsensus }
 {}
 
 /// Answers to `run`.

@@ -94,10 +94,10 @@ tells_nothing call (inr (inr (inr m))) never = subst (λ s. ¬ IsOfSource s) (sy
 -- ---- the answer is the one
 
 on_text : (command : Command) → HasUtf8 command → OnText IsUtf8 command
-on_text (script text) utf8 = utf8
-on_text (check text) utf8 = utf8
-on_text (satisfy text) utf8 = utf8
-on_text (satisfy_malleable text) utf8 = utf8
+on_text (script rules text) utf8 = utf8
+on_text (check rules text) utf8 = utf8
+on_text (satisfy rules text) utf8 = utf8
+on_text (satisfy_malleable rules text) utf8 = utf8
 on_text run utf8 = tt
 on_text (gen n) utf8 = tt
 on_text (policy text) utf8 = utf8

@@ -37,23 +37,23 @@ record Given (text : Bytes) (tree : Tree) (offsets : List ℕ) (bytes : Bytes) (
 abbrev words : (text : Bytes) → List Bytes
 words text = codes "satisfy" ∷ text ∷ []
 
-form : (text : Bytes) → IsForm (words text) (satisfy text)
+form : (text : Bytes) → IsForm (words text) (satisfy Policy text)
 form text = record { same = refl; in_range = tt }
 
 -- the reply to them
 replied : (text : Bytes) (tree : Tree) (offsets : List ℕ) (bytes : Bytes) (assets : Assets) → Given text tree offsets bytes assets
-    → satisfy_reply strict bytes tree ≡ chosen_reply tree assets (strict tree assets)
-replied text tree offsets bytes assets g = read_reply strict bytes tree assets g.short g.file
+    → satisfy_reply Policy strict bytes tree ≡ chosen_reply Policy tree assets (strict tree assets)
+replied text tree offsets bytes assets g = read_reply Policy strict bytes tree assets g.short g.file
 
 -- is done where a stack is chosen
 done_with : (text : Bytes) (tree : Tree) (offsets : List ℕ) (bytes : Bytes) (assets : Assets) (stack : List Bytes) → Given text tree offsets bytes assets
-    → strict tree assets ≡ Some stack → Answer (words text) bytes status.Done (satisfy_report tree assets stack)
+    → strict tree assets ≡ Some stack → Answer (words text) bytes status.Done (satisfy_report Policy tree assets stack)
 done_with text tree offsets bytes assets stack g is =
-    let whole = ap (λ o. unless_unfit o offsets (satisfy_reply strict bytes tree)) g.sane ∙ replied text tree offsets bytes assets g ∙ ap (chosen_reply tree assets) is in
-    record { replies = inl (satisfy text, form text, (read tree offsets, g.reads, sym whole)) }
+    let whole = ap (λ o. unless_unfit o offsets (satisfy_reply Policy strict bytes tree)) g.sane ∙ replied text tree offsets bytes assets g ∙ ap (chosen_reply Policy tree assets) is in
+    record { replies = inl (satisfy Policy text, form text, (read tree offsets, g.reads, sym whole)) }
 
 -- and there alone
-chosen_of : (tree : Tree) (assets : Assets) (report : Bytes) (o : Option (List Bytes)) → reply status.Done report ≡ chosen_reply tree assets o
+chosen_of : (tree : Tree) (assets : Assets) (report : Bytes) (o : Option (List Bytes)) → reply status.Done report ≡ chosen_reply Policy tree assets o
     → (stack : List Bytes) × (o ≡ Some stack)
 chosen_of tree assets report None e = let other = ap (λ (r : Reply). r.status) e in cc other
 chosen_of tree assets report (Some stack) e = (stack, refl)
@@ -64,11 +64,11 @@ done_by text tree offsets bytes assets report g a = go a.replies
   where
     go : RepliesToWords (words text) bytes (reply status.Done report) → (stack : List Bytes) × (strict tree assets ≡ Some stack)
     go (inl h) =
-        let same = one_form (words text) h.0 (satisfy text) h.1 (form text) in
+        let same = one_form (words text) h.0 (satisfy Policy text) h.1 (form text) in
         let own = subst (λ c. Replies c bytes (reply status.Done report)) same h.2 in
-        let is = passed_text text first_unfit (satisfy_reply strict bytes) (reply status.Done report) g.utf8 (tree, offsets, g.reads, g.sane) own in
+        let is = passed_text text first_unfit (satisfy_reply Policy strict bytes) (reply status.Done report) g.utf8 (tree, offsets, g.reads, g.sane) own in
         chosen_of tree assets report (strict tree assets) (is ∙ replied text tree offsets bytes assets g)
-    go (inr h) = absurd (h.0 (satisfy text) (form text))
+    go (inr h) = absurd (h.0 (satisfy Policy text) (form text))
 
 pub tells_satisfied : TellsSatisfied
 tells_satisfied text tree offsets bytes assets utf8 reads sane short file =
@@ -77,6 +77,6 @@ tells_satisfied text tree offsets bytes assets utf8 reads sane short file =
     let held = (asset_file_gives_assets bytes assets file).held in
     let says = policy_of_sane tree writes sane assets held in
     let exists = strict_exists tree assets writes (sane_under_consensus Policy tree sane) held in (
-      λ true. let found = exists.1 (says.0 true) in (satisfy_report tree assets found.0, done_with text tree offsets bytes assets found.0 g found.1),
+      λ true. let found = exists.1 (says.0 true) in (satisfy_report Policy tree assets found.0, done_with text tree offsets bytes assets found.0 g found.1),
       λ done. says.1 (exists.0 (done_by text tree offsets bytes assets done.0 g done.1)),
     )

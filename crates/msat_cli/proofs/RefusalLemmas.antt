@@ -52,19 +52,19 @@ not_read choice text words form never reads =
 
 replies_fault : (choice : Choice) (text : Bytes) (fault : TextFault) → fault ≢ Memory → TextRefusal text fault
     → Replies (satisfy_by choice text) [] (reply status.TextRefused (text_line fault))
-replies_fault choice.Strict text fault known refusal = (refused fault, (known, refusal), refl)
-replies_fault choice.Cheapest text fault known refusal = (refused fault, (known, refusal), refl)
+replies_fault (choice.Strict rules) text fault known refusal = (refused fault, (known, refusal), refl)
+replies_fault (choice.Cheapest rules) text fault known refusal = (refused fault, (known, refusal), refl)
 
 replies_unfit : (choice : Choice) (text : Bytes) (tree : Tree) (offsets : List ℕ) (unfit : Unfit) → TextReads text tree offsets
     → reason_by choice tree ≡ Some unfit → Replies (satisfy_by choice text) [] (reply status.TextRefused (unfit_line offsets unfit))
-replies_unfit choice.Strict text tree offsets unfit reads is =
-    (read tree offsets, reads, sym (ap (λ o. unless_unfit o offsets (satisfy_reply strict [] tree)) is))
-replies_unfit choice.Cheapest text tree offsets unfit reads is =
-    (read tree offsets, reads, sym (ap (λ o. unless_unfit o offsets (satisfy_reply cheapest [] tree)) is))
+replies_unfit (choice.Strict rules) text tree offsets unfit reads is =
+    (read tree offsets, reads, sym (ap (λ o. unless_unfit o offsets (satisfy_reply rules strict [] tree)) is))
+replies_unfit (choice.Cheapest rules) text tree offsets unfit reads is =
+    (read tree offsets, reads, sym (ap (λ o. unless_unfit o offsets (satisfy_reply rules cheapest [] tree)) is))
 
 utf8_text : (choice : Choice) (text : Bytes) (words : List Bytes) → HaveUtf8 words → IsForm words (satisfy_by choice text) → IsUtf8 text
-utf8_text choice.Strict text words utf8 form = utf8 _ form
-utf8_text choice.Cheapest text words utf8 form = utf8 _ form
+utf8_text (choice.Strict rules) text words utf8 form = utf8 _ form
+utf8_text (choice.Cheapest rules) text words utf8 form = utf8 _ form
 
 pub refuses_other_texts : (call : Call) → HaveUtf8 call.words → Ends call → RefusesOtherTexts call
 refuses_other_texts call utf8 e choice text form = (

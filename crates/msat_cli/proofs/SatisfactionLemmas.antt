@@ -16,8 +16,9 @@ use Rattle.def_files.specs.AssetFile.{assets_of}
 use Rattle.def_files.proofs.Given.{asset_file_gives_assets}
 use Rattle.def_sane.specs.declared.Unfit.{Unfit}
 use Rattle.def_sane.specs.Most.{limits_of}
-use Rattle.def_sane.specs.declared.Rules.TheVariants.{Policy, Consensus}
-use Rattle.def_sane.specs.Unfit.{first_unfit, first_unfit_valid, IsValidUnder, IsSaneUnder}
+use Rattle.def_sane.specs.declared.Rules.{Rules}
+use Rattle.def_sane.specs.declared.Rules.TheVariants.{Consensus}
+use Rattle.def_sane.specs.Unfit.{first_unfit_under, first_unfit_valid_under, IsValidUnder, IsSaneUnder}
 use Rattle.def_sane.proofs.Greatest.{limits_are_computed}
 use Rattle.def_sane.proofs.Meanings.{sane_means_under, valid_under_consensus, sane_under_consensus}
 use Rattle.def_satisfaction.specs.Weight.{weight}
@@ -31,17 +32,17 @@ use Rattle.ms_laws.proofs.Accepted.{canonical_is_accepted}
 use Rattle.ms_laws.proofs.StrictFound.{strict_exists}
 use Rattle.ms_laws.proofs.Unchanged.{strict_is_unchangeable, nothing_to_accept}
 use Rattle.def_answer.specs.Answer.{RepliesToText, Replies, RepliesToWords, Answer}
-use Rattle.def_answer.specs.Lines.{script_line, program_line, limits_line, file_line}
+use Rattle.def_answer.specs.Lines.{script_line, program_line, file_line}
 use Rattle.def_answer.specs.Reading.{read}
 use Rattle.def_answer.specs.Reply.{Reply, reply, unless_unfit, unless_refused, MOST_FILE, chosen_reply, satisfy_reply}
-use Rattle.def_answer.specs.Report.{item_line, witness_line, satisfy_report, replay, replay_line}
+use Rattle.def_answer.specs.Report.{item_line, tree_limits_line, witness_line, satisfy_report, replay, replay_line}
 use Rattle.def_answer.specs.declared.status.Status.{Status}
 use Rattle.def_answer.specs.declared.status.Status.TheVariants as status
 use Rattle.def_answer.proofs.Sources.{passed_text}
 use Rattle.def_answer.proofs.Unique.{one_form}
 use Rattle.msat_cli.specs.declared.words.Choice.{Choice}
 use Rattle.msat_cli.specs.declared.words.Choice.TheVariants as choice
-use Rattle.msat_cli.specs.Steps.{HaveUtf8, satisfy_by, reason_by, chosen_by}
+use Rattle.msat_cli.specs.Steps.{HaveUtf8, satisfy_by, rules_by, reason_by, chosen_by}
 use Rattle.msat_cli.specs.Ends.{Call, HasAnswer, Ends, EndsAs}
 use Rattle.msat_cli.specs.Satisfactions.{IsAsked, Shows, ShowsSuch, IsAcceptedByAll, WeighsLeast, FindsWhereOneExists, ShowsCanonical, Prints, ShowsWitness, ShowsAccepted, ShowsNonMalleable, FindsNothingToAccept, ShowsLightest}
 use Rattle.msat_cli.proofs.EndLemmas.{told_answer, ends_as_answered}
@@ -49,31 +50,31 @@ use Rattle.msat_cli.proofs.EndLemmas.{told_answer, ends_as_answered}
 -- ---- what is asked
 
 writable : (choice : Choice) (call : Call) (tree : Tree) (assets : Assets) → HaveUtf8 call.words → IsAsked choice call tree assets → IsWritable tree
-writable choice.Strict call tree assets utf8 asked = (spelled_in_range asked.text tree asked.offsets (utf8 _ asked.form) asked.reads).writable
-writable choice.Cheapest call tree assets utf8 asked = (spelled_in_range asked.text tree asked.offsets (utf8 _ asked.form) asked.reads).writable
+writable (choice.Strict rules) call tree assets utf8 asked = (spelled_in_range asked.text tree asked.offsets (utf8 _ asked.form) asked.reads).writable
+writable (choice.Cheapest rules) call tree assets utf8 asked = (spelled_in_range asked.text tree asked.offsets (utf8 _ asked.form) asked.reads).writable
 
 are_held : {choice : Choice} {call : Call} {tree : Tree} {assets : Assets} → IsAsked choice call tree assets → AreAssets assets
 are_held asked = (asset_file_gives_assets _ _ asked.file).held
 
--- what is sane or valid by policy is so by consensus
-pub is_sane : (tree : Tree) → reason_by choice.Strict tree ≡ None → IsSaneUnder Consensus tree
-is_sane = sane_under_consensus Policy
+-- what is sane or valid by any rules is so by consensus
+pub is_sane : (rules : Rules) (tree : Tree) → reason_by (choice.Strict rules) tree ≡ None → IsSaneUnder Consensus tree
+is_sane = sane_under_consensus
 
 pub is_valid : (choice : Choice) (tree : Tree) → reason_by choice tree ≡ None → IsValidUnder Consensus tree
-is_valid choice.Strict tree sane = ((sane_means_under Consensus tree).0 (is_sane tree sane)).0
-is_valid choice.Cheapest tree valid = valid_under_consensus Policy tree valid
+is_valid (choice.Strict rules) tree sane = ((sane_means_under Consensus tree).0 (is_sane rules tree sane)).0
+is_valid (choice.Cheapest rules) tree valid = valid_under_consensus rules tree valid
 
 -- ---- the stack that is chosen
 
 chosen_is_canonical : (choice : Choice) (tree : Tree) (assets : Assets) (stack : List Bytes) → IsWritable tree → AreAssets assets
     → chosen_by choice tree assets ≡ Some stack → Sat tree assets stack
-chosen_is_canonical choice.Strict tree assets stack writes held is = strict_is_canonical tree assets stack writes held is
-chosen_is_canonical choice.Cheapest tree assets stack writes held is = (cheapest_is_lightest tree assets writes held).is stack is
+chosen_is_canonical (choice.Strict rules) tree assets stack writes held is = strict_is_canonical tree assets stack writes held is
+chosen_is_canonical (choice.Cheapest rules) tree assets stack writes held is = (cheapest_is_lightest tree assets writes held).is stack is
 
 chosen_where_some : (choice : Choice) (tree : Tree) (assets : Assets) (stack : List Bytes) → IsWritable tree → reason_by choice tree ≡ None
     → AreAssets assets → Sat tree assets stack → (found : List Bytes) × (chosen_by choice tree assets ≡ Some found)
-chosen_where_some choice.Strict tree assets stack writes sane held sat = (strict_exists tree assets writes (is_sane tree sane) held).1 (stack, sat)
-chosen_where_some choice.Cheapest tree assets stack writes valid held sat =
+chosen_where_some (choice.Strict rules) tree assets stack writes sane held sat = (strict_exists tree assets writes (is_sane rules tree sane) held).1 (stack, sat)
+chosen_where_some (choice.Cheapest rules) tree assets stack writes valid held sat =
     let found = (cheapest_is_lightest tree assets writes held).lightest stack sat in (found.0, found.1)
 
 none_is_chosen : (choice : Choice) (tree : Tree) (assets : Assets) → IsWritable tree → AreAssets assets
@@ -96,63 +97,63 @@ second_of_two true r s e = cc e
 second_of_two false r s e = refl
 
 -- the reply to a short file that is read
-pub read_reply : (choose : Tree → Assets → Option (List Bytes)) (source : Bytes) (tree : Tree) (assets : Assets) → length source ≤ MOST_FILE
-    → assets_of source ≡ Ok assets → satisfy_reply choose source tree ≡ chosen_reply tree assets (choose tree assets)
-read_reply choose source tree assets short file =
+pub read_reply : (rules : Rules) (choose : Tree → Assets → Option (List Bytes)) (source : Bytes) (tree : Tree) (assets : Assets) → length source ≤ MOST_FILE
+    → assets_of source ≡ Ok assets → satisfy_reply rules choose source tree ≡ chosen_reply rules tree assets (choose tree assets)
+read_reply rules choose source tree assets short file =
     second_of_two (nat_lt MOST_FILE (length source)) _ _ (le-ltb MOST_FILE (length source) short)
-    ∙ ap (unless_refused file_line (λ assets. chosen_reply tree assets (choose tree assets))) file
+    ∙ ap (unless_refused file_line (λ assets. chosen_reply rules tree assets (choose tree assets))) file
 
 -- so it is the one reply to a text that passes
 one_reply : (choice : Choice) (call : Call) (tree : Tree) (assets : Assets) (r : Reply) (asked : IsAsked choice call tree assets) → HaveUtf8 call.words
-    → Replies (satisfy_by choice asked.text) asked.bytes r → r ≡ chosen_reply tree assets (chosen_by choice tree assets)
-one_reply choice.Strict call tree assets r asked utf8 h =
-    passed_text asked.text first_unfit (satisfy_reply strict asked.bytes) r (utf8 _ asked.form) (tree, asked.offsets, asked.reads, asked.fit) h
-    ∙ read_reply strict asked.bytes tree assets asked.short asked.file
-one_reply choice.Cheapest call tree assets r asked utf8 h =
-    passed_text asked.text first_unfit_valid (satisfy_reply cheapest asked.bytes) r (utf8 _ asked.form) (tree, asked.offsets, asked.reads, asked.fit) h
-    ∙ read_reply cheapest asked.bytes tree assets asked.short asked.file
+    → Replies (satisfy_by choice asked.text) asked.bytes r → r ≡ chosen_reply (rules_by choice) tree assets (chosen_by choice tree assets)
+one_reply (choice.Strict rules) call tree assets r asked utf8 h =
+    passed_text asked.text (first_unfit_under rules) (satisfy_reply rules strict asked.bytes) r (utf8 _ asked.form) (tree, asked.offsets, asked.reads, asked.fit) h
+    ∙ read_reply rules strict asked.bytes tree assets asked.short asked.file
+one_reply (choice.Cheapest rules) call tree assets r asked utf8 h =
+    passed_text asked.text (first_unfit_valid_under rules) (satisfy_reply rules cheapest asked.bytes) r (utf8 _ asked.form) (tree, asked.offsets, asked.reads, asked.fit) h
+    ∙ read_reply rules cheapest asked.bytes tree assets asked.short asked.file
 
 one_answer : (choice : Choice) (call : Call) (tree : Tree) (assets : Assets) (s : Status) (report : Bytes) (asked : IsAsked choice call tree assets)
-    → HaveUtf8 call.words → Answer call.words asked.bytes s report → reply s report ≡ chosen_reply tree assets (chosen_by choice tree assets)
+    → HaveUtf8 call.words → Answer call.words asked.bytes s report → reply s report ≡ chosen_reply (rules_by choice) tree assets (chosen_by choice tree assets)
 one_answer choice call tree assets s report asked utf8 a = go a.replies
   where
-    go : RepliesToWords call.words asked.bytes (reply s report) → reply s report ≡ chosen_reply tree assets (chosen_by choice tree assets)
+    go : RepliesToWords call.words asked.bytes (reply s report) → reply s report ≡ chosen_reply (rules_by choice) tree assets (chosen_by choice tree assets)
     go (inl h) =
         let same = one_form call.words h.0 (satisfy_by choice asked.text) h.1 asked.form in
         one_reply choice call tree assets (reply s report) asked utf8 (subst (λ c. Replies c asked.bytes (reply s report)) same h.2)
     go (inr h) = absurd (h.0 (satisfy_by choice asked.text) asked.form)
 
 -- and it is a reply
-some_reply : (reason : Tree → Option Unfit) (choose : Tree → Assets → Option (List Bytes)) (text source : Bytes) (tree : Tree) (offsets : List ℕ)
+some_reply : (rules : Rules) (reason : Tree → Option Unfit) (choose : Tree → Assets → Option (List Bytes)) (text source : Bytes) (tree : Tree) (offsets : List ℕ)
     (assets : Assets) (r : Reply) → TextReads text tree offsets → reason tree ≡ None → length source ≤ MOST_FILE → assets_of source ≡ Ok assets
-    → r ≡ chosen_reply tree assets (choose tree assets) → RepliesToText text reason (satisfy_reply choose source) r
-some_reply reason choose text source tree offsets assets r reads fit short file is = (
+    → r ≡ chosen_reply rules tree assets (choose tree assets) → RepliesToText text reason (satisfy_reply rules choose source) r
+some_reply rules reason choose text source tree offsets assets r reads fit short file is = (
   read tree offsets,
   reads,
-  is ∙ sym (read_reply choose source tree assets short file)
-      ∙ sym (ap (λ o. unless_unfit o offsets (satisfy_reply choose source tree)) fit),
+  is ∙ sym (read_reply rules choose source tree assets short file)
+      ∙ sym (ap (λ o. unless_unfit o offsets (satisfy_reply rules choose source tree)) fit),
 )
 
 asked_reply : (choice : Choice) (call : Call) (tree : Tree) (assets : Assets) (r : Reply) (asked : IsAsked choice call tree assets)
-    → r ≡ chosen_reply tree assets (chosen_by choice tree assets) → Replies (satisfy_by choice asked.text) asked.bytes r
-asked_reply choice.Strict call tree assets r asked is =
-    some_reply first_unfit strict asked.text asked.bytes tree asked.offsets assets r asked.reads asked.fit asked.short asked.file is
-asked_reply choice.Cheapest call tree assets r asked is =
-    some_reply first_unfit_valid cheapest asked.text asked.bytes tree asked.offsets assets r asked.reads asked.fit asked.short asked.file is
+    → r ≡ chosen_reply (rules_by choice) tree assets (chosen_by choice tree assets) → Replies (satisfy_by choice asked.text) asked.bytes r
+asked_reply (choice.Strict rules) call tree assets r asked is =
+    some_reply rules (first_unfit_under rules) strict asked.text asked.bytes tree asked.offsets assets r asked.reads asked.fit asked.short asked.file is
+asked_reply (choice.Cheapest rules) call tree assets r asked is =
+    some_reply rules (first_unfit_valid_under rules) cheapest asked.text asked.bytes tree asked.offsets assets r asked.reads asked.fit asked.short asked.file is
 
 -- so the call ends as the choice tells
 asked_ends : (choice : Choice) (call : Call) (tree : Tree) (assets : Assets) (o : Option (List Bytes)) → HaveUtf8 call.words → Ends call
-    → IsAsked choice call tree assets → chosen_by choice tree assets ≡ o → EndsAs (chosen_reply tree assets o).status call
+    → IsAsked choice call tree assets → chosen_by choice tree assets ≡ o → EndsAs (chosen_reply (rules_by choice) tree assets o).status call
 asked_ends choice call tree assets o utf8 e asked is =
-    let r = chosen_reply tree assets o in
-    let replies = asked_reply choice call tree assets r asked (ap (chosen_reply tree assets) (sym is)) in
+    let r = chosen_reply (rules_by choice) tree assets o in
+    let replies = asked_reply choice call tree assets r asked (ap (chosen_reply (rules_by choice) tree assets) (sym is)) in
     ends_as_answered call utf8 e asked.bytes r.status r.report (inr asked.told)
     (record { replies = inl (satisfy_by choice asked.text, asked.form, replies) })
 
 -- what was written of it
 written_reply : (choice : Choice) (call : Call) (tree : Tree) (assets : Assets) (report : Bytes) → HaveUtf8 call.words
     → HasAnswer call.words call.source call.status report → IsAsked choice call tree assets
-    → reply call.status report ≡ chosen_reply tree assets (chosen_by choice tree assets)
+    → reply call.status report ≡ chosen_reply (rules_by choice) tree assets (chosen_by choice tree assets)
 written_reply choice call tree assets report utf8 a asked =
     one_answer choice call tree assets call.status report asked utf8
     (told_answer call.words call.source asked.bytes call.status report (inr asked.told) a)
@@ -160,12 +161,12 @@ written_reply choice call tree assets report utf8 a asked =
 -- ---- a stack is shown, or nothing is found
 
 stack_written : (choice : Choice) (call : Call) (tree : Tree) (assets : Assets) (report : Bytes) (o : Option (List Bytes)) → chosen_by choice tree assets ≡ o
-    → reply call.status report ≡ chosen_reply tree assets o → Appends call.sink.old call.sink.new report
+    → reply call.status report ≡ chosen_reply (rules_by choice) tree assets o → Appends call.sink.old call.sink.new report
     → call.status ≡ status.Done → (stack : List Bytes) × Shows choice call tree assets stack
 stack_written choice call tree assets report None is e w done =
     let nothing : call.status ≡ status.NoSatisfaction = ap (λ (r : Reply). r.status) e in absurd (cc (sym done ∙ nothing))
 stack_written choice call tree assets report (Some stack) is e w done =
-    let shown : report ≡ satisfy_report tree assets stack = ap (λ (r : Reply). r.report) e in
+    let shown : report ≡ satisfy_report (rules_by choice) tree assets stack = ap (λ (r : Reply). r.report) e in
     (stack, record { chosen = is; written = subst (Appends call.sink.old call.sink.new) shown w })
 
 shown_stack : (choice : Choice) (call : Call) (tree : Tree) (assets : Assets) → HaveUtf8 call.words → Ends call → IsAsked choice call tree assets
@@ -184,16 +185,16 @@ shows_such choice call P utf8 e holds tree assets asked done =
     let found = shown_stack choice call tree assets utf8 e asked done in
     (found.0, found.1, holds tree assets found.0 asked found.1)
 
-none_written : (call : Call) (tree : Tree) (assets : Assets) (report : Bytes) (o : Option (List Bytes))
-    → reply call.status report ≡ chosen_reply tree assets o → call.status ≡ status.NoSatisfaction → o ≡ None
-none_written call tree assets report None e is = refl
-none_written call tree assets report (Some stack) e is =
+none_written : (rules : Rules) (call : Call) (tree : Tree) (assets : Assets) (report : Bytes) (o : Option (List Bytes))
+    → reply call.status report ≡ chosen_reply rules tree assets o → call.status ≡ status.NoSatisfaction → o ≡ None
+none_written rules call tree assets report None e is = refl
+none_written rules call tree assets report (Some stack) e is =
     let done : call.status ≡ status.Done = ap (λ (r : Reply). r.status) e in absurd (cc (sym is ∙ done))
 
 nothing_chosen : (choice : Choice) (call : Call) (tree : Tree) (assets : Assets) → HaveUtf8 call.words → Ends call → IsAsked choice call tree assets
     → call.status ≡ status.NoSatisfaction → chosen_by choice tree assets ≡ None
 nothing_chosen choice call tree assets utf8 (inl (report, a, w)) asked is =
-    none_written call tree assets report (chosen_by choice tree assets) (written_reply choice call tree assets report utf8 a asked) is
+    none_written (rules_by choice) call tree assets report (chosen_by choice tree assets) (written_reply choice call tree assets report utf8 a asked) is
 nothing_chosen choice call tree assets utf8 (inr (inl w)) asked is = absurd (cc (sym w.0 ∙ is))
 nothing_chosen choice call tree assets utf8 (inr (inr (inl r))) asked is = absurd (cc (sym r.0 ∙ is))
 nothing_chosen choice call tree assets utf8 (inr (inr (inr m))) asked is = absurd (cc (sym m.0 ∙ is))
@@ -239,17 +240,17 @@ shows_accepted call utf8 e choice =
     shows_such choice call IsAcceptedByAll utf8 e (λ tree assets stack. is_accepted choice call tree assets stack utf8)
 
 -- the lines of the report, with the counts of the run
-lines : (old new : Option Bytes) (tree : Tree) (assets : Assets) (stack : List Bytes) (outcome : Outcome) → replay tree assets stack ≡ outcome
-    → Appends old new (satisfy_report tree assets stack)
-    → Appends old new (script_line (script_of tree) ++ program_line (script_of tree) ++ limits_line (limits_of tree)
+lines : (rules : Rules) (old new : Option Bytes) (tree : Tree) (assets : Assets) (stack : List Bytes) (outcome : Outcome) → replay tree assets stack ≡ outcome
+    → Appends old new (satisfy_report rules tree assets stack)
+    → Appends old new (script_line (script_of tree) ++ program_line (script_of tree) ++ tree_limits_line rules tree
     ++ flat_map item_line stack ++ witness_line stack (script_of tree) ++ replay_line stack outcome)
 unfolding satisfy_report
-lines old new tree assets stack outcome ran h =
-    subst (λ o. Appends old new (script_line (script_of tree) ++ program_line (script_of tree) ++ limits_line (limits_of tree)
+lines rules old new tree assets stack outcome ran h =
+    subst (λ o. Appends old new (script_line (script_of tree) ++ program_line (script_of tree) ++ tree_limits_line rules tree
     ++ flat_map item_line stack ++ witness_line stack (script_of tree) ++ replay_line stack o)) ran h
 
 prints : (choice : Choice) (call : Call) (tree : Tree) (assets : Assets) (stack : List Bytes) → HaveUtf8 call.words → IsAsked choice call tree assets
-    → Shows choice call tree assets stack → Prints call.sink tree assets stack
+    → Shows choice call tree assets stack → Prints (rules_by choice) call.sink tree assets stack
 prints choice call tree assets stack utf8 asked shown =
     let own = (is_accepted choice call tree assets stack utf8 asked shown).within assets.pairs (λ key sig held. held) in
     record {
@@ -257,26 +258,26 @@ prints choice call tree assets stack utf8 asked shown =
       peak = own.peak;
       checks = own.checks;
       run = own.run;
-      written = lines call.sink.old call.sink.new tree assets stack (accepted own.ops own.peak own.checks) own.run shown.written;
+      written = lines (rules_by choice) call.sink.old call.sink.new tree assets stack (accepted own.ops own.peak own.checks) own.run shown.written;
     }
 
 pub shows_witness : (call : Call) → HaveUtf8 call.words → Ends call → ShowsWitness call
 shows_witness call utf8 e choice =
-    shows_such choice call (Prints call.sink) utf8 e (λ tree assets stack. prints choice call tree assets stack utf8)
+    shows_such choice call (Prints (rules_by choice) call.sink) utf8 e (λ tree assets stack. prints choice call tree assets stack utf8)
 
 pub shows_non_malleable : (call : Call) → HaveUtf8 call.words → Ends call → ShowsNonMalleable call
-shows_non_malleable call utf8 e =
-    shows_such choice.Strict call Unchangeable utf8 e (λ tree assets stack asked shown.
-    strict_is_unchangeable tree assets stack (writable choice.Strict call tree assets utf8 asked) (is_sane tree asked.fit) (are_held asked) shown.chosen)
+shows_non_malleable call utf8 e rules =
+    shows_such (choice.Strict rules) call Unchangeable utf8 e (λ tree assets stack asked shown.
+    strict_is_unchangeable tree assets stack (writable (choice.Strict rules) call tree assets utf8 asked) (is_sane rules tree asked.fit) (are_held asked) shown.chosen)
 
 pub finds_nothing_to_accept : (call : Call) → HaveUtf8 call.words → Ends call → FindsNothingToAccept call
-finds_nothing_to_accept call utf8 e tree assets asked is =
-    let writes = writable choice.Strict call tree assets utf8 asked in
+finds_nothing_to_accept call utf8 e rules tree assets asked is =
+    let writes = writable (choice.Strict rules) call tree assets utf8 asked in
     let held = are_held asked in
-    let none = nothing_chosen choice.Strict call tree assets utf8 e asked is in
+    let none = nothing_chosen (choice.Strict rules) call tree assets utf8 e asked is in
     record {
-      none = λ stack. none_where_none choice.Strict tree assets stack writes asked.fit held none;
-      accepted = λ stack checks accepted. nothing_to_accept tree assets stack checks writes (is_sane tree asked.fit) held none accepted;
+      none = λ stack. none_where_none (choice.Strict rules) tree assets stack writes asked.fit held none;
+      accepted = λ stack checks accepted. nothing_to_accept tree assets stack checks writes (is_sane rules tree asked.fit) held none accepted;
       fresh = λ table stack fresh. fresh_has_item tree assets table stack fresh;
     }
 
@@ -287,7 +288,7 @@ weighs chosen stack most is found =
     let same : found.0 ≡ stack = cc (sym found.1 ∙ is) in subst (λ (s : List Bytes). weight s ≤ most) same found.2
 
 pub shows_lightest : (call : Call) → HaveUtf8 call.words → Ends call → ShowsLightest call
-shows_lightest call utf8 e =
-    shows_such choice.Cheapest call WeighsLeast utf8 e (λ tree assets stack asked shown other sat.
-    let best = cheapest_is_lightest tree assets (writable choice.Cheapest call tree assets utf8 asked) (are_held asked) in
+shows_lightest call utf8 e rules =
+    shows_such (choice.Cheapest rules) call WeighsLeast utf8 e (λ tree assets stack asked shown other sat.
+    let best = cheapest_is_lightest tree assets (writable (choice.Cheapest rules) call tree assets utf8 asked) (are_held asked) in
     weighs (cheapest tree assets) stack (weight other) shown.chosen (best.lightest other sat))

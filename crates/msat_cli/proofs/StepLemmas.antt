@@ -10,7 +10,7 @@ use Rattle.def_text.specs.declared.TextFault.TheVariants.{TooLong, Syntax, TooDe
 use Rattle.def_text.proofs.Complete.{one_tree}
 use Rattle.def_text.proofs.OneAnswer.{none_beside_tree}
 use Rattle.def_sane.specs.declared.Unfit.{Unfit}
-use Rattle.def_sane.specs.Unfit.{first_unfit, first_unfit_valid}
+use Rattle.def_sane.specs.Unfit.{first_unfit, first_unfit_under, first_unfit_valid_under}
 use Rattle.ms_io.specs.Faults.{Rose}
 use Rattle.def_answer.specs.Answer.{Replies}
 use Rattle.def_answer.specs.Reading.{read, refused}
@@ -28,7 +28,7 @@ use Rattle.msat_cli.specs.declared.words.Command.{Command as Asked}
 use Rattle.def_answer.specs.Sources.{Passes, NeedsSource, ReadsSource}
 use Rattle.msat_cli.specs.Sides.{Side, IsUnread}
 use Rattle.msat_cli.specs.Ends.{HasShortText, TakesMemory}
-use Rattle.msat_cli.specs.Steps.{seen, HasUtf8, HaveUtf8, command_of, chosen_by, reason_by, reason_of, reply_of, ReadsFor, Answers, AnswersWords, AnswersFile, AnswersTree, IsRefusal, Ended}
+use Rattle.msat_cli.specs.Steps.{seen, HasUtf8, HaveUtf8, command_of, chosen_by, rules_by, reason_by, reason_of, reply_of, ReadsFor, Answers, AnswersWords, AnswersFile, AnswersTree, IsRefusal, Ended}
 
 -- a step ends as another one does
 pub ended : (P Q : Reply → Type 0) (A B C D : Type 0) → ((r : Reply) → P r → Q r) → (A → C) → (B → D)
@@ -44,27 +44,27 @@ ended P Q A B C D answers fails wants (Err stop.Memory) h = wants h
 
 replies_read : (kind : TextCommand) (text bytes : Bytes) (tree : Tree) (offsets : List ℕ) (r : Reply) → TextReads text tree offsets
     → r ≡ unless_unfit (reason_of kind tree) offsets (reply_of kind bytes tree) → Replies (command_of kind text) bytes r
-replies_read kind.Script text bytes tree offsets r reads e = (read tree offsets, reads, e)
-replies_read kind.Check text bytes tree offsets r reads e = (read tree offsets, reads, e)
-replies_read (kind.Satisfy choice.Strict) text bytes tree offsets r reads e = (read tree offsets, reads, e)
-replies_read (kind.Satisfy choice.Cheapest) text bytes tree offsets r reads e = (read tree offsets, reads, e)
+replies_read (kind.Script rules) text bytes tree offsets r reads e = (read tree offsets, reads, e)
+replies_read (kind.Check rules) text bytes tree offsets r reads e = (read tree offsets, reads, e)
+replies_read (kind.Satisfy (choice.Strict rules)) text bytes tree offsets r reads e = (read tree offsets, reads, e)
+replies_read (kind.Satisfy (choice.Cheapest rules)) text bytes tree offsets r reads e = (read tree offsets, reads, e)
 replies_read kind.Policy text bytes tree offsets r reads e = (read tree offsets, reads, e)
 replies_read kind.Plan text bytes tree offsets r reads e = (read tree offsets, reads, e)
 
 -- a file is read for a tree against which there is no reason
 no_reason : (kind : TextCommand) (tree : Tree) → ReadsFor kind tree → reason_of kind tree ≡ None
-no_reason kind.Script tree h = absurd h
-no_reason kind.Check tree h = absurd h
+no_reason (kind.Script rules) tree h = absurd h
+no_reason (kind.Check rules) tree h = absurd h
 no_reason (kind.Satisfy choice) tree h = h
 no_reason kind.Policy tree h = absurd h
 no_reason kind.Plan tree h = h
 
 pub for_source : (kind : TextCommand) (text : Bytes) (tree : Tree) (offsets : List ℕ) → TextReads text tree offsets → ReadsFor kind tree
     → NeedsSource (command_of kind text)
-for_source kind.Script text tree offsets reads h = absurd h
-for_source kind.Check text tree offsets reads h = absurd h
-for_source (kind.Satisfy choice.Strict) text tree offsets reads h = (tree, offsets, reads, h)
-for_source (kind.Satisfy choice.Cheapest) text tree offsets reads h = (tree, offsets, reads, h)
+for_source (kind.Script rules) text tree offsets reads h = absurd h
+for_source (kind.Check rules) text tree offsets reads h = absurd h
+for_source (kind.Satisfy (choice.Strict rules)) text tree offsets reads h = (tree, offsets, reads, h)
+for_source (kind.Satisfy (choice.Cheapest rules)) text tree offsets reads h = (tree, offsets, reads, h)
 for_source kind.Policy text tree offsets reads h = absurd h
 for_source kind.Plan text tree offsets reads h = (tree, offsets, reads, h)
 
@@ -75,10 +75,10 @@ same_reason reason text tree offsets reads h = subst (λ t. reason t ≡ None) (
 
 pub source_for : (kind : TextCommand) (text : Bytes) (tree : Tree) (offsets : List ℕ) → TextReads text tree offsets
     → NeedsSource (command_of kind text) → ReadsFor kind tree
-source_for kind.Script text tree offsets reads h = absurd h
-source_for kind.Check text tree offsets reads h = absurd h
-source_for (kind.Satisfy choice.Strict) text tree offsets reads h = same_reason first_unfit text tree offsets reads h
-source_for (kind.Satisfy choice.Cheapest) text tree offsets reads h = same_reason first_unfit_valid text tree offsets reads h
+source_for (kind.Script rules) text tree offsets reads h = absurd h
+source_for (kind.Check rules) text tree offsets reads h = absurd h
+source_for (kind.Satisfy (choice.Strict rules)) text tree offsets reads h = same_reason (first_unfit_under rules) text tree offsets reads h
+source_for (kind.Satisfy (choice.Cheapest rules)) text tree offsets reads h = same_reason (first_unfit_valid_under rules) text tree offsets reads h
 source_for kind.Policy text tree offsets reads h = absurd h
 source_for kind.Plan text tree offsets reads h = same_reason first_unfit text tree offsets reads h
 
@@ -100,10 +100,10 @@ tree_answers kind text tree offsets source reads r (inr late) =
     })
 
 short_text : (kind : TextCommand) (text : Bytes) → length text ≤ MOST_BYTES → HasShortText (command_of kind text)
-short_text kind.Script text short = short
-short_text kind.Check text short = short
-short_text (kind.Satisfy choice.Strict) text short = short
-short_text (kind.Satisfy choice.Cheapest) text short = short
+short_text (kind.Script rules) text short = short
+short_text (kind.Check rules) text short = short
+short_text (kind.Satisfy (choice.Strict rules)) text short = short
+short_text (kind.Satisfy (choice.Cheapest rules)) text short = short
 short_text kind.Policy text short = short
 short_text kind.Plan text short = short
 
@@ -119,19 +119,19 @@ tree_ended kind text tree offsets source result reads h =
 
 pub no_source : (kind : TextCommand) (text : Bytes) (fault : TextFault) → IsUtf8 text → fault ≢ Memory → TextRefusal text fault
     → ¬ NeedsSource (command_of kind text)
-no_source kind.Script text fault utf8 known refusal h = h
-no_source kind.Check text fault utf8 known refusal h = h
-no_source (kind.Satisfy choice.Strict) text fault utf8 known refusal h = absurd (none_beside_tree text h.0 h.1 fault utf8 known h.2 refusal)
-no_source (kind.Satisfy choice.Cheapest) text fault utf8 known refusal h = absurd (none_beside_tree text h.0 h.1 fault utf8 known h.2 refusal)
+no_source (kind.Script rules) text fault utf8 known refusal h = h
+no_source (kind.Check rules) text fault utf8 known refusal h = h
+no_source (kind.Satisfy (choice.Strict rules)) text fault utf8 known refusal h = absurd (none_beside_tree text h.0 h.1 fault utf8 known h.2 refusal)
+no_source (kind.Satisfy (choice.Cheapest rules)) text fault utf8 known refusal h = absurd (none_beside_tree text h.0 h.1 fault utf8 known h.2 refusal)
 no_source kind.Policy text fault utf8 known refusal h = h
 no_source kind.Plan text fault utf8 known refusal h = absurd (none_beside_tree text h.0 h.1 fault utf8 known h.2 refusal)
 
 replies_refused : (kind : TextCommand) (text bytes : Bytes) (fault : TextFault) (r : Reply) → TextRefusal text fault → IsRefusal fault r
     → Replies (command_of kind text) bytes r
-replies_refused kind.Script text bytes fault r refusal is = (refused fault, (is.0, refusal), is.1)
-replies_refused kind.Check text bytes fault r refusal is = (refused fault, (is.0, refusal), is.1)
-replies_refused (kind.Satisfy choice.Strict) text bytes fault r refusal is = (refused fault, (is.0, refusal), is.1)
-replies_refused (kind.Satisfy choice.Cheapest) text bytes fault r refusal is = (refused fault, (is.0, refusal), is.1)
+replies_refused (kind.Script rules) text bytes fault r refusal is = (refused fault, (is.0, refusal), is.1)
+replies_refused (kind.Check rules) text bytes fault r refusal is = (refused fault, (is.0, refusal), is.1)
+replies_refused (kind.Satisfy (choice.Strict rules)) text bytes fault r refusal is = (refused fault, (is.0, refusal), is.1)
+replies_refused (kind.Satisfy (choice.Cheapest rules)) text bytes fault r refusal is = (refused fault, (is.0, refusal), is.1)
 replies_refused kind.Policy text bytes fault r refusal is = (refused fault, (is.0, refusal), is.1)
 replies_refused kind.Plan text bytes fault r refusal is = (refused fault, (is.0, refusal), is.1)
 
@@ -168,10 +168,10 @@ run_ended source result h = ended _ _ _ _ _ _ (run_answers source) (λ rose. (tt
 -- ---- satisfactions
 
 pub satisfied_ended : (choice : Choice) (tree : Tree) (offsets : List ℕ) (source : Side) (result : Result Answer Stop) → reason_by choice tree ≡ None
-    → Ended (AnswersFile (λ bytes. satisfy_reply (chosen_by choice) bytes tree) source) (Rose source.before source.now) ⊤ result
+    → Ended (AnswersFile (λ bytes. satisfy_reply (rules_by choice) (chosen_by choice) bytes tree) source) (Rose source.before source.now) ⊤ result
     → Ended (AnswersTree (kind.Satisfy choice) tree offsets source) (ReadsFor (kind.Satisfy choice) tree × Rose source.before source.now) ⊤ result
 satisfied_ended choice tree offsets source result fit h =
-    ended (AnswersFile (λ bytes. satisfy_reply (chosen_by choice) bytes tree) source) (AnswersTree (kind.Satisfy choice) tree offsets source)
+    ended (AnswersFile (λ bytes. satisfy_reply (rules_by choice) (chosen_by choice) bytes tree) source) (AnswersTree (kind.Satisfy choice) tree offsets source)
     (Rose source.before source.now) ⊤ (ReadsFor (kind.Satisfy choice) tree × Rose source.before source.now) ⊤
     (λ r file. inr (fit, file)) (λ rose. (fit, rose)) (λ m. m) result h
 

@@ -50,10 +50,10 @@ FailsToRead call =
 
 -- the TEXT of the command, where it has one, isn't too long
 abbrev pub HasShortText : Command → Type 0
-HasShortText (script text) = length text ≤ MOST_BYTES
-HasShortText (check text) = length text ≤ MOST_BYTES
-HasShortText (satisfy text) = length text ≤ MOST_BYTES
-HasShortText (satisfy_malleable text) = length text ≤ MOST_BYTES
+HasShortText (script rules text) = length text ≤ MOST_BYTES
+HasShortText (check rules text) = length text ≤ MOST_BYTES
+HasShortText (satisfy rules text) = length text ≤ MOST_BYTES
+HasShortText (satisfy_malleable rules text) = length text ≤ MOST_BYTES
 HasShortText run = ⊤
 HasShortText (gen n) = ⊤
 HasShortText (policy text) = length text ≤ MOST_BYTES

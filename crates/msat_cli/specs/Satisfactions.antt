@@ -1,4 +1,5 @@
--- What a call of `msat` for `satisfy TEXT` or `satisfy --malleable TEXT` shows of a satisfaction.
+-- What a call of `msat` for `satisfy TEXT` or `satisfy --malleable TEXT`, by policy or with `--consensus`, shows of a
+-- satisfaction.
 use Rattle.std.specs.Prelude.{◌≡◌, ◌≢◌, ◌⊎◌, ℕ, ◌≤◌, ◌∷◌, ◌++◌, List, length, flat_map, codes, decimal, None, Some, Ok}
 use Rattle.std.specs.Io.KnownBytes.{Appends}
 use Rattle.hex.specs.Hex.{encode_lower}
@@ -12,6 +13,7 @@ use Rattle.def_emit.specs.Emit.{script_of}
 use Rattle.def_text.specs.declared.TextFault.{TextFault}
 use Rattle.def_text.specs.declared.TextFault.TheVariants.{Memory}
 use Rattle.def_text.specs.Refusal.{TextReads, TextRefusal}
+use Rattle.def_sane.specs.declared.Rules.{Rules}
 use Rattle.def_sane.specs.declared.Unfit.{Unfit}
 use Rattle.def_assets.specs.Assets.{Assets}
 use Rattle.def_files.specs.AssetFile.{assets_of}
@@ -22,13 +24,13 @@ use Rattle.def_choice.specs.NonMalleable.{IsAccepted, Fresh, given_with}
 use Rattle.def_promises.specs.Acceptance.{IsAcceptedWithin}
 use Rattle.def_promises.specs.Promises.{HasUnknownPreimage, HasOtherKey, Unchangeable}
 use Rattle.def_answer.specs.declared.status.Status.TheVariants as status
-use Rattle.def_answer.specs.Lines.{line, limits_line, text_line, unfit_line}
-use Rattle.def_answer.specs.Report.{item_line, satisfy_report}
+use Rattle.def_answer.specs.Lines.{line, text_line, unfit_line}
+use Rattle.def_answer.specs.Report.{item_line, tree_limits_line, satisfy_report}
 use Rattle.def_answer.specs.Reply.{MOST_FILE}
 use Rattle.def_answer.specs.Words.{IsForm}
 use Rattle.msat_cli.specs.declared.words.Choice.{Choice}
 use Rattle.msat_cli.specs.declared.words.Choice.TheVariants as choice
-use Rattle.msat_cli.specs.Steps.{satisfy_by, reason_by, chosen_by}
+use Rattle.msat_cli.specs.Steps.{satisfy_by, rules_by, reason_by, chosen_by}
 use Rattle.msat_cli.specs.Sides.{Side}
 use Rattle.msat_cli.specs.Ends.{Call, EndsAs}
 
@@ -50,7 +52,7 @@ pub record IsAsked (choice : Choice) (call : Call) (tree : Tree) (assets : Asset
 -- the stack is the one that is chosen, and its report was written whole
 pub record Shows (choice : Choice) (call : Call) (tree : Tree) (assets : Assets) (stack : List Bytes) : Type 0 where
   pub chosen : chosen_by choice tree assets ≡ Some stack
-  pub written : Appends call.sink.old call.sink.new (satisfy_report tree assets stack)
+  pub written : Appends call.sink.old call.sink.new (satisfy_report (rules_by choice) tree assets stack)
 
 -- a call that was asked for a satisfaction and is done shows a stack, of which this holds
 abbrev pub ShowsSuch : (choice : Choice) → Call → (Tree → Assets → List Bytes → Type 0) → Type 0
@@ -94,7 +96,7 @@ ShowsCanonical call = (choice : Choice) → ShowsSuch choice call Sat
 
 -- what the sink got: the Script, its program, the limits, the items, the witness of them and of the Script, and the
 -- counts of the run of it under the assets' own signatures, which is accepted
-pub record Prints (sink : Side) (tree : Tree) (assets : Assets) (stack : List Bytes) : Type 0 where
+pub record Prints (rules : Rules) (sink : Side) (tree : Tree) (assets : Assets) (stack : List Bytes) : Type 0 where
   pub ops : ℕ
   pub peak : ℕ
   pub checks : Pairs
@@ -102,14 +104,14 @@ pub record Prints (sink : Side) (tree : Tree) (assets : Assets) (stack : List By
   pub written : Appends sink.old sink.new (
       line (codes "script " ++ encode_lower (script_of tree))
       ++ line (codes "program " ++ encode_lower (0x00 ∷ 0x20 ∷ sha256 (script_of tree)))
-      ++ limits_line (limits_of tree)
+      ++ tree_limits_line rules tree
       ++ flat_map item_line stack
       ++ line (codes "witness " ++ encode_lower (witness_text stack (script_of tree)))
       ++ line (codes "replay ops " ++ decimal ops ++ codes " items " ++ decimal (length stack)
       ++ codes " weight " ++ decimal (weight stack) ++ codes " peak " ++ decimal peak))
 
 abbrev pub ShowsWitness : Call → Type 0
-ShowsWitness call = (choice : Choice) → ShowsSuch choice call (Prints call.sink)
+ShowsWitness call = (choice : Choice) → ShowsSuch choice call (Prints (rules_by choice) call.sink)
 
 -- ---- the interpreter accepts it
 
@@ -126,7 +128,7 @@ ShowsAccepted call = (choice : Choice) → ShowsSuch choice call IsAcceptedByAll
 -- every other stack that is accepted passes a check that this one doesn't, or is fresh and has an unknown preimage or
 -- another key with the same hash
 abbrev pub ShowsNonMalleable : Call → Type 0
-ShowsNonMalleable call = ShowsSuch choice.Strict call Unchangeable
+ShowsNonMalleable call = (rules : Rules) → ShowsSuch (choice.Strict rules) call Unchangeable
 
 -- a fresh stack has an unknown preimage, or another key with the same hash
 abbrev pub FreshOnesHaveItem : Tree → Assets → Type 0
@@ -143,7 +145,7 @@ pub record NothingToAccept (tree : Tree) (assets : Assets) : Type 0 where
 
 abbrev pub FindsNothingToAccept : Call → Type 0
 FindsNothingToAccept call =
-    (tree : Tree) (assets : Assets) → IsAsked choice.Strict call tree assets → call.status ≡ status.NoSatisfaction →
+    (rules : Rules) (tree : Tree) (assets : Assets) → IsAsked (choice.Strict rules) call tree assets → call.status ≡ status.NoSatisfaction →
     NothingToAccept tree assets
 
 -- ---- it is the lightest
@@ -153,4 +155,4 @@ abbrev pub WeighsLeast : Tree → Assets → (stack : List Bytes) → Type 0
 WeighsLeast tree assets stack = (other : List Bytes) → Sat tree assets other → weight stack ≤ weight other
 
 abbrev pub ShowsLightest : Call → Type 0
-ShowsLightest call = ShowsSuch choice.Cheapest call WeighsLeast
+ShowsLightest call = (rules : Rules) → ShowsSuch (choice.Cheapest rules) call WeighsLeast

@@ -7,7 +7,8 @@ use Rattle.def_tree.specs.Tree.{Tree}
 use Rattle.def_text.specs.declared.TextFault.{TextFault}
 use Rattle.def_text.specs.declared.TextFault.TheVariants as text_fault
 use Rattle.def_sane.specs.declared.Unfit.{Unfit}
-use Rattle.def_sane.specs.Unfit.{first_unfit, first_unfit_valid}
+use Rattle.def_sane.specs.declared.Rules.{Rules}
+use Rattle.def_sane.specs.Unfit.{first_unfit, first_unfit_under, first_unfit_valid_under}
 use Rattle.def_assets.specs.Assets.{Assets}
 use Rattle.def_choice.specs.Cheapest.{cheapest}
 use Rattle.def_choice.specs.Strict.{strict}
@@ -35,13 +36,13 @@ use Rattle.msat_cli.specs.Sides.{Side, IsUnread, Held}
 
 -- the satisfaction of a TEXT that is chosen so
 abbrev pub satisfy_by : Choice → (text : Bytes) → Command
-satisfy_by choice.Strict = satisfy
-satisfy_by choice.Cheapest = satisfy_malleable
+satisfy_by (choice.Strict rules) = satisfy rules
+satisfy_by (choice.Cheapest rules) = satisfy_malleable rules
 
 -- the command with its TEXT
 abbrev pub command_of : TextCommand → (text : Bytes) → Command
-command_of kind.Script = script
-command_of kind.Check = check
+command_of (kind.Script rules) = script rules
+command_of (kind.Check rules) = check rules
 command_of (kind.Satisfy choice) = satisfy_by choice
 command_of kind.Policy = policy
 command_of kind.Plan = plan
@@ -54,10 +55,10 @@ seen (asked.Decode digits keys) = decode digits.now keys.now
 
 -- its TEXT, where it has one, is UTF-8
 abbrev pub HasUtf8 : Command → Type 0
-HasUtf8 (script text) = IsUtf8 text
-HasUtf8 (check text) = IsUtf8 text
-HasUtf8 (satisfy text) = IsUtf8 text
-HasUtf8 (satisfy_malleable text) = IsUtf8 text
+HasUtf8 (script rules text) = IsUtf8 text
+HasUtf8 (check rules text) = IsUtf8 text
+HasUtf8 (satisfy rules text) = IsUtf8 text
+HasUtf8 (satisfy_malleable rules text) = IsUtf8 text
 HasUtf8 run = ⊤
 HasUtf8 (gen n) = ⊤
 HasUtf8 (policy text) = IsUtf8 text
@@ -72,34 +73,39 @@ HaveUtf8 words = (command : Command) → IsForm words command → HasUtf8 comman
 
 -- the satisfaction that is chosen
 abbrev pub chosen_by : Choice → Tree → Assets → Option (List Bytes)
-chosen_by choice.Strict = strict
-chosen_by choice.Cheapest = cheapest
+chosen_by (choice.Strict rules) = strict
+chosen_by (choice.Cheapest rules) = cheapest
+
+-- the rules by which the tree has to be sane or valid
+abbrev pub rules_by : Choice → Rules
+rules_by (choice.Strict rules) = rules
+rules_by (choice.Cheapest rules) = rules
 
 -- the reasons against a tree that is to be satisfied
 abbrev pub reason_by : Choice → Tree → Option Unfit
-reason_by choice.Strict = first_unfit
-reason_by choice.Cheapest = first_unfit_valid
+reason_by (choice.Strict rules) = first_unfit_under rules
+reason_by (choice.Cheapest rules) = first_unfit_valid_under rules
 
 -- the reasons against a tree that are tested
 abbrev pub reason_of : TextCommand → Tree → Option Unfit
-reason_of kind.Script = first_unfit_valid
-reason_of kind.Check = first_unfit
+reason_of (kind.Script rules) = first_unfit_valid_under rules
+reason_of (kind.Check rules) = first_unfit_under rules
 reason_of (kind.Satisfy choice) = reason_by choice
 reason_of kind.Policy = first_unfit
 reason_of kind.Plan = first_unfit
 
 -- what is replied where there is none
 abbrev pub reply_of : TextCommand → (source : Bytes) → Tree → Reply
-reply_of kind.Script source = script_reply
-reply_of kind.Check source = check_reply
-reply_of (kind.Satisfy choice) source = satisfy_reply (chosen_by choice) source
+reply_of (kind.Script rules) source = script_reply
+reply_of (kind.Check rules) source = check_reply rules
+reply_of (kind.Satisfy choice) source = satisfy_reply (rules_by choice) (chosen_by choice) source
 reply_of kind.Policy source = policy_reply
 reply_of kind.Plan source = plan_reply source
 
 -- a file is read for it
 abbrev pub ReadsFor : TextCommand → Tree → Type 0
-ReadsFor kind.Script tree = ⊥
-ReadsFor kind.Check tree = ⊥
+ReadsFor (kind.Script rules) tree = ⊥
+ReadsFor (kind.Check rules) tree = ⊥
 ReadsFor (kind.Satisfy choice) tree = reason_by choice tree ≡ None
 ReadsFor kind.Policy tree = ⊥
 ReadsFor kind.Plan tree = first_unfit tree ≡ None

@@ -9,6 +9,8 @@ pub use word::Word;
 
 mod answer;
 #[cfg(test)]
+mod consensus_tests;
+#[cfg(test)]
 mod decode_tests;
 mod decoding;
 #[cfg(test)]

@@ -2,7 +2,7 @@
 ghost use Rattle.std.specs.Prelude.{◌≡◌, ◌≤◌, ◌^◌, ◌++◌, ⊤, None, length, flat_map, IfOk, IfSome, OnOk};
 ghost use Rattle.std.specs.String.{string_bytes};
 ghost use Rattle.def_tree.specs.Range.{IsInRange};
-ghost use Rattle.def_sane.specs.Limits.{AreLimits};
+ghost use Rattle.def_sane.specs.declared.Rules.{Rules};
 ghost use Rattle.def_sane.specs.declared.Rules.TheVariants.{Consensus};
 ghost use Rattle.def_sane.specs.Unfit.{IsValidUnder};
 ghost use Rattle.def_satisfaction.specs.Satisfaction.{Sat};
@@ -10,14 +10,14 @@ ghost use Rattle.def_machine.specs.Run.{accepted};
 ghost use Rattle.ms_tree.specs.Shape.{shape};
 ghost use Rattle.ms_io.specs.Faults.{Rose};
 ghost use Rattle.def_answer.specs.Reply.{reply, MOST_FILE, chosen_reply, satisfy_reply};
-ghost use Rattle.def_answer.specs.Report.{satisfy_report as the_satisfy_report, item_digits, item_line, replay_line as the_replay_line};
+ghost use Rattle.def_answer.specs.Report.{tree_limits_line, satisfy_report as the_satisfy_report, item_digits, item_line, replay_line as the_replay_line};
 ghost use Rattle.msat_cli.specs.Sides.{side, ReadsFront};
-ghost use Rattle.msat_cli.specs.Steps.{AnswersFile, Ended, chosen_by, reason_by};
+ghost use Rattle.msat_cli.specs.Steps.{AnswersFile, Ended, chosen_by, rules_by, reason_by};
 ghost use Rattle.ms_script.specs.Stacks.{weight as the_weight};
 
 use crate::answer::{Answer, Stop, or_memory};
 use crate::files::{file_answer, read_file};
-use crate::report::{limits_line, push_line, push_output};
+use crate::report::{push_line, push_output};
 use crate::words::Choice;
 use def_answer::Status;
 use ms_assets::{Assets, read_assets};
@@ -26,25 +26,24 @@ use ms_io::Source;
 use ms_nonmal::strict;
 use ms_oracle::{PairIndex, SigCheck};
 use ms_replay::carry;
-use ms_sane::Limits;
 use ms_sat::cheapest;
 use ms_script::Stack;
 use ms_tree::Tree;
 use std::alloc::{AllocError, Global};
 
 /// Answers with the satisfaction of a tree by the assets of the file that the source holds. There is no reason
-/// against the tree.
+/// against the tree, and `limits` is the line of its limits.
 pub fn answer_satisfaction<S: Source>(
     alloc: Global,
     choice: Choice,
     tree: &Tree<'_>,
-    limits: Limits,
+    limits: &str,
     source: &mut S,
 ) -> Result<Answer, Stop>
     requires in_range { IsInRange (shape tree.now) }
     requires fit { reason_by choice (shape tree.now) ≡ None }
-    requires limits { AreLimits (shape tree.now) limits }
-    ensures answer { Ended (AnswersFile (λ bytes. satisfy_reply (chosen_by choice) bytes (shape tree.now)) (side S.left S.faults source.old source.new)) (Rose (S.faults source.old) (S.faults source.new)) ⊤ result }
+    requires limits { limits.now ≡ tree_limits_line (rules_by choice) (shape tree.now) }
+    ensures answer { Ended (AnswersFile (λ bytes. satisfy_reply (rules_by choice) (chosen_by choice) bytes (shape tree.now)) (side S.left S.faults source.old source.new)) (Rose (S.faults source.old) (S.faults source.new)) ⊤ result }
     ensures later { S.faults source.old ≤ S.faults source.new }
     ensures front { ReadsFront (S.left source.old) (S.left source.new) }
 {
@@ -59,14 +58,14 @@ fn assets_answer(
     alloc: Global,
     choice: Choice,
     tree: &Tree<'_>,
-    limits: Limits,
+    limits: &str,
     bytes: &[u8],
 ) -> Result<Answer, AllocError>
     requires in_range { IsInRange (shape tree.now) }
     requires fit { reason_by choice (shape tree.now) ≡ None }
-    requires limits { AreLimits (shape tree.now) limits }
+    requires limits { limits.now ≡ tree_limits_line (rules_by choice) (shape tree.now) }
     requires short { length bytes.now ≤ MOST_FILE }
-    ensures { IfOk result (λ answer. reply answer.status (string_bytes answer.report) ≡ satisfy_reply (chosen_by choice) bytes.now (shape tree.now)) }
+    ensures { IfOk result (λ answer. reply answer.status (string_bytes answer.report) ≡ satisfy_reply (rules_by choice) (chosen_by choice) bytes.now (shape tree.now)) }
 {
     match read_assets(alloc, bytes) {
         Ok(assets) => chosen_answer(alloc, choice, tree, limits, &assets),
@@ -79,13 +78,13 @@ fn chosen_answer(
     alloc: Global,
     choice: Choice,
     tree: &Tree<'_>,
-    limits: Limits,
+    limits: &str,
     assets: &Assets,
 ) -> Result<Answer, AllocError>
     requires in_range { IsInRange (shape tree.now) }
     requires fit { reason_by choice (shape tree.now) ≡ None }
-    requires limits { AreLimits (shape tree.now) limits }
-    ensures { IfOk result (λ answer. reply answer.status (string_bytes answer.report) ≡ chosen_reply (shape tree.now) assets.now (chosen_by choice (shape tree.now) assets.now)) }
+    requires limits { limits.now ≡ tree_limits_line (rules_by choice) (shape tree.now) }
+    ensures { IfOk result (λ answer. reply answer.status (string_bytes answer.report) ≡ chosen_reply (rules_by choice) (shape tree.now) assets.now (chosen_by choice (shape tree.now) assets.now)) }
 {
     match satisfaction(alloc, choice, tree, assets)? {
         Some(stack) => Ok(Answer {
@@ -113,8 +112,8 @@ fn satisfaction(
     ensures canonical { IfOk result (λ found. IfSome found (Sat (shape tree.now) assets.now)) }
 {
     match choice {
-        Choice::Strict => strict(alloc, tree, assets),
-        Choice::Cheapest => cheapest(alloc, tree, assets),
+        Choice::Strict(_) => strict(alloc, tree, assets),
+        Choice::Cheapest(_) => cheapest(alloc, tree, assets),
     }
 }
 
@@ -122,15 +121,14 @@ fn satisfaction(
 fn satisfy_report(
     alloc: Global,
     tree: &Tree<'_>,
-    limits: Limits,
+    limits: &str,
     assets: &Assets,
     stack: &Stack,
 ) -> Result<String, AllocError>
     requires in_range { IsInRange (shape tree.now) }
     requires valid { IsValidUnder Consensus (shape tree.now) }
-    requires limits { AreLimits (shape tree.now) limits }
     requires canonical { Sat (shape tree.now) assets.now stack.now }
-    ensures { IfOk result (λ report. string_bytes report ≡ the_satisfy_report (shape tree.now) assets.now stack.now) }
+    ensures { (rules : Rules) → limits.now ≡ tree_limits_line rules (shape tree.now) → IfOk result (λ report. string_bytes report ≡ the_satisfy_report rules (shape tree.now) assets.now stack.now) }
 {
     let _locks = assets.locks();
     let pairs = assets.pairs();
@@ -139,7 +137,7 @@ fn satisfy_report(
     let carried = carry(alloc, tree, stack, assets, &sigs)?;
     let mut report = String::new(alloc);
     push_output(alloc, &mut report, carried.script.as_slice())?;
-    report.push_str(&limits_line(alloc, limits)?)?;
+    report.push_str(limits)?;
     push_items(alloc, &mut report, stack)?;
     push_line(
         &mut report,

@@ -207,7 +207,7 @@ fn valid_texts_that_are_not_sane_are_refused(rt: HostRuntime) -> Result<(), Fail
 }
 
 /// Adds a new key. `next` is its number, and then that of the next one.
-fn push_key(text: &mut String, next: &mut u16) -> Result<(), AllocError> {
+pub fn push_key(text: &mut String, next: &mut u16) -> Result<(), AllocError> {
     let number = usize::from(*next);
     *next = next.wrapping_add(1);
     text.push_str("02")?;

@@ -1,10 +1,11 @@
 //! What is answered to a text.
-ghost use Rattle.std.specs.Prelude.{◌≡◌, ◌≢◌, ◌*◌, ◌≤◌, ⊤, IfOk, IfErr, Some, None, vec_len};
+ghost use Rattle.std.specs.Prelude.{◌≡◌, ◌≢◌, ◌*◌, ◌≤◌, ⊤, IfOk, IfErr, IsOk, Some, None, vec_len};
 ghost use Rattle.std.specs.String.{string_bytes};
 ghost use Rattle.def_tree.specs.Range.{IsInRange};
 ghost use Rattle.def_tree.specs.Size.{measure};
+ghost use Rattle.def_types.specs.Corr.{corr};
 ghost use Rattle.def_sane.specs.Limits.{AreLimits};
-ghost use Rattle.def_sane.specs.Unfit.{first_unfit, first_unfit_valid};
+ghost use Rattle.def_sane.specs.Unfit.{first_unfit, first_unfit_under, first_unfit_valid_under};
 ghost use Rattle.ms_tree.specs.Shape.{shape};
 ghost use Rattle.ms_sane.specs.Place.{IsOfTree};
 ghost use Rattle.ms_io.specs.Faults.{Rose};
@@ -13,14 +14,14 @@ ghost use Rattle.def_answer.specs.Lines.{text_line as the_text_line, unfit_line 
 ghost use Rattle.def_answer.specs.Reply.{reply, unless_unfit};
 ghost use Rattle.def_answer.specs.Sources.{NeedsSource};
 ghost use Rattle.msat_cli.specs.Sides.{side, ReadsFront, IsUnread};
-ghost use Rattle.msat_cli.specs.Steps.{command_of, reason_by, ReadsFor, Answers, AnswersTree, IsRefusal, Ended};
+ghost use Rattle.msat_cli.specs.Steps.{command_of, rules_by, reason_by, ReadsFor, Answers, AnswersTree, IsRefusal, Ended};
 ghost use Rattle.msat_cli.specs.Ends.{HasShortText};
 
 use crate::answer::{Answer, Stop, or_memory};
 use crate::names::rule_name;
 use crate::plans::answer_plan;
 use crate::policies::policy_report;
-use crate::report::{check_report, script_report};
+use crate::report::{check_report, script_report, tree_limits_line};
 use crate::satisfying::answer_satisfaction;
 use crate::words::{Choice, TextCommand};
 use bumpalo::Bump;
@@ -28,7 +29,8 @@ use def_answer::Status;
 use def_text::TextFault;
 use ms_io::Source;
 use ms_sane::{
-    Limits, Rules, Unfit, Work, check_sane, check_sane_of, check_short, check_valid, check_valid_of,
+    Limits, Rules, Unfit, Work, check_sane, check_sane_of, check_sane_under, check_short,
+    check_valid_of, check_valid_under,
 };
 use ms_text::{TextTree, read_text};
 use ms_tree::Tree;
@@ -67,8 +69,8 @@ fn answer_tree<S: Source>(
     ensures unread { ¬ ReadsFor kind (shape text.now.tree) → IsUnread (side S.left S.faults source.old source.new) }
 {
     match kind {
-        TextCommand::Script => or_memory(script_answer(alloc, text)),
-        TextCommand::Check => or_memory(check_answer(alloc, text)),
+        TextCommand::Script(rules) => or_memory(script_answer(alloc, rules, text)),
+        TextCommand::Check(rules) => or_memory(check_answer(alloc, rules, text)),
         TextCommand::Satisfy(choice) => answer_satisfy(alloc, choice, text, source),
         TextCommand::Policy => or_memory(policy_answer(alloc, text)),
         TextCommand::Plan => answer_planned(alloc, text, source),
@@ -93,7 +95,10 @@ fn answer_satisfy<S: Source>(
         return Err(Stop::Memory);
     };
     match check_for(choice, tree, &mut work) {
-        Ok(limits) => answer_satisfaction(alloc, choice, tree, limits, source),
+        Ok(limits) => match tree_limits_line(alloc, rules_of(choice), tree, limits, &mut work) {
+            Ok(line) => answer_satisfaction(alloc, choice, tree, &line, source),
+            Err(AllocError) => Err(Stop::Memory),
+        },
         Err(unfit) => or_memory(unfit_answer(alloc, text, unfit)),
     }
 }
@@ -114,7 +119,7 @@ fn answer_planned<S: Source>(
     let Ok(mut work) = Work::new(alloc, tree) else {
         return Err(Stop::Memory);
     };
-    match check_for(Choice::Strict, tree, &mut work) {
+    match check_for(Choice::Strict(Rules::Policy), tree, &mut work) {
         Ok(_) => answer_plan(alloc, tree, source),
         Err(unfit) => or_memory(unfit_answer(alloc, text, unfit)),
     }
@@ -128,31 +133,42 @@ fn check_for(choice: Choice, tree: &Tree<'_>, work: &mut Work) -> Result<Limits,
     ensures limits { IfOk result (λ limits. AreLimits (shape tree.now) limits) }
     ensures unfit { IfErr result (λ unfit. reason_by choice (shape tree.now) ≡ Some unfit) }
     ensures place { IfErr result (λ unfit. IsOfTree (shape tree.now) unfit) }
+    ensures typed { IfOk result (λ limits. IsOk (corr (shape tree.now))) }
+    ensures room { vec_len work.new.slots ≡ vec_len work.old.slots }
 {
     match choice {
-        Choice::Strict => match check_sane(tree, work) {
+        Choice::Strict(rules) => match check_sane_under(tree, rules, work) {
             Ok(sane) => Ok(sane.limits),
             Err(unfit) => Err(unfit),
         },
-        Choice::Cheapest => match check_valid(tree, work) {
+        Choice::Cheapest(rules) => match check_valid_under(tree, rules, work) {
             Ok(valid) => Ok(valid.limits),
             Err(unfit) => Err(unfit),
         },
     }
 }
 
+/// The rules by which the text of a satisfaction has to be sane or valid.
+fn rules_of(choice: Choice) -> Rules
+    ensures { result ≡ rules_by choice }
+{
+    match choice {
+        Choice::Strict(rules) | Choice::Cheapest(rules) => rules,
+    }
+}
+
 /// The Script of a valid tree, or the first reason against its being valid.
-fn script_answer(alloc: Global, text: &TextTree<'_>) -> Result<Answer, AllocError>
+fn script_answer(alloc: Global, rules: Rules, text: &TextTree<'_>) -> Result<Answer, AllocError>
     requires { IsInRange (shape text.now.tree) }
-    ensures { IfOk result (λ answer. reply answer.status (string_bytes answer.report) ≡ unless_unfit (first_unfit_valid (shape text.now.tree)) text.now.offsets.items (script_reply (shape text.now.tree))) }
+    ensures { IfOk result (λ answer. reply answer.status (string_bytes answer.report) ≡ unless_unfit (first_unfit_valid_under rules (shape text.now.tree)) text.now.offsets.items (script_reply (shape text.now.tree))) }
 {
     let tree = text.tree();
-    let short = match check_short(tree, Rules::Policy) {
+    let short = match check_short(tree, rules) {
         Ok(short) => short,
         Err(unfit) => return unfit_answer(alloc, text, unfit),
     };
     let mut work = Work::new(alloc, tree)?;
-    match check_valid_of(short, tree, Rules::Policy, &mut work) {
+    match check_valid_of(short, tree, rules, &mut work) {
         Ok(_) => Ok(Answer {
             status: Status::Done,
             report: script_report(alloc, tree)?,
@@ -162,20 +178,20 @@ fn script_answer(alloc: Global, text: &TextTree<'_>) -> Result<Answer, AllocErro
 }
 
 /// What is known of a sane tree, or the first reason against its being sane.
-fn check_answer(alloc: Global, text: &TextTree<'_>) -> Result<Answer, AllocError>
+fn check_answer(alloc: Global, rules: Rules, text: &TextTree<'_>) -> Result<Answer, AllocError>
     requires { IsInRange (shape text.now.tree) }
-    ensures { IfOk result (λ answer. reply answer.status (string_bytes answer.report) ≡ unless_unfit (first_unfit (shape text.now.tree)) text.now.offsets.items (check_reply (shape text.now.tree))) }
+    ensures { IfOk result (λ answer. reply answer.status (string_bytes answer.report) ≡ unless_unfit (first_unfit_under rules (shape text.now.tree)) text.now.offsets.items (check_reply rules (shape text.now.tree))) }
 {
     let tree = text.tree();
-    let short = match check_short(tree, Rules::Policy) {
+    let short = match check_short(tree, rules) {
         Ok(short) => short,
         Err(unfit) => return unfit_answer(alloc, text, unfit),
     };
     let mut work = Work::new(alloc, tree)?;
-    match check_sane_of(short, tree, Rules::Policy, &mut work) {
+    match check_sane_of(short, tree, rules, &mut work) {
         Ok(sane) => Ok(Answer {
             status: Status::Done,
-            report: check_report(alloc, tree, &sane)?,
+            report: check_report(alloc, rules, tree, &sane, &mut work)?,
         }),
         Err(unfit) => unfit_answer(alloc, text, unfit),
     }

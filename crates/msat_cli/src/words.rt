@@ -9,25 +9,26 @@ ghost use Rattle.msat_cli.specs.Steps.{seen, HasUtf8};
 
 use crate::word::Word;
 use itoa::Buffer;
+use ms_sane::Rules;
 use ms_tree::Key;
 
 /// The greatest number of `gen`.
 const MOST_CHILDREN: u32 = 30;
 
-/// How a satisfaction is chosen.
+/// How a satisfaction is chosen, and by which rules its text has to be sane or valid.
 #[derive(Clone, Copy, Debug, PartialEq, Eq)]
 pub enum Choice {
-    /// So that nobody can change it.
-    Strict,
-    /// So that it weighs least.
-    Cheapest,
+    /// Of a sane text, so that nobody can change it.
+    Strict(Rules),
+    /// Of a valid text, so that it weighs least.
+    Cheapest(Rules),
 }
 
-/// What is asked of a text.
+/// What is asked of a text, which has to be valid or sane by these rules.
 #[derive(Clone, Copy, Debug, PartialEq, Eq)]
 pub enum TextCommand {
-    Script,
-    Check,
+    Script(Rules),
+    Check(Rules),
     Satisfy(Choice),
     Policy,
     Plan,
@@ -75,6 +76,7 @@ fn several_words<'a>(name: &str, word: &'a str, more: &'a [Word]) -> Option<Comm
     match more {
         [] => two_words(name, word),
         [text] => three_words(name, word, text.as_str()),
+        [option, text] => four_words(name, word, option.as_str(), text.as_str()),
         _ => None,
     }
 }
@@ -85,13 +87,13 @@ fn two_words<'a>(name: &str, word: &'a str) -> Option<Command<'a>>
     ensures utf8 { IfSome result (λ command. HasUtf8 (seen command)) }
 {
     if name == "script" {
-        return Some(Command::Text(TextCommand::Script, word));
+        return Some(Command::Text(TextCommand::Script(Rules::Policy), word));
     }
     if name == "check" {
-        return Some(Command::Text(TextCommand::Check, word));
+        return Some(Command::Text(TextCommand::Check(Rules::Policy), word));
     }
     if name == "satisfy" {
-        return Some(Command::Text(TextCommand::Satisfy(Choice::Strict), word));
+        return Some(Command::Text(TextCommand::Satisfy(Choice::Strict(Rules::Policy)), word));
     }
     if name == "gen" {
         return Some(Command::Gen(read_number(word)?));
@@ -135,7 +137,42 @@ fn three_words<'a>(name: &str, option: &str, text: &'a str) -> Option<Command<'a
     ensures utf8 { IfSome result (λ command. HasUtf8 (seen command)) }
 {
     if name == "satisfy" && option == "--malleable" {
-        return Some(Command::Text(TextCommand::Satisfy(Choice::Cheapest), text));
+        return Some(Command::Text(TextCommand::Satisfy(Choice::Cheapest(Rules::Policy)), text));
+    }
+    if option == "--consensus" {
+        return consensus_words(name, text);
+    }
+    None
+}
+
+fn consensus_words<'a>(name: &str, text: &'a str) -> Option<Command<'a>>
+    requires { name.now ≢ codes "decode" }
+    ensures form { MatchOption result (HasNoForm (name.now ∷ codes "--consensus" ∷ text.entry.now ∷ [])) (λ command. IsForm (name.now ∷ codes "--consensus" ∷ text.entry.now ∷ []) (seen command)) }
+    ensures utf8 { IfSome result (λ command. HasUtf8 (seen command)) }
+{
+    let rules = Rules::Consensus;
+    if name == "script" {
+        return Some(Command::Text(TextCommand::Script(rules), text));
+    }
+    if name == "check" {
+        return Some(Command::Text(TextCommand::Check(rules), text));
+    }
+    if name == "satisfy" {
+        return Some(Command::Text(TextCommand::Satisfy(Choice::Strict(rules)), text));
+    }
+    None
+}
+
+fn four_words<'a>(name: &str, first: &str, second: &str, text: &'a str) -> Option<Command<'a>>
+    requires { name.now ≢ codes "decode" }
+    ensures form { MatchOption result (HasNoForm (name.now ∷ first.now ∷ second.now ∷ text.entry.now ∷ [])) (λ command. IsForm (name.now ∷ first.now ∷ second.now ∷ text.entry.now ∷ []) (seen command)) }
+    ensures utf8 { IfSome result (λ command. HasUtf8 (seen command)) }
+{
+    if name == "satisfy" && first == "--malleable" && second == "--consensus" {
+        return Some(Command::Text(
+            TextCommand::Satisfy(Choice::Cheapest(Rules::Consensus)),
+            text,
+        ));
     }
     None
 }
