@@ -1,0 +1,4 @@
+pub mod Walks
+pub mod WalkLeaves
+pub mod WalkParts
+pub mod WalkTrees

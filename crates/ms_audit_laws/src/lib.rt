@@ -1,0 +1,4 @@
+//! By which rows a stack satisfies a miniscript, found by one walk and proved over the definitions.
+#![tactic(auto)]
+
+mod laws;
