@@ -616,27 +616,37 @@ fn threshold(k: usize, children: &[Costs]) -> Option<Most> {
     Some(sum + Most { items: greatest(|x| x.items), weight: greatest(|x| x.weight), keys: greatest(|x| x.keys) })
 }
 
-/// A valid tree, its type, its Script and its limits.
+/// A valid tree, its type, its Script, its limits and, where it is told, its height.
 pub struct Valid {
     pub tree: Tree,
     pub script: Vec<u8>,
+    pub height: Option<u64>,
     kind: Type,
     ops: u64,
     most: Most,
 }
 
-/// None where the text is refused.
+/// By the limits of policy. None where the text is refused.
 pub fn valid(text: &str) -> Option<Valid> {
+    valid_by_consensus(text).filter(Valid::is_relayed)
+}
+
+/// By the limits of consensus. None where the text is refused.
+pub fn valid_by_consensus(text: &str) -> Option<Valid> {
     if text.len() > 65_536 {
         return None;
     }
     let mut reader = Reader { text: text.as_bytes(), at: 0 };
     let tree = reader.expression(0)?;
-    (reader.at == text.len()).then(|| valid_tree(tree))?
+    (reader.at == text.len()).then(|| valid_tree_by_consensus(tree))?
 }
 
-/// None where the tree isn't valid.
+/// By the limits of policy. None where the tree isn't valid.
 pub fn valid_tree(tree: Tree) -> Option<Valid> {
+    valid_tree_by_consensus(tree).filter(Valid::is_relayed)
+}
+
+fn valid_tree_by_consensus(tree: Tree) -> Option<Valid> {
     let kind = type_of(&tree)?;
     if kind.base != Base::B {
         return None;
@@ -646,10 +656,14 @@ pub fn valid_tree(tree: Tree) -> Option<Valid> {
     let most = costs(&tree).sat.unwrap_or_default();
     let ops = script.opcodes + most.keys as u64;
     let script = script.bytes;
-    (script.len() <= 3_600 && ops <= 201 && most.items <= 100).then_some(Valid { tree, script, kind, ops, most })
+    (script.len() <= 10_000 && ops <= 201).then_some(Valid { tree, script, height: None, kind, ops, most })
 }
 
 impl Valid {
+    fn is_relayed(&self) -> bool {
+        self.script.len() <= 3_600 && self.most.items <= 100
+    }
+
     /// What `check` prints, with these letters behind those of the type.
     pub fn report(&self, letters: &str) -> String {
         let mut out = String::from("text ");
@@ -666,7 +680,11 @@ impl Valid {
         out.push_str("\nprogram 0020");
         put_digits(out, &sha256(&self.script));
         let (size, ops, most) = (self.script.len(), self.ops, self.most);
-        out.push_str(&format!("\nlimits size {size} ops {ops} items {} weight {}\n", most.items, most.weight));
+        out.push_str(&format!("\nlimits size {size} ops {ops} items {} weight {}", most.items, most.weight));
+        if let Some(height) = self.height {
+            out.push_str(&format!(" height {height}"));
+        }
+        out.push('\n');
     }
 }
 

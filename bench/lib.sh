@@ -120,6 +120,11 @@ text_of() {
                 for (i = 0; i < count; i++) printf "and_v(v:multi(1%s),", keys(4)
                 printf "pk(%s)%s", key(), repeat(")", count)
             }
+            if (shape == "lists") {
+                for (i = 0; i < 11; i++) printf "and_v(v:pk(%s),", key()
+                for (i = 1; i < count; i++) printf "or_i(multi(1%s),", keys(20)
+                printf "multi(1%s)%s", keys(20), repeat(")", count + 10)
+            }
             if (shape == "multi") printf "multi(1%s)", keys(count)
             if (shape == "runs") printf "thresh(1,0%s)", repeat(",a" repeat("n", 249) ":0", count)
         }' "$input"

@@ -1,6 +1,6 @@
 //! What `msat check`, `msat satisfy` and `msat run` do, by plain Rust over boxed trees, to be measured beside the proved program. Refusals
 //! aren't told apart.
-//! Usage: satisfy_baseline check TEXT; satisfy_baseline [--malleable] TEXT, with an asset file on standard input; satisfy_baseline run, with a
+//! Usage: satisfy_baseline check [--consensus] TEXT; satisfy_baseline [--malleable] TEXT, with an asset file on standard input; satisfy_baseline run, with a
 //! run file. The exit status is 0, 2 where `refused` is printed, 4 where there is no satisfaction, or 8 where the run is refused.
 //! Usage: satisfy_baseline fragments, with an asset file on standard input. Prints a hash fragment for each of its preimages, of the four
 //! functions in turn.
@@ -15,7 +15,7 @@ mod hash_baseline;
 #[path = "interp_baseline.rs"]
 mod interp_baseline;
 
-use check_baseline::{HashKind, Key, Tree, Two, Valid, decoded, put_digits, valid};
+use check_baseline::{HashKind, Key, Tree, Two, Valid, decoded, put_digits, valid, valid_by_consensus};
 use hash_baseline::{ripemd160, ripemd_block_by_rounds, sha256};
 use interp_baseline::{Locks, run};
 use std::collections::{HashMap, HashSet};
@@ -153,9 +153,102 @@ pub fn is_sane(tree: &Tree) -> bool {
     mall_of(tree).is_some_and(|top| top.s) && kinds_of(tree).is_some() && has_new_keys(tree, &mut HashSet::new())
 }
 
+// The height of the stacks.
+
+/// The most items, and the most elements of both stacks at once, of all satisfactions or of all dissatisfactions.
+#[derive(Clone, Copy)]
+struct Highest {
+    items: u64,
+    height: u64,
+}
+
+fn only(items: u64, height: u64) -> Option<Highest> {
+    Some(Highest { items, height })
+}
+
+/// One, which leaves so many elements of what it found, and then another.
+fn then(left: u64, x: Option<Highest>, y: Option<Highest>) -> Option<Highest> {
+    let (x, y) = (x?, y?);
+    only(x.items + y.items, (x.height + y.items).max(left + y.height))
+}
+
+fn higher(x: Option<Highest>, y: Option<Highest>) -> Option<Highest> {
+    match (x, y) {
+        (Some(x), Some(y)) => only(x.items.max(y.items), x.height.max(y.height)),
+        _ => x.or(y),
+    }
+}
+
+fn at_least(height: u64, x: Option<Highest>) -> Option<Highest> {
+    x.and_then(|x| only(x.items, x.height.max(height)))
+}
+
+/// The satisfactions and the dissatisfactions.
+fn highest(tree: &Tree) -> (Option<Highest>, Option<Highest>) {
+    match tree {
+        Tree::Zero => (None, only(0, 1)),
+        Tree::One | Tree::Older(_) | Tree::After(_) => (only(0, 1), None),
+        Tree::PkK(_) => (only(1, 2), only(1, 2)),
+        Tree::PkH(_) => (only(2, 4), only(2, 4)),
+        Tree::Hash(..) => (only(1, 3), only(1, 3)),
+        Tree::AndOr(x, y, z) => {
+            let (x, y, z) = (highest(x), highest(y), highest(z));
+            (higher(then(0, x.0, y.0), then(0, x.1, z.0)), then(0, x.1, z.1))
+        }
+        Tree::Two(kind, x, z) => {
+            let (x, z) = (highest(x), highest(z));
+            match kind {
+                Two::AndV => (then(0, x.0, z.0), None),
+                Two::AndB => (then(1, x.0, z.0), then(1, x.1, z.1)),
+                Two::OrB => (higher(then(1, x.0, z.1), then(1, x.1, z.0)), then(1, x.1, z.1)),
+                Two::OrC => (higher(x.0, then(0, x.1, z.0)), None),
+                Two::OrD => (higher(at_least(2, x.0), then(0, x.1, z.0)), then(0, x.1, z.1)),
+                Two::OrI => {
+                    let behind = |x| then(0, only(1, 1), x);
+                    (higher(behind(x.0), behind(z.0)), higher(behind(x.1), behind(z.1)))
+                }
+            }
+        }
+        Tree::Thresh(k, children) => {
+            let parts: Vec<_> = children.iter().map(highest).collect();
+            (at_least(2, highest_choice(*k as usize, &parts)), at_least(2, highest_choice(0, &parts)))
+        }
+        Tree::Multi(k, keys) => {
+            let all = only(k + 1, keys.len() as u64 + k + 3);
+            (all, all)
+        }
+        Tree::Wrap(letter, x) => {
+            let x = highest(x);
+            match letter {
+                b'd' => (then(1, only(1, 2), x.0), only(1, 2)),
+                b'j' => (then(0, only(0, 1), x.0), only(1, 2)),
+                b'v' => (x.0, None),
+                _ => x,
+            }
+        }
+    }
+}
+
+/// k of the children satisfied, and the others dissatisfied.
+fn highest_choice(k: usize, children: &[(Option<Highest>, Option<Highest>)]) -> Option<Highest> {
+    let mut best = vec![None; k + 1];
+    best[0] = only(0, 0);
+    for (place, (sat, dsat)) in children.iter().enumerate().rev() {
+        let left = u64::from(place == 0);
+        for satisfied in (0..=k).rev() {
+            let with = satisfied.checked_sub(1).and_then(|one_less| then(left, *sat, best[one_less]));
+            best[satisfied] = higher(with, then(left, *dsat, best[satisfied]));
+        }
+    }
+    best[k]
+}
+
 /// None where the text is refused.
-fn check(text: &str) -> Option<String> {
-    let valid = valid(text)?;
+fn check(text: &str, by_consensus: bool) -> Option<String> {
+    let mut valid = if by_consensus { valid_by_consensus(text)? } else { valid(text)? };
+    if by_consensus {
+        valid.height = Some(highest(&valid.tree).0.map_or(0, |x| x.height));
+    }
     let top = mall_of(&valid.tree).filter(|_| is_sane(&valid.tree))?;
     let letters = [(top.s, 's'), (top.f, 'f'), (top.e, 'e')];
     Some(valid.report(&letters.iter().filter(|(holds, _)| *holds).map(|(_, letter)| letter).collect::<String>()))
@@ -747,7 +840,8 @@ fn main() {
     let answer = match words[..] {
         ["fragments"] => fragments().map(Some),
         ["run"] => run_file(&file()),
-        ["check", text] => check(text).map(Some),
+        ["check", text] => check(text, false).map(Some),
+        ["check", "--consensus", text] => check(text, true).map(Some),
         ["--malleable", text] => satisfy(text, false),
         [text] => satisfy(text, true),
         _ => panic!("a text"),

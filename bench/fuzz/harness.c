@@ -1,0 +1,287 @@
+/* Runs the proved program on one input of libFuzzer, in this process: its `main` is called as `msat_main`, and standard input, output and
+ * error are those of the input. The input is the words with a tab between them, a line feed, and the bytes of standard input.
+ *
+ * It stops, as a crash, where
+ * - the status isn't the one that the report's first line has, or is 5, 6 or 7: no read, write or allocation fails here;
+ * - anything is written to standard error;
+ * - `check TEXT` prints a text whose `check` has another report, or `decode` one whose Script is another: a text is read back as
+ *   it was printed, but where it is one of those at the limit of depth, whose printed form is too deep;
+ * - `script TEXT` prints a Script that `decode` reads as a text with another Script;
+ * - `satisfy` prints a witness whose Script isn't the one that it prints, or that `run` refuses with the signatures and the locks of the
+ *   same file, or whose counts in that run aren't those that it prints.
+ * libFuzzer itself stops where a call takes over a second, or crashes. The file that FUZZ_COUNTS names has in the end a line for each
+ * command and status: how many inputs had it, and how many of these were tried by a second call.
+ */
+#include <stddef.h>
+#include <stdint.h>
+#include <stdio.h>
+#include <stdlib.h>
+#include <string.h>
+#include <unistd.h>
+
+enum { MOST_WORDS = 300, STATUSES = 16 };
+
+extern int msat_main(int count, char **words);
+extern ssize_t __real_read(int file, void *to, size_t count);
+extern ssize_t __real_write(int file, const void *from, size_t count);
+
+struct bytes {
+    char *at;
+    size_t length, room;
+};
+
+static int is_running;
+static char **words_now;
+static size_t word_count;
+static const char *source;
+static size_t source_left;
+static struct bytes *report;
+
+static void fail(const char *why) {
+    is_running = 0;
+    fprintf(stderr, "harness: %s\n", why);
+    abort();
+}
+
+static void add(struct bytes *to, const void *from, size_t count) {
+    if (to->length + count > to->room) {
+        to->room = 2 * (to->length + count);
+        to->at = realloc(to->at, to->room);
+        if (!to->at) fail("no memory");
+    }
+    if (count) memcpy(to->at + to->length, from, count);
+    to->length += count;
+}
+
+static void add_text(struct bytes *to, const char *text) { add(to, text, strlen(text)); }
+
+/* The kit's own functions for the words keep those of the process. */
+size_t rattle_arg_count(void) { return word_count; }
+
+ssize_t rattle_arg(size_t number, char *to, size_t room) {
+    if (number >= word_count) return -1;
+    size_t length = strlen(words_now[number]);
+    if (length > room) return -2;
+    memcpy(to, words_now[number], length);
+    return (ssize_t)length;
+}
+
+ssize_t __wrap_read(int file, void *to, size_t count) {
+    if (!is_running) return __real_read(file, to, count);
+    if (file != 0) fail("another file is read");
+    size_t taken = count < source_left ? count : source_left;
+    memcpy(to, source, taken);
+    source += taken;
+    source_left -= taken;
+    return (ssize_t)taken;
+}
+
+ssize_t __wrap_write(int file, const void *from, size_t count) {
+    if (!is_running) return __real_write(file, from, count);
+    if (file != 1) fail("something is written to standard error");
+    add(report, from, count);
+    return (ssize_t)count;
+}
+
+static int call(char **words, int count, const char *input, size_t length, struct bytes *to) {
+    words_now = words;
+    word_count = (size_t)count;
+    source = input;
+    source_left = length;
+    report = to;
+    report->length = 0;
+    is_running = 1;
+    int status = msat_main(count, words);
+    is_running = 0;
+    add(report, "", 1);
+    report->length--;
+    return status;
+}
+
+static int begins(const char *text, const char *with) { return !strncmp(text, with, strlen(with)); }
+
+/* The status that a report with this first line has. */
+static int status_of(const struct bytes *it) {
+    if (it->length == 0) return 11;
+    if (it->at[it->length - 1] != '\n' && !strchr(it->at, '\n')) return -1;
+    if (!strcmp(it->at, "refused usage\n")) return 1;
+    if (begins(it->at, "refused text ")) return 2;
+    if (begins(it->at, "refused file ")) return 3;
+    if (!strcmp(it->at, "no satisfaction\n")) return 4;
+    if (begins(it->at, "refused script ")) return 8;
+    if (!strcmp(it->at, "no reading\n")) return 10;
+    return begins(it->at, "refused") ? -1 : 0;
+}
+
+/* The rest of the line of a report that begins with a name, ended by NUL, or nothing. */
+static char *line(const struct bytes *it, const char *name, struct bytes *to) {
+    size_t length = strlen(name);
+    for (const char *at = it->at; at && *at; at = strchr(at, '\n'), at = at ? at + 1 : at) {
+        if (strncmp(at, name, length) || at[length] != ' ') continue;
+        const char *end = strchr(at, '\n');
+        if (!end) fail("a line has no end");
+        to->length = 0;
+        add(to, at + length + 1, (size_t)(end - at) - length - 1);
+        add(to, "", 1);
+        return to->at;
+    }
+    return NULL;
+}
+
+static char program[] = "msat";
+static struct bytes first, second, text, script, witness, file, counts;
+
+/* `check` or `script` of a text that was printed, with the option that stood there if one did. Returns 0 where it is too deep to be read. */
+static int again(const char *command, const char *option, const char *printed) {
+    char *words[] = {program, (char *)command, (char *)(option ? option : printed), option ? (char *)printed : NULL, NULL};
+    int status = call(words, option ? 4 : 3, "", 0, &second);
+    if (status == 2 && begins(second.at, "refused text TooDeep at ")) return 0;
+    if (status != 0) fail("what was printed is refused");
+    return 1;
+}
+
+static void lower(char *digits) {
+    for (; *digits; digits++)
+        if (*digits >= 'A' && *digits <= 'F') *digits += 'a' - 'A';
+}
+
+static int of_check(const char *option) {
+    if (!line(&first, "text", &text)) fail("check prints no text");
+    if (!again("check", option, text.at)) return 0;
+    if (first.length != second.length || memcmp(first.at, second.at, first.length)) fail("what was printed is another tree");
+    return 1;
+}
+
+static int has_script(const char *digits) {
+    if (strlen(digits) + 1 != second.length || memcmp(digits, second.at, second.length - 1)) fail("what was read back has another Script");
+    return 1;
+}
+
+static int of_decode(const char *digits) {
+    script.length = 0;
+    add(&script, digits, strlen(digits) + 1);
+    lower(script.at);
+    if (!line(&first, "text", &text)) fail("decode prints no text");
+    return again("script", NULL, text.at) && has_script(script.at);
+}
+
+static int of_script(const char *option) {
+    script.length = 0;
+    add(&script, first.at, first.length - 1);
+    add(&script, "", 1);
+    char *words[] = {program, (char *)"decode", script.at, NULL};
+    int status = call(words, 3, "", 0, &second);
+    if (status == 10) return 0;
+    if (status != 0 || !line(&second, "text", &text)) fail("a Script that was printed isn't read");
+    return again("script", option, text.at) && has_script(script.at);
+}
+
+/* A compact size in hexadecimal digits, as BIP 144 writes it, of at most two bytes. */
+static size_t size_at(const char **digits) {
+    unsigned value = 0, high = 0;
+    if (sscanf(*digits, "%2x", &value) != 1) fail("a witness is cut");
+    *digits += 2;
+    if (value < 0xfd) return value;
+    if (value != 0xfd || sscanf(*digits, "%2x%2x", &value, &high) != 2) fail("a size of a witness is too large");
+    *digits += 4;
+    return value + 256 * high;
+}
+
+/* The file, with the Script and the stack of the witness as its last members. */
+static void run_file(const char *input, size_t length) {
+    const char *end = input + length;
+    while (end > input && end[-1] != '}') end--;
+    if (end == input) fail("an asset file has no end");
+    const char *before = --end;
+    while (before > input && strchr(" \t\r\n", before[-1])) before--;
+    file.length = 0;
+    add(&file, input, (size_t)(end - input));
+    if (before[-1] != '{') add_text(&file, ",");
+    add_text(&file, "\"script\":\"");
+    add_text(&file, script.at);
+    add_text(&file, "\",\"witness\":[");
+    const char *at = witness.at;
+    size_t items = size_at(&at);
+    for (size_t i = 0; i < items; i++) {
+        size_t bytes = size_at(&at);
+        if (strlen(at) < 2 * bytes) fail("a witness is cut");
+        if (i + 1 == items) {
+            if (strcmp(at, script.at)) fail("the last item of a witness isn't the Script");
+        } else {
+            add_text(&file, i ? ",\"" : "\"");
+            add(&file, at, 2 * bytes);
+            add_text(&file, "\"");
+        }
+        at += 2 * bytes;
+    }
+    if (*at) fail("a witness has more bytes than its sizes say");
+    add_text(&file, "]}");
+}
+
+static int of_satisfy(const char *input, size_t length) {
+    if (!line(&first, "script", &script) || !line(&first, "witness", &witness) || !line(&first, "replay", &counts))
+        fail("satisfy prints no witness");
+    run_file(input, length);
+    char *words[] = {program, (char *)"run", NULL};
+    if (call(words, 2, file.at, file.length, &second) != 0) fail("a witness isn't accepted");
+    unsigned long ops, items, weight, peak, run_ops, run_peak;
+    if (sscanf(counts.at, "ops %lu items %lu weight %lu peak %lu", &ops, &items, &weight, &peak) != 4) fail("a replay has no counts");
+    if (sscanf(second.at, "accepted ops %lu peak %lu", &run_ops, &run_peak) != 2) fail("a run has no counts");
+    if (ops != run_ops || peak != run_peak) fail("a replay has other counts than the run");
+    return 1;
+}
+
+static const char *const commands[] = {"script", "check", "satisfy", "run", "gen", "policy", "plan", "decode", "others"};
+enum { COMMANDS = sizeof commands / sizeof *commands };
+static unsigned long answers[COMMANDS][STATUSES], tried[COMMANDS][STATUSES];
+
+static void write_counts(void) {
+    const char *path = getenv("FUZZ_COUNTS");
+    FILE *to = path ? fopen(path, "w") : NULL;
+    if (!to) return;
+    for (int i = 0; i < COMMANDS; i++)
+        for (int status = 0; status < STATUSES; status++)
+            if (answers[i][status]) fprintf(to, "%s\t%d\t%lu\t%lu\n", commands[i], status, answers[i][status], tried[i][status]);
+    fclose(to);
+}
+
+int LLVMFuzzerTestOneInput(const uint8_t *data, size_t size) {
+    static char *copy;
+    static size_t room;
+    static int is_first = 1;
+    if (is_first) is_first = 0, atexit(write_counts);
+    if (size + 1 > room) {
+        room = 2 * size + 64;
+        copy = realloc(copy, room);
+        if (!copy) fail("no memory");
+    }
+    if (size) memcpy(copy, data, size);
+    copy[size] = 0;
+    char *words[MOST_WORDS + 2] = {program};
+    int count = 1;
+    char *at = copy, *end = memchr(copy, '\n', size);
+    if (!end) end = copy + size;
+    while (at < end && count <= MOST_WORDS) {
+        words[count++] = at;
+        while (at < end && *at != '\t') at++;
+        *at++ = 0;
+    }
+    *end = 0;
+    const char *input = end < copy + size ? end + 1 : end;
+    size_t length = (size_t)(copy + size - input);
+
+    int status = call(words, count, input, length, &first);
+    if (status != status_of(&first)) fail("the status isn't that of the report");
+    int which = 0;
+    while (which < COMMANDS - 1 && (count < 2 || strcmp(words[1], commands[which]))) which++;
+    answers[which][status]++;
+    if (status) return 0;
+    const char *option = count == 4 && which < 2 ? words[2] : NULL;
+    int more = 0;
+    if (which == 0) more = of_script(option);
+    if (which == 1) more = of_check(option);
+    if (which == 2) more = of_satisfy(input, length);
+    if (which == 7) more = of_decode(words[2]);
+    tried[which][0] += (unsigned long)more;
+    return 0;
+}
