@@ -3,7 +3,7 @@
 
 pub use extent::Extent;
 pub use length::{opcode_count, script_extent, script_len};
-pub use translation::emit;
+pub use translation::{emit, script_bytes};
 
 mod arms;
 mod extent;

@@ -4,7 +4,7 @@ ghost use Rattle.ms_tree.specs.Shape.{leaf_shape, shape};
 
 use crate::*;
 use bumpalo::Bump;
-use ms_script::{Blob, encode};
+use ms_script::Blob;
 use ms_tree::{HashVal, Key, Leaf, Tree, Two, Wrapper, and_or, leaf, multi, thresh, two, wrap};
 use std::alloc::{AllocError, Global};
 use std::test::Fail;
@@ -28,7 +28,7 @@ fn joined(alloc: Global, pieces: &[&[u8]]) -> Result<Vec<u8>, AllocError> {
 fn script_of(alloc: Global, tree: &Tree<'_>) -> Result<Blob, Fail>
     requires { IsInRange (shape tree.now) }
 {
-    let script = encode(alloc, &emit(alloc, tree)?)?;
+    let script = script_bytes(alloc, tree)?;
     if script_len(tree) != script.as_slice().len() as u64 {
         return Err("a wrong length")?;
     }

@@ -1,5 +1,5 @@
 ghost use Rattle.std.specs.Prelude.{◌≡◌, ◌<◌, ◌++◌, [], ◌∷◌, ℕ, length, map, IfOk, OnOk, All};
-ghost use Rattle.def_emit.specs.Emit.{number as the_number, emit as the_emit, emit_sum as the_sum, emit_added as the_added};
+ghost use Rattle.def_emit.specs.Emit.{number as the_number, script_of, emit as the_emit, emit_sum as the_sum, emit_added as the_added};
 ghost use Rattle.def_script.specs.Instruction.{push};
 ghost use Rattle.def_script.specs.Spell.{IsShort};
 ghost use Rattle.def_tree.specs.Range.{MOST_MEASURE, TEN_DIGITS, IsInRange};
@@ -11,7 +11,7 @@ use crate::arms::{
     and_or_arm, hash_arms, leaf_arms, list_opcodes, opcodes, pair_arms, wrapper_arms,
 };
 use ms_hash::hash160;
-use ms_script::{Op, Script, num_encode};
+use ms_script::{Blob, Op, Script, encode, num_encode};
 use ms_tree::{HashVal, Key, Leaf, Tree, Two, View, Wrapper, fragment_rows};
 use std::alloc::{AllocError, Global};
 
@@ -24,6 +24,14 @@ pub fn emit(alloc: Global, tree: &Tree<'_>) -> Result<Script, AllocError>
     let mut script = Script::new(alloc);
     add_tree(&mut script, tree)?;
     Ok(script)
+}
+
+/// The bytes of a tree's Script, for every tree in range. `AllocError` comes only where memory is wanting.
+pub fn script_bytes(alloc: Global, tree: &Tree<'_>) -> Result<Blob, AllocError>
+    requires { IsInRange (shape tree.now) }
+    ensures { IfOk result (λ script. script ≡ script_of (shape tree.now)) }
+{
+    encode(alloc, &emit(alloc, tree)?)
 }
 
 /// Adds the Script of a tree.

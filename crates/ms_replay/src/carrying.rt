@@ -24,10 +24,10 @@ use crate::program::program_of;
 use crate::replaying::{ReplayStop, replay};
 use crate::witness::witness_bytes;
 use ms_assets::Assets;
-use ms_emit::emit;
+use ms_emit::script_bytes;
 use ms_interp::RunReport;
 use ms_oracle::{Locks, SigCheck};
-use ms_script::{Blob, Stack, encode};
+use ms_script::{Blob, Stack};
 use ms_tree::Tree;
 use std::alloc::{AllocError, Global};
 
@@ -73,7 +73,7 @@ pub fn carry<F: Fn(&[u8], &[u8]) -> bool>(
     ensures within { (limits : Limits) → (table : Pairs) → AreLimits (shape tree.now) limits → Holds table assets.now → IsAcceptedWithin (shape tree.now) limits (given_with assets.now table) stack.now }
 {
     let locks = assets.locks();
-    let script = script_of_tree(alloc, tree)?;
+    let script = script_bytes(alloc, tree)?;
     let program = program_of(script.as_slice());
     let witness = witness_bytes(alloc, stack, script.as_slice())?;
     let report = replay_accepted(alloc, &program, witness.as_slice(), &locks, sigs)?;
@@ -83,14 +83,6 @@ pub fn carry<F: Fn(&[u8], &[u8]) -> bool>(
         witness,
         report,
     })
-}
-
-/// The Script of a tree, as bytes.
-fn script_of_tree(alloc: Global, tree: &Tree<'_>) -> Result<Blob, AllocError>
-    requires { IsInRange (shape tree.now) }
-    ensures { IfOk result (λ script. script ≡ script_of (shape tree.now)) }
-{
-    encode(alloc, &emit(alloc, tree)?)
 }
 
 /// Replays a witness whose run is accepted.

@@ -8,4 +8,5 @@ pub mod Tallies
 mod Known
 mod Mixed
 mod Unions
+mod Entries
 mod Repeated

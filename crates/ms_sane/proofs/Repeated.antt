@@ -1,204 +1,160 @@
--- The first node that repeats a key, as the tree is walked.
-use Rattle.std.proofs.Common.{◌≡◌, ◌<◌, ◌≤◌, ℕ, zero, suc, ◌+◌, ◌-◌, Bool, true, false, ◌||◌, List, [], ◌∷◌, ◌++◌, length, take, drop, get_or, Option, Some, None, Result, Ok, Err, IfSome, refl, sym, ◌∙◌, ap, append_assoc, subst, arith, if◌then◌else◌}
-use Rattle.std.specs.Option.{option_or}
-use Rattle.std.specs.Result.{result_err}
-use Rattle.std.specs.List.{list_any, flat_map}
+-- The first node that repeats a key, as the keys stand side by side.
+use Rattle.std.proofs.Common.{◌≡◌, ◌<◌, ℕ, zero, suc, ◌+◌, Bool, true, false, ◌||◌, List, [], ◌∷◌, ◌++◌, map, length, drop, get_or, All, Option, Some, None, IfSome, refl, sym, ◌∙◌, ap, append_assoc, arith, if◌then◌else◌}
+use Rattle.std.specs.Prelude.{⊤}
+use Rattle.std.specs.List.{list_any}
 use Rattle.std.specs.Str.{bytes_eq}
-use Rattle.std.proofs.lemmas.Grind.{flat_map-append}
-use Rattle.std.proofs.lemmas.List.{length-append, append-nil}
-use Rattle.std.proofs.Math.Bool.{or_assoc}
-use Rattle.std.proofs.Math.Seq.{take-append_seam}
+use Rattle.std.proofs.lemmas.List.{append-nil, map-append}
+use Rattle.std.proofs.lemmas.List.Elements.{All-nil, All-cons, All-head, All-tail, All-append}
 use Rattle.def_tree.specs.Tree.{Tree, Trees, Key, just_0, just_1, pk_k, pk_h, older, after, hash, and_or, two, thresh, multi, wrap, none, more}
 use Rattle.def_tree.specs.Size.{nodes, nodes_of, measure, measure_of}
-use Rattle.def_types.specs.Row.{if_ok}
+use Rattle.def_tree.specs.Range.{IsKey, IsWritable, AreWritable}
 use Rattle.def_tree.specs.Nodes.{all_nodes, nodes_of_all}
-use Rattle.def_sane.specs.Keys.{keys, keys_of_all, own_keys, repeats, repeated_from, repeated_key}
+use Rattle.def_sane.specs.Keys.{own_keys, repeats, repeated_from, repeated_key}
 use Rattle.def_tree.proofs.NodeLists.{nodes_are_all, trees_are_all}
-use Rattle.def_sane.proofs.NodeLists.{keys_of_nodes, keys_of_node_list}
 use Rattle.ms_tree.specs.declared.tree.Tree as trees
 use Rattle.ms_tree.specs.Shape.{shape, shapes}
-use Rattle.ms_sane.specs.Repeats.{is_among, is_found, is_found_in, repeats_at, of_own, repeats_from, repeats_from_each}
+use Rattle.ms_sane.specs.Repeats.{held, held_in, held_by, entry, is_same, repeats_first}
+use Rattle.ms_sane.proofs.Entries.{same_keys}
 
--- a tree has no more keys than it measures
-mutual
-  pub keys-le-measure : (t : Tree) → length (keys t) ≤ measure t
-  keys-le-measure just_0 = omega arith
-  keys-le-measure just_1 = omega arith
-  keys-le-measure (pk_k key) = omega arith
-  keys-le-measure (pk_h key) = omega arith
-  keys-le-measure (older n) = omega arith
-  keys-le-measure (after n) = omega arith
-  keys-le-measure (hash kind value) = omega arith
-  keys-le-measure (and_or x y z) =
-      omega (arith, length-append (keys x ++ keys y) (keys z), length-append (keys x) (keys y), keys-le-measure x, keys-le-measure y, keys-le-measure z)
-  keys-le-measure (two kind x y) = omega (arith, length-append (keys x) (keys y), keys-le-measure x, keys-le-measure y)
-  keys-le-measure (thresh k xs) = omega (arith, all_keys-le-measure xs)
-  keys-le-measure (multi k own) = omega arith
-  keys-le-measure (wrap wrapper x) = omega (arith, keys-le-measure x)
+abbrev Held : Type 0
+Held = ℕ × Key
 
-  all_keys-le-measure : (xs : Trees) → length (keys_of_all xs) ≤ measure_of xs
-  all_keys-le-measure none = omega arith
-  all_keys-le-measure (more x xs) = omega (arith, length-append (keys x) (keys_of_all xs), keys-le-measure x, all_keys-le-measure xs)
+-- the keys of nodes that are numbered from `first` on
+abbrev held_nodes : (first : ℕ) → List Tree → List Held
+held_nodes first [] = []
+held_nodes first (t ∷ ts) = held_by first (own_keys t) ++ held_nodes (first + 1) ts
 
--- the keys of a part that a loop is at, and of those behind it
-pub keys_left : (xs : List trees.Tree) (i : ℕ) (x : trees.Tree) → i < length xs → x ≡ get_or xs i x → length (keys (shape x)) + length (keys_of_all (shapes (drop (suc i) xs))) ≡ length (keys_of_all (shapes (drop i xs)))
-keys_left [] i x below at = absurd (omega (arith, below))
-keys_left (y ∷ xs) zero x below at =
-    ap (λ z. length (keys (shape z)) + length (keys_of_all (shapes xs))) at ∙ sym (length-append (keys (shape y)) (keys_of_all (shapes xs)))
-keys_left (y ∷ xs) (suc i) x below at = keys_left xs i x (omega (arith, below)) at
+held_nodes-append : (first middle : ℕ) (xs ys : List Tree) → middle ≡ first + length xs → held_nodes first (xs ++ ys) ≡ held_nodes first xs ++ held_nodes middle ys
+held_nodes-append first middle [] ys at = let same : middle ≡ first = omega (arith, at) in rw same refl
+held_nodes-append first middle (x ∷ xs) ys at =
+    ap (λ l. held_by first (own_keys x) ++ l) (held_nodes-append (first + 1) middle xs ys (omega (arith, at)))
+    ∙ sym (append_assoc (held_by first (own_keys x)) (held_nodes (first + 1) xs) (held_nodes middle ys))
 
--- a key among the first of one list behind another
-among-append : (key : Key) (n : ℕ) (xs ys : List Key) → is_among key n (xs ++ ys) ≡ (is_among key n xs || is_among key (n - length xs) ys)
-among-append key zero xs ys = let none : 0 - length xs ≡ 0 = omega arith in rw none
-among-append key (suc n) [] ys = let all : suc n - 0 ≡ suc n = omega arith in rw all
-among-append key (suc n) (x ∷ xs) ys =
-    let less : suc n - suc (length xs) ≡ n - length xs = omega arith in
-    rw less (rw (among-append key n xs ys) (sym (or_assoc (bytes_eq key x) (is_among key n xs) (is_among key (n - length xs) ys))))
-
-none_among : (key : Key) (n : ℕ) → is_among key n [] ≡ false
-none_among key zero = refl
-none_among key (suc n) = refl
+-- a tree, and nodes behind it
+then_nodes : (x : Tree) (node : ℕ) (ts : List Tree) (rest : List Held) → held_nodes node (all_nodes x) ≡ held node x → held_nodes (node + nodes x) ts ≡ rest
+    → held_nodes node (all_nodes x ++ ts) ≡ held node x ++ rest
+then_nodes x node ts rest is behind =
+    held_nodes-append node (node + nodes x) (all_nodes x) ts (ap (λ count. node + count) (sym (nodes_are_all x)))
+    ∙ ap (λ l. l ++ held_nodes (node + nodes x) ts) is
+    ∙ ap (λ l. held node x ++ l) behind
 
 mutual
-  pub found_is : (key : Key) (n : ℕ) (t : Tree) → is_found key n t ≡ is_among key n (keys t)
-  found_is key n just_0 = sym (none_among key n)
-  found_is key n just_1 = sym (none_among key n)
-  found_is key n (pk_k own) = refl
-  found_is key n (pk_h own) = refl
-  found_is key n (older m) = sym (none_among key n)
-  found_is key n (after m) = sym (none_among key n)
-  found_is key n (hash kind value) = sym (none_among key n)
-  found_is key n (and_or x y z) =
-      rw (found_is key n x)
-      (rw (found_is key (n - length (keys x)) y)
-      (rw (found_is key (n - length (keys x) - length (keys y)) z)
-      (rw (among-append key n (keys x ++ keys y) (keys z))
-      (rw (among-append key n (keys x) (keys y))
-      (let less : n - length (keys x ++ keys y) ≡ n - length (keys x) - length (keys y) = omega (arith, length-append (keys x) (keys y)) in rw less)))))
-  found_is key n (two kind x y) =
-      rw (found_is key n x) (rw (found_is key (n - length (keys x)) y) (sym (among-append key n (keys x) (keys y))))
-  found_is key n (thresh k xs) = found_in_is key n xs
-  found_is key n (multi k own) = refl
-  found_is key n (wrap wrapper x) = found_is key n x
-
-  found_in_is : (key : Key) (n : ℕ) (xs : Trees) → is_found_in key n xs ≡ is_among key n (keys_of_all xs)
-  found_in_is key n none = sym (none_among key n)
-  found_in_is key n (more x xs) =
-      rw (found_is key n x) (rw (found_in_is key (n - length (keys x)) xs) (sym (among-append key n (keys x) (keys_of_all xs))))
-
--- the keys that stand before are the first so many
-own_is : (all before behind own : List Key) (n : ℕ) → n ≡ length before → all ≡ before ++ (own ++ behind) → repeats_at all n own ≡ repeats before own
-own_is all before behind [] n count is = refl
-own_is all before behind (key ∷ rest) n count is =
-    let first : take n all ≡ before = rw count (rw is (take-append_seam before (key ∷ rest ++ behind))) in
-    rw first
-    (ap (λ b. list_any (bytes_eq key) before || b)
-    (own_is all (before ++ key ∷ []) behind rest (n + 1)
-    (omega (arith, count, length-append before (key ∷ [])))
-    (is ∙ sym (append_assoc before (key ∷ []) (rest ++ behind)))))
-
--- nothing, unless a node repeats a key
-abbrev unless_repeated : Option ℕ → Result Unit ℕ
-unless_repeated None = Ok tt
-unless_repeated (Some node) = Err node
-
--- one list of nodes behind another
-repeated_from-append : (xs ys : List Tree) (node middle : ℕ) (before between : List Key) → middle ≡ node + length xs → between ≡ before ++ flat_map own_keys xs
-    → repeated_from node before (xs ++ ys) ≡ option_or (repeated_from node before xs) (repeated_from middle between ys)
-repeated_from-append [] ys node middle before between at is =
-    let same : middle ≡ node = omega (arith, at) in rw same (rw is (rw (append-nil before) refl))
-repeated_from-append (x ∷ xs) ys node middle before between at is =
-    go (repeats before (own_keys x))
-    (repeated_from-append xs ys (node + 1) middle (before ++ own_keys x) between (omega (arith, at)) (is ∙ sym (append_assoc before (own_keys x) (flat_map own_keys xs))))
-  where
-    go : (b : Bool) → repeated_from (node + 1) (before ++ own_keys x) (xs ++ ys) ≡ option_or (repeated_from (node + 1) (before ++ own_keys x) xs) (repeated_from middle between ys)
-        → (if b then Some node else repeated_from (node + 1) (before ++ own_keys x) (xs ++ ys)) ≡ option_or (if b then Some node else repeated_from (node + 1) (before ++ own_keys x) xs) (repeated_from middle between ys)
-    go true rest = refl
-    go false rest = rest
-
--- the answer for these nodes, of which the first has the number `node`, wherever their keys stand behind n
--- others
-abbrev Walked : (all : List Key) (node n : ℕ) → Result Unit ℕ → List Tree → Type 0
-Walked all node n r ts =
-    (before behind : List Key) → n ≡ length before → all ≡ before ++ (flat_map own_keys ts ++ behind) → r ≡ unless_repeated (repeated_from node before ts)
-
--- of a node
-last_node : (t : Tree) (all : List Key) (node n : ℕ) → Walked all node n (of_own all node n (own_keys t)) (t ∷ [])
-last_node t all node n = λ before behind count is.
-    rw (own_is all before behind (own_keys t) n count (is ∙ ap (λ own. before ++ (own ++ behind)) (append-nil (own_keys t))))
-    (go before (repeats before (own_keys t)))
-  where
-    go : (before : List Key) (b : Bool) → (if b then Err node else Ok tt) ≡ unless_repeated (if b then Some node else None)
-    go before true = refl
-    go before false = refl
-
--- of nodes, and others behind them
-then_nodes : (all : List Key) (node n middle m : ℕ) (r s : Result Unit ℕ) (ts us : List Tree) → middle ≡ node + length ts → m ≡ n + length (flat_map own_keys ts)
-    → Walked all node n r ts → Walked all middle m s us → Walked all node n (if_ok r (λ done. s)) (ts ++ us)
-then_nodes all node n middle m r s ts us at passed first second = λ before behind count is.
-    let own = flat_map own_keys ts in
-    let rest = flat_map own_keys us ++ behind in
-    let split : all ≡ before ++ (own ++ rest) =
-    is ∙ ap (λ both. before ++ (both ++ behind)) (flat_map-append own_keys ts us) ∙ ap (λ both. before ++ both) (append_assoc own (flat_map own_keys us) behind) in
-    rw (first before rest count split)
-    (rw (second (before ++ own) behind (omega (arith, passed, count, length-append before own)) (split ∙ sym (append_assoc before own rest)))
-    (rw (repeated_from-append ts us node middle before (before ++ own) at refl)
-    (go (repeated_from node before ts) (repeated_from middle (before ++ own) us))))
-  where
-    go : (o p : Option ℕ) → if_ok (unless_repeated o) (λ done. unless_repeated p) ≡ unless_repeated (option_or o p)
-    go None p = refl
-    go (Some place) p = refl
-
--- of a tree, and nodes behind it
-then_behind : (x : Tree) (all : List Key) (node n : ℕ) (r s : Result Unit ℕ) (us : List Tree) → Walked all node n r (all_nodes x) → Walked all (node + nodes x) (n + length (keys x)) s us
-    → Walked all node n (if_ok r (λ done. s)) (all_nodes x ++ us)
-then_behind x all node n r s us first second =
-    then_nodes all node n (node + nodes x) (n + length (keys x)) r s (all_nodes x) us
-    (ap (λ count. node + count) (sym (nodes_are_all x))) (ap (λ own. n + length own) (sym (keys_of_nodes x))) first second
-
-mutual
-  walked : (t : Tree) (all : List Key) (node n : ℕ) → Walked all node n (repeats_from all node n t) (all_nodes t)
-  walked just_0 all node n = last_node just_0 all node n
-  walked just_1 all node n = last_node just_1 all node n
-  walked (pk_k key) all node n = last_node (pk_k key) all node n
-  walked (pk_h key) all node n = last_node (pk_h key) all node n
-  walked (older m) all node n = last_node (older m) all node n
-  walked (after m) all node n = last_node (after m) all node n
-  walked (hash kind value) all node n = last_node (hash kind value) all node n
-  walked (multi k own) all node n = last_node (multi k own) all node n
-  walked (and_or x y z) all node n =
+  held_is : (node : ℕ) (t : Tree) → held_nodes node (all_nodes t) ≡ held node t
+  held_is node just_0 = refl
+  held_is node just_1 = refl
+  held_is node (pk_k key) = refl
+  held_is node (pk_h key) = refl
+  held_is node (older m) = refl
+  held_is node (after m) = refl
+  held_is node (hash kind value) = refl
+  held_is node (and_or x y z) =
       let grouped : all_nodes x ++ (all_nodes y ++ (all_nodes z ++ and_or x y z ∷ [])) ≡ all_nodes x ++ all_nodes y ++ all_nodes z ++ and_or x y z ∷ [] = simp append_assoc in
-      subst (Walked all node n (repeats_from all node n (and_or x y z))) grouped
-      (then_behind x all node n _ _ _ (walked x all node n)
-      (then_behind y all (node + nodes x) (n + length (keys x)) _ _ _ (walked y all (node + nodes x) (n + length (keys x)))
-      (then_behind z all (node + nodes x + nodes y) (n + length (keys x) + length (keys y)) _ _ _ (walked z all (node + nodes x + nodes y) (n + length (keys x) + length (keys y)))
-      (last_node (and_or x y z) all (node + nodes x + nodes y + nodes z) (n + length (keys x) + length (keys y) + length (keys z))))))
-  walked (two kind x y) all node n =
-      subst (Walked all node n (repeats_from all node n (two kind x y))) (sym (append_assoc (all_nodes x) (all_nodes y) (two kind x y ∷ [])))
-      (then_behind x all node n _ _ _ (walked x all node n)
-      (then_behind y all (node + nodes x) (n + length (keys x)) _ _ _ (walked y all (node + nodes x) (n + length (keys x)))
-      (last_node (two kind x y) all (node + nodes x + nodes y) (n + length (keys x) + length (keys y)))))
-  walked (thresh k xs) all node n =
-      then_nodes all node n (node + nodes_of xs) (n + length (keys_of_all xs)) _ _ (nodes_of_all xs) (thresh k xs ∷ [])
-      (ap (λ count. node + count) (sym (trees_are_all xs))) (ap (λ own. n + length own) (sym (keys_of_node_list xs)))
-      (walked_each xs all node n) (last_node (thresh k xs) all (node + nodes_of xs) (n + length (keys_of_all xs)))
-  walked (wrap wrapper x) all node n =
-      then_behind x all node n _ _ _ (walked x all node n) (last_node (wrap wrapper x) all (node + nodes x) (n + length (keys x)))
+      ap (held_nodes node) (sym grouped)
+      ∙ then_nodes x node _ _ (held_is node x)
+      (then_nodes y (node + nodes x) _ _ (held_is (node + nodes x) y)
+      (then_nodes z (node + nodes x + nodes y) _ _ (held_is (node + nodes x + nodes y) z) refl
+      ∙ append-nil (held (node + nodes x + nodes y) z)))
+      ∙ sym (append_assoc (held node x) (held (node + nodes x) y) (held (node + nodes x + nodes y) z))
+  held_is node (two kind x y) =
+      ap (held_nodes node) (append_assoc (all_nodes x) (all_nodes y) (two kind x y ∷ []))
+      ∙ then_nodes x node _ _ (held_is node x)
+      (then_nodes y (node + nodes x) _ _ (held_is (node + nodes x) y) refl ∙ append-nil (held (node + nodes x) y))
+  held_is node (thresh k xs) =
+      held_nodes-append node (node + nodes_of xs) (nodes_of_all xs) (thresh k xs ∷ []) (ap (λ count. node + count) (sym (trees_are_all xs)))
+      ∙ append-nil (held_nodes node (nodes_of_all xs))
+      ∙ held_in_is node xs
+  held_is node (multi k own) = append-nil (held_by node own)
+  held_is node (wrap wrapper x) = then_nodes x node (wrap wrapper x ∷ []) [] (held_is node x) refl ∙ append-nil (held node x)
 
-  walked_each : (xs : Trees) (all : List Key) (node n : ℕ) → Walked all node n (repeats_from_each all node n xs) (nodes_of_all xs)
-  walked_each none all node n = λ before behind count is. refl
-  walked_each (more x xs) all node n =
-      then_behind x all node n _ _ _ (walked x all node n) (walked_each xs all (node + nodes x) (n + length (keys x)))
+  held_in_is : (node : ℕ) (xs : Trees) → held_nodes node (nodes_of_all xs) ≡ held_in node xs
+  held_in_is node none = refl
+  held_in_is node (more x xs) = then_nodes x node (nodes_of_all xs) _ (held_is node x) (held_in_is (node + nodes x) xs)
 
-refusal-repeated : (o : Option ℕ) → result_err (unless_repeated o) ≡ o
-refusal-repeated None = refl
-refusal-repeated (Some node) = refl
+-- all of them are keys
+abbrev AreKeys : List Held → Type 0
+AreKeys = All (λ held. IsKey held.1)
 
--- so a refusal is the first node that repeats a key
-pub refusal_is_repeat : (t : Tree) → result_err (repeats_from (keys t) 0 0 t) ≡ repeated_key t
-refusal_is_repeat t =
-    ap result_err (walked t (keys t) 0 0 [] [] refl (sym (keys_of_nodes t) ∙ sym (append-nil (flat_map own_keys (all_nodes t)))))
-    ∙ refusal-repeated (repeated_key t)
+own_are_keys : (node : ℕ) (own : List Key) → All IsKey own → AreKeys (held_by node own)
+own_are_keys node [] all = All-nil _
+own_are_keys node (key ∷ own) all =
+    All-cons (λ (held : Held). IsKey held.1) (node, key) (held_by node own) (All-head IsKey key own all) (own_are_keys node own (All-tail IsKey key own all))
+
+-- the nodes hold keys only
+abbrev HoldKeys : List Tree → Type 0
+HoldKeys [] = ⊤
+HoldKeys (t ∷ ts) = All IsKey (own_keys t) × HoldKeys ts
+
+hold-append : (xs ys : List Tree) → HoldKeys xs → HoldKeys ys → HoldKeys (xs ++ ys)
+hold-append [] ys x y = y
+hold-append (t ∷ xs) ys x y = (x.0, hold-append xs ys x.1 y)
+
+mutual
+  nodes_hold : (t : Tree) → IsWritable t → HoldKeys (all_nodes t)
+  nodes_hold just_0 w = (All-nil _, tt)
+  nodes_hold just_1 w = (All-nil _, tt)
+  nodes_hold (pk_k key) w = (All-cons IsKey key [] w (All-nil _), tt)
+  nodes_hold (pk_h key) w = (All-cons IsKey key [] w (All-nil _), tt)
+  nodes_hold (older m) w = (All-nil _, tt)
+  nodes_hold (after m) w = (All-nil _, tt)
+  nodes_hold (hash kind value) w = (All-nil _, tt)
+  nodes_hold (and_or x y z) w =
+      hold-append _ _ (hold-append _ _ (hold-append _ _ (nodes_hold x w.0) (nodes_hold y w.1)) (nodes_hold z w.2)) (All-nil _, tt)
+  nodes_hold (two kind x y) w = hold-append _ _ (hold-append _ _ (nodes_hold x w.0) (nodes_hold y w.1)) (All-nil _, tt)
+  nodes_hold (thresh k xs) w = hold-append _ _ (trees_hold xs w.2) (All-nil _, tt)
+  nodes_hold (multi k own) w = (w.2, tt)
+  nodes_hold (wrap wrapper x) w = hold-append _ _ (nodes_hold x w) (All-nil _, tt)
+
+  trees_hold : (xs : Trees) → AreWritable xs → HoldKeys (nodes_of_all xs)
+  trees_hold none w = tt
+  trees_hold (more x xs) w = hold-append _ _ (nodes_hold x w.0) (trees_hold xs w.1)
+
+abbrev keys_of : List Held → List Key
+keys_of = map (λ held. held.1)
+
+keys_held : (node : ℕ) (own : List Key) → keys_of (held_by node own) ≡ own
+keys_held node [] = refl
+keys_held node (key ∷ own) = ap (λ l. key ∷ l) (keys_held node own)
+
+-- a key that stands before does so as an entry
+any_same : (node : ℕ) (key : Key) (before : List Held) → IsKey key → AreKeys before → list_any (is_same (entry (node, key))) (map entry before) ≡ list_any (bytes_eq key) (keys_of before)
+any_same node key [] is all = refl
+any_same node key (b ∷ before) is all =
+    rw (same_keys node key b.0 b.1 is (All-head (λ (held : Held). IsKey held.1) b before all))
+    (ap (λ any. bytes_eq key b.1 || any) (any_same node key before is (All-tail (λ (held : Held). IsKey held.1) b before all)))
+
+-- the keys of one node, and others behind it
+own_first : (node : ℕ) (own : List Key) (before rest : List Held) → AreKeys before → All IsKey own
+    → repeats_first (map entry before) (map entry (held_by node own ++ rest))
+    ≡ (if repeats (keys_of before) own then Some node else repeats_first (map entry (before ++ held_by node own)) (map entry rest))
+own_first node [] before rest known keys = ap (λ l. repeats_first (map entry l) (map entry rest)) (sym (append-nil before))
+own_first node (key ∷ own) before rest known keys =
+    let is = All-head IsKey key own keys in
+    let more_known = All-append (λ (held : Held). IsKey held.1) before ((node, key) ∷ []) known (All-cons (λ (held : Held). IsKey held.1) (node, key) [] is (All-nil _)) in
+    let later = own_first node own (before ++ (node, key) ∷ []) rest more_known (All-tail IsKey key own keys) in
+    let entries = map-append entry before ((node, key) ∷ []) in
+    let keys_before = map-append (λ (held : Held). held.1) before ((node, key) ∷ []) in
+    let grouped = append_assoc before ((node, key) ∷ []) (held_by node own) in
+    rw (any_same node key before is known)
+    (go (list_any (bytes_eq key) (keys_of before)) (repeats (keys_of before ++ key ∷ []) own) _ _ (rw (entries, keys_before, grouped) at later))
+  where
+    go : (b c : Bool) (o p : Option ℕ) → o ≡ (if c then Some node else p) → (if b then Some node else o) ≡ (if b || c then Some node else p)
+    go true c o p is = refl
+    go false c o p is = is
+
+-- those of nodes
+nodes_first : (first : ℕ) (ts : List Tree) (before : List Held) → AreKeys before → HoldKeys ts → repeats_first (map entry before) (map entry (held_nodes first ts)) ≡ repeated_from first (keys_of before) ts
+nodes_first first [] before known hold = refl
+nodes_first first (t ∷ ts) before known hold =
+    let own = own_keys t in
+    let more_known = All-append (λ (held : Held). IsKey held.1) before (held_by first own) known (own_are_keys first own hold.0) in
+    own_first first own before (held_nodes (first + 1) ts) known hold.0
+    ∙ ap (λ o. if repeats (keys_of before) own then Some first else o)
+    (nodes_first (first + 1) ts (before ++ held_by first own) more_known hold.1
+    ∙ ap (λ l. repeated_from (first + 1) l ts) (map-append (λ (held : Held). held.1) before (held_by first own) ∙ ap (λ l. keys_of before ++ l) (keys_held first own)))
+
+-- so what the entries say is what the definition does
+pub first_is : (t : Tree) → IsWritable t → repeats_first [] (map entry (held 0 t)) ≡ repeated_key t
+first_is t w = rw (← held_is 0 t) (nodes_first 0 (all_nodes t) [] (All-nil _) (nodes_hold t w))
 
 -- which is a node of the tree
 repeat_below : (ts : List Tree) (first : ℕ) (before : List Key) (node : ℕ) → repeated_from first before ts ≡ Some node → node < first + length ts
@@ -213,3 +169,9 @@ repeat_below (t ∷ ts) first before node is = go (repeats before (own_keys t)) 
 pub repeated_below : (t : Tree) (o : Option ℕ) → o ≡ repeated_key t → IfSome o (λ node. node < nodes t)
 repeated_below t None is = tt
 repeated_below t (Some node) is = omega (arith, repeat_below (all_nodes t) 0 [] node (sym is), nodes_are_all t)
+
+-- the measure of a part that a loop is at, and of those behind it
+pub measure_left : (xs : List trees.Tree) (i : ℕ) (x : trees.Tree) → i < length xs → x ≡ get_or xs i x → measure (shape x) + measure_of (shapes (drop (suc i) xs)) ≡ measure_of (shapes (drop i xs))
+measure_left [] i x below at = absurd (omega (arith, below))
+measure_left (y ∷ xs) zero x below at = ap (λ z. measure (shape z) + measure_of (shapes xs)) at
+measure_left (y ∷ xs) (suc i) x below at = measure_left xs i x (omega (arith, below)) at

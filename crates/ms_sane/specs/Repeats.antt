@@ -1,74 +1,69 @@
--- Repeated keys, as the tree is walked: `all` are the keys of the whole tree in the order of its nodes.
-use Rattle.std.specs.Prelude.{ℕ, ◌+◌, ◌-◌, Bool, false, ◌||◌, List, [], ◌∷◌, take, length, Result, Ok, Err, if◌then◌else◌}
+-- Repeated keys, as they stand side by side in working room: each key with the number of its node, in two slots.
+use Rattle.std.specs.Prelude.{ℕ, ◌+◌, Bool, ◌&&◌, nat_eq, List, [], ◌∷◌, ◌++◌, map, get_or, take, drop, slice_index, ℤ, pos, Option, Some, None, if◌then◌else◌}
 use Rattle.std.specs.List.{list_any}
-use Rattle.std.specs.Str.{bytes_eq}
+use Rattle.std.specs.Int.{w64, cast_signed, cast_unsigned, from_be_bytes}
 use Rattle.def_tree.specs.Tree.{Tree, Trees, Key, just_0, just_1, pk_k, pk_h, older, after, hash, and_or, two, thresh, multi, wrap, none, more}
-use Rattle.def_tree.specs.Size.{nodes, nodes_of}
-use Rattle.def_types.specs.Row.{if_ok}
-use Rattle.def_sane.specs.Keys.{keys, keys_of_all}
+use Rattle.def_tree.specs.Size.{nodes}
+use Rattle.ms_sane.specs.declared.work.Slot.{Slot}
 
--- the key is one of the first n
-abbrev pub is_among : (key : Key) → (n : ℕ) → List Key → Bool
-is_among key n own = list_any (bytes_eq key) (take n own)
+-- these keys of the node of this number
+abbrev pub held_by : (node : ℕ) → List Key → List (ℕ × Key)
+held_by node = map (λ key. (node, key))
 
--- the same of the keys of a tree and of some trees, node by node
+-- the keys of a tree and of some trees with the numbers of their nodes, which are numbered from `node` on
 abbrev mutual
-  pub is_found : (key : Key) → (n : ℕ) → Tree → Bool
-  is_found key n just_0 = false
-  is_found key n just_1 = false
-  is_found key n (pk_k own) = is_among key n (own ∷ [])
-  is_found key n (pk_h own) = is_among key n (own ∷ [])
-  is_found key n (older m) = false
-  is_found key n (after m) = false
-  is_found key n (hash kind value) = false
-  is_found key n (and_or x y z) =
-      is_found key n x || is_found key (n - length (keys x)) y ||
-      is_found key (n - length (keys x) - length (keys y)) z
-  is_found key n (two kind x y) = is_found key n x || is_found key (n - length (keys x)) y
-  is_found key n (thresh k xs) = is_found_in key n xs
-  is_found key n (multi k own) = is_among key n own
-  is_found key n (wrap wrapper x) = is_found key n x
+  pub held : (node : ℕ) → Tree → List (ℕ × Key)
+  held node just_0 = []
+  held node just_1 = []
+  held node (pk_k key) = held_by node (key ∷ [])
+  held node (pk_h key) = held_by node (key ∷ [])
+  held node (older m) = []
+  held node (after m) = []
+  held node (hash kind value) = []
+  held node (and_or x y z) = held node x ++ held (node + nodes x) y ++ held (node + nodes x + nodes y) z
+  held node (two kind x y) = held node x ++ held (node + nodes x) y
+  held node (thresh k xs) = held_in node xs
+  held node (multi k own) = held_by node own
+  held node (wrap wrapper x) = held node x
 
-  pub is_found_in : (key : Key) → (n : ℕ) → Trees → Bool
-  is_found_in key n none = false
-  is_found_in key n (more x xs) = is_found key n x || is_found_in key (n - length (keys x)) xs
+  pub held_in : (node : ℕ) → Trees → List (ℕ × Key)
+  held_in node none = []
+  held_in node (more x xs) = held node x ++ held_in (node + nodes x) xs
 
--- one of these keys, which stand behind the first n, stands before
-abbrev pub repeats_at : (all : List Key) → (n : ℕ) → List Key → Bool
-repeats_at all n [] = false
-repeats_at all n (key ∷ rest) = is_among key n all || repeats_at all (n + 1) rest
+-- eight bytes of a key as a number
+abbrev pub word : List ℕ → ℤ
+word bytes = cast_signed w64 (from_be_bytes w64 bytes)
 
--- the node holds these keys itself
-abbrev pub of_own : (all : List Key) → (node n : ℕ) → List Key → Result Unit ℕ
-of_own all node n own = if repeats_at all n own then Err node else Ok tt
+-- a key in two slots: its first 24 bytes, and the other nine with the number of its node
+abbrev pub head_of : Key → Slot
+head_of key = record { first = word (take 8 key); second = word (take 8 (drop 8 key)); third = word (take 8 (drop 8 (drop 8 key))); place = 0 }
 
--- the first node of a tree and of some trees that repeats a key; their nodes are numbered from `node` on,
--- and n keys stand before
-abbrev mutual
-  pub repeats_from : (all : List Key) → (node n : ℕ) → Tree → Result Unit ℕ
-  repeats_from all node n just_0 = of_own all node n []
-  repeats_from all node n just_1 = of_own all node n []
-  repeats_from all node n (pk_k key) = of_own all node n (key ∷ [])
-  repeats_from all node n (pk_h key) = of_own all node n (key ∷ [])
-  repeats_from all node n (older m) = of_own all node n []
-  repeats_from all node n (after m) = of_own all node n []
-  repeats_from all node n (hash kind value) = of_own all node n []
-  repeats_from all node n (and_or x y z) =
-      if_ok (repeats_from all node n x) (λ x_done.
-      if_ok (repeats_from all (node + nodes x) (n + length (keys x)) y) (λ y_done.
-      if_ok (repeats_from all (node + nodes x + nodes y) (n + length (keys x) + length (keys y)) z) (λ z_done.
-      of_own all (node + nodes x + nodes y + nodes z) (n + length (keys x) + length (keys y) + length (keys z)) [])))
-  repeats_from all node n (two kind x y) =
-      if_ok (repeats_from all node n x) (λ x_done.
-      if_ok (repeats_from all (node + nodes x) (n + length (keys x)) y) (λ y_done.
-      of_own all (node + nodes x + nodes y) (n + length (keys x) + length (keys y)) []))
-  repeats_from all node n (thresh k xs) =
-      if_ok (repeats_from_each all node n xs) (λ done. of_own all (node + nodes_of xs) (n + length (keys_of_all xs)) [])
-  repeats_from all node n (multi k own) = of_own all node n own
-  repeats_from all node n (wrap wrapper x) =
-      if_ok (repeats_from all node n x) (λ done. of_own all (node + nodes x) (n + length (keys x)) [])
+abbrev pub tail_of : (node : ℕ) → Key → Slot
+tail_of node key = record { first = word (take 8 (drop 8 (drop 8 (drop 8 key)))); second = cast_signed w64 (slice_index key 32); third = pos 0; place = node }
 
-  pub repeats_from_each : (all : List Key) → (node n : ℕ) → Trees → Result Unit ℕ
-  repeats_from_each all node n none = Ok tt
-  repeats_from_each all node n (more x xs) =
-      if_ok (repeats_from all node n x) (λ done. repeats_from_each all (node + nodes x) (n + length (keys x)) xs)
+abbrev pub entry : ℕ × Key → List Slot
+entry held = head_of held.1 ∷ tail_of held.0 held.1 ∷ []
+
+-- the two slots of an entry (what stands for a slot past the end has no meaning)
+abbrev pub NOTHING : Slot
+NOTHING = record { first = pos 0; second = pos 0; third = pos 0; place = 0 }
+
+abbrev pub head : List Slot → Slot
+head slots = get_or slots 0 NOTHING
+
+abbrev pub tail : List Slot → Slot
+tail slots = get_or slots 1 NOTHING
+
+-- two numbers of 64 bits are the same, and two entries in all five numbers of a key
+abbrev pub is_equal : ℤ → ℤ → Bool
+is_equal x y = nat_eq (cast_unsigned w64 x) (cast_unsigned w64 y)
+
+abbrev pub is_same : List Slot → List Slot → Bool
+is_same x y =
+    is_equal (head x).first (head y).first && is_equal (head x).second (head y).second && is_equal (head x).third (head y).third &&
+    is_equal (tail x).first (tail y).first && is_equal (tail x).second (tail y).second
+
+-- the node of the first entry whose key stands before
+abbrev pub repeats_first : (before : List (List Slot)) → List (List Slot) → Option ℕ
+repeats_first before [] = None
+repeats_first before (x ∷ rest) = if list_any (is_same x) before then Some ((tail x).place) else repeats_first (before ++ x ∷ []) rest

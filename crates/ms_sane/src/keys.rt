@@ -1,174 +1,168 @@
-//! Repeated keys, without memory: the tree is walked again for each of its keys.
-ghost use Rattle.std.specs.Prelude.{◌≡◌, ◌+◌, ◌-◌, ◌<◌, ◌^◌, false, length, All, IfOk, IfSome};
-ghost use Rattle.std.specs.Str.{bytes_eq};
+//! Repeated keys: the keys are copied side by side into the working room that is lent, and compared there.
+ghost use Rattle.std.specs.Prelude.{◌≡◌, ◌+◌, ◌*◌, ◌<◌, ◌≤◌, ◌^◌, ◌++◌, [], length, map, take, All, IfSome, vec_len};
+ghost use Rattle.std.specs.List.{list_any};
 ghost use Rattle.def_tree.specs.Range.{IsInRange};
-ghost use Rattle.def_tree.specs.Size.{nodes, nodes_of};
-ghost use Rattle.def_sane.specs.Keys.{keys as the_keys, keys_of_all, repeated_key as the_repeated_key};
+ghost use Rattle.def_tree.specs.Size.{nodes, nodes_of, measure, measure_of};
+ghost use Rattle.def_sane.specs.Keys.{repeated_key as the_repeated_key};
 ghost use Rattle.ms_tree.specs.Shape.{shape, shapes};
-ghost use Rattle.ms_sane.specs.Repeats.{is_among, is_found as the_is_found, is_found_in as the_is_found_in, of_own, repeats_from as the_repeats_from, repeats_from_each};
+ghost use Rattle.ms_sane.specs.Repeats.{entry, held, held_in, held_by, is_same, repeats_first};
 
+use crate::work::{Slot, Work};
 use ms_tree::{Key, Leaf, Tree, View};
 
+/// A key and the number of the node that holds it, in two slots.
+type Entry = [Slot; 2];
+
 /// The first node that holds a key which stands in an earlier node or earlier in itself. Nodes are
-/// numbered from 0, children before parents and left to right. The time that it takes grows as the
-/// square of the number of keys, of which a valid tree has few.
-pub fn repeated_key(tree: &Tree<'_>) -> Option<u32>
-    requires { IsInRange (shape tree.now) }
+/// numbered from 0, children before parents and left to right. Each key is compared with those before it,
+/// of which a valid tree has few.
+pub fn repeated_key(tree: &Tree<'_>, work: &mut Work) -> Option<u32>
+    requires in_range { IsInRange (shape tree.now) }
+    requires room { 4 * measure (shape tree.now) ≤ vec_len work.old.slots }
     ensures first { result ≡ the_repeated_key (shape tree.now) }
     ensures node { IfSome result (λ node. node < nodes (shape tree.now)) }
+    ensures room { vec_len work.new.slots ≡ vec_len work.old.slots }
 {
-    let mut place = Place { node: 0, keys: 0 };
-    let whole = *tree;
-    repeats_from(&whole, tree, &mut place).err()
+    repeated_key_in(tree, &mut work.slots)
+}
+
+/// The same with room for at least two entries for each node and each key of a `multi`.
+fn repeated_key_in(tree: &Tree<'_>, slots: &mut [Slot]) -> Option<u32>
+    requires in_range { IsInRange (shape tree.now) }
+    requires room { 4 * measure (shape tree.now) ≤ length slots.old }
+    ensures first { result ≡ the_repeated_key (shape tree.now) }
+{
+    let (entries, _) = slots.as_chunks_mut::<2>();
+    let mut passed = Passed { nodes: 0, keys: 0 };
+    copy_keys(tree, entries, &mut passed);
+    first_repeated(&entries[..passed.keys])
 }
 
 /// How many nodes and keys were passed.
 #[derive(Drop)]
-struct Place {
-    node: u32,
-    keys: u32,
+struct Passed {
+    nodes: u32,
+    keys: usize,
 }
 
-/// Passes the nodes of a part of the tree, or names the first of them that repeats a key.
-#[cycle(repeats)]
-fn repeats_from(whole: &Tree<'_>, part: &Tree<'_>, place: &mut Place) -> Result<(), u32>
-    requires whole { IsInRange (shape whole.now) }
+/// Copies the keys of a part of the tree behind those that were passed.
+#[cycle(copy)]
+fn copy_keys(part: &Tree<'_>, entries: &mut [Entry], passed: &mut Passed)
     requires part { IsInRange (shape part.now) }
-    requires nodes { place.old.node + nodes (shape part.now) < 2 ^ 32 }
-    requires keys { place.old.keys + length (the_keys (shape part.now)) < 2 ^ 32 }
-    ensures repeated { result ≡ the_repeats_from (the_keys (shape whole.now)) place.old.node place.old.keys (shape part.now) }
-    ensures nodes { IfOk result (λ done. place.new.node ≡ place.old.node + nodes (shape part.now)) }
-    ensures keys { IfOk result (λ done. place.new.keys ≡ place.old.keys + length (the_keys (shape part.now))) }
+    requires nodes { passed.old.nodes + nodes (shape part.now) < 2 ^ 32 }
+    requires room { passed.old.keys + measure (shape part.now) ≤ length entries.old }
+    ensures copied { take passed.new.keys entries.new ≡ take passed.old.keys entries.old ++ map entry (held passed.old.nodes (shape part.now)) }
+    ensures nodes { passed.new.nodes ≡ passed.old.nodes + nodes (shape part.now) }
+    ensures keys { passed.new.keys ≤ passed.old.keys + measure (shape part.now) }
 {
     match part.view() {
         View::Leaf(leaf) => match leaf {
-            Leaf::PkK(key) | Leaf::PkH(key) => of_node(whole, &[key], place),
-            Leaf::Zero | Leaf::One | Leaf::Older(_) | Leaf::After(_) | Leaf::Hash(_) => of_node(
-                whole,
-                &[],
-                place,
-            ),
+            Leaf::PkK(key) | Leaf::PkH(key) => copy_own(&[key], entries, passed),
+            Leaf::Zero | Leaf::One | Leaf::Older(_) | Leaf::After(_) | Leaf::Hash(_) => {
+                passed.nodes += 1;
+            }
         },
         View::AndOr(x, y, z) => {
-            repeats_from(whole, x, place)?;
-            repeats_from(whole, y, place)?;
-            repeats_from(whole, z, place)?;
-            of_node(whole, &[], place)
+            copy_keys(x, entries, passed);
+            copy_keys(y, entries, passed);
+            copy_keys(z, entries, passed);
+            passed.nodes += 1;
         }
         View::Two(_, x, y) => {
-            repeats_from(whole, x, place)?;
-            repeats_from(whole, y, place)?;
-            of_node(whole, &[], place)
+            copy_keys(x, entries, passed);
+            copy_keys(y, entries, passed);
+            passed.nodes += 1;
         }
         View::Thresh(_, children) => {
-            repeats_from_all(whole, children, place)?;
-            of_node(whole, &[], place)
+            copy_keys_of_all(children, entries, passed);
+            passed.nodes += 1;
         }
-        View::Multi(_, keys) => of_node(whole, keys, place),
+        View::Multi(_, keys) => copy_own(keys, entries, passed),
         View::Wrap(_, x) => {
-            repeats_from(whole, x, place)?;
-            of_node(whole, &[], place)
+            copy_keys(x, entries, passed);
+            passed.nodes += 1;
         }
     }
 }
 
 /// The same of several parts side by side.
-#[cycle(repeats)]
-fn repeats_from_all(whole: &Tree<'_>, parts: &[Tree<'_>], place: &mut Place) -> Result<(), u32>
-    requires whole { IsInRange (shape whole.now) }
+#[cycle(copy)]
+fn copy_keys_of_all(parts: &[Tree<'_>], entries: &mut [Entry], passed: &mut Passed)
     requires parts { All (λ x. IsInRange (shape x)) parts.now }
-    requires nodes { place.old.node + nodes_of (shapes parts.now) < 2 ^ 32 }
-    requires keys { place.old.keys + length (keys_of_all (shapes parts.now)) < 2 ^ 32 }
-    ensures repeated { result ≡ repeats_from_each (the_keys (shape whole.now)) place.old.node place.old.keys (shapes parts.now) }
-    ensures nodes { IfOk result (λ done. place.new.node ≡ place.old.node + nodes_of (shapes parts.now)) }
-    ensures keys { IfOk result (λ done. place.new.keys ≡ place.old.keys + length (keys_of_all (shapes parts.now))) }
+    requires nodes { passed.old.nodes + nodes_of (shapes parts.now) < 2 ^ 32 }
+    requires room { passed.old.keys + measure_of (shapes parts.now) ≤ length entries.old }
+    ensures copied { take passed.new.keys entries.new ≡ take passed.old.keys entries.old ++ map entry (held_in passed.old.nodes (shapes parts.now)) }
+    ensures nodes { passed.new.nodes ≡ passed.old.nodes + nodes_of (shapes parts.now) }
+    ensures keys { passed.new.keys ≤ passed.old.keys + measure_of (shapes parts.now) }
 {
     for part in parts {
-        repeats_from(whole, part, place)?;
+        copy_keys(part, entries, passed);
     }
-    Ok(())
 }
 
-/// Passes the next node, which holds these keys itself, or names it.
-fn of_node(whole: &Tree<'_>, own: &[Key], place: &mut Place) -> Result<(), u32>
-    requires whole { IsInRange (shape whole.now) }
-    requires node { place.old.node + 1 < 2 ^ 32 }
-    requires keys { place.old.keys + length own.now < 2 ^ 32 }
-    ensures repeated { result ≡ of_own (the_keys (shape whole.now)) place.old.node place.old.keys own.now }
-    ensures node { IfOk result (λ done. place.new.node ≡ place.old.node + 1) }
-    ensures keys { IfOk result (λ done. place.new.keys ≡ place.old.keys + length own.now) }
+/// Copies the keys that the next node holds itself, and passes it.
+fn copy_own(own: &[Key], entries: &mut [Entry], passed: &mut Passed)
+    requires node { passed.old.nodes + 1 < 2 ^ 32 }
+    requires room { passed.old.keys + length own.now ≤ length entries.old }
+    ensures copied { take passed.new.keys entries.new ≡ take passed.old.keys entries.old ++ map entry (held_by passed.old.nodes own.now) }
+    ensures nodes { passed.new.nodes ≡ passed.old.nodes + 1 }
+    ensures keys { passed.new.keys ≡ passed.old.keys + length own.now }
 {
     for key in own {
-        if is_among_first(whole, key, place.keys) {
-            return Err(place.node);
-        }
-        place.keys += 1;
+        entries[passed.keys] = entry_of(key, passed.nodes);
+        passed.keys += 1;
     }
-    place.node += 1;
-    Ok(())
+    passed.nodes += 1;
 }
 
-/// Whether a key is one of the first so many keys of a tree.
-fn is_among_first(tree: &Tree<'_>, key: &Key, count: u32) -> bool
-    requires { IsInRange (shape tree.now) }
-    ensures { result ≡ is_among key.now count (the_keys (shape tree.now)) }
+/// A key of this node as an entry.
+fn entry_of(key: &Key, node: u32) -> Entry
+    ensures { result ≡ entry (node, key.now) }
 {
-    let mut left = count;
-    is_found(tree, key, &mut left)
+    let bytes = key.as_bytes();
+    let (words, _) = bytes.as_chunks::<8>();
+    let head = Slot {
+        first: i64::from_be_bytes(words[0]),
+        second: i64::from_be_bytes(words[1]),
+        third: i64::from_be_bytes(words[2]),
+        place: 0,
+    };
+    let tail = Slot {
+        first: i64::from_be_bytes(words[3]),
+        second: bytes[32] as i64,
+        third: 0,
+        place: node,
+    };
+    [head, tail]
 }
 
-/// Whether a key is one of the first `left` keys of a tree. Those that are passed are taken off `left`.
-#[cycle(found)]
-fn is_found(tree: &Tree<'_>, key: &Key, left: &mut u32) -> bool
-    requires { IsInRange (shape tree.now) }
-    ensures found { result ≡ the_is_found key.now left.old (shape tree.now) }
-    ensures left { result ≡ false → left.new ≡ left.old - length (the_keys (shape tree.now)) }
+/// The node of the first entry with a key that stands in an entry before it.
+fn first_repeated(entries: &[Entry]) -> Option<u32>
+    ensures { result ≡ repeats_first [] entries.now }
 {
-    match tree.view() {
-        View::Leaf(leaf) => match leaf {
-            Leaf::PkK(own) | Leaf::PkH(own) => is_own(&[own], key, left),
-            Leaf::Zero | Leaf::One | Leaf::Older(_) | Leaf::After(_) | Leaf::Hash(_) => false,
-        },
-        View::AndOr(x, y, z) => is_found(x, key, left)
-            || is_found(y, key, left)
-            || is_found(z, key, left),
-        View::Two(_, x, y) => is_found(x, key, left) || is_found(y, key, left),
-        View::Thresh(_, children) => is_found_in(children, key, left),
-        View::Multi(_, keys) => is_own(keys, key, left),
-        View::Wrap(_, x) => is_found(x, key, left),
-    }
-}
-
-#[cycle(found)]
-fn is_found_in(children: &[Tree<'_>], key: &Key, left: &mut u32) -> bool
-    requires { All (λ x. IsInRange (shape x)) children.now }
-    ensures found { result ≡ the_is_found_in key.now left.old (shapes children.now) }
-    ensures left { result ≡ false → left.new ≡ left.old - length (keys_of_all (shapes children.now)) }
-{
-    for child in children {
-        if is_found(child, key, left) {
-            return true;
+    for (index, entry) in entries.iter().enumerate() {
+        if stands_in(entry, &entries[..index]) {
+            return Some(entry[1].place);
         }
     }
-    false
+    None
 }
 
-/// Whether a key is one of the first `left` of these.
-fn is_own(own: &[Key], key: &Key, left: &mut u32) -> bool
-    requires { length own.now < 2 ^ 32 }
-    ensures found { result ≡ is_among key.now left.old own.now }
-    ensures left { left.new ≡ left.old - length own.now }
+/// Whether the key of an entry is that of one of these.
+fn stands_in(entry: &Entry, before: &[Entry]) -> bool
+    ensures { result ≡ list_any (is_same entry.now) before.now }
 {
-    let found = own
-        .iter()
-        .take(*left as usize)
-        .any(|other| is_same(key, other));
-    *left = left.saturating_sub(own.len() as u32);
-    found
+    before.iter().any(|other| is_same_key(entry, other))
 }
 
-fn is_same(key: &Key, other: &Key) -> bool
-    ensures { result ≡ bytes_eq key.now other.now }
+fn is_same_key(entry: &Entry, other: &Entry) -> bool
+    ensures { result ≡ is_same entry.now other.now }
 {
-    key.as_bytes() == other.as_bytes()
+    let [head, tail] = entry;
+    let [other_head, other_tail] = other;
+    head.first == other_head.first
+        && head.second == other_head.second
+        && head.third == other_head.third
+        && tail.first == other_tail.first
+        && tail.second == other_tail.second
 }

@@ -70,7 +70,7 @@ pub fn check_sane_of(
     if let Some(node) = mix(tree) {
         return Err(Unfit::MixedLocks(node));
     }
-    if let Some(node) = repeated_key(tree) {
+    if let Some(node) = repeated_key(tree, work) {
         return Err(Unfit::RepeatedKey(node));
     }
     Ok(Sane {

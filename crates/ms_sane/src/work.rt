@@ -7,7 +7,7 @@ use ms_tree::Tree;
 use std::alloc::{AllocError, Global};
 
 /// Room for what is known of one child of a threshold: up to three differences, by which children are
-/// sorted, and which child it is.
+/// sorted, and which child it is. Or for a half of a key: two or three numbers, and which node holds it.
 #[derive(Clone, Copy, Debug, PartialEq, Eq, PartialOrd, Ord)]
 pub struct Slot {
     pub first: i64,

@@ -14,23 +14,14 @@ ghost use Rattle.def_answer.specs.Lines.{line, script_line, program_line, limits
 ghost use Rattle.def_answer.specs.Report.{script_report as the_script_report, check_report as the_check_report, tree_limits_line as the_tree_limits_line, type_letters as the_type_letters, letter};
 
 use crate::names::base_letter;
-use ms_emit::emit;
+use ms_emit::script_bytes;
 use ms_height::height;
 use ms_replay::program_of;
 use ms_sane::{Limits, Rules, Sane, Work};
-use ms_script::{Blob, encode};
 use ms_text::print_text;
 use ms_tree::Tree;
 use ms_types::{Mall, Ty};
 use std::alloc::{AllocError, Global};
-
-/// The bytes of a tree's Script.
-fn script_bytes(alloc: Global, tree: &Tree<'_>) -> Result<Blob, AllocError>
-    requires { IsInRange (shape tree.now) }
-    ensures { IfOk result (λ script. script ≡ script_of (shape tree.now)) }
-{
-    encode(alloc, &emit(alloc, tree)?)
-}
 
 /// The Script in lower-case digits.
 #[tactic(auto, unfolding(def_answer::specs::Report::script_report))]
