@@ -7,3 +7,6 @@ pub mod ExpressionLemmas
 pub mod PartLemmas
 pub mod RunLemmas
 pub mod TextLemmas
+pub mod BareLemmas
+pub mod HeadingLemmas
+pub mod KeyLemmas

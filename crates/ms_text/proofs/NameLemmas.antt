@@ -1,8 +1,8 @@
 -- Words of letters.
-use Rattle.std.proofs.Common.{◌≡◌, ℕ, ◌<◌, true, List, [], ◌∷◌, length, Option, Some, None, is_some, refl, sym, ap, ◌∙◌, arith}
+use Rattle.std.proofs.Common.{◌≡◌, ◌<◌, true, List, [], ◌∷◌, length, Option, Some, None, is_some, refl, sym, ap, ◌∙◌, arith}
 use Rattle.def_script.specs.Bytes.{Bytes}
 use Rattle.def_text.specs.Letter.{Letter, letter_byte}
-use Rattle.std.specs.Option.{option_map, option_and_then}
+use Rattle.std.specs.Option.{option_map}
 use Rattle.std.proofs.lemmas.List.{length-map}
 use Rattle.hex.proofs.OnLiterals.{hex_on_literals}
 use Rattle.def_tree.specs.declared.Wrapper.TheVariants.{C}
@@ -10,7 +10,7 @@ use Rattle.def_tree.specs.Tree.{pk_k, pk_h, hash, wrap}
 use Rattle.def_text.specs.Word.{number_of, key_of, hash_of}
 use Rattle.def_hash.specs.declared.HashKind.{HashKind}
 use Rattle.def_hash.specs.declared.HashKind.TheVariants.{Sha256, Hash256, Ripemd160, Hash160}
-use Rattle.def_text.specs.Reader.{Leaf, leaf_pk_k, leaf_pk_h, leaf_pk, leaf_pkh, leaf_older, leaf_after, leaf_hash, leaf_of, FORMS, first_named, LETTERS, first_letter, letters_of, head_from}
+use Rattle.def_text.specs.Reader.{Leaf, leaf_pk_k, leaf_pk_h, leaf_pk, leaf_pkh, leaf_older, leaf_after, leaf_hash, leaf_of, FORMS, first_named, letters_of, head_from}
 use Rattle.def_text.proofs.Words.{word_is}
 use Rattle.ms_text.specs.Names.{IsLetters}
 
@@ -46,16 +46,6 @@ no_empty_leaf leaf_pkh = ap (option_map (λ key. wrap C (pk_h key))) no_empty_ke
 no_empty_leaf leaf_older = refl
 no_empty_leaf leaf_after = refl
 no_empty_leaf (leaf_hash kind) = ap (option_map (hash kind)) (no_empty_hash kind)
-
--- the letters of a word are its first one and those of the rest
-pub split_letters : (b : ℕ) (w : Bytes) (l : Letter) (ls : List Letter) → Some l ≡ first_letter b LETTERS → letters_of (b ∷ w) ≡ Some ls →
-    (ms : List Letter) × (ls ≡ l ∷ ms) × (letters_of w ≡ Some ms)
-split_letters b w l ls e h = split_by (letters_of w) refl (ap (λ o. option_and_then (λ m. option_map (λ ms. m ∷ ms) (letters_of w)) o) e ∙ h)
-  where
-    split_by : (o : Option (List Letter)) → letters_of w ≡ o → option_map (λ ms. l ∷ ms) (letters_of w) ≡ Some ls →
-        (ms : List Letter) × (ls ≡ l ∷ ms) × (letters_of w ≡ Some ms)
-    split_by None k h = let clash : None ≡ Some ls = ap (option_map (λ ms. l ∷ ms)) (sym k) ∙ h in absurd (cc)
-    split_by (Some ms) k h = let same : Some (l ∷ ms) ≡ Some ls = ap (option_map (λ ns. l ∷ ns)) (sym k) ∙ h in (ms, cc, k)
 
 pub letters_are_long : (w : Bytes) (ls : List Letter) → letters_of w ≡ Some ls → length ls ≡ length w
 letters_are_long w ls h = sym (ap length (word_is w ls h) ∙ length-map ls letter_byte)

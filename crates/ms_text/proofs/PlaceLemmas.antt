@@ -311,7 +311,7 @@ first_word_by text at n (b ∷ w) e split all none =
     ap (tokens_from at) split ∙ one_word (b ∷ w) (drop n text) at n e all (omega arith) (no_start (rest text n) n none) in
     subst (λ m. rest text at ≡ word at (b ∷ w) ∷ rest text m) e whole
 
-word_length : (text : Bytes) (at n : ℕ) → at ≤ n → IsPlace text n → at + length (take (n - at) (drop at text)) ≡ n
+pub word_length : (text : Bytes) (at n : ℕ) → at ≤ n → IsPlace text n → at + length (take (n - at) (drop at text)) ≡ n
 word_length text at n h p = simp (length-take, length-drop) (omega (arith, h, p.boundary.0))
 
 -- the bytes of a word, up to where it ends

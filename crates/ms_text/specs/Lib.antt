@@ -4,3 +4,5 @@ pub mod Marks
 pub mod Place
 pub mod Leaves
 pub mod Room
+pub mod Runs
+pub mod Bare

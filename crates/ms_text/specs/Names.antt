@@ -1,5 +1,5 @@
 -- Names and letters as the machine that reads a text has them.
-use Rattle.std.specs.Prelude.{◌≡◌, List, ◌∷◌, Some}
+use Rattle.std.specs.Prelude.{◌≡◌, Bool, false, List, [], ◌∷◌, Some, is_some}
 use Rattle.def_script.specs.Bytes.{Bytes}
 use Rattle.def_text.specs.Letter as letters
 use Rattle.def_text.specs.Reader as reader
@@ -41,6 +41,11 @@ letter_of (letter.Wrapper wrapper) = letters.letter_of_wrapper wrapper
 letter_of letter.T = letters.letter_t
 letter_of letter.L = letters.letter_l
 letter_of letter.U = letters.letter_u
+
+-- whether a letter begins the bytes
+abbrev pub starts_letter : Bytes → Bool
+starts_letter [] = false
+starts_letter (b ∷ bytes) = is_some (reader.first_letter b reader.LETTERS)
 
 -- a word is one or more letters
 pub record IsLetters (w : Bytes) : Type 0 where

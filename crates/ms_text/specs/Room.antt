@@ -1,5 +1,5 @@
 -- Trees that leave room for the nodes that are put on them.
-use Rattle.std.specs.Prelude.{◌≡◌, ◌+◌, ◌≤◌, ◌<◌, ℕ, ◌*◌}
+use Rattle.std.specs.Prelude.{◌+◌, ◌≤◌, ◌<◌, ℕ, ◌*◌}
 use Rattle.def_script.specs.Bytes.{Bytes}
 use Rattle.def_tree.specs.Tree.{Tree, Trees}
 use Rattle.def_tree.specs.Size.{measure, depth, measure_of, depth_of}
@@ -12,7 +12,19 @@ pub record HasRoom (x : Tree) : Type 0 where
   pub depth : depth x + 1 ≤ MOST_DEPTH
   pub writable : IsWritable x
 
--- the same of two trees together
+-- for so many letters before it
+pub record HasRoomFor (n : ℕ) (x : Tree) : Type 0 where
+  pub measure : measure x + 2 * n ≤ MOST_MEASURE
+  pub depth : depth x + n ≤ MOST_DEPTH
+  pub writable : IsWritable x
+
+-- a tree has so many letters before it
+pub record IsLarger (n : ℕ) (x y : Tree) : Type 0 where
+  pub measure : measure y ≤ measure x + 2 * n
+  pub depth : depth y ≤ depth x + n
+  pub writable : IsWritable y
+
+-- for two nodes above two trees, of which one stands above the other
 pub record HaveRoom (x y : Tree) : Type 0 where
   pub measure : measure x + measure y + 2 ≤ MOST_MEASURE
   pub first_depth : depth x + 1 ≤ MOST_DEPTH
@@ -27,12 +39,6 @@ pub record IsPart (text : Bytes) (at : ℕ) (enclosing : ℕ) (x : Tree) (end : 
   pub place : IsPlace text end
   pub measure : measure x + 2 * at ≤ 2 * end
   pub depth : depth x + enclosing ≤ MOST_DEPTH
-  pub writable : IsWritable x
-
--- one node without arguments
-pub record IsBare (x : Tree) : Type 0 where
-  pub measure : measure x ≡ 1
-  pub depth : depth x ≡ 1
   pub writable : IsWritable x
 
 -- the same of several trees, of which there is one at least

@@ -1,17 +1,18 @@
 //! Arguments that are one word, and lists of keys.
-ghost use Rattle.std.specs.Prelude.{◌≡◌, ℕ, ◌+◌, ◌*◌, ◌<◌, ◌≤◌, length, List, All, IfOk, IfSome};
+ghost use Rattle.std.specs.Prelude.{◌≡◌, ℕ, ◌+◌, ◌*◌, ◌<◌, ◌≤◌, true, length, take, drop, List, All, IfOk, IfSome};
 ghost use Rattle.std.specs.Option.{option_map};
 ghost use Rattle.def_tree.specs.Range.{IsKey, IsWritable, TEN_DIGITS};
 ghost use Rattle.def_text.specs.Reader.{State, Frame, leaf_of as spelled_by, multi_comma, ended};
+ghost use Rattle.def_text.specs.Refusal.{MOST_BYTES};
 ghost use Rattle.def_text.specs.Word.{number_of, key_of};
 ghost use Rattle.def_tree.specs.Tree as tree;
-ghost use Rattle.ms_text.specs.Leaves.{leaf_tree};
+ghost use Rattle.ms_text.specs.Leaves.{leaf_tree, takes_key, leaf_of_key};
 ghost use Rattle.ms_text.specs.Names.{leaf_of};
 ghost use Rattle.ms_text.specs.Place.{IsPlace, Takes, Answers, machine_from, word_read};
 ghost use Rattle.ms_tree.specs.Shape.{leaf_shape};
 
 use crate::names::LeafName;
-use crate::tokens::{Mark, Separator, behind_mark, separator_at, word_at};
+use crate::tokens::{Mark, Separator, behind_mark, is_word_at, separator_at, word_at};
 use crate::words::{hash_spelled, key_spelled, number_spelled};
 use def_text::TextFault;
 use ms_tree::{Key, Leaf};
@@ -42,7 +43,20 @@ pub fn number_at(text: &[u8], at: usize) -> Result<Spelled<u64>, TextFault>
     })
 }
 
-/// The key that has to stand here.
+/// How many hexadecimal digits a key has.
+const KEY_DIGITS: usize = 66;
+
+/// As many bytes as a key has digits, from a place on, or fewer where the text ends.
+fn key_digits_at(text: &[u8], at: usize) -> &[u8]
+    requires within { at ≤ length text.now }
+    requires short { length text.now ≤ MOST_BYTES }
+    ensures { result.now ≡ take KEY_DIGITS (drop at text.now) }
+{
+    let end = text.len().min(at + KEY_DIGITS);
+    &text[at..end]
+}
+
+/// The key that has to stand here. It is read before it is known where the word ends, so that no byte is looked at twice.
 pub fn key_at(text: &[u8], at: usize) -> Result<Spelled<Key>, TextFault>
     requires { IsPlace text.now at }
     ensures after { IfOk result (λ r. at < r.end) }
@@ -50,14 +64,15 @@ pub fn key_at(text: &[u8], at: usize) -> Result<Spelled<Key>, TextFault>
     ensures writable { IfOk result (λ r. IsKey r.value) }
     ensures reads { (s : State) (next : List ℕ → State) → Takes (word_read key_of) s next → Answers (machine_from s text.now at) result (λ r. machine_from (next r.value) text.now r.end) }
 {
-    let word = word_at(text, at);
-    let Some(value) = key_spelled(word) else {
+    let digits = key_digits_at(text, at);
+    let end = at + digits.len();
+    let Some(value) = key_spelled(digits) else {
         return Err(TextFault::Syntax(at as u32));
     };
-    Ok(Spelled {
-        value,
-        end: at + word.len(),
-    })
+    if is_word_at(text, end) {
+        return Err(TextFault::Syntax(at as u32));
+    }
+    Ok(Spelled { value, end })
 }
 
 /// The leaf that a word spells as the argument of this fragment.
@@ -74,6 +89,42 @@ fn leaf_spelled(name: LeafName, word: &[u8]) -> Option<Leaf>
     }
 }
 
+/// Whether the argument of a fragment is a key.
+fn is_of_key(name: LeafName) -> bool
+    ensures { result ≡ takes_key name }
+{
+    match name {
+        LeafName::PkK | LeafName::PkH | LeafName::Pk | LeafName::Pkh => true,
+        LeafName::Older | LeafName::After | LeafName::Hash(_) => false,
+    }
+}
+
+/// The leaf of a fragment whose argument is this key.
+fn key_leaf(name: LeafName, key: Key) -> Leaf
+    ensures { result ≡ leaf_of_key name key }
+{
+    match name {
+        LeafName::PkH | LeafName::Pkh => Leaf::PkH(key),
+        _ => Leaf::PkK(key),
+    }
+}
+
+/// The key that has to stand here as the argument of this fragment.
+fn key_argument_at(text: &[u8], at: usize, name: LeafName) -> Result<Spelled<Leaf>, TextFault>
+    requires place { IsPlace text.now at }
+    requires name { takes_key name ≡ true }
+    ensures after { IfOk result (λ r. at < r.end) }
+    ensures place { IfOk result (λ r. IsPlace text.now r.end) }
+    ensures writable { IfOk result (λ r. IsWritable (leaf_shape r.value)) }
+    ensures reads { (s : State) (next : tree.Tree → State) → Takes (word_read (spelled_by (leaf_of name))) s next → Answers (machine_from s text.now at) result (λ r. machine_from (next (leaf_tree name r.value)) text.now r.end) }
+{
+    let key = key_at(text, at)?;
+    Ok(Spelled {
+        value: key_leaf(name, key.value),
+        end: key.end,
+    })
+}
+
 /// The argument of this fragment that has to stand here.
 pub fn argument_at(text: &[u8], at: usize, name: LeafName) -> Result<Spelled<Leaf>, TextFault>
     requires { IsPlace text.now at }
@@ -82,6 +133,9 @@ pub fn argument_at(text: &[u8], at: usize, name: LeafName) -> Result<Spelled<Lea
     ensures writable { IfOk result (λ r. IsWritable (leaf_shape r.value)) }
     ensures reads { (s : State) (next : tree.Tree → State) → Takes (word_read (spelled_by (leaf_of name))) s next → Answers (machine_from s text.now at) result (λ r. machine_from (next (leaf_tree name r.value)) text.now r.end) }
 {
+    if is_of_key(name) {
+        return key_argument_at(text, at, name);
+    }
     let word = word_at(text, at);
     let Some(value) = leaf_spelled(name, word) else {
         return Err(TextFault::Syntax(at as u32));

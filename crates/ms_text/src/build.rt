@@ -3,13 +3,14 @@ ghost use Rattle.std.specs.Prelude.{◌≡◌, ℕ, ◌+◌, ◌<◌, ◌^◌, [
 ghost use Rattle.def_tree.specs.Range.{IsInRange, IsWritable};
 ghost use Rattle.def_tree.specs.Tree as model;
 ghost use Rattle.def_text.specs.Letter.{letter_tree};
-ghost use Rattle.def_text.specs.Reader.{leaf_offsets, pair_tree, pair_offsets, offsets_before, offsets_behind};
+ghost use Rattle.def_text.specs.Reader.{leaf_offsets, pair_tree, pair_offsets, offsets_behind};
 ghost use Rattle.ms_text.specs.Leaves.{leaf_tree};
 ghost use Rattle.ms_text.specs.Names.{leaf_of, pair_of, letter_of};
 ghost use Rattle.ms_text.specs.Room.{HasRoom, HaveRoom};
 ghost use Rattle.ms_tree.specs.Shape.{shape, shapes, leaf_shape};
 
 use crate::names::{LeafName, Letter, Pair};
+use crate::reader::Reader;
 use bumpalo::Bump;
 use def_text::TextFault;
 use ms_tree::{Key, Leaf, Tree, Two, Wrapper, and_or, leaf, multi, thresh, two, wrap};
@@ -60,34 +61,6 @@ pub fn add_pair_offsets(offsets: &mut Vec<u32>, pair: Pair, at: usize) -> Result
     }
 }
 
-/// Adds the offset of the node that a letter puts before its expression: the `0` of `l:`.
-pub fn add_offset_before(offsets: &mut Vec<u32>, letter: Letter, at: usize) -> Result<(), TextFault>
-    requires { at < 2 ^ 32 }
-    ensures added { OnOk result (offsets.new.items ≡ offsets.old.items ++ offsets_before (letter_of letter) at) }
-    ensures memory { IfErr result (λ e. e ≡ TextFault.Memory) }
-{
-    match letter {
-        Letter::L => add_offset(offsets, at),
-        Letter::Wrapper(_) | Letter::T | Letter::U => Ok(()),
-    }
-}
-
-/// Adds the offsets of the nodes that a letter puts behind its expression.
-pub fn add_offsets_behind(
-    offsets: &mut Vec<u32>,
-    letter: Letter,
-    at: usize,
-) -> Result<(), TextFault>
-    requires { at < 2 ^ 32 }
-    ensures added { OnOk result (offsets.new.items ≡ offsets.old.items ++ offsets_behind (letter_of letter) at) }
-    ensures memory { IfErr result (λ e. e ≡ TextFault.Memory) }
-{
-    match letter {
-        Letter::T | Letter::U => add_twice(offsets, at),
-        Letter::Wrapper(_) | Letter::L => add_offset(offsets, at),
-    }
-}
-
 /// The tree of a leaf.
 pub fn new_leaf<'a>(arena: &'a Bump<Global>, value: Leaf) -> Result<Tree<'a>, TextFault>
     requires { IsWritable (leaf_shape value) }
@@ -118,49 +91,51 @@ pub fn named_leaf<'a>(
     }
 }
 
-/// The tree of an expression with a letter before it.
-pub fn with_letter<'a>(
-    arena: &'a Bump<Global>,
-    letter: Letter,
-    x: Tree<'a>,
-) -> Result<Tree<'a>, TextFault>
-    requires { HasRoom (shape x) }
-    ensures tree { IfOk result (λ t. shape t ≡ letter_tree (letter_of letter) (shape x.entry)) }
-    ensures memory { IfErr result (λ e. e ≡ TextFault.Memory) }
-{
-    match letter {
-        Letter::Wrapper(wrapper) => wrap(arena, wrapper, x).map_err(|_| TextFault::Memory),
-        Letter::T => {
-            let one = new_leaf(arena, Leaf::One)?;
-            two(arena, Two::AndV, x, one).map_err(|_| TextFault::Memory)
-        }
-        Letter::L => {
-            let zero = new_leaf(arena, Leaf::Zero)?;
-            two(arena, Two::OrI, zero, x).map_err(|_| TextFault::Memory)
-        }
-        Letter::U => {
-            let zero = new_leaf(arena, Leaf::Zero)?;
-            two(arena, Two::OrI, x, zero).map_err(|_| TextFault::Memory)
+impl<'a> Reader<'a, '_> {
+    /// An expression with a letter before it, which stands here. The offsets of the nodes that it puts behind the expression
+    /// are added.
+    pub fn with_letter(
+        &self,
+        letter: Letter,
+        at: usize,
+        x: Tree<'a>,
+        offsets: &mut Vec<u32>,
+    ) -> Result<Tree<'a>, TextFault>
+        requires room { HasRoom (shape x) }
+        requires short { at < 2 ^ 32 }
+        ensures tree { IfOk result (λ t. shape t ≡ letter_tree (letter_of letter) (shape x.entry)) }
+        ensures added { OnOk result (offsets.new.items ≡ offsets.old.items ++ offsets_behind (letter_of letter) at) }
+        ensures memory { IfErr result (λ e. e ≡ TextFault.Memory) }
+    {
+        match letter {
+            Letter::Wrapper(wrapper) => {
+                add_offset(offsets, at)?;
+                wrap(self.arena, wrapper, x).map_err(|_| TextFault::Memory)
+            }
+            Letter::T => {
+                add_twice(offsets, at)?;
+                two(self.arena, Two::AndV, x, self.one()).map_err(|_| TextFault::Memory)
+            }
+            Letter::L => {
+                add_offset(offsets, at)?;
+                two(self.arena, Two::OrI, self.zero(), x).map_err(|_| TextFault::Memory)
+            }
+            Letter::U => {
+                add_twice(offsets, at)?;
+                two(self.arena, Two::OrI, x, self.zero()).map_err(|_| TextFault::Memory)
+            }
         }
     }
-}
 
-/// The tree of a fragment of two children.
-pub fn new_pair<'a>(
-    arena: &'a Bump<Global>,
-    pair: Pair,
-    x: Tree<'a>,
-    y: Tree<'a>,
-) -> Result<Tree<'a>, TextFault>
-    requires { HaveRoom (shape x) (shape y) }
-    ensures tree { IfOk result (λ t. shape t ≡ pair_tree (pair_of pair) (shape x.entry) (shape y.entry)) }
-    ensures memory { IfErr result (λ e. e ≡ TextFault.Memory) }
-{
-    match pair {
-        Pair::Two(kind) => two(arena, kind, x, y).map_err(|_| TextFault::Memory),
-        Pair::AndN => {
-            let zero = new_leaf(arena, Leaf::Zero)?;
-            and_or(arena, x, y, zero).map_err(|_| TextFault::Memory)
+    /// The tree of a fragment of two children.
+    pub fn new_pair(&self, pair: Pair, x: Tree<'a>, y: Tree<'a>) -> Result<Tree<'a>, TextFault>
+        requires { HaveRoom (shape x) (shape y) }
+        ensures tree { IfOk result (λ t. shape t ≡ pair_tree (pair_of pair) (shape x.entry) (shape y.entry)) }
+        ensures memory { IfErr result (λ e. e ≡ TextFault.Memory) }
+    {
+        match pair {
+            Pair::Two(kind) => two(self.arena, kind, x, y).map_err(|_| TextFault::Memory),
+            Pair::AndN => and_or(self.arena, x, y, self.zero()).map_err(|_| TextFault::Memory),
         }
     }
 }

@@ -7,7 +7,9 @@ pub use text::{TextTree, read_text};
 
 mod arguments;
 mod build;
+mod expressions;
 mod forms;
+mod letters;
 mod names;
 mod print;
 mod reader;

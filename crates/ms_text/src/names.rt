@@ -1,9 +1,13 @@
 //! Names of fragments and letters of wrappers (BIP 379).
-ghost use Rattle.std.specs.Prelude.{◌≡◌, is_some};
+ghost use Rattle.std.specs.Prelude.{◌≡◌, ◌+◌, ◌-◌, ◌≤◌, true, false, length, take, drop, is_some};
+ghost use Rattle.std.specs.List.{list_all};
 ghost use Rattle.std.specs.Option.{option_map};
 ghost use Rattle.def_text.specs.Reader.{FORMS, first_named, LETTERS, first_letter, letters_of};
-ghost use Rattle.ms_text.specs.Names.{form_of, letter_of, HeadIs};
+ghost use Rattle.def_text.specs.Token.{is_word_byte};
+ghost use Rattle.ms_text.specs.Names.{form_of, letter_of, starts_letter, HeadIs};
+ghost use Rattle.ms_text.specs.Place.{IsPlace, FirstWord};
 
+use crate::tokens::{is_word_at, word_behind};
 use def_tree::{HashKind, Two, Wrapper};
 use ms_tree::fragment_rows;
 
@@ -130,29 +134,79 @@ pub fn letter_named(byte: u8) -> Option<Letter>
     None
 }
 
-/// Whether each byte of a word is a letter.
-fn are_letters(word: &[u8]) -> bool
-    ensures { result ≡ is_some (letters_of word.now) }
+/// Whether a letter stands at a place.
+fn is_letter_at(text: &[u8], at: usize) -> bool
+    ensures { result ≡ starts_letter (drop at text.now) }
 {
-    for &byte in word {
-        if letter_named(byte).is_none() {
-            return false;
-        }
+    match text.get(at) {
+        Some(&byte) => letter_named(byte).is_some(),
+        None => false,
     }
-    true
 }
 
-/// What a word is where an expression may begin: letters, or else the name of a fragment.
-pub fn head_of(word: &[u8]) -> Head
-    ensures { HeadIs result word.now }
+/// The place behind the letters that stand here.
+fn behind_letters(text: &[u8], at: usize) -> usize
+    requires { IsPlace text.now at }
+    ensures after { at ≤ result }
+    ensures place { IsPlace text.now result }
+    ensures word { list_all is_word_byte (take (result - at) (drop at text.now)) ≡ true }
+    ensures letters { is_some (letters_of (take (result - at) (drop at text.now))) ≡ true }
+    ensures whole { starts_letter (drop result text.now) ≡ false }
 {
-    if are_letters(word) {
-        return if word.is_empty() {
-            Head::Neither
-        } else {
-            Head::Letters
+    let mut end = at;
+    while is_letter_at(text, end) {
+        end += 1;
+    }
+    end
+}
+
+/// The word at which an expression may begin, and what it is.
+#[derive(Clone, Copy)]
+pub struct Heading<'t> {
+    /// Empty where another token stands there.
+    pub word: &'t [u8],
+    pub head: Head,
+}
+
+/// What stands at a place where an expression may begin: letters, or else the name of a fragment.
+pub fn heading_at(text: &[u8], at: usize) -> Heading<'_>
+    requires { IsPlace text.now at }
+    ensures place { IsPlace text.now (at + length result.word.now) }
+    ensures first { FirstWord text.now at result.word.now }
+    ensures head { HeadIs result.head result.word.now }
+{
+    let behind = behind_letters(text, at);
+    if !is_word_at(text, behind) {
+        let word = &text[at..behind];
+        return Heading {
+            word,
+            head: head_of_letters(word),
         };
     }
+    let word = word_behind(text, at, behind);
+    Heading {
+        word,
+        head: head_of_name(word),
+    }
+}
+
+/// What a word of letters is, or an empty one.
+fn head_of_letters(word: &[u8]) -> Head
+    requires { is_some (letters_of word.now) ≡ true }
+    ensures { HeadIs result word.now }
+{
+    if word.is_empty() {
+        Head::Neither
+    } else {
+        Head::Letters
+    }
+}
+
+/// What a word is that has a byte other than a letter.
+fn head_of_name(word: &[u8]) -> Head
+    requires { letters_of word.now ≡ None }
+    ensures { HeadIs result word.now }
+{
     match form_named(word) {
         Some(form) => Head::Name(form),
         None => Head::Neither,

@@ -5,7 +5,7 @@ ghost use Rattle.def_tree.specs.Size.{nodes};
 ghost use Rattle.def_text.specs.Refusal.{MOST_BYTES, TextReads, TextRefusal};
 ghost use Rattle.ms_tree.specs.Shape.{shape};
 
-use crate::reader::expression;
+use crate::reader::Reader;
 use bumpalo::Bump;
 use def_text::TextFault;
 use ms_tree::Tree;
@@ -79,13 +79,27 @@ fn read_bytes<'a>(
     ensures refused { IfErr result (λ e. TextRefusal text.now e) }
     ensures in_range { IfOk result (λ t. IsInRange (shape t.tree)) }
 {
-    let mut offsets = Vec::new(alloc);
-    let part = expression(alloc, arena, text, 0, 0, &mut offsets)?;
-    if part.end < text.len() {
-        return Err(TextFault::Syntax(part.end as u32));
+    let reader = Reader::new(alloc, arena, text)?;
+    reader.text_tree()
+}
+
+impl<'a> Reader<'a, '_> {
+    /// The tree that the text spells, with the offset of each node.
+    fn text_tree(&self) -> Result<TextTree<'a>, TextFault>
+        requires utf8 { IsUtf8 self.now.text.now }
+        requires short { length self.now.text.now ≤ MOST_BYTES }
+        ensures read { IfOk result (λ t. TextReads self.now.text.now (shape t.tree) t.offsets.items) }
+        ensures refused { IfErr result (λ e. TextRefusal self.now.text.now e) }
+        ensures in_range { IfOk result (λ t. IsInRange (shape t.tree)) }
+    {
+        let mut offsets = Vec::new(self.alloc);
+        let part = self.expression(0, 0, &mut offsets)?;
+        if part.end < self.text.len() {
+            return Err(TextFault::Syntax(part.end as u32));
+        }
+        Ok(TextTree {
+            tree: part.tree,
+            offsets,
+        })
     }
-    Ok(TextTree {
-        tree: part.tree,
-        offsets,
-    })
 }

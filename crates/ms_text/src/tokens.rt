@@ -1,5 +1,6 @@
 //! Tokens of a text, one at a place.
-ghost use Rattle.std.specs.Prelude.{◌≡◌, ℕ, ◌+◌, length, drop, IfOk};
+ghost use Rattle.std.specs.Prelude.{◌≡◌, ℕ, ◌+◌, ◌-◌, ◌≤◌, true, false, length, take, drop, IfOk};
+ghost use Rattle.std.specs.List.{list_all};
 ghost use Rattle.def_script.specs.Bytes.{Bytes};
 ghost use Rattle.def_text.specs.Reader.{State};
 ghost use Rattle.def_text.specs.Token.{is_word_byte as is_word_code};
@@ -41,11 +42,11 @@ pub enum Separator {
 fn is_word_byte(byte: u8) -> bool
     ensures { result ≡ is_word_code byte }
 {
-    byte.is_ascii_alphanumeric() || byte == b'_'
+    byte.is_ascii_alphabetic() || byte.is_ascii_digit() || byte == b'_'
 }
 
 /// Whether a byte of a word stands at a place.
-fn is_word_at(text: &[u8], at: usize) -> bool
+pub fn is_word_at(text: &[u8], at: usize) -> bool
     ensures { result ≡ starts_word (drop at text.now) }
 {
     match text.get(at) {
@@ -60,7 +61,21 @@ pub fn word_at(text: &[u8], at: usize) -> &[u8]
     ensures place { IsPlace text.now (at + length result.now) }
     ensures first { FirstWord text.now at result.now }
 {
-    let mut end = at;
+    word_behind(text, at, at)
+}
+
+/// The word at a place of which the bytes up to `behind` are known.
+pub fn word_behind(text: &[u8], at: usize, behind: usize) -> &[u8]
+    requires after { at ≤ behind }
+    requires place { IsPlace text.now behind }
+    requires known { list_all is_word_code (take (behind - at) (drop at text.now)) ≡ true }
+    ensures place { IsPlace text.now (at + length result.now) }
+    ensures first { FirstWord text.now at result.now }
+    ensures is { result.now ≡ take (length result.now) (drop at text.now) }
+    ensures longer { behind ≤ at + length result.now }
+    ensures whole { starts_word (drop (at + length result.now) text.now) ≡ false }
+{
+    let mut end = behind;
     while is_word_at(text, end) {
         end += 1;
     }

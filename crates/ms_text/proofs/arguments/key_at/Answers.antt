@@ -1,16 +1,25 @@
-use Rattle.std.proofs.Common.{sym, ◌∙◌, arith}
-use Rattle.def_text.specs.Word.{key_of}
-use Rattle.ms_text.proofs.NameLemmas.{no_empty_key}
-use Rattle.ms_text.proofs.PlaceLemmas.{word_goes, word_stops, word_some}
+use Rattle.std.proofs.Common.{◌≡◌, Some, None, sym, ◌∙◌, arith}
+use Rattle.ms_text.proofs.KeyLemmas.{key_word, key_place, key_goes, key_stops}
 use Rattle.ms_text.proofs.arguments.key_at.Goals as goal
 
 pub returns-in_default-clause-reads : goal.returns-in_default-clause-reads
 returns-in_default-clause-reads c = λ s next t.
-    word_stops key_of c.args.text.now c.args.at c.word_at-word.result.now s next c.word_at-word.ensures.first (sym c.key_spelled.ensures.key ∙ c.in_default.is) t
+    key_stops c.args.text.now c.key_digits_at-digits.result.now c.args.at c.requires c.key_digits_at-digits.ensures s next
+    (λ key e. let clash : None ≡ Some key = sym c.in_default.is ∙ (c.key_spelled.ensures.key ∙ e) in absurd (cc)) t
+
+pub returns-then-is_word_at-clause-reads : goal.returns-then-is_word_at-clause-reads
+returns-then-is_word_at-clause-reads c = λ s next t.
+    key_stops c.args.text.now c.key_digits_at-digits.result.now c.args.at c.requires c.key_digits_at-digits.ensures s next
+    (λ key e. sym c.is_word_at.ensures ∙ c.if-is_word_at.true) t
 
 pub returns-clause-after : goal.returns-clause-after
-returns-clause-after c = omega (arith, word_some key_of c.word_at-word.result.now c.in-Some.value no_empty_key (sym c.key_spelled.ensures.key ∙ c.in-Some.is))
+returns-clause-after c = omega (arith, (key_word c.key_digits_at-digits.result.now c.in-Some.value (sym c.key_spelled.ensures.key ∙ c.in-Some.is)).0)
+
+pub returns-clause-place : goal.returns-clause-place
+returns-clause-place c =
+    key_place c.args.text.now c.key_digits_at-digits.result.now c.args.at c.requires c.key_digits_at-digits.ensures c.in-Some.value (sym c.key_spelled.ensures.key ∙ c.in-Some.is)
 
 pub returns-clause-reads : goal.returns-clause-reads
 returns-clause-reads c = λ s next t.
-    word_goes key_of c.args.text.now c.args.at c.word_at-word.result.now s next c.in-Some.value no_empty_key c.word_at-word.ensures.first (sym c.key_spelled.ensures.key ∙ c.in-Some.is) t
+    key_goes c.args.text.now c.key_digits_at-digits.result.now c.args.at c.requires c.key_digits_at-digits.ensures c.in-Some.value s next (sym c.key_spelled.ensures.key ∙ c.in-Some.is)
+    (sym c.is_word_at.ensures ∙ c.if-is_word_at.false) t

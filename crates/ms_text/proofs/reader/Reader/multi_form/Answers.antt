@@ -3,7 +3,7 @@ use Rattle.std.proofs.lemmas.Result.{err_from_is_err_and}
 use Rattle.def_text.specs.Reader.{multi_open, multi_number, multi_comma}
 use Rattle.ms_text.proofs.AnswerLemmas.{refused, along}
 use Rattle.ms_text.proofs.StateLemmas.{takes_multi_open, takes_multi_number}
-use Rattle.ms_text.proofs.forms.multi_form.Goals as goal
+use Rattle.ms_text.proofs.reader.Reader.multi_form.Goals as goal
 
 pub returns-in_err-at-clause-reads : goal.returns-in_err-at-clause-reads
 returns-in_err-at-clause-reads c = λ fs.

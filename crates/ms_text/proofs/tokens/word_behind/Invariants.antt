@@ -3,11 +3,12 @@ use Rattle.std.proofs.Common.{◌≡◌, ◌-◌, ◌≤◌, true, length, take,
 use Rattle.std.specs.List.{list_all}
 use Rattle.def_text.specs.Token.{is_word_byte}
 use Rattle.ms_text.specs.Place.{IsPlace}
-use Rattle.ms_text.proofs.tokens.word_at.Given as goal
+use Rattle.ms_text.proofs.tokens.word_behind.Given as goal
 
 abbrev pub invariant-loop-end : goal.invariant-loop-end
 invariant-loop-end l = record {
   after : l.at ≤ l.end;
+  longer : l.behind ≤ l.end;
   place : IsPlace l.text l.end;
   word : list_all is_word_byte (take (l.end - l.at) (drop l.at l.text)) ≡ true;
 }

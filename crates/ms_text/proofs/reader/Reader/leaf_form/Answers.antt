@@ -5,7 +5,7 @@ use Rattle.ms_text.specs.Leaves.{leaf_tree}
 use Rattle.ms_text.specs.Names.{leaf_of}
 use Rattle.ms_text.proofs.AnswerLemmas.{refused, along}
 use Rattle.ms_text.proofs.StateLemmas.{takes_leaf_open, takes_leaf_word, takes_leaf_close}
-use Rattle.ms_text.proofs.forms.leaf_form.Goals as goal
+use Rattle.ms_text.proofs.reader.Reader.leaf_form.Goals as goal
 
 pub returns-in_err-at-clause-reads : goal.returns-in_err-at-clause-reads
 returns-in_err-at-clause-reads c = λ fs.

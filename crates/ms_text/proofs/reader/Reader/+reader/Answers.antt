@@ -4,20 +4,18 @@ use Rattle.def_tree.specs.Tree.{and_or, thresh, more, none}
 use Rattle.def_text.specs.Reader as machine
 use Rattle.ms_tree.specs.Shape.{shape, shapes}
 use Rattle.ms_text.specs.declared.tokens.Separator.TheVariants as separator
-use Rattle.ms_text.specs.Names.{form_of, pair_of, letter_of}
+use Rattle.ms_text.specs.Names.{form_of, pair_of, HeadIs, IsLetters}
 use Rattle.ms_text.specs.Place.{machine_from}
 use Rattle.ms_text.proofs.AnswerLemmas.{refused, along, answers_along}
 use Rattle.ms_text.proofs.PartLemmas.{part_at, one_more, joined_count, joined_measure, joined_depth, joined_writable}
 use Rattle.ms_text.proofs.ExpressionLemmas.{name_begins, run_too_deep, run_begins}
 use Rattle.ms_text.proofs.NameLemmas.{letters_are_long}
-use Rattle.std.specs.Option.{option_map}
-use Rattle.def_text.proofs.Outcomes.{outcome-letter}
 use Rattle.def_tree.specs.Range.{MOST_DEPTH}
 use Rattle.ms_text.specs.Room.{AreParts}
 use Rattle.ms_text.specs.Place.{rest}
-use Rattle.ms_text.proofs.RunLemmas.{run_step, empty_run}
+use Rattle.ms_text.proofs.RunLemmas.{run_offsets_are, run_is_long}
 use Rattle.ms_text.proofs.StateLemmas.{child_next, takes_colon_next, takes_andor_open, takes_andor_first, takes_andor_second, takes_andor_third, takes_pair_open, takes_pair_first, takes_pair_second, takes_thresh_open, takes_thresh_number, takes_thresh_comma, takes_thresh_child}
-use Rattle.ms_text.proofs.reader.+reader.Goals as goal
+use Rattle.ms_text.proofs.reader.Reader.+reader.Goals as goal
 
 pub pair_form-returns-in_err-x-clause-reads : goal.pair_form-returns-in_err-x-clause-reads
 pair_form-returns-in_err-x-clause-reads t c = λ fs l.
@@ -123,62 +121,45 @@ thresh_form-returns-clause-reads t c = λ fs l.
     ∙ c.in_ok-k.ensures.reads (machine.thresh_number c.args.name, fs, c.args.offsets.now.items) (λ k. (machine.thresh_comma k c.args.name, fs, c.args.offsets.now.items)) (takes_thresh_number c.args.name fs c.args.offsets.now.items)
     ∙ c.in_ok-read.ensures.reads c.in_ok-k.k.value c.args.name fs (omega arith))
 
-pub fragment-returns-in-Zero-clause-part : goal.fragment-returns-in-Zero-clause-part
-fragment-returns-in-Zero-clause-part t c = part_at c.args.text.now c.args.name c.args.depth c.bare_form.result c.bare_form.ensures.part c.requires.depth
-
-pub fragment-returns-in-One-clause-part : goal.fragment-returns-in-One-clause-part
-fragment-returns-in-One-clause-part t c = part_at c.args.text.now c.args.name c.args.depth c.bare_form-in-One.result c.bare_form-in-One.ensures.part c.requires.depth
-
 pub fragment-returns-in-Leaf-clause-part : goal.fragment-returns-in-Leaf-clause-part
-fragment-returns-in-Leaf-clause-part t c = part_at c.args.text.now c.args.name c.args.depth c.leaf_form.result c.leaf_form.ensures.part c.requires.depth
+fragment-returns-in-Leaf-clause-part t c = part_at c.args.self.now.text.now c.args.name c.args.depth c.leaf_form.result c.leaf_form.ensures.part c.requires.depth
 
 pub fragment-returns-in-Multi-clause-part : goal.fragment-returns-in-Multi-clause-part
-fragment-returns-in-Multi-clause-part t c = part_at c.args.text.now c.args.name c.args.depth c.multi_form.result c.multi_form.ensures.part c.requires.depth
-
-pub fragment-returns-in-Zero-clause-reads : goal.fragment-returns-in-Zero-clause-reads
-fragment-returns-in-Zero-clause-reads t c = λ fs l. rw c.in-Zero.is (c.bare_form.ensures.reads fs)
-
-pub fragment-returns-in-One-clause-reads : goal.fragment-returns-in-One-clause-reads
-fragment-returns-in-One-clause-reads t c = λ fs l. rw c.in-One.is (c.bare_form-in-One.ensures.reads fs)
+fragment-returns-in-Multi-clause-part t c = part_at c.args.self.now.text.now c.args.name c.args.depth c.multi_form.result c.multi_form.ensures.part c.requires.depth
 
 pub expression-returns-then-word-depth-clause-reads : goal.expression-returns-then-word-depth-clause-reads
 expression-returns-then-word-depth-clause-reads t c = λ fs l.
-    let letters = c.in-Letters.ensures in
-    run_too_deep c.args.text.now c.args.at c.word_at-word.result.now fs c.args.offsets.now.items c.word_at-word.ensures.first letters.first letters.others c.args.depth letters.is
-    (letters_are_long c.word_at-word.result.now (letters.first ∷ letters.others) letters.spells) l (omega arith)
+    let letters : IsLetters c.heading_at-head.result.word.now = subst (λ h. HeadIs h c.heading_at-head.result.word.now) c.in-Letters.is c.heading_at-head.ensures.head in
+    run_too_deep c.args.self.now.text.now c.args.at c.heading_at-head.result.word.now fs c.args.offsets.now.items c.heading_at-head.ensures.first letters.first letters.others c.args.depth letters.is
+    (letters_are_long c.heading_at-head.result.word.now (letters.first ∷ letters.others) letters.spells) l (omega arith)
 
 pub expression-returns-else-depth-eq-MOST_LEVELS-clause-reads : goal.expression-returns-else-depth-eq-MOST_LEVELS-clause-reads
 expression-returns-else-depth-eq-MOST_LEVELS-clause-reads t c = λ fs l.
-    answers_along _ _ _ _ (name_begins c.args.text.now c.args.at c.word_at-word.result.now fs c.args.offsets.now.items c.word_at-word.ensures.first (form_of c.in-Name.form) c.args.depth c.in-Name.ensures l (omega arith))
+    answers_along _ _ _ _ (name_begins c.args.self.now.text.now c.args.at c.heading_at-head.result.word.now fs c.args.offsets.now.items c.heading_at-head.ensures.first (form_of c.in-Name.form) c.args.depth (subst (λ h. HeadIs h c.heading_at-head.result.word.now) c.in-Name.is c.heading_at-head.ensures.head) l (omega arith))
     (c.fragment.ensures.reads fs l)
 
 pub expression-returns-else-word-depth-clause-reads : goal.expression-returns-else-word-depth-clause-reads
 expression-returns-else-word-depth-clause-reads t c = λ fs l.
-    let letters = c.in-Letters.ensures in
+    let letters : IsLetters c.heading_at-head.result.word.now = subst (λ h. HeadIs h c.heading_at-head.result.word.now) c.in-Letters.is c.heading_at-head.ensures.head in
     answers_along _ _ _ _
-    (run_begins c.args.text.now c.args.at c.word_at-word.result.now fs c.args.offsets.now.items c.word_at-word.ensures.first letters.first letters.others c.args.depth letters.is
-    (letters_are_long c.word_at-word.result.now (letters.first ∷ letters.others) letters.spells) l (omega arith))
+    (run_begins c.args.self.now.text.now c.args.at c.heading_at-head.result.word.now fs c.args.offsets.now.items c.heading_at-head.ensures.first letters.first letters.others c.args.depth letters.is
+    (letters_are_long c.heading_at-head.result.word.now (letters.first ∷ letters.others) letters.spells) l (omega arith))
     (c.letters.ensures.reads (letters.first ∷ letters.others) fs letters.spells l)
-
-pub letters-returns-in_default-clause-reads : goal.letters-returns-in_default-clause-reads
-letters-returns-in_default-clause-reads t c = λ ls fs h l.
-    answers_along _ _ _ _ (empty_run c.args.run.now c.args.name ls fs c.args.offsets.now.items c.args.text.now c.args.end c.in_default.len_below h)
-    (c.child.ensures.reads (machine.colon_next, fs, c.args.offsets.now.items) fs (takes_colon_next fs c.args.offsets.now.items) l)
 
 pub letters-returns-in_err-x-clause-reads : goal.letters-returns-in_err-x-clause-reads
 letters-returns-in_err-x-clause-reads t c = λ ls fs h l.
-    let (ms, k, e) = run_step c.args.run.now (letter_of c.in-Some.letter) c.args.name ls fs c.args.offsets.now.items c.add_offset_before.new.offsets.items c.args.text.now c.args.end c.in-len1-up.len_at_least
-    (ap (option_map letter_of) (sym c.in-Some.is) ∙ c.letter_named.ensures) h c.in_ok-add_offset_before.ensures.added in
     let p = err_from_is_err_and c.from_residual-in_err-x.result c.from_residual-in_err-x.ensures.1 in
-    refused _ _ _ _ _ p.1 p.2 (along _ _ _ e (c.in_err-x.ensures.reads ms (machine.letter_frame (letter_of c.in-Some.letter) c.args.name ∷ fs) (k _ (omega arith)) (omega (arith, l))))
+    refused _ _ _ _ _ p.1 p.2 (along _ _ _
+    (run_offsets_are c.args.run.now ls c.args.name fs c.args.offsets.now.items c.add_offsets_before.new.offsets.items c.args.self.now.text.now c.args.end h c.in_ok-add_offsets_before.ensures.added)
+    (c.in_err-x.ensures.reads (machine.colon_next, machine.run_frames c.args.name ls fs, c.add_offsets_before.new.offsets.items) (machine.run_frames c.args.name ls fs)
+    (takes_colon_next (machine.run_frames c.args.name ls fs) c.add_offsets_before.new.offsets.items) (omega (arith, run_is_long c.args.run.now ls c.args.name fs h, l))))
 
 pub letters-returns-clause-reads : goal.letters-returns-clause-reads
 letters-returns-clause-reads t c = λ ls fs h l.
-    let (ms, k, e) = run_step c.args.run.now (letter_of c.in-Some.letter) c.args.name ls fs c.args.offsets.now.items c.add_offset_before.new.offsets.items c.args.text.now c.args.end c.in-len1-up.len_at_least
-    (ap (option_map letter_of) (sym c.in-Some.is) ∙ c.letter_named.ensures) h c.in_ok-add_offset_before.ensures.added in
-    rw (c.in_ok-tree.ensures.tree, c.in_ok-add_offsets_behind.ensures.added)
-    (e ∙ c.in_ok-x.ensures.reads ms (machine.letter_frame (letter_of c.in-Some.letter) c.args.name ∷ fs) (k _ (omega arith)) (omega (arith, l))
-    ∙ outcome-letter (letter_of c.in-Some.letter) c.args.name (shape c.in_ok-x.x.tree) fs c.letters.new.offsets.items (rest c.args.text.now c.in_ok-x.x.end))
+    run_offsets_are c.args.run.now ls c.args.name fs c.args.offsets.now.items c.add_offsets_before.new.offsets.items c.args.self.now.text.now c.args.end h c.in_ok-add_offsets_before.ensures.added
+    ∙ c.in_ok-x.ensures.reads (machine.colon_next, machine.run_frames c.args.name ls fs, c.add_offsets_before.new.offsets.items) (machine.run_frames c.args.name ls fs)
+    (takes_colon_next (machine.run_frames c.args.name ls fs) c.add_offsets_before.new.offsets.items) (omega (arith, run_is_long c.args.run.now ls c.args.name fs h, l))
+    ∙ c.in_ok-tree.ensures.reads ls fs (rest c.args.self.now.text.now c.in_ok-x.x.end) h
 
 pub child_list-returns-in_err-at-clause-reads : goal.child_list-returns-in_err-at-clause-reads
 child_list-returns-in_err-at-clause-reads t c = λ k name fs l.
@@ -215,7 +196,7 @@ child_list-returns-in_err-found-clause-reads t c = λ k name fs l.
 pub child_list-returns-then-eq-clause-parts : goal.child_list-returns-then-eq-clause-parts
 child_list-returns-then-eq-clause-parts t c =
     let same : shapes c.add_child.new.children.items ≡ machine.joined (shapes c.loop-trees.trees.items) (more (shape c.in_ok-x.x.tree) none) = ap shapes c.in_ok-add_child.ensures.added ∙ one_more c.loop-trees.trees.items c.in_ok-x.x.tree in
-    subst (λ ts. AreParts c.args.text.now (c.args.at + 1) c.args.depth ts (c.in_ok-x.x.end + 1)) (sym same) (record {
+    subst (λ ts. AreParts c.args.self.now.text.now (c.args.at + 1) c.args.depth ts (c.in_ok-x.x.end + 1)) (sym same) (record {
       after = omega (arith, c.loop-trees.invariant.after, c.in_ok-x.ensures.part.after);
       place = c.in_ok-found.ensures.place;
       some = joined_count (shapes c.loop-trees.trees.items) (shape c.in_ok-x.x.tree);
@@ -231,8 +212,8 @@ child_list-returns-then-eq-clause-reads t c = λ k name fs l.
     c.loop-trees.invariant.reads k name fs l
     ∙ c.in_ok-x.ensures.reads (machine.thresh_child k (shapes c.loop-trees.trees.items) name ∷ fs) (omega (arith, l))
     ∙ c.in_ok-found.ensures.reads (machine.ended (shape c.in_ok-x.x.tree), machine.thresh_child k (shapes c.loop-trees.trees.items) name ∷ fs, c.expression.new.offsets.items) (child_next k (machine.joined (shapes c.loop-trees.trees.items) (more (shape c.in_ok-x.x.tree) none)) name fs c.expression.new.offsets.items) (takes_thresh_child k (shapes c.loop-trees.trees.items) (shape c.in_ok-x.x.tree) name fs c.expression.new.offsets.items)
-    ∙ ap (λ f. machine_from (child_next k (machine.joined (shapes c.loop-trees.trees.items) (more (shape c.in_ok-x.x.tree) none)) name fs c.expression.new.offsets.items f) c.args.text.now (c.in_ok-x.x.end + 1)) last
-    ∙ ap (λ ts. machine_from (machine.ended (thresh k ts), fs, c.expression.new.offsets.items ++ name ∷ []) c.args.text.now (c.in_ok-x.x.end + 1)) (sym same)
+    ∙ ap (λ f. machine_from (child_next k (machine.joined (shapes c.loop-trees.trees.items) (more (shape c.in_ok-x.x.tree) none)) name fs c.expression.new.offsets.items f) c.args.self.now.text.now (c.in_ok-x.x.end + 1)) last
+    ∙ ap (λ ts. machine_from (machine.ended (thresh k ts), fs, c.expression.new.offsets.items ++ name ∷ []) c.args.self.now.text.now (c.in_ok-x.x.end + 1)) (sym same)
 
 pub child_list-loop-trees-preserved : goal.child_list-loop-trees-preserved
 child_list-loop-trees-preserved t c =
@@ -248,6 +229,6 @@ child_list-loop-trees-preserved t c =
           c.loop-trees.invariant.reads k name fs l
           ∙ c.in_ok-x.ensures.reads (machine.thresh_child k (shapes c.loop-trees.trees.items) name ∷ fs) (omega (arith, l))
           ∙ c.in_ok-found.ensures.reads (machine.ended (shape c.in_ok-x.x.tree), machine.thresh_child k (shapes c.loop-trees.trees.items) name ∷ fs, c.expression.new.offsets.items) (child_next k (machine.joined (shapes c.loop-trees.trees.items) (more (shape c.in_ok-x.x.tree) none)) name fs c.expression.new.offsets.items) (takes_thresh_child k (shapes c.loop-trees.trees.items) (shape c.in_ok-x.x.tree) name fs c.expression.new.offsets.items)
-          ∙ ap (λ f. machine_from (child_next k (machine.joined (shapes c.loop-trees.trees.items) (more (shape c.in_ok-x.x.tree) none)) name fs c.expression.new.offsets.items f) c.args.text.now (c.in_ok-x.x.end + 1)) another
-          ∙ ap (λ ts. machine_from (machine.expression, machine.thresh_child k ts name ∷ fs, c.expression.new.offsets.items) c.args.text.now (c.in_ok-x.x.end + 1)) (sym same);
+          ∙ ap (λ f. machine_from (child_next k (machine.joined (shapes c.loop-trees.trees.items) (more (shape c.in_ok-x.x.tree) none)) name fs c.expression.new.offsets.items f) c.args.self.now.text.now (c.in_ok-x.x.end + 1)) another
+          ∙ ap (λ ts. machine_from (machine.expression, machine.thresh_child k ts name ∷ fs, c.expression.new.offsets.items) c.args.self.now.text.now (c.in_ok-x.x.end + 1)) (sym same);
     }
