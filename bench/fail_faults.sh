@@ -1,6 +1,6 @@
 #!/bin/sh
-# Lets each allocation, each read and each write of the proved program fail in turn, over the examples of `satisfy`, and over `check`,
-# `run` and `gen`. A failed allocation has to give status 7 and a failed read status 5, with nothing written; a failed write status 6,
+# Lets each allocation, each read and each write of the proved program fail in turn, over the examples of every command, and over further
+# cases of `check`, `run` and `gen`. A failed allocation has to give status 7 and a failed read status 5, with nothing written; a failed write status 6,
 # with just those bytes of the answer that the writes before it took. Where the last call of a kind is granted too, the answer is whole; so
 # it may be where a failed allocation is made good: an arena that is refused a piece asks for one of half the size, and a list that is made
 # of an iterator does without the room that it wanted first. Those are counted apart.

@@ -1,5 +1,5 @@
 -- The answer, computed: a text is read by the machine that reads tokens one after the other.
-use Rattle.std.proofs.Common.{◌≡◌, ◌≤◌, inl, inr, Bool, true, false, nat_lt, if◌then◌else◌, List, Option, Some, None, All, map, length, refl, subst}
+use Rattle.std.proofs.Common.{◌≡◌, ◌≤◌, inl, inr, Bool, true, false, nat_lt, if◌then◌else◌, List, [], Option, Some, None, All, map, length, refl, subst}
 use Rattle.std.specs.Prelude.{⊤}
 use Rattle.std.specs.Char.{is_ascii}
 use Rattle.std.specs.List.{list_all}
@@ -14,17 +14,21 @@ use Rattle.def_text.specs.Refusal.{MOST_BYTES}
 use Rattle.def_text.specs.Reader.{START, Outcome, tree_outcome, syntax_outcome, deep_outcome, outcome}
 use Rattle.def_text.proofs.Completion.{ascii_is_utf8}
 use Rattle.def_text.proofs.Report.{Reports, report}
-use Rattle.def_sane.specs.Unfit.{first_unfit, first_unfit_under, first_unfit_valid_under}
+use Rattle.def_text.proofs.SpelledWritable.{spelled_writable}
+use Rattle.def_audit.specs.declared.Step.{Step}
+use Rattle.def_sane.specs.Unfit.{first_unfit, first_unfit_valid, first_unfit_under, first_unfit_valid_under}
 use Rattle.def_choice.specs.Cheapest.{cheapest}
 use Rattle.def_choice.specs.Strict.{strict}
 use Rattle.def_answer.specs.declared.status.Status.{Status}
-use Rattle.def_answer.specs.Words.{Command, script, check, satisfy, satisfy_malleable, run, gen, policy, plan, decode, IsCommand}
+use Rattle.def_answer.specs.Words.{Command, script, check, satisfy, satisfy_malleable, run, gen, policy, plan, audit, decode, IsCommand}
 use Rattle.def_answer.specs.Reading.{Reading, read, refused, HasReading}
-use Rattle.def_answer.specs.Reply.{Reply, reply, usage_reply, text_reply, satisfy_reply, run_reply, plan_reply}
+use Rattle.def_answer.specs.Reply.{Reply, reply, usage_reply, text_reply, satisfy_reply, run_reply, plan_reply, audit_reply}
 use Rattle.def_answer.proofs.Decided.{decided, decided_is, decided_not}
 use Rattle.def_answer.proofs.Forms.{command_of, is_form, none_has_form}
 use Rattle.def_answer.proofs.SpelledKeys.{are_keys}
-use Rattle.def_answer.specs.Answer.{script_reply, check_reply, policy_reply, bytes_of, decode_reply, no_reading_reply, gen_reply, RepliesToScript, Replies, RepliesToWords, Answer}
+use Rattle.def_answer.specs.Answer.{script_reply, check_reply, policy_reply, bytes_of, decode_reply, no_reading_reply, gen_reply, RepliesToScript, HasSteps, offsets_of, Replies, RepliesToWords, Answer}
+use Rattle.def_answer.specs.Laws.{walked}
+use Rattle.def_answer.proofs.AuditSteps.{walked_are_steps}
 
 -- ---- texts
 
@@ -62,6 +66,7 @@ OnText P run = ⊤
 OnText P (gen n) = ⊤
 OnText P (policy text) = P text
 OnText P (plan text) = P text
+OnText P (audit text) = P text
 OnText P (decode digits keys) = ⊤
 
 -- the reply to a Script
@@ -76,6 +81,15 @@ replies_to_script keys bytes all = go (decided keys bytes) refl
     go None e = inr (λ tree. decided_not keys bytes tree all e, refl)
     go (Some tree) e = inl (tree, decided_is keys bytes tree all e, refl)
 
+-- the steps of an audit
+abbrev pub steps_of : Reading → (source : Bytes) → List Step
+steps_of (read tree offsets) source = walked tree source
+steps_of (refused fault) source = []
+
+has_steps : (text source : Bytes) (r : Reading) → HasReading text r → HasSteps r source (steps_of r source)
+has_steps text source (read tree offsets) has = walked_are_steps tree source (spelled_writable has.spelled)
+has_steps text source (refused fault) has = tt
+
 abbrev pub reply_to : (source : Bytes) → Command → Reply
 reply_to source (script rules text) = text_reply (first_unfit_valid_under rules) script_reply (reading_of text)
 reply_to source (check rules text) = text_reply (first_unfit_under rules) (check_reply rules) (reading_of text)
@@ -85,6 +99,8 @@ reply_to source run = run_reply source
 reply_to source (gen n) = gen_reply n
 reply_to source (policy text) = text_reply first_unfit policy_reply (reading_of text)
 reply_to source (plan text) = text_reply first_unfit (plan_reply source) (reading_of text)
+reply_to source (audit text) =
+    text_reply first_unfit_valid (audit_reply (offsets_of (reading_of text)) (steps_of (reading_of text) source) source) (reading_of text)
 reply_to source (decode digits keys) = decided_reply (decided (map bytes_of keys) (bytes_of digits))
 
 replies_to : (command : Command) (source : Bytes) → IsCommand command → OnText IsUtf8 command → Replies command source (reply_to source command)
@@ -96,6 +112,9 @@ replies_to run source is utf8 = refl
 replies_to (gen n) source is utf8 = refl
 replies_to (policy text) source is utf8 = (reading_of text, has_reading text utf8, refl)
 replies_to (plan text) source is utf8 = (reading_of text, has_reading text utf8, refl)
+replies_to (audit text) source is utf8 =
+    let has = has_reading text utf8 in
+    (reading_of text, steps_of (reading_of text) source, has, has_steps text source (reading_of text) has, refl)
 replies_to (decode digits keys) source is utf8 = replies_to_script (map bytes_of keys) (bytes_of digits) (are_keys keys is.1)
 
 abbrev pub reply_to_words : (source : Bytes) → Option Command → Reply
@@ -125,6 +144,7 @@ is_ascii_text run = true
 is_ascii_text (gen n) = true
 is_ascii_text (policy text) = list_all is_ascii text
 is_ascii_text (plan text) = list_all is_ascii text
+is_ascii_text (audit text) = list_all is_ascii text
 is_ascii_text (decode digits keys) = true
 
 abbrev pub are_ascii_words : Option Command → Bool
@@ -140,6 +160,7 @@ ascii_text run ascii = tt
 ascii_text (gen n) ascii = tt
 ascii_text (policy text) ascii = ascii_is_utf8 text ascii
 ascii_text (plan text) ascii = ascii_is_utf8 text ascii
+ascii_text (audit text) ascii = ascii_is_utf8 text ascii
 ascii_text (decode digits keys) ascii = tt
 
 ascii_words : (o : Option Command) → are_ascii_words o ≡ true → OnWords IsUtf8 o

@@ -13,7 +13,7 @@ use Rattle.std.proofs.lemmas.Slice.Eq.{bytes_eq-Decides}
 use Rattle.def_script.specs.Bytes.{Bytes}
 use Rattle.def_text.specs.Word.{key_of}
 use Rattle.def_sane.specs.declared.Rules.TheVariants.{Policy, Consensus}
-use Rattle.def_answer.specs.Words.{Command, script, check, satisfy, satisfy_malleable, run, gen, policy, plan, decode, words_of, MOST_CHILDREN, IsCommand, IsForm, HasNoForm}
+use Rattle.def_answer.specs.Words.{Command, script, check, satisfy, satisfy_malleable, run, gen, policy, plan, audit, decode, words_of, MOST_CHILDREN, IsCommand, IsForm, HasNoForm}
 
 -- the number of 1 to 30 that a word spells
 unfoldable pub children_of : Bytes → Option ℕ
@@ -30,6 +30,7 @@ two_words first second =
     else if bytes_eq first (codes "gen") then option_map gen (children_of second)
     else if bytes_eq first (codes "policy") then Some (policy second)
     else if bytes_eq first (codes "plan") then Some (plan second)
+    else if bytes_eq first (codes "audit") then Some (audit second)
     else None
 
 abbrev pub consensus_words : (first text : Bytes) → Option Command
@@ -118,6 +119,7 @@ command_found run h = refl
 command_found (gen n) h = ap (option_map gen) (children_found n h.0 h.1)
 command_found (policy text) h = refl
 command_found (plan text) h = refl
+command_found (audit text) h = refl
 command_found (decode digits keys) h = if_true (are_script_and_keys digits keys) (decode digits keys) ((script_and_keys_tell digits keys).1 h)
 
 -- ---- and its words are those
@@ -179,7 +181,10 @@ two_form first second c e =
               | inl h ↦ same_form _ (policy second) c (pair_is first second (codes "policy") (is_word first (codes "policy") h.0)) tt h.1
               | inr h ↦ elim (if_some (bytes_eq first (codes "plan")) _ _ c h.1) [
                 | inl h ↦ same_form _ (plan second) c (pair_is first second (codes "plan") (is_word first (codes "plan") h.0)) tt h.1
-                | inr h ↦ cc h.1
+                | inr h ↦ elim (if_some (bytes_eq first (codes "audit")) _ _ c h.1) [
+                  | inl h ↦ same_form _ (audit second) c (pair_is first second (codes "audit") (is_word first (codes "audit") h.0)) tt h.1
+                  | inr h ↦ cc h.1
+                ]
               ]
             ]
           ]

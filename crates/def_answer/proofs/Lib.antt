@@ -1,6 +1,7 @@
 pub mod Forms
 pub mod SpelledKeys
 pub mod Decided
+pub mod AuditSteps
 pub mod Answered
 pub mod Unique
 pub mod LeastKeys
@@ -13,6 +14,7 @@ pub mod DecodeRows
 pub mod PlanRows
 pub mod SatisfyRows
 pub mod RunRows
+mod AuditRows
 pub mod GenRows
 pub mod SourceRows
 mod ConsensusRows

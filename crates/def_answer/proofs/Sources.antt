@@ -8,19 +8,20 @@ use Rattle.def_script.specs.Bytes.{Bytes}
 use Rattle.def_tree.specs.Tree.{Tree}
 use Rattle.def_text.proofs.Completion.{ascii_is_utf8}
 use Rattle.def_sane.specs.declared.Unfit.{Unfit}
-use Rattle.def_sane.specs.Unfit.{first_unfit, first_unfit_under, first_unfit_valid_under}
+use Rattle.def_sane.specs.Unfit.{first_unfit, first_unfit_valid, first_unfit_under, first_unfit_valid_under}
+use Rattle.def_audit.specs.declared.Step.{Step}
 use Rattle.def_choice.specs.Cheapest.{cheapest}
 use Rattle.def_choice.specs.Strict.{strict}
 use Rattle.def_answer.specs.declared.status.Status.{Status}
 use Rattle.def_answer.specs.declared.status.Status.TheVariants as status
-use Rattle.def_answer.specs.Words.{Command, script, check, satisfy, satisfy_malleable, run, gen, policy, plan, decode}
+use Rattle.def_answer.specs.Words.{Command, script, check, satisfy, satisfy_malleable, run, gen, policy, plan, audit, decode}
 use Rattle.def_answer.specs.Reading.{Reading, read, refused, HasReading}
-use Rattle.def_answer.specs.Reply.{Reply, reply, unless_unfit, text_reply, MOST_FILE, satisfy_reply, plan_reply}
-use Rattle.def_answer.specs.Answer.{script_reply, check_reply, policy_reply, gen_reply, RepliesToText, Replies, RepliesToWords}
+use Rattle.def_answer.specs.Reply.{Reply, reply, unless_unfit, text_reply, MOST_FILE, satisfy_reply, plan_reply, audit_reply}
+use Rattle.def_answer.specs.Answer.{script_reply, check_reply, policy_reply, gen_reply, RepliesToText, AreSteps, HasSteps, offsets_of, RepliesToAudit, Replies, RepliesToWords}
 use Rattle.def_answer.specs.Sources.{Passes, NeedsSource, ReadsSource, IsOfSource, IsToFile}
 use Rattle.def_answer.specs.Laws.{AnswerWithoutSource, StatusWithoutSource, StatusWithSource}
 use Rattle.def_answer.proofs.Answered.{OnText, reading_of, has_reading}
-use Rattle.def_answer.proofs.Early.{OfStatus, satisfy_status, run_status, plan_status, long_asset_file, long_run_file, long_plan_file}
+use Rattle.def_answer.proofs.Early.{OfStatus, satisfy_status, run_status, plan_status, audit_status, long_asset_file, long_run_file, long_plan_file, long_audit_file}
 use Rattle.def_answer.proofs.Forms.{command_of, form_found}
 use Rattle.def_answer.proofs.Unique.{one_form, one_reading, text_of_form}
 
@@ -52,6 +53,20 @@ text_without : (text : Bytes) (reason : Tree → Option Unfit) (f g : Tree → R
     RepliesToText text reason f r → RepliesToText text reason g r
 text_without text reason f g r never h = (h.0, h.1, h.2 ∙ same_without text reason f g h.0 never h.1)
 
+-- no steps are asked of a text that doesn't pass
+steps_without : (text other : Bytes) (r : Reading) (steps : List Step) → ¬ Passes first_unfit_valid text → HasReading text r → HasSteps r other steps
+steps_without text other (read tree offsets) steps never has = λ valid. absurd (never (tree, offsets, has, valid))
+steps_without text other (refused fault) steps never has = tt
+
+audit_without : (text source other : Bytes) (r : Reply) → ¬ Passes first_unfit_valid text → RepliesToAudit text source r → RepliesToAudit text other r
+audit_without text source other r never (reading, steps, has, are, e) = (
+  reading,
+  steps,
+  has,
+  steps_without text other reading steps never has,
+  e ∙ same_without text first_unfit_valid (audit_reply (offsets_of reading) steps source) (audit_reply (offsets_of reading) steps other) reading never has,
+)
+
 -- ---- replies without the source
 
 reply_without : (c : Command) (source other : Bytes) (r : Reply) → ¬ NeedsSource c → Replies c source r → Replies c other r
@@ -65,6 +80,7 @@ reply_without run source other r never h = absurd (never tt)
 reply_without (gen n) source other r never h = h
 reply_without (policy text) source other r never h = h
 reply_without (plan text) source other r never h = text_without text first_unfit (plan_reply source) (plan_reply other) r never h
+reply_without (audit text) source other r never h = audit_without text source other r never h
 reply_without (decode digits keys) source other r never h = h
 
 -- no status that tells of the source
@@ -86,6 +102,11 @@ refused_other text reason next r never h =
     let is = ap (λ (s : Reply). s.status) h.2 ∙ status_without text reason next h.0 never h.1 in
     subst IsOther (sym is) (λ s. s)
 
+audit_refused_other : (text source : Bytes) (r : Reply) → ¬ Passes first_unfit_valid text → RepliesToAudit text source r → OfStatus IsOther r
+audit_refused_other text source r never (reading, steps, has, are, e) =
+    let is = ap (λ (s : Reply). s.status) e ∙ status_without text first_unfit_valid (audit_reply (offsets_of reading) steps source) reading never has in
+    subst IsOther (sym is) (λ s. s)
+
 other_status : (c : Command) (source : Bytes) (r : Reply) → ¬ NeedsSource c → Replies c source r → OfStatus IsOther r
 unfolding gen_reply
 other_status (script rules text) source r never h =
@@ -100,6 +121,7 @@ other_status (gen n) source r never h = subst (OfStatus IsOther) (sym h) (λ s. 
 other_status (policy text) source r never h =
     subst (OfStatus IsOther) (sym h.2) (other_text first_unfit policy_reply h.0 (λ tree s. s))
 other_status (plan text) source r never h = refused_other text first_unfit (plan_reply source) r never h
+other_status (audit text) source r never h = audit_refused_other text source r never h
 other_status (decode digits keys) source r never (inl h) = subst (OfStatus IsOther) (sym h.2) (λ s. s)
 other_status (decode digits keys) source r never (inr h) = subst (OfStatus IsOther) (sym h.1) (λ s. s)
 
@@ -130,6 +152,16 @@ passed_text text reason next r utf8 passes h =
     let same = one_reading text h.0 (read passes.0 passes.1) utf8 h.1 passes.2 in
     h.2 ∙ ap (text_reply reason next) same ∙ ap (λ o. unless_unfit o passes.1 (next passes.0)) passes.3
 
+pub passed_audit : (text source : Bytes) (r : Reply) → IsUtf8 text → (passes : Passes first_unfit_valid text) → RepliesToAudit text source r
+    → (steps : List Step) × AreSteps passes.0 source steps × (r ≡ audit_reply passes.1 steps source passes.0)
+passed_audit text source r utf8 passes (reading, steps, has, are, e) =
+    let same = one_reading text reading (read passes.0 passes.1) utf8 has passes.2 in (
+      steps,
+      subst (λ t. HasSteps t source steps) same are passes.3,
+      e ∙ ap (λ t. text_reply first_unfit_valid (audit_reply (offsets_of t) steps source) t) same
+          ∙ ap (λ o. unless_unfit o passes.1 (audit_reply passes.1 steps source passes.0)) passes.3,
+    )
+
 file_status : (c : Command) (source : Bytes) (r : Reply) → OnText IsUtf8 c → NeedsSource c → Replies c source r →
     OfStatus IsToFile r
 file_status (script rules text) source r utf8 needs h = absurd needs
@@ -146,6 +178,9 @@ file_status (policy text) source r utf8 needs h = absurd needs
 file_status (plan text) source r utf8 needs h =
     subst (OfStatus IsToFile) (sym (passed_text text first_unfit (plan_reply source) r utf8 needs h))
     (plan_status IsToFile source needs.0 tt tt tt)
+file_status (audit text) source r utf8 needs h =
+    let found = passed_audit text source r utf8 needs h in
+    subst (OfStatus IsToFile) (sym found.2) (audit_status IsToFile needs.1 found.0 source needs.0 tt tt tt)
 file_status (decode digits keys) source r utf8 needs h = absurd needs
 
 -- a file that is too long is refused, whatever it says
@@ -164,6 +199,9 @@ long_file (gen n) source r utf8 needs long h = absurd needs
 long_file (policy text) source r utf8 needs long h = absurd needs
 long_file (plan text) source r utf8 needs long h =
     ap (λ (r : Reply). r.status) (passed_text text first_unfit (plan_reply source) r utf8 needs h ∙ long_plan_file source needs.0 long)
+long_file (audit text) source r utf8 needs long h =
+    let found = passed_audit text source r utf8 needs h in
+    ap (λ (r : Reply). r.status) (found.2 ∙ long_audit_file needs.1 found.0 source needs.0 long)
 long_file (decode digits keys) source r utf8 needs long h = absurd needs
 
 file_words : (words : List Bytes) (source : Bytes) (r : Reply) → All IsUtf8 words → ReadsSource words →

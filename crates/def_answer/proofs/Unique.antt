@@ -8,15 +8,17 @@ use Rattle.def_text.proofs.OneAnswer.{one_refusal, none_beside_tree}
 use Rattle.ms_decode_laws.proofs.Decoding.{one_is_decoded}
 use Rattle.def_sane.specs.declared.Rules.TheVariants.{Policy, Consensus}
 use Rattle.def_sane.specs.declared.Unfit.{Unfit}
-use Rattle.def_sane.specs.Unfit.{first_unfit, first_unfit_under, first_unfit_valid_under}
+use Rattle.def_sane.specs.Unfit.{first_unfit, first_unfit_valid, first_unfit_under, first_unfit_valid_under}
+use Rattle.def_audit.specs.declared.Step.{Step}
 use Rattle.def_choice.specs.Cheapest.{cheapest}
 use Rattle.def_choice.specs.Strict.{strict}
-use Rattle.def_answer.specs.Words.{Command, script, check, satisfy, satisfy_malleable, run, gen, policy, plan, decode, words_of, IsForm, HasNoForm}
+use Rattle.def_answer.specs.Words.{Command, script, check, satisfy, satisfy_malleable, run, gen, policy, plan, audit, decode, words_of, IsForm, HasNoForm}
 use Rattle.def_answer.specs.Reading.{Reading, read, refused, HasReading}
-use Rattle.def_answer.specs.Reply.{Reply, reply, text_reply, satisfy_reply, plan_reply}
-use Rattle.def_answer.specs.Answer.{script_reply, check_reply, policy_reply, decode_reply, bytes_of, RepliesToScript, RepliesToText, Replies, RepliesToWords}
+use Rattle.def_answer.specs.Reply.{Reply, reply, unless_unfit, text_reply, satisfy_reply, plan_reply, audit_reply}
+use Rattle.def_answer.specs.Answer.{script_reply, check_reply, policy_reply, decode_reply, bytes_of, RepliesToScript, RepliesToText, HasSteps, offsets_of, RepliesToAudit, Replies, RepliesToWords}
 use Rattle.def_answer.specs.Laws.{OneForm, FormOrNone, OneAnswer, SomeAnswer}
 use Rattle.def_answer.proofs.Forms.{command_of, is_form, form_found, none_has_form}
+use Rattle.def_answer.proofs.AuditSteps.{one_audit}
 use Rattle.def_answer.proofs.Answered.{OnText, OnWords, reply_to_words, replies_to_words}
 
 -- ---- forms
@@ -45,6 +47,7 @@ text_of_words P run h = tt
 text_of_words P (gen n) h = tt
 text_of_words P (policy text) h = h 1 [] (omega arith)
 text_of_words P (plan text) h = h 1 [] (omega arith)
+text_of_words P (audit text) h = h 1 [] (omega arith)
 text_of_words P (decode digits keys) h = tt
 
 pub text_of_form : (words : List Bytes) (c : Command) → All IsUtf8 words → IsForm words c → OnText IsUtf8 c
@@ -71,6 +74,23 @@ one_script_reply keys bytes a b (inl h) (inr k) = absurd (k.0 h.0 h.1.reading)
 one_script_reply keys bytes a b (inr h) (inl k) = absurd (h.0 k.0 k.1.reading)
 one_script_reply keys bytes a b (inr h) (inr k) = h.1 ∙ sym k.1
 
+-- the steps of an audit are the only ones
+one_audit_reading : (source : Bytes) (read : Reading) (p q : List Step) → HasSteps read source p → HasSteps read source q
+    → text_reply first_unfit_valid (audit_reply (offsets_of read) p source) read ≡ text_reply first_unfit_valid (audit_reply (offsets_of read) q source) read
+one_audit_reading source (read tree offsets) p q h k = go (first_unfit_valid tree) refl
+  where
+    go : (o : Option Unfit) → first_unfit_valid tree ≡ o
+        → unless_unfit o offsets (audit_reply offsets p source tree) ≡ unless_unfit o offsets (audit_reply offsets q source tree)
+    go None valid = one_audit offsets tree source p q valid (h valid) (k valid)
+    go (Some unfit) e = refl
+one_audit_reading source (refused fault) p q h k = refl
+
+one_audit_reply : (text source : Bytes) (a b : Reply) → IsUtf8 text → RepliesToAudit text source a → RepliesToAudit text source b → a ≡ b
+one_audit_reply text source a b utf8 (r, p, has, h, e) (s, q, has_s, k, f) =
+    let same = one_reading text s r utf8 has_s has in
+    e ∙ one_audit_reading source r p q h (subst (λ t. HasSteps t source q) same k)
+    ∙ ap (λ t. text_reply first_unfit_valid (audit_reply (offsets_of t) q source) t) (sym same) ∙ sym f
+
 pub one_reply : (c : Command) (source : Bytes) (a b : Reply) → OnText IsUtf8 c → Replies c source a → Replies c source b → a ≡ b
 one_reply (script rules text) source a b utf8 h k = one_text_reply text (first_unfit_valid_under rules) script_reply a b utf8 h k
 one_reply (check rules text) source a b utf8 h k = one_text_reply text (first_unfit_under rules) (check_reply rules) a b utf8 h k
@@ -81,6 +101,7 @@ one_reply run source a b utf8 h k = h ∙ sym k
 one_reply (gen n) source a b utf8 h k = h ∙ sym k
 one_reply (policy text) source a b utf8 h k = one_text_reply text first_unfit policy_reply a b utf8 h k
 one_reply (plan text) source a b utf8 h k = one_text_reply text first_unfit (plan_reply source) a b utf8 h k
+one_reply (audit text) source a b utf8 h k = one_audit_reply text source a b utf8 h k
 one_reply (decode digits keys) source a b utf8 h k = one_script_reply (map bytes_of keys) (bytes_of digits) a b h k
 
 -- ---- answers

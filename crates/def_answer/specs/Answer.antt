@@ -1,25 +1,34 @@
 -- The program's answer: for each list of words and each content of the source a status and a report. The
--- words come first, then the text, the reasons against its tree, the file, and the satisfaction, the run or the plan.
-use Rattle.std.specs.Prelude.{◌≡◌, ◌⊎◌, ℕ, ◌++◌, List, [], map, Option, unwrap_or}
+-- words come first, then the text, the reasons against its tree, the file, and the satisfaction, the run, the plan or
+-- the audit.
+use Rattle.std.specs.Prelude.{◌≡◌, ◌⊎◌, ℕ, ◌++◌, true, ⊤, List, [], map, Option, unwrap_or, Ok}
 use Rattle.std.specs.Result.{result_unwrap_or}
 use Rattle.hex.specs.Hex.{decode_of}
 use Rattle.def_script.specs.Bytes.{Bytes}
+use Rattle.def_machine.specs.Stacks.{Pairs}
+use Rattle.def_machine.specs.Run.{accepted, run}
 use Rattle.def_tree.specs.Tree.{Key, Tree}
+use Rattle.def_emit.specs.Emit.{script_of}
+use Rattle.def_files.specs.RunFile.{RunFile, run_of}
 use Rattle.def_sane.specs.declared.Rules.{Rules}
 use Rattle.def_sane.specs.declared.Unfit.{Unfit}
 use Rattle.def_sane.specs.Most.{limits_of}
-use Rattle.def_sane.specs.Unfit.{first_unfit, first_unfit_under, first_unfit_valid_under}
+use Rattle.def_sane.specs.Unfit.{first_unfit, first_unfit_valid, first_unfit_under, first_unfit_valid_under, IsValid}
+use Rattle.def_audit.specs.declared.Step.{Step}
+use Rattle.def_audit.specs.Derives.{Derives}
 use Rattle.def_choice.specs.Cheapest.{cheapest}
 use Rattle.def_choice.specs.Strict.{strict}
 use Rattle.def_decode.specs.Decoded.{IsReading, IsDecoded}
 use Rattle.def_answer.specs.declared.status.Status.{Status}
 use Rattle.def_answer.specs.declared.status.Status.TheVariants as status
-use Rattle.def_answer.specs.Words.{Command, script, check, satisfy, satisfy_malleable, run, gen, policy, plan, decode, IsForm, HasNoForm}
+use Rattle.def_answer.specs.Words.{Command, script, check, satisfy, satisfy_malleable, gen, policy, plan, audit, decode, IsForm, HasNoForm}
+use Rattle.def_answer.specs.Words as words
 use Rattle.def_answer.specs.Lines.{limits_line, no_reading_line}
 use Rattle.def_answer.specs.Report.{script_report, check_report, policy_report, decode_report, replay, children_line, strict_line, cheapest_line}
 use Rattle.def_answer.specs.Generated.{threshold_of, generated_tree, generated_assets}
 use Rattle.def_answer.specs.Reading.{Reading, HasReading}
-use Rattle.def_answer.specs.Reply.{Reply, reply, usage_reply, text_reply, satisfy_reply, run_reply, plan_reply}
+use Rattle.def_answer.specs.Reading as reading
+use Rattle.def_answer.specs.Reply.{Reply, reply, usage_reply, text_reply, satisfy_reply, given_by, run_reply, plan_reply, audit_reply}
 
 -- what `gen` prints, from its two satisfactions
 unfoldable pub gen_report : (n : ℕ) → (strict cheapest : List Bytes) → Bytes
@@ -66,16 +75,40 @@ abbrev pub RepliesToText : (text : Bytes) → (first_reason : Tree → Option Un
 RepliesToText text first_reason next r =
     (reading : Reading) × HasReading text reading × (r ≡ text_reply first_reason next reading)
 
+-- where the stack of a run file is accepted on the tree's Script, these are the steps by which it satisfies the tree
+abbrev pub AreSteps : Tree → (source : Bytes) → List Step → Type 0
+AreSteps tree source steps =
+    (file : RunFile) (ops peak : ℕ) (checks : Pairs) → run_of source ≡ Ok file →
+    run (given_by file) (script_of tree) file.stack ≡ accepted ops peak checks →
+    Derives tree (given_by file) true steps file.stack
+
+-- so they are for a text that is read as a valid tree
+abbrev pub HasSteps : Reading → (source : Bytes) → List Step → Type 0
+HasSteps (reading.read tree offsets) source steps = IsValid tree → AreSteps tree source steps
+HasSteps (reading.refused fault) source steps = ⊤
+
+-- the places of the nodes of a text
+abbrev pub offsets_of : Reading → List ℕ
+offsets_of (reading.read tree offsets) = offsets
+offsets_of (reading.refused fault) = []
+
+-- the reply to a text and a run file, with such steps
+abbrev pub RepliesToAudit : (text source : Bytes) → Reply → Type 0
+RepliesToAudit text source r =
+    (found : Reading) × (steps : List Step) × HasReading text found × HasSteps found source steps
+    × (r ≡ text_reply first_unfit_valid (audit_reply (offsets_of found) steps source) found)
+
 -- the reply to a command
 abbrev pub Replies : Command → (source : Bytes) → Reply → Type 0
 Replies (script rules text) source r = RepliesToText text (first_unfit_valid_under rules) script_reply r
 Replies (check rules text) source r = RepliesToText text (first_unfit_under rules) (check_reply rules) r
 Replies (satisfy rules text) source r = RepliesToText text (first_unfit_under rules) (satisfy_reply rules strict source) r
 Replies (satisfy_malleable rules text) source r = RepliesToText text (first_unfit_valid_under rules) (satisfy_reply rules cheapest source) r
-Replies run source r = r ≡ run_reply source
+Replies words.run source r = r ≡ run_reply source
 Replies (gen n) source r = r ≡ gen_reply n
 Replies (policy text) source r = RepliesToText text first_unfit policy_reply r
 Replies (plan text) source r = RepliesToText text first_unfit (plan_reply source) r
+Replies (audit text) source r = RepliesToAudit text source r
 Replies (decode digits keys) source r = RepliesToScript (map bytes_of keys) (bytes_of digits) r
 
 -- the reply to words: to their command, or where they have no form

@@ -1,23 +1,28 @@
 -- What the definitions imply.
-use Rattle.std.specs.Prelude.{◌≡◌, ◌⊎◌, ℕ, ◌<◌, ◌≤◌, ⊤, List, length, All, IsUtf8, Option, IsSome}
+use Rattle.std.specs.Prelude.{◌≡◌, ◌⊎◌, ℕ, ◌<◌, ◌≤◌, ⊤, List, [], length, All, IsUtf8, Option, IsSome, Result, Ok, Err, unwrap_or}
 use Rattle.def_script.specs.Bytes.{Bytes}
+use Rattle.def_tree.specs.Range.{IsWritable}
 use Rattle.def_tree.specs.Tree.{Tree}
 use Rattle.def_assets.specs.Assets.{Assets, AreAssets}
 use Rattle.def_text.specs.Refusal.{TextReads}
 use Rattle.def_sane.specs.declared.Rules.{Rules}
-use Rattle.def_sane.specs.Unfit.{IsSane}
+use Rattle.def_sane.specs.Unfit.{IsValid, IsSane}
+use Rattle.def_files.specs.declared.AssetFault.{AssetFault}
+use Rattle.def_files.specs.RunFile.{RunFile, run_of}
+use Rattle.def_audit.specs.declared.Step.{Step}
 use Rattle.def_policy.specs.Policy.{Policy}
 use Rattle.def_policy.specs.Keys.{AreLeastKeys}
 use Rattle.def_choice.specs.Cheapest.{cheapest}
 use Rattle.def_choice.specs.Strict.{strict}
+use Rattle.ms_audit_laws.specs.Walk.{trail_of}
 use Rattle.def_answer.specs.declared.status.Status.{Status}
 use Rattle.def_answer.specs.declared.status.Status.TheVariants as status
-use Rattle.def_answer.specs.Words.{Command, decode, MOST_CHILDREN, IsForm, HasNoForm}
+use Rattle.def_answer.specs.Words.{Command, audit, decode, MOST_CHILDREN, IsForm, HasNoForm}
 use Rattle.def_answer.specs.LeastKeys.{least_keys}
 use Rattle.def_answer.specs.Lines.{file_too_long_line}
 use Rattle.def_answer.specs.Generated.{generated_text, generated_tree, generated_assets}
-use Rattle.def_answer.specs.Reply.{reply, MOST_FILE, satisfy_reply, run_reply, plan_reply}
-use Rattle.def_answer.specs.Answer.{Answer}
+use Rattle.def_answer.specs.Reply.{reply, MOST_FILE, satisfy_reply, given_by, run_reply, plan_reply, audit_reply}
+use Rattle.def_answer.specs.Answer.{AreSteps, Answer}
 use Rattle.def_answer.specs.Sources.{ReadsSource, IsOfSource, IsToFile}
 
 -- ---- forms
@@ -52,6 +57,7 @@ IsAnswered status.ReadFault = ⊥
 IsAnswered status.WriteFault = ⊥
 IsAnswered status.Memory = ⊥
 IsAnswered status.ScriptRefused = ⊤
+IsAnswered status.NotAccepted = ⊤
 IsAnswered status.NoReading = ⊤
 
 abbrev pub AnswersHaveStatus : Type 0
@@ -63,6 +69,27 @@ abbrev pub NoReadingIsOfDecode : Type 0
 NoReadingIsOfDecode =
     (words : List Bytes) (source : Bytes) (p : Bytes) → Answer words source status.NoReading p →
     (digits : Bytes) × (keys : List Bytes) × IsForm words (decode digits keys)
+
+-- only `audit` is answered by that a stack isn't accepted
+abbrev pub NotAcceptedIsOfAudit : Type 0
+NotAcceptedIsOfAudit =
+    (words : List Bytes) (source : Bytes) (p : Bytes) → Answer words source status.NotAccepted p →
+    (text : Bytes) × IsForm words (audit text)
+
+-- the steps that a walk over a tree and the stack of a run file finds
+abbrev pub steps_found : Tree → RunFile → List Step
+steps_found tree file = unwrap_or (trail_of tree (given_by file) file.stack) []
+
+abbrev pub steps_in : Tree → Result RunFile AssetFault → List Step
+steps_in tree (Ok file) = steps_found tree file
+steps_in tree (Err fault) = []
+
+abbrev pub walked : Tree → (source : Bytes) → List Step
+walked tree source = steps_in tree (run_of source)
+
+-- are those of the audit, for a valid tree that can be written
+abbrev pub WalkedAreSteps : Type 0
+WalkedAreSteps = (tree : Tree) (source : Bytes) → IsWritable tree → IsValid tree → AreSteps tree source (walked tree source)
 
 -- ---- what needs the source
 
@@ -97,6 +124,11 @@ LongRunFile =
 abbrev pub LongPlanFile : Type 0
 LongPlanFile =
     (source : Bytes) (tree : Tree) → MOST_FILE < length source → plan_reply source tree ≡ reply status.FileRefused file_too_long_line
+
+abbrev pub LongAuditFile : Type 0
+LongAuditFile =
+    (offsets : List ℕ) (steps : List Step) (source : Bytes) (tree : Tree) → MOST_FILE < length source →
+    audit_reply offsets steps source tree ≡ reply status.FileRefused file_too_long_line
 
 -- ---- how many keys have to sign
 

@@ -17,6 +17,7 @@ pub mod DecodeExamples
 pub mod PlanExamples
 pub mod SatisfyExamples
 pub mod RunExamples
+pub mod AuditExamples
 pub mod GenExamples
 pub mod SourceExamples
 pub mod ConsensusExamples

@@ -113,3 +113,11 @@ plan_file_line plan_fault.Memory = []
 abbrev pub script_refused_line : ScriptFault → (place : ℕ) → Bytes
 script_refused_line fault place =
     line (codes "refused script " ++ script_fault_name fault ++ codes " at " ++ decimal place)
+
+-- of a stack that doesn't satisfy a text: the file has another script, or the interpreter refuses the run
+abbrev pub wrong_script_line : Bytes
+wrong_script_line = line (codes "not accepted WrongScript")
+
+abbrev pub not_accepted_line : ScriptFault → (place : ℕ) → Bytes
+not_accepted_line fault place =
+    line (codes "not accepted " ++ script_fault_name fault ++ codes " at " ++ decimal place)

@@ -1,21 +1,25 @@
--- What the program replies to a text, a file, a run and a plan: a status and a report.
+-- What the program replies to a text, a file, a run, a plan and an audit: a status and a report.
 use Rattle.std.specs.Prelude.{ℕ, nat_lt, List, length, if◌then◌else◌, Option, Some, None, Result, Ok, Err}
+use Rattle.std.specs.Str.{bytes_eq}
 use Rattle.def_script.specs.Bytes.{Bytes}
+use Rattle.def_machine.specs.Machine.{Given}
 use Rattle.def_machine.specs.Run.{Outcome, accepted, refused, run}
 use Rattle.def_tree.specs.Tree.{Tree}
+use Rattle.def_emit.specs.Emit.{script_of}
 use Rattle.def_assets.specs.Assets.{Assets}
 use Rattle.def_sane.specs.declared.Rules.{Rules}
 use Rattle.def_sane.specs.declared.Unfit.{Unfit}
 use Rattle.def_files.specs.AssetFile.{assets_of}
-use Rattle.def_files.specs.RunFile.{run_of}
+use Rattle.def_files.specs.RunFile.{RunFile, run_of}
+use Rattle.def_audit.specs.declared.Step.{Step}
 use Rattle.def_plan.specs.Plan.{Plan, plan_of}
 use Rattle.def_plan.specs.PlanFile.{plan_file_of}
 use Rattle.def_answer.specs.declared.status.Status.{Status}
 use Rattle.def_answer.specs.declared.status.Status.TheVariants as status
-use Rattle.def_answer.specs.Lines.{usage_line, no_satisfaction_line, text_line, unfit_line, file_too_long_line, file_line, plan_file_line}
+use Rattle.def_answer.specs.Lines.{usage_line, no_satisfaction_line, text_line, unfit_line, file_too_long_line, file_line, plan_file_line, wrong_script_line, not_accepted_line}
 use Rattle.def_answer.specs.Reading.{Reading}
 use Rattle.def_answer.specs.Reading as reading
-use Rattle.def_answer.specs.Report.{satisfy_report, run_report, plan_report}
+use Rattle.def_answer.specs.Report.{satisfy_report, run_report, plan_report, audit_report}
 
 pub record Reply : Type 0 where
   pub status : Status
@@ -72,9 +76,29 @@ abbrev pub outcome_reply : Outcome → Reply
 outcome_reply (accepted ops peak checks) = reply status.Done (run_report (accepted ops peak checks))
 outcome_reply (refused fault place) = reply status.ScriptRefused (run_report (refused fault place))
 
+-- under the locks and the good pairs of a run file
+abbrev pub given_by : RunFile → Given
+given_by file = record { table = file.pairs; locks = file.locks }
+
 abbrev pub run_reply : (source : Bytes) → Reply
-run_reply source =
-    file_reply file_line run_of (λ file. outcome_reply (run (record { table = file.pairs; locks = file.locks }) file.script file.stack)) source
+run_reply source = file_reply file_line run_of (λ file. outcome_reply (run (given_by file) file.script file.stack)) source
+
+-- ---- audits
+
+-- the outcome of the run of a stack on a tree's Script, whose nodes have these offsets, with the steps by which the
+-- stack satisfies the tree where it is accepted
+abbrev pub audited_reply : (offsets : List ℕ) → List Step → Outcome → Reply
+audited_reply offsets steps (accepted ops peak checks) = reply status.Done (audit_report offsets steps ops peak)
+audited_reply offsets steps (refused fault place) = reply status.NotAccepted (not_accepted_line fault place)
+
+-- the run of a file whose script is the tree's
+abbrev pub witness_reply : (offsets : List ℕ) → List Step → Tree → RunFile → Reply
+witness_reply offsets steps tree file =
+    if bytes_eq file.script (script_of tree) then audited_reply offsets steps (run (given_by file) file.script file.stack)
+    else reply status.NotAccepted wrong_script_line
+
+abbrev pub audit_reply : (offsets : List ℕ) → List Step → (source : Bytes) → Tree → Reply
+audit_reply offsets steps source tree = file_reply file_line run_of (witness_reply offsets steps tree) source
 
 -- ---- plans
 

@@ -1,5 +1,6 @@
 -- The report of each command, as a function of what it shows.
 use Rattle.std.specs.Prelude.{ℕ, Bool, List, [], ◌∷◌, ◌++◌, length, codes, decimal, flat_map, if◌then◌else◌, Option, Some, None}
+use Rattle.std.specs.List.{list_any}
 use Rattle.hex.specs.Hex.{encode_lower}
 use Rattle.def_script.specs.Bytes.{Bytes}
 use Rattle.def_script.specs.Witness.{witness_text}
@@ -16,6 +17,7 @@ use Rattle.def_sane.specs.Most.{limits_of}
 use Rattle.def_height.specs.Highest.{height_of}
 use Rattle.def_satisfaction.specs.Satisfaction.{given_of}
 use Rattle.def_satisfaction.specs.Weight.{weight}
+use Rattle.def_audit.specs.declared.Step.{Step}
 use Rattle.def_policy.specs.Policy.{Policy}
 use Rattle.def_policy.specs.Plain.{plain}
 use Rattle.def_policy.specs.Simple.{simple}
@@ -23,7 +25,7 @@ use Rattle.def_policy.specs.Print.{printed as printed_policy}
 use Rattle.def_plan.specs.Plan.{Plan}
 use Rattle.def_answer.specs.Names.{base_letter}
 use Rattle.def_answer.specs.LeastKeys.{least_keys}
-use Rattle.def_answer.specs.Lines.{line, script_line, program_line, limits_line_under, script_refused_line}
+use Rattle.def_answer.specs.Lines.{line, script_line, program_line, limits_line_under, script_refused_line, offset_of}
 
 -- ---- script
 
@@ -102,9 +104,12 @@ satisfy_report rules tree assets stack =
 abbrev pub check_line : Bytes × Bytes → Bytes
 check_line pair = line (codes "check " ++ encode_lower pair.0 ++ codes " " ++ encode_lower pair.1)
 
+-- the opcodes and the greatest height of an accepted run
+abbrev pub accepted_line : (ops peak : ℕ) → Bytes
+accepted_line ops peak = line (codes "accepted ops " ++ decimal ops ++ codes " peak " ++ decimal peak)
+
 unfoldable pub run_report : Outcome → Bytes
-run_report (accepted ops peak checks) =
-    line (codes "accepted ops " ++ decimal ops ++ codes " peak " ++ decimal peak) ++ flat_map check_line checks
+run_report (accepted ops peak checks) = accepted_line ops peak ++ flat_map check_line checks
 run_report (refused fault place) = script_refused_line fault place
 
 -- ---- gen
@@ -149,6 +154,22 @@ weight_line weight = line (codes "weight at most " ++ decimal weight)
 
 unfoldable pub plan_report : Plan → Bytes
 plan_report plan = flat_map ask_line plan.keys ++ weight_line plan.weight
+
+-- ---- audit
+
+-- a node that takes part, at its offset: whether it is satisfied, and whether by a row that isn't canonical
+abbrev pub step_line : (offsets : List ℕ) → Step → Bytes
+step_line offsets step =
+    line (codes "node " ++ offset_of offsets step.node ++ (if step.sat then codes " sat" else codes " dsat")
+    ++ letter step.extra (codes " extra"))
+
+-- whether each row is canonical
+abbrev pub canonical_line : List Step → Bytes
+canonical_line steps = line (codes "canonical " ++ (if list_any (λ step. step.extra) steps then codes "no" else codes "yes"))
+
+unfoldable pub audit_report : (offsets : List ℕ) → List Step → (ops peak : ℕ) → Bytes
+audit_report offsets steps ops peak =
+    accepted_line ops peak ++ flat_map (step_line offsets) steps ++ canonical_line steps
 
 -- ---- decode
 

@@ -4,10 +4,10 @@ use Rattle.def_script.specs.Bytes.{Bytes}
 use Rattle.def_tree.specs.Tree.{Tree}
 use Rattle.def_text.specs.Refusal.{TextReads}
 use Rattle.def_sane.specs.declared.Unfit.{Unfit}
-use Rattle.def_sane.specs.Unfit.{first_unfit, first_unfit_under, first_unfit_valid_under}
+use Rattle.def_sane.specs.Unfit.{first_unfit, first_unfit_valid, first_unfit_under, first_unfit_valid_under}
 use Rattle.def_answer.specs.declared.status.Status.{Status}
 use Rattle.def_answer.specs.declared.status.Status.TheVariants as status
-use Rattle.def_answer.specs.Words.{Command, script, check, satisfy, satisfy_malleable, run, gen, policy, plan, decode, IsForm}
+use Rattle.def_answer.specs.Words.{Command, script, check, satisfy, satisfy_malleable, run, gen, policy, plan, audit, decode, IsForm}
 
 -- the text is read as a tree, and there is no reason against it
 abbrev pub Passes : (first_reason : Tree → Option Unfit) → (text : Bytes) → Type 0
@@ -24,6 +24,7 @@ NeedsSource run = ⊤
 NeedsSource (gen n) = ⊥
 NeedsSource (policy text) = ⊥
 NeedsSource (plan text) = Passes first_unfit text
+NeedsSource (audit text) = Passes first_unfit_valid text
 NeedsSource (decode digits keys) = ⊥
 
 -- the words are those of such a command
@@ -41,6 +42,7 @@ IsOfSource status.ReadFault = ⊤
 IsOfSource status.WriteFault = ⊥
 IsOfSource status.Memory = ⊥
 IsOfSource status.ScriptRefused = ⊤
+IsOfSource status.NotAccepted = ⊤
 IsOfSource status.NoReading = ⊥
 
 -- the statuses of answers to what the source holds
@@ -54,4 +56,5 @@ IsToFile status.ReadFault = ⊥
 IsToFile status.WriteFault = ⊥
 IsToFile status.Memory = ⊥
 IsToFile status.ScriptRefused = ⊤
+IsToFile status.NotAccepted = ⊤
 IsToFile status.NoReading = ⊥

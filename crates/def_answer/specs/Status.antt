@@ -13,4 +13,5 @@ code_of status.ReadFault = 5
 code_of status.WriteFault = 6
 code_of status.Memory = 7
 code_of status.ScriptRefused = 8
+code_of status.NotAccepted = 9
 code_of status.NoReading = 10

@@ -24,6 +24,8 @@ pub data Command : Type 0 where
   policy : (text : Bytes) → Command
   -- which keys to ask for a signature for a sane text, with a plan file
   plan : (text : Bytes) → Command
+  -- by which rows a stack satisfies a valid text, with a run file
+  audit : (text : Bytes) → Command
   -- the text that a Script is read back as, with the keys that its hashes of keys may have
   decode : (digits : Bytes) → (keys : List Bytes) → Command
 
@@ -42,6 +44,7 @@ words_of run = codes "run" ∷ []
 words_of (gen n) = codes "gen" ∷ decimal n ∷ []
 words_of (policy text) = codes "policy" ∷ text ∷ []
 words_of (plan text) = codes "plan" ∷ text ∷ []
+words_of (audit text) = codes "audit" ∷ text ∷ []
 words_of (decode digits keys) = codes "decode" ∷ digits ∷ keys
 
 -- the greatest number that `gen` takes
@@ -62,6 +65,7 @@ IsCommand run = ⊤
 IsCommand (gen n) = (1 ≤ n) × (n ≤ MOST_CHILDREN)
 IsCommand (policy text) = ⊤
 IsCommand (plan text) = ⊤
+IsCommand (audit text) = ⊤
 IsCommand (decode digits keys) = IsHex digits × All (λ word. IsSome (key_of word)) keys
 
 -- the words are those of the command

@@ -66,6 +66,15 @@ ghost use Rattle.def_answer.specs.RunExamples.{
   RefusedRunFiles,
   RunFileTooLong,
 };
+ghost use Rattle.def_answer.specs.AuditExamples.{
+  BothKeys,
+  OneKey,
+  NotAccepted,
+  OtherBytes,
+  AuditedTexts,
+  RefusedAuditFiles,
+  AuditFileTooLong,
+};
 ghost use Rattle.def_answer.specs.GenExamples.{
   GenOne,
   GenFour,
@@ -171,6 +180,17 @@ pub fn runs()
     ensures limit_lines { LimitLines }
     ensures refused_run_files { RefusedRunFiles }
     ensures run_file_too_long { RunFileTooLong }
+{}
+
+/// Answers to `audit TEXT`.
+pub fn audits()
+    ensures both_keys { BothKeys }
+    ensures one_key { OneKey }
+    ensures not_accepted { NotAccepted }
+    ensures other_bytes { OtherBytes }
+    ensures texts { AuditedTexts }
+    ensures refused_files { RefusedAuditFiles }
+    ensures file_too_long { AuditFileTooLong }
 {}
 
 /// Answers to `gen N`.

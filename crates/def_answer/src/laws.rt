@@ -7,12 +7,15 @@ ghost use Rattle.def_answer.specs.Laws.{
   SomeAnswer,
   AnswersHaveStatus,
   NoReadingIsOfDecode,
+  NotAcceptedIsOfAudit,
+  WalkedAreSteps,
   AnswerWithoutSource,
   StatusWithoutSource,
   StatusWithSource,
   LongAssetFile,
   LongRunFile,
   LongPlanFile,
+  LongAuditFile,
   LeastKeysAreLeast,
   OneLeast,
   GeneratedIsRead,
@@ -29,6 +32,7 @@ pub fn answers()
     ensures some_answer { SomeAnswer }
     ensures status { AnswersHaveStatus }
     ensures no_reading { NoReadingIsOfDecode }
+    ensures not_accepted { NotAcceptedIsOfAudit }
 {}
 
 /// Which answers need the source, and what comes of a long one.
@@ -39,6 +43,12 @@ pub fn sources()
     ensures long_asset_file { LongAssetFile }
     ensures long_run_file { LongRunFile }
     ensures long_plan_file { LongPlanFile }
+    ensures long_audit_file { LongAuditFile }
+{}
+
+/// What a walk finds are the steps of an audit.
+pub fn audits()
+    ensures walked { WalkedAreSteps }
 {}
 
 /// The number of keys that `policy` prints is the least one.

@@ -3,7 +3,7 @@ ghost use Rattle.std.specs.Prelude.{◌≡◌};
 ghost use Rattle.def_answer.specs.Status.{code_of};
 
 /// How a call of the program ended, in the order of the exit codes, from 0 on. `Done`, `Usage`, `TextRefused`,
-/// `FileRefused`, `NoSatisfaction`, `ScriptRefused` and `NoReading` are answers to the words and the source, with a report;
+/// `FileRefused`, `NoSatisfaction`, `ScriptRefused`, `NotAccepted` and `NoReading` are answers to the words and the source, with a report;
 /// the others come of faults and of want of memory.
 #[derive(Clone, Copy, Debug, PartialEq, Eq)]
 pub enum Status {
@@ -25,12 +25,14 @@ pub enum Status {
     Memory,
     /// The interpreter refused the script of a run file.
     ScriptRefused,
+    /// The run file's script isn't the text's, or the interpreter refused its stack.
+    NotAccepted,
     /// No miniscript has the Script that was given, with the keys that were listed.
     NoReading,
 }
 
 impl Status {
-    /// The status as the program's exit code: 0 to 8, and 10. Takes no memory.
+    /// The status as the program's exit code: 0 to 10. Takes no memory.
     pub fn code(&self) -> u8
         ensures { result ≡ code_of self.now }
     {
@@ -44,6 +46,7 @@ impl Status {
             Status::WriteFault => 6,
             Status::Memory => 7,
             Status::ScriptRefused => 8,
+            Status::NotAccepted => 9,
             Status::NoReading => 10,
         }
     }

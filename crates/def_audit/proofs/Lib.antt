@@ -1,2 +1,3 @@
 pub mod Erased
 pub mod Computed
+pub mod StepNodes

@@ -2,3 +2,4 @@ pub mod Walks
 pub mod WalkLeaves
 pub mod WalkParts
 pub mod WalkTrees
+pub mod Canonical

@@ -19,7 +19,7 @@ use Rattle.def_satisfaction.specs.Satisfaction.{full}
 use Rattle.def_satisfaction.specs.Rows.{EMPTY, ZEROS, IsNoPreimageOf, AreSignatures, just_0_row, just_1_row, pk_k_row, pk_h_row, hash_row, multi_row}
 use Rattle.def_audit.specs.declared.Step.{Step}
 use Rattle.def_audit.specs.TrailRows.{TrailRow, WithTop, bare_row, pk_h_trails, hash_trails}
-use Rattle.ms_laws.proofs.Multis.{empties_split}
+use Rattle.ms_laws.proofs.Multis.{signatures_drop, all_empty, length_empties, empties_split}
 use Rattle.ms_audit_laws.specs.Walk.{Found, Verdict, ended, sig_verdict, key_verdict, forced, hash_verdict, multi_verdict, walk_pk_k, walk_pk_h, walk_hash, are_found, walk_multi_off, walk_multi}
 use Rattle.ms_audit_laws.proofs.Walks.{side, Taken, IsWalk, is_found, none_found, own, same_steps}
 
@@ -73,7 +73,7 @@ lock_walk node holds = record { sound = sound holds; complete = complete }
         ap (λ w. ended node (forced holds) [] (w ++ rest)) h.1.0.1 ∙ leaf_done node true false h.0 steps rest (forced holds) (ap forced h.1.0.0) h.1.1 h.2
 
 -- a string without a byte
-is_nothing : (bytes : Bytes) → is_empty bytes ≡ true → bytes ≡ EMPTY
+pub is_nothing : (bytes : Bytes) → is_empty bytes ≡ true → bytes ≡ EMPTY
 is_nothing [] e = refl
 is_nothing (b ∷ bytes) e = absurd (false≢true e)
 
@@ -243,13 +243,6 @@ hash_walk given node kind value = record { sound = sound; complete = complete }
         ∙ ap (λ b. hash_verdict true b (bytes_eq item ZEROS)) (unmet item m.1.1)
         ∙ ap (λ (i : Bool). Some (false, not i)) (c.decides item [] m.2)) refl c.are
 
--- one signature fewer
-signatures_drop : (table : Pairs) (keys : List Key) (sig : Bytes) (sigs : Stack) → AreSignatures table keys (sig ∷ sigs) → AreSignatures table keys sigs
-signatures_drop table [] sig sigs h = absurd h
-signatures_drop table (key ∷ keys) sig [] h = tt
-signatures_drop table (key ∷ keys) sig (other ∷ sigs) (inl h) = inr h.1
-signatures_drop table (key ∷ keys) sig (other ∷ sigs) (inr h) = inr (signatures_drop table keys sig (other ∷ sigs) h)
-
 -- the first key left that takes a signature may have it
 found_are : (table : Pairs) (keys : List Key) (sigs : Stack) → are_found table keys sigs ≡ true → AreSignatures table keys sigs
 found_are table keys [] e = nothing keys
@@ -290,19 +283,11 @@ empties_not_found : (table : Pairs) (keys : List Key) (n : ℕ) → are_found ta
 empties_not_found table [] n = refl
 empties_not_found table (key ∷ keys) n = empties_not_found table keys n
 
-all_empty : (n : ℕ) → list_all is_empty (replicate n EMPTY) ≡ true
-all_empty zero = refl
-all_empty (suc n) = all_empty n
-
 are_empties : (sigs : Stack) → list_all is_empty sigs ≡ true → sigs ≡ replicate (length sigs) EMPTY
 are_empties [] e = refl
 are_empties (sig ∷ sigs) e =
     let p = and_parts (is_empty sig) (list_all is_empty sigs) e in
     ap (λ x. x ∷ sigs) (is_nothing sig p.0) ∙ ap (λ w. EMPTY ∷ w) (are_empties sigs p.1)
-
-length_empties : (n : ℕ) → length (replicate n EMPTY) ≡ n
-length_empties zero = refl
-length_empties (suc n) = let e = length_empties n in omega arith
 
 -- so many items off a stack
 cut : (k : ℕ) (stack : Stack) → stack ≡ take k stack ++ drop k stack

@@ -1,7 +1,7 @@
 -- The walks over fragments with children, from those over their children.
 use Rattle.std.proofs.Common.{◌≡◌, ℕ, suc, ◌≤◌, ◌==◌, not, ◌⊎◌, Bool, true, false, List, [], ◌∷◌, ◌++◌, length, Option, Some, None, refl, sym, ◌∙◌, ap, subst, inl, inr, arith, if◌then◌else◌}
 use Rattle.std.specs.Str.{bytes_eq}
-use Rattle.std.proofs.lemmas.Bool.{cases_Bool, false≢true, eqb-true, eqb-false, eq-eqb, ne_eqb}
+use Rattle.std.proofs.lemmas.Bool.{cases_Bool, eqb-true, eqb-false, eq-eqb, ne_eqb}
 use Rattle.std.proofs.lemmas.Option.{none-some}
 use Rattle.std.proofs.lemmas.List.{append_assoc}
 use Rattle.std.proofs.lemmas.Slice.Eq.{bytes_eq-Decides}
@@ -14,7 +14,7 @@ use Rattle.def_audit.specs.TrailSet.{TrailSet, Bare, Both, Then}
 use Rattle.def_audit.specs.TrailRows.{TrailRow, bare_row, TrailsOfNone, TrailsOf, and_or_trails, and_v_trails, and_b_trails, or_b_trails, or_c_trails, or_d_trails, or_i_trails, thresh_trails, wrap_d_trails, wrap_v_trails, wrap_j_trails, wrap_trails}
 use Rattle.ms_audit_laws.specs.Walk.{Found, Walker, ends, ended, forced, walk_child, passed, next, Counted, counted, count_on, count_child, selected, by_selector, unless_empty, count_verdict, walk_thresh, after_and_or, after_and_v, after_and_b, after_or_b, after_or_c, after_or_d}
 use Rattle.ms_audit_laws.proofs.Walks.{side, Taken, IsWalk, some_is, is_found, none_found, own, Allows, Follows, Split, ends_follow, goes_follow, child_is_walk, same_steps, ends_split, goes_split}
-use Rattle.ms_audit_laws.proofs.WalkLeaves.{just_0_walk}
+use Rattle.ms_audit_laws.proofs.WalkLeaves.{is_nothing, just_0_walk}
 
 -- `a`, `s`, `c` and `n`
 pub wrap_walk : (node : ℕ) (x : TrailRow) (w : Walker) → IsWalk x w → IsWalk (wrap_trails node x) (walk_child node w passed)
@@ -156,10 +156,6 @@ pub selector_walk : (t x z : TrailRow) (wx wz : Walker) → IsWalk x wx → IsWa
     IsWalk t (by_selector wx wz)
 selector_walk t x z wx wz i k one empty parts = record { sound = sound; complete = complete }
   where
-    is_nothing : (bytes : Bytes) → is_empty bytes ≡ true → bytes ≡ EMPTY
-    is_nothing [] e = refl
-    is_nothing (b ∷ bytes) e = absurd (false≢true e)
-
     go : (top : Bytes) (rest : Stack) (f : Found) (o e : Bool) → bytes_eq top ONE ≡ o → is_empty top ≡ e → selected o e (wx rest) (wz rest) None ≡ Some f → Taken t (top ∷ rest) f
     go top rest f true e p q h =
         let r = i.sound rest f h in
@@ -251,10 +247,6 @@ wrap_j_walk node x w i long top = record { sound = sound; complete = complete }
   where
     inner : IsWalk (j_child node x) (walk_child node w (λ sat. ends (Some (sat, not sat))))
     inner = j_child_walk node x w i
-
-    is_nothing : (bytes : Bytes) → is_empty bytes ≡ true → bytes ≡ EMPTY
-    is_nothing [] e = refl
-    is_nothing (b ∷ bytes) e = absurd (false≢true e)
 
     same_first : (a b : Bytes) (v u : Stack) → a ∷ v ≡ b ∷ u → a ≡ b
     same_first a b v u e = cc

@@ -1,15 +1,19 @@
 -- What the walk finds.
-use Rattle.std.specs.Prelude.{◌≡◌, ◌↔◌, ◌⊎◌, true, List, Some}
+use Rattle.std.specs.Prelude.{◌≡◌, ◌↔◌, ◌⊎◌, not, IsTrue, Bool, true, List, Some}
+use Rattle.std.specs.List.{list_all}
 use Rattle.def_script.specs.Bytes.{Bytes}
 use Rattle.def_machine.specs.Stacks.{Pairs}
 use Rattle.def_machine.specs.Machine.{Given}
 use Rattle.def_tree.specs.Tree.{Tree}
 use Rattle.def_tree.specs.Range.{IsWritable}
+use Rattle.def_assets.specs.Assets.{Assets, known}
+use Rattle.def_satisfaction.specs.Setting.{only}
+use Rattle.def_satisfaction.specs.Satisfaction.{given_of, Sat, FullSat, Holds}
 use Rattle.def_sane.specs.declared.Rules.TheVariants.{Consensus}
 use Rattle.def_sane.specs.Unfit.{IsValidUnder}
 use Rattle.def_audit.specs.declared.Step.{Step}
 use Rattle.def_audit.specs.Derives.{Derives}
-use Rattle.def_choice.specs.NonMalleable.{IsAccepted}
+use Rattle.def_choice.specs.NonMalleable.{IsAccepted, given_with}
 use Rattle.def_promises.specs.Limited.{StopsAtLimit}
 use Rattle.ms_audit_laws.specs.Walk.{trail_of}
 
@@ -38,3 +42,15 @@ TrailIsAccepted =
     (tree : Tree) (given : Given) (steps : List Step) (stack : List Bytes) → IsWritable tree → IsValidUnder Consensus tree →
     Derives tree given true steps stack →
     ((checks : Pairs) × IsAccepted tree given stack checks) ⊎ StopsAtLimit tree given stack
+
+-- no step is by a row that isn't canonical
+abbrev pub is_canonical : List Step → Bool
+is_canonical steps = list_all (λ step. not step.extra) steps
+
+-- steps by canonical rows alone, under a table that holds the signatures of assets, are those of a canonical satisfaction,
+-- where the assets' own signatures, the known preimages and the miniscript's own keys are enough for the stack
+abbrev pub CanonicalIsSat : Type 0
+CanonicalIsSat =
+    (tree : Tree) (assets : Assets) (table : Pairs) (steps : List Step) (stack : List Bytes) → IsValidUnder Consensus tree → Holds table assets →
+    Derives tree (given_with assets table) true steps stack → IsTrue (is_canonical steps) →
+    FullSat tree (given_of assets) (only (known assets)) stack → Sat tree assets stack

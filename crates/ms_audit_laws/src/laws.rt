@@ -1,6 +1,6 @@
 //! What the definitions imply.
 
-ghost use Rattle.ms_audit_laws.specs.Laws.{WalkIsTrail, TrailIsUnique, AcceptedHasTrail, TrailIsAccepted};
+ghost use Rattle.ms_audit_laws.specs.Laws.{WalkIsTrail, TrailIsUnique, AcceptedHasTrail, TrailIsAccepted, CanonicalIsSat};
 
 /// A walk finds the steps by which a stack satisfies a miniscript, and there are no others.
 pub fn walks()
@@ -12,4 +12,9 @@ pub fn walks()
 pub fn acceptance()
     ensures has_trail { AcceptedHasTrail }
     ensures is_accepted { TrailIsAccepted }
+{}
+
+/// Steps by canonical rows alone, with what assets hold, are those of a canonical satisfaction.
+pub fn canonical()
+    ensures { CanonicalIsSat }
 {}

@@ -61,7 +61,7 @@ signatures_few table (key ∷ keys) (sig ∷ sigs) (inl h) = let l = signatures_
 signatures_few table (key ∷ keys) (sig ∷ sigs) (inr h) = let l = signatures_few table keys (sig ∷ sigs) h in omega arith
 
 -- one signature fewer
-signatures_drop : (table : Pairs) (keys : List Key) (sig : Bytes) (sigs : Stack) → AreSignatures table keys (sig ∷ sigs) → AreSignatures table keys sigs
+pub signatures_drop : (table : Pairs) (keys : List Key) (sig : Bytes) (sigs : Stack) → AreSignatures table keys (sig ∷ sigs) → AreSignatures table keys sigs
 signatures_drop table [] sig sigs h = absurd h
 signatures_drop table (key ∷ keys) sig [] h = tt
 signatures_drop table (key ∷ keys) sig (next ∷ sigs) (inl h) = inr h.1
@@ -120,7 +120,7 @@ empty_tries table (key ∷ keys) n found forms =
       | inr enough ↦ bad_step table key EMPTY keys (replicate n EMPTY) found (Ok None) enough form refl (empty_tries table keys n found others)
     ]
 
-all_empty : (n : ℕ) → list_all is_empty (replicate n EMPTY) ≡ true
+pub all_empty : (n : ℕ) → list_all is_empty (replicate n EMPTY) ≡ true
 all_empty zero = refl
 all_empty (suc n) = all_empty n
 
@@ -173,7 +173,7 @@ empties_split n = ap (λ m. replicate m EMPTY) (let e : n + 1 ≡ suc n = omega 
     go zero = refl
     go (suc n) = ap (λ v. EMPTY ∷ v) (go n)
 
-length_empties : (n : ℕ) → length (replicate n EMPTY) ≡ n
+pub length_empties : (n : ℕ) → length (replicate n EMPTY) ≡ n
 length_empties zero = refl
 length_empties (suc n) = let e = length_empties n in omega arith
 

@@ -13,7 +13,7 @@ use Rattle.def_answer.specs.Words.{decode, IsForm}
 use Rattle.def_answer.proofs.Early.{no_reading_is_of_decode}
 use Rattle.def_answer.proofs.SpelledKeys.{are_keys}
 use Rattle.def_answer.proofs.Unique.{one_form}
-use Rattle.msat_cli.specs.Steps.{HaveUtf8}
+use Rattle.ms_words.specs.Commands.{HaveUtf8}
 use Rattle.msat_cli.specs.Ends.{Call, HasAnswer, Ends}
 use Rattle.msat_cli.specs.Decodings.{PrintsTree, PrintsNone, ReadsBack, ShowsReading}
 use Rattle.msat_cli.proofs.EndLemmas.{told_answer, ends_as_answered}

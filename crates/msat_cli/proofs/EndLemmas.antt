@@ -13,7 +13,7 @@ use Rattle.def_answer.specs.Answer.{Replies, RepliesToWords, Answer}
 use Rattle.def_answer.specs.Laws.{IsAnswered}
 use Rattle.def_answer.specs.Reply.{Reply, reply, MOST_FILE}
 use Rattle.def_answer.specs.Sources.{NeedsSource, ReadsSource, IsOfSource}
-use Rattle.def_answer.specs.Words.{Command, script, check, satisfy, satisfy_malleable, run, gen, policy, plan, decode, HasNoForm}
+use Rattle.def_answer.specs.Words.{Command, script, check, satisfy, satisfy_malleable, run, gen, policy, plan, audit, decode, HasNoForm}
 use Rattle.def_answer.proofs.Answered.{OnText}
 use Rattle.def_answer.proofs.Early.{answers_have_status}
 use Rattle.def_answer.proofs.Sources.{answer_without_source, status_without_source, long_file}
@@ -22,7 +22,8 @@ use Rattle.msat_cli.specs.declared.answer.Answer.{Answer as Made}
 use Rattle.msat_cli.specs.declared.answer.Stop.{Stop}
 use Rattle.msat_cli.specs.declared.answer.Stop.TheVariants as stop
 use Rattle.msat_cli.specs.Sides.{Side, AreTold, Held}
-use Rattle.msat_cli.specs.Steps.{HasUtf8, HaveUtf8, AnswersWords, Ended, Writes, WritesResult}
+use Rattle.ms_words.specs.Commands.{HasUtf8, HaveUtf8}
+use Rattle.msat_cli.specs.Steps.{AnswersWords, Ended, Writes, WritesResult}
 use Rattle.msat_cli.specs.Ends.{Call, HasAnswer, Ends, TakesMemory, IsFault, EndsAsUsage, EndsAsAnswered, TellsShortFile, IsReadFor}
 
 -- ---- the answer
@@ -102,6 +103,7 @@ on_text run utf8 = tt
 on_text (gen n) utf8 = tt
 on_text (policy text) utf8 = utf8
 on_text (plan text) utf8 = utf8
+on_text (audit text) utf8 = utf8
 on_text (decode digits keys) utf8 = tt
 
 pub one_to_words : (words : List Bytes) (bytes : Bytes) (a b : Reply) → HaveUtf8 words → RepliesToWords words bytes a → RepliesToWords words bytes b → a ≡ b
@@ -175,6 +177,7 @@ read_for s source bytes held long = go (nat_lt MOST_FILE (length bytes)) refl
     at_end status.WriteFault end = tt
     at_end status.Memory end = tt
     at_end status.ScriptRefused end = end
+    at_end status.NotAccepted end = end
     at_end status.NoReading end = tt
 
     go : (b : Bool) → nat_lt MOST_FILE (length bytes) ≡ b → IsReadFor s source
@@ -224,4 +227,5 @@ unless_fault wanted result source sink no_read no_write (inr fault) = inr (go re
     go status.WriteFault fault = absurd (no_write fault)
     go status.Memory fault = refl
     go status.ScriptRefused fault = absurd fault
+    go status.NotAccepted fault = absurd fault
     go status.NoReading fault = absurd fault

@@ -1,13 +1,13 @@
 mod FileLemmas
 mod ReportLemmas
-mod WordLemmas
 mod StepLemmas
 mod EndLemmas
 mod SatisfactionLemmas
 mod RefusalLemmas
 mod GeneratorLemmas
 mod PlanLemmas
+mod AuditReplies
+mod AuditLemmas
 mod PolicyLemmas
-mod SpellingLemmas
 mod DecodingLemmas
 mod PolicyTells

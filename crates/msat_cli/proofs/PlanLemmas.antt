@@ -23,7 +23,7 @@ use Rattle.def_answer.specs.declared.status.Status.{Status}
 use Rattle.def_answer.specs.declared.status.Status.TheVariants as status
 use Rattle.def_answer.proofs.Sources.{passed_text}
 use Rattle.def_answer.proofs.Unique.{one_form}
-use Rattle.msat_cli.specs.Steps.{HaveUtf8}
+use Rattle.ms_words.specs.Commands.{HaveUtf8}
 use Rattle.msat_cli.specs.Ends.{Call, HasAnswer, Ends, EndsAs}
 use Rattle.msat_cli.specs.Plans.{AsksPlan, PrintsPlan, FindsPlan, ShowsPlan}
 use Rattle.msat_cli.proofs.EndLemmas.{told_answer, ends_as_answered}

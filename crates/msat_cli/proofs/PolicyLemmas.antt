@@ -22,7 +22,7 @@ use Rattle.def_answer.specs.declared.status.Status.TheVariants as status
 use Rattle.def_answer.proofs.LeastKeys.{least_keys_are_least, one_least}
 use Rattle.def_answer.proofs.Unique.{one_form}
 use Rattle.def_answer.specs.Sources.{ReadsSource, NeedsSource}
-use Rattle.msat_cli.specs.Steps.{HaveUtf8}
+use Rattle.ms_words.specs.Commands.{HaveUtf8}
 use Rattle.msat_cli.specs.Ends.{Call, Ends}
 use Rattle.msat_cli.specs.Policies.{AsksPolicy, PrintsPolicy, ShowsPolicy}
 use Rattle.msat_cli.proofs.EndLemmas.{told_answer, ends_as_answered, one_to_words}

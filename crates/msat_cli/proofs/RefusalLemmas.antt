@@ -18,10 +18,11 @@ use Rattle.def_answer.specs.Sources.{NeedsSource, ReadsSource}
 use Rattle.def_answer.specs.Words.{IsForm}
 use Rattle.def_answer.specs.declared.status.Status.TheVariants as status
 use Rattle.def_answer.proofs.Unique.{one_form}
-use Rattle.msat_cli.specs.declared.words.Choice.{Choice}
-use Rattle.msat_cli.specs.declared.words.Choice.TheVariants as choice
-use Rattle.msat_cli.specs.declared.words.TextCommand.TheVariants as kind
-use Rattle.msat_cli.specs.Steps.{HaveUtf8, satisfy_by, reason_by}
+use Rattle.ms_words.specs.declared.words.Choice.{Choice}
+use Rattle.ms_words.specs.declared.words.Choice.TheVariants as choice
+use Rattle.ms_words.specs.declared.words.TextCommand.TheVariants as kind
+use Rattle.ms_words.specs.Commands.{HaveUtf8, satisfy_by}
+use Rattle.msat_cli.specs.Steps.{reason_by}
 use Rattle.msat_cli.specs.Ends.{Call, Ends}
 use Rattle.msat_cli.specs.Satisfactions.{RefusesText, RefusesOtherTexts}
 use Rattle.msat_cli.proofs.EndLemmas.{told_answer, ends_as_answered, one_to_words}

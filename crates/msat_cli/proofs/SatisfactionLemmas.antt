@@ -40,9 +40,10 @@ use Rattle.def_answer.specs.declared.status.Status.{Status}
 use Rattle.def_answer.specs.declared.status.Status.TheVariants as status
 use Rattle.def_answer.proofs.Sources.{passed_text}
 use Rattle.def_answer.proofs.Unique.{one_form}
-use Rattle.msat_cli.specs.declared.words.Choice.{Choice}
-use Rattle.msat_cli.specs.declared.words.Choice.TheVariants as choice
-use Rattle.msat_cli.specs.Steps.{HaveUtf8, satisfy_by, rules_by, reason_by, chosen_by}
+use Rattle.ms_words.specs.declared.words.Choice.{Choice}
+use Rattle.ms_words.specs.declared.words.Choice.TheVariants as choice
+use Rattle.ms_words.specs.Commands.{HaveUtf8, satisfy_by}
+use Rattle.msat_cli.specs.Steps.{rules_by, reason_by, chosen_by}
 use Rattle.msat_cli.specs.Ends.{Call, HasAnswer, Ends, EndsAs}
 use Rattle.msat_cli.specs.Satisfactions.{IsAsked, Shows, ShowsSuch, IsAcceptedByAll, WeighsLeast, FindsWhereOneExists, ShowsCanonical, Prints, ShowsWitness, ShowsAccepted, ShowsNonMalleable, FindsNothingToAccept, ShowsLightest}
 use Rattle.msat_cli.proofs.EndLemmas.{told_answer, ends_as_answered}

@@ -1,6 +1,6 @@
 -- From the steps of an answer to the answer.
-use Rattle.std.proofs.Common.{◌≡◌, ◌≢◌, ◌≤◌, ℕ, List, Ok, Err, None, length, inl, inr, refl, sym, ap, subst, ◌∙◌}
-use Rattle.std.specs.Prelude.{⊤, Option, Result}
+use Rattle.std.proofs.Common.{◌≡◌, ◌≢◌, ◌≤◌, ℕ, List, [], Ok, Err, None, length, inl, inr, refl, sym, ap, subst, ◌∙◌}
+use Rattle.std.specs.Prelude.{⊤, Option, Result, IfOk, IsOk}
 use Rattle.std.specs.Str.{IsUtf8}
 use Rattle.def_script.specs.Bytes.{Bytes}
 use Rattle.def_tree.specs.Tree.{Tree}
@@ -9,26 +9,38 @@ use Rattle.def_text.specs.declared.TextFault.{TextFault}
 use Rattle.def_text.specs.declared.TextFault.TheVariants.{TooLong, Syntax, TooDeep, Memory}
 use Rattle.def_text.proofs.Complete.{one_tree}
 use Rattle.def_text.proofs.OneAnswer.{none_beside_tree}
+use Rattle.def_text.proofs.SpelledWritable.{spelled_writable}
+use Rattle.def_types.specs.Corr.{corr}
 use Rattle.def_sane.specs.declared.Unfit.{Unfit}
-use Rattle.def_sane.specs.Unfit.{first_unfit, first_unfit_under, first_unfit_valid_under}
+use Rattle.def_sane.specs.Limits.{AreLimits}
+use Rattle.def_sane.specs.Unfit.{first_unfit, first_unfit_valid, first_unfit_under, first_unfit_valid_under}
 use Rattle.ms_io.specs.Faults.{Rose}
 use Rattle.def_answer.specs.Answer.{Replies}
 use Rattle.def_answer.specs.Reading.{read, refused}
-use Rattle.def_answer.specs.Reply.{Reply, unless_unfit, satisfy_reply, run_reply, plan_reply}
-use Rattle.def_answer.specs.Words.{Command, run, IsForm}
+use Rattle.def_answer.specs.Reply.{Reply, reply, unless_unfit}
+use Rattle.def_answer.specs.Laws.{walked}
+use Rattle.def_answer.specs.Words.{Command, IsForm}
+use Rattle.def_answer.specs.declared.status.Status.TheVariants as status
+use Rattle.def_answer.proofs.AuditSteps.{walked_are_steps}
 use Rattle.def_answer.proofs.Unique.{one_form}
 use Rattle.msat_cli.specs.declared.answer.Answer.{Answer}
 use Rattle.msat_cli.specs.declared.answer.Stop.{Stop}
 use Rattle.msat_cli.specs.declared.answer.Stop.TheVariants as stop
-use Rattle.msat_cli.specs.declared.words.Choice.{Choice}
-use Rattle.msat_cli.specs.declared.words.Choice.TheVariants as choice
-use Rattle.msat_cli.specs.declared.words.TextCommand.{TextCommand}
-use Rattle.msat_cli.specs.declared.words.TextCommand.TheVariants as kind
-use Rattle.msat_cli.specs.declared.words.Command.{Command as Asked}
+use Rattle.ms_words.specs.declared.words.Choice.{Choice}
+use Rattle.ms_words.specs.declared.words.Choice.TheVariants as choice
+use Rattle.ms_words.specs.declared.words.TextCommand.{TextCommand}
+use Rattle.ms_words.specs.declared.words.TextCommand.TheVariants as kind
+use Rattle.ms_words.specs.declared.words.Command.{Command as Asked}
 use Rattle.def_answer.specs.Sources.{Passes, NeedsSource, ReadsSource}
 use Rattle.msat_cli.specs.Sides.{Side, IsUnread}
 use Rattle.msat_cli.specs.Ends.{HasShortText, TakesMemory}
-use Rattle.msat_cli.specs.Steps.{seen, HasUtf8, HaveUtf8, command_of, chosen_by, rules_by, reason_by, reason_of, reply_of, ReadsFor, Answers, AnswersWords, AnswersFile, AnswersTree, IsRefusal, Ended}
+use Rattle.ms_words.specs.Commands.{seen, HasUtf8, HaveUtf8, command_of}
+use Rattle.msat_cli.specs.declared.fit.Demand.{Demand}
+use Rattle.msat_cli.specs.declared.fit.Demand.TheVariants as demand
+use Rattle.msat_cli.specs.declared.fit.Known.{Known}
+use Rattle.msat_cli.specs.declared.fit.Known.TheVariants as known
+use Rattle.msat_cli.specs.Fits.{reason_for, IsKnown, limits_in}
+use Rattle.msat_cli.specs.Steps.{reason_of, reply_of, ReadsFor, Answers, AnswersWords, AnswersFile, AnswersTree, AsDone, IsRefusal, Ended}
 
 -- a step ends as another one does
 pub ended : (P Q : Reply → Type 0) (A B C D : Type 0) → ((r : Reply) → P r → Q r) → (A → C) → (B → D)
@@ -43,13 +55,15 @@ ended P Q A B C D answers fails wants (Err stop.Memory) h = wants h
 -- ---- trees
 
 replies_read : (kind : TextCommand) (text bytes : Bytes) (tree : Tree) (offsets : List ℕ) (r : Reply) → TextReads text tree offsets
-    → r ≡ unless_unfit (reason_of kind tree) offsets (reply_of kind bytes tree) → Replies (command_of kind text) bytes r
+    → r ≡ unless_unfit (reason_of kind tree) offsets (reply_of kind bytes offsets tree) → Replies (command_of kind text) bytes r
 replies_read (kind.Script rules) text bytes tree offsets r reads e = (read tree offsets, reads, e)
 replies_read (kind.Check rules) text bytes tree offsets r reads e = (read tree offsets, reads, e)
 replies_read (kind.Satisfy (choice.Strict rules)) text bytes tree offsets r reads e = (read tree offsets, reads, e)
 replies_read (kind.Satisfy (choice.Cheapest rules)) text bytes tree offsets r reads e = (read tree offsets, reads, e)
 replies_read kind.Policy text bytes tree offsets r reads e = (read tree offsets, reads, e)
 replies_read kind.Plan text bytes tree offsets r reads e = (read tree offsets, reads, e)
+replies_read kind.Audit text bytes tree offsets r reads e =
+    (read tree offsets, walked tree bytes, reads, walked_are_steps tree bytes (spelled_writable reads.spelled), e)
 
 -- a file is read for a tree against which there is no reason
 no_reason : (kind : TextCommand) (tree : Tree) → ReadsFor kind tree → reason_of kind tree ≡ None
@@ -58,6 +72,7 @@ no_reason (kind.Check rules) tree h = absurd h
 no_reason (kind.Satisfy choice) tree h = h
 no_reason kind.Policy tree h = absurd h
 no_reason kind.Plan tree h = h
+no_reason kind.Audit tree h = h
 
 pub for_source : (kind : TextCommand) (text : Bytes) (tree : Tree) (offsets : List ℕ) → TextReads text tree offsets → ReadsFor kind tree
     → NeedsSource (command_of kind text)
@@ -67,6 +82,7 @@ for_source (kind.Satisfy (choice.Strict rules)) text tree offsets reads h = (tre
 for_source (kind.Satisfy (choice.Cheapest rules)) text tree offsets reads h = (tree, offsets, reads, h)
 for_source kind.Policy text tree offsets reads h = absurd h
 for_source kind.Plan text tree offsets reads h = (tree, offsets, reads, h)
+for_source kind.Audit text tree offsets reads h = (tree, offsets, reads, h)
 
 -- the tree of the text is the one
 same_reason : (reason : Tree → Option Unfit) (text : Bytes) (tree : Tree) (offsets : List ℕ) → TextReads text tree offsets → Passes reason text
@@ -81,6 +97,7 @@ source_for (kind.Satisfy (choice.Strict rules)) text tree offsets reads h = same
 source_for (kind.Satisfy (choice.Cheapest rules)) text tree offsets reads h = same_reason (first_unfit_valid_under rules) text tree offsets reads h
 source_for kind.Policy text tree offsets reads h = absurd h
 source_for kind.Plan text tree offsets reads h = same_reason first_unfit text tree offsets reads h
+source_for kind.Audit text tree offsets reads h = same_reason first_unfit_valid text tree offsets reads h
 
 tree_answers : (kind : TextCommand) (text : Bytes) (tree : Tree) (offsets : List ℕ) (source : Side) → TextReads text tree offsets
     → (r : Reply) → AnswersTree kind tree offsets source r → Answers (command_of kind text) source r
@@ -96,7 +113,7 @@ tree_answers kind text tree offsets source reads r (inr late) =
       bytes = late.1.bytes;
       held = late.1.held;
       replies = replies_read kind text late.1.bytes tree offsets r reads
-          (late.1.replies ∙ ap (λ o. unless_unfit o offsets (reply_of kind late.1.bytes tree)) (sym none));
+          (late.1.replies ∙ ap (λ o. unless_unfit o offsets (reply_of kind late.1.bytes offsets tree)) (sym none));
     })
 
 short_text : (kind : TextCommand) (text : Bytes) → length text ≤ MOST_BYTES → HasShortText (command_of kind text)
@@ -106,6 +123,7 @@ short_text (kind.Satisfy (choice.Strict rules)) text short = short
 short_text (kind.Satisfy (choice.Cheapest rules)) text short = short
 short_text kind.Policy text short = short
 short_text kind.Plan text short = short
+short_text kind.Audit text short = short
 
 pub tree_ended : (kind : TextCommand) (text : Bytes) (tree : Tree) (offsets : List ℕ) (source : Side) (result : Result Answer Stop)
     → TextReads text tree offsets
@@ -125,6 +143,7 @@ no_source (kind.Satisfy (choice.Strict rules)) text fault utf8 known refusal h =
 no_source (kind.Satisfy (choice.Cheapest rules)) text fault utf8 known refusal h = absurd (none_beside_tree text h.0 h.1 fault utf8 known h.2 refusal)
 no_source kind.Policy text fault utf8 known refusal h = h
 no_source kind.Plan text fault utf8 known refusal h = absurd (none_beside_tree text h.0 h.1 fault utf8 known h.2 refusal)
+no_source kind.Audit text fault utf8 known refusal h = absurd (none_beside_tree text h.0 h.1 fault utf8 known h.2 refusal)
 
 replies_refused : (kind : TextCommand) (text bytes : Bytes) (fault : TextFault) (r : Reply) → TextRefusal text fault → IsRefusal fault r
     → Replies (command_of kind text) bytes r
@@ -134,6 +153,7 @@ replies_refused (kind.Satisfy (choice.Strict rules)) text bytes fault r refusal 
 replies_refused (kind.Satisfy (choice.Cheapest rules)) text bytes fault r refusal is = (refused fault, (is.0, refusal), is.1)
 replies_refused kind.Policy text bytes fault r refusal is = (refused fault, (is.0, refusal), is.1)
 replies_refused kind.Plan text bytes fault r refusal is = (refused fault, (is.0, refusal), is.1)
+replies_refused kind.Audit text bytes fault r refusal is = (refused fault, [], (is.0, refusal), tt, is.1)
 
 -- a text that isn't refused as too long isn't
 short_fault : (text : Bytes) (fault : TextFault) → fault ≢ TooLong → TextRefusal text fault → (fault ≡ Memory → length text ≤ MOST_BYTES)
@@ -156,34 +176,49 @@ refused_ended kind text fault source F result utf8 refusal memory unread h =
     }))
     (λ f. absurd f) (λ other. short_text kind text (short_fault text fault other refusal memory)) result h
 
--- ---- runs
+-- ---- trees that pass
 
-run_answers : (source : Side) (r : Reply) → AnswersFile run_reply source r → Answers run source r
-run_answers source r h = inr (record { needed = tt; bytes = h.bytes; held = h.held; replies = h.replies })
+-- what is known of a tree says that there is no reason against it
+pub fit_for : (demand : Demand) (tree : Tree) (known : Known) → IsKnown demand tree known → reason_for demand tree ≡ None
+fit_for (demand.Valid rules) tree (known.Valid valid) h = h.0
+fit_for (demand.Valid rules) tree (known.Sane sane) h = absurd h
+fit_for (demand.Sane rules) tree (known.Valid valid) h = absurd h
+fit_for (demand.Sane rules) tree (known.Sane sane) h = h.0
 
-pub run_ended : (source : Side) (result : Result Answer Stop) → Ended (AnswersFile run_reply source) (Rose source.before source.now) ⊤ result
-    → Ended (Answers run source) (NeedsSource run × Rose source.before source.now) (HasShortText run) result
-run_ended source result h = ended _ _ _ _ _ _ (run_answers source) (λ rose. (tt, rose)) (λ m. tt) result h
+pub known_typed : (demand : Demand) (tree : Tree) (known : Known) → IsKnown demand tree known → IsOk (corr tree)
+known_typed (demand.Valid rules) tree (known.Valid valid) h = subst IsOk (sym h.1) refl
+known_typed (demand.Valid rules) tree (known.Sane sane) h = absurd h
+known_typed (demand.Sane rules) tree (known.Valid valid) h = absurd h
+known_typed (demand.Sane rules) tree (known.Sane sane) h = subst IsOk (sym h.1) refl
 
--- ---- satisfactions
+pub known_limits : (demand : Demand) (tree : Tree) (known : Known) → IsKnown demand tree known → AreLimits tree (limits_in known)
+known_limits (demand.Valid rules) tree (known.Valid valid) h = h.2
+known_limits (demand.Valid rules) tree (known.Sane sane) h = absurd h
+known_limits (demand.Sane rules) tree (known.Valid valid) h = absurd h
+known_limits (demand.Sane rules) tree (known.Sane sane) h = h.3
 
-pub satisfied_ended : (choice : Choice) (tree : Tree) (offsets : List ℕ) (source : Side) (result : Result Answer Stop) → reason_by choice tree ≡ None
-    → Ended (AnswersFile (λ bytes. satisfy_reply (rules_by choice) (chosen_by choice) bytes tree) source) (Rose source.before source.now) ⊤ result
-    → Ended (AnswersTree (kind.Satisfy choice) tree offsets source) (ReadsFor (kind.Satisfy choice) tree × Rose source.before source.now) ⊤ result
-satisfied_ended choice tree offsets source result fit h =
-    ended (AnswersFile (λ bytes. satisfy_reply (rules_by choice) (chosen_by choice) bytes tree) source) (AnswersTree (kind.Satisfy choice) tree offsets source)
-    (Rose source.before source.now) ⊤ (ReadsFor (kind.Satisfy choice) tree × Rose source.before source.now) ⊤
-    (λ r file. inr (fit, file)) (λ rose. (fit, rose)) (λ m. m) result h
+-- a report for which no file is read
+pub done_ended : {A E : Type 0} (kind : TextCommand) (tree : Tree) (offsets : List ℕ) (source : Side) (F : Type 0) (bytes : A → Bytes) (report : Result A E)
+    (result : Result Answer Stop) → reason_of kind tree ≡ None → ¬ ReadsFor kind tree → IsUnread source
+    → IfOk report (λ text. (held : Bytes) → reply status.Done (bytes text) ≡ reply_of kind held offsets tree)
+    → AsDone bytes report result → Ended (AnswersTree kind tree offsets source) F ⊤ result
+done_ended kind tree offsets source F bytes (Ok text) result fit needless unread same (answer, is, e) =
+    subst (Ended (AnswersTree kind tree offsets source) F ⊤) (sym is) (inl (record {
+      needless = needless;
+      unread = unread;
+      replies = λ held. e ∙ same held ∙ ap (λ o. unless_unfit o offsets (reply_of kind held offsets tree)) (sym fit);
+    }))
+done_ended kind tree offsets source F bytes (Err e) result fit needless unread same is =
+    subst (Ended (AnswersTree kind tree offsets source) F ⊤) (sym is) tt
 
--- ---- plans
-
-pub planned_ended : (tree : Tree) (offsets : List ℕ) (source : Side) (result : Result Answer Stop) → first_unfit tree ≡ None
-    → Ended (AnswersFile (λ bytes. plan_reply bytes tree) source) (Rose source.before source.now) ⊤ result
-    → Ended (AnswersTree kind.Plan tree offsets source) (ReadsFor kind.Plan tree × Rose source.before source.now) ⊤ result
-planned_ended tree offsets source result fit h =
-    ended (AnswersFile (λ bytes. plan_reply bytes tree) source) (AnswersTree kind.Plan tree offsets source)
-    (Rose source.before source.now) ⊤ (ReadsFor kind.Plan tree × Rose source.before source.now) ⊤
-    (λ r file. inr (fit, file)) (λ rose. (fit, rose)) (λ m. m) result h
+-- a reply to the file
+pub file_ended : (kind : TextCommand) (tree : Tree) (offsets : List ℕ) (source : Side) (result : Result Answer Stop) → ReadsFor kind tree
+    → Ended (AnswersFile (λ bytes. reply_of kind bytes offsets tree) source) (Rose source.before source.now) ⊤ result
+    → Ended (AnswersTree kind tree offsets source) (ReadsFor kind tree × Rose source.before source.now) ⊤ result
+file_ended kind tree offsets source result reads h =
+    ended (AnswersFile (λ bytes. reply_of kind bytes offsets tree) source) (AnswersTree kind tree offsets source)
+    (Rose source.before source.now) ⊤ (ReadsFor kind tree × Rose source.before source.now) ⊤
+    (λ r file. inr (reads, file)) (λ rose. (reads, rose)) (λ m. m) result h
 
 -- ---- words
 

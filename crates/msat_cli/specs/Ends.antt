@@ -10,7 +10,7 @@ use Rattle.def_answer.specs.declared.status.Status.TheVariants as status
 use Rattle.def_answer.specs.Answer.{Answer}
 use Rattle.def_answer.specs.Reply.{MOST_FILE}
 use Rattle.def_answer.specs.Sources.{ReadsSource}
-use Rattle.def_answer.specs.Words.{Command, script, check, satisfy, satisfy_malleable, run, gen, policy, plan, decode, IsForm, HasNoForm}
+use Rattle.def_answer.specs.Words.{Command, script, check, satisfy, satisfy_malleable, run, gen, policy, plan, audit, decode, IsForm, HasNoForm}
 use Rattle.msat_cli.specs.Sides.{Side, AreTold}
 
 -- the words of a call, what it did to the source and to the sink, and its status
@@ -58,6 +58,7 @@ HasShortText run = ⊤
 HasShortText (gen n) = ⊤
 HasShortText (policy text) = length text ≤ MOST_BYTES
 HasShortText (plan text) = length text ≤ MOST_BYTES
+HasShortText (audit text) = length text ≤ MOST_BYTES
 HasShortText (decode digits keys) = ⊤
 
 -- the words have a form, and their TEXT isn't too long
@@ -85,6 +86,7 @@ IsFault status.ReadFault source sink = Rose source.before source.now
 IsFault status.WriteFault source sink = Rose sink.before sink.now
 IsFault status.Memory source sink = ⊤
 IsFault status.ScriptRefused source sink = ⊥
+IsFault status.NotAccepted source sink = ⊥
 IsFault status.NoReading source sink = ⊥
 
 -- with this status, unless memory was wanting or a fault came
@@ -123,4 +125,5 @@ IsReadFor status.ReadFault source = ⊤
 IsReadFor status.WriteFault source = ⊤
 IsReadFor status.Memory source = ⊤
 IsReadFor status.ScriptRefused source = IsAtEnd source.new
+IsReadFor status.NotAccepted source = IsAtEnd source.new
 IsReadFor status.NoReading source = ⊤

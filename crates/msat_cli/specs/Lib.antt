@@ -1,7 +1,9 @@
 pub mod Sides
+pub mod Fits
 pub mod Steps
 pub mod Ends
 pub mod Satisfactions
 pub mod Plans
+pub mod Audits
 pub mod Policies
 pub mod Decodings

@@ -28,9 +28,10 @@ use Rattle.def_answer.specs.Lines.{line, text_line, unfit_line}
 use Rattle.def_answer.specs.Report.{item_line, tree_limits_line, satisfy_report}
 use Rattle.def_answer.specs.Reply.{MOST_FILE}
 use Rattle.def_answer.specs.Words.{IsForm}
-use Rattle.msat_cli.specs.declared.words.Choice.{Choice}
-use Rattle.msat_cli.specs.declared.words.Choice.TheVariants as choice
-use Rattle.msat_cli.specs.Steps.{satisfy_by, rules_by, reason_by, chosen_by}
+use Rattle.ms_words.specs.declared.words.Choice.{Choice}
+use Rattle.ms_words.specs.declared.words.Choice.TheVariants as choice
+use Rattle.ms_words.specs.Commands.{satisfy_by}
+use Rattle.msat_cli.specs.Steps.{rules_by, reason_by, chosen_by}
 use Rattle.msat_cli.specs.Sides.{Side}
 use Rattle.msat_cli.specs.Ends.{Call, EndsAs}
 

@@ -1,5 +1,5 @@
--- The steps on the way to an answer: what the words ask for, the reasons against a tree, and what a step answers.
-use Rattle.std.specs.Prelude.{◌≡◌, ◌≢◌, ℕ, ◌<◌, length, List, ⊤, IsUtf8, Option, None, Result, Ok, Err, ◌⊎◌}
+-- The steps on the way to an answer: the reasons against a tree, and what a step answers.
+use Rattle.std.specs.Prelude.{◌≡◌, ◌≢◌, ℕ, ◌<◌, length, List, ⊤, Option, None, Result, Ok, Err, ◌⊎◌}
 use Rattle.std.specs.Io.KnownBytes.{Appends, Keeps}
 use Rattle.std.specs.String.{string_bytes}
 use Rattle.def_script.specs.Bytes.{Bytes}
@@ -8,66 +8,31 @@ use Rattle.def_text.specs.declared.TextFault.{TextFault}
 use Rattle.def_text.specs.declared.TextFault.TheVariants as text_fault
 use Rattle.def_sane.specs.declared.Unfit.{Unfit}
 use Rattle.def_sane.specs.declared.Rules.{Rules}
-use Rattle.def_sane.specs.Unfit.{first_unfit, first_unfit_under, first_unfit_valid_under}
+use Rattle.def_sane.specs.Unfit.{first_unfit, first_unfit_valid}
 use Rattle.def_assets.specs.Assets.{Assets}
+use Rattle.def_files.specs.RunFile.{RunFile}
 use Rattle.def_choice.specs.Cheapest.{cheapest}
 use Rattle.def_choice.specs.Strict.{strict}
+use Rattle.ms_assets.specs.declared.run_file.RunFile.{RunFile as ReadFile}
 use Rattle.ms_io.specs.Faults.{Rose}
 use Rattle.ms_io.specs.Moves.{AppendsPrefix}
 use Rattle.def_answer.specs.declared.status.Status.{Status}
 use Rattle.def_answer.specs.declared.status.Status.TheVariants as status
 use Rattle.def_answer.specs.Answer.{script_reply, check_reply, policy_reply, Replies}
+use Rattle.def_answer.specs.Laws.{walked}
 use Rattle.def_answer.specs.Lines.{usage_line, text_line, file_too_long_line}
-use Rattle.def_answer.specs.Reply.{Reply, reply, usage_reply, unless_unfit, MOST_FILE, satisfy_reply, plan_reply}
+use Rattle.def_answer.specs.Reply.{Reply, reply, usage_reply, unless_unfit, MOST_FILE, satisfy_reply, plan_reply, audit_reply}
 use Rattle.def_answer.specs.Sources.{NeedsSource}
-use Rattle.def_answer.specs.Words.{Command, script, check, satisfy, satisfy_malleable, run, gen, policy, plan, decode, IsForm, HasNoForm}
+use Rattle.def_answer.specs.Words.{Command, IsForm, HasNoForm}
 use Rattle.msat_cli.specs.declared.answer.Answer.{Answer}
 use Rattle.msat_cli.specs.declared.answer.Stop.{Stop}
 use Rattle.msat_cli.specs.declared.answer.Stop.TheVariants as stop
-use Rattle.msat_cli.specs.declared.words.Choice.{Choice}
-use Rattle.msat_cli.specs.declared.words.Choice.TheVariants as choice
-use Rattle.msat_cli.specs.declared.words.TextCommand.{TextCommand}
-use Rattle.msat_cli.specs.declared.words.TextCommand.TheVariants as kind
-use Rattle.msat_cli.specs.declared.words.Command.{Command as Asked}
-use Rattle.msat_cli.specs.declared.words.Command.TheVariants as asked
+use Rattle.ms_words.specs.declared.words.Choice.{Choice}
+use Rattle.ms_words.specs.declared.words.Choice.TheVariants as choice
+use Rattle.ms_words.specs.declared.words.TextCommand.{TextCommand}
+use Rattle.ms_words.specs.declared.words.TextCommand.TheVariants as kind
+use Rattle.msat_cli.specs.Fits.{demand_by, demand_of, reason_for}
 use Rattle.msat_cli.specs.Sides.{Side, IsUnread, Held}
-
--- ---- what the words ask for
-
--- the satisfaction of a TEXT that is chosen so
-abbrev pub satisfy_by : Choice → (text : Bytes) → Command
-satisfy_by (choice.Strict rules) = satisfy rules
-satisfy_by (choice.Cheapest rules) = satisfy_malleable rules
-
--- the command with its TEXT
-abbrev pub command_of : TextCommand → (text : Bytes) → Command
-command_of (kind.Script rules) = script rules
-command_of (kind.Check rules) = check rules
-command_of (kind.Satisfy choice) = satisfy_by choice
-command_of kind.Policy = policy
-command_of kind.Plan = plan
-
-abbrev pub seen : Asked → Command
-seen (asked.Text kind text) = command_of kind text.now
-seen asked.Run = run
-seen (asked.Gen n) = gen n
-seen (asked.Decode digits keys) = decode digits.now keys.now
-
--- its TEXT, where it has one, is UTF-8
-abbrev pub HasUtf8 : Command → Type 0
-HasUtf8 (script rules text) = IsUtf8 text
-HasUtf8 (check rules text) = IsUtf8 text
-HasUtf8 (satisfy rules text) = IsUtf8 text
-HasUtf8 (satisfy_malleable rules text) = IsUtf8 text
-HasUtf8 run = ⊤
-HasUtf8 (gen n) = ⊤
-HasUtf8 (policy text) = IsUtf8 text
-HasUtf8 (plan text) = IsUtf8 text
-HasUtf8 (decode digits keys) = ⊤
-
--- so is that of words with a form
-abbrev pub HaveUtf8 : (words : List Bytes) → Type 0
-HaveUtf8 words = (command : Command) → IsForm words command → HasUtf8 command
 
 -- ---- what is done with a tree
 
@@ -83,24 +48,20 @@ rules_by (choice.Cheapest rules) = rules
 
 -- the reasons against a tree that is to be satisfied
 abbrev pub reason_by : Choice → Tree → Option Unfit
-reason_by (choice.Strict rules) = first_unfit_under rules
-reason_by (choice.Cheapest rules) = first_unfit_valid_under rules
+reason_by choice = reason_for (demand_by choice)
 
 -- the reasons against a tree that are tested
 abbrev pub reason_of : TextCommand → Tree → Option Unfit
-reason_of (kind.Script rules) = first_unfit_valid_under rules
-reason_of (kind.Check rules) = first_unfit_under rules
-reason_of (kind.Satisfy choice) = reason_by choice
-reason_of kind.Policy = first_unfit
-reason_of kind.Plan = first_unfit
+reason_of kind = reason_for (demand_of kind)
 
 -- what is replied where there is none
-abbrev pub reply_of : TextCommand → (source : Bytes) → Tree → Reply
-reply_of (kind.Script rules) source = script_reply
-reply_of (kind.Check rules) source = check_reply rules
-reply_of (kind.Satisfy choice) source = satisfy_reply (rules_by choice) (chosen_by choice) source
-reply_of kind.Policy source = policy_reply
-reply_of kind.Plan source = plan_reply source
+abbrev pub reply_of : TextCommand → (source : Bytes) → (offsets : List ℕ) → Tree → Reply
+reply_of (kind.Script rules) source offsets = script_reply
+reply_of (kind.Check rules) source offsets = check_reply rules
+reply_of (kind.Satisfy choice) source offsets = satisfy_reply (rules_by choice) (chosen_by choice) source
+reply_of kind.Policy source offsets = policy_reply
+reply_of kind.Plan source offsets = plan_reply source
+reply_of kind.Audit source offsets = λ tree. audit_reply offsets (walked tree source) source tree
 
 -- a file is read for it
 abbrev pub ReadsFor : TextCommand → Tree → Type 0
@@ -109,12 +70,13 @@ ReadsFor (kind.Check rules) tree = ⊥
 ReadsFor (kind.Satisfy choice) tree = reason_by choice tree ≡ None
 ReadsFor kind.Policy tree = ⊥
 ReadsFor kind.Plan tree = first_unfit tree ≡ None
+ReadsFor kind.Audit tree = first_unfit_valid tree ≡ None
 
 -- the reply to a tree with these offsets, with every source: nothing was read
 pub record AnswersAtOnce (kind : TextCommand) (tree : Tree) (offsets : List ℕ) (source : Side) (r : Reply) : Type 0 where
   pub needless : ¬ ReadsFor kind tree
   pub unread : IsUnread source
-  pub replies : (bytes : Bytes) → r ≡ unless_unfit (reason_of kind tree) offsets (reply_of kind bytes tree)
+  pub replies : (bytes : Bytes) → r ≡ unless_unfit (reason_of kind tree) offsets (reply_of kind bytes offsets tree)
 
 -- the reply to what the source held
 pub record AnswersFile (next : Bytes → Reply) (source : Side) (r : Reply) : Type 0 where
@@ -125,11 +87,15 @@ pub record AnswersFile (next : Bytes → Reply) (source : Side) (r : Reply) : Ty
 -- the reply to a tree
 abbrev pub AnswersTree : TextCommand → Tree → (offsets : List ℕ) → (source : Side) → Reply → Type 0
 AnswersTree kind tree offsets source r =
-    AnswersAtOnce kind tree offsets source r ⊎ (ReadsFor kind tree × AnswersFile (λ bytes. reply_of kind bytes tree) source r)
+    AnswersAtOnce kind tree offsets source r ⊎ (ReadsFor kind tree × AnswersFile (λ bytes. reply_of kind bytes offsets tree) source r)
 
 -- the reply to a text that is refused
 abbrev pub IsRefusal : TextFault → Reply → Type 0
 IsRefusal fault r = (fault ≢ text_fault.Memory) × (r ≡ reply status.TextRefused (text_line fault))
+
+-- a run file that was read, as the definition's
+abbrev pub file_seen : ReadFile → RunFile
+file_seen file = record { script = file.script; stack = file.stack; locks = file.locks; pairs = file.pairs }
 
 -- why the file isn't read whole
 abbrev pub StopsReading : (source : Side) → Stop → Type 0
@@ -178,6 +144,12 @@ Ended IsAnswer Fails Wants (Err stop.TextTooLong) = IsAnswer (reply status.TextR
 Ended IsAnswer Fails Wants (Err stop.FileTooLong) = IsAnswer (reply status.FileRefused file_too_long_line)
 Ended IsAnswer Fails Wants (Err stop.ReadFault) = Fails
 Ended IsAnswer Fails Wants (Err stop.Memory) = Wants
+
+-- a report that takes memory alone, of what was done
+abbrev pub AsDone : {A E : Type 0} → (bytes : A → Bytes) → Result A E → Result Answer Stop → Type 0
+AsDone bytes (Ok text) result =
+    (answer : Answer) × (result ≡ Ok answer) × (reply answer.status (string_bytes answer.report) ≡ reply status.Done (bytes text))
+AsDone bytes (Err e) result = result ≡ Err stop.Memory
 
 -- an answer that takes memory alone
 abbrev pub AsMade : {E : Type 0} → Result Answer E → Result Answer Stop → Type 0

@@ -4,18 +4,18 @@ ghost use Rattle.def_answer.specs.Sources.{NeedsSource, ReadsSource};
 ghost use Rattle.def_answer.specs.Words.{IsCommand};
 ghost use Rattle.ms_io.specs.Faults.{Rose};
 ghost use Rattle.msat_cli.specs.Sides.{side, ReadsFront, IsUnread};
-ghost use Rattle.msat_cli.specs.Steps.{seen, HaveUtf8, Answers, AnswersWords, Ended, AsMade};
+ghost use Rattle.ms_words.specs.Commands.{seen, HaveUtf8};
+ghost use Rattle.msat_cli.specs.Steps.{Answers, AnswersWords, Ended, AsMade};
 ghost use Rattle.msat_cli.specs.Ends.{HasShortText, TakesMemory};
 
 use crate::decoding::answer_decode;
 use crate::generator::answer_gen;
 use crate::runs::answer_run;
 use crate::texts::answer_text;
-use crate::word::Word;
-use crate::words::{Command, read_words};
 use bumpalo::Bump;
 use def_answer::Status;
 use ms_io::Source;
+use ms_words::{Command, Word, read_words};
 use std::alloc::{AllocError, Global};
 
 /// A status, and the whole report that goes with it.

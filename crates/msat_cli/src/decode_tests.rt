@@ -67,30 +67,6 @@ fn other_scripts_have_no_reading(rt: HostRuntime) -> Result<(), Fail> {
         assert_eq!(rt; status, Status::NoReading);
         assert_eq!(rt; report.as_str(), "no reading\n");
     }
-    Ok(())
-}
-
-/// These words after `decode` are no stated form.
-fn is_no_form(rt: &impl Abort, alloc: Global, script: &str, keys: &[&str]) -> Result<(), Fail> {
-    let (status, report) = asked(alloc, script, keys)?;
-    assert_eq!(rt; status, Status::Usage);
-    assert_eq!(rt; report.as_str(), "refused usage\n");
-    Ok(())
-}
-
-#[test]
-fn decode_takes_digits_and_keys(rt: HostRuntime) -> Result<(), Fail> {
-    let alloc = rt.alloc();
-    is_no_form(&rt, alloc, "5", &[])?;
-    is_no_form(&rt, alloc, "5g", &[])?;
-    is_no_form(&rt, alloc, "51", &["02"])?;
-    is_no_form(&rt, alloc, "51", &["A", ""])?;
-    is_no_form(&rt, alloc, "51", &["X"])?;
-    let (status, report) = satisfied(alloc, &["decode"], b"{}", 1, &[0])?;
-    assert_eq!(rt; status, Status::Usage);
-    assert_eq!(rt; report.as_str(), "refused usage\n");
-    let (status, _) = satisfied(alloc, &["decode", "AC"], b"{}", 1, &[0])?;
-    assert_eq!(rt; status, Status::NoReading);
-    assert_eq!(rt; status.code(), 10);
+    assert_eq!(rt; Status::NoReading.code(), 10);
     Ok(())
 }

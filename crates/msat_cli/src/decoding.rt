@@ -11,14 +11,13 @@ ghost use Rattle.def_answer.specs.Words.{IsHex};
 
 use crate::answer::Answer;
 use crate::report::push_line;
-use crate::word::Word;
-use crate::words::key_of;
 use bumpalo::Bump;
 use def_answer::Status;
 use hex::FromHexError;
 use ms_decode::decode;
 use ms_text::print_text;
 use ms_tree::{Key, Tree};
+use ms_words::{Word, key_of};
 use std::alloc::{AllocError, Global};
 
 /// Answers with the text of a Script, or that it has none, with these keys.

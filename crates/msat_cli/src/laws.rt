@@ -7,9 +7,9 @@ ghost use Rattle.msat_cli.specs.Policies.{TellsSatisfied};
 ghost use Rattle.msat_cli.specs.Sides.{ReadsFront};
 
 use crate::program::msat;
-use crate::word::Word;
 use def_answer::Status;
 use ms_io::{NullSink, SureSource};
+use ms_words::Word;
 use std::alloc::Global;
 
 /// `msat` over a source and a sink that never fail: the words and what the source holds tell the status, want of

@@ -4,10 +4,13 @@
 pub use def_answer::Status;
 pub use generator::generated;
 pub use laws::{msat_without_faults, policy_tells_satisfied};
+pub use ms_words::Word;
 pub use program::msat;
-pub use word::Word;
 
 mod answer;
+#[cfg(test)]
+mod audit_tests;
+mod audits;
 #[cfg(test)]
 mod consensus_tests;
 #[cfg(test)]
@@ -16,6 +19,7 @@ mod decoding;
 #[cfg(test)]
 mod fault_tests;
 mod files;
+mod fit;
 mod generator;
 #[cfg(test)]
 mod generator_tests;
@@ -38,5 +42,3 @@ mod satisfying;
 #[cfg(test)]
 mod tests;
 mod texts;
-mod word;
-mod words;

@@ -157,11 +157,6 @@ fn a_plan_reads_its_file_for_sane_texts_alone(rt: HostRuntime) -> Result<(), Fai
         assert_eq!(&rt; status, Status::TextRefused);
         assert_eq!(&rt; report.as_str(), wanted);
     }
-    for words in [["plan"].as_slice(), &["plan", "0", "0"], &["Plan", "0"]] {
-        let (status, report) = satisfied(alloc, words, b"{}", 1, &[0])?;
-        assert_eq!(&rt; status, Status::Usage);
-        assert_eq!(&rt; report.as_str(), "refused usage\n");
-    }
     let text = filled(alloc, "pk(A)")?;
     let (status, report) = satisfied(alloc, &["plan", text.as_str()], b"{}", 1, &[1])?;
     assert_eq!(&rt; status, Status::ReadFault);

@@ -71,15 +71,3 @@ fn other_texts_have_no_policy(rt: HostRuntime) -> Result<(), Fail> {
     }
     Ok(())
 }
-
-#[test]
-fn policy_takes_one_text(rt: HostRuntime) -> Result<(), Fail> {
-    let alloc = rt.alloc();
-    let forms: [&[&str]; 3] = [&["policy"], &["policy", "0", "0"], &["Policy", "0"]];
-    for words in forms {
-        let (status, report) = satisfied(alloc, words, b"{}", 1, &[0])?;
-        assert_eq!(rt; status, Status::Usage);
-        assert_eq!(rt; report.as_str(), "refused usage\n");
-    }
-    Ok(())
-}

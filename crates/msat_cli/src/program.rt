@@ -4,16 +4,17 @@ ghost use Rattle.ms_io.specs.Faults.{Rose};
 ghost use Rattle.msat_cli.specs.Sides.{side, ReadsFront, IsUnread};
 ghost use Rattle.msat_cli.specs.Steps.{Writes, WritesResult};
 ghost use Rattle.msat_cli.specs.Ends.{call, Ends, EndsAsUsage, EndsAsAnswered, IsReadFor};
+ghost use Rattle.msat_cli.specs.Audits.{ShowsAudit};
 ghost use Rattle.msat_cli.specs.Decodings.{ShowsReading};
 ghost use Rattle.msat_cli.specs.Plans.{ShowsPlan};
 ghost use Rattle.msat_cli.specs.Policies.{ShowsPolicy};
 ghost use Rattle.msat_cli.specs.Satisfactions.{FindsWhereOneExists, ShowsCanonical, ShowsWitness, ShowsAccepted, ShowsNonMalleable, FindsNothingToAccept, RefusesOtherTexts, ShowsLightest};
 
 use crate::answer::{Answer, Stop, answer_words};
-use crate::word::Word;
 use bumpalo::Bump;
 use def_answer::Status;
 use ms_io::{Sink, Source, put_all};
+use ms_words::Word;
 use std::alloc::Global;
 
 const USAGE: &[u8] = b"refused usage\n";
@@ -24,8 +25,8 @@ const FILE_TOO_LONG: &[u8] = b"refused file TooLong\n";
 
 /// Answers the words of a command line: makes the report, writes it to the sink by one call of `put_all`, and gives
 /// the status. The words are `script TEXT`, `check TEXT`, `satisfy TEXT`, `satisfy --malleable TEXT`, `run`, `gen N`,
-/// `policy TEXT`, `plan TEXT` and `decode HEX KEY..`. The source is read only for `run`, and for `satisfy` and `plan` where the
-/// text was neither refused nor unfit.
+/// `policy TEXT`, `plan TEXT`, `audit TEXT` and `decode HEX KEY..`. The source is read only for `run`, and for `satisfy`, `plan`
+/// and `audit` where the text was neither refused nor unfit.
 pub fn msat<S: Source, K: Sink>(
     alloc: Global,
     words: &[Word],
@@ -71,6 +72,10 @@ pub fn msat<S: Source, K: Sink>(
     // enough: signatures of these alone are, where none is longer than estimated the strict satisfaction weighs no more than
     // was written, where none is shorter no satisfaction that nobody can change weighs less, and no key is asked in vain.
     ensures plan { ShowsPlan (call words.now (side S.left S.faults source.old source.new) (side K.written K.faults sink.old sink.new) result) }
+
+    // For every valid text and readable run file `audit TEXT` writes by which rows the file's stack satisfies the text, exactly
+    // where the file has the text's Script and its run is accepted, and otherwise that it isn't accepted, and why.
+    ensures audit { ShowsAudit (call words.now (side S.left S.faults source.old source.new) (side K.written K.faults sink.old sink.new) result) }
 
     // `decode HEX KEY..` writes the text that the Script is read back as, exactly where there is one, and otherwise that
     // there is none.

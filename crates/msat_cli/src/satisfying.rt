@@ -18,7 +18,6 @@ ghost use Rattle.ms_script.specs.Stacks.{weight as the_weight};
 use crate::answer::{Answer, Stop, or_memory};
 use crate::files::{file_answer, read_file};
 use crate::report::{push_line, push_output};
-use crate::words::Choice;
 use def_answer::Status;
 use ms_assets::{Assets, read_assets};
 use ms_interp::RunReport;
@@ -29,6 +28,7 @@ use ms_replay::carry;
 use ms_sat::cheapest;
 use ms_script::Stack;
 use ms_tree::Tree;
+use ms_words::Choice;
 use std::alloc::{AllocError, Global};
 
 /// Answers with the satisfaction of a tree by the assets of the file that the source holds. There is no reason

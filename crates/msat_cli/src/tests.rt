@@ -492,24 +492,12 @@ fn refused_texts_have_their_places(rt: HostRuntime) -> Result<(), Fail> {
 #[test]
 fn other_words_are_refused(rt: HostRuntime) -> Result<(), Fail> {
     let alloc = rt.alloc();
-    let cases: [&[&str]; 17] = [
+    let cases: [&[&str]; 5] = [
         &[],
-        &["script"],
-        &["satisfy"],
-        &["satisfy", "--cheapest", "0"],
-        &["satisfy", "--malleable", "0", "0"],
-        &["check", "--malleable", "0"],
-        &["gen"],
         &["gen", "0"],
         &["gen", "31"],
         &["gen", "05"],
-        &["gen", "+4"],
-        &["gen", "4", "4"],
         &["run", "x"],
-        &["Run"],
-        &["script", "a", "b"],
-        &["checks", "1"],
-        &["Script", "1"],
     ];
     for words in cases {
         let (status, report) = answer(alloc, words)?;

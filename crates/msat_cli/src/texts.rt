@@ -1,39 +1,37 @@
 //! What is answered to a text.
-ghost use Rattle.std.specs.Prelude.{◌≡◌, ◌≢◌, ◌*◌, ◌≤◌, ⊤, IfOk, IfErr, IsOk, Some, None, vec_len};
+ghost use Rattle.std.specs.Prelude.{◌≡◌, ◌≢◌, ◌*◌, ◌≤◌, ⊤, IfOk, vec_len};
 ghost use Rattle.std.specs.String.{string_bytes};
 ghost use Rattle.def_tree.specs.Range.{IsInRange};
 ghost use Rattle.def_tree.specs.Size.{measure};
-ghost use Rattle.def_types.specs.Corr.{corr};
-ghost use Rattle.def_sane.specs.Limits.{AreLimits};
-ghost use Rattle.def_sane.specs.Unfit.{first_unfit, first_unfit_under, first_unfit_valid_under};
 ghost use Rattle.ms_tree.specs.Shape.{shape};
 ghost use Rattle.ms_sane.specs.Place.{IsOfTree};
 ghost use Rattle.ms_io.specs.Faults.{Rose};
-ghost use Rattle.def_answer.specs.Answer.{script_reply, check_reply, policy_reply};
 ghost use Rattle.def_answer.specs.Lines.{text_line as the_text_line, unfit_line as the_unfit_line};
-ghost use Rattle.def_answer.specs.Reply.{reply, unless_unfit};
+ghost use Rattle.def_answer.specs.Reply.{reply, satisfy_reply};
+ghost use Rattle.def_answer.specs.Report.{check_report as the_check_report};
 ghost use Rattle.def_answer.specs.Sources.{NeedsSource};
+ghost use Rattle.ms_words.specs.Commands.{command_of};
+ghost use Rattle.msat_cli.specs.Fits.{demand_by, demand_of as the_demand_of, IsKnown};
 ghost use Rattle.msat_cli.specs.Sides.{side, ReadsFront, IsUnread};
-ghost use Rattle.msat_cli.specs.Steps.{command_of, rules_by, reason_by, ReadsFor, Answers, AnswersTree, IsRefusal, Ended};
+ghost use Rattle.msat_cli.specs.Steps.{rules_by, chosen_by, ReadsFor, Answers, AnswersFile, AnswersTree, AsDone, IsRefusal, Ended};
 ghost use Rattle.msat_cli.specs.Ends.{HasShortText};
 
 use crate::answer::{Answer, Stop, or_memory};
+use crate::audits::answer_audit;
+use crate::fit::{Demand, Fit, Known, Misfit, demand_of, fit_tree};
 use crate::names::rule_name;
 use crate::plans::answer_plan;
 use crate::policies::policy_report;
 use crate::report::{check_report, script_report, tree_limits_line};
 use crate::satisfying::answer_satisfaction;
-use crate::words::{Choice, TextCommand};
 use bumpalo::Bump;
 use def_answer::Status;
 use def_text::TextFault;
 use ms_io::Source;
-use ms_sane::{
-    Limits, Rules, Unfit, Work, check_sane, check_sane_of, check_sane_under, check_short,
-    check_valid_of, check_valid_under,
-};
+use ms_sane::{Rules, Unfit};
 use ms_text::{TextTree, read_text};
 use ms_tree::Tree;
+use ms_words::{Choice, TextCommand};
 use std::alloc::{AllocError, Global};
 
 /// Answers a command on a text: the text's refusal, or what is answered to its tree, which lies in the arena.
@@ -68,83 +66,90 @@ fn answer_tree<S: Source>(
     ensures front { ReadsFront (S.left source.old) (S.left source.new) }
     ensures unread { ¬ ReadsFor kind (shape text.now.tree) → IsUnread (side S.left S.faults source.old source.new) }
 {
-    match kind {
-        TextCommand::Script(rules) => or_memory(script_answer(alloc, rules, text)),
-        TextCommand::Check(rules) => or_memory(check_answer(alloc, rules, text)),
-        TextCommand::Satisfy(choice) => answer_satisfy(alloc, choice, text, source),
-        TextCommand::Policy => or_memory(policy_answer(alloc, text)),
-        TextCommand::Plan => answer_planned(alloc, text, source),
+    match fit_tree(alloc, text.tree(), demand_of(kind)) {
+        Ok(fit) => answer_fit(alloc, kind, text, fit, source),
+        Err(Misfit::Unfit(unfit)) => or_memory(unfit_answer(alloc, text, unfit)),
+        Err(Misfit::Memory) => Err(Stop::Memory),
     }
 }
 
-/// Answers with the satisfaction of a tree, or with the first reason against its being satisfied by this choice.
+/// Answers a command on a text whose tree passed.
+fn answer_fit<S: Source>(
+    alloc: Global,
+    kind: TextCommand,
+    text: &TextTree<'_>,
+    mut fit: Fit,
+    source: &mut S,
+) -> Result<Answer, Stop>
+    requires in_range { IsInRange (shape text.now.tree) }
+    requires known { IsKnown (the_demand_of kind) (shape text.now.tree) fit.known }
+    requires room { 4 * measure (shape text.now.tree) ≤ vec_len fit.work.slots }
+    ensures answer { Ended (AnswersTree kind (shape text.now.tree) text.now.offsets.items (side S.left S.faults source.old source.new)) (ReadsFor kind (shape text.now.tree) × Rose (S.faults source.old) (S.faults source.new)) ⊤ result }
+    ensures later { S.faults source.old ≤ S.faults source.new }
+    ensures front { ReadsFront (S.left source.old) (S.left source.new) }
+    ensures unread { ¬ ReadsFor kind (shape text.now.tree) → IsUnread (side S.left S.faults source.old source.new) }
+{
+    let tree = text.tree();
+    match kind {
+        TextCommand::Script(_) => done(script_report(alloc, tree)),
+        TextCommand::Check(rules) => done(checked(alloc, rules, tree, &mut fit)),
+        TextCommand::Satisfy(choice) => answer_satisfy(alloc, choice, tree, fit, source),
+        TextCommand::Policy => done(policy_report(alloc, tree)),
+        TextCommand::Plan => answer_plan(alloc, tree, source),
+        TextCommand::Audit => answer_audit(alloc, text, source),
+    }
+}
+
+/// The answer with a report of what was done.
+fn done(report: Result<String, AllocError>) -> Result<Answer, Stop>
+    ensures { AsDone string_bytes report result }
+{
+    match report {
+        Ok(report) => Ok(Answer {
+            status: Status::Done,
+            report,
+        }),
+        Err(_) => Err(Stop::Memory),
+    }
+}
+
+/// What is known of a sane tree.
+fn checked(
+    alloc: Global,
+    rules: Rules,
+    tree: &Tree<'_>,
+    fit: &mut Fit,
+) -> Result<String, AllocError>
+    requires in_range { IsInRange (shape tree.now) }
+    requires known { IsKnown (Demand.Sane rules) (shape tree.now) fit.old.known }
+    requires room { 4 * measure (shape tree.now) ≤ vec_len fit.old.work.slots }
+    ensures { IfOk result (λ report. string_bytes report ≡ the_check_report rules (shape tree.now)) }
+{
+    match fit.known {
+        Known::Sane(sane) => check_report(alloc, rules, tree, &sane, &mut fit.work),
+        Known::Valid(_) => unreachable!(),
+    }
+}
+
+/// Answers with the satisfaction of a tree.
 fn answer_satisfy<S: Source>(
     alloc: Global,
     choice: Choice,
-    text: &TextTree<'_>,
+    tree: &Tree<'_>,
+    mut fit: Fit,
     source: &mut S,
 ) -> Result<Answer, Stop>
-    requires { IsInRange (shape text.now.tree) }
-    ensures answer { Ended (AnswersTree (TextCommand.Satisfy choice) (shape text.now.tree) text.now.offsets.items (side S.left S.faults source.old source.new)) (ReadsFor (TextCommand.Satisfy choice) (shape text.now.tree) × Rose (S.faults source.old) (S.faults source.new)) ⊤ result }
-    ensures later { S.faults source.old ≤ S.faults source.new }
-    ensures front { ReadsFront (S.left source.old) (S.left source.new) }
-    ensures unread { ¬ ReadsFor (TextCommand.Satisfy choice) (shape text.now.tree) → IsUnread (side S.left S.faults source.old source.new) }
-{
-    let tree = text.tree();
-    let Ok(mut work) = Work::new(alloc, tree) else {
-        return Err(Stop::Memory);
-    };
-    match check_for(choice, tree, &mut work) {
-        Ok(limits) => match tree_limits_line(alloc, rules_of(choice), tree, limits, &mut work) {
-            Ok(line) => answer_satisfaction(alloc, choice, tree, &line, source),
-            Err(AllocError) => Err(Stop::Memory),
-        },
-        Err(unfit) => or_memory(unfit_answer(alloc, text, unfit)),
-    }
-}
-
-/// Answers which keys to ask for a sane tree, or with the first reason against its being sane.
-fn answer_planned<S: Source>(
-    alloc: Global,
-    text: &TextTree<'_>,
-    source: &mut S,
-) -> Result<Answer, Stop>
-    requires { IsInRange (shape text.now.tree) }
-    ensures answer { Ended (AnswersTree TextCommand.Plan (shape text.now.tree) text.now.offsets.items (side S.left S.faults source.old source.new)) (ReadsFor TextCommand.Plan (shape text.now.tree) × Rose (S.faults source.old) (S.faults source.new)) ⊤ result }
-    ensures later { S.faults source.old ≤ S.faults source.new }
-    ensures front { ReadsFront (S.left source.old) (S.left source.new) }
-    ensures unread { ¬ ReadsFor TextCommand.Plan (shape text.now.tree) → IsUnread (side S.left S.faults source.old source.new) }
-{
-    let tree = text.tree();
-    let Ok(mut work) = Work::new(alloc, tree) else {
-        return Err(Stop::Memory);
-    };
-    match check_for(Choice::Strict(Rules::Policy), tree, &mut work) {
-        Ok(_) => answer_plan(alloc, tree, source),
-        Err(unfit) => or_memory(unfit_answer(alloc, text, unfit)),
-    }
-}
-
-/// The limits of a tree that can be satisfied by this choice, or the first reason against it.
-fn check_for(choice: Choice, tree: &Tree<'_>, work: &mut Work) -> Result<Limits, Unfit>
     requires in_range { IsInRange (shape tree.now) }
-    requires room { 4 * measure (shape tree.now) ≤ vec_len work.old.slots }
-    ensures fit { IfOk result (λ limits. reason_by choice (shape tree.now) ≡ None) }
-    ensures limits { IfOk result (λ limits. AreLimits (shape tree.now) limits) }
-    ensures unfit { IfErr result (λ unfit. reason_by choice (shape tree.now) ≡ Some unfit) }
-    ensures place { IfErr result (λ unfit. IsOfTree (shape tree.now) unfit) }
-    ensures typed { IfOk result (λ limits. IsOk (corr (shape tree.now))) }
-    ensures room { vec_len work.new.slots ≡ vec_len work.old.slots }
+    requires known { IsKnown (demand_by choice) (shape tree.now) fit.known }
+    requires room { 4 * measure (shape tree.now) ≤ vec_len fit.work.slots }
+    ensures answer { Ended (AnswersFile (λ bytes. satisfy_reply (rules_by choice) (chosen_by choice) bytes (shape tree.now)) (side S.left S.faults source.old source.new)) (Rose (S.faults source.old) (S.faults source.new)) ⊤ result }
+    ensures later { S.faults source.old ≤ S.faults source.new }
+    ensures front { ReadsFront (S.left source.old) (S.left source.new) }
 {
-    match choice {
-        Choice::Strict(rules) => match check_sane_under(tree, rules, work) {
-            Ok(sane) => Ok(sane.limits),
-            Err(unfit) => Err(unfit),
-        },
-        Choice::Cheapest(rules) => match check_valid_under(tree, rules, work) {
-            Ok(valid) => Ok(valid.limits),
-            Err(unfit) => Err(unfit),
-        },
+    let (rules, limits) = (rules_of(choice), fit.known.limits());
+    match tree_limits_line(alloc, rules, tree, limits, &mut fit.work) {
+        Ok(line) => answer_satisfaction(alloc, choice, tree, &line, source),
+        Err(AllocError) => Err(Stop::Memory),
     }
 }
 
@@ -154,62 +159,6 @@ fn rules_of(choice: Choice) -> Rules
 {
     match choice {
         Choice::Strict(rules) | Choice::Cheapest(rules) => rules,
-    }
-}
-
-/// The Script of a valid tree, or the first reason against its being valid.
-fn script_answer(alloc: Global, rules: Rules, text: &TextTree<'_>) -> Result<Answer, AllocError>
-    requires { IsInRange (shape text.now.tree) }
-    ensures { IfOk result (λ answer. reply answer.status (string_bytes answer.report) ≡ unless_unfit (first_unfit_valid_under rules (shape text.now.tree)) text.now.offsets.items (script_reply (shape text.now.tree))) }
-{
-    let tree = text.tree();
-    let short = match check_short(tree, rules) {
-        Ok(short) => short,
-        Err(unfit) => return unfit_answer(alloc, text, unfit),
-    };
-    let mut work = Work::new(alloc, tree)?;
-    match check_valid_of(short, tree, rules, &mut work) {
-        Ok(_) => Ok(Answer {
-            status: Status::Done,
-            report: script_report(alloc, tree)?,
-        }),
-        Err(unfit) => unfit_answer(alloc, text, unfit),
-    }
-}
-
-/// What is known of a sane tree, or the first reason against its being sane.
-fn check_answer(alloc: Global, rules: Rules, text: &TextTree<'_>) -> Result<Answer, AllocError>
-    requires { IsInRange (shape text.now.tree) }
-    ensures { IfOk result (λ answer. reply answer.status (string_bytes answer.report) ≡ unless_unfit (first_unfit_under rules (shape text.now.tree)) text.now.offsets.items (check_reply rules (shape text.now.tree))) }
-{
-    let tree = text.tree();
-    let short = match check_short(tree, rules) {
-        Ok(short) => short,
-        Err(unfit) => return unfit_answer(alloc, text, unfit),
-    };
-    let mut work = Work::new(alloc, tree)?;
-    match check_sane_of(short, tree, rules, &mut work) {
-        Ok(sane) => Ok(Answer {
-            status: Status::Done,
-            report: check_report(alloc, rules, tree, &sane, &mut work)?,
-        }),
-        Err(unfit) => unfit_answer(alloc, text, unfit),
-    }
-}
-
-/// The abstract policy of a sane tree, or the first reason against its being sane.
-fn policy_answer(alloc: Global, text: &TextTree<'_>) -> Result<Answer, AllocError>
-    requires { IsInRange (shape text.now.tree) }
-    ensures { IfOk result (λ answer. reply answer.status (string_bytes answer.report) ≡ unless_unfit (first_unfit (shape text.now.tree)) text.now.offsets.items (policy_reply (shape text.now.tree))) }
-{
-    let tree = text.tree();
-    let mut work = Work::new(alloc, tree)?;
-    match check_sane(tree, &mut work) {
-        Ok(_) => Ok(Answer {
-            status: Status::Done,
-            report: policy_report(alloc, tree)?,
-        }),
-        Err(unfit) => unfit_answer(alloc, text, unfit),
     }
 }
 

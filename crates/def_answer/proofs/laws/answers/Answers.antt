@@ -1,6 +1,6 @@
 use Rattle.def_answer.proofs.laws.answers.Goals as goal
 use Rattle.def_answer.proofs.Unique.{one_form, form_or_none, one_answer, some_answer}
-use Rattle.def_answer.proofs.Early.{answers_have_status, no_reading_is_of_decode}
+use Rattle.def_answer.proofs.Early.{answers_have_status, no_reading_is_of_decode, not_accepted_is_of_audit}
 
 pub returns-clause-one_form : goal.returns-clause-one_form
 returns-clause-one_form c = one_form
@@ -19,3 +19,6 @@ returns-clause-status c = answers_have_status
 
 pub returns-clause-no_reading : goal.returns-clause-no_reading
 returns-clause-no_reading c = no_reading_is_of_decode
+
+pub returns-clause-not_accepted : goal.returns-clause-not_accepted
+returns-clause-not_accepted c = not_accepted_is_of_audit

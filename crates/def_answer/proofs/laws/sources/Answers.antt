@@ -1,5 +1,5 @@
 use Rattle.def_answer.proofs.laws.sources.Goals as goal
-use Rattle.def_answer.proofs.Early.{long_asset_file, long_run_file, long_plan_file}
+use Rattle.def_answer.proofs.Early.{long_asset_file, long_run_file, long_plan_file, long_audit_file}
 use Rattle.def_answer.proofs.Sources.{answer_without_source, status_without_source, status_with_source}
 
 pub returns-clause-without : goal.returns-clause-without
@@ -19,3 +19,6 @@ returns-clause-long_run_file c = long_run_file
 
 pub returns-clause-long_plan_file : goal.returns-clause-long_plan_file
 returns-clause-long_plan_file c = long_plan_file
+
+pub returns-clause-long_audit_file : goal.returns-clause-long_audit_file
+returns-clause-long_audit_file c = long_audit_file

@@ -1,5 +1,5 @@
 use Rattle.std.proofs.Common.{sym, ◌∙◌}
-use Rattle.msat_cli.proofs.SpellingLemmas.{no_fault}
+use Rattle.ms_words.proofs.SpellingLemmas.{no_fault}
 use Rattle.msat_cli.proofs.decoding.script_of.Goals as goal
 
 pub unreachable-requires : goal.unreachable-requires

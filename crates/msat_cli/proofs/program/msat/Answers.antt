@@ -4,6 +4,7 @@ use Rattle.msat_cli.proofs.EndLemmas.{ends, ends_as_usage, ends_as_answered, fau
 use Rattle.msat_cli.proofs.SatisfactionLemmas.{finds_where_one_exists, shows_canonical, shows_witness, shows_accepted, shows_non_malleable, finds_nothing_to_accept, shows_lightest}
 use Rattle.msat_cli.proofs.RefusalLemmas.{refuses_other_texts}
 use Rattle.msat_cli.proofs.PlanLemmas.{shows_plan}
+use Rattle.msat_cli.proofs.AuditLemmas.{shows_audit}
 use Rattle.msat_cli.proofs.PolicyLemmas.{shows_policy}
 use Rattle.msat_cli.proofs.DecodingLemmas.{shows_reading}
 use Rattle.msat_cli.proofs.program.msat.Given.{Over}
@@ -66,6 +67,9 @@ returns-clause-policy g c = shows_policy (this g c) c.answer_words-answer.ensure
 
 pub returns-clause-plan : goal.returns-clause-plan
 returns-clause-plan g c = shows_plan (this g c) c.answer_words-answer.ensures.utf8 (returns-clause-end g c)
+
+pub returns-clause-audit : goal.returns-clause-audit
+returns-clause-audit g c = shows_audit (this g c) c.answer_words-answer.ensures.utf8 (returns-clause-end g c)
 
 pub returns-clause-reading : goal.returns-clause-reading
 returns-clause-reading g c = shows_reading (this g c) c.answer_words-answer.ensures.utf8 (returns-clause-end g c)

@@ -1,0 +1,285 @@
+-- The walk as the code goes it, over a child, and then over what follows.
+use Rattle.std.proofs.Common.{◌≡◌, ◌≢◌, ℕ, suc, ◌+◌, ◌<◌, ◌≤◌, ◌==◌, ◌⊎◌, Bool, true, false, List, [], ◌∷◌, ◌++◌, length, get_or, drop, Option, Some, None, Result, Ok, Err, refl, sym, ◌∙◌, ap, subst, inl, inr, arith, add-one, drop-cons, if◌then◌else◌}
+use Rattle.std.specs.Prelude.{IfOk}
+use Rattle.std.proofs.lemmas.Bool.{false≢true}
+use Rattle.std.proofs.lemmas.Option.{none-some}
+use Rattle.std.proofs.lemmas.List.{append-nil, append_assoc}
+use Rattle.def_script.specs.Bytes.{Bytes}
+use Rattle.def_machine.specs.Stacks.{Stack}
+use Rattle.def_machine.specs.Machine.{Given}
+use Rattle.def_tree.specs.declared.Two.{Two}
+use Rattle.def_tree.specs.declared.Two.TheVariants as kind
+use Rattle.def_tree.specs.declared.Wrapper.{Wrapper}
+use Rattle.def_tree.specs.declared.Wrapper.TheVariants as wrapper
+use Rattle.def_tree.specs.Tree.{Tree, Trees, two, thresh, wrap, more}
+use Rattle.def_tree.specs.Size.{nodes, nodes_of}
+use Rattle.def_satisfaction.specs.Rows.{ONE}
+use Rattle.def_audit.specs.declared.Step.{Step}
+use Rattle.ms_tree.specs.declared.tree.Leaf.{Leaf}
+use Rattle.ms_tree.specs.declared.tree.Leaf.TheVariants as leaf
+use Rattle.ms_tree.specs.declared.tree.Tree as code_tree
+use Rattle.ms_tree.specs.Shape.{leaf_shape, shape, shapes}
+use Rattle.ms_audit_laws.specs.Walk.{Found, Counted, Walker, Verdict, Next, ends, goes, ended, next, go_on, walk_child, count_on, counted, count_verdict, forced, passed, walk, walk_all, after_and_v, after_and_b, after_or_b, after_or_c, after_or_d}
+use Rattle.ms_audit_laws.proofs.Walks.{some_is, own}
+use Rattle.ms_audit.specs.declared.course.Course.{Course}
+use Rattle.ms_audit.specs.declared.course.WalkStop.{WalkStop}
+use Rattle.ms_audit.specs.Walking.{verdict_of_two, ends_two, below, behind, Finds, Ends, Walks, Selects, added, Counts}
+
+-- what was found behind the steps from before
+behind_some : (o : Option Found) (steps : List Step) (g : Found) → behind steps o ≡ Some g → (f : Found) × (o ≡ Some f) × (f.sat ≡ g.sat) × (steps ++ f.steps ≡ g.steps) × (f.rest ≡ g.rest)
+behind_some None steps g e = absurd (none-some g e)
+behind_some (Some f) steps g e =
+    let h = some_is (record { sat = f.sat; steps = steps ++ f.steps; rest = f.rest }) g e in
+    (f, refl, ap (λ (x : Found). x.sat) h, ap (λ (x : Found). x.steps) h, ap (λ (x : Found). x.rest) h)
+
+pub behind_ended : (steps before : List Step) (node : ℕ) (v : Verdict) (rest : Stack) → behind steps (ended node v before rest) ≡ ended node v (steps ++ before) rest
+behind_ended steps before node None rest = refl
+behind_ended steps before node (Some v) rest =
+    ap (λ (s : List Step). Some (record { sat = v.0; steps = s; rest = rest })) (sym (append_assoc steps before (own node v.0 v.1 ∷ [])))
+
+-- a child, and nothing more
+pub child_end : (node : ℕ) (w : Walker) (follow : Bool → Next) (steps : List Step) (s : Stack) (sat : Bool) (after : List Step) (rest : Stack) (v : Verdict) →
+    behind steps (w s) ≡ Some (record { sat = sat; steps = after; rest = rest }) → follow sat ≡ ends v →
+    behind steps (walk_child node w follow s) ≡ ended node v after rest
+child_end node w follow steps s sat after rest v e is =
+    let h = behind_some (w s) steps _ e in
+    let f = h.0 in
+    ap (λ o. behind steps (next o (λ first. go_on node (follow first.sat) first))) h.1
+    ∙ ap (λ n. behind steps (go_on node n f)) (ap follow h.2 ∙ is)
+    ∙ behind_ended steps f.steps node v f.rest
+    ∙ ap (λ t. ended node v t f.rest) h.3
+    ∙ ap (ended node v after) h.4
+
+-- a child, and another one
+pub child_go : (node : ℕ) (w second : Walker) (follow : Bool → Next) (verdict : Bool → Verdict) (steps : List Step) (s : Stack)
+    (a : Bool) (middle : List Step) (between : Stack) (b : Bool) (after : List Step) (rest : Stack) →
+    behind steps (w s) ≡ Some (record { sat = a; steps = middle; rest = between }) → follow a ≡ goes second verdict →
+    behind middle (second between) ≡ Some (record { sat = b; steps = after; rest = rest }) →
+    behind steps (walk_child node w follow s) ≡ ended node (verdict b) after rest
+child_go node w second follow verdict steps s a middle between b after rest e is e2 =
+    let h = behind_some (w s) steps _ e in
+    let f = h.0 in
+    let k = behind_some (second between) middle _ e2 in
+    let g = k.0 in
+    ap (λ o. behind steps (next o (λ first. go_on node (follow first.sat) first))) h.1
+    ∙ ap (λ n. behind steps (go_on node n f)) (ap follow h.2 ∙ is)
+    ∙ ap (λ o. behind steps (next o (λ x. ended node (verdict x.sat) (f.steps ++ x.steps) x.rest))) (ap second h.4 ∙ k.1)
+    ∙ behind_ended steps (f.steps ++ g.steps) node (verdict g.sat) g.rest
+    ∙ ap (λ t. ended node (verdict g.sat) t g.rest) (sym (append_assoc steps f.steps g.steps) ∙ ap (λ t. t ++ g.steps) h.3 ∙ k.3)
+    ∙ ap (λ (v : Bool). ended node (verdict v) after g.rest) k.2
+    ∙ ap (ended node (verdict b) after) k.4
+
+-- the node's own step ends its walk
+next_on : (result : Result Bool WalkStop) (n m p : ℕ) → m + 1 ≡ p → IfOk result (λ sat. n ≡ m + 1) → IfOk result (λ sat. n ≡ p)
+next_on (Ok sat) n m p e h = h ∙ e
+next_on (Err e') n m p e h = tt
+
+pub finish : (given : Given) (stack : List Bytes) (tree : Tree) (s b c : Course) (result : Result Bool WalkStop) (v : Verdict) →
+    behind s.steps.items (walk given s.next tree (below stack s.left)) ≡ ended b.next v b.steps.items (below stack b.left) →
+    b.next + 1 ≡ s.next + nodes tree → b.left ≤ length stack → Ends v b c result → Walks given stack tree s c result
+finish given stack tree s b c result v e n l h = record {
+  found = subst (Finds result c.steps.items (below stack c.left)) (sym (e ∙ ap (λ (m : ℕ). ended b.next v b.steps.items (below stack m)) (sym h.left))) (h.found (below stack c.left));
+  next = next_on result c.next b.next (s.next + nodes tree) n h.next;
+  left = let same = h.left in omega (arith, same, l);
+}
+
+-- the same verdict
+pub ends_by : (v w : Verdict) (b c : Course) (result : Result Bool WalkStop) → v ≡ w → Ends v b c result → Ends w b c result
+ends_by v w b c result e h = subst (λ v. Ends v b c result) e h
+
+-- a fragment without children
+pub leaf_done : (given : Given) (stack : List Bytes) (tree : Tree) (s b c : Course) (result : Result Bool WalkStop) (v : Verdict) →
+    nodes tree ≡ 1 → b.steps.items ≡ s.steps.items → b.next ≡ s.next → b.left ≤ length stack →
+    walk given s.next tree (below stack s.left) ≡ ended s.next v [] (below stack b.left) → Ends v b c result → Walks given stack tree s c result
+leaf_done given stack tree s b c result v one steps same l e h =
+    finish given stack tree s b c result v
+    (ap (behind s.steps.items) e
+    ∙ behind_ended s.steps.items [] s.next v (below stack b.left)
+    ∙ ap (λ (t : List Step). ended s.next v t (below stack b.left)) (append-nil s.steps.items ∙ sym steps)
+    ∙ ap (λ (n : ℕ). ended n v b.steps.items (below stack b.left)) (sym same))
+    (omega (arith, one, same)) l h
+
+pub leaf_nodes : (l : Leaf) → nodes (leaf_shape l) ≡ 1
+leaf_nodes leaf.Zero = refl
+leaf_nodes leaf.One = refl
+leaf_nodes (leaf.PkK key) = refl
+leaf_nodes (leaf.PkH key) = refl
+leaf_nodes (leaf.Older n) = refl
+leaf_nodes (leaf.After n) = refl
+leaf_nodes (leaf.Hash value) = refl
+
+-- a wrapper, or another node with one child that takes part, from where the child begins
+pub child_done : (given : Given) (stack : List Bytes) (tree x : Tree) (s a b c : Course) (result : Result Bool WalkStop) (sat : Bool) (node : ℕ) (follow : Bool → Next) (v : Verdict) →
+    a.steps.items ≡ s.steps.items → walk given s.next tree (below stack s.left) ≡ walk_child node (walk given a.next x) follow (below stack a.left) →
+    Walks given stack x a b (Ok sat) → follow sat ≡ ends v → b.next ≡ node → node + 1 ≡ s.next + nodes tree → Ends v b c result → Walks given stack tree s c result
+child_done given stack tree x s a b c result sat node follow v steps is h f n m e =
+    finish given stack tree s b c result v
+    (ap (λ (t : List Step). behind t (walk given s.next tree (below stack s.left))) (sym steps)
+    ∙ ap (behind a.steps.items) is
+    ∙ child_end node (walk given a.next x) follow a.steps.items (below stack a.left) sat b.steps.items (below stack b.left) v h.found f
+    ∙ ap (λ (k : ℕ). ended k v b.steps.items (below stack b.left)) (sym n))
+    (omega (arith, n, m)) h.left e
+
+-- `d`, below a selector
+pub wrap_d_done : (given : Given) (stack : List Bytes) (x : Tree) (s a b c : Course) (result : Result Bool WalkStop) (sat : Bool) →
+    below stack s.left ≡ ONE ∷ below stack a.left → a.steps.items ≡ s.steps.items → a.next ≡ s.next →
+    Walks given stack x a b (Ok sat) → Ends (forced sat) b c result → Walks given stack (wrap wrapper.D x) s c result
+wrap_d_done given stack x s a b c result sat top steps same h e =
+    let at : b.next ≡ a.next + nodes x = h.next in
+    child_done given stack (wrap wrapper.D x) x s a b c result sat (s.next + nodes x) (λ sat. ends (forced sat)) (forced sat) steps
+    (ap (walk given s.next (wrap wrapper.D x)) top
+    ∙ ap (λ (n : ℕ). walk_child (s.next + nodes x) (walk given n x) (λ sat. ends (forced sat)) (below stack a.left)) (sym same))
+    h refl (omega (arith, at, same)) (omega arith) e
+
+-- the other wrappers, over what the child takes
+pub wrap_done : (given : Given) (stack : List Bytes) (w : Wrapper) (x : Tree) (s b c : Course) (result : Result Bool WalkStop) (sat : Bool) (follow : Bool → Next) (v : Verdict) →
+    walk given s.next (wrap w x) (below stack s.left) ≡ walk_child (s.next + nodes x) (walk given s.next x) follow (below stack s.left) → follow sat ≡ ends v →
+    Walks given stack x s b (Ok sat) → Ends v b c result → Walks given stack (wrap w x) s c result
+wrap_done given stack w x s b c result sat follow v is f h e =
+    let at : b.next ≡ s.next + nodes x = h.next in
+    child_done given stack (wrap w x) x s s b c result sat (s.next + nodes x) follow v refl is h f at (omega arith) e
+
+-- `a`, `s`, `c` and `n`
+pub passed_is : (given : Given) (n : ℕ) (w : Wrapper) (x : Tree) (s : Stack) → (w ≡ wrapper.A) ⊎ ((w ≡ wrapper.S) ⊎ ((w ≡ wrapper.C) ⊎ (w ≡ wrapper.N))) →
+    walk given n (wrap w x) s ≡ walk_child (n + nodes x) (walk given n x) passed s
+passed_is given n w x s (inl e) = rw e refl
+passed_is given n w x s (inr (inl e)) = rw e refl
+passed_is given n w x s (inr (inr (inl e))) = rw e refl
+passed_is given n w x s (inr (inr (inr e))) = rw e refl
+
+pub selected_one : (choice : Bool) (before after : Stack) → Selects (Ok choice) before after → choice ≡ true → before ≡ ONE ∷ after
+selected_one true before after h e = h
+selected_one false before after h e = absurd (false≢true e)
+
+-- what follows the first of two children
+two_next : Two → Walker → Bool → Next
+two_next kind.AndV w = after_and_v w
+two_next kind.AndB w = after_and_b w
+two_next kind.OrB w = after_or_b w
+two_next kind.OrC w = after_or_c w
+two_next kind.OrD w = after_or_d w
+two_next kind.OrI w = λ first. ends None
+
+two_goes : (k : Two) (w : Walker) (first : Bool) → k ≢ kind.OrI → ends_two k first ≡ false →
+    (two_next k w first ≡ goes w (verdict_of_two k first)) ⊎ ((two_next k w first ≡ ends None) × ((second : Bool) → verdict_of_two k first second ≡ None))
+unfolding two_next
+two_goes kind.AndV w true n e = inl refl
+two_goes kind.AndV w false n e = inr (refl, λ second. refl)
+two_goes kind.AndB w true n e = inl refl
+two_goes kind.AndB w false n e = inl refl
+two_goes kind.OrB w true n e = inl refl
+two_goes kind.OrB w false n e = inl refl
+two_goes kind.OrC w true n e = absurd cc
+two_goes kind.OrC w false n e = inl refl
+two_goes kind.OrD w true n e = absurd cc
+two_goes kind.OrD w false n e = inl refl
+two_goes kind.OrI w first n e = absurd (n refl)
+
+two_is : (given : Given) (n : ℕ) (k : Two) (x z : Tree) (s : Stack) → k ≢ kind.OrI → walk given n (two k x z) s ≡ walk_child (n + nodes x + nodes z) (walk given n x) (two_next k (walk given (n + nodes x) z)) s
+unfolding two_next
+two_is given n kind.AndV x z s other = refl
+two_is given n kind.AndB x z s other = refl
+two_is given n kind.OrB x z s other = refl
+two_is given n kind.OrC x z s other = refl
+two_is given n kind.OrD x z s other = refl
+two_is given n kind.OrI x z s other = absurd (other refl)
+
+-- both children of a fragment take part
+pub two_done : (given : Given) (stack : List Bytes) (k : Two) (x z : Tree) (s a b c : Course) (result : Result Bool WalkStop) (first second : Bool) →
+    k ≢ kind.OrI → Walks given stack x s a (Ok first) → ends_two k first ≡ false → Walks given stack z a b (Ok second) →
+    Ends (verdict_of_two k first second) b c result → Walks given stack (two k x z) s c result
+two_done given stack k x z s a b c result first second other h e h2 ends_so =
+    let at : a.next ≡ s.next + nodes x = h.next in
+    let end : b.next ≡ a.next + nodes z = h2.next in
+    let node : b.next ≡ s.next + nodes x + nodes z = omega (arith, at, end) in
+    finish given stack (two k x z) s b c result (verdict_of_two k first second)
+    (ap (behind s.steps.items) (two_is given s.next k x z (below stack s.left) other)
+    ∙ elim (two_goes k (walk given (s.next + nodes x) z) first other e) [
+      | inl goes_on ↦
+          child_go (s.next + nodes x + nodes z) (walk given s.next x) (walk given (s.next + nodes x) z) (two_next k (walk given (s.next + nodes x) z)) (verdict_of_two k first) s.steps.items (below stack s.left)
+          first a.steps.items (below stack a.left) second b.steps.items (below stack b.left) h.found goes_on
+          (ap (λ (m : ℕ). behind a.steps.items (walk given m z (below stack a.left))) (sym at) ∙ h2.found)
+      | inr stops ↦
+          child_end (s.next + nodes x + nodes z) (walk given s.next x) (two_next k (walk given (s.next + nodes x) z)) s.steps.items (below stack s.left) first a.steps.items (below stack a.left) None h.found stops.0
+          ∙ ap (λ v. ended (s.next + nodes x + nodes z) v b.steps.items (below stack b.left)) (sym (stops.1 second))
+    ]
+    ∙ ap (λ (m : ℕ). ended m (verdict_of_two k first second) b.steps.items (below stack b.left)) (sym node))
+    (omega (arith, node)) h2.left ends_so
+
+-- a threshold
+added_some : (o : Option Counted) (steps : List Step) (g : Counted) → added 0 steps o ≡ Some g → (f : Counted) × (o ≡ Some f) × (f.count ≡ g.count) × (steps ++ f.steps ≡ g.steps) × (f.rest ≡ g.rest)
+added_some None steps g e = absurd (none-some g e)
+added_some (Some f) steps g e =
+    let h = some_is (record { count = 0 + f.count; steps = steps ++ f.steps; rest = f.rest }) g e in
+    let same : 0 + f.count ≡ g.count = ap (λ (x : Counted). x.count) h in
+    (f, refl, omega (arith, same), ap (λ (x : Counted). x.steps) h, ap (λ (x : Counted). x.rest) h)
+
+pub thresh_done : (given : Given) (stack : List Bytes) (k : ℕ) (xs : Trees) (s b c : Course) (result : Result Bool WalkStop) (count : ℕ) →
+    Counts given stack xs s b (Ok count) → Ends (count_verdict (count == k) (count == 0)) b c result → Walks given stack (thresh k xs) s c result
+thresh_done given stack k xs s b c result count h e =
+    let at : b.next ≡ s.next + nodes_of xs = h.next in
+    let a = added_some (walk_all given s.next xs (below stack s.left)) s.steps.items _ h.found in
+    let f = a.0 in
+    finish given stack (thresh k xs) s b c result (count_verdict (count == k) (count == 0))
+    (ap (λ o. behind s.steps.items (next o (λ c. ended (s.next + nodes_of xs) (count_verdict (c.count == k) (c.count == 0)) c.steps c.rest))) a.1
+    ∙ behind_ended s.steps.items f.steps (s.next + nodes_of xs) (count_verdict (f.count == k) (f.count == 0)) f.rest
+    ∙ ap (λ (n : ℕ). ended (s.next + nodes_of xs) (count_verdict (n == k) (n == 0)) (s.steps.items ++ f.steps) f.rest) a.2
+    ∙ ap (λ (t : List Step). ended (s.next + nodes_of xs) (count_verdict (count == k) (count == 0)) t f.rest) a.3
+    ∙ ap (ended (s.next + nodes_of xs) (count_verdict (count == k) (count == 0)) b.steps.items) a.4
+    ∙ ap (λ (m : ℕ). ended m (count_verdict (count == k) (count == 0)) b.steps.items (below stack b.left)) (sym at))
+    (omega (arith, at)) h.left e
+
+abbrev some_counted : Counted → Option Counted
+some_counted c = Some c
+
+-- one child more is counted, or isn't
+counted_some : (n total : ℕ) (steps first after later : List Step) (rest : Stack) → n ≡ total → steps ++ first ≡ after →
+    some_counted (record { count = n; steps = steps ++ (first ++ later); rest = rest }) ≡ some_counted (record { count = total; steps = after ++ later; rest = rest })
+counted_some n total steps first after later rest e t =
+    ap (λ (k : ℕ). Some (record { count = k; steps = steps ++ (first ++ later); rest = rest })) e
+    ∙ ap (λ (l : List Step). Some (record { count = total; steps = l; rest = rest })) (sym (append_assoc steps first later) ∙ ap (λ l. l ++ later) t)
+
+counted_added : (count total : ℕ) (steps first after : List Step) (s sat : Bool) (r : Stack) (o : Option Counted) → s ≡ sat → steps ++ first ≡ after →
+    total ≡ (if sat then count + 1 else count) → added count steps (counted (record { sat = s; steps = first; rest = r }) o) ≡ added total after o
+counted_added count total steps first after s sat r None e t is = refl
+counted_added count total steps first after true sat r (Some c) e t is =
+    let k : total ≡ count + 1 = is ∙ ap (λ (b : Bool). if b then count + 1 else count) (sym e) in
+    counted_some (count + suc c.count) (total + c.count) steps first after c.steps c.rest (omega (arith, k)) t
+counted_added count total steps first after false sat r (Some c) e t is =
+    let k : total ≡ count = is ∙ ap (λ (b : Bool). if b then count + 1 else count) (sym e) in
+    counted_some (count + c.count) (total + c.count) steps first after c.steps c.rest (omega (arith, k)) t
+
+added_step : (count : ℕ) (steps : List Step) (o : Option Found) (others : Stack → Option Counted) (sat : Bool) (after : List Step) (rest : Stack) (total : ℕ) →
+    behind steps o ≡ Some (record { sat = sat; steps = after; rest = rest }) → total ≡ (if sat then count + 1 else count) → added count steps (count_on others o) ≡ added total after (others rest)
+added_step count steps o others sat after rest total e is =
+    let h = behind_some o steps _ e in
+    let f = h.0 in
+    ap (λ o. added count steps (count_on others o)) h.1
+    ∙ ap (λ (r : Stack). added count steps (counted f (others r))) h.4
+    ∙ counted_added count total steps f.steps after f.sat sat f.rest (others rest) h.2 h.3 is
+
+-- the child of a threshold that a loop is at, and those after it
+rest_cons : (xs : List code_tree.Tree) (i : ℕ) (x : code_tree.Tree) → i < length xs → x ≡ get_or xs i x → shapes (drop i xs) ≡ more (shape x) (shapes (drop (i + 1) xs))
+rest_cons xs i x there at =
+    let first : drop i xs ≡ get_or xs i x ∷ drop (i + 1) xs = rw add-one (drop-cons xs i x there) in
+    ap shapes first ∙ ap (λ (y : code_tree.Tree). more (shape y) (shapes (drop (i + 1) xs))) (sym at)
+
+pub count_step : (given : Given) (stack : List Bytes) (xs : List code_tree.Tree) (i : ℕ) (x : code_tree.Tree) (a b : Course) (sat : Bool) (count total : ℕ) →
+    i < length xs → x ≡ get_or xs i x → Walks given stack (shape x) a b (Ok sat) → total ≡ (if sat then count + 1 else count) →
+    added total b.steps.items (walk_all given b.next (shapes (drop (i + 1) xs)) (below stack b.left))
+    ≡ added count a.steps.items (walk_all given a.next (shapes (drop i xs)) (below stack a.left))
+count_step given stack xs i x a b sat count total there at h is =
+    let next : b.next ≡ a.next + nodes (shape x) = h.next in
+    sym (
+    ap (λ ts. added count a.steps.items (walk_all given a.next ts (below stack a.left))) (rest_cons xs i x there at)
+    ∙ added_step count a.steps.items (walk given a.next (shape x) (below stack a.left)) (walk_all given (a.next + nodes (shape x)) (shapes (drop (i + 1) xs))) sat b.steps.items (below stack b.left) total h.found is
+    ∙ ap (λ (n : ℕ). added total b.steps.items (walk_all given n (shapes (drop (i + 1) xs)) (below stack b.left))) (sym next)
+    )
+
+-- so many nodes are left
+pub nodes_left : (xs : List code_tree.Tree) (i : ℕ) (x : code_tree.Tree) → i < length xs → x ≡ get_or xs i x → nodes_of (shapes (drop i xs)) ≡ nodes (shape x) + nodes_of (shapes (drop (i + 1) xs))
+nodes_left xs i x there at = ap nodes_of (rest_cons xs i x there at)
+
+pub few_counted : (sat : Bool) (count index total : ℕ) → total ≡ (if sat then count + 1 else count) → count ≤ index → total ≤ index + 1
+few_counted true count index total is few = omega (arith, is, few)
+few_counted false count index total is few = omega (arith, is, few)

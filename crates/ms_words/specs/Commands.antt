@@ -1,0 +1,47 @@
+-- What the words ask for.
+use Rattle.std.specs.Prelude.{⊤, List, IsUtf8}
+use Rattle.def_script.specs.Bytes.{Bytes}
+use Rattle.def_answer.specs.Words.{Command, script, check, satisfy, satisfy_malleable, run, gen, policy, plan, audit, decode, IsForm}
+use Rattle.ms_words.specs.declared.words.Choice.{Choice}
+use Rattle.ms_words.specs.declared.words.Choice.TheVariants as choice
+use Rattle.ms_words.specs.declared.words.TextCommand.{TextCommand}
+use Rattle.ms_words.specs.declared.words.TextCommand.TheVariants as kind
+use Rattle.ms_words.specs.declared.words.Command.{Command as Asked}
+use Rattle.ms_words.specs.declared.words.Command.TheVariants as asked
+
+-- the satisfaction of a TEXT that is chosen so
+abbrev pub satisfy_by : Choice → (text : Bytes) → Command
+satisfy_by (choice.Strict rules) = satisfy rules
+satisfy_by (choice.Cheapest rules) = satisfy_malleable rules
+
+-- the command with its TEXT
+abbrev pub command_of : TextCommand → (text : Bytes) → Command
+command_of (kind.Script rules) = script rules
+command_of (kind.Check rules) = check rules
+command_of (kind.Satisfy choice) = satisfy_by choice
+command_of kind.Policy = policy
+command_of kind.Plan = plan
+command_of kind.Audit = audit
+
+abbrev pub seen : Asked → Command
+seen (asked.Text kind text) = command_of kind text.now
+seen asked.Run = run
+seen (asked.Gen n) = gen n
+seen (asked.Decode digits keys) = decode digits.now keys.now
+
+-- its TEXT, where it has one, is UTF-8
+abbrev pub HasUtf8 : Command → Type 0
+HasUtf8 (script rules text) = IsUtf8 text
+HasUtf8 (check rules text) = IsUtf8 text
+HasUtf8 (satisfy rules text) = IsUtf8 text
+HasUtf8 (satisfy_malleable rules text) = IsUtf8 text
+HasUtf8 run = ⊤
+HasUtf8 (gen n) = ⊤
+HasUtf8 (policy text) = IsUtf8 text
+HasUtf8 (plan text) = IsUtf8 text
+HasUtf8 (audit text) = IsUtf8 text
+HasUtf8 (decode digits keys) = ⊤
+
+-- so is that of words with a form
+abbrev pub HaveUtf8 : (words : List Bytes) → Type 0
+HaveUtf8 words = (command : Command) → IsForm words command → HasUtf8 command
