@@ -8,7 +8,8 @@
  *   it was printed, but where it is one of those at the limit of depth, whose printed form is too deep;
  * - `script TEXT` prints a Script that `decode` reads as a text with another Script;
  * - `satisfy` prints a witness whose Script isn't the one that it prints, or that `run` refuses with the signatures and the locks of the
- *   same file, or whose counts in that run aren't those that it prints.
+ *   same file, or whose counts in that run aren't those that it prints, or, without `--consensus`, whose `audit` has another row than
+ *   canonical ones.
  * libFuzzer itself stops where a call takes over a second, or crashes. The file that FUZZ_COUNTS names has in the end a line for each
  * command and status: how many inputs had it, and how many of these were tried by a second call.
  */
@@ -109,6 +110,7 @@ static int status_of(const struct bytes *it) {
     if (begins(it->at, "refused file ")) return 3;
     if (!strcmp(it->at, "no satisfaction\n")) return 4;
     if (begins(it->at, "refused script ")) return 8;
+    if (begins(it->at, "not accepted ")) return 9;
     if (!strcmp(it->at, "no reading\n")) return 10;
     return begins(it->at, "refused") ? -1 : 0;
 }
@@ -218,7 +220,17 @@ static void run_file(const char *input, size_t length) {
     add_text(&file, "]}");
 }
 
-static int of_satisfy(const char *input, size_t length) {
+/* The audit of the run file for a text that was satisfied. */
+static void audited(const char *of, unsigned long ops, unsigned long peak) {
+    char *words[] = {program, (char *)"audit", (char *)of, NULL};
+    if (call(words, 3, file.at, file.length, &second) != 0) fail("a witness has no audit");
+    unsigned long audit_ops, audit_peak;
+    if (sscanf(second.at, "accepted ops %lu peak %lu", &audit_ops, &audit_peak) != 2) fail("an audit has no counts");
+    if (ops != audit_ops || peak != audit_peak) fail("an audit has other counts than the replay");
+    if (!line(&second, "canonical", &counts) || strcmp(counts.at, "yes")) fail("a satisfaction isn't canonical");
+}
+
+static int of_satisfy(int count, char **words_of, const char *input, size_t length) {
     if (!line(&first, "script", &script) || !line(&first, "witness", &witness) || !line(&first, "replay", &counts))
         fail("satisfy prints no witness");
     run_file(input, length);
@@ -228,10 +240,12 @@ static int of_satisfy(const char *input, size_t length) {
     if (sscanf(counts.at, "ops %lu items %lu weight %lu peak %lu", &ops, &items, &weight, &peak) != 4) fail("a replay has no counts");
     if (sscanf(second.at, "accepted ops %lu peak %lu", &run_ops, &run_peak) != 2) fail("a run has no counts");
     if (ops != run_ops || peak != run_peak) fail("a replay has other counts than the run");
+    int by_consensus = count > 3 && (!strcmp(words_of[2], "--consensus") || (count > 4 && !strcmp(words_of[3], "--consensus")));
+    if (!by_consensus) audited(words_of[count - 1], ops, peak);
     return 1;
 }
 
-static const char *const commands[] = {"script", "check", "satisfy", "run", "gen", "policy", "plan", "decode", "others"};
+static const char *const commands[] = {"script", "check", "satisfy", "run", "gen", "policy", "plan", "decode", "audit", "others"};
 enum { COMMANDS = sizeof commands / sizeof *commands };
 static unsigned long answers[COMMANDS][STATUSES], tried[COMMANDS][STATUSES];
 
@@ -280,7 +294,7 @@ int LLVMFuzzerTestOneInput(const uint8_t *data, size_t size) {
     int more = 0;
     if (which == 0) more = of_script(option);
     if (which == 1) more = of_check(option);
-    if (which == 2) more = of_satisfy(input, length);
+    if (which == 2) more = of_satisfy(count, words, input, length);
     if (which == 7) more = of_decode(words[2]);
     tried[which][0] += (unsigned long)more;
     return 0;
