@@ -13,7 +13,5 @@ mod checking;
 mod course;
 mod row;
 mod spend;
-#[cfg(test)]
-mod tests;
 mod trail;
 mod walking;

@@ -20,6 +20,4 @@ mod read;
 mod settle;
 mod signers;
 mod step;
-#[cfg(test)]
-mod tests;
 mod want;

@@ -8,6 +8,4 @@ pub use translation::{emit, script_bytes};
 mod arms;
 mod extent;
 mod length;
-#[cfg(test)]
-mod tests;
 mod translation;

@@ -8,8 +8,6 @@ mod kept;
 mod stacks;
 mod sums;
 mod tally;
-#[cfg(test)]
-mod tests;
 mod threshold;
 
 pub use stacks::height;

@@ -12,10 +12,6 @@ mod multi_sig;
 mod operands;
 mod pile;
 mod report;
-#[cfg(test)]
-mod rows;
 mod runs;
 mod stop;
-#[cfg(test)]
-mod tests;
 mod timelocks;

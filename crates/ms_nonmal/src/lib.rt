@@ -2,7 +2,5 @@
 #![tactic(auto)]
 
 mod satisfy;
-#[cfg(test)]
-mod tests;
 
 pub use satisfy::strict;

@@ -14,5 +14,3 @@ mod lengths;
 mod marks;
 mod plan_file;
 mod planned;
-#[cfg(test)]
-mod tests;

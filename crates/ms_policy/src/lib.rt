@@ -6,8 +6,6 @@ mod keys;
 mod of_tree;
 mod policy;
 mod print;
-#[cfg(test)]
-mod tests;
 mod truth;
 
 pub use keys::least_keys;

@@ -16,6 +16,4 @@ mod laws;
 mod program;
 mod reading;
 mod replaying;
-#[cfg(test)]
-mod tests;
 mod witness;

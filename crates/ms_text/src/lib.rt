@@ -13,8 +13,6 @@ mod letters;
 mod names;
 mod print;
 mod reader;
-#[cfg(test)]
-mod tests;
 mod text;
 mod tokens;
 mod words;

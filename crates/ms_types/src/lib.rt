@@ -12,5 +12,3 @@ mod malleability;
 mod properties;
 mod requirements;
 mod system;
-#[cfg(test)]
-mod tests;

@@ -1,48 +1,12 @@
-ghost use Rattle.std.specs.Prelude.{IfOk};
-ghost use Rattle.def_tree.specs.Range.{IsInRange};
-ghost use Rattle.ms_tree.specs.Shape.{shape};
+//! Tests of heights: how many elements stand on both stacks at most.
 
-use crate::height;
+use crate::samples::tree_of;
 use bumpalo::Bump;
+use ms_height::height;
 use ms_sane::Work;
-use ms_text::{TextTree, read_text};
 use ms_types::corr;
 use std::alloc::{AllocError, Global};
 use std::test::Fail;
-
-/// The public key of the private key 1.
-const KEY_B: &str = "0279be667ef9dcbbac55a06295ce870b07029bfcdb2dce28d959f2815b16f81798";
-
-/// The tree of a text in which `A`, `B` and `C` stand for keys, and `H` for a hash value of 32 bytes.
-fn tree_of<'a>(alloc: Global, arena: &'a Bump<Global>, form: &str) -> Result<TextTree<'a>, Fail>
-    ensures { IfOk result (λ text. IsInRange (shape text.tree)) }
-{
-    let text = filled(alloc, form)?;
-    Ok(read_text(alloc, arena, &text).ok().ok_or("a tree")?)
-}
-
-fn filled(alloc: Global, form: &str) -> Result<String, AllocError> {
-    let mut text = String::new(alloc);
-    for letter in form.chars() {
-        match letter {
-            'A' => push_digits(&mut text, "02", "01")?,
-            'B' => text.push_str(KEY_B)?,
-            'C' => push_digits(&mut text, "03", "03")?,
-            'H' => push_digits(&mut text, "", "11")?,
-            other => text.push(other)?,
-        }
-    }
-    Ok(text)
-}
-
-/// Adds the digits of a first byte, and of 32 others.
-fn push_digits(text: &mut String, first: &str, other: &str) -> Result<(), AllocError> {
-    text.push_str(first)?;
-    for _ in 0..32 {
-        text.push_str(other)?;
-    }
-    Ok(())
-}
 
 /// The height of the tree of such a text.
 fn height_of(alloc: Global, form: &str) -> Result<u64, Fail> {

@@ -1,29 +1,20 @@
-ghost use Rattle.std.specs.Prelude.{◌≤◌};
-
-use crate::generator::{answer_gen, generated};
-use crate::tests::repeated;
-use bumpalo::Bump;
-use def_answer::Status;
+use crate::text_tests::{repeated, written};
 use ms_hash::{HashVal, sha256};
 use ms_oracle::Locks;
+use msat_cli::{Status, generated};
 use std::alloc::Global;
-use std::process::Abort;
 use std::test::Fail;
 
 // SHA-256 of 32 bytes 03, by Python's hashlib over OpenSSL.
 const VALUE_3: &str = "648aa5c579fb30f38af744d97d6ec840c7a91277a499a0d780f3e7314eca090b";
 
-/// The report of `gen`.
-fn report(alloc: Global, n: u32) -> Result<String, Fail>
-    requires least { 1 ≤ n }
-    requires most { n ≤ 30 }
-{
-    let arena = Bump::new(alloc);
-    let answer = answer_gen(alloc, &arena, n)?;
-    if answer.status != Status::Done {
+/// The report of `gen` with this number.
+fn report(alloc: Global, n: &str) -> Result<String, Fail> {
+    let (status, report) = written(alloc, &["gen", n], 1_048_576, 1_048_576, &[])?;
+    if status != Status::Done {
         return Err("the status")?;
     }
-    Ok(answer.report)
+    Ok(report)
 }
 
 #[test]
@@ -32,7 +23,7 @@ fn thirty_children(rt: HostRuntime) -> Result<(), Fail> {
         limits size 1200 ops 161 items 30 weight 1125\n\
         strict items 30 weight 738 peak 31\n\
         cheapest items 30 weight 738\n";
-    assert_eq!(rt; report(rt.alloc(), 30)?.as_str(), wanted);
+    assert_eq!(rt; report(rt.alloc(), "30")?.as_str(), wanted);
     Ok(())
 }
 
@@ -42,12 +33,12 @@ fn few_children(rt: HostRuntime) -> Result<(), Fail> {
         limits size 158 ops 19 items 4 weight 150\n\
         strict items 4 weight 106 peak 5\n\
         cheapest items 4 weight 106\n";
-    assert_eq!(rt; report(rt.alloc(), 4)?.as_str(), four);
+    assert_eq!(rt; report(rt.alloc(), "4")?.as_str(), four);
     let one = "children 1 threshold 1\n\
         limits size 37 ops 2 items 1 weight 74\n\
         strict items 1 weight 71 peak 2\n\
         cheapest items 1 weight 71\n";
-    assert_eq!(rt; report(rt.alloc(), 1)?.as_str(), one);
+    assert_eq!(rt; report(rt.alloc(), "1")?.as_str(), one);
     Ok(())
 }
 

@@ -1,62 +1,16 @@
 //! Tests of reading Scripts back.
-ghost use Rattle.std.specs.Prelude.{IfOk};
 ghost use Rattle.def_tree.specs.Range.{IsInRange};
 ghost use Rattle.ms_tree.specs.Shape.{shape};
 
-use crate::*;
+use crate::samples::{filled, key, tree_of};
 use bumpalo::Bump;
+use ms_decode::decode;
 use ms_emit::emit;
 use ms_script::{Blob, encode};
-use ms_text::{TextTree, print_text, read_text};
+use ms_text::print_text;
 use ms_tree::{Key, Tree};
 use std::alloc::{AllocError, Global};
 use std::test::Fail;
-
-/// The generator of the curve, as a compressed key.
-const GENERATOR: &str = "0279be667ef9dcbbac55a06295ce870b07029bfcdb2dce28d959f2815b16f81798";
-
-/// Its published HASH160.
-const GENERATOR_HASH: &str = "751e76e8199196d454941c45d1b3a323f1433bd6";
-
-/// A text in which capital letters stand for digits: `A`, `B` and `C` for keys, `X` and `Y` for hash values of 32 and 20
-/// bytes, and `Z` for the HASH160 of `B`.
-fn filled(alloc: Global, pattern: &str) -> Result<String, AllocError> {
-    let mut text = String::new(alloc);
-    for letter in pattern.chars() {
-        match letter {
-            'A' => push_digits(&mut text, "02", "01", 32)?,
-            'B' => text.push_str(GENERATOR)?,
-            'C' => push_digits(&mut text, "03", "03", 32)?,
-            'X' => push_digits(&mut text, "", "5c", 32)?,
-            'Y' => push_digits(&mut text, "", "5c", 20)?,
-            'Z' => text.push_str(GENERATOR_HASH)?,
-            other => text.push(other)?,
-        }
-    }
-    Ok(text)
-}
-
-fn push_digits(text: &mut String, first: &str, rest: &str, count: usize) -> Result<(), AllocError> {
-    text.push_str(first)?;
-    for _ in 0..count {
-        text.push_str(rest)?;
-    }
-    Ok(())
-}
-
-/// The key that stands for a letter.
-fn key(alloc: Global, letter: &str) -> Result<Key, Fail> {
-    let digits = filled(alloc, letter)?;
-    let bytes = hex::decode(alloc, digits.as_str()).ok().ok_or("digits")?;
-    Ok(Key::from_bytes(&bytes).ok_or("a key")?)
-}
-
-fn tree<'a>(alloc: Global, arena: &'a Bump<Global>, pattern: &str) -> Result<TextTree<'a>, Fail>
-    ensures { IfOk result (λ text. IsInRange (shape text.tree)) }
-{
-    let text = filled(alloc, pattern)?;
-    Ok(read_text(alloc, arena, &text).ok().ok_or("a tree")?)
-}
 
 fn script_of(alloc: Global, tree: &Tree<'_>) -> Result<Blob, AllocError>
     requires { IsInRange (shape tree.now) }
@@ -84,7 +38,7 @@ fn told_of_digits(alloc: Global, pattern: &str, keys: &[Key]) -> Result<String, 
 /// What is read of the Script of a tree.
 fn told_of_tree(alloc: Global, pattern: &str, keys: &[Key]) -> Result<String, Fail> {
     let arena = Bump::new(alloc);
-    let text = tree(alloc, &arena, pattern)?;
+    let text = tree_of(alloc, &arena, pattern)?;
     let script = script_of(alloc, text.tree())?;
     Ok(told(alloc, script.as_slice(), keys)?)
 }
@@ -99,16 +53,16 @@ fn published_bytes_are_read(rt: HostRuntime) -> Result<(), Fail> {
             "and_v(vc:pk_k(A),and_v(vc:pk_k(B),c:pk_k(C)))",
         ),
         (
-            "21Aac736476a914Z88ad029000b268",
+            "21Aac736476a914W88ad029000b268",
             "or_d(c:pk_k(A),and_v(vc:pk_h(B),older(144)))",
         ),
         ("51", "1"),
         ("00", "0"),
-        ("76a914Z88ac", "c:pk_h(B)"),
+        ("76a914W88ac", "c:pk_h(B)"),
         ("82012088a820X87", "sha256(X)"),
         ("21Aac5187", "thresh(1,c:pk_k(A))"),
     ];
-    let keys = [key(alloc, "C")?, key(alloc, "B")?];
+    let keys = [key('C')?, key('B')?];
     for (digits, want) in cases {
         let read = told_of_digits(alloc, digits, &keys)?;
         assert_eq!(rt; read.as_str(), filled(alloc, want)?.as_str());
@@ -125,7 +79,7 @@ fn other_bytes_have_no_reading(rt: HostRuntime) -> Result<(), Fail> {
         "",
         "ac",
         "21Aac6951",
-        "76a914Z88ac",
+        "76a914W88ac",
         "0101",
         "21",
         "61",
@@ -135,7 +89,7 @@ fn other_bytes_have_no_reading(rt: HostRuntime) -> Result<(), Fail> {
         "69",
     ];
     for digits in cases {
-        let read = told_of_digits(alloc, digits, &[key(alloc, "A")?])?;
+        let read = told_of_digits(alloc, digits, &[key('A')?])?;
         assert_eq!(rt; read.as_str(), "no reading");
     }
     Ok(())
@@ -151,8 +105,8 @@ fn fragments_are_read_back(rt: HostRuntime) -> Result<(), Fail> {
         "older(16)",
         "sha256(X)",
         "hash256(X)",
-        "ripemd160(Y)",
-        "hash160(Y)",
+        "ripemd160(W)",
+        "hash160(W)",
         "andor(c:pk_k(A),older(144),c:pk_k(B))",
         "and_v(vc:pk_k(A),c:pk_k(B))",
         "and_b(c:pk_k(A),sc:pk_k(B))",
@@ -172,11 +126,11 @@ fn fragments_are_read_back(rt: HostRuntime) -> Result<(), Fail> {
         "n:older(144)",
         "and_v(v:multi(1,A,B),1)",
         "and_v(v:sha256(X),1)",
-        "and_v(v:hash160(Y),1)",
+        "and_v(v:hash160(W),1)",
         "and_v(v:thresh(1,c:pk_k(A),ac:pk_k(B)),1)",
         "or_i(0,or_i(0,c:pk_h(C)))",
     ];
-    let keys = [key(alloc, "A")?, key(alloc, "B")?, key(alloc, "C")?];
+    let keys = [key('A')?, key('B')?, key('C')?];
     for pattern in cases {
         let read = told_of_tree(alloc, pattern, &keys)?;
         assert_eq!(rt; read.as_str(), filled(alloc, pattern)?.as_str());

@@ -1,6 +1,6 @@
 //! Runs on the real call, with ample memory.
-use crate::rows::{A, B, C, EXPRESSIONS, LOCKS, Outcome, RUNS, Row, SA, SB, SC};
-use crate::*;
+use crate::interp_rows::{A, B, C, EXPRESSIONS, LOCKS, Outcome, RUNS, Row, SA, SB, SC};
+use ms_interp::{RunStop, ScriptFault, run};
 use ms_oracle::{Pairs, SigCheck, SigPair, member};
 use ms_script::Stack;
 use std::alloc::{AllocError, Global};

@@ -1,26 +1,25 @@
 //! Tests of audits: the steps of worked witnesses, and what is no trail of a witness.
 
-use crate::*;
+use crate::samples::{self, A, B, C, tree_of};
 use bumpalo::Bump;
+use ms_audit::{Audit, AuditStop, Step, audit, check_trail};
 use ms_interp::ScriptFault;
 use ms_oracle::{Locks, Pairs, SigCheck, member};
 use ms_sane::{Work, check_valid};
 use ms_script::Stack;
-use ms_text::read_text;
 use std::alloc::{AllocError, Global};
 use std::test::Fail;
 
 const LOCKS: Locks = Locks {
-    version: 2,
     sequence: 16,
-    locktime: 0,
+    ..samples::LOCKS
 };
 
-const SIG_A: &[u8] = &[0xaa; 71];
+const SIG_A: &[u8] = &samples::SIG_A;
 
-const SIG_B: &[u8] = &[0xbb; 72];
+const SIG_B: &[u8] = &samples::SIG_B;
 
-const SIG_C: &[u8] = &[0xcc; 70];
+const SIG_C: &[u8] = &samples::SIG_C;
 
 // A step by a canonical row.
 fn sat(node: u32) -> Step {
@@ -56,48 +55,9 @@ fn extra_dsat(node: u32) -> Step {
     }
 }
 
-// A text in which A, B and C stand for keys, and H for the SHA-256 of 32 bytes 11.
-fn spelled(alloc: Global, form: &str) -> Result<String, AllocError> {
-    let mut text = String::new(alloc);
-    for letter in form.chars() {
-        match letter {
-            'A' => text.push_str(
-                "020101010101010101010101010101010101010101010101010101010101010101",
-            )?,
-            'B' => text.push_str(
-                "0279be667ef9dcbbac55a06295ce870b07029bfcdb2dce28d959f2815b16f81798",
-            )?,
-            'C' => text.push_str(
-                "030303030303030303030303030303030303030303030303030303030303030303",
-            )?,
-            'H' => {
-                text.push_str("02d449a31fbb267c8f352e9968a79e3e5fc95c1bbeaa502fd6454ebde5a4bedc")?
-            }
-            letter => text.push(letter)?,
-        }
-    }
-    Ok(text)
-}
-
 // The signatures of those of the keys A, B and C that sign.
 fn signed_by(alloc: Global, signers: &str) -> Result<Pairs, AllocError> {
-    let keys: [(char, &[u8], &[u8]); 3] = [
-        (
-            'A',
-            b"\x02\x01\x01\x01\x01\x01\x01\x01\x01\x01\x01\x01\x01\x01\x01\x01\x01\x01\x01\x01\x01\x01\x01\x01\x01\x01\x01\x01\x01\x01\x01\x01\x01",
-            SIG_A,
-        ),
-        (
-            'B',
-            b"\x02\x79\xbe\x66\x7e\xf9\xdc\xbb\xac\x55\xa0\x62\x95\xce\x87\x0b\x07\x02\x9b\xfc\xdb\x2d\xce\x28\xd9\x59\xf2\x81\x5b\x16\xf8\x17\x98",
-            SIG_B,
-        ),
-        (
-            'C',
-            b"\x03\x03\x03\x03\x03\x03\x03\x03\x03\x03\x03\x03\x03\x03\x03\x03\x03\x03\x03\x03\x03\x03\x03\x03\x03\x03\x03\x03\x03\x03\x03\x03\x03",
-            SIG_C,
-        ),
-    ];
+    let keys: [(char, &[u8], &[u8]); 3] = [('A', &A, SIG_A), ('B', &B, SIG_B), ('C', &C, SIG_C)];
     let mut pairs = Pairs::new(alloc);
     for (letter, key, sig) in keys {
         if signers.chars().any(|signer| signer == letter) {
@@ -124,7 +84,7 @@ fn audited(
     items: &[&[u8]],
 ) -> Result<Result<Audit, AuditStop>, Fail> {
     let arena = Bump::new(alloc);
-    let text = read_text(alloc, &arena, &spelled(alloc, form)?)?;
+    let text = tree_of(alloc, &arena, form)?;
     let tree = text.tree();
     let mut work = Work::new(alloc, tree)?;
     check_valid(tree, &mut work)?;
@@ -147,7 +107,7 @@ fn checked(
     items: &[&[u8]],
 ) -> Result<bool, Fail> {
     let arena = Bump::new(alloc);
-    let text = read_text(alloc, &arena, &spelled(alloc, form)?)?;
+    let text = tree_of(alloc, &arena, form)?;
     let tree = text.tree();
     let mut work = Work::new(alloc, tree)?;
     check_valid(tree, &mut work)?;
@@ -291,12 +251,12 @@ fn each_row_that_is_not_canonical(rt: HostRuntime) -> Result<(), Fail> {
             ],
         ),
         (
-            "or_b(sha256(H),s:pk(A))",
+            "or_b(sha256(X),s:pk(A))",
             &[SIG_A, &[0x22; 32]],
             &[extra_dsat(0), sat(1), sat(2), sat(3), sat(4)],
         ),
         (
-            "or_b(sha256(H),s:pk(A))",
+            "or_b(sha256(X),s:pk(A))",
             &[SIG_A, &[0x11; 32]],
             &[sat(0), sat(1), sat(2), sat(3), extra_sat(4)],
         ),
@@ -313,7 +273,7 @@ fn each_row_that_is_not_canonical(rt: HostRuntime) -> Result<(), Fail> {
 fn canonical_rows(rt: HostRuntime) -> Result<(), Fail> {
     let cases: [(&str, &[&[u8]], &[Step]); 13] = [
         (
-            "or_b(sha256(H),s:pk(A))",
+            "or_b(sha256(X),s:pk(A))",
             &[SIG_A, &[0; 32]],
             &[dsat(0), sat(1), sat(2), sat(3), sat(4)],
         ),

@@ -1,11 +1,12 @@
 //! Faults at each read and each write, and input that is made to hurt.
+use crate::run_tests;
 use crate::satisfy_tests::{
     Form, KEY_OR_LOCK, LOCK_HOLDS, asset_file, filled, is_refused, is_unsatisfied, report_of,
     satisfied, satisfied_of,
 };
-use crate::tests::{KEY_B, chain, checked_key, either, last_key, repeated, wrapped, written};
-use crate::{run_tests, *};
+use crate::text_tests::{KEY_B, chain, checked_key, either, last_key, repeated, wrapped, written};
 use ms_io::{MemSource, read_all};
+use msat_cli::Status;
 use std::alloc::{AllocError, Global};
 use std::process::Abort;
 use std::test::Fail;

@@ -1,6 +1,6 @@
-use crate::tests::{key, repeated};
-use crate::*;
+use crate::text_tests::{key, repeated};
 use ms_io::{MemSink, MemSource};
+use msat_cli::{Status, Word, msat};
 use std::alloc::{AllocError, Global};
 use std::process::Abort;
 use std::test::Fail;

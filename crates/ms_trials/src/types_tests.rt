@@ -2,9 +2,9 @@ ghost use Rattle.std.specs.Prelude.{IfOk};
 ghost use Rattle.def_tree.specs.Range.{IsKey, IsInRange};
 ghost use Rattle.ms_tree.specs.Shape.{shape};
 
-use crate::*;
 use bumpalo::Bump;
 use ms_tree::{HashVal, Key, Leaf, Tree, Two, Wrapper, leaf, multi, thresh, two, wrap};
+use ms_types::{Base, Mall, Rule, RuleAt, Ty, corr, mall};
 use std::alloc::Global;
 use std::test::Fail;
 

@@ -1,5 +1,5 @@
-use crate::*;
 use ms_io::{MemSink, NullSink, SureSource};
+use msat_cli::{Status, Word, msat, msat_without_faults};
 use std::alloc::{AllocError, Global};
 use std::process::Abort;
 use std::test::Fail;

@@ -1,7 +1,7 @@
 //! Audits of witnesses, from the words to the report.
 use crate::satisfy_tests::{filled, satisfied};
-use crate::tests::repeated;
-use crate::*;
+use crate::text_tests::repeated;
+use msat_cli::Status;
 use std::alloc::Global;
 use std::process::Abort;
 use std::test::Fail;

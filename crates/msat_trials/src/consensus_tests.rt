@@ -1,6 +1,6 @@
 use crate::satisfy_tests::{asset_file, filled, satisfied};
-use crate::tests::{chain, last_key, push_key, repeated, written};
-use crate::*;
+use crate::text_tests::{chain, last_key, push_key, repeated, written};
+use msat_cli::Status;
 use std::alloc::Global;
 use std::process::Abort;
 use std::test::Fail;

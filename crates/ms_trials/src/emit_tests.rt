@@ -2,8 +2,8 @@ ghost use Rattle.std.specs.Prelude.{IfOk};
 ghost use Rattle.def_tree.specs.Range.{IsInRange, IsKey};
 ghost use Rattle.ms_tree.specs.Shape.{leaf_shape, shape};
 
-use crate::*;
 use bumpalo::Bump;
+use ms_emit::{opcode_count, script_bytes, script_len};
 use ms_script::Blob;
 use ms_tree::{HashVal, Key, Leaf, Tree, Two, Wrapper, and_or, leaf, multi, thresh, two, wrap};
 use std::alloc::{AllocError, Global};

@@ -1,5 +1,5 @@
 use crate::satisfy_tests::{filled, satisfied};
-use crate::*;
+use msat_cli::Status;
 use std::alloc::Global;
 use std::process::Abort;
 use std::test::Fail;

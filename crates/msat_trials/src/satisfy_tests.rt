@@ -1,6 +1,6 @@
-use crate::tests::{KEY_B, key, repeated};
-use crate::*;
+use crate::text_tests::{KEY_B, key, repeated};
 use ms_io::{MemSink, MemSource, Source};
+use msat_cli::{Status, Word, msat};
 use std::alloc::{AllocError, Global};
 use std::process::Abort;
 use std::test::Fail;

@@ -1,6 +1,6 @@
 //! Tests of reading and printing.
-use crate::*;
 use bumpalo::Bump;
+use ms_text::{TextFault, copy_out, print_text, read_text};
 use std::alloc::{AllocError, Global};
 use std::test::Fail;
 

@@ -1,43 +1,22 @@
 //! Tests: programs, witnesses and replays of worked spendings.
 
-use crate::*;
+use crate::samples::{A, B, C, LOCKS, SIG_A, SIG_B, SIG_C, tree_of};
 use bumpalo::Bump;
 use ms_assets::Assets;
 use ms_hash::sha256;
 use ms_interp::{RunReport, ScriptFault};
-use ms_oracle::{Locks, Pairs, SigCheck, member};
+use ms_oracle::{Pairs, SigCheck, member};
+use ms_replay::{
+    Carried, ReplayStop, WitnessFault, carry, program_of, read_witness, replay, witness_bytes,
+};
 use ms_sane::{Work, check_valid};
 use ms_sat::cheapest;
 use ms_script::Stack;
-use ms_text::read_text;
 use ms_tree::Key;
 use std::alloc::{AllocError, Global};
 use std::cell::Cell;
 use std::process::Abort;
 use std::test::Fail;
-
-const LOCKS: Locks = Locks {
-    version: 2,
-    sequence: 0xffff_fffe,
-    locktime: 0,
-};
-
-// The key of the private key 1.
-const KEY_B: [u8; 33] =
-    *b"\x02\x79\xbe\x66\x7e\xf9\xdc\xbb\xac\x55\xa0\x62\x95\xce\x87\x0b\x07\x02\x9b\xfc\xdb\x2d\xce\x28\xd9\x59\xf2\x81\x5b\x16\xf8\x17\x98";
-
-const SIG_A: [u8; 71] = [0xaa; 71];
-
-const SIG_B: [u8; 72] = [0xbb; 72];
-
-const SIG_C: [u8; 70] = [0xcc; 70];
-
-// A key whose bytes after the first are all these.
-fn key(first: u8, last: u8) -> [u8; 33] {
-    let mut key = [last; 33];
-    key[0] = first;
-    key
-}
 
 // The bytes of the parts, one after the other.
 fn joined(alloc: Global, parts: &[&[u8]]) -> Result<Vec<u8>, AllocError> {
@@ -52,15 +31,7 @@ fn joined(alloc: Global, parts: &[&[u8]]) -> Result<Vec<u8>, AllocError> {
 fn two_of_three_script(alloc: Global) -> Result<Vec<u8>, AllocError> {
     joined(
         alloc,
-        &[
-            b"\x52\x21",
-            &key(0x02, 0x01),
-            b"\x21",
-            &KEY_B,
-            b"\x21",
-            &key(0x03, 0x03),
-            b"\x53\xae",
-        ],
+        &[b"\x52\x21", &A, b"\x21", &B, b"\x21", &C, b"\x53\xae"],
     )
 }
 
@@ -80,9 +51,9 @@ fn hashes_or_keys_script(alloc: Global) -> Result<Vec<u8>, AllocError> {
             lock,
             &sha256(&[0x33; 32]),
             b"\x88\x51\x68\x7c\x21",
-            &key(0x02, 0x01),
+            &A,
             b"\xac\x93\x7c\x21",
-            &KEY_B,
+            &B,
             b"\xac\x93\x52\x87",
         ],
     )
@@ -207,7 +178,6 @@ fn replays_are_refused(rt: HostRuntime) {
 #[test]
 fn two_of_three_keys_sign(rt: HostRuntime) -> Result<(), Fail> {
     let alloc = rt.alloc();
-    let (key_a, key_c) = (key(0x02, 0x01), key(0x03, 0x03));
     let script = two_of_three_script(alloc)?;
     assert!(rt; script.len() <= 10_000);
     let mut stack = Stack::new(alloc);
@@ -222,9 +192,9 @@ fn two_of_three_keys_sign(rt: HostRuntime) -> Result<(), Fail> {
     assert_eq!(rt; witness.as_slice(), want.as_slice());
 
     let mut pairs = Pairs::new(alloc);
-    pairs.push(&key_c, &SIG_C)?;
-    pairs.push(&KEY_B, &SIG_B)?;
-    pairs.push(&key_a, &SIG_A)?;
+    pairs.push(&C, &SIG_C)?;
+    pairs.push(&B, &SIG_B)?;
+    pairs.push(&A, &SIG_A)?;
     let table = pairs.as_slice();
     let sigs = SigCheck::new(table, |key: &[u8], sig: &[u8]| member(table, key, sig));
     let program = program_of(&script);
@@ -236,7 +206,6 @@ fn two_of_three_keys_sign(rt: HostRuntime) -> Result<(), Fail> {
 #[test]
 fn three_preimages_and_a_signature(rt: HostRuntime) -> Result<(), Fail> {
     let alloc = rt.alloc();
-    let key_a = key(0x02, 0x01);
     let [first, second, third] = [[0x11; 32], [0x22; 32], [0x33; 32]];
     let script = hashes_or_keys_script(alloc)?;
     assert!(rt; script.len() <= 10_000);
@@ -265,8 +234,8 @@ fn three_preimages_and_a_signature(rt: HostRuntime) -> Result<(), Fail> {
     assert_eq!(rt; witness.as_slice(), want.as_slice());
 
     let mut pairs = Pairs::new(alloc);
-    pairs.push(&key_a, &SIG_A)?;
-    pairs.push(&KEY_B, &SIG_B)?;
+    pairs.push(&A, &SIG_A)?;
+    pairs.push(&B, &SIG_B)?;
     let table = pairs.as_slice();
     let sigs = SigCheck::new(table, |key: &[u8], sig: &[u8]| member(table, key, sig));
     let program = program_of(&script);
@@ -275,13 +244,8 @@ fn three_preimages_and_a_signature(rt: HostRuntime) -> Result<(), Fail> {
     Ok(())
 }
 
-// `multi(2,A,B,C)`.
-const TWO_OF_THREE: &str =
-    "multi(2,020101010101010101010101010101010101010101010101010101010101010101,0279be667ef9dcbbac55a06295ce870b07029bfcdb2dce28d959f2815b16f81798,030303030303030303030303030303030303030303030303030303030303030303)";
-
-// `thresh(2,j:and_v(v:sha256(h1),and_v(v:sha256(h2),and_v(v:sha256(h3),1))),s:pk(A),s:pk(B))`.
 const HASHES_OR_KEYS: &str =
-    "thresh(2,j:and_v(v:sha256(02d449a31fbb267c8f352e9968a79e3e5fc95c1bbeaa502fd6454ebde5a4bedc),and_v(v:sha256(9f72ea0cf49536e3c66c787f705186df9a4378083753ae9536d65b3ad7fcddc4),and_v(v:sha256(deb0e38ced1e41de6f92e70e80c418d2d356afaaa99e26f5939dbc7d3ef4772a),1))),s:pk(020101010101010101010101010101010101010101010101010101010101010101),s:pk(0279be667ef9dcbbac55a06295ce870b07029bfcdb2dce28d959f2815b16f81798))";
+    "thresh(2,j:and_v(v:sha256(X),and_v(v:sha256(Y),and_v(v:sha256(Z),1))),s:pk(A),s:pk(B))";
 
 // What a text and assets come to by their cheapest satisfaction, which has these items. The number of questions
 // about signatures is counted.
@@ -293,7 +257,7 @@ fn carried(
     asked: &Cell<u32>,
 ) -> Result<Carried, Fail> {
     let arena = Bump::new(alloc);
-    let text = read_text(alloc, &arena, text)?;
+    let text = tree_of(alloc, &arena, text)?;
     let tree = text.tree();
     let mut work = Work::new(alloc, tree)?;
     check_valid(tree, &mut work)?;
@@ -354,14 +318,10 @@ fn compare(
 #[test]
 fn two_of_three_keys_are_carried(rt: HostRuntime) -> Result<(), Fail> {
     let alloc = rt.alloc();
-    let (key_a, key_c) = (key(0x02, 0x01), key(0x03, 0x03));
-    let assets = signed(
-        alloc,
-        &[(&key_c, &SIG_C), (&KEY_B, &SIG_B), (&key_a, &SIG_A)],
-    )?;
+    let assets = signed(alloc, &[(&C, &SIG_C), (&B, &SIG_B), (&A, &SIG_A)])?;
     let asked = Cell::new(0);
     let items: [&[u8]; 3] = [b"", &SIG_A, &SIG_C];
-    let carried = carried(alloc, TWO_OF_THREE, &assets, &items, &asked)?;
+    let carried = carried(alloc, "multi(2,A,B,C)", &assets, &items, &asked)?;
     // The last key with the last signature, then the other two with the first one.
     assert_eq!(rt; asked.get(), 3);
     let script = two_of_three_script(alloc)?;
@@ -374,7 +334,7 @@ fn two_of_three_keys_are_carried(rt: HostRuntime) -> Result<(), Fail> {
 #[test]
 fn two_signatures_are_carried(rt: HostRuntime) -> Result<(), Fail> {
     let alloc = rt.alloc();
-    let mut assets = signed(alloc, &[(&key(0x02, 0x01), &SIG_A), (&KEY_B, &SIG_B)])?;
+    let mut assets = signed(alloc, &[(&A, &SIG_A), (&B, &SIG_B)])?;
     for preimage in [[0x11; 32], [0x22; 32], [0x33; 32]] {
         assets.add_preimage(&preimage)?;
     }

@@ -2,47 +2,16 @@
 ghost use Rattle.std.specs.Prelude.{◌≤◌, IfOk};
 ghost use Rattle.def_policy.specs.Keys.{HasDistinctKeys};
 ghost use Rattle.def_policy.specs.Size.{size, depth, HasLocks, MOST_POLICIES, MOST_DEPTH};
-ghost use Rattle.def_tree.specs.Range.{IsKey};
 ghost use Rattle.ms_policy.specs.Shape.{policy_shape};
 
-use crate::*;
+use crate::samples::{assets_of, filled, tree_of};
 use bumpalo::Bump;
-use ms_assets::Assets;
 use ms_oracle::Locks;
+use ms_policy::{Policy, holds, least_keys, policy_of, print_policy};
 use ms_sane::{Work, check_sane};
-use ms_text::read_text;
-use ms_tree::Key;
-use std::alloc::{AllocError, Global};
+use std::alloc::Global;
 use std::process::Abort;
 use std::test::Fail;
-
-const KEY_A: &str = "020101010101010101010101010101010101010101010101010101010101010101";
-
-const KEY_B: &str = "0279be667ef9dcbbac55a06295ce870b07029bfcdb2dce28d959f2815b16f81798";
-
-const KEY_C: &str = "030303030303030303030303030303030303030303030303030303030303030303";
-
-// SHA-256 of 32 bytes 11, 22 and 33, by Python's hashlib over OpenSSL.
-const HASH_1: &str = "02d449a31fbb267c8f352e9968a79e3e5fc95c1bbeaa502fd6454ebde5a4bedc";
-
-const HASH_2: &str = "9f72ea0cf49536e3c66c787f705186df9a4378083753ae9536d65b3ad7fcddc4";
-
-const HASH_3: &str = "deb0e38ced1e41de6f92e70e80c418d2d356afaaa99e26f5939dbc7d3ef4772a";
-
-const SHORT_HASH: &str = "751e76e8199196d454941c45d1b3a323f1433bd6";
-
-const A: [u8; 33] = [
-    2, 1, 1, 1, 1, 1, 1, 1, 1, 1, 1, 1, 1, 1, 1, 1, 1, 1, 1, 1, 1, 1, 1, 1, 1, 1, 1, 1, 1, 1, 1, 1,
-    1,
-];
-
-const B: [u8; 33] = [
-    0x02, 0x79, 0xbe, 0x66, 0x7e, 0xf9, 0xdc, 0xbb, 0xac, 0x55, 0xa0, 0x62, 0x95, 0xce, 0x87, 0x0b,
-    0x07, 0x02, 0x9b, 0xfc, 0xdb, 0x2d, 0xce, 0x28, 0xd9, 0x59, 0xf2, 0x81, 0x5b, 0x16, 0xf8, 0x17,
-    0x98,
-];
-
-const C: [u8; 33] = [3; 33];
 
 const LATE_KEY: &str = "or_d(pk(A),and_v(v:pkh(B),older(144)))";
 
@@ -50,24 +19,6 @@ const KEYS_OR_LOCK: &str = "thresh(3,pk(A),s:pk(B),s:pk(C),sln:older(32))";
 
 const HASHES_OR_KEYS: &str =
     "thresh(2,j:and_v(v:sha256(X),and_v(v:sha256(Y),and_v(v:sha256(Z),1))),s:pk(A),s:pk(B))";
-
-/// A text in which `A`, `B` and `C` stand for keys, `X`, `Y` and `Z` for hash values of 32 bytes, and `W` for one of 20.
-fn filled(alloc: Global, form: &str) -> Result<String, AllocError> {
-    let mut text = String::new(alloc);
-    for letter in form.chars() {
-        match letter {
-            'A' => text.push_str(KEY_A)?,
-            'B' => text.push_str(KEY_B)?,
-            'C' => text.push_str(KEY_C)?,
-            'X' => text.push_str(HASH_1)?,
-            'Y' => text.push_str(HASH_2)?,
-            'Z' => text.push_str(HASH_3)?,
-            'W' => text.push_str(SHORT_HASH)?,
-            other => text.push(other)?,
-        }
-    }
-    Ok(text)
-}
 
 /// The policy of a sane text.
 fn policy_of_text(alloc: Global, form: &str) -> Result<Policy, Fail>
@@ -77,8 +28,7 @@ fn policy_of_text(alloc: Global, form: &str) -> Result<Policy, Fail>
     ensures locks { IfOk result (λ p. HasLocks (policy_shape p)) }
 {
     let arena = Bump::new(alloc);
-    let text = filled(alloc, form)?;
-    let text = read_text(alloc, &arena, &text).ok().ok_or("a tree")?;
+    let text = tree_of(alloc, &arena, form)?;
     let tree = text.tree();
     let mut work = Work::new(alloc, tree)?;
     let Ok(_) = check_sane(tree, &mut work) else {
@@ -188,31 +138,6 @@ fn policies_are_made_simple(rt: HostRuntime) -> Result<(), Fail> {
         ("lutv:pk(A)", "key(A)", Some(1)),
     ];
     have_policies(&rt, rt.alloc(), &rows)
-}
-
-fn key(bytes: [u8; 33]) -> Result<Key, &'static str>
-    ensures { IfOk result IsKey }
-{
-    Key::from_bytes(&bytes).ok_or("a key")
-}
-
-/// The assets with the signatures of these keys, and the preimages, all three or none.
-fn assets_of(alloc: Global, locks: Locks, signed: &str, preimages: bool) -> Result<Assets, Fail> {
-    let mut assets = Assets::new(alloc, locks);
-    for letter in signed.chars() {
-        let bytes = match letter {
-            'A' => A,
-            'B' => B,
-            _ => C,
-        };
-        assets.add_sig(&key(bytes)?, &[0xaa; 71])?;
-    }
-    if preimages {
-        for preimage in [[0x11; 32], [0x22; 32], [0x33; 32]] {
-            assets.add_preimage(&preimage)?;
-        }
-    }
-    Ok(assets)
 }
 
 /// Whether the policy of a sane text is met.

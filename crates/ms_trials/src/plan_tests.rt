@@ -1,82 +1,23 @@
-ghost use Rattle.std.specs.Prelude.{IfOk};
-ghost use Rattle.def_tree.specs.Range.{IsInRange};
-ghost use Rattle.ms_tree.specs.Shape.{shape};
+//! Tests of plans and of plan files.
 
-use crate::*;
+use crate::samples::{A, B, LOCKS, assets_of, filled, key, tree_of};
 use bumpalo::Bump;
 use ms_assets::Assets;
 use ms_oracle::Locks;
+use ms_plan::{
+    Estimate, KeyLen, KeyLens, Keys, PlanFault, PlanMember, are_lengths, length_in, plan, read_plan,
+};
 use ms_sane::{Work, check_sane};
-use ms_text::{TextTree, read_text};
 use ms_tree::Key;
-use std::alloc::{AllocError, Global};
+use std::alloc::Global;
 use std::process::Abort;
 use std::test::Fail;
-
-const KEY_A: &str = "020101010101010101010101010101010101010101010101010101010101010101";
-
-const KEY_B: &str = "0279be667ef9dcbbac55a06295ce870b07029bfcdb2dce28d959f2815b16f81798";
-
-const KEY_C: &str = "030303030303030303030303030303030303030303030303030303030303030303";
-
-// SHA-256 of 32 bytes 11, 22 and 33, by Python's hashlib over OpenSSL.
-const HASH_1: &str = "02d449a31fbb267c8f352e9968a79e3e5fc95c1bbeaa502fd6454ebde5a4bedc";
-
-const HASH_2: &str = "9f72ea0cf49536e3c66c787f705186df9a4378083753ae9536d65b3ad7fcddc4";
-
-const HASH_3: &str = "deb0e38ced1e41de6f92e70e80c418d2d356afaaa99e26f5939dbc7d3ef4772a";
-
-const A: [u8; 33] = [
-    2, 1, 1, 1, 1, 1, 1, 1, 1, 1, 1, 1, 1, 1, 1, 1, 1, 1, 1, 1, 1, 1, 1, 1, 1, 1, 1, 1, 1, 1, 1, 1,
-    1,
-];
-
-const B: [u8; 33] = [
-    0x02, 0x79, 0xbe, 0x66, 0x7e, 0xf9, 0xdc, 0xbb, 0xac, 0x55, 0xa0, 0x62, 0x95, 0xce, 0x87, 0x0b,
-    0x07, 0x02, 0x9b, 0xfc, 0xdb, 0x2d, 0xce, 0x28, 0xd9, 0x59, 0xf2, 0x81, 0x5b, 0x16, 0xf8, 0x17,
-    0x98,
-];
-
-const C: [u8; 33] = [3; 33];
-
-/// A text in which `A`, `B` and `C` stand for keys, and `X`, `Y` and `Z` for hash values of preimages.
-fn filled(alloc: Global, form: &str) -> Result<String, AllocError> {
-    let mut text = String::new(alloc);
-    for letter in form.chars() {
-        match letter {
-            'A' => text.push_str(KEY_A)?,
-            'B' => text.push_str(KEY_B)?,
-            'C' => text.push_str(KEY_C)?,
-            'X' => text.push_str(HASH_1)?,
-            'Y' => text.push_str(HASH_2)?,
-            'Z' => text.push_str(HASH_3)?,
-            other => text.push(other)?,
-        }
-    }
-    Ok(text)
-}
-
-fn tree_of<'a>(alloc: Global, arena: &'a Bump<Global>, form: &str) -> Result<TextTree<'a>, Fail>
-    ensures { IfOk result (λ text. IsInRange (shape text.tree)) }
-{
-    let text = filled(alloc, form)?;
-    Ok(read_text(alloc, arena, &text).ok().ok_or("a tree")?)
-}
-
-/// The bytes of the key that a letter stands for.
-fn bytes_of(letter: char) -> [u8; 33] {
-    match letter {
-        'A' => A,
-        'B' => B,
-        _ => C,
-    }
-}
 
 /// A table of these keys with their lengths.
 fn table_of(alloc: Global, entries: &[(char, u8)]) -> Result<Vec<KeyLen>, Fail> {
     let mut table = Vec::new(alloc);
     for (letter, length) in entries {
-        let key = Key::from_bytes(&bytes_of(*letter)).ok_or("a key")?;
+        let key = key(*letter)?;
         table.push(KeyLen {
             key,
             length: *length,
@@ -85,26 +26,18 @@ fn table_of(alloc: Global, entries: &[(char, u8)]) -> Result<Vec<KeyLen>, Fail> 
     Ok(table)
 }
 
-/// No signature, and the preimages, all three or none.
-fn assets_of(alloc: Global, sequence: u32, preimages: bool) -> Result<Assets, Fail> {
-    let locks = Locks {
-        version: 2,
-        sequence,
-        locktime: 0,
-    };
-    let mut assets = Assets::new(alloc, locks);
-    if preimages {
-        for preimage in [[0x11; 32], [0x22; 32], [0x33; 32]] {
-            assets.add_preimage(&preimage)?;
-        }
-    }
-    Ok(assets)
+/// The values of the locks with this sequence number.
+fn locks_of(sequence: u32) -> Locks {
+    Locks { sequence, ..LOCKS }
 }
 
 fn are_keys(keys: &[Key], letters: &str) -> bool {
     let mut place = 0;
     for letter in letters.chars() {
-        if place >= keys.len() || keys[place].as_bytes() != bytes_of(letter).as_slice() {
+        let Ok(wanted) = key(letter) else {
+            return false;
+        };
+        if place >= keys.len() || keys[place].as_bytes() != wanted.as_bytes() {
             return false;
         }
         place += 1;
@@ -152,7 +85,7 @@ fn the_shortest_signatures_are_asked_in_the_order_of_their_keys(
     rt: HostRuntime,
 ) -> Result<(), Fail> {
     let alloc = rt.alloc();
-    let assets = assets_of(alloc, 0xffff_fffe, false)?;
+    let assets = assets_of(alloc, locks_of(0xffff_fffe), "", false)?;
     let form = "multi(2,A,B,C)";
     let all = [('A', 71), ('B', 72), ('C', 70)];
     asks(&rt, alloc, form, &assets, &all, Some(("AC", 144)))?;
@@ -170,7 +103,7 @@ fn a_lock_takes_the_place_of_a_key(rt: HostRuntime) -> Result<(), Fail> {
     let form = "thresh(3,pk(A),s:pk(B),s:pk(C),sln:older(32))";
     let keys = [('A', 71), ('C', 70)];
     for (sequence, wanted) in [(32, Some(("AC", 145))), (31, None)] {
-        let assets = assets_of(alloc, sequence, false)?;
+        let assets = assets_of(alloc, locks_of(sequence), "", false)?;
         asks(&rt, alloc, form, &assets, &keys, wanted)?;
     }
     Ok(())
@@ -182,12 +115,12 @@ fn preimages_take_the_place_of_a_key(rt: HostRuntime) -> Result<(), Fail> {
     let form = "and_v(v:pk(B),or_i(pk(A),and_v(v:sha256(X),and_v(v:sha256(Y),sha256(Z)))))";
     let keys = [('A', 71), ('B', 72)];
     for (preimages, wanted) in [(true, ("B", 173)), (false, ("BA", 147))] {
-        let assets = assets_of(alloc, 0xffff_fffe, preimages)?;
+        let assets = assets_of(alloc, locks_of(0xffff_fffe), "", preimages)?;
         asks(&rt, alloc, form, &assets, &keys, Some(wanted))?;
     }
     // A signature of 32 bytes of a preimage's kind, and one of a single byte, aren't taken for others.
     let short = [('A', 1), ('B', 32)];
-    let assets = assets_of(alloc, 0xffff_fffe, true)?;
+    let assets = assets_of(alloc, locks_of(0xffff_fffe), "", true)?;
     asks(&rt, alloc, form, &assets, &short, Some(("B", 133)))
 }
 
@@ -205,14 +138,14 @@ fn tables_of_other_entries_are_no_lengths(rt: HostRuntime) -> Result<(), Fail> {
         assert!(&rt; are_lengths(&table) == right);
     }
     let table = table_of(alloc, &[('A', 71), ('B', 72)])?;
-    let key = Key::from_bytes(&C).ok_or("a key")?;
-    let listed = Key::from_bytes(&B).ok_or("a key")?;
+    let other = key('C')?;
+    let listed = key('B')?;
     assert!(&rt; length_in(&table, &listed) == Some(72));
-    assert!(&rt; length_in(&table, &key).is_none());
+    assert!(&rt; length_in(&table, &other).is_none());
     let keys = KeyLens::from_vec(table).into_vec();
     assert!(&rt; keys.len() == 2);
     let mut only = Vec::new(alloc);
-    only.push(key)?;
+    only.push(other)?;
     assert!(&rt; Keys::from_vec(only).into_vec().len() == 1);
     Ok(())
 }

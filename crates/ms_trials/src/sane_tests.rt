@@ -1,0 +1,249 @@
+//! Tests of types, limits and the first reason against a text.
+
+use crate::samples::tree_of;
+use bumpalo::Bump;
+use ms_sane::{
+    Limits, Rules, Sane, Unfit, Work, check_sane, check_sane_under, check_valid, check_valid_under,
+    mix,
+};
+use ms_types::{Base, Rule, RuleAt};
+use std::alloc::{AllocError, Global};
+use std::test::Fail;
+
+#[test]
+fn sane_texts_have_types_and_limits(rt: HostRuntime) -> Result<(), Fail> {
+    let alloc = rt.alloc();
+    // The properties z, o, n, d and u, then s, f and e; size, opcodes, items and weight.
+    let cases = [
+        ("pk(B)", "onduse", [35, 1, 1, 74]),
+        (
+            "and_v(v:and_v(v:pk(A),pk(B)),pk(C))",
+            "nusf",
+            [105, 3, 3, 222],
+        ),
+        ("0", "zduse", [1, 0, 0, 0]),
+        (
+            "and_v(v:pk(A),or_i(and_v(v:pk(B),older(10)),older(4194314)))",
+            "nsf",
+            [80, 7, 3, 150],
+        ),
+    ];
+    for (form, wanted, [size, ops, items, weight]) in cases {
+        let arena = Bump::new(alloc);
+        let read = tree_of(alloc, &arena, form)?;
+        let mut work = Work::new(alloc, read.tree())?;
+        let sane = check_sane(read.tree(), &mut work)
+            .ok()
+            .ok_or("a sane text")?;
+        let limits = Limits {
+            size,
+            ops,
+            items,
+            weight,
+        };
+        assert_eq!(rt; sane.limits, limits, "{form}");
+        assert_eq!(rt; sane.ty.base, Base::B, "{form}");
+        assert_eq!(rt; letters(alloc, &sane)?.as_str(), wanted, "{form}");
+    }
+    Ok(())
+}
+
+/// The letters of the properties that hold.
+fn letters(alloc: Global, sane: &Sane) -> Result<String, AllocError> {
+    let (ty, mall) = (sane.ty, sane.mall);
+    let properties = [
+        (ty.z, "z"),
+        (ty.o, "o"),
+        (ty.n, "n"),
+        (ty.d, "d"),
+        (ty.u, "u"),
+        (mall.s, "s"),
+        (mall.f, "f"),
+        (mall.e, "e"),
+    ];
+    let mut letters = String::new(alloc);
+    for (holds, letter) in properties {
+        if holds {
+            letters.push_str(letter)?;
+        }
+    }
+    Ok(letters)
+}
+
+fn rule(node: u32, rule: Rule) -> Unfit {
+    Unfit::Rule(RuleAt { node, rule })
+}
+
+fn malleable(node: u32, rule: Rule) -> Unfit {
+    Unfit::Malleable(RuleAt { node, rule })
+}
+
+#[test]
+fn the_first_reason_is_given(rt: HostRuntime) -> Result<(), Fail> {
+    let alloc = rt.alloc();
+    let cases = [
+        ("or_b(sha256(H),s:pk(A))", malleable(4, Rule::OrBE)),
+        ("thresh(1,sha256(H),s:pk(A))", malleable(4, Rule::ThreshE)),
+        ("1", Unfit::NoSignature),
+        (
+            "and_v(v:pk(A),and_b(older(10),a:older(4194314)))",
+            Unfit::MixedLocks(6),
+        ),
+        ("and_v(v:pk(A),pkh(A))", Unfit::RepeatedKey(3)),
+        ("thresh(1,dv:older(1),s:pk(A))", rule(6, Rule::ThreshFirst)),
+        ("thresh(3,pk(A),s:pk(B))", rule(5, Rule::ThreshRange)),
+        ("older(0)", rule(0, Rule::OlderRange)),
+        ("v:pk(A)", Unfit::TopNotB),
+        // A key of a list, behind itself and behind one that stands alone.
+        ("multi(1,A,A)", Unfit::RepeatedKey(0)),
+        ("or_d(pkh(A),multi(1,B,A))", Unfit::RepeatedKey(2)),
+        ("or_d(multi(1,B,A),pk(A))", Unfit::RepeatedKey(1)),
+        // A reason that is tested earlier comes first.
+        ("or_d(multi(1,A,A),sha256(H))", Unfit::NoSignature),
+        ("or_i(older(10),older(4194314))", malleable(2, Rule::OrIS)),
+        ("and_v(v:older(10),older(4194314))", Unfit::NoSignature),
+        (
+            "and_v(v:and_v(v:pk(A),pk(A)),and_v(v:after(1),after(500000000)))",
+            Unfit::MixedLocks(10),
+        ),
+        ("and_b(pk(A),a:pk_k(A))", rule(3, Rule::WrapA)),
+        ("and_b(older(10),a:older(4194314))", Unfit::NoSignature),
+    ];
+    for (form, wanted) in cases {
+        let arena = Bump::new(alloc);
+        let read = tree_of(alloc, &arena, form)?;
+        let mut work = Work::new(alloc, read.tree())?;
+        let found = check_sane(read.tree(), &mut work).err();
+        assert_eq!(rt; found, Some(wanted), "{form}");
+    }
+    Ok(())
+}
+
+#[test]
+fn locks_of_two_kinds_are_mixed(rt: HostRuntime) -> Result<(), Fail> {
+    let alloc = rt.alloc();
+    let cases = [
+        ("and_v(v:older(10),older(4194314))", Some(3)),
+        ("and_b(after(499999999),a:after(500000000))", Some(3)),
+        ("andor(older(10),older(4194314),1)", Some(3)),
+        ("andor(older(10),1,older(4194314))", None),
+        ("or_b(older(10),a:older(4194314))", None),
+        ("or_c(older(10),v:older(4194314))", None),
+        ("or_d(older(10),older(4194314))", None),
+        ("or_i(older(10),older(4194314))", None),
+        ("and_v(v:older(10),after(500000000))", None),
+        ("and_v(v:older(4194304),older(2097152))", Some(3)),
+        ("thresh(1,older(10),a:older(4194314))", None),
+        ("thresh(2,older(10),a:1,a:older(4194314))", Some(5)),
+        ("and_v(v:or_i(older(10),older(4194314)),1)", None),
+    ];
+    for (form, wanted) in cases {
+        let arena = Bump::new(alloc);
+        let read = tree_of(alloc, &arena, form)?;
+        assert_eq!(rt; mix(read.tree()), wanted, "{form}");
+    }
+    Ok(())
+}
+
+/// A list of 20 keys, of which one has to sign.
+const KEYS: &str = "multi(1,A,A,A,A,A,A,A,A,A,A,A,A,A,A,A,A,A,A,A,A)";
+
+/// Parts that open a parenthesis, each so many times, one in another around a last part.
+fn nested(alloc: Global, parts: &[(&str, u32)], last: &str) -> Result<String, AllocError> {
+    let mut form = String::new(alloc);
+    let mut closed = String::new(alloc);
+    for (part, count) in parts {
+        for _ in 0..*count {
+            form.push_str(part)?;
+            closed.push(')')?;
+        }
+    }
+    form.push_str(last)?;
+    form.push_str(closed.as_str())?;
+    Ok(form)
+}
+
+/// So many letters.
+fn repeated(alloc: Global, letter: &str, count: u32) -> Result<String, AllocError> {
+    let mut letters = String::new(alloc);
+    for _ in 0..count {
+        letters.push_str(letter)?;
+    }
+    Ok(letters)
+}
+
+/// The first reasons against a text's being valid, by policy and by consensus.
+fn reasons(alloc: Global, form: &str) -> Result<[Option<Unfit>; 2], Fail> {
+    let arena = Bump::new(alloc);
+    let read = tree_of(alloc, &arena, form)?;
+    let mut work = Work::new(alloc, read.tree())?;
+    let by_policy = check_valid(read.tree(), &mut work).err();
+    let by_consensus = check_valid_under(read.tree(), Rules::Consensus, &mut work).err();
+    Ok([by_policy, by_consensus])
+}
+
+#[test]
+fn a_satisfaction_has_few_items_by_policy(rt: HostRuntime) -> Result<(), Fail> {
+    let alloc = rt.alloc();
+    let cases = [
+        (99, [None, None]),
+        (100, [Some(Unfit::Items(101)), None]),
+        (200, [Some(Unfit::Size(7_035)), None]),
+        (201, [Some(Unfit::Size(7_070)), Some(Unfit::Ops(202))]),
+    ];
+    for (count, wanted) in cases {
+        let form = nested(alloc, &[("and_v(v:pk(A),", count)], "pk(B)")?;
+        assert_eq!(rt; reasons(alloc, &form)?, wanted, "{count}");
+    }
+    Ok(())
+}
+
+#[test]
+fn a_script_has_few_bytes(rt: HostRuntime) -> Result<(), Fail> {
+    let alloc = rt.alloc();
+    let and_key = "and_v(v:pk(A),";
+    let and_keys = format!(in alloc; "and_v(v:{KEYS},")?;
+    let most = nested(alloc, &[(&and_keys, 5), (and_key, 5)], "older(32768)")?;
+    assert_eq!(rt; reasons(alloc, &most)?, [None, None]);
+    let over = nested(alloc, &[(&and_keys, 5), (and_key, 5)], "older(8388608)")?;
+    assert_eq!(rt; reasons(alloc, &over)?, [Some(Unfit::Size(3_601)), None]);
+
+    let or_keys = format!(in alloc; "or_i({KEYS},")?;
+    let most = nested(alloc, &[(and_key, 11), (&or_keys, 13)], KEYS)?;
+    assert_eq!(rt; reasons(alloc, &most)?, [Some(Unfit::Size(10_000)), None]);
+    let n_or_keys = format!(in alloc; "n:or_i({KEYS},")?;
+    let over = nested(
+        alloc,
+        &[(and_key, 11), (&n_or_keys, 1), (&or_keys, 12)],
+        KEYS,
+    )?;
+    let too_large = Some(Unfit::Size(10_001));
+    assert_eq!(rt; reasons(alloc, &over)?, [too_large, too_large]);
+    Ok(())
+}
+
+#[test]
+fn a_script_has_few_opcodes(rt: HostRuntime) -> Result<(), Fail> {
+    let alloc = rt.alloc();
+    let or_keys = format!(in alloc; "or_i({KEYS},")?;
+    let either = nested(alloc, &[(&or_keys, 1)], KEYS)?;
+    let most = format!(in alloc; "{}:{either}", repeated(alloc, "n", 176)?)?;
+    assert_eq!(rt; reasons(alloc, &most)?, [None, None]);
+    let over = format!(in alloc; "{}:{either}", repeated(alloc, "n", 177)?)?;
+    let too_many = Some(Unfit::Ops(202));
+    assert_eq!(rt; reasons(alloc, &over)?, [too_many, too_many]);
+    Ok(())
+}
+
+#[test]
+fn what_policy_allows_is_sane_by_consensus(rt: HostRuntime) -> Result<(), Fail> {
+    let alloc = rt.alloc();
+    let arena = Bump::new(alloc);
+    let read = tree_of(alloc, &arena, "and_v(v:pk(A),and_v(v:pk(B),pk(C)))")?;
+    let mut work = Work::new(alloc, read.tree())?;
+    let by_policy = check_sane(read.tree(), &mut work).ok();
+    let by_consensus = check_sane_under(read.tree(), Rules::Consensus, &mut work).ok();
+    assert_eq!(rt; by_policy.is_some(), true);
+    assert_eq!(rt; by_policy, by_consensus);
+    Ok(())
+}
