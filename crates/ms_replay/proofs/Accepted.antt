@@ -25,9 +25,9 @@ use Rattle.ms_laws.proofs.Accepted.{canonical_is_accepted}
 use Rattle.ms_laws.proofs.Within.{within_limits, valid_limits}
 use Rattle.ms_interp.specs.Answering.{given_by}
 use Rattle.ms_replay.specs.Answering.{IsAccepting}
-use Rattle.ms_replay.specs.Reading.{FitsWitness}
-use Rattle.ms_replay.specs.Replaying.{replay, ran}
-use Rattle.ms_replay.proofs.Witnesses.{witness_is_replayed}
+use Rattle.ms_witness.specs.Reading.{FitsWitness}
+use Rattle.ms_witness.specs.Replaying.{replay, ran}
+use Rattle.ms_witness.proofs.Witnesses.{witness_is_replayed}
 
 -- a canonical satisfaction of a valid miniscript
 pub record Satisfies (tree : Tree) (assets : Assets) (stack : List Bytes) : Type 0 where

@@ -1,6 +1,1 @@
 mod Accepted
-mod Computed
-mod Items
-mod Loop
-mod Parts
-mod Witnesses

@@ -1,5 +1,1 @@
-pub mod Reading
-pub mod Examples
-pub mod Laws
-pub mod Replaying
 pub mod Answering

@@ -17,18 +17,16 @@ ghost use Rattle.def_tree.specs.Range.{IsInRange};
 ghost use Rattle.ms_interp.specs.Answering.{given_by};
 ghost use Rattle.ms_oracle.specs.Sound.{table_of, IsSound};
 ghost use Rattle.ms_replay.specs.Answering.{IsAccepting};
-ghost use Rattle.ms_replay.specs.Replaying.{replay as the_replay, ran};
+ghost use Rattle.ms_witness.specs.Replaying.{replay as the_replay, ran};
 ghost use Rattle.ms_tree.specs.Shape.{shape};
 
-use crate::program::program_of;
-use crate::replaying::{ReplayStop, replay};
-use crate::witness::witness_bytes;
 use ms_assets::Assets;
 use ms_emit::script_bytes;
 use ms_interp::RunReport;
 use ms_oracle::{Locks, SigCheck};
 use ms_script::{Blob, Stack};
 use ms_tree::Tree;
+use ms_witness::{ReplayStop, program_of, replay, witness_bytes};
 use std::alloc::{AllocError, Global};
 
 /// A canonical satisfaction as it is spent: all that a wallet needs of it, and what its run did.

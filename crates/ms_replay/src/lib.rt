@@ -1,19 +1,6 @@
-//! P2WSH outputs and their witnesses: the program that stands for a Script, a witness as bytes, the replay of one,
-//! and the way of a satisfaction to its witness.
+//! The way of a satisfaction to its witness.
 #![tactic(auto)]
 
 pub use carrying::{Carried, carry};
-pub use fault::WitnessFault;
-pub use program::program_of;
-pub use reading::read_witness;
-pub use replaying::{ReplayStop, replay};
-pub use witness::witness_bytes;
 
 mod carrying;
-mod examples;
-mod fault;
-mod laws;
-mod program;
-mod reading;
-mod replaying;
-mod witness;

@@ -6,13 +6,12 @@ use ms_assets::Assets;
 use ms_hash::sha256;
 use ms_interp::{RunReport, ScriptFault};
 use ms_oracle::{Pairs, SigCheck, member};
-use ms_replay::{
-    Carried, ReplayStop, WitnessFault, carry, program_of, read_witness, replay, witness_bytes,
-};
+use ms_replay::{Carried, carry};
 use ms_sane::{Work, check_valid};
 use ms_sat::cheapest;
 use ms_script::Stack;
 use ms_tree::Key;
+use ms_witness::{ReplayStop, WitnessFault, program_of, read_witness, replay, witness_bytes};
 use std::alloc::{AllocError, Global};
 use std::cell::Cell;
 use std::process::Abort;

@@ -18,7 +18,7 @@ use Rattle.def_answer.proofs.Answered.{OnText}
 use Rattle.def_answer.proofs.Early.{answers_have_status}
 use Rattle.def_answer.proofs.Sources.{answer_without_source, status_without_source, long_file}
 use Rattle.def_answer.proofs.Unique.{one_form, one_reply}
-use Rattle.msat_cli.specs.declared.answer.Answer.{Answer as Made}
+use Rattle.ms_report.specs.declared.answer.Answer.{Answer as Made}
 use Rattle.msat_cli.specs.declared.answer.Stop.{Stop}
 use Rattle.msat_cli.specs.declared.answer.Stop.TheVariants as stop
 use Rattle.msat_cli.specs.Sides.{Side, AreTold, Held}

@@ -1,12 +1,9 @@
 mod FileLemmas
-mod ReportLemmas
 mod StepLemmas
 mod EndLemmas
 mod SatisfactionLemmas
 mod RefusalLemmas
-mod GeneratorLemmas
 mod PlanLemmas
-mod AuditReplies
 mod AuditLemmas
 mod PolicyLemmas
 mod DecodingLemmas

@@ -1,7 +1,6 @@
 -- What a call for a plan shows.
-use Rattle.std.proofs.Common.{◌≡◌, ℕ, ◌≤◌, nat_lt, inl, inr, List, [], ◌++◌, codes, decimal, Ok, None, Some, length, refl, sym, ap, subst, ◌∙◌}
+use Rattle.std.proofs.Common.{◌≡◌, ◌≤◌, nat_lt, inl, inr, Ok, None, Some, length, refl, sym, ap, subst, ◌∙◌}
 use Rattle.std.specs.Prelude.{Option}
-use Rattle.std.specs.List.{flat_map}
 use Rattle.std.specs.Io.KnownBytes.{Appends}
 use Rattle.std.proofs.lemmas.Bool.{le-ltb}
 use Rattle.def_script.specs.Bytes.{Bytes}
@@ -14,10 +13,10 @@ use Rattle.def_plan.specs.Laws.{IsInput}
 use Rattle.def_plan.proofs.FileGiven.{plan_file_gives_plan}
 use Rattle.ms_plan_laws.proofs.Plans.{none_holds, lengths_decide, suffices_always, least_always, listed_always, none_in_vain_ever, in_order_always}
 use Rattle.def_answer.specs.Answer.{Replies, RepliesToWords, Answer}
-use Rattle.def_answer.specs.Lines.{line, plan_file_line}
+use Rattle.def_answer.specs.Lines.{plan_file_line}
 use Rattle.def_answer.specs.Reading.{read}
 use Rattle.def_answer.specs.Reply.{Reply, reply, unless_unfit, unless_refused, MOST_FILE, planned_reply, plan_reply}
-use Rattle.def_answer.specs.Report.{ask_line, plan_report}
+use Rattle.def_answer.specs.Report.{plan_report}
 use Rattle.def_answer.specs.Words as words
 use Rattle.def_answer.specs.declared.status.Status.{Status}
 use Rattle.def_answer.specs.declared.status.Status.TheVariants as status
@@ -28,12 +27,6 @@ use Rattle.msat_cli.specs.Ends.{Call, HasAnswer, Ends, EndsAs}
 use Rattle.msat_cli.specs.Plans.{AsksPlan, PrintsPlan, FindsPlan, ShowsPlan}
 use Rattle.msat_cli.proofs.EndLemmas.{told_answer, ends_as_answered}
 use Rattle.msat_cli.proofs.SatisfactionLemmas.{second_of_two}
-
--- the lines of a plan, one after the other
-pub plan_lines_of : (found : Plan) (keys : List Bytes) (number none first all : Bytes) → keys ≡ found.keys → number ≡ decimal found.weight → none ≡ []
-    → first ≡ none ++ flat_map ask_line keys → all ≡ first ++ line (codes "weight at most " ++ number) → all ≡ plan_report found
-unfolding plan_report
-plan_lines_of found keys number none first all is_keys is_number e0 e1 e2 = rw (e2, e1, e0, is_keys, is_number) (refl {a = plan_report found})
 
 -- the plan by a file
 abbrev plan_by : Tree → PlanFile → Option Plan

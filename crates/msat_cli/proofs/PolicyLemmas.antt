@@ -1,41 +1,26 @@
 -- What a call for a policy shows.
-use Rattle.std.proofs.Common.{◌≡◌, ℕ, ◌++◌, [], codes, inl, inr, refl, sym, ap, subst, ◌∙◌}
-use Rattle.std.specs.Prelude.{Option}
+use Rattle.std.proofs.Common.{◌≡◌, [], inl, inr, sym, ap, subst, ◌∙◌}
 use Rattle.std.specs.Io.KnownBytes.{Appends}
 use Rattle.def_script.specs.Bytes.{Bytes}
 use Rattle.def_tree.specs.Tree.{Tree}
 use Rattle.def_tree.specs.Range.{IsWritable}
 use Rattle.def_text.proofs.SpelledInRange.{spelled_in_range}
 use Rattle.def_sane.specs.Unfit.{IsSane}
-use Rattle.def_policy.specs.Policy.{Policy}
-use Rattle.def_policy.specs.Keys.{AreLeastKeys}
-use Rattle.def_policy.specs.Print.{printed}
 use Rattle.ms_policy_laws.proofs.Satisfied.{policy_of_sane}
 use Rattle.def_answer.specs.Answer.{policy_reply, Answer}
 use Rattle.def_answer.specs.LeastKeys.{least_keys}
-use Rattle.def_answer.specs.Lines.{line}
 use Rattle.def_answer.specs.Reading.{read}
 use Rattle.def_answer.specs.Reply.{Reply, reply, unless_unfit}
-use Rattle.def_answer.specs.Report.{policy_of, number_or_none, policy_report}
+use Rattle.def_answer.specs.Report.{policy_of, policy_report}
 use Rattle.def_answer.specs.Words.{policy}
 use Rattle.def_answer.specs.declared.status.Status.TheVariants as status
-use Rattle.def_answer.proofs.LeastKeys.{least_keys_are_least, one_least}
+use Rattle.def_answer.proofs.LeastKeys.{least_keys_are_least}
 use Rattle.def_answer.proofs.Unique.{one_form}
 use Rattle.def_answer.specs.Sources.{ReadsSource, NeedsSource}
 use Rattle.ms_words.specs.Commands.{HaveUtf8}
 use Rattle.msat_cli.specs.Ends.{Call, Ends}
 use Rattle.msat_cli.specs.Policies.{AsksPolicy, PrintsPolicy, ShowsPolicy}
 use Rattle.msat_cli.proofs.EndLemmas.{told_answer, ends_as_answered, one_to_words}
-
--- the lines of a policy, one after the other
-pub policy_lines_of : (tree : Tree) (shape : Policy) (least : Option ℕ) (text number none first all : Bytes) → shape ≡ policy_of tree
-    → AreLeastKeys shape least → text ≡ printed shape → number ≡ number_or_none least → none ≡ []
-    → first ≡ none ++ line (codes "policy " ++ text) → all ≡ first ++ line (codes "keys " ++ number) → all ≡ policy_report tree
-unfolding policy_report
-policy_lines_of tree shape least text number none first all is are_least is_text is_number e0 e1 e2 =
-    let own : AreLeastKeys (policy_of tree) least = subst (λ p. AreLeastKeys p least) is are_least in
-    let same : least ≡ least_keys (policy_of tree) = one_least (policy_of tree) least (least_keys (policy_of tree)) own (least_keys_are_least (policy_of tree)) in
-    rw (e2, e1, e0, is_text, is_number, is, same) (refl {a = policy_report tree})
 
 -- the words don't read the source
 unread : (call : Call) (tree : Tree) → AsksPolicy call tree → ¬ ReadsSource call.words

@@ -22,7 +22,7 @@ use Rattle.ms_words.specs.declared.words.Choice.{Choice}
 use Rattle.ms_words.specs.declared.words.Choice.TheVariants as choice
 use Rattle.ms_words.specs.declared.words.TextCommand.TheVariants as kind
 use Rattle.ms_words.specs.Commands.{HaveUtf8, satisfy_by}
-use Rattle.msat_cli.specs.Steps.{reason_by}
+use Rattle.ms_replies.specs.Choices.{reason_by}
 use Rattle.msat_cli.specs.Ends.{Call, Ends}
 use Rattle.msat_cli.specs.Satisfactions.{RefusesText, RefusesOtherTexts}
 use Rattle.msat_cli.proofs.EndLemmas.{told_answer, ends_as_answered, one_to_words}

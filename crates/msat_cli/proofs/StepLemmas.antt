@@ -23,7 +23,7 @@ use Rattle.def_answer.specs.Words.{Command, IsForm}
 use Rattle.def_answer.specs.declared.status.Status.TheVariants as status
 use Rattle.def_answer.proofs.AuditSteps.{walked_are_steps}
 use Rattle.def_answer.proofs.Unique.{one_form}
-use Rattle.msat_cli.specs.declared.answer.Answer.{Answer}
+use Rattle.ms_report.specs.declared.answer.Answer.{Answer}
 use Rattle.msat_cli.specs.declared.answer.Stop.{Stop}
 use Rattle.msat_cli.specs.declared.answer.Stop.TheVariants as stop
 use Rattle.ms_words.specs.declared.words.Choice.{Choice}
@@ -35,11 +35,11 @@ use Rattle.def_answer.specs.Sources.{Passes, NeedsSource, ReadsSource}
 use Rattle.msat_cli.specs.Sides.{Side, IsUnread}
 use Rattle.msat_cli.specs.Ends.{HasShortText, TakesMemory}
 use Rattle.ms_words.specs.Commands.{seen, HasUtf8, HaveUtf8, command_of}
-use Rattle.msat_cli.specs.declared.fit.Demand.{Demand}
-use Rattle.msat_cli.specs.declared.fit.Demand.TheVariants as demand
-use Rattle.msat_cli.specs.declared.fit.Known.{Known}
-use Rattle.msat_cli.specs.declared.fit.Known.TheVariants as known
-use Rattle.msat_cli.specs.Fits.{reason_for, IsKnown, limits_in}
+use Rattle.ms_replies.specs.declared.fit.Demand.{Demand}
+use Rattle.ms_replies.specs.declared.fit.Demand.TheVariants as demand
+use Rattle.ms_replies.specs.declared.fit.Known.{Known}
+use Rattle.ms_replies.specs.declared.fit.Known.TheVariants as known
+use Rattle.ms_replies.specs.Fits.{reason_for, IsKnown, limits_in}
 use Rattle.msat_cli.specs.Steps.{reason_of, reply_of, ReadsFor, Answers, AnswersWords, AnswersFile, AnswersTree, AsDone, IsRefusal, Ended}
 
 -- a step ends as another one does

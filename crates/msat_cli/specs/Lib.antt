@@ -1,5 +1,4 @@
 pub mod Sides
-pub mod Fits
 pub mod Steps
 pub mod Ends
 pub mod Satisfactions

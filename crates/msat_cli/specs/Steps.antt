@@ -7,13 +7,7 @@ use Rattle.def_tree.specs.Tree.{Tree}
 use Rattle.def_text.specs.declared.TextFault.{TextFault}
 use Rattle.def_text.specs.declared.TextFault.TheVariants as text_fault
 use Rattle.def_sane.specs.declared.Unfit.{Unfit}
-use Rattle.def_sane.specs.declared.Rules.{Rules}
 use Rattle.def_sane.specs.Unfit.{first_unfit, first_unfit_valid}
-use Rattle.def_assets.specs.Assets.{Assets}
-use Rattle.def_files.specs.RunFile.{RunFile}
-use Rattle.def_choice.specs.Cheapest.{cheapest}
-use Rattle.def_choice.specs.Strict.{strict}
-use Rattle.ms_assets.specs.declared.run_file.RunFile.{RunFile as ReadFile}
 use Rattle.ms_io.specs.Faults.{Rose}
 use Rattle.ms_io.specs.Moves.{AppendsPrefix}
 use Rattle.def_answer.specs.declared.status.Status.{Status}
@@ -24,31 +18,16 @@ use Rattle.def_answer.specs.Lines.{usage_line, text_line, file_too_long_line}
 use Rattle.def_answer.specs.Reply.{Reply, reply, usage_reply, unless_unfit, MOST_FILE, satisfy_reply, plan_reply, audit_reply}
 use Rattle.def_answer.specs.Sources.{NeedsSource}
 use Rattle.def_answer.specs.Words.{Command, IsForm, HasNoForm}
-use Rattle.msat_cli.specs.declared.answer.Answer.{Answer}
+use Rattle.ms_report.specs.declared.answer.Answer.{Answer}
 use Rattle.msat_cli.specs.declared.answer.Stop.{Stop}
 use Rattle.msat_cli.specs.declared.answer.Stop.TheVariants as stop
-use Rattle.ms_words.specs.declared.words.Choice.{Choice}
-use Rattle.ms_words.specs.declared.words.Choice.TheVariants as choice
 use Rattle.ms_words.specs.declared.words.TextCommand.{TextCommand}
 use Rattle.ms_words.specs.declared.words.TextCommand.TheVariants as kind
-use Rattle.msat_cli.specs.Fits.{demand_by, demand_of, reason_for}
+use Rattle.ms_replies.specs.Choices.{chosen_by, rules_by, reason_by}
+use Rattle.ms_replies.specs.Fits.{demand_of, reason_for}
 use Rattle.msat_cli.specs.Sides.{Side, IsUnread, Held}
 
 -- ---- what is done with a tree
-
--- the satisfaction that is chosen
-abbrev pub chosen_by : Choice → Tree → Assets → Option (List Bytes)
-chosen_by (choice.Strict rules) = strict
-chosen_by (choice.Cheapest rules) = cheapest
-
--- the rules by which the tree has to be sane or valid
-abbrev pub rules_by : Choice → Rules
-rules_by (choice.Strict rules) = rules
-rules_by (choice.Cheapest rules) = rules
-
--- the reasons against a tree that is to be satisfied
-abbrev pub reason_by : Choice → Tree → Option Unfit
-reason_by choice = reason_for (demand_by choice)
 
 -- the reasons against a tree that are tested
 abbrev pub reason_of : TextCommand → Tree → Option Unfit
@@ -92,10 +71,6 @@ AnswersTree kind tree offsets source r =
 -- the reply to a text that is refused
 abbrev pub IsRefusal : TextFault → Reply → Type 0
 IsRefusal fault r = (fault ≢ text_fault.Memory) × (r ≡ reply status.TextRefused (text_line fault))
-
--- a run file that was read, as the definition's
-abbrev pub file_seen : ReadFile → RunFile
-file_seen file = record { script = file.script; stack = file.stack; locks = file.locks; pairs = file.pairs }
 
 -- why the file isn't read whole
 abbrev pub StopsReading : (source : Side) → Stop → Type 0

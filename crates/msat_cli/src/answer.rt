@@ -1,4 +1,4 @@
-//! Answers: each has a status and a report, which is made whole before anything is written.
+//! Which answer is given to the words of a command line, or why none is made.
 ghost use Rattle.std.specs.Prelude.{◌≤◌};
 ghost use Rattle.def_answer.specs.Sources.{NeedsSource, ReadsSource};
 ghost use Rattle.def_answer.specs.Words.{IsCommand};
@@ -8,22 +8,15 @@ ghost use Rattle.ms_words.specs.Commands.{seen, HaveUtf8};
 ghost use Rattle.msat_cli.specs.Steps.{Answers, AnswersWords, Ended, AsMade};
 ghost use Rattle.msat_cli.specs.Ends.{HasShortText, TakesMemory};
 
-use crate::decoding::answer_decode;
-use crate::generator::answer_gen;
-use crate::runs::answer_run;
+use crate::source::answer_run;
 use crate::texts::answer_text;
 use bumpalo::Bump;
-use def_answer::Status;
+use ms_generator::answer_gen;
 use ms_io::Source;
+use ms_replies::decode_answer;
+use ms_report::Answer;
 use ms_words::{Command, Word, read_words};
 use std::alloc::{AllocError, Global};
-
-/// A status, and the whole report that goes with it.
-#[derive(Drop)]
-pub struct Answer {
-    pub status: Status,
-    pub report: String,
-}
 
 /// Why no report was made. For words without a form, and where a text or a file is too long, the report is the same
 /// for all, and takes no memory.
@@ -73,7 +66,7 @@ fn answer_command<S: Source>(
         Command::Text(kind, text) => answer_text(alloc, arena, kind, text, source),
         Command::Run => answer_run(alloc, source),
         Command::Gen(n) => or_memory(answer_gen(alloc, arena, n)),
-        Command::Decode(digits, keys) => or_memory(answer_decode(alloc, arena, digits, keys)),
+        Command::Decode(digits, keys) => or_memory(decode_answer(alloc, arena, digits, keys)),
     }
 }
 

@@ -10,10 +10,11 @@ ghost use Rattle.msat_cli.specs.Plans.{ShowsPlan};
 ghost use Rattle.msat_cli.specs.Policies.{ShowsPolicy};
 ghost use Rattle.msat_cli.specs.Satisfactions.{FindsWhereOneExists, ShowsCanonical, ShowsWitness, ShowsAccepted, ShowsNonMalleable, FindsNothingToAccept, RefusesOtherTexts, ShowsLightest};
 
-use crate::answer::{Answer, Stop, answer_words};
+use crate::answer::{Stop, answer_words};
 use bumpalo::Bump;
 use def_answer::Status;
 use ms_io::{Sink, Source, put_all};
+use ms_report::Answer;
 use ms_words::Word;
 use std::alloc::Global;
 

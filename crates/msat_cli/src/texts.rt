@@ -6,28 +6,27 @@ ghost use Rattle.def_tree.specs.Size.{measure};
 ghost use Rattle.ms_tree.specs.Shape.{shape};
 ghost use Rattle.ms_sane.specs.Place.{IsOfTree};
 ghost use Rattle.ms_io.specs.Faults.{Rose};
-ghost use Rattle.def_answer.specs.Lines.{text_line as the_text_line, unfit_line as the_unfit_line};
+ghost use Rattle.def_answer.specs.Lines.{unfit_line as the_unfit_line};
 ghost use Rattle.def_answer.specs.Reply.{reply, satisfy_reply};
 ghost use Rattle.def_answer.specs.Report.{check_report as the_check_report};
 ghost use Rattle.def_answer.specs.Sources.{NeedsSource};
 ghost use Rattle.ms_words.specs.Commands.{command_of};
-ghost use Rattle.msat_cli.specs.Fits.{demand_by, demand_of as the_demand_of, IsKnown};
+ghost use Rattle.ms_replies.specs.Fits.{demand_by, demand_of as the_demand_of, IsKnown};
 ghost use Rattle.msat_cli.specs.Sides.{side, ReadsFront, IsUnread};
-ghost use Rattle.msat_cli.specs.Steps.{rules_by, chosen_by, ReadsFor, Answers, AnswersFile, AnswersTree, AsDone, IsRefusal, Ended};
+ghost use Rattle.ms_replies.specs.Choices.{rules_by, chosen_by};
+ghost use Rattle.msat_cli.specs.Steps.{ReadsFor, Answers, AnswersFile, AnswersTree, AsDone, IsRefusal, Ended};
 ghost use Rattle.msat_cli.specs.Ends.{HasShortText};
 
-use crate::answer::{Answer, Stop, or_memory};
-use crate::audits::answer_audit;
-use crate::fit::{Demand, Fit, Known, Misfit, demand_of, fit_tree};
-use crate::names::rule_name;
-use crate::plans::answer_plan;
-use crate::policies::policy_report;
-use crate::report::{check_report, script_report, tree_limits_line};
-use crate::satisfying::answer_satisfaction;
+use crate::answer::{Stop, or_memory};
+use crate::source::{answer_audit, answer_plan, answer_satisfaction};
 use bumpalo::Bump;
 use def_answer::Status;
 use def_text::TextFault;
 use ms_io::Source;
+use ms_replies::{Demand, Fit, Known, Misfit, demand_of, fit_tree};
+use ms_report::{
+    Answer, check_report, policy_report, script_report, text_line, tree_limits_line, unfit_line,
+};
 use ms_sane::{Rules, Unfit};
 use ms_text::{TextTree, read_text};
 use ms_tree::Tree;
@@ -173,45 +172,13 @@ fn unfit_answer(alloc: Global, text: &TextTree<'_>, unfit: Unfit) -> Result<Answ
     })
 }
 
-/// The line of a reason against a tree.
-pub fn unfit_line(alloc: Global, text: &TextTree<'_>, unfit: Unfit) -> Result<String, AllocError>
-    requires { IsOfTree (shape text.now.tree) unfit }
-    ensures { IfOk result (λ report. string_bytes report ≡ the_unfit_line text.now.offsets.items unfit) }
-{
-    match unfit {
-        Unfit::Rule(at) => {
-            let (name, place) = (rule_name(at.rule), text.offset(at.node));
-            format!(in alloc; "refused text Rule {name} at {place}\n")
-        }
-        Unfit::TopNotB => String::from_str(alloc, "refused text TopNotB\n"),
-        Unfit::Size(n) => format!(in alloc; "refused text Size {n}\n"),
-        Unfit::Ops(n) => format!(in alloc; "refused text Ops {n}\n"),
-        Unfit::Items(n) => format!(in alloc; "refused text Items {n}\n"),
-        Unfit::Malleable(at) => {
-            let (name, place) = (rule_name(at.rule), text.offset(at.node));
-            format!(in alloc; "refused text Malleable {name} at {place}\n")
-        }
-        Unfit::NoSignature => String::from_str(alloc, "refused text NoSignature\n"),
-        Unfit::MixedLocks(node) => {
-            let place = text.offset(node);
-            format!(in alloc; "refused text MixedLocks at {place}\n")
-        }
-        Unfit::RepeatedKey(node) => {
-            let place = text.offset(node);
-            format!(in alloc; "refused text RepeatedKey at {place}\n")
-        }
-    }
-}
-
 /// The refusal of a text.
 fn refuse_text(alloc: Global, fault: TextFault) -> Result<Answer, Stop>
     ensures { Ended (IsRefusal fault) ⊥ (fault ≢ TextFault.TooLong) result }
 {
     let line = match fault {
         TextFault::TooLong => return Err(Stop::TextTooLong),
-        TextFault::Syntax(at) => format!(in alloc; "refused text Syntax at {at}\n"),
-        TextFault::TooDeep(at) => format!(in alloc; "refused text TooDeep at {at}\n"),
-        TextFault::Memory => return Err(Stop::Memory),
+        fault => text_line(alloc, fault),
     };
     match line {
         Ok(report) => Ok(Answer {

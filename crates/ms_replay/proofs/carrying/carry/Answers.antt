@@ -3,7 +3,7 @@ use Rattle.def_emit.specs.Emit.{script_of}
 use Rattle.def_machine.specs.Run.{accepted}
 use Rattle.ms_oracle.specs.Sound.{table_of}
 use Rattle.ms_tree.specs.Shape.{shape}
-use Rattle.ms_replay.specs.Reading.{FitsWitness}
+use Rattle.ms_witness.specs.Reading.{FitsWitness}
 use Rattle.ms_replay.proofs.Accepted.{is_within, fits_witness, is_accepting, run_is, few_ops}
 use Rattle.ms_replay.proofs.carrying.carry.Goals as goal
 

@@ -1,7 +1,7 @@
 use Rattle.std.proofs.Common.{sym, subst}
 use Rattle.def_sane.specs.Limits.{AreLimits}
 use Rattle.ms_tree.specs.Shape.{shape}
-use Rattle.msat_cli.specs.Fits.{demand_by}
+use Rattle.ms_replies.specs.Fits.{demand_by}
 use Rattle.msat_cli.proofs.StepLemmas.{known_limits}
 use Rattle.msat_cli.proofs.texts.answer_satisfy.Goals as goal
 

@@ -1,7 +1,0 @@
-use Rattle.std.proofs.Common.{◌≡◌, ◌-◌}
-use Rattle.ms_replay.specs.Reading.{first_items}
-use Rattle.ms_replay.proofs.Loop.{after}
-use Rattle.ms_replay.proofs.reading.first_stack.Given as goal
-
-abbrev pub invariant-loop : goal.invariant-loop
-invariant-loop l = after l.stack (first_items (l.count - l.counter) l.rest) ≡ first_items l.count l.bytes

@@ -1,0 +1,2 @@
+mod AuditReplies
+mod SatisfiedLines

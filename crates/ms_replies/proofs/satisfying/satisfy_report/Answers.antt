@@ -1,0 +1,22 @@
+use Rattle.std.proofs.Common.{◌≡◌, ◌∙◌}
+use Rattle.std.proofs.lemmas.Result.{IfOk-weaker}
+use Rattle.std.specs.String.{string_bytes}
+use Rattle.def_sane.proofs.Greatest.{limits_are_computed}
+use Rattle.ms_tree.specs.Shape.{shape}
+use Rattle.def_answer.specs.Report.{satisfy_report}
+use Rattle.ms_report.proofs.Weights.{light_stack}
+use Rattle.ms_replies.proofs.SatisfiedLines.{satisfied_lines}
+use Rattle.ms_replies.proofs.satisfying.satisfy_report.Goals as goal
+
+pub satisfaction_report-requires : goal.satisfaction_report-requires
+satisfaction_report-requires c =
+    light_stack (shape c.args.tree.now) _ c.args.assets.now c.args.stack.now c.requires.in_range c.requires.valid (limits_are_computed (shape c.args.tree.now))
+    c.locks-locks.ensures.few.held c.requires.canonical
+
+pub returns : goal.returns
+returns c rules limits =
+    IfOk-weaker c.satisfaction_report.result _ (λ report. string_bytes report ≡ satisfy_report rules (shape c.args.tree.now) c.args.assets.now c.args.stack.now)
+    (λ report e. satisfied_lines rules (shape c.args.tree.now) c.args.assets.now c.args.stack.now _ _ _ _ _ _
+    (c.new-sigs.ensures.table ∙ c.pairs-pairs.ensures) c.in_ok-carried.ensures.report limits
+    (c.as_slice.ensures ∙ c.in_ok-carried.ensures.script) (c.as_slice-2.ensures ∙ c.in_ok-carried.ensures.witness) e)
+    c.satisfaction_report.ensures

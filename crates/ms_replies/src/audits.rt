@@ -1,0 +1,89 @@
+//! What is answered to a run file for a text: whether its stack is accepted, and by which rows it satisfies the text.
+ghost use Rattle.std.specs.Prelude.{◌≡◌, ◌≤◌, length, IfOk};
+ghost use Rattle.std.specs.String.{string_bytes};
+ghost use Rattle.def_tree.specs.Range.{IsInRange};
+ghost use Rattle.def_emit.specs.Emit.{script_of};
+ghost use Rattle.def_machine.specs.Run.{run as the_run};
+ghost use Rattle.def_sane.specs.Unfit.{IsValid};
+ghost use Rattle.def_answer.specs.Laws.{walked, steps_found};
+ghost use Rattle.def_answer.specs.Reply.{reply, MOST_FILE, given_by, audited_reply, witness_reply, audit_reply};
+ghost use Rattle.ms_tree.specs.Shape.{shape};
+ghost use Rattle.ms_replies.specs.Choices.{file_seen};
+
+use crate::files::file_answer;
+use def_answer::Status;
+use ms_assets::{RunFile, read_run};
+use ms_audit::{AuditStop, audit};
+use ms_emit::script_bytes;
+use ms_oracle::{PairIndex, SigCheck};
+use ms_report::{Answer, audit_report, not_accepted_line};
+use ms_text::TextTree;
+use std::alloc::{AllocError, Global};
+
+/// The answer to a run file of these bytes for a text, as `audit` gives it: the file's refusal, or that its script
+/// isn't the text's, or by which rows its stack satisfies the text, or why the run is refused. It demands that the
+/// text's tree is valid, and that the file isn't too long. `AllocError` comes only where memory is wanting.
+pub fn audit_answer(alloc: Global, text: &TextTree<'_>, bytes: &[u8]) -> Result<Answer, AllocError>
+    requires in_range { IsInRange (shape text.now.tree) }
+    requires valid { IsValid (shape text.now.tree) }
+    requires short { length bytes.now ≤ MOST_FILE }
+    ensures { IfOk result (λ answer. reply answer.status (string_bytes answer.report) ≡ audit_reply text.now.offsets.items (walked (shape text.now.tree) bytes.now) bytes.now (shape text.now.tree)) }
+{
+    match read_run(alloc, bytes) {
+        Ok(file) => witness_answer(alloc, text, &file),
+        Err(fault) => file_answer(alloc, fault),
+    }
+}
+
+/// The answer to a run file that was read: that its script isn't the text's, or what an audit of it comes to.
+fn witness_answer(alloc: Global, text: &TextTree<'_>, file: &RunFile) -> Result<Answer, AllocError>
+    requires in_range { IsInRange (shape text.now.tree) }
+    requires valid { IsValid (shape text.now.tree) }
+    requires few { length file.now.stack ≤ 2000 }
+    ensures { IfOk result (λ answer. reply answer.status (string_bytes answer.report) ≡ witness_reply text.now.offsets.items (steps_found (shape text.now.tree) (file_seen file.now)) (shape text.now.tree) (file_seen file.now)) }
+{
+    let script = script_bytes(alloc, text.tree())?;
+    if file.script.as_slice() != script.as_slice() {
+        let line = String::from_str(alloc, "not accepted WrongScript\n")?;
+        return Ok(not_accepted(line));
+    }
+    audited_answer(alloc, text, file)
+}
+
+/// The answer to a run file whose script is the text's: what an audit of it comes to.
+fn audited_answer(alloc: Global, text: &TextTree<'_>, file: &RunFile) -> Result<Answer, AllocError>
+    requires in_range { IsInRange (shape text.now.tree) }
+    requires valid { IsValid (shape text.now.tree) }
+    requires few { length file.now.stack ≤ 2000 }
+    ensures { IfOk result (λ answer. reply answer.status (string_bytes answer.report) ≡ audited_reply text.now.offsets.items (steps_found (shape text.now.tree) (file_seen file.now)) (the_run (given_by (file_seen file.now)) (script_of (shape text.now.tree)) file.now.stack)) }
+{
+    let pairs = file.pairs.as_slice();
+    let index = PairIndex::new(alloc, pairs)?;
+    let sigs = SigCheck::new(pairs, |key: &[u8], sig: &[u8]| index.holds(key, sig));
+    match audit(alloc, text.tree(), &file.stack, &file.locks, &sigs) {
+        Ok(audit) => Ok(Answer {
+            status: Status::Done,
+            report: audit_report(
+                alloc,
+                text,
+                audit.trail.as_slice(),
+                audit.report.ops,
+                audit.report.peak,
+            )?,
+        }),
+        Err(AuditStop::Refused(fault, place)) => {
+            Ok(not_accepted(not_accepted_line(alloc, fault, place)?))
+        }
+        Err(AuditStop::Memory) => Err(AllocError),
+    }
+}
+
+/// The answer that a stack isn't accepted, with its line.
+fn not_accepted(line: String) -> Answer
+    ensures { reply result.status (string_bytes result.report) ≡ reply Status.NotAccepted (string_bytes line) }
+{
+    Answer {
+        status: Status::NotAccepted,
+        report: line,
+    }
+}

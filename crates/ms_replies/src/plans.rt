@@ -1,0 +1,63 @@
+//! What is answered to a plan file: which keys to ask for a signature, and what the satisfaction weighs at most.
+ghost use Rattle.std.specs.Prelude.{◌≡◌, ◌≢◌, ◌≤◌, length, IfOk};
+ghost use Rattle.std.specs.String.{string_bytes};
+ghost use Rattle.def_tree.specs.Range.{IsInRange};
+ghost use Rattle.def_sane.specs.Unfit.{IsSane};
+ghost use Rattle.def_plan.specs.FileLaws.{IsPlanFile};
+ghost use Rattle.def_plan.specs.Plan.{plan_of};
+ghost use Rattle.def_answer.specs.Lines.{plan_file_line as the_plan_file_line};
+ghost use Rattle.def_answer.specs.Reply.{reply, MOST_FILE, plan_reply, planned_reply};
+ghost use Rattle.ms_tree.specs.Shape.{shape};
+
+use def_answer::Status;
+use ms_plan::{Estimate, PlanFault, PlanFile, length_in, plan, read_plan};
+use ms_report::{Answer, plan_file_line, plan_report};
+use ms_tree::{Key, Tree};
+use std::alloc::{AllocError, Global};
+
+/// The answer to a plan file of these bytes for a sane tree, as `plan` gives it: the file's refusal, or the keys to
+/// ask for a signature, or that all that are listed aren't enough. It demands that the file isn't too long.
+/// `AllocError` comes only where memory is wanting.
+pub fn plan_answer(alloc: Global, tree: &Tree<'_>, bytes: &[u8]) -> Result<Answer, AllocError>
+    requires in_range { IsInRange (shape tree.now) }
+    requires sane { IsSane (shape tree.now) }
+    requires short { length bytes.now ≤ MOST_FILE }
+    ensures { IfOk result (λ answer. reply answer.status (string_bytes answer.report) ≡ plan_reply bytes.now (shape tree.now)) }
+{
+    match read_plan(alloc, bytes) {
+        Ok(file) => planned_answer(alloc, tree, &file),
+        Err(fault) => plan_file_answer(alloc, fault),
+    }
+}
+
+/// The answer to a plan file that was read: the keys to ask, or that all that are listed aren't enough.
+fn planned_answer(alloc: Global, tree: &Tree<'_>, file: &PlanFile) -> Result<Answer, AllocError>
+    requires in_range { IsInRange (shape tree.now) }
+    requires sane { IsSane (shape tree.now) }
+    requires usable { IsPlanFile file.now }
+    ensures { IfOk result (λ answer. reply answer.status (string_bytes answer.report) ≡ planned_reply (plan_of (shape tree.now) file.now.assets file.now.table)) }
+{
+    let table = file.table.as_slice();
+    let estimate = Estimate::new(table, |key: &Key| length_in(table, key));
+    match plan(alloc, tree, &file.assets, &estimate)? {
+        Some(plan) => Ok(Answer {
+            status: Status::Done,
+            report: plan_report(alloc, plan.keys.as_slice(), plan.weight)?,
+        }),
+        None => Ok(Answer {
+            status: Status::NoSatisfaction,
+            report: String::from_str(alloc, "no satisfaction\n")?,
+        }),
+    }
+}
+
+/// The refusal of a plan file, unless memory was wanting.
+fn plan_file_answer(alloc: Global, fault: PlanFault) -> Result<Answer, AllocError>
+    ensures answer { IfOk result (λ answer. reply answer.status (string_bytes answer.report) ≡ reply Status.FileRefused (the_plan_file_line fault)) }
+    ensures known { IfOk result (λ answer. fault ≢ PlanFault.Memory) }
+{
+    Ok(Answer {
+        status: Status::FileRefused,
+        report: plan_file_line(alloc, fault)?,
+    })
+}

@@ -1,0 +1,119 @@
+//! What is answered to an asset file: a satisfaction, its witness, and the replay of the witness.
+ghost use Rattle.std.specs.Prelude.{◌≡◌, ◌≤◌, None, length, IfOk, IfSome};
+ghost use Rattle.std.specs.String.{string_bytes};
+ghost use Rattle.def_tree.specs.Range.{IsInRange};
+ghost use Rattle.def_sane.specs.declared.Rules.{Rules};
+ghost use Rattle.def_sane.specs.declared.Rules.TheVariants.{Consensus};
+ghost use Rattle.def_sane.specs.Unfit.{IsValidUnder};
+ghost use Rattle.def_satisfaction.specs.Satisfaction.{Sat};
+ghost use Rattle.ms_tree.specs.Shape.{shape};
+ghost use Rattle.def_answer.specs.Reply.{reply, MOST_FILE, chosen_reply, satisfy_reply};
+ghost use Rattle.def_answer.specs.Report.{tree_limits_line, satisfy_report as the_satisfy_report};
+ghost use Rattle.ms_replies.specs.Choices.{chosen_by, rules_by, reason_by};
+
+use crate::files::file_answer;
+use def_answer::Status;
+use ms_assets::{Assets, read_assets};
+use ms_nonmal::strict;
+use ms_oracle::{PairIndex, SigCheck};
+use ms_replay::carry;
+use ms_report::{Answer, satisfaction_report};
+use ms_sat::cheapest;
+use ms_script::Stack;
+use ms_tree::Tree;
+use ms_words::Choice;
+use std::alloc::{AllocError, Global};
+
+/// The answer to an asset file of these bytes for a tree, as `satisfy` gives it: the file's refusal, or the
+/// satisfaction, or that there is none. It demands that there is no reason against the tree, that `limits` is the
+/// line of its limits, and that the file isn't too long. `AllocError` comes only where memory is wanting.
+pub fn assets_answer(
+    alloc: Global,
+    choice: Choice,
+    tree: &Tree<'_>,
+    limits: &str,
+    bytes: &[u8],
+) -> Result<Answer, AllocError>
+    requires in_range { IsInRange (shape tree.now) }
+    requires fit { reason_by choice (shape tree.now) ≡ None }
+    requires limits { limits.now ≡ tree_limits_line (rules_by choice) (shape tree.now) }
+    requires short { length bytes.now ≤ MOST_FILE }
+    ensures { IfOk result (λ answer. reply answer.status (string_bytes answer.report) ≡ satisfy_reply (rules_by choice) (chosen_by choice) bytes.now (shape tree.now)) }
+{
+    match read_assets(alloc, bytes) {
+        Ok(assets) => chosen_answer(alloc, choice, tree, limits, &assets),
+        Err(fault) => file_answer(alloc, fault),
+    }
+}
+
+/// The answer to assets: the satisfaction, or that there is none.
+fn chosen_answer(
+    alloc: Global,
+    choice: Choice,
+    tree: &Tree<'_>,
+    limits: &str,
+    assets: &Assets,
+) -> Result<Answer, AllocError>
+    requires in_range { IsInRange (shape tree.now) }
+    requires fit { reason_by choice (shape tree.now) ≡ None }
+    requires limits { limits.now ≡ tree_limits_line (rules_by choice) (shape tree.now) }
+    ensures { IfOk result (λ answer. reply answer.status (string_bytes answer.report) ≡ chosen_reply (rules_by choice) (shape tree.now) assets.now (chosen_by choice (shape tree.now) assets.now)) }
+{
+    match satisfaction(alloc, choice, tree, assets)? {
+        Some(stack) => Ok(Answer {
+            status: Status::Done,
+            report: satisfy_report(alloc, tree, limits, assets, &stack)?,
+        }),
+        None => Ok(Answer {
+            status: Status::NoSatisfaction,
+            report: String::from_str(alloc, "no satisfaction\n")?,
+        }),
+    }
+}
+
+/// The satisfaction of a tree by these assets, where there is one.
+fn satisfaction(
+    alloc: Global,
+    choice: Choice,
+    tree: &Tree<'_>,
+    assets: &Assets,
+) -> Result<Option<Stack>, AllocError>
+    requires in_range { IsInRange (shape tree.now) }
+    requires fit { reason_by choice (shape tree.now) ≡ None }
+    ensures valid { IfOk result (λ found. IsValidUnder Consensus (shape tree.now)) }
+    ensures choice { IfOk result (λ found. found ≡ chosen_by choice (shape tree.now) assets.now) }
+    ensures canonical { IfOk result (λ found. IfSome found (Sat (shape tree.now) assets.now)) }
+{
+    match choice {
+        Choice::Strict(_) => strict(alloc, tree, assets),
+        Choice::Cheapest(_) => cheapest(alloc, tree, assets),
+    }
+}
+
+/// The Script, its program, the limits, the satisfaction, its witness, and what the replay of the witness counted.
+fn satisfy_report(
+    alloc: Global,
+    tree: &Tree<'_>,
+    limits: &str,
+    assets: &Assets,
+    stack: &Stack,
+) -> Result<String, AllocError>
+    requires in_range { IsInRange (shape tree.now) }
+    requires valid { IsValidUnder Consensus (shape tree.now) }
+    requires canonical { Sat (shape tree.now) assets.now stack.now }
+    ensures { (rules : Rules) → limits.now ≡ tree_limits_line rules (shape tree.now) → IfOk result (λ report. string_bytes report ≡ the_satisfy_report rules (shape tree.now) assets.now stack.now) }
+{
+    let _locks = assets.locks();
+    let pairs = assets.pairs();
+    let index = PairIndex::new(alloc, pairs)?;
+    let sigs = SigCheck::new(pairs, |key: &[u8], sig: &[u8]| index.holds(key, sig));
+    let carried = carry(alloc, tree, stack, assets, &sigs)?;
+    satisfaction_report(
+        alloc,
+        limits,
+        carried.script.as_slice(),
+        stack,
+        carried.witness.as_slice(),
+        &carried.report,
+    )
+}

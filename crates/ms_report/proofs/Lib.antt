@@ -1,0 +1,5 @@
+mod TreeLines
+mod ItemLines
+mod PlanLines
+mod PolicyLines
+pub mod Weights

@@ -1,0 +1,11 @@
+use Rattle.std.proofs.Common.{◌∙◌}
+use Rattle.ms_tree.specs.Shape.{shape}
+use Rattle.ms_report.proofs.TreeLines.{sane_lines}
+use Rattle.ms_report.proofs.trees.check_report.Goals as goal
+
+pub returns : goal.returns
+returns c =
+    sane_lines c.args.rules (shape c.args.tree.now) c.args.sane.now _ _ _ _ _ _ _ _ _ c.requires.sane
+    (c.deref.ensures ∙ c.in_ok-print_text.ensures.printed) (c.deref-2.ensures ∙ c.in_ok-type_letters.ensures)
+    (c.as_slice-2.ensures ∙ c.in_ok-script_bytes.ensures) (c.deref-3.ensures ∙ c.in_ok-tree_limits_line.ensures)
+    c.new-report.ensures.bytes c.in_ok-push_line.ensures c.in_ok-push_line-2.ensures c.in_ok-push_output.ensures c.in_ok-push_str.ensures.bytes

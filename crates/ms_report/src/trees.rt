@@ -1,0 +1,96 @@
+//! What is printed of a tree that passed.
+ghost use Rattle.std.specs.Prelude.{◌≡◌, ◌*◌, ◌≤◌, ◌++◌, IfOk, OnOk, vec_len};
+ghost use Rattle.std.specs.String.{string_bytes};
+ghost use Rattle.def_tree.specs.Range.{IsInRange};
+ghost use Rattle.def_sane.specs.Unfit.{IsKnownSaneUnder};
+ghost use Rattle.def_tree.specs.Size.{measure};
+ghost use Rattle.ms_tree.specs.Shape.{shape};
+ghost use Rattle.def_answer.specs.Report.{script_report as the_script_report, check_report as the_check_report, decode_report as the_decode_report, type_letters as the_type_letters, letter};
+
+use crate::limits::tree_limits_line;
+use crate::lines::{push_line, push_output};
+use crate::names::base_letter;
+use ms_emit::script_bytes;
+use ms_sane::{Rules, Sane, Work};
+use ms_text::print_text;
+use ms_tree::Tree;
+use ms_types::{Mall, Ty};
+use std::alloc::{AllocError, Global};
+
+/// The Script of a tree (BIP 379) in lower-case digits: what `script` prints. `AllocError` comes only where memory is
+/// wanting.
+#[tactic(auto, unfolding(def_answer::specs::Report::script_report))]
+pub fn script_report(alloc: Global, tree: &Tree<'_>) -> Result<String, AllocError>
+    requires { IsInRange (shape tree.now) }
+    ensures { IfOk result (λ report. string_bytes report ≡ the_script_report (shape tree.now)) }
+{
+    let script = script_bytes(alloc, tree)?;
+    let mut report = hex::encode(alloc, script.as_slice())?;
+    report.push('\n')?;
+    Ok(report)
+}
+
+/// The printed form, the type, the Script, its program and the limits, of a tree that is sane by these rules: what
+/// `check` prints. It demands that `sane` is what is known of the tree, and lends `work` to its height, four slots
+/// for each unit of the tree's measure. `AllocError` comes only where memory is wanting.
+pub fn check_report(
+    alloc: Global,
+    rules: Rules,
+    tree: &Tree<'_>,
+    sane: &Sane,
+    work: &mut Work,
+) -> Result<String, AllocError>
+    requires range { IsInRange (shape tree.now) }
+    requires sane { IsKnownSaneUnder rules (shape tree.now) sane.now }
+    requires room { 4 * measure (shape tree.now) ≤ vec_len work.old.slots }
+    ensures { IfOk result (λ report. string_bytes report ≡ the_check_report rules (shape tree.now)) }
+{
+    let mut report = String::new(alloc);
+    push_line(&mut report, "text ", &print_text(alloc, tree)?)?;
+    push_line(
+        &mut report,
+        "type ",
+        &type_letters(alloc, sane.ty, sane.mall)?,
+    )?;
+    push_output(alloc, &mut report, script_bytes(alloc, tree)?.as_slice())?;
+    report.push_str(&tree_limits_line(alloc, rules, tree, sane.limits, work)?)?;
+    Ok(report)
+}
+
+/// The printed form of a tree that a Script was read back as: what `decode` prints. `AllocError` comes only where
+/// memory is wanting.
+#[tactic(auto, unfolding(def_answer::specs::Report::decode_report))]
+pub fn decode_report(alloc: Global, tree: &Tree<'_>) -> Result<String, AllocError>
+    requires { IsInRange (shape tree.now) }
+    ensures { IfOk result (λ report. string_bytes report ≡ the_decode_report (shape tree.now)) }
+{
+    let mut report = String::new(alloc);
+    push_line(&mut report, "text ", &print_text(alloc, tree)?)?;
+    Ok(report)
+}
+
+/// The base type's letter, and those of the properties that hold.
+fn type_letters(alloc: Global, ty: Ty, mall: Mall) -> Result<String, AllocError>
+    ensures { IfOk result (λ letters. string_bytes letters ≡ the_type_letters ty mall) }
+{
+    let mut letters = String::from_str(alloc, base_letter(ty.base))?;
+    push_letter(&mut letters, ty.z, "z")?;
+    push_letter(&mut letters, ty.o, "o")?;
+    push_letter(&mut letters, ty.n, "n")?;
+    push_letter(&mut letters, ty.d, "d")?;
+    push_letter(&mut letters, ty.u, "u")?;
+    push_letter(&mut letters, mall.s, "s")?;
+    push_letter(&mut letters, mall.f, "f")?;
+    push_letter(&mut letters, mall.e, "e")?;
+    Ok(letters)
+}
+
+/// Adds the letter of a property that holds.
+fn push_letter(letters: &mut String, holds: bool, name: &str) -> Result<(), AllocError>
+    ensures { OnOk result (string_bytes letters.new ≡ string_bytes letters.old ++ letter holds name.now) }
+{
+    if holds {
+        letters.push_str(name)?;
+    }
+    Ok(())
+}

@@ -1,0 +1,5 @@
+mod Computed
+mod Items
+mod Loop
+mod Parts
+pub mod Witnesses

@@ -1,0 +1,5 @@
+pub mod Reading
+pub mod Examples
+pub mod Laws
+pub mod Replaying
+pub mod Answering

@@ -1,0 +1,42 @@
+//! Writing a witness as bytes.
+
+ghost use Rattle.std.specs.Prelude.{◌≡◌, ◌++◌, IfOk, OnOk};
+ghost use Rattle.def_script.specs.Sizes.{size_bytes};
+ghost use Rattle.def_script.specs.Witness.{sized, witness_text};
+ghost use Rattle.ms_witness.specs.Reading.{FitsWitness};
+
+use ms_script::{Blob, Stack, compact_size};
+use std::alloc::{AllocError, Global};
+
+/// The witness of a P2WSH input (BIP 141): the number of items, and then each item of the stack, bottom first, after
+/// its length, with the Script as the last item.
+///
+/// It demands that the stack has at most 9,999 items, and that each of them and the Script have at most 10,000 bytes.
+/// `AllocError` comes only where memory is wanting.
+pub fn witness_bytes(alloc: Global, stack: &Stack, script: &[u8]) -> Result<Blob, AllocError>
+    requires { FitsWitness stack.now script.now }
+    ensures { IfOk result (λ bytes. bytes ≡ witness_text stack.now script.now) }
+{
+    let mut bytes = Vec::new(alloc);
+    push_size(&mut bytes, stack.len() + 1)?;
+    for i in 0..stack.len() {
+        push_item(&mut bytes, stack.item(i))?;
+    }
+    push_item(&mut bytes, script)?;
+    Ok(Blob::from_vec(bytes))
+}
+
+/// Adds an item after its length.
+fn push_item(bytes: &mut Vec<u8>, item: &[u8]) -> Result<(), AllocError>
+    ensures { OnOk result (bytes.new.items ≡ bytes.old.items ++ sized item.now) }
+{
+    push_size(bytes, item.len())?;
+    bytes.extend_from_slice(item)
+}
+
+/// Adds the shortest spelling of a size.
+fn push_size(bytes: &mut Vec<u8>, size: usize) -> Result<(), AllocError>
+    ensures { OnOk result (bytes.new.items ≡ bytes.old.items ++ size_bytes size) }
+{
+    bytes.extend_from_slice(compact_size(size as u64).as_slice())
+}

@@ -1,7 +1,0 @@
-use Rattle.std.proofs.Common.{◌≡◌}
-use Rattle.def_answer.specs.Generated.{generated_assets}
-use Rattle.msat_cli.proofs.generator.all_assets.Given as goal
-
--- the assets so far
-abbrev pub invariant-loop-i : goal.invariant-loop-i
-invariant-loop-i l = l.assets ≡ generated_assets l.i

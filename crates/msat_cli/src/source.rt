@@ -1,0 +1,110 @@
+//! The file that the source holds, and what is answered to it.
+ghost use Rattle.std.specs.Prelude.{◌≡◌, ◌≤◌, ⊤, None, length, IfOk, IfErr};
+ghost use Rattle.def_tree.specs.Range.{IsInRange};
+ghost use Rattle.def_sane.specs.Unfit.{IsSane, IsValid};
+ghost use Rattle.def_answer.specs.Laws.{walked};
+ghost use Rattle.def_answer.specs.Reply.{MOST_FILE as most_file, satisfy_reply, run_reply, plan_reply, audit_reply};
+ghost use Rattle.def_answer.specs.Report.{tree_limits_line};
+ghost use Rattle.ms_tree.specs.Shape.{shape};
+ghost use Rattle.ms_io.specs.Faults.{Rose};
+ghost use Rattle.ms_replies.specs.Choices.{chosen_by, rules_by, reason_by};
+ghost use Rattle.msat_cli.specs.Sides.{side, ReadsFront, Held};
+ghost use Rattle.msat_cli.specs.Steps.{StopsReading, AnswersFile, Ended};
+
+use crate::answer::{Stop, or_memory};
+use ms_io::{ReadStop, Source, read_all};
+use ms_replies::{assets_answer, audit_answer, plan_answer, run_answer};
+use ms_report::Answer;
+use ms_text::TextTree;
+use ms_tree::Tree;
+use ms_words::Choice;
+use std::alloc::Global;
+
+/// How many bytes a file may have.
+const MOST_FILE: usize = 1_048_576;
+
+/// Answers with the satisfaction of a tree by the assets of the file that the source holds. There is no reason
+/// against the tree, and `limits` is the line of its limits.
+pub fn answer_satisfaction<S: Source>(
+    alloc: Global,
+    choice: Choice,
+    tree: &Tree<'_>,
+    limits: &str,
+    source: &mut S,
+) -> Result<Answer, Stop>
+    requires in_range { IsInRange (shape tree.now) }
+    requires fit { reason_by choice (shape tree.now) ≡ None }
+    requires limits { limits.now ≡ tree_limits_line (rules_by choice) (shape tree.now) }
+    ensures answer { Ended (AnswersFile (λ bytes. satisfy_reply (rules_by choice) (chosen_by choice) bytes (shape tree.now)) (side S.left S.faults source.old source.new)) (Rose (S.faults source.old) (S.faults source.new)) ⊤ result }
+    ensures later { S.faults source.old ≤ S.faults source.new }
+    ensures front { ReadsFront (S.left source.old) (S.left source.new) }
+{
+    match read_file(alloc, source) {
+        Ok(bytes) => or_memory(assets_answer(alloc, choice, tree, limits, &bytes)),
+        Err(stop) => Err(stop),
+    }
+}
+
+/// Answers which keys to ask for a signature for a tree, by the plan file that the source holds. The tree is sane.
+pub fn answer_plan<S: Source>(
+    alloc: Global,
+    tree: &Tree<'_>,
+    source: &mut S,
+) -> Result<Answer, Stop>
+    requires in_range { IsInRange (shape tree.now) }
+    requires sane { IsSane (shape tree.now) }
+    ensures answer { Ended (AnswersFile (λ bytes. plan_reply bytes (shape tree.now)) (side S.left S.faults source.old source.new)) (Rose (S.faults source.old) (S.faults source.new)) ⊤ result }
+    ensures later { S.faults source.old ≤ S.faults source.new }
+    ensures front { ReadsFront (S.left source.old) (S.left source.new) }
+{
+    match read_file(alloc, source) {
+        Ok(bytes) => or_memory(plan_answer(alloc, tree, &bytes)),
+        Err(stop) => Err(stop),
+    }
+}
+
+/// Answers how the stack of the run file that the source holds satisfies the tree of a text, which is valid.
+pub fn answer_audit<S: Source>(
+    alloc: Global,
+    text: &TextTree<'_>,
+    source: &mut S,
+) -> Result<Answer, Stop>
+    requires in_range { IsInRange (shape text.now.tree) }
+    requires valid { IsValid (shape text.now.tree) }
+    ensures answer { Ended (AnswersFile (λ bytes. audit_reply text.now.offsets.items (walked (shape text.now.tree) bytes) bytes (shape text.now.tree)) (side S.left S.faults source.old source.new)) (Rose (S.faults source.old) (S.faults source.new)) ⊤ result }
+    ensures later { S.faults source.old ≤ S.faults source.new }
+    ensures front { ReadsFront (S.left source.old) (S.left source.new) }
+{
+    match read_file(alloc, source) {
+        Ok(bytes) => or_memory(audit_answer(alloc, text, &bytes)),
+        Err(stop) => Err(stop),
+    }
+}
+
+/// Answers the run of the file that the source holds.
+pub fn answer_run<S: Source>(alloc: Global, source: &mut S) -> Result<Answer, Stop>
+    ensures answer { Ended (AnswersFile run_reply (side S.left S.faults source.old source.new)) (Rose (S.faults source.old) (S.faults source.new)) ⊤ result }
+    ensures later { S.faults source.old ≤ S.faults source.new }
+    ensures front { ReadsFront (S.left source.old) (S.left source.new) }
+{
+    match read_file(alloc, source) {
+        Ok(bytes) => or_memory(run_answer(alloc, &bytes)),
+        Err(stop) => Err(stop),
+    }
+}
+
+/// Reads the file that the source holds.
+fn read_file<S: Source>(alloc: Global, source: &mut S) -> Result<Vec<u8>, Stop>
+    ensures held { IfOk result (λ bytes. Held (side S.left S.faults source.old source.new) bytes.items) }
+    ensures short { IfOk result (λ bytes. length bytes.items ≤ most_file) }
+    ensures stop { IfErr result (StopsReading (side S.left S.faults source.old source.new)) }
+    ensures later { S.faults source.old ≤ S.faults source.new }
+    ensures front { ReadsFront (S.left source.old) (S.left source.new) }
+{
+    match read_all(alloc, source, MOST_FILE) {
+        Ok(bytes) => Ok(bytes),
+        Err(ReadStop::TooLong) => Err(Stop::FileTooLong),
+        Err(ReadStop::Fault) => Err(Stop::ReadFault),
+        Err(ReadStop::Memory) => Err(Stop::Memory),
+    }
+}
