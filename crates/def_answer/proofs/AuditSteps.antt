@@ -1,5 +1,5 @@
 -- The steps of an audit: the walk finds them, and there are no others.
-use Rattle.std.proofs.Common.{◌≡◌, ℕ, Bool, true, false, if◌then◌else◌, List, [], Option, Some, None, Ok, Err, inl, inr, refl, sym, ◌∙◌, ap, subst, nat_lt, length}
+use Rattle.std.proofs.Common.{◌≡◌, ℕ, Bool, true, false, if◌then◌else◌, List, [], Option, Some, Ok, Err, refl, sym, ◌∙◌, ap, subst, nat_lt, length}
 use Rattle.std.specs.Prelude.{Result, unwrap_or}
 use Rattle.std.specs.Str.{bytes_eq}
 use Rattle.std.proofs.lemmas.Slice.Eq.{bytes_eq-Decides}
@@ -7,7 +7,6 @@ use Rattle.def_script.specs.Bytes.{Bytes}
 use Rattle.def_machine.specs.Stacks.{Pairs}
 use Rattle.def_machine.specs.Machine.{Given}
 use Rattle.def_machine.specs.Run.{Outcome, accepted, refused, run}
-use Rattle.def_tree.specs.Range.{IsWritable}
 use Rattle.def_tree.specs.Tree.{Tree}
 use Rattle.def_emit.specs.Emit.{script_of}
 use Rattle.def_sane.specs.declared.Rules.TheVariants.{Policy}
@@ -21,7 +20,7 @@ use Rattle.ms_audit_laws.specs.Walk.{trail_of}
 use Rattle.ms_audit_laws.proofs.WalkTrees.{walk_is_trail, trail_is_unique, accepted_has_trail}
 use Rattle.def_answer.specs.declared.status.Status.TheVariants as status
 use Rattle.def_answer.specs.Lines.{wrong_script_line, file_too_long_line, file_line}
-use Rattle.def_answer.specs.Reply.{Reply, reply, given_by, audited_reply, witness_reply, audit_reply, unless_refused, MOST_FILE}
+use Rattle.def_answer.specs.Reply.{reply, given_by, audited_reply, witness_reply, audit_reply, unless_refused, MOST_FILE}
 use Rattle.def_answer.specs.Answer.{AreSteps}
 use Rattle.def_answer.specs.Laws.{walked, steps_in, WalkedAreSteps}
 

@@ -6,9 +6,11 @@ use Rattle.std.proofs.lemmas.Bool.{eqb-true}
 use Rattle.std.proofs.lemmas.List.{length-replicate}
 use Rattle.std.proofs.lemmas.List.Elements.{All-map}
 use Rattle.std.proofs.lemmas.List.FromFn.{length-range_with_len, get_or-range_with_len}
-use Rattle.def_script.specs.Bytes.{Bytes, IsBytes}
+use Rattle.def_script.specs.Bytes.{IsBytes}
+use Rattle.def_machine.specs.Stacks.{Pairs}
 use Rattle.def_tree.specs.Range.{IsKey}
-use Rattle.def_assets.specs.Assets.{IsSignature, IsPreimage}
+use Rattle.def_assets.specs.Assets.{IsSignature, IsPreimage, same_pair}
+use Rattle.def_assets.proofs.Distinct.{distinct_pairs, distinct_keys}
 use Rattle.def_answer.specs.Generated.{generated_key, generated_sig, generated_preimage}
 use Rattle.def_answer.specs.Laws.{GeneratedAreAssets}
 
@@ -67,16 +69,23 @@ unfolding IsDistinct
 keys_distinct a zero = tt
 keys_distinct a (suc n) = (all_differ a (a + 1) n (omega arith), keys_distinct (a + 1) n)
 
-firsts : (is : List ℕ) → map (λ (pair : Bytes × Bytes). pair.0) (map (λ i. (generated_key i, generated_sig i)) is)
-    ≡ map generated_key is
+abbrev pairs_of : List ℕ → Pairs
+pairs_of is = map (λ i. (generated_key i, generated_sig i)) is
+
+firsts : (is : List ℕ) → map generated_key is ≡ map (λ pair. pair.0) (pairs_of is)
 firsts [] = refl
 firsts (i ∷ is) = ap (λ ks. generated_key i ∷ ks) (firsts is)
+
+pairs_distinct : (a n : ℕ) → IsDistinct same_pair (pairs_of (range_with_len a n))
+pairs_distinct a n =
+    let pairs = pairs_of (range_with_len a n) in
+    distinct_pairs pairs (distinct_keys pairs (subst (IsDistinct bytes_eq) (firsts (range_with_len a n)) (keys_distinct a n)))
 
 pub generated_are_assets : GeneratedAreAssets
 generated_are_assets n few = record {
   keys = All-map (λ pair. IsKey pair.0) (λ i. (generated_key i, generated_sig i)) (range_with_len 0 n) (all_in_range (λ i. IsKey (generated_key i)) n few key_is);
   signatures = All-map (λ pair. IsSignature pair.1) (λ i. (generated_key i, generated_sig i)) (range_with_len 0 n) (all_in_range (λ i. IsSignature (generated_sig i)) n few sig_is);
-  distinct = rw (firsts (range_with_len 0 n)) (keys_distinct 0 n);
+  distinct = pairs_distinct 0 n;
   preimages = All-map IsPreimage generated_preimage (range_with_len 0 n) (all_in_range (λ i. IsPreimage (generated_preimage i)) n few preimage_is);
   version = lit< tt;
   sequence = lit< tt;

@@ -4,7 +4,7 @@ use Rattle.def_machine.specs.Samples.{key_a}
 use Rattle.def_types.specs.Samples.{pk}
 use Rattle.def_sane.specs.declared.Rules.TheVariants.{Policy}
 use Rattle.def_choice.specs.Strict.{strict}
-use Rattle.def_answer.specs.SatisfyExamples.{TwoOfThree, LateKey, TooEarly, VoidLock, TimeLock, NoTime, StrictThreshold, CheapestThreshold, StrictEither, CheapestEither, LockInThreshold, LockTooEarly, SignaturesForLock, ZerosAsPreimage, ZerosUnknown, TextsFirst, ZeroHasNone, RefusedFiles, FileTooLong}
+use Rattle.def_answer.specs.SatisfyExamples.{TwoOfThree, ShorterSignature, LateKey, TooEarly, VoidLock, TimeLock, NoTime, StrictThreshold, CheapestThreshold, StrictEither, CheapestEither, LockInThreshold, LockTooEarly, SignaturesForLock, ZerosAsPreimage, ZerosUnknown, TextsFirst, ZeroHasNone, RefusedFiles, RefusedFormats, FileTooLong}
 use Rattle.def_answer.proofs.Answered.{answered}
 use Rattle.def_answer.proofs.Early.{long_asset_file}
 use Rattle.def_answer.proofs.Computing.{answers_on_literals}
@@ -12,6 +12,10 @@ use Rattle.def_answer.proofs.Computing.{answers_on_literals}
 pub two_of_three : TwoOfThree
 unfolding answers_on_literals
 two_of_three = answered refl refl
+
+pub shorter_signature : ShorterSignature
+unfolding answers_on_literals
+shorter_signature = (answered refl refl, answered refl refl)
 
 pub late_key : LateKey
 unfolding answers_on_literals
@@ -81,6 +85,11 @@ pub refused_files : RefusedFiles
 unfolding answers_on_literals
 refused_files =
     (answered refl refl, answered refl refl, answered refl refl, answered refl refl, answered refl refl, answered refl refl)
+
+pub refused_formats : RefusedFormats
+unfolding answers_on_literals
+refused_formats =
+    (answered refl refl, answered refl refl, answered refl refl, answered refl refl, answered refl refl)
 
 pub file_too_long : FileTooLong
 unfolding answers_on_literals

@@ -46,6 +46,27 @@ TwoOfThree =
     ∷ codes "replay ops 4 items 3 weight 144 peak 8"
     ∷ [])
 
+-- `pk(A)` with two signatures of A: the shorter one is taken, whichever form asks
+abbrev pub key_script : Bytes
+key_script = codes "21" ++ A ++ codes "ac"
+
+abbrev pub short_sig_a : Bytes
+short_sig_a = signature A SIG_C
+
+abbrev pub two_signatures : List Bytes
+two_signatures = number (codes "format") 2 ∷ signatures (sig_a ∷ short_sig_a ∷ []) ∷ []
+
+abbrev pub with_short_sig : List Bytes
+with_short_sig =
+    known key_script (codes "size 35 ops 1 items 1 weight 74")
+    ++ (codes "item " ++ SIG_C)
+    ∷ (codes "witness 0246" ++ SIG_C ++ codes "23" ++ key_script)
+    ∷ codes "replay ops 1 items 1 weight 71 peak 2"
+    ∷ []
+
+abbrev pub ShorterSignature : Type 0
+ShorterSignature = Satisfies (pk A) two_signatures with_short_sig × Cheapest (pk A) two_signatures with_short_sig
+
 -- ---- locks
 
 -- `or_d(pk(A),and_v(v:pkh(B),older(144)))`
@@ -282,6 +303,15 @@ RefusedFiles =
     × RefusesFile (codes "{\"sequence\":4294967296}") (codes "Number sequence")
     × RefusesFile (file (signatures (sig_a ∷ sig_a ∷ []) ∷ [])) (codes "RepeatedKey 1")
     × RefusesFile (file (signatures (signature A (SIG_A ++ codes "aaaaaa") ∷ []) ∷ [])) (codes "SigLength 0")
+
+-- several signatures of a key without a format that has them; one twice; other formats, after the numbers of the locks
+abbrev pub RefusedFormats : Type 0
+RefusedFormats =
+    RefusesFile (file (signatures (sig_a ∷ short_sig_a ∷ []) ∷ [])) (codes "RepeatedKey 1")
+    × RefusesFile (file (number (codes "format") 1 ∷ signatures (sig_a ∷ short_sig_a ∷ []) ∷ [])) (codes "RepeatedKey 1")
+    × RefusesFile (file (number (codes "format") 2 ∷ signatures (sig_a ∷ sig_a ∷ []) ∷ [])) (codes "RepeatedKey 1")
+    × RefusesFile (file (number (codes "format") 3 ∷ [])) (codes "Number format")
+    × RefusesFile (codes "{\"format\":3,\"version\":-1}") (codes "Number version")
 
 -- over 1,048,576 bytes, whatever they are
 abbrev pub FileTooLong : Type 0

@@ -38,6 +38,7 @@ ghost use Rattle.def_answer.specs.DecodeExamples.{
 };
 ghost use Rattle.def_answer.specs.SatisfyExamples.{
   TwoOfThree,
+  ShorterSignature,
   LateKey,
   TooEarly,
   VoidLock,
@@ -55,6 +56,7 @@ ghost use Rattle.def_answer.specs.SatisfyExamples.{
   TextsFirst,
   ZeroHasNone,
   RefusedFiles,
+  RefusedFormats,
   FileTooLong,
 };
 ghost use Rattle.def_answer.specs.RunExamples.{
@@ -140,6 +142,7 @@ pub fn decodings()
 /// Answers to `satisfy TEXT` and `satisfy --malleable TEXT`.
 pub fn satisfactions()
     ensures two_of_three { TwoOfThree }
+    ensures shorter_signature { ShorterSignature }
     ensures late_key { LateKey }
     ensures too_early { TooEarly }
     ensures void_lock { VoidLock }
@@ -157,6 +160,7 @@ pub fn satisfactions()
     ensures texts_first { TextsFirst }
     ensures zero_has_none { ZeroHasNone }
     ensures refused_files { RefusedFiles }
+    ensures refused_formats { RefusedFormats }
     ensures file_too_long { FileTooLong }
 {}
 

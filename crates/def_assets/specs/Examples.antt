@@ -12,9 +12,15 @@ use Rattle.def_assets.specs.Assets.{Assets, sig_of, known, unsigned}
 abbrev pub holding : Pairs → (preimages : List Bytes) → Assets
 holding pairs preimages = record { locks = plain_locks; pairs = pairs; preimages = preimages }
 
--- of two signatures with one key the first is found
-abbrev pub FirstSignature : Type 0
-FirstSignature = sig_of (holding ((key_b, sig_b) ∷ (key_a, sig_a) ∷ (key_a, sig_c) ∷ []) []) key_a ≡ Some sig_a
+-- of the signatures of one key the shortest is found, wherever it stands, and of several shortest the first
+abbrev pub ShortestSignature : Type 0
+ShortestSignature =
+    (sig_of (holding ((key_b, sig_b) ∷ (key_a, sig_a) ∷ (key_a, sig_c) ∷ []) []) key_a ≡ Some sig_c)
+    × (sig_of (holding ((key_a, sig_c) ∷ (key_a, sig_a) ∷ []) []) key_a ≡ Some sig_c)
+
+abbrev pub FirstOfShortest : Type 0
+FirstOfShortest =
+    sig_of (holding ((key_a, 1 ∷ 2 ∷ []) ∷ (key_a, 3 ∷ []) ∷ (key_b, []) ∷ (key_a, 4 ∷ []) ∷ []) []) key_a ≡ Some (3 ∷ [])
 
 -- none of a key that isn't there, and none without signatures
 abbrev pub NoSignature : Type 0

@@ -1,2 +1,3 @@
 pub mod Assets
 pub mod Examples
+pub mod Laws

@@ -1,7 +1,8 @@
 //! Examples of the definitions: the body does nothing, and its contract is the examples.
 
 ghost use Rattle.def_assets.specs.Examples.{
-  FirstSignature,
+  ShortestSignature,
+  FirstOfShortest,
   NoSignature,
   KnownPreimage,
   UnknownPreimage,
@@ -10,7 +11,8 @@ ghost use Rattle.def_assets.specs.Examples.{
 
 /// Which signature and which preimage are found.
 pub fn assets_hold()
-    ensures first_signature { FirstSignature }
+    ensures shortest_signature { ShortestSignature }
+    ensures first_of_shortest { FirstOfShortest }
     ensures no_signature { NoSignature }
     ensures known_preimage { KnownPreimage }
     ensures unknown_preimage { UnknownPreimage }

@@ -1,12 +1,13 @@
 -- The signatures of a `multi`: the first of least weight over all sets of keys.
 use Rattle.std.proofs.Common.{◌≡◌, ℕ, zero, suc, Bool, true, false, List, [], ◌∷◌, ◌++◌, length, map, reverse, Option, Some, None, refl, sym, ◌∙◌, ap, subst, ◌⊎◌, inl, inr, IsTrue, arith}
 use Rattle.std.proofs.lemmas.List.{map-append, length-append, reverse-append}
-use Rattle.std.proofs.lemmas.Option.{none-some}
+use Rattle.std.proofs.lemmas.Option.{none-some, same_Some}
 use Rattle.def_script.specs.Bytes.{Bytes}
 use Rattle.def_machine.specs.Stacks.{Stack, Pairs}
 use Rattle.def_machine.specs.MultiSig.{is_good}
 use Rattle.def_tree.specs.Tree.{Key}
 use Rattle.def_assets.specs.Assets.{Assets, AreAssets, sig_of}
+use Rattle.def_satisfaction.specs.Weight.{weight}
 use Rattle.def_satisfaction.specs.StackSet.{StackSet, Both, Either}
 use Rattle.def_satisfaction.specs.Rows.{AreSignatures, Signatures, Signature}
 use Rattle.def_satisfaction.specs.Satisfaction.{canonical}
@@ -18,17 +19,19 @@ use Rattle.def_choice.proofs.Best.{none_best, one_best, best_as, best_both, best
 use Rattle.def_choice.proofs.Counted.{least-append, least-map_map, least-below}
 use Rattle.def_satisfaction.proofs.Held.{held_is_good, good_is_held}
 
--- the signature of a key
+-- the signature of a key is the lightest
 signature_of : (assets : Assets) → AreAssets assets → (key : Key) (held : Option Bytes) → sig_of assets key ≡ held → IsLightest (Signature (canonical assets) key) (item held)
 signature_of assets are key None h =
-    none_best (Signature (canonical assets) key) (λ w s. none-some s.0 (sym h ∙ good_is_held assets are key s.0 s.1))
-signature_of assets are key (Some sig) h =
-    one_best (Signature (canonical assets) key) (sig ∷ [])
-    (sig, held_is_good assets are key sig h, refl)
-    (λ w s. s.2 ∙ ap (λ x. x ∷ []) (same s.0 (sym (good_is_held assets are key s.0 s.1) ∙ h)))
-  where
-    same : (x : Bytes) → Some x ≡ Some sig → x ≡ sig
-    same x e = cc
+    none_best (Signature (canonical assets) key) (λ w s. let held = good_is_held assets key s.0 s.1 in none-some held.0 (sym h ∙ held.1))
+signature_of assets are key (Some sig) h = record {
+  is = λ w e. (sig, held_is_good assets are key sig h, sym (same_Some (sig ∷ []) w e));
+  lightest = λ w s.
+      let held = good_is_held assets key s.0 s.1 in
+      let same : length held.0 ≡ length sig = ap length (same_Some held.0 sig (sym held.1 ∙ h)) in
+      let whole : weight w ≡ weight (s.0 ∷ []) = ap weight s.2 in
+      let short = held.2 in
+      (sig ∷ [], refl, omega (arith, same, whole, short));
+}
 
 pub signature_best : (assets : Assets) → AreAssets assets → (key : Key) → IsLightest (Signature (canonical assets) key) (item (sig_of assets key))
 signature_best assets are key = signature_of assets are key (sig_of assets key) refl

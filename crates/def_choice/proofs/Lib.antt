@@ -10,4 +10,5 @@ pub mod StrictTight
 pub mod Listed
 pub mod Chosen
 pub mod Ties
+pub mod SeveralSignatures
 pub mod TightComputed

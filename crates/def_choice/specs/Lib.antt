@@ -7,5 +7,6 @@ pub mod Tight
 pub mod NonMalleable
 pub mod Examples
 pub mod TieExamples
+pub mod SignatureExamples
 pub mod TightExamples
 pub mod Laws

@@ -75,7 +75,7 @@ pub record TieOfDissatisfactions (assets : Assets) : Type 0 where
   pub tie : weight (EMPTY ∷ ONE ∷ []) ≡ weight (EMPTY ∷ EMPTY ∷ EMPTY ∷ [])
   pub chosen : option_map reverse (dissatisfaction key_or_keys) ≡ Some (EMPTY ∷ ONE ∷ [])
 
--- `multi(2,A,B,A)`: the key A signs twice with its one signature, which is lighter than B's
+-- `multi(2,A,B,A)`: the key A signs twice with one signature, which is lighter than B's
 abbrev pub key_twice : Tree
 key_twice = multi 2 (key_a ∷ key_b ∷ key_a ∷ [])
 

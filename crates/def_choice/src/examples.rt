@@ -33,6 +33,12 @@ ghost use Rattle.def_choice.specs.TieExamples.{
   TieOfDissatisfactions,
   KeySignsTwice,
 };
+ghost use Rattle.def_choice.specs.SignatureExamples.{
+  ShorterOfTwo,
+  FirstOfTwo,
+  SeveralOfMulti,
+  SeveralOfThreshold,
+};
 ghost use Rattle.def_choice.specs.TightExamples.{
   HashNeedsNone,
   LockNeedsNone,
@@ -75,6 +81,14 @@ pub fn ties()
     ensures multi { TieOfMulti }
     ensures dissatisfactions { (assets : Assets) → TieOfDissatisfactions assets }
     ensures key_twice { KeySignsTwice }
+{}
+
+/// Of several signatures of one key the first of the shortest is chosen.
+pub fn signatures()
+    ensures shorter_of_two { ShorterOfTwo }
+    ensures first_of_two { FirstOfTwo }
+    ensures multi { SeveralOfMulti }
+    ensures threshold { SeveralOfThreshold }
 {}
 
 /// What needs no signature, what is tight, and what another signature changes.

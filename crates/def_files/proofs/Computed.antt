@@ -1,7 +1,7 @@
 -- The examples, each computed.
 use Rattle.std.proofs.Common.{refl}
 use Rattle.def_files.proofs.OnLiterals.{files_on_literals}
-use Rattle.def_files.specs.Examples.{NoBytes, EndsTooSoon, NotUtf8, DeepestFile, TooDeepFile, ListAsFile, EmptyFile, WholeFile, UpperCase, GreatestSequence, SequenceTooGreat, NoWholeNumbers, LastCounts, WrongElements, ShapeFirst, NumberBeforeDigits, FirstOddDigits, OddPreimage, NoKey, UncompressedKey, SignatureTooLong, EmptySignature, ShortPreimage, KeyTwice, KeyFormFirst, TooManyPreimages, RunOfOne, RunOfMore, NoScript, ScriptOfNumber, ScriptOfOneDigit, SignaturesFirst, TooManySignatures, TooManyElements}
+use Rattle.def_files.specs.Examples.{NoBytes, EndsTooSoon, NotUtf8, DeepestFile, TooDeepFile, ListAsFile, EmptyFile, WholeFile, UpperCase, GreatestSequence, SequenceTooGreat, NoWholeNumbers, LastCounts, WrongElements, ShapeFirst, NumberBeforeDigits, FirstOddDigits, OddPreimage, NoKey, UncompressedKey, SignatureTooLong, EmptySignature, ShortPreimage, KeyTwice, TwoSignatures, SignatureTwice, FormatOne, OtherFormats, VersionBeforeFormat, KeyFormFirst, TooManyPreimages, RunOfOne, RunPassesFormat, RunOfMore, NoScript, ScriptOfNumber, ScriptOfOneDigit, SignaturesFirst, TooManySignatures, TooManyElements}
 
 pub no_bytes : NoBytes
 unfolding files_on_literals
@@ -99,6 +99,26 @@ pub key_twice : KeyTwice
 unfolding files_on_literals
 key_twice = refl
 
+pub two_signatures : TwoSignatures
+unfolding files_on_literals
+two_signatures = refl
+
+pub signature_twice : SignatureTwice
+unfolding files_on_literals
+signature_twice = refl
+
+pub format_one : FormatOne
+unfolding files_on_literals
+format_one = refl
+
+pub other_formats : OtherFormats
+unfolding files_on_literals
+other_formats = (refl, refl, refl, refl)
+
+pub version_before_format : VersionBeforeFormat
+unfolding files_on_literals
+version_before_format = (refl, refl)
+
 pub key_form_first : KeyFormFirst
 unfolding files_on_literals
 key_form_first = refl
@@ -110,6 +130,10 @@ too_many_preimages = refl
 pub run_of_one : RunOfOne
 unfolding files_on_literals
 run_of_one = refl
+
+pub run_passes_format : RunPassesFormat
+unfolding files_on_literals
+run_passes_format = refl
 
 pub run_of_more : RunOfMore
 unfolding files_on_literals

@@ -1,15 +1,16 @@
 -- Which refusals don't come.
-use Rattle.std.proofs.Common.{◌≢◌, ℕ, nat_le, is_some, Bool, map, length, refl}
+use Rattle.std.proofs.Common.{◌≢◌, ℕ, nat_le, is_some, unwrap_or, Bool, map, length, refl}
 use Rattle.std.specs.List.{enumerate_from}
 use Rattle.serde_json.specs.Data.{Data}
 use Rattle.def_machine.specs.Stacks.{is_key}
+use Rattle.def_files.specs.declared.Format.TheVariants.{One as one}
 use Rattle.def_files.specs.declared.Member.{Member}
 use Rattle.def_files.specs.declared.Member.TheVariants as member
 use Rattle.def_files.specs.declared.AssetFault.{AssetFault}
 use Rattle.def_files.specs.declared.AssetFault.TheVariants as fault
 use Rattle.def_files.specs.Json.{reading, is_object, is_list_of, spelled}
-use Rattle.def_files.specs.Parts.{version, sequence, locktime, list, elements, strings, is_text, is_hex, is_pair, is_hex_pair, key_of, sig_of}
-use Rattle.def_files.specs.Refusals.{no_object, no_list_of, no_version, no_sequence, no_locktime, no_hex, too_many}
+use Rattle.def_files.specs.Parts.{version, sequence, locktime, format, same_under, list, elements, strings, is_text, is_hex, is_pair, is_hex_pair, key_of, sig_of, pairs}
+use Rattle.def_files.specs.Refusals.{no_object, no_list_of, no_version, no_sequence, no_locktime, no_format, no_hex, too_many}
 use Rattle.def_files.specs.AssetFile.{assets_of, asset_refusals, assets_in, is_signature, is_preimage}
 use Rattle.def_files.specs.RunFile.{run_of, script_text, run_refusals, run_in}
 use Rattle.def_files.specs.Laws.{AssetsWantNoMemory, IsRunFault, RunFaults}
@@ -39,6 +40,9 @@ sequence_tells P file h = unless_tells P (is_some (sequence file)) (fault.Number
 locktime_tells : (P : AssetFault → Type 0) (file : Data) → IsBroad P → Tells P (no_locktime file)
 locktime_tells P file h = unless_tells P (is_some (locktime file)) (fault.Number member.Locktime) (h.number member.Locktime)
 
+format_tells : (P : AssetFault → Type 0) (file : Data) → IsBroad P → Tells P (no_format file)
+format_tells P file h = unless_tells P (is_some (format file)) (fault.Number member.Format) (h.number member.Format)
+
 hex_tells : (P : AssetFault → Type 0) (right : Data → Bool) (m : Member) (file : Data) → IsBroad P → Tells P (no_hex right m file)
 hex_tells P right m file h = each_tells P right (fault.Hex m) (elements m file) (h.hex m)
 
@@ -55,7 +59,7 @@ asset_faults file =
     let P = IsNotMemory in
     let h : IsBroad P = record { shape = λ m q. cc q; number = λ m q. cc q; hex = λ m i q. cc q; many = λ m q. cc q } in
     let signatures = elements member.Signatures file in
-    let keys = map key_of signatures in (
+    let same = same_under (unwrap_or (format file) one) in (
       object_tells P file h,
       (
         list_tells P is_pair member.Signatures file h,
@@ -68,20 +72,23 @@ asset_faults file =
               (
                 locktime_tells P file h,
                 (
-                  hex_tells P is_hex_pair member.Signatures file h,
+                  format_tells P file h,
                   (
-                    hex_tells P is_hex member.Preimages file h,
+                    hex_tells P is_hex_pair member.Signatures file h,
                     (
-                      each_tells P is_key fault.KeyForm keys (λ i q. cc q),
+                      hex_tells P is_hex member.Preimages file h,
                       (
-                        each_tells P is_signature fault.SigLength (map sig_of signatures) (λ i q. cc q),
+                        each_tells P is_key fault.KeyForm (map key_of signatures) (λ i q. cc q),
                         (
-                          each_tells P is_preimage fault.PreimageLength (strings member.Preimages file) (λ i q. cc q),
+                          each_tells P is_signature fault.SigLength (map sig_of signatures) (λ i q. cc q),
                           (
-                            many_tells P 256 member.Signatures file h,
+                            each_tells P is_preimage fault.PreimageLength (strings member.Preimages file) (λ i q. cc q),
                             (
-                              many_tells P 256 member.Preimages file h,
-                              (each_tells P (is_new keys) fault.RepeatedKey (enumerate_from 0 keys) (λ i q. cc q), tt),
+                              many_tells P 256 member.Signatures file h,
+                              (
+                                many_tells P 256 member.Preimages file h,
+                                (each_tells P (is_new same (pairs file)) fault.RepeatedKey (enumerate_from 0 (pairs file)) (λ i q. cc q), tt),
+                              ),
                             ),
                           ),
                         ),

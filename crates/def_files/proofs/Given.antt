@@ -1,5 +1,5 @@
 -- What a file that isn't refused gives.
-use Rattle.std.proofs.Common.{◌≡◌, ℕ, ◌≤◌, List, [], ◌∷◌, Ok, map, refl, ap, subst, arith, length, slice_index_or, lit<}
+use Rattle.std.proofs.Common.{◌≡◌, ℕ, ◌≤◌, List, Ok, map, subst, arith, length, slice_index_or, unwrap_or, lit<}
 use Rattle.std.proofs.lemmas.Bool.{leb-true}
 use Rattle.std.proofs.lemmas.List.{length-map}
 use Rattle.std.proofs.lemmas.List.Elements.{All-map}
@@ -9,23 +9,19 @@ use Rattle.def_script.specs.Bytes.{Bytes, IsBytes}
 use Rattle.def_machine.specs.Stacks.{is_key}
 use Rattle.def_tree.specs.Range.{IsKey}
 use Rattle.def_assets.specs.Assets.{Assets, IsSignature, IsPreimage}
+use Rattle.def_files.specs.declared.Format.TheVariants.{One as one}
 use Rattle.def_files.specs.declared.Member.TheVariants as member
 use Rattle.def_files.specs.declared.AssetFault.TheVariants as fault
 use Rattle.def_files.specs.Json.{find_member, reading}
-use Rattle.def_files.specs.Parts.{elements, bytes_of, key_of, sig_of, key_text, sig_text}
+use Rattle.def_files.specs.Parts.{format, elements, bytes_of, key_of, sig_of, key_text, sig_text, pairs}
 use Rattle.def_files.specs.Refusals.{unless_refused}
 use Rattle.def_files.specs.AssetFile.{assets_of, asset_refusals, assets_in, is_signature, is_preimage}
 use Rattle.def_files.specs.RunFile.{RunFile, run_of, script_text, run_refusals, run_in}
 use Rattle.def_files.specs.Laws.{AssetFileGivesAssets, AreFewAssets, RunFileGivesRun, IsRunFile}
 use Rattle.def_files.proofs.Passing.{none_applies, held, each_held, given_ok}
 use Rattle.def_files.proofs.Strings.{spelled-IsBytes}
-use Rattle.def_files.proofs.Distinct.{distinct_keys}
+use Rattle.def_files.proofs.Distinct.{distinct_pairs}
 use Rattle.def_files.proofs.Fits.{key_fits, signature_fits, preimage_fits, number_fits, all_mapped}
-
-firsts_mapped : {A : Type 0} (f g : A → Bytes) (xs : List A) → map (λ (pair : Bytes × Bytes). pair.0) (map (λ x. (f x, g x)) xs)
-    ≡ map f xs
-firsts_mapped f g [] = refl
-firsts_mapped f g (x ∷ xs) = ap (λ ys. f x ∷ ys) (firsts_mapped f g xs)
 
 -- a mapped list is no longer
 fewer : {A B : Type 0} (f : A → B) (xs : List A) {most : ℕ} → length xs ≤ most → length (map f xs) ≤ most
@@ -38,18 +34,18 @@ assets_fit file assets e =
     let none = none_applies (asset_refusals file) value assets e in
     let same = none.1 in
     -- those from number 5 on
-    let rest = none.0.1.1.1.1.1.1.1.1 in
+    let rest = none.0.1.1.1.1.1.1.1.1.1 in
     let signatures = elements member.Signatures file in
     let preimages = elements member.Preimages file in
     let keys = all_mapped key_of is_key IsKey signatures key_fits (each_held is_key fault.KeyForm (map key_of signatures) rest.0) (λ x. spelled-IsBytes (key_text x)) in
     let sigs = all_mapped sig_of is_signature IsSignature signatures signature_fits (each_held is_signature fault.SigLength (map sig_of signatures) rest.1.0) (λ x. spelled-IsBytes (sig_text x)) in
     let strings = all_mapped bytes_of is_preimage IsPreimage preimages preimage_fits (each_held is_preimage fault.PreimageLength (map bytes_of preimages) rest.1.1.0) (λ x. spelled-IsBytes (as_str x)) in
-    let distinct = distinct_keys fault.RepeatedKey (map key_of signatures) rest.1.1.1.1.1.0 in
+    let distinct = distinct_pairs fault.RepeatedKey (unwrap_or (format file) one) (pairs file) rest.1.1.1.1.1.0 in
     subst AreFewAssets same (record {
       held = record {
         keys = All-map (λ pair. IsKey pair.0) (λ x. (key_of x, sig_of x)) signatures keys;
         signatures = All-map (λ pair. IsSignature pair.1) (λ x. (key_of x, sig_of x)) signatures sigs;
-        distinct = rw (firsts_mapped key_of sig_of signatures) distinct;
+        distinct = distinct;
         preimages = All-map IsPreimage bytes_of preimages strings;
         version = number_fits 2 (find_member member.Version file) (lit< tt);
         sequence = number_fits 0xfffffffe (find_member member.Sequence file) (lit< tt);

@@ -1,15 +1,16 @@
 -- The asset file: signatures, preimages and the values of the locks.
-use Rattle.std.specs.Prelude.{ℕ, ◌==◌, ◌&&◌, nat_le, Bool, List, [], ◌∷◌, length, map, Result}
+use Rattle.std.specs.Prelude.{ℕ, ◌==◌, ◌&&◌, nat_le, Bool, List, [], ◌∷◌, length, map, Result, unwrap_or}
 use Rattle.serde_json.specs.Data.{Data}
 use Rattle.def_script.specs.Bytes.{Bytes}
 use Rattle.def_machine.specs.Stacks.{is_key}
 use Rattle.def_assets.specs.Assets.{Assets}
+use Rattle.def_files.specs.declared.Format.TheVariants.{One as one}
 use Rattle.def_files.specs.declared.Member.TheVariants as member
 use Rattle.def_files.specs.declared.AssetFault.{AssetFault}
 use Rattle.def_files.specs.declared.AssetFault.TheVariants as fault
 use Rattle.def_files.specs.Json.{reading}
-use Rattle.def_files.specs.Parts.{locks, elements, is_text, is_hex, is_pair, is_hex_pair, key_of, sig_of, pairs, strings}
-use Rattle.def_files.specs.Refusals.{Refusal, unless_each, unless_refused, given, no_object, no_list_of, no_version, no_sequence, no_locktime, no_hex, too_many, no_repeat, MOST_SIGNATURES}
+use Rattle.def_files.specs.Parts.{locks, format, same_under, elements, is_text, is_hex, is_pair, is_hex_pair, key_of, sig_of, pairs, strings}
+use Rattle.def_files.specs.Refusals.{Refusal, unless_each, unless_refused, given, no_object, no_list_of, no_version, no_sequence, no_locktime, no_format, no_hex, too_many, no_repeat, MOST_SIGNATURES}
 
 -- how many preimages a file may have
 abbrev pub MOST_PREIMAGES : ℕ
@@ -33,6 +34,7 @@ asset_refusals file =
     no_version file ∷
     no_sequence file ∷
     no_locktime file ∷
+    no_format file ∷
     -- 4, the digits
     no_hex is_hex_pair member.Signatures file ∷
     no_hex is_hex member.Preimages file ∷
@@ -43,8 +45,8 @@ asset_refusals file =
     -- 8, how many there are
     too_many MOST_SIGNATURES member.Signatures file ∷
     too_many MOST_PREIMAGES member.Preimages file ∷
-    -- 9, a key has one signature
-    no_repeat fault.RepeatedKey (map key_of (elements member.Signatures file)) ∷ []
+    -- 9, in format 1 a key has one signature, in format 2 none twice
+    no_repeat (same_under (unwrap_or (format file) one)) fault.RepeatedKey (pairs file) ∷ []
 
 -- the assets of a file
 abbrev pub assets_in : Data → Assets

@@ -150,6 +150,38 @@ ShortPreimage =
 abbrev pub KeyTwice : Type 0
 KeyTwice = assets_of (with_both (signature_text key_a sig_a) (signature_text key_a sig_c)) ≡ Err (fault.RepeatedKey 1)
 
+-- in format 2 a key may have several signatures, but none twice; format 1 may be named
+abbrev pub with_format : (format : Bytes) → (file : Bytes) → Bytes
+with_format format file = codes "{\"format\":" ++ format ++ codes "," ++ drop 1 file
+
+abbrev pub TwoSignatures : Type 0
+TwoSignatures =
+    assets_of (with_format (codes "2") (with_both (signature_text key_a sig_a) (signature_text key_a sig_c)))
+    ≡ Ok (record no_assets { pairs = (key_a, sig_a) ∷ (key_a, sig_c) ∷ [] })
+
+abbrev pub SignatureTwice : Type 0
+SignatureTwice =
+    assets_of (with_format (codes "2") (with_both (signature_text key_a sig_a) (signature_text key_a sig_a)))
+    ≡ Err (fault.RepeatedKey 1)
+
+abbrev pub FormatOne : Type 0
+FormatOne =
+    assets_of (with_format (codes "1") (with_both (signature_text key_a sig_a) (signature_text key_a sig_c)))
+    ≡ Err (fault.RepeatedKey 1)
+
+-- no other format; its number comes after those of the locks
+abbrev pub OtherFormats : Type 0
+OtherFormats =
+    (assets_of (codes "{\"format\":3}") ≡ Err (fault.Number member.Format))
+    × (assets_of (codes "{\"format\":0}") ≡ Err (fault.Number member.Format))
+    × (assets_of (codes "{\"format\":2.0}") ≡ Err (fault.Number member.Format))
+    × (assets_of (codes "{\"format\":\"2\"}") ≡ Err (fault.Number member.Format))
+
+abbrev pub VersionBeforeFormat : Type 0
+VersionBeforeFormat =
+    (assets_of (codes "{\"format\":3,\"version\":-1}") ≡ Err (fault.Number member.Version))
+    × (assets_of (codes "{\"format\":3,\"preimages\":[\"0\"]}") ≡ Err (fault.Number member.Format))
+
 -- 257 signatures, each with an empty key
 abbrev pub joined : List Bytes → Bytes
 joined [] = []
@@ -176,6 +208,10 @@ one_run = record { script = 0x51 ∷ []; stack = []; locks = default_locks; pair
 -- the script `1`
 abbrev pub RunOfOne : Type 0
 RunOfOne = run_of (codes "{\"script\":\"51\"}") ≡ Ok one_run
+
+-- the format is passed over
+abbrev pub RunPassesFormat : Type 0
+RunPassesFormat = run_of (codes "{\"format\":3,\"script\":\"51\"}") ≡ Ok one_run
 
 -- a stack, a locktime, a key of any form twice; preimages are passed over
 abbrev pub RunOfMore : Type 0

@@ -29,6 +29,7 @@ member_name member.Signatures = codes "signatures"
 member_name member.Preimages = codes "preimages"
 member_name member.Script = codes "script"
 member_name member.Witness = codes "witness"
+member_name member.Format = codes "format"
 
 -- a member of a file, where it is there. Unknown ones are passed over
 abbrev pub find_member : Member → Data → Option Data

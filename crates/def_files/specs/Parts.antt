@@ -1,11 +1,14 @@
 -- The parts of an asset file and of a run file. Where a part isn't as it has to be it is none, and then the
 -- file is refused.
-use Rattle.std.specs.Prelude.{ℕ, ◌&&◌, Bool, is_some, List, [], codes, map, Option, unwrap_or}
+use Rattle.std.specs.Prelude.{ℕ, ◌==◌, ◌&&◌, Bool, is_some, if◌then◌else◌, List, [], codes, map, Option, Some, None, unwrap_or}
 use Rattle.serde_json.specs.Data.{Data}
 use Rattle.serde_json.specs.Find.{as_str}
 use Rattle.def_script.specs.Bytes.{Bytes}
 use Rattle.def_machine.specs.declared.Locks.{Locks}
 use Rattle.def_machine.specs.Stacks.{Pairs}
+use Rattle.def_assets.specs.Assets.{same_key, same_pair}
+use Rattle.def_files.specs.declared.Format.{Format}
+use Rattle.def_files.specs.declared.Format.TheVariants as formats
 use Rattle.def_files.specs.declared.Member.{Member}
 use Rattle.def_files.specs.declared.Member.TheVariants as member
 use Rattle.def_files.specs.Json.{find_member, number_or, elements_or_empty, text_at, spelled}
@@ -29,6 +32,22 @@ locks file = record {
   sequence = unwrap_or (sequence file) 0;
   locktime = unwrap_or (locktime file) 0;
 }
+
+-- ---- the format
+
+-- the format that a number names
+abbrev pub format_of : Option ℕ → Option Format
+format_of None = None
+format_of (Some n) = if n == 1 then Some formats.One else if n == 2 then Some formats.Two else None
+
+-- the format of an asset file, which is 1 where it is missing
+abbrev pub format : Data → Option Format
+format file = format_of (number_or 1 (find_member member.Format file))
+
+-- what may not stand twice: in format 1 a key, in format 2 a key with one signature
+abbrev pub same_under : Format → (these those : Bytes × Bytes) → Bool
+same_under formats.One = same_key
+same_under formats.Two = same_pair
 
 -- ---- lists
 

@@ -2,7 +2,6 @@
 -- the order of the members; the first that applies is the one that is given, with the least place.
 use Rattle.std.specs.Prelude.{ℕ, not, nat_le, Bool, is_some, if◌then◌else◌, List, [], ◌∷◌, length, take, position, Option, Some, None, option_map, Result, Ok, Err}
 use Rattle.std.specs.List.{list_any, enumerate_from}
-use Rattle.std.specs.Str.{bytes_eq}
 use Rattle.serde_json.specs.Data.{Data}
 use Rattle.def_script.specs.Bytes.{Bytes}
 use Rattle.def_files.specs.declared.Member.{Member}
@@ -10,7 +9,7 @@ use Rattle.def_files.specs.declared.Member.TheVariants as member
 use Rattle.def_files.specs.declared.AssetFault.{AssetFault}
 use Rattle.def_files.specs.declared.AssetFault.TheVariants as fault
 use Rattle.def_files.specs.Json.{is_object, is_list_of}
-use Rattle.def_files.specs.Parts.{version, sequence, locktime, list, elements}
+use Rattle.def_files.specs.Parts.{version, sequence, locktime, format, list, elements}
 
 -- a refusal of an asset file or a run file, where it applies
 abbrev pub Refusal : Type 0
@@ -55,6 +54,10 @@ no_sequence file = unless (is_some (sequence file)) (fault.Number member.Sequenc
 abbrev pub no_locktime : Data → Refusal
 no_locktime file = unless (is_some (locktime file)) (fault.Number member.Locktime)
 
+-- the format of an asset file
+abbrev pub no_format : Data → Refusal
+no_format file = unless (is_some (format file)) (fault.Number member.Format)
+
 -- a text of an element is no string of hexadecimal digits, two for each byte
 abbrev pub no_hex : (right : Data → Bool) → Member → Data → Refusal
 no_hex right m file = unless_each right (fault.Hex m) (elements m file)
@@ -63,10 +66,10 @@ no_hex right m file = unless_each right (fault.Hex m) (elements m file)
 abbrev pub too_many : (most : ℕ) → Member → Data → Refusal
 too_many most m file = unless (nat_le (length (elements m file)) most) (fault.TooMany m)
 
--- the first key that stands earlier in the list too
-abbrev pub no_repeat : {E : Type 0} → (ℕ → E) → List Bytes → Option E
-no_repeat fault keys =
-    unless_each (λ entry. not (list_any (bytes_eq entry.1) (take entry.0 keys))) fault (enumerate_from 0 keys)
+-- the first element of a list that is the same as an earlier one
+abbrev pub no_repeat : {A E : Type 0} → (same : A → A → Bool) → (ℕ → E) → List A → Option E
+no_repeat same fault xs =
+    unless_each (λ entry. not (list_any (same entry.1) (take entry.0 xs))) fault (enumerate_from 0 xs)
 
 -- how many signatures a file may have
 abbrev pub MOST_SIGNATURES : ℕ

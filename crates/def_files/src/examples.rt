@@ -25,9 +25,15 @@ ghost use Rattle.def_files.specs.Examples.{
   EmptySignature,
   ShortPreimage,
   KeyTwice,
+  TwoSignatures,
+  SignatureTwice,
+  FormatOne,
+  OtherFormats,
+  VersionBeforeFormat,
   KeyFormFirst,
   TooManyPreimages,
   RunOfOne,
+  RunPassesFormat,
   RunOfMore,
   NoScript,
   ScriptOfNumber,
@@ -63,6 +69,11 @@ pub fn asset_files()
     ensures empty_signature { EmptySignature }
     ensures short_preimage { ShortPreimage }
     ensures key_twice { KeyTwice }
+    ensures two_signatures { TwoSignatures }
+    ensures signature_twice { SignatureTwice }
+    ensures format_one { FormatOne }
+    ensures other_formats { OtherFormats }
+    ensures version_before_format { VersionBeforeFormat }
     ensures key_form_first { KeyFormFirst }
     ensures too_many_preimages { TooManyPreimages }
 {}
@@ -70,6 +81,7 @@ pub fn asset_files()
 /// What run files give.
 pub fn run_files()
     ensures run_of_one { RunOfOne }
+    ensures run_passes_format { RunPassesFormat }
     ensures run_of_more { RunOfMore }
     ensures no_script { NoScript }
     ensures script_of_number { ScriptOfNumber }

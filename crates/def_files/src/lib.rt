@@ -23,6 +23,17 @@ pub enum Member {
     Script,
     /// The stack of a run file, bottom first.
     Witness,
+    /// The format of an asset file.
+    Format,
+}
+
+/// The format of an asset file, which its member `format` names by a number.
+#[derive(Clone, Copy, Debug, PartialEq, Eq)]
+pub enum Format {
+    /// Format 1, also where the member is missing: a key has one signature.
+    One,
+    /// Format 2: a key may have several signatures.
+    Two,
 }
 
 /// Why a file is refused, in the order in which the reasons are tested. A number is the place of an element
@@ -35,7 +46,8 @@ pub enum AssetFault {
     /// The file is no object, or the member or an element of it has the wrong shape. The script of a run
     /// file has it too where it is missing.
     Shape(Member),
-    /// The member is no whole number below 2^32, written with no fraction, no exponent and no minus sign.
+    /// The member is no whole number below 2^32, written with no fraction, no exponent and no minus sign; or the
+    /// format of an asset file is none of 1 and 2.
     Number(Member),
     /// A text of the element has an odd number of characters or one that is no hexadecimal digit. The place
     /// is 0 for a script.
@@ -48,7 +60,7 @@ pub enum AssetFault {
     PreimageLength(u32),
     /// The list has too many elements: over 256 signatures or preimages, or over 2,000 elements of a stack.
     TooMany(Member),
-    /// The key of the signature is that of an earlier one.
+    /// In format 1 the key of the signature is that of an earlier one; in format 2 the key and the signature are.
     RepeatedKey(u32),
     /// There was no memory. No file has this as its answer; a reader gives it in place of any answer.
     Memory,

@@ -12,7 +12,7 @@ use Rattle.serde_json.specs.Find.{as_str}
 use Rattle.def_script.specs.Bytes.{Bytes}
 use Rattle.def_machine.specs.Stacks.{is_key}
 use Rattle.def_tree.specs.Range.{IsKey}
-use Rattle.def_assets.specs.Assets.{IsPreimage}
+use Rattle.def_assets.specs.Assets.{IsPreimage, same_pair}
 use Rattle.def_files.specs.declared.Member.TheVariants as file_member
 use Rattle.def_files.specs.Json.{find_member, reading, is_object, is_list_of}
 use Rattle.def_files.specs.Parts.{version, sequence, locktime, list, elements, strings, is_text, is_hex, bytes_of, key_of, key_text}
@@ -45,7 +45,7 @@ lengths_fit : (P : ℕ → Type 0) (xs : List Data) → ((n : ℕ) → is_length
 lengths_fit P xs fits e k d h =
     fits (length_at (slice_index_or xs k d)) (AllPass-from_list_all (λ x. is_length (length_at x)) xs (sym (list_all-map is_length length_at xs) ∙ e) k d h)
 
-none_distinct : IsDistinct bytes_eq []
+none_distinct : IsDistinct same_pair []
 unfolding IsDistinct
 none_distinct = tt
 
@@ -132,7 +132,7 @@ faults_tell value =
                             (
                               unless_tells P (nat_le (length preimages) MOST_PREIMAGES) (fault.TooMany member.Preimages) (λ q. cc q),
                               (
-                                each_tells P (is_new (map key_of keys)) fault.RepeatedKey (enumerate_from 0 (map key_of keys)) (λ i q. cc q),
+                                each_tells P (is_new bytes_eq (map key_of keys)) fault.RepeatedKey (enumerate_from 0 (map key_of keys)) (λ i q. cc q),
                                 tt,
                               ),
                             ),

@@ -1,5 +1,6 @@
 -- The plan file: the keys that can sign with the lengths of their signatures, preimages and the values of the locks.
 use Rattle.std.specs.Prelude.{ℕ, nat_le, ◌&&◌, Bool, is_some, List, [], ◌∷◌, codes, length, map, Option, Some, None, unwrap_or, option_and_then, Result, Err}
+use Rattle.std.specs.Str.{bytes_eq}
 use Rattle.serde_json.specs.Data.{Data}
 use Rattle.serde_json.specs.Find.{get}
 use Rattle.def_script.specs.Bytes.{Bytes}
@@ -71,7 +72,7 @@ plan_refusals file =
     unless (nat_le (length (key_elements file)) MOST_KEYS) (fault.TooMany member.Keys) ∷
     unless (nat_le (length (elements file_member.Preimages file)) MOST_PREIMAGES) (fault.TooMany member.Preimages) ∷
     -- 9, a key stands once
-    no_repeat fault.RepeatedKey (map key_of (key_elements file)) ∷ []
+    no_repeat bytes_eq fault.RepeatedKey (map key_of (key_elements file)) ∷ []
 
 -- what stands in a plan file
 abbrev pub plan_in : Data → PlanFile

@@ -1,15 +1,20 @@
 -- The examples.
-use Rattle.std.proofs.Common.{◌≡◌, refl, ◌∙◌, ap, inl, inr, ℕ, [], ◌∷◌, ◌++◌, replicate}
+use Rattle.std.proofs.Common.{◌≡◌, true, false, refl, sym, ◌∙◌, ap, inl, inr, ℕ, [], ◌∷◌, ◌++◌, replicate, arith}
+use Rattle.std.specs.List.{IsDistinct}
+use Rattle.std.proofs.lemmas.List.Elements.{All-nil, All-from_recursion}
 use Rattle.std.proofs.lemmas.Option.{none-some}
 use Rattle.std.proofs.lemmas.Bool.{false≢true}
-use Rattle.def_machine.specs.Samples.{key_b, sig_a, sig_b, sig_c}
+use Rattle.def_machine.specs.Samples.{key_a, key_b, sig_a, sig_b, sig_c}
 use Rattle.def_script.specs.Bytes.{Bytes}
 use Rattle.def_machine.specs.Stacks.{Stack}
+use Rattle.def_tree.specs.Range.{IsKey}
+use Rattle.def_assets.specs.Assets.{AreAssets, IsSignature, IsPreimage}
 use Rattle.def_satisfaction.proofs.Computing.{computing}
-use Rattle.def_satisfaction.specs.Samples.{preimage_0, preimage_1, preimage_2, preimage_3, pair_a, pair_b, pair_c, key_or_key}
+use Rattle.def_satisfaction.proofs.Forms.{key_form, signature_form}
+use Rattle.def_satisfaction.specs.Samples.{preimage_0, preimage_1, preimage_2, preimage_3, pair_a, pair_b, pair_c, pair_short_a, with_preimages, key_or_key}
 use Rattle.def_satisfaction.specs.Rows.{EMPTY, ONE}
 use Rattle.def_satisfaction.specs.Satisfaction.{Sat}
-use Rattle.def_satisfaction.specs.Examples.{both_signatures, TwoOfThree, TwoOfThreeWitness, LateKey, VoidLock, TimeLock, ByPreimages, BySignatures, RightBranch, LeftBranch, LockMet, LockUnmet, ZerosAsPreimage, ZerosAreNoMiss, BothOfOrB}
+use Rattle.def_satisfaction.specs.Examples.{both_signatures, two_of_one_key, TwoOfThree, TwoOfThreeWitness, LateKey, VoidLock, TimeLock, ByPreimages, BySignatures, RightBranch, LeftBranch, LockMet, LockUnmet, ZerosAsPreimage, ZerosAreNoMiss, SeveralSignatures, EitherSignature, BothOfOrB}
 
 pub two_of_three : TwoOfThree
 unfolding computing
@@ -122,6 +127,37 @@ unfolding computing
 zeros_are_no_miss stack (inl h) = none-some h.2.3.0 h.2.3.1.1
 zeros_are_no_miss stack (inr (below, above, p, inl q, e)) = q.0.1 refl
 zeros_are_no_miss stack (inr (below, above, p, inr q, e)) = false≢true q.0
+
+key_a_form : IsKey key_a
+key_a_form = key_form key_a refl (inl refl) refl
+
+two_of_one_key_form : AreAssets two_of_one_key
+unfolding computing IsDistinct
+two_of_one_key_form = record {
+  keys = All-from_recursion (λ pair. IsKey pair.0) (pair_a ∷ pair_short_a ∷ []) (key_a_form, (key_a_form, tt));
+  signatures =
+      All-from_recursion (λ pair. IsSignature pair.1) (pair_a ∷ pair_short_a ∷ [])
+      (signature_form sig_a refl refl refl, (signature_form sig_c refl refl refl, tt));
+  distinct = ((refl, tt), (tt, tt));
+  preimages = All-nil IsPreimage;
+  version = omega arith;
+  sequence = omega arith;
+  locktime = omega arith;
+}
+
+twice_no_form : ¬ AreAssets (with_preimages [] (pair_a ∷ pair_a ∷ []))
+unfolding computing IsDistinct
+twice_no_form are = let differs : true ≡ false = are.distinct.0.0 in false≢true (sym differs)
+
+pub several_signatures : SeveralSignatures
+several_signatures = (two_of_one_key_form, twice_no_form)
+
+pub either_signature : EitherSignature
+unfolding computing
+either_signature = (
+  record { sat = (sig_a, refl, refl); weight = refl; checks = pair_a ∷ []; run = refl },
+  record { sat = (sig_c, refl, refl); weight = refl; checks = pair_short_a ∷ []; run = refl },
+)
 
 -- where two items are one item on one other, the lower one is the other
 lower : (a b x y : Bytes) (above below : Stack) → above ≡ x ∷ [] → below ≡ y ∷ [] → a ∷ b ∷ [] ≡ above ++ below → b ≡ y

@@ -1,10 +1,9 @@
--- What assets hold: the signature of a key is the only one, and a known preimage is one.
-use Rattle.std.proofs.Common.{◌≡◌, ◌≤◌, Bool, true, false, ◌&&◌, ◌||◌, not, List, [], ◌∷◌, length, slice_index, map, Option, Some, refl, sym, ◌∙◌, ap, subst, ◌⊎◌, inl, inr, All, arith, if◌then◌else◌}
-use Rattle.std.specs.List.{IsDistinct, AllByRecursion, find}
-use Rattle.std.specs.Option.{option_map}
+-- What assets hold: the signature of a key is one, and no longer than any other; a known preimage is one.
+use Rattle.std.proofs.Common.{◌≡◌, ◌≤◌, Bool, true, false, ◌&&◌, ◌||◌, not, List, [], ◌∷◌, length, slice_index, Contains, Some, refl, ◌∙◌, ap, subst, ◌⊎◌, inl, inr, All, arith, if◌then◌else◌}
+use Rattle.std.specs.List.{find}
 use Rattle.std.specs.Str.{bytes_eq}
 use Rattle.std.proofs.lemmas.Slice.Eq.{bytes_eq-Decides}
-use Rattle.std.proofs.lemmas.List.Elements.{All-head, All-tail}
+use Rattle.std.proofs.lemmas.List.Elements.{All-contains, All-head, All-tail, Contains-append_right}
 use Rattle.std.proofs.lemmas.Option.{none-some, same_Some}
 use Rattle.std.proofs.lemmas.Bool.{false≢true, and_parts}
 use Rattle.def_hash.specs.declared.HashKind.{HashKind}
@@ -15,80 +14,52 @@ use Rattle.def_machine.specs.MultiSig.{is_good}
 use Rattle.def_tree.specs.Range.{IsKey}
 use Rattle.def_tree.specs.Tree.{Key}
 use Rattle.def_assets.specs.Assets.{Assets, AreAssets, IsSignature, IsPreimage, sig_of, known}
+use Rattle.def_assets.proofs.Shortest.{no_pair, first_or_later, found_is_held, held_is_found}
 
-same-true : (x : Bytes) → bytes_eq x x ≡ true
-same-true x = (bytes_eq-Decides x x).1 refl
-
--- the first pair of a key, as `sig_of` finds it
-abbrev found : Pairs → Key → Option Bytes
-found pairs key = option_map (λ pair. pair.1) (find (λ pair. bytes_eq pair.0 key) pairs)
-
--- what is found is held
-found_held : (pairs : Pairs) (key sig : Bytes) → found pairs key ≡ Some sig → member pairs key sig ≡ true
-found_held [] key sig h = absurd (none-some sig h)
-found_held (pair ∷ pairs) key sig h = go (bytes_eq pair.0 key) h (found_held pairs key sig)
+-- a pair that is held is among the pairs
+member_in : (pairs : Pairs) (key sig : Bytes) → member pairs key sig ≡ true → Contains pairs (key, sig)
+member_in [] key sig h = absurd (false≢true h)
+member_in (pair ∷ pairs) key sig h = go (bytes_eq pair.0 key) (bytes_eq pair.1 sig) refl refl h (member_in pairs key sig)
   where
-    go : (test : Bool) → option_map (λ p. p.1) (if test then Some pair else find (λ p. bytes_eq p.0 key) pairs) ≡ Some sig →
-        (found pairs key ≡ Some sig → member pairs key sig ≡ true) →
-        ((test && bytes_eq pair.1 sig) || member pairs key sig) ≡ true
-    go true e more = rw (same_Some pair.1 sig e, same-true sig) refl
-    go false e more = more e
+    go : (first second : Bool) → bytes_eq pair.0 key ≡ first → bytes_eq pair.1 sig ≡ second → ((first && second) || member pairs key sig) ≡ true →
+        (member pairs key sig ≡ true → Contains pairs (key, sig)) → Contains (pair ∷ pairs) (key, sig)
+    go true true e f k more =
+        (0, omega arith, ap (λ x. (x, pair.1)) ((bytes_eq-Decides pair.0 key).0 e) ∙ ap (λ x. (key, x)) ((bytes_eq-Decides pair.1 sig).0 f))
+    go true false e f k more = Contains-append_right (pair ∷ []) pairs (key, sig) (more k)
+    go false second e f k more = Contains-append_right (pair ∷ []) pairs (key, sig) (more k)
 
--- a key that stands before isn't held again
-held_once : (pairs : Pairs) (first key sig : Bytes) → AllByRecursion (λ other. bytes_eq first other ≡ false) (map (λ pair. pair.0) pairs) →
-    bytes_eq first key ≡ true → member pairs key sig ≡ true → ⊥
-held_once [] first key sig all same h = false≢true h
-held_once (pair ∷ pairs) first key sig all same h = go (bytes_eq pair.0 key) refl h (held_once pairs first key sig all.1 same)
+in_member : (pairs : Pairs) (key sig : Bytes) → Contains pairs (key, sig) → member pairs key sig ≡ true
+in_member [] key sig h = absurd (no_pair (key, sig) h)
+in_member (pair ∷ pairs) key sig h =
+    elim (first_or_later pair pairs (key, sig) h) [
+      | inl e ↦
+          rw ((bytes_eq-Decides pair.0 key).1 (ap (λ p. p.0) e), (bytes_eq-Decides pair.1 sig).1 (ap (λ p. p.1) e)) refl
+      | inr i ↦ rw (in_member pairs key sig i) (behind (bytes_eq pair.0 key && bytes_eq pair.1 sig))
+    ]
   where
-    go : (test : Bool) → bytes_eq pair.0 key ≡ test → ((test && bytes_eq pair.1 sig) || member pairs key sig) ≡ true →
-        (member pairs key sig ≡ true → ⊥) → ⊥
-    go true e k more =
-        let p : first ≡ key = (bytes_eq-Decides first key).0 same in
-        let q : pair.0 ≡ key = (bytes_eq-Decides pair.0 key).0 e in
-        false≢true (sym all.0 ∙ ap (bytes_eq first) (q ∙ sym p) ∙ same-true first)
-    go false e k more = more k
-
--- what is held is found, where no key stands twice
-held_found : (pairs : Pairs) (key sig : Bytes) → IsDistinct bytes_eq (map (λ pair. pair.0) pairs) → member pairs key sig ≡ true → found pairs key ≡ Some sig
-unfolding IsDistinct
-held_found [] key sig distinct h = absurd (false≢true h)
-held_found (pair ∷ pairs) key sig distinct h =
-    go (bytes_eq pair.0 key) (bytes_eq pair.1 sig) refl refl h (held_found pairs key sig distinct.1)
-  where
-    go : (first second : Bool) → bytes_eq pair.0 key ≡ first → bytes_eq pair.1 sig ≡ second →
-        ((first && second) || member pairs key sig) ≡ true → (member pairs key sig ≡ true → found pairs key ≡ Some sig) →
-        option_map (λ p. p.1) (if first then Some pair else find (λ p. bytes_eq p.0 key) pairs) ≡ Some sig
-    go true true e f k more = ap Some ((bytes_eq-Decides pair.1 sig).0 f)
-    go true false e f k more = absurd (held_once pairs pair.0 key sig distinct.0 e k)
-    go false second e f k more = more k
-
--- what is found is a signature
-found_signature : (pairs : Pairs) (key sig : Bytes) → All (λ pair. IsSignature pair.1) pairs → found pairs key ≡ Some sig → IsSignature sig
-found_signature [] key sig all h = absurd (none-some sig h)
-found_signature (pair ∷ pairs) key sig all h =
-    go (bytes_eq pair.0 key) h (found_signature pairs key sig (All-tail (λ p. IsSignature p.1) pair pairs all))
-  where
-    go : (test : Bool) → option_map (λ p. p.1) (if test then Some pair else find (λ p. bytes_eq p.0 key) pairs) ≡ Some sig →
-        (found pairs key ≡ Some sig → IsSignature sig) → IsSignature sig
-    go true e more = subst IsSignature (same_Some pair.1 sig e) (All-head (λ p. IsSignature p.1) pair pairs all)
-    go false e more = more e
+    behind : (first : Bool) → (first || true) ≡ true
+    behind true = refl
+    behind false = refl
 
 filled : (sig : Bytes) → 1 ≤ length sig → is_empty sig ≡ false
 filled [] h = absurd (omega arith)
 filled (b ∷ sig) h = refl
 
--- the signature of a key that assets hold is the one that is good with it
+-- the signature of a key is good with it, and beside each that is good with the key it is no longer
 pub held_is_good : (assets : Assets) → AreAssets assets → (key sig : Bytes) → sig_of assets key ≡ Some sig → is_good assets.pairs key sig ≡ true
 held_is_good assets are key sig h =
-    let s = found_signature assets.pairs key sig are.signatures h in
-    rw (filled sig s.some, found_held assets.pairs key sig h) refl
+    let i = found_is_held assets.pairs key sig h in
+    let s : IsSignature sig = All-contains (λ pair. IsSignature pair.1) assets.pairs (key, sig) are.signatures i in
+    rw (filled sig s.some, in_member assets.pairs key sig i) refl
 
-pub good_is_held : (assets : Assets) → AreAssets assets → (key sig : Bytes) → is_good assets.pairs key sig ≡ true → sig_of assets key ≡ Some sig
-good_is_held assets are key sig h =
-    held_found assets.pairs key sig are.distinct (and_parts (not (is_empty sig)) (member assets.pairs key sig) h).1
+good_in : (assets : Assets) (key sig : Bytes) → is_good assets.pairs key sig ≡ true → Contains assets.pairs (key, sig)
+good_in assets key sig h = member_in assets.pairs key sig (and_parts (not (is_empty sig)) (member assets.pairs key sig) h).1
+
+pub good_is_held : (assets : Assets) (key sig : Bytes) → is_good assets.pairs key sig ≡ true → (held : Bytes) × (sig_of assets key ≡ Some held) × (length held ≤ length sig)
+good_is_held assets key sig h = held_is_found assets.pairs key sig (good_in assets key sig h)
 
 pub good_is_signature : (assets : Assets) → AreAssets assets → (key sig : Bytes) → is_good assets.pairs key sig ≡ true → IsSignature sig
-good_is_signature assets are key sig h = found_signature assets.pairs key sig are.signatures (good_is_held assets are key sig h)
+good_is_signature assets are key sig h = All-contains (λ pair. IsSignature pair.1) assets.pairs (key, sig) are.signatures (good_in assets key sig h)
 
 -- a known preimage is one
 known_of : (kind : HashKind) (value : Bytes) (preimages : List Bytes) (x : Bytes) → All IsPreimage preimages →

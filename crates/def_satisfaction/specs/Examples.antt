@@ -3,16 +3,17 @@ use Rattle.std.specs.Prelude.{◌≡◌, ℕ, List, [], ◌∷◌, ◌++◌}
 use Rattle.def_script.specs.Bytes.{Bytes}
 use Rattle.def_script.specs.Witness.{witness_text}
 use Rattle.def_machine.specs.Stacks.{Pairs}
-use Rattle.def_machine.specs.Samples.{key_b, sig_a, sig_b, sig_c}
+use Rattle.def_machine.specs.Samples.{key_a, key_b, sig_a, sig_b, sig_c}
 use Rattle.def_machine.specs.Run.{run, accepted}
 use Rattle.def_tree.specs.Tree.{Tree}
 use Rattle.def_emit.specs.Emit.{script_of}
-use Rattle.def_assets.specs.Assets.{Assets}
+use Rattle.def_types.specs.Samples.{pk}
+use Rattle.def_assets.specs.Assets.{Assets, AreAssets}
 use Rattle.def_satisfaction.specs.Weight.{weight}
 use Rattle.def_satisfaction.specs.Setting.{any}
 use Rattle.def_satisfaction.specs.Rows.{EMPTY, ONE}
 use Rattle.def_satisfaction.specs.Satisfaction.{given_of, Sat, FullSat}
-use Rattle.def_satisfaction.specs.Samples.{pair_a, pair_b, pair_c, preimage_0, preimage_1, preimage_2, preimage_3, with_sequence, with_locktime, with_preimages, two_of_three, three_signatures, key_or_late_key, key_and_void_lock, key_and_time, hashes_or_keys, key_and_key_or_hashes, keys_and_preimages, keys_or_lock, zeros_or_key, key_or_key}
+use Rattle.def_satisfaction.specs.Samples.{pair_a, pair_b, pair_c, pair_short_a, preimage_0, preimage_1, preimage_2, preimage_3, with_sequence, with_locktime, with_preimages, two_of_three, three_signatures, key_or_late_key, key_and_void_lock, key_and_time, hashes_or_keys, key_and_key_or_hashes, keys_and_preimages, keys_or_lock, zeros_or_key, key_or_key}
 
 -- the stack is a canonical satisfaction of this weight, and its run takes so many opcodes and elements
 pub record Satisfies (tree : Tree) (assets : Assets) (stack : List Bytes) (total ops peak : ℕ) : Type 0 where
@@ -79,6 +80,18 @@ ZerosAsPreimage =
 -- they don't dissatisfy that hash, so without the preimage there is no satisfaction
 abbrev pub ZerosAreNoMiss : Type 0
 ZerosAreNoMiss = (stack : List Bytes) → ¬ Sat zeros_or_key (with_preimages [] (pair_a ∷ [])) stack
+
+-- a key may have several signatures, but no pair stands twice
+abbrev pub two_of_one_key : Assets
+two_of_one_key = with_preimages [] (pair_a ∷ pair_short_a ∷ [])
+
+abbrev pub SeveralSignatures : Type 0
+SeveralSignatures = AreAssets two_of_one_key × ¬ AreAssets (with_preimages [] (pair_a ∷ pair_a ∷ []))
+
+-- each of them satisfies `pk(A)`, the longer one too
+abbrev pub EitherSignature : Type 0
+EitherSignature =
+    Satisfies (pk key_a) two_of_one_key (sig_a ∷ []) 72 1 2 × Satisfies (pk key_a) two_of_one_key (sig_c ∷ []) 71 1 2
 
 -- both signatures for `or_b`: a satisfaction that isn't canonical
 abbrev pub both_signatures : Assets

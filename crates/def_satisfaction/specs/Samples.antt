@@ -19,6 +19,10 @@ pair_b = (key_b, sig_b)
 abbrev pub pair_c : Bytes × Bytes
 pair_c = (key_c, sig_c)
 
+-- the key A with the signature of 70 bytes: a shorter one than its other
+abbrev pub pair_short_a : Bytes × Bytes
+pair_short_a = (key_a, sig_c)
+
 -- preimages, and their SHA-256
 abbrev pub preimage_0 : Bytes
 preimage_0 = replicate 32 0x00

@@ -14,6 +14,8 @@ ghost use Rattle.def_satisfaction.specs.Examples.{
   LockUnmet,
   ZerosAsPreimage,
   ZerosAreNoMiss,
+  SeveralSignatures,
+  EitherSignature,
   BothOfOrB,
 };
 
@@ -32,5 +34,7 @@ pub fn satisfactions()
     ensures lock_unmet { LockUnmet }
     ensures zeros_as_preimage { ZerosAsPreimage }
     ensures zeros_are_no_miss { ZerosAreNoMiss }
+    ensures several_signatures { SeveralSignatures }
+    ensures either_signature { EitherSignature }
     ensures both_of_or_b { BothOfOrB }
 {}

@@ -3,6 +3,7 @@ use Rattle.std.specs.Prelude.{◌≡◌, ◌⊎◌, ⊤, Bool, not, nat_le, if�
 use Rattle.std.specs.List.{list_any}
 use Rattle.std.specs.Str.{bytes_eq}
 use Rattle.def_script.specs.Bytes.{Bytes}
+use Rattle.def_machine.specs.Stacks.{member}
 use Rattle.def_assets.specs.Assets.{Assets}
 use Rattle.def_files.specs.AssetFile.{is_signature, MOST_PREIMAGES}
 use Rattle.def_files.specs.Refusals.{MOST_SIGNATURES}
@@ -13,13 +14,25 @@ use Rattle.ms_assets.specs.declared.assets.AddStop.TheVariants as stop
 abbrev pub holds_key : Assets → Bytes → Bool
 holds_key assets key = list_any (λ pair. bytes_eq key pair.0) assets.pairs
 
--- why a signature isn't added
-abbrev pub sig_stop : Assets → (key sig : Bytes) → Option AddStop
-sig_stop assets key sig =
+-- why no signature of its length is added, whatever its key
+abbrev pub size_stop : Assets → (sig : Bytes) → Option AddStop
+size_stop assets sig =
     if not (is_signature sig) then Some stop.SigLength
     else if nat_le MOST_SIGNATURES (length assets.pairs) then Some stop.TooMany
-    else if holds_key assets key then Some stop.RepeatedKey
     else None
+
+-- a reason, or else that it is held already
+abbrev pub or_repeated : Option AddStop → (is_held : Bool) → Option AddStop
+or_repeated (Some stop) is_held = Some stop
+or_repeated None is_held = if is_held then Some stop.RepeatedKey else None
+
+-- why a signature isn't added to those of other keys
+abbrev pub sig_stop : Assets → (key sig : Bytes) → Option AddStop
+sig_stop assets key sig = or_repeated (size_stop assets sig) (holds_key assets key)
+
+-- why one isn't added where its key may have others
+abbrev pub another_stop : Assets → (key sig : Bytes) → Option AddStop
+another_stop assets key sig = or_repeated (size_stop assets sig) (member assets.pairs key sig)
 
 -- why a preimage isn't added
 abbrev pub preimage_stop : Assets → Option AddStop

@@ -1,4 +1,5 @@
 pub mod Adding
+pub mod Order
 pub mod Parts
 pub mod Runs
 pub mod Seen

@@ -1,11 +1,14 @@
 -- What reading a part of a file answers.
 use Rattle.std.specs.Prelude.{◌≡◌, ◌⊎◌, ℕ, not, nat_le, Bool, List, [], ◌∷◌, length, map, Option, Some, None, option_map, Result, Ok, Err}
 use Rattle.std.specs.List.{position_from}
+use Rattle.std.specs.Str.{bytes_eq}
 use Rattle.def_script.specs.Bytes.{Bytes}
+use Rattle.def_files.specs.declared.Format.{Format}
 use Rattle.def_files.specs.declared.AssetFault.{AssetFault}
 use Rattle.def_files.specs.declared.AssetFault.TheVariants as fault
 use Rattle.def_files.specs.declared.Member.TheVariants as member
 use Rattle.def_machine.specs.Stacks.{Pairs, is_key}
+use Rattle.def_files.specs.Parts.{same_under}
 use Rattle.def_files.specs.Refusals.{Refusal, unless, no_repeat, MOST_SIGNATURES}
 use Rattle.def_files.specs.AssetFile.{is_signature, is_preimage, MOST_PREIMAGES}
 
@@ -42,14 +45,18 @@ IsOrMemory answer result = IsOr fault.Memory answer result
 
 -- the first key that stands earlier too
 unfoldable pub repeated : {B E : Type 0} → (ℕ → E) → List (Bytes × B) → Option E
-repeated fault pairs = no_repeat fault (map (λ pair. pair.0) pairs)
+repeated fault pairs = no_repeat bytes_eq fault (map (λ pair. pair.0) pairs)
+
+-- the first pair that is the same as an earlier one, in a file of a format
+unfoldable pub repeats : {E : Type 0} → Format → (ℕ → E) → Pairs → Option E
+repeats format fault pairs = no_repeat (same_under format) fault pairs
 
 -- the refusals of an asset file that speak of its byte strings
-abbrev pub value_refusals : Pairs → (preimages : List Bytes) → List Refusal
-value_refusals pairs preimages =
+abbrev pub value_refusals : Format → Pairs → (preimages : List Bytes) → List Refusal
+value_refusals format pairs preimages =
     first_refused (λ pair. is_key pair.0) fault.KeyForm pairs ∷
     first_refused (λ pair. is_signature pair.1) fault.SigLength pairs ∷
     first_refused is_preimage fault.PreimageLength preimages ∷
     unless (nat_le (length pairs) MOST_SIGNATURES) (fault.TooMany member.Signatures) ∷
     unless (nat_le (length preimages) MOST_PREIMAGES) (fault.TooMany member.Preimages) ∷
-    repeated fault.RepeatedKey pairs ∷ []
+    repeats format fault.RepeatedKey pairs ∷ []

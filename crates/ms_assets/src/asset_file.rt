@@ -1,27 +1,31 @@
 //! Asset files.
 
 ghost use Rattle.std.specs.Prelude.{◌≡◌, ◌^◌, ◌<◌, ◌≤◌, List, [], ◌∷◌, length, map};
+ghost use Rattle.std.specs.List.{list_any};
 ghost use Rattle.serde_json.specs.View.{view};
 ghost use Rattle.def_machine.specs.Stacks.{is_key as the_is_key};
 ghost use Rattle.def_files.specs.AssetFile.{is_signature as the_is_signature, is_preimage, asset_refusals, assets_in as the_assets_in, assets_of};
+ghost use Rattle.def_files.specs.Parts.{same_under};
 ghost use Rattle.def_files.specs.Refusals.{unless_refused};
 ghost use Rattle.ms_assets.specs.Seen.{parts_seen};
-ghost use Rattle.ms_assets.specs.Parts.{first_refused, Reads, ReadsOr, ReadsOrMemory, IsOrMemory, repeated, value_refusals};
+ghost use Rattle.ms_assets.specs.Parts.{first_refused, Reads, ReadsOr, ReadsOrMemory, IsOrMemory, repeats, value_refusals};
 
-use crate::assets::{Assets, MOST_PREIMAGES, MOST_SIGNATURES, holds_key};
+use crate::assets::{Assets, MOST_PREIMAGES, MOST_SIGNATURES};
 use crate::list_fault::ListFault;
-use crate::members::{pair_list, read_json, read_locks, text_list};
+use crate::members::{pair_list, read_format, read_json, read_locks, text_list};
 use crate::preimage::Preimage;
+use crate::signatures::Signatures;
 use crate::texts::{read_pairs, read_strings};
-use def_files::{AssetFault, Member};
+use def_files::{AssetFault, Format, Member};
 use ms_oracle::{Locks, Pairs, SigPair};
 use ms_script::Stack;
 use serde_json::Value;
-use std::alloc::Global;
+use std::alloc::{AllocError, Global};
 
 /// Reads an asset file: a JSON object with the numbers `version`, `sequence` and `locktime`, the list
-/// `signatures` of objects with the texts `key` and `sig`, and the list `preimages` of texts. All may
-/// be missing, and bytes are spelled by hexadecimal digits.
+/// `signatures` of objects with the texts `key` and `sig`, the list `preimages` of texts, and the number
+/// `format`, 1 or 2. All may be missing; the format is then 1. Bytes are spelled by hexadecimal digits.
+/// In format 1 a key has one signature; in format 2 it may have several, and none of them stands twice.
 ///
 /// Of the refusals that apply the first in the order of `AssetFault` is given, then the first in the
 /// order of `Member`, then the one with the least place. Want of memory, `Memory`, may come in place of
@@ -44,7 +48,7 @@ pub fn read_assets(alloc: Global, bytes: &[u8]) -> Result<Assets, AssetFault>
 #[derive(Drop)]
 pub struct AssetParts {
     pub locks: Locks,
-    pub pairs: Pairs,
+    pub pairs: Signatures,
     pub preimages: Vec<Preimage>,
 }
 
@@ -68,21 +72,23 @@ fn assets_in(alloc: Global, file: &Value) -> Result<AssetParts, AssetFault>
         AssetFault::Number(Member::Sequence),
         AssetFault::Number(Member::Locktime),
     )?;
+    let format = read_format(file)?;
     let pairs = read_pairs(alloc, signatures)?;
     let strings = read_strings(alloc, preimages, Member::Preimages)?;
-    check_parts(alloc, locks, pairs, &strings)
+    check_parts(alloc, format, locks, pairs, &strings)
 }
 
 /// Parts of assets, where they have their form and length and aren't too many.
 fn check_parts(
     alloc: Global,
+    format: Format,
     locks: Locks,
     pairs: Pairs,
     strings: &Stack,
 ) -> Result<AssetParts, AssetFault>
     requires few_pairs { length pairs < 2 ^ 32 }
     requires few_strings { length strings.now < 2 ^ 32 }
-    ensures { IsOrMemory (unless_refused (value_refusals pairs strings.now) (record { locks = locks; pairs = pairs; preimages = strings.now })) (parts_seen result) }
+    ensures { IsOrMemory (unless_refused (value_refusals format pairs strings.now) (record { locks = locks; pairs = pairs; preimages = strings.now })) (parts_seen result) }
 {
     check_keys(pairs.as_slice())?;
     check_sigs(pairs.as_slice())?;
@@ -93,12 +99,15 @@ fn check_parts(
     if preimages.len() > MOST_PREIMAGES {
         return Err(AssetFault::TooMany(Member::Preimages));
     }
-    check_repeats(pairs.as_slice())?;
-    Ok(AssetParts {
-        locks,
-        pairs,
-        preimages,
-    })
+    check_repeats(format, pairs.as_slice())?;
+    match Signatures::of_pairs(alloc, pairs) {
+        Ok(pairs) => Ok(AssetParts {
+            locks,
+            pairs,
+            preimages,
+        }),
+        Err(AllocError) => Err(AssetFault::Memory),
+    }
 }
 
 /// Whether this is a compressed public key: 33 bytes of which the first is 2 or 3. Takes no memory.
@@ -174,15 +183,37 @@ pub fn preimages_of(alloc: Global, strings: &Stack) -> Result<Vec<Preimage>, Lis
     Ok(preimages)
 }
 
-/// Refuses the first key that stands earlier too.
-fn check_repeats(pairs: &[SigPair]) -> Result<(), AssetFault>
+/// Refuses the first pair that is the same as an earlier one.
+fn check_repeats(format: Format, pairs: &[SigPair]) -> Result<(), AssetFault>
     requires { length pairs.now < 2 ^ 32 }
-    ensures { Reads (repeated AssetFault.RepeatedKey pairs.now) (λ unit. unit) tt result }
+    ensures { Reads (repeats format AssetFault.RepeatedKey pairs.now) (λ unit. unit) tt result }
 {
     for i in 0..pairs.len() {
-        if holds_key(&pairs[..i], pairs[i].key()) {
+        if holds_same(format, &pairs[..i], &pairs[i]) {
             return Err(AssetFault::RepeatedKey(i as u32));
         }
     }
     Ok(())
+}
+
+/// Whether a pair is the same as one of a table.
+fn holds_same(format: Format, table: &[SigPair], pair: &SigPair) -> bool
+    ensures { result ≡ list_any (same_under format pair.now) table.now }
+{
+    for other in table {
+        if is_same(format, pair, other) {
+            return true;
+        }
+    }
+    false
+}
+
+/// Whether two pairs are the same: in format 1 those of one key, in format 2 those of one key and one signature.
+fn is_same(format: Format, these: &SigPair, those: &SigPair) -> bool
+    ensures { result ≡ same_under format these.now those.now }
+{
+    match format {
+        Format::One => these.key() == those.key(),
+        Format::Two => these.key() == those.key() && these.sig() == those.sig(),
+    }
 }

@@ -1,6 +1,5 @@
 //! Assets: signatures with their keys, preimages, and the values of the locks.
-ghost use Rattle.std.specs.Prelude.{◌≡◌, ◌^◌, ◌<◌, ◌≤◌, List, [], ◌∷◌, ◌++◌, find, option_map, IfOk, OnOk, OnErr};
-ghost use Rattle.std.specs.List.{list_any};
+ghost use Rattle.std.specs.Prelude.{◌≡◌, ◌⊎◌, ◌^◌, ◌<◌, ◌≤◌, List, [], ◌∷◌, ◌++◌, find, option_map, Ok, Err, IfOk, OnOk, OnErr};
 ghost use Rattle.std.specs.Str.{bytes_eq};
 ghost use Rattle.def_hash.specs.Hash.{digest_of};
 ghost use Rattle.def_machine.specs.Locks.{after_holds, older_holds};
@@ -8,12 +7,13 @@ ghost use Rattle.def_assets.specs.Assets.{sig_of as the_sig_of, known, unsigned}
 ghost use Rattle.def_files.specs.Laws.{AreFewAssets};
 ghost use Rattle.ms_assets.specs.Seen.{held};
 ghost use Rattle.ms_hash.specs.Value.{kind_of, bytes_of};
-ghost use Rattle.ms_assets.specs.Adding.{sig_stop, preimage_stop, Answers};
+ghost use Rattle.ms_assets.specs.Adding.{size_stop as the_size_stop, sig_stop, another_stop, preimage_stop, Answers};
 
 use crate::asset_file::AssetParts;
 use crate::preimage::Preimage;
+use crate::signatures::Signatures;
 use ms_hash::HashVal;
-use ms_oracle::{Locks, Pairs, SigPair};
+use ms_oracle::{Locks, SigPair, member};
 use ms_tree::Key;
 use std::alloc::{AllocError, Global};
 use std::marker::Model;
@@ -31,7 +31,7 @@ pub enum AddStop {
     SigLength,
     /// 256 of its kind are held.
     TooMany,
-    /// A signature is held with the key already.
+    /// A signature is held with the key already, or this one is where a key may have several.
     RepeatedKey,
     /// There was no memory. Only where no other reason applies.
     Memory,
@@ -42,7 +42,7 @@ pub enum AddStop {
 #[derive(Debug, Drop)]
 pub struct Assets {
     locks: Locks,
-    pairs: Pairs,
+    pairs: Signatures,
     preimages: Vec<Preimage>,
 }
 
@@ -64,7 +64,7 @@ impl Assets {
     {
         Assets {
             locks,
-            pairs: Pairs::new(alloc),
+            pairs: Signatures::new(alloc),
             preimages: Vec::new(alloc),
         }
     }
@@ -89,7 +89,7 @@ impl Assets {
     {
         Assets {
             locks,
-            pairs: Pairs::new(alloc),
+            pairs: Signatures::new(alloc),
             preimages,
         }
     }
@@ -116,27 +116,65 @@ impl Assets {
         }
     }
 
-    /// Adds a signature with its key at the end: 1 to 73 bytes, of which nothing else is asked. Refused, in this
-    /// order, by `SigLength`, `TooMany`, `RepeatedKey` and `Memory`; the assets are then what they were.
+    /// Adds a signature with its key at the end: 1 to 73 bytes, of which nothing else is asked. The key has none yet.
+    /// Refused, in this order, by `SigLength`, `TooMany`, `RepeatedKey` and `Memory`; the assets are then what they were.
     pub fn add_sig(&mut self, key: &Key, sig: &[u8]) -> Result<(), AddStop>
         ensures answer { Answers (sig_stop self.old key.now sig.now) result }
         ensures ok { OnOk result (self.new ≡ record self.old { pairs = self.old.pairs ++ (key.now, sig.now) ∷ [] }) }
         ensures err { OnErr result (self.new ≡ self.old) }
     {
-        if sig.is_empty() || sig.len() > 73 {
-            return Err(AddStop::SigLength);
-        }
-        if self.pairs.as_slice().len() >= MOST_SIGNATURES {
-            return Err(AddStop::TooMany);
+        if let Some(stop) = self.size_stop(sig) {
+            return Err(stop);
         }
         let bytes = key.as_bytes();
-        if holds_key(self.pairs.as_slice(), bytes) {
+        if self.pairs.holds_key(bytes) {
             return Err(AddStop::RepeatedKey);
         }
-        if self.pairs.push(bytes, sig).is_err() {
-            return Err(AddStop::Memory);
+        self.push_sig(bytes, sig)
+    }
+
+    /// Adds a signature with its key at the end, where the key may have others: `sig_of` then answers the shortest, of
+    /// several shortest the one that was added first. Refused as `add_sig` is, but by `RepeatedKey` only where this signature
+    /// is held with the key.
+    pub fn add_another(&mut self, key: &Key, sig: &[u8]) -> Result<(), AddStop>
+        ensures answer { Answers (another_stop self.old key.now sig.now) result }
+        ensures ok { OnOk result (self.new ≡ record self.old { pairs = self.old.pairs ++ (key.now, sig.now) ∷ [] }) }
+        ensures err { OnErr result (self.new ≡ self.old) }
+    {
+        if let Some(stop) = self.size_stop(sig) {
+            return Err(stop);
         }
-        Ok(())
+        let bytes = key.as_bytes();
+        if member(self.pairs.as_slice(), bytes, sig) {
+            return Err(AddStop::RepeatedKey);
+        }
+        self.push_sig(bytes, sig)
+    }
+
+    /// Why no signature of this length is added, whatever its key.
+    fn size_stop(&self, sig: &[u8]) -> Option<AddStop>
+        ensures { result ≡ the_size_stop self.now sig.now }
+    {
+        if sig.is_empty() || sig.len() > 73 {
+            return Some(AddStop::SigLength);
+        }
+        if self.pairs.as_slice().len() >= MOST_SIGNATURES {
+            return Some(AddStop::TooMany);
+        }
+        None
+    }
+
+    /// Adds a signature with its key at the end. Refuses for want of memory alone; the assets are then what they were.
+    fn push_sig(&mut self, key: &[u8], sig: &[u8]) -> Result<(), AddStop>
+        requires { AreFewAssets (record self.old { pairs = self.old.pairs ++ (key.now, sig.now) ∷ [] }) }
+        ensures answer { (result ≡ Ok tt) ⊎ (result ≡ Err AddStop.Memory) }
+        ensures ok { OnOk result (self.new ≡ record self.old { pairs = self.old.pairs ++ (key.now, sig.now) ∷ [] }) }
+        ensures err { OnErr result (self.new ≡ self.old) }
+    {
+        match self.pairs.push(key, sig) {
+            Ok(()) => Ok(()),
+            Err(AllocError) => Err(AddStop::Memory),
+        }
     }
 
     /// Adds a preimage at the end. It may be held already. Refused by `TooMany`, and else by `Memory`; the assets
@@ -155,8 +193,8 @@ impl Assets {
         Ok(())
     }
 
-    /// The values of the locks. What is held is at most one signature a key, and all is few and has its
-    /// form: at most 256 signatures of 1 to 73 bytes, and at most 256 preimages of 32. Takes no memory.
+    /// The values of the locks. No signature is held twice with one key, and all is few and has its form: at
+    /// most 256 signatures of 1 to 73 bytes, and at most 256 preimages of 32. Takes no memory.
     pub fn locks(&self) -> Locks
         ensures locks { result ≡ self.now.locks }
         ensures few { AreFewAssets self.now }
@@ -172,11 +210,12 @@ impl Assets {
         self.pairs.as_slice()
     }
 
-    /// The signature that is held with a key, or `None` where none is. Takes no memory.
+    /// The shortest signature of a key, of several shortest the one that was added first, or `None` exactly where the key
+    /// has none. It is found by halves. Takes no memory.
     pub fn sig_of(&self, key: &Key) -> Option<&[u8]>
         ensures { option_map (λ sig. sig.now) result ≡ the_sig_of self.now key.now }
     {
-        sig_with(self.pairs.as_slice(), key.as_bytes())
+        self.pairs.shortest(key.as_bytes())
     }
 
     /// The known preimage of a hash value, its 32 bytes: the first in their order that hashes to it, or `None`
@@ -207,30 +246,6 @@ impl Assets {
     {
         self.locks.after_holds(n)
     }
-}
-
-/// Whether a pair has this key.
-pub(crate) fn holds_key(pairs: &[SigPair], key: &[u8]) -> bool
-    ensures { result ≡ list_any (λ pair. bytes_eq key.now pair.0) pairs.now }
-{
-    for pair in pairs {
-        if key == pair.key() {
-            return true;
-        }
-    }
-    false
-}
-
-/// The signature of the first pair with this key.
-fn sig_with<'a>(pairs: &'a [SigPair], key: &[u8]) -> Option<&'a [u8]>
-    ensures { option_map (λ sig. sig.now) result ≡ option_map (λ pair. pair.1) (find (λ pair. bytes_eq pair.0 key.now) pairs.entry.now) }
-{
-    for pair in pairs {
-        if pair.key() == key {
-            return Some(pair.sig());
-        }
-    }
-    None
 }
 
 /// The first preimage that hashes to a value.

@@ -21,6 +21,7 @@ mod list_fault;
 mod members;
 mod preimage;
 mod run_file;
+mod signatures;
 #[cfg(test)]
 mod tests;
 mod texts;

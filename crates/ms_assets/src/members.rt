@@ -5,11 +5,11 @@ ghost use Rattle.std.specs.List.{list_all};
 ghost use Rattle.serde_json.specs.Find.{get};
 ghost use Rattle.serde_json.specs.View.{view};
 ghost use Rattle.def_files.specs.Json.{reading, member_name as the_member_name, find_member, number_of as the_number_of, number_or as the_number_or, elements_or_empty, is_list_of, text_at as the_text_at};
-ghost use Rattle.def_files.specs.Parts.{version, sequence, locktime, locks, list as the_list, elements, is_pair as the_is_pair, is_text as the_is_text};
-ghost use Rattle.def_files.specs.Refusals.{unless, no_list_of};
+ghost use Rattle.def_files.specs.Parts.{version, sequence, locktime, locks, format as the_format, list as the_list, elements, is_pair as the_is_pair, is_text as the_is_text};
+ghost use Rattle.def_files.specs.Refusals.{unless, no_format, no_list_of};
 ghost use Rattle.ms_assets.specs.Parts.{first, Reads, ReadsOr, ReadsOrMemory};
 
-use def_files::{AssetFault, Member};
+use def_files::{AssetFault, Format, Member};
 use ms_oracle::Locks;
 use serde_json::Value;
 use std::alloc::Global;
@@ -38,6 +38,7 @@ pub fn member_name(member: Member) -> &'static str
         Member::Preimages => "preimages",
         Member::Script => "script",
         Member::Witness => "witness",
+        Member::Format => "format",
     }
 }
 
@@ -94,6 +95,17 @@ pub fn read_locks<E: Copy>(
         sequence,
         locktime,
     })
+}
+
+/// The format of an asset file, which is 1 where it is missing.
+pub fn read_format(file: &Value) -> Result<Format, AssetFault>
+    ensures { Reads (no_format (view file.now)) (λ format. Some format) (the_format (view file.now)) result }
+{
+    match number_or(file, Member::Format, 1) {
+        Some(1) => Ok(Format::One),
+        Some(2) => Ok(Format::Two),
+        _ => Err(AssetFault::Number(Member::Format)),
+    }
 }
 
 /// The elements of a member, none of a missing one, or `None` where it is no list.

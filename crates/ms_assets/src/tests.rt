@@ -20,6 +20,14 @@ fn key(last: u8) -> Option<Key> {
     Key::from_bytes(&bytes)
 }
 
+// Whether this is the signature of a key.
+fn finds(assets: &Assets, key: &Key, sig: &[u8]) -> bool {
+    match assets.sig_of(key) {
+        Some(found) => found == sig,
+        None => false,
+    }
+}
+
 #[test]
 fn signatures_are_found_by_their_keys(rt: HostRuntime) -> Result<(), Fail> {
     let mut assets = Assets::new(rt.alloc(), LOCKS);
@@ -29,13 +37,62 @@ fn signatures_are_found_by_their_keys(rt: HostRuntime) -> Result<(), Fail> {
     assert_eq!(rt; assets.add_sig(&one, &[0; 74]), Err(AddStop::SigLength));
     assert_eq!(rt; assets.add_sig(&one, &[7; 73]), Ok(()));
     assert_eq!(rt; assets.add_sig(&one, b"sig"), Err(AddStop::RepeatedKey));
-    assert_eq!(rt; assets.sig_of(&one), Some([7; 73].as_slice()));
+    assert!(rt; finds(&assets, &one, &[7; 73]));
     assert_eq!(rt; assets.sig_of(&two), None);
     assert_eq!(rt; assets.add_sig(&two, b"sig"), Ok(()));
-    let sig = assets.sig_of(&two).ok_or("no signature")?;
-    assert_eq!(rt; sig, b"sig".as_slice());
+    assert!(rt; finds(&assets, &two, b"sig"));
     assert_eq!(rt; assets.pairs().len(), 2);
     assert_eq!(rt; assets.locks(), LOCKS);
+    Ok(())
+}
+
+// Adds further signatures of a key: so many bytes, each of them this one.
+fn add_all(assets: &mut Assets, key: &Key, sigs: &[(u8, usize)]) -> Result<(), AddStop> {
+    for (byte, length) in sigs {
+        let bytes = [*byte; 74];
+        let length = if *length < 74 { *length } else { 74 };
+        assets.add_another(key, &bytes[..length])?;
+    }
+    Ok(())
+}
+
+#[test]
+fn the_first_of_the_shortest_signatures_is_found(rt: HostRuntime) -> Result<(), Fail> {
+    let mut assets = Assets::new(rt.alloc(), LOCKS);
+    let one = key(1).ok_or("no key")?;
+    let two = key(2).ok_or("no key")?;
+    assert_eq!(rt;
+        add_all(&mut assets, &one, &[(7, 73), (9, 71), (8, 71), (6, 72)]),
+        Ok(())
+    );
+    assert!(rt; finds(&assets, &one, &[9; 71]));
+    assert_eq!(rt; assets.sig_of(&two), None);
+    assert_eq!(rt; add_all(&mut assets, &two, &[(9, 71)]), Ok(()));
+    assert_eq!(rt; add_all(&mut assets, &one, &[(5, 70)]), Ok(()));
+    assert!(rt; finds(&assets, &one, &[5; 70]));
+    assert!(rt; finds(&assets, &two, &[9; 71]));
+    assert_eq!(rt; assets.pairs().len(), 6);
+    Ok(())
+}
+
+#[test]
+fn further_signatures_are_refused(rt: HostRuntime) -> Result<(), Fail> {
+    let mut assets = Assets::new(rt.alloc(), LOCKS);
+    let one = key(1).ok_or("no key")?;
+    assert_eq!(rt;
+        add_all(&mut assets, &one, &[(7, 73), (7, 72), (7, 73)]),
+        Err(AddStop::RepeatedKey)
+    );
+    assert_eq!(rt;
+        add_all(&mut assets, &one, &[(7, 0)]),
+        Err(AddStop::SigLength)
+    );
+    assert_eq!(rt;
+        add_all(&mut assets, &one, &[(7, 74)]),
+        Err(AddStop::SigLength)
+    );
+    assert_eq!(rt; assets.add_sig(&one, &[8; 70]), Err(AddStop::RepeatedKey));
+    assert_eq!(rt; assets.pairs().len(), 2);
     Ok(())
 }
 
@@ -43,16 +100,22 @@ fn signatures_are_found_by_their_keys(rt: HostRuntime) -> Result<(), Fail> {
 fn assets_are_few(rt: HostRuntime) -> Result<(), Fail> {
     let mut assets = Assets::new(rt.alloc(), LOCKS);
     for i in 0..256_u16 {
+        let byte = (i % 256) as u8;
         let mut bytes = [0; 33];
         bytes[0] = 2;
-        bytes[1] = (i % 256) as u8;
+        bytes[1] = byte;
         let key = Key::from_bytes(&bytes).ok_or("no key")?;
         assert_eq!(rt; assets.add_sig(&key, b"sig"), Ok(()));
-        assert_eq!(rt; assets.add_preimage(&[(i % 256) as u8; 32]), Ok(()));
+        assert_eq!(rt; assets.add_preimage(&[byte; 32]), Ok(()));
     }
     let other = key(9).ok_or("no key")?;
     assert_eq!(rt; assets.add_sig(&other, &[0; 74]), Err(AddStop::SigLength));
     assert_eq!(rt; assets.add_sig(&other, b"sig"), Err(AddStop::TooMany));
+    assert_eq!(rt;
+        assets.add_another(&other, &[0; 74]),
+        Err(AddStop::SigLength)
+    );
+    assert_eq!(rt; assets.add_another(&other, b"sig"), Err(AddStop::TooMany));
     assert_eq!(rt; assets.add_preimage(&[0; 32]), Err(AddStop::TooMany));
     Ok(())
 }
@@ -137,133 +200,167 @@ fn timelocks_hold(rt: HostRuntime) -> Result<(), Fail> {
     Ok(())
 }
 
-// Why an asset file is refused.
-fn asset_fault(rt: &impl Abort, alloc: Global, text: &str) -> Option<AssetFault> {
-    assert!(rt; text.len() <= 1_048_576);
-    read_assets(alloc, text.as_bytes()).err()
-}
-
-#[test]
-fn asset_files_are_refused(rt: HostRuntime) -> Result<(), Fail> {
-    let cases: [(&str, AssetFault); 25] = [
-        ("", AssetFault::NotJson),
-        ("{\"version\":2", AssetFault::NotJson),
-        ("[]", AssetFault::Shape(Member::Whole)),
-        ("null", AssetFault::Shape(Member::Whole)),
-        (
-            "{\"sequence\":4294967296}",
-            AssetFault::Number(Member::Sequence),
-        ),
-        ("{\"version\":-0}", AssetFault::Number(Member::Version)),
-        ("{\"version\":1.0}", AssetFault::Number(Member::Version)),
-        ("{\"locktime\":1e0}", AssetFault::Number(Member::Locktime)),
-        ("{\"locktime\":null}", AssetFault::Number(Member::Locktime)),
-        (
-            "{\"signatures\":null}",
-            AssetFault::Shape(Member::Signatures),
-        ),
-        (
-            "{\"signatures\":[{\"key\":\"\"}]}",
-            AssetFault::Shape(Member::Signatures),
-        ),
-        (
-            "{\"signatures\":[{\"key\":\"\",\"sig\":0}]}",
-            AssetFault::Shape(Member::Signatures),
-        ),
-        (
-            "{\"preimages\":[\"\",[]]}",
-            AssetFault::Shape(Member::Preimages),
-        ),
-        (
-            "{\"preimages\":[\"00\",\"0x\"]}",
-            AssetFault::Hex(Member::Preimages, 1),
-        ),
-        (
-            "{\"signatures\":[{\"key\":\"\",\"sig\":\"\"}]}",
-            AssetFault::KeyForm(0),
-        ),
-        ("{\"preimages\":[\"00\"]}", AssetFault::PreimageLength(0)),
-        // Several at once: the order of the refusals, then of the members, then of the places.
-        (
-            "{\"version\":-1,\"preimages\":{},\"signatures\":{}}",
-            AssetFault::Shape(Member::Signatures),
-        ),
-        (
-            "{\"version\":-1,\"preimages\":[0]}",
-            AssetFault::Shape(Member::Preimages),
-        ),
-        (
-            "{\"preimages\":[\"0\"],\"locktime\":-1}",
-            AssetFault::Number(Member::Locktime),
-        ),
-        (
-            "{\"locktime\":-1,\"sequence\":-1}",
-            AssetFault::Number(Member::Sequence),
-        ),
-        (
-            "{\"preimages\":[\"0\"],\"signatures\":[{\"key\":\"\",\"sig\":\"00\"},{\"key\":\"00\",\"sig\":\"0\"},{\"key\":\"g0\",\"sig\":\"\"}]}",
-            AssetFault::Hex(Member::Signatures, 1),
-        ),
-        (
-            "{\"preimages\":[\"0\"],\"signatures\":[{\"key\":\"\",\"sig\":\"\"}]}",
-            AssetFault::Hex(Member::Preimages, 0),
-        ),
-        (
-            "{\"preimages\":[\"\"],\"signatures\":[{\"key\":\"\",\"sig\":\"\"}]}",
-            AssetFault::KeyForm(0),
-        ),
-        (
-            "{\"preimages\":[\"\",\"\"],\"signatures\":[]}",
-            AssetFault::PreimageLength(0),
-        ),
-        (
-            "{\"version\":0,\"version\":{}}",
-            AssetFault::Number(Member::Version),
-        ),
-    ];
-    for (text, fault) in cases {
-        assert_eq!(rt; asset_fault(&rt, rt.alloc(), text), Some(fault), "{text}");
-    }
-    Ok(())
-}
-
-// An asset file with two signatures, of these keys and lengths.
-fn two_signatures(alloc: Global, keys: [u8; 2], lengths: [u8; 2]) -> Result<String, AllocError> {
-    let mut text = String::from_str(alloc, "{\"signatures\":[")?;
-    for i in 0..2 {
-        text.push_str("{\"key\":\"02")?;
-        for _ in 0..32 {
-            text.push_str(hex::encode(alloc, &[keys[i]])?.as_str())?;
+// Capital letters stand for digits: `A` and `B` for keys, `E` for a signature of one byte, `P` and `Q` for two of 72, `R` for one
+// of 73, and `S` for one of 74.
+fn filled(alloc: Global, form: &str) -> Result<String, AllocError> {
+    let mut text = String::new(alloc);
+    for letter in form.chars() {
+        match letter {
+            'A' => text.push_str(&spelled(alloc, "02", "01", 32)?)?,
+            'B' => text.push_str(&spelled(alloc, "02", "02", 32)?)?,
+            'E' => text.push_str("Aa")?,
+            'P' => text.push_str(&spelled(alloc, "", "Aa", 72)?)?,
+            'Q' => text.push_str(&spelled(alloc, "", "bb", 72)?)?,
+            'R' => text.push_str(&spelled(alloc, "", "Aa", 73)?)?,
+            'S' => text.push_str(&spelled(alloc, "", "Aa", 74)?)?,
+            other => text.push(other)?,
         }
-        text.push_str("\",\"sig\":\"")?;
-        for _ in 0..lengths[i] {
-            text.push_str("Aa")?;
-        }
-        text.push_str(if i == 0 { "\"}," } else { "\"}]}" })?;
     }
     Ok(text)
 }
 
-#[test]
-fn signatures_of_files_are_refused(rt: HostRuntime) -> Result<(), Fail> {
-    let cases: [([u8; 2], [u8; 2], Option<AssetFault>); 6] = [
-        ([1, 2], [1, 73], None),
-        ([1, 2], [1, 74], Some(AssetFault::SigLength(1))),
-        ([1, 2], [74, 74], Some(AssetFault::SigLength(0))),
-        ([1, 2], [72, 0], Some(AssetFault::SigLength(1))),
-        ([1, 1], [72, 72], Some(AssetFault::RepeatedKey(1))),
-        ([1, 1], [72, 74], Some(AssetFault::SigLength(1))),
-    ];
-    for (keys, lengths, fault) in cases {
-        let text = two_signatures(rt.alloc(), keys, lengths)?;
-        assert_eq!(rt; asset_fault(&rt, rt.alloc(), text.as_str()), fault);
+// A text, and another one so many times.
+fn spelled(alloc: Global, first: &str, digits: &str, count: u32) -> Result<String, AllocError> {
+    let mut text = String::from_str(alloc, first)?;
+    for _ in 0..count {
+        text.push_str(digits)?;
     }
+    Ok(text)
+}
+
+// Which file is read.
+#[derive(Clone, Copy)]
+enum File {
+    Assets,
+    Run,
+}
+
+// Why a file is refused.
+fn fault_of(rt: &impl Abort, alloc: Global, file: File, text: &str) -> Option<AssetFault> {
+    assert!(rt; text.len() <= 1_048_576);
+    match file {
+        File::Assets => read_assets(alloc, text.as_bytes()).err(),
+        File::Run => read_run(alloc, text.as_bytes()).err(),
+    }
+}
+
+// Compares what becomes of each file of a table with the word that stands behind it.
+fn compare_rows(rt: &impl Abort, alloc: Global, file: File, rows: &str) -> Result<(), Fail> {
+    for row in rows.lines() {
+        let (form, wanted) = row.split_once(" => ").ok_or("a row")?;
+        let text = filled(alloc, form)?;
+        let answer = match fault_of(rt, alloc, file, &text) {
+            Some(fault) => format!(in alloc; "{fault:?}")?,
+            None => String::from_str(alloc, "read")?,
+        };
+        assert_eq!(rt; answer.as_str(), wanted, "{form}");
+    }
+    Ok(())
+}
+
+// Asset files. Those from the third part on have several faults: the order of the refusals, then of the members, then of the
+// places.
+const ASSET_ROWS: &str = r#" => NotJson
+{"version":2 => NotJson
+[] => Shape(Whole)
+null => Shape(Whole)
+{"sequence":4294967296} => Number(Sequence)
+{"version":-0} => Number(Version)
+{"version":1.0} => Number(Version)
+{"locktime":1e0} => Number(Locktime)
+{"locktime":null} => Number(Locktime)
+{"signatures":null} => Shape(Signatures)
+{"signatures":[{"key":""}]} => Shape(Signatures)
+{"signatures":[{"key":"","sig":0}]} => Shape(Signatures)
+{"preimages":["",[]]} => Shape(Preimages)
+{"preimages":["00","0x"]} => Hex(Preimages, 1)
+{"signatures":[{"key":"","sig":""}]} => KeyForm(0)
+{"preimages":["00"]} => PreimageLength(0)
+{"format":1} => read
+{"format":2} => read
+{"format":0} => Number(Format)
+{"format":3} => Number(Format)
+{"format":2.0} => Number(Format)
+{"format":2e0} => Number(Format)
+{"format":"2"} => Number(Format)
+{"format":null} => Number(Format)
+{"format":4294967298} => Number(Format)
+{"format":3,"format":2} => read
+{"version":-1,"preimages":{},"signatures":{}} => Shape(Signatures)
+{"version":-1,"preimages":[0]} => Shape(Preimages)
+{"preimages":["0"],"locktime":-1} => Number(Locktime)
+{"locktime":-1,"sequence":-1} => Number(Sequence)
+{"format":3,"version":-1} => Number(Version)
+{"format":3,"locktime":-1} => Number(Locktime)
+{"format":3,"preimages":[0]} => Shape(Preimages)
+{"format":3,"signatures":[{"key":"0","sig":""}]} => Number(Format)
+{"preimages":["0"],"signatures":[{"key":"","sig":"00"},{"key":"00","sig":"0"},{"key":"g0","sig":""}]} => Hex(Signatures, 1)
+{"preimages":["0"],"signatures":[{"key":"","sig":""}]} => Hex(Preimages, 0)
+{"preimages":[""],"signatures":[{"key":"","sig":""}]} => KeyForm(0)
+{"preimages":["",""],"signatures":[]} => PreimageLength(0)
+{"version":0,"version":{}} => Number(Version)"#;
+
+// Asset files with signatures.
+const SIGNATURE_ROWS: &str = r#"{"signatures":[{"key":"A","sig":"E"},{"key":"B","sig":"R"}]} => read
+{"signatures":[{"key":"A","sig":"E"},{"key":"B","sig":"S"}]} => SigLength(1)
+{"signatures":[{"key":"A","sig":"S"},{"key":"B","sig":"S"}]} => SigLength(0)
+{"signatures":[{"key":"A","sig":"P"},{"key":"B","sig":""}]} => SigLength(1)
+{"signatures":[{"key":"A","sig":"P"},{"key":"A","sig":"P"}]} => RepeatedKey(1)
+{"signatures":[{"key":"A","sig":"P"},{"key":"A","sig":"S"}]} => SigLength(1)
+{"signatures":[{"key":"A","sig":"P"},{"key":"A","sig":"Q"}]} => RepeatedKey(1)
+{"format":1,"signatures":[{"key":"A","sig":"P"},{"key":"A","sig":"Q"}]} => RepeatedKey(1)
+{"format":2,"signatures":[{"key":"A","sig":"P"},{"key":"A","sig":"Q"}]} => read
+{"format":2,"signatures":[{"key":"A","sig":"P"},{"key":"B","sig":"P"}]} => read
+{"format":2,"signatures":[{"key":"A","sig":"P"},{"key":"A","sig":"P"}]} => RepeatedKey(1)
+{"format":2,"signatures":[{"key":"A","sig":"P"},{"key":"A","sig":"Q"},{"key":"B","sig":"P"},{"key":"A","sig":"P"}]} => RepeatedKey(3)
+{"format":2,"signatures":[{"key":"A","sig":"P"},{"key":"A","sig":"P"},{"key":"A","sig":"S"}]} => SigLength(2)"#;
+
+#[test]
+fn asset_files_are_refused(rt: HostRuntime) -> Result<(), Fail> {
+    compare_rows(&rt, rt.alloc(), File::Assets, ASSET_ROWS)?;
+    compare_rows(&rt, rt.alloc(), File::Assets, SIGNATURE_ROWS)
+}
+
+// A file of format 2 with so many signatures of one key: that at place i has 73 - i % 60 bytes, each of them i.
+fn many_signatures(alloc: Global, count: u16) -> Result<String, AllocError> {
+    let mut text = String::from_str(alloc, "{\"format\":2,\"signatures\":[")?;
+    for i in 0..count {
+        let bytes = [(i % 256) as u8; 73];
+        let digits = hex::encode(alloc, &bytes[..73 - (i % 60) as usize])?;
+        if i > 0 {
+            text.push(',')?;
+        }
+        let form = filled(alloc, "{\"key\":\"A\",\"sig\":\"")?;
+        text.push_str(&form)?;
+        text.push_str(&digits)?;
+        text.push_str("\"}")?;
+    }
+    text.push_str("]}")?;
+    Ok(text)
+}
+
+#[test]
+fn a_key_may_have_all_signatures_of_a_file(rt: HostRuntime) -> Result<(), Fail> {
+    let text = many_signatures(rt.alloc(), 256)?;
+    assert!(rt; text.len() <= 1_048_576);
+    let assets = read_assets(rt.alloc(), text.as_bytes())
+        .ok()
+        .ok_or("refused")?;
+    let one = key(1).ok_or("no key")?;
+    assert_eq!(rt; assets.pairs().len(), 256);
+    assert!(rt; finds(&assets, &one, &[59; 14]));
+    let text = many_signatures(rt.alloc(), 257)?;
+    let fault = fault_of(&rt, rt.alloc(), File::Assets, &text);
+    assert_eq!(rt; fault, Some(AssetFault::TooMany(Member::Signatures)));
     Ok(())
 }
 
 #[test]
 fn asset_files_are_read(rt: HostRuntime) -> Result<(), Fail> {
-    let text = two_signatures(rt.alloc(), [1, 2], [1, 2])?;
+    let text = filled(
+        rt.alloc(),
+        "{\"signatures\":[{\"key\":\"A\",\"sig\":\"E\"},{\"key\":\"B\",\"sig\":\"EE\"}]}",
+    )?;
     assert!(rt; text.len() <= 1_048_576);
     let assets = read_assets(rt.alloc(), text.as_bytes())
         .ok()
@@ -335,44 +432,23 @@ fn the_documented_asset_file_is_read(rt: HostRuntime) -> Result<(), Fail> {
     Ok(())
 }
 
+// Run files. The order of the refusals, then of the members, then of the places; the format is passed over.
+const RUN_ROWS: &str = r#"{} => Shape(Script)
+{"script":"5"} => Hex(Script, 0)
+{"script":51} => Shape(Script)
+[] => Shape(Whole)
+{"signatures":0} => Shape(Signatures)
+{"script":"51","witness":[0],"version":-1} => Shape(Witness)
+{"script":"5","version":-1} => Number(Version)
+{"script":"5","witness":["5"],"signatures":[{"key":"","sig":"5"}]} => Hex(Signatures, 0)
+{"script":"5","witness":["5"]} => Hex(Script, 0)
+{"script":"51","witness":["","5"]} => Hex(Witness, 1)
+{"script":"51","format":3} => read
+{"script":"51","format":"2","signatures":[{"key":"A","sig":"P"},{"key":"A","sig":"P"}]} => read"#;
+
 #[test]
 fn run_files_are_refused(rt: HostRuntime) -> Result<(), Fail> {
-    let cases: [(&str, AssetFault); 10] = [
-        ("{}", AssetFault::Shape(Member::Script)),
-        ("{\"script\":\"5\"}", AssetFault::Hex(Member::Script, 0)),
-        ("{\"script\":51}", AssetFault::Shape(Member::Script)),
-        ("[]", AssetFault::Shape(Member::Whole)),
-        ("{\"signatures\":0}", AssetFault::Shape(Member::Signatures)),
-        (
-            "{\"script\":\"51\",\"witness\":[0],\"version\":-1}",
-            AssetFault::Shape(Member::Witness),
-        ),
-        (
-            "{\"script\":\"5\",\"version\":-1}",
-            AssetFault::Number(Member::Version),
-        ),
-        (
-            "{\"script\":\"5\",\"witness\":[\"5\"],\"signatures\":[{\"key\":\"\",\"sig\":\"5\"}]}",
-            AssetFault::Hex(Member::Signatures, 0),
-        ),
-        (
-            "{\"script\":\"5\",\"witness\":[\"5\"]}",
-            AssetFault::Hex(Member::Script, 0),
-        ),
-        (
-            "{\"script\":\"51\",\"witness\":[\"\",\"5\"]}",
-            AssetFault::Hex(Member::Witness, 1),
-        ),
-    ];
-    for (text, fault) in cases {
-        assert!(rt; text.len() <= 1_048_576);
-        assert_eq!(rt;
-            read_run(rt.alloc(), text.as_bytes()).err(),
-            Some(fault),
-            "{text}"
-        );
-    }
-    Ok(())
+    compare_rows(&rt, rt.alloc(), File::Run, RUN_ROWS)
 }
 
 #[test]

@@ -11,12 +11,13 @@ use Rattle.def_machine.specs.Stacks.{Stack}
 use Rattle.def_tree.specs.Tree.{Tree, Key}
 use Rattle.def_tree.specs.Range.{IsWritable}
 use Rattle.def_assets.specs.Assets.{Assets, sig_of}
+use Rattle.def_assets.proofs.Distinct.{first_is_shortest}
 use Rattle.def_sane.specs.Keys.{keys}
 use Rattle.def_sane.specs.Unfit.{IsSane}
 use Rattle.def_satisfaction.specs.Weight.{weight}
 use Rattle.def_choice.specs.Strict.{strict, strict_of}
 use Rattle.def_choice.proofs.Best.{turned}
-use Rattle.def_plan.specs.Lengths.{Lengths, IsEstimate, estimated}
+use Rattle.def_plan.specs.Lengths.{Lengths, AreLengths, IsEstimate, estimated}
 use Rattle.def_plan.specs.Taken.{taken}
 use Rattle.def_plan.specs.Plan.{Plan, plan_with, plan_of}
 use Rattle.ms_plan_laws.proofs.Order.{taken_part}
@@ -24,13 +25,20 @@ use Rattle.ms_plan_laws.proofs.Alike.{Marks, Same, same_strict}
 use Rattle.ms_plan_laws.proofs.Found.{length_is, estimate_exists}
 use Rattle.ms_plan_laws.proofs.Plans.{fits_of, estimates_alike}
 use Rattle.ms_script.specs.Stacks as stacks
+use Rattle.ms_plan.specs.declared.marks.Marks.{Marks as Mark}
 use Rattle.ms_plan.specs.declared.marks.Marks.TheVariants as marks
-use Rattle.ms_plan.specs.Marks.{differing, has_item, signs}
+use Rattle.ms_plan.specs.Marks.{marked, differing, has_item, signs}
 use Rattle.ms_plan.specs.Marked.{with_marks, AreMarked}
 use Rattle.ms_plan.proofs.Light.{same_weight}
-use Rattle.ms_plan.proofs.Told.{own_mark, other_mark, marked_long, turned_have, have_reversed, differs, which_differs, part_filter}
+use Rattle.ms_plan.proofs.Told.{found_in, marked_distinct, own_mark, other_mark, marked_long, turned_have, have_reversed, differs, which_differs, part_filter}
 
-module _ (tree : Tree) (assets : Assets) (table : Lengths) where
+-- the signature of a key is the first that stands with it
+first_mark : (assets : Assets) (table : Lengths) → AreLengths table → (m : Mark) (key : Key) (sig : Bytes) →
+    sig_of (with_marks assets table m) key ≡ Some sig → found_in (marked m 0 table) key ≡ Some sig
+first_mark assets table lengths m key sig h =
+    sym (first_is_shortest (marked m 0 table) (marked_distinct m 0 table lengths.distinct) key) ∙ h
+
+module _ (tree : Tree) (assets : Assets) (table : Lengths) (lengths : AreLengths table) where
   abbrev First : Assets
   First = with_marks assets table marks.Rising
 
@@ -44,7 +52,7 @@ module _ (tree : Tree) (assets : Assets) (table : Lengths) where
   second_estimate = record { like = record { locks = refl; preimages = refl }; lengths = marked_long marks.Falling 0 table }
 
   alike : (taken First tree ≡ taken Second tree) × Same First Second.pairs (taken First tree) (strict_of First tree) (strict_of Second tree)
-  alike = same_strict First Second.pairs (λ key. sym (length_is assets table First first_estimate key) ∙ length_is assets table Second second_estimate key) tree
+  alike = same_strict First Second.pairs (λ key. sym (length_is assets table lengths First first_estimate key) ∙ length_is assets table lengths Second second_estimate key) tree
 
   -- the stacks, top first
   stacks_alike : (w v : Stack) → strict_of First tree ≡ Some w → strict_of Second tree ≡ Some v → Marks First Second.pairs (taken First tree) w v
@@ -65,10 +73,10 @@ module _ (tree : Tree) (assets : Assets) (table : Lengths) where
 
   module _ (writable : IsWritable tree) (sane : IsSane tree) (are : AreMarked assets table First Second) where
     both_plan : plan_of tree assets table ≡ plan_with tree First
-    both_plan = estimates_alike assets table (estimated assets table) First (estimate_exists assets table are.held are.lengths).0 first_estimate tree
+    both_plan = estimates_alike assets table lengths (estimated assets table) First (estimate_exists assets table are.held are.lengths).0 first_estimate tree
 
     other_plan : plan_of tree assets table ≡ plan_with tree Second
-    other_plan = estimates_alike assets table (estimated assets table) Second (estimate_exists assets table are.held are.lengths).0 second_estimate tree
+    other_plan = estimates_alike assets table lengths (estimated assets table) Second (estimate_exists assets table are.held are.lengths).0 second_estimate tree
 
     -- the keys whose signatures differ are those that are taken
     signers : (w v : Stack) → strict_of First tree ≡ Some w → strict_of Second tree ≡ Some v →
@@ -77,7 +85,7 @@ module _ (tree : Tree) (assets : Assets) (table : Lengths) where
         part_filter (signs First (differing (reverse w) (reverse v))) (taken First tree) (keys tree) (taken_part First tree) (fits_of tree writable sane).distinct
         (λ k own i.
         let m = h.full k i in
-        passes k m.0 m.3 (differs (reverse w) (reverse v) m.0 m.1 (have_reversed w v m.0 m.1 h.size m.2) (other_mark table k m.0 m.1 are.lengths.some are.lengths.few m.3 m.4)))
+        passes k m.0 m.3 (differs (reverse w) (reverse v) m.0 m.1 (have_reversed w v m.0 m.1 h.size m.2) (other_mark table k m.0 m.1 are.lengths.some are.lengths.few (first_mark assets table lengths marks.Rising k m.0 m.3) (first_mark assets table lengths marks.Falling k m.1 m.4))))
         (λ k own t. back k (sig_of First k) refl t)
       where
         h : Marks First Second.pairs (taken First tree) w v
@@ -92,7 +100,7 @@ module _ (tree : Tree) (assets : Assets) (table : Lengths) where
             let r = which_differs (reverse w) (reverse v) a t in
             elim (h.sound a r.0 (turned_have w v a r.0 h.size r.1)) [
               | inl same ↦ absurd (r.2 same)
-              | inr p ↦ subst (Contains (taken First tree)) (own_mark table p.0 k a are.lengths.some p.2 s) p.1
+              | inr p ↦ subst (Contains (taken First tree)) (own_mark table p.0 k a are.lengths.some (first_mark assets table lengths marks.Rising p.0 a p.2) (first_mark assets table lengths marks.Rising k a s)) p.1
             ]
 
     some_is_plan : (stack other : List Bytes) (asked : List Key) (heavy : ℕ) → strict tree First ≡ Some stack → strict tree Second ≡ Some other →
@@ -135,17 +143,17 @@ marked_ones assets table first second m = record { held = m.held; lengths = m.le
 pub first_none : (tree : Tree) (assets : Assets) (table : Lengths) (first second : Assets) → IsWritable tree → IsSane tree → AreMarked assets table first second →
     strict tree first ≡ None → None ≡ plan_of tree assets table
 first_none tree assets table first second writable sane m e =
-    none_is_plan tree assets table writable sane (marked_ones assets table first second m) (ap (strict tree) (sym m.rising) ∙ e)
+    none_is_plan tree assets table m.lengths writable sane (marked_ones assets table first second m) (ap (strict tree) (sym m.rising) ∙ e)
 
 pub second_none : (tree : Tree) (assets : Assets) (table : Lengths) (first second : Assets) → IsWritable tree → IsSane tree → AreMarked assets table first second →
     strict tree second ≡ None → None ≡ plan_of tree assets table
 second_none tree assets table first second writable sane m e =
-    other_none_is_plan tree assets table writable sane (marked_ones assets table first second m) (ap (strict tree) (sym m.falling) ∙ e)
+    other_none_is_plan tree assets table m.lengths writable sane (marked_ones assets table first second m) (ap (strict tree) (sym m.falling) ∙ e)
 
 pub no_longer : (tree : Tree) (assets : Assets) (table : Lengths) (first second : Assets) (stack other : List Bytes) → AreMarked assets table first second →
     strict tree first ≡ Some stack → strict tree second ≡ Some other → length stack ≤ length other
 no_longer tree assets table first second stack other m e f =
-    let same = same_size tree assets table stack other (ap (strict tree) (sym m.rising) ∙ e) (ap (strict tree) (sym m.falling) ∙ f) in
+    let same = same_size tree assets table m.lengths stack other (ap (strict tree) (sym m.rising) ∙ e) (ap (strict tree) (sym m.falling) ∙ f) in
     omega (arith, same)
 
 pub plan_found : (tree : Tree) (assets : Assets) (table : Lengths) (first second : Assets) (stack other signatures : List Bytes) (before asked : List Key) (heavy : ℕ) →
@@ -153,7 +161,7 @@ pub plan_found : (tree : Tree) (assets : Assets) (table : Lengths) (first second
     strict tree first ≡ Some stack → strict tree second ≡ Some other → signatures ≡ differing stack other → before ≡ [] →
     asked ≡ before ++ filter (signs first signatures) (keys tree) → heavy ≡ stacks.weight stack → Some (record { keys = asked; weight = heavy }) ≡ plan_of tree assets table
 plan_found tree assets table first second stack other signatures before asked heavy writable sane m e f s b k l =
-    some_is_plan tree assets table writable sane (marked_ones assets table first second m) stack other asked heavy
+    some_is_plan tree assets table m.lengths writable sane (marked_ones assets table first second m) stack other asked heavy
     (ap (strict tree) (sym m.rising) ∙ e) (ap (strict tree) (sym m.falling) ∙ f)
     (k ∙ ap (λ x. x ++ filter (signs first signatures) (keys tree)) b ∙ ap (λ x. filter (signs first x) (keys tree)) s ∙ ap (λ a. filter (signs a (differing stack other)) (keys tree)) m.rising)
     l

@@ -1,5 +1,6 @@
 -- The refusals of a plan file in their order.
 use Rattle.std.proofs.Common.{◌≡◌, ℕ, nat_le, Bool, true, is_some, Option, List, [], ◌∷◌, Some, None, Result, Err, ◌⊎◌, inl, inr, map, drop, refl, sym, ◌∙◌, ap}
+use Rattle.std.specs.Str.{bytes_eq}
 use Rattle.std.proofs.lemmas.List.{length-map}
 use Rattle.serde_json.specs.Data.{Data}
 use Rattle.def_script.specs.Bytes.{Bytes}
@@ -116,9 +117,9 @@ lengths_same list =
     first_refused-map (λ (entry : Bytes × ℕ). is_length entry.1) fault.Length entry_of list
     ∙ sym (each_first is_length fault.Length (map length_at list) ∙ first_refused-map is_length fault.Length length_at list)
 
-repeats_same : (list : List Data) → repeated fault.RepeatedKey (map entry_of list) ≡ no_repeat fault.RepeatedKey (map key_of list)
+repeats_same : (list : List Data) → repeated fault.RepeatedKey (map entry_of list) ≡ no_repeat bytes_eq fault.RepeatedKey (map key_of list)
 unfolding repeated
-repeats_same list = ap (no_repeat fault.RepeatedKey) (firsts list)
+repeats_same list = ap (no_repeat bytes_eq fault.RepeatedKey) (firsts list)
 
 abbrev few_keys : ℕ → Option PlanFault
 few_keys n = unless (nat_le n MOST_KEYS) (fault.TooMany member.Keys)

@@ -2,7 +2,7 @@
 -- signatures alone they are those that differ.
 use Rattle.std.proofs.Common.{◌≡◌, ◌≢◌, ℕ, zero, suc, ◌+◌, ◌-◌, ◌<◌, ◌≤◌, Bool, true, false, ◌||◌, List, [], ◌∷◌, length, map, find, filter, replicate, reverse, get_or, All, Contains, Option, Some, refl, sym, ◌∙◌, ap, subst, ◌⊎◌, inl, inr, arith, if◌then◌else◌}
 use Rattle.std.specs.Option.{option_map}
-use Rattle.std.specs.List.{list_any}
+use Rattle.std.specs.List.{list_any, IsDistinct}
 use Rattle.std.specs.Str.{bytes_eq}
 use Rattle.std.proofs.lemmas.Bool.{false≢true, or_cases}
 use Rattle.std.proofs.lemmas.Option.{none-some, same_Some}
@@ -12,6 +12,8 @@ use Rattle.std.proofs.lemmas.Slice.Eq.{bytes_eq-Decides}
 use Rattle.def_script.specs.Bytes.{Bytes}
 use Rattle.def_machine.specs.Stacks.{Stack, Pairs}
 use Rattle.def_tree.specs.Tree.{Key}
+use Rattle.def_assets.specs.Assets.{same_key}
+use Rattle.def_assets.proofs.Distinct.{distinct_keys}
 use Rattle.def_choice.proofs.Weights.{reverse-cons}
 use Rattle.def_sane.specs.Keys.{AreDistinct}
 use Rattle.def_plan.specs.Lengths.{Lengths}
@@ -47,8 +49,17 @@ at_some first [] place key n all h = absurd h
 at_some first (entry ∷ table) place key n all (inl h) = subst (λ m. 1 ≤ m) h.2 (All-head (λ e. 1 ≤ e.1) entry table all)
 at_some first (entry ∷ table) place key n all (inr h) = at_some (first + 1) table place key n (All-tail (λ e. 1 ≤ e.1) entry table all) h
 
-abbrev found_in : Pairs → Key → Option Bytes
+-- the signature of the first pair with a key
+abbrev pub found_in : Pairs → Key → Option Bytes
 found_in pairs key = option_map (λ pair. pair.1) (find (λ pair. bytes_eq pair.0 key) pairs)
+
+marked_keys : (m : Marks) (first : ℕ) (table : Lengths) → map (λ entry. entry.0) table ≡ map (λ pair. pair.0) (marked m first table)
+marked_keys m first [] = refl
+marked_keys m first (entry ∷ table) = ap (λ ks. entry.0 ∷ ks) (marked_keys m (first + 1) table)
+
+-- no key stands twice
+pub marked_distinct : (m : Marks) (first : ℕ) (table : Lengths) → IsDistinct bytes_eq (map (λ entry. entry.0) table) → IsDistinct same_key (marked m first table)
+marked_distinct m first table h = distinct_keys (marked m first table) (subst (IsDistinct bytes_eq) (marked_keys m first table) h)
 
 -- the signatures of a key in both ways
 both_found : (first : ℕ) (table : Lengths) (key : Key) (a b : Bytes) → found_in (marked marks.Rising first table) key ≡ Some a → found_in (marked marks.Falling first table) key ≡ Some b →

@@ -4,17 +4,17 @@ use Rattle.std.specs.Option.{option_map}
 use Rattle.std.specs.List.{IsDistinct}
 use Rattle.std.specs.Str.{bytes_eq}
 use Rattle.std.proofs.lemmas.Bool.{false≢true}
-use Rattle.std.proofs.lemmas.Option.{none-some, same_Some}
 use Rattle.std.proofs.lemmas.List.{length-replicate}
-use Rattle.std.proofs.lemmas.List.Elements.{All-map, Contains-append_right}
-use Rattle.std.proofs.lemmas.Slice.Eq.{bytes_eq-Decides}
+use Rattle.std.proofs.lemmas.List.Elements.{All-map}
 use Rattle.def_script.specs.Bytes.{Bytes, IsBytes}
 use Rattle.def_machine.specs.declared.Locks.{Locks}
 use Rattle.def_machine.specs.Stacks.{Pairs}
 use Rattle.def_tree.specs.Tree.{Key}
 use Rattle.def_tree.specs.Range.{IsKey}
 use Rattle.def_assets.specs.Assets.{Assets, IsSignature, sig_of}
-use Rattle.def_plan.specs.Lengths.{Lengths, length_of, IsLike, IsEstimate}
+use Rattle.def_assets.proofs.Shortest.{found_is_held}
+use Rattle.def_assets.proofs.Distinct.{distinct_pairs, distinct_keys, first_is_shortest}
+use Rattle.def_plan.specs.Lengths.{Lengths, AreLengths, length_of, IsLike, IsEstimate}
 use Rattle.def_plan.specs.Laws.{EstimateExists}
 use Rattle.ms_plan_laws.proofs.Moved.{with_pairs}
 
@@ -26,36 +26,34 @@ some_or_none (Some x) h = (x, refl)
 pub some_is : {A : Type 0} (o : Option A) (x : A) → o ≡ Some x → IsSome o
 some_is o x h = rw h refl
 
-abbrev found_in : Pairs → Key → Option Bytes
-found_in pairs key = option_map (λ pair. pair.1) (find (λ pair. bytes_eq pair.0 key) pairs)
-
-held_in : (pairs : Pairs) (key sig : Bytes) → found_in pairs key ≡ Some sig → Contains pairs (key, sig)
-held_in [] key sig h = absurd (none-some sig h)
-held_in (pair ∷ pairs) key sig h = go (bytes_eq pair.0 key) refl h (held_in pairs key sig)
-  where
-    go : (test : Bool) → bytes_eq pair.0 key ≡ test → option_map (λ p. p.1) (if test then Some pair else find (λ p. bytes_eq p.0 key) pairs) ≡ Some sig →
-        (found_in pairs key ≡ Some sig → Contains pairs (key, sig)) → Contains (pair ∷ pairs) (key, sig)
-    go true e k more = (0, omega arith, ap (λ x. (x, pair.1)) ((bytes_eq-Decides pair.0 key).0 e) ∙ ap (λ x. (key, x)) (same_Some pair.1 sig k))
-    go false e k more = Contains-append_right (pair ∷ []) pairs (key, sig) (more k)
-
 pub held_of : (assets : Assets) (key sig : Bytes) → sig_of assets key ≡ Some sig → Contains assets.pairs (key, sig)
-held_of assets key sig h = held_in assets.pairs key sig h
+held_of assets key sig h = found_is_held assets.pairs key sig h
 
 -- an estimate has the estimated lengths
 abbrev lengths_of : Pairs → Lengths
 lengths_of pairs = map (λ pair. (pair.0, length pair.1)) pairs
 
-length_found : (pairs : Pairs) (key : Key) → length_of (lengths_of pairs) key ≡ option_map length (found_in pairs key)
+lengths_keys : (pairs : Pairs) → map (λ entry. entry.0) (lengths_of pairs) ≡ map (λ pair. pair.0) pairs
+lengths_keys [] = refl
+lengths_keys (pair ∷ pairs) = ap (λ ks. pair.0 ∷ ks) (lengths_keys pairs)
+
+length_found : (pairs : Pairs) (key : Key) → length_of (lengths_of pairs) key ≡ option_map length (option_map (λ pair. pair.1) (find (λ pair. bytes_eq pair.0 key) pairs))
 length_found [] key = refl
 length_found (pair ∷ pairs) key = go (bytes_eq pair.0 key) (length_found pairs key)
   where
-    go : (test : Bool) → length_of (lengths_of pairs) key ≡ option_map length (found_in pairs key) → option_map (λ entry. entry.1) (if test then Some (pair.0, length pair.1) else find (λ entry. bytes_eq entry.0 key) (lengths_of pairs)) ≡
+    go : (test : Bool) → length_of (lengths_of pairs) key ≡ option_map length (option_map (λ p. p.1) (find (λ p. bytes_eq p.0 key) pairs)) →
+        option_map (λ entry. entry.1) (if test then Some (pair.0, length pair.1) else find (λ entry. bytes_eq entry.0 key) (lengths_of pairs)) ≡
         option_map length (option_map (λ p. p.1) (if test then Some pair else find (λ p. bytes_eq p.0 key) pairs))
     go true more = refl
     go false more = more
 
-pub length_is : (assets : Assets) (table : Lengths) (other : Assets) → IsEstimate assets table other → (key : Key) → length_of table key ≡ option_map length (sig_of other key)
-length_is assets table other estimate key = subst (λ t. length_of t key ≡ option_map length (sig_of other key)) estimate.lengths (length_found other.pairs key)
+pub length_is : (assets : Assets) (table : Lengths) → AreLengths table → (other : Assets) → IsEstimate assets table other → (key : Key) →
+    length_of table key ≡ option_map length (sig_of other key)
+length_is assets table lengths other estimate key =
+    let distinct : IsDistinct bytes_eq (map (λ pair. pair.0) other.pairs) =
+    subst (IsDistinct bytes_eq) (ap (map (λ entry. entry.0)) (sym estimate.lengths) ∙ lengths_keys other.pairs) lengths.distinct in
+    ap (λ t. length_of t key) (sym estimate.lengths) ∙ length_found other.pairs key
+    ∙ ap (option_map length) (sym (first_is_shortest other.pairs (distinct_keys other.pairs distinct) key))
 
 -- the same assets but for the signatures
 pub like_with : (assets other : Assets) → IsLike assets other → other ≡ with_pairs assets other.pairs
@@ -97,7 +95,7 @@ estimate_exists assets table are lengths = (
   record {
     keys = All-map (λ pair. IsKey pair.0) (λ entry. (entry.0, replicate entry.1 0)) table lengths.keys;
     signatures = All-map (λ pair. IsSignature pair.1) (λ entry. (entry.0, replicate entry.1 0)) table (λ i d h. zero_signature _ (lengths.some i d h, lengths.short i d h));
-    distinct = subst (IsDistinct bytes_eq) (zeros_keys table) lengths.distinct;
+    distinct = distinct_pairs (zeros_of table) (distinct_keys (zeros_of table) (subst (IsDistinct bytes_eq) (zeros_keys table) lengths.distinct));
     preimages = are.preimages;
     version = are.version;
     sequence = are.sequence;

@@ -25,7 +25,7 @@ use Rattle.def_choice.proofs.Chosen.{strict_is_tight, tight_is_canonical}
 use Rattle.ms_laws.proofs.Options.{Fits}
 use Rattle.ms_laws.proofs.StrictFound.{lightest_of_tight, tight_of_canonical}
 use Rattle.ms_laws.proofs.TightNeeded.{tight_if_non_malleable}
-use Rattle.def_plan.specs.Lengths.{Lengths, length_of, IsLike, IsEstimate, estimated}
+use Rattle.def_plan.specs.Lengths.{Lengths, AreLengths, length_of, IsLike, IsEstimate, estimated}
 use Rattle.def_plan.specs.Taken.{taken}
 use Rattle.def_plan.specs.Plan.{Plan, plan_with, plan_of, NoneIsExact, Suffices, IsLeast, AsksListed, AsksNoneInVain, AsksInOrder, IsPartOf}
 use Rattle.def_plan.specs.Laws.{IsInput, NoneHolds, LengthsDecideAll, SufficesAlways, LeastAlways, ListedAlways, NoneInVainEver, InOrderAlways}
@@ -48,7 +48,11 @@ tight_beside : (one other : Assets) → AreAssets one → AreAssets other → Is
     (tree : Tree) (stack : List Bytes) → Tight tree one stack → (v : List Bytes) × Tight tree other v × (Light → weight v ≤ weight stack)
 tight_beside one other are others like Light covers tree stack tight =
     let x = tight_moved one other.pairs Light
-    (λ key sig good. let g = covers key sig (good_is_held one are key sig good) in (g.0, held_is_good other others key g.0 g.1, g.2))
+    (λ key sig good.
+    let held = good_is_held one key sig good in
+    let g = covers key held.0 held.1 in
+    let short = held.2 in
+    (g.0, held_is_good other others key g.0 g.1, λ light. let a = g.2 light in omega (arith, a, short)))
     tree (reverse stack) tight in (
       reverse x.0,
       subst (λ a. TightSat a tree (reverse (reverse x.0))) (sym (like_with one other like)) (subst (TightSat (with_pairs one other.pairs) tree) (sym (reverse-reverse x.0)) x.1),
@@ -103,15 +107,15 @@ plan_same tree assets pairs lengths =
         rw (e, l) refl
 
 -- two estimates
-pub estimates_alike : (assets : Assets) (table : Lengths) (one other : Assets) → IsEstimate assets table one → IsEstimate assets table other → (tree : Tree) → plan_with tree one ≡ plan_with tree other
-estimates_alike assets table one other h k tree =
+pub estimates_alike : (assets : Assets) (table : Lengths) → AreLengths table → (one other : Assets) → IsEstimate assets table one → IsEstimate assets table other → (tree : Tree) → plan_with tree one ≡ plan_with tree other
+estimates_alike assets table lengths one other h k tree =
     let e = like_with one other (like_both assets one other h.like k.like) in
-    plan_same tree one other.pairs (λ key. sym (length_is assets table one h key) ∙ length_is assets table other k key ∙ ap (λ a. option_map length (sig_of a key)) e)
+    plan_same tree one other.pairs (λ key. sym (length_is assets table lengths one h key) ∙ length_is assets table lengths other k key ∙ ap (λ a. option_map length (sig_of a key)) e)
     ∙ ap (plan_with tree) (sym e)
 
 pub lengths_decide : LengthsDecideAll
 lengths_decide tree assets table input other are estimate =
-    estimates_alike assets table (estimated assets table) other (estimate_exists assets table input.held input.lengths).0 estimate tree
+    estimates_alike assets table input.lengths (estimated assets table) other (estimate_exists assets table input.held input.lengths).0 estimate tree
 
 module _ (tree : Tree) (assets : Assets) (table : Lengths) (input : IsInput tree assets table) where
   abbrev F : Assets
@@ -128,14 +132,14 @@ module _ (tree : Tree) (assets : Assets) (table : Lengths) (input : IsInput tree
 
   -- a listed key has a signature of its length
   listed : (key : Key) (n : ℕ) → length_of table key ≡ Some n → (g : Bytes) × (sig_of F key ≡ Some g) × (length g ≡ n)
-  listed key n h = go (sig_of F key) refl (sym (length_is assets table F is_estimate key) ∙ h)
+  listed key n h = go (sig_of F key) refl (sym (length_is assets table input.lengths F is_estimate key) ∙ h)
     where
       go : (o : Option Bytes) → sig_of F key ≡ o → option_map length o ≡ Some n → (g : Bytes) × (sig_of F key ≡ Some g) × (length g ≡ n)
       go None e k = absurd (none-some n k)
       go (Some g) e k = (g, e, same_Some (length g) n k)
 
   of_length : (key : Key) (sig : Bytes) → sig_of F key ≡ Some sig → length_of table key ≡ Some (length sig)
-  of_length key sig h = length_is assets table F is_estimate key ∙ ap (option_map length) h
+  of_length key sig h = length_is assets table input.lengths F is_estimate key ∙ ap (option_map length) h
 
   pub none_is_exact : NoneIsExact tree assets table (plan_of tree assets table)
   none_is_exact other are like sign = (
@@ -210,15 +214,18 @@ module _ (tree : Tree) (assets : Assets) (table : Lengths) (input : IsInput tree
     pub asks_none_in_vain : AsksNoneInVain tree assets plan
     asks_none_in_vain key other stack i are like sign sat =
         vain F are_assets other.pairs tree (fits_of tree input.writable input.sane) is.stack is.strict
-        (λ k sig own good. subst (λ ks. Contains ks k) is.keys ((sign k).0 (some_is _ sig (good_is_held other are k sig good))).0) (
+        (λ k sig own good. subst (λ ks. Contains ks k) is.keys ((sign k).0 (signs k sig good)).0) (
           key,
           subst (λ ks. Contains ks key) is.keys i,
           λ sig. elim (cases_Bool (is_good other.pairs key sig)) [
-            | inl good ↦ absurd (((sign key).0 (some_is _ sig (good_is_held other are key sig good))).1 refl)
+            | inl good ↦ absurd (((sign key).0 (signs key sig good)).1 refl)
             | inr bad ↦ bad
           ],
         )
         (reverse stack) (subst (λ a. Sat tree a stack) (like_with F other (like_both assets F other is_estimate.like like)) sat)
+      where
+        signs : (k : Key) (sig : Bytes) → is_good other.pairs k sig ≡ true → IsSome (sig_of other k)
+        signs k sig good = let held = good_is_held other k sig good in some_is _ held.0 held.1
 
     pub asks_in_order : AsksInOrder tree plan
     asks_in_order =

@@ -34,7 +34,7 @@ module _ (assets : Assets) (are : AreAssets assets) where
   pub says_key : (key : Key) → Says (signs assets key) (pk_k_row s key).sat
   says_key key = record {
     to = λ e. let x = some_of (sig_of assets key) e in (x.0 ∷ [], (x.0, held_is_good assets are key x.0 x.1, refl));
-    from = λ w. ap is_some (good_is_held assets are key w.1.0 w.1.1);
+    from = λ w. let held = good_is_held assets key w.1.0 w.1.1 in ap is_some held.1;
   }
 
   -- `pk_h`
@@ -45,8 +45,8 @@ module _ (assets : Assets) (are : AreAssets assets) where
         let good = held_is_good assets are key x.0 x.1 in
         (key ∷ x.0 ∷ [], (key, key_form key form, refl, refl, (x.0 ∷ [], key ∷ [], (x.0, good, refl), refl, refl)));
     from = λ w.
-        let held = good_is_held assets are w.1.0 w.1.4.2.0 w.1.4.2.1 in
-        ap is_some (subst (λ k. sig_of assets k ≡ Some w.1.4.2.0) w.1.3 held);
+        let held = good_is_held assets w.1.0 w.1.4.2.0 w.1.4.2.1 in
+        ap is_some (subst (λ k. sig_of assets k ≡ Some held.0) w.1.3 held.1);
   }
 
   -- the hash locks

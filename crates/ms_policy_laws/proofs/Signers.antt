@@ -71,7 +71,8 @@ module _ (assets : Assets) where
     at_most keys [] h = omega arith
     at_most [] (sig ∷ sigs) h = absurd h
     at_most (key ∷ keys) (sig ∷ sigs) (inl h) =
-        let counted : signers (key ∷ keys) ≡ 1 + signers keys = ap (λ o. how_many (is_some o ∷ map signs keys)) (good_is_held assets are key sig h.0) in
+        let held = good_is_held assets key sig h.0 in
+        let counted : signers (key ∷ keys) ≡ 1 + signers keys = ap (λ o. how_many (is_some o ∷ map signs keys)) held.1 in
         let rest = at_most keys sigs h.1 in
         omega arith
     at_most (key ∷ keys) (sig ∷ sigs) (inr h) = let rest = at_most keys (sig ∷ sigs) h in omega arith

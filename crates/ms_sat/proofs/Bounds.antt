@@ -16,6 +16,7 @@ use Rattle.def_tree.specs.Tree.{Key, Tree, Trees, just_0, just_1, pk_k, pk_h, ol
 use Rattle.def_tree.specs.Range.{MOST_MEASURE, IsWritable, AreWritable, IsInRange, count}
 use Rattle.def_tree.specs.Size.{measure, measure_of}
 use Rattle.def_types.specs.Typed.{IsTyped, AreTyped}
+use Rattle.def_assets.proofs.Shortest.{found_is_held}
 use Rattle.def_assets.specs.Assets.{Assets, AreAssets, IsSignature, IsPreimage, sig_of, known}
 use Rattle.def_satisfaction.specs.Weight.{weight}
 use Rattle.def_satisfaction.specs.Rows.{EMPTY, ONE, ZEROS}
@@ -86,11 +87,15 @@ within_item n (Some bytes) h = omega (arith, h)
 
 -- a held signature, and a known preimage
 sig_within : (assets : Assets) → AreAssets assets → (key : Key) → Within 74 (item (sig_of assets key))
-sig_within assets are key = go (find (λ pair. bytes_eq pair.0 key) assets.pairs) (found (λ pair. IsSignature pair.1) (λ pair. bytes_eq pair.0 key) assets.pairs are.signatures)
+sig_within assets are key = go (sig_of assets key) refl
   where
-    go : (o : Option (Bytes × Bytes)) → Found (λ pair. IsSignature pair.1) o → Within 74 (item (option_map (λ pair. pair.1) o))
-    go None h = tt
-    go (Some pair) h = let f = h.few in omega (arith, f)
+    go : (o : Option Bytes) → sig_of assets key ≡ o → Within 74 (item o)
+    go None e = tt
+    go (Some sig) e =
+        let held = found_is_held assets.pairs key sig e in
+        let fits : IsSignature sig = subst (λ pair. IsSignature pair.1) held.2 (are.signatures held.0 (key, sig) held.1) in
+        let f = fits.few in
+        omega (arith, f)
 
 known_within : (assets : Assets) → AreAssets assets → (kind : HashKind) (value : Bytes) → Within 33 (item (known assets kind value))
 known_within assets are kind value = go (known assets kind value) (found IsPreimage (λ preimage. bytes_eq (digest_of kind preimage) value) assets.preimages are.preimages)

@@ -164,7 +164,7 @@ fn assets_of(
     };
     let mut assets = Assets::new(alloc, locks);
     for (bytes, sig) in sigs {
-        assets.add_sig(&key(*bytes)?, sig)?;
+        assets.add_another(&key(*bytes)?, sig)?;
     }
     for preimage in preimages {
         assets.add_preimage(preimage)?;
@@ -389,6 +389,36 @@ fn of_equal_weights_the_first_is_taken(rt: HostRuntime) -> Result<(), Fail> {
     let items: [&[u8]; 2] = [&other, &[]];
     let tree = of_two(&arena, Two::OrI, pk(&arena, A)?, pk(&arena, B)?)?;
     chooses(&rt, alloc, &tree, &assets, weigh(73, 2), Some(&items))
+}
+
+#[test]
+fn of_several_signatures_the_first_of_the_shortest_is_taken(rt: HostRuntime) -> Result<(), Fail> {
+    let alloc = rt.alloc();
+    let arena = Bump::new(alloc);
+    let (first, second) = ([0xdd; 70], [0xee; 70]);
+    let sigs: [([u8; 33], &[u8]); 5] = [
+        (A, &SIG_A),
+        (B, &SIG_B),
+        (A, &first),
+        (B, &SIG_C),
+        (A, &second),
+    ];
+    let assets = assets_of(alloc, 0, &sigs, &[])?;
+    let tree = pk(&arena, A)?;
+    chooses(&rt, alloc, &tree, &assets, weigh(71, 1), Some(&[&first]))?;
+    // Of two keys with signatures of one length the first signs.
+    let items: [&[u8]; 2] = [&[], &first];
+    let keys = Vec::from_array(alloc, [key(A)?, key(B)?])?;
+    let tree = multi(&arena, 1, keys)?;
+    chooses(&rt, alloc, &tree, &assets, weigh(72, 2), Some(&items))?;
+    let tree = thresh_of_two(alloc, &arena, 1, pk(&arena, A)?, s_pk(&arena, B)?)?;
+    chooses(&rt, alloc, &tree, &assets, weigh(72, 2), Some(&items))?;
+    // Of each key its own shortest one counts.
+    let assets = assets_of(alloc, 0, &sigs[..4], &[])?;
+    let keys = Vec::from_array(alloc, [key(B)?, key(A)?])?;
+    let tree = multi(&arena, 1, keys)?;
+    let items: [&[u8]; 2] = [&[], &SIG_C];
+    chooses(&rt, alloc, &tree, &assets, weigh(72, 2), Some(&items))
 }
 
 #[test]

@@ -17,6 +17,8 @@ fn item_of(letter: char) -> &'static [u8] {
         'a' => &SIG_A,
         'b' => &SIG_B,
         'c' => &SIG_C,
+        'd' => &[0xdd; 70],
+        'f' => &[0xff; 70],
         'B' => &B,
         'x' => &[0x11; 32],
         'y' => &[0x22; 32],
@@ -68,6 +70,24 @@ fn the_lightest_signatures_are_taken_in_the_order_of_their_keys(
     let alloc = rt.alloc();
     let assets = assets_of(alloc, LOCKS, "CBA", false)?;
     chooses(&rt, alloc, "multi(2,A,B,C)", &assets, Some("-ac"))
+}
+
+#[test]
+fn of_several_signatures_the_first_of_the_shortest_is_taken(rt: HostRuntime) -> Result<(), Fail> {
+    let alloc = rt.alloc();
+    let cases = [
+        ("pk(A)", "ADE", "d"),
+        ("multi(1,A,B)", "ADBFE", "-d"),
+        ("multi(1,B,A)", "ADBFE", "-f"),
+        ("multi(2,A,B)", "ADBFE", "-df"),
+        ("thresh(1,pk(A),s:pk(B))", "ADBFE", "-d"),
+        ("thresh(1,pk(A),s:pk(B))", "ABF", "f-"),
+    ];
+    for (form, signed, items) in cases {
+        let assets = assets_of(alloc, LOCKS, signed, false)?;
+        chooses(&rt, alloc, form, &assets, Some(items))?;
+    }
+    Ok(())
 }
 
 #[test]

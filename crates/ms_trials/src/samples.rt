@@ -111,8 +111,9 @@ pub fn key(letter: char) -> Result<Key, &'static str>
     Key::from_bytes(&bytes).ok_or("a key")
 }
 
-/// Assets with a signature of each key that a letter stands for, and with the preimages of `X`, `Y` and `Z`, all three or
-/// none. Refuses a key that stands twice, and for want of memory.
+/// Assets with the signatures that letters stand for, and with the preimages of `X`, `Y` and `Z`, all three or none. `A`, `B` and
+/// `C` stand for one signature of each key, `D` and `E` for further ones of A, and `F` for one of B, these of 70 bytes. Refuses a
+/// letter that stands twice, and for want of memory.
 pub fn assets_of(
     alloc: Global,
     locks: Locks,
@@ -121,14 +122,16 @@ pub fn assets_of(
 ) -> Result<Assets, &'static str> {
     let mut assets = Assets::new(alloc, locks);
     for letter in signed.chars() {
-        let key = key(letter)?;
-        let sig: &[u8] = match letter {
-            'A' => &SIG_A,
-            'B' => &SIG_B,
-            _ => &SIG_C,
+        let added = match letter {
+            'A' => assets.add_sig(&key('A')?, &SIG_A),
+            'B' => assets.add_sig(&key('B')?, &SIG_B),
+            'D' => assets.add_another(&key('A')?, &[0xdd; 70]),
+            'E' => assets.add_another(&key('A')?, &[0xee; 70]),
+            'F' => assets.add_another(&key('B')?, &[0xff; 70]),
+            _ => assets.add_sig(&key('C')?, &SIG_C),
         };
-        if assets.add_sig(&key, sig).is_err() {
-            return Err("one signature a key");
+        if added.is_err() {
+            return Err("another signature");
         }
     }
     if preimages {

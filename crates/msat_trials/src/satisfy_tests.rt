@@ -49,7 +49,7 @@ pub fn filled(alloc: Global, form: &str) -> Result<String, AllocError> {
 }
 
 /// An asset file with these members before the signatures of the keys that are named, in this order, and the
-/// preimages that are named.
+/// preimages that are named. `D` stands for the signature of 70 bytes with the key A.
 pub fn asset_file(
     alloc: Global,
     members: &str,
@@ -61,6 +61,7 @@ pub fn asset_file(
         let form = match name {
             'A' => "{\"key\":\"A\",\"sig\":\"P\"}",
             'B' => "{\"key\":\"B\",\"sig\":\"Q\"}",
+            'D' => "{\"key\":\"A\",\"sig\":\"R\"}",
             _ => "{\"key\":\"C\",\"sig\":\"R\"}",
         };
         if place > 0 {
@@ -430,6 +431,70 @@ fn refused_asset_files_are_named(rt: HostRuntime) -> Result<(), Fail> {
     )?;
     is_refused(&rt, alloc, &long, "SigLength 0")?;
     is_refused(&rt, alloc, &" ".repeat(alloc, 1_048_577)?, "TooLong")
+}
+
+/// What is printed of `pk(A)` where its shortest signature has 70 bytes, and where it has 14.
+const SHORTER: Shown = Shown {
+    script: "21Aac",
+    digest: "9d2cc358b20b32df4d3fd17eb0995b42e33a8c622d637aca436219c0d48422b0",
+    limits: "35 ops 1 items 1 weight 74",
+    items: &["R"],
+    witness: "0246R23",
+    replay: "ops 1 items 1 weight 71 peak 2",
+};
+
+const SHORTEST: Shown = Shown {
+    items: &["3b3b3b3b3b3b3b3b3b3b3b3b3b3b"],
+    witness: "020e3b3b3b3b3b3b3b3b3b3b3b3b3b3b23",
+    replay: "ops 1 items 1 weight 15 peak 2",
+    ..SHORTER
+};
+
+/// An asset file with 256 signatures of A: that at place i has 73 - i % 60 bytes, each of them i.
+fn many_signatures(alloc: Global) -> Result<String, Fail> {
+    let element = filled(alloc, "{\"key\":\"A\",\"sig\":\"")?;
+    let mut file = String::from_str(alloc, "{\"format\":2,\"signatures\":[")?;
+    for i in 0..256_u16 {
+        let bytes = [(i % 256) as u8; 73];
+        let digits = hex::encode(alloc, &bytes[..73 - (i % 60) as usize])?;
+        if i > 0 {
+            file.push(',')?;
+        }
+        file.push_str(&element)?;
+        file.push_str(&digits)?;
+        file.push_str("\"}")?;
+    }
+    file.push_str("]}")?;
+    Ok(file)
+}
+
+#[test]
+fn the_shortest_of_several_signatures_is_shown(rt: HostRuntime) -> Result<(), Fail> {
+    let alloc = rt.alloc();
+    let several = asset_file(alloc, "\"format\":2,", "AD", "")?;
+    let many = many_signatures(alloc)?;
+    for form in [Form::Strict, Form::Malleable] {
+        is_satisfied(&rt, alloc, form, "pk(A)", &several, &SHORTER)?;
+        is_satisfied(&rt, alloc, form, "pk(A)", &many, &SHORTEST)?;
+    }
+    Ok(())
+}
+
+#[test]
+fn formats_tell_which_signatures_are_refused(rt: HostRuntime) -> Result<(), Fail> {
+    let alloc = rt.alloc();
+    let cases = [
+        ("", "AD", "RepeatedKey 1"),
+        ("\"format\":1,", "AD", "RepeatedKey 1"),
+        ("\"format\":2,", "AA", "RepeatedKey 1"),
+        ("\"format\":3,", "AD", "Number format"),
+        ("\"format\":3,\"version\":-1,", "AD", "Number version"),
+    ];
+    for (members, signed, refusal) in cases {
+        let file = asset_file(alloc, members, signed, "")?;
+        is_refused(&rt, alloc, &file, refusal)?;
+    }
+    Ok(())
 }
 
 #[test]

@@ -1,8 +1,11 @@
 use Rattle.def_answer.proofs.examples.satisfactions.Goals as goal
-use Rattle.def_answer.proofs.SatisfyRows.{two_of_three, late_key, too_early, void_lock, time_lock, no_time, strict_threshold, cheapest_threshold, strict_either, cheapest_either, lock_in_threshold, lock_too_early, signatures_for_lock, zeros_as_preimage, zeros_unknown, texts_first, zero_has_none, refused_files, file_too_long}
+use Rattle.def_answer.proofs.SatisfyRows.{two_of_three, shorter_signature, late_key, too_early, void_lock, time_lock, no_time, strict_threshold, cheapest_threshold, strict_either, cheapest_either, lock_in_threshold, lock_too_early, signatures_for_lock, zeros_as_preimage, zeros_unknown, texts_first, zero_has_none, refused_files, refused_formats, file_too_long}
 
 pub returns-clause-two_of_three : goal.returns-clause-two_of_three
 returns-clause-two_of_three c = two_of_three
+
+pub returns-clause-shorter_signature : goal.returns-clause-shorter_signature
+returns-clause-shorter_signature c = shorter_signature
 
 pub returns-clause-late_key : goal.returns-clause-late_key
 returns-clause-late_key c = late_key
@@ -54,6 +57,9 @@ returns-clause-zero_has_none c = zero_has_none
 
 pub returns-clause-refused_files : goal.returns-clause-refused_files
 returns-clause-refused_files c = refused_files
+
+pub returns-clause-refused_formats : goal.returns-clause-refused_formats
+returns-clause-refused_formats c = refused_formats
 
 pub returns-clause-file_too_long : goal.returns-clause-file_too_long
 returns-clause-file_too_long c = file_too_long

@@ -4,9 +4,13 @@ use Rattle.std.proofs.lemmas.Slice.Eq.{bytes_eq-Decides}
 use Rattle.def_hash.proofs.Computing.{decode_pairs, hash256, sha256, sha_words, sha_schedule, sha_rounds, sha_compress, sha_hash_after, sha_digest_bytes}
 use Rattle.def_assets.proofs.examples.assets_hold.Goals as goal
 
-pub returns-clause-first_signature : goal.returns-clause-first_signature
+pub returns-clause-shortest_signature : goal.returns-clause-shortest_signature
 unfolding decode_pairs
-returns-clause-first_signature c = refl
+returns-clause-shortest_signature c = (refl, refl)
+
+pub returns-clause-first_of_shortest : goal.returns-clause-first_of_shortest
+unfolding decode_pairs
+returns-clause-first_of_shortest c = refl
 
 pub returns-clause-no_signature : goal.returns-clause-no_signature
 unfolding decode_pairs

@@ -1,5 +1,5 @@
 use Rattle.def_files.proofs.examples.asset_files.Goals as goal
-use Rattle.def_files.proofs.Computed.{no_bytes, ends_too_soon, not_utf8, deepest_file, too_deep_file, list_as_file, empty_file, whole_file, upper_case, greatest_sequence, sequence_too_great, no_whole_numbers, last_counts, wrong_elements, shape_first, number_before_digits, first_odd_digits, odd_preimage, no_key, uncompressed_key, signature_too_long, empty_signature, short_preimage, key_twice, key_form_first, too_many_preimages}
+use Rattle.def_files.proofs.Computed.{no_bytes, ends_too_soon, not_utf8, deepest_file, too_deep_file, list_as_file, empty_file, whole_file, upper_case, greatest_sequence, sequence_too_great, no_whole_numbers, last_counts, wrong_elements, shape_first, number_before_digits, first_odd_digits, odd_preimage, no_key, uncompressed_key, signature_too_long, empty_signature, short_preimage, key_twice, two_signatures, signature_twice, format_one, other_formats, version_before_format, key_form_first, too_many_preimages}
 
 pub returns-clause-no_bytes : goal.returns-clause-no_bytes
 returns-clause-no_bytes c = no_bytes
@@ -72,6 +72,21 @@ returns-clause-short_preimage c = short_preimage
 
 pub returns-clause-key_twice : goal.returns-clause-key_twice
 returns-clause-key_twice c = key_twice
+
+pub returns-clause-two_signatures : goal.returns-clause-two_signatures
+returns-clause-two_signatures c = two_signatures
+
+pub returns-clause-signature_twice : goal.returns-clause-signature_twice
+returns-clause-signature_twice c = signature_twice
+
+pub returns-clause-format_one : goal.returns-clause-format_one
+returns-clause-format_one c = format_one
+
+pub returns-clause-other_formats : goal.returns-clause-other_formats
+returns-clause-other_formats c = other_formats
+
+pub returns-clause-version_before_format : goal.returns-clause-version_before_format
+returns-clause-version_before_format c = version_before_format
 
 pub returns-clause-key_form_first : goal.returns-clause-key_form_first
 returns-clause-key_form_first c = key_form_first

@@ -1,8 +1,11 @@
 use Rattle.def_files.proofs.examples.run_files.Goals as goal
-use Rattle.def_files.proofs.Computed.{run_of_one, run_of_more, no_script, script_of_number, script_of_one_digit, signatures_first, too_many_signatures, too_many_elements}
+use Rattle.def_files.proofs.Computed.{run_of_one, run_passes_format, run_of_more, no_script, script_of_number, script_of_one_digit, signatures_first, too_many_signatures, too_many_elements}
 
 pub returns-clause-run_of_one : goal.returns-clause-run_of_one
 returns-clause-run_of_one c = run_of_one
+
+pub returns-clause-run_passes_format : goal.returns-clause-run_passes_format
+returns-clause-run_passes_format c = run_passes_format
 
 pub returns-clause-run_of_more : goal.returns-clause-run_of_more
 returns-clause-run_of_more c = run_of_more

@@ -1,5 +1,5 @@
 use Rattle.def_satisfaction.proofs.examples.satisfactions.Goals as goal
-use Rattle.def_satisfaction.proofs.Computed.{two_of_three, two_of_three_witness, late_key, void_lock, time_lock, by_preimages, by_signatures, right_branch, left_branch, lock_met, lock_unmet, zeros_as_preimage, zeros_are_no_miss, both_of_or_b}
+use Rattle.def_satisfaction.proofs.Computed.{two_of_three, two_of_three_witness, late_key, void_lock, time_lock, by_preimages, by_signatures, right_branch, left_branch, lock_met, lock_unmet, zeros_as_preimage, zeros_are_no_miss, several_signatures, either_signature, both_of_or_b}
 
 pub returns-clause-two_of_three : goal.returns-clause-two_of_three
 returns-clause-two_of_three c = two_of_three
@@ -39,6 +39,12 @@ returns-clause-zeros_as_preimage c = zeros_as_preimage
 
 pub returns-clause-zeros_are_no_miss : goal.returns-clause-zeros_are_no_miss
 returns-clause-zeros_are_no_miss c = zeros_are_no_miss
+
+pub returns-clause-several_signatures : goal.returns-clause-several_signatures
+returns-clause-several_signatures c = several_signatures
+
+pub returns-clause-either_signature : goal.returns-clause-either_signature
+returns-clause-either_signature c = either_signature
 
 pub returns-clause-both_of_or_b : goal.returns-clause-both_of_or_b
 returns-clause-both_of_or_b c = both_of_or_b
