@@ -1,0 +1,552 @@
+/* Tries the library from C.
+ * Usage: calls rows FOLDER..       each example, with buffers of several lengths
+ *        calls queries FOLDER..    what is asked without a report, of each example: Script, limits, least weight, witness
+ *        calls words               words that can't be read, and NULL with the length 0
+ *        calls demands             calls that break a demand of the header, which a debug build stops
+ *        calls threads FOLDER..    eight threads at once with the same answers
+ *        calls random COUNT SEED FOLDER..    calls over random inputs, made of the examples
+ * Ends with 1 where an answer is another one than it has to be. Buffers have exactly the length that is told, on the heap, so
+ * that AddressSanitizer and valgrind see what is touched beyond. */
+#include <malloc.h>
+#include <msat.h>
+#include <pthread.h>
+#include <signal.h>
+#include <stdio.h>
+#include <stdlib.h>
+#include <string.h>
+#include <sys/wait.h>
+#include <unistd.h>
+
+struct bytes {
+    uint8_t *at;
+    size_t length;
+};
+
+struct example {
+    const char *folder;
+    struct bytes words; /* each with its NUL */
+    size_t count;
+    struct bytes source;
+    struct bytes report;
+    uint32_t status;
+};
+
+static void fail(const char *what, const char *where) {
+    fprintf(stderr, "calls: %s: %s\n", where, what);
+    exit(1);
+}
+
+static void *room(size_t length) {
+    void *at = malloc(length ? length : 1);
+    if (!at)
+        fail("no memory", "malloc");
+    return at;
+}
+
+/* A file's bytes. One that isn't there is empty, and then is_there is false. */
+static struct bytes read_file(const char *folder, const char *name, bool *is_there) {
+    char path[4096];
+    snprintf(path, sizeof path, "%s/%s", folder, name);
+    FILE *file = fopen(path, "rb");
+    struct bytes found = {room(4 << 20), 0};
+    if (is_there)
+        *is_there = file != NULL;
+    if (file) {
+        found.length = fread(found.at, 1, 4 << 20, file);
+        fclose(file);
+    }
+    found.at = realloc(found.at, found.length ? found.length : 1);
+    return found;
+}
+
+static void add_word(struct example *example, const uint8_t *word, size_t length) {
+    struct bytes *words = &example->words;
+    words->at = realloc(words->at, words->length + length + 1);
+    memcpy(words->at + words->length, word, length);
+    words->at[words->length + length] = 0;
+    words->length += length + 1;
+    example->count++;
+}
+
+static size_t without_line_feed(struct bytes file) {
+    return file.length && file.at[file.length - 1] == '\n' ? file.length - 1 : file.length;
+}
+
+static struct example read_example(const char *folder) {
+    struct example example = {.folder = folder};
+    struct bytes words = read_file(folder, "words", NULL);
+    size_t end = without_line_feed(words);
+    for (size_t from = 0, to; from < end; from = to + 1) {
+        for (to = from; to < end && words.at[to] != ' ' && words.at[to] != '\n'; to++)
+            ;
+        add_word(&example, words.at + from, to - from);
+    }
+    bool is_there;
+    struct bytes text = read_file(folder, "text", &is_there);
+    if (is_there)
+        add_word(&example, text.at, without_line_feed(text));
+    static const char *const names[] = {"assets.json", "run.json", "plan.json"};
+    for (size_t i = 0; i < 3; i++) {
+        struct bytes source = read_file(folder, names[i], &is_there);
+        if (is_there)
+            example.source = source;
+        else
+            free(source.at);
+    }
+    example.report = read_file(folder, "report", NULL);
+    example.report.at = realloc(example.report.at, example.report.length + 1);
+    example.report.at[example.report.length] = 0; /* so that numbers in it end */
+    struct bytes status = read_file(folder, "status", &is_there);
+    for (size_t i = 0; i < status.length && status.at[i] >= '0' && status.at[i] <= '9'; i++)
+        example.status = example.status * 10 + (status.at[i] - '0');
+    free(words.at), free(text.at), free(status.at);
+    return example;
+}
+
+/* The example's answer in a buffer of this length: what it holds, and nothing else. */
+static void try_room(const struct example *example, size_t length) {
+    uint8_t *report = room(length);
+    memset(report, 0xa5, length);
+    size_t needed = 12345;
+    uint32_t status = msat_answer(example->count, example->words.at, example->words.length, example->source.at,
+                                  example->source.length, length ? report : NULL, length, &needed);
+    if (status != example->status)
+        fail("another status", example->folder);
+    if (needed != example->report.length)
+        fail("another length", example->folder);
+    size_t written = needed < length ? needed : length;
+    if (memcmp(report, example->report.at, written) != 0)
+        fail("another report", example->folder);
+    for (size_t i = written; i < length; i++)
+        if (report[i] != 0xa5)
+            fail("a byte behind the report was written", example->folder);
+    free(report);
+}
+
+static void try_example(const struct example *example) {
+    size_t whole = example->report.length;
+    try_room(example, 0);
+    try_room(example, 1);
+    try_room(example, whole - 1);
+    try_room(example, whole);
+    try_room(example, whole + 100);
+}
+
+/* ---- what is asked without a report */
+
+static bool has_word(const struct example *example, const char *word) {
+    size_t length = strlen(word) + 1;
+    for (size_t at = 0; at + length <= example->words.length; at++)
+        if ((at == 0 || example->words.at[at - 1] == 0) && memcmp(example->words.at + at, word, length) == 0)
+            return true;
+    return false;
+}
+
+/* The last word, without its NUL, in a buffer of its own. */
+static struct bytes last_word(const struct example *example) {
+    size_t end = example->words.length, from = end ? end - 1 : 0;
+    while (from > 0 && example->words.at[from - 1] != 0)
+        from--;
+    struct bytes word = {room(end - from), end ? end - 1 - from : 0};
+    memcpy(word.at, example->words.at + from, word.length);
+    word.at = realloc(word.at, word.length ? word.length : 1);
+    return word;
+}
+
+/* What stands behind a name in the report, up to the end of its line, from a place on, or NULL. */
+static const char *line_of(const struct example *example, const char *name, size_t *from) {
+    const char *report = (const char *)example->report.at;
+    size_t length = strlen(name), end = example->report.length;
+    for (size_t at = *from; at + length < end; at++)
+        if ((at == 0 || report[at - 1] == '\n') && memcmp(report + at, name, length) == 0 && report[at + length] == ' ') {
+            *from = at + length;
+            return report + at + length + 1;
+        }
+    return NULL;
+}
+
+static unsigned digit(char c) {
+    return c <= '9' ? (unsigned)(c - '0') : (unsigned)(c - 'a') + 10;
+}
+
+/* The bytes of a line of digits behind those in a buffer. `-` is no bytes. */
+static size_t add_digits(struct bytes *to, const char *line) {
+    size_t before = to->length;
+    for (; *line != '\n' && *line != '-'; line += 2)
+        to->at[to->length++] = (uint8_t)(digit(line[0]) << 4 | digit(line[1]));
+    return to->length - before;
+}
+
+static uint64_t number_in(const char *line, const char *name) {
+    const char *at = strstr(line, name);
+    if (!at)
+        fail("no such number", name);
+    return strtoull(at + strlen(name) + 1, NULL, 10);
+}
+
+static void try_script(const struct example *example, struct bytes text, struct bytes wanted, size_t length) {
+    uint8_t *script = room(length);
+    memset(script, 0xa5, length);
+    size_t needed = 12345, written = wanted.length < length ? wanted.length : length;
+    struct msat_reason reason = {7, 7, 7, 7};
+    if (msat_script(has_word(example, "--consensus"), text.at, text.length, length ? script : NULL, length, &needed, &reason) != 0 ||
+        needed != wanted.length || reason.kind != 7)
+        fail("another Script", example->folder);
+    if (memcmp(script, wanted.at, written) != 0)
+        fail("another Script", example->folder);
+    for (size_t i = written; i < length; i++)
+        if (script[i] != 0xa5)
+            fail("a byte behind the Script was written", example->folder);
+    free(script);
+}
+
+static void try_witness(const struct example *example, struct bytes text, struct bytes wanted, const size_t *lengths, size_t count,
+                        size_t length, size_t most) {
+    uint8_t *bytes = room(length);
+    size_t *found = room(most * sizeof *found), needed = 12345, items = 12345;
+    memset(bytes, 0xa5, length), memset(found, 0xa5, most * sizeof *found);
+    struct msat_reason reason = {7, 7, 7, 7};
+    uint32_t code = msat_witness(has_word(example, "--malleable"), has_word(example, "--consensus"), text.at, text.length,
+                                 example->source.at, example->source.length, length ? bytes : NULL, length, &needed,
+                                 most ? found : NULL, most, &items, &reason);
+    size_t written = wanted.length < length ? wanted.length : length, told = count < most ? count : most;
+    if (code != MSAT_DONE || needed != wanted.length || items != count || reason.kind != 7)
+        fail("another witness", example->folder);
+    if (memcmp(bytes, wanted.at, written) != 0 || memcmp(found, lengths, told * sizeof *found) != 0)
+        fail("other items", example->folder);
+    for (size_t i = written; i < length; i++)
+        if (bytes[i] != 0xa5)
+            fail("a byte behind the items was written", example->folder);
+    for (size_t i = told; i < most; i++)
+        if (found[i] != SIZE_MAX / 255 * 0xa5)
+            fail("a length behind the others was written", example->folder);
+    free(bytes), free(found);
+}
+
+/* The items of an example's report, with the Script as the last one, and what they weigh without it. */
+static void try_satisfaction(const struct example *example, struct bytes text, struct bytes script) {
+    struct bytes wanted = {room(example->report.length), 0};
+    size_t lengths[1024], count = 0, from = 0;
+    for (const char *line; count < 1000 && (line = line_of(example, "item", &from));)
+        lengths[count++] = add_digits(&wanted, line);
+    memcpy(wanted.at + wanted.length, script.at, script.length);
+    wanted.length += lengths[count++] = script.length;
+    try_witness(example, text, wanted, lengths, count, 0, 0);
+    try_witness(example, text, wanted, lengths, count, 1, 1);
+    try_witness(example, text, wanted, lengths, count, wanted.length - 1, count - 1);
+    try_witness(example, text, wanted, lengths, count, wanted.length, count);
+    try_witness(example, text, wanted, lengths, count, wanted.length + 100, count + 100);
+    uint64_t weight = 12345;
+    struct msat_reason reason = {7, 7, 7, 7};
+    size_t start = 0;
+    uint64_t replayed = number_in(line_of(example, "replay", &start), "weight");
+    if (msat_least_weight(has_word(example, "--consensus"), text.at, text.length, example->source.at, example->source.length, &weight,
+                          &reason) != 0 ||
+        weight > replayed || (has_word(example, "--malleable") && weight != replayed))
+        fail("another weight", example->folder);
+    free(wanted.at);
+}
+
+static void try_facts(const struct example *example, struct bytes text) {
+    struct msat_facts facts;
+    memset(&facts, 0xa5, sizeof facts);
+    struct msat_reason reason = {7, 7, 7, 7};
+    uint32_t code = msat_check(has_word(example, "--consensus"), text.at, text.length, &facts, &reason);
+    if (code != example->status)
+        fail("another code", example->folder);
+    if (code == MSAT_TEXT_REFUSED) {
+        if (reason.kind < MSAT_TOO_LONG || reason.kind > MSAT_REPEATED_KEY || facts.size != UINT64_MAX / 255 * 0xa5)
+            fail("another refusal", example->folder);
+        return;
+    }
+    size_t from = 0;
+    const char *limits = line_of(example, "limits", &from);
+    if (facts.size != number_in(limits, "size") || facts.ops != number_in(limits, "ops") || facts.items != number_in(limits, "items") ||
+        facts.weight != number_in(limits, "weight") || facts.base != 0 || facts.height == 0 || facts.height > 1000)
+        fail("other limits", example->folder);
+    if (has_word(example, "--consensus") && facts.height != number_in(limits, "height"))
+        fail("another height", example->folder);
+}
+
+static void try_queries(const struct example *example) {
+    struct bytes text = last_word(example);
+    size_t from = 0;
+    const char *line = line_of(example, "script", &from);
+    if (has_word(example, "check"))
+        try_facts(example, text);
+    if (line) {
+        struct bytes script = {room(example->report.length), 0};
+        add_digits(&script, line);
+        for (size_t length = script.length - 1; length <= script.length + 1; length++)
+            try_script(example, text, script, length);
+        try_script(example, text, script, 0);
+        try_script(example, text, script, 1);
+        if (has_word(example, "satisfy"))
+            try_satisfaction(example, text, script);
+        free(script.at);
+    }
+    free(text.at);
+}
+
+static void expect_unreadable(size_t count, const char *words, size_t length) {
+    uint8_t report[16];
+    size_t needed = 77;
+    memset(report, 0xa5, sizeof report);
+    uint8_t *held = room(length);
+    memcpy(held, words, length);
+    if (msat_answer(count, length ? held : NULL, length, NULL, 0, report, sizeof report, &needed) != MSAT_UNREADABLE)
+        fail("words were read", words);
+    if (needed != 77)
+        fail("the length was written", words);
+    for (size_t i = 0; i < sizeof report; i++)
+        if (report[i] != 0xa5)
+            fail("the buffer was written", words);
+    free(held);
+}
+
+static void try_words(void) {
+    expect_unreadable(1, "", 0);
+    expect_unreadable(0, "\0", 1);
+    expect_unreadable(1, "run", 3);
+    expect_unreadable(1, "run\0\0", 5);
+    expect_unreadable(2, "run\0", 4);
+    expect_unreadable(2, "script\0\xff\0", 9);
+    expect_unreadable(2, "script\0\xc3\0", 9);
+    expect_unreadable(2, "script\0\xed\xa0\x80\0", 11);
+    expect_unreadable((size_t)-1, "run\0", 4);
+    struct msat_reason reason = {7, 7, 7, 7};
+    struct msat_facts facts;
+    uint64_t weight = 77;
+    size_t length = 77, count = 77;
+    const uint8_t broken[] = {'1', 0xff};
+    if (msat_script(false, broken, 2, NULL, 0, &length, &reason) != MSAT_UNREADABLE ||
+        msat_check(false, broken, 2, &facts, &reason) != MSAT_UNREADABLE ||
+        msat_least_weight(false, broken, 2, NULL, 0, &weight, &reason) != MSAT_UNREADABLE ||
+        msat_witness(false, false, broken, 2, NULL, 0, NULL, 0, &length, NULL, 0, &count, &reason) != MSAT_UNREADABLE)
+        fail("a text was read", "queries");
+    if (reason.kind != 7 || weight != 77 || length != 77 || count != 77)
+        fail("something was written", "queries");
+    if (msat_script(false, NULL, 0, NULL, 0, &length, &reason) != MSAT_TEXT_REFUSED || reason.kind != MSAT_SYNTAX || reason.place != 0)
+        fail("another refusal", "no text");
+    if (msat_least_weight(false, broken, 1, NULL, 0, &weight, &reason) != MSAT_FILE_REFUSED || reason.kind != MSAT_NOT_JSON)
+        fail("another refusal", "no file");
+    size_t needed = 0;
+    uint8_t report[14];
+    if (msat_answer(0, NULL, 0, NULL, 0, report, sizeof report, &needed) != MSAT_USAGE || needed != 14 ||
+        memcmp(report, "refused usage\n", 14) != 0)
+        fail("another answer", "no words");
+}
+
+/* ---- demands */
+
+static void break_demand(int which) {
+    uint8_t bytes[64] = "1";
+    size_t numbers[8];
+    uint64_t weight;
+    struct msat_facts facts;
+    struct msat_reason reason;
+    switch (which) {
+    case 0: msat_answer(1, NULL, 1, NULL, 0, bytes, 1, numbers); break;
+    case 1: msat_answer(0, bytes, 2, NULL, 0, bytes + 1, 1, numbers); break;
+    case 2: msat_answer(0, NULL, 0, NULL, 0, bytes, 8, NULL); break;
+    case 3: msat_answer(0, NULL, 0, (uint8_t *)numbers, 1, bytes, 8, numbers); break;
+    case 4: msat_script(false, bytes, 1, bytes, 1, numbers, &reason); break;
+    case 5: msat_script(false, bytes, 1, bytes + 1, 1, numbers, NULL); break;
+    case 6: msat_check(false, (uint8_t *)&facts, 1, &facts, &reason); break;
+    case 7: msat_check(false, bytes, 1, (struct msat_facts *)&reason, &reason); break;
+    case 8: msat_least_weight(false, bytes, 1, NULL, 1, &weight, &reason); break;
+    case 9: msat_least_weight(false, bytes, 1, NULL, 0, &reason.number, &reason); break;
+    case 10: msat_witness(false, false, bytes, 1, NULL, 0, bytes + 1, 8, numbers, numbers, 4, numbers + 4, &reason); break;
+    case 11: msat_witness(false, false, bytes, 1, NULL, 0, bytes + 1, 8, numbers, numbers + 1, 4, numbers, &reason); break;
+    case 12: msat_witness(false, false, bytes, 1, NULL, 0, bytes, 8, numbers, numbers + 1, 4, numbers + 5, &reason); break;
+    }
+}
+
+static void try_demands(void) {
+    for (int which = 0; which < 13; which++) {
+        pid_t child = fork();
+        if (child == 0) {
+            if (!freopen("/dev/null", "w", stderr))
+                _exit(1);
+            break_demand(which);
+            _exit(0);
+        }
+        int status;
+        char name[20];
+        snprintf(name, sizeof name, "demand %d", which);
+        if (child < 0 || waitpid(child, &status, 0) != child || !WIFSIGNALED(status) || WTERMSIG(status) != SIGABRT)
+            fail("a call that breaks it isn't stopped", name);
+    }
+}
+
+struct examples {
+    struct example *each;
+    size_t count;
+};
+
+static void *try_all(void *given) {
+    const struct examples *all = given;
+    for (size_t round = 0; round < 20; round++)
+        for (size_t i = 0; i < all->count; i++)
+            try_example(&all->each[i]), try_queries(&all->each[i]);
+    return NULL;
+}
+
+static void try_threads(struct examples all) {
+    pthread_t threads[8];
+    for (size_t i = 0; i < 8; i++)
+        if (pthread_create(&threads[i], NULL, try_all, &all) != 0)
+            fail("no thread", "pthread_create");
+    for (size_t i = 0; i < 8; i++)
+        pthread_join(threads[i], NULL);
+}
+
+static uint64_t state;
+
+/* xorshift64*: the same numbers from the same seed everywhere. */
+static uint64_t random_below(uint64_t limit) {
+    state ^= state >> 12, state ^= state << 25, state ^= state >> 27;
+    return (state * 2685821657736338717u >> 16) % limit;
+}
+
+/* A copy with some bytes changed, left out, or doubled, of exactly its length. */
+static struct bytes changed(struct bytes from) {
+    struct bytes copy = {room(from.length * 2 + 16), from.length};
+    if (from.length)
+        memcpy(copy.at, from.at, from.length);
+    for (uint64_t times = random_below(4); times > 0; times--) {
+        size_t place = copy.length ? random_below(copy.length) : 0;
+        switch (random_below(4)) {
+        case 0:
+            if (copy.length)
+                copy.at[place] = (uint8_t)random_below(256);
+            break;
+        case 1:
+            copy.length = place;
+            break;
+        case 2:
+            if (copy.length)
+                copy.at[place] ^= 1;
+            break;
+        default:
+            if (copy.length < from.length * 2 + 15) {
+                memmove(copy.at + place + 1, copy.at + place, copy.length - place);
+                copy.at[place] = "(),:0123af\0"[random_below(11)];
+                copy.length++;
+            }
+        }
+    }
+    copy.at = realloc(copy.at, copy.length ? copy.length : 1);
+    return copy;
+}
+
+/* Each query with this text and file, in buffers of any length. */
+static void query_random(const char *where, struct bytes text, struct bytes file) {
+    bool malleable = random_below(2), consensus = random_below(2);
+    size_t length = random_below(3) ? random_below(400) : random_below(4), most = random_below(8), needed = 12345, count = 12345;
+    uint8_t *bytes = room(length);
+    size_t *lengths = room(most * sizeof *lengths);
+    uint64_t weight = 12345;
+    struct msat_facts facts;
+    struct msat_reason reason = {0, 0, 0, 0};
+    memset(bytes, 0xa5, length), memset(lengths, 0xa5, most * sizeof *lengths);
+    uint32_t code;
+    switch (random_below(4)) {
+    case 0:
+        code = msat_script(consensus, text.at, text.length, bytes, length, &needed, &reason);
+        break;
+    case 1:
+        code = msat_check(consensus, text.at, text.length, &facts, &reason);
+        break;
+    case 2:
+        code = msat_least_weight(consensus, text.at, text.length, file.at, file.length, &weight, &reason);
+        break;
+    default:
+        code = msat_witness(malleable, consensus, text.at, text.length, file.at, file.length, bytes, length, &needed, lengths, most,
+                            &count, &reason);
+    }
+    if (code > MSAT_NO_SATISFACTION && code != MSAT_UNREADABLE)
+        fail("a code that doesn't come here", where);
+    if ((reason.kind != 0) != (code == MSAT_TEXT_REFUSED || code == MSAT_FILE_REFUSED))
+        fail("a reason without a refusal, or a refusal without one", where);
+    for (size_t at = needed == 12345 ? 0 : needed; at < length; at++)
+        if (bytes[at] != 0xa5)
+            fail("a byte behind the others was written", where);
+    for (size_t at = count == 12345 ? 0 : count; at < most; at++)
+        if (lengths[at] != SIZE_MAX / 255 * 0xa5)
+            fail("a length behind the others was written", where);
+    free(bytes), free(lengths);
+}
+
+static void try_random(struct examples all, uint64_t count) {
+    size_t before = 0, answered[MSAT_UNREADABLE + 1] = {0};
+    for (uint64_t i = 0; i < count; i++) {
+        if (i == count / 10)
+            before = mallinfo2().uordblks;
+        const struct example *example = &all.each[random_below(all.count)];
+        struct bytes words = changed(example->words), source = changed(all.each[random_below(2) ? random_below(all.count) : 0].source);
+        if (random_below(2)) {
+            free(source.at);
+            source = changed(example->source);
+        }
+        size_t length = random_below(3) ? random_below(2000) : random_below(4), needed = 12345;
+        uint8_t *report = room(length);
+        memset(report, 0xa5, length);
+        uint32_t status = msat_answer(example->count, words.at, words.length, source.at, source.length, report, length, &needed);
+        if (status == 5 || status == 6 || status == MSAT_NO_MEMORY || status > MSAT_UNREADABLE)
+            fail("a status that doesn't come here", example->folder);
+        answered[status]++;
+        size_t written = status == MSAT_UNREADABLE ? 0 : needed < length ? needed : length;
+        if (status == MSAT_UNREADABLE && needed != 12345)
+            fail("the length was written", example->folder);
+        for (size_t at = written; at < length; at++)
+            if (report[at] != 0xa5)
+                fail("a byte behind the report was written", example->folder);
+        if (random_below(4) == 0) {
+            struct bytes word = last_word(example), text = changed(word);
+            query_random(example->folder, random_below(2) ? word : text, source);
+            free(word.at), free(text.at);
+        }
+        free(report), free(words.at), free(source.at);
+    }
+    if (mallinfo2().uordblks > before + (1 << 16))
+        fail("what is allocated grew", "random");
+    printf("calls: random, by status:");
+    for (size_t status = 0; status <= MSAT_UNREADABLE; status++)
+        if (answered[status])
+            printf(" %zu: %zu", status, answered[status]);
+    printf("\n");
+}
+
+int main(int argc, char **argv) {
+    const char *what = argc > 1 ? argv[1] : "";
+    bool is_random = strcmp(what, "random") == 0;
+    int first = is_random ? 4 : 2;
+    if (argc < first)
+        fail("see the head of calls.c", "usage");
+    struct examples all = {calloc(argc, sizeof *all.each), 0};
+    for (int i = first; i < argc; i++)
+        all.each[all.count++] = read_example(argv[i]);
+    if (strcmp(what, "words") == 0)
+        try_words();
+    else if (strcmp(what, "demands") == 0)
+        try_demands();
+    else if (all.count == 0)
+        fail("no examples", "usage");
+    else if (strcmp(what, "rows") == 0)
+        for (size_t i = 0; i < all.count; i++)
+            try_example(&all.each[i]);
+    else if (strcmp(what, "queries") == 0)
+        for (size_t i = 0; i < all.count; i++)
+            try_queries(&all.each[i]);
+    else if (strcmp(what, "threads") == 0)
+        try_threads(all);
+    else if (is_random)
+        state = strtoull(argv[3], NULL, 10) | 1, try_random(all, strtoull(argv[2], NULL, 10));
+    else
+        fail("see the head of calls.c", "usage");
+    for (size_t i = 0; i < all.count; i++)
+        free(all.each[i].words.at), free(all.each[i].source.at), free(all.each[i].report.at);
+    free(all.each);
+    return 0;
+}

@@ -1,0 +1,209 @@
+#!/usr/bin/env python3
+"""Tries the Python package on each example, and runs the examples in its docstrings; and tries what is asked without a report on
+texts and files that are refused in each way, against the report. Ends with 1 where anything differs."""
+
+import doctest
+import random
+import re
+import sys
+import threading
+from dataclasses import replace
+from pathlib import Path
+
+TOP = Path(__file__).resolve().parents[2]
+sys.path.insert(0, str(TOP / "python"))
+sys.dont_write_bytecode = True
+
+import msat  # noqa: E402
+import msat.results  # noqa: E402
+from msat import errors  # noqa: E402
+
+faults = []
+
+
+def example_words(folder: Path) -> list[str]:
+    words = (folder / "words").read_text().split()
+    text = folder / "text"
+    return words + ([text.read_text().rstrip("\n")] if text.exists() else [])
+
+
+def example_source(folder: Path) -> bytes:
+    found = [folder / name for name in ("assets.json", "run.json", "plan.json") if (folder / name).exists()]
+    return found[0].read_bytes() if found else b""
+
+
+def try_answer(folder: Path) -> None:
+    status = folder / "status"
+    wanted = (int(status.read_text()) if status.exists() else 0, (folder / "report").read_text())
+    words, source = example_words(folder), example_source(folder)
+    if msat.answer(words, source) != wanted:
+        faults.append(f"{folder.name}: another answer")
+    length = len(wanted[1])
+    for room in (0, 1, length - 1, length):
+        if msat._library.answer([word.encode() for word in words], source, room) != (wanted[0], wanted[1].encode()):
+            faults.append(f"{folder.name}: another answer with room for {room} bytes at first")
+
+
+def try_class(folder: Path) -> None:
+    """The result by its class says what the report does, or the refusal is raised."""
+    words, source = example_words(folder), example_source(folder)
+    options = {"malleable": "--malleable" in words, "consensus": "--consensus" in words}
+    report = (folder / "report").read_text()
+    try:
+        if words[0] == "satisfy":
+            found = msat.satisfy(words[-1], source, **options)
+            said = found.witness.hex() in report and len(found.items) == found.replay.items
+        elif words[0] == "check":
+            said = f"type {msat.check(words[-1], consensus=options['consensus']).type}\n" in report
+        elif words[0] == "script":
+            said = msat.script(words[-1], consensus=options["consensus"]).hex() + "\n" == report
+        elif words[0] == "run":
+            said = f" peak {msat.run(source).peak}\n" in report
+        elif words[0] == "policy":
+            said = msat.policy(words[-1]).policy in report
+        elif words[0] == "plan":
+            said = f"weight at most {msat.plan(words[-1], source).weight}\n" in report
+        elif words[0] == "audit":
+            audit = msat.audit(words[-1], source)
+            said = f" peak {audit.peak}\n" in report and report.count("node ") == len(audit.steps)
+            said = said and ("canonical yes" in report) == audit.canonical and report.count(" extra\n") == sum(step.extra for step in audit.steps)
+        elif words[0] == "decode":
+            said = msat.decode(bytes.fromhex(words[1]), [bytes.fromhex(key) for key in words[2:]]) in report
+        else:
+            return
+    except msat.MsatError as refused:
+        said = refused.report == report
+    if not said:
+        faults.append(f"{folder.name}: the class says something else")
+
+
+def refusal(call, *arguments, **options):
+    """What a call gives, or the report of its refusal."""
+    try:
+        return call(*arguments, **options)
+    except msat.MsatError as refused:
+        return type(refused).__name__, refused.report
+
+
+named: set[str] = set()
+
+
+def note_names(report: object) -> None:
+    """Takes down the words of a refusal: its name, its rule, its member."""
+    if isinstance(report, tuple):
+        named.update(f"{report[0]} {word}" for word in report[1].split()[2:] if not word.isdigit())
+
+
+def try_queries(text: str, file: bytes, consensus: bool) -> None:
+    """What is asked without a report is what the report says."""
+    checked = refusal(msat.check, text, consensus=consensus)
+    known = refusal(msat.facts, text, consensus=consensus)
+    if isinstance(checked, msat.Checked):
+        same = known.type == checked.type and checked.limits in (known.limits, replace(known.limits, height=None))
+    else:
+        same = known == checked
+    if not same:
+        faults.append(f"check {text}: {known}, and by the report {checked}")
+    printed = refusal(msat.report, ["script", *(["--consensus"] if consensus else []), text])
+    script = refusal(msat.script, text, consensus=consensus)
+    if (script.hex() + "\n" if isinstance(script, bytes) else script) != printed:
+        faults.append(f"script {text}: {script}, and by the report {printed}")
+    for malleable in (False, True):
+        satisfied = refusal(msat.satisfy, text, file, malleable=malleable, consensus=consensus)
+        items = refusal(msat.witness, text, file, malleable=malleable, consensus=consensus)
+        if (satisfied.stack if isinstance(satisfied, msat.Satisfaction) else satisfied) != items:
+            faults.append(f"witness {text}: {items}, and by the report {satisfied}")
+    weight = refusal(msat.least_weight, text, file, consensus=consensus)
+    note_names(checked), note_names(weight)
+    if (satisfied.replay.weight if isinstance(satisfied, msat.Satisfaction) else satisfied) != weight:
+        faults.append(f"least_weight {text}: {weight}, and by the report {satisfied}")
+
+
+KEYS = [f"02{number:064x}" for number in range(1, 8)]
+HASH = "66687aadf862bd776c8fc18b8e9f8e20089714856ee233b3902a591d0d5f2925"  # of 32 zeros
+PLAIN = ["0", "1", "older(9)", "older(4194305)", "after(9)", "after(600000000)", f"sha256({HASH})", *(f"pk({key})" for key in KEYS)]
+FILE = b'{"sequence":144,"locktime":9,"signatures":[%s],"preimages":["%s"]}' % (
+    b",".join(b'{"key":"%s","sig":"3044"}' % key.encode() for key in KEYS), b"00" * 32,
+)  # fmt: skip
+
+
+def any_text(depth: int) -> str:
+    """A text of any types, which most often breaks a rule."""
+    if depth == 0:
+        return random.choice(PLAIN)
+    parts = [any_text(random.randrange(depth)) for _ in range(3)]
+    form = random.choice(["andor({},{},{})", "and_v(v:{},{})", "and_b({},a:{})", "or_b({},a:{})", "or_c({},v:{})", "or_d({},{})",
+                          "or_i({},{})", "thresh(2,{},a:{},a:{})", "and_v({},{})", "and_b({},{})", "or_b({},{})", "or_c({},{})",
+                          "thresh(4,{},s:{},s:{})", "t:or_c({},v:{})", "and_n({},{})", "{}{}"])  # fmt: skip
+    return random.choice(["", "", "", "a:", "s:", "c:", "d:", "v:", "j:", "n:", "dv:", "l:", "u:"]) + form.format(*parts)
+
+
+BROKEN = [
+    "", "pk(1)", "older(0)", "after(2147483648)", "older(2147483648)", f"multi(3,{KEYS[0]},{KEYS[1]})", "thresh(0,1)", "a:1", "\udcff",
+    f"{'n' * 256}:0", f"{'n' * 257}:0", f"{'n' * 255}:0", "0" * 65536, "0" * 65537, f"thresh(1,pk({KEYS[0]})" + 99 * f",s:pk({KEYS[0]})" + ")",
+    100 * f"and_v(v:pk({KEYS[0]})," + f"pk({KEYS[0]})" + 100 * ")", f"or_b(pk({KEYS[0]}),a:1)", f"or_d(or_i(0,1),pk({KEYS[0]}))",
+    f"or_b(or_i(0,1),s:pk({KEYS[0]}))", f"t:or_c(or_i(0,1),v:pk({KEYS[0]}))", f"thresh(1,or_i(0,1),s:pk({KEYS[0]}))",
+    f"andor(or_i(0,1),pk({KEYS[0]}),pk({KEYS[1]}))", "or_i(1,1)", "or_b(l:1,al:1)", "or_d(l:1,1)", "t:or_c(l:1,v:1)", "andor(l:1,1,1)",
+    "thresh(1,l:1,al:1,al:1)",
+    f"and_v(v:and_v(v:pk({KEYS[0]}),older(9)),older(4194305))", f"and_v(v:pk({KEYS[0]}),pk({KEYS[0]}))", "n:v:1", "vv:1",
+]  # fmt: skip
+BROKEN_FILES = [
+    b"", b"[]", b"{", b" " * 1048577, b'{"version":-1}', b'{"sequence":1.0}', b'{"locktime":4294967296}', b'{"signatures":0}',
+    b'{"preimages":[0]}', b'{"preimages":["0"]}', b'{"signatures":[{"key":"zz","sig":""}]}', b'{"signatures":[{"key":"00","sig":"00"}]}',
+    b'{"signatures":[{"key":"%s","sig":""}]}' % KEYS[0].encode(), b'{"preimages":["00"]}', b'{"preimages":[%s]}' % b",".join([b'"%s"' % (b"00" * 32)] * 257),
+    b'{"signatures":[%s]}' % b",".join([b'{"key":"%s","sig":"00"}' % KEYS[0].encode()] * 2),
+    b'{"signatures":[%s]}' % b",".join(b'{"key":"02%064x","sig":"00"}' % number for number in range(257)),
+]  # fmt: skip
+
+
+def try_refusals() -> None:
+    random.seed(1)
+    for consensus in (False, True):
+        for text in [*BROKEN, *(any_text(1 + number % 3) for number in range(1000))]:
+            try_queries(text, FILE, consensus)
+    for file in BROKEN_FILES:
+        try_queries(f"pk({KEYS[0]})", file, False)
+    wanted = {f"TextRefused {name}" for name in (*errors.TEXT_KINDS, *errors.RULES)} | {f"FileRefused {name}" for name in errors.FILE_KINDS}
+    if wanted - named:
+        faults.append(f"not tried: {sorted(wanted - named)}")
+
+
+def try_names() -> None:
+    """The rules and members are numbered in the order of docs/FORMATS.md, and the kinds of struct msat_reason as include/msat.h does."""
+    formats = (TOP / "docs/FORMATS.md").read_text()
+    tables = re.findall(r"^\| Rule \|.*?\n\n", formats, re.M | re.S)
+    rules = [name for table in tables for row in table.strip().splitlines()[2:] for name in re.findall(r"`([A-Z]\w+)`", row.split("|")[1])]
+    if tuple(rules) != errors.RULES:
+        faults.append(f"docs/FORMATS.md has the rules {rules}")
+    order = re.search(r"in the order (`file`.*?),\nthen by the first element", formats, re.S)
+    if tuple(re.findall(r"`(\w+)`", order[1])) != errors.MEMBERS:
+        faults.append(f"docs/FORMATS.md has the members {order[1]}")
+    listed = re.search(r"enum \{\s*/\* of a text \*/(.*?)\};", (TOP / "include/msat.h").read_text(), re.S)
+    kinds = [name.lower().replace("_", "") for name in re.findall(r"MSAT_(\w+)", listed[1])]
+    wanted = [*map(str.lower, errors.TEXT_KINDS), "filetoolong", *map(str.lower, errors.FILE_KINDS[1:-1]), "filerepeatedkey"]
+    if kinds != wanted:
+        faults.append(f"include/msat.h has the kinds {kinds}")
+
+
+def try_folders(folders: list[Path]) -> None:
+    for folder in folders:
+        try_answer(folder)
+        try_class(folder)
+
+
+folders = sorted(path.parent for path in TOP.glob("examples/*/words"))
+try_folders(folders)
+threads = [threading.Thread(target=try_folders, args=(folders,)) for _ in range(8)]
+for thread in threads:
+    thread.start()
+for thread in threads:
+    thread.join()
+try_refusals()
+try_names()
+for module in (msat, msat.results, errors):
+    failed = doctest.testmod(module, optionflags=doctest.IGNORE_EXCEPTION_DETAIL).failed
+    if failed:
+        faults.append(f"{module.__name__}: {failed} examples of docstrings fail")
+print("\n".join(sorted(set(faults))), end="\n" if faults else "")
+print(f"python: {len(folders)} examples tried, {len(faults)} faults")
+sys.exit(bool(faults))

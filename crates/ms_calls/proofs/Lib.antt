@@ -1,0 +1,5 @@
+pub mod WordLemmas
+pub mod AnswerLemmas
+pub mod TextLemmas
+pub mod FactLemmas
+pub mod ItemLemmas

@@ -1,0 +1,14 @@
+use Rattle.def_sane.specs.Unfit.{first_unfit_under}
+use Rattle.ms_tree.specs.Shape.{shape}
+use Rattle.def_choice.specs.Strict.{strict}
+use Rattle.ms_calls.specs.Given.{chosen_given}
+use Rattle.ms_calls.proofs.TextLemmas.{finds_of_tree, finds_of_stop}
+use Rattle.ms_calls.proofs.satisfying.strict_in.Goals as goal
+
+pub returns-in-Ok : goal.returns-in-Ok
+returns-in-Ok c =
+    finds_of_tree c.args.text.now (first_unfit_under c.args.rules) (chosen_given strict c.args.file.now) (shape c.in-Ok.text.tree) c.in-Ok.text.offsets.items
+    c.strict_of_text.result c.in-Ok.ensures.utf8 c.in-Ok.ensures.read c.strict_of_text.ensures
+
+pub returns : goal.returns
+returns c = finds_of_stop c.args.text.now (first_unfit_under c.args.rules) (chosen_given strict c.args.file.now) c.in-Err.stop c.in-Err.ensures.stop

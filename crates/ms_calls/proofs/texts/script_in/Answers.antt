@@ -1,0 +1,15 @@
+use Rattle.def_emit.specs.Emit.{script_of}
+use Rattle.def_sane.specs.Unfit.{first_unfit_under, first_unfit_valid_under}
+use Rattle.ms_tree.specs.Shape.{shape}
+use Rattle.ms_calls.specs.Facts.{facts_of}
+use Rattle.ms_calls.specs.Given.{told}
+use Rattle.ms_calls.proofs.TextLemmas.{finds_of_tree, finds_of_stop}
+use Rattle.ms_calls.proofs.texts.script_in.Goals as goal
+
+pub returns-in-Ok : goal.returns-in-Ok
+returns-in-Ok c =
+    finds_of_tree c.args.text.now (first_unfit_valid_under c.args.rules) (λ tree. told (script_of tree)) (shape c.in-Ok.text.tree) c.in-Ok.text.offsets.items
+    c.script_of_text.result c.in-Ok.ensures.utf8 c.in-Ok.ensures.read c.script_of_text.ensures
+
+pub returns : goal.returns
+returns c = finds_of_stop c.args.text.now (first_unfit_valid_under c.args.rules) (λ tree. told (script_of tree)) c.in-Err.stop c.in-Err.ensures.stop

@@ -1,0 +1,41 @@
+-- What is known of a sane tree, as plain numbers.
+use Rattle.std.specs.Prelude.{ℕ}
+use Rattle.def_tree.specs.Tree.{Tree}
+use Rattle.def_types.specs.declared.Base.{Base}
+use Rattle.def_types.specs.declared.Base.TheVariants as base
+use Rattle.def_types.specs.declared.Ty.{Ty}
+use Rattle.def_types.specs.declared.Mall.{Mall}
+use Rattle.def_types.specs.Typed.{type_of, mall_of}
+use Rattle.def_sane.specs.declared.Limits.{Limits}
+use Rattle.def_sane.specs.Most.{limits_of}
+use Rattle.def_height.specs.Highest.{height_of}
+use Rattle.ms_calls.specs.declared.facts.Facts.{Facts}
+
+-- base types are numbered in the order B, V, K, W
+abbrev pub code_of_base : Base → ℕ
+code_of_base base.B = 0
+code_of_base base.V = 1
+code_of_base base.K = 2
+code_of_base base.W = 3
+
+abbrev pub facts_by : Ty → Mall → Limits → (height : ℕ) → Facts
+facts_by ty mall limits height =
+    record {
+      size = limits.size;
+      ops = limits.ops;
+      items = limits.items;
+      weight = limits.weight;
+      height = height;
+      base = code_of_base ty.base;
+      z = ty.z;
+      o = ty.o;
+      n = ty.n;
+      d = ty.d;
+      u = ty.u;
+      s = mall.s;
+      f = mall.f;
+      e = mall.e;
+    }
+
+abbrev pub facts_of : Tree → Facts
+facts_of tree = facts_by (type_of tree) (mall_of tree) (limits_of tree) (height_of tree)

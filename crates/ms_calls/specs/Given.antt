@@ -1,0 +1,142 @@
+-- What a call on a text gives: what was asked for, or a refusal.
+use Rattle.std.specs.Prelude.{◌≡◌, ℕ, nat_lt, Bool, true, false, List, [], ◌∷◌, ◌++◌, length, if◌then◌else◌, Option, None, Some, option_map, Result, Ok, Err}
+use Rattle.def_script.specs.Bytes.{Bytes}
+use Rattle.def_tree.specs.Tree.{Tree}
+use Rattle.def_emit.specs.Emit.{script_of}
+use Rattle.def_assets.specs.Assets.{Assets}
+use Rattle.def_files.specs.declared.AssetFault.{AssetFault}
+use Rattle.def_files.specs.AssetFile.{assets_of}
+use Rattle.def_sane.specs.declared.Rules.{Rules}
+use Rattle.def_sane.specs.declared.Rules.TheVariants.{Policy, Consensus}
+use Rattle.def_sane.specs.declared.Unfit.{Unfit}
+use Rattle.def_sane.specs.Unfit.{first_unfit_under, first_unfit_valid_under}
+use Rattle.def_satisfaction.specs.Weight.{weight}
+use Rattle.def_choice.specs.Cheapest.{cheapest}
+use Rattle.def_choice.specs.Strict.{strict}
+use Rattle.def_answer.specs.Reading.{Reading, read, refused}
+use Rattle.def_answer.specs.Reply.{MOST_FILE}
+use Rattle.ms_calls.specs.declared.reason.Reason.{Reason}
+use Rattle.ms_calls.specs.declared.facts.Facts.{Facts}
+use Rattle.ms_calls.specs.Buffers.{written_over}
+use Rattle.ms_calls.specs.Facts.{facts_of}
+use Rattle.ms_calls.specs.Items.{Joined, joined}
+use Rattle.ms_calls.specs.Reasons.{code_of_fault, code_of_reason, code_of_file, file_too_long}
+
+pub data Given (A : Type 0) : Type 0 where
+  -- what was asked for
+  told : A → Given A
+  -- the text or the asset file is refused
+  text_refused : Reason → Given A
+  file_refused : Reason → Given A
+  -- there is no canonical satisfaction with the file's assets
+  no_satisfaction : Given A
+
+-- ---- what stands after the call
+
+-- its code, as the program's own
+abbrev pub code_given : {A : Type 0} → Given A → ℕ
+code_given (told a) = 0
+code_given (text_refused reason) = 2
+code_given (file_refused reason) = 3
+code_given no_satisfaction = 4
+
+-- the reason, in place of the one before where there is a refusal
+abbrev pub reason_after : {A : Type 0} → (before : Reason) → Given A → Reason
+reason_after before (told a) = before
+reason_after before (text_refused reason) = reason
+reason_after before (file_refused reason) = reason
+reason_after before no_satisfaction = before
+
+-- a value, in place of the one before where it is told
+abbrev pub value_after : {A : Type 0} → (before : A) → Given A → A
+value_after before (told a) = a
+value_after before (text_refused reason) = before
+value_after before (file_refused reason) = before
+value_after before no_satisfaction = before
+
+-- bytes, over the beginning of a buffer where they are told, and how many they are
+abbrev pub buffer_after : (before : Bytes) → Given Bytes → Bytes
+buffer_after before (told bytes) = written_over before bytes
+buffer_after before (text_refused reason) = before
+buffer_after before (file_refused reason) = before
+buffer_after before no_satisfaction = before
+
+abbrev pub needed_after : (before : ℕ) → Given Bytes → ℕ
+needed_after before (told bytes) = length bytes
+needed_after before (text_refused reason) = before
+needed_after before (file_refused reason) = before
+needed_after before no_satisfaction = before
+
+-- ---- what is given
+
+-- the limits that hold
+abbrev pub rules_for : (consensus : Bool) → Rules
+rules_for true = Consensus
+rules_for false = Policy
+
+-- the reason against a tree, or else what comes next
+abbrev pub unless_unfit : {A : Type 0} → Option Unfit → (offsets : List ℕ) → Given A → Given A
+unless_unfit None offsets next = next
+unless_unfit (Some unfit) offsets next = text_refused (code_of_reason offsets unfit)
+
+-- the refusal of a text, the first reason against its tree, or else what comes next
+abbrev pub text_given : {A : Type 0} → (first_reason : Tree → Option Unfit) → (next : Tree → Given A) → Reading → Given A
+text_given first_reason next (read tree offsets) = unless_unfit (first_reason tree) offsets (next tree)
+text_given first_reason next (refused fault) = text_refused (code_of_fault fault)
+
+-- the refusal of an asset file, or else what comes next
+abbrev pub unless_refused : {A : Type 0} → (next : Assets → Given A) → Result Assets AssetFault → Given A
+unless_refused next (Ok assets) = next assets
+unless_refused next (Err fault) = file_refused (code_of_file fault)
+
+abbrev pub file_given : {A : Type 0} → (next : Assets → Given A) → (file : Bytes) → Given A
+file_given next file =
+    if nat_lt MOST_FILE (length file) then file_refused file_too_long else unless_refused next (assets_of file)
+
+-- what is told of a satisfaction, where there is one
+abbrev pub where_one : {A : Type 0} → Option A → Given A
+where_one None = no_satisfaction
+where_one (Some a) = told a
+
+-- the Script of a valid text
+abbrev pub script_given : Rules → Reading → Given Bytes
+script_given rules = text_given (first_unfit_valid_under rules) (λ tree. told (script_of tree))
+
+-- what is known of a sane text
+abbrev pub facts_given : Rules → Reading → Given Facts
+facts_given rules = text_given (first_unfit_under rules) (λ tree. told (facts_of tree))
+
+-- the least weight of a canonical satisfaction
+abbrev pub least_weight_given : (file : Bytes) → Tree → Given ℕ
+least_weight_given file tree = file_given (λ assets. where_one (option_map weight (cheapest tree assets))) file
+
+-- that of a valid text
+abbrev pub weight_given : Rules → (file : Bytes) → Reading → Given ℕ
+weight_given rules file = text_given (first_unfit_valid_under rules) (least_weight_given file)
+
+-- the items of the witness of a satisfaction: its stack, bottom first, and the Script
+abbrev pub witness_items : Tree → (stack : List Bytes) → Joined
+witness_items tree stack = joined (stack ++ script_of tree ∷ [])
+
+-- those of a satisfaction that is chosen
+abbrev pub chosen_given : (choice : Tree → Assets → Option (List Bytes)) → (file : Bytes) → Tree → Given Joined
+chosen_given choice file tree =
+    file_given (λ assets. where_one (option_map (witness_items tree) (choice tree assets))) file
+
+-- those of the strict satisfaction of a sane text, or of the cheapest one of a valid text, which may be malleable
+abbrev pub witness_given : (malleable : Bool) → Rules → (file : Bytes) → Reading → Given Joined
+witness_given false rules file = text_given (first_unfit_under rules) (chosen_given strict file)
+witness_given true rules file = text_given (first_unfit_valid_under rules) (chosen_given cheapest file)
+
+-- their bytes and their lengths
+abbrev pub bytes_given : Given Joined → Given Bytes
+bytes_given (told items) = told items.bytes
+bytes_given (text_refused reason) = text_refused reason
+bytes_given (file_refused reason) = file_refused reason
+bytes_given no_satisfaction = no_satisfaction
+
+abbrev pub lengths_given : Given Joined → Given (List ℕ)
+lengths_given (told items) = told items.lengths
+lengths_given (text_refused reason) = text_refused reason
+lengths_given (file_refused reason) = file_refused reason
+lengths_given no_satisfaction = no_satisfaction

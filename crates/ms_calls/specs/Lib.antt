@@ -1,0 +1,8 @@
+-- What the calls for other languages give.
+pub mod Buffers
+pub mod Words
+pub mod Facts
+pub mod Reasons
+pub mod Items
+pub mod Given
+pub mod Stops

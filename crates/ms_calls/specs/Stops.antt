@@ -1,0 +1,64 @@
+-- Steps on the way to what a call gives, and why one stops.
+use Rattle.std.specs.Prelude.{◌≡◌, ℕ, ⊤, IsUtf8, Result, Ok, Err}
+use Rattle.def_script.specs.Bytes.{Bytes}
+use Rattle.def_text.specs.declared.TextFault.{TextFault}
+use Rattle.def_text.specs.declared.TextFault.TheVariants as text_fault
+use Rattle.def_answer.specs.Reading.{Reading, refused, HasReading}
+use Rattle.ms_calls.specs.declared.reason.Reason.{Reason}
+use Rattle.ms_calls.specs.declared.stopping.Stop.{Stop}
+use Rattle.ms_calls.specs.declared.stopping.Stop.TheVariants as stop
+use Rattle.def_files.specs.declared.AssetFault.{AssetFault}
+use Rattle.def_files.specs.declared.AssetFault.TheVariants as file_fault
+use Rattle.ms_calls.specs.Reasons.{code_of_fault, code_of_file}
+use Rattle.ms_calls.specs.Given.{Given, told, text_refused, file_refused, no_satisfaction}
+
+-- a step found what is given, unless memory was wanting
+abbrev pub Finds : {A : Type 0} → Given A → Result A Stop → Type 0
+Finds given (Ok a) = given ≡ told a
+Finds given (Err (stop.TextRefused reason)) = given ≡ text_refused reason
+Finds given (Err (stop.FileRefused reason)) = given ≡ file_refused reason
+Finds given (Err stop.NoSatisfaction) = given ≡ no_satisfaction
+Finds given (Err stop.Unreadable) = ⊥
+Finds given (Err stop.Memory) = ⊤
+
+-- a step on a text found what its reading gives, or the text isn't UTF-8
+abbrev pub FindsOf : {A : Type 0} → (text : Bytes) → (Reading → Given A) → Result A Stop → Type 0
+FindsOf text given (Err stop.Unreadable) = ¬ IsUtf8 text
+FindsOf text given result = IsUtf8 text × ((reading : Reading) → HasReading text reading → Finds (given reading) result)
+
+-- the code of a stop, and the reason that stands after it
+abbrev pub stopped : Stop → (before : Reason) → ℕ × Reason
+stopped (stop.TextRefused reason) before = (2, reason)
+stopped (stop.FileRefused reason) before = (3, reason)
+stopped stop.NoSatisfaction before = (4, before)
+stopped stop.Unreadable before = (11, before)
+stopped stop.Memory before = (7, before)
+
+-- the stop of a text that is refused
+abbrev pub refusal : TextFault → Stop
+refusal text_fault.TooLong = stop.TextRefused (code_of_fault text_fault.TooLong)
+refusal (text_fault.Syntax at) = stop.TextRefused (code_of_fault (text_fault.Syntax at))
+refusal (text_fault.TooDeep at) = stop.TextRefused (code_of_fault (text_fault.TooDeep at))
+refusal text_fault.Memory = stop.Memory
+
+-- why a text isn't read
+abbrev pub StopsReading : (text : Bytes) → Stop → Type 0
+StopsReading text (stop.TextRefused reason) =
+    IsUtf8 text × ((fault : TextFault) × HasReading text (refused fault) × (reason ≡ code_of_fault fault))
+StopsReading text (stop.FileRefused reason) = ⊥
+StopsReading text stop.NoSatisfaction = ⊥
+StopsReading text stop.Unreadable = ¬ IsUtf8 text
+StopsReading text stop.Memory = IsUtf8 text
+
+-- the stop of a file that is refused
+abbrev pub file_refusal : AssetFault → Stop
+file_refusal file_fault.NotJson = stop.FileRefused (code_of_file file_fault.NotJson)
+file_refusal (file_fault.Shape m) = stop.FileRefused (code_of_file (file_fault.Shape m))
+file_refusal (file_fault.Number m) = stop.FileRefused (code_of_file (file_fault.Number m))
+file_refusal (file_fault.Hex m i) = stop.FileRefused (code_of_file (file_fault.Hex m i))
+file_refusal (file_fault.KeyForm i) = stop.FileRefused (code_of_file (file_fault.KeyForm i))
+file_refusal (file_fault.SigLength i) = stop.FileRefused (code_of_file (file_fault.SigLength i))
+file_refusal (file_fault.PreimageLength i) = stop.FileRefused (code_of_file (file_fault.PreimageLength i))
+file_refusal (file_fault.TooMany m) = stop.FileRefused (code_of_file (file_fault.TooMany m))
+file_refusal (file_fault.RepeatedKey i) = stop.FileRefused (code_of_file (file_fault.RepeatedKey i))
+file_refusal file_fault.Memory = stop.Memory

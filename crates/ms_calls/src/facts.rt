@@ -1,0 +1,67 @@
+//! What is known of a sane text, as plain numbers.
+ghost use Rattle.std.specs.Prelude.{◌≡◌};
+ghost use Rattle.ms_calls.specs.Facts.{facts_by, code_of_base as the_code_of_base};
+
+use ms_sane::Sane;
+use ms_types::Base;
+
+/// The limits, the height and the type of a sane text.
+#[repr(C)]
+#[derive(Clone, Copy, Debug, PartialEq, Eq)]
+pub struct Facts {
+    /// The bytes of the Script.
+    pub size: u64,
+    /// The most opcodes that count in a run of it.
+    pub ops: u64,
+    /// The most items of a satisfaction.
+    pub items: u64,
+    /// The most that a satisfaction weighs.
+    pub weight: u64,
+    /// The most elements that the stacks hold together while a satisfaction is run.
+    pub height: u64,
+    /// The base type: 0 is B, 1 is V, 2 is K and 3 is W. A sane text is B.
+    pub base: u32,
+    pub z: bool,
+    pub o: bool,
+    pub n: bool,
+    pub d: bool,
+    pub u: bool,
+    pub s: bool,
+    pub f: bool,
+    pub e: bool,
+}
+
+impl Facts {
+    pub fn new(sane: &Sane, height: u64) -> Facts
+        ensures { result ≡ facts_by sane.now.ty sane.now.mall sane.now.limits height }
+    {
+        let Sane { ty, mall, limits } = *sane;
+        Facts {
+            size: limits.size,
+            ops: limits.ops,
+            items: limits.items,
+            weight: limits.weight,
+            height,
+            base: code_of_base(ty.base),
+            z: ty.z,
+            o: ty.o,
+            n: ty.n,
+            d: ty.d,
+            u: ty.u,
+            s: mall.s,
+            f: mall.f,
+            e: mall.e,
+        }
+    }
+}
+
+fn code_of_base(base: Base) -> u32
+    ensures { result ≡ the_code_of_base base }
+{
+    match base {
+        Base::B => 0,
+        Base::V => 1,
+        Base::K => 2,
+        Base::W => 3,
+    }
+}

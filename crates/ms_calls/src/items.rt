@@ -1,0 +1,52 @@
+//! The items of a witness, as they lie in two buffers.
+ghost use Rattle.std.specs.Prelude.{◌≡◌, IfOk};
+ghost use Rattle.ms_calls.specs.Items.{joined};
+
+use ms_script::Stack;
+use std::alloc::{AllocError, Global};
+use std::marker::Model;
+
+/// Items one after the other, and how many bytes each has. Contracts see them as both lists.
+#[derive(Drop)]
+pub struct Items {
+    bytes: Vec<u8>,
+    lengths: Vec<usize>,
+}
+
+impl Model for Items {
+    ghost use Rattle.ms_calls.specs.Items.{Joined};
+
+    ghost Value = { Joined };
+
+    ghost view = { λ s. record { bytes = s.bytes.items; lengths = s.lengths.items } };
+}
+
+impl Items {
+    /// The items of a stack, bottom first. Refuses for want of memory alone.
+    pub fn new(alloc: Global, stack: &Stack) -> Result<Items, AllocError>
+        ensures { IfOk result (λ items. items ≡ joined stack.now) }
+    {
+        let mut bytes = Vec::new(alloc);
+        let mut lengths = Vec::new(alloc);
+        for i in 0..stack.len() {
+            let item = stack.item(i);
+            bytes.extend_from_slice(item)?;
+            lengths.push(item.len())?;
+        }
+        Ok(Items { bytes, lengths })
+    }
+
+    /// The bytes of all items.
+    pub fn bytes(&self) -> &[u8]
+        ensures { result.now ≡ self.now.bytes }
+    {
+        self.bytes.as_slice()
+    }
+
+    /// How many bytes each item has.
+    pub fn lengths(&self) -> &[usize]
+        ensures { result.now ≡ self.now.lengths }
+    {
+        self.lengths.as_slice()
+    }
+}

@@ -1,0 +1,317 @@
+//! Satisfactions of a text by an asset file: the least weight of one, and the items of the witness of the one that is chosen.
+ghost use Rattle.std.specs.Prelude.{◌≡◌, ◌≢◌, ◌⊎◌, ◌↔◌, ◌*◌, ◌≤◌, ◌∷◌, length, vec_len, IsUtf8, MatchResult, IfOk, option_map, Err, true, false};
+ghost use Rattle.def_tree.specs.Range.{IsInRange};
+ghost use Rattle.def_tree.specs.Size.{measure};
+ghost use Rattle.def_sane.specs.declared.Rules.TheVariants.{Consensus};
+ghost use Rattle.def_sane.specs.Unfit.{IsValidUnder, IsSaneUnder, first_unfit_under, first_unfit_valid_under};
+ghost use Rattle.def_choice.specs.Cheapest.{cheapest as the_cheapest};
+ghost use Rattle.def_choice.specs.Strict.{strict as the_strict};
+ghost use Rattle.def_answer.specs.Reading.{Reading, HasReading};
+ghost use Rattle.ms_tree.specs.Shape.{shape};
+ghost use Rattle.ms_calls.specs.Given.{told, code_given, reason_after, value_after, buffer_after, needed_after, rules_for as the_rules_for, unless_unfit, file_given, where_one, weight_given, witness_given, least_weight_given, witness_items, chosen_given, bytes_given, lengths_given};
+ghost use Rattle.ms_calls.specs.Stops.{Finds, FindsOf, file_refusal as the_file_refusal};
+
+use crate::copying::{write_lengths, write_over};
+use crate::items::Items;
+use crate::reason::{Reason, code_of_file, code_of_reason};
+use crate::stopping::{DONE, Stop};
+use crate::texts::{read, rules_for};
+use bumpalo::Bump;
+use ms_assets::{AssetFault, Assets, read_assets};
+use ms_emit::script_bytes;
+use ms_nonmal::strict;
+use ms_sane::{Rules, Work, check_sane_under, check_valid_under};
+use ms_sat::{cheapest, costs};
+use ms_script::Stack;
+use ms_text::TextTree;
+use ms_tree::Tree;
+use std::alloc::{AllocError, Global};
+
+/// How many bytes a file may have.
+const MOST_FILE: usize = 1_048_576;
+
+/// The least weight of a canonical satisfaction of a text by an asset file. The text is valid by the limits of policy, or by
+/// those of consensus alone.
+///
+/// The answer is 0; 2 where the text is refused and 3 where the file is, for this reason; 4 where there is no satisfaction; 7
+/// where memory was wanting; and 11 where the text isn't UTF-8. What an answer doesn't speak of is as it was.
+pub fn least_weight(
+    alloc: Global,
+    consensus: bool,
+    text: &[u8],
+    file: &[u8],
+    weight: &mut u64,
+    reason: &mut Reason,
+) -> u32
+    ensures code { (reading : Reading) → HasReading text.now reading → result ≢ 7 → result ≢ 11 → result ≡ code_given (weight_given (the_rules_for consensus) file.now reading) }
+    ensures weight { (reading : Reading) → HasReading text.now reading → result ≢ 7 → result ≢ 11 → weight.new ≡ value_after weight.old (weight_given (the_rules_for consensus) file.now reading) }
+    ensures reason { (reading : Reading) → HasReading text.now reading → result ≢ 7 → result ≢ 11 → reason.new ≡ reason_after reason.old (weight_given (the_rules_for consensus) file.now reading) }
+    ensures unreadable { result ≡ 11 ↔ (¬ IsUtf8 text.now) }
+    ensures kept { (result ≡ 11) ⊎ (result ≡ 7) → weight.new ≡ weight.old }
+    ensures kept_reason { (result ≡ 11) ⊎ (result ≡ 7) → reason.new ≡ reason.old }
+{
+    match weight_in(alloc, rules_for(consensus), text, file) {
+        Ok(found) => {
+            *weight = found;
+            DONE
+        }
+        Err(stop) => stop.tell(reason),
+    }
+}
+
+/// The items of the witness of a satisfaction of a text by an asset file, bottom first, and the Script as the last one. The
+/// satisfaction is the strict one of a sane text, or with `malleable` the cheapest one of a valid text, by the limits of policy
+/// or by those of consensus alone.
+///
+/// The items lie one after the other: as much of them as there is room for is written over the beginning of `bytes`, and
+/// `needed` is how many bytes all of them have. The first of their lengths are written over the beginning of `lengths`, as far
+/// as there is room, and `count` is how many items there are. The answer is 0; 2 where the text is refused and 3 where the file
+/// is, for this reason; 4 where there is no satisfaction; 7 where memory was wanting; and 11 where the text isn't UTF-8. What an
+/// answer doesn't speak of is as it was.
+pub fn witness(
+    alloc: Global,
+    malleable: bool,
+    consensus: bool,
+    text: &[u8],
+    file: &[u8],
+    bytes: &mut [u8],
+    needed: &mut usize,
+    lengths: &mut [usize],
+    count: &mut usize,
+    reason: &mut Reason,
+) -> u32
+    ensures code { (reading : Reading) → HasReading text.now reading → result ≢ 7 → result ≢ 11 → result ≡ code_given (witness_given malleable (the_rules_for consensus) file.now reading) }
+    ensures bytes { (reading : Reading) → HasReading text.now reading → result ≢ 7 → result ≢ 11 → bytes.new ≡ buffer_after bytes.old (bytes_given (witness_given malleable (the_rules_for consensus) file.now reading)) }
+    ensures needed { (reading : Reading) → HasReading text.now reading → result ≢ 7 → result ≢ 11 → needed.new ≡ needed_after needed.old (bytes_given (witness_given malleable (the_rules_for consensus) file.now reading)) }
+    ensures lengths { (reading : Reading) → HasReading text.now reading → result ≢ 7 → result ≢ 11 → lengths.new ≡ buffer_after lengths.old (lengths_given (witness_given malleable (the_rules_for consensus) file.now reading)) }
+    ensures count { (reading : Reading) → HasReading text.now reading → result ≢ 7 → result ≢ 11 → count.new ≡ needed_after count.old (lengths_given (witness_given malleable (the_rules_for consensus) file.now reading)) }
+    ensures reason { (reading : Reading) → HasReading text.now reading → result ≢ 7 → result ≢ 11 → reason.new ≡ reason_after reason.old (witness_given malleable (the_rules_for consensus) file.now reading) }
+    ensures unreadable { result ≡ 11 ↔ (¬ IsUtf8 text.now) }
+    ensures kept { (result ≡ 11) ⊎ (result ≡ 7) → bytes.new ≡ bytes.old }
+    ensures kept_needed { (result ≡ 11) ⊎ (result ≡ 7) → needed.new ≡ needed.old }
+    ensures kept_lengths { (result ≡ 11) ⊎ (result ≡ 7) → lengths.new ≡ lengths.old }
+    ensures kept_count { (result ≡ 11) ⊎ (result ≡ 7) → count.new ≡ count.old }
+    ensures kept_reason { (result ≡ 11) ⊎ (result ≡ 7) → reason.new ≡ reason.old }
+{
+    match witness_in(alloc, malleable, rules_for(consensus), text, file) {
+        Ok(items) => {
+            *needed = items.bytes().len();
+            let _bytes = write_over(items.bytes(), bytes);
+            *count = items.lengths().len();
+            let _lengths = write_lengths(items.lengths(), lengths);
+            DONE
+        }
+        Err(stop) => stop.tell(reason),
+    }
+}
+
+/// The least weight of a satisfaction of a text.
+fn weight_in(alloc: Global, rules: Rules, text: &[u8], file: &[u8]) -> Result<u64, Stop>
+    ensures { FindsOf text.now (weight_given rules file.now) result }
+{
+    let arena = Bump::new(alloc);
+    match read(alloc, &arena, text) {
+        Ok(text) => weight_of_text(alloc, rules, &text, file),
+        Err(stop) => Err(stop),
+    }
+}
+
+/// The least weight of a satisfaction of a text that was read.
+fn weight_of_text(
+    alloc: Global,
+    rules: Rules,
+    text: &TextTree<'_>,
+    file: &[u8],
+) -> Result<u64, Stop>
+    requires { IsInRange (shape text.now.tree) }
+    ensures { Finds (unless_unfit (first_unfit_valid_under rules (shape text.now.tree)) text.now.offsets.items (least_weight_given file.now (shape text.now.tree))) result }
+{
+    let tree = text.tree();
+    let Ok(mut work) = Work::new(alloc, tree) else {
+        return Err(Stop::Memory);
+    };
+    match check_valid_under(tree, rules, &mut work) {
+        Ok(_) => weight_of_tree(alloc, tree, file, &mut work),
+        Err(unfit) => Err(Stop::TextRefused(code_of_reason(text, unfit))),
+    }
+}
+
+/// The least weight of a satisfaction of a valid tree.
+fn weight_of_tree(alloc: Global, tree: &Tree<'_>, file: &[u8], work: &mut Work) -> Result<u64, Stop>
+    requires in_range { IsInRange (shape tree.now) }
+    requires valid { IsValidUnder Consensus (shape tree.now) }
+    requires room { 4 * measure (shape tree.now) ≤ vec_len work.old.slots }
+    ensures { Finds (least_weight_given file.now (shape tree.now)) result }
+{
+    let assets = match assets_in(alloc, file) {
+        Ok(assets) => assets,
+        Err(stop) => return Err(stop),
+    };
+    match costs(tree, &assets, work).sat {
+        Some(weight) => Ok(weight),
+        None => Err(Stop::NoSatisfaction),
+    }
+}
+
+/// The assets that a file holds.
+fn assets_in(alloc: Global, file: &[u8]) -> Result<Assets, Stop>
+    ensures { Finds (file_given told file.now) result }
+{
+    if file.len() > MOST_FILE {
+        return Err(Stop::FileRefused(Reason::file_too_long()));
+    }
+    match read_assets(alloc, file) {
+        Ok(assets) => Ok(assets),
+        Err(fault) => Err(file_refusal(fault)),
+    }
+}
+
+/// The stop of a file that is refused.
+fn file_refusal(fault: AssetFault) -> Stop
+    ensures { result ≡ the_file_refusal fault }
+{
+    match fault {
+        AssetFault::Memory => Stop::Memory,
+        AssetFault::NotJson
+        | AssetFault::Shape(_)
+        | AssetFault::Number(_)
+        | AssetFault::Hex(_, _)
+        | AssetFault::KeyForm(_)
+        | AssetFault::SigLength(_)
+        | AssetFault::PreimageLength(_)
+        | AssetFault::TooMany(_)
+        | AssetFault::RepeatedKey(_) => Stop::FileRefused(code_of_file(fault)),
+    }
+}
+
+/// The items of the witness of a satisfaction of a text.
+fn witness_in(
+    alloc: Global,
+    malleable: bool,
+    rules: Rules,
+    text: &[u8],
+    file: &[u8],
+) -> Result<Items, Stop>
+    ensures { FindsOf text.now (witness_given malleable rules file.now) result }
+{
+    if malleable {
+        cheapest_in(alloc, rules, text, file)
+    } else {
+        strict_in(alloc, rules, text, file)
+    }
+}
+
+/// The items of the witness of the strict satisfaction of a text.
+fn strict_in(alloc: Global, rules: Rules, text: &[u8], file: &[u8]) -> Result<Items, Stop>
+    ensures { FindsOf text.now (witness_given false rules file.now) result }
+{
+    let arena = Bump::new(alloc);
+    match read(alloc, &arena, text) {
+        Ok(text) => strict_of_text(alloc, rules, &text, file),
+        Err(stop) => Err(stop),
+    }
+}
+
+/// The items of the witness of the cheapest satisfaction of a text.
+fn cheapest_in(alloc: Global, rules: Rules, text: &[u8], file: &[u8]) -> Result<Items, Stop>
+    ensures { FindsOf text.now (witness_given true rules file.now) result }
+{
+    let arena = Bump::new(alloc);
+    match read(alloc, &arena, text) {
+        Ok(text) => cheapest_of_text(alloc, rules, &text, file),
+        Err(stop) => Err(stop),
+    }
+}
+
+/// The items of the witness of the strict satisfaction of a text that was read.
+fn strict_of_text(
+    alloc: Global,
+    rules: Rules,
+    text: &TextTree<'_>,
+    file: &[u8],
+) -> Result<Items, Stop>
+    requires { IsInRange (shape text.now.tree) }
+    ensures { Finds (unless_unfit (first_unfit_under rules (shape text.now.tree)) text.now.offsets.items (chosen_given the_strict file.now (shape text.now.tree))) result }
+{
+    let tree = text.tree();
+    let Ok(mut work) = Work::new(alloc, tree) else {
+        return Err(Stop::Memory);
+    };
+    match check_sane_under(tree, rules, &mut work) {
+        Ok(_) => strict_of_tree(alloc, tree, file),
+        Err(unfit) => Err(Stop::TextRefused(code_of_reason(text, unfit))),
+    }
+}
+
+/// The items of the witness of the cheapest satisfaction of a text that was read.
+fn cheapest_of_text(
+    alloc: Global,
+    rules: Rules,
+    text: &TextTree<'_>,
+    file: &[u8],
+) -> Result<Items, Stop>
+    requires { IsInRange (shape text.now.tree) }
+    ensures { Finds (unless_unfit (first_unfit_valid_under rules (shape text.now.tree)) text.now.offsets.items (chosen_given the_cheapest file.now (shape text.now.tree))) result }
+{
+    let tree = text.tree();
+    let Ok(mut work) = Work::new(alloc, tree) else {
+        return Err(Stop::Memory);
+    };
+    match check_valid_under(tree, rules, &mut work) {
+        Ok(_) => cheapest_of_tree(alloc, tree, file),
+        Err(unfit) => Err(Stop::TextRefused(code_of_reason(text, unfit))),
+    }
+}
+
+/// The items of the witness of the strict satisfaction of a sane tree.
+fn strict_of_tree(alloc: Global, tree: &Tree<'_>, file: &[u8]) -> Result<Items, Stop>
+    requires in_range { IsInRange (shape tree.now) }
+    requires sane { IsSaneUnder Consensus (shape tree.now) }
+    ensures { Finds (chosen_given the_strict file.now (shape tree.now)) result }
+{
+    match assets_in(alloc, file) {
+        Ok(assets) => items_of(alloc, tree, strict(alloc, tree, &assets)),
+        Err(stop) => Err(stop),
+    }
+}
+
+/// The items of the witness of the cheapest satisfaction of a valid tree.
+fn cheapest_of_tree(alloc: Global, tree: &Tree<'_>, file: &[u8]) -> Result<Items, Stop>
+    requires in_range { IsInRange (shape tree.now) }
+    requires valid { IsValidUnder Consensus (shape tree.now) }
+    ensures { Finds (chosen_given the_cheapest file.now (shape tree.now)) result }
+{
+    match assets_in(alloc, file) {
+        Ok(assets) => items_of(alloc, tree, cheapest(alloc, tree, &assets)),
+        Err(stop) => Err(stop),
+    }
+}
+
+/// The items of the witness of a satisfaction, where one was found.
+fn items_of(
+    alloc: Global,
+    tree: &Tree<'_>,
+    found: Result<Option<Stack>, AllocError>,
+) -> Result<Items, Stop>
+    requires { IsInRange (shape tree.now) }
+    ensures { MatchResult found (λ stack. Finds (where_one (option_map (witness_items (shape tree.now)) stack)) result) (λ _. result ≡ Err Stop.Memory) }
+{
+    match found {
+        Ok(Some(stack)) => match with_script(alloc, tree, stack) {
+            Ok(items) => Ok(items),
+            Err(AllocError) => Err(Stop::Memory),
+        },
+        Ok(None) => Err(Stop::NoSatisfaction),
+        Err(AllocError) => Err(Stop::Memory),
+    }
+}
+
+/// The items of a stack, and the Script of a tree as the last one.
+fn with_script(alloc: Global, tree: &Tree<'_>, mut stack: Stack) -> Result<Items, AllocError>
+    requires { IsInRange (shape tree.now) }
+    ensures { IfOk result (λ items. items ≡ witness_items (shape tree.now) stack) }
+{
+    let script = script_bytes(alloc, tree)?;
+    stack.push(script.as_slice())?;
+    Items::new(alloc, &stack)
+}

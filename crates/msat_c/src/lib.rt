@@ -1,0 +1,129 @@
+//! The static library for C, with one export for each call of `ms_calls`. `include/msat.h` declares them.
+#![tactic(auto)]
+
+ghost use Rattle.std.specs.Prelude.{◌≡◌, ◌≢◌, ◌⊎◌, ◌↔◌, List, length, IsUtf8};
+ghost use Rattle.def_script.specs.Bytes.{Bytes};
+ghost use Rattle.def_answer.specs.Answer.{Answer};
+ghost use Rattle.def_answer.specs.declared.status.Status.{Status};
+ghost use Rattle.def_answer.specs.Reading.{Reading, HasReading};
+ghost use Rattle.def_answer.specs.Status.{code_of};
+ghost use Rattle.ms_calls.specs.Buffers.{written_over};
+ghost use Rattle.ms_calls.specs.Given.{code_given, reason_after, value_after, buffer_after, needed_after, bytes_given, lengths_given, rules_for, script_given, facts_given, weight_given, witness_given};
+ghost use Rattle.ms_calls.specs.Words.{AreWords, AreNoWords};
+
+use ms_calls::{Facts, Reason};
+use std::alloc::Global;
+
+/// Answers the words of a command line, as the program does where its standard input holds `source`.
+#[unsafe(no_mangle)]
+pub extern "C" fn msat_answer(
+    alloc: Global,
+    count: usize,
+    words: &[u8],
+    source: &[u8],
+    report: &mut [u8],
+    needed: &mut usize,
+) -> u32
+    ensures status { (list : List Bytes) (s : Status) (r : Bytes) → AreWords count words.now list → Answer list source.now s r → result ≢ 7 → result ≡ code_of s }
+    ensures written { (list : List Bytes) (s : Status) (r : Bytes) → AreWords count words.now list → Answer list source.now s r → result ≢ 7 → report.new ≡ written_over report.old r }
+    ensures needed { (list : List Bytes) (s : Status) (r : Bytes) → AreWords count words.now list → Answer list source.now s r → result ≢ 7 → needed.new ≡ length r }
+    ensures unreadable { AreNoWords count words.now → (result ≡ 11) ⊎ (result ≡ 7) }
+    ensures kept { (result ≡ 11) ⊎ (result ≡ 7) → report.new ≡ report.old }
+    ensures kept_needed { (result ≡ 11) ⊎ (result ≡ 7) → needed.new ≡ needed.old }
+{
+    ms_calls::answer(alloc, count, words, source, report, needed)
+}
+
+/// The Script of a text that is valid by the limits of policy, or by those of consensus alone.
+#[unsafe(no_mangle)]
+pub extern "C" fn msat_script(
+    alloc: Global,
+    consensus: bool,
+    text: &[u8],
+    script: &mut [u8],
+    needed: &mut usize,
+    reason: &mut Reason,
+) -> u32
+    ensures code { (reading : Reading) → HasReading text.now reading → result ≢ 7 → result ≢ 11 → result ≡ code_given (script_given (rules_for consensus) reading) }
+    ensures script { (reading : Reading) → HasReading text.now reading → result ≢ 7 → result ≢ 11 → script.new ≡ buffer_after script.old (script_given (rules_for consensus) reading) }
+    ensures needed { (reading : Reading) → HasReading text.now reading → result ≢ 7 → result ≢ 11 → needed.new ≡ needed_after needed.old (script_given (rules_for consensus) reading) }
+    ensures reason { (reading : Reading) → HasReading text.now reading → result ≢ 7 → result ≢ 11 → reason.new ≡ reason_after reason.old (script_given (rules_for consensus) reading) }
+    ensures unreadable { result ≡ 11 ↔ (¬ IsUtf8 text.now) }
+    ensures kept { (result ≡ 11) ⊎ (result ≡ 7) → script.new ≡ script.old }
+    ensures kept_needed { (result ≡ 11) ⊎ (result ≡ 7) → needed.new ≡ needed.old }
+    ensures kept_reason { (result ≡ 11) ⊎ (result ≡ 7) → reason.new ≡ reason.old }
+{
+    ms_calls::script(alloc, consensus, text, script, needed, reason)
+}
+
+/// The limits, the height and the type letters of a text that is sane by the limits of policy, or by those of consensus alone.
+#[unsafe(no_mangle)]
+pub extern "C" fn msat_check(
+    alloc: Global,
+    consensus: bool,
+    text: &[u8],
+    facts: &mut Facts,
+    reason: &mut Reason,
+) -> u32
+    ensures code { (reading : Reading) → HasReading text.now reading → result ≢ 7 → result ≢ 11 → result ≡ code_given (facts_given (rules_for consensus) reading) }
+    ensures facts { (reading : Reading) → HasReading text.now reading → result ≢ 7 → result ≢ 11 → facts.new ≡ value_after facts.old (facts_given (rules_for consensus) reading) }
+    ensures reason { (reading : Reading) → HasReading text.now reading → result ≢ 7 → result ≢ 11 → reason.new ≡ reason_after reason.old (facts_given (rules_for consensus) reading) }
+    ensures unreadable { result ≡ 11 ↔ (¬ IsUtf8 text.now) }
+    ensures kept { (result ≡ 11) ⊎ (result ≡ 7) → facts.new ≡ facts.old }
+    ensures kept_reason { (result ≡ 11) ⊎ (result ≡ 7) → reason.new ≡ reason.old }
+{
+    ms_calls::check(alloc, consensus, text, facts, reason)
+}
+
+/// The least weight of a canonical satisfaction of a valid text by an asset file.
+#[unsafe(no_mangle)]
+pub extern "C" fn msat_least_weight(
+    alloc: Global,
+    consensus: bool,
+    text: &[u8],
+    file: &[u8],
+    weight: &mut u64,
+    reason: &mut Reason,
+) -> u32
+    ensures code { (reading : Reading) → HasReading text.now reading → result ≢ 7 → result ≢ 11 → result ≡ code_given (weight_given (rules_for consensus) file.now reading) }
+    ensures weight { (reading : Reading) → HasReading text.now reading → result ≢ 7 → result ≢ 11 → weight.new ≡ value_after weight.old (weight_given (rules_for consensus) file.now reading) }
+    ensures reason { (reading : Reading) → HasReading text.now reading → result ≢ 7 → result ≢ 11 → reason.new ≡ reason_after reason.old (weight_given (rules_for consensus) file.now reading) }
+    ensures unreadable { result ≡ 11 ↔ (¬ IsUtf8 text.now) }
+    ensures kept { (result ≡ 11) ⊎ (result ≡ 7) → weight.new ≡ weight.old }
+    ensures kept_reason { (result ≡ 11) ⊎ (result ≡ 7) → reason.new ≡ reason.old }
+{
+    ms_calls::least_weight(alloc, consensus, text, file, weight, reason)
+}
+
+/// The items of the witness of a satisfaction of a text by an asset file: the strict one of a sane text, or with `malleable` the
+/// cheapest one of a valid text.
+#[unsafe(no_mangle)]
+pub extern "C" fn msat_witness(
+    alloc: Global,
+    malleable: bool,
+    consensus: bool,
+    text: &[u8],
+    file: &[u8],
+    bytes: &mut [u8],
+    needed: &mut usize,
+    lengths: &mut [usize],
+    count: &mut usize,
+    reason: &mut Reason,
+) -> u32
+    ensures code { (reading : Reading) → HasReading text.now reading → result ≢ 7 → result ≢ 11 → result ≡ code_given (witness_given malleable (rules_for consensus) file.now reading) }
+    ensures bytes { (reading : Reading) → HasReading text.now reading → result ≢ 7 → result ≢ 11 → bytes.new ≡ buffer_after bytes.old (bytes_given (witness_given malleable (rules_for consensus) file.now reading)) }
+    ensures needed { (reading : Reading) → HasReading text.now reading → result ≢ 7 → result ≢ 11 → needed.new ≡ needed_after needed.old (bytes_given (witness_given malleable (rules_for consensus) file.now reading)) }
+    ensures lengths { (reading : Reading) → HasReading text.now reading → result ≢ 7 → result ≢ 11 → lengths.new ≡ buffer_after lengths.old (lengths_given (witness_given malleable (rules_for consensus) file.now reading)) }
+    ensures count { (reading : Reading) → HasReading text.now reading → result ≢ 7 → result ≢ 11 → count.new ≡ needed_after count.old (lengths_given (witness_given malleable (rules_for consensus) file.now reading)) }
+    ensures reason { (reading : Reading) → HasReading text.now reading → result ≢ 7 → result ≢ 11 → reason.new ≡ reason_after reason.old (witness_given malleable (rules_for consensus) file.now reading) }
+    ensures unreadable { result ≡ 11 ↔ (¬ IsUtf8 text.now) }
+    ensures kept { (result ≡ 11) ⊎ (result ≡ 7) → bytes.new ≡ bytes.old }
+    ensures kept_needed { (result ≡ 11) ⊎ (result ≡ 7) → needed.new ≡ needed.old }
+    ensures kept_lengths { (result ≡ 11) ⊎ (result ≡ 7) → lengths.new ≡ lengths.old }
+    ensures kept_count { (result ≡ 11) ⊎ (result ≡ 7) → count.new ≡ count.old }
+    ensures kept_reason { (result ≡ 11) ⊎ (result ≡ 7) → reason.new ≡ reason.old }
+{
+    ms_calls::witness(
+        alloc, malleable, consensus, text, file, bytes, needed, lengths, count, reason,
+    )
+}

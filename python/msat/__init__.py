@@ -1,0 +1,311 @@
+"""msat: a Miniscript satisfier for P2WSH outputs, over its proved library.
+
+Each call is one call of the library, which is proved to answer what msat's definitions say. What is Python here, the reading of
+reports into classes, is tested and not proved. Calls may be made from several threads at once: no state is kept.
+
+>>> KEY = "020101010101010101010101010101010101010101010101010101010101010101"
+>>> script(f"pk({KEY})").hex()
+'21020101010101010101010101010101010101010101010101010101010101010101ac'
+>>> held = Assets(signatures=(Signature(bytes.fromhex(KEY), 71 * b"\\xaa"),))
+>>> [len(item) for item in satisfy(f"pk({KEY})", held).stack]
+[71, 35]
+>>> try:
+...     script("pk(1)")
+... except TextRefused as refused:
+...     print(refused.name, refused.place)
+Syntax 3
+"""
+
+from typing import NoReturn, Sequence
+
+from . import _library
+from .errors import (
+    FileRefused,
+    MsatError,
+    NoReading,
+    NoSatisfaction,
+    NotAccepted,
+    Refused,
+    ScriptRefused,
+    TextRefused,
+    Unreadable,
+    Usage,
+    file_line,
+    text_line,
+)
+from .results import (
+    Accepted,
+    Assets,
+    Audit,
+    Checked,
+    Estimate,
+    Facts,
+    File,
+    Limits,
+    Plan,
+    Policy,
+    Replay,
+    Satisfaction,
+    Signature,
+    Step,
+    file_bytes,
+)
+
+__all__ = [
+    "Accepted", "Assets", "Audit", "Checked", "Estimate", "Facts", "File", "FileRefused", "Limits", "MsatError", "NoReading",
+    "NoSatisfaction", "NotAccepted", "Plan", "Policy", "Refused", "Replay", "Satisfaction", "ScriptRefused", "Signature", "Step",
+    "TextRefused", "Unreadable", "Usage", "answer", "audit", "check", "decode", "facts", "least_weight", "plan", "policy", "report",
+    "run", "satisfy", "script", "witness",
+]  # fmt: skip
+
+
+def answer(words: Sequence[str], source: bytes = b"") -> tuple[int, str]:
+    """The exit status and the report of the program for these words, where its standard input holds `source`.
+
+    A word that isn't UTF-8, as one with a lone surrogate, or that has a NUL gives 11 and no report.
+
+    >>> answer(["script", "1"])
+    (0, '51\\n')
+    >>> answer(["no", "command"])
+    (1, 'refused usage\\n')
+    >>> answer(["script", "\\udcff"])
+    (11, '')
+    """
+    spelled = [_spelled(word) for word in words]
+    if any(b"\0" in word for word in spelled):
+        return _library.UNREADABLE, ""
+    code, text = _library.answer(spelled, bytes(source))
+    return code, text.decode()
+
+
+def report(words: Sequence[str], source: bytes = b"") -> str:
+    """The report of these words where the status is 0; otherwise the refusal is raised.
+
+    >>> report(["policy", "older(144)"])
+    Traceback (most recent call last):
+    msat.errors.TextRefused: refused text NoSignature
+    """
+    code, text = answer(words, source)
+    if code != 0:
+        _refuse(code, text)
+    return text
+
+
+def script(text: str, *, consensus: bool = False) -> bytes:
+    """The Script of a valid text, by the limits of policy, or by those of consensus alone.
+
+    >>> script("older(144)").hex()
+    '029000b2'
+    """
+    code, found, reason = _library.script(consensus, _spelled(text))
+    _refuse_by(code, reason)
+    return found
+
+
+def check(text: str, *, consensus: bool = False) -> Checked:
+    """What is known of a sane text.
+
+    >>> check("pk(020101010101010101010101010101010101010101010101010101010101010101)").limits
+    Limits(size=35, ops=1, items=1, weight=74, height=None)
+    """
+    lines = _lines(report(["check", *_rules(consensus), text]))
+    return Checked(
+        text=lines["text"][0],
+        type=lines["type"][0],
+        script=bytes.fromhex(lines["script"][0]),
+        program=bytes.fromhex(lines["program"][0]),
+        limits=Limits(**_numbers(lines["limits"][0])),
+    )
+
+
+def facts(text: str, *, consensus: bool = False) -> Facts:
+    """The limits and the type letters of a sane text, without its Script.
+
+    >>> facts("pk(020101010101010101010101010101010101010101010101010101010101010101)")
+    Facts(limits=Limits(size=35, ops=1, items=1, weight=74, height=2), type='Bonduse')
+    """
+    code, found, reason = _library.check(consensus, _spelled(text))
+    _refuse_by(code, reason)
+    limits = Limits(found.size, found.ops, found.items, found.weight, found.height)
+    return Facts(limits, "BVKW"[found.base] + "".join(letter for letter in "zondusfe" if getattr(found, letter)))
+
+
+def satisfy(text: str, assets: File, *, malleable: bool = False, consensus: bool = False) -> Satisfaction:
+    """The satisfaction of a sane text by these assets that nobody can change, or with `malleable` the lightest one of a valid text.
+
+    >>> satisfy("pk(020101010101010101010101010101010101010101010101010101010101010101)", Assets())
+    Traceback (most recent call last):
+    msat.errors.NoSatisfaction: no satisfaction
+    """
+    options = (["--malleable"] if malleable else []) + _rules(consensus)
+    lines = _lines(report(["satisfy", *options, text], file_bytes(assets)))
+    return Satisfaction(
+        script=bytes.fromhex(lines["script"][0]),
+        program=bytes.fromhex(lines["program"][0]),
+        limits=Limits(**_numbers(lines["limits"][0])),
+        items=tuple(b"" if item == "-" else bytes.fromhex(item) for item in lines.get("item", [])),
+        witness=bytes.fromhex(lines["witness"][0]),
+        replay=Replay(**_numbers(lines["replay"][0])),
+    )
+
+
+def least_weight(text: str, assets: File, *, consensus: bool = False) -> int:
+    """The least weight of a canonical satisfaction of a valid text by these assets: for each item 1 and its length, the Script aside.
+
+    >>> least_weight("or_i(pk(020101010101010101010101010101010101010101010101010101010101010101),older(9))", Assets(sequence=9))
+    1
+    """
+    code, weight, reason = _library.least_weight(consensus, _spelled(text), file_bytes(assets))
+    _refuse_by(code, reason)
+    assert weight is not None
+    return weight
+
+
+def witness(text: str, assets: File, *, malleable: bool = False, consensus: bool = False) -> tuple[bytes, ...]:
+    """The items of the witness of the satisfaction that `satisfy` gives: the stack, bottom first, and the Script.
+
+    >>> KEY = "020101010101010101010101010101010101010101010101010101010101010101"
+    >>> [item.hex() for item in witness(f"or_i(pk({KEY}),older(9))", Assets(sequence=9), malleable=True)]
+    ['', '6321020101010101010101010101010101010101010101010101010101010101010101ac6759b268']
+    """
+    code, items, reason = _library.witness(malleable, consensus, _spelled(text), file_bytes(assets))
+    _refuse_by(code, reason)
+    return items
+
+
+def run(file: File) -> Accepted:
+    """The run of a script on a stack, as a run file gives them, where the interpreter accepts it.
+
+    >>> run({"script": "51"})
+    Accepted(ops=0, peak=1, checks=())
+    >>> run({"script": "6a"})
+    Traceback (most recent call last):
+    msat.errors.ScriptRefused: refused script OpReturn at 0
+    """
+    lines = _lines(report(["run"], file_bytes(file)))
+    counted = _numbers(lines["accepted"][0])
+    pairs = (check.split() for check in lines.get("check", []))
+    return Accepted(
+        ops=counted["ops"],
+        peak=counted["peak"],
+        checks=tuple((bytes.fromhex(key), bytes.fromhex(sig)) for key, sig in pairs),
+    )
+
+
+def policy(text: str) -> Policy:
+    """What a sane text demands.
+
+    >>> policy("pk(020101010101010101010101010101010101010101010101010101010101010101)").keys
+    1
+    """
+    lines = _lines(report(["policy", text]))
+    keys = lines["keys"][0]
+    return Policy(policy=lines["policy"][0], keys=None if keys == "none" else int(keys))
+
+
+def plan(text: str, file: File) -> Plan:
+    """Which keys to ask for a signature, by a plan file: assets whose `keys` say who can sign.
+
+    >>> KEY = bytes.fromhex("020101010101010101010101010101010101010101010101010101010101010101")
+    >>> plan(f"pk({KEY.hex()})", Assets(keys=(Estimate(KEY, 72),))).weight
+    73
+    """
+    lines = _lines(report(["plan", text], file_bytes(file)))
+    return Plan(keys=tuple(bytes.fromhex(key) for key in lines.get("ask", [])), weight=int(lines["weight"][0].split()[-1]))
+
+
+def audit(text: str, file: File) -> Audit:
+    """By which rows of BIP 379's table the stack of a run file satisfies a valid text.
+
+    >>> audit("older(9)", {"script": "59b2", "sequence": 9})
+    Audit(ops=1, peak=1, steps=(Step(place=0, satisfied=True, extra=False),), canonical=True)
+    >>> audit("older(9)", {"script": "59b2"})
+    Traceback (most recent call last):
+    msat.errors.NotAccepted: not accepted UnmetLock at 1
+    """
+    lines = _lines(report(["audit", text], file_bytes(file)))
+    counted = _numbers(lines["accepted"][0])
+    nodes = (node.split() for node in lines.get("node", []))
+    return Audit(
+        ops=counted["ops"],
+        peak=counted["peak"],
+        steps=tuple(Step(int(node[0]), node[1] == "sat", "extra" in node) for node in nodes),
+        canonical=lines["canonical"][0] == "yes",
+    )
+
+
+def decode(script: bytes, keys: Sequence[bytes] = ()) -> str:
+    """The text that a Script is read back as. The keys are those that its hashes of keys may have.
+
+    >>> decode(bytes.fromhex("029000b2"))
+    'older(144)'
+    """
+    lines = _lines(report(["decode", script.hex(), *(key.hex() for key in keys)]))
+    return lines["text"][0]
+
+
+def _spelled(word: str) -> bytes:
+    """A word as the bytes that the library reads. A lone surrogate stands for a byte that isn't UTF-8, as in `sys.argv`."""
+    return word.encode(errors="surrogateescape")
+
+
+def _rules(consensus: bool) -> list[str]:
+    return ["--consensus"] if consensus else []
+
+
+def _lines(text: str) -> dict[str, list[str]]:
+    """The lines of a report by their first word, in their order."""
+    found: dict[str, list[str]] = {}
+    for line in text.splitlines():
+        name, _, value = line.partition(" ")
+        found.setdefault(name, []).append(value)
+    return found
+
+
+def _numbers(line: str) -> dict[str, int]:
+    """The numbers of a line, each after its name."""
+    words = line.split()
+    return {name: int(number) for name, number in zip(words[::2], words[1::2])}
+
+
+def _refuse_by(code: int, reason: _library.Reason) -> None:
+    """Raises the refusal of a call without a report, where there is one."""
+    lines = {4: "no satisfaction\n"}
+    if code == 2:
+        lines[2] = text_line(reason.kind, reason.rule, reason.place, reason.number)
+    if code == 3:
+        lines[3] = file_line(reason.kind, reason.rule, reason.place)
+    if code != _library.DONE:
+        _refuse(code, lines.get(code, ""))
+
+
+def _refuse(code: int, text: str) -> NoReturn:
+    """Raises the refusal of a report with this status."""
+    words = text.split()
+    plain = {1: Usage, 4: NoSatisfaction, 10: NoReading, 11: Unreadable}
+    if code in plain:
+        raise plain[code](text)
+    if code == 2:
+        raise _text_refusal(text, words[2], words[3:])
+    if code == 3:
+        raise _file_refusal(text, words[2], words[3:])
+    if code == 8:
+        raise ScriptRefused(text, words[2], place=int(words[4]))
+    if code == 9:
+        raise NotAccepted(text, words[2], place=int(words[4]) if "at" in words else None)
+    if code == 7:
+        raise MemoryError("msat: memory was wanting")
+    raise MsatError(text)
+
+
+def _text_refusal(text: str, name: str, rest: list[str]) -> TextRefused:
+    place = int(rest[-1]) if "at" in rest else None
+    subject = rest[0] if len(rest) == 3 else None
+    number = int(rest[0]) if len(rest) == 1 else None
+    return TextRefused(text, name, subject, place, number)
+
+
+def _file_refusal(text: str, name: str, rest: list[str]) -> FileRefused:
+    place = int(rest[-1]) if rest and rest[-1].isdigit() else None
+    subject = rest[0] if rest and not rest[0].isdigit() else None
+    return FileRefused(text, name, subject, place)

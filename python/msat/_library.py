@@ -1,0 +1,140 @@
+"""The shared object, by ctypes: the one place that knows what C is called, and with which types."""
+
+import ctypes
+import os
+from pathlib import Path
+from typing import Optional, Sequence
+
+NAME = "libmsat.so.1"
+DONE = 0
+NO_MEMORY = 7
+UNREADABLE = 11
+
+
+class Reason(ctypes.Structure):
+    """struct msat_reason: why a text or an asset file is refused."""
+
+    _fields_ = [
+        ("kind", ctypes.c_uint32),
+        ("rule", ctypes.c_uint32),
+        ("place", ctypes.c_uint32),
+        ("number", ctypes.c_uint64),
+    ]
+
+
+class Facts(ctypes.Structure):
+    """struct msat_facts: what is known of a sane text."""
+
+    _fields_ = [
+        *((name, ctypes.c_uint64) for name in ("size", "ops", "items", "weight", "height")),
+        ("base", ctypes.c_uint32),
+        *((letter, ctypes.c_bool) for letter in "zondusfe"),
+    ]
+
+
+def _places() -> list[Path]:
+    """Where the shared object may lie: as told, beside the installed package, or in the repository."""
+    here = Path(__file__).resolve()
+    told = os.environ.get("MSAT_LIBRARY")
+    if told:
+        return [Path(told)]
+    return [here.parents[3] / NAME, here.parents[2] / "crates/msat_c/out" / NAME]
+
+
+def _load() -> ctypes.CDLL:
+    for place in _places():
+        if place.exists():
+            return ctypes.CDLL(str(place))
+    return ctypes.CDLL(NAME)
+
+
+_READ = [ctypes.c_char_p, ctypes.c_size_t]
+_BYTES = [ctypes.POINTER(ctypes.c_uint8), ctypes.c_size_t]
+_SIZES = [ctypes.POINTER(ctypes.c_size_t), ctypes.c_size_t]
+_SIZE = ctypes.POINTER(ctypes.c_size_t)
+_REASON = ctypes.POINTER(Reason)
+_CALLS = {
+    "msat_answer": [ctypes.c_size_t, *_READ, *_READ, *_BYTES, _SIZE],
+    "msat_script": [ctypes.c_bool, *_READ, *_BYTES, _SIZE, _REASON],
+    "msat_check": [ctypes.c_bool, *_READ, ctypes.POINTER(Facts), _REASON],
+    "msat_least_weight": [ctypes.c_bool, *_READ, *_READ, ctypes.POINTER(ctypes.c_uint64), _REASON],
+    "msat_witness": [ctypes.c_bool, ctypes.c_bool, *_READ, *_READ, *_BYTES, _SIZE, *_SIZES, _SIZE, _REASON],
+}
+
+_library = _load()
+for _name, _types in _CALLS.items():
+    getattr(_library, _name).restype = ctypes.c_uint32
+    getattr(_library, _name).argtypes = _types
+
+
+def answer(words: Sequence[bytes], source: bytes, room: int = 32768) -> tuple[int, bytes]:
+    """The code and the whole report of a call of msat_answer. Codes 7 and 11 come without a report.
+
+    The report is given room for so many bytes at first, and for all that it needs where it is longer.
+    """
+    joined = b"".join(word + b"\0" for word in words)
+    needed = ctypes.c_size_t(0)
+    while True:
+        report = (ctypes.c_uint8 * room)()
+        code = _library.msat_answer(
+            len(words), joined, len(joined), source, len(source), report, room, ctypes.byref(needed)
+        )
+        if code in (NO_MEMORY, UNREADABLE):
+            return code, b""
+        if needed.value <= room:
+            return code, bytes(memoryview(report)[: needed.value])
+        room = needed.value
+
+
+def script(consensus: bool, text: bytes, room: int = 4096) -> tuple[int, bytes, Reason]:
+    """The code, the Script and the reason of a call of msat_script."""
+    needed, reason = ctypes.c_size_t(0), Reason()
+    while True:
+        found = (ctypes.c_uint8 * room)()
+        code = _library.msat_script(
+            consensus, text, len(text), found, room, ctypes.byref(needed), ctypes.byref(reason)
+        )
+        if needed.value <= room:
+            return code, bytes(memoryview(found)[: needed.value]), reason
+        room = needed.value
+
+
+def check(consensus: bool, text: bytes) -> tuple[int, Facts, Reason]:
+    """The code, the facts and the reason of a call of msat_check."""
+    facts, reason = Facts(), Reason()
+    code = _library.msat_check(consensus, text, len(text), ctypes.byref(facts), ctypes.byref(reason))
+    return code, facts, reason
+
+
+def least_weight(consensus: bool, text: bytes, file: bytes) -> tuple[int, Optional[int], Reason]:
+    """The code, the weight and the reason of a call of msat_least_weight."""
+    weight, reason = ctypes.c_uint64(0), Reason()
+    code = _library.msat_least_weight(
+        consensus, text, len(text), file, len(file), ctypes.byref(weight), ctypes.byref(reason)
+    )
+    return code, weight.value if code == DONE else None, reason
+
+
+def witness(
+    malleable: bool, consensus: bool, text: bytes, file: bytes, room: int = 8192, most: int = 128
+) -> tuple[int, tuple[bytes, ...], Reason]:
+    """The code, the items and the reason of a call of msat_witness."""
+    needed, count, reason = ctypes.c_size_t(0), ctypes.c_size_t(0), Reason()
+    while True:
+        found, lengths = (ctypes.c_uint8 * room)(), (ctypes.c_size_t * most)()
+        code = _library.msat_witness(
+            malleable, consensus, text, len(text), file, len(file), found, room, ctypes.byref(needed), lengths, most,
+            ctypes.byref(count), ctypes.byref(reason),
+        )
+        if needed.value <= room and count.value <= most:
+            return code, _parts(bytes(memoryview(found)[: needed.value]), lengths[: count.value]), reason
+        room, most = max(room, needed.value), max(most, count.value)
+
+
+def _parts(joined: bytes, lengths: Sequence[int]) -> tuple[bytes, ...]:
+    """Bytes that lie one after the other, with these lengths."""
+    parts, start = [], 0
+    for length in lengths:
+        parts.append(joined[start : start + length])
+        start += length
+    return tuple(parts)

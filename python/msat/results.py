@@ -1,0 +1,174 @@
+"""What the calls give, and what they are given."""
+
+import json
+from dataclasses import dataclass, field
+from typing import Optional, Union
+
+
+@dataclass(frozen=True)
+class Limits:
+    """What a miniscript takes at most: the bytes of its Script, the opcodes that count in a run of it, and the items and the
+    weight of a satisfaction. By the rules of consensus also the elements that the stacks hold together."""
+
+    size: int
+    ops: int
+    items: int
+    weight: int
+    height: Optional[int] = None
+
+
+@dataclass(frozen=True)
+class Checked:
+    """What is known of a sane text: its printed form, its type letters, its Script, the program of its output, its limits."""
+
+    text: str
+    type: str
+    script: bytes
+    program: bytes
+    limits: Limits
+
+
+@dataclass(frozen=True)
+class Facts:
+    """What is known of a sane text without its Script: its limits with the height, and its type letters."""
+
+    limits: Limits
+    type: str
+
+
+@dataclass(frozen=True)
+class Replay:
+    """What the run of a witness did: opcodes, the stack's items and weight, and the most elements that the stacks held."""
+
+    ops: int
+    items: int
+    weight: int
+    peak: int
+
+
+@dataclass(frozen=True)
+class Satisfaction:
+    """How an output is spent: its Script and program, the stack, bottom first, and the whole witness as BIP 144 has it."""
+
+    script: bytes
+    program: bytes
+    limits: Limits
+    items: tuple[bytes, ...]
+    witness: bytes
+    replay: Replay
+
+    @property
+    def stack(self) -> tuple[bytes, ...]:
+        """The items of the witness: those of the satisfaction, and the Script as the last one."""
+        return (*self.items, self.script)
+
+
+@dataclass(frozen=True)
+class Accepted:
+    """An accepted run: opcodes, the most elements that the stacks held, and the pairs of key and signature that were good."""
+
+    ops: int
+    peak: int
+    checks: tuple[tuple[bytes, bytes], ...]
+
+
+@dataclass(frozen=True)
+class Step:
+    """A node that takes part in a satisfaction, at this byte of the text: whether it is satisfied or dissatisfied, and whether
+    the row of BIP 379's table isn't canonical."""
+
+    place: int
+    satisfied: bool
+    extra: bool
+
+
+@dataclass(frozen=True)
+class Audit:
+    """How a stack satisfies a text: what its run counted, by which rows, children first, and whether all are canonical."""
+
+    ops: int
+    peak: int
+    steps: tuple[Step, ...]
+    canonical: bool
+
+
+@dataclass(frozen=True)
+class Policy:
+    """What a text demands, and the least number of keys that have to sign; None where no signatures are enough."""
+
+    policy: str
+    keys: Optional[int]
+
+
+@dataclass(frozen=True)
+class Plan:
+    """The keys to ask for a signature, and the most that the satisfaction will weigh then."""
+
+    keys: tuple[bytes, ...]
+    weight: int
+
+
+@dataclass(frozen=True)
+class Signature:
+    """A signature as it stands in a witness, in DER with the byte of its hash type, and its key."""
+
+    key: bytes
+    sig: bytes
+
+
+@dataclass(frozen=True)
+class Estimate:
+    """A key that can sign, and how long its signature will be."""
+
+    key: bytes
+    length: int
+
+
+@dataclass(frozen=True)
+class Assets:
+    """What a wallet holds for a spend, or in a plan what it will hold. Of several signatures of one key the shortest is taken.
+
+    >>> Assets(sequence=144).json()
+    b'{"version": 2, "sequence": 144, "locktime": 0, "signatures": [], "preimages": []}'
+    """
+
+    version: int = 2
+    sequence: int = 4294967294
+    locktime: int = 0
+    signatures: tuple[Signature, ...] = ()
+    preimages: tuple[bytes, ...] = ()
+    keys: tuple[Estimate, ...] = field(default=(), kw_only=True)
+
+    def json(self) -> bytes:
+        """The asset file, in format 2 where a key has several signatures, or with `keys` the plan file.
+
+        >>> two = (Signature(b"\\2", b"\\0"), Signature(b"\\2", b"\\1"))
+        >>> json.loads(Assets(signatures=two).json())["format"]
+        2
+        """
+        file: dict[str, object] = {
+            "version": self.version,
+            "sequence": self.sequence,
+            "locktime": self.locktime,
+            "signatures": [{"key": it.key.hex(), "sig": it.sig.hex()} for it in self.signatures],
+            "preimages": [it.hex() for it in self.preimages],
+        }
+        if len({it.key for it in self.signatures}) < len(self.signatures):
+            file["format"] = 2
+        if self.keys:
+            file["keys"] = [{"key": it.key.hex(), "length": it.length} for it in self.keys]
+        return json.dumps(file).encode()
+
+
+File = Union[Assets, dict, str, bytes]
+
+
+def file_bytes(file: File) -> bytes:
+    """The bytes of a file that is given as assets, as an object of JSON, as its text or as they are."""
+    if isinstance(file, Assets):
+        return file.json()
+    if isinstance(file, dict):
+        return json.dumps(file).encode()
+    if isinstance(file, str):
+        return file.encode()
+    return bytes(file)
