@@ -412,12 +412,18 @@ fn of_several_signatures_the_first_of_the_shortest_is_taken(rt: HostRuntime) -> 
     let tree = multi(&arena, 1, keys)?;
     chooses(&rt, alloc, &tree, &assets, weigh(72, 2), Some(&items))?;
     let tree = thresh_of_two(alloc, &arena, 1, pk(&arena, A)?, s_pk(&arena, B)?)?;
-    chooses(&rt, alloc, &tree, &assets, weigh(72, 2), Some(&items))?;
-    // Of each key its own shortest one counts.
-    let assets = assets_of(alloc, 0, &sigs[..4], &[])?;
+    chooses(&rt, alloc, &tree, &assets, weigh(72, 2), Some(&items))
+}
+
+#[test]
+fn each_key_signs_by_its_own_shortest_signature(rt: HostRuntime) -> Result<(), Fail> {
+    let alloc = rt.alloc();
+    let arena = Bump::new(alloc);
+    let sigs: [([u8; 33], &[u8]); 3] = [(A, &SIG_C), (B, &SIG_B), (B, &[0xdd; 70])];
+    let assets = assets_of(alloc, 0, &sigs, &[])?;
     let keys = Vec::from_array(alloc, [key(B)?, key(A)?])?;
     let tree = multi(&arena, 1, keys)?;
-    let items: [&[u8]; 2] = [&[], &SIG_C];
+    let items: [&[u8]; 2] = [&[], &[0xdd; 70]];
     chooses(&rt, alloc, &tree, &assets, weigh(72, 2), Some(&items))
 }
 
