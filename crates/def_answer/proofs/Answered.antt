@@ -11,7 +11,7 @@ use Rattle.def_tree.specs.Tree.{Key, Tree}
 use Rattle.def_tree.specs.Range.{IsKey}
 use Rattle.def_text.specs.Token.{tokens}
 use Rattle.def_text.specs.Refusal.{MOST_BYTES}
-use Rattle.def_text.specs.Reader.{START, Outcome, tree_outcome, syntax_outcome, deep_outcome, outcome}
+use Rattle.def_text.specs.Scaffolding.Reader.{START, Outcome, tree_outcome, syntax_outcome, deep_outcome, outcome}
 use Rattle.def_text.proofs.Completion.{ascii_is_utf8}
 use Rattle.def_text.proofs.Report.{Reports, report}
 use Rattle.def_text.proofs.SpelledWritable.{spelled_writable}
@@ -43,15 +43,15 @@ reading_of text = if nat_lt MOST_BYTES (length text) then refused TooLong else r
 -- a text that isn't too long
 short_reading : (text : Bytes) (o : Outcome) → length text ≤ MOST_BYTES → Reports text o → HasReading text (reading_by o)
 short_reading text (tree_outcome tree offsets) short reports = record { short = short; spelled = reports.0; none_deep = reports.1 }
-short_reading text (syntax_outcome at) short reports = (λ q. cc q, (short, reports))
-short_reading text (deep_outcome at) short reports = (λ q. cc q, (short, reports))
+short_reading text (syntax_outcome at) short reports = (short, reports)
+short_reading text (deep_outcome at) short reports = (short, reports)
 
 pub has_reading : (text : Bytes) → IsUtf8 text → HasReading text (reading_of text)
 has_reading text utf8 = go (nat_lt MOST_BYTES (length text)) refl
   where
     go : (b : Bool) → nat_lt MOST_BYTES (length text) ≡ b → HasReading text (if b then refused TooLong
         else reading_by (outcome START (tokens text)))
-    go true e = (λ q. cc q, ltb-true MOST_BYTES (length text) e)
+    go true e = ltb-true MOST_BYTES (length text) e
     go false e = short_reading text (outcome START (tokens text)) (ltb-false MOST_BYTES (length text) e) (report text utf8)
 
 -- ---- commands

@@ -20,7 +20,7 @@ use Rattle.ms_audit_laws.specs.Walk.{trail_of}
 use Rattle.ms_audit_laws.proofs.WalkTrees.{walk_is_trail, trail_is_unique, accepted_has_trail}
 use Rattle.def_answer.specs.declared.status.Status.TheVariants as status
 use Rattle.def_answer.specs.Lines.{wrong_script_line, file_too_long_line, file_line}
-use Rattle.def_answer.specs.Reply.{reply, given_by, audited_reply, witness_reply, audit_reply, unless_refused, MOST_FILE}
+use Rattle.def_answer.specs.Reply.{reply, given_by, audited_reply, witness_reply, audit_reply, with_file, MOST_FILE}
 use Rattle.def_answer.specs.Answer.{AreSteps}
 use Rattle.def_answer.specs.Laws.{walked, steps_in, WalkedAreSteps}
 
@@ -61,7 +61,7 @@ one_witness tree offsets file a b same = go (bytes_eq file.script (script_of tre
 
 one_file : (offsets : List ℕ) (tree : Tree) (read : Result RunFile AssetFault) (a b : List Step)
     → ((file : RunFile) → read ≡ Ok file → witness_reply offsets a tree file ≡ witness_reply offsets b tree file)
-    → unless_refused file_line (witness_reply offsets a tree) read ≡ unless_refused file_line (witness_reply offsets b tree) read
+    → with_file file_line (witness_reply offsets a tree) read ≡ with_file file_line (witness_reply offsets b tree) read
 one_file offsets tree (Ok file) a b same = same file refl
 one_file offsets tree (Err fault) a b same = refl
 

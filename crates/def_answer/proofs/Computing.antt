@@ -9,10 +9,10 @@ use Rattle.def_plan.specs.PlanFile.{plan_file_of}
 use Rattle.def_answer.specs.LeastKeys.{least_keys}
 use Rattle.def_answer.specs.Report.{script_report, check_report, satisfy_report, run_report, policy_report, plan_report, audit_report, decode_report}
 use Rattle.def_answer.specs.Answer.{gen_report, gen_reply}
-use Rattle.ms_decode_laws.specs.Reader.{natural_of, is_key, fits}
+use Rattle.ms_decode_laws.specs.Scaffolding.Reader.{natural_of, fits}
 use Rattle.def_answer.proofs.Decided.{decided}
 use Rattle.def_answer.proofs.Forms.{children_of}
 
 unfoldable pub answers_on_literals : ⊤
-unfolding script_report check_report satisfy_report run_report policy_report plan_report audit_report plan_file_of decode_report decided natural_of is_key fits least_keys gen_report gen_reply computing hash256 corr_rows mall_rows files_on_literals children_of digits
+unfolding script_report check_report satisfy_report run_report policy_report plan_report audit_report plan_file_of decode_report decided natural_of fits least_keys gen_report gen_reply computing hash256 corr_rows mall_rows files_on_literals children_of digits
 answers_on_literals = tt

@@ -1,10 +1,10 @@
 -- Whether a Script can be read back, computed: the reader finds a tree, and the tree is tested.
-use Rattle.std.proofs.Common.{◌≡◌, ℕ, zero, suc, ◌<◌, ◌≤◌, ◌==◌, ◌&&◌, ◌||◌, nat_lt, Bool, true, false, List, [], ◌∷◌, length, map, reverse, slice_index, All, Option, Some, None, if◌then◌else◌, refl, sym, ◌∙◌, ap, subst, arith}
+use Rattle.std.proofs.Common.{◌≡◌, ℕ, zero, suc, ◌<◌, ◌≤◌, ◌==◌, ◌&&◌, nat_lt, Bool, true, false, List, [], ◌∷◌, length, map, reverse, All, Option, Some, None, if◌then◌else◌, refl, sym, ◌∙◌, ap, subst, arith}
 use Rattle.std.specs.Prelude.{is_none}
 use Rattle.std.specs.Bool.{Decides}
 use Rattle.std.specs.List.{list_all, list_any, Contains}
 use Rattle.std.specs.Str.{bytes_eq}
-use Rattle.std.proofs.lemmas.Bool.Decides.{Decides-and, Decides-or, Decides-like, Decides-eqb, Decides-ltb, Decides-by_and, Decides-by_or}
+use Rattle.std.proofs.lemmas.Bool.Decides.{Decides-and, Decides-like, Decides-eqb, Decides-ltb, Decides-by_and, Decides-by_or}
 use Rattle.std.proofs.lemmas.List.Elements.{Decides-contains}
 use Rattle.std.proofs.lemmas.Slice.Eq.{bytes_eq-Decides}
 use Rattle.def_hash.specs.declared.HashKind.{HashKind}
@@ -25,8 +25,9 @@ use Rattle.def_sane.specs.declared.Unfit.{Unfit}
 use Rattle.def_sane.specs.Unfit.{first_unfit_valid}
 use Rattle.def_decode.specs.Nested.{EachHashed, EachHashedOf}
 use Rattle.def_decode.specs.Decoded.{first_with, IsReading, IsDecoded}
-use Rattle.ms_decode_laws.specs.Reader.{read}
+use Rattle.ms_decode_laws.specs.Scaffolding.Reader.{read}
 use Rattle.ms_decode_laws.proofs.Decoding.{reading_is_found, found_is_decoded}
+use Rattle.def_script.specs.Key.{is_key}
 
 -- ---- which trees can be written in a text
 
@@ -39,14 +40,10 @@ bytes_tell (x ∷ xs) = Decides-like _ to (λ h. (h 0, λ i. h (suc i))) (Decide
     to h (suc i) = h.1 i
 
 abbrev pub is_key_bytes : Bytes → Bool
-is_key_bytes k = (length k == 33) && ((slice_index k 0 == 2) || (slice_index k 0 == 3)) && list_all (λ b. nat_lt b 256) k
+is_key_bytes k = is_key k && list_all (λ b. nat_lt b 256) k
 
 key_tells : (k : Key) → Decides (is_key_bytes k) (IsKey k)
-key_tells k =
-    Decides-like _ (λ h. record { length = h.0.0; prefix = h.0.1; bytes = h.1 }) (λ h. ((h.length, h.prefix), h.bytes))
-    (Decides-and _ _
-    (Decides-and _ _ (Decides-eqb (length k) 33) (Decides-or _ _ (Decides-eqb (slice_index k 0) 2) (Decides-eqb (slice_index k 0) 3)))
-    (bytes_tell k))
+key_tells k = Decides-like _ (λ h. record { form = h.0; bytes = h.1 }) (λ h. (h.form, h.bytes)) (Decides-and (is_key k) _ (λ e. e, λ e. e) (bytes_tell k))
 
 keys_tell : (ks : List Key) → Decides (list_all is_key_bytes ks) (All IsKey ks)
 keys_tell ks = Decides-by_and is_key_bytes IsKey (list_all is_key_bytes) key_tells refl (λ x xs. refl) ks

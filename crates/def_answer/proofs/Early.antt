@@ -24,7 +24,7 @@ use Rattle.def_answer.specs.Words as words
 use Rattle.def_answer.specs.Lines.{file_too_long_line, file_line, plan_file_line, wrong_script_line}
 use Rattle.def_answer.specs.Reading.{Reading}
 use Rattle.def_answer.specs.Reading as reading
-use Rattle.def_answer.specs.Reply.{Reply, reply, unless_unfit, text_reply, unless_refused, MOST_FILE, file_reply, chosen_reply, satisfy_reply, outcome_reply, given_by, run_reply, audited_reply, witness_reply, audit_reply, planned_reply, plan_reply}
+use Rattle.def_answer.specs.Reply.{Reply, reply, unless_unfit, text_reply, with_file, MOST_FILE, file_reply, chosen_reply, satisfy_reply, outcome_reply, given_by, run_reply, audited_reply, witness_reply, audit_reply, planned_reply, plan_reply}
 use Rattle.def_answer.specs.Answer.{script_reply, check_reply, policy_reply, gen_reply, RepliesToText, offsets_of, RepliesToAudit, Replies, RepliesToWords}
 use Rattle.def_answer.specs.Laws.{IsAnswered, AnswersHaveStatus, NoReadingIsOfDecode, NotAcceptedIsOfAudit, LongAssetFile, LongRunFile, LongPlanFile, LongAuditFile}
 
@@ -35,7 +35,7 @@ abbrev pub OfStatus : (Status → Type 0) → Reply → Type 0
 OfStatus P r = P r.status
 
 refused_status : {A E : Type 0} (P : Status → Type 0) (line : E → Bytes) (next : A → Reply) (read : Result A E) → P status.FileRefused
-    → ((file : A) → OfStatus P (next file)) → OfStatus P (unless_refused line next read)
+    → ((file : A) → OfStatus P (next file)) → OfStatus P (with_file line next read)
 refused_status P line next (Ok file) refusal after = after file
 refused_status P line next (Err fault) refusal after = refusal
 
@@ -47,7 +47,7 @@ file_status : {A E : Type 0} (P : Status → Type 0) (line : E → Bytes) (file_
     P status.FileRefused
     → ((file : A) → OfStatus P (next file)) → OfStatus P (file_reply line file_of next source)
 file_status P line file_of next source refusal after =
-    either_status P (nat_lt MOST_FILE (length source)) (reply status.FileRefused file_too_long_line) (unless_refused line next (file_of source)) refusal
+    either_status P (nat_lt MOST_FILE (length source)) (reply status.FileRefused file_too_long_line) (with_file line next (file_of source)) refusal
     (refused_status P line next (file_of source) refusal after)
 
 chosen_status : (P : Status → Type 0) (rules : Rules) (tree : Tree) (assets : Assets) (choice : Option (List Bytes)) → P status.Done →

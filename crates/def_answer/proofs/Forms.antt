@@ -4,7 +4,7 @@ use Rattle.std.specs.Bool.{Decides}
 use Rattle.std.specs.List.{AllPass, list_all, range_with_len}
 use Rattle.std.specs.Fmt.{digits}
 use Rattle.std.specs.Str.{bytes_eq}
-use Rattle.std.proofs.lemmas.Bool.{eqb-true}
+use Rattle.std.proofs.lemmas.Bool.{eqb-true, and_parts}
 use Rattle.std.proofs.lemmas.Bool.Decides.{Decides-and, Decides-eqb, Decides-by_and}
 use Rattle.std.proofs.lemmas.List.Sums.{AllPass-from_list_all, list_all-from_AllPass}
 use Rattle.hex.specs.Hex.{is_hex_digit}
@@ -129,10 +129,6 @@ if_some : (b : Bool) (x y : Option Command) (c : Command) → (if b then x else 
 if_some true x y c e = inl (refl, e)
 if_some false x y c e = inr (refl, e)
 
-both_true : (a b : Bool) → (a && b) ≡ true → (a ≡ true) × (b ≡ true)
-both_true true b e = (refl, e)
-both_true false b e = cc e
-
 -- a word that is the given one
 is_word : (word wanted : Bytes) → bytes_eq word wanted ≡ true → word ≡ wanted
 is_word word wanted e = (bytes_eq-Decides word wanted).0 e
@@ -222,7 +218,7 @@ three_form : (first second third : Bytes) (c : Command) → three_words first se
 three_form first second third c e =
     elim (if_some (bytes_eq first (codes "satisfy") && bytes_eq second (codes "--malleable")) _ _ c e) [
       | inl h ↦
-          let both = both_true (bytes_eq first (codes "satisfy")) (bytes_eq second (codes "--malleable")) h.0 in
+          let both = and_parts (bytes_eq first (codes "satisfy")) (bytes_eq second (codes "--malleable")) h.0 in
           same_form _ (satisfy_malleable Policy third) c
           (ap (λ w. w ∷ second ∷ third ∷ []) (is_word first (codes "satisfy") both.0) ∙ ap (λ w. codes "satisfy" ∷ w ∷ third
           ∷ []) (is_word second (codes "--malleable") both.1)) tt h.1
@@ -237,8 +233,8 @@ four_form : (first second third fourth : Bytes) (c : Command) → four_words fir
 four_form first second third fourth c e =
     elim (if_some (bytes_eq first (codes "satisfy") && (bytes_eq second (codes "--malleable") && bytes_eq third (codes "--consensus"))) _ _ c e) [
       | inl h ↦
-          let both = both_true (bytes_eq first (codes "satisfy")) _ h.0 in
-          let more = both_true (bytes_eq second (codes "--malleable")) (bytes_eq third (codes "--consensus")) both.1 in
+          let both = and_parts (bytes_eq first (codes "satisfy")) _ h.0 in
+          let more = and_parts (bytes_eq second (codes "--malleable")) (bytes_eq third (codes "--consensus")) both.1 in
           same_form _ (satisfy_malleable Consensus fourth) c
           (ap (λ w. w ∷ second ∷ third ∷ fourth ∷ []) (is_word first (codes "satisfy") both.0)
           ∙ ap (λ w. codes "satisfy" ∷ w ∷ third ∷ fourth ∷ []) (is_word second (codes "--malleable") more.0)

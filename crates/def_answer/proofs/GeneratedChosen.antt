@@ -3,13 +3,13 @@ use Rattle.std.proofs.Common.{◌≡◌, ℕ, zero, suc, ◌-◌, Bool, true, fa
 use Rattle.std.specs.Prelude.{filter, IsSome}
 use Rattle.std.specs.List.{list_all, list_any}
 use Rattle.std.specs.Option.{option_map}
-use Rattle.std.proofs.lemmas.Bool.{eqb-true}
+use Rattle.std.proofs.lemmas.Bool.{eqb-true, and_parts}
 use Rattle.std.proofs.lemmas.List.Folds.{list_any-from_Any}
 use Rattle.def_machine.specs.Stacks.{Stack}
 use Rattle.def_tree.specs.Tree.{Trees, thresh}
 use Rattle.def_tree.specs.Range.{count}
 use Rattle.def_assets.specs.Assets.{Assets}
-use Rattle.def_satisfaction.specs.Weight.{weight}
+use Rattle.def_script.specs.Witness.{weight}
 use Rattle.def_choice.specs.Sets.{sets, positions}
 use Rattle.def_choice.specs.Least.{both, lighter, least}
 use Rattle.def_choice.specs.Cheapest.{Child, stack_of, cheapest_of, cheapest_children}
@@ -31,10 +31,6 @@ is_both (Some a) (Some b) h l = refl
 abbrev is_open : Child → Bool
 is_open c = is_some c.sat && is_some c.dsat
 
-both_true : (a b : Bool) → (a && b) ≡ true → (a ≡ true) × (b ≡ true)
-both_true true b e = (refl, e)
-both_true false b e = cc e
-
 chosen_some : (chosen : Bool) (sat dsat : Option Stack) → is_some sat ≡ true → is_some dsat ≡ true →
     is_some (if chosen then sat else dsat) ≡ true
 chosen_some true sat dsat h l = h
@@ -46,8 +42,8 @@ stack_some [] [] h same = refl
 stack_some [] (chosen ∷ set) h same = absurd (omega arith)
 stack_some (c ∷ cs) [] h same = absurd (omega arith)
 stack_some (c ∷ cs) (chosen ∷ set) h same =
-    let parts = both_true (is_open c) (list_all is_open cs) h in
-    let own = both_true (is_some c.sat) (is_some c.dsat) parts.0 in
+    let parts = and_parts (is_open c) (list_all is_open cs) h in
+    let own = and_parts (is_some c.sat) (is_some c.dsat) parts.0 in
     is_both (stack_of cs set) (if chosen then c.sat else c.dsat) (stack_some cs set parts.1 (omega arith))
     (chosen_some chosen c.sat c.dsat own.0 own.1)
 
@@ -140,12 +136,12 @@ has_both assets k xs e =
     let strict = strict_children assets xs in
     let wanted = free_children assets xs in
     let set = filled wanted k in
-    let p1 = both_true (list_all is_open cheap) _ e in
-    let p2 = both_true (list_all is_open strict) _ p1.1 in
-    let p3 = both_true (has_all wanted set) _ p2.1 in
-    let p4 = both_true (nat_eq (length set) (count xs)) _ p3.1 in
-    let p5 = both_true (nat_eq (length (positions 0 set)) k) _ p4.1 in
-    let p6 = both_true (nat_eq (length cheap) (count xs)) (nat_eq (length strict) (count xs)) p5.1 in
+    let p1 = and_parts (list_all is_open cheap) _ e in
+    let p2 = and_parts (list_all is_open strict) _ p1.1 in
+    let p3 = and_parts (has_all wanted set) _ p2.1 in
+    let p4 = and_parts (nat_eq (length set) (count xs)) _ p3.1 in
+    let p5 = and_parts (nat_eq (length (positions 0 set)) k) _ p4.1 in
+    let p6 = and_parts (nat_eq (length cheap) (count xs)) (nat_eq (length strict) (count xs)) p5.1 in
     let size = eqb-true (length set) (count xs) p4.0 in
     let chosen = eqb-true (length (positions 0 set)) k p5.0 in
     let cheap_size = eqb-true (length cheap) (count xs) p6.0 in

@@ -1,5 +1,5 @@
 -- The generated assets are assets.
-use Rattle.std.proofs.Common.{◌≡◌, inl, ℕ, zero, suc, ◌+◌, ◌%◌, ◌≤◌, ◌<◌, Bool, true, false, ◌&&◌, nat_eq, List, [], ◌∷◌, All, map, replicate, slice_index_or, refl, sym, ap, subst, arith, lit<}
+use Rattle.std.proofs.Common.{◌≡◌, ℕ, zero, suc, ◌+◌, ◌%◌, ◌≤◌, ◌<◌, Bool, true, false, ◌&&◌, nat_eq, List, [], ◌∷◌, All, map, replicate, slice_index_or, refl, sym, ap, subst, arith, lit<}
 use Rattle.std.specs.List.{range_with_len, IsDistinct, AllByRecursion}
 use Rattle.std.specs.Str.{bytes_eq}
 use Rattle.std.proofs.lemmas.Bool.{eqb-true}
@@ -26,7 +26,7 @@ key_bytes i h zero = lit< tt
 key_bytes i h (suc k) = replicate-IsBytes 32 (i + 1) (omega arith) k
 
 key_is : (i : ℕ) → i < 30 → IsKey (generated_key i)
-key_is i h = record { length = ap suc (length-replicate 32 (i + 1)); prefix = inl refl; bytes = key_bytes i h }
+key_is i h = record { form = refl; bytes = key_bytes i h }
 
 sig_is : (i : ℕ) → i < 30 → IsSignature (generated_sig i)
 sig_is i h =

@@ -7,7 +7,7 @@ use Rattle.def_script.specs.Bytes.{Bytes}
 use Rattle.def_tree.specs.Tree.{Tree}
 use Rattle.def_text.specs.Token.{tokens}
 use Rattle.def_text.specs.Refusal.{MOST_BYTES, TextReads}
-use Rattle.def_text.specs.Reader.{START, Outcome, tree_outcome, syntax_outcome, outcome}
+use Rattle.def_text.specs.Scaffolding.Reader.{START, Outcome, tree_outcome, syntax_outcome, outcome}
 use Rattle.def_text.proofs.Completion.{ascii_is_utf8}
 use Rattle.def_text.proofs.Report.{Reports, report}
 use Rattle.def_answer.specs.Generated.{generated_text, generated_tree}

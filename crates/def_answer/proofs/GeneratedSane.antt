@@ -1,7 +1,7 @@
 -- The generated trees are sane.
 use Rattle.std.proofs.Common.{◌≡◌, ℕ, zero, suc, ◌+◌, ◌%◌, ◌≤◌, Bool, true, false, ◌&&◌, ◌==◌, nat_le, nat_lt, is_none, if◌then◌else◌, List, [], ◌∷◌, Option, Some, None, Result, Ok, Err, length, refl, arith}
 use Rattle.std.specs.Prelude.{⊤}
-use Rattle.std.proofs.lemmas.Bool.{leb-true, le-ltb}
+use Rattle.std.proofs.lemmas.Bool.{leb-true, le-ltb, and_parts}
 use Rattle.def_tree.specs.declared.Wrapper.TheVariants.{S}
 use Rattle.def_tree.specs.Tree.{Tree, Trees, wrap, none, more}
 use Rattle.def_tree.specs.Range.{count}
@@ -12,7 +12,7 @@ use Rattle.def_types.specs.Corr.{is_b, corr}
 use Rattle.def_types.specs.Malleable.{mall}
 use Rattle.def_emit.specs.Emit.{emit, script_of}
 use Rattle.def_sane.specs.Formal.{Takes}
-use Rattle.def_sane.specs.Limits.{opcode_count}
+use Rattle.def_script.specs.Instruction.{opcode_count}
 use Rattle.def_sane.specs.Locks.{mix}
 use Rattle.def_sane.specs.Keys.{repeated_key}
 use Rattle.def_sane.specs.Most.{both, either, most_sat, most_dsat, most_parts, number_of, limits_of}
@@ -109,10 +109,6 @@ fit_30 = ((((((((((fit_20, refl), refl), refl), refl), refl), refl), refl), refl
 
 -- ---- no reason stands against it
 
-both_true : (a b : Bool) → (a && b) ≡ true → (a ≡ true) × (b ≡ true)
-both_true true b e = (refl, e)
-both_true false b e = cc e
-
 abbrev AreNone : List (Option Unfit) → Type 0
 AreNone [] = ⊤
 AreNone (r ∷ rs) = (r ≡ None) × AreNone rs
@@ -156,11 +152,11 @@ few_items m (Some t) h few = let takes = h in (omega (arith, takes.0), takes.1)
 
 sane_tree : (tree : Tree) (m : ℕ) → fits tree ≡ true → TakesSome m (most_sat tree) → m ≤ 100 → IsSane tree
 sane_tree tree m e takes few =
-    let p1 = both_true (type_fits (corr tree)) _ e in
-    let p2 = both_true (mall_fits (mall tree)) _ p1.1 in
-    let p3 = both_true (is_none (mix tree)) _ p2.1 in
-    let p4 = both_true (is_none (repeated_key tree)) _ p3.1 in
-    let p5 = both_true (nat_le (length (script_of tree)) 3600) _ p4.1 in
+    let p1 = and_parts (type_fits (corr tree)) _ e in
+    let p2 = and_parts (mall_fits (mall tree)) _ p1.1 in
+    let p3 = and_parts (is_none (mix tree)) _ p2.1 in
+    let p4 = and_parts (is_none (repeated_key tree)) _ p3.1 in
+    let p5 = and_parts (nat_le (length (script_of tree)) 3600) _ p4.1 in
     let typed = no_broken_rule (corr tree) p1.0 in
     let signed = not_malleable (mall tree) p2.0 in
     let items = few_items m (most_sat tree) takes few in

@@ -1,9 +1,8 @@
 -- The keys that words spell.
-use Rattle.std.proofs.Common.{◌≡◌, ◌==◌, Bool, true, false, if◌then◌else◌, List, [], ◌∷◌, length, slice_index, Some, None, Ok, Err, All, map, refl}
+use Rattle.std.proofs.Common.{◌≡◌, Bool, true, false, if◌then◌else◌, List, [], ◌∷◌, Some, None, Ok, Err, All, map, refl}
 use Rattle.std.specs.Prelude.{IsSome, Result}
 use Rattle.std.specs.Option.{option_and_then}
 use Rattle.std.specs.Result.{result_ok, result_unwrap_or}
-use Rattle.std.proofs.lemmas.Bool.Decides.{Decides-and, Decides-or, Decides-eqb}
 use Rattle.std.proofs.lemmas.List.Elements.{All-nil, All-cons, All-head, All-tail}
 use Rattle.hex.specs.declared.error.FromHexError.{FromHexError}
 use Rattle.hex.specs.Hex.{decode_of}
@@ -11,15 +10,13 @@ use Rattle.hex.proofs.HexLemmas.{decode_of-ok}
 use Rattle.def_script.specs.Bytes.{Bytes}
 use Rattle.def_tree.specs.Tree.{Key}
 use Rattle.def_tree.specs.Range.{IsKey}
-use Rattle.def_text.specs.Word.{is_key, key_of}
+use Rattle.def_text.specs.Word.{key_of}
+use Rattle.def_script.specs.Key.{is_key}
 use Rattle.def_answer.specs.Answer.{bytes_of}
 
 -- bytes that pass the test, and that a word spells
 key_from : (word bytes : Bytes) → decode_of word ≡ Ok bytes → is_key bytes ≡ true → IsKey bytes
-key_from word bytes e passed =
-    let told = (Decides-and (length bytes == 33) _ (Decides-eqb (length bytes) 33)
-    (Decides-or (slice_index bytes 0 == 2) (slice_index bytes 0 == 3) (Decides-eqb (slice_index bytes 0) 2) (Decides-eqb (slice_index bytes 0) 3))).0 passed in
-    record { length = told.0; prefix = told.1; bytes = (decode_of-ok word bytes e).3 }
+key_from word bytes e passed = record { form = passed; bytes = (decode_of-ok word bytes e).3 }
 
 spelled_key : (word : Bytes) → IsSome (key_of word) → IsKey (bytes_of word)
 spelled_key word h = go (decode_of word) refl h

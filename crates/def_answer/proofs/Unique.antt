@@ -59,9 +59,9 @@ pub one_reading : (text : Bytes) (a b : Reading) → IsUtf8 text → HasReading 
 one_reading text (read x os) (read y ps) utf8 h k =
     let same = one_tree h.spelled k.spelled in
     ap (λ t. read t os) same.0 ∙ ap (λ qs. read y qs) same.1
-one_reading text (read x os) (refused e) utf8 h k = absurd (none_beside_tree text x os e utf8 k.0 h k.1)
-one_reading text (refused d) (read y ps) utf8 h k = absurd (none_beside_tree text y ps d utf8 h.0 k h.1)
-one_reading text (refused d) (refused e) utf8 h k = ap refused (one_refusal text d e h.0 k.0 h.1 k.1)
+one_reading text (read x os) (refused e) utf8 h k = absurd (none_beside_tree text x os e utf8 h k)
+one_reading text (refused d) (read y ps) utf8 h k = absurd (none_beside_tree text y ps d utf8 k h)
+one_reading text (refused d) (refused e) utf8 h k = ap refused (one_refusal text d e h k)
 
 one_text_reply : (text : Bytes) (reason : Tree → Option Unfit) (next : Tree → Reply) (a b : Reply) → IsUtf8 text
     → RepliesToText text reason next a → RepliesToText text reason next b → a ≡ b

@@ -18,7 +18,7 @@ use Rattle.def_plan.specs.declared.PlanFault.{PlanFault}
 use Rattle.def_plan.specs.declared.PlanFault.TheVariants as plan_fault
 use Rattle.def_plan.specs.Names.{plan_member_name}
 use Rattle.def_answer.specs.Names.{rule_name, script_fault_name}
-use Rattle.def_emit.specs.Program.{program_of}
+use Rattle.def_machine.specs.Program.{program_of}
 
 -- a line ends with a line feed
 abbrev pub line : Bytes → Bytes

@@ -50,16 +50,16 @@ abbrev pub MOST_FILE : ℕ
 MOST_FILE = 1048576
 
 -- the refusal, whose line this is, or else what comes next
-abbrev pub unless_refused : {A E : Type 0} → (line : E → Bytes) → (next : A → Reply) → Result A E → Reply
-unless_refused line next (Ok file) = next file
-unless_refused line next (Err fault) = reply status.FileRefused (line fault)
+abbrev pub with_file : {A E : Type 0} → (line : E → Bytes) → (next : A → Reply) → Result A E → Reply
+with_file line next (Ok file) = next file
+with_file line next (Err fault) = reply status.FileRefused (line fault)
 
 -- the refusal of a file, or else what comes next
 abbrev pub file_reply : {A E : Type 0} → (line : E → Bytes) → (file_of : Bytes → Result A E) → (next : A → Reply) →
     (source : Bytes) → Reply
 file_reply line file_of next source =
     if nat_lt MOST_FILE (length source) then reply status.FileRefused file_too_long_line
-    else unless_refused line next (file_of source)
+    else with_file line next (file_of source)
 
 -- ---- satisfactions and runs
 

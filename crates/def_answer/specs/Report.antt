@@ -3,7 +3,7 @@ use Rattle.std.specs.Prelude.{ℕ, Bool, List, [], ◌∷◌, ◌++◌, length, 
 use Rattle.std.specs.List.{list_any}
 use Rattle.hex.specs.Hex.{encode_lower}
 use Rattle.def_script.specs.Bytes.{Bytes}
-use Rattle.def_script.specs.Witness.{witness_text}
+use Rattle.def_script.specs.Witness.{witness_text, weight}
 use Rattle.def_machine.specs.Run.{Outcome, accepted, refused, run}
 use Rattle.def_tree.specs.Tree.{Tree}
 use Rattle.def_text.specs.Print.{printed}
@@ -16,7 +16,6 @@ use Rattle.def_sane.specs.declared.Rules.{Rules}
 use Rattle.def_sane.specs.Most.{limits_of}
 use Rattle.def_height.specs.Highest.{height_of}
 use Rattle.def_satisfaction.specs.Satisfaction.{given_of}
-use Rattle.def_satisfaction.specs.Weight.{weight}
 use Rattle.def_audit.specs.declared.Step.{Step}
 use Rattle.def_policy.specs.Policy.{Policy}
 use Rattle.def_policy.specs.Plain.{plain}

@@ -2,7 +2,7 @@
 use Rattle.std.specs.Prelude.{◌≡◌, ◌≢◌, ℕ, IsTrue, true, false, [], ◌∷◌}
 use Rattle.def_hash.specs.Hash.{hash160}
 use Rattle.def_machine.specs.Samples.{key_a, key_b, key_c, sig_a, sig_b}
-use Rattle.def_machine.specs.Stacks.{is_key}
+use Rattle.def_script.specs.Key.{is_key}
 use Rattle.def_machine.specs.Machine.{Given}
 use Rattle.def_tree.specs.Tree.{Key, pk_h, and_or, thresh}
 use Rattle.def_types.specs.Samples.{pk, pkh, sha256, s, v, j, and_v, and_b, trees}

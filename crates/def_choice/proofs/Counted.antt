@@ -4,7 +4,7 @@ use Rattle.std.specs.Option.{option_map}
 use Rattle.std.proofs.lemmas.Bool.Decides.{nat_tests}
 use Rattle.std.proofs.lemmas.List.{map-append}
 use Rattle.def_machine.specs.Stacks.{Stack}
-use Rattle.def_satisfaction.specs.Weight.{weight}
+use Rattle.def_script.specs.Witness.{weight}
 use Rattle.def_satisfaction.specs.StackSet.{StackSet, Both, Either}
 use Rattle.def_satisfaction.specs.Rows.{Row, PartsOf}
 use Rattle.def_choice.specs.Sets.{sets}

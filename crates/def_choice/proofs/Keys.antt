@@ -7,7 +7,7 @@ use Rattle.def_machine.specs.Stacks.{Stack, Pairs}
 use Rattle.def_machine.specs.MultiSig.{is_good}
 use Rattle.def_tree.specs.Tree.{Key}
 use Rattle.def_assets.specs.Assets.{Assets, AreAssets, sig_of}
-use Rattle.def_satisfaction.specs.Weight.{weight}
+use Rattle.def_script.specs.Witness.{weight}
 use Rattle.def_satisfaction.specs.StackSet.{StackSet, Both, Either}
 use Rattle.def_satisfaction.specs.Rows.{AreSignatures, Signatures, Signature}
 use Rattle.def_satisfaction.specs.Satisfaction.{canonical}
@@ -78,7 +78,7 @@ with_last table (k ∷ keys) key [] sig good h = inr (with_last table keys key [
 with_last table (k ∷ keys) key (g ∷ sigs) sig good (inl h) = inl (h.0, with_last table keys key sigs sig good h.1)
 with_last table (k ∷ keys) key (g ∷ sigs) sig good (inr h) = inr (with_last table keys key (g ∷ sigs) sig good h)
 
-without_last : (table : Pairs) (keys : List Key) (key : Key) (sigs : Stack) → AreSignatures table keys sigs → AreSignatures table (keys ++ key ∷ []) sigs
+pub without_last : (table : Pairs) (keys : List Key) (key : Key) (sigs : Stack) → AreSignatures table keys sigs → AreSignatures table (keys ++ key ∷ []) sigs
 without_last table keys key [] h = tt
 without_last table [] key (g ∷ sigs) h = absurd h
 without_last table (k ∷ keys) key (g ∷ sigs) (inl h) = inl (h.0, without_last table keys key sigs h.1)

@@ -17,7 +17,7 @@ use Rattle.def_satisfaction.specs.Satisfaction.{canonical}
 use Rattle.def_choice.specs.Least.{item, both}
 use Rattle.def_choice.specs.Lightest.{IsLightest}
 use Rattle.def_choice.proofs.Best.{none_best, one_best, best_as, best_both}
-use Rattle.def_satisfaction.proofs.Held.{key_form, known_is_preimage}
+use Rattle.def_satisfaction.proofs.Held.{known_is_preimage}
 use Rattle.def_choice.proofs.Keys.{signature_best}
 
 pub never_best : IsLightest Never None
@@ -46,7 +46,7 @@ module _ (assets : Assets) (key : Key) (form : IsKey key) where
   own_key_best : (P : Key → StackSet) (m : Option Stack) → IsLightest (P key) m → IsLightest (WithHashOf (canonical assets) key P) m
   own_key_best P m =
       best_as (P key) (WithHashOf (canonical assets) key P) m
-      (λ w h. (key, key_form key form, refl, refl, h))
+      (λ w h. (key, form.form, refl, refl, h))
       (λ w h. subst (λ k. P k w) h.3 h.4)
 
   pub pk_h_dsat_best : IsLightest (pk_h_row (canonical assets) key).dsat (Some (key ∷ EMPTY ∷ []))

@@ -12,7 +12,7 @@ use Rattle.def_tree.specs.declared.Wrapper.TheVariants as wrapper
 use Rattle.def_tree.specs.Tree.{Tree, Trees, just_0, just_1, pk_k, pk_h, older, after, hash, and_or, two, thresh, multi, wrap, none, more}
 use Rattle.def_tree.specs.Range.{IsWritable, AreWritable, count}
 use Rattle.def_assets.specs.Assets.{Assets, AreAssets, unsigned}
-use Rattle.def_satisfaction.specs.Weight.{weight}
+use Rattle.def_script.specs.Witness.{weight}
 use Rattle.def_satisfaction.specs.StackSet.{StackSet, Is, Both, Either}
 use Rattle.def_satisfaction.specs.Rows.{EMPTY, ONE, Row, PartsOf}
 use Rattle.def_satisfaction.proofs.Wider.{Within, both_within, same}
@@ -154,11 +154,18 @@ gives_unwanted : (F D : StackSet) (f d : Option Stack) → IsLightest F f → Gi
 gives_unwanted F D None d ff dd w h = ((λ one. let k = ff.lightest one.0 one.1 in none-some k.0 k.1), dd w h)
 gives_unwanted F D (Some v) d ff dd w h = absurd (none-some w h)
 
+-- free parts make a free whole
+pub below_free : (P Q P' Q' : StackSet) → (HasOne P' → Within P P') → (HasOne Q' → Within Q Q') → HasOne (Both P' Q') → Within (Both P Q) (Both P' Q')
+below_free P Q P' Q' p q (v, (below, above, i, j, e)) = both_within P P' Q Q' (p (below, i)) (q (above, j))
+
+pub always : (P P' : StackSet) → Within P P' → HasOne P' → Within P P'
+always P P' p one = p
+
 module _ (assets : Assets) (are : AreAssets assets) where
-  free_best : (tree : Tree) → IsWritable tree → IsLightest (free_row assets tree).sat (free assets tree)
+  pub free_best : (tree : Tree) → IsWritable tree → IsLightest (free_row assets tree).sat (free assets tree)
   free_best tree w = sat_best (unsigned assets) (unsigned_are assets are) tree w
 
-  free_dsat_best : (tree : Tree) → IsWritable tree → IsLightest (free_row assets tree).dsat (dissatisfaction tree)
+  pub free_dsat_best : (tree : Tree) → IsWritable tree → IsLightest (free_row assets tree).dsat (dissatisfaction tree)
   free_dsat_best tree w = dsat_best (unsigned assets) tree w
 
   leaf : (tree : Tree) → IsWritable tree → Gives (signed_row assets tree).sat (cheapest_of assets tree)
@@ -166,12 +173,6 @@ module _ (assets : Assets) (are : AreAssets assets) where
 
   dissatisfied : (tree : Tree) → IsWritable tree → Gives (signed_row assets tree).dsat (dissatisfaction tree)
   dissatisfied tree w = (dsat_best assets tree w).is
-
-  below_free : (P Q P' Q' : StackSet) → (HasOne P' → Within P P') → (HasOne Q' → Within Q Q') → HasOne (Both P' Q') → Within (Both P Q) (Both P' Q')
-  below_free P Q P' Q' p q (v, (below, above, i, j, e)) = both_within P P' Q Q' (p (below, i)) (q (above, j))
-
-  always : (P P' : StackSet) → Within P P' → HasOne P' → Within P P'
-  always P P' p one = p
 
   mutual
     pub strict_tight : (tree : Tree) → IsWritable tree → Gives (TightSat assets tree) (strict_of assets tree)

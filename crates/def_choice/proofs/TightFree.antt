@@ -100,7 +100,7 @@ free_option : (F G P Q : StackSet) → HasOne (Either F G) → Within (FreeFirst
 free_option F G P Q one stack (inl h) = inl (h.1 one)
 free_option F G P Q one stack (inr h) = inr (h.1 one)
 
-not_third : (P Q R : StackSet) (assets : Assets) → HasOne (Either P (Either Q (NotCanonical (canonical assets) R))) → HasOne (Either P Q)
+pub not_third : (P Q R : StackSet) (assets : Assets) → HasOne (Either P (Either Q (NotCanonical (canonical assets) R))) → HasOne (Either P Q)
 not_third P Q R assets (stack, inl h) = (stack, inl h)
 not_third P Q R assets (stack, inr (inl h)) = (stack, inr h)
 not_third P Q R assets (stack, inr (inr h)) = absurd (false≢true h.0)

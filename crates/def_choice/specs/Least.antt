@@ -3,7 +3,7 @@ use Rattle.std.specs.Prelude.{nat_lt, List, [], ◌∷◌, ◌++◌, if◌then�
 use Rattle.std.specs.Option.{option_map}
 use Rattle.def_script.specs.Bytes.{Bytes}
 use Rattle.def_machine.specs.Stacks.{Stack}
-use Rattle.def_satisfaction.specs.Weight.{weight}
+use Rattle.def_script.specs.Witness.{weight}
 
 -- the stack of one item
 abbrev pub item : Option Bytes → Option Stack

@@ -1,7 +1,7 @@
 -- When a choice is right.
 use Rattle.std.specs.Prelude.{◌≡◌, ◌≤◌, List, Option, Some}
 use Rattle.def_script.specs.Bytes.{Bytes}
-use Rattle.def_satisfaction.specs.Weight.{weight}
+use Rattle.def_script.specs.Witness.{weight}
 
 -- the choice is a stack of the set, no stack of the set weighs less, and it is none exactly where the set
 -- has none

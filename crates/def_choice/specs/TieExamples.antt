@@ -7,7 +7,7 @@ use Rattle.def_machine.specs.Samples.{key_a, key_b, key_c, sig_a, sig_b, sig_c}
 use Rattle.def_tree.specs.Tree.{Tree, just_1, older, and_or, thresh, multi}
 use Rattle.def_types.specs.Samples.{pk, s, v, and_v, and_b, or_c, or_d, or_i, trees}
 use Rattle.def_assets.specs.Assets.{Assets}
-use Rattle.def_satisfaction.specs.Weight.{weight}
+use Rattle.def_script.specs.Witness.{weight}
 use Rattle.def_satisfaction.specs.Rows.{EMPTY, ONE}
 use Rattle.def_satisfaction.specs.Satisfaction.{Sat, Dsat}
 use Rattle.def_satisfaction.specs.Samples.{pair_a, pair_b, pair_c, with_sequence, with_preimages, two_of_three, key_or_key}

@@ -1,5 +1,5 @@
 -- The pushes of a tree's Script are short.
-use Rattle.std.proofs.Common.{◌≡◌, ℕ, zero, suc, ◌+◌, ◌/◌, ◌%◌, ◌≤◌, nat_lt, Bool, true, false, List, [], ◌∷◌, ◌++◌, length, map, Option, Some, None, All, if◌then◌else◌, arith}
+use Rattle.std.proofs.Common.{◌≡◌, ℕ, zero, suc, ◌+◌, ◌/◌, ◌%◌, ◌≤◌, nat_lt, Bool, true, false, List, [], ◌∷◌, ◌++◌, length, map, Option, Some, None, All, if◌then◌else◌, arith, slice_index_or}
 use Rattle.std.proofs.lemmas.List.Elements.{All-nil, All-append, All-cons, All-head, All-tail, All-map}
 use Rattle.def_hash.specs.declared.HashKind.{HashKind}
 use Rattle.def_hash.specs.declared.HashKind.TheVariants as hash_kind
@@ -15,6 +15,7 @@ use Rattle.def_tree.specs.declared.Wrapper.TheVariants as wrapper
 use Rattle.def_tree.specs.Tree.{Key, Tree, Trees, just_0, just_1, pk_k, pk_h, older, after, hash, and_or, two, thresh, multi, wrap, none, more}
 use Rattle.def_tree.specs.Range.{IsWritable, AreWritable, IsKey}
 use Rattle.def_emit.specs.Emit.{number, emit, emit_sum, emit_added}
+use Rattle.def_script.proofs.KeyLemmas.{key_length}
 
 -- a record, so that the lists are found from the facts about them
 pub record AllShort (instructions : List Instruction) : Type 0 where
@@ -55,7 +56,7 @@ digest hash_kind.Ripemd160 value is = omega (arith, is)
 digest hash_kind.Hash160 value is = omega (arith, is)
 
 keys : (ks : List Key) → All IsKey ks → AllShort (map push ks)
-keys ks all = record { all = All-map IsShort push ks (λ k d below. let key = all k d below in omega (arith, key.length)) }
+keys ks all = record { all = All-map IsShort push ks (λ k d below. let long = key_length (slice_index_or ks k d) (all k d below).form in omega (arith, long)) }
 
 short_verified_op : (op : Op) (form : Option Op) → AllShort (verified_op op form)
 short_verified_op op None = opcode _ _ (opcode _ _ empty)
@@ -73,7 +74,7 @@ mutual
   pub short-emit : (t : Tree) → IsWritable t → AllShort (emit t)
   short-emit just_0 w = counted 0 _ empty
   short-emit just_1 w = counted 1 _ empty
-  short-emit (pk_k key) w = pushed key _ (omega (arith, w.length)) empty
+  short-emit (pk_k key) w = let long = key_length key w.form in pushed key _ (omega (arith, long)) empty
   short-emit (pk_h key) w =
       opcode _ _ (opcode _ _ (pushed (hash160 key) _ (digest hash_kind.Hash160 _ (digest_has_its_length hash_kind.Hash160 key)) (opcode _ _ empty)))
   short-emit (older n) w = counted n _ (opcode _ _ empty)

@@ -1,3 +1,2 @@
 pub mod Emit
-pub mod Program
 pub mod Examples

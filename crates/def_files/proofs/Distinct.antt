@@ -1,5 +1,6 @@
 -- Where no element of a list is the same as an earlier one, its elements are distinct.
 use Rattle.std.proofs.Common.{◌≡◌, ℕ, ◌+◌, Bool, true, false, not, ◌&&◌, ◌||◌, List, [], ◌∷◌, ◌++◌, None, refl, sym, ◌∙◌, ap, length, take, append_assoc}
+use Rattle.std.proofs.lemmas.Bool.{and_parts}
 use Rattle.std.specs.List.{list_all, list_any, enumerate_from, IsDistinct, AllByRecursion}
 use Rattle.std.specs.Str.{bytes_eq}
 use Rattle.std.proofs.Math.Seq.{take-append_seam}
@@ -18,10 +19,6 @@ use Rattle.def_files.proofs.Passing.{each_held}
 -- the test that no element that is the same stands earlier
 abbrev pub is_new : {A : Type 0} → (A → A → Bool) → List A → (ℕ × A) → Bool
 is_new same xs entry = not (list_any (same entry.1) (take entry.0 xs))
-
-pub both_true : (a b : Bool) → (a && b) ≡ true → (a ≡ true) × (b ≡ true)
-both_true true b e = (refl, e)
-both_true false b e = cc e
 
 neither : (a b : Bool) → (a || b) ≡ false → (a ≡ false) × (b ≡ false)
 neither true b e = cc e
@@ -51,7 +48,7 @@ module _ {A : Type 0} (same : A → A → Bool) (symm : (x y : A) → same x y �
   unfolding IsDistinct
   free_after all before [] e h = (tt, tt)
   free_after all before (x ∷ xs) e h =
-      let parts = both_true (is_new same all (length before, x)) (list_all (is_new same all) (enumerate_from (length before + 1) xs)) h in
+      let parts = and_parts (is_new same all (length before, x)) (list_all (is_new same all) (enumerate_from (length before + 1) xs)) h in
       let front : take (length before) all ≡ before = ap (take (length before)) e ∙ take-append_seam before (x ∷ xs) in
       let new : list_any (same x) (take (length before) all) ≡ false = not_true (list_any (same x) (take (length before) all)) parts.0 in
       let free : IsFree before x = rw front at new in

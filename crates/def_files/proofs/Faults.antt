@@ -2,7 +2,7 @@
 use Rattle.std.proofs.Common.{◌≢◌, ℕ, nat_le, is_some, unwrap_or, Bool, map, length, refl}
 use Rattle.std.specs.List.{enumerate_from}
 use Rattle.serde_json.specs.Data.{Data}
-use Rattle.def_machine.specs.Stacks.{is_key}
+use Rattle.def_script.specs.Key.{is_key}
 use Rattle.def_files.specs.declared.Format.TheVariants.{One as one}
 use Rattle.def_files.specs.declared.Member.{Member}
 use Rattle.def_files.specs.declared.Member.TheVariants as member

@@ -1,39 +1,25 @@
 -- What the tests of a file say, as facts.
-use Rattle.std.proofs.Common.{◌≡◌, ℕ, ◌^◌, ◌<◌, ◌⊎◌, inl, inr, Bool, true, false, ◌==◌, ◌||◌, nat_le, nat_lt, if◌then◌else◌, List, Option, Some, None, All, map, refl, sym, ◌∙◌, length, slice_index, slice_index_or, unwrap_or, lit<}
+use Rattle.std.proofs.Common.{◌≡◌, ℕ, ◌^◌, ◌<◌, Bool, true, false, nat_le, nat_lt, if◌then◌else◌, List, Option, Some, None, All, map, refl, sym, ◌∙◌, length, slice_index_or, unwrap_or, lit<}
 use Rattle.std.specs.List.{list_all}
 use Rattle.std.specs.Prelude.{option_and_then}
-use Rattle.std.proofs.lemmas.Bool.{leb-true, ltb-true, eqb-true}
+use Rattle.std.proofs.lemmas.Bool.{leb-true, ltb-true, eqb-true, and_parts}
 use Rattle.std.proofs.lemmas.List.Folds.{list_all-map}
 use Rattle.std.proofs.lemmas.List.Sums.{AllPass-from_list_all}
 use Rattle.serde_json.specs.Data.{Data}
 use Rattle.serde_json.specs.Find.{as_number, as_u64}
 use Rattle.def_script.specs.Bytes.{Bytes, IsBytes}
-use Rattle.def_machine.specs.Stacks.{is_key}
+use Rattle.def_script.specs.Key.{is_key}
 use Rattle.def_tree.specs.Range.{IsKey}
 use Rattle.def_assets.specs.Assets.{IsSignature, IsPreimage}
 use Rattle.def_files.specs.Json.{word_of, number_or}
 use Rattle.def_files.specs.AssetFile.{is_signature, is_preimage}
-use Rattle.def_files.proofs.Distinct.{both_true}
-
-either_true : (a b : Bool) → (a || b) ≡ true → (a ≡ true) ⊎ (b ≡ true)
-either_true true b e = inl refl
-either_true false b e = inr e
 
 pub key_fits : (key : Bytes) → is_key key ≡ true → IsBytes key → IsKey key
-key_fits key e bytes =
-    let parts = both_true (length key == 33) ((slice_index key 0 == 2) || (slice_index key 0 == 3)) e in
-    record {
-      length = eqb-true (length key) 33 parts.0;
-      prefix = elim (either_true (slice_index key 0 == 2) (slice_index key 0 == 3) parts.1) [
-        | inl two ↦ inl (eqb-true (slice_index key 0) 2 two)
-        | inr three ↦ inr (eqb-true (slice_index key 0) 3 three)
-      ];
-      bytes = bytes;
-    }
+key_fits key e bytes = record { form = e; bytes = bytes }
 
 pub signature_fits : (sig : Bytes) → is_signature sig ≡ true → IsBytes sig → IsSignature sig
 signature_fits sig e bytes =
-    let parts = both_true (nat_le 1 (length sig)) (nat_le (length sig) 73) e in
+    let parts = and_parts (nat_le 1 (length sig)) (nat_le (length sig) 73) e in
     record { some = leb-true 1 (length sig) parts.0; few = leb-true (length sig) 73 parts.1; bytes = bytes }
 
 pub preimage_fits : (preimage : Bytes) → is_preimage preimage ≡ true → IsBytes preimage → IsPreimage preimage

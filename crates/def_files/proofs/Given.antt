@@ -5,8 +5,8 @@ use Rattle.std.proofs.lemmas.List.{length-map}
 use Rattle.std.proofs.lemmas.List.Elements.{All-map}
 use Rattle.serde_json.specs.Data.{Data}
 use Rattle.serde_json.specs.Find.{as_str}
-use Rattle.def_script.specs.Bytes.{Bytes, IsBytes}
-use Rattle.def_machine.specs.Stacks.{is_key}
+use Rattle.def_script.specs.Bytes.{IsBytes}
+use Rattle.def_script.specs.Key.{is_key}
 use Rattle.def_tree.specs.Range.{IsKey}
 use Rattle.def_assets.specs.Assets.{Assets, IsSignature, IsPreimage}
 use Rattle.def_files.specs.declared.Format.TheVariants.{One as one}
@@ -14,7 +14,7 @@ use Rattle.def_files.specs.declared.Member.TheVariants as member
 use Rattle.def_files.specs.declared.AssetFault.TheVariants as fault
 use Rattle.def_files.specs.Json.{find_member, reading}
 use Rattle.def_files.specs.Parts.{format, elements, bytes_of, key_of, sig_of, key_text, sig_text, pairs}
-use Rattle.def_files.specs.Refusals.{unless_refused}
+use Rattle.def_files.specs.Refusals.{unless_any}
 use Rattle.def_files.specs.AssetFile.{assets_of, asset_refusals, assets_in, is_signature, is_preimage}
 use Rattle.def_files.specs.RunFile.{RunFile, run_of, script_text, run_refusals, run_in}
 use Rattle.def_files.specs.Laws.{AssetFileGivesAssets, AreFewAssets, RunFileGivesRun, IsRunFile}
@@ -27,7 +27,7 @@ use Rattle.def_files.proofs.Fits.{key_fits, signature_fits, preimage_fits, numbe
 fewer : {A B : Type 0} (f : A → B) (xs : List A) {most : ℕ} → length xs ≤ most → length (map f xs) ≤ most
 fewer f xs h = let same = length-map xs f in omega (arith, same)
 
-assets_fit : (file : Data) (assets : Assets) → unless_refused (asset_refusals file) (assets_in file) ≡ Ok assets →
+assets_fit : (file : Data) (assets : Assets) → unless_any (asset_refusals file) (assets_in file) ≡ Ok assets →
     AreFewAssets assets
 assets_fit file assets e =
     let value = assets_in file in
@@ -58,12 +58,12 @@ assets_fit file assets e =
 pub asset_file_gives_assets : AssetFileGivesAssets
 unfolding assets_of
 asset_file_gives_assets bytes assets e =
-    let read = given_ok (λ file. unless_refused (asset_refusals file) (assets_in file)) (reading bytes) assets e in
+    let read = given_ok (λ file. unless_any (asset_refusals file) (assets_in file)) (reading bytes) assets e in
     assets_fit read.0 assets read.1
 
 -- ---- run files
 
-run_fits : (file : Data) (given : RunFile) → unless_refused (run_refusals file) (run_in file) ≡ Ok given → IsRunFile given
+run_fits : (file : Data) (given : RunFile) → unless_any (run_refusals file) (run_in file) ≡ Ok given → IsRunFile given
 run_fits file given e =
     let none = none_applies (run_refusals file) (run_in file) given e in
     let signatures = elements member.Signatures file in
@@ -85,5 +85,5 @@ run_fits file given e =
 pub run_file_gives_run : RunFileGivesRun
 unfolding run_of
 run_file_gives_run bytes given e =
-    let read = given_ok (λ file. unless_refused (run_refusals file) (run_in file)) (reading bytes) given e in
+    let read = given_ok (λ file. unless_any (run_refusals file) (run_in file)) (reading bytes) given e in
     run_fits read.0 given read.1

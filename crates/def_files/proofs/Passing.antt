@@ -6,14 +6,14 @@ use Rattle.std.proofs.lemmas.Iterator.Adapters.{position_from-zero}
 use Rattle.serde_json.specs.Data.{Data}
 use Rattle.def_files.specs.declared.AssetFault.{AssetFault}
 use Rattle.def_files.specs.declared.AssetFault.TheVariants.{NotJson}
-use Rattle.def_files.specs.Refusals.{Refusal, unless, unless_each, unless_refused, given}
+use Rattle.def_files.specs.Refusals.{Refusal, unless, unless_each, unless_any, given}
 
 -- none of the refusals applies
 abbrev pub NoneApplies : {E : Type 0} → List (Option E) → Type 0
 NoneApplies [] = ⊤
 NoneApplies (r ∷ rs) = (r ≡ None) × NoneApplies rs
 
-pub none_applies : {A E : Type 0} (rs : List (Option E)) (v w : A) → unless_refused rs v ≡ Ok w → NoneApplies rs × (v ≡ w)
+pub none_applies : {A E : Type 0} (rs : List (Option E)) (v w : A) → unless_any rs v ≡ Ok w → NoneApplies rs × (v ≡ w)
 none_applies [] v w e = (tt, cc e)
 none_applies (None ∷ rs) v w e = let rest = none_applies rs v w e in ((refl, rest.0), rest.1)
 none_applies (Some fault ∷ rs) v w e = cc e
@@ -73,13 +73,13 @@ each_tells P holds fault xs h = mapped_tells P fault (position (λ x. not (holds
 
 -- so is the one that is given
 pub first_tells : {A E : Type 0} (P : E → Type 0) (rs : List (Option E)) (value : A) (e : E) → AllTell P rs →
-    unless_refused rs value ≡ Err e → P e
+    unless_any rs value ≡ Err e → P e
 first_tells P [] value e h q = cc q
 first_tells P (None ∷ rs) value e h q = first_tells P rs value e h.1 q
 first_tells P (Some fault ∷ rs) value e h q = let same : fault ≡ e = cc q in subst P same h.0
 
 pub given_tells : {A : Type 0} (P : AssetFault → Type 0) (rs : Data → List Refusal) (value : Data →
     A) (r : Option Data) (e : AssetFault)
-    → P NotJson → ((file : Data) → AllTell P (rs file)) → given (λ file. unless_refused (rs file) (value file)) r ≡ Err e → P e
+    → P NotJson → ((file : Data) → AllTell P (rs file)) → given (λ file. unless_any (rs file) (value file)) r ≡ Err e → P e
 given_tells P rs value None e none h q = let same : NotJson ≡ e = cc q in subst P same none
 given_tells P rs value (Some file) e none h q = first_tells P (rs file) (value file) e (h file) q

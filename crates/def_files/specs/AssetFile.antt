@@ -2,7 +2,7 @@
 use Rattle.std.specs.Prelude.{ℕ, ◌==◌, ◌&&◌, nat_le, Bool, List, [], ◌∷◌, length, map, Result, unwrap_or}
 use Rattle.serde_json.specs.Data.{Data}
 use Rattle.def_script.specs.Bytes.{Bytes}
-use Rattle.def_machine.specs.Stacks.{is_key}
+use Rattle.def_script.specs.Key.{is_key}
 use Rattle.def_assets.specs.Assets.{Assets}
 use Rattle.def_files.specs.declared.Format.TheVariants.{One as one}
 use Rattle.def_files.specs.declared.Member.TheVariants as member
@@ -10,7 +10,7 @@ use Rattle.def_files.specs.declared.AssetFault.{AssetFault}
 use Rattle.def_files.specs.declared.AssetFault.TheVariants as fault
 use Rattle.def_files.specs.Json.{reading}
 use Rattle.def_files.specs.Parts.{locks, format, same_under, elements, is_text, is_hex, is_pair, is_hex_pair, key_of, sig_of, pairs, strings}
-use Rattle.def_files.specs.Refusals.{Refusal, unless_each, unless_refused, given, no_object, no_list_of, no_version, no_sequence, no_locktime, no_format, no_hex, too_many, no_repeat, MOST_SIGNATURES}
+use Rattle.def_files.specs.Refusals.{Refusal, unless_each, unless_any, given, no_object, no_list_of, no_version, no_sequence, no_locktime, no_format, no_hex, too_many, no_repeat, MOST_SIGNATURES}
 
 -- how many preimages a file may have
 abbrev pub MOST_PREIMAGES : ℕ
@@ -58,4 +58,4 @@ assets_in file = record {
 
 -- what the bytes of an asset file give, or why they are refused
 unfoldable pub assets_of : Bytes → Result Assets AssetFault
-assets_of bytes = given (λ file. unless_refused (asset_refusals file) (assets_in file)) (reading bytes)
+assets_of bytes = given (λ file. unless_any (asset_refusals file) (assets_in file)) (reading bytes)

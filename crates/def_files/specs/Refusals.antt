@@ -3,7 +3,6 @@
 use Rattle.std.specs.Prelude.{ℕ, not, nat_le, Bool, is_some, if◌then◌else◌, List, [], ◌∷◌, length, take, position, Option, Some, None, option_map, Result, Ok, Err}
 use Rattle.std.specs.List.{list_any, enumerate_from}
 use Rattle.serde_json.specs.Data.{Data}
-use Rattle.def_script.specs.Bytes.{Bytes}
 use Rattle.def_files.specs.declared.Member.{Member}
 use Rattle.def_files.specs.declared.Member.TheVariants as member
 use Rattle.def_files.specs.declared.AssetFault.{AssetFault}
@@ -24,10 +23,10 @@ abbrev pub unless_each : {A E : Type 0} → (holds : A → Bool) → (ℕ → E)
 unless_each holds fault xs = option_map fault (position (λ x. not (holds x)) xs)
 
 -- the value, unless one of the refusals applies: then the first of them
-abbrev pub unless_refused : {A E : Type 0} → List (Option E) → A → Result A E
-unless_refused [] value = Ok value
-unless_refused (None ∷ refusals) value = unless_refused refusals value
-unless_refused (Some fault ∷ refusals) value = Err fault
+abbrev pub unless_any : {A E : Type 0} → List (Option E) → A → Result A E
+unless_any [] value = Ok value
+unless_any (None ∷ refusals) value = unless_any refusals value
+unless_any (Some fault ∷ refusals) value = Err fault
 
 -- what a file gives: where it has no reading, it is refused
 abbrev pub given : {A : Type 0} → (Data → Result A AssetFault) → Option Data → Result A AssetFault

@@ -9,7 +9,7 @@ use Rattle.def_files.specs.declared.AssetFault.{AssetFault}
 use Rattle.def_files.specs.declared.AssetFault.TheVariants as fault
 use Rattle.def_files.specs.Json.{reading, member_name, text_at, spelled}
 use Rattle.def_files.specs.Parts.{locks, is_text, is_hex, is_pair, is_hex_pair, pairs, strings}
-use Rattle.def_files.specs.Refusals.{Refusal, unless, unless_refused, given, no_object, no_list_of, no_version, no_sequence, no_locktime, no_hex, too_many, MOST_SIGNATURES}
+use Rattle.def_files.specs.Refusals.{Refusal, unless, unless_any, given, no_object, no_list_of, no_version, no_sequence, no_locktime, no_hex, too_many, MOST_SIGNATURES}
 
 pub record RunFile : Type 0 where
   pub script : Bytes
@@ -58,4 +58,4 @@ run_in file = record {
 
 -- what the bytes of a run file give, or why they are refused
 unfoldable pub run_of : Bytes → Result RunFile AssetFault
-run_of bytes = given (λ file. unless_refused (run_refusals file) (run_in file)) (reading bytes)
+run_of bytes = given (λ file. unless_any (run_refusals file) (run_in file)) (reading bytes)

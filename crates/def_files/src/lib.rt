@@ -1,6 +1,11 @@
 //! Definitions of the asset file and the run file: what their bytes give, and why they are refused.
 #![tactic(auto)]
 
+ghost use Rattle.std.specs.Prelude.{◌≡◌};
+ghost use Rattle.def_files.specs.declared.AssetFault.TheVariants as fault;
+
+use std::alloc::AllocError;
+
 pub mod examples;
 pub mod laws;
 
@@ -64,4 +69,12 @@ pub enum AssetFault {
     RepeatedKey(u32),
     /// There was no memory. No file has this as its answer; a reader gives it in place of any answer.
     Memory,
+}
+
+impl From<AllocError> for AssetFault {
+    ghost from_gives = { λ _ why. why ≡ fault.Memory };
+
+    fn from(_error: AllocError) -> AssetFault {
+        AssetFault::Memory
+    }
 }

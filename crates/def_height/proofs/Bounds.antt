@@ -11,7 +11,7 @@ use Rattle.def_types.proofs.Rows.{corr_rows}
 use Rattle.def_types.proofs.Facts.{typed-and_or, typed-and_v, typed-and_b, typed-or_b, typed-or_c, typed-or_d, typed-or_i, typed-thresh_none, typed-multi, typed-wrap_a, typed-wrap_s, typed-wrap_c, typed-wrap_d, typed-wrap_v, typed-wrap_j, typed-wrap_n, OthersFit}
 use Rattle.def_emit.specs.Emit.{emit, emit_sum, emit_added}
 use Rattle.def_sane.specs.Formal.{Takes, one, empty}
-use Rattle.def_sane.specs.Limits.{opcode_count}
+use Rattle.def_script.specs.Instruction.{opcode_count}
 use Rattle.def_sane.specs.Most as most
 use Rattle.def_sane.specs.Most.{most_sat, most_dsat, most_parts, number_of, limits_of}
 use Rattle.def_height.specs.declared.Highest.{Highest}

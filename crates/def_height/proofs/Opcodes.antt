@@ -3,13 +3,12 @@ use Rattle.std.proofs.Common.{◌≡◌, ℕ, ◌+◌, ◌≤◌, List, [], ◌�
 use Rattle.def_script.specs.declared.Op.{Op}
 use Rattle.def_script.specs.declared.Op.TheVariants as op
 use Rattle.def_script.specs.Bytes.{Bytes}
-use Rattle.def_script.specs.Instruction.{Instruction, push, code}
+use Rattle.def_script.specs.Instruction.{Instruction, push, code, opcode_count}
 use Rattle.def_script.specs.Verify.{verify_form, verified_op, verified}
 use Rattle.def_tree.specs.declared.Two.TheVariants as kind
 use Rattle.def_tree.specs.declared.Wrapper.TheVariants as wrapper
 use Rattle.def_tree.specs.Tree.{Key, Tree, Trees, and_or, two, thresh, multi, wrap, more}
 use Rattle.def_emit.specs.Emit.{number, emit, emit_sum, emit_added}
-use Rattle.def_sane.specs.Limits.{opcode_count}
 
 abbrev pub ops : Tree → ℕ
 ops t = opcode_count (emit t)

@@ -9,6 +9,8 @@ pub mod laws;
 /// together at one time, each by itself.
 #[derive(Clone, Copy, Debug, PartialEq, Eq)]
 pub struct Highest {
+    /// The most items.
     pub items: u64,
+    /// The most elements that both stacks hold together.
     pub height: u64,
 }

@@ -4,32 +4,32 @@ use Rattle.def_hash.proofs.Computing.{decode_pairs}
 use Rattle.def_script.specs.Items.{first_item, items_after}
 use Rattle.def_machine.specs.Locks.{after_holds, older_holds}
 use Rattle.def_machine.specs.Effects.{condition, verify, to_alt_stack, from_alt_stack, if_dup, dup, swap, size, equal, operand, one_number, two_numbers, zero_not_equal, add, bool_and, bool_or, hash, check_sig, lock}
-use Rattle.def_machine.specs.MultiSig.{count, some_off, one_off, counted, tries, verdict, null_dummy, check_multi_sig}
+use Rattle.def_machine.specs.MultiSig.{count, some_off, one_off, within_op_limit, tries, verdict, null_dummy, check_multi_sig}
 use Rattle.def_machine.specs.Machine.{open_branch, turned, closed, act, pushed, carry_out, settle, step}
 use Rattle.def_machine.specs.Run.{start, steps, finish, run}
 use Rattle.def_hash.proofs.Computing.{sha256, sha_words, sha_schedule, sha_rounds, sha_compress, sha_hash_after, sha_digest_bytes, ripemd160, ripemd_words, ripemd_step, left_line, right_line, combined, ripemd_compress, ripemd_hash_after, ripemd_digest_bytes, hash160}
 use Rattle.def_machine.specs.FragmentRows.{BothOfOrB, WrongSignatureInOrB, TwoOfThree, KeyHashAndLock, KeyHashBeforeLock, PreimageOfZeros}
 
 pub both_of_or_b : BothOfOrB
-unfolding run start steps step settle carry_out act pushed counted open_branch turned closed condition verify to_alt_stack from_alt_stack if_dup dup swap size equal operand one_number two_numbers zero_not_equal add bool_and bool_or hash check_sig lock count some_off one_off tries verdict null_dummy check_multi_sig after_holds older_holds finish first_item items_after decode_pairs sha256 sha_words sha_schedule sha_rounds sha_compress sha_hash_after sha_digest_bytes ripemd160 ripemd_words ripemd_step left_line right_line combined ripemd_compress ripemd_hash_after ripemd_digest_bytes hash160
+unfolding run start steps step settle carry_out act pushed within_op_limit open_branch turned closed condition verify to_alt_stack from_alt_stack if_dup dup swap size equal operand one_number two_numbers zero_not_equal add bool_and bool_or hash check_sig lock count some_off one_off tries verdict null_dummy check_multi_sig after_holds older_holds finish first_item items_after decode_pairs sha256 sha_words sha_schedule sha_rounds sha_compress sha_hash_after sha_digest_bytes ripemd160 ripemd_words ripemd_step left_line right_line combined ripemd_compress ripemd_hash_after ripemd_digest_bytes hash160
 both_of_or_b = refl
 
 pub wrong_signature_in_or_b : WrongSignatureInOrB
-unfolding run start steps step settle carry_out act pushed counted open_branch turned closed condition verify to_alt_stack from_alt_stack if_dup dup swap size equal operand one_number two_numbers zero_not_equal add bool_and bool_or hash check_sig lock count some_off one_off tries verdict null_dummy check_multi_sig after_holds older_holds finish first_item items_after decode_pairs sha256 sha_words sha_schedule sha_rounds sha_compress sha_hash_after sha_digest_bytes ripemd160 ripemd_words ripemd_step left_line right_line combined ripemd_compress ripemd_hash_after ripemd_digest_bytes hash160
+unfolding run start steps step settle carry_out act pushed within_op_limit open_branch turned closed condition verify to_alt_stack from_alt_stack if_dup dup swap size equal operand one_number two_numbers zero_not_equal add bool_and bool_or hash check_sig lock count some_off one_off tries verdict null_dummy check_multi_sig after_holds older_holds finish first_item items_after decode_pairs sha256 sha_words sha_schedule sha_rounds sha_compress sha_hash_after sha_digest_bytes ripemd160 ripemd_words ripemd_step left_line right_line combined ripemd_compress ripemd_hash_after ripemd_digest_bytes hash160
 wrong_signature_in_or_b = refl
 
 pub two_of_three : TwoOfThree
-unfolding run start steps step settle carry_out act pushed counted open_branch turned closed condition verify to_alt_stack from_alt_stack if_dup dup swap size equal operand one_number two_numbers zero_not_equal add bool_and bool_or hash check_sig lock count some_off one_off tries verdict null_dummy check_multi_sig after_holds older_holds finish first_item items_after decode_pairs sha256 sha_words sha_schedule sha_rounds sha_compress sha_hash_after sha_digest_bytes ripemd160 ripemd_words ripemd_step left_line right_line combined ripemd_compress ripemd_hash_after ripemd_digest_bytes hash160
+unfolding run start steps step settle carry_out act pushed within_op_limit open_branch turned closed condition verify to_alt_stack from_alt_stack if_dup dup swap size equal operand one_number two_numbers zero_not_equal add bool_and bool_or hash check_sig lock count some_off one_off tries verdict null_dummy check_multi_sig after_holds older_holds finish first_item items_after decode_pairs sha256 sha_words sha_schedule sha_rounds sha_compress sha_hash_after sha_digest_bytes ripemd160 ripemd_words ripemd_step left_line right_line combined ripemd_compress ripemd_hash_after ripemd_digest_bytes hash160
 two_of_three = refl
 
 pub key_hash_and_lock : KeyHashAndLock
-unfolding run start steps step settle carry_out act pushed counted open_branch turned closed condition verify to_alt_stack from_alt_stack if_dup dup swap size equal operand one_number two_numbers zero_not_equal add bool_and bool_or hash check_sig lock count some_off one_off tries verdict null_dummy check_multi_sig after_holds older_holds finish first_item items_after decode_pairs sha256 sha_words sha_schedule sha_rounds sha_compress sha_hash_after sha_digest_bytes ripemd160 ripemd_words ripemd_step left_line right_line combined ripemd_compress ripemd_hash_after ripemd_digest_bytes hash160
+unfolding run start steps step settle carry_out act pushed within_op_limit open_branch turned closed condition verify to_alt_stack from_alt_stack if_dup dup swap size equal operand one_number two_numbers zero_not_equal add bool_and bool_or hash check_sig lock count some_off one_off tries verdict null_dummy check_multi_sig after_holds older_holds finish first_item items_after decode_pairs sha256 sha_words sha_schedule sha_rounds sha_compress sha_hash_after sha_digest_bytes ripemd160 ripemd_words ripemd_step left_line right_line combined ripemd_compress ripemd_hash_after ripemd_digest_bytes hash160
 key_hash_and_lock = refl
 
 pub key_hash_before_lock : KeyHashBeforeLock
-unfolding run start steps step settle carry_out act pushed counted open_branch turned closed condition verify to_alt_stack from_alt_stack if_dup dup swap size equal operand one_number two_numbers zero_not_equal add bool_and bool_or hash check_sig lock count some_off one_off tries verdict null_dummy check_multi_sig after_holds older_holds finish first_item items_after decode_pairs sha256 sha_words sha_schedule sha_rounds sha_compress sha_hash_after sha_digest_bytes ripemd160 ripemd_words ripemd_step left_line right_line combined ripemd_compress ripemd_hash_after ripemd_digest_bytes hash160
+unfolding run start steps step settle carry_out act pushed within_op_limit open_branch turned closed condition verify to_alt_stack from_alt_stack if_dup dup swap size equal operand one_number two_numbers zero_not_equal add bool_and bool_or hash check_sig lock count some_off one_off tries verdict null_dummy check_multi_sig after_holds older_holds finish first_item items_after decode_pairs sha256 sha_words sha_schedule sha_rounds sha_compress sha_hash_after sha_digest_bytes ripemd160 ripemd_words ripemd_step left_line right_line combined ripemd_compress ripemd_hash_after ripemd_digest_bytes hash160
 key_hash_before_lock = refl
 
 pub preimage_of_zeros : PreimageOfZeros
-unfolding run start steps step settle carry_out act pushed counted open_branch turned closed condition verify to_alt_stack from_alt_stack if_dup dup swap size equal operand one_number two_numbers zero_not_equal add bool_and bool_or hash check_sig lock count some_off one_off tries verdict null_dummy check_multi_sig after_holds older_holds finish first_item items_after decode_pairs sha256 sha_words sha_schedule sha_rounds sha_compress sha_hash_after sha_digest_bytes ripemd160 ripemd_words ripemd_step left_line right_line combined ripemd_compress ripemd_hash_after ripemd_digest_bytes hash160
+unfolding run start steps step settle carry_out act pushed within_op_limit open_branch turned closed condition verify to_alt_stack from_alt_stack if_dup dup swap size equal operand one_number two_numbers zero_not_equal add bool_and bool_or hash check_sig lock count some_off one_off tries verdict null_dummy check_multi_sig after_holds older_holds finish first_item items_after decode_pairs sha256 sha_words sha_schedule sha_rounds sha_compress sha_hash_after sha_digest_bytes ripemd160 ripemd_words ripemd_step left_line right_line combined ripemd_compress ripemd_hash_after ripemd_digest_bytes hash160
 preimage_of_zeros = refl

@@ -11,7 +11,8 @@ use Rattle.def_script.specs.Decode.{num_decode, truth, is_nonzero}
 use Rattle.def_machine.specs.declared.ScriptFault.TheVariants as fault
 use Rattle.def_machine.specs.Limits.{MAX_NUMBER_SIZE, MAX_LOCK_SIZE}
 use Rattle.def_machine.specs.Faults.{OrFault, ◌>>=◌}
-use Rattle.def_machine.specs.Stacks.{Stack, Pairs, member, is_empty, is_key, bool_bytes}
+use Rattle.def_machine.specs.Stacks.{Stack, Pairs, member, is_empty, bool_bytes}
+use Rattle.def_script.specs.Key.{is_key}
 
 -- VERIFY takes the top, which must be true
 unfoldable pub verify : Stack → OrFault Stack

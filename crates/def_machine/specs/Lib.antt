@@ -2,6 +2,7 @@ pub mod Locks
 pub mod Limits
 pub mod Faults
 pub mod Stacks
+pub mod Program
 pub mod Effects
 pub mod MultiSig
 pub mod Machine

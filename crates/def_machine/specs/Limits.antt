@@ -5,10 +5,6 @@ use Rattle.std.specs.Prelude.{ℕ}
 abbrev pub MAX_SCRIPT_SIZE : ℕ
 MAX_SCRIPT_SIZE = 10000
 
--- the bytes of an element
-abbrev pub MAX_SCRIPT_ELEMENT_SIZE : ℕ
-MAX_SCRIPT_ELEMENT_SIZE = 520
-
 -- the opcodes that aren't pushes, with the keys of executed multisignatures
 abbrev pub MAX_OPS_PER_SCRIPT : ℕ
 MAX_OPS_PER_SCRIPT = 201

@@ -12,12 +12,13 @@ use Rattle.def_script.specs.Item as item
 use Rattle.def_machine.specs.declared.Locks.{Locks}
 use Rattle.def_machine.specs.declared.ScriptFault.{ScriptFault}
 use Rattle.def_machine.specs.declared.ScriptFault.TheVariants as fault
-use Rattle.def_machine.specs.Limits.{MAX_SCRIPT_ELEMENT_SIZE, MAX_STACK_SIZE}
+use Rattle.def_machine.specs.Limits.{MAX_STACK_SIZE}
+use Rattle.def_script.specs.Spell.{MAX_SCRIPT_ELEMENT_SIZE}
 use Rattle.def_machine.specs.Locks.{after_holds, older_holds}
 use Rattle.def_machine.specs.Faults.{OrFault, ◌>>=◌}
 use Rattle.def_machine.specs.Stacks.{Stack, Pairs}
 use Rattle.def_machine.specs.Effects.{verify, condition, to_alt_stack, from_alt_stack, if_dup, dup, swap, size, equal, zero_not_equal, add, bool_and, bool_or, hash, check_sig, lock}
-use Rattle.def_machine.specs.MultiSig.{counted, check_multi_sig}
+use Rattle.def_machine.specs.MultiSig.{within_op_limit, check_multi_sig}
 
 -- what a run is given: the pairs of key and signature that are good, and the locks
 pub record Given : Type 0 where
@@ -139,7 +140,7 @@ pushed bytes minimal s = if minimal then Ok (record s { main = bytes ∷ s.main 
 -- one opcode more
 abbrev pub count_op : State → OrFault State
 count_op s = do
-  ops ← counted (s.ops + 1)
+  ops ← within_op_limit (s.ops + 1)
   Ok (record s { ops = ops })
 
 abbrev pub fault_of : InstrFault → ScriptFault
@@ -147,7 +148,7 @@ fault_of unread.Truncated = fault.Truncated
 fault_of unread.Unsupported = fault.Unsupported
 
 -- an item is carried out: it must be readable, a push must not be too long, and an opcode is
--- counted, also where the branches aren't taken
+-- within_op_limit, also where the branches aren't taken
 unfoldable pub carry_out : Given → Item → State → OrFault State
 carry_out given (item.fault e) s = Err (fault_of e)
 carry_out given (item.push bytes minimal) s =

@@ -7,7 +7,8 @@ use Rattle.def_machine.specs.declared.ScriptFault.{ScriptFault}
 use Rattle.def_machine.specs.declared.ScriptFault.TheVariants as fault
 use Rattle.def_machine.specs.Limits.{MAX_OPS_PER_SCRIPT, MAX_PUBKEYS_PER_MULTISIG}
 use Rattle.def_machine.specs.Faults.{OrFault, ◌>>=◌}
-use Rattle.def_machine.specs.Stacks.{Stack, Pairs, member, is_empty, is_key, bool_bytes}
+use Rattle.def_machine.specs.Stacks.{Stack, Pairs, member, is_empty, bool_bytes}
+use Rattle.def_script.specs.Key.{is_key}
 use Rattle.def_machine.specs.Effects.{one_number}
 
 -- a count from 0 to the most, or the given fault
@@ -32,8 +33,8 @@ one_off [] = Err fault.StackUnderflow
 one_off (x ∷ s) = Ok (x, s)
 
 -- a number of opcodes within the limit
-unfoldable pub counted : ℕ → OrFault ℕ
-counted ops = if nat_lt MAX_OPS_PER_SCRIPT ops then Err fault.OpCount else Ok ops
+unfoldable pub within_op_limit : ℕ → OrFault ℕ
+within_op_limit ops = if nat_lt MAX_OPS_PER_SCRIPT ops then Err fault.OpCount else Ok ops
 
 -- a try: it isn't made where more signatures than keys are left; then the key must have its form;
 -- then the pair is good or not
@@ -70,7 +71,7 @@ null_dummy extra = if is_empty extra then Ok extra else Err fault.NullDummy
 unfoldable pub check_multi_sig : Pairs → Stack → (ops : ℕ) → (checks : Pairs) → OrFault (Stack × ℕ × Pairs)
 check_multi_sig table main ops checks = do
   n ← count MAX_PUBKEYS_PER_MULTISIG fault.KeyCount main
-  total ← counted (ops + n.0)
+  total ← within_op_limit (ops + n.0)
   keys ← some_off n.0 n.1
   m ← count n.0 fault.SigCount keys.1
   sigs ← some_off m.0 m.1

@@ -1,5 +1,5 @@
 -- Stacks of byte strings, and tables of signatures.
-use Rattle.std.specs.Prelude.{◌==◌, ◌&&◌, ◌||◌, Bool, true, false, List, [], ◌∷◌, length, slice_index, if◌then◌else◌}
+use Rattle.std.specs.Prelude.{◌&&◌, Bool, true, false, List, [], ◌∷◌, if◌then◌else◌}
 use Rattle.std.specs.List.{list_any}
 use Rattle.std.specs.Str.{bytes_eq}
 use Rattle.def_script.specs.Bytes.{Bytes}
@@ -20,10 +20,6 @@ member table key sig = list_any (λ pair. bytes_eq pair.0 key && bytes_eq pair.1
 abbrev pub is_empty : Bytes → Bool
 is_empty [] = true
 is_empty (b ∷ bytes) = false
-
--- a compressed public key, as BIP 143 asks of P2WSH: 33 bytes that begin with 2 or 3
-abbrev pub is_key : Bytes → Bool
-is_key bytes = (length bytes == 33) && ((slice_index bytes 0 == 2) || (slice_index bytes 0 == 3))
 
 -- the string that an opcode pushes for true and for false
 abbrev pub bool_bytes : Bool → Bytes

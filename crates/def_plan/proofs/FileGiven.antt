@@ -2,7 +2,7 @@
 use Rattle.std.proofs.Common.{◌≡◌, ◌≢◌, ℕ, ◌≤◌, nat_le, true, is_some, List, [], ◌∷◌, length, map, All, Option, Some, None, Ok, Err, refl, sym, ◌∙◌, ap, subst, arith, slice_index_or, lit<}
 use Rattle.std.specs.List.{list_all, enumerate_from, IsDistinct}
 use Rattle.std.specs.Str.{bytes_eq}
-use Rattle.std.proofs.lemmas.Bool.{leb-true}
+use Rattle.std.proofs.lemmas.Bool.{leb-true, and_parts}
 use Rattle.std.proofs.lemmas.List.{length-map}
 use Rattle.std.proofs.lemmas.List.Elements.{All-map}
 use Rattle.std.proofs.lemmas.List.Folds.{list_all-map}
@@ -10,17 +10,17 @@ use Rattle.std.proofs.lemmas.List.Sums.{AllPass-from_list_all}
 use Rattle.serde_json.specs.Data.{Data}
 use Rattle.serde_json.specs.Find.{as_str}
 use Rattle.def_script.specs.Bytes.{Bytes}
-use Rattle.def_machine.specs.Stacks.{is_key}
+use Rattle.def_script.specs.Key.{is_key}
 use Rattle.def_tree.specs.Range.{IsKey}
 use Rattle.def_assets.specs.Assets.{IsPreimage, same_pair}
 use Rattle.def_files.specs.declared.Member.TheVariants as file_member
 use Rattle.def_files.specs.Json.{find_member, reading, is_object, is_list_of}
 use Rattle.def_files.specs.Parts.{version, sequence, locktime, list, elements, strings, is_text, is_hex, bytes_of, key_of, key_text}
-use Rattle.def_files.specs.Refusals.{unless_refused}
+use Rattle.def_files.specs.Refusals.{unless_any}
 use Rattle.def_files.specs.AssetFile.{is_preimage, MOST_PREIMAGES}
 use Rattle.def_files.proofs.Passing.{none_applies, held, each_held, AllTell, unless_tells, each_tells, first_tells}
 use Rattle.def_files.proofs.Strings.{spelled-IsBytes}
-use Rattle.def_files.proofs.Distinct.{both_true, distinct_keys, is_new}
+use Rattle.def_files.proofs.Distinct.{distinct_keys, is_new}
 use Rattle.def_files.proofs.Fits.{key_fits, preimage_fits, number_fits, all_mapped}
 use Rattle.def_plan.specs.declared.PlanMember.TheVariants as member
 use Rattle.def_plan.specs.declared.PlanFault.{PlanFault}
@@ -49,7 +49,7 @@ none_distinct : IsDistinct same_pair []
 unfolding IsDistinct
 none_distinct = tt
 
-plan_fits : (value : Data) (file : PlanFile) → unless_refused (plan_refusals value) (plan_in value) ≡ Ok file → IsPlanFile file
+plan_fits : (value : Data) (file : PlanFile) → unless_any (plan_refusals value) (plan_in value) ≡ Ok file → IsPlanFile file
 plan_fits value file e =
     let none = none_applies (plan_refusals value) (plan_in value) file e in
     -- those from number 5 on
@@ -58,8 +58,8 @@ plan_fits value file e =
     let preimages = elements file_member.Preimages value in
     let fit = all_mapped key_of is_key IsKey keys key_fits (each_held is_key fault.KeyForm (map key_of keys) rest.0) (λ x. spelled-IsBytes (key_text x)) in
     let lengths = each_held is_length fault.Length (map length_at keys) rest.1.0 in
-    let some = lengths_fit (λ n. 1 ≤ n) keys (λ n q. leb-true 1 n (both_true (nat_le 1 n) (nat_le n 73) q).0) lengths in
-    let short = lengths_fit (λ n. n ≤ 73) keys (λ n q. leb-true n 73 (both_true (nat_le 1 n) (nat_le n 73) q).1) lengths in
+    let some = lengths_fit (λ n. 1 ≤ n) keys (λ n q. leb-true 1 n (and_parts (nat_le 1 n) (nat_le n 73) q).0) lengths in
+    let short = lengths_fit (λ n. n ≤ 73) keys (λ n q. leb-true n 73 (and_parts (nat_le 1 n) (nat_le n 73) q).1) lengths in
     let texts = all_mapped bytes_of is_preimage IsPreimage preimages preimage_fits (each_held is_preimage fault.PreimageLength (map bytes_of preimages) rest.1.1.0) (λ x. spelled-IsBytes (as_str x)) in
     let distinct = distinct_keys fault.RepeatedKey (map key_of keys) rest.1.1.1.1.1.0 in
     subst IsPlanFile none.1 (record {
@@ -86,7 +86,7 @@ plan_fits value file e =
       };
     })
 
-given_ok : (read : Option Data) (file : PlanFile) → given read ≡ Ok file → (value : Data) × (unless_refused (plan_refusals value) (plan_in value) ≡ Ok file)
+given_ok : (read : Option Data) (file : PlanFile) → given read ≡ Ok file → (value : Data) × (unless_any (plan_refusals value) (plan_in value) ≡ Ok file)
 given_ok None file e = cc e
 given_ok (Some value) file e = (value, e)
 

@@ -4,12 +4,12 @@ use Rattle.std.specs.Str.{bytes_eq}
 use Rattle.serde_json.specs.Data.{Data}
 use Rattle.serde_json.specs.Find.{get}
 use Rattle.def_script.specs.Bytes.{Bytes}
-use Rattle.def_machine.specs.Stacks.{is_key}
+use Rattle.def_script.specs.Key.{is_key}
 use Rattle.def_assets.specs.Assets.{Assets}
 use Rattle.def_files.specs.declared.Member.TheVariants as file_member
 use Rattle.def_files.specs.Json.{reading, is_object, number_of, elements_or_empty, is_list_of, spelled}
 use Rattle.def_files.specs.Parts.{version, sequence, locktime, locks, list, elements, strings, is_text, is_hex, key_text, key_of}
-use Rattle.def_files.specs.Refusals.{unless, unless_each, unless_refused, no_repeat}
+use Rattle.def_files.specs.Refusals.{unless, unless_each, unless_any, no_repeat}
 use Rattle.def_files.specs.AssetFile.{MOST_PREIMAGES, is_preimage}
 use Rattle.def_plan.specs.declared.PlanMember.TheVariants as member
 use Rattle.def_plan.specs.declared.PlanFault.{PlanFault}
@@ -84,7 +84,7 @@ plan_in file = record {
 -- what a file gives: where it has no reading, it is refused
 abbrev pub given : Option Data → Result PlanFile PlanFault
 given None = Err fault.NotJson
-given (Some file) = unless_refused (plan_refusals file) (plan_in file)
+given (Some file) = unless_any (plan_refusals file) (plan_in file)
 
 -- what the bytes of a plan file give, or why they are refused
 unfoldable pub plan_file_of : Bytes → Result PlanFile PlanFault

@@ -6,7 +6,7 @@ use Rattle.def_tree.specs.Tree.{Tree, Trees, Key, just_0, just_1, pk_k, pk_h, ol
 use Rattle.def_tree.specs.Range.{count}
 use Rattle.def_assets.specs.Assets.{Assets}
 use Rattle.def_satisfaction.specs.Rows.{EMPTY, ONE}
-use Rattle.def_satisfaction.specs.Weight.{weight}
+use Rattle.def_script.specs.Witness.{weight}
 use Rattle.def_choice.specs.Sets.{sets}
 use Rattle.def_choice.specs.Least.{both, least}
 use Rattle.def_choice.specs.Cheapest.{dissatisfaction, stack_of, signatures_of}

@@ -4,9 +4,11 @@
 pub mod examples;
 pub mod laws;
 
-/// How a policy joins its parts: `All` is true where each part is, `Any` where one is.
+/// How a policy joins its parts.
 #[derive(Clone, Copy, Debug, PartialEq, Eq)]
 pub enum Join {
+    /// True where each part is.
     All,
+    /// True where one part is.
     Any,
 }

@@ -1,15 +1,15 @@
 -- A fresh stack has a preimage that isn't known, or another key.
-use Rattle.std.proofs.Common.{◌≡◌, ◌≢◌, ℕ, ◌-◌, Bool, true, false, List, [], ◌∷◌, ◌++◌, length, reverse, Contains, Option, Some, None, refl, sym, ◌∙◌, ap, subst, ◌⊎◌, inl, inr, IsTrue, arith}
+use Rattle.std.proofs.Common.{◌≡◌, ◌≢◌, ℕ, Bool, true, false, List, [], ◌∷◌, ◌++◌, reverse, Contains, Option, Some, None, refl, sym, ◌∙◌, ap, subst, ◌⊎◌, inl, inr, IsTrue, arith}
 use Rattle.std.specs.Str.{bytes_eq}
 use Rattle.std.proofs.lemmas.Slice.Eq.{bytes_eq-Decides}
-use Rattle.std.proofs.lemmas.List.{length-reverse, get_or-reverse}
 use Rattle.std.proofs.lemmas.List.Elements.{Contains-append_left, Contains-append_right}
 use Rattle.std.proofs.lemmas.Option.{none-some, same_Some}
 use Rattle.std.proofs.lemmas.Bool.{false≢true}
 use Rattle.def_hash.specs.declared.HashKind.{HashKind}
 use Rattle.def_hash.specs.Hash.{hash160}
 use Rattle.def_script.specs.Bytes.{Bytes}
-use Rattle.def_machine.specs.Stacks.{Stack, is_key}
+use Rattle.def_machine.specs.Stacks.{Stack}
+use Rattle.def_script.specs.Key.{is_key}
 use Rattle.def_machine.specs.Machine.{Given}
 use Rattle.def_tree.specs.declared.Two.{Two}
 use Rattle.def_tree.specs.declared.Two.TheVariants as kind
@@ -24,6 +24,7 @@ use Rattle.def_satisfaction.specs.Rows.{Row, NotCanonical, Signature, WithHashOf
 use Rattle.def_satisfaction.specs.Satisfaction.{full}
 use Rattle.def_satisfaction.proofs.Wider.{Within}
 use Rattle.def_choice.specs.NonMalleable.{given_with}
+use Rattle.def_choice.proofs.Weights.{contains-reverse}
 use Rattle.def_promises.specs.Promises.{HasUnknownPreimage, HasOtherKey, FreshHasItem}
 
 -- an item of a stack by a fragment of a list
@@ -229,12 +230,6 @@ module _ (assets : Assets) (given : Given) (nodes : List Tree) where
     parts_or : (xs : Trees) → In (nodes_of_all xs) → (n : ℕ) → Or (parts anyone xs n) (parts knower xs n)
     parts_or none h n = plain _
     parts_or (more x xs) h n = counted_or _ _ _ _ (splits x (left (all_nodes x) (nodes_of_all xs) h)) (parts_or xs (right (all_nodes x) (nodes_of_all xs) h)) n
-
--- an item of a stack that is turned round is one of the stack
-pub contains-reverse : (xs : List Bytes) (x : Bytes) → Contains (reverse xs) x → Contains xs x
-contains-reverse xs x (k, below, e) =
-    let l = length-reverse xs in
-    (length xs - 1 - k, omega (arith, l, below), sym (get_or-reverse xs k x (omega (arith, l, below))) ∙ e)
 
 shown : (tree : Tree) (assets : Assets) (given : Given) (stack : List Bytes) → Odd assets given (all_nodes tree) (reverse stack) → HasUnknownPreimage tree assets stack ⊎ HasOtherKey tree stack
 shown tree assets given stack (inl u) = inl (record {

@@ -34,11 +34,11 @@ use Rattle.def_satisfaction.proofs.EqualParts.{first_same}
 use Rattle.def_satisfaction.proofs.Forms.{bytes, never_both, one_of_both, key_form, digest_form, signature_form, preimage_form}
 
 key_a_form : IsKey key_a
-key_a_form = key_form key_a refl (inl refl) refl
+key_a_form = key_form key_a refl refl
 
 key_b_form : IsKey key_b
 unfolding computing
-key_b_form = key_form key_b refl (inl refl) refl
+key_b_form = key_form key_b refl refl
 
 writable : IsWritable key_and_key_or_hashes
 unfolding computing

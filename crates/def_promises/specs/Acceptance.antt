@@ -13,7 +13,7 @@ use Rattle.def_sane.specs.Limits.{AreLimits}
 use Rattle.def_sane.specs.declared.Rules.TheVariants.{Consensus}
 use Rattle.def_sane.specs.Unfit.{IsValidUnder}
 use Rattle.def_height.specs.Height.{IsHeight}
-use Rattle.def_satisfaction.specs.Weight.{weight}
+use Rattle.def_script.specs.Witness.{weight}
 use Rattle.def_satisfaction.specs.Setting.{any}
 use Rattle.def_satisfaction.specs.Satisfaction.{Sat, FullSat, Holds}
 use Rattle.def_choice.specs.NonMalleable.{IsAccepted, given_with}

@@ -4,7 +4,8 @@ use Rattle.def_tree.specs.Tree.{Tree}
 use Rattle.def_emit.specs.Emit.{emit}
 use Rattle.def_sane.specs.declared.Limits.{Limits}
 use Rattle.def_sane.specs.Formal.{Takes, plus, FormalSat}
-use Rattle.def_sane.specs.Limits.{opcode_count, IsGreatest}
+use Rattle.def_sane.specs.Limits.{IsGreatest}
+use Rattle.def_script.specs.Instruction.{opcode_count}
 use Rattle.def_sane.specs.Most.{greater, most_sat, number_of, limits_of}
 use Rattle.def_sane.specs.Laws.{LimitsAreComputed, LimitsAreUnique}
 use Rattle.def_sane.proofs.MostOf.{IsMost, sat-most}

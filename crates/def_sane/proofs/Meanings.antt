@@ -9,7 +9,7 @@ use Rattle.def_types.specs.declared.Mall.{Mall}
 use Rattle.def_types.specs.declared.rule.RuleAt.{RuleAt}
 use Rattle.def_types.specs.Corr.{is_b, corr}
 use Rattle.def_types.specs.Malleable.{mall}
-use Rattle.def_types.specs.Typed.{type_of, IsTyped, mall_of, IsNonMalleable}
+use Rattle.def_types.specs.Typed.{type_of, IsTyped, mall_of, IsMallTyped}
 use Rattle.def_types.proofs.Typing.{corr_is_typed, mall_is_non_malleable}
 use Rattle.def_sane.specs.declared.Rules.{Rules}
 use Rattle.def_sane.specs.declared.Rules.TheVariants.{Policy, Consensus}
@@ -140,7 +140,7 @@ repeat_from_none (Some node) e = cc
 pub sane_means_under : SaneMeans
 sane_means_under rules tree = (forth, back)
   where
-    forth : IsSaneUnder rules tree → IsValidUnder rules tree × IsNonMalleable tree × IsTrue (mall_of tree).s × (mix tree ≡ None) × AreDistinct (keys tree)
+    forth : IsSaneUnder rules tree → IsValidUnder rules tree × IsMallTyped tree × IsTrue (mall_of tree).s × (mix tree ≡ None) × AreDistinct (keys tree)
     forth sane =
         let one = no_reason _ _ sane in
         let two = no_reason _ _ one.1 in
@@ -157,7 +157,7 @@ sane_means_under rules tree = (forth, back)
           (none_is_repeated tree).0 (repeat_from_none (repeated_key tree) five.0),
         )
 
-    back : IsValidUnder rules tree × IsNonMalleable tree × IsTrue (mall_of tree).s × (mix tree ≡ None) × AreDistinct (keys tree) → IsSaneUnder rules tree
+    back : IsValidUnder rules tree × IsMallTyped tree × IsTrue (mall_of tree).s × (mix tree ≡ None) × AreDistinct (keys tree) → IsSaneUnder rules tree
     back h =
         let typed : mall tree ≡ Ok (mall_of tree) = (mall_is_non_malleable tree (mall_of tree)).1 (h.1, refl) in
         none_first _ _ h.0
@@ -168,7 +168,7 @@ sane_means_under rules tree = (forth, back)
 
 -- of policy
 pub sane_means : (tree : Tree) →
-    IsSane tree ↔ (IsValid tree × IsNonMalleable tree × IsTrue (mall_of tree).s × (mix tree ≡ None) × AreDistinct (keys tree))
+    IsSane tree ↔ (IsValid tree × IsMallTyped tree × IsTrue (mall_of tree).s × (mix tree ≡ None) × AreDistinct (keys tree))
 sane_means = sane_means_under Policy
 
 -- the limits of consensus are the widest

@@ -2,7 +2,7 @@
 use Rattle.std.specs.Prelude.{◌≡◌, ◌↔◌, ℕ, ◌<◌, ◌≤◌, None, ⊤, IsTrue, MatchOption}
 use Rattle.def_tree.specs.Tree.{Tree}
 use Rattle.def_types.specs.declared.Base.TheVariants.{B}
-use Rattle.def_types.specs.Typed.{type_of, IsTyped, mall_of, IsNonMalleable}
+use Rattle.def_types.specs.Typed.{type_of, IsTyped, mall_of, IsMallTyped}
 use Rattle.def_sane.specs.declared.Limits.{Limits}
 use Rattle.def_sane.specs.declared.Rules.{Rules}
 use Rattle.def_sane.specs.declared.Rules.TheVariants.{Policy, Consensus}
@@ -58,7 +58,7 @@ abbrev pub SaneMeans : Type 0
 SaneMeans =
     (rules : Rules) (tree : Tree) →
     IsSaneUnder rules tree ↔
-    (IsValidUnder rules tree × IsNonMalleable tree × IsTrue (mall_of tree).s × (mix tree ≡ None) × AreDistinct (keys tree))
+    (IsValidUnder rules tree × IsMallTyped tree × IsTrue (mall_of tree).s × (mix tree ≡ None) × AreDistinct (keys tree))
 
 -- what is valid, or sane, under any rules is so under those of consensus
 abbrev pub ValidUnderConsensus : Type 0

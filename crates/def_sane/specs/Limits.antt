@@ -1,16 +1,10 @@
 -- The limits of a miniscript (BIP 379, resource limits).
-use Rattle.std.specs.Prelude.{◌≡◌, ℕ, ◌+◌, ◌≤◌, ◌⊎◌, List, [], ◌∷◌, length}
-use Rattle.def_script.specs.Instruction.{Instruction, push, code}
+use Rattle.std.specs.Prelude.{◌≡◌, ℕ, ◌+◌, ◌≤◌, ◌⊎◌, length}
+use Rattle.def_script.specs.Instruction.{opcode_count}
 use Rattle.def_tree.specs.Tree.{Tree}
 use Rattle.def_emit.specs.Emit.{emit, script_of}
 use Rattle.def_sane.specs.declared.Limits.{Limits}
 use Rattle.def_sane.specs.Formal.{Takes, FormalSat}
-
--- how many instructions aren't pushes: the opcodes above 0x60, which count
-abbrev pub opcode_count : List Instruction → ℕ
-opcode_count [] = 0
-opcode_count (push bytes ∷ rest) = opcode_count rest
-opcode_count (code op ∷ rest) = 1 + opcode_count rest
 
 -- n is the greatest of a number over all of P, or 0 where P has none
 abbrev pub IsGreatest : (P : Takes → Type 0) → (number : Takes → ℕ) → (n : ℕ) → Type 0

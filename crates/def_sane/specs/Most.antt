@@ -6,7 +6,7 @@ use Rattle.def_tree.specs.Tree.{Tree, Trees, just_0, just_1, pk_k, pk_h, older, 
 use Rattle.def_emit.specs.Emit.{emit, script_of}
 use Rattle.def_sane.specs.declared.Limits.{Limits}
 use Rattle.def_sane.specs.Formal.{Takes, nothing, item, same_items, tried, plus, SIGNATURE, PREIMAGE, empty, one}
-use Rattle.def_sane.specs.Limits.{opcode_count}
+use Rattle.def_script.specs.Instruction.{opcode_count}
 
 -- the greater of each number
 abbrev pub greater : Takes → Takes → Takes

@@ -10,9 +10,13 @@ pub use def_types::{Mall, RuleAt, Ty};
 /// the items and the weight of a satisfaction.
 #[derive(Clone, Copy, Debug, PartialEq, Eq)]
 pub struct Limits {
+    /// The bytes of its Script.
     pub size: u64,
+    /// The opcodes that count in a run of its Script, with the keys of each `multi` that is executed.
     pub ops: u64,
+    /// The items of a satisfaction, without the Script.
     pub items: u64,
+    /// The weight of a satisfaction, in bytes: the sum over its items, without the Script, of 1 and the item's length.
     pub weight: u64,
 }
 
@@ -20,38 +24,51 @@ pub struct Limits {
 /// which a block may hold it.
 #[derive(Clone, Copy, Debug, PartialEq, Eq)]
 pub enum Rules {
+    /// Those of policy (Bitcoin Core: `policy/policy.h`).
     Policy,
+    /// Those of consensus alone (Bitcoin Core: `script/script.h`).
     Consensus,
 }
 
-/// Why a miniscript is refused, in the order in which the reasons are tested: a requirement of the
-/// correctness types, a top that isn't `B`, three limits with what they come to, a requirement of the
-/// malleability types, a top without the property s, the first node that mixes timelocks, and the first
-/// node with a key that was seen before.
+/// Why a miniscript is refused, in the order in which the reasons are tested.
 #[derive(Clone, Copy, Debug, PartialEq, Eq)]
 pub enum Unfit {
+    /// A requirement of the correctness types is false, at this node.
     Rule(RuleAt),
+    /// The type of the top isn't `B`.
     TopNotB,
+    /// The Script has this many bytes, which are too many.
     Size(u64),
+    /// A run counts this many opcodes, which are too many.
     Ops(u64),
+    /// A satisfaction has this many items, which are too many.
     Items(u64),
+    /// A requirement of the malleability properties is false, at this node.
     Malleable(RuleAt),
+    /// The top hasn't the property s.
     NoSignature,
+    /// The node with this number is the first that mixes timelocks.
     MixedLocks(u32),
+    /// The node with this number is the first with a key that was seen before.
     RepeatedKey(u32),
 }
 
 /// What is known of a valid miniscript: its type and its limits.
 #[derive(Clone, Copy, Debug, PartialEq, Eq)]
 pub struct Valid {
+    /// Its correctness type.
     pub ty: Ty,
+    /// Its limits.
     pub limits: Limits,
 }
 
 /// What is known of a sane miniscript: both its types and its limits.
 #[derive(Clone, Copy, Debug, PartialEq, Eq)]
 pub struct Sane {
+    /// Its correctness type.
     pub ty: Ty,
+    /// Its malleability properties.
     pub mall: Mall,
+    /// Its limits.
     pub limits: Limits,
 }

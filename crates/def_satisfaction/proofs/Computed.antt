@@ -129,7 +129,7 @@ zeros_are_no_miss stack (inr (below, above, p, inl q, e)) = q.0.1 refl
 zeros_are_no_miss stack (inr (below, above, p, inr q, e)) = false≢true q.0
 
 key_a_form : IsKey key_a
-key_a_form = key_form key_a refl (inl refl) refl
+key_a_form = key_form key_a refl refl
 
 two_of_one_key_form : AreAssets two_of_one_key
 unfolding computing IsDistinct

@@ -1,6 +1,6 @@
 -- The forms of keys, hash values, signatures and preimages, from tests that compute; and what tests tell, for the
 -- examples.
-use Rattle.std.proofs.Common.{◌≡◌, ℕ, zero, suc, ◌≤◌, ◌<◌, nat_lt, nat_le, Bool, true, false, ◌&&◌, ◌||◌, [], ◌∷◌, length, slice_index, refl, ◌⊎◌, arith}
+use Rattle.std.proofs.Common.{◌≡◌, ℕ, zero, suc, ◌≤◌, ◌<◌, nat_lt, nat_le, Bool, true, false, ◌&&◌, ◌||◌, [], ◌∷◌, length, refl, arith}
 use Rattle.std.specs.List.{list_all}
 use Rattle.std.proofs.lemmas.Bool.{and_parts, false≢true}
 use Rattle.std.proofs.lemmas.Bool.Decides.{nat_tests}
@@ -10,6 +10,7 @@ use Rattle.def_script.specs.Bytes.{Bytes, IsBytes}
 use Rattle.def_tree.specs.Tree.{Key}
 use Rattle.def_tree.specs.Range.{IsKey, IsDigest}
 use Rattle.def_assets.specs.Assets.{IsSignature, IsPreimage}
+use Rattle.def_script.specs.Key.{is_key}
 
 abbrev pub all_low : Bytes → Bool
 all_low = list_all (λ b. nat_lt b 256)
@@ -22,8 +23,8 @@ bytes [] h i = omega arith
 bytes (x ∷ xs) h zero = below x (and_parts (nat_lt x 256) (all_low xs) h).0
 bytes (x ∷ xs) h (suc i) = bytes xs (and_parts (nat_lt x 256) (all_low xs) h).1 i
 
-pub key_form : (key : Key) → length key ≡ 33 → (slice_index key 0 ≡ 2) ⊎ (slice_index key 0 ≡ 3) → all_low key ≡ true → IsKey key
-key_form key l p b = record { length = l; prefix = p; bytes = bytes key b }
+pub key_form : (key : Key) → is_key key ≡ true → all_low key ≡ true → IsKey key
+key_form key f b = record { form = f; bytes = bytes key b }
 
 pub digest_form : (kind : HashKind) (value : Bytes) → length value ≡ digest_length kind → all_low value ≡ true → IsDigest kind value
 digest_form kind value l b = record { length = l; bytes = bytes value b }

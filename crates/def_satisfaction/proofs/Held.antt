@@ -1,5 +1,5 @@
 -- What assets hold: the signature of a key is one, and no longer than any other; a known preimage is one.
-use Rattle.std.proofs.Common.{◌≡◌, ◌≤◌, Bool, true, false, ◌&&◌, ◌||◌, not, List, [], ◌∷◌, length, slice_index, Contains, Some, refl, ◌∙◌, ap, subst, ◌⊎◌, inl, inr, All, arith, if◌then◌else◌}
+use Rattle.std.proofs.Common.{◌≡◌, ◌≤◌, Bool, true, false, ◌&&◌, ◌||◌, not, List, [], ◌∷◌, length, Contains, Some, refl, ◌∙◌, ap, subst, inl, inr, All, arith, if◌then◌else◌}
 use Rattle.std.specs.List.{find}
 use Rattle.std.specs.Str.{bytes_eq}
 use Rattle.std.proofs.lemmas.Slice.Eq.{bytes_eq-Decides}
@@ -9,10 +9,8 @@ use Rattle.std.proofs.lemmas.Bool.{false≢true, and_parts}
 use Rattle.def_hash.specs.declared.HashKind.{HashKind}
 use Rattle.def_hash.specs.Hash.{digest_of}
 use Rattle.def_script.specs.Bytes.{Bytes}
-use Rattle.def_machine.specs.Stacks.{Pairs, member, is_empty, is_key}
+use Rattle.def_machine.specs.Stacks.{Pairs, member, is_empty}
 use Rattle.def_machine.specs.MultiSig.{is_good}
-use Rattle.def_tree.specs.Range.{IsKey}
-use Rattle.def_tree.specs.Tree.{Key}
 use Rattle.def_assets.specs.Assets.{Assets, AreAssets, IsSignature, IsPreimage, sig_of, known}
 use Rattle.def_assets.proofs.Shortest.{no_pair, first_or_later, found_is_held, held_is_found}
 
@@ -78,11 +76,3 @@ known_of kind value (p ∷ ps) x all h =
 
 pub known_is_preimage : (assets : Assets) → AreAssets assets → (kind : HashKind) (value x : Bytes) → known assets kind value ≡ Some x → IsPreimage x × (digest_of kind x ≡ value)
 known_is_preimage assets are kind value x h = known_of kind value assets.preimages x are.preimages h
-
--- a key has the form that the machine asks of it
-pub key_form : (key : Key) → IsKey key → is_key key ≡ true
-key_form key k = go k.prefix
-  where
-    go : (slice_index key 0 ≡ 2) ⊎ (slice_index key 0 ≡ 3) → is_key key ≡ true
-    go (inl h) = rw (k.length, h) refl
-    go (inr h) = rw (k.length, h) refl

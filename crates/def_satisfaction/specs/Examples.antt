@@ -1,7 +1,7 @@
 -- Canonical satisfactions of some miniscripts, bottom first, with their weights and their runs.
 use Rattle.std.specs.Prelude.{◌≡◌, ℕ, List, [], ◌∷◌, ◌++◌}
 use Rattle.def_script.specs.Bytes.{Bytes}
-use Rattle.def_script.specs.Witness.{witness_text}
+use Rattle.def_script.specs.Witness.{witness_text, weight}
 use Rattle.def_machine.specs.Stacks.{Pairs}
 use Rattle.def_machine.specs.Samples.{key_a, key_b, sig_a, sig_b, sig_c}
 use Rattle.def_machine.specs.Run.{run, accepted}
@@ -9,7 +9,6 @@ use Rattle.def_tree.specs.Tree.{Tree}
 use Rattle.def_emit.specs.Emit.{script_of}
 use Rattle.def_types.specs.Samples.{pk}
 use Rattle.def_assets.specs.Assets.{Assets, AreAssets}
-use Rattle.def_satisfaction.specs.Weight.{weight}
 use Rattle.def_satisfaction.specs.Setting.{any}
 use Rattle.def_satisfaction.specs.Rows.{EMPTY, ONE}
 use Rattle.def_satisfaction.specs.Satisfaction.{given_of, Sat, FullSat}

@@ -1,4 +1,3 @@
-pub mod Weight
 pub mod StackSet
 pub mod Setting
 pub mod Rows

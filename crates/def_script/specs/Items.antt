@@ -24,26 +24,26 @@ abbrev pub op_of_byte : ℕ → Option Op
 op_of_byte byte = find (λ op. opcode_byte op == byte) every_op
 
 -- an item that bytes begin with, and how many bytes it takes after its first one
-abbrev pub Reading : Type 0
-Reading = Result (Item × ℕ) InstrFault
+abbrev pub ItemReading : Type 0
+ItemReading = Result (Item × ℕ) InstrFault
 
 -- a push is minimal where it begins with the byte with which its shortest spelling begins
 abbrev pub is_minimal_push : (first : ℕ) → Bytes → Bool
 is_minimal_push first bytes = slice_index (shortest_push bytes) 0 == first
 
 -- a push whose first byte is followed by a length field of so many bytes, and then by its bytes
-abbrev pub read_push : (first field count : ℕ) → Bytes → Reading
+abbrev pub read_push : (first field count : ℕ) → Bytes → ItemReading
 read_push first field count rest =
     if nat_lt (length rest) (field + count) then Err Truncated
     else Ok (item.push (take count (drop field rest)) (is_minimal_push first (take count (drop field rest))), field + count)
 
 -- an opcode that isn't a push
-abbrev pub read_op : Option Op → Reading
+abbrev pub read_op : Option Op → ItemReading
 read_op (Some op) = Ok (item.code op, 0)
 read_op None = Err Unsupported
 
 -- an opcode that pushes the number -1 or 1 to 16, or another opcode
-abbrev pub read_number_or_op : ℕ → Reading
+abbrev pub read_number_or_op : ℕ → ItemReading
 read_number_or_op first =
     if first == 0x4f then Ok (item.push (number_bytes (negsuc 0)) true, 0)
     else if nat_le 0x51 first && nat_le first 0x60 then Ok (item.push (number_bytes (pos (first - 0x50))) true, 0)
@@ -60,16 +60,16 @@ push_size first rest =
     else if first == 0x4e then Some (4, from_le_bytes w32 rest)
     else None
 
-abbrev pub read_sized : (first : ℕ) → Option (ℕ × ℕ) → Bytes → Reading
+abbrev pub read_sized : (first : ℕ) → Option (ℕ × ℕ) → Bytes → ItemReading
 read_sized first (Some size) rest = read_push first size.0 size.1 rest
 read_sized first None rest = read_number_or_op first
 
 -- the item that begins with a byte
-unfoldable pub first_item : ℕ → Bytes → Reading
+unfoldable pub first_item : ℕ → Bytes → ItemReading
 first_item first rest = read_sized first (push_size first rest) rest
 
 -- an item and those after it; a fault ends them
-abbrev pub followed : Reading → (ℕ → List Item) → List Item
+abbrev pub followed : ItemReading → (ℕ → List Item) → List Item
 followed (Ok r) next = r.0 ∷ next r.1
 followed (Err fault) next = item.fault fault ∷ []
 

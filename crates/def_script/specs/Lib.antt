@@ -1,4 +1,5 @@
 pub mod Bytes
+pub mod Key
 pub mod Instruction
 pub mod Numbers
 pub mod Spell

@@ -60,12 +60,12 @@ shortest_push [] = 0x00 ∷ []
 shortest_push (b ∷ []) = byte_push b
 shortest_push (b ∷ c ∷ bytes) = sized_push (b ∷ c ∷ bytes)
 
--- at most 520 bytes are pushed at once (Bitcoin Core, `MAX_SCRIPT_ELEMENT_SIZE`)
-abbrev pub MOST_PUSHED : ℕ
-MOST_PUSHED = 520
+-- the bytes of an element, of which more can't be pushed (Bitcoin Core, script/script.h)
+abbrev pub MAX_SCRIPT_ELEMENT_SIZE : ℕ
+MAX_SCRIPT_ELEMENT_SIZE = 520
 
 abbrev pub IsShort : Instruction → Type 0
-IsShort (push bytes) = length bytes ≤ MOST_PUSHED
+IsShort (push bytes) = length bytes ≤ MAX_SCRIPT_ELEMENT_SIZE
 IsShort (code op) = ⊤
 
 -- the shortest spelling of an instruction

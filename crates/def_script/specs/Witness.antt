@@ -1,5 +1,5 @@
 -- The witness of an input (BIP 141; Bitcoin Core: the serialization of `CScriptWitness`).
-use Rattle.std.specs.Prelude.{List, [], ◌∷◌, ◌++◌, length}
+use Rattle.std.specs.Prelude.{ℕ, ◌+◌, List, [], ◌∷◌, ◌++◌, length}
 use Rattle.std.specs.List.{flat_map}
 use Rattle.def_script.specs.Bytes.{Bytes}
 use Rattle.def_script.specs.Sizes.{size_bytes}
@@ -15,3 +15,8 @@ items_text items = size_bytes (length items) ++ flat_map sized items
 -- the witness of a P2WSH output: the stack, bottom first, and the Script as its last item
 abbrev pub witness_text : (stack : List Bytes) → (script : Bytes) → Bytes
 witness_text stack script = items_text (stack ++ script ∷ [])
+
+-- what a stack weighs in a witness: for each item 1, which is the byte of its size, and its length
+abbrev pub weight : (stack : List Bytes) → ℕ
+weight [] = 0
+weight (item ∷ stack) = 1 + length item + weight stack

@@ -6,36 +6,62 @@ pub mod laws;
 
 use thiserror::Error;
 
-/// An opcode that Miniscript in P2WSH outputs uses and that isn't a push, by Bitcoin Core's names.
-/// `Cltv` is CHECKLOCKTIMEVERIFY (BIP 65) and `Csv` is CHECKSEQUENCEVERIFY (BIP 112).
+/// An opcode that Miniscript in P2WSH outputs uses and that isn't a push, by Bitcoin Core's names (`opcodetype`).
 #[derive(Clone, Copy, Debug, PartialEq, Eq)]
 pub enum Op {
+    /// `OP_IF`, the byte `63`.
     If,
+    /// `OP_NOTIF`, the byte `64`.
     NotIf,
+    /// `OP_ELSE`, the byte `67`.
     Else,
+    /// `OP_ENDIF`, the byte `68`.
     EndIf,
+    /// `OP_VERIFY`, the byte `69`.
     Verify,
+    /// `OP_TOALTSTACK`, the byte `6b`.
     ToAltStack,
+    /// `OP_FROMALTSTACK`, the byte `6c`.
     FromAltStack,
+    /// `OP_IFDUP`, the byte `73`.
     IfDup,
+    /// `OP_DUP`, the byte `76`.
     Dup,
+    /// `OP_SWAP`, the byte `7c`.
     Swap,
+    /// `OP_SIZE`, the byte `82`.
     Size,
+    /// `OP_EQUAL`, the byte `87`.
     Equal,
+    /// `OP_EQUALVERIFY`, the byte `88`.
     EqualVerify,
+    /// `OP_0NOTEQUAL`, the byte `92`.
     ZeroNotEqual,
+    /// `OP_ADD`, the byte `93`.
     Add,
+    /// `OP_BOOLAND`, the byte `9a`.
     BoolAnd,
+    /// `OP_BOOLOR`, the byte `9b`.
     BoolOr,
+    /// `OP_RIPEMD160`, the byte `a6`.
     Ripemd160,
+    /// `OP_SHA256`, the byte `a8`.
     Sha256,
+    /// `OP_HASH160`, the byte `a9`.
     Hash160,
+    /// `OP_HASH256`, the byte `aa`.
     Hash256,
+    /// `OP_CHECKSIG`, the byte `ac`.
     CheckSig,
+    /// `OP_CHECKSIGVERIFY`, the byte `ad`.
     CheckSigVerify,
+    /// `OP_CHECKMULTISIG`, the byte `ae`.
     CheckMultiSig,
+    /// `OP_CHECKMULTISIGVERIFY`, the byte `af`.
     CheckMultiSigVerify,
+    /// `OP_CHECKLOCKTIMEVERIFY` (BIP 65), the byte `b1`.
     Cltv,
+    /// `OP_CHECKSEQUENCEVERIFY` (BIP 112), the byte `b2`.
     Csv,
 }
 

@@ -9,7 +9,7 @@ use Rattle.def_tree.specs.Tree.{Tree}
 use Rattle.def_text.specs.declared.TextFault.TheVariants.{Syntax, TooDeep}
 use Rattle.def_text.specs.Token.{tokens}
 use Rattle.def_text.specs.Refusal.{MOST_BYTES, TextRefusal, TextReads}
-use Rattle.def_text.specs.Reader.{START, tree_outcome, syntax_outcome, deep_outcome, outcome}
+use Rattle.def_text.specs.Scaffolding.Reader.{START, tree_outcome, syntax_outcome, deep_outcome, outcome}
 use Rattle.def_text.proofs.Completion.{ascii_is_utf8}
 use Rattle.def_text.proofs.Report.{Reports, report}
 

@@ -5,7 +5,7 @@ use Rattle.def_tree.specs.Tree.{Key, Tree, Trees, and_or, thresh, more, none}
 use Rattle.def_text.specs.Token.{Token, word, opening, closing, comma, colon, other, end}
 use Rattle.def_text.specs.Letter.{Letter, letter_of_wrapper, letter_t, letter_l, letter_u, letter_tree, letter_offsets, letters_tree, letters_offsets}
 use Rattle.def_text.specs.Spells.{Spells, text_0, text_1, text_pk_k, text_pk_h, text_pk, text_pkh, text_older, text_after, text_hash, text_andor, text_two, text_and_n, text_thresh, text_multi, text_letters, SpellsChildren, last_child, next_child, SpellsKeys, last_key, next_key, SpellsText, text_whole}
-use Rattle.def_text.specs.Reader.{expression, ended, finished, multi_comma, multi_next, thresh_comma, Frame, letter_frame, thresh_child, andor_first, andor_second, andor_third, pair_first, pair_second, pair_two, pair_and_n, Pair, pair_tree, pair_offsets, State, START, step, behind, run_frames, run_offsets, joined, offsets_before, offsets_behind}
+use Rattle.def_text.specs.Scaffolding.Reader.{expression, ended, finished, multi_comma, multi_next, thresh_comma, Frame, letter_frame, thresh_child, andor_first, andor_second, andor_third, pair_first, pair_second, pair_two, pair_and_n, Pair, pair_tree, pair_offsets, State, START, step, behind, run_frames, run_offsets, joined, offsets_before, offsets_behind}
 use Rattle.def_text.proofs.Words.{head_of_letters, head_of_hash, head_of_two}
 
 -- ---- letters

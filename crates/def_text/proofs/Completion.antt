@@ -18,7 +18,7 @@ use Rattle.def_tree.specs.Tree.{Key, Tree, just_0, multi, pk_k, pk_h, older, aft
 use Rattle.def_text.specs.Token.{Token, word, closing, tokens_from}
 use Rattle.def_text.specs.Letter.{letter_tree}
 use Rattle.def_text.specs.Word.{key_of, hash_of}
-use Rattle.def_text.specs.Reader.{Leaf, leaf_pk_k, leaf_pk_h, leaf_pk, leaf_pkh, leaf_older, leaf_after, leaf_hash, leaf_of, Want, expression, colon_next, leaf_open, leaf_word, leaf_close, andor_open, pair_open, thresh_open, thresh_number, thresh_comma, multi_open, multi_number, multi_comma, multi_key, multi_next, ended, finished, Frame, letter_frame, andor_first, andor_second, andor_third, pair_first, pair_second, thresh_child, State, behind, step, offsets_behind, pair_tree}
+use Rattle.def_text.specs.Scaffolding.Reader.{Leaf, leaf_pk_k, leaf_pk_h, leaf_pk, leaf_pkh, leaf_older, leaf_after, leaf_hash, leaf_of, Want, expression, colon_next, leaf_open, leaf_word, leaf_close, andor_open, pair_open, thresh_open, thresh_number, thresh_comma, multi_open, multi_number, multi_comma, multi_key, multi_next, ended, finished, Frame, letter_frame, andor_first, andor_second, andor_third, pair_first, pair_second, thresh_child, State, behind, step, offsets_behind, pair_tree}
 use Rattle.def_text.proofs.Complete.{step_letter}
 use Rattle.def_text.proofs.Cut.{starts_word, alone}
 

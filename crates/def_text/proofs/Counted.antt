@@ -8,7 +8,7 @@ use Rattle.def_text.specs.Token.{Token, word, opening, closing, comma, colon, ot
 use Rattle.def_text.specs.Letter.{Letter, letter_tree}
 use Rattle.def_text.specs.Word.{number_of, key_of}
 use Rattle.def_text.specs.Refusal.{levels_of, count_step, counts, first_count, enclosing}
-use Rattle.def_text.specs.Reader.{leaf_of, Form, form_0, form_1, form_leaf, form_andor, form_pair, form_thresh, form_multi, Head, named, run, neither, head_of, head_levels, Want, expression, colon_next, leaf_open, leaf_word, leaf_close, andor_open, pair_open, thresh_open, thresh_number, thresh_comma, multi_open, multi_number, multi_comma, multi_key, multi_next, ended, finished, Frame, letter_frame, andor_first, andor_second, andor_third, pair_first, pair_second, thresh_child, State, START, run_frames, begin_form, begin, step_word, step_opening, step_closing, step_comma, step_colon, step_end, comma_behind, closing_behind, end_behind, step, behind, offsets_behind}
+use Rattle.def_text.specs.Scaffolding.Reader.{leaf_of, Form, form_0, form_1, form_leaf, form_andor, form_pair, form_thresh, form_multi, Head, named, run, neither, head_of, head_levels, Want, expression, colon_next, leaf_open, leaf_word, leaf_close, andor_open, pair_open, thresh_open, thresh_number, thresh_comma, multi_open, multi_number, multi_comma, multi_key, multi_next, ended, finished, Frame, letter_frame, andor_first, andor_second, andor_third, pair_first, pair_second, thresh_child, State, START, run_frames, begin_form, begin, step_word, step_opening, step_closing, step_comma, step_colon, step_end, comma_behind, closing_behind, end_behind, step, behind, offsets_behind}
 use Rattle.def_text.proofs.Levels.{head_says}
 use Rattle.def_text.proofs.Viable.{some_first}
 

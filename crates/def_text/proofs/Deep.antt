@@ -6,7 +6,7 @@ use Rattle.def_script.specs.Bytes.{Bytes}
 use Rattle.def_text.specs.Token.{Token, word, opening, closing, comma, colon, other, end, tokens}
 use Rattle.def_text.specs.Word.{is_fragment_name}
 use Rattle.def_text.specs.Refusal.{MOST_WRITTEN_DEPTH, MayBegin, is_run, levels_of, enclosing, IsDeep}
-use Rattle.def_text.specs.Reader.{Form, form_0, form_1, form_leaf, form_andor, form_pair, form_thresh, form_multi, Head, named, run, neither, head_of, head_levels, begin_form, begin, Want, expression, Frame, State, START, step, behind, is_deep_head, is_deep_word, is_deep}
+use Rattle.def_text.specs.Scaffolding.Reader.{Form, form_0, form_1, form_leaf, form_andor, form_pair, form_thresh, form_multi, Head, named, run, neither, head_of, head_levels, begin_form, begin, Want, expression, Frame, State, START, step, behind, is_deep_head, is_deep_word, is_deep}
 use Rattle.def_text.proofs.Levels.{HeadSays, head_says}
 use Rattle.def_text.proofs.Viable.{may_begin, begins_expression}
 use Rattle.def_text.proofs.Counted.{enclosing_is}

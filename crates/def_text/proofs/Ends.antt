@@ -8,7 +8,7 @@ use Rattle.def_text.specs.Token.{Token, word, opening, closing, comma, colon, ot
 use Rattle.def_text.specs.Letter.{letter_tree}
 use Rattle.def_text.specs.Spells.{SpellsText}
 use Rattle.def_text.specs.Refusal.{IsViable}
-use Rattle.def_text.specs.Reader.{Want, ended, finished, Frame, letter_frame, State, START, step_end, end_behind, step, behind}
+use Rattle.def_text.specs.Scaffolding.Reader.{Want, ended, finished, Frame, letter_frame, State, START, step_end, end_behind, step, behind}
 use Rattle.def_text.proofs.Sound.{spelled}
 use Rattle.def_text.proofs.Cut.{ByteKind, word_kind, single_kind, skip_kind, kind_of, is_end}
 use Rattle.def_text.proofs.Completion.{is_finished}

@@ -6,7 +6,7 @@ use Rattle.def_text.specs.Token.{Token, word, opening, closing, comma, colon, en
 use Rattle.def_text.specs.Word.{number_of, key_of}
 use Rattle.def_text.specs.Letter.{letter_tree}
 use Rattle.def_text.specs.Spells.{Spells, SpellsChildren, SpellsKeys}
-use Rattle.def_text.specs.Reader.{Want, expression, colon_next, leaf_open, leaf_word, leaf_close, andor_open, pair_open, thresh_open, thresh_number, thresh_comma, multi_open, multi_number, multi_comma, multi_key, multi_next, ended, finished, Frame, letter_frame, andor_first, andor_second, andor_third, pair_first, pair_second, thresh_child, State, leaf_of, pair_tree, pair_offsets, offsets_behind, joined}
+use Rattle.def_text.specs.Scaffolding.Reader.{Want, expression, colon_next, leaf_open, leaf_word, leaf_close, andor_open, pair_open, thresh_open, thresh_number, thresh_comma, multi_open, multi_number, multi_comma, multi_key, multi_next, ended, finished, Frame, letter_frame, andor_first, andor_second, andor_third, pair_first, pair_second, thresh_child, State, leaf_of, pair_tree, pair_offsets, offsets_behind, joined}
 
 -- any number of expressions, each behind a comma
 pub data OtherChildren : List Token → Trees → List ℕ → Type 0 where

@@ -11,7 +11,7 @@ use Rattle.def_tree.specs.declared.Two.TheVariants.{AndV, AndB, OrB, OrC, OrD, O
 use Rattle.def_text.specs.Word.{is_fragment_name}
 use Rattle.def_text.specs.Letter.{Letter, letter_of_wrapper, letter_t, letter_l, letter_u, letter_byte, letter_word}
 use Rattle.def_text.specs.Refusal.{is_letter, is_run, levels_of}
-use Rattle.def_text.specs.Reader.{Leaf, leaf_pk_k, leaf_pk_h, leaf_pk, leaf_pkh, leaf_older, leaf_after, leaf_hash, leaf_name, pair_two, pair_and_n, Form, form_0, form_1, form_leaf, form_andor, form_pair, form_thresh, form_multi, form_name, FORMS, first_named, LETTERS, first_letter, letters_of, Head, named, run, neither, head_from, head_of, head_levels}
+use Rattle.def_text.specs.Scaffolding.Reader.{Leaf, leaf_pk_k, leaf_pk_h, leaf_pk, leaf_pkh, leaf_older, leaf_after, leaf_hash, leaf_name, pair_two, pair_and_n, Form, form_0, form_1, form_leaf, form_andor, form_pair, form_thresh, form_multi, form_name, FORMS, first_named, LETTERS, first_letter, letters_of, Head, named, run, neither, head_from, head_of, head_levels}
 use Rattle.def_text.proofs.Words.{named_is, word_is}
 
 -- ---- names

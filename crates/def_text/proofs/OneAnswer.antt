@@ -1,5 +1,5 @@
 -- A text has at most one answer: the places of two answers are compared.
-use Rattle.std.proofs.Common.{◌≡◌, ◌≢◌, ◌⊎◌, inl, inr, ℕ, ◌<◌, ◌≤◌, List, [], ◌∷◌, ◌++◌, length, refl, sym, ap, ◌∙◌, subst, append_assoc, arith}
+use Rattle.std.proofs.Common.{◌≡◌, ◌⊎◌, inl, inr, ℕ, ◌<◌, ◌≤◌, List, [], ◌∷◌, ◌++◌, length, refl, sym, ap, ◌∙◌, subst, append_assoc, arith}
 use Rattle.std.specs.Str.{IsUtf8}
 use Rattle.std.proofs.lemmas.Bool.{cases_lt}
 use Rattle.def_script.specs.Bytes.{Bytes}
@@ -8,7 +8,7 @@ use Rattle.def_text.specs.declared.TextFault.{TextFault}
 use Rattle.def_text.specs.declared.TextFault.TheVariants.{TooLong, Syntax, TooDeep, Memory}
 use Rattle.def_text.specs.Token.{Token, offset, tokens}
 use Rattle.def_text.specs.Refusal.{MOST_BYTES, IsViable, Place, SyntaxAt, DeepAt, TextRefusal, TextReads}
-use Rattle.def_text.specs.Reader.{START, Outcome, tree_outcome, syntax_outcome, deep_outcome, outcome}
+use Rattle.def_text.specs.Scaffolding.Reader.{START, Outcome, tree_outcome, syntax_outcome, deep_outcome, outcome}
 use Rattle.def_text.proofs.Report.{Reports, report}
 
 -- of two splits of one list, which one comes first
@@ -78,18 +78,18 @@ module _ {text : Bytes} {p q : ℕ} where
       (subst (λ r. IsViable (r ++ b.place.token ∷ [])) h b.begins)))
   mixed_order a b (later rest h) = a.none_deep b.place.before b.place.token rest h b.deep
 
-pub one_refusal : (text : Bytes) (d e : TextFault) → d ≢ Memory → e ≢ Memory → TextRefusal text d → TextRefusal text e → d ≡ e
-one_refusal text TooLong TooLong f g a b = refl
-one_refusal text TooLong (Syntax q) f g a (short, b) = absurd (omega arith)
-one_refusal text TooLong (TooDeep q) f g a (short, b) = absurd (omega arith)
-one_refusal text (Syntax p) TooLong f g (short, a) b = absurd (omega arith)
-one_refusal text (Syntax p) (Syntax q) f g (short, a) (same, b) = ap Syntax (syntax_order a b (places a.place b.place))
-one_refusal text (Syntax p) (TooDeep q) f g (short, a) (same, b) = absurd (mixed_order a b (places a.place b.place))
-one_refusal text (TooDeep p) TooLong f g (short, a) b = absurd (omega arith)
-one_refusal text (TooDeep p) (Syntax q) f g (short, a) (same, b) = absurd (mixed_order b a (places b.place a.place))
-one_refusal text (TooDeep p) (TooDeep q) f g (short, a) (same, b) = ap TooDeep (deep_order a b (places a.place b.place))
-one_refusal text Memory e f g a b = absurd (f refl)
-one_refusal text d Memory f g a b = absurd (g refl)
+pub one_refusal : (text : Bytes) (d e : TextFault) → TextRefusal text d → TextRefusal text e → d ≡ e
+one_refusal text TooLong TooLong a b = refl
+one_refusal text TooLong (Syntax q) a (short, b) = absurd (omega arith)
+one_refusal text TooLong (TooDeep q) a (short, b) = absurd (omega arith)
+one_refusal text (Syntax p) TooLong (short, a) b = absurd (omega arith)
+one_refusal text (Syntax p) (Syntax q) (short, a) (same, b) = ap Syntax (syntax_order a b (places a.place b.place))
+one_refusal text (Syntax p) (TooDeep q) (short, a) (same, b) = absurd (mixed_order a b (places a.place b.place))
+one_refusal text (TooDeep p) TooLong (short, a) b = absurd (omega arith)
+one_refusal text (TooDeep p) (Syntax q) (short, a) (same, b) = absurd (mixed_order b a (places b.place a.place))
+one_refusal text (TooDeep p) (TooDeep q) (short, a) (same, b) = ap TooDeep (deep_order a b (places a.place b.place))
+one_refusal text Memory e a b = absurd a
+one_refusal text d Memory a b = absurd b
 
 -- ---- a refusal beside a tree
 
@@ -105,26 +105,26 @@ whole_is_viable text x os a utf8 reads = record {
   spelled = reads.spelled;
 }
 
-pub none_beside_tree : (text : Bytes) (x : Tree) (os : List ℕ) (e : TextFault) → IsUtf8 text → e ≢ Memory →
-    TextReads text x os → ¬ TextRefusal text e
-none_beside_tree text x os TooLong utf8 f reads over = let short : length text ≤ MOST_BYTES = reads.short in omega arith
-none_beside_tree text x os (Syntax p) utf8 f reads (short, a) = a.ends (whole_is_viable text x os a.place utf8 reads)
-none_beside_tree text x os (TooDeep p) utf8 f reads (short, a) =
+pub none_beside_tree : (text : Bytes) (x : Tree) (os : List ℕ) (e : TextFault) → IsUtf8 text → TextReads text x os →
+    ¬ TextRefusal text e
+none_beside_tree text x os TooLong utf8 reads over = let short : length text ≤ MOST_BYTES = reads.short in omega arith
+none_beside_tree text x os (Syntax p) utf8 reads (short, a) = a.ends (whole_is_viable text x os a.place utf8 reads)
+none_beside_tree text x os (TooDeep p) utf8 reads (short, a) =
     reads.none_deep a.place.before a.place.token a.place.after a.place.split a.deep
-none_beside_tree text x os Memory utf8 f reads a = f refl
+none_beside_tree text x os Memory utf8 reads a = a
 
 -- ---- some answer
 
 abbrev pub Answers : Bytes → Type 0
-Answers text = ((x : Tree) × (os : List ℕ) × TextReads text x os) ⊎ ((e : TextFault) × (e ≢ Memory) × TextRefusal text e)
+Answers text = ((x : Tree) × (os : List ℕ) × TextReads text x os) ⊎ ((e : TextFault) × TextRefusal text e)
 
 by_outcome : (text : Bytes) (o : Outcome) → length text ≤ MOST_BYTES → Reports text o → Answers text
 by_outcome text (tree_outcome x os) short h = inl (x, os, record { short = short; spelled = h.0; none_deep = h.1 })
-by_outcome text (syntax_outcome p) short h = inr (Syntax p, (λ e. cc), (short, h))
-by_outcome text (deep_outcome p) short h = inr (TooDeep p, (λ e. cc), (short, h))
+by_outcome text (syntax_outcome p) short h = inr (Syntax p, (short, h))
+by_outcome text (deep_outcome p) short h = inr (TooDeep p, (short, h))
 
 by_length : (text : Bytes) → IsUtf8 text → (MOST_BYTES < length text) ⊎ (length text ≤ MOST_BYTES) → Answers text
-by_length text utf8 (inl long) = inr (TooLong, (λ e. cc), long)
+by_length text utf8 (inl long) = inr (TooLong, long)
 by_length text utf8 (inr short) = by_outcome text (outcome START (tokens text)) short (report text utf8)
 
 pub some_answer : (text : Bytes) → IsUtf8 text → Answers text

@@ -3,7 +3,7 @@ use Rattle.std.proofs.Common.{◌≡◌, ℕ, List, [], ◌∷◌, ◌++◌, ref
 use Rattle.def_tree.specs.Tree.{Tree}
 use Rattle.def_text.specs.Token.{Token, word, opening, closing, comma, colon, other, end}
 use Rattle.def_text.specs.Letter.{Letter, letter_tree}
-use Rattle.def_text.specs.Reader.{ended, Frame, letter_frame, outcome, offsets_behind}
+use Rattle.def_text.specs.Scaffolding.Reader.{ended, Frame, letter_frame, outcome, offsets_behind}
 
 -- a letter that waits is applied, whatever follows
 pub outcome-letter : (l : Letter) (a : ℕ) (x : Tree) (fs : List Frame) (os : List ℕ) (ts : List Token) →

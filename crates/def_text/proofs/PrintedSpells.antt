@@ -13,12 +13,13 @@ use Rattle.def_tree.specs.declared.Two.TheVariants.{AndV, AndB, OrB, OrC, OrD, O
 use Rattle.def_tree.specs.Tree.{Key, Tree, Trees, just_0, just_1, pk_k, pk_h, older, after, hash, and_or, two, thresh, multi, wrap, none, more}
 use Rattle.def_tree.specs.Range.{IsKey, IsDigest, IsWritable, AreWritable, count}
 use Rattle.def_text.specs.Token.{Token, word, opening, closing, comma, colon, end, tokens, tokens_from, word_before, is_word_byte}
-use Rattle.def_text.specs.Word.{two_name, hash_name, is_key, is_digest}
+use Rattle.def_text.specs.Word.{two_name, hash_name, is_digest}
+use Rattle.def_script.specs.Key.{is_key}
 use Rattle.def_text.specs.Letter.{Letter, letter_of_wrapper, wrapper_byte, letter_word, letters_tree, letters_offsets}
 use Rattle.def_text.specs.Spells.{call, Spells, text_0, text_1, text_pk_k, text_pk_h, text_older, text_after, text_hash, text_andor, text_two, text_thresh, text_multi, text_letters, SpellsChildren, last_child, next_child, SpellsKeys, last_key, next_key, SpellsText, text_whole}
 use Rattle.def_text.specs.Print.{printed, printed_behind, printed_children, printed_keys}
 use Rattle.def_text.proofs.Sound.{two_split, three_split}
-use Rattle.def_text.proofs.PrintedWords.{NoWord, word_byte, one_token, closed_word, number_is_spelled, number_is_word, digits_are_spelled, digits_are_word, digits_are_some, key_passes, hash_passes, key_is_some, hash_is_some, key_token, number_token}
+use Rattle.def_text.proofs.PrintedWords.{NoWord, word_byte, one_token, closed_word, number_is_spelled, number_is_word, digits_are_spelled, digits_are_word, digits_are_some, hash_passes, key_is_some, hash_is_some, key_token, number_token}
 
 -- the printed form of a tree, before bytes that begin no word, spells it
 abbrev Prints : Tree → Type 0
@@ -105,7 +106,7 @@ prints_pk_k key h at rest apart =
       at ∷ [],
       n + 1,
       ap (λ r. word at (codes "pk_k") ∷ opening (at + 1 + 1 + 1 + 1) ∷ r) e,
-      text_pk_k (digits_are_spelled is_key key (key_passes key h) h.bytes),
+      text_pk_k (digits_are_spelled is_key key h.form h.bytes),
     )
 
 prints_pk_h : (key : Key) → IsKey key → Prints (pk_h key)
@@ -115,7 +116,7 @@ prints_pk_h key h at rest apart =
       at ∷ [],
       n + 1,
       ap (λ r. word at (codes "pk_h") ∷ opening (at + 1 + 1 + 1 + 1) ∷ r) e,
-      text_pk_h (digits_are_spelled is_key key (key_passes key h) h.bytes),
+      text_pk_h (digits_are_spelled is_key key h.form h.bytes),
     )
 
 prints_older : (m : ℕ) → m < 10 ^ 10 → Prints (older m)
@@ -247,7 +248,7 @@ prints_keys : (key : Key) (keys : List Key) → All IsKey (key ∷ keys) → Pri
 prints_keys key [] h at rest apart =
     let is : IsKey key = All-head IsKey key [] h in
     let (n, e) = key_before key (at + 1) [] rest is apart in
-    (comma at ∷ word (at + 1) (encode_lower key) ∷ [], n, ap (λ r. comma at ∷ r) e, last_key (digits_are_spelled is_key key (key_passes key is) is.bytes))
+    (comma at ∷ word (at + 1) (encode_lower key) ∷ [], n, ap (λ r. comma at ∷ r) e, last_key (digits_are_spelled is_key key is.form is.bytes))
 prints_keys key (next ∷ keys) h at rest apart =
     let is : IsKey key = All-head IsKey key (next ∷ keys) h in
     let (n, e) = key_before key (at + 1) (printed_keys (next ∷ keys)) rest is (λ m. refl) in
@@ -255,7 +256,7 @@ prints_keys key (next ∷ keys) h at rest apart =
       comma at ∷ word (at + 1) (encode_lower key) ∷ ts,
       m,
       ap (λ r. comma at ∷ r) (e ∙ ap (λ r. word (at + 1) (encode_lower key) ∷ r) f),
-      next_key (digits_are_spelled is_key key (key_passes key is) is.bytes) others,
+      next_key (digits_are_spelled is_key key is.form is.bytes) others,
     )
 
 -- a number before bytes that begin no word

@@ -21,8 +21,9 @@ use Rattle.def_hash.specs.declared.HashKind.TheVariants.{Sha256, Hash256, Ripemd
 use Rattle.def_tree.specs.Tree.{Key}
 use Rattle.def_tree.specs.Range.{IsKey, IsDigest}
 use Rattle.def_text.specs.Token.{Token, word, closing, is_word_byte, byte_before, word_before, tokens_from}
-use Rattle.def_text.specs.Word.{is_number, number_of, digits_of, is_key, is_digest}
+use Rattle.def_text.specs.Word.{is_number, number_of, digits_of, is_digest}
 use Rattle.def_text.proofs.Cut.{starts_word, alone}
+use Rattle.def_script.proofs.KeyLemmas.{key_length}
 
 -- no word begins where these bytes do
 abbrev pub NoWord : Bytes → Type 0
@@ -115,25 +116,18 @@ digits_are_word (x ∷ xs) b =
 pub digits_are_some : (bytes : Bytes) → 0 < length bytes → 0 < length (encode_lower bytes)
 digits_are_some bytes h = let e = length-encode_with lower_digits bytes in omega arith
 
-prefix_passes : (key : Key) → length key ≡ 33 → (slice_index key 0 ≡ 2) ⊎ (slice_index key 0 ≡ 3) → is_key key ≡ true
-prefix_passes key e (inl h) = rw (e, h) refl
-prefix_passes key e (inr h) = rw (e, h) refl
-
 length_passes : (kind : HashKind) → (digest_length kind == digest_length kind) ≡ true
 length_passes Sha256 = refl
 length_passes Hash256 = refl
 length_passes Ripemd160 = refl
 length_passes Hash160 = refl
 
--- the test of a key passes, and that of a hash value
-pub key_passes : (key : Key) → IsKey key → is_key key ≡ true
-key_passes key h = prefix_passes key h.length h.prefix
-
+-- the test of a hash value passes
 pub hash_passes : (kind : HashKind) (value : Bytes) → IsDigest kind value → is_digest kind value ≡ true
 hash_passes kind value h = ap (λ n. n == digest_length kind) h.length ∙ length_passes kind
 
 pub key_is_some : (key : Key) → IsKey key → 0 < length key
-key_is_some key h = let e : length key ≡ 33 = h.length in omega arith
+key_is_some key h = let e = key_length key h.form in omega arith
 
 pub hash_is_some : (kind : HashKind) (value : Bytes) → length value ≡ digest_length kind → 0 < length value
 hash_is_some Sha256 value e = omega arith

@@ -6,7 +6,7 @@ use Rattle.def_script.specs.Bytes.{Bytes}
 use Rattle.def_text.specs.Token.{Token, offset, tokens}
 use Rattle.def_text.specs.Spells.{SpellsText}
 use Rattle.def_text.specs.Refusal.{IsViable, IsDeep, NoneDeep, SyntaxAt, DeepAt}
-use Rattle.def_text.specs.Reader.{State, START, step, behind, is_deep, Outcome, tree_outcome, syntax_outcome, deep_outcome, last_outcome, next_outcome, outcome}
+use Rattle.def_text.specs.Scaffolding.Reader.{State, START, step, behind, is_deep, Outcome, tree_outcome, syntax_outcome, deep_outcome, last_outcome, next_outcome, outcome}
 use Rattle.def_text.proofs.Cut.{nothing_behind}
 use Rattle.def_text.proofs.Completion.{is_finished}
 use Rattle.def_text.proofs.Viable.{behind-append, viable_goes}

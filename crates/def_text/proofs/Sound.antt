@@ -8,7 +8,7 @@ use Rattle.def_text.specs.Token.{Token, word, opening, closing, comma, colon, ot
 use Rattle.def_text.specs.Word.{key_of, number_of, hash_of}
 use Rattle.def_text.specs.Letter.{Letter, letter_tree, letters_tree, letters_offsets, letter_word}
 use Rattle.def_text.specs.Spells.{call, Spells, text_0, text_1, text_pk_k, text_pk_h, text_pk, text_pkh, text_older, text_after, text_hash, text_andor, text_two, text_and_n, text_thresh, text_multi, text_letters, SpellsChildren, last_child, next_child, SpellsKeys, last_key, next_key, SpellsText, text_whole}
-use Rattle.def_text.specs.Reader.{Leaf, leaf_pk_k, leaf_pk_h, leaf_pk, leaf_pkh, leaf_older, leaf_after, leaf_hash, leaf_name, leaf_of, leaf_offsets, Pair, pair_two, pair_and_n, pair_name, pair_tree, pair_offsets, Form, form_0, form_1, form_leaf, form_andor, form_pair, form_thresh, form_multi, form_name, Head, named, run, neither, head_of, Want, expression, colon_next, leaf_open, leaf_word, leaf_close, andor_open, pair_open, thresh_open, thresh_number, thresh_comma, multi_open, multi_number, multi_comma, multi_key, multi_next, ended, finished, Frame, letter_frame, andor_first, andor_second, andor_third, pair_first, pair_second, thresh_child, State, START, joined, offsets_before, offsets_behind, begin_form, run_frames, run_offsets, begin, comma_behind, closing_behind, end_behind, step_word, step_opening, step_closing, step_comma, step_colon, step_end, step, behind}
+use Rattle.def_text.specs.Scaffolding.Reader.{Leaf, leaf_pk_k, leaf_pk_h, leaf_pk, leaf_pkh, leaf_older, leaf_after, leaf_hash, leaf_name, leaf_of, leaf_offsets, Pair, pair_two, pair_and_n, pair_name, pair_tree, pair_offsets, Form, form_0, form_1, form_leaf, form_andor, form_pair, form_thresh, form_multi, form_name, Head, named, run, neither, head_of, Want, expression, colon_next, leaf_open, leaf_word, leaf_close, andor_open, pair_open, thresh_open, thresh_number, thresh_comma, multi_open, multi_number, multi_comma, multi_key, multi_next, ended, finished, Frame, letter_frame, andor_first, andor_second, andor_third, pair_first, pair_second, thresh_child, State, START, joined, offsets_before, offsets_behind, begin_form, run_frames, run_offsets, begin, comma_behind, closing_behind, end_behind, step_word, step_opening, step_closing, step_comma, step_colon, step_end, step, behind}
 use Rattle.def_text.proofs.Words.{name_of_head, letters_of_head}
 use Rattle.def_text.proofs.Complete.{joined_assoc, offsets_of_letter}
 use Rattle.def_text.proofs.Fills.{OtherChildren, no_child, some_children, OtherKeys, no_key, some_keys, EndedFills, ExpressionFills, Fills, NextFills}

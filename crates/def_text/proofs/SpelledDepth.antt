@@ -13,7 +13,7 @@ use Rattle.def_text.specs.Word.{hash_name, two_name}
 use Rattle.def_text.specs.Letter.{Letter, letter_of_wrapper, letter_t, letter_l, letter_u, letter_word, letter_tree, letters_tree}
 use Rattle.def_text.specs.Spells.{call, Spells, text_0, text_1, text_pk_k, text_pk_h, text_pk, text_pkh, text_older, text_after, text_hash, text_andor, text_two, text_and_n, text_thresh, text_multi, text_letters, SpellsChildren, last_child, next_child, SpellsText, text_whole}
 use Rattle.def_text.specs.Refusal.{NoneDeep, MOST_WRITTEN_DEPTH}
-use Rattle.def_text.specs.Reader.{Form, form_0, form_1, form_leaf, form_multi, named, head_of, leaf_pk_k, leaf_pk_h, leaf_pk, leaf_pkh, leaf_older, leaf_after, leaf_hash, Pair, pair_two, pair_and_n, Frame, andor_first, andor_second, andor_third, pair_first, pair_second, thresh_child, joined, expression, ended, thresh_comma, State, START, behind, is_deep, is_deep_head, run_frames, run_offsets}
+use Rattle.def_text.specs.Scaffolding.Reader.{Form, form_0, form_1, form_leaf, form_multi, named, head_of, leaf_pk_k, leaf_pk_h, leaf_pk, leaf_pkh, leaf_older, leaf_after, leaf_hash, Pair, pair_two, pair_and_n, Frame, andor_first, andor_second, andor_third, pair_first, pair_second, thresh_child, joined, expression, ended, thresh_comma, State, START, behind, is_deep, is_deep_head, run_frames, run_offsets}
 use Rattle.def_text.proofs.Words.{head_of_letters, head_of_hash, head_of_two}
 use Rattle.def_text.proofs.Complete.{Leads, complete}
 use Rattle.def_text.proofs.Counted.{length_of_run}

@@ -1,6 +1,6 @@
 -- A spelled tree can be written: each word of a text is a key, a hash value or a number of at most ten digits.
 use Rattle.std.specs.Prelude.{if◌then◌else◌, All}
-use Rattle.std.proofs.Common.{◌≡◌, ◌⊎◌, inl, inr, ℕ, ◌==◌, ◌<◌, ◌≤◌, Bool, true, false, ◌&&◌, ◌||◌, not, List, [], ◌∷◌, length, slice_index, codes, Some, None, Result, Ok, Err, nat_le, refl, sym, ap, ◌∙◌, subst, arith}
+use Rattle.std.proofs.Common.{◌≡◌, inl, inr, ℕ, ◌==◌, ◌<◌, ◌≤◌, Bool, true, false, ◌&&◌, not, List, [], ◌∷◌, length, slice_index, codes, Some, None, Result, Ok, Err, nat_le, refl, sym, ap, ◌∙◌, subst, arith}
 use Rattle.std.specs.Option.{option_and_then}
 use Rattle.std.specs.Result.{result_ok}
 use Rattle.std.specs.Str.{all_ascii_digits, bytes_eq}
@@ -18,7 +18,8 @@ use Rattle.def_hash.specs.declared.HashKind.{HashKind}
 use Rattle.def_tree.specs.Tree.{Key, Tree, Trees}
 use Rattle.def_tree.specs.Range.{IsKey, IsDigest, IsWritable, AreWritable, TEN_DIGITS, count}
 use Rattle.def_text.specs.Token.{Token}
-use Rattle.def_text.specs.Word.{is_number, number_of, is_key, key_of, is_digest, hash_of}
+use Rattle.def_text.specs.Word.{is_number, number_of, key_of, is_digest, hash_of}
+use Rattle.def_script.specs.Key.{is_key}
 use Rattle.def_text.specs.Letter.{Letter, letter_of_wrapper, letter_t, letter_l, letter_u, letter_tree, letters_tree}
 use Rattle.def_text.specs.Spells.{Spells, text_0, text_1, text_pk_k, text_pk_h, text_pk, text_pkh, text_older, text_after, text_hash, text_andor, text_two, text_and_n, text_thresh, text_multi, text_letters, SpellsChildren, last_child, next_child, SpellsKeys, last_key, next_key, SpellsText, text_whole}
 
@@ -37,18 +38,10 @@ decoded test (Ok v) bytes h =
     let (passed, same) = tested (test v) v bytes h in
     (ap Ok same, sym (ap test same) ∙ passed)
 
-prefix_of_key : (bytes : Bytes) → (slice_index bytes 0 == 2 || slice_index bytes 0 == 3) ≡ true →
-    (slice_index bytes 0 ≡ 2) ⊎ (slice_index bytes 0 ≡ 3)
-prefix_of_key bytes h = elim (or_cases (slice_index bytes 0 == 2) (slice_index bytes 0 == 3) h) [
-  | inl two ↦ inl (eqb-true (slice_index bytes 0) 2 two)
-  | inr three ↦ inr (eqb-true (slice_index bytes 0) 3 three)
-]
-
 key_by_word : (w : Bytes) (key : Key) → key_of w ≡ Some key → IsKey key
 key_by_word w key h =
     let (ok, passed) = decoded is_key (decode_of w) key h in
-    let (long, first) = and_parts (length key == 33) (slice_index key 0 == 2 || slice_index key 0 == 3) passed in
-    record { length = eqb-true (length key) 33 long; prefix = prefix_of_key key first; bytes = (decode_of-ok w key ok).3 }
+    record { form = passed; bytes = (decode_of-ok w key ok).3 }
 
 hash_by_word : (kind : HashKind) (w value : Bytes) → hash_of kind w ≡ Some value → IsDigest kind value
 hash_by_word kind w value h =

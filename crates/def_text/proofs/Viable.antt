@@ -11,7 +11,7 @@ use Rattle.def_text.specs.Token.{Token, word, opening, closing, comma, colon, ot
 use Rattle.def_text.specs.Letter.{letter_tree}
 use Rattle.def_text.specs.Word.{number_of, key_of}
 use Rattle.def_text.specs.Refusal.{IsViable, MayBegin}
-use Rattle.def_text.specs.Reader.{Leaf, leaf_pk_k, leaf_pk_h, leaf_pk, leaf_pkh, leaf_older, leaf_after, leaf_hash, leaf_of, Form, form_0, form_1, form_leaf, form_andor, form_pair, form_thresh, form_multi, Head, named, run, neither, head_of, Want, expression, colon_next, leaf_open, leaf_word, leaf_close, andor_open, pair_open, thresh_open, thresh_number, thresh_comma, multi_open, multi_number, multi_comma, multi_key, multi_next, ended, finished, Frame, letter_frame, andor_first, andor_second, andor_third, pair_first, pair_second, thresh_child, State, START, begin_form, begin, step_word, step_opening, step_closing, step_comma, step_colon, comma_behind, closing_behind, step, behind, offsets_behind}
+use Rattle.def_text.specs.Scaffolding.Reader.{Leaf, leaf_pk_k, leaf_pk_h, leaf_pk, leaf_pkh, leaf_older, leaf_after, leaf_hash, leaf_of, Form, form_0, form_1, form_leaf, form_andor, form_pair, form_thresh, form_multi, Head, named, run, neither, head_of, Want, expression, colon_next, leaf_open, leaf_word, leaf_close, andor_open, pair_open, thresh_open, thresh_number, thresh_comma, multi_open, multi_number, multi_comma, multi_key, multi_next, ended, finished, Frame, letter_frame, andor_first, andor_second, andor_third, pair_first, pair_second, thresh_child, State, START, begin_form, begin, step_word, step_opening, step_closing, step_comma, step_colon, comma_behind, closing_behind, step, behind, offsets_behind}
 use Rattle.def_text.proofs.Complete.{complete_text}
 use Rattle.def_text.proofs.Sound.{spelled}
 use Rattle.def_text.proofs.Cut.{Cut, cut, front_is_utf8, is_end, ends_word, starts_word, NoEnd}

@@ -14,7 +14,7 @@ use Rattle.def_tree.specs.declared.Two.{Two}
 use Rattle.def_tree.specs.declared.Two.TheVariants.{AndV, AndB, OrB, OrC, OrD, OrI}
 use Rattle.def_text.specs.Word.{hash_name, two_name}
 use Rattle.def_text.specs.Letter.{Letter, letter_of_wrapper, letter_t, letter_l, letter_u, letter_byte, letter_word}
-use Rattle.def_text.specs.Reader.{Form, form_leaf, leaf_hash, form_pair, pair_two, form_name, FORMS, first_named, LETTERS, first_letter, letters_of, named, run, head_from, head_of}
+use Rattle.def_text.specs.Scaffolding.Reader.{Form, form_leaf, leaf_hash, form_pair, pair_two, form_name, FORMS, first_named, LETTERS, first_letter, letters_of, named, run, head_from, head_of}
 
 -- ---- from names and letters to heads
 

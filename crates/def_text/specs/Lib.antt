@@ -4,7 +4,7 @@ pub mod Letter
 pub mod Spells
 pub mod Refusal
 pub mod Print
-pub mod Reader
 pub mod Laws
 pub mod Examples
 pub mod FormExamples
+pub mod Scaffolding

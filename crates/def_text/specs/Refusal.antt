@@ -1,5 +1,5 @@
 -- Which texts have a tree, and why the others have none.
-use Rattle.std.specs.Prelude.{◌≡◌, ℕ, ◌+◌, ◌<◌, ◌≤◌, ◌||◌, nat_eq, Bool, false, IsTrue, IsUtf8, ⊤, List, [], ◌∷◌, ◌++◌, length, codes, if◌then◌else◌}
+use Rattle.std.specs.Prelude.{◌≡◌, ℕ, ◌+◌, ◌<◌, ◌≤◌, ◌||◌, nat_eq, Bool, false, IsTrue, IsUtf8, List, [], ◌∷◌, ◌++◌, length, codes, if◌then◌else◌}
 use Rattle.std.specs.List.{list_any, list_all}
 use Rattle.def_script.specs.Bytes.{Bytes}
 use Rattle.def_tree.specs.Tree.{Tree}
@@ -108,12 +108,12 @@ pub record DeepAt (text : Bytes) (at : ℕ) : Type 0 where
   pub deep : IsDeep place.before place.token
   pub none_deep : NoneDeep place.before
 
--- why a text is refused. Memory may be wanting at any text
+-- why a text is refused. Want of memory is no reason that lies in the text
 abbrev pub TextRefusal : (text : Bytes) → TextFault → Type 0
 TextRefusal text TooLong = MOST_BYTES < length text
 TextRefusal text (Syntax at) = (length text ≤ MOST_BYTES) × SyntaxAt text at
 TextRefusal text (TooDeep at) = (length text ≤ MOST_BYTES) × DeepAt text at
-TextRefusal text Memory = ⊤
+TextRefusal text Memory = ⊥
 
 -- a text has this tree, and its nodes have these offsets
 pub record TextReads (text : Bytes) (tree : Tree) (offsets : List ℕ) : Type 0 where

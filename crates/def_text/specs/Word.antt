@@ -7,6 +7,7 @@ use Rattle.std.specs.Str.{all_ascii_digits, byte, bytes_eq}
 use Rattle.std.specs.Str.Parse.{digits_value}
 use Rattle.hex.specs.Hex.{decode_of}
 use Rattle.def_script.specs.Bytes.{Bytes}
+use Rattle.def_script.specs.Key.{is_key}
 use Rattle.def_hash.specs.Hash.{digest_length}
 use Rattle.def_hash.specs.declared.HashKind.{HashKind}
 use Rattle.def_hash.specs.declared.HashKind.TheVariants.{Sha256, Hash256, Ripemd160, Hash160}
@@ -55,10 +56,6 @@ number_of w = if is_number w then Some (digits_value 10 w) else None
 -- the bytes that a word spells by two hexadecimal digits each, in either case, where they pass a test
 abbrev pub digits_of : (test : Bytes → Bool) → Bytes → Option Bytes
 digits_of test w = option_and_then (λ bytes. if test bytes then Some bytes else None) (result_ok (decode_of w))
-
--- whether bytes are a key: 33 of them, of which the first is `02` or `03`
-abbrev pub is_key : Bytes → Bool
-is_key bytes = length bytes == 33 && (slice_index bytes 0 == 2 || slice_index bytes 0 == 3)
 
 -- the key that a word spells
 abbrev pub key_of : Bytes → Option Key

@@ -1,6 +1,11 @@
 //! Definitions of miniscript text: its tokens, the trees that it spells, its refusals and its printed form.
 #![tactic(auto)]
 
+ghost use Rattle.std.specs.Prelude.{◌≡◌};
+ghost use Rattle.def_text.specs.declared.TextFault.TheVariants as fault;
+
+use std::alloc::{AllocError, AllocFailed};
+
 pub mod examples;
 pub mod laws;
 
@@ -19,4 +24,20 @@ pub enum TextFault {
     TooDeep(u32),
     /// There was no memory. It says nothing of the text.
     Memory,
+}
+
+impl From<AllocError> for TextFault {
+    ghost from_gives = { λ _ why. why ≡ fault.Memory };
+
+    fn from(_error: AllocError) -> TextFault {
+        TextFault::Memory
+    }
+}
+
+impl<T: Drop> From<AllocFailed<T>> for TextFault {
+    ghost from_gives = { λ _ why. why ≡ fault.Memory };
+
+    fn from(_error: AllocFailed<T>) -> TextFault {
+        TextFault::Memory
+    }
 }

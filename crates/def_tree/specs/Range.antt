@@ -1,8 +1,9 @@
 -- Which trees the calls take. What a text of 65,536 bytes can spell stays within these numbers.
-use Rattle.std.specs.Prelude.{ℕ, ◌≡◌, ◌+◌, ◌<◌, ◌≤◌, ◌⊎◌, ⊤, length, slice_index, All}
+use Rattle.std.specs.Prelude.{ℕ, ◌≡◌, ◌+◌, ◌<◌, ◌≤◌, IsTrue, ⊤, length, All}
 use Rattle.def_hash.specs.declared.HashKind.{HashKind}
 use Rattle.def_hash.specs.Hash.{digest_length}
 use Rattle.def_script.specs.Bytes.{Bytes, IsBytes}
+use Rattle.def_script.specs.Key.{is_key}
 use Rattle.def_tree.specs.Tree.{Key, Tree, Trees, just_0, just_1, pk_k, pk_h, older, after, hash, and_or, two, thresh, multi, wrap, none, more}
 use Rattle.def_tree.specs.Size.{measure, depth}
 
@@ -17,10 +18,9 @@ abbrev pub count : Trees → ℕ
 count none = 0
 count (more x xs) = count xs + 1
 
--- a compressed public key: 33 bytes that begin with 02 or 03
+-- a compressed public key
 pub record IsKey (key : Key) : Type 0 where
-  pub length : length key ≡ 33
-  pub prefix : (slice_index key 0 ≡ 2) ⊎ (slice_index key 0 ≡ 3)
+  pub form : IsTrue (is_key key)
   pub bytes : IsBytes key
 
 -- a hash value: as many bytes as its function gives

@@ -2,7 +2,7 @@
 use Rattle.std.proofs.Common.{◌≡◌, ◌≢◌, ℕ, ◌^◌, ◌<◌, ◌≤◌, Bool, true, false, ◌&&◌, ◌||◌, nat_le, nat_lt, List, length, refl, arith}
 use Rattle.std.specs.Prelude.{⊤}
 use Rattle.std.specs.List.{list_all}
-use Rattle.std.proofs.lemmas.Bool.{ltb-true, leb-true}
+use Rattle.std.proofs.lemmas.Bool.{ltb-true, leb-true, and_parts}
 use Rattle.def_tree.specs.declared.Two.TheVariants as two_kind
 use Rattle.def_tree.specs.declared.Wrapper.TheVariants as wrapper
 use Rattle.def_tree.specs.Tree.{Tree, Trees, Key, older, after, and_or, two, thresh, multi, wrap, none, more}
@@ -12,11 +12,6 @@ use Rattle.def_types.specs.declared.Base.TheVariants.{B, V, K, W}
 use Rattle.def_types.specs.Corr.{is_b, is_v, is_k, is_w, are_same}
 use Rattle.def_types.specs.Typed.{type_of, types_of, IsTyped, AreTyped}
 use Rattle.def_types.proofs.Rows.{corr_rows}
-
--- a test of several, and tests of a base type
-pub both_true : (a b : Bool) → (a && b) ≡ true → (a ≡ true) × (b ≡ true)
-both_true true b e = (refl, e)
-both_true false b e = cc
 
 pub all_true : (a b c : Bool) → (a && b && c) ≡ true → (a ≡ true) × (b ≡ true) × (c ≡ true)
 all_true true true c e = (refl, refl, e)
@@ -74,7 +69,7 @@ base-same W W e = cc
 -- the fragments
 pub typed-older : (n : ℕ) → IsTyped (older n) → (1 ≤ n) × (n < 2 ^ 31)
 unfolding corr_rows
-typed-older n h = let p = both_true (nat_le 1 n) (nat_lt n (2 ^ 31)) h.0 in (leb-true 1 n p.0, ltb-true n (2 ^ 31) p.1)
+typed-older n h = let p = and_parts (nat_le 1 n) (nat_lt n (2 ^ 31)) h.0 in (leb-true 1 n p.0, ltb-true n (2 ^ 31) p.1)
 
 pub typed-and_or : (x y z : Tree) → IsTyped (and_or x y z) → IsTyped x × IsTyped y × IsTyped z × ((type_of x).base ≡ B) × ((type_of x).d ≡ true) × ((type_of x).u ≡ true) × ((type_of y).base ≡ (type_of z).base) × ((type_of y).base ≢ W)
 unfolding corr_rows
@@ -85,7 +80,7 @@ typed-and_or x y z h =
 
 pub typed-after : (n : ℕ) → IsTyped (after n) → (1 ≤ n) × (n < 2 ^ 31)
 unfolding corr_rows
-typed-after n h = let p = both_true (nat_le 1 n) (nat_lt n (2 ^ 31)) h.0 in (leb-true 1 n p.0, ltb-true n (2 ^ 31) p.1)
+typed-after n h = let p = and_parts (nat_le 1 n) (nat_lt n (2 ^ 31)) h.0 in (leb-true 1 n p.0, ltb-true n (2 ^ 31) p.1)
 
 pub typed-multi : (k : ℕ) (keys : List Key) → IsTyped (multi k keys) → (1 ≤ k) × (k ≤ length keys) × (length keys ≤ 20)
 unfolding corr_rows
@@ -106,8 +101,8 @@ typed-and_b x y h =
 pub typed-or_b : (x z : Tree) → IsTyped (two two_kind.OrB x z) → IsTyped x × IsTyped z × ((type_of x).base ≡ B) × ((type_of x).d ≡ true) × ((type_of z).base ≡ W) × ((type_of z).d ≡ true)
 unfolding corr_rows
 typed-or_b x z h =
-    let p = both_true (is_b (type_of x).base) (type_of x).d h.2.0 in
-    let q = both_true (is_w (type_of z).base) (type_of z).d h.2.1.0 in
+    let p = and_parts (is_b (type_of x).base) (type_of x).d h.2.0 in
+    let q = and_parts (is_w (type_of z).base) (type_of z).d h.2.1.0 in
     (h.0, h.1, base-b (type_of x).base p.0, p.1, base-w (type_of z).base q.0, q.1)
 
 pub typed-or_c : (x z : Tree) → IsTyped (two two_kind.OrC x z) → IsTyped x × IsTyped z × ((type_of x).base ≡ B) × ((type_of x).d ≡ true) × ((type_of x).u ≡ true) × ((type_of z).base ≡ V)
@@ -134,7 +129,7 @@ typed-wrap_a x h = (h.0, base-b (type_of x).base h.1.0)
 
 pub typed-wrap_s : (x : Tree) → IsTyped (wrap wrapper.S x) → IsTyped x × ((type_of x).base ≡ B) × ((type_of x).o ≡ true)
 unfolding corr_rows
-typed-wrap_s x h = let p = both_true (is_b (type_of x).base) (type_of x).o h.1.0 in (h.0, base-b (type_of x).base p.0, p.1)
+typed-wrap_s x h = let p = and_parts (is_b (type_of x).base) (type_of x).o h.1.0 in (h.0, base-b (type_of x).base p.0, p.1)
 
 pub typed-wrap_c : (x : Tree) → IsTyped (wrap wrapper.C x) → IsTyped x × ((type_of x).base ≡ K)
 unfolding corr_rows
@@ -142,7 +137,7 @@ typed-wrap_c x h = (h.0, base-k (type_of x).base h.1.0)
 
 pub typed-wrap_d : (x : Tree) → IsTyped (wrap wrapper.D x) → IsTyped x × ((type_of x).base ≡ V) × ((type_of x).z ≡ true)
 unfolding corr_rows
-typed-wrap_d x h = let p = both_true (is_v (type_of x).base) (type_of x).z h.1.0 in (h.0, base-v (type_of x).base p.0, p.1)
+typed-wrap_d x h = let p = and_parts (is_v (type_of x).base) (type_of x).z h.1.0 in (h.0, base-v (type_of x).base p.0, p.1)
 
 pub typed-wrap_v : (x : Tree) → IsTyped (wrap wrapper.V x) → IsTyped x × ((type_of x).base ≡ B)
 unfolding corr_rows
@@ -150,7 +145,7 @@ typed-wrap_v x h = (h.0, base-b (type_of x).base h.1.0)
 
 pub typed-wrap_j : (x : Tree) → IsTyped (wrap wrapper.J x) → IsTyped x × ((type_of x).base ≡ B) × ((type_of x).n ≡ true)
 unfolding corr_rows
-typed-wrap_j x h = let p = both_true (is_b (type_of x).base) (type_of x).n h.1.0 in (h.0, base-b (type_of x).base p.0, p.1)
+typed-wrap_j x h = let p = and_parts (is_b (type_of x).base) (type_of x).n h.1.0 in (h.0, base-b (type_of x).base p.0, p.1)
 
 pub typed-wrap_n : (x : Tree) → IsTyped (wrap wrapper.N x) → IsTyped x × ((type_of x).base ≡ B)
 unfolding corr_rows
@@ -164,7 +159,7 @@ OthersFit (more x xs) = ((type_of x).base ≡ W) × ((type_of x).d ≡ true) × 
 others_from_test : (xs : Trees) → list_all (λ y. is_w y.base && y.d && y.u) (types_of xs) ≡ true → OthersFit xs
 others_from_test none e = tt
 others_from_test (more x xs) e =
-    let p = both_true (is_w (type_of x).base && (type_of x).d && (type_of x).u) (list_all (λ y. is_w y.base && y.d && y.u) (types_of xs)) e in
+    let p = and_parts (is_w (type_of x).base && (type_of x).d && (type_of x).u) (list_all (λ y. is_w y.base && y.d && y.u) (types_of xs)) e in
     let q = all_true (is_w (type_of x).base) (type_of x).d (type_of x).u p.0 in
     (base-w (type_of x).base q.0, q.1, q.2, others_from_test xs p.1)
 
@@ -175,7 +170,7 @@ count-types_of (more x xs) = let e = count-types_of xs in omega arith
 pub typed-thresh : (k : ℕ) (x : Tree) (xs : Trees) → IsTyped (thresh k (more x xs)) → IsTyped x × AreTyped xs × (1 ≤ k) × (k ≤ count (more x xs)) × ((type_of x).base ≡ B) × ((type_of x).d ≡ true) × ((type_of x).u ≡ true) × OthersFit xs
 unfolding corr_rows
 typed-thresh k x xs h =
-    let p = both_true (nat_le 1 k) (nat_le k (length (types_of (more x xs)))) h.1.0 in
+    let p = and_parts (nat_le 1 k) (nat_le k (length (types_of (more x xs)))) h.1.0 in
     let q = all_true (is_b (type_of x).base) (type_of x).d (type_of x).u h.1.1.0 in
     let e = count-types_of (more x xs) in
     let l = leb-true k (length (types_of (more x xs))) p.1 in

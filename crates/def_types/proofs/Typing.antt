@@ -14,7 +14,7 @@ use Rattle.def_types.specs.Row.{Need, need, AllHold, Rows, unless_broken, answer
 use Rattle.def_types.specs.System.{gives, gives_each, row_of, EveryHolds, IsFirstFalse, IsMet, AreMet, typed_from, typed_each}
 use Rattle.def_types.specs.Corr.{correctness, corr}
 use Rattle.def_types.specs.Malleable.{malleability, mall}
-use Rattle.def_types.specs.Typed.{type_of, IsTyped, mall_of, IsNonMalleable}
+use Rattle.def_types.specs.Typed.{type_of, IsTyped, mall_of, IsMallTyped}
 use Rattle.def_types.specs.Laws.{CorrIsTyped, CorrIsFirst, MallIsNonMalleable, MallIsFirst, TypedMeans, NonMalleableMeans}
 
 -- the first requirement of a row that is false
@@ -317,7 +317,7 @@ module _ {A : Type 0} (rows : Rows A) where
 pub corr_is_typed : (tree : Tree) (ty : Ty) → (corr tree ≡ Ok ty) ↔ (IsTyped tree × (ty ≡ type_of tree))
 corr_is_typed tree ty = typed_is_met correctness tree ty
 
-pub mall_is_non_malleable : (tree : Tree) (properties : Mall) → (mall tree ≡ Ok properties) ↔ (IsNonMalleable tree × (properties ≡ mall_of tree))
+pub mall_is_non_malleable : (tree : Tree) (properties : Mall) → (mall tree ≡ Ok properties) ↔ (IsMallTyped tree × (properties ≡ mall_of tree))
 mall_is_non_malleable tree properties = typed_is_met malleability tree properties
 
 pub corr_is_every : CorrIsTyped

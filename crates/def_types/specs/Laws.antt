@@ -7,7 +7,7 @@ use Rattle.def_types.specs.declared.rule.RuleAt.{RuleAt}
 use Rattle.def_types.specs.System.{EveryHolds, IsFirstFalse}
 use Rattle.def_types.specs.Corr.{correctness, corr}
 use Rattle.def_types.specs.Malleable.{malleability, mall}
-use Rattle.def_types.specs.Typed.{type_of, IsTyped, mall_of, IsNonMalleable}
+use Rattle.def_types.specs.Typed.{type_of, IsTyped, mall_of, IsMallTyped}
 
 -- a tree has a correctness type exactly where every requirement of every node holds, and then it is what the
 -- rows give
@@ -32,4 +32,4 @@ abbrev pub TypedMeans : Type 0
 TypedMeans = (tree : Tree) → IsTyped tree ↔ EveryHolds correctness tree
 
 abbrev pub NonMalleableMeans : Type 0
-NonMalleableMeans = (tree : Tree) → IsNonMalleable tree ↔ EveryHolds malleability tree
+NonMalleableMeans = (tree : Tree) → IsMallTyped tree ↔ EveryHolds malleability tree

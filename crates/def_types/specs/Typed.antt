@@ -30,8 +30,8 @@ abbrev pub malls_of : Trees → List Mall
 malls_of trees = gives_each malleability trees
 
 -- every requirement of malleability holds at every node
-abbrev pub IsNonMalleable : Tree → Type 0
-IsNonMalleable tree = IsMet malleability tree
+abbrev pub IsMallTyped : Tree → Type 0
+IsMallTyped tree = IsMet malleability tree
 
-abbrev pub AreNonMalleable : Trees → Type 0
-AreNonMalleable trees = AreMet malleability trees
+abbrev pub AreMallTyped : Trees → Type 0
+AreMallTyped trees = AreMet malleability trees

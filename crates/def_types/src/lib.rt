@@ -7,35 +7,43 @@ mod rule;
 
 pub use rule::{Rule, RuleAt};
 
-/// What a fragment does with the stack (BIP 379): `B` pushes a nonzero value of at most four bytes when
-/// satisfied and the empty string when dissatisfied, `V` pushes nothing or aborts, `K` pushes a key
-/// whose signature is still to be checked, and `W` takes its input from one below the top.
+/// What a fragment does with the stack (BIP 379).
 #[derive(Clone, Copy, Debug, PartialEq, Eq)]
 pub enum Base {
+    /// Pushes a nonzero value of at most four bytes when satisfied, and the empty string when dissatisfied.
     B,
+    /// Pushes nothing when satisfied, and aborts else.
     V,
+    /// Pushes a key, whose signature is still to be checked.
     K,
+    /// Takes its input from one below the top, and else does as `B`.
     W,
 }
 
-/// A correctness type: a base type, and the properties zero-arg, one-arg, nonzero, dissatisfiable and
-/// unit (BIP 379).
+/// A correctness type (BIP 379): a base type, and five properties.
 #[derive(Clone, Copy, Debug, PartialEq, Eq)]
 pub struct Ty {
+    /// The base type.
     pub base: Base,
+    /// Zero-arg: it takes no items.
     pub z: bool,
+    /// One-arg: it takes exactly one item.
     pub o: bool,
+    /// Nonzero: its satisfactions never have an empty string on top.
     pub n: bool,
+    /// Dissatisfiable: there is a dissatisfaction that can always be given.
     pub d: bool,
+    /// Unit: when satisfied it pushes exactly the number 1.
     pub u: bool,
 }
 
-/// The malleability properties signed, forced and expressive (BIP 379): every satisfaction needs a
-/// signature, every dissatisfaction needs one, and there is one dissatisfaction without a signature,
-/// which can always be given.
+/// The malleability properties (BIP 379).
 #[derive(Clone, Copy, Debug, PartialEq, Eq)]
 pub struct Mall {
+    /// Signed: every satisfaction needs a signature.
     pub s: bool,
+    /// Forced: every dissatisfaction needs a signature.
     pub f: bool,
+    /// Expressive: there is one dissatisfaction without a signature, which can always be given.
     pub e: bool,
 }

@@ -4,7 +4,8 @@ use Rattle.std.proofs.lemmas.List.{length-map}
 use Rattle.serde_json.specs.Data.{Data}
 use Rattle.def_script.specs.Bytes.{Bytes}
 use Rattle.def_machine.specs.declared.Locks.{Locks}
-use Rattle.def_machine.specs.Stacks.{Pairs, is_key}
+use Rattle.def_machine.specs.Stacks.{Pairs}
+use Rattle.def_script.specs.Key.{is_key}
 use Rattle.def_assets.specs.Assets.{Assets}
 use Rattle.def_files.specs.declared.Format.{Format}
 use Rattle.def_files.specs.declared.Format.TheVariants as formats
@@ -12,7 +13,7 @@ use Rattle.def_files.specs.declared.Member.TheVariants as member
 use Rattle.def_files.specs.declared.AssetFault.{AssetFault}
 use Rattle.def_files.specs.declared.AssetFault.TheVariants as fault
 use Rattle.def_files.specs.Parts.{locks, format, same_under, elements, is_pair, is_text, is_hex, is_hex_pair, key_of, sig_of, bytes_of, pairs, strings}
-use Rattle.def_files.specs.Refusals.{unless, unless_each, unless_refused, no_object, no_list_of, no_version, no_sequence, no_locktime, no_format, no_hex, no_repeat, too_many, MOST_SIGNATURES}
+use Rattle.def_files.specs.Refusals.{unless, unless_each, unless_any, no_object, no_list_of, no_version, no_sequence, no_locktime, no_format, no_hex, no_repeat, too_many, MOST_SIGNATURES}
 use Rattle.def_files.specs.AssetFile.{is_signature, is_preimage, MOST_PREIMAGES, asset_refusals, assets_in}
 use Rattle.ms_assets.specs.Parts.{first, first_refused, IsOrMemory, repeats, value_refusals}
 use Rattle.ms_assets.proofs.Refusals.{after, stops, after_three, stops_in_three, each_first, first_refused-map, no_hex_first}
@@ -24,10 +25,10 @@ pub record HasShapes (file : Data) : Type 0 where
   pub preimages : no_list_of is_text member.Preimages file ≡ None
 
 abbrev value_of : Data → Result Assets AssetFault
-value_of file = unless_refused (asset_refusals file) (assets_in file)
+value_of file = unless_any (asset_refusals file) (assets_in file)
 
 abbrev left_of : ℕ → Data → Result Assets AssetFault
-left_of k file = unless_refused (drop k (asset_refusals file)) (assets_in file)
+left_of k file = unless_any (drop k (asset_refusals file)) (assets_in file)
 
 after_shapes : (file : Data) (answer : Result Assets AssetFault) → HasShapes file → answer ≡ left_of 3 file → answer ≡ value_of file
 after_shapes file answer shapes e =
@@ -134,17 +135,17 @@ pub record HasRead (file : Data) (form : Format) (found : Locks) (read : Pairs) 
 
 -- then the refusals of the byte strings tell
 pub value_same : (file : Data) (form : Format) (found : Locks) (read : Pairs) (texts : List Bytes) → HasRead file form found read texts
-    → unless_refused (value_refusals form read texts) (record { locks = found; pairs = read; preimages = texts }) ≡ value_of file
+    → unless_any (value_refusals form read texts) (record { locks = found; pairs = read; preimages = texts }) ≡ value_of file
 value_same file form found read texts has =
-    let P : Format → Locks → Pairs → List Bytes → Result Assets AssetFault = λ f l p t. unless_refused (value_refusals f p t) (record { locks = l; pairs = p; preimages = t }) in
+    let P : Format → Locks → Pairs → List Bytes → Result Assets AssetFault = λ f l p t. unless_any (value_refusals f p t) (record { locks = l; pairs = p; preimages = t }) in
     let answer = P form found read texts in
     after_numbers file answer has.numbers
     (after (no_hex is_hex_pair member.Signatures file) (drop 8 (asset_refusals file)) (assets_in file) answer has.signatures
     (after (no_hex is_hex member.Preimages file) (drop 9 (asset_refusals file)) (assets_in file) answer has.preimages
     (ap (λ o. P (unwrap_or o formats.One) found read texts) has.format ∙ ap (λ l. P (format_in file) l read texts) has.locks ∙ ap (λ p. P (format_in file) (locks file) p texts) has.pairs ∙ ap (λ t. P (format_in file) (locks file) (pairs file) t) has.strings
-    ∙ ap (λ rs. unless_refused rs (assets_in file)) (last_same file))))
+    ∙ ap (λ rs. unless_any rs (assets_in file)) (last_same file))))
 
 pub read_done : (file : Data) (form : Format) (found : Locks) (read : Pairs) (texts : List Bytes) (result : Result Assets AssetFault) → HasRead file form found read texts
-    → IsOrMemory (unless_refused (value_refusals form read texts) (record { locks = found; pairs = read; preimages = texts })) result → IsOrMemory (value_of file) result
+    → IsOrMemory (unless_any (value_refusals form read texts) (record { locks = found; pairs = read; preimages = texts })) result → IsOrMemory (value_of file) result
 read_done file form found read texts result has (inl e) = inl (e ∙ value_same file form found read texts has)
 read_done file form found read texts result has (inr e) = inr e

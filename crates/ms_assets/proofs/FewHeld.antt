@@ -1,7 +1,7 @@
 -- That assets are few, and what they hold of its form.
 use Rattle.std.proofs.Common.{◌≡◌, ◌^◌, ◌<◌, nat_le, not, if◌then◌else◌, Bool, true, false, [], ◌∷◌, ◌++◌, Some, None, Ok, inl, inr, length, length-append, refl, sym, ◌∙◌, ap, arith}
 use Rattle.std.specs.List.{list_any, IsDistinct}
-use Rattle.std.proofs.lemmas.Bool.{leb-true}
+use Rattle.std.proofs.lemmas.Bool.{leb-true, and_parts}
 use Rattle.std.proofs.lemmas.Bool.Decides.{nat_tests}
 use Rattle.std.proofs.lemmas.List.Elements.{All-push}
 use Rattle.std.proofs.lemmas.Map.Keys.{IsDistinct-push}
@@ -11,10 +11,9 @@ use Rattle.def_machine.specs.declared.Locks.{Locks}
 use Rattle.def_tree.specs.Range.{IsKey}
 use Rattle.def_assets.specs.Assets.{Assets, IsSignature, same_pair}
 use Rattle.def_files.specs.Json.{reading}
-use Rattle.def_files.specs.Refusals.{unless_refused, given}
+use Rattle.def_files.specs.Refusals.{unless_any, given}
 use Rattle.def_files.specs.AssetFile.{is_signature, asset_refusals, assets_in, assets_of}
 use Rattle.def_files.specs.Laws.{AreFewAssets}
-use Rattle.def_files.proofs.Distinct.{both_true}
 use Rattle.def_files.proofs.Given.{asset_file_gives_assets}
 use Rattle.ms_assets.specs.declared.assets.AddStop.TheVariants as stop
 use Rattle.ms_assets.specs.Adding.{size_stop}
@@ -68,12 +67,12 @@ pub sized_few : (assets : Assets) (key sig : Bytes) → AreFewAssets assets → 
     → AreFewAssets (record assets { pairs = assets.pairs ++ (key, sig) ∷ [] })
 sized_few assets key sig few is_key bytes passes new =
     let p = size_passes assets sig passes in
-    let parts = both_true (nat_le 1 (length sig)) (nat_le (length sig) 73) p.0 in
+    let parts = and_parts (nat_le 1 (length sig)) (nat_le (length sig) 73) p.0 in
     let fits : IsSignature sig = record { some = leb-true 1 (length sig) parts.0; few = leb-true (length sig) 73 parts.1; bytes = bytes } in
     added_few assets key sig few is_key fits new (let not_full = p.1 in grind (arith, nat_tests))
 
 -- what a file gives
-pub file_few : (bytes : Bytes) (file : Data) (assets : Assets) → reading bytes ≡ Some file → IsOrMemory (unless_refused (asset_refusals file) (assets_in file)) (Ok assets) → AreFewAssets assets
+pub file_few : (bytes : Bytes) (file : Data) (assets : Assets) → reading bytes ≡ Some file → IsOrMemory (unless_any (asset_refusals file) (assets_in file)) (Ok assets) → AreFewAssets assets
 unfolding assets_of
-file_few bytes file assets read (inl e) = asset_file_gives_assets bytes assets (ap (given (λ f. unless_refused (asset_refusals f) (assets_in f))) read ∙ sym e)
+file_few bytes file assets read (inl e) = asset_file_gives_assets bytes assets (ap (given (λ f. unless_any (asset_refusals f) (assets_in f))) read ∙ sym e)
 file_few bytes file assets read (inr e) = absurd (let no = e in cc)

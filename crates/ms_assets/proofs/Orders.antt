@@ -23,7 +23,8 @@ use Rattle.def_script.specs.Bytes.{Bytes}
 use Rattle.def_machine.specs.Stacks.{Pairs}
 use Rattle.def_assets.specs.Assets.{sigs_with, shorter, shortest}
 use Rattle.ms_assets.proofs.SamePairs.{bytes_eq-symm}
-use Rattle.ms_assets.specs.Order.{Rank, rank_cmp, pair_at, rank_of, is_before, IsOrder, sig_under}
+use Rattle.ms_oracle.specs.Places.{pair_at}
+use Rattle.ms_assets.specs.Scaffolding.Order.{Rank, rank_cmp, rank_of, is_before, IsOrder, sig_under}
 
 pub rank_cmp-total : IsTotalOrder rank_cmp
 rank_cmp-total =

@@ -8,26 +8,26 @@ use Rattle.def_files.specs.declared.Member.TheVariants as member
 use Rattle.def_files.specs.declared.AssetFault.TheVariants as fault
 use Rattle.def_files.specs.Json.{is_object}
 use Rattle.def_files.specs.Parts.{elements}
-use Rattle.def_files.specs.Refusals.{Refusal, unless, unless_each, unless_refused, no_object, no_hex}
+use Rattle.def_files.specs.Refusals.{Refusal, unless, unless_each, unless_any, no_object, no_hex}
 use Rattle.ms_assets.specs.declared.list_fault.ListFault.TheVariants as list_fault
 use Rattle.ms_assets.specs.Parts.{first, first_refused}
 
 -- nothing is refused by the first of refusals
-pub after : {A E : Type 0} (r : Option E) (rest : List (Option E)) (value : A) (answer : Result A E) → r ≡ None → answer ≡ unless_refused rest value → answer ≡ unless_refused (r ∷ rest) value
-after r rest value answer none e = e ∙ sym (ap (λ o. unless_refused (o ∷ rest) value) none)
+pub after : {A E : Type 0} (r : Option E) (rest : List (Option E)) (value : A) (answer : Result A E) → r ≡ None → answer ≡ unless_any rest value → answer ≡ unless_any (r ∷ rest) value
+after r rest value answer none e = e ∙ sym (ap (λ o. unless_any (o ∷ rest) value) none)
 
 -- the first of refusals applies
-pub stops : {A E : Type 0} (r : Option E) (rest : List (Option E)) (value : A) (why : E) → r ≡ Some why → Err why ≡ unless_refused (r ∷ rest) value
-stops r rest value why some = sym (ap (λ o. unless_refused (o ∷ rest) value) some)
+pub stops : {A E : Type 0} (r : Option E) (rest : List (Option E)) (value : A) (why : E) → r ≡ Some why → Err why ≡ unless_any (r ∷ rest) value
+stops r rest value why some = sym (ap (λ o. unless_any (o ∷ rest) value) some)
 
 -- nothing is refused by the first three of refusals, or one of them applies
-pub after_three : {A E : Type 0} (r s t : Option E) (rest : List (Option E)) (value : A) (answer : Result A E) → first (r ∷ s ∷ t ∷ []) ≡ None → answer ≡ unless_refused rest value → answer ≡ unless_refused (r ∷ s ∷ t ∷ rest) value
+pub after_three : {A E : Type 0} (r s t : Option E) (rest : List (Option E)) (value : A) (answer : Result A E) → first (r ∷ s ∷ t ∷ []) ≡ None → answer ≡ unless_any rest value → answer ≡ unless_any (r ∷ s ∷ t ∷ rest) value
 after_three None None None rest value answer none e = e
 after_three None None (Some t) rest value answer none e = absurd (let no = none in cc)
 after_three None (Some s) t rest value answer none e = absurd (let no = none in cc)
 after_three (Some r) s t rest value answer none e = absurd (let no = none in cc)
 
-pub stops_in_three : {A E : Type 0} (r s t : Option E) (rest : List (Option E)) (value : A) (why : E) → first (r ∷ s ∷ t ∷ []) ≡ Some why → Err why ≡ unless_refused (r ∷ s ∷ t ∷ rest) value
+pub stops_in_three : {A E : Type 0} (r s t : Option E) (rest : List (Option E)) (value : A) (why : E) → first (r ∷ s ∷ t ∷ []) ≡ Some why → Err why ≡ unless_any (r ∷ s ∷ t ∷ rest) value
 stops_in_three None None None rest value why some = absurd (let no = some in cc)
 stops_in_three None None (Some t) rest value why some = let same = some in cc
 stops_in_three None (Some s) t rest value why some = let same = some in cc

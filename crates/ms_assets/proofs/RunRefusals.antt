@@ -10,17 +10,17 @@ use Rattle.def_files.specs.declared.AssetFault.{AssetFault}
 use Rattle.def_files.specs.declared.AssetFault.TheVariants as fault
 use Rattle.def_files.specs.Json.{spelled}
 use Rattle.def_files.specs.Parts.{locks, elements, is_pair, is_text, is_hex, is_hex_pair, key_of, sig_of, bytes_of, pairs, strings}
-use Rattle.def_files.specs.Refusals.{Refusal, unless, unless_refused, no_object, no_list_of, no_version, no_sequence, no_locktime, no_hex, too_many, MOST_SIGNATURES}
+use Rattle.def_files.specs.Refusals.{Refusal, unless, unless_any, no_object, no_list_of, no_version, no_sequence, no_locktime, no_hex, too_many, MOST_SIGNATURES}
 use Rattle.def_files.specs.RunFile.{RunFile, MOST_ELEMENTS, script_text, run_refusals, run_in}
 use Rattle.ms_assets.specs.Parts.{first, first_refused, IsOrMemory}
 use Rattle.ms_assets.specs.Runs.{count_refusals}
 use Rattle.ms_assets.proofs.Refusals.{after, stops, after_three, stops_in_three, no_hex_first}
 
 abbrev pub value_of : Data → Result RunFile AssetFault
-value_of file = unless_refused (run_refusals file) (run_in file)
+value_of file = unless_any (run_refusals file) (run_in file)
 
 abbrev pub left_of : ℕ → Data → Result RunFile AssetFault
-left_of k file = unless_refused (drop k (run_refusals file)) (run_in file)
+left_of k file = unless_any (drop k (run_refusals file)) (run_in file)
 
 -- the refusals of the script
 abbrev pub no_script : Data → Refusal
@@ -105,11 +105,11 @@ counts_same file =
 
 -- then the numbers of elements tell
 pub read_done : (file : Data) (script : Bytes) (stack : List Bytes) (found : Locks) (read : Pairs) → HasRead file script stack found read
-    → unless_refused (count_refusals read stack) (record { script = script; stack = stack; locks = found; pairs = read }) ≡ value_of file
+    → unless_any (count_refusals read stack) (record { script = script; stack = stack; locks = found; pairs = read }) ≡ value_of file
 read_done file script stack found read has =
-    let P : Bytes → List Bytes → Locks → Pairs → Result RunFile AssetFault = λ b s l p. unless_refused (count_refusals p s) (record { script = b; stack = s; locks = l; pairs = p }) in
+    let P : Bytes → List Bytes → Locks → Pairs → Result RunFile AssetFault = λ b s l p. unless_any (count_refusals p s) (record { script = b; stack = s; locks = l; pairs = p }) in
     let answer = P script stack found read in
     after_script file answer has.numbers has.signatures has.digits
     (after (no_hex is_hex member.Witness file) (drop 10 (run_refusals file)) (run_in file) answer has.witness
     (ap (λ o. P (unwrap_or o []) stack found read) has.script ∙ ap (λ s. P (run_in file).script s found read) has.stack ∙ ap (λ l. P (run_in file).script (strings member.Witness file) l read) has.locks
-    ∙ ap (λ p. P (run_in file).script (strings member.Witness file) (locks file) p) has.pairs ∙ ap (λ rs. unless_refused rs (run_in file)) (counts_same file)))
+    ∙ ap (λ p. P (run_in file).script (strings member.Witness file) (locks file) p) has.pairs ∙ ap (λ rs. unless_any rs (run_in file)) (counts_same file)))

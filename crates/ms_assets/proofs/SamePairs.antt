@@ -1,5 +1,6 @@
 -- Byte strings and pairs that are the same.
 use Rattle.std.proofs.Common.{◌≡◌, Bool, true, false, ◌&&◌, ◌||◌, [], ◌∷◌, refl, sym, ◌∙◌, ap}
+use Rattle.std.proofs.lemmas.Bool.{and_parts}
 use Rattle.std.specs.Cmp.{IsEquivalence}
 use Rattle.std.specs.List.{list_any}
 use Rattle.std.specs.Str.{bytes_eq}
@@ -7,7 +8,6 @@ use Rattle.std.proofs.lemmas.Slice.Eq.{bytes_eq-Decides}
 use Rattle.def_script.specs.Bytes.{Bytes}
 use Rattle.def_machine.specs.Stacks.{Pairs, member}
 use Rattle.def_assets.specs.Assets.{same_pair}
-use Rattle.def_files.proofs.Distinct.{both_true}
 
 same_bool : (a b : Bool) → (a ≡ true → b ≡ true) → (b ≡ true → a ≡ true) → a ≡ b
 same_bool true true p q = refl
@@ -27,7 +27,7 @@ same_pair-laws = record {
   refl = λ x. ap (λ b. b && bytes_eq x.1 x.1) ((bytes_eq-Decides x.0 x.0).1 refl) ∙ (bytes_eq-Decides x.1 x.1).1 refl;
   symm = same_pair-symm;
   congr = λ x y z e.
-      let parts = both_true (bytes_eq x.0 y.0) (bytes_eq x.1 y.1) e in
+      let parts = and_parts (bytes_eq x.0 y.0) (bytes_eq x.1 y.1) e in
       ap (λ key. bytes_eq key z.0 && bytes_eq x.1 z.1) ((bytes_eq-Decides x.0 y.0).0 parts.0) ∙ ap (λ sig. bytes_eq y.0 z.0 && bytes_eq sig z.1) ((bytes_eq-Decides x.1 y.1).0 parts.1);
 }
 

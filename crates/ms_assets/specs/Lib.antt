@@ -1,5 +1,5 @@
 pub mod Adding
-pub mod Order
+pub mod Digests
 pub mod Parts
 pub mod Runs
-pub mod Seen
+pub mod Scaffolding

@@ -1,14 +1,16 @@
 -- What reading a part of a file answers.
-use Rattle.std.specs.Prelude.{◌≡◌, ◌⊎◌, ℕ, not, nat_le, Bool, List, [], ◌∷◌, length, map, Option, Some, None, option_map, Result, Ok, Err}
+use Rattle.std.specs.Prelude.{◌≡◌, ◌⊎◌, ℕ, not, nat_le, Bool, List, [], ◌∷◌, length, map, Option, Some, None, is_some, option_map, Result, Ok, Err}
 use Rattle.std.specs.List.{position_from}
 use Rattle.std.specs.Str.{bytes_eq}
+use Rattle.serde_json.specs.Data.{Data}
 use Rattle.def_script.specs.Bytes.{Bytes}
 use Rattle.def_files.specs.declared.Format.{Format}
 use Rattle.def_files.specs.declared.AssetFault.{AssetFault}
 use Rattle.def_files.specs.declared.AssetFault.TheVariants as fault
 use Rattle.def_files.specs.declared.Member.TheVariants as member
-use Rattle.def_machine.specs.Stacks.{Pairs, is_key}
-use Rattle.def_files.specs.Parts.{same_under}
+use Rattle.def_machine.specs.Stacks.{Pairs}
+use Rattle.def_script.specs.Key.{is_key}
+use Rattle.def_files.specs.Parts.{version, sequence, locktime, same_under}
 use Rattle.def_files.specs.Refusals.{Refusal, unless, no_repeat, MOST_SIGNATURES}
 use Rattle.def_files.specs.AssetFile.{is_signature, is_preimage, MOST_PREIMAGES}
 
@@ -17,6 +19,13 @@ abbrev pub first : {E : Type 0} → List (Option E) → Option E
 first [] = None
 first (None ∷ refusals) = first refusals
 first (Some fault ∷ refusals) = Some fault
+
+-- the refusals of a file's numbers of the locks, each by its own fault
+abbrev pub lock_refusals : {E : Type 0} → Data → (no_version no_sequence no_locktime : E) → List (Option E)
+lock_refusals file no_version no_sequence no_locktime =
+    unless (is_some (version file)) no_version ∷
+    unless (is_some (sequence file)) no_sequence ∷
+    unless (is_some (locktime file)) no_locktime ∷ []
 
 -- the refusal of the first element for which a test doesn't hold
 abbrev pub first_refused : {A E : Type 0} → (holds : A → Bool) → (ℕ → E) → List A → Option E

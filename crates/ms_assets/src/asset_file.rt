@@ -3,11 +3,11 @@
 ghost use Rattle.std.specs.Prelude.{◌≡◌, ◌^◌, ◌<◌, ◌≤◌, List, [], ◌∷◌, length, map};
 ghost use Rattle.std.specs.List.{list_any};
 ghost use Rattle.serde_json.specs.View.{view};
-ghost use Rattle.def_machine.specs.Stacks.{is_key as the_is_key};
+ghost use Rattle.def_script.specs.Key.{is_key as the_is_key};
 ghost use Rattle.def_files.specs.AssetFile.{is_signature as the_is_signature, is_preimage, asset_refusals, assets_in as the_assets_in, assets_of};
 ghost use Rattle.def_files.specs.Parts.{same_under};
-ghost use Rattle.def_files.specs.Refusals.{unless_refused};
-ghost use Rattle.ms_assets.specs.Seen.{parts_seen};
+ghost use Rattle.def_files.specs.Refusals.{unless_any};
+ghost use Rattle.ms_assets.specs.Scaffolding.Seen.{parts_seen};
 ghost use Rattle.ms_assets.specs.Parts.{first_refused, Reads, ReadsOr, ReadsOrMemory, IsOrMemory, repeats, value_refusals};
 
 use crate::assets::{Assets, MOST_PREIMAGES, MOST_SIGNATURES};
@@ -18,9 +18,9 @@ use crate::signatures::Signatures;
 use crate::texts::{read_pairs, read_strings};
 use def_files::{AssetFault, Format, Member};
 use ms_oracle::{Locks, Pairs, SigPair};
-use ms_script::Stack;
+use ms_script::{Stack, is_key};
 use serde_json::Value;
-use std::alloc::{AllocError, Global};
+use std::alloc::Global;
 
 /// Reads an asset file: a JSON object with the numbers `version`, `sequence` and `locktime`, the list
 /// `signatures` of objects with the texts `key` and `sig`, the list `preimages` of texts, and the number
@@ -35,26 +35,25 @@ pub fn read_assets(alloc: Global, bytes: &[u8]) -> Result<Assets, AssetFault>
     requires { length bytes.now ≤ 2 ^ 31 }
     ensures { IsOrMemory (assets_of bytes.now) result }
 {
-    match read_json(alloc, bytes, AssetFault::NotJson, AssetFault::Memory) {
-        Ok(file) => match assets_in(alloc, &file) {
-            Ok(parts) => Ok(Assets::from_parts(parts)),
-            Err(why) => Err(why),
-        },
-        Err(why) => Err(why),
-    }
+    let file = read_json(alloc, bytes, AssetFault::NotJson, AssetFault::Memory)?;
+    let parts = assets_in(alloc, &file)?;
+    Ok(Assets::from_parts(parts))
 }
 
 /// The parts of assets, before it is known that they are few and have their form.
 #[derive(Drop)]
 pub struct AssetParts {
+    /// The values of the locks.
     pub locks: Locks,
+    /// The signatures with their keys, in the order of the file.
     pub pairs: Signatures,
+    /// The preimages, in the order of the file.
     pub preimages: Vec<Preimage>,
 }
 
 /// What stands in an asset file.
 fn assets_in(alloc: Global, file: &Value) -> Result<AssetParts, AssetFault>
-    ensures { IsOrMemory (unless_refused (asset_refusals (view file.now)) (the_assets_in (view file.now))) (parts_seen result) }
+    ensures { IsOrMemory (unless_any (asset_refusals (view file.now)) (the_assets_in (view file.now))) (parts_seen result) }
 {
     if !file.is_object() {
         return Err(AssetFault::Shape(Member::Whole));
@@ -88,7 +87,7 @@ fn check_parts(
 ) -> Result<AssetParts, AssetFault>
     requires few_pairs { length pairs < 2 ^ 32 }
     requires few_strings { length strings.now < 2 ^ 32 }
-    ensures { IsOrMemory (unless_refused (value_refusals format pairs strings.now) (record { locks = locks; pairs = pairs; preimages = strings.now })) (parts_seen result) }
+    ensures { IsOrMemory (unless_any (value_refusals format pairs strings.now) (record { locks = locks; pairs = pairs; preimages = strings.now })) (parts_seen result) }
 {
     check_keys(pairs.as_slice())?;
     check_sigs(pairs.as_slice())?;
@@ -100,21 +99,12 @@ fn check_parts(
         return Err(AssetFault::TooMany(Member::Preimages));
     }
     check_repeats(format, pairs.as_slice())?;
-    match Signatures::of_pairs(alloc, pairs) {
-        Ok(pairs) => Ok(AssetParts {
-            locks,
-            pairs,
-            preimages,
-        }),
-        Err(AllocError) => Err(AssetFault::Memory),
-    }
-}
-
-/// Whether this is a compressed public key: 33 bytes of which the first is 2 or 3. Takes no memory.
-pub fn is_key(key: &[u8]) -> bool
-    ensures { result ≡ the_is_key key.now }
-{
-    key.len() == 33 && (key[0] == 0x02 || key[0] == 0x03)
+    let pairs = Signatures::of_pairs(alloc, pairs)?;
+    Ok(AssetParts {
+        locks,
+        pairs,
+        preimages,
+    })
 }
 
 /// Refuses the first key that hasn't its form.
@@ -176,9 +166,7 @@ pub fn preimages_of(alloc: Global, strings: &Stack) -> Result<Vec<Preimage>, Lis
         let Ok(bytes) = <[u8; 32]>::try_from(strings.item(i)) else {
             return Err(ListFault::At(i as u32));
         };
-        if preimages.push(Preimage::new(bytes)).is_err() {
-            return Err(ListFault::Memory);
-        }
+        preimages.push(Preimage::new(bytes))?;
     }
     Ok(preimages)
 }

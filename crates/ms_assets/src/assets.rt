@@ -5,7 +5,8 @@ ghost use Rattle.def_hash.specs.Hash.{digest_of};
 ghost use Rattle.def_machine.specs.Locks.{after_holds, older_holds};
 ghost use Rattle.def_assets.specs.Assets.{sig_of as the_sig_of, known, unsigned};
 ghost use Rattle.def_files.specs.Laws.{AreFewAssets};
-ghost use Rattle.ms_assets.specs.Seen.{held};
+ghost use Rattle.ms_assets.specs.declared.assets.AddStop.TheVariants as stop;
+ghost use Rattle.ms_assets.specs.Scaffolding.Seen.{held};
 ghost use Rattle.ms_hash.specs.Value.{kind_of, bytes_of};
 ghost use Rattle.ms_assets.specs.Adding.{size_stop as the_size_stop, sig_stop, another_stop, preimage_stop, Answers};
 
@@ -15,7 +16,7 @@ use crate::signatures::Signatures;
 use ms_hash::HashVal;
 use ms_oracle::{Locks, SigPair, member};
 use ms_tree::Key;
-use std::alloc::{AllocError, Global};
+use std::alloc::{AllocError, AllocFailed, Global};
 use std::marker::Model;
 
 /// How many signatures assets and run files hold at most.
@@ -35,6 +36,22 @@ pub enum AddStop {
     RepeatedKey,
     /// There was no memory. Only where no other reason applies.
     Memory,
+}
+
+impl From<AllocError> for AddStop {
+    ghost from_gives = { λ _ why. why ≡ stop.Memory };
+
+    fn from(_error: AllocError) -> AddStop {
+        AddStop::Memory
+    }
+}
+
+impl<T: Drop> From<AllocFailed<T>> for AddStop {
+    ghost from_gives = { λ _ why. why ≡ stop.Memory };
+
+    fn from(_error: AllocFailed<T>) -> AddStop {
+        AddStop::Memory
+    }
 }
 
 /// What a wallet holds for a spend: the values of the locks, signatures with their keys, and preimages.
@@ -171,10 +188,8 @@ impl Assets {
         ensures ok { OnOk result (self.new ≡ record self.old { pairs = self.old.pairs ++ (key.now, sig.now) ∷ [] }) }
         ensures err { OnErr result (self.new ≡ self.old) }
     {
-        match self.pairs.push(key, sig) {
-            Ok(()) => Ok(()),
-            Err(AllocError) => Err(AddStop::Memory),
-        }
+        self.pairs.push(key, sig)?;
+        Ok(())
     }
 
     /// Adds a preimage at the end. It may be held already. Refused by `TooMany`, and else by `Memory`; the assets
@@ -187,9 +202,7 @@ impl Assets {
         if self.preimages.len() >= MOST_PREIMAGES {
             return Err(AddStop::TooMany);
         }
-        if self.preimages.push(Preimage::new(*preimage)).is_err() {
-            return Err(AddStop::Memory);
-        }
+        self.preimages.push(Preimage::new(*preimage))?;
         Ok(())
     }
 

@@ -4,7 +4,7 @@
 //! and the signatures that are good. Other files have parts of an asset file: the functions that read these are public.
 #![tactic(auto)]
 
-pub use asset_file::{is_key, preimages_of, read_assets};
+pub use asset_file::{preimages_of, read_assets};
 pub use assets::{AddStop, Assets};
 pub use def_files::{AssetFault, Member};
 pub use list_fault::ListFault;
@@ -22,6 +22,4 @@ mod members;
 mod preimage;
 mod run_file;
 mod signatures;
-#[cfg(test)]
-mod tests;
 mod texts;

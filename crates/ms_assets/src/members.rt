@@ -5,9 +5,9 @@ ghost use Rattle.std.specs.List.{list_all};
 ghost use Rattle.serde_json.specs.Find.{get};
 ghost use Rattle.serde_json.specs.View.{view};
 ghost use Rattle.def_files.specs.Json.{reading, member_name as the_member_name, find_member, number_of as the_number_of, number_or as the_number_or, elements_or_empty, is_list_of, text_at as the_text_at};
-ghost use Rattle.def_files.specs.Parts.{version, sequence, locktime, locks, format as the_format, list as the_list, elements, is_pair as the_is_pair, is_text as the_is_text};
+ghost use Rattle.def_files.specs.Parts.{locks, format as the_format, list as the_list, elements, is_pair as the_is_pair, is_text as the_is_text};
 ghost use Rattle.def_files.specs.Refusals.{unless, no_format, no_list_of};
-ghost use Rattle.ms_assets.specs.Parts.{first, Reads, ReadsOr, ReadsOrMemory};
+ghost use Rattle.ms_assets.specs.Parts.{first, lock_refusals, Reads, ReadsOr, ReadsOrMemory};
 
 use def_files::{AssetFault, Format, Member};
 use ms_oracle::Locks;
@@ -79,7 +79,7 @@ pub fn read_locks<E: Copy>(
     no_sequence: E,
     no_locktime: E,
 ) -> Result<Locks, E>
-    ensures { Reads (first (unless (is_some (version (view file.now))) no_version ∷ unless (is_some (sequence (view file.now))) no_sequence ∷ unless (is_some (locktime (view file.now))) no_locktime ∷ [])) (λ locks. locks) (locks (view file.now)) result }
+    ensures { Reads (first (lock_refusals (view file.now) no_version no_sequence no_locktime)) (λ locks. locks) (locks (view file.now)) result }
 {
     let Some(version) = number_or(file, Member::Version, 2) else {
         return Err(no_version);

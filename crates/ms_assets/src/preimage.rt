@@ -17,15 +17,14 @@ pub struct Preimage {
 }
 
 impl Model for Preimage {
-    ghost use Rattle.std.specs.Prelude.{◌≡◌, ℕ, List};
-    ghost use Rattle.def_hash.specs.Hash.{digest_of};
-    ghost use Rattle.def_hash.specs.declared.HashKind.TheVariants as kind;
+    ghost use Rattle.std.specs.Prelude.{ℕ, List};
+    ghost use Rattle.ms_assets.specs.Digests.{AreDigests};
 
     ghost Value = { List ℕ };
 
     ghost view = { λ p. p.bytes };
 
-    ghost invariant = { λ p. (p.sha256 ≡ digest_of kind.Sha256 p.bytes) × (p.hash256 ≡ digest_of kind.Hash256 p.bytes) × (p.ripemd160 ≡ digest_of kind.Ripemd160 p.bytes) × (p.hash160 ≡ digest_of kind.Hash160 p.bytes) };
+    ghost invariant = { λ p. AreDigests p.bytes p.sha256 p.hash256 p.ripemd160 p.hash160 };
 }
 
 impl Preimage {

@@ -4,7 +4,7 @@ ghost use Rattle.std.specs.Prelude.{◌≡◌, ◌^◌, ◌≤◌, length, is_so
 ghost use Rattle.serde_json.specs.View.{view};
 ghost use Rattle.def_files.specs.Json.{spelled as the_spelled};
 ghost use Rattle.def_files.specs.RunFile.{script_text as the_script_text, run_refusals, run_in as the_run_in, run_of};
-ghost use Rattle.def_files.specs.Refusals.{unless, unless_refused};
+ghost use Rattle.def_files.specs.Refusals.{unless, unless_any};
 ghost use Rattle.ms_assets.specs.Parts.{Reads, ReadsOrMemory, IsOrMemory};
 ghost use Rattle.ms_assets.specs.Runs.{run_seen, count_refusals};
 
@@ -15,7 +15,7 @@ use def_files::{AssetFault, Member};
 use ms_oracle::{Locks, Pairs};
 use ms_script::{Blob, Stack};
 use serde_json::Value;
-use std::alloc::{AllocError, Global};
+use std::alloc::Global;
 
 /// How many elements the stack of a run file has.
 const MOST_ELEMENTS: usize = 2000;
@@ -47,15 +47,13 @@ pub fn read_run(alloc: Global, bytes: &[u8]) -> Result<RunFile, AssetFault>
     ensures run { IsOrMemory (run_of bytes.now) (run_seen result) }
     ensures few { IfOk result (λ file. length file.stack ≤ 2000) }
 {
-    match read_json(alloc, bytes, AssetFault::NotJson, AssetFault::Memory) {
-        Ok(file) => run_in(alloc, &file),
-        Err(why) => Err(why),
-    }
+    let file = read_json(alloc, bytes, AssetFault::NotJson, AssetFault::Memory)?;
+    run_in(alloc, &file)
 }
 
 /// What stands in a run file.
 fn run_in(alloc: Global, file: &Value) -> Result<RunFile, AssetFault>
-    ensures run { IsOrMemory (unless_refused (run_refusals (view file.now)) (the_run_in (view file.now))) (run_seen result) }
+    ensures run { IsOrMemory (unless_any (run_refusals (view file.now)) (the_run_in (view file.now))) (run_seen result) }
     ensures few { IfOk result (λ file. length file.stack ≤ 2000) }
 {
     if !file.is_object() {
@@ -95,10 +93,9 @@ fn script_text(file: &Value) -> Result<&str, AssetFault>
 fn read_script(alloc: Global, text: &str) -> Result<Blob, AssetFault>
     ensures { ReadsOrMemory (unless (is_some (the_spelled (Some text.now))) (AssetFault.Hex Member.Script 0)) (λ script. Some script) (the_spelled (Some text.now)) result }
 {
-    match spelled(alloc, text) {
-        Ok(Some(bytes)) => Ok(Blob::from_vec(bytes)),
-        Ok(None) => Err(AssetFault::Hex(Member::Script, 0)),
-        Err(AllocError) => Err(AssetFault::Memory),
+    match spelled(alloc, text)? {
+        Some(bytes) => Ok(Blob::from_vec(bytes)),
+        None => Err(AssetFault::Hex(Member::Script, 0)),
     }
 }
 
@@ -109,7 +106,7 @@ fn run_of_parts(
     locks: Locks,
     pairs: Pairs,
 ) -> Result<RunFile, AssetFault>
-    ensures run { run_seen result ≡ unless_refused (count_refusals pairs stack) (record { script = script; stack = stack; locks = locks; pairs = pairs }) }
+    ensures run { run_seen result ≡ unless_any (count_refusals pairs stack) (record { script = script; stack = stack; locks = locks; pairs = pairs }) }
     ensures few { IfOk result (λ file. length file.stack ≤ 2000) }
 {
     if pairs.as_slice().len() > MOST_SIGNATURES {

@@ -1,12 +1,11 @@
 //! Signatures with their keys, and the order in which the shortest of a key is found.
-ghost use Rattle.std.specs.Prelude.{◌≡◌, ◌≤◌, true, false, List, [], ◌∷◌, ◌++◌, length, option_map, IfOk, OnOk, OnErr};
-ghost use Rattle.std.specs.List.{list_any, range_with_len};
-ghost use Rattle.std.specs.List.Sorted.{IsPartitionPoint};
+ghost use Rattle.std.specs.Prelude.{◌≡◌, ◌≤◌, List, [], ◌∷◌, ◌++◌, length, option_map, IfOk, OnOk, OnErr};
+ghost use Rattle.std.specs.List.{list_any};
 ghost use Rattle.std.specs.Str.{bytes_eq};
 ghost use Rattle.def_assets.specs.Assets.{sigs_with, shortest as the_shortest};
-ghost use Rattle.ms_assets.specs.Order.{rank_cmp, pair_at as the_pair_at, rank_of, is_before, IsOrder, sig_under as the_sig_under};
+ghost use Rattle.ms_assets.specs.Scaffolding.Order.{rank_cmp, rank_of, IsOrder, SplitsAt, sig_under as the_sig_under};
 
-use ms_oracle::{Pairs, SigPair};
+use ms_oracle::{Pairs, SigPair, pair_at, places_of};
 use std::alloc::{AllocError, Global};
 use std::cmp::Ordering;
 use std::marker::Model;
@@ -21,7 +20,7 @@ pub struct Signatures {
 
 impl Model for Signatures {
     ghost use Rattle.def_machine.specs.Stacks.{Pairs as Held};
-    ghost use Rattle.ms_assets.specs.Order.{IsOrder};
+    ghost use Rattle.ms_assets.specs.Scaffolding.Order.{IsOrder};
 
     ghost Value = { Held };
 
@@ -98,23 +97,6 @@ impl Signatures {
     }
 }
 
-/// All places of a table.
-fn places_of(alloc: Global, table: &[SigPair]) -> Result<Vec<usize>, AllocError>
-    ensures { IfOk result (λ places. places.items ≡ range_with_len 0 (length table.now)) }
-{
-    (0..table.len()).collect(alloc)
-}
-
-/// The key and the signature at a place of a table; two empty strings past its end.
-fn pair_at(table: &[SigPair], place: usize) -> (&[u8], &[u8])
-    ensures { (result.0.now, result.1.now) ≡ the_pair_at table.now place }
-{
-    match table.get(place) {
-        Some(pair) => (pair.key(), pair.sig()),
-        None => (&[], &[]),
-    }
-}
-
 /// Whether the pair at a place comes before a key, a length of its signature and a place, is it, or comes after it.
 fn compare(table: &[SigPair], place: usize, key: &[u8], size: usize, other: usize) -> Ordering
     ensures { result ≡ rank_cmp (rank_of table.now place) (record { key = key.now; size = size; place = other }) }
@@ -129,7 +111,7 @@ fn compare(table: &[SigPair], place: usize, key: &[u8], size: usize, other: usiz
 fn count_before(table: &[SigPair], order: &[usize], key: &[u8], size: usize, place: usize) -> usize
     requires { IsOrder table.now order.now }
     ensures bound { result ≤ length order.now }
-    ensures split { IsPartitionPoint (λ other. is_before table.now (record { key = key.now; size = size; place = place }) other ≡ true) (λ other. is_before table.now (record { key = key.now; size = size; place = place }) other ≡ false) order.now result }
+    ensures split { SplitsAt table.now (record { key = key.now; size = size; place = place }) order.now result }
 {
     order.partition_point(|other| compare(table, *other, key, size, place).is_lt())
 }

@@ -10,8 +10,8 @@ use crate::list_fault::ListFault;
 use crate::members::text_at;
 use def_files::{AssetFault, Member};
 use hex::FromHexError;
-use ms_oracle::Pairs;
-use ms_script::Stack;
+use ms_oracle::{Pairs, SigPair};
+use ms_script::{Blob, Stack};
 use serde_json::Value;
 use std::alloc::{AllocError, Global};
 
@@ -48,7 +48,7 @@ fn push_pair(alloc: Global, pairs: &mut Pairs, element: &Value) -> Result<bool, 
     let Some(sig) = spelled_at(alloc, element, "sig")? else {
         return Ok(false);
     };
-    pairs.push(&key, &sig)?;
+    pairs.push_pair(SigPair::of(Blob::from_vec(key), Blob::from_vec(sig)))?;
     Ok(true)
 }
 
@@ -63,7 +63,7 @@ fn push_string(alloc: Global, strings: &mut Stack, element: &Value) -> Result<bo
     let Some(bytes) = spelled(alloc, text)? else {
         return Ok(false);
     };
-    strings.push(&bytes)?;
+    strings.push_blob(Blob::from_vec(bytes))?;
     Ok(true)
 }
 
@@ -75,11 +75,10 @@ pub fn read_pairs(alloc: Global, elements: &[Value]) -> Result<Pairs, AssetFault
     let mut pairs = Pairs::new(alloc);
     let mut place = 0;
     for element in elements {
-        match push_pair(alloc, &mut pairs, element) {
-            Ok(true) => place += 1,
-            Ok(false) => return Err(AssetFault::Hex(Member::Signatures, place)),
-            Err(AllocError) => return Err(AssetFault::Memory),
+        if !push_pair(alloc, &mut pairs, element)? {
+            return Err(AssetFault::Hex(Member::Signatures, place));
         }
+        place += 1;
     }
     Ok(pairs)
 }
@@ -104,11 +103,10 @@ pub fn strings_of(alloc: Global, elements: &[Value]) -> Result<Stack, ListFault>
     let mut strings = Stack::new(alloc);
     let mut place = 0;
     for element in elements {
-        match push_string(alloc, &mut strings, element) {
-            Ok(true) => place += 1,
-            Ok(false) => return Err(ListFault::At(place)),
-            Err(AllocError) => return Err(ListFault::Memory),
+        if !push_string(alloc, &mut strings, element)? {
+            return Err(ListFault::At(place));
         }
+        place += 1;
     }
     Ok(strings)
 }

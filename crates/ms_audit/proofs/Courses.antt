@@ -19,11 +19,11 @@ use Rattle.ms_tree.specs.declared.tree.Leaf.{Leaf}
 use Rattle.ms_tree.specs.declared.tree.Leaf.TheVariants as leaf
 use Rattle.ms_tree.specs.declared.tree.Tree as code_tree
 use Rattle.ms_tree.specs.Shape.{leaf_shape, shape, shapes}
-use Rattle.ms_audit_laws.specs.Walk.{Found, Counted, Walker, Verdict, Next, ends, goes, ended, next, go_on, walk_child, count_on, counted, count_verdict, forced, passed, walk, walk_all, after_and_v, after_and_b, after_or_b, after_or_c, after_or_d}
+use Rattle.ms_audit_laws.specs.Walk.{Found, Counted, Walker, Verdict, Next, ends, goes, ended, next, go_on, walk_child, count_on, count_behind, count_verdict, forced, passed, walk, walk_all, after_and_v, after_and_b, after_or_b, after_or_c, after_or_d}
 use Rattle.ms_audit_laws.proofs.Walks.{some_is, own}
 use Rattle.ms_audit.specs.declared.course.Course.{Course}
 use Rattle.ms_audit.specs.declared.course.WalkStop.{WalkStop}
-use Rattle.ms_audit.specs.Walking.{verdict_of_two, ends_two, below, behind, Finds, Ends, Walks, Selects, added, Counts}
+use Rattle.ms_audit.specs.Scaffolding.Walking.{verdict_of_two, ends_two, below, behind, Finds, Ends, Walks, Selects, added, Counts}
 
 -- what was found behind the steps from before
 behind_some : (o : Option Found) (steps : List Step) (g : Found) → behind steps o ≡ Some g → (f : Found) × (o ≡ Some f) × (f.sat ≡ g.sat) × (steps ++ f.steps ≡ g.steps) × (f.rest ≡ g.rest)
@@ -232,7 +232,7 @@ thresh_done given stack k xs s b c result count h e =
 abbrev some_counted : Counted → Option Counted
 some_counted c = Some c
 
--- one child more is counted, or isn't
+-- one child more is count_behind, or isn't
 counted_some : (n total : ℕ) (steps first after later : List Step) (rest : Stack) → n ≡ total → steps ++ first ≡ after →
     some_counted (record { count = n; steps = steps ++ (first ++ later); rest = rest }) ≡ some_counted (record { count = total; steps = after ++ later; rest = rest })
 counted_some n total steps first after later rest e t =
@@ -240,7 +240,7 @@ counted_some n total steps first after later rest e t =
     ∙ ap (λ (l : List Step). Some (record { count = total; steps = l; rest = rest })) (sym (append_assoc steps first later) ∙ ap (λ l. l ++ later) t)
 
 counted_added : (count total : ℕ) (steps first after : List Step) (s sat : Bool) (r : Stack) (o : Option Counted) → s ≡ sat → steps ++ first ≡ after →
-    total ≡ (if sat then count + 1 else count) → added count steps (counted (record { sat = s; steps = first; rest = r }) o) ≡ added total after o
+    total ≡ (if sat then count + 1 else count) → added count steps (count_behind (record { sat = s; steps = first; rest = r }) o) ≡ added total after o
 counted_added count total steps first after s sat r None e t is = refl
 counted_added count total steps first after true sat r (Some c) e t is =
     let k : total ≡ count + 1 = is ∙ ap (λ (b : Bool). if b then count + 1 else count) (sym e) in
@@ -255,7 +255,7 @@ added_step count steps o others sat after rest total e is =
     let h = behind_some o steps _ e in
     let f = h.0 in
     ap (λ o. added count steps (count_on others o)) h.1
-    ∙ ap (λ (r : Stack). added count steps (counted f (others r))) h.4
+    ∙ ap (λ (r : Stack). added count steps (count_behind f (others r))) h.4
     ∙ counted_added count total steps f.steps after f.sat sat f.rest (others rest) h.2 h.3 is
 
 -- the child of a threshold that a loop is at, and those after it

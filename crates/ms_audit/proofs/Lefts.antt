@@ -1,19 +1,15 @@
 -- What is left of a stack, and what a walk takes of it.
-use Rattle.std.proofs.Common.{rules, ◌≡◌, ℕ, zero, suc, ◌+◌, ◌-◌, ◌<◌, ◌≤◌, ◌==◌, ◌⊎◌, Bool, true, false, List, [], ◌∷◌, length, reverse, take, drop, get_or, Option, Some, None, refl, sym, ◌∙◌, ap, inl, inr, arith, nat_eq, if◌then◌else◌}
-use Rattle.std.specs.Prelude.{◌↔◌, IsSome, is_some}
+use Rattle.std.proofs.Common.{◌≡◌, ℕ, zero, suc, ◌+◌, ◌-◌, ◌<◌, ◌≤◌, ◌==◌, ◌⊎◌, Bool, true, false, List, [], ◌∷◌, length, reverse, take, drop, get_or, None, refl, sym, ◌∙◌, ap, inl, inr, arith, nat_eq, if◌then◌else◌}
 use Rattle.std.specs.List.{list_all}
-use Rattle.std.proofs.lemmas.Bool.{cases_Bool, eq-eqb, ne_eqb}
+use Rattle.std.proofs.lemmas.Bool.{eq-eqb, ne_eqb}
 use Rattle.std.proofs.lemmas.List.{take_more, reverse-append}
-use Rattle.def_script.specs.Bytes.{Bytes, IsBytes}
-use Rattle.def_machine.specs.Stacks.{Stack, Pairs, is_empty, is_key}
+use Rattle.def_script.specs.Bytes.{Bytes}
+use Rattle.def_machine.specs.Stacks.{Stack, Pairs, is_empty}
 use Rattle.def_machine.specs.MultiSig.{is_good}
-use Rattle.def_tree.specs.Range.{IsKey}
 use Rattle.def_tree.specs.Tree.{Key}
-use Rattle.def_files.proofs.Fits.{key_fits}
-use Rattle.def_satisfaction.proofs.Held.{key_form}
 use Rattle.def_machine.specs.Machine.{Given}
 use Rattle.ms_audit_laws.specs.Walk.{ended, are_found, multi_verdict, walk_multi_off, walk_multi}
-use Rattle.ms_audit.specs.Walking.{below}
+use Rattle.ms_audit.specs.Scaffolding.Walking.{below}
 
 -- the last of the first elements of a list stands first, turned round
 pub last_first : {A : Type 0} (xs : List A) (n : ℕ) (d : A) → 0 < n → n ≤ length xs → reverse (take n xs) ≡ get_or xs (n - 1) d ∷ reverse (take (n - 1) xs)
@@ -115,18 +111,6 @@ empty_step stack bottom end false some within e = ap (list_all is_empty) (betwee
 pub empty_is : (bytes : Bytes) → is_empty bytes ≡ (length bytes == 0)
 empty_is [] = refl
 empty_is (b ∷ bytes) = sym (ne_eqb (length (b ∷ bytes)) 0 (λ e. absurd (omega (arith, e))))
-
--- bytes that are found to be a key
-pub found_key : (found : Option (List ℕ)) (bytes : Bytes) → IsBytes bytes → IsSome found ↔ IsKey bytes → is_some found ≡ is_key bytes
-found_key None bytes are is =
-    elim (cases_Bool (is_key bytes)) [
-      | inl form ↦ none_there (is.1 (key_fits bytes form are))
-      | inr other ↦ sym other
-    ]
-  where
-    none_there : IsSome {T = List ℕ} None → false ≡ is_key bytes
-    none_there h = absurd (search rules)
-found_key (Some key) bytes are is = sym (key_form bytes (is.0 refl))
 
 -- the tries came to an end
 pub tried_all : (table : Pairs) (keys : List Key) (stack : List Bytes) (count bottom end : ℕ) → count ≤ 0 → bottom ≤ end → end ≤ length stack →

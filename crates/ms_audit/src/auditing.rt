@@ -1,5 +1,5 @@
 //! The audit of a witness: whether it is accepted, and by which rows.
-ghost use Rattle.std.specs.Prelude.{◌≡◌, ◌≤◌, true, length, IfOk};
+ghost use Rattle.std.specs.Prelude.{◌≤◌, true, length, IfOk};
 ghost use Rattle.def_audit.specs.Derives.{Derives};
 ghost use Rattle.def_choice.specs.NonMalleable.{IsAccepted};
 ghost use Rattle.def_emit.specs.Emit.{script_of};

@@ -1,12 +1,10 @@
 //! The check of a trail.
-ghost use Rattle.std.specs.Prelude.{◌↔◌, ◌⊎◌, ◌≤◌, IsTrue, true, length, IfOk};
+ghost use Rattle.std.specs.Prelude.{◌↔◌, ◌≤◌, IsTrue, true, length, IfOk};
 ghost use Rattle.def_audit.specs.Derives.{Derives};
-ghost use Rattle.def_choice.specs.NonMalleable.{IsAccepted};
-ghost use Rattle.def_machine.specs.Stacks.{Pairs};
-ghost use Rattle.def_promises.specs.Limited.{StopsAtLimit};
 ghost use Rattle.def_sane.specs.declared.Rules.TheVariants.{Consensus};
 ghost use Rattle.def_sane.specs.Unfit.{IsValidUnder};
 ghost use Rattle.def_tree.specs.Range.{IsInRange};
+ghost use Rattle.ms_audit.specs.Answering.{IsAcceptedUnlessLimited};
 ghost use Rattle.ms_interp.specs.Answering.{given_by};
 ghost use Rattle.ms_oracle.specs.Sound.{table_of, IsSound};
 ghost use Rattle.ms_tree.specs.Shape.{shape};
@@ -37,7 +35,7 @@ pub fn check_trail<F: Fn(&[u8], &[u8]) -> bool>(
     requires few { length stack.now ≤ 2147483648 }
     requires sound { IsSound F.Fn sigs.now }
     ensures derives { IfOk result (λ yes. IsTrue yes ↔ Derives (shape tree.now) (given_by (table_of sigs.now) locks.now) true trail.now stack.now) }
-    ensures accepted { IfOk result (λ yes. IsTrue yes → ((checks : Pairs) × IsAccepted (shape tree.now) (given_by (table_of sigs.now) locks.now) stack.now checks) ⊎ StopsAtLimit (shape tree.now) (given_by (table_of sigs.now) locks.now) stack.now) }
+    ensures accepted { IfOk result (λ yes. IsTrue yes → IsAcceptedUnlessLimited (shape tree.now) (given_by (table_of sigs.now) locks.now) stack.now) }
 {
     let spend = Spend { stack, locks, sigs };
     Ok(match spend.trail(alloc, tree)? {

@@ -2,7 +2,7 @@
 ghost use Rattle.std.specs.Prelude.{◌≡◌, ◌+◌, ◌<◌, ◌≤◌};
 ghost use Rattle.def_tree.specs.Range.{MOST_MEASURE, IsInRange};
 ghost use Rattle.def_tree.specs.Size.{nodes};
-ghost use Rattle.ms_audit.specs.Walking.{verdict_of, Ends};
+ghost use Rattle.ms_audit.specs.Scaffolding.Walking.{verdict_of, Ends};
 ghost use Rattle.ms_audit.specs.declared.course.WalkStop.TheVariants.{Memory};
 ghost use Rattle.ms_tree.specs.Shape.{shape};
 

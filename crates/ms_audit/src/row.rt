@@ -1,7 +1,7 @@
 //! The rows of the satisfaction table (BIP 379, satisfaction): which one a stack takes, by what was found on it.
 ghost use Rattle.std.specs.Prelude.{◌≡◌, false};
 ghost use Rattle.ms_audit_laws.specs.Walk.{forced as the_forced, sig_verdict, key_verdict, hash_verdict, multi_verdict, count_verdict};
-ghost use Rattle.ms_audit.specs.Walking.{verdict_of, verdict_of_two, ends_two};
+ghost use Rattle.ms_audit.specs.Scaffolding.Walking.{verdict_of, verdict_of_two, ends_two};
 
 use ms_tree::Two;
 

@@ -1,13 +1,14 @@
 //! A stack with what decides about it, and what fragments without children do with its top.
-ghost use Rattle.std.specs.Prelude.{◌≡◌, ℕ, ◌≤◌, ◌-◌, ◌&&◌, length, reverse, take};
+ghost use Rattle.std.specs.Prelude.{◌≡◌, ◌≤◌, ◌-◌, ◌&&◌, length, reverse, take};
 ghost use Rattle.std.specs.Str.{bytes_eq};
 ghost use Rattle.def_hash.specs.Hash.{hash160};
 ghost use Rattle.std.specs.List.{list_all};
 ghost use Rattle.def_machine.specs.MultiSig.{is_good as the_is_good};
-ghost use Rattle.def_machine.specs.Stacks.{is_empty, is_key};
+ghost use Rattle.def_machine.specs.Stacks.{is_empty};
+ghost use Rattle.def_script.specs.Key.{is_key};
 ghost use Rattle.def_tree.specs.Tree as tree;
-ghost use Rattle.ms_audit_laws.specs.Walk.{are_found as the_are_found, walk};
-ghost use Rattle.ms_audit.specs.Walking.{below, Takes, Pops, Selects};
+ghost use Rattle.ms_audit_laws.specs.Walk.{are_found as the_are_found};
+ghost use Rattle.ms_audit.specs.Scaffolding.Walking.{below, TakesAs, Pops, Selects};
 ghost use Rattle.ms_hash.specs.Value.{kind_of, bytes_of};
 ghost use Rattle.ms_interp.specs.Answering.{given_by};
 ghost use Rattle.ms_oracle.specs.Sound.{table_of, IsSound};
@@ -17,14 +18,17 @@ use crate::course::WalkStop;
 use crate::row::{Row, forced, of_hash, of_key, of_multi, of_sig};
 use ms_hash::{HashVal, hash_of, hash160};
 use ms_oracle::{Locks, SigCheck};
-use ms_script::Stack;
+use ms_script::{Stack, is_key};
 use ms_tree::{Key, Leaf};
 
 /// A stack, the timelocks of its spending, and the check of its signatures.
 #[derive(Drop)]
 pub struct Spend<'t, F: Fn(&[u8], &[u8]) -> bool> {
+    /// The stack, bottom first.
     pub stack: &'t Stack,
+    /// The values that timelocks are compared with.
     pub locks: &'t Locks,
+    /// The check that answers for the good signatures.
     pub sigs: &'t SigCheck<'t, F>,
 }
 
@@ -68,7 +72,7 @@ impl<F: Fn(&[u8], &[u8]) -> bool> Spend<'_, F> {
     pub fn leaf(&self, leaf: Leaf, left: &mut usize) -> Result<Option<Row>, WalkStop>
         requires sound { IsSound F.Fn self.now.sigs.now }
         requires left { left.old ≤ length self.now.stack.now }
-        ensures row { (node : ℕ) → Takes result node (below self.now.stack.now left.new) (walk (given_by (table_of self.now.sigs.now) self.now.locks.now) node (leaf_shape leaf) (below self.now.stack.now left.old)) }
+        ensures row { TakesAs (given_by (table_of self.now.sigs.now) self.now.locks.now) self.now.stack.now (leaf_shape leaf) left.old left.new result }
         ensures left { left.new ≤ length self.now.stack.now }
     {
         match leaf {
@@ -85,7 +89,7 @@ impl<F: Fn(&[u8], &[u8]) -> bool> Spend<'_, F> {
     fn pk_k(&self, key: &Key, left: &mut usize) -> Result<Option<Row>, WalkStop>
         requires sound { IsSound F.Fn self.now.sigs.now }
         requires left { left.old ≤ length self.now.stack.now }
-        ensures row { (node : ℕ) → Takes result node (below self.now.stack.now left.new) (walk (given_by (table_of self.now.sigs.now) self.now.locks.now) node (tree.pk_k key.now) (below self.now.stack.now left.old)) }
+        ensures row { TakesAs (given_by (table_of self.now.sigs.now) self.now.locks.now) self.now.stack.now (tree.pk_k key.now) left.old left.new result }
         ensures left { left.new ≤ length self.now.stack.now }
     {
         let sig = self.pop(left)?;
@@ -95,7 +99,7 @@ impl<F: Fn(&[u8], &[u8]) -> bool> Spend<'_, F> {
     fn pk_h(&self, key: &Key, left: &mut usize) -> Result<Option<Row>, WalkStop>
         requires sound { IsSound F.Fn self.now.sigs.now }
         requires left { left.old ≤ length self.now.stack.now }
-        ensures row { (node : ℕ) → Takes result node (below self.now.stack.now left.new) (walk (given_by (table_of self.now.sigs.now) self.now.locks.now) node (tree.pk_h key.now) (below self.now.stack.now left.old)) }
+        ensures row { TakesAs (given_by (table_of self.now.sigs.now) self.now.locks.now) self.now.stack.now (tree.pk_h key.now) left.old left.new result }
         ensures left { left.new ≤ length self.now.stack.now }
     {
         let other = self.pop(left)?;
@@ -110,7 +114,7 @@ impl<F: Fn(&[u8], &[u8]) -> bool> Spend<'_, F> {
 
     fn hash(&self, value: &HashVal, left: &mut usize) -> Result<Option<Row>, WalkStop>
         requires left { left.old ≤ length self.now.stack.now }
-        ensures row { (node : ℕ) → Takes result node (below self.now.stack.now left.new) (walk (given_by (table_of self.now.sigs.now) self.now.locks.now) node (tree.hash (kind_of value.now) (bytes_of value.now)) (below self.now.stack.now left.old)) }
+        ensures row { TakesAs (given_by (table_of self.now.sigs.now) self.now.locks.now) self.now.stack.now (tree.hash (kind_of value.now) (bytes_of value.now)) left.old left.new result }
         ensures left { left.new ≤ length self.now.stack.now }
     {
         let item = self.pop(left)?;
@@ -126,7 +130,7 @@ impl<F: Fn(&[u8], &[u8]) -> bool> Spend<'_, F> {
     pub fn multi(&self, k: u64, keys: &[Key], left: &mut usize) -> Result<Option<Row>, WalkStop>
         requires sound { IsSound F.Fn self.now.sigs.now }
         requires left { left.old ≤ length self.now.stack.now }
-        ensures row { (node : ℕ) → Takes result node (below self.now.stack.now left.new) (walk (given_by (table_of self.now.sigs.now) self.now.locks.now) node (tree.multi k keys.now) (below self.now.stack.now left.old)) }
+        ensures row { TakesAs (given_by (table_of self.now.sigs.now) self.now.locks.now) self.now.stack.now (tree.multi k keys.now) left.old left.new result }
         ensures left { left.new ≤ length self.now.stack.now }
     {
         let top = *left;
@@ -195,11 +199,4 @@ fn has_hash_of(other: &[u8], own: &[u8]) -> bool
     ensures { result ≡ (is_key other.now && bytes_eq (hash160 other.now) (hash160 own.now)) }
 {
     is_key(other) && hash160(other) == hash160(own)
-}
-
-/// Whether bytes are a key.
-fn is_key(bytes: &[u8]) -> bool
-    ensures { result ≡ is_key bytes.now }
-{
-    Key::from_bytes(bytes).is_some()
 }

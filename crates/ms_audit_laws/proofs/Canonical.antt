@@ -1,6 +1,6 @@
 -- A satisfaction with the preimages and keys that are known, by canonical rows alone, is a canonical satisfaction.
-use Rattle.std.proofs.Common.{◌≡◌, ℕ, ◌+◌, ◌&&◌, not, Bool, true, false, List, [], ◌∷◌, ◌++◌, reverse, refl, sym, ◌∙◌, ap, subst, inl, inr}
-use Rattle.std.proofs.lemmas.Bool.{false≢true, and_parts}
+use Rattle.std.proofs.Common.{◌≡◌, ℕ, ◌+◌, not, Bool, true, false, List, [], ◌∷◌, ◌++◌, reverse, refl, sym, ◌∙◌, ap, subst, inl, inr}
+use Rattle.std.proofs.lemmas.Bool.{false≢true, and_parts, and_from}
 use Rattle.def_script.specs.Bytes.{Bytes}
 use Rattle.def_machine.specs.Stacks.{Stack, Pairs}
 use Rattle.def_machine.specs.Machine.{Given}
@@ -30,11 +30,7 @@ canonical_parts [] later e = (refl, e)
 canonical_parts (step ∷ first) later e =
     let p = and_parts (not step.extra) (is_canonical (first ++ later)) e in
     let q = canonical_parts first later p.1 in
-    (both_true (not step.extra) (is_canonical first) p.0 q.0, q.1)
-  where
-    both_true : (a b : Bool) → a ≡ true → b ≡ true → (a && b) ≡ true
-    both_true true b p q = q
-    both_true false b p q = absurd (false≢true p)
+    (and_from (not step.extra) (is_canonical first) p.0 q.0, q.1)
 
 -- each stack of P has steps in Q, and where these are canonical it is one of R
 record Keeps (P : StackSet) (Q : TrailSet) (R : StackSet) : Type 0 where

@@ -3,13 +3,14 @@ use Rattle.std.proofs.Common.{◌≡◌, ◌≢◌, ℕ, zero, suc, ◌≤◌, �
 use Rattle.std.specs.List.{list_all}
 use Rattle.std.specs.Str.{bytes_eq}
 use Rattle.std.proofs.lemmas.Bool.{cases_Bool, false≢true, and_parts, eqb-true, eq-eqb}
-use Rattle.std.proofs.lemmas.List.{append_assoc}
+use Rattle.std.proofs.lemmas.List.{append_assoc, length-replicate, take-append-drop}
 use Rattle.std.proofs.lemmas.Slice.Eq.{bytes_eq-Decides}
 use Rattle.std.proofs.Math.Seq.{take-append_seam, drop-append_seam}
 use Rattle.def_hash.specs.declared.HashKind.{HashKind}
 use Rattle.def_hash.specs.Hash.{digest_of, hash160}
 use Rattle.def_script.specs.Bytes.{Bytes}
-use Rattle.def_machine.specs.Stacks.{Stack, Pairs, is_empty, is_key}
+use Rattle.def_machine.specs.Stacks.{Stack, Pairs, is_empty}
+use Rattle.def_script.specs.Key.{is_key}
 use Rattle.def_machine.specs.Machine.{Given}
 use Rattle.def_machine.specs.MultiSig.{is_good}
 use Rattle.def_tree.specs.Tree.{Key}
@@ -19,7 +20,8 @@ use Rattle.def_satisfaction.specs.Satisfaction.{full}
 use Rattle.def_satisfaction.specs.Rows.{EMPTY, ZEROS, IsNoPreimageOf, AreSignatures, just_0_row, just_1_row, pk_k_row, pk_h_row, hash_row, multi_row}
 use Rattle.def_audit.specs.declared.Step.{Step}
 use Rattle.def_audit.specs.TrailRows.{TrailRow, WithTop, bare_row, pk_h_trails, hash_trails}
-use Rattle.ms_laws.proofs.Multis.{signatures_drop, all_empty, length_empties, empties_split}
+use Rattle.def_satisfaction.proofs.EqualParts.{first_same}
+use Rattle.ms_row_laws.proofs.MultisigTries.{all_empty, all_empties, empties_split, rest_good, rest_bad}
 use Rattle.ms_audit_laws.specs.Walk.{Found, Verdict, ended, sig_verdict, key_verdict, forced, hash_verdict, multi_verdict, walk_pk_k, walk_pk_h, walk_hash, are_found, walk_multi_off, walk_multi}
 use Rattle.ms_audit_laws.proofs.Walks.{side, Taken, IsWalk, is_found, none_found, own, same_steps}
 
@@ -102,14 +104,11 @@ pk_k_walk given node key = record { sound = sound; complete = complete }
         ∙ leaf_done node false false h.0 steps rest (sig_verdict (is_good given.table key EMPTY) (is_empty EMPTY)) refl h.1.1 h.2
 
 -- a set that is canonical with this item on top
-same_top : (top item : Bytes) (rest below : Stack) → top ∷ rest ≡ item ∷ below → top ≡ item
-same_top top item rest below e = cc
-
 with_top_fits : (item : Bytes) (node : ℕ) (sat : Bool) (P : StackSet) (top : Bytes) (rest : Stack) (is : Bool) → bytes_eq top item ≡ is → P (top ∷ rest) → WithTop item node sat P (top ∷ rest) (own node sat (not is) ∷ [])
 with_top_fits item node sat P top rest true e p =
     inl ([], ((rest, ap (λ x. x ∷ rest) ((bytes_eq-Decides top item).0 e)), (p, refl)), refl)
 with_top_fits item node sat P top rest false e p =
-    inr ([], ((λ h. false≢true (sym e ∙ (bytes_eq-Decides top item).1 (same_top top item rest h.0 h.1))), (p, refl)), refl)
+    inr ([], ((λ h. false≢true (sym e ∙ (bytes_eq-Decides top item).1 (first_same top item rest h.0 h.1))), (p, refl)), refl)
 
 record TopSplit (item : Bytes) (node : ℕ) (sat : Bool) (P : StackSet) (taken : Stack) (steps : List Step) : Type 0 where
   is : Bool
@@ -121,7 +120,7 @@ top_split : (item : Bytes) (node : ℕ) (sat : Bool) (P : StackSet) (taken : Sta
 top_split item node sat P taken steps (inl h) = record {
   is = true;
   in_set = h.1.1.0;
-  decides = λ top rest e. (bytes_eq-Decides top item).1 (same_top top item rest h.1.0.0 (sym e ∙ h.1.0.1));
+  decides = λ top rest e. (bytes_eq-Decides top item).1 (first_same top item rest h.1.0.0 (sym e ∙ h.1.0.1));
   are = h.2 ∙ ap (λ w. w ++ own node sat false ∷ []) h.1.1.1;
 }
 top_split item node sat P taken steps (inr h) = record {
@@ -266,35 +265,16 @@ are_are_found table keys [] h = nothing keys
 are_are_found table [] (sig ∷ sigs) h = absurd h
 are_are_found table (key ∷ keys) (sig ∷ sigs) h =
     elim (cases_Bool (is_good table key sig)) [
-      | inl good ↦ rw good (are_are_found table keys sigs (behind h))
-      | inr bad ↦ rw bad (are_are_found table keys (sig ∷ sigs) (past bad h))
+      | inl good ↦ rw good (are_are_found table keys sigs (rest_good table key sig keys sigs h))
+      | inr bad ↦ rw bad (are_are_found table keys (sig ∷ sigs) (rest_bad table key sig keys sigs bad h))
     ]
-  where
-    behind : AreSignatures table (key ∷ keys) (sig ∷ sigs) → AreSignatures table keys sigs
-    behind (inl h) = h.1
-    behind (inr h) = signatures_drop table keys sig sigs h
-
-    past : is_good table key sig ≡ false → AreSignatures table (key ∷ keys) (sig ∷ sigs) → AreSignatures table keys (sig ∷ sigs)
-    past bad (inl h) = absurd (false≢true (sym bad ∙ h.0))
-    past bad (inr h) = h
 
 -- empty strings are no signatures
 empties_not_found : (table : Pairs) (keys : List Key) (n : ℕ) → are_found table keys (replicate (suc n) EMPTY) ≡ false
 empties_not_found table [] n = refl
 empties_not_found table (key ∷ keys) n = empties_not_found table keys n
 
-are_empties : (sigs : Stack) → list_all is_empty sigs ≡ true → sigs ≡ replicate (length sigs) EMPTY
-are_empties [] e = refl
-are_empties (sig ∷ sigs) e =
-    let p = and_parts (is_empty sig) (list_all is_empty sigs) e in
-    ap (λ x. x ∷ sigs) (is_nothing sig p.0) ∙ ap (λ w. EMPTY ∷ w) (are_empties sigs p.1)
-
 -- so many items off a stack
-cut : (k : ℕ) (stack : Stack) → stack ≡ take k stack ++ drop k stack
-cut zero stack = refl
-cut (suc k) [] = refl
-cut (suc k) (item ∷ stack) = ap (λ w. item ∷ w) (cut k stack)
-
 cut_length : (k : ℕ) (stack : Stack) (dummy : Bytes) (rest : Stack) → drop k stack ≡ dummy ∷ rest → length (take k stack) ≡ k
 cut_length zero stack dummy rest e = refl
 cut_length (suc k) [] dummy rest e = absurd (empty_is_none e)
@@ -316,7 +296,7 @@ multi_walk given node k keys some = record { sound = sound; complete = complete 
         ([], ((dummy ∷ [], sigs, ap (λ x. x ∷ []) (is_nothing dummy d), (l, found_are given.table (reverse keys) sigs f), refl), refl), refl)
     fits sigs dummy l true false true d f e = (
       [],
-      (ap (λ x. sigs ++ x ∷ []) (is_nothing dummy d) ∙ ap (λ w. w ++ EMPTY ∷ []) (are_empties sigs e ∙ ap (λ n. replicate n EMPTY) l) ∙ sym (empties_split k), refl),
+      (ap (λ x. sigs ++ x ∷ []) (is_nothing dummy d) ∙ ap (λ w. w ++ EMPTY ∷ []) (all_empties sigs e ∙ ap (λ n. replicate n EMPTY) l) ∙ sym (empties_split k), refl),
       refl,
     )
     fits sigs dummy l true false false d f e = tt
@@ -328,7 +308,7 @@ multi_walk given node k keys some = record { sound = sound; complete = complete 
         (p ∙ sym (append_assoc sigs (dummy ∷ []) rest)) (fits sigs dummy (l dummy rest refl) _ _ _ refl refl refl) e
 
     sound : (stack : Stack) (f : Found) → walk_multi given node k keys stack ≡ Some f → Taken (multi_trails_of given node k keys) stack f
-    sound stack f e = off_sound stack (take k stack) (drop k stack) f (cut k stack) (cut_length k stack) e
+    sound stack f e = off_sound stack (take k stack) (drop k stack) f (sym (take-append-drop k stack)) (cut_length k stack) e
 
     off : (sigs below : Stack) → length sigs ≡ k → walk_multi given node k keys (sigs ++ below) ≡ walk_multi_off given node keys sigs below
     off sigs below l =
@@ -352,6 +332,6 @@ multi_walk given node k keys some = record { sound = sound; complete = complete 
         let sigs : Stack = replicate k EMPTY in
         ap (λ w. walk_multi given node k keys (w ++ rest)) (h.1.0 ∙ empties_split k)
         ∙ ap (walk_multi given node k keys) (append_assoc sigs (EMPTY ∷ []) rest)
-        ∙ off sigs (EMPTY ∷ rest) (length_empties k)
+        ∙ off sigs (EMPTY ∷ rest) (length-replicate k EMPTY)
         ∙ leaf_done node false false h.0 steps rest (multi_verdict true (are_found given.table (reverse keys) sigs) (list_all is_empty sigs))
         (ap (λ f. multi_verdict true f (list_all is_empty sigs)) (none_of_empties k some) ∙ ap (multi_verdict true false) (all_empty k)) h.1.1 h.2

@@ -12,7 +12,8 @@ use Rattle.def_satisfaction.specs.Rows.{EMPTY, ONE, HasTop, just_0_row}
 use Rattle.def_audit.specs.declared.Step.{Step}
 use Rattle.def_audit.specs.TrailSet.{TrailSet, Bare, Both, Then}
 use Rattle.def_audit.specs.TrailRows.{TrailRow, bare_row, TrailsOfNone, TrailsOf, and_or_trails, and_v_trails, and_b_trails, or_b_trails, or_c_trails, or_d_trails, or_i_trails, thresh_trails, wrap_d_trails, wrap_v_trails, wrap_j_trails, wrap_trails}
-use Rattle.ms_audit_laws.specs.Walk.{Found, Walker, ends, ended, forced, walk_child, passed, next, Counted, counted, count_on, count_child, selected, by_selector, unless_empty, count_verdict, walk_thresh, after_and_or, after_and_v, after_and_b, after_or_b, after_or_c, after_or_d}
+use Rattle.def_satisfaction.proofs.EqualParts.{first_same}
+use Rattle.ms_audit_laws.specs.Walk.{Found, Walker, ends, ended, forced, walk_child, passed, next, Counted, count_behind, count_on, count_child, selected, by_selector, unless_empty, count_verdict, walk_thresh, after_and_or, after_and_v, after_and_b, after_or_b, after_or_c, after_or_d}
 use Rattle.ms_audit_laws.proofs.Walks.{side, Taken, IsWalk, some_is, is_found, none_found, own, Allows, Follows, Split, ends_follow, goes_follow, child_is_walk, same_steps, ends_split, goes_split}
 use Rattle.ms_audit_laws.proofs.WalkLeaves.{is_nothing, just_0_walk}
 
@@ -248,12 +249,9 @@ wrap_j_walk node x w i long top = record { sound = sound; complete = complete }
     inner : IsWalk (j_child node x) (walk_child node w (λ sat. ends (Some (sat, not sat))))
     inner = j_child_walk node x w i
 
-    same_first : (a b : Bytes) (v u : Stack) → a ∷ v ≡ b ∷ u → a ≡ b
-    same_first a b v u e = cc
-
     has_top : (item : Bytes) (rest taken below : Stack) → is_empty item ≡ false → item ∷ rest ≡ taken ++ below → 1 ≤ length taken → HasTop taken
     has_top item rest [] below full e l = absurd (omega (arith, l))
-    has_top item rest (first ∷ taken) below full e l = (first, taken, refl, ap is_empty (sym (same_first item first rest (taken ++ below) e)) ∙ full)
+    has_top item rest (first ∷ taken) below full e l = (first, taken, refl, ap is_empty (sym (first_same item first rest (taken ++ below) e)) ∙ full)
 
     turned : (item : Bytes) (rest taken below : Stack) (sat : Bool) (steps : List Step) → is_empty item ≡ false → item ∷ rest ≡ taken ++ below → side (j_child node x) sat taken steps → side (wrap_j_trails node x) sat taken steps
     turned item rest taken below true steps full e h = h
@@ -308,7 +306,7 @@ more_count x w parts others i j = record { sound = sound; complete = complete }
     sound : (stack : Stack) (c : Counted) → count_child w others stack ≡ Some c → (taken : Stack) × TrailsOf x parts c.count taken c.steps × (stack ≡ taken ++ c.rest)
     sound stack c e = go (w stack) refl e
       where
-        second : (f : Found) → w stack ≡ Some f → (o : Option Counted) → others f.rest ≡ o → counted f o ≡ Some c → (taken : Stack) × TrailsOf x parts c.count taken c.steps × (stack ≡ taken ++ c.rest)
+        second : (f : Found) → w stack ≡ Some f → (o : Option Counted) → others f.rest ≡ o → count_behind f o ≡ Some c → (taken : Stack) × TrailsOf x parts c.count taken c.steps × (stack ≡ taken ++ c.rest)
         second f p None q h = absurd (none-some c h)
         second f p (Some o) q h =
             let r = i.sound stack f p in
@@ -325,7 +323,7 @@ more_count x w parts others i j = record { sound = sound; complete = complete }
         ap (λ v. count_child w others (v ++ rest)) h.6
         ∙ ap (count_child w others) (append_assoc h.1 h.0 rest)
         ∙ ap (count_on others) (i.complete sat h.1 h.2 (h.0 ++ rest) h.5)
-        ∙ ap (counted (record { sat = sat; steps = h.2; rest = h.0 ++ rest })) (j.complete n h.0 h.3 rest h.4)
+        ∙ ap (count_behind (record { sat = sat; steps = h.2; rest = h.0 ++ rest })) (j.complete n h.0 h.3 rest h.4)
         ∙ ap (λ (s : List Step). Some (record { count = if sat then suc n else n; steps = s; rest = rest })) (sym h.7)
 
     complete : (n : ℕ) (taken : Stack) (steps : List Step) (rest : Stack) → TrailsOf x parts n taken steps → count_child w others (taken ++ rest) ≡ Some (record { count = n; steps = steps; rest = rest })

@@ -16,9 +16,9 @@ use Rattle.def_satisfaction.specs.Satisfaction.{full}
 use Rattle.def_audit.specs.declared.Step.{Step}
 use Rattle.def_audit.specs.TrailRows.{TrailRow, trails, trails_of}
 use Rattle.def_audit.proofs.Erased.{row_same, derives_is_full}
-use Rattle.ms_laws.proofs.Accepted.{inversion_of}
-use Rattle.ms_laws.proofs.Consensus.{valid_consensus}
-use Rattle.ms_laws.proofs.Tops.{takes_item}
+use Rattle.ms_acceptance_laws.proofs.Accepted.{inversion_of}
+use Rattle.ms_row_laws.proofs.ConsensusLimits.{valid_consensus}
+use Rattle.ms_row_laws.proofs.RowTops.{takes_item}
 use Rattle.ms_audit_laws.specs.Laws.{WalkIsTrail, TrailIsUnique, AcceptedHasTrail, TrailIsAccepted}
 use Rattle.ms_audit_laws.specs.Walk.{Found, walk, walk_all, whole}
 use Rattle.ms_audit_laws.proofs.Walks.{Taken, IsWalk, some_is}

@@ -6,7 +6,8 @@ use Rattle.std.specs.Str.{bytes_eq}
 use Rattle.def_hash.specs.declared.HashKind.{HashKind}
 use Rattle.def_hash.specs.Hash.{digest_of, hash160}
 use Rattle.def_script.specs.Bytes.{Bytes}
-use Rattle.def_machine.specs.Stacks.{Stack, Pairs, is_empty, is_key}
+use Rattle.def_machine.specs.Stacks.{Stack, Pairs, is_empty}
+use Rattle.def_script.specs.Key.{is_key}
 use Rattle.def_machine.specs.Locks.{older_holds, after_holds}
 use Rattle.def_machine.specs.Machine.{Given}
 use Rattle.def_machine.specs.MultiSig.{is_good}
@@ -132,14 +133,14 @@ pub record Counted : Type 0 where
   pub steps : List Step
   pub rest : Stack
 
-abbrev pub counted : Found → Option Counted → Option Counted
-counted first None = None
-counted first (Some others) =
+abbrev pub count_behind : Found → Option Counted → Option Counted
+count_behind first None = None
+count_behind first (Some others) =
     Some (record { count = if first.sat then suc others.count else others.count; steps = first.steps ++ others.steps; rest = others.rest })
 
 abbrev pub count_on : (others : Stack → Option Counted) → Option Found → Option Counted
 count_on others None = None
-count_on others (Some first) = counted first (others first.rest)
+count_on others (Some first) = count_behind first (others first.rest)
 
 abbrev pub count_child : Walker → (others : Stack → Option Counted) → Stack → Option Counted
 count_child first others stack = count_on others (first stack)

@@ -1,5 +1,5 @@
 -- From what a step found of a tree to what the text's reading gives.
-use Rattle.std.proofs.Common.{◌≡◌, ℕ, List, Option, Some, None, Ok, Err, refl, sym, ap, subst, ◌∙◌}
+use Rattle.std.proofs.Common.{◌≡◌, ℕ, List, Option, Some, None, Ok, Err, refl, sym, ap, subst}
 use Rattle.std.specs.Prelude.{Result}
 use Rattle.std.specs.Str.{IsUtf8}
 use Rattle.def_script.specs.Bytes.{Bytes}
@@ -10,8 +10,14 @@ use Rattle.def_answer.specs.Reading.{Reading, read, refused, HasReading}
 use Rattle.def_answer.proofs.Unique.{one_reading}
 use Rattle.ms_calls.specs.declared.stopping.Stop.{Stop}
 use Rattle.ms_calls.specs.declared.stopping.Stop.TheVariants as stop
+use Rattle.ms_calls.specs.Reasons.{code_of_reason}
 use Rattle.ms_calls.specs.Given.{Given, text_refused, text_given, unless_unfit}
-use Rattle.ms_calls.specs.Stops.{Finds, FindsOf, StopsReading}
+use Rattle.ms_calls.specs.Stops.{Finds, FindsOf, StopsReading, StopsFitting}
+use Rattle.ms_replies.specs.declared.fit.Demand.{Demand}
+use Rattle.ms_replies.specs.declared.fit.Demand.TheVariants as demand
+use Rattle.ms_replies.specs.declared.fit.Known.{Known}
+use Rattle.ms_replies.specs.declared.fit.Known.TheVariants as known
+use Rattle.ms_replies.specs.Fits.{reason_for, IsKnown}
 
 finds_of : {A : Type 0} (text : Bytes) (given : Reading → Given A) (result : Result A Stop) → IsUtf8 text
     → ((reading : Reading) → HasReading text reading → Finds (given reading) result) → (result ≡ Err stop.Unreadable → ⊥) → FindsOf text given result
@@ -47,3 +53,24 @@ finds_of_stop text first_reason next (stop.FileRefused reason) stops = absurd st
 finds_of_stop text first_reason next stop.NoSatisfaction stops = absurd stops
 finds_of_stop text first_reason next stop.Unreadable stops = stops
 finds_of_stop text first_reason next stop.Memory utf8 = (utf8, λ reading h. tt)
+
+-- ---- what is asked of a tree
+
+pub passed : (demand : Demand) (tree : Tree) (known : Known) → IsKnown demand tree known → reason_for demand tree ≡ None
+passed (demand.Valid rules) tree (known.Valid valid) h = h.0
+passed (demand.Valid rules) tree (known.Sane sane) h = absurd h
+passed (demand.Sane rules) tree (known.Valid valid) h = absurd h
+passed (demand.Sane rules) tree (known.Sane sane) h = h.0
+
+-- a tree that doesn't pass
+pub finds_of_misfit : {A : Type 0} (reason : Option Unfit) (offsets : List ℕ) (next : Given A) (s : Stop) → StopsFitting reason offsets s
+    → Finds (unless_unfit reason offsets next) (Err s)
+finds_of_misfit None offsets next (stop.TextRefused why) stops = let none : None ≡ Some why = stops in absurd (let no : ⊥ = cc in no)
+finds_of_misfit (Some unfit) offsets next (stop.TextRefused why) stops =
+    let some : Some (code_of_reason offsets unfit) ≡ Some why = stops in
+    let same : code_of_reason offsets unfit ≡ why = cc in
+    ap text_refused same
+finds_of_misfit reason offsets next (stop.FileRefused why) stops = absurd stops
+finds_of_misfit reason offsets next stop.NoSatisfaction stops = absurd stops
+finds_of_misfit reason offsets next stop.Unreadable stops = absurd stops
+finds_of_misfit reason offsets next stop.Memory stops = tt

@@ -1,5 +1,5 @@
 -- What a call on a text gives: what was asked for, or a refusal.
-use Rattle.std.specs.Prelude.{◌≡◌, ℕ, nat_lt, Bool, true, false, List, [], ◌∷◌, ◌++◌, length, if◌then◌else◌, Option, None, Some, option_map, Result, Ok, Err}
+use Rattle.std.specs.Prelude.{◌≢◌, ℕ, nat_lt, Bool, true, false, List, [], ◌∷◌, ◌++◌, length, if◌then◌else◌, Option, None, Some, option_map, Result, Ok, Err}
 use Rattle.def_script.specs.Bytes.{Bytes}
 use Rattle.def_tree.specs.Tree.{Tree}
 use Rattle.def_emit.specs.Emit.{script_of}
@@ -10,11 +10,13 @@ use Rattle.def_sane.specs.declared.Rules.{Rules}
 use Rattle.def_sane.specs.declared.Rules.TheVariants.{Policy, Consensus}
 use Rattle.def_sane.specs.declared.Unfit.{Unfit}
 use Rattle.def_sane.specs.Unfit.{first_unfit_under, first_unfit_valid_under}
-use Rattle.def_satisfaction.specs.Weight.{weight}
+use Rattle.def_script.specs.Witness.{weight}
 use Rattle.def_choice.specs.Cheapest.{cheapest}
-use Rattle.def_choice.specs.Strict.{strict}
-use Rattle.def_answer.specs.Reading.{Reading, read, refused}
+use Rattle.def_answer.specs.Reading.{Reading, read, refused, HasReading}
 use Rattle.def_answer.specs.Reply.{MOST_FILE}
+use Rattle.ms_words.specs.declared.words.Choice.{Choice}
+use Rattle.ms_words.specs.declared.words.Choice.TheVariants as choice
+use Rattle.ms_replies.specs.Choices.{chosen_by, reason_by}
 use Rattle.ms_calls.specs.declared.reason.Reason.{Reason}
 use Rattle.ms_calls.specs.declared.facts.Facts.{Facts}
 use Rattle.ms_calls.specs.Buffers.{written_over}
@@ -30,6 +32,11 @@ pub data Given (A : Type 0) : Type 0 where
   file_refused : Reason → Given A
   -- there is no canonical satisfaction with the file's assets
   no_satisfaction : Given A
+
+-- so it is with what is given for a text's reading, unless the call's code says that memory was wanting or that the text
+-- isn't UTF-8
+abbrev pub HoldsOfGiven : {A : Type 0} → (text : Bytes) → (code : ℕ) → (given : Reading → Given A) → (IsSo : Given A → Type 0) → Type 0
+HoldsOfGiven text code given IsSo = (reading : Reading) → HasReading text reading → code ≢ 7 → code ≢ 11 → IsSo (given reading)
 
 -- ---- what stands after the call
 
@@ -74,6 +81,11 @@ abbrev pub rules_for : (consensus : Bool) → Rules
 rules_for true = Consensus
 rules_for false = Policy
 
+-- how a satisfaction is chosen: the strict one of a sane text, or the cheapest one of a valid text, which may be malleable
+abbrev pub choice_for : (malleable consensus : Bool) → Choice
+choice_for false consensus = choice.Strict (rules_for consensus)
+choice_for true consensus = choice.Cheapest (rules_for consensus)
+
 -- the reason against a tree, or else what comes next
 abbrev pub unless_unfit : {A : Type 0} → Option Unfit → (offsets : List ℕ) → Given A → Given A
 unless_unfit None offsets next = next
@@ -85,13 +97,13 @@ text_given first_reason next (read tree offsets) = unless_unfit (first_reason tr
 text_given first_reason next (refused fault) = text_refused (code_of_fault fault)
 
 -- the refusal of an asset file, or else what comes next
-abbrev pub unless_refused : {A : Type 0} → (next : Assets → Given A) → Result Assets AssetFault → Given A
-unless_refused next (Ok assets) = next assets
-unless_refused next (Err fault) = file_refused (code_of_file fault)
+abbrev pub with_assets : {A : Type 0} → (next : Assets → Given A) → Result Assets AssetFault → Given A
+with_assets next (Ok assets) = next assets
+with_assets next (Err fault) = file_refused (code_of_file fault)
 
 abbrev pub file_given : {A : Type 0} → (next : Assets → Given A) → (file : Bytes) → Given A
 file_given next file =
-    if nat_lt MOST_FILE (length file) then file_refused file_too_long else unless_refused next (assets_of file)
+    if nat_lt MOST_FILE (length file) then file_refused file_too_long else with_assets next (assets_of file)
 
 -- what is told of a satisfaction, where there is one
 abbrev pub where_one : {A : Type 0} → Option A → Given A
@@ -123,10 +135,9 @@ abbrev pub chosen_given : (choice : Tree → Assets → Option (List Bytes)) →
 chosen_given choice file tree =
     file_given (λ assets. where_one (option_map (witness_items tree) (choice tree assets))) file
 
--- those of the strict satisfaction of a sane text, or of the cheapest one of a valid text, which may be malleable
-abbrev pub witness_given : (malleable : Bool) → Rules → (file : Bytes) → Reading → Given Joined
-witness_given false rules file = text_given (first_unfit_under rules) (chosen_given strict file)
-witness_given true rules file = text_given (first_unfit_valid_under rules) (chosen_given cheapest file)
+-- those of the satisfaction of a text
+abbrev pub witness_given : Choice → (file : Bytes) → Reading → Given Joined
+witness_given choice file = text_given (reason_by choice) (chosen_given (chosen_by choice) file)
 
 -- their bytes and their lengths
 abbrev pub bytes_given : Given Joined → Given Bytes

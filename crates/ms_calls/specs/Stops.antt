@@ -1,15 +1,16 @@
 -- Steps on the way to what a call gives, and why one stops.
-use Rattle.std.specs.Prelude.{◌≡◌, ℕ, ⊤, IsUtf8, Result, Ok, Err}
+use Rattle.std.specs.Prelude.{◌≡◌, ℕ, ⊤, List, IsUtf8, Option, Some, option_map, Result, Ok, Err}
 use Rattle.def_script.specs.Bytes.{Bytes}
 use Rattle.def_text.specs.declared.TextFault.{TextFault}
 use Rattle.def_text.specs.declared.TextFault.TheVariants as text_fault
+use Rattle.def_sane.specs.declared.Unfit.{Unfit}
 use Rattle.def_answer.specs.Reading.{Reading, refused, HasReading}
 use Rattle.ms_calls.specs.declared.reason.Reason.{Reason}
 use Rattle.ms_calls.specs.declared.stopping.Stop.{Stop}
 use Rattle.ms_calls.specs.declared.stopping.Stop.TheVariants as stop
 use Rattle.def_files.specs.declared.AssetFault.{AssetFault}
 use Rattle.def_files.specs.declared.AssetFault.TheVariants as file_fault
-use Rattle.ms_calls.specs.Reasons.{code_of_fault, code_of_file}
+use Rattle.ms_calls.specs.Reasons.{code_of_fault, code_of_reason, code_of_file}
 use Rattle.ms_calls.specs.Given.{Given, told, text_refused, file_refused, no_satisfaction}
 
 -- a step found what is given, unless memory was wanting
@@ -49,6 +50,14 @@ StopsReading text (stop.FileRefused reason) = ⊥
 StopsReading text stop.NoSatisfaction = ⊥
 StopsReading text stop.Unreadable = ¬ IsUtf8 text
 StopsReading text stop.Memory = IsUtf8 text
+
+-- why a tree doesn't pass: for the first reason against it, or for want of memory
+abbrev pub StopsFitting : (reason : Option Unfit) → (offsets : List ℕ) → Stop → Type 0
+StopsFitting reason offsets (stop.TextRefused why) = option_map (code_of_reason offsets) reason ≡ Some why
+StopsFitting reason offsets (stop.FileRefused why) = ⊥
+StopsFitting reason offsets stop.NoSatisfaction = ⊥
+StopsFitting reason offsets stop.Unreadable = ⊥
+StopsFitting reason offsets stop.Memory = ⊤
 
 -- the stop of a file that is refused
 abbrev pub file_refusal : AssetFault → Stop

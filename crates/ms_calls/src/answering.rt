@@ -1,5 +1,5 @@
 //! The program's top call over buffers.
-ghost use Rattle.std.specs.Prelude.{◌≡◌, ◌≢◌, ◌⊎◌, ℕ, List, length, IfOk};
+ghost use Rattle.std.specs.Prelude.{◌≡◌, ◌≢◌, ◌⊎◌, List, length, IfOk};
 ghost use Rattle.def_script.specs.Bytes.{Bytes};
 ghost use Rattle.def_answer.specs.Answer.{Answer};
 ghost use Rattle.def_answer.specs.Status.{code_of};
@@ -22,7 +22,9 @@ pub const UNREADABLE: u32 = 11;
 /// A status, and the whole report that goes with it.
 #[derive(Drop)]
 pub struct Outcome {
+    /// The status.
     pub status: Status,
+    /// The report's bytes.
     pub report: Vec<u8>,
 }
 

@@ -1,5 +1,5 @@
 //! Copying bytes into a buffer that may be too small for them.
-ghost use Rattle.std.specs.Prelude.{◌≡◌, ◌≤◌, min, length, take};
+ghost use Rattle.std.specs.Prelude.{◌≡◌, min, length, take};
 ghost use Rattle.ms_calls.specs.Buffers.{written_over};
 
 /// Writes as many of the bytes as the buffer has room for over its beginning, and answers how many these are.

@@ -21,17 +21,26 @@ pub struct Facts {
     pub height: u64,
     /// The base type: 0 is B, 1 is V, 2 is K and 3 is W. A sane text is B.
     pub base: u32,
+    /// The letter z: it takes no item of the stack.
     pub z: bool,
+    /// The letter o: it takes one item.
     pub o: bool,
+    /// The letter n: no satisfaction has an empty item on top.
     pub n: bool,
+    /// The letter d: it can be dissatisfied without a signature.
     pub d: bool,
+    /// The letter u: satisfied, it leaves a 1.
     pub u: bool,
+    /// The letter s: each satisfaction has a signature.
     pub s: bool,
+    /// The letter f: each dissatisfaction has a signature.
     pub f: bool,
+    /// The letter e: one dissatisfaction has no signature.
     pub e: bool,
 }
 
 impl Facts {
+    /// Of what is known of a sane tree, and its height. Takes no memory.
     pub fn new(sane: &Sane, height: u64) -> Facts
         ensures { result ≡ facts_by sane.now.ty sane.now.mall sane.now.limits height }
     {

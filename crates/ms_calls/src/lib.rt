@@ -16,7 +16,5 @@ mod memory;
 mod reason;
 mod satisfying;
 mod stopping;
-#[cfg(test)]
-mod tests;
 mod texts;
 mod words;

@@ -1,5 +1,5 @@
 //! A source of bytes that lie in memory, and a sink that keeps all that it is given.
-ghost use Rattle.std.specs.Prelude.{◌≡◌, ℕ, ◌+◌, ◌-◌, ◌^◌, ◌<◌, ◌≤◌, ◌++◌, min, List, [], length, take, drop, ⊤, Some, Ok, IfOk, OnErr, MatchResult};
+ghost use Rattle.std.specs.Prelude.{◌≡◌, ℕ, ◌-◌, ◌<◌, min, List, [], length, ⊤, Some, Ok, IfOk, MatchResult};
 ghost use Rattle.std.specs.Io.{ReadsAtMost, WritesAtMost};
 ghost use Rattle.std.specs.Io.KnownBytes.{ReadConsumes, WriteAppends};
 ghost use Rattle.ms_io.specs.Faults.{HasCause};
@@ -35,7 +35,7 @@ impl<'a> Source for ByteSource<'a> {
 
     ghost faults = { λ _. 0 };
 
-    /// Gives as many bytes as the buffer has room for, or all that are left.
+    /// HoldsOfGiven as many bytes as the buffer has room for, or all that are left.
     fn read(&mut self, buf: &mut [u8]) -> Result<usize, SourceFailed>
         ensures bound { ReadsAtMost result buf.new }
         ensures bytes { ReadConsumes (Some self.old) (Some self.new) result buf.new }
@@ -52,7 +52,9 @@ impl<'a> Source for ByteSource<'a> {
 /// the failures.
 #[derive(Drop)]
 pub struct ByteSink {
+    /// What it was given.
     pub bytes: Vec<u8>,
+    /// How often memory was wanting.
     pub failures: u64,
 }
 

@@ -1,34 +1,31 @@
 //! Satisfactions of a text by an asset file: the least weight of one, and the items of the witness of the one that is chosen.
-ghost use Rattle.std.specs.Prelude.{◌≡◌, ◌≢◌, ◌⊎◌, ◌↔◌, ◌*◌, ◌≤◌, ◌∷◌, length, vec_len, IsUtf8, MatchResult, IfOk, option_map, Err, true, false};
+ghost use Rattle.std.specs.Prelude.{◌≡◌, ◌⊎◌, ◌↔◌, ◌*◌, ◌≤◌, None, vec_len, IsUtf8, MatchResult, IfOk, option_map};
 ghost use Rattle.def_tree.specs.Range.{IsInRange};
 ghost use Rattle.def_tree.specs.Size.{measure};
 ghost use Rattle.def_sane.specs.declared.Rules.TheVariants.{Consensus};
-ghost use Rattle.def_sane.specs.Unfit.{IsValidUnder, IsSaneUnder, first_unfit_under, first_unfit_valid_under};
-ghost use Rattle.def_choice.specs.Cheapest.{cheapest as the_cheapest};
-ghost use Rattle.def_choice.specs.Strict.{strict as the_strict};
-ghost use Rattle.def_answer.specs.Reading.{Reading, HasReading};
+ghost use Rattle.def_sane.specs.Unfit.{IsValidUnder, first_unfit_valid_under};
 ghost use Rattle.ms_tree.specs.Shape.{shape};
-ghost use Rattle.ms_calls.specs.Given.{told, code_given, reason_after, value_after, buffer_after, needed_after, rules_for as the_rules_for, unless_unfit, file_given, where_one, weight_given, witness_given, least_weight_given, witness_items, chosen_given, bytes_given, lengths_given};
+ghost use Rattle.ms_replies.specs.Choices.{chosen_by, reason_by};
+ghost use Rattle.ms_calls.specs.Given.{HoldsOfGiven, told, code_given, reason_after, value_after, buffer_after, needed_after, rules_for as the_rules_for, choice_for as the_choice_for, unless_unfit, file_given, where_one, weight_given, witness_given, least_weight_given, witness_items, chosen_given, bytes_given, lengths_given};
 ghost use Rattle.ms_calls.specs.Stops.{Finds, FindsOf, file_refusal as the_file_refusal};
 
 use crate::copying::{write_lengths, write_over};
 use crate::items::Items;
-use crate::reason::{Reason, code_of_file, code_of_reason};
+use crate::reason::{Reason, code_of_file};
 use crate::stopping::{DONE, Stop};
-use crate::texts::{read, rules_for};
+use crate::texts::{fit, read, rules_for};
 use bumpalo::Bump;
 use ms_assets::{AssetFault, Assets, read_assets};
 use ms_emit::script_bytes;
-use ms_nonmal::strict;
-use ms_sane::{Rules, Work, check_sane_under, check_valid_under};
-use ms_sat::{cheapest, costs};
+use ms_replies::{Demand, demand_of, satisfaction};
+use ms_sane::{Rules, Work};
+use ms_sat::costs;
 use ms_script::Stack;
 use ms_text::TextTree;
 use ms_tree::Tree;
+use ms_words::{Choice, TextCommand};
+use msat_cli::MOST_FILE;
 use std::alloc::{AllocError, Global};
-
-/// How many bytes a file may have.
-const MOST_FILE: usize = 1_048_576;
 
 /// The least weight of a canonical satisfaction of a text by an asset file. The text is valid by the limits of policy, or by
 /// those of consensus alone.
@@ -43,9 +40,9 @@ pub fn least_weight(
     weight: &mut u64,
     reason: &mut Reason,
 ) -> u32
-    ensures code { (reading : Reading) → HasReading text.now reading → result ≢ 7 → result ≢ 11 → result ≡ code_given (weight_given (the_rules_for consensus) file.now reading) }
-    ensures weight { (reading : Reading) → HasReading text.now reading → result ≢ 7 → result ≢ 11 → weight.new ≡ value_after weight.old (weight_given (the_rules_for consensus) file.now reading) }
-    ensures reason { (reading : Reading) → HasReading text.now reading → result ≢ 7 → result ≢ 11 → reason.new ≡ reason_after reason.old (weight_given (the_rules_for consensus) file.now reading) }
+    ensures code { HoldsOfGiven text.now result (weight_given (the_rules_for consensus) file.now) (λ given. result ≡ code_given given) }
+    ensures weight { HoldsOfGiven text.now result (weight_given (the_rules_for consensus) file.now) (λ given. weight.new ≡ value_after weight.old given) }
+    ensures reason { HoldsOfGiven text.now result (weight_given (the_rules_for consensus) file.now) (λ given. reason.new ≡ reason_after reason.old given) }
     ensures unreadable { result ≡ 11 ↔ (¬ IsUtf8 text.now) }
     ensures kept { (result ≡ 11) ⊎ (result ≡ 7) → weight.new ≡ weight.old }
     ensures kept_reason { (result ≡ 11) ⊎ (result ≡ 7) → reason.new ≡ reason.old }
@@ -80,12 +77,12 @@ pub fn witness(
     count: &mut usize,
     reason: &mut Reason,
 ) -> u32
-    ensures code { (reading : Reading) → HasReading text.now reading → result ≢ 7 → result ≢ 11 → result ≡ code_given (witness_given malleable (the_rules_for consensus) file.now reading) }
-    ensures bytes { (reading : Reading) → HasReading text.now reading → result ≢ 7 → result ≢ 11 → bytes.new ≡ buffer_after bytes.old (bytes_given (witness_given malleable (the_rules_for consensus) file.now reading)) }
-    ensures needed { (reading : Reading) → HasReading text.now reading → result ≢ 7 → result ≢ 11 → needed.new ≡ needed_after needed.old (bytes_given (witness_given malleable (the_rules_for consensus) file.now reading)) }
-    ensures lengths { (reading : Reading) → HasReading text.now reading → result ≢ 7 → result ≢ 11 → lengths.new ≡ buffer_after lengths.old (lengths_given (witness_given malleable (the_rules_for consensus) file.now reading)) }
-    ensures count { (reading : Reading) → HasReading text.now reading → result ≢ 7 → result ≢ 11 → count.new ≡ needed_after count.old (lengths_given (witness_given malleable (the_rules_for consensus) file.now reading)) }
-    ensures reason { (reading : Reading) → HasReading text.now reading → result ≢ 7 → result ≢ 11 → reason.new ≡ reason_after reason.old (witness_given malleable (the_rules_for consensus) file.now reading) }
+    ensures code { HoldsOfGiven text.now result (witness_given (the_choice_for malleable consensus) file.now) (λ given. result ≡ code_given given) }
+    ensures bytes { HoldsOfGiven text.now result (witness_given (the_choice_for malleable consensus) file.now) (λ given. bytes.new ≡ buffer_after bytes.old (bytes_given given)) }
+    ensures needed { HoldsOfGiven text.now result (witness_given (the_choice_for malleable consensus) file.now) (λ given. needed.new ≡ needed_after needed.old (bytes_given given)) }
+    ensures lengths { HoldsOfGiven text.now result (witness_given (the_choice_for malleable consensus) file.now) (λ given. lengths.new ≡ buffer_after lengths.old (lengths_given given)) }
+    ensures count { HoldsOfGiven text.now result (witness_given (the_choice_for malleable consensus) file.now) (λ given. count.new ≡ needed_after count.old (lengths_given given)) }
+    ensures reason { HoldsOfGiven text.now result (witness_given (the_choice_for malleable consensus) file.now) (λ given. reason.new ≡ reason_after reason.old given) }
     ensures unreadable { result ≡ 11 ↔ (¬ IsUtf8 text.now) }
     ensures kept { (result ≡ 11) ⊎ (result ≡ 7) → bytes.new ≡ bytes.old }
     ensures kept_needed { (result ≡ 11) ⊎ (result ≡ 7) → needed.new ≡ needed.old }
@@ -93,7 +90,7 @@ pub fn witness(
     ensures kept_count { (result ≡ 11) ⊎ (result ≡ 7) → count.new ≡ count.old }
     ensures kept_reason { (result ≡ 11) ⊎ (result ≡ 7) → reason.new ≡ reason.old }
 {
-    match witness_in(alloc, malleable, rules_for(consensus), text, file) {
+    match witness_in(alloc, choice_for(malleable, consensus), text, file) {
         Ok(items) => {
             *needed = items.bytes().len();
             let _bytes = write_over(items.bytes(), bytes);
@@ -126,14 +123,8 @@ fn weight_of_text(
     requires { IsInRange (shape text.now.tree) }
     ensures { Finds (unless_unfit (first_unfit_valid_under rules (shape text.now.tree)) text.now.offsets.items (least_weight_given file.now (shape text.now.tree))) result }
 {
-    let tree = text.tree();
-    let Ok(mut work) = Work::new(alloc, tree) else {
-        return Err(Stop::Memory);
-    };
-    match check_valid_under(tree, rules, &mut work) {
-        Ok(_) => weight_of_tree(alloc, tree, file, &mut work),
-        Err(unfit) => Err(Stop::TextRefused(code_of_reason(text, unfit))),
-    }
+    let mut passing = fit(alloc, text, Demand::Valid(rules))?;
+    weight_of_tree(alloc, text.tree(), file, &mut passing.work)
 }
 
 /// The least weight of a satisfaction of a valid tree.
@@ -184,105 +175,55 @@ fn file_refusal(fault: AssetFault) -> Stop
     }
 }
 
-/// The items of the witness of a satisfaction of a text.
-fn witness_in(
-    alloc: Global,
-    malleable: bool,
-    rules: Rules,
-    text: &[u8],
-    file: &[u8],
-) -> Result<Items, Stop>
-    ensures { FindsOf text.now (witness_given malleable rules file.now) result }
+/// How the satisfaction is chosen, and by which rules.
+fn choice_for(malleable: bool, consensus: bool) -> Choice
+    ensures { result ≡ the_choice_for malleable consensus }
 {
     if malleable {
-        cheapest_in(alloc, rules, text, file)
+        Choice::Cheapest(rules_for(consensus))
     } else {
-        strict_in(alloc, rules, text, file)
+        Choice::Strict(rules_for(consensus))
     }
 }
 
-/// The items of the witness of the strict satisfaction of a text.
-fn strict_in(alloc: Global, rules: Rules, text: &[u8], file: &[u8]) -> Result<Items, Stop>
-    ensures { FindsOf text.now (witness_given false rules file.now) result }
+/// The items of the witness of the satisfaction that is chosen of a text.
+fn witness_in(alloc: Global, choice: Choice, text: &[u8], file: &[u8]) -> Result<Items, Stop>
+    ensures { FindsOf text.now (witness_given choice file.now) result }
 {
     let arena = Bump::new(alloc);
     match read(alloc, &arena, text) {
-        Ok(text) => strict_of_text(alloc, rules, &text, file),
+        Ok(text) => witness_of_text(alloc, choice, &text, file),
         Err(stop) => Err(stop),
     }
 }
 
-/// The items of the witness of the cheapest satisfaction of a text.
-fn cheapest_in(alloc: Global, rules: Rules, text: &[u8], file: &[u8]) -> Result<Items, Stop>
-    ensures { FindsOf text.now (witness_given true rules file.now) result }
-{
-    let arena = Bump::new(alloc);
-    match read(alloc, &arena, text) {
-        Ok(text) => cheapest_of_text(alloc, rules, &text, file),
-        Err(stop) => Err(stop),
-    }
-}
-
-/// The items of the witness of the strict satisfaction of a text that was read.
-fn strict_of_text(
+/// The items of the witness of the satisfaction that is chosen of a text that was read.
+fn witness_of_text(
     alloc: Global,
-    rules: Rules,
+    choice: Choice,
     text: &TextTree<'_>,
     file: &[u8],
 ) -> Result<Items, Stop>
     requires { IsInRange (shape text.now.tree) }
-    ensures { Finds (unless_unfit (first_unfit_under rules (shape text.now.tree)) text.now.offsets.items (chosen_given the_strict file.now (shape text.now.tree))) result }
+    ensures { Finds (unless_unfit (reason_by choice (shape text.now.tree)) text.now.offsets.items (chosen_given (chosen_by choice) file.now (shape text.now.tree))) result }
 {
-    let tree = text.tree();
-    let Ok(mut work) = Work::new(alloc, tree) else {
-        return Err(Stop::Memory);
-    };
-    match check_sane_under(tree, rules, &mut work) {
-        Ok(_) => strict_of_tree(alloc, tree, file),
-        Err(unfit) => Err(Stop::TextRefused(code_of_reason(text, unfit))),
-    }
+    let _passing = fit(alloc, text, demand_of(TextCommand::Satisfy(choice)))?;
+    witness_of_tree(alloc, choice, text.tree(), file)
 }
 
-/// The items of the witness of the cheapest satisfaction of a text that was read.
-fn cheapest_of_text(
+/// The items of the witness of the satisfaction that is chosen of a tree against which there is no reason.
+fn witness_of_tree(
     alloc: Global,
-    rules: Rules,
-    text: &TextTree<'_>,
+    choice: Choice,
+    tree: &Tree<'_>,
     file: &[u8],
 ) -> Result<Items, Stop>
-    requires { IsInRange (shape text.now.tree) }
-    ensures { Finds (unless_unfit (first_unfit_valid_under rules (shape text.now.tree)) text.now.offsets.items (chosen_given the_cheapest file.now (shape text.now.tree))) result }
-{
-    let tree = text.tree();
-    let Ok(mut work) = Work::new(alloc, tree) else {
-        return Err(Stop::Memory);
-    };
-    match check_valid_under(tree, rules, &mut work) {
-        Ok(_) => cheapest_of_tree(alloc, tree, file),
-        Err(unfit) => Err(Stop::TextRefused(code_of_reason(text, unfit))),
-    }
-}
-
-/// The items of the witness of the strict satisfaction of a sane tree.
-fn strict_of_tree(alloc: Global, tree: &Tree<'_>, file: &[u8]) -> Result<Items, Stop>
     requires in_range { IsInRange (shape tree.now) }
-    requires sane { IsSaneUnder Consensus (shape tree.now) }
-    ensures { Finds (chosen_given the_strict file.now (shape tree.now)) result }
+    requires fit { reason_by choice (shape tree.now) ≡ None }
+    ensures { Finds (chosen_given (chosen_by choice) file.now (shape tree.now)) result }
 {
     match assets_in(alloc, file) {
-        Ok(assets) => items_of(alloc, tree, strict(alloc, tree, &assets)),
-        Err(stop) => Err(stop),
-    }
-}
-
-/// The items of the witness of the cheapest satisfaction of a valid tree.
-fn cheapest_of_tree(alloc: Global, tree: &Tree<'_>, file: &[u8]) -> Result<Items, Stop>
-    requires in_range { IsInRange (shape tree.now) }
-    requires valid { IsValidUnder Consensus (shape tree.now) }
-    ensures { Finds (chosen_given the_cheapest file.now (shape tree.now)) result }
-{
-    match assets_in(alloc, file) {
-        Ok(assets) => items_of(alloc, tree, cheapest(alloc, tree, &assets)),
+        Ok(assets) => items_of(alloc, tree, satisfaction(alloc, choice, tree, &assets)),
         Err(stop) => Err(stop),
     }
 }

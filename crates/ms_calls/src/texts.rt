@@ -1,14 +1,15 @@
 //! The Script of a text, and what is known of it.
-ghost use Rattle.std.specs.Prelude.{◌≡◌, ◌≢◌, ◌⊎◌, ◌↔◌, IsUtf8, IfOk, IfErr, MatchResult, Ok, Err};
+ghost use Rattle.std.specs.Prelude.{◌≡◌, ◌⊎◌, ◌↔◌, ◌*◌, ◌≤◌, None, vec_len, IsUtf8, IfOk, IfErr, MatchResult, Ok, Err};
 ghost use Rattle.def_tree.specs.Range.{IsInRange};
+ghost use Rattle.def_tree.specs.Size.{measure};
 ghost use Rattle.def_text.specs.Refusal.{TextReads};
 ghost use Rattle.def_emit.specs.Emit.{script_of};
 ghost use Rattle.def_sane.specs.Unfit.{first_unfit_under, first_unfit_valid_under};
-ghost use Rattle.def_answer.specs.Reading.{Reading, HasReading};
 ghost use Rattle.ms_tree.specs.Shape.{shape};
+ghost use Rattle.ms_replies.specs.Fits.{reason_for, IsKnown};
 ghost use Rattle.ms_calls.specs.Facts.{facts_of};
-ghost use Rattle.ms_calls.specs.Given.{told, code_given, reason_after, value_after, buffer_after, needed_after, rules_for as the_rules_for, unless_unfit, script_given, facts_given};
-ghost use Rattle.ms_calls.specs.Stops.{Finds, FindsOf, StopsReading, refusal as the_refusal};
+ghost use Rattle.ms_calls.specs.Given.{HoldsOfGiven, told, code_given, reason_after, value_after, buffer_after, needed_after, rules_for as the_rules_for, unless_unfit, script_given, facts_given};
+ghost use Rattle.ms_calls.specs.Stops.{Finds, FindsOf, StopsReading, StopsFitting, refusal as the_refusal};
 
 use crate::copying::write_over;
 use crate::facts::Facts;
@@ -17,7 +18,8 @@ use crate::stopping::{DONE, Stop};
 use bumpalo::Bump;
 use ms_emit::script_bytes;
 use ms_height::height;
-use ms_sane::{Rules, Work, check_sane_under, check_valid_under};
+use ms_replies::{Demand, Fit, Misfit, fit_tree};
+use ms_sane::{Rules, Work, check_sane_under};
 use ms_script::Blob;
 use ms_text::{TextFault, TextTree, read_text};
 use std::alloc::{AllocError, Global};
@@ -35,10 +37,10 @@ pub fn script(
     needed: &mut usize,
     reason: &mut Reason,
 ) -> u32
-    ensures code { (reading : Reading) → HasReading text.now reading → result ≢ 7 → result ≢ 11 → result ≡ code_given (script_given (the_rules_for consensus) reading) }
-    ensures script { (reading : Reading) → HasReading text.now reading → result ≢ 7 → result ≢ 11 → script.new ≡ buffer_after script.old (script_given (the_rules_for consensus) reading) }
-    ensures needed { (reading : Reading) → HasReading text.now reading → result ≢ 7 → result ≢ 11 → needed.new ≡ needed_after needed.old (script_given (the_rules_for consensus) reading) }
-    ensures reason { (reading : Reading) → HasReading text.now reading → result ≢ 7 → result ≢ 11 → reason.new ≡ reason_after reason.old (script_given (the_rules_for consensus) reading) }
+    ensures code { HoldsOfGiven text.now result (script_given (the_rules_for consensus)) (λ given. result ≡ code_given given) }
+    ensures script { HoldsOfGiven text.now result (script_given (the_rules_for consensus)) (λ given. script.new ≡ buffer_after script.old given) }
+    ensures needed { HoldsOfGiven text.now result (script_given (the_rules_for consensus)) (λ given. needed.new ≡ needed_after needed.old given) }
+    ensures reason { HoldsOfGiven text.now result (script_given (the_rules_for consensus)) (λ given. reason.new ≡ reason_after reason.old given) }
     ensures unreadable { result ≡ 11 ↔ (¬ IsUtf8 text.now) }
     ensures kept { (result ≡ 11) ⊎ (result ≡ 7) → script.new ≡ script.old }
     ensures kept_needed { (result ≡ 11) ⊎ (result ≡ 7) → needed.new ≡ needed.old }
@@ -65,9 +67,9 @@ pub fn check(
     facts: &mut Facts,
     reason: &mut Reason,
 ) -> u32
-    ensures code { (reading : Reading) → HasReading text.now reading → result ≢ 7 → result ≢ 11 → result ≡ code_given (facts_given (the_rules_for consensus) reading) }
-    ensures facts { (reading : Reading) → HasReading text.now reading → result ≢ 7 → result ≢ 11 → facts.new ≡ value_after facts.old (facts_given (the_rules_for consensus) reading) }
-    ensures reason { (reading : Reading) → HasReading text.now reading → result ≢ 7 → result ≢ 11 → reason.new ≡ reason_after reason.old (facts_given (the_rules_for consensus) reading) }
+    ensures code { HoldsOfGiven text.now result (facts_given (the_rules_for consensus)) (λ given. result ≡ code_given given) }
+    ensures facts { HoldsOfGiven text.now result (facts_given (the_rules_for consensus)) (λ given. facts.new ≡ value_after facts.old given) }
+    ensures reason { HoldsOfGiven text.now result (facts_given (the_rules_for consensus)) (λ given. reason.new ≡ reason_after reason.old given) }
     ensures unreadable { result ≡ 11 ↔ (¬ IsUtf8 text.now) }
     ensures kept { (result ≡ 11) ⊎ (result ≡ 7) → facts.new ≡ facts.old }
     ensures kept_reason { (result ≡ 11) ⊎ (result ≡ 7) → reason.new ≡ reason.old }
@@ -108,14 +110,8 @@ fn script_of_text(alloc: Global, rules: Rules, text: &TextTree<'_>) -> Result<Bl
     requires { IsInRange (shape text.now.tree) }
     ensures { Finds (unless_unfit (first_unfit_valid_under rules (shape text.now.tree)) text.now.offsets.items (told (script_of (shape text.now.tree)))) result }
 {
-    let tree = text.tree();
-    let Ok(mut work) = Work::new(alloc, tree) else {
-        return Err(Stop::Memory);
-    };
-    match check_valid_under(tree, rules, &mut work) {
-        Ok(_) => or_memory(script_bytes(alloc, tree)),
-        Err(unfit) => Err(Stop::TextRefused(code_of_reason(text, unfit))),
-    }
+    let _passing = fit(alloc, text, Demand::Valid(rules))?;
+    or_memory(script_bytes(alloc, text.tree()))
 }
 
 /// Bytes that take memory alone.
@@ -151,6 +147,21 @@ fn facts_of_text(alloc: Global, rules: Rules, text: &TextTree<'_>) -> Result<Fac
     match check_sane_under(tree, rules, &mut work) {
         Ok(sane) => Ok(Facts::new(&sane, height(tree, &mut work))),
         Err(unfit) => Err(Stop::TextRefused(code_of_reason(text, unfit))),
+    }
+}
+
+/// What is known of the tree of a text that passes what is asked of it, or the stop for the first reason against it.
+pub fn fit(alloc: Global, text: &TextTree<'_>, demand: Demand) -> Result<Fit, Stop>
+    requires { IsInRange (shape text.now.tree) }
+    ensures known { IfOk result (λ fit. IsKnown demand (shape text.now.tree) fit.known) }
+    ensures passed { IfOk result (λ fit. reason_for demand (shape text.now.tree) ≡ None) }
+    ensures room { IfOk result (λ fit. 4 * measure (shape text.now.tree) ≤ vec_len fit.work.slots) }
+    ensures stop { IfErr result (StopsFitting (reason_for demand (shape text.now.tree)) text.now.offsets.items) }
+{
+    match fit_tree(alloc, text.tree(), demand) {
+        Ok(fit) => Ok(fit),
+        Err(Misfit::Unfit(unfit)) => Err(Stop::TextRefused(code_of_reason(text, unfit))),
+        Err(Misfit::Memory) => Err(Stop::Memory),
     }
 }
 

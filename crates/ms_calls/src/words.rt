@@ -1,11 +1,11 @@
 //! Reading the words of a call from one buffer.
-ghost use Rattle.std.specs.Prelude.{◌≡◌, ◌≢◌, ◌++◌, ◌∷◌, List, IfOk, MatchOption, IsUtf8, ⊤, Err};
+ghost use Rattle.std.specs.Prelude.{◌≡◌, ◌≢◌, ◌++◌, ◌∷◌, IfOk, MatchOption, IsUtf8, ⊤, Err};
 ghost use Rattle.def_script.specs.Bytes.{Bytes};
 ghost use Rattle.ms_calls.specs.Words.{HasNoNul, AreWords, AreNoWords, OneList};
 
 use memchr::memchr;
 use msat_cli::Word;
-use std::alloc::{AllocError, Global};
+use std::alloc::Global;
 
 /// Why there are no words.
 #[derive(Clone, Copy, Debug, PartialEq, Eq)]

@@ -4,7 +4,7 @@ use Rattle.std.proofs.lemmas.Bool.{le-leb, lt-leb}
 use Rattle.def_tree.specs.Tree.{Tree}
 use Rattle.def_tree.specs.Size.{measure, depth}
 use Rattle.def_tree.specs.Range.{MOST_MEASURE, MOST_DEPTH}
-use Rattle.ms_decode_laws.specs.Reader.{fits}
+use Rattle.ms_decode_laws.specs.Scaffolding.Reader.{fits}
 use Rattle.ms_decode.specs.Scaffolding.Parts.{fitting}
 
 -- by the two numbers of a tree

@@ -14,11 +14,12 @@ use Rattle.def_tree.specs.declared.Wrapper.TheVariants as wrapper
 use Rattle.def_tree.specs.Tree as tree
 use Rattle.def_tree.specs.Tree.{Tree, Trees, Key, none, more}
 use Rattle.def_decode.specs.Nested.{EachHashed, EachHashedOf}
-use Rattle.ms_decode_laws.specs.Frame.{Frame}
-use Rattle.ms_decode_laws.specs.Frame as frame
-use Rattle.ms_decode_laws.specs.Want.{Want}
-use Rattle.ms_decode_laws.specs.Want as want
-use Rattle.ms_decode_laws.specs.Reader.{State, at, fits, is_key, natural_of, settle, settle_side, built, pushed, begin_op, begin, begin_side, before_ended, before_else, before_alt_stack, before_swapped, closed, before_part, after_step, numbered, relative_step, absolute_step, target_step, next_step, counted, hashed, given_step, keyed, key_hash, hash160_step, compared_step, sized_step, measured_step, key_count, count_step, signed_by, keys_step, if_step, not_if_step, step, run, finish, read, start}
+use Rattle.ms_decode_laws.specs.Scaffolding.Frame.{Frame}
+use Rattle.ms_decode_laws.specs.Scaffolding.Frame as frame
+use Rattle.ms_decode_laws.specs.Scaffolding.Want.{Want}
+use Rattle.ms_decode_laws.specs.Scaffolding.Want as want
+use Rattle.ms_decode_laws.specs.Scaffolding.Reader.{State, at, fits, natural_of, settle, settle_side, built, pushed, begin_op, begin, begin_side, before_ended, before_else, before_alt_stack, before_swapped, closed, before_part, after_step, numbered, relative_step, absolute_step, target_step, next_step, threshold_step, hashed, given_step, keyed, key_hash, hash160_step, compared_step, sized_step, measured_step, key_count, count_step, signed_by, keys_step, if_step, not_if_step, step, run, finish, read, start}
+use Rattle.def_script.specs.Key.{is_key}
 
 module _ (P : Key → Type 0) where
   -- the trees of a state have such keys alone
@@ -169,7 +170,7 @@ module _ (P : Key → Type 0) where
   next_has k ys fs (code op.Add) h g = (tt, (h, g))
   next_has k ys fs other h g = begin_has (frame.first k ys ∷ fs) other (h, g)
 
-  counted_has : (o : Option ℕ) (fs : List Frame) (i : Instruction) → FramesHave fs → StateHas (counted o fs i)
+  counted_has : (o : Option ℕ) (fs : List Frame) (i : Instruction) → FramesHave fs → StateHas (threshold_step o fs i)
   counted_has None fs i g = tt
   counted_has (Some k) fs i g = next_has k none fs i tt g
 

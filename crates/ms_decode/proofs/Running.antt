@@ -3,7 +3,7 @@ use Rattle.std.proofs.Common.{◌≡◌, List, [], ◌∷◌, Option, Some, None
 use Rattle.def_script.specs.Bytes.{Bytes}
 use Rattle.def_script.specs.Instruction.{Instruction}
 use Rattle.def_tree.specs.Tree.{Key}
-use Rattle.ms_decode_laws.specs.Reader.{State, step, run, finish}
+use Rattle.ms_decode_laws.specs.Scaffolding.Reader.{State, step, run, finish}
 
 run_none : (find : Bytes → Option Key) (is : List Instruction) → run find None is ≡ None
 run_none find [] = refl

@@ -5,8 +5,8 @@ use Rattle.def_script.specs.Bytes.{Bytes}
 use Rattle.def_script.specs.Instruction.{Instruction, push}
 use Rattle.def_tree.specs.Tree as tree
 use Rattle.def_tree.specs.Tree.{Tree, Key}
-use Rattle.ms_decode_laws.specs.Frame.{Frame}
-use Rattle.ms_decode_laws.specs.Reader.{fits, natural_of, settle, built, signed_by, keys_step}
+use Rattle.ms_decode_laws.specs.Scaffolding.Frame.{Frame}
+use Rattle.ms_decode_laws.specs.Scaffolding.Reader.{fits, natural_of, settle, built, signed_by, keys_step}
 
 few_fit : (k : ℕ) (ks : List Key) → length ks ≤ 20 → fits (tree.multi k ks) ≡ true
 unfolding fits

@@ -9,7 +9,7 @@ use Rattle.def_tree.specs.Tree.{Tree, Key}
 use Rattle.def_tree.specs.Range.{IsKey, IsWritable}
 use Rattle.def_emit.specs.Emit.{emit}
 use Rattle.def_decode.specs.Decoded.{first_with, IsReading, IsDecoded}
-use Rattle.ms_decode_laws.specs.Reader.{read}
+use Rattle.ms_decode_laws.specs.Scaffolding.Reader.{read}
 use Rattle.ms_decode_laws.proofs.Decoding.{found_in, items_of, reading_is_found, found_is_decoded}
 use Rattle.ms_decode.specs.declared.codes.Code.{Code}
 use Rattle.ms_decode.specs.Scaffolding.States.{instruction_of, backwards}

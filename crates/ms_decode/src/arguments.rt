@@ -1,6 +1,6 @@
 //! What stands before the arguments of a lock or a threshold.
 ghost use Rattle.std.specs.Prelude.{◌≡◌, IfOk};
-ghost use Rattle.ms_decode_laws.specs.Reader.{relative_step, absolute_step, next_step};
+ghost use Rattle.ms_decode_laws.specs.Scaffolding.Reader.{relative_step, absolute_step, next_step};
 ghost use Rattle.ms_decode.specs.Scaffolding.States.{frames_of, state_of, instruction_of, children_of};
 
 use crate::begin::begin;

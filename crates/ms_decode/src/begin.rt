@@ -1,6 +1,6 @@
 //! The last instruction of an expression.
 ghost use Rattle.std.specs.Prelude.{◌≡◌, IfOk};
-ghost use Rattle.ms_decode_laws.specs.Reader.{pushed as the_pushed, begin_op as the_begin_op, begin as the_begin, begin_side as the_begin_side};
+ghost use Rattle.ms_decode_laws.specs.Scaffolding.Reader.{pushed as the_pushed, begin_op as the_begin_op, begin as the_begin, begin_side as the_begin_side};
 ghost use Rattle.ms_decode.specs.Scaffolding.States.{frames_of, state_of, instruction_of};
 
 use crate::codes::Code;

@@ -1,6 +1,6 @@
 //! What stands before a part of a chain of `and_v`: another part, or what the chain stands in.
 ghost use Rattle.std.specs.Prelude.{◌≡◌, IfOk};
-ghost use Rattle.ms_decode_laws.specs.Reader.{before_ended as the_before_ended, before_else as the_before_else, before_alt_stack as the_before_alt_stack, before_swapped as the_before_swapped, closed as the_closed, before_part as the_before_part, after_step as the_after_step, if_step as the_if_step, not_if_step as the_not_if_step};
+ghost use Rattle.ms_decode_laws.specs.Scaffolding.Reader.{before_ended as the_before_ended, before_else as the_before_else, before_alt_stack as the_before_alt_stack, before_swapped as the_before_swapped, closed as the_closed, before_part as the_before_part, after_step as the_after_step, if_step as the_if_step, not_if_step as the_not_if_step};
 ghost use Rattle.ms_decode.specs.Scaffolding.Parts.{tree_of};
 ghost use Rattle.ms_decode.specs.Scaffolding.States.{frames_of, state_of, instruction_of};
 

@@ -14,6 +14,7 @@ use std::alloc::{AllocError, Global};
 /// A number of at most ten digits.
 #[derive(Clone, Copy)]
 pub struct Numeral {
+    /// The number.
     pub value: u64,
     ghost ten_digits: { value < 10000000000 },
 }
@@ -21,8 +22,11 @@ pub struct Numeral {
 /// Children beside the number of nodes on their longest path, and their nodes and keys of `multi` together.
 #[derive(Drop)]
 pub struct Children<'a> {
+    /// The children, in the order in which they were read: the last one first.
     pub trees: Vec<Tree<'a>>,
+    /// The number of nodes on the longest path.
     pub depth: u64,
+    /// The number of nodes and of keys of `multi`, up to `u64::MAX`.
     pub measure: u64,
     ghost deep: { depth ≡ size.depth_of (shapes (reverse trees.items)) },
     ghost large: { measure ≡ min (size.measure_of (shapes (reverse trees.items))) (2 ^ 64 - 1) },

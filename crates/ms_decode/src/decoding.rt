@@ -1,5 +1,5 @@
 //! A Script read back as a miniscript.
-ghost use Rattle.std.specs.Prelude.{◌≡◌, ◌↔◌, IsTrue, All, Ok, None, IfOk, IfSome};
+ghost use Rattle.std.specs.Prelude.{◌≡◌, ◌↔◌, IsTrue, Ok, None, IfOk, IfSome};
 ghost use Rattle.def_decode.specs.Decoded.{IsReading, IsDecoded};
 ghost use Rattle.def_tree.specs.Range.{IsInRange};
 ghost use Rattle.def_tree.specs.Tree.{Tree as TheTree};

@@ -1,7 +1,7 @@
 //! What stands before a push that EQUAL compares with: a hash lock, a `pk_h` or a threshold.
 ghost use Rattle.std.specs.Prelude.{◌≡◌, List, IfOk};
 ghost use Rattle.def_decode.specs.Decoded.{first_with};
-ghost use Rattle.ms_decode_laws.specs.Reader.{target_step, given_step, key_hash as the_key_hash, hash160_step, compared_step, sized_step, measured_step};
+ghost use Rattle.ms_decode_laws.specs.Scaffolding.Reader.{target_step, given_step, key_hash as the_key_hash, hash160_step, compared_step, sized_step, measured_step};
 ghost use Rattle.ms_decode.specs.declared.frame.Frame.{Frame as AFrame};
 ghost use Rattle.ms_decode.specs.Scaffolding.Keys.{keys_of};
 ghost use Rattle.ms_decode.specs.Scaffolding.Leaves.{kind_before};

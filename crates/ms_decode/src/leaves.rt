@@ -3,7 +3,7 @@ ghost use Rattle.std.specs.Prelude.{◌≡◌, Ok, IfOk, IfSome};
 ghost use Rattle.def_hash.specs.Hash.{digest_length};
 ghost use Rattle.def_tree.specs.Range.{IsDigest, IsWritable};
 ghost use Rattle.ms_tree.specs.Shape.{leaf_shape};
-ghost use Rattle.ms_decode_laws.specs.Reader.{natural as the_natural, natural_of};
+ghost use Rattle.ms_decode_laws.specs.Scaffolding.Reader.{natural as the_natural, natural_of};
 ghost use Rattle.ms_decode.specs.Scaffolding.Leaves.{key_in, digest_in, hash_lock, hash_tree, pushed_leaf, leaf_tree};
 ghost use Rattle.ms_decode.specs.Scaffolding.Parts.{tree_of, made};
 ghost use Rattle.ms_decode.specs.Scaffolding.States.{number_of};
@@ -19,7 +19,7 @@ use std::alloc::{AllocError, Global};
 const TEN_DIGITS: u64 = 10_000_000_000;
 
 /// The number of at most ten digits that bytes spell.
-#[tactic(auto, unfolding(ms_decode_laws::specs::Reader::natural_of))]
+#[tactic(auto, unfolding(ms_decode_laws::specs::Scaffolding::Reader::natural_of))]
 pub fn numeral(bytes: &[u8]) -> Option<Numeral>
     ensures { number_of result ≡ natural_of bytes.now }
 {

@@ -1,6 +1,6 @@
 //! What stands before the arguments of a `multi`.
 ghost use Rattle.std.specs.Prelude.{◌≡◌, List, reverse, IfOk};
-ghost use Rattle.ms_decode_laws.specs.Reader.{count_step, keys_step};
+ghost use Rattle.ms_decode_laws.specs.Scaffolding.Reader.{count_step, keys_step};
 ghost use Rattle.ms_decode.specs.declared.frame.Frame.{Frame as AFrame};
 ghost use Rattle.ms_decode.specs.Scaffolding.States.{frames_of, state_of, instruction_of};
 

@@ -26,8 +26,11 @@ pub fn is_small(depth: u64, measure: u64) -> bool
 /// A tree in range, with its size.
 #[derive(Clone, Copy)]
 pub struct Part<'a> {
+    /// The tree.
     pub tree: Tree<'a>,
+    /// The number of nodes on its longest path.
     pub depth: u64,
+    /// The number of its nodes and of keys of `multi`.
     pub measure: u64,
     ghost deep: { depth ≡ size.depth (shape tree) },
     ghost large: { measure ≡ size.measure (shape tree) },

@@ -1,7 +1,7 @@
 //! All instructions, from the last one to the first.
 ghost use Rattle.std.specs.Prelude.{◌≡◌, Some, IfOk};
 ghost use Rattle.def_decode.specs.Decoded.{first_with};
-ghost use Rattle.ms_decode_laws.specs.Reader.{at, finish, read as the_read};
+ghost use Rattle.ms_decode_laws.specs.Scaffolding.Reader.{at, finish, read as the_read};
 ghost use Rattle.ms_decode.specs.Scaffolding.Keys.{keys_of};
 ghost use Rattle.ms_decode.specs.Scaffolding.Parts.{made};
 ghost use Rattle.ms_decode.specs.Scaffolding.States.{frames_of, want_of, backwards};

@@ -1,6 +1,6 @@
 //! An expression was read: what it closes is closed.
 ghost use Rattle.std.specs.Prelude.{◌≡◌, IfOk};
-ghost use Rattle.ms_decode_laws.specs.Reader.{settle as the_settle, settle_side as the_settle_side};
+ghost use Rattle.ms_decode_laws.specs.Scaffolding.Reader.{settle as the_settle};
 ghost use Rattle.ms_decode.specs.Scaffolding.Parts.{tree_of, made};
 ghost use Rattle.ms_decode.specs.Scaffolding.States.{frames_of, state_of};
 ghost use Rattle.ms_decode.specs.Scaffolding.Settled.{settled, sided};

@@ -13,7 +13,9 @@ use std::alloc::{AllocError, Global};
 /// Some keys of a `multi`, and how many more stand before them: one to twenty in all.
 #[derive(Drop)]
 pub struct Signers {
+    /// How many keys stand before these, and are still to be read.
     pub left: u64,
+    /// The keys, in the order in which they were read: the last one first.
     pub keys: Vec<Key>,
     ghost some: { 1 ≤ left + length keys.items },
     ghost few: { left + length keys.items ≤ 20 },

@@ -1,7 +1,7 @@
 //! One instruction more.
 ghost use Rattle.std.specs.Prelude.{◌≡◌, IfOk};
 ghost use Rattle.def_decode.specs.Decoded.{first_with};
-ghost use Rattle.ms_decode_laws.specs.Reader.{at, step as the_step};
+ghost use Rattle.ms_decode_laws.specs.Scaffolding.Reader.{at, step as the_step};
 ghost use Rattle.ms_decode.specs.Scaffolding.Keys.{keys_of};
 ghost use Rattle.ms_decode.specs.Scaffolding.States.{frames_of, want_of, state_of, instruction_of};
 

@@ -8,7 +8,7 @@ use Rattle.std.proofs.lemmas.List.Elements.{All-head, All-tail}
 use Rattle.std.proofs.lemmas.Slice.Eq.{bytes_eq-Decides}
 use Rattle.def_hash.specs.Hash.{hash160}
 use Rattle.def_script.specs.Bytes.{Bytes}
-use Rattle.def_script.specs.Instruction.{Instruction, push, code}
+use Rattle.def_script.specs.Instruction.{Instruction, push, code, opcode_count}
 use Rattle.def_script.specs.Spell.{sized_push, byte_push, spell_one, spell, IsShort}
 use Rattle.def_script.specs.Items.{items}
 use Rattle.def_script.specs.Laws.{item_of, CanSpell}
@@ -22,14 +22,13 @@ use Rattle.def_types.specs.Typed.{type_of, IsTyped}
 use Rattle.def_emit.specs.Emit.{emit, script_of}
 use Rattle.def_emit.proofs.Short.{short-emit}
 use Rattle.def_sane.specs.declared.Limits.{Limits}
-use Rattle.def_sane.specs.Limits.{opcode_count}
 use Rattle.def_sane.specs.Most.{most_sat, number_of, limits_of}
 use Rattle.def_sane.specs.Unfit.{MOST_SIZE, MOST_OPS, MOST_ITEMS}
 use Rattle.def_sane.proofs.Meanings.{valid_means}
 use Rattle.def_decode.specs.Nested.{RightNested, EachHashed, EachHashedOf}
 use Rattle.def_decode.specs.Decoded.{first_with, IsReading, IsDecoded}
 use Rattle.def_decode.specs.Laws.{HasDecoded, EachIsDecoded, OneIsDecoded}
-use Rattle.ms_decode_laws.specs.Reader.{read}
+use Rattle.ms_decode_laws.specs.Scaffolding.Reader.{read}
 use Rattle.ms_decode_laws.proofs.Onto.{back, back_reverse, onto, onto_back}
 use Rattle.ms_decode_laws.proofs.ReadBack.{tree_reads}
 use Rattle.ms_decode_laws.proofs.Nest.{nest, IsNest, is_nest}

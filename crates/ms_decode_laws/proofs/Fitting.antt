@@ -1,5 +1,5 @@
 -- A typed tree that is nested to the right, and isn't too deep or too large, is read.
-use Rattle.std.proofs.Common.{◌≡◌, ◌≢◌, ℕ, ◌<◌, ◌≤◌, ◌==◌, ◌&&◌, nat_le, nat_lt, pos, true, false, List, [], ◌∷◌, length, All, Option, Some, refl, sym, ◌∙◌, ap, inl, inr, arith}
+use Rattle.std.proofs.Common.{◌≡◌, ◌≢◌, ℕ, ◌<◌, ◌≤◌, ◌&&◌, nat_le, nat_lt, pos, true, false, List, [], ◌∷◌, length, All, Option, Some, refl, sym, ◌∙◌, ap, arith}
 use Rattle.std.proofs.lemmas.Bool.{lt-ltb, le-leb, eq-eqb}
 use Rattle.std.proofs.lemmas.List.Elements.{All-head, All-tail}
 use Rattle.def_hash.specs.Hash.{hash160}
@@ -17,8 +17,8 @@ use Rattle.def_types.specs.Typed.{type_of, IsTyped, AreTyped}
 use Rattle.def_types.proofs.Rows.{corr_rows}
 use Rattle.def_types.proofs.Facts.{OthersFit, typed-and_or, typed-and_v, typed-and_b, typed-or_b, typed-or_c, typed-or_d, typed-or_i, typed-thresh, typed-thresh_none, typed-multi, typed-wrap_a, typed-wrap_s, typed-wrap_c, typed-wrap_d, typed-wrap_v, typed-wrap_j, typed-wrap_n}
 use Rattle.def_decode.specs.Nested.{is_and_v, RightNested, AreRightNested, EachHashed, EachHashedOf}
-use Rattle.ms_decode_laws.specs.Reader.{natural, natural_of, is_key, fits}
-use Rattle.ms_decode_laws.proofs.Low.{d_no_and_v}
+use Rattle.ms_decode_laws.specs.Scaffolding.Reader.{natural, natural_of, fits}
+use Rattle.ms_decode_laws.proofs.Low.{d_no_and_v, not_w}
 use Rattle.ms_decode_laws.proofs.Parsed.{AreKeys, no_key, a_key, One, zero_one, one_one, pk_k_one, pk_h_one, older_one, after_one, hash_one, and_or_one, and_b_one, or_b_one, or_c_one, or_d_one, or_i_one, thresh_one, multi_one, c_one, d_one, v_one, j_one, n_one, Row, last_row, and_v_row, Side, a_side, s_side, Sides, no_side, more_sides}
 
 -- numbers and keys
@@ -29,18 +29,9 @@ natural_read n low =
     let b : nat_lt n TEN_DIGITS ≡ true = lt-ltb n TEN_DIGITS low in
     ap natural e ∙ rw b refl
 
-key_read : (key : Key) → IsKey key → is_key key ≡ true
-unfolding is_key
-key_read key h =
-    let e : (length key == 33) ≡ true = eq-eqb _ _ h.length in
-    rw e (elim h.prefix [
-      | inl is_two ↦ rw is_two refl
-      | inr is_three ↦ rw is_three refl
-    ])
-
 keys_read : (keys : List Key) → All IsKey keys → AreKeys keys
 keys_read [] h = no_key
-keys_read (key ∷ keys) h = a_key key keys (key_read key (All-head IsKey key keys h)) (keys_read keys (All-tail IsKey key keys h))
+keys_read (key ∷ keys) h = a_key key keys (All-head IsKey key keys h).form (keys_read keys (All-tail IsKey key keys h))
 
 fits_within : (t : Tree) → depth t ≤ MOST_DEPTH → measure t ≤ MOST_MEASURE → fits t ≡ true
 unfolding fits
@@ -87,9 +78,6 @@ as_side find t w s = record {
   side = λ e. s;
 }
 
-not_w : (b c : Base) → b ≡ c → c ≢ W → b ≢ W
-not_w b c e n = λ h. n (sym e ∙ h)
-
 b_not_w : (b : Base) → b ≡ B → b ≢ W
 b_not_w b e = λ h. let f : B ≡ W = sym e ∙ h in cc
 
@@ -109,7 +97,7 @@ module _ (find : Bytes → Option Key) where
     pub parses : (t : Tree) → Fit find t → Parses find t
     parses just_0 h = as_one find just_0 (λ e. cc) zero_one
     parses just_1 h = as_one find just_1 (λ e. cc) one_one
-    parses (pk_k key) h = as_one find (pk_k key) (λ e. cc) (pk_k_one key (key_read key h.writable))
+    parses (pk_k key) h = as_one find (pk_k key) (λ e. cc) (pk_k_one key h.writable.form)
     parses (pk_h key) h = as_one find (pk_h key) (λ e. cc) (pk_h_one key h.found)
     parses (older n) h = as_one find (older n) (λ e. cc) (older_one n (natural_read n h.writable))
     parses (after n) h = as_one find (after n) (λ e. cc) (after_one n (natural_read n h.writable))

@@ -1,7 +1,8 @@
 -- A tree that is nested to the right is hardly deeper than its Script has opcodes.
-use Rattle.std.proofs.Common.{◌≡◌, ◌≢◌, ℕ, ◌+◌, ◌≤◌, ◌⊎◌, Bool, true, false, ◌&&◌, ◌||◌, List, [], ◌∷◌, map, if◌then◌else◌, refl, sym, ◌∙◌, ap, inl, inr, arith}
+use Rattle.std.proofs.Common.{◌≡◌, ◌≢◌, ℕ, ◌+◌, ◌≤◌, Bool, true, false, ◌&&◌, ◌||◌, List, [], ◌∷◌, map, if◌then◌else◌, refl, sym, ◌∙◌, ap, inl, inr, arith}
+use Rattle.std.proofs.lemmas.Bool.{or_right, or_cases, or_left, and_parts}
 use Rattle.def_script.specs.declared.Op.TheVariants as op
-use Rattle.def_script.specs.Instruction.{Instruction, push, code}
+use Rattle.def_script.specs.Instruction.{Instruction, push, code, opcode_count}
 use Rattle.def_tree.specs.declared.Two.TheVariants as kind
 use Rattle.def_tree.specs.declared.Wrapper.TheVariants as wrapper
 use Rattle.def_tree.specs.Tree.{Tree, Trees, Key, just_0, just_1, pk_k, pk_h, older, after, hash, and_or, two, thresh, multi, wrap, none, more}
@@ -11,9 +12,8 @@ use Rattle.def_types.specs.declared.Base.TheVariants.{B, V, K, W}
 use Rattle.def_types.specs.Corr.{all_z, all_z_but_one}
 use Rattle.def_types.specs.Typed.{type_of, types_of, IsTyped, AreTyped}
 use Rattle.def_types.proofs.Rows.{corr_rows}
-use Rattle.def_types.proofs.Facts.{both_true, all_true, OthersFit, typed-and_or, typed-and_v, typed-and_b, typed-or_b, typed-or_c, typed-or_d, typed-or_i, typed-thresh, typed-thresh_none, typed-wrap_a, typed-wrap_s, typed-wrap_c, typed-wrap_d, typed-wrap_v, typed-wrap_j, typed-wrap_n}
+use Rattle.def_types.proofs.Facts.{all_true, OthersFit, typed-and_or, typed-and_v, typed-and_b, typed-or_b, typed-or_c, typed-or_d, typed-or_i, typed-thresh, typed-thresh_none, typed-wrap_a, typed-wrap_s, typed-wrap_c, typed-wrap_d, typed-wrap_v, typed-wrap_j, typed-wrap_n}
 use Rattle.def_emit.specs.Emit.{number}
-use Rattle.def_sane.specs.Limits.{opcode_count}
 use Rattle.def_decode.specs.Nested.{is_and_v, RightNested, AreRightNested}
 use Rattle.ms_decode_laws.proofs.Onto.{back, fused, onto, onto_sum, onto_added}
 
@@ -248,39 +248,28 @@ low_b t b no_f d s e = record {
 }
 
 -- which parts take no argument or one
-or_split : (a b : Bool) → (a || b) ≡ true → (a ≡ true) ⊎ (b ≡ true)
-or_split true b e = inl refl
-or_split false b e = inr e
-
-left_small : (z o : Bool) → z ≡ true → (z || o) ≡ true
-left_small z o e = rw e refl
-
-right_small : (z o : Bool) → o ≡ true → (z || o) ≡ true
-right_small true o e = refl
-right_small false o e = e
-
 and_or_small : (xz xo yz yo zz zo : Bool) → ((xz && yz && zz) || ((xz && yo && zo) || (xo && yz && zz))) ≡ true → ((yz || yo) ≡ true) × ((zz || zo) ≡ true)
-and_or_small xz xo yz yo zz zo e = elim (or_split (xz && yz && zz) ((xz && yo && zo) || (xo && yz && zz)) e) [
-  | inl h ↦ let p = all_true xz yz zz h in (left_small yz yo p.1, left_small zz zo p.2)
-  | inr k ↦ elim (or_split (xz && yo && zo) (xo && yz && zz) k) [
-    | inl h ↦ let p = all_true xz yo zo h in (right_small yz yo p.1, right_small zz zo p.2)
-    | inr h ↦ let p = all_true xo yz zz h in (left_small yz yo p.1, left_small zz zo p.2)
+and_or_small xz xo yz yo zz zo e = elim (or_cases (xz && yz && zz) ((xz && yo && zo) || (xo && yz && zz)) e) [
+  | inl h ↦ let p = all_true xz yz zz h in (or_left yz yo p.1, or_left zz zo p.2)
+  | inr k ↦ elim (or_cases (xz && yo && zo) (xo && yz && zz) k) [
+    | inl h ↦ let p = all_true xz yo zo h in (or_right yz yo p.1, or_right zz zo p.2)
+    | inr h ↦ let p = all_true xo yz zz h in (or_left yz yo p.1, or_left zz zo p.2)
   ]
 ]
 
 pair_small : (xz xo yz yo : Bool) → ((xz && yz) || ((xz && yo) || (yz && xo))) ≡ true → ((xz || xo) ≡ true) × ((yz || yo) ≡ true)
-pair_small xz xo yz yo e = elim (or_split (xz && yz) ((xz && yo) || (yz && xo)) e) [
-  | inl h ↦ let p = both_true xz yz h in (left_small xz xo p.0, left_small yz yo p.1)
-  | inr k ↦ elim (or_split (xz && yo) (yz && xo) k) [
-    | inl h ↦ let p = both_true xz yo h in (left_small xz xo p.0, right_small yz yo p.1)
-    | inr h ↦ let p = both_true yz xo h in (right_small xz xo p.1, left_small yz yo p.0)
+pair_small xz xo yz yo e = elim (or_cases (xz && yz) ((xz && yo) || (yz && xo)) e) [
+  | inl h ↦ let p = and_parts xz yz h in (or_left xz xo p.0, or_left yz yo p.1)
+  | inr k ↦ elim (or_cases (xz && yo) (yz && xo) k) [
+    | inl h ↦ let p = and_parts xz yo h in (or_left xz xo p.0, or_right yz yo p.1)
+    | inr h ↦ let p = and_parts yz xo h in (or_right xz xo p.1, or_left yz yo p.0)
   ]
 ]
 
 else_small : (xz xo zz zo : Bool) → ((xz && zz) || (xo && zz)) ≡ true → (zz || zo) ≡ true
-else_small xz xo zz zo e = elim (or_split (xz && zz) (xo && zz) e) [
-  | inl h ↦ left_small zz zo (both_true xz zz h).1
-  | inr h ↦ left_small zz zo (both_true xo zz h).1
+else_small xz xo zz zo e = elim (or_cases (xz && zz) (xo && zz) e) [
+  | inl h ↦ or_left zz zo (and_parts xz zz h).1
+  | inr h ↦ or_left zz zo (and_parts xo zz h).1
 ]
 
 alone_small : (xz xo : Bool) → ((xz && true) || ((xo && true) || (xz && false))) ≡ true → (xz || xo) ≡ true
@@ -327,7 +316,7 @@ v_one : (b : Bool) (o : ℕ) → (b ≡ true → 1 ≤ o) → 1 ≤ o + (if b th
 v_one true o f = let k = f refl in omega (arith, k)
 v_one false o f = omega arith
 
-not_w : (b c : Base) → b ≡ c → c ≢ W → b ≢ W
+pub not_w : (b c : Base) → b ≡ c → c ≢ W → b ≢ W
 not_w b c e n = λ h. n (sym e ∙ h)
 
 mutual
@@ -390,7 +379,7 @@ mutual
       low_b (two kind.AndB x y) refl refl (omega arith)
       (λ s. let i : small y ≡ true = (pair_small (type_of x).z (type_of x).o (type_of y).z (type_of y).o s).1 in cc)
       (λ d.
-      let i = both_true (type_of x).d (type_of y).d d in
+      let i = and_parts (type_of x).d (type_of y).d d in
       let u : depth x ≤ ops x + 2 = a.two_d i.0 in
       let v : depth y ≤ ops y + 2 = b.two_d i.1 in
       omega arith)
@@ -436,9 +425,9 @@ mutual
       let q : depth y ≤ ops y + 4 = b.four in
       low_two (two kind.OrI x y) (omega arith)
       (λ s.
-      let i = both_true (type_of x).z (type_of y).z s in
-      let u : depth x ≤ ops x + 3 = a.four_small (left_small (type_of x).z (type_of x).o i.0) in
-      let v : depth y ≤ ops y + 3 = b.four_small (left_small (type_of y).z (type_of y).o i.1) in
+      let i = and_parts (type_of x).z (type_of y).z s in
+      let u : depth x ≤ ops x + 3 = a.four_small (or_left (type_of x).z (type_of x).o i.0) in
+      let v : depth y ≤ ops y + 3 = b.four_small (or_left (type_of y).z (type_of y).o i.1) in
       omega arith)
       (omega arith) f.3
   low (thresh k none) h n = absurd (typed-thresh_none k h)
@@ -471,19 +460,19 @@ mutual
   low (wrap wrapper.S x) h n =
       let f = typed-wrap_s x h in
       let a = low x f.0 n in
-      let p : depth x ≤ ops x + 3 = a.four_small (right_small (type_of x).z (type_of x).o f.2) in
+      let p : depth x ≤ ops x + 3 = a.four_small (or_right (type_of x).z (type_of x).o f.2) in
       low_w (wrap wrapper.S x) refl refl refl (omega arith) (λ d. let q : depth x ≤ ops x + 2 = a.two_d d in omega arith) (omega arith)
   low (wrap wrapper.C x) h n =
       let f = typed-wrap_c x h in
       let a = low x f.0 n.1 in
       let p : depth x ≤ ops x + 2 = a.two_k n.0 f.1 in
       low_two (wrap wrapper.C x) (omega arith)
-      (λ s. let q : depth x ≤ ops x + 1 = a.one n.0 (λ e. let b = f.1 in cc) (right_small (type_of x).z (type_of x).o s) in omega arith)
+      (λ s. let q : depth x ≤ ops x + 1 = a.one n.0 (λ e. let b = f.1 in cc) (or_right (type_of x).z (type_of x).o s) in omega arith)
       (omega arith) (λ e. cc)
   low (wrap wrapper.D x) h n =
       let f = typed-wrap_d x h in
       let a = low x f.0 n in
-      let p : depth x ≤ ops x + 3 = a.four_small (left_small (type_of x).z (type_of x).o f.2) in
+      let p : depth x ≤ ops x + 3 = a.four_small (or_left (type_of x).z (type_of x).o f.2) in
       low_one (wrap wrapper.D x) (omega arith) (λ e. cc) (λ e. cc)
   low (wrap wrapper.V x) h n =
       let f = typed-wrap_v x h in

@@ -20,6 +20,7 @@ use Rattle.std.specs.Prelude.{Some}
 use Rattle.def_decode.specs.Nested.{RightNested, AreRightNested, EachHashed, EachHashedOf}
 use Rattle.ms_decode_laws.proofs.Onto.{fused, onto, onto_sum, onto_added}
 use Rattle.ms_decode_laws.proofs.Moves.{Moves, out, Moved, moved, c_moves, v_moves, n_moves, and_b_moves, and_v_moves}
+use Rattle.def_script.proofs.KeyLemmas.{key_length}
 
 -- every `and_v` moved outwards, and `g` of each `pk_h` key
 abbrev mutual
@@ -130,7 +131,7 @@ module _ (P : Key → Type 0) (g : Key → Key) (same_hash : (k : Key) → hash1
     is_nest just_1 h w e = record { type = refl; typed = h; nested = tt; writable = w; hashed = tt; sat = refl; dsat = refl; order = λ l. refl }
     is_nest (pk_k key) h w e = record { type = refl; typed = h; nested = tt; writable = w; hashed = tt; sat = refl; dsat = refl; order = λ l. refl }
     is_nest (pk_h key) h w e =
-        let same : length (g key) ≡ length key = e.1.length ∙ sym w.length in
+        let same : length (g key) ≡ length key = key_length (g key) e.1.form ∙ sym (key_length key w.form) in
         record {
           type = refl;
           typed = h;

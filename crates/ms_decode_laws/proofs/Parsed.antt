@@ -8,7 +8,8 @@ use Rattle.def_tree.specs.declared.Two.TheVariants as kind
 use Rattle.def_tree.specs.declared.Wrapper.TheVariants as wrapper
 use Rattle.def_tree.specs.Tree as tree
 use Rattle.def_tree.specs.Tree.{Tree, Trees, Key, none, more}
-use Rattle.ms_decode_laws.specs.Reader.{natural_of, is_key, fits}
+use Rattle.ms_decode_laws.specs.Scaffolding.Reader.{natural_of, fits}
+use Rattle.def_script.specs.Key.{is_key}
 
 -- keys that the reader takes for keys
 pub data AreKeys : List Key → Type 0 where

@@ -13,10 +13,11 @@ use Rattle.def_tree.specs.declared.Wrapper.TheVariants as wrapper
 use Rattle.def_tree.specs.Tree as tree
 use Rattle.def_tree.specs.Tree.{Tree, Trees, Key, none, more}
 use Rattle.def_emit.specs.Emit.{number}
-use Rattle.ms_decode_laws.specs.Frame.{Frame}
-use Rattle.ms_decode_laws.specs.Frame as frame
-use Rattle.ms_decode_laws.specs.Want as want
-use Rattle.ms_decode_laws.specs.Reader.{State, at, natural_of, is_key, fits, grown, settle, settle_side, pushed, numbered, hashed, keyed, key_count, signed_by, begin, begin_side, before_part, given_step, next_step, not_if_step, step, run, finish, read}
+use Rattle.ms_decode_laws.specs.Scaffolding.Frame.{Frame}
+use Rattle.ms_decode_laws.specs.Scaffolding.Frame as frame
+use Rattle.ms_decode_laws.specs.Scaffolding.Want as want
+use Rattle.ms_decode_laws.specs.Scaffolding.Reader.{State, at, natural_of, fits, grown, settle, settle_side, pushed, numbered, hashed, keyed, key_count, signed_by, begin, begin_side, before_part, given_step, next_step, not_if_step, step, run, finish, read}
+use Rattle.def_script.specs.Key.{is_key}
 use Rattle.ms_decode_laws.proofs.Onto.{back, fused, onto, onto_added}
 use Rattle.ms_decode_laws.proofs.Parsed.{AreKeys, no_key, a_key, One, zero_one, one_one, pk_k_one, pk_h_one, older_one, after_one, hash_one, and_or_one, and_b_one, or_b_one, or_c_one, or_d_one, or_i_one, thresh_one, multi_one, c_one, d_one, v_one, j_one, n_one, Row, last_row, and_v_row, Side, a_side, s_side, Sides, no_side, more_sides}
 
@@ -152,11 +153,9 @@ module _ (find : Bytes → Option Key) where
 
   -- the numbers 0 and 1 are no keys
   zero_reads : (fs : List Frame) (l : List Instruction) → run find (Some (at want.single fs)) (onto tree.just_0 l) ≡ run find (settle tree.just_0 fs) l
-  unfolding is_key
   zero_reads fs l = refl
 
   one_number_reads : (fs : List Frame) (l : List Instruction) → run find (Some (at want.single fs)) (onto tree.just_1 l) ≡ run find (settle tree.just_1 fs) l
-  unfolding is_key
   one_number_reads fs l = refl
 
   -- keys, hash values and counts

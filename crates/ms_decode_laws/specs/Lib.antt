@@ -1,3 +1,1 @@
-pub mod Frame
-pub mod Want
-pub mod Reader
+pub mod Scaffolding

@@ -4,7 +4,7 @@ use Rattle.std.proofs.Math.ListN.{length-map}
 use Rattle.std.proofs.lemmas.List.Elements.{All-head, All-tail}
 use Rattle.def_script.specs.declared.Op.{Op}
 use Rattle.def_script.specs.Bytes.{Bytes}
-use Rattle.def_script.specs.Instruction.{Instruction, push, code}
+use Rattle.def_script.specs.Instruction.{Instruction, push, code, opcode_count}
 use Rattle.def_script.specs.Spell.{IsShort, sized_push, byte_push, shortest_push, spell}
 use Rattle.def_script.specs.Verify.{verify_form, verified_op, verified}
 use Rattle.def_tree.specs.declared.Two.TheVariants as kind
@@ -14,9 +14,8 @@ use Rattle.def_tree.specs.Size.{measure, measure_of}
 use Rattle.def_tree.specs.Range.{IsInRange}
 use Rattle.def_emit.specs.Emit.{emit, emit_sum, emit_added, script_of}
 use Rattle.def_emit.proofs.Short.{short-emit}
-use Rattle.def_sane.specs.Limits.{opcode_count}
 use Rattle.ms_emit.specs.declared.extent.Extent.{Extent}
-use Rattle.ms_emit.specs.Extent.{counted, counted_all}
+use Rattle.ms_emit.specs.Extent.{extended, extended_by}
 
 -- a push takes five bytes more than what it pushes, or fewer
 sized_room : (bytes : Bytes) → length (sized_push bytes) ≤ length bytes + 5
@@ -85,34 +84,34 @@ mutual
   few_added none = omega arith
   few_added (more x xs) = simp length-append (omega (arith, few x, few_added xs))
 
--- the bytes are counted exactly where they fit
-bytes_of_all : (e : Extent) (xs : List Instruction) → e.bytes + length (spell xs) < 2 ^ 64 → (counted_all e xs).bytes ≡ e.bytes + length (spell xs)
+-- the bytes are extended exactly where they fit
+bytes_of_all : (e : Extent) (xs : List Instruction) → e.bytes + length (spell xs) < 2 ^ 64 → (extended_by e xs).bytes ≡ e.bytes + length (spell xs)
 bytes_of_all e [] fits = omega arith
 bytes_of_all e (push bytes ∷ xs) fits =
     let whole = length-append (shortest_push bytes) (spell xs) in
-    let rest = bytes_of_all (counted e (push bytes)) xs (omega (arith, fits, whole)) in
+    let rest = bytes_of_all (extended e (push bytes)) xs (omega (arith, fits, whole)) in
     omega (arith, fits, whole, rest)
 bytes_of_all e (code op ∷ xs) fits =
-    let rest = bytes_of_all (counted e (code op)) xs (omega (arith, fits)) in
+    let rest = bytes_of_all (extended e (code op)) xs (omega (arith, fits)) in
     omega (arith, fits, rest)
 
 -- the bytes of a tree's Script
-pub bytes_of_script : (e : Extent) (t : Tree) → e.bytes ≡ 0 → IsInRange t → (counted_all e (emit t)).bytes ≡ length (script_of t)
+pub bytes_of_script : (e : Extent) (t : Tree) → e.bytes ≡ 0 → IsInRange t → (extended_by e (emit t)).bytes ≡ length (script_of t)
 bytes_of_script e t from_zero range =
     let room = spell_room (emit t) (short-emit t range.writable).all in
     let all = bytes_of_all e (emit t) (omega (arith, from_zero, room, few t, range.measure)) in
     omega (arith, from_zero, all)
 
--- the opcodes are counted exactly where they fit
-opcodes_of_all : (e : Extent) (xs : List Instruction) → e.opcodes + length xs < 2 ^ 64 → (counted_all e xs).opcodes ≡ e.opcodes + opcode_count xs
+-- the opcodes are extended exactly where they fit
+opcodes_of_all : (e : Extent) (xs : List Instruction) → e.opcodes + length xs < 2 ^ 64 → (extended_by e xs).opcodes ≡ e.opcodes + opcode_count xs
 opcodes_of_all e [] fits = omega arith
-opcodes_of_all e (push bytes ∷ xs) fits = opcodes_of_all (counted e (push bytes)) xs (omega (arith, fits))
+opcodes_of_all e (push bytes ∷ xs) fits = opcodes_of_all (extended e (push bytes)) xs (omega (arith, fits))
 opcodes_of_all e (code op ∷ xs) fits =
-    let rest = opcodes_of_all (counted e (code op)) xs (omega (arith, fits)) in
+    let rest = opcodes_of_all (extended e (code op)) xs (omega (arith, fits)) in
     omega (arith, fits, rest)
 
 -- the opcodes of a tree's Script
-pub opcodes_of_script : (e : Extent) (t : Tree) → e.opcodes ≡ 0 → IsInRange t → (counted_all e (emit t)).opcodes ≡ opcode_count (emit t)
+pub opcodes_of_script : (e : Extent) (t : Tree) → e.opcodes ≡ 0 → IsInRange t → (extended_by e (emit t)).opcodes ≡ opcode_count (emit t)
 opcodes_of_script e t from_zero range =
     let all = opcodes_of_all e (emit t) (omega (arith, from_zero, few t, range.measure)) in
     omega (arith, from_zero, all)

@@ -1,9 +1,10 @@
+//! What a Script comes to: the length of its bytes, and its opcodes that count.
 ghost use Rattle.std.specs.Prelude.{◌≡◌, ◌+◌, ◌≤◌, ℕ, List, length, OnOk};
 ghost use Rattle.def_script.specs.Instruction.{push, code};
-ghost use Rattle.def_script.specs.Spell.{shortest_push, sized_push};
-ghost use Rattle.ms_emit.specs.Extent.{capped, counted, counted_verify};
+ghost use Rattle.def_script.specs.Spell.{shortest_push};
+ghost use Rattle.ms_emit.specs.Extent.{capped_u64, extended, extended_verify};
 
-use ms_script::{Op, verify_form_of};
+use ms_script::{Op, push_length, verify_form_of};
 use std::convert::Infallible;
 
 /// What a Script comes to. It takes instructions as a Script does, and keeps none of them. Each number
@@ -28,7 +29,7 @@ impl Extent {
 
     /// A push of these bytes.
     pub fn push(&mut self, bytes: &[u8]) -> Result<(), Infallible>
-        ensures { OnOk result (self.new ≡ counted self.old (push bytes.now)) }
+        ensures { OnOk result (self.new ≡ extended self.old (push bytes.now)) }
     {
         self.add_push(push_length(bytes));
         Ok(())
@@ -38,7 +39,7 @@ impl Extent {
     pub fn push_sized(&mut self, size: u8) -> Result<(), Infallible>
         requires several { 2 ≤ size }
         requires short { size ≤ 75 }
-        ensures { OnOk result ((bytes : List ℕ) → length bytes ≡ size → self.new ≡ counted self.old (push bytes)) }
+        ensures { OnOk result ((bytes : List ℕ) → length bytes ≡ size → self.new ≡ extended self.old (push bytes)) }
     {
         self.add_push(1 + size as u64);
         Ok(())
@@ -46,7 +47,7 @@ impl Extent {
 
     /// A push that is spelled in so many bytes.
     fn add_push(&mut self, spelled: u64)
-        ensures { (bytes : List ℕ) → length (shortest_push bytes) ≡ spelled → self.new ≡ counted self.old (push bytes) }
+        ensures { (bytes : List ℕ) → length (shortest_push bytes) ≡ spelled → self.new ≡ extended self.old (push bytes) }
     {
         self.bytes = self.bytes.saturating_add(spelled);
         self.fuses = false;
@@ -54,7 +55,7 @@ impl Extent {
 
     /// An opcode.
     pub fn code(&mut self, op: Op) -> Result<(), Infallible>
-        ensures { OnOk result (self.new ≡ counted self.old (code op)) }
+        ensures { OnOk result (self.new ≡ extended self.old (code op)) }
     {
         self.add_opcode();
         self.fuses = verify_form_of(op).is_some();
@@ -63,7 +64,7 @@ impl Extent {
 
     /// VERIFY, which is fused with the last opcode where that has a form for it.
     pub fn verify(&mut self) -> Result<(), Infallible>
-        ensures { OnOk result (self.new ≡ counted_verify self.old) }
+        ensures { OnOk result (self.new ≡ extended_verify self.old) }
     {
         if !self.fuses {
             self.add_opcode();
@@ -73,39 +74,11 @@ impl Extent {
     }
 
     fn add_opcode(&mut self)
-        ensures bytes { self.new.bytes ≡ capped (self.old.bytes + 1) }
-        ensures opcodes { self.new.opcodes ≡ capped (self.old.opcodes + 1) }
+        ensures bytes { self.new.bytes ≡ capped_u64 (self.old.bytes + 1) }
+        ensures opcodes { self.new.opcodes ≡ capped_u64 (self.old.opcodes + 1) }
         ensures fuses { self.new.fuses ≡ self.old.fuses }
     {
         self.bytes = self.bytes.saturating_add(1);
         self.opcodes = self.opcodes.saturating_add(1);
-    }
-}
-
-/// The length of the shortest push of these bytes.
-fn push_length(bytes: &[u8]) -> u64
-    ensures { result ≡ length (shortest_push bytes.now) }
-{
-    match *bytes {
-        [] => 1,
-        [byte] if 1 <= byte && byte <= 16 => 1,
-        [0x81] => 1,
-        _ => sized_push_length(bytes),
-    }
-}
-
-/// The length of the shortest push of these bytes by their length.
-fn sized_push_length(bytes: &[u8]) -> u64
-    ensures { result ≡ length (sized_push bytes.now) }
-{
-    let length = bytes.len() as u64;
-    if length <= 75 {
-        1 + length
-    } else if length <= 255 {
-        2 + length
-    } else if length <= 65535 {
-        3 + length
-    } else {
-        5 + length
     }
 }

@@ -3,14 +3,13 @@
 
 ghost use Rattle.std.specs.Prelude.{◌≡◌, ◌<◌, ◌≤◌, ◌*◌, length, map, OnOk, All};
 ghost use Rattle.def_emit.specs.Emit.{number as the_number, emit as the_emit, emit_sum as the_sum, emit_added as the_added, script_of};
-ghost use Rattle.def_sane.specs.Limits.{opcode_count as the_opcode_count};
-ghost use Rattle.def_script.specs.Instruction.{push};
+ghost use Rattle.def_script.specs.Instruction.{opcode_count as the_opcode_count, push};
 ghost use Rattle.def_tree.specs.Range.{MOST_MEASURE, TEN_DIGITS, IsInRange};
 ghost use Rattle.def_tree.specs.Size.{measure};
 ghost use Rattle.def_tree.specs.Tree as tree;
 ghost use Rattle.ms_hash.specs.Value.{kind_of, bytes_of};
 ghost use Rattle.ms_tree.specs.Shape.{shape, shapes, leaf_shape};
-ghost use Rattle.ms_emit.specs.Extent.{counted, counted_all};
+ghost use Rattle.ms_emit.specs.Extent.{extended, extended_by};
 
 use crate::arms::{
     and_or_arm, hash_arms, leaf_arms, list_opcodes, opcodes, pair_arms, wrapper_arms,
@@ -51,7 +50,7 @@ pub fn script_extent(tree: &Tree<'_>) -> Extent
 /// What the Script of a tree comes to.
 fn extent(tree: &Tree<'_>) -> Extent
     requires { IsInRange (shape tree.now) }
-    ensures { result ≡ counted_all Extent.NONE (the_emit (shape tree.now)) }
+    ensures { result ≡ extended_by Extent.NONE (the_emit (shape tree.now)) }
 {
     let mut extent = Extent::NONE;
     match add_tree(&mut extent, tree) {
@@ -64,7 +63,7 @@ fn extent(tree: &Tree<'_>) -> Extent
 #[cycle(add_tree)]
 fn add_tree(extent: &mut Extent, tree: &Tree<'_>) -> Result<(), Infallible>
     requires { IsInRange (shape tree.now) }
-    ensures { OnOk result (extent.new ≡ counted_all extent.old (the_emit (shape tree.now))) }
+    ensures { OnOk result (extent.new ≡ extended_by extent.old (the_emit (shape tree.now))) }
 {
     match tree.view() {
         View::Leaf(leaf) => add_leaf(extent, leaf),
@@ -89,14 +88,14 @@ macro_rules! key_push {
 
 fn add_leaf(extent: &mut Extent, leaf: Leaf) -> Result<(), Infallible>
     requires { IsInRange (leaf_shape leaf) }
-    ensures { OnOk result (extent.new ≡ counted_all extent.old (the_emit (leaf_shape leaf))) }
+    ensures { OnOk result (extent.new ≡ extended_by extent.old (the_emit (leaf_shape leaf))) }
 {
     fragment_rows!(leaf_arms!(extent, leaf));
     Ok(())
 }
 
 fn add_hash(extent: &mut Extent, value: &HashVal) -> Result<(), Infallible>
-    ensures { OnOk result (extent.new ≡ counted_all extent.old (the_emit (tree.hash (kind_of value.now) (bytes_of value.now)))) }
+    ensures { OnOk result (extent.new ≡ extended_by extent.old (the_emit (tree.hash (kind_of value.now) (bytes_of value.now)))) }
 {
     fragment_rows!(hash_arms!(extent, value));
     Ok(())
@@ -112,7 +111,7 @@ fn add_and_or(
     requires x { IsInRange (shape x.now) }
     requires y { IsInRange (shape y.now) }
     requires z { IsInRange (shape z.now) }
-    ensures { OnOk result (extent.new ≡ counted_all extent.old (the_emit (tree.and_or (shape x.now) (shape y.now) (shape z.now)))) }
+    ensures { OnOk result (extent.new ≡ extended_by extent.old (the_emit (tree.and_or (shape x.now) (shape y.now) (shape z.now)))) }
 {
     fragment_rows!(and_or_arm!(extent, x, y, z));
     Ok(())
@@ -122,7 +121,7 @@ fn add_and_or(
 fn add_two(extent: &mut Extent, kind: Two, x: &Tree<'_>, z: &Tree<'_>) -> Result<(), Infallible>
     requires x { IsInRange (shape x.now) }
     requires z { IsInRange (shape z.now) }
-    ensures { OnOk result (extent.new ≡ counted_all extent.old (the_emit (tree.two kind (shape x.now) (shape z.now)))) }
+    ensures { OnOk result (extent.new ≡ extended_by extent.old (the_emit (tree.two kind (shape x.now) (shape z.now)))) }
 {
     fragment_rows!(pair_arms!(extent, kind, x, z));
     Ok(())
@@ -133,7 +132,7 @@ fn add_two(extent: &mut Extent, kind: Two, x: &Tree<'_>, z: &Tree<'_>) -> Result
 fn add_thresh(extent: &mut Extent, k: u64, children: &[Tree<'_>]) -> Result<(), Infallible>
     requires k { k < TEN_DIGITS }
     requires children { All (λ x. IsInRange (shape x)) children.now }
-    ensures { OnOk result (extent.new ≡ counted_all extent.old (the_emit (tree.thresh k (shapes children.now)))) }
+    ensures { OnOk result (extent.new ≡ extended_by extent.old (the_emit (tree.thresh k (shapes children.now)))) }
 {
     add_sum(extent, children)?;
     push_number(extent, k)?;
@@ -144,7 +143,7 @@ fn add_thresh(extent: &mut Extent, k: u64, children: &[Tree<'_>]) -> Result<(), 
 #[cycle(add_tree)]
 fn add_sum(extent: &mut Extent, children: &[Tree<'_>]) -> Result<(), Infallible>
     requires { All (λ x. IsInRange (shape x)) children.now }
-    ensures { OnOk result (extent.new ≡ counted_all extent.old (the_sum (shapes children.now))) }
+    ensures { OnOk result (extent.new ≡ extended_by extent.old (the_sum (shapes children.now))) }
 {
     match children.split_first() {
         Some((first, others)) => {
@@ -158,7 +157,7 @@ fn add_sum(extent: &mut Extent, children: &[Tree<'_>]) -> Result<(), Infallible>
 #[cycle(add_tree)]
 fn add_others(extent: &mut Extent, children: &[Tree<'_>]) -> Result<(), Infallible>
     requires { All (λ x. IsInRange (shape x)) children.now }
-    ensures { OnOk result (extent.new ≡ counted_all extent.old (the_added (shapes children.now))) }
+    ensures { OnOk result (extent.new ≡ extended_by extent.old (the_added (shapes children.now))) }
 {
     for child in children {
         add_tree(extent, child)?;
@@ -171,7 +170,7 @@ fn add_others(extent: &mut Extent, children: &[Tree<'_>]) -> Result<(), Infallib
 fn add_multi(extent: &mut Extent, k: u64, keys: &[Key]) -> Result<(), Infallible>
     requires k { k < TEN_DIGITS }
     requires keys { length keys.now < MOST_MEASURE }
-    ensures { OnOk result (extent.new ≡ counted_all extent.old (the_emit (tree.multi k keys.now))) }
+    ensures { OnOk result (extent.new ≡ extended_by extent.old (the_emit (tree.multi k keys.now))) }
 {
     push_number(extent, k)?;
     add_keys(extent, keys)?;
@@ -181,7 +180,7 @@ fn add_multi(extent: &mut Extent, k: u64, keys: &[Key]) -> Result<(), Infallible
 }
 
 fn add_keys(extent: &mut Extent, keys: &[Key]) -> Result<(), Infallible>
-    ensures { OnOk result (extent.new ≡ counted_all extent.old (map push keys.now)) }
+    ensures { OnOk result (extent.new ≡ extended_by extent.old (map push keys.now)) }
 {
     for key in keys {
         extent.push(key.as_bytes())?;
@@ -192,7 +191,7 @@ fn add_keys(extent: &mut Extent, keys: &[Key]) -> Result<(), Infallible>
 #[cycle(add_tree)]
 fn add_wrap(extent: &mut Extent, wrapper: Wrapper, x: &Tree<'_>) -> Result<(), Infallible>
     requires { IsInRange (shape x.now) }
-    ensures { OnOk result (extent.new ≡ counted_all extent.old (the_emit (tree.wrap wrapper (shape x.now)))) }
+    ensures { OnOk result (extent.new ≡ extended_by extent.old (the_emit (tree.wrap wrapper (shape x.now)))) }
 {
     fragment_rows!(wrapper_arms!(extent, wrapper, x));
     Ok(())
@@ -201,7 +200,7 @@ fn add_wrap(extent: &mut Extent, wrapper: Wrapper, x: &Tree<'_>) -> Result<(), I
 /// Adds the push of a number in its shortest form.
 fn push_number(extent: &mut Extent, number: u64) -> Result<(), Infallible>
     requires { number < TEN_DIGITS }
-    ensures { OnOk result (extent.new ≡ counted extent.old (the_number number)) }
+    ensures { OnOk result (extent.new ≡ extended extent.old (the_number number)) }
 {
     extent.push(num_encode(number as i64).as_slice())
 }

@@ -21,7 +21,6 @@ use Rattle.def_files.specs.AssetFile.{is_signature}
 use Rattle.def_sane.specs.Most.{limits_of}
 use Rattle.def_sane.specs.declared.Rules.TheVariants.{Policy, Consensus}
 use Rattle.def_sane.specs.Unfit.{IsSane, IsSaneUnder, IsValidUnder}
-use Rattle.def_sane.proofs.Greatest.{limits_are_computed}
 use Rattle.def_sane.proofs.Meanings.{sane_means_under, sane_under_consensus}
 use Rattle.def_satisfaction.specs.Satisfaction.{Sat}
 use Rattle.def_choice.specs.Cheapest.{cheapest}
@@ -37,8 +36,8 @@ use Rattle.def_answer.proofs.GeneratedSane.{generated_is_sane}
 use Rattle.def_answer.proofs.GeneratedChosen.{generated_is_satisfied}
 use Rattle.ms_assets.specs.Adding.{sig_stop, Answers}
 use Rattle.ms_assets.specs.declared.assets.AddStop.{AddStop}
-use Rattle.ms_script.specs.Stacks as stacks
-use Rattle.ms_report.proofs.Weights.{light_stack}
+use Rattle.def_script.specs.Witness.{weight}
+use Rattle.ms_row_laws.proofs.WithinLimits.{light_stack}
 
 -- ---- the assets, one child after the other
 
@@ -120,10 +119,10 @@ is_generated n text tree offsets some few is reads =
     (one_tree same.spelled own.1.spelled).0
 
 -- the text isn't refused
-pub no_refusal : (n : ℕ) (text : Bytes) (e : TextFault) → 1 ≤ n → n ≤ 30 → text ≡ generated_text n → IsUtf8 text → TextRefusal text e → (e ≡ fault.Memory → ⊥) → ⊥
-no_refusal n text e some few is utf8 refused known =
+pub no_refusal : (n : ℕ) (text : Bytes) (e : TextFault) → 1 ≤ n → n ≤ 30 → text ≡ generated_text n → IsUtf8 text → TextRefusal text e → ⊥
+no_refusal n text e some few is utf8 refused =
     let own = generated_is_read n some few in
-    none_beside_tree text (generated_tree n) own.0 e utf8 known (subst (λ t. TextReads t (generated_tree n) own.0) (sym is) own.1) refused
+    none_beside_tree text (generated_tree n) own.0 e utf8 (subst (λ t. TextReads t (generated_tree n) own.0) (sym is) own.1) refused
 
 -- ---- both satisfactions
 
@@ -145,8 +144,8 @@ strict_sat tree assets answer stack in_range held is some = strict_is_canonical 
 
 -- the weight of a satisfaction is small
 pub light : (tree : Tree) (assets : Assets) (stack : List Bytes) → IsInRange tree → IsValidUnder Consensus tree → AreAssets assets → Sat tree assets stack
-    → stacks.weight stack ≤ 2 ^ 40
-light tree assets stack in_range valid held sat = light_stack tree _ assets stack in_range valid (limits_are_computed tree) held sat
+    → weight stack ≤ 2 ^ 40
+light tree assets stack in_range valid held sat = light_stack tree assets stack in_range.writable valid held sat
 
 pub found : (choice answer : Option (List Bytes)) (stack : List Bytes) → answer ≡ choice → answer ≡ Some stack → unwrap_or choice [] ≡ stack
 found choice answer stack is some = ap (λ o. unwrap_or o []) (sym is ∙ some)

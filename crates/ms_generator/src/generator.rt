@@ -1,5 +1,5 @@
 //! The generator: a large sane text with its assets, from a number, and what is answered to it.
-ghost use Rattle.std.specs.Prelude.{◌≡◌, ◌+◌, ◌<◌, ◌≤◌, [], IfOk, OnOk, IsSome, None, Ok, unwrap_or};
+ghost use Rattle.std.specs.Prelude.{◌≡◌, ◌+◌, ◌<◌, ◌≤◌, IfOk, OnOk, IsSome, None, Ok};
 ghost use Rattle.std.specs.String.{string_bytes};
 ghost use Rattle.def_choice.specs.Cheapest.{cheapest as the_cheapest};
 ghost use Rattle.def_choice.specs.Strict.{strict as the_strict};
@@ -10,10 +10,11 @@ ghost use Rattle.def_tree.specs.Range.{IsInRange};
 ghost use Rattle.ms_assets.specs.Adding.{Answers as Adds};
 ghost use Rattle.ms_tree.specs.Shape.{shape};
 ghost use Rattle.def_answer.specs.Answer.{gen_report as the_gen_report, gen_reply};
-ghost use Rattle.def_answer.specs.Generated.{threshold_of as the_threshold_of, generated_key, generated_sig, generated_preimage, generated_assets, pk_text as the_pk_text, hash_text as the_hash_text, child_text as the_child_text, generated_text, generated_tree as the_generated_tree};
+ghost use Rattle.def_answer.specs.Generated.{threshold_of as the_threshold_of, generated_key, generated_preimage, generated_assets, pk_text as the_pk_text, hash_text as the_hash_text, child_text as the_child_text, generated_text, generated_tree as the_generated_tree};
 ghost use Rattle.def_answer.specs.Reply.{reply};
 ghost use Rattle.def_answer.specs.Report.{children_line as the_children_line, strict_line as the_strict_line, cheapest_line as the_cheapest_line, peak_of, replay};
 ghost use Rattle.def_answer.specs.Words.{MOST_CHILDREN};
+ghost use Rattle.ms_generator.specs.Chosen.{strict_items, cheapest_items};
 
 use bumpalo::Bump;
 use def_answer::Status;
@@ -204,7 +205,7 @@ fn gen_report(alloc: Global, n: u32, tree: &Tree<'_>, assets: &Assets) -> Result
     requires assets { assets.now ≡ generated_assets n }
     requires strict { IsSome (the_strict (shape tree.now) assets.now) }
     requires cheapest { IsSome (the_cheapest (shape tree.now) assets.now) }
-    ensures { IfOk result (λ report. string_bytes report ≡ the_gen_report n (unwrap_or (the_strict (the_generated_tree n) (generated_assets n)) []) (unwrap_or (the_cheapest (the_generated_tree n) (generated_assets n)) [])) }
+    ensures { IfOk result (λ report. string_bytes report ≡ the_gen_report n (strict_items (the_generated_tree n) (generated_assets n)) (cheapest_items (the_generated_tree n) (generated_assets n))) }
 {
     let mut work = Work::new(alloc, tree)?;
     let limits = limits(tree, &mut work);
@@ -229,7 +230,7 @@ fn strict_line(alloc: Global, tree: &Tree<'_>, assets: &Assets) -> Result<String
     requires in_range { IsInRange (shape tree.now) }
     requires sane { IsSaneUnder Consensus (shape tree.now) }
     requires found { IsSome (the_strict (shape tree.now) assets.now) }
-    ensures { IfOk result (λ line. string_bytes line ≡ the_strict_line (unwrap_or (the_strict (shape tree.now) assets.now) []) (replay (shape tree.now) assets.now (unwrap_or (the_strict (shape tree.now) assets.now) []))) }
+    ensures { IfOk result (λ line. string_bytes line ≡ the_strict_line (strict_items (shape tree.now) assets.now) (replay (shape tree.now) assets.now (strict_items (shape tree.now) assets.now))) }
 {
     let _locks = assets.locks();
     let Some(stack) = strict(alloc, tree, assets)? else {
@@ -245,7 +246,7 @@ fn cheapest_line(alloc: Global, tree: &Tree<'_>, assets: &Assets) -> Result<Stri
     requires in_range { IsInRange (shape tree.now) }
     requires valid { IsValidUnder Consensus (shape tree.now) }
     requires found { IsSome (the_cheapest (shape tree.now) assets.now) }
-    ensures { IfOk result (λ line. string_bytes line ≡ the_cheapest_line (unwrap_or (the_cheapest (shape tree.now) assets.now) [])) }
+    ensures { IfOk result (λ line. string_bytes line ≡ the_cheapest_line (cheapest_items (shape tree.now) assets.now)) }
 {
     let _locks = assets.locks();
     let Some(stack) = cheapest(alloc, tree, assets)? else {

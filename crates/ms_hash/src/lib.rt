@@ -12,6 +12,4 @@ mod functions;
 mod ripemd;
 mod rounds;
 mod state;
-#[cfg(test)]
-mod tests;
 mod value;

@@ -8,10 +8,15 @@ use std::marker::Model;
 /// of them.
 #[derive(Clone, Copy)]
 pub struct State {
+    /// h0 or A.
     pub a: u32,
+    /// h1 or B.
     pub b: u32,
+    /// h2 or C.
     pub c: u32,
+    /// h3 or D.
     pub d: u32,
+    /// h4 or E.
     pub e: u32,
 }
 

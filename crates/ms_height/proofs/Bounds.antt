@@ -11,8 +11,8 @@ use Rattle.def_types.proofs.Facts.{typed-multi}
 use Rattle.def_height.specs.declared.Highest.{Highest}
 use Rattle.def_height.specs.Highest.{only, both, either, at_least, highest_sat, highest_dsat, highest_parts}
 use Rattle.ms_height.specs.declared.highest.Heights.{Heights}
-use Rattle.ms_height.specs.Low.{IsLow, IsLowHeights}
-use Rattle.ms_height.specs.Kept.{ItemsBelow, IsFitting}
+use Rattle.ms_height.specs.Scaffolding.Low.{IsLow, IsLowHeights}
+use Rattle.ms_height.specs.Scaffolding.Kept.{ItemsBelow, IsFitting}
 
 pub measure_positive : (t : Tree) → 1 ≤ measure t
 measure_positive just_0 = omega arith

@@ -8,9 +8,9 @@ use Rattle.def_height.specs.Highest.{counted, highest_sat, highest_dsat, highest
 use Rattle.ms_tree.specs.declared.tree.Tree.{Tree}
 use Rattle.ms_tree.specs.Shape.{shape, shapes}
 use Rattle.ms_height.specs.declared.highest.Heights.{Heights}
-use Rattle.ms_height.specs.Chosen.{chosen}
-use Rattle.ms_height.specs.Kept.{heights_of, IsFitting}
-use Rattle.ms_height.specs.Low.{IsLowHeights}
+use Rattle.ms_height.specs.Scaffolding.Chosen.{chosen}
+use Rattle.ms_height.specs.Scaffolding.Kept.{heights_of, IsFitting}
+use Rattle.ms_height.specs.Scaffolding.Low.{IsLowHeights}
 use Rattle.ms_height.proofs.Bounds.{measure_positive, low_of, fits_of}
 
 pub few_children : (xs : List Tree) → length xs ≤ measure_of (shapes xs)

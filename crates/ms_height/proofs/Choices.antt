@@ -4,9 +4,9 @@ use Rattle.std.proofs.lemmas.Bool.{cases_lt}
 use Rattle.def_height.specs.declared.Highest.{Highest}
 use Rattle.def_height.specs.Highest.{only, both, either}
 use Rattle.ms_height.specs.declared.highest.Heights.{Heights}
-use Rattle.ms_height.specs.Chosen.{fewer, with_child, bounded, stuck_by, free_by, base_by, more_sat, more_dsat, stuck, free, base, top, more_sats, more_dsats}
-use Rattle.ms_height.specs.Choice.{items_of, reach}
-use Rattle.ms_height.specs.Tops.{above}
+use Rattle.ms_height.specs.Scaffolding.Chosen.{fewer, with_child, bounded, stuck_by, free_by, base_by, more_sat, more_dsat, stuck, free, base, top, more_sats, more_dsats}
+use Rattle.ms_height.specs.Scaffolding.Choice.{items_of, reach}
+use Rattle.ms_height.specs.Scaffolding.Tops.{above}
 use Rattle.ms_height.proofs.Tops.{top_all, top_grows}
 
 same_highest : (a b c d : ℕ) → a ≡ c → b ≡ d → only a b ≡ only c d

@@ -3,7 +3,7 @@ use Rattle.std.proofs.Common.{◌≡◌, ℕ, zero, suc, ◌+◌, ◌<◌, ◌�
 use Rattle.def_height.specs.declared.Highest.{Highest}
 use Rattle.def_height.specs.Highest.{both, either, counted}
 use Rattle.ms_height.specs.declared.highest.Heights.{Heights}
-use Rattle.ms_height.specs.Chosen.{chosen, with_child, bounded, forced_by, stuck_by, free_by, forced, stuck, free}
+use Rattle.ms_height.specs.Scaffolding.Chosen.{chosen, with_child, bounded, forced_by, stuck_by, free_by, forced, stuck, free}
 use Rattle.ms_height.proofs.Choices.{none_either}
 
 -- there is none with fewer than the forced ones

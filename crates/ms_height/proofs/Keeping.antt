@@ -6,9 +6,9 @@ use Rattle.def_height.specs.declared.Highest.{Highest}
 use Rattle.def_height.specs.Highest.{highest_sat, highest_dsat}
 use Rattle.ms_tree.specs.declared.tree.Tree.{Tree}
 use Rattle.ms_tree.specs.Shape.{shape, shapes}
-use Rattle.ms_sane.specs.declared.work.Slot.{Slot}
+use Rattle.ms_choice.specs.declared.slot.Slot.{Slot}
 use Rattle.ms_height.specs.declared.highest.Heights.{Heights}
-use Rattle.ms_height.specs.Kept.{kept_in, blank, heights_in, heights_of}
+use Rattle.ms_height.specs.Scaffolding.Kept.{kept_in, blank, heights_in, heights_of}
 
 pub length_in : (sats dsats : List Slot) → length dsats ≡ length sats → length (heights_in sats dsats) ≡ length sats
 length_in [] dsats same = refl

@@ -4,9 +4,9 @@ use Rattle.std.proofs.lemmas.Bool.Decides.{nat_tests}
 use Rattle.std.proofs.lemmas.Bool.{cases_lt}
 use Rattle.std.proofs.lemmas.List.{get_or-set_same, get_or-set_other, length-set}
 use Rattle.def_tree.specs.Range.{MOST_MEASURE}
-use Rattle.ms_sane.specs.declared.work.Slot.{Slot}
-use Rattle.ms_height.specs.Kept.{blank}
-use Rattle.ms_height.specs.Tops.{above, excess, reached, equal, IsCounted}
+use Rattle.ms_choice.specs.declared.slot.Slot.{Slot}
+use Rattle.ms_height.specs.Scaffolding.Kept.{blank}
+use Rattle.ms_height.specs.Scaffolding.Tops.{above, excess, reached, equal, IsCounted}
 
 pub excess_next : (mark : ℕ) (xs : List ℕ) → excess mark xs ≡ excess (mark + 1) xs + above mark xs
 excess_next mark [] = refl

@@ -5,10 +5,10 @@ use Rattle.std.proofs.lemmas.List.{drop_all, drop_more, get_or_read}
 use Rattle.def_height.specs.declared.Highest.{Highest}
 use Rattle.ms_height.specs.declared.highest.Heights.{Heights}
 use Rattle.ms_height.specs.declared.tally.Tally.{Tally}
-use Rattle.ms_height.specs.Chosen.{forced_by, stuck_by, free_by, forced, stuck, free}
-use Rattle.ms_height.specs.Kept.{ItemsBelow, IsFitting}
-use Rattle.ms_height.specs.Low.{IsLow, IsLowHeights}
-use Rattle.ms_height.specs.Tally.{Counts}
+use Rattle.ms_height.specs.Scaffolding.Chosen.{forced_by, stuck_by, free_by, forced, stuck, free}
+use Rattle.ms_height.specs.Scaffolding.Kept.{ItemsBelow, IsFitting}
+use Rattle.ms_height.specs.Scaffolding.Low.{IsLow, IsLowHeights}
+use Rattle.ms_height.specs.Scaffolding.Tally.{Counts}
 
 few_forced : (cs : List Heights) → forced cs ≤ length cs
 few_forced [] = omega arith

@@ -2,8 +2,8 @@
 -- itself so many times.
 use Rattle.std.proofs.Common.{◌≡◌, ℕ, zero, suc, ◌+◌, ◌-◌, ◌*◌, ◌<◌, ◌≤◌, ◌⊎◌, List, [], ◌∷◌, refl, inl, inr, arith}
 use Rattle.std.proofs.lemmas.Bool.{cases_lt}
-use Rattle.ms_height.specs.Chosen.{top}
-use Rattle.ms_height.specs.Tops.{above, excess, reached}
+use Rattle.ms_height.specs.Scaffolding.Chosen.{top}
+use Rattle.ms_height.specs.Scaffolding.Tops.{above, excess, reached}
 
 pub above_reached : (mark : ℕ) (xs : List ℕ) → above mark xs ≤ reached mark xs
 above_reached mark [] = omega arith

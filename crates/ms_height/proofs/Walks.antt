@@ -2,11 +2,11 @@
 use Rattle.std.proofs.Common.{◌≡◌, ℕ, zero, suc, ◌+◌, ◌<◌, ◌≤◌, List, [], ◌∷◌, length, get_or, drop, refl, sym, ◌∙◌, ap, subst, arith}
 use Rattle.std.proofs.Math.Seq.{drop-cons}
 use Rattle.std.proofs.lemmas.List.{length-drop}
-use Rattle.ms_sane.specs.declared.work.Slot.{Slot}
+use Rattle.ms_choice.specs.declared.slot.Slot.{Slot}
 use Rattle.ms_height.specs.declared.highest.Heights.{Heights}
 use Rattle.ms_height.specs.declared.choice.Choice.{Choice}
-use Rattle.ms_height.specs.Choice.{IsChoice}
-use Rattle.ms_height.specs.Chosen.{free, stuck, free_by, stuck_by}
+use Rattle.ms_height.specs.Scaffolding.Choice.{IsChoice}
+use Rattle.ms_height.specs.Scaffolding.Chosen.{free, stuck, free_by, stuck_by}
 
 -- what the children from this one on leave: the first one leaves one element, and a further one none, since ADD
 -- stands behind it

@@ -1,7 +1,1 @@
-pub mod Low
-pub mod Kept
-pub mod Ready
-pub mod Chosen
-pub mod Tops
-pub mod Choice
-pub mod Tally
+pub mod Scaffolding

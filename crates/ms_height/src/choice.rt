@@ -2,25 +2,29 @@
 ghost use Rattle.std.specs.Prelude.{◌≡◌, ℕ, ◌+◌, ◌-◌, ◌<◌, ◌≤◌, ◌^◌, [], ◌∷◌, List, Some, None, length};
 ghost use Rattle.def_tree.specs.Range.{MOST_MEASURE};
 ghost use Rattle.ms_height.specs.declared.highest.Heights as found;
-ghost use Rattle.ms_sane.specs.declared.work.Slot as slot;
-ghost use Rattle.ms_height.specs.Chosen.{free, free_by, stuck_by};
-ghost use Rattle.ms_height.specs.Choice.{IsChoice, IsOfSome, IsBehind, items_of, reach};
-ghost use Rattle.ms_height.specs.Kept.{ItemsBelow};
-ghost use Rattle.ms_height.specs.Low.{IsLowHighest, IsLowHeights};
+ghost use Rattle.ms_choice.specs.declared.slot.Slot as slot;
+ghost use Rattle.ms_height.specs.Scaffolding.Chosen.{free, free_by, stuck_by};
+ghost use Rattle.ms_height.specs.Scaffolding.Choice.{IsChoice, IsOfSome, IsBehind, AddsFixed, AddsFree, AddsChild, items_of, reach};
+ghost use Rattle.ms_height.specs.Scaffolding.Kept.{ItemsBelow};
+ghost use Rattle.ms_height.specs.Scaffolding.Low.{IsLowHighest, IsLowHeights};
 
 use crate::highest::Heights;
 use crate::sums::Top;
 use def_height::Highest;
-use ms_sane::Slot;
+use ms_choice::Slot;
 
 /// A choice among children that were seen from the last one on: at most so many of the free ones are
 /// satisfied, and at most so many dissatisfied. A free child can be satisfied and dissatisfied, and `base` is
 /// what all take where each is what takes fewer items; `best` is the greatest height.
 #[derive(Clone, Copy)]
 pub struct Choice {
+    /// The items that all take where each takes the fewer.
     pub base: u64,
+    /// The greatest height so far.
     pub best: u64,
+    /// What satisfied children take more than that.
     pub sats: Top,
+    /// What dissatisfied children take more than that.
     pub dsats: Top,
 }
 
@@ -107,7 +111,7 @@ impl Choice {
         requires dsat { IsLowHighest dsat.now }
         requires pluses { sat.now.items < length pluses.old }
         requires minuses { dsat.now.items < length minuses.old }
-        ensures { (t u : ℕ) (cs : List found.Heights) → IsChoice self.old pluses.old minuses.old t u 0 cs → length cs < MOST_MEASURE → free cs < t + u → IsChoice self.new pluses.new minuses.new t u left (record { sat = Some sat.now; dsat = Some dsat.now } ∷ cs) }
+        ensures { AddsFree self.old pluses.old minuses.old self.new pluses.new minuses.new left (record { sat = Some sat.now; dsat = Some dsat.now }) }
     {
         let at_sat = self.height_at_sat(sat);
         let at_dsat = self.height_at_dsat(dsat);
@@ -125,8 +129,8 @@ impl Choice {
         requires fixed { IsLowHighest fixed.now }
         requires pluses { 0 < length pluses.old }
         requires minuses { 0 < length minuses.old }
-        ensures sat { (t u : ℕ) (cs : List found.Heights) → IsChoice self.old pluses.old minuses.old t u 0 cs → length cs < MOST_MEASURE → IsChoice self.new pluses.new minuses.new t u left (record { sat = Some fixed.now; dsat = None } ∷ cs) }
-        ensures dsat { (t u : ℕ) (cs : List found.Heights) → IsChoice self.old pluses.old minuses.old t u 0 cs → length cs < MOST_MEASURE → IsChoice self.new pluses.new minuses.new t u left (record { sat = None; dsat = Some fixed.now } ∷ cs) }
+        ensures sat { AddsFixed self.old pluses.old minuses.old self.new pluses.new minuses.new left (record { sat = Some fixed.now; dsat = None }) }
+        ensures dsat { AddsFixed self.old pluses.old minuses.old self.new pluses.new minuses.new left (record { sat = None; dsat = Some fixed.now }) }
     {
         self.best = (fixed.height + self.items()).max(left + self.best);
         self.base += fixed.items;
@@ -143,7 +147,7 @@ impl Choice {
         requires some { (0 < length pluses.old) × (0 < length minuses.old) }
         requires sat { ItemsBelow (length pluses.old) child.now.sat }
         requires dsat { ItemsBelow (length minuses.old) child.now.dsat }
-        ensures { (t u : ℕ) (cs : List found.Heights) → IsChoice self.old pluses.old minuses.old t u 0 cs → length cs < MOST_MEASURE → free_by child.now.sat child.now.dsat + free cs ≤ t + u → IsChoice self.new pluses.new minuses.new t u left (child.now ∷ cs) }
+        ensures { AddsChild self.old pluses.old minuses.old self.new pluses.new minuses.new left child.now }
     {
         match (child.sat, child.dsat) {
             (Some(sat), Some(dsat)) => self.add_free(left, &sat, &dsat, pluses, minuses),

@@ -6,14 +6,14 @@ ghost use Rattle.def_tree.specs.Tree as tree;
 ghost use Rattle.def_types.specs.Typed.{IsTyped};
 ghost use Rattle.def_height.specs.Highest.{highest_sat, highest_dsat};
 ghost use Rattle.ms_tree.specs.Shape.{shape, shapes, leaf_shape};
-ghost use Rattle.ms_height.specs.Kept.{heights_in, heights_of};
-ghost use Rattle.ms_height.specs.Low.{IsLowHeights};
-ghost use Rattle.ms_height.specs.Ready.{IsReady};
+ghost use Rattle.ms_height.specs.Scaffolding.Kept.{heights_in, heights_of};
+ghost use Rattle.ms_height.specs.Scaffolding.Low.{IsLowHeights};
+ghost use Rattle.ms_height.specs.Scaffolding.Ready.{IsReady};
 
 use crate::highest::{Heights, at_least, both, either, only};
 use crate::kept::slot_of;
 use crate::threshold::chosen;
-use ms_sane::Slot;
+use ms_choice::Slot;
 use ms_tree::{Key, Leaf, Tree, Two, View, Wrapper};
 
 /// The greatest items and heights of the formal satisfactions and dissatisfactions of a tree, each number by

@@ -1,14 +1,16 @@
 //! Greatest items and heights, put together.
 ghost use Rattle.std.specs.Prelude.{◌≡◌, ◌<◌, ◌^◌};
 ghost use Rattle.def_height.specs.Highest as model;
-ghost use Rattle.ms_height.specs.Low.{IsLow};
+ghost use Rattle.ms_height.specs.Scaffolding.Low.{IsLow};
 
 use def_height::Highest;
 
 /// The satisfactions and the dissatisfactions of a fragment, where it has some.
 #[derive(Clone, Copy, Debug, PartialEq, Eq)]
 pub struct Heights {
+    /// Of the satisfactions; `None` where there is none.
     pub sat: Option<Highest>,
+    /// Of the dissatisfactions; `None` where there is none.
     pub dsat: Option<Highest>,
 }
 

@@ -1,12 +1,12 @@
 //! What is kept of the children of a threshold: a slot for each child's satisfactions, and one for its
 //! dissatisfactions.
 ghost use Rattle.std.specs.Prelude.{◌≡◌, ◌<◌, get_or, length};
-ghost use Rattle.ms_height.specs.Low.{IsStorable};
-ghost use Rattle.ms_height.specs.Kept.{kept_in, heights_in};
+ghost use Rattle.ms_height.specs.Scaffolding.Low.{IsStorable};
+ghost use Rattle.ms_height.specs.Scaffolding.Kept.{kept_in, heights_in};
 
 use crate::highest::Heights;
 use def_height::Highest;
-use ms_sane::Slot;
+use ms_choice::Slot;
 
 /// A slot that keeps what was found.
 pub fn slot_of(found: Option<Highest>) -> Slot

@@ -1,19 +1,23 @@
 //! The greatest sum of at most so many of some numbers, which come one by one.
 ghost use Rattle.std.specs.Prelude.{◌≡◌, ℕ, ◌+◌, ◌-◌, ◌*◌, ◌<◌, ◌≤◌, ◌^◌, [], ◌∷◌, List, length};
 ghost use Rattle.def_tree.specs.Range.{MOST_MEASURE};
-ghost use Rattle.ms_sane.specs.declared.work.Slot as slot;
-ghost use Rattle.ms_height.specs.Chosen.{top};
-ghost use Rattle.ms_height.specs.Tops.{IsRising, IsCounted, IsTop};
+ghost use Rattle.ms_choice.specs.declared.slot.Slot as slot;
+ghost use Rattle.ms_height.specs.Scaffolding.Chosen.{top};
+ghost use Rattle.ms_height.specs.Scaffolding.Tops.{IsRising, IsCounted, IsTop};
 
-use ms_sane::Slot;
+use ms_choice::Slot;
 
 /// The greatest sums of at most `count` of the numbers so far, and of at most one fewer: the mark that many
 /// times, and what the numbers above the mark have above it. At most one fewer than `count` are above it.
 #[derive(Clone, Copy)]
 pub struct Top {
+    /// How many numbers are summed at most.
     pub count: u64,
+    /// The mark, which only rises.
     pub mark: u64,
+    /// How many of the numbers are above the mark.
     pub above: u64,
+    /// What these have above it together.
     pub excess: u64,
 }
 

@@ -2,27 +2,33 @@
 ghost use Rattle.std.specs.Prelude.{◌≡◌, ℕ, ◌+◌, ◌<◌, ◌≤◌, ◌⊎◌, List, length, get_or, zero, IfSome};
 ghost use Rattle.def_tree.specs.Range.{MOST_MEASURE};
 ghost use Rattle.ms_height.specs.declared.highest.Heights as found;
-ghost use Rattle.ms_height.specs.Kept.{heights_in};
-ghost use Rattle.ms_height.specs.Tally.{Counts};
+ghost use Rattle.ms_height.specs.Scaffolding.Kept.{heights_in};
+ghost use Rattle.ms_height.specs.Scaffolding.Tally.{Counts};
 
 use crate::highest::Heights;
 use crate::kept::child_at;
-use ms_sane::Slot;
+use ms_choice::{KindCounts, Slot};
 
 /// How many children there are of each kind. A free child can be satisfied and dissatisfied, a forced one only
 /// satisfied, and a stuck one neither. `most_items` is the most items that one of them takes.
 #[derive(Drop)]
 pub struct Tally {
+    /// Those that can only be satisfied.
     pub forced: u64,
+    /// Those that can be both.
     pub free: u64,
+    /// Those that can be neither.
     pub stuck: u64,
+    /// The most items that one of them takes.
     pub most_items: u64,
 }
 
 /// How many of the free children are satisfied, and how many dissatisfied.
 #[derive(Drop)]
 pub struct Bounds {
+    /// How many are satisfied.
     pub satisfied: u64,
+    /// How many are dissatisfied.
     pub dissatisfied: u64,
 }
 
@@ -52,20 +58,18 @@ impl Tally {
         ensures none { result ≡ None → (0 < self.now.stuck) ⊎ ((count < self.now.forced) ⊎ (self.now.forced + self.now.free < count)) }
         ensures some { IfSome result (λ b. (self.now.stuck ≡ 0) × (count ≡ self.now.forced + b.satisfied) × (b.satisfied + b.dissatisfied ≡ self.now.free)) }
     {
-        if self.stuck > 0 {
-            return None;
+        let kinds = KindCounts {
+            forced: self.forced,
+            stuck: self.stuck,
+            free: self.free,
+        };
+        match kinds.wanted(count) {
+            Some(satisfied) => Some(Bounds {
+                satisfied,
+                dissatisfied: self.free - satisfied,
+            }),
+            None => None,
         }
-        if count < self.forced {
-            return None;
-        }
-        let satisfied = count - self.forced;
-        if satisfied > self.free {
-            return None;
-        }
-        Some(Bounds {
-            satisfied,
-            dissatisfied: self.free - satisfied,
-        })
     }
 }
 

@@ -1,16 +1,16 @@
 //! How high so many of the children of a threshold go, satisfied with the others dissatisfied.
 ghost use Rattle.std.specs.Prelude.{◌≡◌, ℕ, ◌+◌, ◌*◌, ◌<◌, ◌≤◌, Some, All, length};
 ghost use Rattle.def_tree.specs.Range.{MOST_MEASURE};
-ghost use Rattle.ms_height.specs.Chosen as model;
-ghost use Rattle.ms_height.specs.Chosen.{bounded, free, stuck};
-ghost use Rattle.ms_height.specs.Kept.{heights_in, IsFitting};
-ghost use Rattle.ms_height.specs.Low.{IsLowHeights};
+ghost use Rattle.ms_height.specs.Scaffolding.Chosen as model;
+ghost use Rattle.ms_height.specs.Scaffolding.Chosen.{bounded, free, stuck};
+ghost use Rattle.ms_height.specs.Scaffolding.Kept.{heights_in, IsFitting};
+ghost use Rattle.ms_height.specs.Scaffolding.Low.{IsLowHeights};
 
 use crate::choice::Choice;
 use crate::kept::child_at;
 use crate::tally::{Bounds, tally_of};
 use def_height::Highest;
-use ms_sane::Slot;
+use ms_choice::Slot;
 
 /// The greatest items and height of `count` of the children satisfied and the others dissatisfied. It writes as
 /// many slots as a child takes items at most, twice.

@@ -12,15 +12,16 @@ use Rattle.def_script.specs.Item as item
 use Rattle.def_script.specs.Items.{items}
 use Rattle.def_machine.specs.declared.ScriptFault.TheVariants as fault
 use Rattle.def_machine.specs.Faults.{OrFault, ◌>>=◌}
-use Rattle.def_machine.specs.Stacks.{Stack, Pairs, member, is_empty, is_key}
+use Rattle.def_machine.specs.Stacks.{Stack, Pairs, member, is_empty}
+use Rattle.def_script.specs.Key.{is_key}
 use Rattle.def_machine.specs.Effects.{verify, condition, to_alt_stack, from_alt_stack, if_dup, dup, swap, size, equal, zero_not_equal, add, bool_and, bool_or, hash, check_sig, lock}
 use Rattle.def_machine.specs.Locks.{after_holds, older_holds}
-use Rattle.def_machine.specs.MultiSig.{counted, count, some_off, one_off, one_try, is_good, tries, verdict, null_dummy, check_multi_sig}
+use Rattle.def_machine.specs.MultiSig.{within_op_limit, count, some_off, one_off, one_try, is_good, tries, verdict, null_dummy, check_multi_sig}
 use Rattle.def_machine.specs.Machine.{Given, State, is_live, is_branching, on_main, on_both, on_checks, on_multi, on_branches, opened, open_branch, turned, closed, act, only_if, pushed, count_op, carry_out, height, settle, step}
 use Rattle.def_machine.specs.Run.{Outcome, accepted, refused, leads, start, balanced, is_clean, finish, ended, steps, run}
 use Rattle.ms_interp.specs.declared.report.RunReport.{RunReport}
 use Rattle.ms_interp.specs.declared.report.RunStop.{RunStop}
-use Rattle.ms_interp.specs.Answering.{Answers, IsSmall}
+use Rattle.ms_interp.specs.Answering.{Answers, IsSmallReport}
 
 -- a fact of what is given, where no fault is
 abbrev Keeps : {A : Type 0} → (A → Type 0) → OrFault A → Type 0
@@ -39,7 +40,7 @@ if_keeps : {A : Type 0} (P : A → Type 0) (b : Bool) (x y : OrFault A) → Keep
 if_keeps P true x y first second = first
 if_keeps P false x y first second = second
 
--- between instructions, and after an opcode was counted
+-- between instructions, and after an opcode was within_op_limit
 record Bounded (k : ℕ) (s : State) : Type 0 where
   checks : length s.checks ≤ s.ops
   ops : s.ops ≤ 201
@@ -114,8 +115,8 @@ unfolding verdict
 verdict_keeps n sigs (Some found) few = few
 verdict_keeps n sigs None few = let none : 0 ≤ n = omega arith in if_keeps (λ (passed : Bool × Pairs). length passed.1 ≤ n) (list_all is_empty sigs) _ _ none tt
 
-counted_keeps : (ops : ℕ) → Keeps (λ total. (total ≡ ops) × (total ≤ 201)) (counted ops)
-unfolding counted
+counted_keeps : (ops : ℕ) → Keeps (λ total. (total ≡ ops) × (total ≤ 201)) (within_op_limit ops)
+unfolding within_op_limit
 counted_keeps ops =
     elim (cases_Bool (nat_lt 201 ops)) [
       | inl over ↦ rw over tt
@@ -136,7 +137,7 @@ unfolding check_multi_sig
 check_multi_keeps table main ops checks =
     let P = Grown ops checks in
     bind_keeps (λ n. Unit {0}) P (count 20 fault.KeyCount main) _ (always _) (λ n u1.
-    bind_keeps (λ total. (total ≡ ops + n.0) × (total ≤ 201)) P (counted (ops + n.0)) _ (counted_keeps (ops + n.0)) (λ total sum.
+    bind_keeps (λ total. (total ≡ ops + n.0) × (total ≤ 201)) P (within_op_limit (ops + n.0)) _ (counted_keeps (ops + n.0)) (λ total sum.
     bind_keeps (λ keys. length keys.0 ≤ n.0) P (some_off n.0 n.1) _ (some_off_keeps n.0 n.1) (λ keys few.
     bind_keeps (λ m. Unit {0}) P (count n.0 fault.SigCount keys.1) _ (always _) (λ m u2.
     bind_keeps (λ sigs. Unit {0}) P (some_off m.0 m.1) _ (always _) (λ sigs u3.
@@ -186,7 +187,7 @@ act_keeps k given op.Csv s c = main_keeps k (lock (λ n. older_holds n given.loc
 
 count_keeps : (k : ℕ) (s : State) → Bounded k s → Keeps (Counted k) (count_op s)
 count_keeps k s b =
-    bind_keeps (λ total. (total ≡ s.ops + 1) × (total ≤ 201)) (Counted k) (counted (s.ops + 1)) _ (counted_keeps (s.ops + 1))
+    bind_keeps (λ total. (total ≡ s.ops + 1) × (total ≤ 201)) (Counted k) (within_op_limit (s.ops + 1)) _ (counted_keeps (s.ops + 1))
     (λ total sum. let is = sum.0 in let checks = b.checks in record { checks = omega arith; ops = sum.1; peak = b.peak })
 
 only_if_keeps : (k : ℕ) (b : Bool) (f : State → OrFault State) (s : State) → Bounded k s → Keeps (Bounded k) (f s) → Keeps (Bounded k) (only_if b f s)
@@ -258,7 +259,7 @@ run_small given script stack =
 
 -- so is its report
 pub report-small : (given : Given) (script : Bytes) (stack : List Bytes) (result : Result RunReport RunStop) → Answers result (run given script stack)
-    → IfOk result (IsSmall (length stack))
+    → IfOk result (IsSmallReport (length stack))
 report-small given script stack (Ok report) answers =
     let k : length (reverse stack) ≡ length stack = length-reverse stack in
     let P : Outcome → Type 0 = λ o. Small (length stack) o in

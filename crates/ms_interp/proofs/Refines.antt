@@ -13,7 +13,7 @@ use Rattle.def_machine.specs.Faults.{OrFault, ◌>>=◌}
 use Rattle.def_machine.specs.Locks.{after_holds, older_holds}
 use Rattle.def_machine.specs.Stacks.{Stack, Pairs}
 use Rattle.def_machine.specs.Effects.{verify, condition, to_alt_stack, from_alt_stack, if_dup, dup, swap, size, equal, zero_not_equal, add, bool_and, bool_or, hash, check_sig, lock}
-use Rattle.def_machine.specs.MultiSig.{counted, check_multi_sig}
+use Rattle.def_machine.specs.MultiSig.{within_op_limit, check_multi_sig}
 use Rattle.def_machine.specs.Machine.{Given, State, height, is_live, is_branching, on_main as the_on_main, on_both as the_on_both, on_checks as the_on_checks, on_multi as the_on_multi, on_branches as the_on_branches, opened as the_opened, open_branch as the_open_branch, turned as the_turned, closed as the_closed, act as the_act, only_if as the_only_if, pushed as the_pushed, count_op as the_count_op, carry_out as the_carry_out, settle as the_settle, step as the_step}
 use Rattle.def_machine.specs.Run.{Outcome, leads as the_leads, finish as the_finish, balanced as the_balanced, is_clean, ended as the_ended, steps as the_steps}
 use Rattle.ms_interp.specs.declared.branches.Branches.{Branches}
@@ -176,7 +176,7 @@ pushed_is bytes true s = refl
 pushed_is bytes false s = refl
 
 count_is : (s : State) → count_op (machine_of s) ≡ seen (the_count_op s)
-count_is s = bind_is (counted (s.ops + 1)) (λ ops. record (machine_of s) { ops = ops }) (λ ops. record s { ops = ops }) (λ ops. refl)
+count_is s = bind_is (within_op_limit (s.ops + 1)) (λ ops. record (machine_of s) { ops = ops }) (λ ops. record s { ops = ops }) (λ ops. refl)
 
 if_is : (b : Bool) (e : OrFault State) (e' : OrFault Machine) (r : OrFault State) (r' : OrFault Machine) → e' ≡ seen e → r' ≡ seen r
     → (if b then e' else r') ≡ seen (if b then e else r)

@@ -4,7 +4,8 @@ use Rattle.std.proofs.lemmas.Bool.{lt-ltb, le-ltb}
 use Rattle.std.proofs.lemmas.List.{drop_all}
 use Rattle.def_script.specs.Bytes.{Bytes}
 use Rattle.def_machine.specs.declared.ScriptFault.TheVariants as fault
-use Rattle.def_machine.specs.Stacks.{Stack, Pairs, is_key}
+use Rattle.def_machine.specs.Stacks.{Stack, Pairs}
+use Rattle.def_script.specs.Key.{is_key}
 use Rattle.def_machine.specs.MultiSig.{is_good, one_try, tries}
 
 -- no signature is left

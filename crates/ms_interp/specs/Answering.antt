@@ -21,5 +21,5 @@ Answers (Err Memory) outcome = Unit {0}
 
 -- a report has at most as many checks as opcodes, at most 201 opcodes, and a peak of at most the
 -- greater of 1,000 and the number of elements given
-abbrev pub IsSmall : (given : ℕ) → RunReport → Type 0
-IsSmall given report = (length report.checks ≤ report.ops) × (report.ops ≤ 201) × (report.peak ≤ max 1000 given)
+abbrev pub IsSmallReport : (given : ℕ) → RunReport → Type 0
+IsSmallReport given report = (length report.checks ≤ report.ops) × (report.ops ≤ 201) × (report.peak ≤ max 1000 given)

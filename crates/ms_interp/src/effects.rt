@@ -4,13 +4,13 @@ ghost use Rattle.def_machine.specs.Effects.{verify as the_verify, to_alt_stack a
 ghost use Rattle.ms_oracle.specs.Sound.{table_of, IsSound};
 ghost use Rattle.ms_interp.specs.Scaffolding.Stops.{Leaves};
 
-use crate::operands::{is_key, one_number, two_numbers};
+use crate::operands::{one_number, two_numbers};
 use crate::pile::Pile;
 use crate::stop::Stop;
 use def_machine::ScriptFault;
 use ms_hash::{HashKind, HashVal, hash_of};
 use ms_oracle::{Pairs, SigCheck};
-use ms_script::{num_encode, truth};
+use ms_script::{is_key, num_encode, truth};
 
 /// VERIFY: takes the top, which must be true.
 #[tactic(auto, unfolding(def_machine::specs::Effects::verify))]

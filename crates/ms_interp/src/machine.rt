@@ -30,11 +30,17 @@ use std::alloc::Global;
 /// The machine: its stacks, its open branches, and what a report tells.
 #[derive(Drop)]
 pub struct Machine {
+    /// The main stack.
     pub main: Pile,
+    /// The alternative stack.
     pub alt: Pile,
+    /// The branches that are open.
     pub branches: Branches,
+    /// How many opcodes have counted, with the keys of each CHECKMULTISIG that was executed.
     pub ops: u32,
+    /// The most elements that both stacks have held together after an instruction, or at the start.
     pub peak: u32,
+    /// The pairs of a key and a signature that were found good, in that order.
     pub checks: Pairs,
 }
 

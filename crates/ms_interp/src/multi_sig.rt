@@ -2,23 +2,23 @@
 ghost use Rattle.std.specs.Prelude.{◌≡◌, ℕ, ◌+◌, [], ◌++◌, ◌<◌, length, slice_index_or, OnOk};
 ghost use Rattle.std.specs.List.{list_all};
 ghost use Rattle.def_machine.specs.Stacks.{is_empty};
-ghost use Rattle.def_machine.specs.MultiSig.{counted, is_good as the_is_good, some_off as the_some_off, tries as the_tries, verdict as the_verdict, check_multi_sig as the_check_multi_sig};
+ghost use Rattle.def_machine.specs.MultiSig.{within_op_limit, is_good as the_is_good, some_off as the_some_off, tries as the_tries, verdict as the_verdict, check_multi_sig as the_check_multi_sig};
 ghost use Rattle.ms_oracle.specs.Sound.{table_of, IsSound};
 ghost use Rattle.ms_interp.specs.Scaffolding.Stops.{Leaves, Gives, GivesFault};
 ghost use Rattle.ms_interp.specs.Scaffolding.Multi.{found_by, judged_seen};
 
-use crate::operands::{count, is_key};
+use crate::operands::count;
 use crate::pile::Pile;
 use crate::stop::Stop;
 use def_machine::ScriptFault;
 use ms_oracle::{Pairs, SigCheck};
-use ms_script::Blob;
+use ms_script::{Blob, is_key};
 use std::alloc::{AllocError, Global};
 
 /// A number of opcodes with some more, within the limit.
-#[tactic(auto, unfolding(def_machine::specs::MultiSig::counted))]
+#[tactic(auto, unfolding(def_machine::specs::MultiSig::within_op_limit))]
 pub fn more_ops(ops: u32, more: u32) -> Result<u32, ScriptFault>
-    ensures { result ≡ counted (ops + more) }
+    ensures { result ≡ within_op_limit (ops + more) }
 {
     let total = ops.saturating_add(more);
     if total > 201 {

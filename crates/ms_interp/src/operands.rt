@@ -1,6 +1,5 @@
-//! What opcodes take from the stack: keys, numbers, counts and conditions.
+//! What opcodes take from the stack: numbers, counts and conditions.
 ghost use Rattle.std.specs.Prelude.{◌≡◌, ℕ, ◌≤◌, IfOk};
-ghost use Rattle.def_machine.specs.Stacks.{is_key as the_is_key};
 ghost use Rattle.def_machine.specs.Effects.{operand as the_operand, one_number as the_one_number, two_numbers as the_two_numbers, condition as the_condition};
 ghost use Rattle.def_machine.specs.MultiSig.{count as the_count};
 ghost use Rattle.ms_interp.specs.Scaffolding.Stops.{GivesFault, HasRoom};
@@ -8,13 +7,6 @@ ghost use Rattle.ms_interp.specs.Scaffolding.Stops.{GivesFault, HasRoom};
 use crate::pile::Pile;
 use def_machine::ScriptFault;
 use ms_script::num_decode;
-
-/// Whether the bytes are a compressed public key: 33 that begin with 2 or 3.
-pub fn is_key(bytes: &[u8]) -> bool
-    ensures { result ≡ the_is_key bytes.now }
-{
-    bytes.len() == 33 && (bytes[0] == 2 || bytes[0] == 3)
-}
 
 /// The number that at most `most` bytes spell in their shortest spelling.
 #[tactic(auto, unfolding(def_machine::specs::Effects::operand))]
@@ -44,7 +36,9 @@ pub fn one_number(main: &mut Pile) -> Result<i64, ScriptFault>
 /// Two operands, the upper one last.
 #[derive(Clone, Copy)]
 pub struct Operands {
+    /// The one below the top.
     pub below: i64,
+    /// The one on top.
     pub top: i64,
 }
 

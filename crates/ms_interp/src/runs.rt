@@ -6,7 +6,7 @@ ghost use Rattle.def_script.specs.Items.{items};
 ghost use Rattle.def_machine.specs.Machine.{fault_of as the_fault_of};
 ghost use Rattle.def_machine.specs.Run.{run as the_run};
 ghost use Rattle.ms_oracle.specs.Sound.{table_of, IsSound};
-ghost use Rattle.ms_interp.specs.Answering.{given_by, Answers, IsSmall};
+ghost use Rattle.ms_interp.specs.Answering.{given_by, Answers, IsSmallReport};
 ghost use Rattle.ms_interp.specs.Scaffolding.Stops.{run_stop};
 ghost use Rattle.ms_interp.specs.Scaffolding.Compact.{ended as the_ended, steps as the_steps};
 
@@ -43,7 +43,7 @@ pub fn run<F: Fn(&[u8], &[u8]) -> bool>(
     requires few { length stack.now ≤ 2147483648 }
     requires sound { IsSound F.Fn sigs.now }
     ensures outcome { Answers result (the_run (given_by (table_of sigs.now) locks.now) script.now stack.now) }
-    ensures small { IfOk result (IsSmall (length stack.now)) }
+    ensures small { IfOk result (IsSmallReport (length stack.now)) }
 {
     if script.len() > 10_000 {
         return Err(RunStop::Refused(ScriptFault::ScriptSize, 0));

@@ -8,7 +8,9 @@ use std::alloc::{AllocError, AllocFailed};
 /// What stops an instruction: a fault of the script, or want of memory.
 #[derive(Clone, Copy, Debug)]
 pub enum Stop {
+    /// The script is refused with this fault.
     Fault(ScriptFault),
+    /// There was no memory.
     Memory,
 }
 

@@ -13,7 +13,7 @@ call_fails fail_at call = nat_lt call LAST_COUNT && list_any (λ n. n == call) f
 -- ---- the sink
 
 -- what a sink over memory holds and how it will answer
-pub record Memory : Type 0 where
+pub record SinkMemory : Type 0 where
   -- the bytes that were written
   pub bytes : List ℕ
   -- for how many bytes it has room in all
@@ -27,34 +27,34 @@ pub record Memory : Type 0 where
   pub failures : ℕ
 
 -- the room that is left
-abbrev pub room_left : Memory → ℕ
+abbrev pub room_left : SinkMemory → ℕ
 room_left m = m.room - length m.bytes
 
 -- the next call fails where its number tells, or the piece isn't empty and no room is left
-abbrev pub put_fails : Memory → List ℕ → Bool
+abbrev pub put_fails : SinkMemory → List ℕ → Bool
 put_fails m piece = call_fails m.fail_at m.calls || (nat_lt 0 (length piece) && (room_left m == 0))
 
 -- how many bytes of a piece a call takes that doesn't fail
-abbrev pub put_count : Memory → List ℕ → ℕ
+abbrev pub put_count : SinkMemory → List ℕ → ℕ
 put_count m piece = min m.chunk (min (length piece) (room_left m))
 
 -- the sink after a call of `put`
-abbrev pub after_put : Memory → List ℕ → Memory
+abbrev pub after_put : SinkMemory → List ℕ → SinkMemory
 after_put m piece =
     if put_fails m piece then record m { calls = next_count m.calls; failures = next_count m.failures }
     else record m { bytes = m.bytes ++ take (put_count m piece) piece; calls = next_count m.calls }
 
 -- a call of `put` that takes so many bytes of a piece, and one that fails
-abbrev pub PutTakes : Memory → (piece : List ℕ) → (count : ℕ) → Memory → Type 0
+abbrev pub PutTakes : SinkMemory → (piece : List ℕ) → (count : ℕ) → SinkMemory → Type 0
 PutTakes old piece count new = (put_fails old piece ≡ false) × (count ≡ put_count old piece) × (new ≡ after_put old piece)
 
-abbrev pub PutFails : Memory → (piece : List ℕ) → Memory → Type 0
+abbrev pub PutFails : SinkMemory → (piece : List ℕ) → SinkMemory → Type 0
 PutFails old piece new = (put_fails old piece ≡ true) × (new ≡ after_put old piece)
 
 -- ---- the source
 
 -- what a source over memory has left and how it will answer
-pub record Input : Type 0 where
+pub record SourceMemory : Type 0 where
   -- the bytes that are left
   pub left : List ℕ
   -- how many bytes it gives in one call at most
@@ -66,11 +66,11 @@ pub record Input : Type 0 where
   pub failures : ℕ
 
 -- how many bytes a call gives that doesn't fail, into a buffer of this length
-abbrev pub read_count : Input → (room : ℕ) → ℕ
+abbrev pub read_count : SourceMemory → (room : ℕ) → ℕ
 read_count s room = min s.chunk (min room (length s.left))
 
 -- the source after a call of `read`
-abbrev pub after_read : Input → (room : ℕ) → Input
+abbrev pub after_read : SourceMemory → (room : ℕ) → SourceMemory
 after_read s room =
     if call_fails s.fail_at s.calls then record s { calls = next_count s.calls; failures = next_count s.failures }
     else record s { left = drop (read_count s room) s.left; calls = next_count s.calls }

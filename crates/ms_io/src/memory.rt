@@ -4,14 +4,14 @@ ghost use Rattle.std.specs.Prelude.{◌≡◌, ℕ, ◌+◌, ◌-◌, ◌^◌, �
 ghost use Rattle.std.specs.Io.{WritesAtMost};
 ghost use Rattle.std.specs.Io.KnownBytes.{WriteAppends};
 ghost use Rattle.ms_io.specs.Faults.{HasCause};
-ghost use Rattle.ms_io.specs.Memory.{Memory, call_fails, put_fails, put_count, after_put, PutTakes, PutFails};
+ghost use Rattle.ms_io.specs.Memory.{SinkMemory, call_fails, put_fails, put_count, after_put, PutTakes, PutFails};
 
 use crate::sink::{Sink, SinkFailed};
 use std::alloc::{AllocError, Global};
 use std::marker::Model;
 
 /// A sink over memory that takes pieces in chunks, and fails where it is told to and where it is
-/// full. Contracts see it as a `Memory`.
+/// full. Contracts see it as a `SinkMemory`.
 #[derive(Drop)]
 pub struct MemSink {
     bytes: Vec<u8>,
@@ -23,7 +23,7 @@ pub struct MemSink {
 }
 
 impl Model for MemSink {
-    ghost Value = { Memory };
+    ghost Value = { SinkMemory };
 
     ghost view = { λ s. record { bytes = s.bytes.items; room = s.room; chunk = s.chunk; fail_at = s.fail_at.items; calls = s.calls; failures = s.failures } };
 

@@ -4,7 +4,7 @@ ghost use Rattle.std.specs.Prelude.{◌≡◌, ℕ, ◌+◌, ◌-◌, ◌^◌, �
 ghost use Rattle.std.specs.Io.{ReadsAtMost};
 ghost use Rattle.std.specs.Io.KnownBytes.{ReadConsumes};
 ghost use Rattle.ms_io.specs.Faults.{HasCause};
-ghost use Rattle.ms_io.specs.Memory.{Input, call_fails, read_count, after_read};
+ghost use Rattle.ms_io.specs.Memory.{SourceMemory, call_fails, read_count, after_read};
 
 use crate::memory::call_fails;
 use crate::source::{Source, SourceFailed};
@@ -12,7 +12,7 @@ use crate::sure::copy_front;
 use std::marker::Model;
 
 /// A source over memory that gives its bytes in chunks, and fails where it is told to. Contracts see
-/// it as an `Input`.
+/// it as an `SourceMemory`.
 #[derive(Drop)]
 pub struct MemSource {
     bytes: Vec<u8>,
@@ -24,7 +24,7 @@ pub struct MemSource {
 }
 
 impl Model for MemSource {
-    ghost Value = { Input };
+    ghost Value = { SourceMemory };
 
     ghost view = { λ s. record { left = drop s.at s.bytes.items; chunk = s.chunk; fail_at = s.fail_at.items; calls = s.calls; failures = s.failures } };
 

@@ -8,15 +8,15 @@ use Rattle.def_tree.specs.Range.{IsWritable}
 use Rattle.def_assets.specs.Assets.{Assets, AreAssets}
 use Rattle.def_sane.specs.declared.Rules.TheVariants.{Consensus}
 use Rattle.def_sane.specs.Unfit.{IsSaneUnder}
-use Rattle.def_satisfaction.specs.Weight.{weight}
+use Rattle.def_script.specs.Witness.{weight}
 use Rattle.def_satisfaction.specs.Satisfaction.{Sat}
 use Rattle.def_choice.specs.Strict.{strict}
 use Rattle.def_choice.specs.NonMalleable.{IsAccepted, Fresh, NonMalleable, given_with}
 use Rattle.def_choice.proofs.Chosen.{strict_is_canonical}
 use Rattle.def_promises.specs.Promises.{Unchangeable}
-use Rattle.ms_laws.proofs.StrictFound.{strict_exists}
-use Rattle.ms_laws.proofs.Unchanged.{strict_is_non_malleable, strict_is_unchangeable, nothing_to_accept}
-use Rattle.ms_laws.proofs.TightNeeded.{strict_is_lightest}
+use Rattle.ms_strict_laws.proofs.StrictChoiceExists.{strict_exists}
+use Rattle.ms_strict_laws.proofs.TightIsUnchangeable.{strict_is_non_malleable, strict_is_unchangeable, nothing_to_accept}
+use Rattle.ms_strict_laws.proofs.UnchangeableIsTight.{strict_is_lightest}
 
 module _ (tree : Tree) (assets : Assets) (found : Option (List Bytes)) (writable : IsWritable tree) (sane : IsSaneUnder Consensus tree) (are : AreAssets assets) (is : found ≡ strict tree assets) where
   pub found_sat : (stack : List Bytes) → found ≡ Some stack → Sat tree assets stack

@@ -1,16 +1,15 @@
 //! The strict satisfaction of a miniscript, which nobody can change.
-ghost use Rattle.std.specs.Prelude.{◌≡◌, ◌↔◌, ◌≤◌, List, Some, None, IfOk};
+ghost use Rattle.std.specs.Prelude.{◌≡◌, ◌↔◌, List, Some, None, IfOk};
 ghost use Rattle.def_script.specs.Bytes.{Bytes};
-ghost use Rattle.def_machine.specs.Stacks.{Pairs};
 ghost use Rattle.def_tree.specs.Range.{IsInRange};
 ghost use Rattle.def_sane.specs.declared.Rules.TheVariants.{Consensus};
 ghost use Rattle.def_sane.specs.Unfit.{IsSaneUnder};
-ghost use Rattle.def_satisfaction.specs.Weight.{weight};
 ghost use Rattle.def_satisfaction.specs.Satisfaction.{Sat};
 ghost use Rattle.def_choice.specs.Strict.{strict as the_strict};
 ghost use Rattle.def_choice.specs.Tight.{Tight};
-ghost use Rattle.def_choice.specs.NonMalleable.{IsAccepted, Fresh, NonMalleable, given_with};
+ghost use Rattle.def_choice.specs.NonMalleable.{NonMalleable};
 ghost use Rattle.def_promises.specs.Promises.{Unchangeable};
+ghost use Rattle.ms_nonmal.specs.Strictness.{AcceptsFreshAlone, IsLightestUnchanged};
 ghost use Rattle.ms_tree.specs.Shape.{shape};
 
 use ms_assets::Assets;
@@ -32,8 +31,8 @@ pub fn strict(alloc: Global, tree: &Tree<'_>, assets: &Assets) -> Result<Option<
     ensures sat { IfOk result (λ found. (stack : List Bytes) → found ≡ Some stack → Sat (shape tree.now) assets.now stack) }
     ensures none { IfOk result (λ found. (found ≡ None) ↔ ((stack : List Bytes) → Sat (shape tree.now) assets.now stack → ⊥)) }
     ensures non_malleable { IfOk result (λ found. (stack : List Bytes) → found ≡ Some stack → NonMalleable (shape tree.now) assets.now stack × Unchangeable (shape tree.now) assets.now stack) }
-    ensures nothing { IfOk result (λ found. found ≡ None → (stack : List Bytes) (checks : Pairs) → IsAccepted (shape tree.now) (given_with assets.now assets.now.pairs) stack checks → Fresh (shape tree.now) assets.now assets.now.pairs stack) }
-    ensures lightest { IfOk result (λ found. (other : List Bytes) → Sat (shape tree.now) assets.now other → NonMalleable (shape tree.now) assets.now other → (stack : List Bytes) × (found ≡ Some stack) × (weight stack ≤ weight other)) }
+    ensures nothing { IfOk result (λ found. found ≡ None → AcceptsFreshAlone (shape tree.now) assets.now) }
+    ensures lightest { IfOk result (IsLightestUnchanged (shape tree.now) assets.now) }
     ensures tight { IfOk result (λ found. (stack : List Bytes) → Sat (shape tree.now) assets.now stack → NonMalleable (shape tree.now) assets.now stack ↔ Tight (shape tree.now) assets.now stack) }
     ensures tight_unchangeable { IfOk result (λ found. (stack : List Bytes) → Tight (shape tree.now) assets.now stack → Unchangeable (shape tree.now) assets.now stack) }
 {

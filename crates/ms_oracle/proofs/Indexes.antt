@@ -17,7 +17,8 @@ use Rattle.std.specs.declared.cmp.Ordering.{Ordering}
 use Rattle.std.specs.declared.cmp.Ordering.TheVariants.{Less, Equal, Greater}
 use Rattle.def_script.specs.Bytes.{Bytes}
 use Rattle.def_machine.specs.Stacks.{Pairs, member}
-use Rattle.ms_oracle.specs.Scaffolding.Index.{pair_at, pair_cmp, IsIndex}
+use Rattle.ms_oracle.specs.Places.{pair_at}
+use Rattle.ms_oracle.specs.Scaffolding.Index.{pair_cmp, IsIndex}
 
 pub pair_cmp-total : IsTotalOrder pair_cmp
 pair_cmp-total = then_total (on_total (λ (pair : Bytes × Bytes). pair.0) nat_list_cmp_total) (on_total (λ (pair : Bytes × Bytes). pair.1) nat_list_cmp_total)

@@ -2,7 +2,8 @@
 ghost use Rattle.std.specs.Prelude.{◌≡◌, length, IfOk};
 ghost use Rattle.std.specs.List.{range_with_len};
 ghost use Rattle.def_machine.specs.Stacks.{member as the_member};
-ghost use Rattle.ms_oracle.specs.Scaffolding.Index.{pair_at as the_pair_at, pair_cmp};
+ghost use Rattle.ms_oracle.specs.Places.{pair_at as the_pair_at};
+ghost use Rattle.ms_oracle.specs.Scaffolding.Index.{pair_cmp};
 
 use crate::pairs::SigPair;
 use std::alloc::{AllocError, Global};
@@ -53,15 +54,17 @@ impl<'a> PairIndex<'a> {
     }
 }
 
-/// All places of a table, in ascending order.
-fn places_of(alloc: Global, table: &[SigPair]) -> Result<Vec<usize>, AllocError>
+/// All places of a table, counted from 0, in ascending order: what is sorted where an index over the table is wanted. Refuses
+/// for want of memory alone.
+pub fn places_of(alloc: Global, table: &[SigPair]) -> Result<Vec<usize>, AllocError>
     ensures { IfOk result (λ places. places.items ≡ range_with_len 0 (length table.now)) }
 {
     (0..table.len()).collect(alloc)
 }
 
-/// The key and the signature at a place of a table; two empty strings past its end.
-fn pair_at(table: &[SigPair], place: usize) -> (&[u8], &[u8])
+/// The key and the signature at a place of a table, counted from 0; two empty strings past its end. Takes no memory, and never
+/// refuses.
+pub fn pair_at(table: &[SigPair], place: usize) -> (&[u8], &[u8])
     ensures { (result.0.now, result.1.now) ≡ the_pair_at table.now place }
 {
     match table.get(place) {

@@ -4,11 +4,9 @@
 
 pub use check::SigCheck;
 pub use def_machine::Locks;
-pub use index::PairIndex;
+pub use index::{PairIndex, pair_at, places_of};
 pub use pairs::{Pairs, SigPair, member};
 
 mod check;
 mod index;
 mod pairs;
-#[cfg(test)]
-mod tests;

@@ -30,7 +30,14 @@ impl SigPair {
     {
         let key = Blob::from_slice(alloc, key)?;
         let sig = Blob::from_slice(alloc, sig)?;
-        Ok(SigPair { key, sig })
+        Ok(SigPair::of(key, sig))
+    }
+
+    /// The pair of a key and a signature, which it takes over. Takes no memory, and never refuses.
+    pub fn of(key: Blob, sig: Blob) -> SigPair
+        ensures { result ≡ (key, sig) }
+    {
+        SigPair { key, sig }
     }
 
     /// The bytes of the key. Takes no memory, and never refuses.
@@ -90,6 +97,14 @@ impl Pairs {
         ensures err { OnErr result (self.new ≡ self.old) }
     {
         let pair = SigPair::new(self.alloc, key, sig)?;
+        self.push_pair(pair)
+    }
+
+    /// Adds a pair at the end, which it takes over. Refuses for want of memory alone; the pairs are then those that they were.
+    pub fn push_pair(&mut self, pair: SigPair) -> Result<(), AllocError>
+        ensures ok { OnOk result (self.new ≡ self.old ++ pair ∷ []) }
+        ensures err { OnErr result (self.new ≡ self.old) }
+    {
         self.pairs.push(pair)?;
         Ok(())
     }

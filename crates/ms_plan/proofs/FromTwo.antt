@@ -14,7 +14,7 @@ use Rattle.def_assets.specs.Assets.{Assets, sig_of}
 use Rattle.def_assets.proofs.Distinct.{first_is_shortest}
 use Rattle.def_sane.specs.Keys.{keys}
 use Rattle.def_sane.specs.Unfit.{IsSane}
-use Rattle.def_satisfaction.specs.Weight.{weight}
+use Rattle.def_script.specs.Witness.{weight}
 use Rattle.def_choice.specs.Strict.{strict, strict_of}
 use Rattle.def_choice.proofs.Best.{turned}
 use Rattle.def_plan.specs.Lengths.{Lengths, AreLengths, IsEstimate, estimated}
@@ -24,12 +24,10 @@ use Rattle.ms_plan_laws.proofs.Order.{taken_part}
 use Rattle.ms_plan_laws.proofs.Alike.{Marks, Same, same_strict}
 use Rattle.ms_plan_laws.proofs.Found.{length_is, estimate_exists}
 use Rattle.ms_plan_laws.proofs.Plans.{fits_of, estimates_alike}
-use Rattle.ms_script.specs.Stacks as stacks
 use Rattle.ms_plan.specs.declared.marks.Marks.{Marks as Mark}
 use Rattle.ms_plan.specs.declared.marks.Marks.TheVariants as marks
-use Rattle.ms_plan.specs.Marks.{marked, differing, has_item, signs}
-use Rattle.ms_plan.specs.Marked.{with_marks, AreMarked}
-use Rattle.ms_plan.proofs.Light.{same_weight}
+use Rattle.ms_plan.specs.Scaffolding.Marks.{marked, differing, has_item, signs}
+use Rattle.ms_plan.specs.Scaffolding.Marked.{with_marks, AreMarked}
 use Rattle.ms_plan.proofs.Told.{found_in, marked_distinct, own_mark, other_mark, marked_long, turned_have, have_reversed, differs, which_differs, part_filter}
 
 -- the signature of a key is the first that stands with it
@@ -104,14 +102,14 @@ module _ (tree : Tree) (assets : Assets) (table : Lengths) (lengths : AreLengths
             ]
 
     some_is_plan : (stack other : List Bytes) (asked : List Key) (heavy : ℕ) → strict tree First ≡ Some stack → strict tree Second ≡ Some other →
-        asked ≡ filter (signs First (differing stack other)) (keys tree) → heavy ≡ stacks.weight stack → Some (record { keys = asked; weight = heavy }) ≡ plan_of tree assets table
+        asked ≡ filter (signs First (differing stack other)) (keys tree) → heavy ≡ weight stack → Some (record { keys = asked; weight = heavy }) ≡ plan_of tree assets table
     some_is_plan stack other asked heavy e f k l =
         let s = turned (strict_of First tree) stack e in
         let t = turned (strict_of Second tree) other f in
         let r : filter (signs First (differing stack other)) (keys tree) ≡ taken First tree =
         ap (λ x. filter (signs First (differing x other)) (keys tree)) (again stack s.0 s.2)
         ∙ ap (λ x. filter (signs First (differing (reverse s.0) x)) (keys tree)) (again other t.0 t.2) ∙ signers s.0 t.0 s.1 t.1 in
-        made asked heavy (k ∙ r) (l ∙ same_weight stack) ∙ sym (ap (option_map as_plan) e) ∙ sym both_plan
+        made asked heavy (k ∙ r) l ∙ sym (ap (option_map as_plan) e) ∙ sym both_plan
       where
         as_plan : List Bytes → Plan
         as_plan x = record { keys = taken First tree; weight = weight x }
@@ -159,7 +157,7 @@ no_longer tree assets table first second stack other m e f =
 pub plan_found : (tree : Tree) (assets : Assets) (table : Lengths) (first second : Assets) (stack other signatures : List Bytes) (before asked : List Key) (heavy : ℕ) →
     IsWritable tree → IsSane tree → AreMarked assets table first second →
     strict tree first ≡ Some stack → strict tree second ≡ Some other → signatures ≡ differing stack other → before ≡ [] →
-    asked ≡ before ++ filter (signs first signatures) (keys tree) → heavy ≡ stacks.weight stack → Some (record { keys = asked; weight = heavy }) ≡ plan_of tree assets table
+    asked ≡ before ++ filter (signs first signatures) (keys tree) → heavy ≡ weight stack → Some (record { keys = asked; weight = heavy }) ≡ plan_of tree assets table
 plan_found tree assets table first second stack other signatures before asked heavy writable sane m e f s b k l =
     some_is_plan tree assets table m.lengths writable sane (marked_ones assets table first second m) stack other asked heavy
     (ap (strict tree) (sym m.rising) ∙ e) (ap (strict tree) (sym m.falling) ∙ f)

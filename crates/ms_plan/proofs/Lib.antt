@@ -1,6 +1,5 @@
 pub mod Marked
 pub mod Told
-pub mod Light
 pub mod Tables
 pub mod FromTwo
 pub mod Promised

@@ -6,7 +6,7 @@ use Rattle.def_tree.specs.Tree.{Key}
 use Rattle.def_assets.specs.Assets.{Assets}
 use Rattle.def_plan.specs.Lengths.{Lengths}
 use Rattle.ms_plan.specs.declared.marks.Marks.{Marks}
-use Rattle.ms_plan.specs.Marks.{mark_of, marked}
+use Rattle.ms_plan.specs.Scaffolding.Marks.{mark_of, marked}
 
 -- a signature is cut to its length
 pub cut : (old : Assets) (key : Key) (n mark : ℕ) (entry : Key × ℕ) → (key, n) ≡ entry → entry.1 ≤ 73 →

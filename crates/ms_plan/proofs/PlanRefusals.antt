@@ -5,11 +5,11 @@ use Rattle.std.proofs.lemmas.List.{length-map}
 use Rattle.serde_json.specs.Data.{Data}
 use Rattle.def_script.specs.Bytes.{Bytes}
 use Rattle.def_machine.specs.declared.Locks.{Locks}
-use Rattle.def_machine.specs.Stacks.{is_key}
+use Rattle.def_script.specs.Key.{is_key}
 use Rattle.def_files.specs.declared.Member.TheVariants as file_member
 use Rattle.def_files.specs.Json.{is_object, is_list_of}
 use Rattle.def_files.specs.Parts.{version, sequence, locktime, locks, list, elements, strings, is_text, is_hex, key_of, bytes_of}
-use Rattle.def_files.specs.Refusals.{unless, unless_each, unless_refused, no_repeat}
+use Rattle.def_files.specs.Refusals.{unless, unless_each, unless_any, no_repeat}
 use Rattle.def_files.specs.AssetFile.{is_preimage, MOST_PREIMAGES}
 use Rattle.def_plan.specs.declared.PlanMember.TheVariants as member
 use Rattle.def_plan.specs.declared.PlanFault.{PlanFault}
@@ -18,7 +18,7 @@ use Rattle.def_plan.specs.Lengths.{Lengths, MOST_KEYS}
 use Rattle.def_plan.specs.PlanFile.{PlanFile, key_list, key_elements, is_estimate, is_hex_key, length_at, is_length, plan_refusals, plan_in}
 use Rattle.ms_assets.specs.Parts.{first, first_refused, IsOr, repeated}
 use Rattle.ms_assets.proofs.Refusals.{after, stops, after_three, stops_in_three, each_first, first_refused-map}
-use Rattle.ms_plan.specs.Reading.{value_refusals}
+use Rattle.ms_plan.specs.Scaffolding.Reading.{value_refusals}
 
 -- the shapes
 abbrev pub no_object : Data → Option PlanFault
@@ -57,10 +57,10 @@ pub record HasShapes (file : Data) : Type 0 where
   pub preimages : no_preimages file ≡ None
 
 abbrev pub value_of : Data → Result PlanFile PlanFault
-value_of file = unless_refused (plan_refusals file) (plan_in file)
+value_of file = unless_any (plan_refusals file) (plan_in file)
 
 abbrev left_of : ℕ → Data → Result PlanFile PlanFault
-left_of k file = unless_refused (drop k (plan_refusals file)) (plan_in file)
+left_of k file = unless_any (drop k (plan_refusals file)) (plan_in file)
 
 after_shapes : (file : Data) (answer : Result PlanFile PlanFault) → HasShapes file → answer ≡ left_of 3 file → answer ≡ value_of file
 after_shapes file answer shapes e =
@@ -160,19 +160,19 @@ file_with found table texts = record { assets = record { locks = found; pairs = 
 
 -- then the refusals of what stands in it tell
 value_same : (file : Data) (found : Locks) (table : Lengths) (texts : List Bytes) → HasRead file found table texts
-    → unless_refused (value_refusals table texts) (file_with found table texts) ≡ value_of file
+    → unless_any (value_refusals table texts) (file_with found table texts) ≡ value_of file
 value_same file found table texts has =
-    let P : Locks → Lengths → List Bytes → Result PlanFile PlanFault = λ l p t. unless_refused (value_refusals p t) (file_with l p t) in
+    let P : Locks → Lengths → List Bytes → Result PlanFile PlanFault = λ l p t. unless_any (value_refusals p t) (file_with l p t) in
     let all = map entry_of (key_elements file) in
     let answer = P found table texts in
     after_numbers file answer has.shapes has.numbers
     (after (no_hex_key file) (drop 7 (plan_refusals file)) (plan_in file) answer has.keys
     (after (no_hex_preimage file) (drop 8 (plan_refusals file)) (plan_in file) answer has.preimages
     (ap (λ l. P l table texts) has.locks ∙ ap (λ p. P (locks file) p texts) has.entries ∙ ap (λ t. P (locks file) all t) has.strings
-    ∙ ap (λ rs. unless_refused rs (plan_in file)) (last_same file))))
+    ∙ ap (λ rs. unless_any rs (plan_in file)) (last_same file))))
 
 pub read_done : (file : Data) (found : Locks) (table : Lengths) (texts : List Bytes) (result : Result PlanFile PlanFault) → HasRead file found table texts
-    → IsOr fault.Memory (unless_refused (value_refusals table texts) (file_with found table texts)) result → IsOr fault.Memory (value_of file) result
+    → IsOr fault.Memory (unless_any (value_refusals table texts) (file_with found table texts)) result → IsOr fault.Memory (value_of file) result
 read_done file found table texts result has (inl e) = inl (e ∙ value_same file found table texts has)
 read_done file found table texts result has (inr e) = inr e
 

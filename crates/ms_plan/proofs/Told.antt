@@ -18,12 +18,12 @@ use Rattle.def_choice.proofs.Weights.{reverse-cons}
 use Rattle.def_sane.specs.Keys.{AreDistinct}
 use Rattle.def_plan.specs.Lengths.{Lengths}
 use Rattle.def_plan.specs.Plan.{IsPartOf}
-use Rattle.ms_laws.proofs.Found.{first_in, later_in, no_element}
+use Rattle.ms_row_laws.proofs.KeyLists.{first_in, later_in, no_element}
 use Rattle.ms_plan_laws.proofs.Alike.{BothHave, have_left, have_right}
 use Rattle.ms_plan_laws.proofs.Order.{first_or_other, in_part}
 use Rattle.ms_plan.specs.declared.marks.Marks.{Marks}
 use Rattle.ms_plan.specs.declared.marks.Marks.TheVariants as marks
-use Rattle.ms_plan.specs.Marks.{mark_of, marked, differing}
+use Rattle.ms_plan.specs.Scaffolding.Marks.{mark_of, marked, differing}
 
 -- ---- marks
 

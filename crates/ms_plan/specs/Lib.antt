@@ -1,4 +1,2 @@
 pub mod Estimates
-pub mod Marks
-pub mod Marked
-pub mod Reading
+pub mod Scaffolding

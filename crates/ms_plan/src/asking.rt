@@ -7,7 +7,7 @@ ghost use Rattle.def_plan.specs.Lengths.{Lengths, AreLengths};
 ghost use Rattle.def_plan.specs.Plan.{Plan as Planned, plan_of, NoneIsExact, Suffices, IsLeast, AsksListed, AsksNoneInVain, AsksInOrder, LengthsDecide};
 ghost use Rattle.ms_tree.specs.Shape.{shape};
 ghost use Rattle.ms_plan.specs.Estimates.{IsSound, table_of as the_table};
-ghost use Rattle.ms_plan.specs.Marked.{AreMarked, with_marks as the_marked};
+ghost use Rattle.ms_plan.specs.Scaffolding.Marked.{AreMarked, with_marks as the_marked};
 
 use crate::estimate::Estimate;
 use crate::lengths::{KeyLen, Keys};

@@ -9,7 +9,9 @@ use std::marker::Model;
 /// A key that can sign, and how many bytes its signature is estimated to have. Contracts see the pair of both.
 #[derive(Clone, Copy, Debug, PartialEq, Eq)]
 pub struct KeyLen {
+    /// The key.
     pub key: Key,
+    /// How many bytes its signature is estimated to have, with the hash type.
     pub length: u8,
 }
 

@@ -1,13 +1,13 @@
 //! Signatures of estimated lengths that are told from all other items of a stack: a satisfaction with one kind of marks
 //! and one with the other differ in their signatures alone, since only the lengths of signatures decide the choice.
-ghost use Rattle.std.specs.Prelude.{◌≡◌, ◌+◌, ◌≤◌, ◌<◌, ◌++◌, [], ◌∷◌, List, length, filter, replicate, IfOk, OnOk, All};
+ghost use Rattle.std.specs.Prelude.{◌≡◌, ◌+◌, ◌≤◌, ◌<◌, ◌++◌, [], ◌∷◌, length, filter, replicate, IfOk, OnOk, All};
 ghost use Rattle.std.specs.List.{list_any};
 ghost use Rattle.std.specs.Str.{bytes_eq};
 ghost use Rattle.def_tree.specs.Range.{IsInRange};
 ghost use Rattle.def_sane.specs.Keys.{keys as the_keys, keys_of_all};
 ghost use Rattle.def_plan.specs.Lengths.{AreLengths};
 ghost use Rattle.ms_tree.specs.Shape.{shape, shapes, leaf_shape};
-ghost use Rattle.ms_plan.specs.Marks.{mark_of, marked, differing as the_differing, has_item, signs as the_signs};
+ghost use Rattle.ms_plan.specs.Scaffolding.Marks.{mark_of, marked, differing as the_differing, signs as the_signs};
 
 use crate::lengths::KeyLen;
 use ms_assets::Assets;

@@ -3,15 +3,14 @@ ghost use Rattle.std.specs.Prelude.{◌≡◌, ◌^◌, ◌<◌, ◌≤◌, [], 
 ghost use Rattle.std.specs.List.{list_all, list_any};
 ghost use Rattle.std.specs.Str.{bytes_eq};
 ghost use Rattle.serde_json.specs.View.{view};
-ghost use Rattle.def_machine.specs.Stacks.{is_key};
+ghost use Rattle.def_script.specs.Key.{is_key};
 ghost use Rattle.def_files.specs.AssetFile.{is_preimage};
-ghost use Rattle.def_files.specs.Json.{is_list_of};
 ghost use Rattle.def_files.specs.Parts.{bytes_of, is_hex, key_of};
-ghost use Rattle.def_files.specs.Refusals.{unless, unless_refused};
-ghost use Rattle.def_plan.specs.PlanFile.{key_list, key_elements, number_at_length, is_estimate as the_is_estimate, is_hex_key, length_at, is_length, plan_refusals, plan_in as the_plan_in, plan_file_of};
+ghost use Rattle.def_files.specs.Refusals.{unless_any};
+ghost use Rattle.def_plan.specs.PlanFile.{key_elements, number_at_length, is_estimate as the_is_estimate, is_hex_key, length_at, is_length, plan_refusals, plan_in as the_plan_in, plan_file_of};
 ghost use Rattle.def_plan.specs.FileLaws.{IsPlanFile};
 ghost use Rattle.ms_assets.specs.Parts.{first_refused, Reads, ReadsOr, IsOr, repeated};
-ghost use Rattle.ms_plan.specs.Reading.{seen, parts_seen, value_refusals};
+ghost use Rattle.ms_plan.specs.Scaffolding.Reading.{seen, file_with, parts_seen, shape_of_keys, entries_at, value_refusals};
 
 use crate::lengths::{KeyLen, KeyLens, MOST_KEYS};
 use def_plan::{PlanFault, PlanMember};
@@ -71,8 +70,11 @@ pub fn read_plan(alloc: Global, bytes: &[u8]) -> Result<PlanFile, PlanFault>
 /// The parts of a plan file, before it is known that they make up assets.
 #[derive(Drop)]
 pub struct PlanParts {
+    /// The values of the locks.
     pub locks: Locks,
+    /// The preimages, in the order of the file.
     pub preimages: Vec<Preimage>,
+    /// The keys that can sign, with their lengths, in the order of the file.
     pub table: KeyLens,
 }
 
@@ -89,7 +91,7 @@ fn file_of_parts(alloc: Global, parts: PlanParts) -> PlanFile
 
 /// What stands in a plan file.
 fn plan_in(alloc: Global, file: &Value) -> Result<PlanParts, PlanFault>
-    ensures { IsOr PlanFault.Memory (unless_refused (plan_refusals (view file.now)) (the_plan_in (view file.now))) (parts_seen result) }
+    ensures { IsOr PlanFault.Memory (unless_any (plan_refusals (view file.now)) (the_plan_in (view file.now))) (parts_seen result) }
 {
     if !file.is_object() {
         return Err(PlanFault::Shape(PlanMember::Whole));
@@ -114,7 +116,7 @@ fn plan_in(alloc: Global, file: &Value) -> Result<PlanParts, PlanFault>
 
 /// The elements of the keys, each an object with the text `key` and the number `length`.
 fn estimate_list(file: &Value) -> Result<&[Value], PlanFault>
-    ensures elements { ReadsOr PlanFault.Memory (unless (is_list_of the_is_estimate (key_list (view file.now))) (PlanFault.Shape PlanMember.Keys)) (λ list. map view list.now) (key_elements (view file.now)) result }
+    ensures elements { ReadsOr PlanFault.Memory (shape_of_keys (view file.now)) (λ list. map view list.now) (key_elements (view file.now)) result }
     ensures few { IfOk result (λ list. length list.now < 2 ^ 32) }
 {
     match list_at(file, "keys") {
@@ -181,7 +183,7 @@ fn push_entry(alloc: Global, entries: &mut Vec<Entry>, element: &Value) -> Resul
 /// The keys that the elements spell, with their lengths, or the refusal of the first that spells none.
 fn read_entries(alloc: Global, elements: &[Value]) -> Result<Vec<Entry>, PlanFault>
     requires { length elements.now < 2 ^ 32 }
-    ensures { ReadsOr PlanFault.Memory (first_refused is_hex_key (PlanFault.Hex PlanMember.Keys) (map view elements.now)) (λ entries. entries.items) (map (λ e. (key_of e, length_at e)) (map view elements.now)) result }
+    ensures { ReadsOr PlanFault.Memory (first_refused is_hex_key (PlanFault.Hex PlanMember.Keys) (map view elements.now)) (λ entries. entries.items) (entries_at (map view elements.now)) result }
 {
     let mut entries = Vec::new(alloc);
     let mut place = 0;
@@ -216,7 +218,7 @@ fn check_parts(
 ) -> Result<PlanParts, PlanFault>
     requires few_entries { length entries.now < 2 ^ 32 }
     requires few_strings { length strings.now < 2 ^ 32 }
-    ensures { IsOr PlanFault.Memory (unless_refused (value_refusals entries.now strings.now) (record { assets = record { locks = locks; pairs = []; preimages = strings.now }; table = entries.now })) (parts_seen result) }
+    ensures { IsOr PlanFault.Memory (unless_any (value_refusals entries.now strings.now) (file_with locks strings.now entries.now)) (parts_seen result) }
 {
     let keyed = read_keys(alloc, entries)?;
     let table = read_lengths(alloc, &keyed)?;

@@ -9,6 +9,7 @@ use std::marker::Model;
 pub struct Plan {
     /// In the order of the nodes and, in a `multi`, of its positions.
     pub keys: Keys,
+    /// In bytes, by the estimated lengths.
     pub weight: u64,
 }
 

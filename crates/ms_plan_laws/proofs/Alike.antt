@@ -11,7 +11,7 @@ use Rattle.def_tree.specs.declared.Wrapper.TheVariants as wrapper
 use Rattle.def_tree.specs.Tree.{Tree, Trees, Key, just_0, just_1, pk_k, pk_h, older, after, hash, and_or, two, thresh, multi, wrap, none, more}
 use Rattle.def_tree.specs.Range.{count}
 use Rattle.def_assets.specs.Assets.{Assets, sig_of}
-use Rattle.def_satisfaction.specs.Weight.{weight}
+use Rattle.def_script.specs.Witness.{weight}
 use Rattle.def_satisfaction.specs.Rows.{EMPTY, ONE}
 use Rattle.def_choice.specs.Sets.{sets}
 use Rattle.def_choice.specs.Least.{item, both, lighter, least}
@@ -19,7 +19,7 @@ use Rattle.def_choice.specs.Cheapest.{dissatisfaction, stack_of, signatures_of, 
 use Rattle.def_choice.specs.Strict.{free, free_first, free_children, has_all, strict_of, strict_children}
 use Rattle.def_choice.proofs.Best.{lighter-none}
 use Rattle.def_choice.proofs.Weights.{weight-append}
-use Rattle.ms_laws.proofs.Found.{first_in, later_in, no_element}
+use Rattle.ms_row_laws.proofs.KeyLists.{first_in, later_in, no_element}
 use Rattle.def_plan.specs.Taken.{is_former, takes_former, set_taken, children_taken, signers_taken, keys_of_set, taken, taken_of_children}
 use Rattle.ms_plan_laws.proofs.Moved.{with_pairs}
 use Rattle.ms_plan_laws.proofs.Order.{first_or_other}

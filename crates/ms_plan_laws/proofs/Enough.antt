@@ -3,7 +3,7 @@
 use Rattle.std.proofs.Common.{◌≡◌, ◌≤◌, Bool, true, false, not, ◌&&◌, ◌||◌, List, [], ◌∷◌, ◌++◌, length, reverse, Contains, Option, Some, None, is_some, refl, sym, ◌∙◌, ap, subst, inl, inr, arith, if◌then◌else◌}
 use Rattle.std.proofs.lemmas.Bool.{false≢true}
 use Rattle.std.proofs.lemmas.Option.{none-some, same_Some}
-use Rattle.std.proofs.lemmas.List.{length-append, reverse-append}
+use Rattle.std.proofs.lemmas.List.{length-append}
 use Rattle.std.proofs.lemmas.List.Elements.{Contains-append_left, Contains-append_right}
 use Rattle.def_script.specs.Bytes.{Bytes}
 use Rattle.def_machine.specs.Stacks.{Stack, Pairs}
@@ -13,26 +13,26 @@ use Rattle.def_tree.specs.declared.Wrapper.TheVariants as wrapper
 use Rattle.def_tree.specs.Tree.{Tree, Trees, Key, just_0, just_1, pk_k, pk_h, older, after, hash, and_or, two, thresh, multi, wrap, none, more}
 use Rattle.def_tree.specs.Range.{IsWritable, AreWritable, count}
 use Rattle.def_assets.specs.Assets.{Assets, AreAssets, sig_of}
-use Rattle.def_satisfaction.specs.Weight.{weight}
+use Rattle.def_script.specs.Witness.{weight}
 use Rattle.def_satisfaction.specs.StackSet.{StackSet, Is, Both, Either}
 use Rattle.def_satisfaction.specs.Rows.{EMPTY, ONE, AreSignatures}
 use Rattle.def_satisfaction.specs.Satisfaction.{canonical}
 use Rattle.def_satisfaction.proofs.Wider.{Within, same}
 use Rattle.def_satisfaction.proofs.Bare.{dsat_within}
-use Rattle.def_satisfaction.proofs.Held.{key_form}
 use Rattle.def_choice.specs.Sets.{sets}
 use Rattle.def_choice.specs.Least.{item, both}
 use Rattle.def_choice.specs.Lightest.{IsLightest}
 use Rattle.def_choice.specs.Cheapest.{dissatisfaction, stack_of, signatures_of}
 use Rattle.def_choice.specs.Strict.{free, free_first, free_children, has_all, strict_of, strict_children}
 use Rattle.def_choice.specs.Tight.{HasOne, FreeFirst, signed_row, free_row, TightSat, TightParts}
-use Rattle.def_choice.proofs.Weights.{weight-append}
+use Rattle.def_choice.proofs.Weights.{weight-append, reverse-cons}
 use Rattle.def_choice.proofs.Best.{best_both}
 use Rattle.def_choice.proofs.Leaves.{is_best}
 use Rattle.def_choice.proofs.Cheapest.{dsat_best, sat_best}
 use Rattle.def_choice.proofs.TightFree.{tight_free, free_dsat}
-use Rattle.ms_laws.proofs.TightOnes.{free_best, free_dsat_best, below_free, always}
 use Rattle.def_plan.specs.Taken.{takes_former, children_taken, signers_taken, keys_of_set, taken, taken_of_children}
+use Rattle.def_choice.proofs.StrictTight.{free_best, free_dsat_best, below_free, always}
+use Rattle.def_choice.proofs.Keys.{without_last}
 use Rattle.ms_plan_laws.proofs.Options.{first_taken, both_joined, item_is}
 use Rattle.ms_plan_laws.proofs.Sets.{each-filter, ones, IsSet, sets_are, set_is_taken}
 use Rattle.ms_plan_laws.proofs.Moved.{with_pairs}
@@ -79,15 +79,6 @@ behind table [] key (g ∷ sigs) sig good h = absurd h
 behind table (k ∷ keys) key [] sig good h = inr (behind table keys key [] sig good tt)
 behind table (k ∷ keys) key (g ∷ sigs) sig good (inl h) = inl (h.0, behind table keys key sigs sig good h.1)
 behind table (k ∷ keys) key (g ∷ sigs) sig good (inr h) = inr (behind table keys key (g ∷ sigs) sig good h)
-
-passed_over : (table : Pairs) (keys : List Key) (key : Key) (sigs : Stack) → AreSignatures table keys sigs → AreSignatures table (keys ++ key ∷ []) sigs
-passed_over table keys key [] h = tt
-passed_over table [] key (g ∷ sigs) h = absurd h
-passed_over table (k ∷ keys) key (g ∷ sigs) (inl h) = inl (h.0, passed_over table keys key sigs h.1)
-passed_over table (k ∷ keys) key (g ∷ sigs) (inr h) = inr (passed_over table keys key (g ∷ sigs) h)
-
-turned : (key : Key) (keys : List Key) → reverse (key ∷ keys) ≡ reverse keys ++ key ∷ []
-turned key keys = reverse-append (key ∷ []) keys
 
 pub not_wanted : (wanted : Bool) (rest : Bool) → ((not wanted || false) && rest) ≡ true → (wanted ≡ false) × (rest ≡ true)
 not_wanted true rest h = absurd (false≢true h)
@@ -141,13 +132,13 @@ module _ (assets : Assets) (pairs : Pairs) (are : AreAssets assets) where
       let y = signers_enough keys set (right (key ∷ []) (keys_of_set keys set) h) j.above j.right in
       let f : weight w ≡ weight (j.above ++ i.0 ∷ []) = ap weight (j.whole ∙ ap (λ u. j.above ++ u) i.2) in (
         y.0 ++ x.0 ∷ [],
-        rw (turned key keys) (behind pairs (reverse keys) key y.0 x.0 x.1 y.1),
+        rw (reverse-cons key keys) (behind pairs (reverse keys) key y.0 x.0 x.1 y.1),
         omega (arith, y.2, length-append y.0 (x.0 ∷ [])),
         omega (arith, f, x.2, y.3, weight-append j.above (i.0 ∷ []), weight-append y.0 (x.0 ∷ [])),
       )
   signers_enough (key ∷ keys) (false ∷ set) h w e =
       let y = signers_enough keys set h w e in
-      (y.0, rw (turned key keys) (passed_over pairs (reverse keys) key y.0 y.1), y.2, y.3)
+      (y.0, rw (reverse-cons key keys) (without_last pairs (reverse keys) key y.0 y.1), y.2, y.3)
 
   dsat_there : (x : Tree) → IsWritable x → (w : Stack) → dissatisfaction x ≡ Some w → (signed_row there x).dsat w
   dsat_there x writable w e =
@@ -173,7 +164,7 @@ module _ (assets : Assets) (pairs : Pairs) (are : AreAssets assets) where
     taken_enough (pk_k key) w h = item_enough key h
     taken_enough (pk_h key) w h = λ v e.
         let x = both_enough _ _ _ _ (item_enough key h) (is_enough key) v e in
-        (x.0, (key, key_form key w, refl, refl, x.1), x.2)
+        (x.0, (key, w.form, refl, refl, x.1), x.2)
     taken_enough (older n) w h = one_enough _ _ (sat_best assets are (older n) w).is
     taken_enough (after n) w h = one_enough _ _ (sat_best assets are (after n) w).is
     taken_enough (hash kind value) w h = one_enough _ _ (sat_best assets are (hash kind value) w).is

@@ -9,7 +9,7 @@ use Rattle.def_tree.specs.declared.Two.TheVariants as kind
 use Rattle.def_tree.specs.declared.Wrapper.TheVariants as wrapper
 use Rattle.def_tree.specs.Tree.{Tree, Trees, Key, just_0, just_1, pk_k, pk_h, older, after, hash, and_or, two, thresh, multi, wrap, none, more}
 use Rattle.def_assets.specs.Assets.{Assets}
-use Rattle.def_satisfaction.specs.Weight.{weight}
+use Rattle.def_script.specs.Witness.{weight}
 use Rattle.def_satisfaction.specs.StackSet.{StackSet, Both}
 use Rattle.def_satisfaction.specs.Rows.{AreSignatures, Signature, PartsOf}
 use Rattle.def_satisfaction.specs.Satisfaction.{canonical}
@@ -18,7 +18,7 @@ use Rattle.def_satisfaction.proofs.Bare.{dsat_within}
 use Rattle.def_choice.specs.Tight.{HasOne, FreeFirst, required, signed_row, free_row, TightSat, TightParts}
 use Rattle.def_choice.proofs.Weights.{weight-append}
 use Rattle.def_choice.proofs.TightFree.{tight_free, free_dsat}
-use Rattle.ms_laws.proofs.TightOnes.{below_free, always}
+use Rattle.def_choice.proofs.StrictTight.{below_free, always}
 
 -- the same assets with other signatures
 abbrev pub with_pairs : Assets → Pairs → Assets

@@ -3,7 +3,7 @@ use Rattle.std.proofs.Common.{◌≡◌, nat_lt, not, Bool, true, false, [], ◌
 use Rattle.std.proofs.lemmas.Option.{none-some, same_Some}
 use Rattle.def_script.specs.Bytes.{Bytes}
 use Rattle.def_machine.specs.Stacks.{Stack}
-use Rattle.def_satisfaction.specs.Weight.{weight}
+use Rattle.def_script.specs.Witness.{weight}
 use Rattle.def_choice.specs.Least.{item, both, lighter}
 use Rattle.def_choice.specs.Strict.{free_first}
 use Rattle.def_choice.proofs.Best.{lighter-none}

@@ -5,7 +5,7 @@ use Rattle.def_tree.specs.declared.Two.TheVariants as kind
 use Rattle.def_tree.specs.Tree.{Tree, Trees, Key, just_0, just_1, pk_k, pk_h, older, after, hash, and_or, two, thresh, multi, wrap, none, more}
 use Rattle.def_assets.specs.Assets.{Assets}
 use Rattle.def_sane.specs.Keys.{keys, keys_of_all, AreDistinct}
-use Rattle.ms_laws.proofs.Found.{first_in, later_in, no_element}
+use Rattle.ms_row_laws.proofs.KeyLists.{first_in, later_in, no_element}
 use Rattle.def_plan.specs.Plan.{IsPartOf}
 use Rattle.def_plan.specs.Taken.{children_taken, signers_taken, keys_of_set, taken, taken_of_children}
 

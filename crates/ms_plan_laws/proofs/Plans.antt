@@ -15,16 +15,16 @@ use Rattle.def_sane.specs.Keys.{keys}
 use Rattle.def_sane.specs.declared.Rules.TheVariants.{Policy, Consensus}
 use Rattle.def_sane.specs.Unfit.{IsSane, IsSaneUnder}
 use Rattle.def_sane.proofs.Meanings.{valid_means, sane_means, sane_under_consensus}
-use Rattle.def_satisfaction.specs.Weight.{weight}
+use Rattle.def_script.specs.Witness.{weight}
 use Rattle.def_satisfaction.specs.Satisfaction.{Sat}
 use Rattle.def_satisfaction.proofs.Held.{held_is_good, good_is_held}
 use Rattle.def_choice.specs.Strict.{strict, strict_of}
 use Rattle.def_choice.specs.Tight.{TightSat, Tight}
 use Rattle.def_choice.proofs.Weights.{weight-reverse}
 use Rattle.def_choice.proofs.Chosen.{strict_is_tight, tight_is_canonical}
-use Rattle.ms_laws.proofs.Options.{Fits}
-use Rattle.ms_laws.proofs.StrictFound.{lightest_of_tight, tight_of_canonical}
-use Rattle.ms_laws.proofs.TightNeeded.{tight_if_non_malleable}
+use Rattle.ms_strict_laws.proofs.TightOptions.{Fits}
+use Rattle.ms_strict_laws.proofs.StrictChoiceExists.{lightest_of_tight, tight_of_canonical}
+use Rattle.ms_strict_laws.proofs.UnchangeableIsTight.{tight_if_non_malleable}
 use Rattle.def_plan.specs.Lengths.{Lengths, AreLengths, length_of, IsLike, IsEstimate, estimated}
 use Rattle.def_plan.specs.Taken.{taken}
 use Rattle.def_plan.specs.Plan.{Plan, plan_with, plan_of, NoneIsExact, Suffices, IsLeast, AsksListed, AsksNoneInVain, AsksInOrder, IsPartOf}

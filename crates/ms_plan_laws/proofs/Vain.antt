@@ -3,7 +3,6 @@ use Rattle.std.proofs.Common.{◌≡◌, ℕ, suc, ◌≤◌, Bool, true, false,
 use Rattle.std.specs.Str.{bytes_eq}
 use Rattle.std.proofs.lemmas.Bool.{false≢true, or_cases, cases_Bool}
 use Rattle.std.proofs.lemmas.Option.{none-some}
-use Rattle.std.proofs.lemmas.List.{reverse-append}
 use Rattle.std.proofs.lemmas.List.Elements.{Contains-append_left, Contains-append_right, Contains-append_cases}
 use Rattle.std.proofs.lemmas.Slice.Eq.{bytes_eq-Decides}
 use Rattle.def_script.specs.Bytes.{Bytes}
@@ -28,15 +27,16 @@ use Rattle.def_choice.specs.Strict.{free, free_first, free_children, has_all, st
 use Rattle.def_choice.specs.Tight.{HasOne, signed_row, free_row}
 use Rattle.def_choice.proofs.Best.{best_both}
 use Rattle.def_choice.proofs.Leaves.{is_best}
-use Rattle.ms_laws.proofs.Unsigned.{IsEmpty}
-use Rattle.ms_laws.proofs.OneDissatisfaction.{one_both, free_dsat}
-use Rattle.ms_laws.proofs.CanonicalOnes.{HasAssets, free_sat}
-use Rattle.ms_laws.proofs.FreeStacks.{signs}
-use Rattle.ms_laws.proofs.Found.{Disjoint, first_in, later_in, no_element}
-use Rattle.ms_laws.proofs.Options.{Fits, AllFit, fit_wrap, fit_two, fit_and_or, fit_more}
-use Rattle.ms_laws.proofs.TightOnes.{free_best, free_dsat_best}
+use Rattle.ms_row_laws.proofs.NeededSignatures.{IsEmpty}
+use Rattle.ms_row_laws.proofs.UniqueDissatisfaction.{one_both, free_dsat}
+use Rattle.ms_strict_laws.proofs.CanonicalExists.{HasAssets, free_sat}
+use Rattle.ms_strict_laws.proofs.UnsignedStacks.{signs}
+use Rattle.ms_row_laws.proofs.KeyLists.{Disjoint, first_in, later_in, no_element}
+use Rattle.ms_strict_laws.proofs.TightOptions.{Fits, AllFit, fit_wrap, fit_two, fit_and_or, fit_more}
 use Rattle.std.proofs.lemmas.Bool.{and_parts}
 use Rattle.def_plan.specs.Taken.{takes_former, children_taken, signers_taken, keys_of_set, taken, taken_of_children}
+use Rattle.def_choice.proofs.Weights.{reverse-cons}
+use Rattle.def_choice.proofs.StrictTight.{free_best, free_dsat_best}
 use Rattle.ms_plan_laws.proofs.Options.{first_taken, both_joined}
 use Rattle.ms_plan_laws.proofs.Sets.{each-filter, ones, IsSet, sets_are, set_is_taken}
 use Rattle.ms_plan_laws.proofs.Moved.{with_pairs}
@@ -87,9 +87,6 @@ last_or_not table (k ∷ own) key (sig ∷ sigs) (inr h) =
     more : (v : Stack) → AreSignatures table own v → AreSignatures table (k ∷ own) v
     more [] h = tt
     more (g ∷ v) h = inr h
-
-turned : (key : Key) (own : List Key) → reverse (key ∷ own) ≡ reverse own ++ key ∷ []
-turned key own = reverse-append (key ∷ []) own
 
 -- a set but for one key
 abbrev without : Key → List Key → List Bool → List Bool
@@ -210,13 +207,13 @@ module _ (assets : Assets) (are : AreAssets assets) (pairs : Pairs) where
   few_signers [] set k d only bad [] h = omega arith
   few_signers [] set k d only bad (sig ∷ sigs) h = absurd h
   few_signers (key ∷ own) [] k d only bad sigs h =
-      elim (last_or_not pairs (reverse own) key sigs (subst (λ ks. AreSignatures pairs ks sigs) (turned key own) h)) [
+      elim (last_or_not pairs (reverse own) key sigs (subst (λ ks. AreSignatures pairs ks sigs) (reverse-cons key own) h)) [
         | inl i ↦ (let n = few_signers own [] k d.1 (λ c sig j good. absurd (no_element c (only c sig (later_in key own c j) good))) bad sigs i in let m = no_more k own [] in omega (arith, n, m))
         | inr l ↦ absurd (no_element key (only key l.1 (first_in key own) l.2))
       ]
   few_signers (key ∷ own) (b ∷ set) k d only bad sigs h =
       let rest : OnlySign (keys_of_set own set) own = λ c sig j good. tail b c j (only c sig (later_in key own c j) good) in
-      elim (last_or_not pairs (reverse own) key sigs (subst (λ ks. AreSignatures pairs ks sigs) (turned key own) h)) [
+      elim (last_or_not pairs (reverse own) key sigs (subst (λ ks. AreSignatures pairs ks sigs) (reverse-cons key own) h)) [
         | inl i ↦ (let n = few_signers own set k d.1 rest bad sigs i in at_least (b && not (bytes_eq key k)) n)
         | inr l ↦ (let n = few_signers own set k d.1 rest bad l.0 l.3 in let e = l.4 in one_more b (only key l.1 (first_in key own) l.2) l.1 l.2 n e)
       ]

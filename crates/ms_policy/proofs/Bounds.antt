@@ -9,8 +9,8 @@ use Rattle.def_policy.specs.Plain.{plain}
 use Rattle.def_policy.specs.Simple.{simple}
 use Rattle.def_policy.specs.Size.{size, size_of, depth, MOST_POLICIES, MOST_DEPTH}
 use Rattle.def_policy.proofs.Sizes.{simple_is_smaller, plain_is_small}
-use Rattle.ms_sane.specs.Choice.{total}
-use Rattle.ms_policy.specs.Cost.{plus, least_sum, count, and_also, cost, costs}
+use Rattle.ms_choice.specs.Sums.{total}
+use Rattle.ms_policy.specs.Scaffolding.Cost.{plus, least_sum, count, and_also, cost, costs}
 use Rattle.ms_policy.specs.Shape.{policy_shape}
 use Rattle.ms_policy.specs.declared.policy.Policy.{Policy as Seen}
 use Rattle.ms_policy.specs.declared.policy.Policy.TheViews.{All}

@@ -13,7 +13,7 @@ use Rattle.def_policy.specs.Policy.{Policy, Policies, never, always, key, older,
 use Rattle.def_policy.specs.Truth.{how_many, is_true, truths, with_keys}
 use Rattle.def_policy.specs.Keys.{keys, keys_of, HasDistinctKeys, AreLeastKeys}
 use Rattle.def_policy.proofs.Truths.{all_how_many, any_how_many}
-use Rattle.ms_policy.specs.Cost.{lesser, plus, least_sum, count, and_also, cost, costs}
+use Rattle.ms_policy.specs.Scaffolding.Cost.{lesser, plus, least_sum, count, and_also, cost, costs}
 use Rattle.ms_policy.proofs.Sums.{lesser_is, plus_is, lesser_left, lesser_right}
 
 abbrev signs : List Key → Key → Bool

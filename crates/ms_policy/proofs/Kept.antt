@@ -20,7 +20,7 @@ use Rattle.def_policy.specs.Simple.{decisive, opened, gathered, joined, is_alway
 use Rattle.def_policy.specs.Keys.{keys, keys_of, HasDistinctKeys}
 use Rattle.def_policy.specs.Size.{HasLocks, HaveLocks}
 use Rattle.def_policy.proofs.Joins.{joined_cases, chosen_cases}
-use Rattle.ms_laws.proofs.Found.{first_in}
+use Rattle.ms_row_laws.proofs.KeyLists.{first_in}
 use Rattle.ms_policy.proofs.Enough.{Picked, done, with, picked_none, picked_append, picked_distinct}
 
 -- the keys of a list

@@ -4,9 +4,9 @@ use Rattle.std.specs.List.{AllByRecursion}
 use Rattle.std.specs.List.Sorted.{IsNonDecreasing}
 use Rattle.std.proofs.lemmas.Bool.Decides.{leb_tells}
 use Rattle.std.proofs.lemmas.Option.{none-some}
-use Rattle.ms_sane.specs.Choice.{total}
-use Rattle.ms_sane.proofs.Totals.{total-permutation}
-use Rattle.ms_policy.specs.Cost.{lesser, plus, least_sum}
+use Rattle.ms_choice.specs.Sums.{total}
+use Rattle.ms_choice.proofs.Totals.{total-permutation}
+use Rattle.ms_policy.specs.Scaffolding.Cost.{lesser, plus, least_sum}
 
 -- how far the numbers are below a mark, how many are, and how many are at it or below
 abbrev below : ℕ → List ℕ → ℕ

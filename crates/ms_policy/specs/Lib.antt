@@ -1,2 +1,2 @@
 pub mod Shape
-pub mod Cost
+pub mod Scaffolding

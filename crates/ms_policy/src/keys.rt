@@ -3,9 +3,9 @@ ghost use Rattle.std.specs.Prelude.{◌≡◌, ◌≤◌, IfOk, map};
 ghost use Rattle.def_policy.specs.Keys.{AreLeastKeys, HasDistinctKeys};
 ghost use Rattle.def_policy.specs.Policy.{policies_of};
 ghost use Rattle.def_policy.specs.Size.{size, size_of, depth, MOST_POLICIES, MOST_DEPTH};
-ghost use Rattle.ms_policy.specs.Cost.{cost, costs, least_sum};
+ghost use Rattle.ms_policy.specs.Scaffolding.Cost.{cost, costs, least_sum};
 ghost use Rattle.ms_policy.specs.Shape.{policy_shape};
-ghost use Rattle.ms_sane.specs.Choice.{total};
+ghost use Rattle.ms_choice.specs.Sums.{total};
 
 use crate::policy::Policy;
 use std::alloc::{AllocError, Global};

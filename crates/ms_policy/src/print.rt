@@ -1,15 +1,13 @@
 //! The printed form of a policy.
-ghost use Rattle.std.specs.Prelude.{◌≡◌, ◌≤◌, [], ◌++◌, codes, decimal, map, IfOk, OnOk};
+ghost use Rattle.std.specs.Prelude.{◌≡◌, ◌≤◌, [], ◌++◌, codes, map, IfOk, OnOk};
 ghost use Rattle.std.specs.String.{string_bytes};
-ghost use Rattle.hex.specs.Hex.{encode_lower};
 ghost use Rattle.def_policy.specs.Policy.{policies_of};
 ghost use Rattle.def_policy.specs.Print.{printed, printed_parts};
 ghost use Rattle.def_policy.specs.Size.{depth, MOST_DEPTH};
-ghost use Rattle.def_text.specs.Word.{hash_name};
 ghost use Rattle.ms_policy.specs.Shape.{policy_shape};
 
 use crate::policy::Policy;
-use ms_hash::HashKind;
+use ms_text::{name_of_hash, print_call, print_lock, print_number};
 use std::alloc::{AllocError, Global};
 
 /// The printed form of a policy: `never`, `always`, `key(K)`, `older(n)`, `after(n)`, the four hash locks, and `all`, `any`
@@ -31,11 +29,11 @@ fn print_one(alloc: Global, out: &mut String, policy: &Policy) -> Result<(), All
     match policy {
         Policy::Never => out.push_str("never"),
         Policy::Always => out.push_str("always"),
-        Policy::Key(key) => print_bytes(alloc, out, "key", key.as_bytes()),
+        Policy::Key(key) => print_call(alloc, out, "key", key.as_bytes()),
         Policy::Older(n) => print_lock(alloc, out, "older", *n),
         Policy::After(n) => print_lock(alloc, out, "after", *n),
         Policy::Hash(value) => {
-            print_bytes(alloc, out, name_of_hash(value.kind()), value.as_bytes())
+            print_call(alloc, out, name_of_hash(value.kind()), value.as_bytes())
         }
         Policy::All(parts) => {
             out.push_str("all(")?;
@@ -80,43 +78,4 @@ fn print_others(alloc: Global, out: &mut String, parts: &[Policy]) -> Result<(),
         print_one(alloc, out, part)?;
     }
     Ok(())
-}
-
-/// A name, and bytes in digits behind it.
-fn print_bytes(alloc: Global, out: &mut String, name: &str, bytes: &[u8]) -> Result<(), AllocError>
-    ensures { OnOk result (string_bytes out.new ≡ string_bytes out.old ++ (name.now ++ codes "(" ++ encode_lower bytes.now ++ codes ")")) }
-{
-    let digits = hex::encode(alloc, bytes)?;
-    out.push_str(name)?;
-    out.push_str("(")?;
-    out.push_str(digits.as_str())?;
-    out.push_str(")")
-}
-
-/// A name, and a number behind it.
-fn print_lock(alloc: Global, out: &mut String, name: &str, n: u64) -> Result<(), AllocError>
-    ensures { OnOk result (string_bytes out.new ≡ string_bytes out.old ++ (name.now ++ codes "(" ++ decimal n ++ codes ")")) }
-{
-    out.push_str(name)?;
-    out.push_str("(")?;
-    print_number(alloc, out, n)?;
-    out.push_str(")")
-}
-
-fn print_number(alloc: Global, out: &mut String, n: u64) -> Result<(), AllocError>
-    ensures { OnOk result (string_bytes out.new ≡ string_bytes out.old ++ decimal n) }
-{
-    let digits = format!(in alloc; "{n}")?;
-    out.push_str(digits.as_str())
-}
-
-fn name_of_hash(kind: HashKind) -> &'static str
-    ensures { result.now ≡ hash_name kind }
-{
-    match kind {
-        HashKind::Sha256 => "sha256",
-        HashKind::Hash256 => "hash256",
-        HashKind::Ripemd160 => "ripemd160",
-        HashKind::Hash160 => "hash160",
-    }
 }

@@ -12,12 +12,12 @@ use Rattle.def_satisfaction.specs.StackSet.{Is}
 use Rattle.def_satisfaction.specs.Setting.{Setting}
 use Rattle.def_satisfaction.specs.Rows.{EMPTY, Signatures, pk_k_row, pk_h_row, hash_row, multi_row}
 use Rattle.def_satisfaction.specs.Satisfaction.{canonical}
-use Rattle.def_satisfaction.proofs.Held.{held_is_good, good_is_held, known_is_preimage, key_form}
+use Rattle.def_satisfaction.proofs.Held.{held_is_good, good_is_held, known_is_preimage}
 use Rattle.def_policy.specs.Policy as policy
 use Rattle.def_policy.specs.Policy.{policies_of}
 use Rattle.def_policy.specs.Truth.{facts_of, how_many, is_true, truths}
 use Rattle.def_policy.proofs.Truths.{truths-policies_of}
-use Rattle.ms_laws.proofs.OneDissatisfaction.{one_both}
+use Rattle.ms_row_laws.proofs.UniqueDissatisfaction.{one_both}
 use Rattle.ms_policy_laws.proofs.Says.{Says}
 use Rattle.ms_policy_laws.proofs.Signers.{signs, signers, signers-reverse, enough, at_most}
 
@@ -43,7 +43,7 @@ module _ (assets : Assets) (are : AreAssets assets) where
     to = λ e.
         let x = some_of (sig_of assets key) e in
         let good = held_is_good assets are key x.0 x.1 in
-        (key ∷ x.0 ∷ [], (key, key_form key form, refl, refl, (x.0 ∷ [], key ∷ [], (x.0, good, refl), refl, refl)));
+        (key ∷ x.0 ∷ [], (key, form.form, refl, refl, (x.0 ∷ [], key ∷ [], (x.0, good, refl), refl, refl)));
     from = λ w.
         let held = good_is_held assets w.1.0 w.1.4.2.0 w.1.4.2.1 in
         ap is_some (subst (λ k. sig_of assets k ≡ Some held.0) w.1.3 held.1);

@@ -5,7 +5,7 @@ use Rattle.def_satisfaction.specs.StackSet.{StackSet}
 use Rattle.def_satisfaction.specs.Rows.{Row, PartsOf}
 use Rattle.def_choice.specs.Tight.{HasOne}
 use Rattle.def_policy.specs.Truth.{how_many}
-use Rattle.ms_laws.proofs.OneDissatisfaction.{one_both}
+use Rattle.ms_row_laws.proofs.UniqueDissatisfaction.{one_both}
 use Rattle.ms_policy_laws.proofs.Says.{Says}
 
 -- one more child is satisfied where it must be, and else dissatisfied

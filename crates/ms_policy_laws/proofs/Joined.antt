@@ -7,7 +7,7 @@ use Rattle.def_satisfaction.specs.StackSet.{Is, Both}
 use Rattle.def_satisfaction.specs.Satisfaction.{canonical}
 use Rattle.def_satisfaction.specs.Rows.{EMPTY, ONE, Row, and_or_row, or_b_row, or_d_row, or_i_row}
 use Rattle.def_choice.specs.Tight.{HasOne}
-use Rattle.ms_laws.proofs.OneDissatisfaction.{one_both}
+use Rattle.ms_row_laws.proofs.UniqueDissatisfaction.{one_both}
 use Rattle.ms_policy_laws.proofs.Says.{Says, says_both, says_either}
 
 -- X and Y, or Z where X is dissatisfied

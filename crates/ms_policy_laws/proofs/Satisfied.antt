@@ -7,7 +7,7 @@ use Rattle.def_tree.specs.declared.Two.TheVariants as kind
 use Rattle.def_tree.specs.declared.Wrapper.TheVariants as wrapper
 use Rattle.def_tree.specs.Tree.{Tree, Trees, just_0, just_1, pk_k, pk_h, older, after, hash, and_or, two, thresh, multi, wrap, none, more}
 use Rattle.def_tree.specs.Range.{IsWritable, AreWritable}
-use Rattle.def_types.specs.Typed.{mall_of, malls_of, IsNonMalleable, AreNonMalleable}
+use Rattle.def_types.specs.Typed.{mall_of, malls_of, IsMallTyped, AreMallTyped}
 use Rattle.def_types.proofs.Rows.{mall_rows}
 use Rattle.def_assets.specs.Assets.{Assets, AreAssets}
 use Rattle.def_sane.proofs.Meanings.{sane_means}
@@ -19,7 +19,7 @@ use Rattle.def_policy.specs.Plain.{plain, plain_each}
 use Rattle.def_policy.specs.Truth.{Facts, facts_of, how_many, is_true, truths}
 use Rattle.def_policy.specs.Laws.{PolicyOfSane}
 use Rattle.def_policy.proofs.Truths.{simple_keeps_truth}
-use Rattle.ms_laws.proofs.OneDissatisfaction.{free_dsat, all_e}
+use Rattle.ms_row_laws.proofs.UniqueDissatisfaction.{free_dsat, all_e}
 use Rattle.ms_policy_laws.proofs.Says.{Says, says_both, says_below}
 use Rattle.ms_policy_laws.proofs.Joined.{says_and_or, says_or_b, says_or_d, says_or_i}
 use Rattle.ms_policy_laws.proofs.Counted.{one_more, no_more}
@@ -36,7 +36,7 @@ module _ (assets : Assets) (are : AreAssets assets) where
     unfolding mall_rows
 
     -- of each miniscript that meets the requirements of malleability
-    pub says : (t : Tree) → IsWritable t → IsNonMalleable t → Says (is_true facts (plain t)) (row s t).sat
+    pub says : (t : Tree) → IsWritable t → IsMallTyped t → Says (is_true facts (plain t)) (row s t).sat
     says just_0 k safe = record { to = λ e. absurd (false≢true e); from = λ w. absurd w.1 }
     says just_1 k safe = record { to = λ e. ([], refl); from = λ w. refl }
     says (pk_k key) k safe = says_key assets are key
@@ -72,7 +72,7 @@ module _ (assets : Assets) (are : AreAssets assets) where
     says (wrap wrapper.N x) k safe = says x k safe.0
 
     -- where so many children can be satisfied, so many of them are, and the others dissatisfied
-    so_many : (xs : Trees) → AreWritable xs → AreNonMalleable xs → all_e (malls_of xs) ≡ true →
+    so_many : (xs : Trees) → AreWritable xs → AreMallTyped xs → all_e (malls_of xs) ≡ true →
         (n : ℕ) → n ≤ how_many (truths facts (plain_each xs)) → HasOne (parts s xs n)
     so_many none k safe e n h = ([], (omega arith, refl))
     so_many (more x xs) k safe e n h =
@@ -81,7 +81,7 @@ module _ (assets : Assets) (are : AreAssets assets) where
         (says x k.0 safe.0) (free_dsat s x k.0 safe.0 p.0) (so_many xs k.1 safe.1 p.1) n h
 
     -- no more children are satisfied than have true policies
-    at_most : (xs : Trees) → AreWritable xs → AreNonMalleable xs → (n : ℕ) (w : Stack) → parts s xs n w → n ≤ how_many (truths facts (plain_each xs))
+    at_most : (xs : Trees) → AreWritable xs → AreMallTyped xs → (n : ℕ) (w : Stack) → parts s xs n w → n ≤ how_many (truths facts (plain_each xs))
     at_most none k safe n w p = let e = p.0 in omega arith
     at_most (more x xs) k safe n w p = no_more _ _ (row s x) (parts s xs) (says x k.0 safe.0) (at_most xs k.1 safe.1) n w p
 

@@ -4,7 +4,7 @@ use Rattle.std.proofs.lemmas.Bool.{false≢true, and_parts, or_cases}
 use Rattle.def_script.specs.Bytes.{Bytes}
 use Rattle.def_satisfaction.specs.StackSet.{StackSet, Is, Both}
 use Rattle.def_choice.specs.Tight.{HasOne}
-use Rattle.ms_laws.proofs.OneDissatisfaction.{one_both}
+use Rattle.ms_row_laws.proofs.UniqueDissatisfaction.{one_both}
 
 -- it is true exactly where there is a stack of the set
 pub record Says (b : Bool) (P : StackSet) : Type 0 where

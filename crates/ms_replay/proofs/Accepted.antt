@@ -19,10 +19,10 @@ use Rattle.def_sane.specs.Unfit.{IsValidUnder}
 use Rattle.def_sane.proofs.Greatest.{limits_are_computed}
 use Rattle.def_satisfaction.specs.Satisfaction.{Sat, Holds}
 use Rattle.def_choice.specs.NonMalleable.{given_with}
-use Rattle.def_emit.specs.Program.{program_of}
+use Rattle.def_machine.specs.Program.{program_of}
 use Rattle.def_promises.specs.Acceptance.{IsAcceptedWithin}
-use Rattle.ms_laws.proofs.Accepted.{canonical_is_accepted}
-use Rattle.ms_laws.proofs.Within.{within_limits, valid_limits}
+use Rattle.ms_acceptance_laws.proofs.Accepted.{canonical_is_accepted}
+use Rattle.ms_row_laws.proofs.WithinLimits.{within_limits, valid_limits}
 use Rattle.ms_interp.specs.Answering.{given_by}
 use Rattle.ms_replay.specs.Answering.{IsAccepting}
 use Rattle.ms_witness.specs.Reading.{FitsWitness}

@@ -1,7 +1,7 @@
 //! The way of a satisfaction to its witness.
 
 ghost use Rattle.std.specs.Prelude.{◌≡◌, ◌≤◌, IfOk};
-ghost use Rattle.def_emit.specs.Program.{program_of as the_program_of};
+ghost use Rattle.def_machine.specs.Program.{program_of as the_program_of};
 ghost use Rattle.def_choice.specs.NonMalleable.{given_with};
 ghost use Rattle.def_emit.specs.Emit.{script_of};
 ghost use Rattle.def_machine.specs.Run.{run as the_run, accepted};
@@ -16,7 +16,7 @@ ghost use Rattle.def_script.specs.Witness.{witness_text};
 ghost use Rattle.def_tree.specs.Range.{IsInRange};
 ghost use Rattle.ms_interp.specs.Answering.{given_by};
 ghost use Rattle.ms_oracle.specs.Sound.{table_of, IsSound};
-ghost use Rattle.ms_replay.specs.Answering.{IsAccepting};
+ghost use Rattle.ms_replay.specs.Answering.{IsReportOf, IsAccepting};
 ghost use Rattle.ms_witness.specs.Replaying.{replay as the_replay, ran};
 ghost use Rattle.ms_tree.specs.Shape.{shape};
 
@@ -65,10 +65,10 @@ pub fn carry<F: Fn(&[u8], &[u8]) -> bool>(
     ensures program { IfOk result (λ carried. carried.program ≡ the_program_of (script_of (shape tree.now))) }
     ensures witness { IfOk result (λ carried. carried.witness ≡ witness_text stack.now (script_of (shape tree.now))) }
     // The report is that of the run, which is accepted.
-    ensures report { IfOk result (λ carried. the_run (given_with assets.now (table_of sigs.now)) (script_of (shape tree.now)) stack.now ≡ accepted carried.report.ops carried.report.peak carried.report.checks) }
+    ensures report { IfOk result (λ carried. IsReportOf (the_run (given_with assets.now (table_of sigs.now)) (script_of (shape tree.now)) stack.now) carried.report) }
     ensures few_ops { (limits : Limits) → AreLimits (shape tree.now) limits → IfOk result (λ carried. carried.report.ops ≤ limits.ops) }
     // So it is under every table that holds the signatures, and within the tree's limits.
-    ensures within { (limits : Limits) → (table : Pairs) → AreLimits (shape tree.now) limits → Holds table assets.now → IsAcceptedWithin (shape tree.now) limits (given_with assets.now table) stack.now }
+    ensures within { (limits : Limits) (table : Pairs) → AreLimits (shape tree.now) limits → Holds table assets.now → IsAcceptedWithin (shape tree.now) limits (given_with assets.now table) stack.now }
 {
     let locks = assets.locks();
     let script = script_bytes(alloc, tree)?;

@@ -1,14 +1,13 @@
 //! What is answered to a run file for a text: whether its stack is accepted, and by which rows it satisfies the text.
-ghost use Rattle.std.specs.Prelude.{◌≡◌, ◌≤◌, length, IfOk};
+ghost use Rattle.std.specs.Prelude.{◌≡◌, ◌≤◌, length};
 ghost use Rattle.std.specs.String.{string_bytes};
 ghost use Rattle.def_tree.specs.Range.{IsInRange};
-ghost use Rattle.def_emit.specs.Emit.{script_of};
-ghost use Rattle.def_machine.specs.Run.{run as the_run};
 ghost use Rattle.def_sane.specs.Unfit.{IsValid};
 ghost use Rattle.def_answer.specs.Laws.{walked, steps_found};
-ghost use Rattle.def_answer.specs.Reply.{reply, MOST_FILE, given_by, audited_reply, witness_reply, audit_reply};
+ghost use Rattle.def_answer.specs.Reply.{reply, MOST_FILE, audited_reply, witness_reply, audit_reply};
 ghost use Rattle.ms_tree.specs.Shape.{shape};
-ghost use Rattle.ms_replies.specs.Choices.{file_seen};
+ghost use Rattle.ms_replies.specs.Choices.{file_seen, outcome_for};
+ghost use Rattle.ms_replies.specs.Answering.{RepliesWith};
 
 use crate::files::file_answer;
 use def_answer::Status;
@@ -27,7 +26,7 @@ pub fn audit_answer(alloc: Global, text: &TextTree<'_>, bytes: &[u8]) -> Result<
     requires in_range { IsInRange (shape text.now.tree) }
     requires valid { IsValid (shape text.now.tree) }
     requires short { length bytes.now ≤ MOST_FILE }
-    ensures { IfOk result (λ answer. reply answer.status (string_bytes answer.report) ≡ audit_reply text.now.offsets.items (walked (shape text.now.tree) bytes.now) bytes.now (shape text.now.tree)) }
+    ensures { RepliesWith result (audit_reply text.now.offsets.items (walked (shape text.now.tree) bytes.now) bytes.now (shape text.now.tree)) }
 {
     match read_run(alloc, bytes) {
         Ok(file) => witness_answer(alloc, text, &file),
@@ -40,7 +39,7 @@ fn witness_answer(alloc: Global, text: &TextTree<'_>, file: &RunFile) -> Result<
     requires in_range { IsInRange (shape text.now.tree) }
     requires valid { IsValid (shape text.now.tree) }
     requires few { length file.now.stack ≤ 2000 }
-    ensures { IfOk result (λ answer. reply answer.status (string_bytes answer.report) ≡ witness_reply text.now.offsets.items (steps_found (shape text.now.tree) (file_seen file.now)) (shape text.now.tree) (file_seen file.now)) }
+    ensures { RepliesWith result (witness_reply text.now.offsets.items (steps_found (shape text.now.tree) (file_seen file.now)) (shape text.now.tree) (file_seen file.now)) }
 {
     let script = script_bytes(alloc, text.tree())?;
     if file.script.as_slice() != script.as_slice() {
@@ -55,7 +54,7 @@ fn audited_answer(alloc: Global, text: &TextTree<'_>, file: &RunFile) -> Result<
     requires in_range { IsInRange (shape text.now.tree) }
     requires valid { IsValid (shape text.now.tree) }
     requires few { length file.now.stack ≤ 2000 }
-    ensures { IfOk result (λ answer. reply answer.status (string_bytes answer.report) ≡ audited_reply text.now.offsets.items (steps_found (shape text.now.tree) (file_seen file.now)) (the_run (given_by (file_seen file.now)) (script_of (shape text.now.tree)) file.now.stack)) }
+    ensures { RepliesWith result (audited_reply text.now.offsets.items (steps_found (shape text.now.tree) (file_seen file.now)) (outcome_for (shape text.now.tree) (file_seen file.now))) }
 {
     let pairs = file.pairs.as_slice();
     let index = PairIndex::new(alloc, pairs)?;

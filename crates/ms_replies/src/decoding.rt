@@ -12,7 +12,7 @@ use hex::FromHexError;
 use ms_decode::decode;
 use ms_report::{Answer, decode_report};
 use ms_tree::Key;
-use ms_words::{Word, key_of};
+use ms_words::Word;
 use std::alloc::{AllocError, Global};
 
 /// The answer to a Script, whose digits these are, as `decode` gives it: the text that it is read back as with these
@@ -73,5 +73,5 @@ fn spelled_key(word: &Word) -> Key
     requires { IsSome (the_key_of word.now) }
     ensures { result ≡ bytes_of word.now }
 {
-    key_of(word.as_str()).unwrap()
+    word.key().unwrap()
 }

@@ -1,8 +1,8 @@
 //! What is answered to an asset file or a run file that is refused.
-ghost use Rattle.std.specs.Prelude.{◌≡◌, ◌≢◌, IfOk};
-ghost use Rattle.std.specs.String.{string_bytes};
+ghost use Rattle.std.specs.Prelude.{◌≢◌, IfOk};
 ghost use Rattle.def_answer.specs.Lines.{file_line as the_file_line};
 ghost use Rattle.def_answer.specs.Reply.{reply};
+ghost use Rattle.ms_replies.specs.Answering.{RepliesWith};
 
 use def_answer::Status;
 use ms_assets::AssetFault;
@@ -11,7 +11,7 @@ use std::alloc::{AllocError, Global};
 
 /// The refusal of a file, unless memory was wanting.
 pub fn file_answer(alloc: Global, fault: AssetFault) -> Result<Answer, AllocError>
-    ensures answer { IfOk result (λ answer. reply answer.status (string_bytes answer.report) ≡ reply Status.FileRefused (the_file_line fault)) }
+    ensures answer { RepliesWith result (reply Status.FileRefused (the_file_line fault)) }
     ensures known { IfOk result (λ answer. fault ≢ AssetFault.Memory) }
 {
     Ok(Answer {

@@ -5,7 +5,7 @@ ghost use Rattle.def_tree.specs.Size.{measure};
 ghost use Rattle.ms_tree.specs.Shape.{shape};
 ghost use Rattle.ms_sane.specs.Place.{IsOfTree};
 ghost use Rattle.ms_sane.specs.Short.{IsShort};
-ghost use Rattle.ms_replies.specs.Fits.{demand_by, demand_of as the_demand_of, rules_for, reason_for, IsKnown, IsReason, limits_in, misfit_of};
+ghost use Rattle.ms_replies.specs.Fits.{demand_of as the_demand_of, rules_for, reason_for, IsKnown, IsReason, limits_in, misfit_of};
 ghost use Rattle.ms_replies.specs.declared.fit.Misfit.TheVariants.{Memory as NoMemory};
 
 use ms_sane::{
@@ -18,28 +18,36 @@ use std::alloc::{AllocError, Global};
 /// What is asked of the tree of a text: to be valid or to be sane, by these rules.
 #[derive(Clone, Copy, Debug, PartialEq, Eq)]
 pub enum Demand {
+    /// To be valid by these rules.
     Valid(Rules),
+    /// To be sane by these rules.
     Sane(Rules),
 }
 
 /// What is known of a tree that passed.
 #[derive(Clone, Copy, Debug, PartialEq, Eq)]
 pub enum Known {
+    /// Of a tree that is valid.
     Valid(Valid),
+    /// Of a tree that is sane.
     Sane(Sane),
 }
 
 /// A tree that passed: what is known of it, and the working room in which that was found.
 #[derive(Drop)]
 pub struct Fit {
+    /// What is known of the tree.
     pub known: Known,
+    /// The working room, which may be used again.
     pub work: Work,
 }
 
 /// Why a tree didn't pass: a reason against it, or want of memory.
 #[derive(Clone, Copy, Debug, PartialEq, Eq)]
 pub enum Misfit {
+    /// The first reason against the tree.
     Unfit(Unfit),
+    /// There was no memory.
     Memory,
 }
 

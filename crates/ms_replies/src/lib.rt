@@ -6,7 +6,7 @@ pub use decoding::decode_answer;
 pub use fit::{Demand, Fit, Known, Misfit, demand_of, fit_tree};
 pub use plans::plan_answer;
 pub use runs::run_answer;
-pub use satisfying::assets_answer;
+pub use satisfying::{assets_answer, satisfaction};
 
 mod audits;
 mod decoding;

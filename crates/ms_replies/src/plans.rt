@@ -1,6 +1,5 @@
 //! What is answered to a plan file: which keys to ask for a signature, and what the satisfaction weighs at most.
-ghost use Rattle.std.specs.Prelude.{◌≡◌, ◌≢◌, ◌≤◌, length, IfOk};
-ghost use Rattle.std.specs.String.{string_bytes};
+ghost use Rattle.std.specs.Prelude.{◌≢◌, ◌≤◌, length, IfOk};
 ghost use Rattle.def_tree.specs.Range.{IsInRange};
 ghost use Rattle.def_sane.specs.Unfit.{IsSane};
 ghost use Rattle.def_plan.specs.FileLaws.{IsPlanFile};
@@ -8,6 +7,7 @@ ghost use Rattle.def_plan.specs.Plan.{plan_of};
 ghost use Rattle.def_answer.specs.Lines.{plan_file_line as the_plan_file_line};
 ghost use Rattle.def_answer.specs.Reply.{reply, MOST_FILE, plan_reply, planned_reply};
 ghost use Rattle.ms_tree.specs.Shape.{shape};
+ghost use Rattle.ms_replies.specs.Answering.{RepliesWith};
 
 use def_answer::Status;
 use ms_plan::{Estimate, PlanFault, PlanFile, length_in, plan, read_plan};
@@ -22,7 +22,7 @@ pub fn plan_answer(alloc: Global, tree: &Tree<'_>, bytes: &[u8]) -> Result<Answe
     requires in_range { IsInRange (shape tree.now) }
     requires sane { IsSane (shape tree.now) }
     requires short { length bytes.now ≤ MOST_FILE }
-    ensures { IfOk result (λ answer. reply answer.status (string_bytes answer.report) ≡ plan_reply bytes.now (shape tree.now)) }
+    ensures { RepliesWith result (plan_reply bytes.now (shape tree.now)) }
 {
     match read_plan(alloc, bytes) {
         Ok(file) => planned_answer(alloc, tree, &file),
@@ -35,7 +35,7 @@ fn planned_answer(alloc: Global, tree: &Tree<'_>, file: &PlanFile) -> Result<Ans
     requires in_range { IsInRange (shape tree.now) }
     requires sane { IsSane (shape tree.now) }
     requires usable { IsPlanFile file.now }
-    ensures { IfOk result (λ answer. reply answer.status (string_bytes answer.report) ≡ planned_reply (plan_of (shape tree.now) file.now.assets file.now.table)) }
+    ensures { RepliesWith result (planned_reply (plan_of (shape tree.now) file.now.assets file.now.table)) }
 {
     let table = file.table.as_slice();
     let estimate = Estimate::new(table, |key: &Key| length_in(table, key));
@@ -53,7 +53,7 @@ fn planned_answer(alloc: Global, tree: &Tree<'_>, file: &PlanFile) -> Result<Ans
 
 /// The refusal of a plan file, unless memory was wanting.
 fn plan_file_answer(alloc: Global, fault: PlanFault) -> Result<Answer, AllocError>
-    ensures answer { IfOk result (λ answer. reply answer.status (string_bytes answer.report) ≡ reply Status.FileRefused (the_plan_file_line fault)) }
+    ensures answer { RepliesWith result (reply Status.FileRefused (the_plan_file_line fault)) }
     ensures known { IfOk result (λ answer. fault ≢ PlanFault.Memory) }
 {
     Ok(Answer {

@@ -1,8 +1,8 @@
 //! What is answered to a run file.
-ghost use Rattle.std.specs.Prelude.{◌≡◌, ◌≤◌, length, IfOk};
-ghost use Rattle.std.specs.String.{string_bytes};
-ghost use Rattle.def_machine.specs.Run.{run as the_run};
-ghost use Rattle.def_answer.specs.Reply.{reply, MOST_FILE, outcome_reply, run_reply};
+ghost use Rattle.std.specs.Prelude.{◌≤◌, length};
+ghost use Rattle.def_answer.specs.Reply.{MOST_FILE, outcome_reply, run_reply};
+ghost use Rattle.ms_replies.specs.Choices.{file_seen, outcome_of};
+ghost use Rattle.ms_replies.specs.Answering.{RepliesWith};
 
 use crate::files::file_answer;
 use def_answer::Status;
@@ -16,7 +16,7 @@ use std::alloc::{AllocError, Global};
 /// demands that the file isn't too long. `AllocError` comes only where memory is wanting.
 pub fn run_answer(alloc: Global, bytes: &[u8]) -> Result<Answer, AllocError>
     requires { length bytes.now ≤ MOST_FILE }
-    ensures { IfOk result (λ answer. reply answer.status (string_bytes answer.report) ≡ run_reply bytes.now) }
+    ensures { RepliesWith result (run_reply bytes.now) }
 {
     match read_run(alloc, bytes) {
         Ok(file) => outcome_answer(alloc, &file),
@@ -27,7 +27,7 @@ pub fn run_answer(alloc: Global, bytes: &[u8]) -> Result<Answer, AllocError>
 /// The answer to a run file that was read: what its run came to.
 fn outcome_answer(alloc: Global, file: &RunFile) -> Result<Answer, AllocError>
     requires { length file.now.stack ≤ 2000 }
-    ensures { IfOk result (λ answer. reply answer.status (string_bytes answer.report) ≡ outcome_reply (the_run (record { table = file.now.pairs; locks = file.now.locks }) file.now.script file.now.stack)) }
+    ensures { RepliesWith result (outcome_reply (outcome_of (file_seen file.now))) }
 {
     let pairs = file.pairs.as_slice();
     let index = PairIndex::new(alloc, pairs)?;

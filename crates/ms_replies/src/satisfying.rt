@@ -7,9 +7,10 @@ ghost use Rattle.def_sane.specs.declared.Rules.TheVariants.{Consensus};
 ghost use Rattle.def_sane.specs.Unfit.{IsValidUnder};
 ghost use Rattle.def_satisfaction.specs.Satisfaction.{Sat};
 ghost use Rattle.ms_tree.specs.Shape.{shape};
-ghost use Rattle.def_answer.specs.Reply.{reply, MOST_FILE, chosen_reply, satisfy_reply};
+ghost use Rattle.def_answer.specs.Reply.{MOST_FILE, chosen_reply, satisfy_reply};
 ghost use Rattle.def_answer.specs.Report.{tree_limits_line, satisfy_report as the_satisfy_report};
 ghost use Rattle.ms_replies.specs.Choices.{chosen_by, rules_by, reason_by};
+ghost use Rattle.ms_replies.specs.Answering.{RepliesWith};
 
 use crate::files::file_answer;
 use def_answer::Status;
@@ -38,7 +39,7 @@ pub fn assets_answer(
     requires fit { reason_by choice (shape tree.now) ≡ None }
     requires limits { limits.now ≡ tree_limits_line (rules_by choice) (shape tree.now) }
     requires short { length bytes.now ≤ MOST_FILE }
-    ensures { IfOk result (λ answer. reply answer.status (string_bytes answer.report) ≡ satisfy_reply (rules_by choice) (chosen_by choice) bytes.now (shape tree.now)) }
+    ensures { RepliesWith result (satisfy_reply (rules_by choice) (chosen_by choice) bytes.now (shape tree.now)) }
 {
     match read_assets(alloc, bytes) {
         Ok(assets) => chosen_answer(alloc, choice, tree, limits, &assets),
@@ -57,7 +58,7 @@ fn chosen_answer(
     requires in_range { IsInRange (shape tree.now) }
     requires fit { reason_by choice (shape tree.now) ≡ None }
     requires limits { limits.now ≡ tree_limits_line (rules_by choice) (shape tree.now) }
-    ensures { IfOk result (λ answer. reply answer.status (string_bytes answer.report) ≡ chosen_reply (rules_by choice) (shape tree.now) assets.now (chosen_by choice (shape tree.now) assets.now)) }
+    ensures { RepliesWith result (chosen_reply (rules_by choice) (shape tree.now) assets.now (chosen_by choice (shape tree.now) assets.now)) }
 {
     match satisfaction(alloc, choice, tree, assets)? {
         Some(stack) => Ok(Answer {
@@ -71,8 +72,9 @@ fn chosen_answer(
     }
 }
 
-/// The satisfaction of a tree by these assets, where there is one.
-fn satisfaction(
+/// The satisfaction of a tree by these assets that is chosen, where there is one. It demands that there is no reason against the
+/// tree. `AllocError` comes only where memory is wanting.
+pub fn satisfaction(
     alloc: Global,
     choice: Choice,
     tree: &Tree<'_>,

@@ -2,4 +2,3 @@ mod TreeLines
 mod ItemLines
 mod PlanLines
 mod PolicyLines
-pub mod Weights

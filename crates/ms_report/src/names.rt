@@ -14,6 +14,7 @@ macro_rules! names {
     };
 }
 
+/// The name of a rule of the types, as a report prints it. Takes no memory.
 pub fn rule_name(rule: Rule) -> &'static str
     ensures { result.now ≡ the_rule_name rule }
 {
@@ -24,6 +25,7 @@ pub fn rule_name(rule: Rule) -> &'static str
     })
 }
 
+/// The name of a fault of a run, as a report prints it. Takes no memory.
 pub fn script_fault_name(fault: ScriptFault) -> &'static str
     ensures { result.now ≡ the_script_fault_name fault }
 {
@@ -34,6 +36,7 @@ pub fn script_fault_name(fault: ScriptFault) -> &'static str
     })
 }
 
+/// The letter of a base type (BIP 379). Takes no memory.
 pub fn base_letter(base: Base) -> &'static str
     ensures { result.now ≡ the_base_letter base }
 {

@@ -4,7 +4,7 @@ ghost use Rattle.std.specs.String.{string_bytes};
 ghost use Rattle.def_machine.specs.Run.{accepted};
 ghost use Rattle.def_answer.specs.Report.{item_line, replay_line as the_replay_line};
 ghost use Rattle.ms_report.specs.Satisfactions.{satisfaction_lines};
-ghost use Rattle.ms_script.specs.Stacks.{weight as the_weight};
+ghost use Rattle.def_script.specs.Witness.{weight as the_weight};
 
 use crate::lines::{push_line, push_output};
 use ms_interp::RunReport;

@@ -13,7 +13,8 @@ use Rattle.def_sane.specs.Formal.{Takes, one, empty}
 use Rattle.def_sane.specs.Most.{both, either, most_sat, most_dsat, most_parts}
 use Rattle.ms_sane.specs.declared.takes.Most as rust
 use Rattle.ms_sane.specs.declared.takes.Takes as rust_takes
-use Rattle.ms_sane.specs.Takes.{taken, IsLightOption, IsLightMost}
+use Rattle.ms_sane.specs.Scaffolding.Takes.{taken, IsLightOption, IsLightMost}
+use Rattle.def_script.proofs.KeyLemmas.{key_length}
 
 pub record IsWithin (n : ℕ) (t : Takes) : Type 0 where
   pub items : t.items ≤ n
@@ -57,7 +58,7 @@ mutual
   sat_within just_0 w h = tt
   sat_within just_1 w h = record { items = omega arith; weight = omega arith; keys = omega arith }
   sat_within (pk_k key) w h = record { items = omega arith; weight = omega arith; keys = omega arith }
-  sat_within (pk_h key) w h = record { items = omega (arith, w.length); weight = omega (arith, w.length); keys = omega arith }
+  sat_within (pk_h key) w h = let long = key_length key w.form in record { items = omega (arith, long); weight = omega (arith, long); keys = omega arith }
   sat_within (older n) w h = record { items = omega arith; weight = omega arith; keys = omega arith }
   sat_within (after n) w h = record { items = omega arith; weight = omega arith; keys = omega arith }
   sat_within (hash kind value) w h = record { items = omega arith; weight = omega arith; keys = omega arith }
@@ -99,7 +100,7 @@ mutual
   dsat_within just_0 w h = record { items = omega arith; weight = omega arith; keys = omega arith }
   dsat_within just_1 w h = tt
   dsat_within (pk_k key) w h = record { items = omega arith; weight = omega arith; keys = omega arith }
-  dsat_within (pk_h key) w h = record { items = omega (arith, w.length); weight = omega (arith, w.length); keys = omega arith }
+  dsat_within (pk_h key) w h = let long = key_length key w.form in record { items = omega (arith, long); weight = omega (arith, long); keys = omega arith }
   dsat_within (older n) w h = tt
   dsat_within (after n) w h = tt
   dsat_within (hash kind value) w h = record { items = omega arith; weight = omega arith; keys = omega arith }

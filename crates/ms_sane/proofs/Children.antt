@@ -1,23 +1,77 @@
 -- The children of a threshold: their room, and what they are to a choice.
-use Rattle.std.proofs.Common.{◌≡◌, ℕ, zero, suc, ◌+◌, ◌-◌, ◌<◌, ◌≤◌, List, [], ◌∷◌, length, get_or, All, refl, sym, ap, subst, arith, length-append, length-take, length-drop}
-use borrow.Rule.Slice.PartMut.{put_mid}
+use Rattle.std.proofs.Common.{◌≡◌, ℕ, zero, suc, ◌+◌, ◌<◌, ◌≤◌, max, List, [], ◌∷◌, ◌++◌, Option, Some, None, length, take, get_or, All, refl, sym, ◌∙◌, ap, subst, arith}
+use Rattle.std.specs.Option.{option_map}
+use Rattle.std.proofs.lemmas.List.{map_more}
 use Rattle.def_tree.specs.Tree as model
 use Rattle.def_tree.specs.Size.{measure, measure_of}
 use Rattle.def_types.specs.Typed.{IsTyped, AreTyped}
-use Rattle.def_sane.specs.Most.{counted, most_sat, most_dsat, most_parts}
+use Rattle.def_sane.specs.Formal.{Takes, nothing, plus}
+use Rattle.def_sane.specs.Most.{greater, both, either, counted, most_sat, most_dsat, most_parts}
 use Rattle.ms_tree.specs.declared.tree.Tree.{Tree}
 use Rattle.ms_tree.specs.Shape.{shape, shapes}
-use Rattle.ms_sane.specs.declared.work.Slot.{Slot}
-use Rattle.ms_sane.specs.Choice.{most_chosen}
-use Rattle.ms_sane.specs.Most.{children_of}
+use Rattle.ms_choice.specs.declared.children.Number.{Number}
+use Rattle.ms_choice.specs.declared.children.Number.TheVariants.{First, Second, Third}
+use Rattle.ms_choice.specs.Choice.{heavier, greatest}
+use Rattle.ms_choice.proofs.Totals.{each_number}
+use Rattle.ms_choice.proofs.Picks.{added, counted_most, most_chosen, greatest_is}
+use Rattle.ms_choice.specs.declared.children.Costs.{Costs}
+use Rattle.ms_sane.specs.Scaffolding.Takes.{takes_at, costs_at}
+use Rattle.ms_sane.specs.Scaffolding.Most.{children_in}
 
--- the children of a threshold are chosen as its formal satisfactions are counted
-chosen_is_parts : (xs : List Tree) → most_chosen (children_of xs) ≡ most_parts (shapes xs)
-chosen_is_parts [] = refl
-chosen_is_parts (x ∷ xs) = ap (counted (most_sat (shape x)) (most_dsat (shape x))) (chosen_is_parts xs)
+-- a number of both, and of either
+number_of_both : (n : Number) (a c : Option Takes) → option_map (takes_at n) (both a c) ≡ added (option_map (takes_at n) c) (option_map (takes_at n) a)
+number_of_both n None None = refl
+number_of_both n None (Some c) = refl
+number_of_both n (Some a) None = refl
+number_of_both n (Some a) (Some c) = ap Some (each_number (λ n. takes_at n (plus a c) ≡ takes_at n c + takes_at n a) (omega arith) (omega arith) (omega arith) n)
 
-pub parts_chosen : (xs : List Tree) (k : ℕ) → most_chosen (children_of xs) k ≡ most_parts (shapes xs) k
-parts_chosen xs k = ap (λ f. f k) (chosen_is_parts xs)
+number_of_either : (n : Number) (a c : Option Takes) → option_map (takes_at n) (either a c) ≡ heavier (option_map (takes_at n) a) (option_map (takes_at n) c)
+number_of_either n None c = refl
+number_of_either n (Some a) None = refl
+number_of_either n (Some a) (Some c) = ap Some (each_number (λ n. takes_at n (greater a c) ≡ max (takes_at n a) (takes_at n c)) refl refl refl n)
+
+number_of_counted : (n : Number) (s d : Option Takes) (others : ℕ → Option Takes) (numbers : ℕ → Option ℕ) → ((k : ℕ) → option_map (takes_at n) (others k) ≡ numbers k) → (k : ℕ)
+    → option_map (takes_at n) (counted s d others k) ≡ counted_most (option_map (takes_at n) s) (option_map (takes_at n) d) numbers k
+number_of_counted n s d others numbers are zero =
+    number_of_both n (others zero) d ∙ ap (added (option_map (takes_at n) d)) (are zero)
+number_of_counted n s d others numbers are (suc k) =
+    number_of_either n (both (others k) s) (both (others (suc k)) d) ∙
+    ap (λ o. heavier o (option_map (takes_at n) (both (others (suc k)) d))) (number_of_both n (others k) s ∙ ap (added (option_map (takes_at n) s)) (are k)) ∙
+    ap (heavier (added (option_map (takes_at n) s) (numbers k))) (number_of_both n (others (suc k)) d ∙ ap (added (option_map (takes_at n) d)) (are (suc k)))
+
+-- in each number the children of a threshold are chosen as its formal satisfactions are counted
+parts_are : (n : Number) (xs : List Tree) (k : ℕ) → option_map (takes_at n) (most_parts (shapes xs) k) ≡ most_chosen (children_in n xs) k
+parts_are n [] zero = ap Some (each_number (λ n. takes_at n nothing ≡ 0) refl refl refl n)
+parts_are n [] (suc k) = refl
+parts_are n (x ∷ xs) k =
+    number_of_counted n (most_sat (shape x)) (most_dsat (shape x)) (most_parts (shapes xs)) (most_chosen (children_in n xs)) (parts_are n xs) k
+
+pub parts_chosen : (n : Number) (xs : List Tree) (k : ℕ) → option_map (takes_at n) (most_parts (shapes xs) k) ≡ greatest (children_in n xs) k
+parts_chosen n xs k = parts_are n xs k ∙ sym (greatest_is (children_in n xs) k)
+
+-- three numbers are what is taken
+pub same_takes : (o p : Option Takes) → ((n : Number) → option_map (takes_at n) o ≡ option_map (takes_at n) p) → o ≡ p
+same_takes None None is = refl
+same_takes None (Some u) is = absurd (let e = is First in let never : ⊥ = cc in never)
+same_takes (Some t) None is = absurd (let e = is First in let never : ⊥ = cc in never)
+same_takes (Some t) (Some u) is =
+    let first = is First in
+    let second = is Second in
+    let third = is Third in
+    let items : t.items ≡ u.items = cc in
+    let weight : t.weight ≡ u.weight = cc in
+    let keys : t.keys ≡ u.keys = cc in
+    λ i. Some (record { items = items i; weight = weight i; keys = keys i })
+
+-- a further child
+pub costs_alike : (n : Number) {s d t u : Option Takes} → s ≡ t → d ≡ u → costs_at n s d ≡ costs_at n t u
+costs_alike n e f = λ i. costs_at n (e i) (f i)
+
+pub children_more : (n : Number) (xs : List Tree) (i : ℕ) (x : Tree) (c : Costs) → i < length xs → x ≡ get_or xs i x → c ≡ costs_at n (most_sat (shape x)) (most_dsat (shape x))
+    → children_in n (take i xs) ++ c ∷ [] ≡ children_in n (take (i + 1) xs)
+children_more n xs i x c below at is =
+    let child : Tree → Costs = λ y. costs_at n (most_sat (shape y)) (most_dsat (shape y)) in
+    ap (λ d. children_in n (take i xs) ++ d ∷ []) (is ∙ ap child at) ∙ sym (map_more child xs i x below)
 
 measure_positive : (t : model.Tree) → 1 ≤ measure t
 measure_positive model.just_0 = omega arith
@@ -54,7 +108,3 @@ pub typed_children : (xs : List Tree) → AreTyped (shapes xs) → All (λ t. Is
 typed_children [] typed i d below = absurd (omega (arith, below))
 typed_children (x ∷ xs) typed zero d below = typed.0
 typed_children (x ∷ xs) typed (suc i) d below = typed_children xs typed.1 i d (omega (arith, below))
-
--- after a write to the slots from a on
-pub length_written : (a : ℕ) (xs ys : List Slot) → a ≤ length xs → length ys ≡ length xs - a → length (put_mid a (length xs - a) xs ys) ≡ length xs
-length_written a xs ys le same = grind (arith, length-append, length-take, length-drop)

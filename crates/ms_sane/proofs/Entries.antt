@@ -14,7 +14,8 @@ use Rattle.std.proofs.Math.Seq.{drop-cons}
 use Rattle.def_script.specs.Bytes.{IsBytes}
 use Rattle.def_tree.specs.Tree.{Key}
 use Rattle.def_tree.specs.Range.{IsKey}
-use Rattle.ms_sane.specs.Repeats.{word, entry, is_equal, is_same}
+use Rattle.ms_sane.specs.Scaffolding.Repeats.{word, entry, is_equal, is_same}
+use Rattle.def_script.proofs.KeyLemmas.{key_length}
 
 -- eight bytes make a number of 64 bits
 within : (bytes : List ℕ) → IsBytes bytes → from_be_bytes w64 bytes < 2 ^ 64
@@ -72,8 +73,8 @@ record AreAlike (k l : Key) : Type 0 where
 
 from_slots : (k l : Key) → IsKey k → IsKey l → AreAlike k l → k ≡ l
 from_slots k l k_is l_is alike =
-    let k_33 : AreBytes 33 k = record { count_is = k_is.length; all = k_is.bytes } in
-    let l_33 : AreBytes 33 l = record { count_is = l_is.length; all = l_is.bytes } in
+    let k_33 : AreBytes 33 k = record { count_is = key_length k k_is.form; all = k_is.bytes } in
+    let l_33 : AreBytes 33 l = record { count_is = key_length l l_is.form; all = l_is.bytes } in
     let k_25 = others 25 k k_33 in
     let l_25 = others 25 l l_33 in
     let k_17 = others 17 (drop 8 k) k_25 in
@@ -82,7 +83,7 @@ from_slots k l k_is l_is alike =
     let l_9 = others 9 (drop 8 (drop 8 l)) l_17 in
     let byte = same_number (get_or k 32 0) (get_or l 32 0) (omega (arith, k_is.bytes 32)) (omega (arith, l_is.bytes 32)) alike.last in
     let ends : drop 8 (drop 8 (drop 8 (drop 8 k))) ≡ drop 8 (drop 8 (drop 8 (drop 8 l))) =
-    last_alone k k_is.length ∙ ap (λ b. b ∷ []) byte ∙ sym (last_alone l l_is.length) in
+    last_alone k (key_length k k_is.form) ∙ ap (λ b. b ∷ []) byte ∙ sym (last_alone l (key_length l l_is.form)) in
     from_parts 25 k l k_33 l_33 alike.first
     (from_parts 17 (drop 8 k) (drop 8 l) k_25 l_25 alike.second
     (from_parts 9 (drop 8 (drop 8 k)) (drop 8 (drop 8 l)) k_17 l_17 alike.third
@@ -111,5 +112,5 @@ pub packed : (node : ℕ) (key : Key) (words : List (List ℕ)) (a b c d : ℤ) 
     → a ≡ word (get_or words 0 []) → b ≡ word (get_or words 1 []) → c ≡ word (get_or words 2 []) → d ≡ word (get_or words 3 [])
     → (record { first = a; second = b; third = c; place = 0 } ∷ record { first = d; second = cast_signed w64 (get_or key 32 0); third = pos 0; place = node } ∷ []) ≡ entry (node, key)
 packed node key words a b c d is chunks first second third fourth =
-    let four : words ≡ first_chunks 8 4 key = rw is.length at chunks in
+    let four : words ≡ first_chunks 8 4 key = rw (key_length key is.form) at chunks in
     rw (first, second, third, fourth, four) (refl {a = entry (node, key)})

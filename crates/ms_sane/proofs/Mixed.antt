@@ -14,7 +14,7 @@ use Rattle.def_tree.specs.Nodes.{all_nodes, nodes_of_all}
 use Rattle.def_sane.specs.Locks.{Kinds, union, conflict, kinds, kinds_of_all, kinds_of_each, some_conflict, mixes, mix}
 use Rattle.def_tree.proofs.NodeLists.{nodes_are_all, trees_are_all}
 use Rattle.def_sane.proofs.FirstMix.{position_from-append}
-use Rattle.ms_sane.specs.Mixing.{kinds_from, kinds_from_each, of_node, asks_both, union_all}
+use Rattle.ms_sane.specs.Scaffolding.Mixing.{kinds_from, kinds_from_each, of_node, asks_both, union_all}
 
 -- the value, unless a node mixes
 abbrev unless_mixed : {A : Type 0} → Option ℕ → A → Result A ℕ

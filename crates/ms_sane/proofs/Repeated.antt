@@ -13,7 +13,7 @@ use Rattle.def_sane.specs.Keys.{own_keys, repeats, repeated_from, repeated_key}
 use Rattle.def_tree.proofs.NodeLists.{nodes_are_all, trees_are_all}
 use Rattle.ms_tree.specs.declared.tree.Tree as trees
 use Rattle.ms_tree.specs.Shape.{shape, shapes}
-use Rattle.ms_sane.specs.Repeats.{held, held_in, held_by, entry, is_same, repeats_first}
+use Rattle.ms_sane.specs.Scaffolding.Repeats.{held, held_in, held_by, entry, is_same, repeats_first}
 use Rattle.ms_sane.proofs.Entries.{same_keys}
 
 abbrev Held : Type 0

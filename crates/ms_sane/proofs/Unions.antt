@@ -5,7 +5,7 @@ use Rattle.std.proofs.lemmas.List.Folds.{list_any-append}
 use Rattle.std.proofs.Math.Bool.{or_assoc, or-false}
 use Rattle.def_sane.specs.Locks.{Kinds, no_kinds, union, conflict, some_conflict}
 use Rattle.ms_sane.specs.declared.kinds.Together.{Together}
-use Rattle.ms_sane.specs.Mixing.{union_all, together}
+use Rattle.ms_sane.specs.Scaffolding.Mixing.{union_all, together}
 
 exchange : (a b c d : Bool) → ((a || b) || (c || d)) ≡ ((a || c) || (b || d))
 exchange true b c d = refl

@@ -5,7 +5,7 @@ use Rattle.def_tree.specs.Size.{measure}
 use Rattle.def_types.specs.declared.Base.TheVariants.{B}
 use Rattle.def_types.specs.Corr.{corr}
 use Rattle.def_emit.specs.Emit.{emit, script_of}
-use Rattle.def_sane.specs.Limits.{opcode_count}
+use Rattle.def_script.specs.Instruction.{opcode_count}
 use Rattle.def_sane.specs.declared.Rules.{Rules}
 use Rattle.def_sane.specs.Unfit.{size_limit}
 use Rattle.ms_emit.specs.declared.extent.Extent.{Extent}

@@ -5,9 +5,10 @@ ghost use Rattle.def_tree.specs.Range.{IsInRange};
 ghost use Rattle.def_tree.specs.Size.{nodes, nodes_of, measure, measure_of};
 ghost use Rattle.def_sane.specs.Keys.{repeated_key as the_repeated_key};
 ghost use Rattle.ms_tree.specs.Shape.{shape, shapes};
-ghost use Rattle.ms_sane.specs.Repeats.{entry, held, held_in, held_by, is_same, repeats_first};
+ghost use Rattle.ms_sane.specs.Scaffolding.Repeats.{entry, held, held_in, held_by, is_same, repeats_first};
 
-use crate::work::{Slot, Work};
+use crate::work::Work;
+use ms_choice::Slot;
 use ms_tree::{Key, Leaf, Tree, View};
 
 /// A key and the number of the node that holds it, in two slots.

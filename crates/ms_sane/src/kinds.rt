@@ -40,6 +40,7 @@ impl Model for Kinds {
 }
 
 impl Kinds {
+    /// No kind of timelock.
     pub fn none() -> Kinds
         ensures { result ≡ no_kinds }
     {
@@ -102,12 +103,14 @@ impl Kinds {
 /// The kinds of a threshold's children, and whether some two of them conflict.
 #[derive(Clone, Copy)]
 pub struct Together {
+    /// The kinds of all of them.
     pub kinds: Kinds,
+    /// Whether some two of them conflict.
     pub is_mixed: bool,
 }
 
 impl Together {
-    ghost use Rattle.ms_sane.specs.Mixing.{together};
+    ghost use Rattle.ms_sane.specs.Scaffolding.Mixing.{together};
 
     /// No child.
     pub fn none() -> Together

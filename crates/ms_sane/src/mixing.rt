@@ -4,7 +4,7 @@ ghost use Rattle.def_tree.specs.Range.{IsInRange};
 ghost use Rattle.def_tree.specs.Size.{nodes, nodes_of};
 ghost use Rattle.def_sane.specs.Locks.{mix as the_mix};
 ghost use Rattle.ms_tree.specs.Shape.{shape, shapes};
-ghost use Rattle.ms_sane.specs.Mixing.{kinds_from as the_kinds_from, kinds_from_each, of_node, asks_both as asks_for_both, together_of};
+ghost use Rattle.ms_sane.specs.Scaffolding.Mixing.{kinds_from as the_kinds_from, kinds_from_each, of_node, asks_both as asks_for_both, together_of};
 
 use crate::kinds::{Kinds, Together};
 use ms_tree::{Tree, Two, View};

@@ -6,12 +6,11 @@ ghost use Rattle.def_tree.specs.Tree as tree;
 ghost use Rattle.def_types.specs.Typed.{IsTyped};
 ghost use Rattle.def_sane.specs.Most.{most_sat, most_dsat};
 ghost use Rattle.ms_tree.specs.Shape.{shape, shapes, leaf_shape};
-ghost use Rattle.ms_sane.specs.Takes.{taken, IsLightMost};
-ghost use Rattle.ms_sane.specs.Most.{IsReady};
+ghost use Rattle.ms_sane.specs.Scaffolding.Takes.{taken, IsLightMost};
+ghost use Rattle.ms_sane.specs.Scaffolding.Most.{IsReady};
 
-use crate::choice::Tally;
-use crate::takes::{Most, Takes, both, either};
-use crate::work::Slot;
+use crate::takes::{Most, Takes, both, either, taken_of};
+use ms_choice::{Slot, Tally};
 use ms_tree::{Key, Leaf, Tree, Two, View, Wrapper};
 
 /// The longest signature, in bytes.
@@ -139,10 +138,10 @@ fn of_thresh(k: u64, children: &[Tree<'_>], slots: &mut [Slot]) -> Most
     let mut tally = Tally::new();
     for child in children {
         let taken = most(child, &mut slots[tally.free..]);
-        tally.add(slots, &taken);
+        tally.add(slots, &taken.as_child());
     }
-    let dsat = tally.none_of();
-    let sat = tally.greatest_of(k, slots);
+    let dsat = taken_of(tally.none_of());
+    let sat = taken_of(tally.greatest_of(k, slots));
     Most { sat, dsat }
 }
 

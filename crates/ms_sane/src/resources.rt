@@ -5,7 +5,7 @@ ghost use Rattle.def_tree.specs.Size.{measure};
 ghost use Rattle.def_types.specs.Corr.{corr};
 ghost use Rattle.def_sane.specs.Most.{number_of, most_sat, limits_of};
 ghost use Rattle.ms_tree.specs.Shape.{shape};
-ghost use Rattle.ms_sane.specs.Takes.{IsLight};
+ghost use Rattle.ms_sane.specs.Scaffolding.Takes.{IsLight};
 ghost use Rattle.ms_sane.specs.Short.{IsExtent};
 
 use crate::most::most;

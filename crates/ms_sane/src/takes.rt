@@ -1,22 +1,77 @@
+//! What satisfactions and dissatisfactions take at most.
 ghost use Rattle.std.specs.Prelude.{◌≡◌, ℕ, ◌+◌, ◌<◌, ◌≤◌, ◌^◌};
 ghost use Rattle.def_sane.specs.Formal as formal;
 ghost use Rattle.def_sane.specs.Most as most;
-ghost use Rattle.ms_sane.specs.Takes.{takes_of, taken, IsLightOption};
+ghost use Rattle.std.specs.Option.{option_map};
+ghost use Rattle.ms_choice.specs.Numbers.{number_in, costs_in, IsLightEach, IsLightChild};
+ghost use Rattle.ms_choice.specs.declared.children.Number.{Number};
+ghost use Rattle.ms_sane.specs.Scaffolding.Takes.{takes_of, taken, takes_at, costs_at, IsLightOption, IsLightMost};
+
+use ms_choice::{Child, Numbers};
 
 /// What a satisfaction or a dissatisfaction takes at most: stack items, their weight, and keys of the
 /// `multi` fragments that are executed, each number by itself.
 #[derive(Clone, Copy, Debug, PartialEq, Eq)]
 pub struct Takes {
+    /// Items of the stack.
     pub items: u64,
+    /// The weight of these items in a witness, in bytes.
     pub weight: u64,
+    /// Keys of executed `multi` fragments, which count as opcodes.
     pub keys: u64,
 }
 
 /// What the satisfactions and the dissatisfactions of a fragment take at most, where it has some.
 #[derive(Clone, Copy, Debug, PartialEq, Eq)]
 pub struct Most {
+    /// Of the satisfactions; `None` where there is none.
     pub sat: Option<Takes>,
+    /// Of the dissatisfactions; `None` where there is none.
     pub dsat: Option<Takes>,
+}
+
+impl Most {
+    /// As a child of a choice, by items, weight and keys.
+    pub fn as_child(&self) -> Child
+        requires { IsLightMost self.now }
+        ensures costs { (n : Number) → costs_in n result ≡ costs_at n (taken self.now.sat) (taken self.now.dsat) }
+        ensures light { IsLightChild result }
+    {
+        Child {
+            sat: numbers_of(self.sat),
+            dsat: numbers_of(self.dsat),
+        }
+    }
+}
+
+/// Items, weight and keys as the numbers of a child.
+fn numbers_of(takes: Option<Takes>) -> Option<Numbers>
+    requires { IsLightOption takes }
+    ensures numbers { (n : Number) → option_map (number_in n) result ≡ option_map (takes_at n) (taken takes) }
+    ensures light { IsLightEach result }
+{
+    match takes {
+        Some(takes) => Some(Numbers {
+            first: takes.items,
+            second: takes.weight,
+            third: takes.keys,
+        }),
+        None => None,
+    }
+}
+
+/// The items, the weight and the keys that these numbers are.
+pub fn taken_of(numbers: Option<Numbers>) -> Option<Takes>
+    ensures { (n : Number) → option_map (takes_at n) (taken result) ≡ option_map (number_in n) numbers }
+{
+    match numbers {
+        Some(numbers) => Some(Takes {
+            items: numbers.first,
+            weight: numbers.second,
+            keys: numbers.third,
+        }),
+        None => None,
+    }
 }
 
 impl Takes {

@@ -49,7 +49,9 @@ fn are_too_many(items: u64, rules: Rules) -> bool
 /// What is known of a tree before its satisfactions are counted: its type, and what its Script comes to.
 #[derive(Clone, Copy)]
 pub struct Short {
+    /// The correctness type.
     pub ty: Ty,
+    /// The length and the opcodes of the Script.
     pub extent: Extent,
 }
 

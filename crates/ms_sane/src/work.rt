@@ -1,25 +1,19 @@
+//! Working room that calls are lent.
 ghost use Rattle.std.specs.Prelude.{◌≡◌, ◌*◌, IfOk, vec_len};
 ghost use Rattle.def_tree.specs.Range.{IsInRange};
 ghost use Rattle.def_tree.specs.Size.{measure};
 ghost use Rattle.ms_tree.specs.Shape.{shape};
 
+use ms_choice::Slot;
 use ms_tree::Tree;
 use std::alloc::{AllocError, Global};
 
-/// Room for what is known of one child of a threshold: up to three differences, by which children are
-/// sorted, and which child it is. Or for a half of a key: two or three numbers, and which node holds it.
-#[derive(Clone, Copy, Debug, PartialEq, Eq, PartialOrd, Ord)]
-pub struct Slot {
-    pub first: i64,
-    pub second: i64,
-    pub third: i64,
-    pub place: u32,
-}
-
 /// Working room for a tree, made once, so that calls that are lent it take no memory. Such a call may
-/// write its slots, and leaves their number as it was.
+/// write its slots, and leaves their number as it was. A slot holds what is known of one child of a
+/// threshold, or half of a key: two or three numbers, and which node holds it.
 #[derive(Drop)]
 pub struct Work {
+    /// The slots, four for each node and each key of a `multi`.
     pub slots: Vec<Slot>,
 }
 
@@ -31,9 +25,9 @@ impl Work {
     {
         let empty = Slot {
             first: 0,
+            place: 0,
             second: 0,
             third: 0,
-            place: 0,
         };
         let slots = vec![in alloc; empty; 4 * tree.measure() as usize]?;
         Ok(Work { slots })

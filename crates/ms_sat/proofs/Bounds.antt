@@ -18,7 +18,7 @@ use Rattle.def_tree.specs.Size.{measure, measure_of}
 use Rattle.def_types.specs.Typed.{IsTyped, AreTyped}
 use Rattle.def_assets.proofs.Shortest.{found_is_held}
 use Rattle.def_assets.specs.Assets.{Assets, AreAssets, IsSignature, IsPreimage, sig_of, known}
-use Rattle.def_satisfaction.specs.Weight.{weight}
+use Rattle.def_script.specs.Witness.{weight}
 use Rattle.def_satisfaction.specs.Rows.{EMPTY, ONE, ZEROS}
 use Rattle.def_choice.specs.Sets.{sets}
 use Rattle.def_choice.specs.Least.{item, both, lighter, least}
@@ -26,11 +26,13 @@ use Rattle.def_choice.specs.Cheapest.{dissatisfaction, all_dissatisfied, cheapes
 use Rattle.def_choice.proofs.Weights.{weight-append, weight-reverse}
 use Rattle.def_choice.proofs.Counted.{counted}
 use Rattle.ms_sane.proofs.Bounds.{multi_enough}
-use Rattle.ms_sat.specs.declared.cost.Costs.{Costs}
-use Rattle.ms_sat.specs.Costs.{weight_of, IsLightOption, IsLight}
-use Rattle.ms_sat.specs.Children.{children_of_keys}
+use Rattle.ms_choice.specs.declared.children.Costs.{Costs}
+use Rattle.ms_sat.specs.Scaffolding.Costs.{weight_of}
+use Rattle.ms_choice.specs.Numbers.{IsLightOption, IsLight}
+use Rattle.ms_sat.specs.Scaffolding.Children.{children_of_keys}
 use Rattle.ms_sat.proofs.Chosen.{choose, chosen_is}
 use Rattle.ms_sat.proofs.Keys.{signatures_are}
+use Rattle.def_script.proofs.KeyLemmas.{key_length}
 
 abbrev pub Within : ℕ → Option Stack → Type 0
 Within n None = ⊤
@@ -147,7 +149,7 @@ mutual
   dsat_within just_0 w h = omega arith
   dsat_within just_1 w h = tt
   dsat_within (pk_k key) w h = omega arith
-  dsat_within (pk_h key) w h = omega (arith, w.length)
+  dsat_within (pk_h key) w h = let long = key_length key w.form in omega (arith, long)
   dsat_within (older n) w h = tt
   dsat_within (after n) w h = tt
   dsat_within (hash kind value) w h = within_if 128 (bytes_eq (digest_of kind ZEROS) value) None (Some (ZEROS ∷ [])) tt (omega arith)
@@ -182,7 +184,7 @@ module _ (assets : Assets) (are : AreAssets assets) where
     sat_within just_0 w h = tt
     sat_within just_1 w h = omega arith
     sat_within (pk_k key) w h = weaker 74 128 _ (omega arith) (sig_within assets are key)
-    sat_within (pk_h key) w h = weaker (74 + 34) 128 _ (omega arith) (within_both 74 34 _ _ (sig_within assets are key) (omega (arith, w.length)))
+    sat_within (pk_h key) w h = weaker (74 + 34) 128 _ (omega arith) (within_both 74 34 _ _ (sig_within assets are key) (let long = key_length key w.form in omega (arith, long)))
     sat_within (older n) w h = within_if 128 (older_holds n assets.locks) (Some []) None (omega arith) tt
     sat_within (after n) w h = within_if 128 (after_holds n assets.locks) (Some []) None (omega arith) tt
     sat_within (hash kind value) w h = weaker 33 128 _ (omega arith) (known_within assets are kind value)

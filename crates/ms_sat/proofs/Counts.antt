@@ -1,30 +1,29 @@
 -- A child of a threshold more.
-use Rattle.std.proofs.Common.{◌≡◌, ℕ, ◌+◌, ◌-◌, ◌≤◌, take, All, Bool, true, false, List, [], ◌∷◌, ◌++◌, length, map, Option, Some, None, is_some, refl, sym, ◌∙◌, ap, subst, arith, if◌then◌else◌}
-use Rattle.std.specs.Option.{option_map, IfSome}
+use Rattle.std.proofs.Common.{◌≡◌, ℕ, ◌-◌, ◌≤◌, Bool, true, false, List, [], ◌∷◌, ◌++◌, length, map, Option, Some, None, is_some, refl, sym, ◌∙◌, ap, subst, arith, if◌then◌else◌}
+use Rattle.std.specs.Option.{option_map}
 use Rattle.std.proofs.lemmas.List.{map-append}
-use Rattle.std.proofs.lemmas.Slice.{take-put_mid_below}
 use borrow.Rule.Slice.PartMut.{put_mid}
 use Rattle.def_machine.specs.Stacks.{Stack}
 use Rattle.def_tree.specs.Tree as model
 use Rattle.def_assets.specs.Assets.{Assets}
 use Rattle.def_choice.specs.Cheapest.{Child, dissatisfaction, all_dissatisfied}
 use Rattle.ms_tree.specs.Shape.{trees_of}
-use Rattle.ms_sane.specs.declared.work.Slot.{Slot}
-use Rattle.ms_sane.proofs.Totals.{total_push}
+use Rattle.ms_choice.specs.declared.slot.Slot.{Slot}
 use Rattle.ms_sat.specs.declared.rule.Rule.{Rule}
-use Rattle.ms_sat.specs.declared.cost.Costs.{Costs}
-use Rattle.ms_sat.specs.declared.tally.Choice.{Choice}
+use Rattle.ms_choice.specs.declared.children.Costs.{Costs}
+use Rattle.ms_choice.specs.declared.choice.Choice.{Choice}
 use Rattle.ms_sat.specs.declared.table.Weighed.{Weighed}
-use Rattle.ms_sat.specs.declared.table.Count.{Count}
-use Rattle.ms_sat.specs.Costs.{weight_of, costs_of, costs_of_child, sum_of}
-use Rattle.ms_sat.specs.Choice.{chosen, forced, stuck, over_free, forced_by, stuck_by, free_by as free_place, IsChoice}
+use Rattle.ms_choice.specs.declared.kinds.KindCounts.{KindCounts}
+use Rattle.ms_choice.specs.Kinds.{counted, Counts}
+use Rattle.ms_choice.proofs.Allowed.{counts_push as kinds_push}
+use Rattle.ms_sat.specs.Scaffolding.Costs.{weight_of, costs_of, costs_of_child, sum_of}
+use Rattle.ms_sat.specs.Scaffolding.Choice.{chosen}
 use Rattle.ms_sat.specs.Rule.{stack_by, free_by, child_by, free_child_by}
-use Rattle.ms_sat.specs.Table.{IsWeighed, IsFound}
+use Rattle.ms_sat.specs.Scaffolding.Table.{IsWeighed, IsFound}
 use Rattle.ms_sat.specs.declared.table.Children.{Children}
-use Rattle.ms_sat.specs.Tally.{IsFreeSlot}
-use Rattle.ms_sat.specs.Count.{counted, Counts, AreFew, AreTold}
-use Rattle.ms_sat.proofs.Chosen.{one}
-use Rattle.ms_sat.proofs.Tallies.{over_free-push, told_written as tally_written}
+use Rattle.ms_choice.specs.declared.children.Number.TheVariants.{First}
+use Rattle.ms_sat.specs.Scaffolding.Count.{AreFew, AreTold}
+use Rattle.ms_choice.proofs.Tallies.{told_written as tally_written, fits_written}
 use Rattle.ms_sat.proofs.Weights.{weight_of-both}
 
 pub some_weight : (o : Option Stack) → is_some (weight_of o) ≡ is_some o
@@ -52,40 +51,17 @@ costs_push f ts t c is =
 
 -- ---- what is counted
 
-one_more : (cs : List Costs) (c : Costs) → over_free one 0 (cs ++ c ∷ []) ≡ over_free one 0 cs + free_place one (0 + length cs) c.sat c.dsat
-one_more cs c = over_free-push one 0 cs c
-
-counts_child : (cs : List Costs) (count : Count) (s d : Option ℕ) (c : Costs) → c.sat ≡ s → c.dsat ≡ d → count.forced ≡ forced cs → count.stuck ≡ stuck cs → count.free ≡ over_free one 0 cs
-    → ((counted count (is_some s) (is_some d)).forced ≡ forced (cs ++ c ∷ [])) × ((counted count (is_some s) (is_some d)).stuck ≡ stuck (cs ++ c ∷ [])) × ((counted count (is_some s) (is_some d)).free ≡ over_free one 0 (cs ++ c ∷ []))
-counts_child cs count s d c is_s is_d f k r =
-    let forced_is = total_push (λ (c : Costs). forced_by c.sat c.dsat) cs c ∙ ap (λ o. forced cs + forced_by o c.dsat) is_s ∙ ap (λ o. forced cs + forced_by s o) is_d in
-    let stuck_is = total_push (λ (c : Costs). stuck_by c.sat c.dsat) cs c ∙ ap (λ o. stuck cs + stuck_by o c.dsat) is_s ∙ ap (λ o. stuck cs + stuck_by s o) is_d in
-    let free_is = one_more cs c ∙ ap (λ o. over_free one 0 cs + free_place one (0 + length cs) o c.dsat) is_s ∙ ap (λ o. over_free one 0 cs + free_place one (0 + length cs) s o) is_d in
-    go s d forced_is stuck_is free_is
-  where
-    go : (s d : Option ℕ) → forced (cs ++ c ∷ []) ≡ forced cs + forced_by s d → stuck (cs ++ c ∷ []) ≡ stuck cs + stuck_by s d → over_free one 0 (cs ++ c ∷ []) ≡ over_free one 0 cs + free_place one (0 + length cs) s d
-        → ((counted count (is_some s) (is_some d)).forced ≡ forced (cs ++ c ∷ [])) × ((counted count (is_some s) (is_some d)).stuck ≡ stuck (cs ++ c ∷ [])) × ((counted count (is_some s) (is_some d)).free ≡ over_free one 0 (cs ++ c ∷ []))
-    go None None x y z = (omega (arith, x, f), omega (arith, y, k), omega (arith, z, r))
-    go None (Some d) x y z = (omega (arith, x, f), omega (arith, y, k), omega (arith, z, r))
-    go (Some s) None x y z = (omega (arith, x, f), omega (arith, y, k), omega (arith, z, r))
-    go (Some s) (Some d) x y z = (omega (arith, x, f), omega (arith, y, k), omega (arith, z, r))
-
-pub counts_push : (rule : Rule) (assets : Assets) (ts : List model.Tree) (t : model.Tree) (w : Weighed) (count : Count) → Counts (map (free_child_by rule assets) ts) count → IsWeighed rule assets t w
-    → Counts (map (free_child_by rule assets) (ts ++ t ∷ [])) (counted count w.free (is_some w.costs.dsat))
-counts_push rule assets ts t w count told h =
+pub counts_push : (rule : Rule) (assets : Assets) (ts : List model.Tree) (t : model.Tree) (w : Weighed) (kinds : KindCounts) → Counts (costs_of (map (free_child_by rule assets) ts)) kinds → IsWeighed rule assets t w
+    → Counts (costs_of (map (free_child_by rule assets) (ts ++ t ∷ []))) (counted kinds w.free (is_some w.costs.dsat))
+counts_push rule assets ts t w kinds told h =
     let f = free_child_by rule assets in
-    let cs = costs_of (map f ts) in
     let c : Costs = costs_of_child (f t) in
-    let all = counts_child cs count c.sat c.dsat c refl refl told.forced told.stuck told.free in
-    let more : cs ++ c ∷ [] ≡ costs_of (map f (ts ++ t ∷ [])) = costs_push f ts t c refl in
+    let all = kinds_push (costs_of (map f ts)) c kinds told in
+    let more : costs_of (map f ts) ++ c ∷ [] ≡ costs_of (map f (ts ++ t ∷ [])) = costs_push f ts t c refl in
     let sat : is_some c.sat ≡ w.free = some_weight (free_by rule assets t) ∙ sym h.free in
     let dsat : is_some c.dsat ≡ is_some w.costs.dsat = sym (ap is_some h.dsat) in
-    let same : counted count (is_some c.sat) (is_some c.dsat) ≡ counted count w.free (is_some w.costs.dsat) = ap (λ b. counted count b (is_some c.dsat)) sat ∙ ap (λ b. counted count w.free b) dsat in
-    record {
-      forced = sym (ap (λ (n : Count). n.forced) same) ∙ all.0 ∙ ap forced more;
-      stuck = sym (ap (λ (n : Count). n.stuck) same) ∙ all.1 ∙ ap stuck more;
-      free = sym (ap (λ (n : Count). n.free) same) ∙ all.2 ∙ ap (over_free one 0) more;
-    }
+    let same : counted kinds (is_some c.sat) (is_some c.dsat) ≡ counted kinds w.free (is_some w.costs.dsat) = ap (λ b. counted kinds b (is_some c.dsat)) sat ∙ ap (counted kinds w.free) dsat in
+    subst (λ cs. Counts cs (counted kinds w.free (is_some w.costs.dsat))) more (subst (Counts (costs_of (map f ts) ++ c ∷ [])) same all)
 
 -- ---- dissatisfactions
 
@@ -106,11 +82,6 @@ dsat_push (s ∷ ts) t =
 
 -- ---- the choice that was found
 
-pub found_choice : (P : List Child → Type 0) (cs : List Child) (k : ℕ) (o : Option Choice) → P cs → (o ≡ None → (ds : List Child) → P ds → chosen ds k ≡ None)
-    → IfSome o (λ c. (ds : List Child) → P ds → IsChoice (costs_of ds) ds k c) → IsFound (costs_of cs) cs k o
-found_choice P cs k None h none some = none refl cs h
-found_choice P cs k (Some choice) h none some = some cs h
-
 pub found_weight : (costs : List Costs) (cs : List Child) (k : ℕ) (o : Option Choice) → IsFound costs cs k o → option_map (λ (c : Choice). c.weight) o ≡ weight_of (chosen cs k)
 found_weight costs cs k None none = sym (ap weight_of none)
 found_weight costs cs k (Some choice) some = sym some.weight
@@ -120,19 +91,8 @@ found_weight costs cs k (Some choice) some = sym some.weight
 pub few_written : (c : Children) (slots written : List Slot) → length (put_mid c.tally.free (length slots - c.tally.free) slots written) ≡ length slots → AreFew c slots
     → AreFew c (put_mid c.tally.free (length slots - c.tally.free) slots written)
 few_written c slots written long few =
-    let same : take c.tally.free (put_mid c.tally.free (length slots - c.tally.free) slots written) ≡ take c.tally.free slots =
-    take-put_mid_below c.tally.free (length slots - c.tally.free) slots written c.tally.free (omega arith) few.tally.room
-    in
     record {
-      tally = record {
-        place = few.tally.place;
-        forced = few.tally.forced;
-        stuck = few.tally.stuck;
-        free = few.tally.free;
-        room = omega (arith, long, few.tally.room);
-        base = few.tally.base;
-        light = subst (All IsFreeSlot) (sym same) few.tally.light;
-      };
+      tally = fits_written c.tally slots written (length slots - c.tally.free) long few.tally;
       forced = few.forced;
       stuck = few.stuck;
       free = few.free;
@@ -142,7 +102,7 @@ few_written c slots written long few =
 pub told_written : (rule : Rule) (assets : Assets) (ts : List model.Tree) (c : Children) (slots written : List Slot) (n : ℕ) → c.tally.free ≤ length slots → AreTold rule assets ts c slots
     → AreTold rule assets ts c (put_mid c.tally.free n slots written)
 told_written rule assets ts c slots written n room told = record {
-  tally = tally_written (costs_of (map (child_by rule assets) ts)) c.tally slots written n room told.tally;
+  tally = tally_written First (costs_of (map (child_by rule assets) ts)) c.tally slots written n room told.tally;
   free = told.free;
   dsat = told.dsat;
 }

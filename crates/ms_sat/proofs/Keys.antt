@@ -5,16 +5,16 @@ use Rattle.std.proofs.lemmas.List.{map-append}
 use Rattle.def_machine.specs.Stacks.{Stack}
 use Rattle.def_tree.specs.Tree.{Key}
 use Rattle.def_assets.specs.Assets.{Assets, sig_of}
-use Rattle.def_satisfaction.specs.Weight.{weight}
+use Rattle.def_script.specs.Witness.{weight}
 use Rattle.def_script.specs.Bytes.{Bytes}
 use Rattle.def_choice.specs.Sets.{sets}
 use Rattle.def_choice.specs.Least.{item, both, lighter, least}
 use Rattle.def_choice.specs.Cheapest.{signatures_of, signatures}
 use Rattle.def_choice.proofs.Weights.{weight-reverse, reverse-cons}
 use Rattle.def_choice.proofs.Counted.{least-append, least-map_map, least-below, both-none}
-use Rattle.ms_sat.specs.Costs.{weight_of}
-use Rattle.ms_sat.specs.Choice.{chosen}
-use Rattle.ms_sat.specs.Children.{children_of_keys}
+use Rattle.ms_sat.specs.Scaffolding.Costs.{weight_of}
+use Rattle.ms_sat.specs.Scaffolding.Choice.{chosen}
+use Rattle.ms_sat.specs.Scaffolding.Children.{children_of_keys}
 use Rattle.ms_sat.proofs.Chosen.{choose, chosen_is}
 
 -- the choice of signatures, from that of the other keys

@@ -1,8 +1,6 @@
 pub mod Weights
 pub mod Chosen
-pub mod Marks
-pub mod Sorted
-pub mod Tallies
+pub mod Picked
 pub mod Keys
 pub mod Lengths
 pub mod Bounds

@@ -8,10 +8,10 @@ use Rattle.def_sane.specs.declared.Rules.TheVariants.{Consensus}
 use Rattle.def_sane.specs.Unfit.{IsValidUnder}
 use Rattle.def_sane.proofs.Meanings.{valid_means_under}
 use Rattle.def_types.specs.Typed.{IsTyped}
-use Rattle.def_satisfaction.specs.Weight.{weight}
+use Rattle.def_script.specs.Witness.{weight}
 use Rattle.def_choice.specs.Lightest.{IsLightest}
 use Rattle.def_choice.proofs.Weights.{weight-reverse}
-use Rattle.ms_sat.specs.Costs.{weight_of}
+use Rattle.ms_sat.specs.Scaffolding.Costs.{weight_of}
 use Rattle.ms_sat.specs.Least.{IsLeastWeight}
 
 pub weight_of-reverse : (o : Option Stack) → option_map weight (option_map reverse o) ≡ weight_of o

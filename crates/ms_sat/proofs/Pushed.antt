@@ -6,19 +6,20 @@ use Rattle.std.proofs.lemmas.Bool.Decides.{nat_tests}
 use Rattle.std.proofs.lemmas.List.{append-nil, reverse-append, reverse-reverse, replicate_more, drop_more, drop_all}
 use Rattle.def_script.specs.Bytes.{Bytes}
 use Rattle.def_machine.specs.Stacks.{Stack}
-use Rattle.def_satisfaction.specs.Weight.{weight}
+use Rattle.def_script.specs.Witness.{weight}
 use Rattle.def_tree.specs.Tree.{Key}
 use Rattle.def_assets.specs.Assets.{Assets, sig_of}
 use Rattle.def_choice.specs.Least.{item, both, lighter, least}
 use Rattle.def_satisfaction.specs.Rows.{EMPTY}
 use Rattle.def_choice.specs.Cheapest.{stack_of, signatures}
-use Rattle.ms_sane.specs.declared.work.Slot.{Slot}
+use Rattle.ms_choice.specs.declared.slot.Slot.{Slot}
 use Rattle.def_choice.proofs.Weights.{reverse-cons}
 use Rattle.def_choice.proofs.Best.{lighter-none}
-use Rattle.ms_sat.specs.Costs.{weight_of}
-use Rattle.ms_sat.specs.Choice.{chosen, takes, set_by}
-use Rattle.ms_sat.specs.Children.{children_of_keys, lengths_of_keys}
-use Rattle.ms_sat.specs.Pushed.{IsPushed, is_former}
+use Rattle.ms_sat.specs.Scaffolding.Costs.{weight_of}
+use Rattle.ms_sat.specs.Scaffolding.Choice.{chosen}
+use Rattle.ms_choice.specs.Marks.{takes, set_by}
+use Rattle.ms_sat.specs.Scaffolding.Children.{children_of_keys, lengths_of_keys}
+use Rattle.ms_sat.specs.Scaffolding.Pushed.{IsPushed, is_former}
 use Rattle.ms_sat.proofs.Keys.{signatures_are}
 
 -- one on top of the other

@@ -12,8 +12,8 @@ use Rattle.ms_tree.specs.Shape.{shape, shapes, trees_of}
 use Rattle.ms_sat.specs.declared.rule.Rule.{Rule}
 use Rattle.ms_sat.specs.declared.table.Weighed.{Weighed}
 use Rattle.ms_sat.specs.declared.table.Entry.{Entry}
-use Rattle.ms_sat.specs.Pushed.{IsPushed}
-use Rattle.ms_sat.specs.Table.{IsWeighed, AreEntries}
+use Rattle.ms_sat.specs.Scaffolding.Pushed.{IsPushed}
+use Rattle.ms_sat.specs.Scaffolding.Table.{IsWeighed, AreEntries}
 use Rattle.ms_sat.proofs.Pushed.{pushed_both}
 
 nodes_push : (ts : List model.Tree) (t : model.Tree) → nodes_of_all (trees_of (ts ++ t ∷ [])) ≡ nodes_of_all (trees_of ts) ++ all_nodes t

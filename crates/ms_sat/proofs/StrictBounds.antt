@@ -10,9 +10,10 @@ use Rattle.def_types.specs.Typed.{IsTyped, AreTyped}
 use Rattle.def_assets.specs.Assets.{Assets, AreAssets}
 use Rattle.def_choice.specs.Cheapest.{dissatisfaction}
 use Rattle.def_choice.specs.Strict.{free, free_first, strict_of}
-use Rattle.ms_sat.specs.Costs.{weight_of, IsLight}
+use Rattle.ms_sat.specs.Scaffolding.Costs.{weight_of}
+use Rattle.ms_choice.specs.Numbers.{IsLight}
 use Rattle.ms_sat.proofs.Bounds.{Within, weaker, within_both, within_two, within_counted, within_if, pushed_one, pushed_empty, dsat_within, sat_within, light_option, light_of}
-use Rattle.ms_sat.specs.declared.cost.Costs.{Costs}
+use Rattle.ms_choice.specs.declared.children.Costs.{Costs}
 use Rattle.ms_sat.specs.declared.rule.Rule.{Rule}
 use Rattle.ms_sat.specs.declared.rule.Rule.TheVariants.{Cheapest, Strict}
 use Rattle.ms_sat.specs.Rule.{stack_by, child_by}

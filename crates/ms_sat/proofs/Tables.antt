@@ -9,7 +9,7 @@ use Rattle.def_tree.specs.Nodes.{all_nodes}
 use Rattle.def_tree.proofs.NodeLists.{nodes_are_all}
 use Rattle.ms_sat.specs.declared.rule.Rule.{Rule}
 use Rattle.ms_sat.specs.declared.table.Entry.{Entry}
-use Rattle.ms_sat.specs.Table.{IsEntry, AreEntries, Adds, below}
+use Rattle.ms_sat.specs.Scaffolding.Table.{IsEntry, AreEntries, Adds, below}
 
 -- the root stands behind the nodes below it
 pub root_last : (t : Tree) → all_nodes t ≡ below t ++ t ∷ []

@@ -10,13 +10,13 @@ use Rattle.def_choice.specs.Cheapest.{Child, stack_of}
 use Rattle.ms_tree.specs.declared.tree.Tree.{Tree}
 use Rattle.ms_tree.specs.Shape.{shape, shapes}
 use Rattle.ms_tree.proofs.Parts.{in_range_at}
-use Rattle.ms_sane.specs.declared.work.Slot.{Slot}
+use Rattle.ms_choice.specs.declared.slot.Slot.{Slot}
 use Rattle.ms_sane.proofs.Children.{measure_at, typed_at}
-use Rattle.ms_sat.specs.declared.cost.Costs.{Costs}
-use Rattle.ms_sat.specs.Costs.{weight_of, costs_of, costs_of_child}
-use Rattle.ms_sat.specs.Choice.{takes, set_by}
-use Rattle.ms_sat.specs.Children.{IsReady}
-use Rattle.ms_sat.specs.Pushed.{IsPushed}
+use Rattle.ms_choice.specs.declared.children.Costs.{Costs}
+use Rattle.ms_sat.specs.Scaffolding.Costs.{weight_of, costs_of, costs_of_child}
+use Rattle.ms_choice.specs.Marks.{takes, set_by}
+use Rattle.ms_sat.specs.Scaffolding.Children.{IsReady}
+use Rattle.ms_sat.specs.Scaffolding.Pushed.{IsPushed}
 use Rattle.ms_sat.proofs.Pushed.{pushed_both}
 
 -- a child of a threshold has what the recursions need

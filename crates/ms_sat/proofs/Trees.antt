@@ -7,10 +7,10 @@ use Rattle.def_choice.specs.Least.{both}
 use Rattle.def_choice.specs.Cheapest.{Child, dissatisfaction, all_dissatisfied, cheapest_of, cheapest_children}
 use Rattle.ms_tree.specs.declared.tree.Tree.{Tree}
 use Rattle.ms_tree.specs.Shape.{shape, shapes}
-use Rattle.ms_sat.specs.declared.cost.Costs.{Costs}
-use Rattle.ms_sat.specs.Costs.{weight_of, costs_of_child, costs_of}
-use Rattle.ms_sat.specs.Choice.{chosen}
-use Rattle.ms_sat.specs.Children.{child_of_tree, children_of}
+use Rattle.ms_choice.specs.declared.children.Costs.{Costs}
+use Rattle.ms_sat.specs.Scaffolding.Costs.{weight_of, costs_of_child, costs_of}
+use Rattle.ms_sat.specs.Scaffolding.Choice.{chosen}
+use Rattle.ms_sat.specs.Scaffolding.Children.{child_of_tree, children_of}
 use Rattle.ms_sat.proofs.Chosen.{choose, chosen_is}
 use Rattle.ms_sat.proofs.Bounds.{thresh_choose}
 

@@ -4,8 +4,8 @@ use Rattle.std.specs.Prelude.{◌&&◌}
 use Rattle.def_machine.specs.Stacks.{Stack}
 use Rattle.def_choice.specs.Least.{both}
 use Rattle.ms_sat.specs.declared.way.Price.{Price}
-use Rattle.ms_sat.specs.Costs.{sum_of}
-use Rattle.ms_sat.specs.Way.{IsPriceOf}
+use Rattle.ms_sat.specs.Scaffolding.Costs.{sum_of}
+use Rattle.ms_sat.specs.Scaffolding.Way.{IsPriceOf}
 use Rattle.ms_sat.proofs.Weights.{both_weighs}
 
 pub is_some-both : (o p : Option Stack) → is_some (both o p) ≡ (is_some o && is_some p)

@@ -2,11 +2,11 @@
 use Rattle.std.proofs.Common.{◌≡◌, ℕ, ◌<◌, ◌≤◌, nat_lt, min, Bool, true, false, [], ◌∷◌, Option, Some, None, refl, ap, arith, if◌then◌else◌}
 use Rattle.std.proofs.lemmas.Bool.Decides.{nat_tests}
 use Rattle.def_machine.specs.Stacks.{Stack}
-use Rattle.def_satisfaction.specs.Weight.{weight}
+use Rattle.def_script.specs.Witness.{weight}
 use Rattle.def_choice.specs.Least.{both, lighter, least}
 use Rattle.def_choice.proofs.Weights.{weight-append}
 use Rattle.def_choice.proofs.Best.{lighter-none}
-use Rattle.ms_sat.specs.Costs.{sum_of, lesser, weight_of}
+use Rattle.ms_sat.specs.Scaffolding.Costs.{sum_of, lesser, weight_of}
 
 pub weight_of-both : (below above : Option Stack) → weight_of (both below above) ≡ sum_of (weight_of below) (weight_of above)
 weight_of-both None above = refl

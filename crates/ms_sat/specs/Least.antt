@@ -1,7 +1,7 @@
 -- What it means that a weight is the least one.
 use Rattle.std.specs.Prelude.{◌≡◌, ◌↔◌, ℕ, ◌≤◌, List, Option, Some, None}
 use Rattle.def_script.specs.Bytes.{Bytes}
-use Rattle.def_satisfaction.specs.Weight.{weight}
+use Rattle.def_script.specs.Witness.{weight}
 
 -- the weight is that of a stack of the set, no stack of the set weighs less, and there is none exactly where
 -- the set has no stack

@@ -1,10 +1,3 @@
-pub mod Costs
-pub mod Choice
-pub mod Tally
-pub mod Children
 pub mod Least
-pub mod Pushed
 pub mod Rule
-pub mod Table
-pub mod Way
-pub mod Count
+pub mod Scaffolding

@@ -1,13 +1,8 @@
+//! Weights of stacks: of one on top of another, and of the lighter one of two.
 ghost use Rattle.std.specs.Prelude.{◌≡◌};
-ghost use Rattle.ms_sat.specs.Costs.{sum_of, lesser, IsLightOption};
-ghost use Rattle.ms_sat.specs.Pushed.{is_former as the_is_former};
-
-/// The least weight of a canonical satisfaction and of a canonical dissatisfaction, where there is one.
-#[derive(Clone, Copy, Debug, PartialEq, Eq)]
-pub struct Costs {
-    pub sat: Option<u64>,
-    pub dsat: Option<u64>,
-}
+ghost use Rattle.ms_sat.specs.Scaffolding.Costs.{sum_of, lesser};
+ghost use Rattle.ms_choice.specs.Numbers.{IsLightOption};
+ghost use Rattle.ms_sat.specs.Scaffolding.Pushed.{is_former as the_is_former};
 
 /// The weight of one stack on top of another.
 pub fn both(below: Option<u64>, above: Option<u64>) -> Option<u64>

@@ -5,13 +5,10 @@ mod cost;
 mod rule;
 mod satisfy;
 mod table;
-mod tally;
-#[cfg(test)]
-mod tests;
 mod way;
 mod weigh;
 
-pub use cost::Costs;
+pub use ms_choice::Costs;
 pub use rule::Rule;
 pub use satisfy::{cheapest, satisfaction};
 pub use weigh::costs;

@@ -19,17 +19,18 @@ ghost use Rattle.def_promises.specs.Letters.{Letters};
 ghost use Rattle.ms_tree.specs.Shape.{shape, shapes, leaf_shape};
 ghost use Rattle.ms_hash.specs.Value.{kind_of, bytes_of};
 ghost use Rattle.ms_sat.specs.declared.rule.Rule.{Rule as By};
-ghost use Rattle.ms_sat.specs.Costs.{costs_of};
-ghost use Rattle.ms_sat.specs.Choice.{chosen, set_by};
-ghost use Rattle.ms_sat.specs.Children.{children_of_keys, lengths_of_keys};
-ghost use Rattle.ms_sat.specs.Pushed.{IsPushed};
+ghost use Rattle.ms_sat.specs.Scaffolding.Costs.{costs_of};
+ghost use Rattle.ms_sat.specs.Scaffolding.Choice.{chosen};
+ghost use Rattle.ms_choice.specs.Marks.{set_by};
+ghost use Rattle.ms_sat.specs.Scaffolding.Children.{children_of_keys, lengths_of_keys};
+ghost use Rattle.ms_sat.specs.Scaffolding.Pushed.{IsPushed};
+ghost use Rattle.ms_sat.specs.Scaffolding.Pushing.{PushesChoice, PushesMulti, PushesSignatures};
 ghost use Rattle.ms_sat.specs.Rule.{stack_by, children_by};
-ghost use Rattle.ms_sat.specs.Table.{AreEntries, IsFound};
-ghost use Rattle.ms_sat.specs.Way.{tree_of, stack_of_part, stack_of_way, IsSeen, IsSeenPart, IsSeenWay, HasTable, HaveTables, AreSeen, sat_of, dsat_of};
+ghost use Rattle.ms_sat.specs.Scaffolding.Table.{AreEntries, IsFound};
+ghost use Rattle.ms_sat.specs.Scaffolding.Way.{tree_of, stack_of_part, stack_of_way, IsSeen, IsSeenPart, IsSeenWay, HasTable, HaveTables, AreSeen, sat_of, dsat_of};
 
 use crate::rule::Rule;
 use crate::table::{Entry, weigh_nodes};
-use crate::tally::Choice;
 use crate::way::{
     Part, Seen, Way, Ways, dissatisfactions_of_and_or, dissatisfactions_of_two,
     dissatisfactions_of_wrap, satisfactions_of_and_or, satisfactions_of_two, satisfactions_of_wrap,
@@ -37,6 +38,7 @@ use crate::way::{
 };
 use crate::weigh::{ZEROS, of_key};
 use ms_assets::Assets;
+use ms_choice::Choice;
 use ms_hash::HashVal;
 use ms_sane::Work;
 use ms_script::Stack;
@@ -215,7 +217,7 @@ fn push_children(
     requires in_range { All (λ x. IsInRange (shape x)) children.now }
     requires few { measure_of (shapes children.now) ≤ MOST_MEASURE }
     requires table { (rule : By) × AreEntries rule assets.now (nodes_of_all (shapes children.now)) table.now }
-    ensures { OnOk result ((rule : By) (k : ℕ) → AreEntries rule assets.now (nodes_of_all (shapes children.now)) table.now → IsFound (costs_of (children_by rule assets.now (shapes children.now))) (children_by rule assets.now (shapes children.now)) k choice.now → IsPushed (chosen (children_by rule assets.now (shapes children.now)) k) stack.old stack.new) }
+    ensures { OnOk result (PushesChoice assets.now (shapes children.now) table.now choice.now stack.old stack.new) }
 {
     let Some(choice) = choice else {
         return Ok(());
@@ -297,7 +299,7 @@ fn push_multi(
     stack: &mut Stack,
 ) -> Result<(), AllocError>
     requires { length keys.now ≤ MOST_MEASURE }
-    ensures { OnOk result ((k : ℕ) → IsFound (lengths_of_keys assets.now keys.now) (children_of_keys assets.now keys.now) k choice.now → IsPushed (cheapest_of assets.now (tree.multi k keys.now)) stack.old stack.new) }
+    ensures { OnOk result (PushesMulti assets.now keys.now choice.now stack.old stack.new) }
 {
     // Its clauses tell what assets always are.
     let _locks = assets.locks();
@@ -319,7 +321,7 @@ fn push_signatures(
 ) -> Result<(), AllocError>
     requires few { length keys.now ≤ MOST_MEASURE }
     requires are { AreAssets assets.now }
-    ensures { OnOk result ((signatures : List Bytes) → stack_of (children_of_keys assets.now keys.now) (set_by choice.now.last 0 (lengths_of_keys assets.now keys.now)) ≡ Some signatures → stack.new ≡ stack.old ++ signatures) }
+    ensures { OnOk result (PushesSignatures assets.now keys.now choice.now stack.old stack.new) }
 {
     for (place, key) in keys.iter().enumerate() {
         if choice.is_taken(&of_key(key, assets), place as u32) {

@@ -10,33 +10,32 @@ ghost use Rattle.def_tree.specs.Nodes.{all_nodes, nodes_of_all};
 ghost use Rattle.def_choice.specs.Cheapest.{dissatisfaction};
 ghost use Rattle.ms_tree.specs.Shape.{shape, shapes, trees_of, leaf_shape};
 ghost use Rattle.ms_sat.specs.declared.rule.Rule.{Rule as By};
-ghost use Rattle.ms_sat.specs.Costs.{weight_of as stack_weight, sum_of, IsLight, IsLightOption};
-ghost use Rattle.ms_sat.specs.Choice.{is_allowed};
-ghost use Rattle.ms_sat.specs.Children.{IsReady};
-ghost use Rattle.ms_sat.specs.Tally.{Fits, Tells};
+ghost use Rattle.ms_sat.specs.Scaffolding.Costs.{weight_of as stack_weight, sum_of};
+ghost use Rattle.ms_choice.specs.Numbers.{IsLight, IsLightOption};
+ghost use Rattle.ms_sat.specs.Scaffolding.Children.{IsReady};
+ghost use Rattle.ms_choice.specs.Tally.{Fits, Tells};
 ghost use Rattle.ms_sat.specs.Rule.{has_key};
-ghost use Rattle.ms_sane.specs.declared.work.Slot.{Slot};
-ghost use Rattle.ms_sat.specs.Table.{IsWeighed, AreEntries, Adds, below};
-ghost use Rattle.ms_sat.specs.Way.{HaveTables, AreSeen, sat_of, dsat_of, is_free};
-ghost use Rattle.ms_sat.specs.Count.{IsFew, counted, IsBounded, AreFew, AreTold};
+ghost use Rattle.ms_choice.specs.declared.slot.Slot.{Slot};
+ghost use Rattle.ms_sat.specs.Scaffolding.Table.{IsWeighed, AreEntries, Weighs, Adds, below};
+ghost use Rattle.ms_sat.specs.Scaffolding.Way.{HaveTables, AreSeen, sat_of, dsat_of, is_free};
+ghost use Rattle.ms_sat.specs.Scaffolding.Count.{IsBounded, AreFew, AreTold, CountsIn};
 
-use crate::cost::Costs;
 use crate::rule::Rule;
-use crate::tally::{Choice, Tally, weight_of_choice};
 use crate::way::{
     Price, Seen, Ways, dissatisfactions_of_and_or, dissatisfactions_of_two,
     dissatisfactions_of_wrap, satisfactions_of_and_or, satisfactions_of_two, satisfactions_of_wrap,
     see_last, see_two,
 };
-use crate::weigh::{of_leaf, of_multi};
+use crate::weigh::{of_leaf, of_multi, weight_of_choice};
 use ms_assets::Assets;
-use ms_sane::Slot;
+use ms_choice::{Choice, Costs, KindCounts, Slot, Tally};
 use ms_tree::{Key, Leaf, Tree, Two, View, Wrapper};
 use std::alloc::AllocError;
 
 /// What was weighed of a node: its satisfaction by a rule, and its dissatisfaction.
 #[derive(Clone, Copy)]
 pub struct Weighed {
+    /// The weights of both, in bytes of a witness.
     pub costs: Costs,
     /// The rule asks for a satisfaction without a signature, and there is one.
     pub free: bool,
@@ -47,7 +46,9 @@ pub struct Weighed {
 /// What was weighed of a node, and how many nodes it and the trees below it have.
 #[derive(Clone, Copy)]
 pub struct Entry {
+    /// What was weighed of the node.
     pub weighed: Weighed,
+    /// How many nodes it and the trees below it have, from 1.
     pub nodes: usize,
 }
 
@@ -64,42 +65,15 @@ impl Weighed {
     }
 }
 
-/// How many children of a threshold can only be satisfied, can be neither satisfied nor dissatisfied, and can be both.
-#[derive(Clone, Copy)]
-pub struct Count {
-    pub forced: u64,
-    pub stuck: u64,
-    pub free: u64,
-}
-
-impl Count {
-    fn add(&mut self, sat: bool, dsat: bool)
-        requires { IsFew self.old MOST_MEASURE }
-        ensures { self.new ≡ counted self.old sat dsat }
-    {
-        match (sat, dsat) {
-            (true, true) => self.free += 1,
-            (true, false) => self.forced += 1,
-            (false, true) => {}
-            (false, false) => self.stuck += 1,
-        }
-    }
-
-    /// Whether so many of the children can be satisfied and the others dissatisfied.
-    fn allows(&self, count: u64) -> bool
-        requires { IsFew self.now (MOST_MEASURE + 1) }
-        ensures { result ≡ is_allowed self.now.forced self.now.stuck self.now.free count }
-    {
-        self.stuck == 0 && self.forced <= count && count <= self.forced + self.free
-    }
-}
-
 /// Children of a threshold, counted in one after the other: for the choice of those that are satisfied, for whether
 /// a choice needs no signature, and the weight of their dissatisfactions.
 #[derive(Drop)]
 pub struct Children {
+    /// The children, for the choice by weight.
     pub tally: Tally,
-    pub free: Count,
+    /// The children, by whether their satisfaction needs no signature.
+    pub free: KindCounts,
+    /// The weight of all dissatisfactions; `None` where a child has none.
     pub dsat: Option<u64>,
 }
 
@@ -112,11 +86,7 @@ impl Children {
     {
         Children {
             tally: Tally::new(),
-            free: Count {
-                forced: 0,
-                stuck: 0,
-                free: 0,
-            },
+            free: KindCounts::NONE,
             dsat: Some(0),
         }
     }
@@ -128,11 +98,11 @@ impl Children {
         requires place { self.old.tally.place < MOST_MEASURE }
         requires light { IsLight child.now.costs }
         ensures few { AreFew self.new slots.new }
-        ensures told { (rule : By) (assets : Held) (ts : List Model) (t : Model) → AreTold rule assets ts self.old slots.old → IsWeighed rule assets t child.now → AreTold rule assets (ts ++ t ∷ []) self.new slots.new }
+        ensures told { CountsIn self.old slots.old child.now self.new slots.new }
         ensures free { self.new.tally.free ≤ self.old.tally.free + 1 }
         ensures place { self.new.tally.place ≡ self.old.tally.place + 1 }
     {
-        self.tally.add(slots, &child.as_child());
+        self.tally.add_costs(slots, &child.as_child());
         self.free.add(child.free, child.costs.dsat.is_some());
         self.dsat = with_others(self.dsat, child.costs.dsat);
     }
@@ -144,7 +114,7 @@ impl Children {
         requires some { 1 ≤ count }
         ensures { (rule : By) (assets : Held) (ts : List Model) → AreTold rule assets ts self.now slots.old → IsWeighed rule assets (tree.thresh count (trees_of ts)) result }
     {
-        let choice = self.tally.cheapest_of(count, slots);
+        let choice = self.tally.lightest_of(count, slots);
         Weighed {
             costs: Costs {
                 sat: weight_of_choice(&choice),
@@ -298,7 +268,7 @@ fn weigh_and_or(x: &Tree<'_>, y: &Tree<'_>, z: &Tree<'_>, table: &[Entry]) -> We
     requires y { IsInRange (shape y.now) }
     requires z { IsInRange (shape z.now) }
     requires table { (rule : By) × (assets : Held) × AreEntries rule assets (all_nodes (shape x.now) ++ all_nodes (shape y.now) ++ all_nodes (shape z.now)) table.now }
-    ensures { (rule : By) (assets : Held) → AreEntries rule assets (all_nodes (shape x.now) ++ all_nodes (shape y.now) ++ all_nodes (shape z.now)) table.now → IsWeighed rule assets (tree.and_or (shape x.now) (shape y.now) (shape z.now)) result }
+    ensures { Weighs (all_nodes (shape x.now) ++ all_nodes (shape y.now) ++ all_nodes (shape z.now)) table.now (tree.and_or (shape x.now) (shape y.now) (shape z.now)) result }
 {
     let (before, z) = see_last(z, table);
     let (x, y) = see_two(x, y, before);
@@ -312,7 +282,7 @@ fn weigh_two(kind: Two, x: &Tree<'_>, z: &Tree<'_>, table: &[Entry]) -> Weighed
     requires x { IsInRange (shape x.now) }
     requires z { IsInRange (shape z.now) }
     requires table { (rule : By) × (assets : Held) × AreEntries rule assets (all_nodes (shape x.now) ++ all_nodes (shape z.now)) table.now }
-    ensures { (rule : By) (assets : Held) → AreEntries rule assets (all_nodes (shape x.now) ++ all_nodes (shape z.now)) table.now → IsWeighed rule assets (tree.two kind (shape x.now) (shape z.now)) result }
+    ensures { Weighs (all_nodes (shape x.now) ++ all_nodes (shape z.now)) table.now (tree.two kind (shape x.now) (shape z.now)) result }
 {
     let (x, z) = see_two(x, z, table);
     weigh_ways(

@@ -11,9 +11,10 @@ ghost use Rattle.ms_sat.specs.declared.rule.Rule.{Rule};
 ghost use Rattle.ms_sat.specs.Rule.{stack_by, free_by};
 ghost use Rattle.def_tree.specs.Nodes.{all_nodes};
 ghost use Rattle.ms_tree.specs.Shape.{shape};
-ghost use Rattle.ms_sat.specs.Costs.{weight_of, IsLight, IsLightOption};
-ghost use Rattle.ms_sat.specs.Table.{IsWeighed, AreEntries, EndsWith, below};
-ghost use Rattle.ms_sat.specs.Way.{tree_of, stack_of_part, free_of_part, stack_of_way, free_of_way, sat_of, dsat_of, is_free, nodes_of_way, nodes_of_ways, IsSeen, IsSeenPart, IsSeenWay, AreSeen, HasTable, HaveTables, IsPriceOf, comes_first, Satisfies, Dissatisfies};
+ghost use Rattle.ms_sat.specs.Scaffolding.Costs.{weight_of};
+ghost use Rattle.ms_choice.specs.Numbers.{IsLight, IsLightOption};
+ghost use Rattle.ms_sat.specs.Scaffolding.Table.{IsWeighed, AreEntries, EndsWith, below};
+ghost use Rattle.ms_sat.specs.Scaffolding.Way.{tree_of, stack_of_part, free_of_part, stack_of_way, free_of_way, sat_of, dsat_of, is_free, nodes_of_way, nodes_of_ways, IsSeen, SeesTwo, IsSeenPart, IsSeenWay, AreSeen, HasTable, HaveTables, IsPriceOf, comes_first, Satisfies, Dissatisfies};
 
 use crate::cost::{both, is_former};
 use crate::table::{Entry, Weighed};
@@ -23,7 +24,9 @@ use ms_tree::{Tree, Two, Wrapper};
 /// A tree, and what was weighed of its nodes, in the order of their numbers.
 #[derive(Clone, Copy)]
 pub struct Seen<'t> {
+    /// The tree.
     pub tree: &'t Tree<'t>,
+    /// The entries of its nodes and of no others, its own the last one.
     pub table: &'t [Entry],
 }
 
@@ -66,7 +69,7 @@ pub fn see_two<'t>(x: &'t Tree<'t>, z: &'t Tree<'t>, table: &'t [Entry]) -> (See
     requires table { (rule : Rule) × (assets : Held) × AreEntries rule assets (all_nodes (shape x.now) ++ all_nodes (shape z.now)) table.now }
     ensures x { tree_of result.0 ≡ shape x.entry.now }
     ensures z { tree_of result.1 ≡ shape z.entry.now }
-    ensures seen { (rule : Rule) (assets : Held) → AreEntries rule assets (all_nodes (shape x.entry.now) ++ all_nodes (shape z.entry.now)) table.entry.now → IsSeen rule assets result.0 × IsSeen rule assets result.1 }
+    ensures seen { SeesTwo (all_nodes (shape x.entry.now) ++ all_nodes (shape z.entry.now)) table.entry.now result.0 result.1 }
 {
     let (before, z) = see_last(z, table);
     let (_, x) = see_last(x, before);
@@ -76,29 +79,40 @@ pub fn see_two<'t>(x: &'t Tree<'t>, z: &'t Tree<'t>, table: &'t [Entry]) -> (See
 /// A part of a stack: what satisfies or dissatisfies a tree, an item, or nothing.
 #[derive(Clone, Copy)]
 pub enum Part<'t> {
+    /// The satisfaction of a tree by the rule.
     Sat(Seen<'t>),
+    /// The dissatisfaction of a tree.
     Dsat(Seen<'t>),
+    /// The byte 01, which takes the first branch.
     One,
+    /// The empty string, which takes the second branch, or is a dummy item.
     Empty,
+    /// No item.
     Nothing,
 }
 
 /// A row of the table: one part on top of another.
 #[derive(Clone, Copy)]
 pub struct Way<'t> {
+    /// The part that lies below.
     pub below: Part<'t>,
+    /// The part on top of it.
     pub above: Part<'t>,
 }
 
 /// The rows of a fragment, of which there are at most two.
 #[derive(Clone, Copy)]
 pub enum Ways<'t> {
+    /// There is no row.
     Never,
+    /// There is one.
     Only(Way<'t>),
+    /// There are two, in the table's order.
     Either(Way<'t>, Way<'t>),
 }
 
 impl<'t> Part<'t> {
+    /// What the part weighs, and whether it needs no signature.
     fn price(&self) -> Price
         requires { (rule : Rule) × (assets : Held) × IsSeenPart rule assets self.now }
         ensures price { (rule : Rule) (assets : Held) → IsSeenPart rule assets self.now → IsPriceOf (stack_of_part rule assets self.now) (free_of_part rule assets self.now) result }
@@ -130,6 +144,7 @@ impl<'t> Part<'t> {
 }
 
 impl<'t> Way<'t> {
+    /// What both parts weigh together, and whether neither needs a signature.
     pub fn price(&self) -> Price
         requires { (rule : Rule) × (assets : Held) × IsSeenWay rule assets self.now }
         ensures { (rule : Rule) (assets : Held) → IsSeenWay rule assets self.now → IsPriceOf (stack_of_way rule assets self.now) (free_of_way rule assets self.now) result }
@@ -213,7 +228,9 @@ impl<'t> Ways<'t> {
 /// What a way weighs, where it has a stack, and whether it has one that needs no signature.
 #[derive(Clone, Copy)]
 pub struct Price {
+    /// The weight in a witness, in bytes; `None` where there is no stack.
     pub weight: Option<u64>,
+    /// The rule asks for a stack that needs no signature, and there is one.
     pub free: bool,
 }
 

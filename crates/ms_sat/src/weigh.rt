@@ -10,24 +10,26 @@ ghost use Rattle.def_hash.specs.Hash.{digest_of};
 ghost use Rattle.def_satisfaction.specs.Rows.{ZEROS as the_zeros};
 ghost use Rattle.def_sane.specs.declared.Rules.TheVariants.{Consensus};
 ghost use Rattle.def_sane.specs.Unfit.{IsValidUnder};
-ghost use Rattle.def_satisfaction.specs.Weight.{weight};
+ghost use Rattle.def_script.specs.Witness.{weight};
 ghost use Rattle.def_satisfaction.specs.Satisfaction.{Sat, Dsat};
 ghost use Rattle.def_choice.specs.Least.{item};
 ghost use Rattle.def_choice.specs.Cheapest.{cheapest, cheapest_of, dissatisfaction};
 ghost use Rattle.ms_hash.specs.Value.{kind_of, bytes_of};
 ghost use Rattle.ms_tree.specs.Shape.{shape, shapes, leaf_shape};
-ghost use Rattle.ms_sat.specs.Costs.{weight_of, costs_of, IsLight};
-ghost use Rattle.ms_sat.specs.Children.{IsReady, children_of, children_of_keys, length_of_key, lengths_of_keys};
-ghost use Rattle.ms_sat.specs.Table.{IsFound};
-ghost use Rattle.ms_sat.specs.Tally.{Fits, Tells};
+ghost use Rattle.ms_sat.specs.Scaffolding.Costs.{weight_of, costs_of};
+ghost use Rattle.ms_choice.specs.Numbers.{number_in, IsLight};
+ghost use Rattle.ms_sat.specs.Scaffolding.Children.{IsReady, children_of, children_of_keys, length_of_key, lengths_of_keys};
+ghost use Rattle.ms_sat.specs.Scaffolding.Table.{IsFound};
+ghost use Rattle.ms_choice.specs.Tally.{Fits, Tells};
+ghost use Rattle.ms_choice.specs.declared.children.Number.TheVariants.{First};
 ghost use Rattle.ms_sat.specs.Least.{IsLeastWeight};
 ghost use Rattle.std.specs.Str.{bytes_eq};
 
-use crate::cost::{Costs, both, least};
-use crate::tally::{Choice, Tally, weight_of_choice};
+use crate::cost::{both, least};
 use ms_assets::Assets;
+use ms_choice::{Choice, Costs, Numbers, Slot, Tally};
 use ms_hash::{HashVal, hash_of};
-use ms_sane::{Slot, Work};
+use ms_sane::Work;
 use ms_tree::{Key, Leaf, Tree, Two, View, Wrapper};
 
 /// What stands for a preimage where a hash is dissatisfied.
@@ -227,9 +229,29 @@ fn of_thresh(k: u64, children: &[Tree<'_>], assets: &Assets, slots: &mut [Slot])
     ensures dsat { result.dsat ≡ weight_of (dissatisfaction (tree.thresh k (shapes children.now))) }
 {
     let tally = tally_of(children, assets, slots);
-    let dsat = tally.none_of();
-    let sat = tally.least_of(k, slots);
+    let dsat = first_of(tally.none_of());
+    let sat = weight_of_choice(&tally.lightest_of(k, slots));
     Costs { sat, dsat }
+}
+
+/// The first of the numbers that are taken, where there are some.
+fn first_of(taken: Option<Numbers>) -> Option<u64>
+    ensures { result ≡ option_map (number_in First) taken }
+{
+    match taken {
+        Some(numbers) => Some(numbers.first),
+        None => None,
+    }
+}
+
+/// What a choice weighs, where there is one.
+pub fn weight_of_choice(choice: &Option<Choice>) -> Option<u64>
+    ensures { result ≡ option_map (λ c. c.weight) choice.now }
+{
+    match choice {
+        Some(choice) => Some(choice.weight),
+        None => None,
+    }
 }
 
 /// The children of a threshold, counted in.
@@ -241,12 +263,12 @@ pub fn tally_of(children: &[Tree<'_>], assets: &Assets, slots: &mut [Slot]) -> T
     requires few { measure_of (shapes children.now) ≤ MOST_MEASURE }
     requires room { measure_of (shapes children.now) ≤ length slots.old }
     ensures fits { Fits result slots.new }
-    ensures told { Tells (costs_of (children_of assets.now children.now)) result slots.new }
+    ensures told { Tells First (costs_of (children_of assets.now children.now)) result slots.new }
 {
     let mut tally = Tally::new();
     for child in children {
         let costs = weigh(child, assets, &mut slots[tally.free..]);
-        tally.add(slots, &costs);
+        tally.add_costs(slots, &costs);
     }
     tally
 }
@@ -285,7 +307,7 @@ fn choice_of_keys(k: u64, keys: &[Key], assets: &Assets, slots: &mut [Slot]) -> 
     ensures { IsFound (lengths_of_keys assets.now keys.now) (children_of_keys assets.now keys.now) k result }
 {
     let tally = tally_of_keys(keys, assets, slots);
-    match tally.choose(k, slots) {
+    match tally.lightest_of(k, slots) {
         Some(choice) => Some(Choice {
             weight: choice.weight + k,
             last: choice.last,
@@ -301,11 +323,11 @@ fn tally_of_keys(keys: &[Key], assets: &Assets, slots: &mut [Slot]) -> Tally
     requires are { AreAssets assets.now }
     requires room { length keys.now ≤ length slots.old }
     ensures fits { Fits result slots.new }
-    ensures told { Tells (lengths_of_keys assets.now keys.now) result slots.new }
+    ensures told { Tells First (lengths_of_keys assets.now keys.now) result slots.new }
 {
     let mut tally = Tally::new();
     for key in keys {
-        tally.add(slots, &of_key(key, assets));
+        tally.add_costs(slots, &of_key(key, assets));
     }
     tally
 }

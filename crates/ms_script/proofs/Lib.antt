@@ -2,3 +2,4 @@ pub mod ReadingLemmas
 mod NumberLemmas
 mod ScriptLemmas
 mod SizeLemmas
+mod WeightLemmas

@@ -1,4 +1,4 @@
 pub mod Views
 pub mod Reads
 pub mod SizeReads
-pub mod Stacks
+pub mod Pushes

@@ -5,7 +5,7 @@ use Rattle.def_script.specs.Bytes.{Bytes}
 use Rattle.def_script.specs.Numbers.{number_bytes}
 use Rattle.def_script.specs.Item.{Item}
 use Rattle.def_script.specs.Item as item
-use Rattle.def_script.specs.Items.{Reading, first_item, items}
+use Rattle.def_script.specs.Items.{ItemReading, first_item, items}
 use Rattle.ms_script.specs.declared.reading.InstrRef.{InstrRef}
 use Rattle.ms_script.specs.declared.reading.InstrRef.TheVariants.{Push, Small, Code}
 use Rattle.ms_script.specs.declared.reading.Reading.{Reading as Read}
@@ -20,7 +20,7 @@ item_of (Code op) = item.code op
 abbrev pub NextItem : Type 0
 NextItem = Result (Option (Item × ℕ)) InstrFault
 
-abbrev pub placed : ℕ → Reading → NextItem
+abbrev pub placed : ℕ → ItemReading → NextItem
 placed from (Ok r) = Ok (Some (r.0, from + 1 + r.1))
 placed from (Err fault) = Err fault
 
@@ -35,7 +35,7 @@ seen (Ok None) = Ok None
 seen (Ok (Some next)) = Ok (Some (item_of next.0, next.1))
 seen (Err fault) = Err fault
 
-abbrev pub taken : Result Read InstrFault → Reading
+abbrev pub taken : Result Read InstrFault → ItemReading
 taken (Ok r) = Ok (item_of r.instr, r.taken)
 taken (Err fault) = Err fault
 
@@ -76,7 +76,7 @@ IsSmallNumber (Push bytes minimal) = Unit {0}
 IsSmallNumber (Small n) = (n ≡ negsuc 0) ⊎ ((pos 1 ≤ℤ n) × (n ≤ℤ pos 16))
 IsSmallNumber (Code op) = Unit {0}
 
-abbrev pub IsSmall : Result (Option (InstrRef × ℕ)) InstrFault → Type 0
-IsSmall (Ok None) = Unit {0}
-IsSmall (Ok (Some next)) = IsSmallNumber next.0
-IsSmall (Err fault) = Unit {0}
+abbrev pub IsSmallNext : Result (Option (InstrRef × ℕ)) InstrFault → Type 0
+IsSmallNext (Ok None) = Unit {0}
+IsSmallNext (Ok (Some next)) = IsSmallNumber next.0
+IsSmallNext (Err fault) = Unit {0}

@@ -4,7 +4,9 @@
 pub use blob::Blob;
 pub use def_script::{InstrFault, NumFault, Op, SizeFault};
 pub use encoding::{encode, opcode_byte};
+pub use key::is_key;
 pub use numbers::{NumBytes, num_decode, num_encode, truth};
+pub use pushes::{PushForm, push_byte, push_form, push_length};
 pub use reading::{InstrRef, next_instr};
 pub use script::{Instr, Script, verify_form_of};
 pub use sizes::{SizeBytes, compact_size, read_size};
@@ -12,10 +14,11 @@ pub use stack::Stack;
 
 mod blob;
 mod encoding;
+mod key;
 mod numbers;
+mod opcodes;
+mod pushes;
 mod reading;
 mod script;
 mod sizes;
 mod stack;
-#[cfg(test)]
-mod tests;

@@ -1,11 +1,12 @@
 //! Reading the instructions of a Script from its bytes.
 
-ghost use Rattle.std.specs.Prelude.{◌≡◌, ℕ, ◌==◌, ◌<◌, ◌≤◌, length, drop, slice_index, false, IfOk};
-ghost use Rattle.def_script.specs.Spell.{sized_push};
-ghost use Rattle.def_script.specs.Items.{is_minimal_push as the_is_minimal_push, read_push as the_read_push, read_number_or_op as the_read_number_or_op, first_item};
+ghost use Rattle.std.specs.Prelude.{◌≡◌, ℕ, ◌<◌, ◌≤◌, length, drop, false, IfOk};
+ghost use Rattle.def_script.specs.Items.{read_push as the_read_push, read_number_or_op as the_read_number_or_op, first_item};
 ghost use Rattle.def_script.specs.Items.{op_of_byte as the_op_of_byte};
-ghost use Rattle.ms_script.specs.Reads.{next_item, seen, taken, IsItems, IsSmall, IsSmallNumber, begins_with_number, gives_number, takes_number, is_number_byte};
+ghost use Rattle.ms_script.specs.Reads.{next_item, seen, taken, IsItems, IsSmallNext, IsSmallNumber, begins_with_number, gives_number, takes_number, is_number_byte};
 
+use crate::opcodes::opcode_rows;
+use crate::pushes::push_byte;
 use def_script::{InstrFault, Op};
 
 /// An instruction in the bytes of a Script.
@@ -41,7 +42,7 @@ pub fn next_instr(script: &[u8], from: usize) -> Result<Option<(InstrRef<'_>, us
     requires { from ≤ length script.now }
     ensures next { seen result ≡ next_item from (drop from script.now) }
     ensures items { IsItems script.now from result }
-    ensures small { IsSmall result }
+    ensures small { IsSmallNext result }
     ensures number { gives_number result ≡ begins_with_number (drop from script.now) }
 {
     let Some(first) = script.get(from) else {
@@ -103,39 +104,11 @@ fn read_push<'a>(
         return Err(InstrFault::Truncated);
     }
     let bytes = &rest[field..field + count];
-    let minimal = is_minimal_push(first, bytes);
+    let minimal = first == push_byte(bytes);
     Ok(Reading {
         instr: InstrRef::Push { bytes, minimal },
         taken: field + count,
     })
-}
-
-/// Whether the shortest spelling of a push of `bytes` begins with the byte `first`.
-fn is_minimal_push(first: u8, bytes: &[u8]) -> bool
-    ensures { result ≡ the_is_minimal_push first bytes.now }
-{
-    match *bytes {
-        [] => first == 0x00,
-        [byte] if 1 <= byte && byte <= 16 => first == 0x50 + byte,
-        [0x81] => first == 0x4f,
-        _ => is_sized_push(first, bytes),
-    }
-}
-
-/// Whether the shortest push of `bytes` by their length begins with the byte `first`.
-fn is_sized_push(first: u8, bytes: &[u8]) -> bool
-    ensures { result ≡ (slice_index (sized_push bytes.now) 0 == first) }
-{
-    let length = bytes.len();
-    if length <= 75 {
-        first as usize == length
-    } else if length <= 255 {
-        first == 0x4c
-    } else if length <= 65535 {
-        first == 0x4d
-    } else {
-        first == 0x4e
-    }
 }
 
 /// An instruction of one byte.
@@ -158,38 +131,19 @@ fn read_number_or_op(first: u8) -> Result<Reading<'static>, InstrFault>
     Ok(Reading { instr, taken: 0 })
 }
 
+/// The opcode of each byte, by the rows of the table.
+macro_rules! opcode_of {
+    (($byte:ident) $([$name:ident $value:literal])*) => {
+        match $byte {
+            $($value => Some(Op::$name),)*
+            _ => None,
+        }
+    };
+}
+
 /// The opcode for which a byte stands.
 fn op_of_byte(byte: u8) -> Option<Op>
     ensures { result ≡ the_op_of_byte byte }
 {
-    match byte {
-        0x63 => Some(Op::If),
-        0x64 => Some(Op::NotIf),
-        0x67 => Some(Op::Else),
-        0x68 => Some(Op::EndIf),
-        0x69 => Some(Op::Verify),
-        0x6b => Some(Op::ToAltStack),
-        0x6c => Some(Op::FromAltStack),
-        0x73 => Some(Op::IfDup),
-        0x76 => Some(Op::Dup),
-        0x7c => Some(Op::Swap),
-        0x82 => Some(Op::Size),
-        0x87 => Some(Op::Equal),
-        0x88 => Some(Op::EqualVerify),
-        0x92 => Some(Op::ZeroNotEqual),
-        0x93 => Some(Op::Add),
-        0x9a => Some(Op::BoolAnd),
-        0x9b => Some(Op::BoolOr),
-        0xa6 => Some(Op::Ripemd160),
-        0xa8 => Some(Op::Sha256),
-        0xa9 => Some(Op::Hash160),
-        0xaa => Some(Op::Hash256),
-        0xac => Some(Op::CheckSig),
-        0xad => Some(Op::CheckSigVerify),
-        0xae => Some(Op::CheckMultiSig),
-        0xaf => Some(Op::CheckMultiSigVerify),
-        0xb1 => Some(Op::Cltv),
-        0xb2 => Some(Op::Csv),
-        _ => None,
-    }
+    opcode_rows!(opcode_of!(byte))
 }

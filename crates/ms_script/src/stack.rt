@@ -1,7 +1,7 @@
 //! Stacks of byte strings, bottom first.
 
 ghost use Rattle.std.specs.Prelude.{◌≡◌, ℕ, ◌^◌, ◌<◌, ◌≤◌, List, [], ◌∷◌, ◌++◌, length, slice_index_or, OnOk, OnErr};
-ghost use Rattle.ms_script.specs.Stacks.{weight as the_weight};
+ghost use Rattle.def_script.specs.Witness.{weight as the_weight};
 
 use crate::blob::Blob;
 use std::alloc::{AllocError, Global};
@@ -40,6 +40,14 @@ impl Stack {
         ensures err { OnErr result (self.new ≡ self.old) }
     {
         let item = Blob::from_slice(self.alloc, bytes)?;
+        self.push_blob(item)
+    }
+
+    /// Adds an item on top, which it takes over. Where memory is wanting it answers `AllocError`, and nothing changes.
+    pub fn push_blob(&mut self, item: Blob) -> Result<(), AllocError>
+        ensures ok { OnOk result (self.new ≡ self.old ++ item ∷ []) }
+        ensures err { OnErr result (self.new ≡ self.old) }
+    {
         self.items.push(item)?;
         Ok(())
     }

@@ -4,11 +4,11 @@ use Rattle.def_script.specs.Bytes.{Bytes}
 use Rattle.def_tree.specs.Tree.{Key}
 use Rattle.def_text.specs.Word.{key_of}
 use Rattle.def_text.specs.declared.TextFault.{TextFault}
-use Rattle.def_text.specs.Reader.{Outcome, State, Frame, multi_comma, multi_key, multi_next}
+use Rattle.def_text.specs.Scaffolding.Reader.{Outcome, State, Frame, multi_comma, multi_key, multi_next}
 use Rattle.ms_text.specs.declared.tokens.Separator.{Separator}
-use Rattle.ms_text.specs.Marks.{separator_read}
+use Rattle.ms_text.specs.Scaffolding.Marks.{separator_read}
 use Rattle.ms_text.proofs.StateLemmas.{takes_multi_key, takes_multi_next, key_next}
-use Rattle.ms_text.specs.Place.{Refused, Answers, Takes, word_read, machine_from}
+use Rattle.ms_text.specs.Scaffolding.Place.{Refused, Answers, Takes, word_read, machine_from}
 
 -- a fault that is handed on
 pub refused : {A : Type 0} (o : Outcome) (r : Result A TextFault) (e y : TextFault) (next : A → Outcome) → r ≡ Err y → y ≡ e → Refused o e → Answers o r next

@@ -4,8 +4,8 @@ use Rattle.def_script.specs.Bytes.{Bytes}
 use Rattle.def_text.specs.Token.{Token, word, opening, closing, comma, colon, other, end, offset}
 use Rattle.def_text.specs.Letter.{Letter}
 use Rattle.def_text.specs.Refusal.{MOST_WRITTEN_DEPTH}
-use Rattle.def_text.specs.Reader.{Frame, Form, Head, named, run, head_of, expression, colon_next, begin, begin_form, run_frames, run_offsets, is_deep_head, syntax_outcome, deep_outcome, next_outcome, outcome}
-use Rattle.ms_text.specs.Place.{machine_from, machine_behind, is_word, FirstWord}
+use Rattle.def_text.specs.Scaffolding.Reader.{Frame, Form, Head, named, run, head_of, expression, colon_next, begin, begin_form, run_frames, run_offsets, is_deep_head, syntax_outcome, deep_outcome, next_outcome, outcome}
+use Rattle.ms_text.specs.Scaffolding.Place.{machine_from, machine_behind, is_word, FirstWord}
 
 other_token : (fs : List Frame) (os : List ℕ) (t : Token) (ts : List Token) → is_word t ≡ false → outcome (expression, fs, os) (t ∷ ts) ≡ syntax_outcome (offset t)
 other_token fs os (word a w) ts h = absurd (cc)

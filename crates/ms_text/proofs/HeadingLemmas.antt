@@ -5,10 +5,10 @@ use Rattle.std.proofs.lemmas.List.{drop_all, get_or-drop, get_or-take}
 use Rattle.def_script.specs.Bytes.{Bytes}
 use Rattle.def_text.specs.Letter.{Letter, letter_of_wrapper, letter_t, letter_l, letter_u, letter_byte}
 use Rattle.def_text.specs.Token.{is_word_byte}
-use Rattle.def_text.specs.Reader.{LETTERS, first_letter, letters_of}
+use Rattle.def_text.specs.Scaffolding.Reader.{LETTERS, first_letter, letters_of}
 use Rattle.def_tree.specs.declared.Wrapper.TheVariants.{A, S, C, D, V, J, N}
-use Rattle.ms_text.specs.Marks.{starts_word}
-use Rattle.ms_text.specs.Names.{starts_letter}
+use Rattle.ms_text.specs.Scaffolding.Marks.{starts_word}
+use Rattle.ms_text.specs.Scaffolding.Names.{starts_letter}
 use Rattle.ms_text.proofs.PlaceLemmas.{starts_at}
 use Rattle.ms_text.proofs.RunLemmas.{letter_is, letter_at, part_letters}
 

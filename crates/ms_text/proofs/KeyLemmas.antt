@@ -13,16 +13,18 @@ use Rattle.hex.proofs.HexLemmas.{decode_of-ok}
 use Rattle.def_script.specs.Bytes.{Bytes}
 use Rattle.def_tree.specs.Tree.{Key, Tree}
 use Rattle.def_text.specs.Token.{Token, word, opening, closing, comma, colon, other, end, is_word_byte}
-use Rattle.def_text.specs.Word.{is_key, key_of}
-use Rattle.def_text.specs.Reader.{State, leaf_of as spelled_by, syntax_outcome}
+use Rattle.def_text.specs.Word.{key_of}
+use Rattle.def_script.specs.Key.{is_key}
+use Rattle.def_text.specs.Scaffolding.Reader.{State, leaf_of as spelled_by, syntax_outcome}
 use Rattle.ms_text.specs.declared.names.LeafName.{LeafName}
 use Rattle.ms_text.specs.declared.names.LeafName.TheVariants as name
-use Rattle.ms_text.specs.Leaves.{leaf_tree, takes_key, leaf_of_key}
-use Rattle.ms_text.specs.Marks.{starts_word}
-use Rattle.ms_text.specs.Names.{leaf_of}
-use Rattle.ms_text.specs.Place.{IsPlace, FirstWord, Takes, word_read, machine_from}
+use Rattle.ms_text.specs.Scaffolding.Leaves.{leaf_tree, takes_key, leaf_of_key}
+use Rattle.ms_text.specs.Scaffolding.Marks.{starts_word}
+use Rattle.ms_text.specs.Scaffolding.Names.{leaf_of}
+use Rattle.ms_text.specs.Scaffolding.Place.{IsPlace, FirstWord, Takes, word_read, machine_from}
 use Rattle.ms_text.proofs.NameLemmas.{no_empty_key}
 use Rattle.ms_text.proofs.PlaceLemmas.{starts_at, word_is_ascii, place_behind, word_length, word_found, word_more, word_place_more, word_goes, word_stops}
+use Rattle.def_script.proofs.KeyLemmas.{key_length}
 
 -- ---- a key is a word of 66 digits
 
@@ -53,8 +55,7 @@ pub key_word : (w : Bytes) (key : Key) → key_of w ≡ Some key → (length w �
 key_word w key h =
     let (e, is) = key_decoded key (decode_of w) w refl h in
     let all = decode_of-ok w key e in
-    let (long, _) = and_parts (length key == 33) _ is in
-    let n : length key ≡ 33 = eqb-true (length key) 33 long in
+    let n = key_length key is in
     (omega (arith, all.2, n), all_word w (list_all-from_AllPass is_hex_digit w all.1))
 
 -- ---- where it ends

@@ -10,9 +10,9 @@ use Rattle.def_tree.specs.Tree.{pk_k, pk_h, hash, wrap}
 use Rattle.def_text.specs.Word.{number_of, key_of, hash_of}
 use Rattle.def_hash.specs.declared.HashKind.{HashKind}
 use Rattle.def_hash.specs.declared.HashKind.TheVariants.{Sha256, Hash256, Ripemd160, Hash160}
-use Rattle.def_text.specs.Reader.{Leaf, leaf_pk_k, leaf_pk_h, leaf_pk, leaf_pkh, leaf_older, leaf_after, leaf_hash, leaf_of, FORMS, first_named, letters_of, head_from}
+use Rattle.def_text.specs.Scaffolding.Reader.{Leaf, leaf_pk_k, leaf_pk_h, leaf_pk, leaf_pkh, leaf_older, leaf_after, leaf_hash, leaf_of, FORMS, first_named, letters_of, head_from}
 use Rattle.def_text.proofs.Words.{word_is}
-use Rattle.ms_text.specs.Names.{IsLetters}
+use Rattle.ms_text.specs.Scaffolding.Names.{IsLetters}
 
 letters_by : (w : Bytes) (o : Option (List Letter)) → letters_of w ≡ o → is_some o ≡ true → 0 < length w → IsLetters w
 letters_by w None e h l = absurd (cc)

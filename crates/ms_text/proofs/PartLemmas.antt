@@ -5,12 +5,12 @@ use Rattle.def_tree.specs.Size.{measure, measure_of, depth, depth_of}
 use Rattle.def_tree.specs.Range.{IsWritable, AreWritable, count}
 use Rattle.def_text.specs.declared.TextFault.{TextFault}
 use Rattle.def_text.specs.Refusal.{MOST_WRITTEN_DEPTH}
-use Rattle.def_text.specs.Reader.{joined}
+use Rattle.def_text.specs.Scaffolding.Reader.{joined}
 use Rattle.def_script.specs.Bytes.{Bytes}
 use Rattle.ms_tree.specs.declared.tree.Tree.{Tree}
 use Rattle.ms_tree.specs.Shape.{shape, shapes}
 use Rattle.ms_text.specs.declared.forms.Part.{Part}
-use Rattle.ms_text.specs.Room.{IsPart}
+use Rattle.ms_text.specs.Scaffolding.Room.{IsPart}
 
 -- a part that may stand at any depth stands at one
 pub part_at : (text : Bytes) (name d : ℕ) (r : Result Part TextFault) → IfOk r (λ p. (e : ℕ) → e < MOST_WRITTEN_DEPTH → IsPart text name e (shape p.tree) p.end) →

@@ -14,12 +14,12 @@ use Rattle.ms_text.specs.declared.tokens.Separator.{Separator}
 use Rattle.ms_text.specs.declared.tokens.Separator.TheVariants as separator
 use Rattle.def_script.specs.Bytes.{Bytes}
 use Rattle.def_text.specs.Token.{Token, word, opening, closing, comma, colon, other, end, offset, is_word_byte, goes_on, word_before, byte_before, tokens_from}
-use Rattle.def_text.specs.Reader.{State, step, syntax_outcome, next_outcome, outcome}
+use Rattle.def_text.specs.Scaffolding.Reader.{State, step, syntax_outcome, next_outcome, outcome}
 use Rattle.ms_text.specs.declared.tokens.Mark.{Mark}
 use Rattle.ms_text.specs.declared.tokens.Mark.TheVariants as mark
 use Rattle.ms_text.proofs.StateLemmas.{end_read}
-use Rattle.ms_text.specs.Marks.{starts_word, begins_with, mark_code, mark_token, mark_read, separator_read}
-use Rattle.ms_text.specs.Place.{IsPlace, rest, machine_from, Takes, word_read, is_word, NoWord, FirstWord}
+use Rattle.ms_text.specs.Scaffolding.Marks.{starts_word, begins_with, mark_code, mark_token, mark_read, separator_read}
+use Rattle.ms_text.specs.Scaffolding.Place.{IsPlace, rest, machine_from, Takes, word_read, is_word, NoWord, FirstWord}
 
 -- ---- what a state makes of a token
 

@@ -13,10 +13,10 @@ use Rattle.def_script.specs.Bytes.{Bytes}
 use Rattle.def_tree.specs.declared.Wrapper.TheVariants.{A, S, C, D, V, J, N}
 use Rattle.def_text.specs.Letter.{Letter, letter_of_wrapper, letter_t, letter_l, letter_u, letter_byte, letter_tree}
 use Rattle.def_text.proofs.Words.{word_is}
-use Rattle.def_text.specs.Reader.{Frame, LETTERS, first_letter, letters_of, letter_frame, colon_next, run_frames, run_offsets, offsets_before, offsets_behind, ended, outcome}
-use Rattle.ms_text.specs.Place.{machine_from}
-use Rattle.ms_text.specs.Room.{IsLarger}
-use Rattle.ms_text.specs.Runs.{offsets_before_run}
+use Rattle.def_text.specs.Scaffolding.Reader.{Frame, LETTERS, first_letter, letters_of, letter_frame, colon_next, run_frames, run_offsets, offsets_before, offsets_behind, ended, outcome}
+use Rattle.ms_text.specs.Scaffolding.Place.{machine_from}
+use Rattle.ms_text.specs.Scaffolding.Room.{IsLarger}
+use Rattle.ms_text.specs.Scaffolding.Runs.{offsets_before_run}
 use Rattle.ms_text.proofs.NameLemmas.{letters_are_long}
 
 -- the letters of a word are its first one and those of the rest

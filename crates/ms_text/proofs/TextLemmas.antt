@@ -1,5 +1,5 @@
 -- What the machine answers to a text is what is said of the text.
-use Rattle.std.proofs.Common.{◌≡◌, ℕ, ◌<◌, ◌≤◌, List, [], length, subst, ap, ◌∙◌, arith}
+use Rattle.std.proofs.Common.{◌≢◌, ◌≡◌, refl, ℕ, ◌<◌, ◌≤◌, List, [], length, subst, ap, ◌∙◌, arith}
 use Rattle.std.specs.Str.{IsUtf8}
 use Rattle.std.proofs.lemmas.Str.{IsCharBoundary-start}
 use Rattle.def_script.specs.Bytes.{Bytes}
@@ -10,11 +10,11 @@ use Rattle.def_text.specs.declared.TextFault.{TextFault}
 use Rattle.def_text.specs.declared.TextFault.TheVariants.{TooLong, Syntax, TooDeep, Memory}
 use Rattle.def_text.specs.Token.{tokens}
 use Rattle.def_text.specs.Refusal.{MOST_BYTES, TextReads, TextRefusal}
-use Rattle.def_text.specs.Reader.{START, ended, finished, tree_outcome, syntax_outcome, outcome}
+use Rattle.def_text.specs.Scaffolding.Reader.{START, ended, finished, tree_outcome, syntax_outcome, outcome}
 use Rattle.def_text.proofs.Report.{Reports, report}
 use Rattle.def_text.proofs.OffsetCount.{count_text}
-use Rattle.ms_text.specs.Place.{IsPlace, machine_from, Refused, rest}
-use Rattle.ms_text.specs.Room.{IsPart}
+use Rattle.ms_text.specs.Scaffolding.Place.{IsPlace, machine_from, Refused, rest}
+use Rattle.ms_text.specs.Scaffolding.Room.{IsPart}
 use Rattle.ms_text.proofs.PlaceLemmas.{rest_end, not_the_end, elsewhere_stops}
 use Rattle.ms_text.proofs.StateLemmas.{end_read, takes_end}
 
@@ -28,11 +28,11 @@ whole text x os at utf8 short reads l =
     let r : Reports text (tree_outcome x os) = subst (Reports text) e (report text utf8) in
     record { short = short; spelled = r.0; none_deep = r.1 }
 
-pub refusal : (text : Bytes) (e : TextFault) → IsUtf8 text → length text ≤ MOST_BYTES → Refused (outcome START (tokens text)) e → TextRefusal text e
-refusal text TooLong utf8 short h = absurd h
-refusal text (Syntax at) utf8 short h = (short, subst (Reports text) h (report text utf8))
-refusal text (TooDeep at) utf8 short h = (short, subst (Reports text) h (report text utf8))
-refusal text Memory utf8 short h = tt
+pub refusal : (text : Bytes) (e : TextFault) → IsUtf8 text → length text ≤ MOST_BYTES → Refused (outcome START (tokens text)) e → e ≢ Memory → TextRefusal text e
+refusal text TooLong utf8 short h known = absurd h
+refusal text (Syntax at) utf8 short h known = (short, subst (Reports text) h (report text utf8))
+refusal text (TooDeep at) utf8 short h known = (short, subst (Reports text) h (report text utf8))
+refusal text Memory utf8 short h known = absurd (known refl)
 
 pub trailing : (text : Bytes) (x : Tree) (os : List ℕ) (at : ℕ) → outcome START (tokens text) ≡ machine_from (ended x, [], os) text at → IsPlace text at → at < length text →
     outcome START (tokens text) ≡ syntax_outcome at

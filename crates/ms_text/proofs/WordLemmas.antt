@@ -4,7 +4,7 @@ use Rattle.hex.specs.Hex.{decode_of, decode_sized}
 use Rattle.hex.specs.declared.error.FromHexError.{FromHexError}
 use Rattle.hex.proofs.HexLemmas.{decode_of-ok, decode_sized-ok, decode_sized-twice}
 use Rattle.def_script.specs.Bytes.{Bytes}
-use Rattle.ms_text.specs.Words.{DecodesTo}
+use Rattle.ms_text.specs.Scaffolding.Words.{DecodesTo}
 
 decoded_by : (n : ℕ) (w : Bytes) (bytes : List ℕ) → decode_sized w n ≡ Ok bytes → DecodesTo n w (Some bytes)
 decoded_by n w bytes h =

@@ -2,13 +2,13 @@
 ghost use Rattle.std.specs.Prelude.{◌≡◌, ℕ, ◌+◌, ◌*◌, ◌<◌, ◌≤◌, true, length, take, drop, List, All, IfOk, IfSome};
 ghost use Rattle.std.specs.Option.{option_map};
 ghost use Rattle.def_tree.specs.Range.{IsKey, IsWritable, TEN_DIGITS};
-ghost use Rattle.def_text.specs.Reader.{State, Frame, leaf_of as spelled_by, multi_comma, ended};
+ghost use Rattle.def_text.specs.Scaffolding.Reader.{State, leaf_of as spelled_by};
 ghost use Rattle.def_text.specs.Refusal.{MOST_BYTES};
 ghost use Rattle.def_text.specs.Word.{number_of, key_of};
-ghost use Rattle.def_tree.specs.Tree as tree;
-ghost use Rattle.ms_text.specs.Leaves.{leaf_tree, takes_key, leaf_of_key};
-ghost use Rattle.ms_text.specs.Names.{leaf_of};
-ghost use Rattle.ms_text.specs.Place.{IsPlace, Takes, Answers, machine_from, word_read};
+ghost use Rattle.ms_text.specs.Scaffolding.Forms.{ReadsLeaf, ReadsKeys};
+ghost use Rattle.ms_text.specs.Scaffolding.Leaves.{leaf_tree, takes_key, leaf_of_key};
+ghost use Rattle.ms_text.specs.Scaffolding.Names.{leaf_of};
+ghost use Rattle.ms_text.specs.Scaffolding.Place.{IsPlace, Takes, Answers, machine_from, word_read};
 ghost use Rattle.ms_tree.specs.Shape.{leaf_shape};
 
 use crate::names::LeafName;
@@ -21,7 +21,9 @@ use std::alloc::Global;
 /// What a word spells, and the place behind it.
 #[derive(Clone, Copy)]
 pub struct Spelled<T> {
+    /// What the word spells.
     pub value: T,
+    /// The place behind the word, in bytes from the text's beginning.
     pub end: usize,
 }
 
@@ -116,7 +118,7 @@ fn key_argument_at(text: &[u8], at: usize, name: LeafName) -> Result<Spelled<Lea
     ensures after { IfOk result (λ r. at < r.end) }
     ensures place { IfOk result (λ r. IsPlace text.now r.end) }
     ensures writable { IfOk result (λ r. IsWritable (leaf_shape r.value)) }
-    ensures reads { (s : State) (next : tree.Tree → State) → Takes (word_read (spelled_by (leaf_of name))) s next → Answers (machine_from s text.now at) result (λ r. machine_from (next (leaf_tree name r.value)) text.now r.end) }
+    ensures reads { ReadsLeaf name text.now at result }
 {
     let key = key_at(text, at)?;
     Ok(Spelled {
@@ -131,7 +133,7 @@ pub fn argument_at(text: &[u8], at: usize, name: LeafName) -> Result<Spelled<Lea
     ensures after { IfOk result (λ r. at < r.end) }
     ensures place { IfOk result (λ r. IsPlace text.now r.end) }
     ensures writable { IfOk result (λ r. IsWritable (leaf_shape r.value)) }
-    ensures reads { (s : State) (next : tree.Tree → State) → Takes (word_read (spelled_by (leaf_of name))) s next → Answers (machine_from s text.now at) result (λ r. machine_from (next (leaf_tree name r.value)) text.now r.end) }
+    ensures reads { ReadsLeaf name text.now at result }
 {
     if is_of_key(name) {
         return key_argument_at(text, at, name);
@@ -149,7 +151,9 @@ pub fn argument_at(text: &[u8], at: usize, name: LeafName) -> Result<Spelled<Lea
 /// Keys, and the place behind the `)` that ends them.
 #[derive(Drop)]
 pub struct Keys {
+    /// The keys, first one first.
     pub keys: Vec<Key>,
+    /// The place behind the `)`.
     pub end: usize,
 }
 
@@ -161,15 +165,13 @@ pub fn key_list(alloc: Global, text: &[u8], at: usize) -> Result<Keys, TextFault
     ensures some { IfOk result (λ r. 1 ≤ length r.keys.items) }
     ensures measure { IfOk result (λ r. length r.keys.items + at ≤ r.end) }
     ensures writable { IfOk result (λ r. All IsKey r.keys.items) }
-    ensures reads { (k : ℕ) (fs : List Frame) (os : List ℕ) → Answers (machine_from (multi_comma k, fs, os) text.now at) result (λ r. machine_from (ended (tree.multi k r.keys.items), fs, os) text.now r.end) }
+    ensures reads { ReadsKeys text.now at result }
 {
     let mut keys = Vec::new(alloc);
     let mut at = behind_mark(text, at, Mark::Comma)?;
     loop {
         let read = key_at(text, at)?;
-        if keys.push(read.value).is_err() {
-            return Err(TextFault::Memory);
-        }
+        keys.push(read.value)?;
         let found = separator_at(text, read.end)?;
         at = read.end + 1;
         if found == Separator::Close {

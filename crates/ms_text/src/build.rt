@@ -3,10 +3,10 @@ ghost use Rattle.std.specs.Prelude.{◌≡◌, ℕ, ◌+◌, ◌<◌, ◌^◌, [
 ghost use Rattle.def_tree.specs.Range.{IsInRange, IsWritable};
 ghost use Rattle.def_tree.specs.Tree as model;
 ghost use Rattle.def_text.specs.Letter.{letter_tree};
-ghost use Rattle.def_text.specs.Reader.{leaf_offsets, pair_tree, pair_offsets, offsets_behind};
-ghost use Rattle.ms_text.specs.Leaves.{leaf_tree};
-ghost use Rattle.ms_text.specs.Names.{leaf_of, pair_of, letter_of};
-ghost use Rattle.ms_text.specs.Room.{HasRoom, HaveRoom};
+ghost use Rattle.def_text.specs.Scaffolding.Reader.{leaf_offsets, pair_tree, pair_offsets, offsets_behind};
+ghost use Rattle.ms_text.specs.Scaffolding.Leaves.{leaf_tree};
+ghost use Rattle.ms_text.specs.Scaffolding.Names.{leaf_of, pair_of, letter_of};
+ghost use Rattle.ms_text.specs.Scaffolding.Room.{HasRoom, HaveRoom};
 ghost use Rattle.ms_tree.specs.Shape.{shape, shapes, leaf_shape};
 
 use crate::names::{LeafName, Letter, Pair};
@@ -22,7 +22,8 @@ pub fn add_offset(offsets: &mut Vec<u32>, at: usize) -> Result<(), TextFault>
     ensures added { OnOk result (offsets.new.items ≡ offsets.old.items ++ at ∷ []) }
     ensures memory { IfErr result (λ e. e ≡ TextFault.Memory) }
 {
-    offsets.push(at as u32).map_err(|_| TextFault::Memory)
+    offsets.push(at as u32)?;
+    Ok(())
 }
 
 /// Adds the offset of both nodes of a piece of sugar.
@@ -67,7 +68,7 @@ pub fn new_leaf<'a>(arena: &'a Bump<Global>, value: Leaf) -> Result<Tree<'a>, Te
     ensures tree { IfOk result (λ t. shape t ≡ leaf_shape value) }
     ensures memory { IfErr result (λ e. e ≡ TextFault.Memory) }
 {
-    leaf(arena, value).map_err(|_| TextFault::Memory)
+    Ok(leaf(arena, value)?)
 }
 
 /// The tree of a fragment whose argument is this leaf's.
@@ -82,9 +83,7 @@ pub fn named_leaf<'a>(
 {
     let x = new_leaf(arena, value)?;
     match name {
-        LeafName::Pk | LeafName::Pkh => {
-            wrap(arena, Wrapper::C, x).map_err(|_| TextFault::Memory)
-        }
+        LeafName::Pk | LeafName::Pkh => Ok(wrap(arena, Wrapper::C, x)?),
         LeafName::PkK | LeafName::PkH | LeafName::Older | LeafName::After | LeafName::Hash(_) => {
             Ok(x)
         }
@@ -110,19 +109,19 @@ impl<'a> Reader<'a, '_> {
         match letter {
             Letter::Wrapper(wrapper) => {
                 add_offset(offsets, at)?;
-                wrap(self.arena, wrapper, x).map_err(|_| TextFault::Memory)
+                Ok(wrap(self.arena, wrapper, x)?)
             }
             Letter::T => {
                 add_twice(offsets, at)?;
-                two(self.arena, Two::AndV, x, self.one()).map_err(|_| TextFault::Memory)
+                Ok(two(self.arena, Two::AndV, x, self.one())?)
             }
             Letter::L => {
                 add_offset(offsets, at)?;
-                two(self.arena, Two::OrI, self.zero(), x).map_err(|_| TextFault::Memory)
+                Ok(two(self.arena, Two::OrI, self.zero(), x)?)
             }
             Letter::U => {
                 add_twice(offsets, at)?;
-                two(self.arena, Two::OrI, x, self.zero()).map_err(|_| TextFault::Memory)
+                Ok(two(self.arena, Two::OrI, x, self.zero())?)
             }
         }
     }
@@ -134,8 +133,8 @@ impl<'a> Reader<'a, '_> {
         ensures memory { IfErr result (λ e. e ≡ TextFault.Memory) }
     {
         match pair {
-            Pair::Two(kind) => two(self.arena, kind, x, y).map_err(|_| TextFault::Memory),
-            Pair::AndN => and_or(self.arena, x, y, self.zero()).map_err(|_| TextFault::Memory),
+            Pair::Two(kind) => Ok(two(self.arena, kind, x, y)?),
+            Pair::AndN => Ok(and_or(self.arena, x, y, self.zero())?),
         }
     }
 }
@@ -151,7 +150,7 @@ pub fn new_and_or<'a>(
     ensures tree { IfOk result (λ t. shape t ≡ model.and_or (shape x.entry) (shape y.entry) (shape z.entry)) }
     ensures memory { IfErr result (λ e. e ≡ TextFault.Memory) }
 {
-    and_or(arena, x, y, z).map_err(|_| TextFault::Memory)
+    Ok(and_or(arena, x, y, z)?)
 }
 
 /// The tree `thresh(k,..)` of these children.
@@ -164,7 +163,7 @@ pub fn new_thresh<'a>(
     ensures tree { IfOk result (λ t. shape t ≡ model.thresh k (shapes children.entry.items)) }
     ensures memory { IfErr result (λ e. e ≡ TextFault.Memory) }
 {
-    thresh(arena, k, children).map_err(|_| TextFault::Memory)
+    Ok(thresh(arena, k, children)?)
 }
 
 /// The tree `multi(k,..)` of these keys.
@@ -173,7 +172,7 @@ pub fn new_multi<'a>(arena: &'a Bump<Global>, k: u64, keys: Vec<Key>) -> Result<
     ensures tree { IfOk result (λ t. shape t ≡ model.multi k keys.items) }
     ensures memory { IfErr result (λ e. e ≡ TextFault.Memory) }
 {
-    multi(arena, k, keys).map_err(|_| TextFault::Memory)
+    Ok(multi(arena, k, keys)?)
 }
 
 /// Adds a child.
@@ -181,5 +180,6 @@ pub fn add_child<'a>(children: &mut Vec<Tree<'a>>, x: Tree<'a>) -> Result<(), Te
     ensures added { OnOk result (children.new.items ≡ children.old.items ++ x.entry ∷ []) }
     ensures memory { IfErr result (λ e. e ≡ TextFault.Memory) }
 {
-    children.push(x).map_err(|_| TextFault::Memory)
+    children.push(x)?;
+    Ok(())
 }

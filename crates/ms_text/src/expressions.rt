@@ -1,14 +1,12 @@
 //! The reading of expressions: one method for each group of forms. The depth counts the names and letters that enclose a
 //! place.
-ghost use Rattle.std.specs.Prelude.{◌≡◌, ℕ, ◌+◌, ◌<◌, ◌≤◌, true, [], ◌∷◌, ◌++◌, length, is_some, List, IfOk};
-ghost use Rattle.def_tree.specs.Tree as tree;
-ghost use Rattle.def_text.specs.Letter.{Letter as Letters};
+ghost use Rattle.std.specs.Prelude.{◌≡◌, ◌+◌, ◌<◌, ◌≤◌, true, length, is_some, IfOk};
 ghost use Rattle.def_text.specs.Refusal.{MOST_WRITTEN_DEPTH};
-ghost use Rattle.def_text.specs.Reader as machine;
-ghost use Rattle.ms_text.specs.Marks.{mark_read};
-ghost use Rattle.ms_text.specs.Names.{form_of, pair_of};
-ghost use Rattle.ms_text.specs.Place.{IsPlace, Takes, Answers, machine_from, machine_behind};
-ghost use Rattle.ms_text.specs.Room.{IsPart, AreParts};
+ghost use Rattle.def_text.specs.Scaffolding.Reader as machine;
+ghost use Rattle.ms_text.specs.Scaffolding.Forms.{ReadsWanted, ReadsForm, ReadsLetters, ReadsBehind, ReadsChildren};
+ghost use Rattle.ms_text.specs.Scaffolding.Names.{pair_of};
+ghost use Rattle.ms_text.specs.Scaffolding.Place.{IsPlace};
+ghost use Rattle.ms_text.specs.Scaffolding.Room.{IsPart, AreParts};
 ghost use Rattle.ms_tree.specs.Shape.{shape, shapes};
 
 use crate::arguments::number_at;
@@ -43,7 +41,7 @@ impl<'a> Reader<'a, '_> {
         requires place { IsPlace self.now.text.now at }
         requires depth { depth ≤ MOST_WRITTEN_DEPTH }
         ensures part { IfOk result (λ r. IsPart self.now.text.now at depth (shape r.tree) r.end) }
-        ensures reads { (fs : List machine.Frame) → length fs ≡ depth → Answers (machine_from (machine.expression, fs, offsets.old.items) self.now.text.now at) result (λ r. machine_from (machine.ended (shape r.tree), fs, offsets.new.items) self.now.text.now r.end) }
+        ensures reads { ReadsWanted machine.expression depth offsets.old.items offsets.new.items self.now.text.now at result }
     {
         let Heading { word, head } = heading_at(self.text, at);
         let end = at + word.len();
@@ -80,7 +78,7 @@ impl<'a> Reader<'a, '_> {
         requires depth { depth + length run.now ≤ MOST_WRITTEN_DEPTH }
         requires run { is_some (machine.letters_of run.now) ≡ true }
         ensures part { IfOk result (λ r. IsPart self.now.text.now name depth (shape r.tree) r.end) }
-        ensures reads { (ls : List Letters) (fs : List machine.Frame) → machine.letters_of run.now ≡ Some ls → length fs ≡ depth → Answers (machine_from (machine.colon_next, machine.run_frames name ls fs, machine.run_offsets name ls offsets.old.items) self.now.text.now end) result (λ r. machine_from (machine.ended (shape r.tree), fs, offsets.new.items) self.now.text.now r.end) }
+        ensures reads { ReadsLetters run.now name depth offsets.old.items offsets.new.items self.now.text.now end result }
     {
         add_offsets_before(offsets, run, name)?;
         let x = self.child(Mark::Colon, end, depth + run.len(), offsets)?;
@@ -100,7 +98,7 @@ impl<'a> Reader<'a, '_> {
         requires place { IsPlace self.now.text.now at }
         requires depth { depth ≤ MOST_WRITTEN_DEPTH }
         ensures part { IfOk result (λ r. IsPart self.now.text.now (at + 1) depth (shape r.tree) r.end) }
-        ensures reads { (s : machine.State) (fs : List machine.Frame) → Takes (mark_read mark) s (λ u. (machine.expression, fs, offsets.old.items)) → length fs ≡ depth → Answers (machine_from s self.now.text.now at) result (λ r. machine_from (machine.ended (shape r.tree), fs, offsets.new.items) self.now.text.now r.end) }
+        ensures reads { ReadsBehind mark depth offsets.old.items offsets.new.items self.now.text.now at result }
     {
         let at = behind_mark(self.text, at, mark)?;
         self.expression(at, depth, offsets)
@@ -120,7 +118,7 @@ impl<'a> Reader<'a, '_> {
         requires before { name < at }
         requires depth { depth < MOST_WRITTEN_DEPTH }
         ensures part { IfOk result (λ r. IsPart self.now.text.now name depth (shape r.tree) r.end) }
-        ensures reads { (fs : List machine.Frame) → length fs ≡ depth → Answers (machine_behind (machine.begin_form (form_of form) name fs offsets.old.items) name self.now.text.now at) result (λ r. machine_from (machine.ended (shape r.tree), fs, offsets.new.items) self.now.text.now r.end) }
+        ensures reads { ReadsForm form name depth offsets.old.items offsets.new.items self.now.text.now at result }
     {
         match form {
             Form::Zero => bare_form(self.zero(), name, at, offsets),
@@ -146,7 +144,7 @@ impl<'a> Reader<'a, '_> {
         requires before { name < at }
         requires depth { depth < MOST_WRITTEN_DEPTH }
         ensures part { IfOk result (λ r. IsPart self.now.text.now name depth (shape r.tree) r.end) }
-        ensures reads { (fs : List machine.Frame) → length fs ≡ depth → Answers (machine_from (machine.andor_open name, fs, offsets.old.items) self.now.text.now at) result (λ r. machine_from (machine.ended (shape r.tree), fs, offsets.new.items) self.now.text.now r.end) }
+        ensures reads { ReadsWanted (machine.andor_open name) depth offsets.old.items offsets.new.items self.now.text.now at result }
     {
         let x = self.child(Mark::Open, at, depth + 1, offsets)?;
         let y = self.child(Mark::Comma, x.end, depth + 1, offsets)?;
@@ -171,7 +169,7 @@ impl<'a> Reader<'a, '_> {
         requires before { name < at }
         requires depth { depth < MOST_WRITTEN_DEPTH }
         ensures part { IfOk result (λ r. IsPart self.now.text.now name depth (shape r.tree) r.end) }
-        ensures reads { (fs : List machine.Frame) → length fs ≡ depth → Answers (machine_from (machine.pair_open (pair_of pair) name, fs, offsets.old.items) self.now.text.now at) result (λ r. machine_from (machine.ended (shape r.tree), fs, offsets.new.items) self.now.text.now r.end) }
+        ensures reads { ReadsWanted (machine.pair_open (pair_of pair) name) depth offsets.old.items offsets.new.items self.now.text.now at result }
     {
         let x = self.child(Mark::Open, at, depth + 1, offsets)?;
         let y = self.child(Mark::Comma, x.end, depth + 1, offsets)?;
@@ -194,7 +192,7 @@ impl<'a> Reader<'a, '_> {
         requires before { name < at }
         requires depth { depth < MOST_WRITTEN_DEPTH }
         ensures part { IfOk result (λ r. IsPart self.now.text.now name depth (shape r.tree) r.end) }
-        ensures reads { (fs : List machine.Frame) → length fs ≡ depth → Answers (machine_from (machine.thresh_open name, fs, offsets.old.items) self.now.text.now at) result (λ r. machine_from (machine.ended (shape r.tree), fs, offsets.new.items) self.now.text.now r.end) }
+        ensures reads { ReadsWanted (machine.thresh_open name) depth offsets.old.items offsets.new.items self.now.text.now at result }
     {
         let at = behind_mark(self.text, at, Mark::Open)?;
         let k = number_at(self.text, at)?;
@@ -218,7 +216,7 @@ impl<'a> Reader<'a, '_> {
         requires place { IsPlace self.now.text.now at }
         requires depth { depth ≤ MOST_WRITTEN_DEPTH }
         ensures parts { IfOk result (λ r. AreParts self.now.text.now (at + 1) depth (shapes r.trees.items) r.end) }
-        ensures reads { (k name : ℕ) (fs : List machine.Frame) → length fs + 1 ≡ depth → Answers (machine_from (machine.thresh_comma k name, fs, offsets.old.items) self.now.text.now at) result (λ r. machine_from (machine.ended (tree.thresh k (shapes r.trees.items)), fs, offsets.new.items ++ name ∷ []) self.now.text.now r.end) }
+        ensures reads { ReadsChildren depth offsets.old.items offsets.new.items self.now.text.now at result }
     {
         let mut trees = Vec::new(self.alloc);
         let mut at = behind_mark(self.text, at, Mark::Comma)?;

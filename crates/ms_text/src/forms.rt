@@ -1,10 +1,11 @@
 //! The rest of a fragment that holds no expression, behind its name.
-ghost use Rattle.std.specs.Prelude.{◌≡◌, ℕ, ◌<◌, ◌^◌, [], ◌∷◌, ◌++◌, List, IfOk, IfErr, OnOk};
+ghost use Rattle.std.specs.Prelude.{◌≡◌, ℕ, ◌<◌, ◌^◌, [], ◌∷◌, ◌++◌, IfOk, IfErr, OnOk};
 ghost use Rattle.def_text.specs.Refusal.{MOST_WRITTEN_DEPTH};
-ghost use Rattle.def_text.specs.Reader as machine;
-ghost use Rattle.ms_text.specs.Names.{leaf_of};
-ghost use Rattle.ms_text.specs.Place.{IsPlace, Answers, machine_from};
-ghost use Rattle.ms_text.specs.Room.{IsPart};
+ghost use Rattle.def_text.specs.Scaffolding.Reader as machine;
+ghost use Rattle.ms_text.specs.Scaffolding.Forms.{ReadsAnywhere};
+ghost use Rattle.ms_text.specs.Scaffolding.Names.{leaf_of};
+ghost use Rattle.ms_text.specs.Scaffolding.Place.{IsPlace};
+ghost use Rattle.ms_text.specs.Scaffolding.Room.{IsPart};
 ghost use Rattle.ms_tree.specs.Shape.{shape};
 
 use crate::arguments::{argument_at, key_list, number_at};
@@ -18,7 +19,9 @@ use ms_tree::Tree;
 /// A tree that was read, and the place behind it.
 #[derive(Clone, Copy)]
 pub struct Part<'a> {
+    /// The tree, in the reader's arena.
     pub tree: Tree<'a>,
+    /// The place behind it, in bytes from the text's beginning.
     pub end: usize,
 }
 
@@ -50,7 +53,7 @@ impl<'a> Reader<'a, '_> {
         requires place { IsPlace self.now.text.now at }
         requires before { name < at }
         ensures part { IfOk result (λ r. (depth : ℕ) → depth < MOST_WRITTEN_DEPTH → IsPart self.now.text.now name depth (shape r.tree) r.end) }
-        ensures reads { (fs : List machine.Frame) → Answers (machine_from (machine.leaf_open (leaf_of leaf), fs, offsets.old.items ++ machine.leaf_offsets (leaf_of leaf) name) self.now.text.now at) result (λ r. machine_from (machine.ended (shape r.tree), fs, offsets.new.items) self.now.text.now r.end) }
+        ensures reads { ReadsAnywhere (machine.leaf_open (leaf_of leaf)) (offsets.old.items ++ machine.leaf_offsets (leaf_of leaf) name) offsets.new.items self.now.text.now at result }
     {
         let at = behind_mark(self.text, at, Mark::Open)?;
         let argument = argument_at(self.text, at, leaf)?;
@@ -70,7 +73,7 @@ impl<'a> Reader<'a, '_> {
         requires place { IsPlace self.now.text.now at }
         requires before { name < at }
         ensures part { IfOk result (λ r. (depth : ℕ) → depth < MOST_WRITTEN_DEPTH → IsPart self.now.text.now name depth (shape r.tree) r.end) }
-        ensures reads { (fs : List machine.Frame) → Answers (machine_from (machine.multi_open, fs, offsets.old.items ++ name ∷ []) self.now.text.now at) result (λ r. machine_from (machine.ended (shape r.tree), fs, offsets.new.items) self.now.text.now r.end) }
+        ensures reads { ReadsAnywhere machine.multi_open (offsets.old.items ++ name ∷ []) offsets.new.items self.now.text.now at result }
     {
         let at = behind_mark(self.text, at, Mark::Open)?;
         let k = number_at(self.text, at)?;

@@ -1,11 +1,9 @@
 //! Runs of letters before a colon. The first letter of a run is the outermost one.
-ghost use Rattle.std.specs.Prelude.{◌≡◌, ◌+◌, ◌<◌, ◌^◌, true, length, is_some, List, IfOk, IfErr, OnOk};
-ghost use Rattle.def_script.specs.Bytes.{Bytes};
-ghost use Rattle.def_text.specs.Letter.{Letter as Letters};
-ghost use Rattle.def_text.specs.Reader.{Frame, letters_of, run_frames, ended, outcome};
-ghost use Rattle.def_text.specs.Token.{Token};
-ghost use Rattle.ms_text.specs.Room.{HasRoomFor, IsLarger};
-ghost use Rattle.ms_text.specs.Runs.{offsets_before_run};
+ghost use Rattle.std.specs.Prelude.{◌≡◌, ◌+◌, ◌<◌, ◌^◌, true, length, is_some, IfOk, IfErr, OnOk};
+ghost use Rattle.def_text.specs.Scaffolding.Reader.{letters_of};
+ghost use Rattle.ms_text.specs.Scaffolding.Forms.{HasLetters};
+ghost use Rattle.ms_text.specs.Scaffolding.Room.{HasRoomFor, IsLarger};
+ghost use Rattle.ms_text.specs.Scaffolding.Runs.{offsets_before_run};
 ghost use Rattle.ms_tree.specs.Shape.{shape};
 
 use crate::build::add_offset;
@@ -45,7 +43,7 @@ impl<'a> Reader<'a, '_> {
         requires room { HasRoomFor (length run.now) (shape x) }
         requires before { name + length run.now < 2 ^ 32 }
         ensures larger { IfOk result (λ t. IsLarger (length run.now) (shape x.entry) (shape t)) }
-        ensures reads { IfOk result (λ t. (ls : List Letters) (fs : List Frame) (ts : List Token) → letters_of run.now ≡ Some ls → outcome (ended (shape x.entry), run_frames name ls fs, offsets.old.items) ts ≡ outcome (ended (shape t), fs, offsets.new.items) ts) }
+        ensures reads { IfOk result (HasLetters run.now name (shape x.entry) offsets.old.items offsets.new.items) }
         ensures memory { IfErr result (λ e. e ≡ TextFault.Memory) }
     {
         let mut tree = x;

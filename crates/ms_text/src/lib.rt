@@ -2,8 +2,9 @@
 #![tactic(auto)]
 
 pub use def_text::TextFault;
-pub use print::{copy_out, print_text};
+pub use print::{copy_out, name_of_hash, print_call, print_lock, print_number, print_text};
 pub use text::{TextTree, read_text};
+pub use words::key_spelled;
 
 mod arguments;
 mod build;

@@ -2,10 +2,10 @@
 ghost use Rattle.std.specs.Prelude.{◌≡◌, ◌+◌, ◌-◌, ◌≤◌, true, false, length, take, drop, is_some};
 ghost use Rattle.std.specs.List.{list_all};
 ghost use Rattle.std.specs.Option.{option_map};
-ghost use Rattle.def_text.specs.Reader.{FORMS, first_named, LETTERS, first_letter, letters_of};
+ghost use Rattle.def_text.specs.Scaffolding.Reader.{FORMS, first_named, LETTERS, first_letter, letters_of};
 ghost use Rattle.def_text.specs.Token.{is_word_byte};
-ghost use Rattle.ms_text.specs.Names.{form_of, letter_of, starts_letter, HeadIs};
-ghost use Rattle.ms_text.specs.Place.{IsPlace, FirstWord};
+ghost use Rattle.ms_text.specs.Scaffolding.Names.{form_of, letter_of, starts_letter, HeadIs};
+ghost use Rattle.ms_text.specs.Scaffolding.Place.{IsPlace, FirstWord};
 
 use crate::tokens::{is_word_at, word_behind};
 use def_tree::{HashKind, Two, Wrapper};
@@ -14,48 +14,71 @@ use ms_tree::fragment_rows;
 /// A fragment whose argument is one word.
 #[derive(Clone, Copy, Debug, PartialEq, Eq)]
 pub enum LeafName {
+    /// `pk_k`, of a key.
     PkK,
+    /// `pk_h`, of a key.
     PkH,
+    /// `pk`, of a key: sugar for `c:pk_k`.
     Pk,
+    /// `pkh`, of a key: sugar for `c:pk_h`.
     Pkh,
+    /// `older`, of a number.
     Older,
+    /// `after`, of a number.
     After,
+    /// `sha256`, `hash256`, `ripemd160` or `hash160`, of a hash value.
     Hash(HashKind),
 }
 
 /// A fragment of two children.
 #[derive(Clone, Copy, Debug, PartialEq, Eq)]
 pub enum Pair {
+    /// `and_v`, `and_b`, `or_b`, `or_c`, `or_d` or `or_i`.
     Two(Two),
+    /// `and_n`: sugar for `andor(X,Y,0)`.
     AndN,
 }
 
 /// A fragment, by what its arguments are.
 #[derive(Clone, Copy, Debug, PartialEq, Eq)]
 pub enum Form {
+    /// `0`, which has no arguments.
     Zero,
+    /// `1`, which has no arguments.
     One,
+    /// A fragment of one word.
     Leaf(LeafName),
+    /// `andor`, of three children.
     AndOr,
+    /// A fragment of two children.
     Pair(Pair),
+    /// `thresh`, of a number and children.
     Thresh,
+    /// `multi`, of a number and keys.
     Multi,
 }
 
 /// A letter before a colon: a wrapper, or sugar.
 #[derive(Clone, Copy, Debug, PartialEq, Eq)]
 pub enum Letter {
+    /// A letter that is a wrapper.
     Wrapper(Wrapper),
+    /// `t`: sugar for `and_v(X,1)`.
     T,
+    /// `l`: sugar for `or_i(0,X)`.
     L,
+    /// `u`: sugar for `or_i(X,0)`.
     U,
 }
 
 /// What a word is where an expression may begin.
 #[derive(Clone, Copy, Debug, PartialEq, Eq)]
 pub enum Head {
+    /// The name of a fragment.
     Name(Form),
+    /// Letters with a colon behind them.
     Letters,
+    /// Neither: no expression begins with it.
     Neither,
 }
 
@@ -165,6 +188,7 @@ fn behind_letters(text: &[u8], at: usize) -> usize
 pub struct Heading<'t> {
     /// Empty where another token stands there.
     pub word: &'t [u8],
+    /// What the word is.
     pub head: Head,
 }
 

@@ -208,8 +208,13 @@ fn print_leaf(alloc: Global, out: &mut String, leaf: Leaf) -> Result<(), AllocEr
     fragment_rows!(leaf_arms!(alloc, out, leaf))
 }
 
-/// A fragment of which the argument is bytes, in digits.
-fn print_call(alloc: Global, out: &mut String, name: &str, bytes: &[u8]) -> Result<(), AllocError>
+/// Adds a name and, in parentheses, bytes in hexadecimal digits of lower case. Refuses for want of memory alone.
+pub fn print_call(
+    alloc: Global,
+    out: &mut String,
+    name: &str,
+    bytes: &[u8],
+) -> Result<(), AllocError>
     ensures { OnOk result (string_bytes out.new ≡ string_bytes out.old ++ (name.now ++ codes "(" ++ encode_lower bytes.now ++ codes ")")) }
 {
     out.push_str(name)?;
@@ -218,8 +223,8 @@ fn print_call(alloc: Global, out: &mut String, name: &str, bytes: &[u8]) -> Resu
     out.push_str(")")
 }
 
-/// A fragment of which the argument is a number.
-fn print_lock(alloc: Global, out: &mut String, name: &str, n: u64) -> Result<(), AllocError>
+/// Adds a name and, in parentheses, a number in decimal digits. Refuses for want of memory alone.
+pub fn print_lock(alloc: Global, out: &mut String, name: &str, n: u64) -> Result<(), AllocError>
     ensures { OnOk result (string_bytes out.new ≡ string_bytes out.old ++ (name.now ++ codes "(" ++ decimal n ++ codes ")")) }
 {
     out.push_str(name)?;
@@ -235,7 +240,8 @@ fn print_hex(alloc: Global, out: &mut String, bytes: &[u8]) -> Result<(), AllocE
     out.push_str(digits.as_str())
 }
 
-fn print_number(alloc: Global, out: &mut String, n: u64) -> Result<(), AllocError>
+/// Adds a number in decimal digits. Refuses for want of memory alone.
+pub fn print_number(alloc: Global, out: &mut String, n: u64) -> Result<(), AllocError>
     ensures { OnOk result (string_bytes out.new ≡ string_bytes out.old ++ decimal n) }
 {
     let digits = format!(in alloc; "{n}")?;
@@ -254,7 +260,8 @@ fn name_of_two(kind: Two) -> &'static str
     fragment_rows!(name_of!(kind Two))
 }
 
-fn name_of_hash(kind: HashKind) -> &'static str
+/// The name of the hash lock of a function (BIP 379). Takes no memory.
+pub fn name_of_hash(kind: HashKind) -> &'static str
     ensures { result.now ≡ hash_name kind }
 {
     fragment_rows!(name_of!(kind HashKind))

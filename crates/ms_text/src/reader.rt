@@ -2,7 +2,7 @@
 ghost use Rattle.std.specs.Prelude.{◌≡◌, true, IfOk, IfErr};
 ghost use Rattle.def_tree.specs.Tree as model;
 ghost use Rattle.ms_tree.specs.Shape.{shape};
-ghost use Rattle.ms_text.specs.Bare.{is_just_0, is_just_1};
+ghost use Rattle.ms_text.specs.Scaffolding.Bare.{is_just_0, is_just_1};
 
 use bumpalo::Bump;
 use def_text::TextFault;
@@ -12,8 +12,11 @@ use std::alloc::Global;
 /// A reader of a text. What it reads is told by places, which are byte offsets.
 #[derive(Drop)]
 pub struct Reader<'a, 't> {
+    /// The allocator of what lies outside the arena.
     pub alloc: Global,
+    /// The arena of the tree's nodes.
     pub arena: &'a Bump<Global>,
+    /// The bytes of the text.
     pub text: &'t [u8],
     zero: Tree<'a>,
     one: Tree<'a>,
@@ -31,12 +34,8 @@ impl<'a, 't> Reader<'a, 't> {
         ensures text { IfOk result (λ reader. reader.text.now ≡ text.now) }
         ensures memory { IfErr result (λ e. e ≡ TextFault.Memory) }
     {
-        let Ok(zero) = leaf(arena, Leaf::Zero) else {
-            return Err(TextFault::Memory);
-        };
-        let Ok(one) = leaf(arena, Leaf::One) else {
-            return Err(TextFault::Memory);
-        };
+        let zero = leaf(arena, Leaf::Zero)?;
+        let one = leaf(arena, Leaf::One)?;
         Ok(Reader {
             alloc,
             arena,
@@ -45,6 +44,7 @@ impl<'a, 't> Reader<'a, 't> {
             one,
         })
     }
+
     /// The tree `0`, which is made once.
     #[tactic(auto, using(crate::proofs::BareLemmas::just_0_is))]
     pub fn zero(&self) -> Tree<'a>

@@ -1,5 +1,5 @@
 //! Reading a text: its tree with the offsets of the nodes, or the first place that is wrong.
-ghost use Rattle.std.specs.Prelude.{◌≡◌, ◌<◌, ◌≤◌, length, slice_index, IsUtf8, IfOk, IfErr};
+ghost use Rattle.std.specs.Prelude.{◌≢◌, ◌≡◌, ◌<◌, ◌≤◌, length, slice_index, IsUtf8, IfOk, IfErr};
 ghost use Rattle.def_tree.specs.Range.{IsInRange};
 ghost use Rattle.def_tree.specs.Size.{nodes};
 ghost use Rattle.def_text.specs.Refusal.{MOST_BYTES, TextReads, TextRefusal};
@@ -56,7 +56,7 @@ pub fn read_text<'a>(
     text: &str,
 ) -> Result<TextTree<'a>, TextFault>
     ensures read { IfOk result (λ t. TextReads text.now (shape t.tree) t.offsets.items) }
-    ensures refused { IfErr result (λ e. TextRefusal text.now e) }
+    ensures refused { IfErr result (λ e. e ≢ TextFault.Memory → TextRefusal text.now e) }
     ensures in_range { IfOk result (λ t. IsInRange (shape t.tree)) }
     // Memory is wanting only where the text isn't too long.
     ensures memory { IfErr result (λ e. e ≡ TextFault.Memory → length text.now ≤ MOST_BYTES) }
@@ -76,7 +76,7 @@ fn read_bytes<'a>(
     requires utf8 { IsUtf8 text.now }
     requires short { length text.now ≤ MOST_BYTES }
     ensures read { IfOk result (λ t. TextReads text.now (shape t.tree) t.offsets.items) }
-    ensures refused { IfErr result (λ e. TextRefusal text.now e) }
+    ensures refused { IfErr result (λ e. e ≢ TextFault.Memory → TextRefusal text.now e) }
     ensures in_range { IfOk result (λ t. IsInRange (shape t.tree)) }
 {
     let reader = Reader::new(alloc, arena, text)?;
@@ -89,7 +89,7 @@ impl<'a> Reader<'a, '_> {
         requires utf8 { IsUtf8 self.now.text.now }
         requires short { length self.now.text.now ≤ MOST_BYTES }
         ensures read { IfOk result (λ t. TextReads self.now.text.now (shape t.tree) t.offsets.items) }
-        ensures refused { IfErr result (λ e. TextRefusal self.now.text.now e) }
+        ensures refused { IfErr result (λ e. e ≢ TextFault.Memory → TextRefusal self.now.text.now e) }
         ensures in_range { IfOk result (λ t. IsInRange (shape t.tree)) }
     {
         let mut offsets = Vec::new(self.alloc);

@@ -2,19 +2,23 @@
 ghost use Rattle.std.specs.Prelude.{◌≡◌, ℕ, ◌+◌, ◌-◌, ◌≤◌, true, false, length, take, drop, IfOk};
 ghost use Rattle.std.specs.List.{list_all};
 ghost use Rattle.def_script.specs.Bytes.{Bytes};
-ghost use Rattle.def_text.specs.Reader.{State};
+ghost use Rattle.def_text.specs.Scaffolding.Reader.{State};
 ghost use Rattle.def_text.specs.Token.{is_word_byte as is_word_code};
-ghost use Rattle.ms_text.specs.Marks.{starts_word, begins_with, mark_code, mark_read, separator_read};
-ghost use Rattle.ms_text.specs.Place.{IsPlace, FirstWord, Takes, Answers, machine_from};
+ghost use Rattle.ms_text.specs.Scaffolding.Marks.{starts_word, begins_with, mark_code, mark_read, separator_read};
+ghost use Rattle.ms_text.specs.Scaffolding.Place.{IsPlace, FirstWord, Takes, Answers, machine_from};
 
 use def_text::TextFault;
 
 /// A token of one character.
 #[derive(Clone, Copy, Debug, PartialEq, Eq)]
 pub enum Mark {
+    /// `(`.
     Open,
+    /// `)`.
     Close,
+    /// `,`.
     Comma,
+    /// `:`.
     Colon,
 }
 
@@ -34,7 +38,9 @@ impl Mark {
 /// What stands behind one of several arguments.
 #[derive(Clone, Copy, Debug, PartialEq, Eq)]
 pub enum Separator {
+    /// A comma: a further argument follows.
     Comma,
+    /// The `)` that ends the arguments.
     Close,
 }
 

@@ -5,7 +5,7 @@ ghost use Rattle.def_hash.specs.Hash.{digest_length};
 ghost use Rattle.def_tree.specs.Range.{IsDigest, IsKey, TEN_DIGITS};
 ghost use Rattle.def_text.specs.Word.{number_of, key_of, hash_of};
 ghost use Rattle.ms_hash.specs.Value.{bytes_of, kind_of};
-ghost use Rattle.ms_text.specs.Words.{DecodesTo, digits_after};
+ghost use Rattle.ms_text.specs.Scaffolding.Words.{DecodesTo, digits_after};
 
 use def_tree::HashKind;
 use ms_hash::HashVal;
@@ -52,7 +52,7 @@ fn decoded<const N: usize>(word: &[u8]) -> Option<[u8; N]>
     }
 }
 
-/// The key that a word spells.
+/// The key that a word spells by 66 hexadecimal digits of either case, or `None` where it spells none. Takes no memory.
 pub fn key_spelled(word: &[u8]) -> Option<Key>
     ensures key { result ≡ key_of word.now }
     ensures writable { IfSome result IsKey }

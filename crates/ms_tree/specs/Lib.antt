@@ -1,3 +1,3 @@
 pub mod Shape
 pub mod View
-pub mod Size
+pub mod Scaffolding

@@ -2,6 +2,7 @@
 ghost use Rattle.std.specs.Prelude.{◌≡◌, ℕ, ◌↔◌, List, IsSome, IfSome};
 ghost use Rattle.def_tree.specs.Range.{IsKey};
 
+use ms_script::is_key;
 use std::marker::Model;
 
 /// A compressed public key, as BIP 143 asks of P2WSH: 33 bytes of which the first is 02 or 03. That it
@@ -27,10 +28,10 @@ impl Key {
         ensures found { IsSome result ↔ IsKey bytes.now }
         ensures value { IfSome result (λ key. key ≡ bytes.now) }
     {
-        let bytes: [u8; 33] = bytes.try_into().ok()?;
-        if bytes[0] != 0x02 && bytes[0] != 0x03 {
+        if !is_key(bytes) {
             return None;
         }
+        let bytes: [u8; 33] = bytes.try_into().ok()?;
         Some(Key { bytes })
     }
 

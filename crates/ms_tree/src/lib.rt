@@ -13,6 +13,4 @@ mod build;
 mod key;
 mod rows;
 mod size;
-#[cfg(test)]
-mod tests;
 mod tree;

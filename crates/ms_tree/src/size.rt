@@ -3,7 +3,7 @@ ghost use Rattle.std.specs.Prelude.{◌≡◌, All};
 ghost use Rattle.def_tree.specs.Range.{IsInRange};
 ghost use Rattle.def_tree.specs.Size as size;
 ghost use Rattle.ms_tree.specs.Shape.{shape, shapes};
-ghost use Rattle.ms_tree.specs.Size.{size_of_trees};
+ghost use Rattle.ms_tree.specs.Scaffolding.Size.{size_of_trees};
 
 use crate::tree::{Tree, View};
 
@@ -16,7 +16,7 @@ struct Size {
 }
 
 impl Size {
-    ghost use Rattle.ms_tree.specs.Size.{beside, below_root, keyed};
+    ghost use Rattle.ms_tree.specs.Scaffolding.Size.{beside, below_root, keyed};
 
     /// No tree.
     const NONE: Size = Size {
@@ -59,7 +59,7 @@ impl Size {
 }
 
 impl Tree<'_> {
-    ghost use Rattle.ms_tree.specs.Size.{size_of};
+    ghost use Rattle.ms_tree.specs.Scaffolding.Size.{size_of};
 
     /// How many nodes the tree has, at most 131,072. They are numbered from 0, children before parents and
     /// left to right, so the root has the greatest number. Takes no memory.

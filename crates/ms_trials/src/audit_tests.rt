@@ -1,12 +1,12 @@
 //! Tests of audits: the steps of worked witnesses, and what is no trail of a witness.
 
-use crate::samples::{self, A, B, C, tree_of};
+use crate::fitness::expect_valid;
+use crate::items::stack_of;
+use crate::samples::{self, signed_by, tree_of};
 use bumpalo::Bump;
 use ms_audit::{Audit, AuditStop, Step, audit, check_trail};
 use ms_interp::ScriptFault;
-use ms_oracle::{Locks, Pairs, SigCheck, member};
-use ms_sane::{Work, check_valid};
-use ms_script::Stack;
+use ms_oracle::{Locks, SigCheck, member};
 use std::alloc::{AllocError, Global};
 use std::test::Fail;
 
@@ -15,79 +15,17 @@ const LOCKS: Locks = Locks {
     ..samples::LOCKS
 };
 
-const SIG_A: &[u8] = &samples::SIG_A;
-
-const SIG_B: &[u8] = &samples::SIG_B;
-
-const SIG_C: &[u8] = &samples::SIG_C;
-
-// A step by a canonical row.
-fn sat(node: u32) -> Step {
-    Step {
-        node,
-        sat: true,
-        extra: false,
-    }
-}
-
-fn dsat(node: u32) -> Step {
-    Step {
-        node,
-        sat: false,
-        extra: false,
-    }
-}
-
-// A step by another row.
-fn extra_sat(node: u32) -> Step {
-    Step {
-        node,
-        sat: true,
-        extra: true,
-    }
-}
-
-fn extra_dsat(node: u32) -> Step {
-    Step {
-        node,
-        sat: false,
-        extra: true,
-    }
-}
-
-// The signatures of those of the keys A, B and C that sign.
-fn signed_by(alloc: Global, signers: &str) -> Result<Pairs, AllocError> {
-    let keys: [(char, &[u8], &[u8]); 3] = [('A', &A, SIG_A), ('B', &B, SIG_B), ('C', &C, SIG_C)];
-    let mut pairs = Pairs::new(alloc);
-    for (letter, key, sig) in keys {
-        if signers.chars().any(|signer| signer == letter) {
-            pairs.push(key, sig)?;
-        }
-    }
-    Ok(pairs)
-}
-
-// A stack of these items, bottom first.
-fn stack_of(alloc: Global, items: &[&[u8]]) -> Result<Stack, Fail> {
-    let mut stack = Stack::new(alloc);
-    for item in items {
-        stack.push(item)?;
-    }
-    Ok(stack)
-}
-
 // The audit of these items, bottom first.
 fn audited(
     alloc: Global,
     form: &str,
     signers: &str,
-    items: &[&[u8]],
+    items: &str,
 ) -> Result<Result<Audit, AuditStop>, Fail> {
     let arena = Bump::new(alloc);
     let text = tree_of(alloc, &arena, form)?;
     let tree = text.tree();
-    let mut work = Work::new(alloc, tree)?;
-    check_valid(tree, &mut work)?;
+    expect_valid(alloc, tree)?;
     let stack = stack_of(alloc, items)?;
     if stack.len() > 10 {
         return Err("too many items")?;
@@ -104,13 +42,12 @@ fn checked(
     form: &str,
     trail: &[Step],
     signers: &str,
-    items: &[&[u8]],
+    items: &str,
 ) -> Result<bool, Fail> {
     let arena = Bump::new(alloc);
     let text = tree_of(alloc, &arena, form)?;
     let tree = text.tree();
-    let mut work = Work::new(alloc, tree)?;
-    check_valid(tree, &mut work)?;
+    expect_valid(alloc, tree)?;
     let stack = stack_of(alloc, items)?;
     if stack.len() > 10 {
         return Err("too many items")?;
@@ -121,42 +58,192 @@ fn checked(
     Ok(check_trail(alloc, tree, trail, &stack, &LOCKS, &sigs)?)
 }
 
-const KEY_OR_KEY: &str = "or_b(pk(A),s:pk(B))";
-
-// Its steps where both keys sign.
-fn both_keys() -> [Step; 6] {
-    [sat(0), sat(1), sat(2), sat(3), sat(4), extra_sat(5)]
+// Steps as text: each a node, `+` where it is satisfied or `-`, and `x` where that is by a row that isn't canonical.
+fn shown(alloc: Global, trail: &[Step]) -> Result<String, AllocError> {
+    let mut text = String::new(alloc);
+    for step in trail {
+        let node = step.node;
+        text.push_str(&format!(in alloc; " {node}")?)?;
+        text.push_str(if step.sat { "+" } else { "-" })?;
+        text.push_str(if step.extra { "x" } else { "" })?;
+    }
+    Ok(text)
 }
 
+// A text, the items of a witness of it, bottom first, and their steps, where A, B and C sign.
+struct Row {
+    form: &'static str,
+    items: &'static str,
+    steps: &'static str,
+}
+
+// What is audited has these steps, which pass the check.
+fn has_steps(alloc: Global, row: &Row) -> Result<bool, Fail> {
+    let audit = audited(alloc, row.form, "ABC", row.items)??;
+    let trail = audit.trail.as_slice();
+    let text = shown(alloc, trail)?;
+    Ok(text.as_str() == row.steps && checked(alloc, row.form, trail, "ABC", row.items)?)
+}
+
+const KEY_OR_KEY: &str = "or_b(pk(A),s:pk(B))";
+
+const HASH_OR_KEY: &str = "or_b(sha256(X),s:pk(A))";
+
+const BOTH_OR_KEY: &str = "or_b(and_b(pk(A),s:pk(B)),s:pk(A))";
+
+const KEY_THEN_LOCK: &str = "and_v(or_c(pk(A),v:pk(B)),older(16))";
+
+// With a row that isn't canonical.
+const OTHER_ROWS: [Row; 8] = [
+    Row {
+        form: KEY_OR_KEY,
+        items: "ba",
+        steps: " 0+ 1+ 2+ 3+ 4+ 5+x",
+    },
+    Row {
+        form: "or_b(andor(pk(A),pk(B),pk(C)),s:pk(A))",
+        items: "a-a",
+        steps: " 0+ 1+ 2- 3- 6-x 7+ 8+ 9+ 10+",
+    },
+    // `and_v` and `j`.
+    Row {
+        form: "or_b(j:and_v(v:pk(A),pk(B)),s:pk(A))",
+        items: "a-a",
+        steps: " 0+ 1+ 2+ 3- 4- 5-x 6-x 7+ 8+ 9+ 10+",
+    },
+    Row {
+        form: BOTH_OR_KEY,
+        items: "a-a",
+        steps: " 0+ 1+ 2- 3- 4- 5-x 6+ 7+ 8+ 9+",
+    },
+    Row {
+        form: BOTH_OR_KEY,
+        items: "ab-",
+        steps: " 0- 1- 2+ 3+ 4+ 5-x 6+ 7+ 8+ 9+",
+    },
+    Row {
+        form: "or_b(thresh(1,pk(A),s:pk(B)),s:pk(A))",
+        items: "aba",
+        steps: " 0+ 1+ 2+ 3+ 4+ 5-x 6+ 7+ 8+ 9+",
+    },
+    Row {
+        form: HASH_OR_KEY,
+        items: "ay",
+        steps: " 0-x 1+ 2+ 3+ 4+",
+    },
+    Row {
+        form: HASH_OR_KEY,
+        items: "ax",
+        steps: " 0+ 1+ 2+ 3+ 4+x",
+    },
+];
+
+const CANONICAL_ROWS: [Row; 13] = [
+    Row {
+        form: HASH_OR_KEY,
+        items: "a0",
+        steps: " 0- 1+ 2+ 3+ 4+",
+    },
+    Row {
+        form: "andor(pk(A),pk(B),pk(C))",
+        items: "ba",
+        steps: " 0+ 1+ 2+ 3+ 6+",
+    },
+    Row {
+        form: "andor(pk(A),pk(B),pk(C))",
+        items: "c-",
+        steps: " 0- 1- 4+ 5+ 6+",
+    },
+    Row {
+        form: "or_i(pk(A),pk(B))",
+        items: "a1",
+        steps: " 0+ 1+ 4+",
+    },
+    Row {
+        form: "or_i(pk(A),pk(B))",
+        items: "b-",
+        steps: " 2+ 3+ 4+",
+    },
+    Row {
+        form: "or_d(pk(A),pk(B))",
+        items: "a",
+        steps: " 0+ 1+ 4+",
+    },
+    Row {
+        form: "or_d(multi(2,A,B,C),pk(A))",
+        items: "a---",
+        steps: " 0- 1+ 2+ 3+",
+    },
+    Row {
+        form: "or_d(multi(2,A,B,C),pk(A))",
+        items: "-ac",
+        steps: " 0+ 3+",
+    },
+    Row {
+        form: KEY_THEN_LOCK,
+        items: "b-",
+        steps: " 0- 1- 2+ 3+ 4+ 5+ 6+ 7+",
+    },
+    Row {
+        form: "or_b(d:v:older(16),s:pk(A))",
+        items: "a-",
+        steps: " 2- 3+ 4+ 5+ 6+",
+    },
+    Row {
+        form: "or_b(d:v:older(16),a:0)",
+        items: "1",
+        steps: " 0+ 1+ 2+ 3- 4- 5+",
+    },
+    Row {
+        form: "or_b(j:pk(A),s:pk(B))",
+        items: "b-",
+        steps: " 2- 3+ 4+ 5+ 6+",
+    },
+    Row {
+        form: "thresh(2,pk(A),s:pk(B),s:pk(C))",
+        items: "c-a",
+        steps: " 0+ 1+ 2- 3- 4- 5+ 6+ 7+ 8+",
+    },
+];
+
 #[test]
-fn both_keys_sign(rt: HostRuntime) -> Result<(), Fail> {
-    let audit = audited(rt.alloc(), KEY_OR_KEY, "AB", &[SIG_B, SIG_A])??;
-    assert_eq!(rt; audit.trail.as_slice(), both_keys().as_slice());
-    assert_eq!(rt; (audit.report.ops, audit.report.peak), (4, 3));
+fn each_row_that_is_not_canonical(rt: HostRuntime) -> Result<(), Fail> {
+    for (i, row) in OTHER_ROWS.iter().enumerate() {
+        assert!(rt; has_steps(rt.alloc(), row)?, "row {i}");
+    }
     Ok(())
 }
 
 #[test]
-fn one_key_signs(rt: HostRuntime) -> Result<(), Fail> {
-    let audit = audited(rt.alloc(), KEY_OR_KEY, "A", &[b"", SIG_A])??;
-    let steps = [sat(0), sat(1), dsat(2), dsat(3), dsat(4), sat(5)];
-    assert_eq!(rt; audit.trail.as_slice(), steps.as_slice());
-    assert_eq!(rt; (audit.report.ops, audit.report.peak), (4, 3));
+fn canonical_rows(rt: HostRuntime) -> Result<(), Fail> {
+    for (i, row) in CANONICAL_ROWS.iter().enumerate() {
+        assert!(rt; has_steps(rt.alloc(), row)?, "row {i}");
+    }
+    Ok(())
+}
+
+// The steps, the opcodes and the peak of a pair of keys, by the keys that sign and the items.
+#[test]
+fn keys_that_sign(rt: HostRuntime) -> Result<(), Fail> {
+    let alloc = rt.alloc();
+    let cases = [
+        ("AB", "ba", " 0+ 1+ 2+ 3+ 4+ 5+x"),
+        ("A", "-a", " 0+ 1+ 2- 3- 4- 5+"),
+    ];
+    for (signers, items, steps) in cases {
+        let audit = audited(alloc, KEY_OR_KEY, signers, items)??;
+        assert_eq!(rt; shown(alloc, audit.trail.as_slice())?.as_str(), steps);
+        assert_eq!(rt; (audit.report.ops, audit.report.peak), (4, 3));
+    }
     Ok(())
 }
 
 #[test]
 fn a_refused_run_has_no_audit(rt: HostRuntime) -> Result<(), Fail> {
-    let cases: [(&[&[u8]], AuditStop); 3] = [
-        (
-            &[SIG_A, SIG_A],
-            AuditStop::Refused(ScriptFault::NullFail, 4),
-        ),
-        (&[SIG_A], AuditStop::Refused(ScriptFault::StackUnderflow, 2)),
-        (
-            &[SIG_A, b"", SIG_A],
-            AuditStop::Refused(ScriptFault::CleanStack, 6),
-        ),
+    let cases = [
+        ("aa", AuditStop::Refused(ScriptFault::NullFail, 4)),
+        ("a", AuditStop::Refused(ScriptFault::StackUnderflow, 2)),
+        ("a-a", AuditStop::Refused(ScriptFault::CleanStack, 6)),
     ];
     for (items, stop) in cases {
         let refused = audited(rt.alloc(), KEY_OR_KEY, "A", items)?.err();
@@ -165,215 +252,34 @@ fn a_refused_run_has_no_audit(rt: HostRuntime) -> Result<(), Fail> {
     Ok(())
 }
 
-// Texts with the items of their witnesses, bottom first, and their steps, where A, B and C sign.
-#[test]
-fn each_row_that_is_not_canonical(rt: HostRuntime) -> Result<(), Fail> {
-    let cases: [(&str, &[&[u8]], &[Step]); 7] = [
-        (
-            "or_b(andor(pk(A),pk(B),pk(C)),s:pk(A))",
-            &[SIG_A, b"", SIG_A],
-            &[
-                sat(0),
-                sat(1),
-                dsat(2),
-                dsat(3),
-                extra_dsat(6),
-                sat(7),
-                sat(8),
-                sat(9),
-                sat(10),
-            ],
-        ),
-        // `and_v` and `j`.
-        (
-            "or_b(j:and_v(v:pk(A),pk(B)),s:pk(A))",
-            &[SIG_A, b"", SIG_A],
-            &[
-                sat(0),
-                sat(1),
-                sat(2),
-                dsat(3),
-                dsat(4),
-                extra_dsat(5),
-                extra_dsat(6),
-                sat(7),
-                sat(8),
-                sat(9),
-                sat(10),
-            ],
-        ),
-        (
-            "or_b(and_b(pk(A),s:pk(B)),s:pk(A))",
-            &[SIG_A, b"", SIG_A],
-            &[
-                sat(0),
-                sat(1),
-                dsat(2),
-                dsat(3),
-                dsat(4),
-                extra_dsat(5),
-                sat(6),
-                sat(7),
-                sat(8),
-                sat(9),
-            ],
-        ),
-        (
-            "or_b(and_b(pk(A),s:pk(B)),s:pk(A))",
-            &[SIG_A, SIG_B, b""],
-            &[
-                dsat(0),
-                dsat(1),
-                sat(2),
-                sat(3),
-                sat(4),
-                extra_dsat(5),
-                sat(6),
-                sat(7),
-                sat(8),
-                sat(9),
-            ],
-        ),
-        (
-            "or_b(thresh(1,pk(A),s:pk(B)),s:pk(A))",
-            &[SIG_A, SIG_B, SIG_A],
-            &[
-                sat(0),
-                sat(1),
-                sat(2),
-                sat(3),
-                sat(4),
-                extra_dsat(5),
-                sat(6),
-                sat(7),
-                sat(8),
-                sat(9),
-            ],
-        ),
-        (
-            "or_b(sha256(X),s:pk(A))",
-            &[SIG_A, &[0x22; 32]],
-            &[extra_dsat(0), sat(1), sat(2), sat(3), sat(4)],
-        ),
-        (
-            "or_b(sha256(X),s:pk(A))",
-            &[SIG_A, &[0x11; 32]],
-            &[sat(0), sat(1), sat(2), sat(3), extra_sat(4)],
-        ),
-    ];
-    for (form, items, steps) in cases {
-        let audit = audited(rt.alloc(), form, "ABC", items)??;
-        assert_eq!(rt; audit.trail.as_slice(), steps);
-        assert!(rt; checked(rt.alloc(), form, steps, "ABC", items)?);
-    }
-    Ok(())
-}
-
-#[test]
-fn canonical_rows(rt: HostRuntime) -> Result<(), Fail> {
-    let cases: [(&str, &[&[u8]], &[Step]); 13] = [
-        (
-            "or_b(sha256(X),s:pk(A))",
-            &[SIG_A, &[0; 32]],
-            &[dsat(0), sat(1), sat(2), sat(3), sat(4)],
-        ),
-        (
-            "andor(pk(A),pk(B),pk(C))",
-            &[SIG_B, SIG_A],
-            &[sat(0), sat(1), sat(2), sat(3), sat(6)],
-        ),
-        (
-            "andor(pk(A),pk(B),pk(C))",
-            &[SIG_C, b""],
-            &[dsat(0), dsat(1), sat(4), sat(5), sat(6)],
-        ),
-        (
-            "or_i(pk(A),pk(B))",
-            &[SIG_A, b"\x01"],
-            &[sat(0), sat(1), sat(4)],
-        ),
-        (
-            "or_i(pk(A),pk(B))",
-            &[SIG_B, b""],
-            &[sat(2), sat(3), sat(4)],
-        ),
-        ("or_d(pk(A),pk(B))", &[SIG_A], &[sat(0), sat(1), sat(4)]),
-        (
-            "or_d(multi(2,A,B,C),pk(A))",
-            &[SIG_A, b"", b"", b""],
-            &[dsat(0), sat(1), sat(2), sat(3)],
-        ),
-        (
-            "or_d(multi(2,A,B,C),pk(A))",
-            &[b"", SIG_A, SIG_C],
-            &[sat(0), sat(3)],
-        ),
-        (
-            "and_v(or_c(pk(A),v:pk(B)),older(16))",
-            &[SIG_B, b""],
-            &[
-                dsat(0),
-                dsat(1),
-                sat(2),
-                sat(3),
-                sat(4),
-                sat(5),
-                sat(6),
-                sat(7),
-            ],
-        ),
-        (
-            "or_b(d:v:older(16),s:pk(A))",
-            &[SIG_A, b""],
-            &[dsat(2), sat(3), sat(4), sat(5), sat(6)],
-        ),
-        (
-            "or_b(d:v:older(16),a:0)",
-            &[b"\x01"],
-            &[sat(0), sat(1), sat(2), dsat(3), dsat(4), sat(5)],
-        ),
-        (
-            "or_b(j:pk(A),s:pk(B))",
-            &[SIG_B, b""],
-            &[dsat(2), sat(3), sat(4), sat(5), sat(6)],
-        ),
-        (
-            "thresh(2,pk(A),s:pk(B),s:pk(C))",
-            &[SIG_C, b"", SIG_A],
-            &[
-                sat(0),
-                sat(1),
-                dsat(2),
-                dsat(3),
-                dsat(4),
-                sat(5),
-                sat(6),
-                sat(7),
-                sat(8),
-            ],
-        ),
-    ];
-    for (form, items, steps) in cases {
-        let audit = audited(rt.alloc(), form, "ABC", items)??;
-        assert_eq!(rt; audit.trail.as_slice(), steps);
-        assert!(rt; checked(rt.alloc(), form, steps, "ABC", items)?);
-    }
-    Ok(())
+// The steps of `or_b(pk(A),s:pk(B))` where both keys sign.
+fn both_keys() -> [Step; 6] {
+    let sat = |node: u32| Step {
+        node,
+        sat: true,
+        extra: node == 5,
+    };
+    [sat(0), sat(1), sat(2), sat(3), sat(4), sat(5)]
 }
 
 #[test]
 fn what_is_no_trail(rt: HostRuntime) -> Result<(), Fail> {
-    let alloc = rt.alloc();
     let steps = both_keys();
-    assert!(rt; checked(alloc, KEY_OR_KEY, &steps, "AB", &[SIG_B, SIG_A])?);
-    // The steps of another stack, of a stack with one item more, and of another tree.
-    assert!(rt; !checked(alloc, KEY_OR_KEY, &steps, "AB", &[b"", SIG_A])?);
-    assert!(rt; !checked(alloc, KEY_OR_KEY, &steps, "AB", &[b"", SIG_B, SIG_A])?);
-    assert!(rt; !checked(alloc, "and_b(pk(A),s:pk(B))", &steps, "AB", &[SIG_B, SIG_A])?);
-    // Steps without the root's, and none.
-    assert!(rt; !checked(alloc, KEY_OR_KEY, &steps[..5], "AB", &[SIG_B, SIG_A])?);
-    assert!(rt; !checked(alloc, KEY_OR_KEY, &[], "AB", &[SIG_B, SIG_A])?);
-    // A key that doesn't sign.
-    assert!(rt; !checked(alloc, KEY_OR_KEY, &steps, "A", &[SIG_B, SIG_A])?);
+    let cases: [(&str, &[Step], &str, &str, bool); 7] = [
+        (KEY_OR_KEY, &steps, "AB", "ba", true),
+        // The steps of another stack, of a stack with one item more, and of another tree.
+        (KEY_OR_KEY, &steps, "AB", "-a", false),
+        (KEY_OR_KEY, &steps, "AB", "-ba", false),
+        ("and_b(pk(A),s:pk(B))", &steps, "AB", "ba", false),
+        // Steps without the root's, and none.
+        (KEY_OR_KEY, &steps[..5], "AB", "ba", false),
+        (KEY_OR_KEY, &[], "AB", "ba", false),
+        // A key that doesn't sign.
+        (KEY_OR_KEY, &steps, "A", "ba", false),
+    ];
+    for (form, trail, signers, items, wanted) in cases {
+        let found = checked(rt.alloc(), form, trail, signers, items)?;
+        assert_eq!(rt; found, wanted);
+    }
     Ok(())
 }

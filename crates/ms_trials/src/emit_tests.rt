@@ -1,251 +1,129 @@
-ghost use Rattle.std.specs.Prelude.{IfOk};
-ghost use Rattle.def_tree.specs.Range.{IsInRange, IsKey};
-ghost use Rattle.ms_tree.specs.Shape.{leaf_shape, shape};
+//! Tests of Scripts, their lengths and their opcodes.
 
+use crate::samples::{filled, tree_of};
 use bumpalo::Bump;
 use ms_emit::{opcode_count, script_bytes, script_len};
-use ms_script::Blob;
-use ms_tree::{HashVal, Key, Leaf, Tree, Two, Wrapper, and_or, leaf, multi, thresh, two, wrap};
-use std::alloc::{AllocError, Global};
+use std::alloc::Global;
+use std::process::Abort;
 use std::test::Fail;
 
-fn key(first: u8) -> Result<Key, &'static str>
-    ensures { IfOk result IsKey }
-{
-    Key::from_bytes(&[first; 33]).ok_or("a key")
+/// The digits of a text's Script.
+fn digits_of_script(alloc: Global, form: &str) -> Result<String, Fail> {
+    let arena = Bump::new(alloc);
+    let text = tree_of(alloc, &arena, form)?;
+    let script = script_bytes(alloc, text.tree())?;
+    Ok(hex::encode(alloc, script.as_slice())?)
 }
 
-/// The pieces, one after the other.
-fn joined(alloc: Global, pieces: &[&[u8]]) -> Result<Vec<u8>, AllocError> {
-    let mut bytes = Vec::new(alloc);
-    for piece in pieces {
-        bytes.extend_from_slice(piece)?;
-    }
-    Ok(bytes)
+/// The length and the number of opcodes of a text's Script.
+fn extent_of(alloc: Global, form: &str) -> Result<(u64, u64), Fail> {
+    let arena = Bump::new(alloc);
+    let text = tree_of(alloc, &arena, form)?;
+    Ok((script_len(text.tree()), opcode_count(text.tree())))
 }
 
-/// The bytes of a tree's Script, where its length is told right.
-fn script_of(alloc: Global, tree: &Tree<'_>) -> Result<Blob, Fail>
-    requires { IsInRange (shape tree.now) }
-{
-    let script = script_bytes(alloc, tree)?;
-    if script_len(tree) != script.as_slice().len() as u64 {
-        return Err("a wrong length")?;
+/// Each text has this Script, of as many bytes as its length says. Capital letters stand for digits.
+fn have_scripts(rt: &impl Abort, alloc: Global, rows: &[(&str, &str)]) -> Result<(), Fail> {
+    for (form, digits) in rows {
+        let wanted = filled(alloc, digits)?;
+        assert_eq!(rt;
+            digits_of_script(alloc, form)?.as_str(),
+            wanted.as_str(),
+            "{form}"
+        );
+        let (length, _) = extent_of(alloc, form)?;
+        assert!(rt; length == (wanted.len() / 2) as u64, "{form}");
     }
-    Ok(script)
+    Ok(())
 }
 
 #[test]
 fn wrappers_are_translated(rt: HostRuntime) -> Result<(), Fail> {
-    let alloc = rt.alloc();
-    let arena = Bump::new(alloc);
-    // What stands before and behind the child.
-    let cases: [(Wrapper, &[u8], &[u8]); 7] = [
-        (Wrapper::A, b"\x6b", b"\x6c"),
-        (Wrapper::S, b"\x7c", b""),
-        (Wrapper::C, b"", b"\xac"),
-        (Wrapper::D, b"\x76\x63", b"\x68"),
-        (Wrapper::V, b"", b"\x69"),
-        (Wrapper::J, b"\x82\x92\x63", b"\x68"),
-        (Wrapper::N, b"", b"\x92"),
+    let rows = [
+        ("a:pk_k(A)", "6b21A6c"),
+        ("s:pk_k(A)", "7c21A"),
+        ("c:pk_k(A)", "21Aac"),
+        ("d:pk_k(A)", "766321A68"),
+        ("v:pk_k(A)", "21A69"),
+        ("j:pk_k(A)", "82926321A68"),
+        ("n:pk_k(A)", "21A92"),
     ];
-    for (wrapper, before, behind) in cases {
-        let x = leaf(&arena, Leaf::PkK(key(2)?))?;
-        let tree = wrap(&arena, wrapper, x)?;
-        let script = script_of(alloc, &tree)?;
-        let want = joined(alloc, &[before, b"\x21", &[2; 33], behind])?;
-        assert_eq!(rt; script.as_slice(), want.as_slice());
-    }
-    Ok(())
+    have_scripts(&rt, rt.alloc(), &rows)
 }
 
 #[test]
 fn pairs_are_translated(rt: HostRuntime) -> Result<(), Fail> {
-    let alloc = rt.alloc();
-    let arena = Bump::new(alloc);
-    // What stands before, between and behind the children.
-    let cases: [(Two, &[u8], &[u8], &[u8]); 6] = [
-        (Two::AndV, b"", b"", b""),
-        (Two::AndB, b"", b"", b"\x9a"),
-        (Two::OrB, b"", b"", b"\x9b"),
-        (Two::OrC, b"", b"\x64", b"\x68"),
-        (Two::OrD, b"", b"\x73\x64", b"\x68"),
-        (Two::OrI, b"\x63", b"\x67", b"\x68"),
+    let rows = [
+        ("and_v(pk_k(A),pk_k(B))", "21A21B"),
+        ("and_b(pk_k(A),pk_k(B))", "21A21B9a"),
+        ("or_b(pk_k(A),pk_k(B))", "21A21B9b"),
+        ("or_c(pk_k(A),pk_k(B))", "21A6421B68"),
+        ("or_d(pk_k(A),pk_k(B))", "21A736421B68"),
+        ("or_i(pk_k(A),pk_k(B))", "6321A6721B68"),
     ];
-    for (kind, before, between, behind) in cases {
-        let x = leaf(&arena, Leaf::PkK(key(2)?))?;
-        let z = leaf(&arena, Leaf::PkK(key(3)?))?;
-        let tree = two(&arena, kind, x, z)?;
-        let script = script_of(alloc, &tree)?;
-        let pieces: [&[u8]; 7] = [
-            before, b"\x21", &[2; 33], between, b"\x21", &[3; 33], behind,
-        ];
-        let want = joined(alloc, &pieces)?;
-        assert_eq!(rt; script.as_slice(), want.as_slice());
-    }
-    Ok(())
+    have_scripts(&rt, rt.alloc(), &rows)
 }
 
 #[test]
 fn verify_is_fused(rt: HostRuntime) -> Result<(), Fail> {
-    let alloc = rt.alloc();
-    let arena = Bump::new(alloc);
-    let x = leaf(&arena, Leaf::PkK(key(2)?))?;
-    let x = wrap(&arena, Wrapper::C, x)?;
-    let x = wrap(&arena, Wrapper::V, x)?;
-    let script = script_of(alloc, &x)?;
-    let want = joined(alloc, &[b"\x21", &[2; 33], b"\xad"])?;
-    assert_eq!(rt; script.as_slice(), want.as_slice());
-    Ok(())
-}
-
-/// The bytes of a leaf's Script.
-fn leaf_script(alloc: Global, fragment: Leaf) -> Result<Blob, Fail>
-    requires { IsInRange (leaf_shape fragment) }
-{
-    let arena = Bump::new(alloc);
-    script_of(alloc, &leaf(&arena, fragment)?)
+    let rows = [
+        ("vc:pk_k(A)", "21Aad"),
+        ("v:multi(1,A,B)", "5121A21B52af"),
+        ("v:sha256(X)", "82012088a820X88"),
+        ("v:thresh(1,0)", "005188"),
+    ];
+    have_scripts(&rt, rt.alloc(), &rows)
 }
 
 #[test]
 fn numbers_and_keys_are_translated(rt: HostRuntime) -> Result<(), Fail> {
-    let alloc = rt.alloc();
-    assert_eq!(rt;
-        leaf_script(alloc, Leaf::Zero)?.as_slice(),
-        b"\x00".as_slice()
-    );
-    assert_eq!(rt;
-        leaf_script(alloc, Leaf::One)?.as_slice(),
-        b"\x51".as_slice()
-    );
-    assert_eq!(rt;
-        leaf_script(alloc, Leaf::Older(16))?.as_slice(),
-        b"\x60\xb2".as_slice()
-    );
-    assert_eq!(rt;
-        leaf_script(alloc, Leaf::Older(144))?.as_slice(),
-        b"\x02\x90\x00\xb2".as_slice()
-    );
-    let time = b"\x04\x00\x65\xcd\x1d\xb1".as_slice();
-    assert_eq!(rt;
-        leaf_script(alloc, Leaf::After(500_000_000))?.as_slice(),
-        time
-    );
-
-    // HASH160 of 33 bytes 2, by Python's hashlib over OpenSSL.
-    let key_hash =
-        b"\x51\x81\x4f\x10\x86\x70\xac\xed\x2d\x77\xc1\x80\x5d\xdd\x66\x34\xbc\x9d\x47\x31";
-    let want = joined(alloc, &[b"\x76\xa9\x14", key_hash, b"\x88"])?;
-    assert_eq!(rt;
-        leaf_script(alloc, Leaf::PkH(key(2)?))?.as_slice(),
-        want.as_slice()
-    );
-    Ok(())
-}
-
-/// The bytes of the Scripts of `sha256(h)` and `hash256(h)`.
-fn long_hash_scripts(alloc: Global, bytes: [u8; 32]) -> Result<(Blob, Blob), Fail> {
-    let sha256 = leaf_script(alloc, Leaf::Hash(HashVal::Sha256(bytes)))?;
-    let hash256 = leaf_script(alloc, Leaf::Hash(HashVal::Hash256(bytes)))?;
-    Ok((sha256, hash256))
-}
-
-/// The bytes of the Scripts of `ripemd160(h)` and `hash160(h)`.
-fn short_hash_scripts(alloc: Global, bytes: [u8; 20]) -> Result<(Blob, Blob), Fail> {
-    let ripemd160 = leaf_script(alloc, Leaf::Hash(HashVal::Ripemd160(bytes)))?;
-    let hash160 = leaf_script(alloc, Leaf::Hash(HashVal::Hash160(bytes)))?;
-    Ok((ripemd160, hash160))
+    let rows = [
+        ("0", "00"),
+        ("1", "51"),
+        ("older(16)", "60b2"),
+        ("older(144)", "029000b2"),
+        ("after(500000000)", "040065cd1db1"),
+        ("pk_k(A)", "21A"),
+        ("pk_h(B)", "76a914W88"),
+    ];
+    have_scripts(&rt, rt.alloc(), &rows)
 }
 
 #[test]
 fn hash_locks_are_translated(rt: HostRuntime) -> Result<(), Fail> {
-    let alloc = rt.alloc();
-    let size = b"\x82\x01\x20\x88";
-    let (sha256, hash256) = long_hash_scripts(alloc, [7; 32])?;
-    let want = joined(alloc, &[size, b"\xa8\x20", &[7; 32], b"\x87"])?;
-    assert_eq!(rt; sha256.as_slice(), want.as_slice());
-    let want = joined(alloc, &[size, b"\xaa\x20", &[7; 32], b"\x87"])?;
-    assert_eq!(rt; hash256.as_slice(), want.as_slice());
-
-    let (ripemd160, hash160) = short_hash_scripts(alloc, [7; 20])?;
-    let want = joined(alloc, &[size, b"\xa6\x14", &[7; 20], b"\x87"])?;
-    assert_eq!(rt; ripemd160.as_slice(), want.as_slice());
-    let want = joined(alloc, &[size, b"\xa9\x14", &[7; 20], b"\x87"])?;
-    assert_eq!(rt; hash160.as_slice(), want.as_slice());
-    Ok(())
+    let rows = [
+        ("sha256(X)", "82012088a820X87"),
+        ("hash256(X)", "82012088aa20X87"),
+        ("ripemd160(W)", "82012088a614W87"),
+        ("hash160(W)", "82012088a914W87"),
+    ];
+    have_scripts(&rt, rt.alloc(), &rows)
 }
 
 #[test]
 fn and_or_is_translated(rt: HostRuntime) -> Result<(), Fail> {
-    let alloc = rt.alloc();
-    let arena = Bump::new(alloc);
-    let (x, y, z) = (
-        leaf(&arena, Leaf::Zero)?,
-        leaf(&arena, Leaf::One)?,
-        leaf(&arena, Leaf::Older(2))?,
-    );
-    let tree = and_or(&arena, x, y, z)?;
-    let script = script_of(alloc, &tree)?;
-    assert_eq!(rt;
-        script.as_slice(),
-        b"\x00\x64\x52\xb2\x67\x51\x68".as_slice()
-    );
-    Ok(())
-}
-
-/// Two of `0`, `1` and `older(3)`.
-fn two_of_three<'a>(alloc: Global, arena: &'a Bump<Global>) -> Result<Tree<'a>, AllocError>
-    ensures { IfOk result (λ tree. IsInRange (shape tree)) }
-{
-    let mut children = Vec::new(alloc);
-    children.push(leaf(arena, Leaf::Zero)?)?;
-    children.push(leaf(arena, Leaf::One)?)?;
-    children.push(leaf(arena, Leaf::Older(3))?)?;
-    thresh(arena, 2, children)
+    let rows = [("andor(0,1,older(2))", "006452b2675168")];
+    have_scripts(&rt, rt.alloc(), &rows)
 }
 
 #[test]
 fn lists_are_translated(rt: HostRuntime) -> Result<(), Fail> {
-    let alloc = rt.alloc();
-    let arena = Bump::new(alloc);
-    let tree = two_of_three(alloc, &arena)?;
-    let script = script_of(alloc, &tree)?;
-    assert_eq!(rt;
-        script.as_slice(),
-        b"\x00\x51\x93\x53\xb2\x93\x52\x87".as_slice()
-    );
-    assert_eq!(rt; opcode_count(&tree), 4);
-    Ok(())
-}
-
-#[test]
-fn lists_of_keys_are_translated(rt: HostRuntime) -> Result<(), Fail> {
-    let alloc = rt.alloc();
-    let arena = Bump::new(alloc);
-    let mut keys = Vec::new(alloc);
-    keys.push(key(2)?)?;
-    keys.push(key(3)?)?;
-    let tree = multi(&arena, 1, keys)?;
-    let script = script_of(alloc, &tree)?;
-    let want = joined(
-        alloc,
-        &[b"\x51\x21", &[2; 33], b"\x21", &[3; 33], b"\x52\xae"],
-    )?;
-    assert_eq!(rt; script.as_slice(), want.as_slice());
-    Ok(())
+    let rows = [
+        ("thresh(2,0,1,older(3))", "00519353b2935287"),
+        ("multi(1,A,B)", "5121A21B52ae"),
+    ];
+    have_scripts(&rt, rt.alloc(), &rows)
 }
 
 #[test]
 fn lengths_of_small_scripts(rt: HostRuntime) -> Result<(), Fail> {
-    let arena = Bump::new(rt.alloc());
-    let x = leaf(&arena, Leaf::PkK(key(2)?))?;
-    let x = wrap(&arena, Wrapper::C, x)?;
-    assert_eq!(rt; script_len(&x), 35);
-    let x = wrap(&arena, Wrapper::V, x)?;
-    let z = leaf(&arena, Leaf::PkK(key(3)?))?;
-    let z = wrap(&arena, Wrapper::C, z)?;
-    let tree = two(&arena, Two::AndV, x, z)?;
-    assert_eq!(rt; script_len(&tree), 70);
-    assert_eq!(rt; opcode_count(&tree), 2);
+    let cases = [
+        ("c:pk_k(A)", (35, 1)),
+        ("thresh(2,0,1,older(3))", (8, 4)),
+        ("and_v(vc:pk_k(A),c:pk_k(B))", (70, 2)),
+    ];
+    for (form, wanted) in cases {
+        assert_eq!(rt; extent_of(rt.alloc(), form)?, wanted, "{form}");
+    }
     Ok(())
 }

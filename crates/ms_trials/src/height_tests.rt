@@ -1,11 +1,12 @@
 //! Tests of heights: how many elements stand on both stacks at most.
 
-use crate::samples::tree_of;
+use crate::samples::{AND_KEY, KEYS, OR_KEYS, tree_of};
 use bumpalo::Bump;
 use ms_height::height;
+use ms_samples::{nested, repeated};
 use ms_sane::Work;
 use ms_types::corr;
-use std::alloc::{AllocError, Global};
+use std::alloc::Global;
 use std::test::Fail;
 
 /// The height of the tree of such a text.
@@ -17,23 +18,6 @@ fn height_of(alloc: Global, form: &str) -> Result<u64, Fail> {
         Ok(_) => Ok(height(text.tree(), &mut work)),
         Err(_) => Err("a type")?,
     }
-}
-
-/// A text, a part so many times, and another text.
-fn repeated(
-    alloc: Global,
-    first: &str,
-    part: &str,
-    count: u32,
-    last: &str,
-) -> Result<String, AllocError> {
-    let mut form = String::new(alloc);
-    form.push_str(first)?;
-    for _ in 0..count {
-        form.push_str(part)?;
-    }
-    form.push_str(last)?;
-    Ok(form)
 }
 
 #[test]
@@ -139,26 +123,27 @@ fn thousands_of_children_reach_these_heights(rt: HostRuntime) -> Result<(), Fail
 #[test]
 fn many_keys_reach_these_heights(rt: HostRuntime) -> Result<(), Fail> {
     let alloc = rt.alloc();
-    // A signature for each child, and the key of the first.
-    let of_30 = repeated(alloc, "thresh(15,pk(A)", ",s:pk(A)", 29, ")")?;
-    assert_eq!(rt; height_of(alloc, &of_30)?, 31);
-    let of_four = repeated(alloc, "thresh(2,pk(A)", ",s:pk(A)", 3, ")")?;
-    assert_eq!(rt; height_of(alloc, &of_four)?, 5);
-    // A chain: a signature for each key, and one key.
-    for (others, wanted) in [(100, 102), (200, 202)] {
-        let chain = repeated(alloc, "", "and_v(v:pk(A),", others, "pk(A)")?;
-        let closed = repeated(alloc, &chain, ")", others, "")?;
-        assert_eq!(rt; height_of(alloc, &closed)?, wanted, "{others} others");
+    let lists = [
+        // A signature for each child, and the key of the first.
+        ("thresh(15,pk(A)", ",s:pk(A)", 29, 31),
+        ("thresh(2,pk(A)", ",s:pk(A)", 3, 5),
+        // The dummy item, a signature, two numbers and 20 keys.
+        ("multi(1,A", ",A", 19, 24),
+    ];
+    for (first, part, count, wanted) in lists {
+        let form = repeated(alloc, first, part, count, ")")?;
+        assert_eq!(rt; height_of(alloc, &form)?, wanted, "{first}");
     }
-    // The dummy item, a signature, two numbers and 20 keys.
-    let of_20 = repeated(alloc, "multi(1,A", ",A", 19, ")")?;
-    assert_eq!(rt; height_of(alloc, &of_20)?, 24);
-    // 14 such lists under `or_i`, behind 11 keys: the largest Script that there may be.
-    let list = repeated(alloc, "multi(1", ",A", 20, ")")?;
-    let choice = repeated(alloc, "or_i(", &list, 1, ",")?;
-    let choices = repeated(alloc, "", &choice, 13, &list)?;
-    let largest = repeated(alloc, "", "and_v(v:pk(A),", 11, &choices)?;
-    let closed = repeated(alloc, &largest, ")", 24, "")?;
-    assert_eq!(rt; height_of(alloc, &closed)?, 27);
+    let chains: [(&[(&str, usize)], &str, u64); 3] = [
+        // A signature for each key, and one key.
+        (&[(AND_KEY, 100)], "pk(A)", 102),
+        (&[(AND_KEY, 200)], "pk(A)", 202),
+        // 14 lists under `or_i`, behind 11 keys: the largest Script that there may be.
+        (&[(AND_KEY, 11), (OR_KEYS, 13)], KEYS, 27),
+    ];
+    for (parts, last, wanted) in chains {
+        let form = nested(alloc, parts, last)?;
+        assert_eq!(rt; height_of(alloc, &form)?, wanted);
+    }
     Ok(())
 }

@@ -3,21 +3,25 @@
 use def_machine::ScriptFault;
 use ms_oracle::Locks;
 
-// Keys; B is the generator point.
+/// Keys; B is the generator point.
 pub const A: &[u8] =
     b"\x02\x01\x01\x01\x01\x01\x01\x01\x01\x01\x01\x01\x01\x01\x01\x01\x01\x01\x01\x01\x01\x01\x01\x01\x01\x01\x01\x01\x01\x01\x01\x01\x01";
 
+/// A key: the generator point.
 pub const B: &[u8] =
     b"\x02\x79\xbe\x66\x7e\xf9\xdc\xbb\xac\x55\xa0\x62\x95\xce\x87\x0b\x07\x02\x9b\xfc\xdb\x2d\xce\x28\xd9\x59\xf2\x81\x5b\x16\xf8\x17\x98";
 
+/// A third key.
 pub const C: &[u8] =
     b"\x03\x03\x03\x03\x03\x03\x03\x03\x03\x03\x03\x03\x03\x03\x03\x03\x03\x03\x03\x03\x03\x03\x03\x03\x03\x03\x03\x03\x03\x03\x03\x03\x03";
 
-// Their signatures.
+/// Their signatures.
 pub const SA: &[u8] = &[0xaa; 71];
 
+/// A signature of the second key.
 pub const SB: &[u8] = &[0xbb; 72];
 
+/// A signature of the third key.
 pub const SC: &[u8] = &[0xcc; 70];
 
 // HASH160 of B, and SHA-256 of 32 zero bytes.
@@ -27,6 +31,7 @@ const HASH_B: &[u8] =
 const HASH_ZEROS: &[u8] =
     b"\x66\x68\x7a\xad\xf8\x62\xbd\x77\x6c\x8f\xc1\x8b\x8e\x9f\x8e\x20\x08\x97\x14\x85\x6e\xe2\x33\xb3\x90\x2a\x59\x1d\x0d\x5f\x29\x25";
 
+/// The locks of most rows.
 pub const LOCKS: Locks = Locks {
     version: 2,
     sequence: 4294967294,
@@ -49,15 +54,22 @@ const ZEROS: &[u8] = &[0; 521];
 
 /// A run: the parts of its script, the stack with the top last, the locks, the good pairs, and what comes of it.
 pub struct Row {
+    /// The parts of the script.
     pub script: &'static [&'static [u8]],
+    /// The stack, the top last.
     pub items: &'static [&'static [u8]],
+    /// The locks.
     pub locks: Locks,
+    /// The pairs that are good.
     pub table: &'static [(&'static [u8], &'static [u8])],
+    /// What comes of it.
     pub outcome: Outcome,
 }
 
 #[derive(Clone, Copy, Debug)]
+/// What comes of a run.
 pub enum Outcome {
+    /// The fault and its place.
     Refused(ScriptFault, u32),
     /// The opcodes, the peak and the pairs that were found good, in order.
     Accepted(u32, u32, &'static [(&'static [u8], &'static [u8])]),

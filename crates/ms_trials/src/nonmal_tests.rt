@@ -1,43 +1,15 @@
 //! Tests of the strict choice: the stacks that nobody can change.
 
-use crate::samples::{B, LOCKS, SIG_A, SIG_B, SIG_C, assets_of, tree_of};
+use crate::fitness::expect_sane;
+use crate::items::is_choice;
+use crate::samples::{LOCKS, assets_of, tree_of};
 use bumpalo::Bump;
 use ms_assets::Assets;
 use ms_nonmal::strict;
 use ms_oracle::Locks;
-use ms_sane::{Work, check_sane};
-use ms_script::Stack;
 use std::alloc::Global;
 use std::process::Abort;
 use std::test::Fail;
-
-/// The item that a letter stands for.
-fn item_of(letter: char) -> &'static [u8] {
-    match letter {
-        'a' => &SIG_A,
-        'b' => &SIG_B,
-        'c' => &SIG_C,
-        'd' => &[0xdd; 70],
-        'f' => &[0xff; 70],
-        'B' => &B,
-        'x' => &[0x11; 32],
-        'y' => &[0x22; 32],
-        'z' => &[0x33; 32],
-        '1' => &[1],
-        _ => &[],
-    }
-}
-
-fn holds(stack: &Stack, items: &str) -> bool {
-    let mut place = 0;
-    for letter in items.chars() {
-        if place >= stack.len() || stack.item(place) != item_of(letter) {
-            return false;
-        }
-        place += 1;
-    }
-    place == stack.len()
-}
 
 /// The strict satisfaction of a sane text has these items, or there is none.
 fn chooses(
@@ -49,17 +21,9 @@ fn chooses(
 ) -> Result<(), Fail> {
     let arena = Bump::new(alloc);
     let text = tree_of(alloc, &arena, form)?;
-    let tree = text.tree();
-    let mut work = Work::new(alloc, tree)?;
-    let Ok(_) = check_sane(tree, &mut work) else {
-        return Err("not sane")?;
-    };
-    let found = strict(alloc, tree, assets)?;
-    match (&found, items) {
-        (Some(stack), Some(items)) => assert!(rt; holds(stack, items)),
-        (None, None) => {}
-        _ => return Err("a stack, or none")?,
-    }
+    expect_sane(alloc, text.tree())?;
+    let found = strict(alloc, text.tree(), assets)?;
+    assert!(rt; is_choice(&found, items));
     Ok(())
 }
 

@@ -1,5 +1,6 @@
 //! Tests of plans and of plan files.
 
+use crate::fitness::expect_sane;
 use crate::samples::{A, B, LOCKS, assets_of, filled, key, tree_of};
 use bumpalo::Bump;
 use ms_assets::Assets;
@@ -7,7 +8,6 @@ use ms_oracle::Locks;
 use ms_plan::{
     Estimate, KeyLen, KeyLens, Keys, PlanFault, PlanMember, are_lengths, length_in, plan, read_plan,
 };
-use ms_sane::{Work, check_sane};
 use ms_tree::Key;
 use std::alloc::Global;
 use std::process::Abort;
@@ -56,11 +56,7 @@ fn asks(
 ) -> Result<(), Fail> {
     let arena = Bump::new(alloc);
     let text = tree_of(alloc, &arena, form)?;
-    let tree = text.tree();
-    let mut work = Work::new(alloc, tree)?;
-    let Ok(_) = check_sane(tree, &mut work) else {
-        return Err("not sane")?;
-    };
+    expect_sane(alloc, text.tree())?;
     if !assets.pairs().is_empty() {
         return Err("no signature")?;
     }
@@ -69,7 +65,7 @@ fn asks(
         return Err("lengths")?;
     }
     let estimate = Estimate::new(&table, |key| length_in(&table, key));
-    match (plan(alloc, tree, assets, &estimate)?, wanted) {
+    match (plan(alloc, text.tree(), assets, &estimate)?, wanted) {
         (Some(plan), Some((letters, weight))) => {
             assert!(rt; are_keys(plan.keys.as_slice(), letters));
             assert!(rt; plan.weight == weight);
@@ -156,7 +152,10 @@ fn refusal(alloc: Global, form: &str) -> Result<Option<PlanFault>, Fail> {
     if file.len() > 100_000 {
         return Err("a short file")?;
     }
-    Ok(read_plan(alloc, file.as_bytes()).err())
+    match read_plan(alloc, file.as_bytes()) {
+        Ok(_) => Ok(None),
+        Err(fault) => Ok(Some(fault)),
+    }
 }
 
 #[test]

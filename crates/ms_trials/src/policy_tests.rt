@@ -4,11 +4,11 @@ ghost use Rattle.def_policy.specs.Keys.{HasDistinctKeys};
 ghost use Rattle.def_policy.specs.Size.{size, depth, HasLocks, MOST_POLICIES, MOST_DEPTH};
 ghost use Rattle.ms_policy.specs.Shape.{policy_shape};
 
+use crate::fitness::expect_sane;
 use crate::samples::{assets_of, filled, tree_of};
 use bumpalo::Bump;
 use ms_oracle::Locks;
 use ms_policy::{Policy, holds, least_keys, policy_of, print_policy};
-use ms_sane::{Work, check_sane};
 use std::alloc::Global;
 use std::process::Abort;
 use std::test::Fail;
@@ -29,12 +29,8 @@ fn policy_of_text(alloc: Global, form: &str) -> Result<Policy, Fail>
 {
     let arena = Bump::new(alloc);
     let text = tree_of(alloc, &arena, form)?;
-    let tree = text.tree();
-    let mut work = Work::new(alloc, tree)?;
-    let Ok(_) = check_sane(tree, &mut work) else {
-        return Err("a sane tree")?;
-    };
-    Ok(policy_of(alloc, tree)?)
+    expect_sane(alloc, text.tree())?;
+    Ok(policy_of(alloc, text.tree())?)
 }
 
 /// Each text has this policy, and so many keys suffice.

@@ -1,82 +1,65 @@
 //! Tests: programs, witnesses and replays of worked spendings.
 
-use crate::samples::{A, B, C, LOCKS, SIG_A, SIG_B, SIG_C, tree_of};
+use crate::fitness::expect_valid;
+use crate::items::holds;
+use crate::samples::{LOCKS, assets_of, filled, signed_by, tree_of};
 use bumpalo::Bump;
 use ms_assets::Assets;
 use ms_hash::sha256;
 use ms_interp::{RunReport, ScriptFault};
 use ms_oracle::{Pairs, SigCheck, member};
 use ms_replay::{Carried, carry};
-use ms_sane::{Work, check_valid};
+use ms_samples::push_filled;
 use ms_sat::cheapest;
 use ms_script::Stack;
-use ms_tree::Key;
 use ms_witness::{ReplayStop, WitnessFault, program_of, read_witness, replay, witness_bytes};
 use std::alloc::{AllocError, Global};
 use std::cell::Cell;
-use std::process::Abort;
 use std::test::Fail;
 
-// The bytes of the parts, one after the other.
-fn joined(alloc: Global, parts: &[&[u8]]) -> Result<Vec<u8>, AllocError> {
-    let mut bytes = Vec::new(alloc);
-    for part in parts {
-        bytes.extend_from_slice(part)?;
-    }
-    Ok(bytes)
+// A text with its Script, the items of a satisfaction, bottom first, the witness before the Script, the keys that sign, and the
+// opcodes and the peak of the run.
+#[derive(Clone, Copy)]
+struct Spending {
+    text: &'static str,
+    script: &'static str,
+    items: &'static str,
+    witness: &'static str,
+    signers: &'static str,
+    counts: (u32, u32),
 }
 
-// The Script of `multi(2,A,B,C)`.
-fn two_of_three_script(alloc: Global) -> Result<Vec<u8>, AllocError> {
-    joined(
-        alloc,
-        &[b"\x52\x21", &A, b"\x21", &B, b"\x21", &C, b"\x53\xae"],
-    )
-}
+const TWO_KEYS: Spending = Spending {
+    text: "multi(2,A,B,C)",
+    script: "5221A21B21C53ae",
+    items: "-ac",
+    witness: "040047P46R69",
+    signers: "CBA",
+    counts: (4, 8),
+};
 
-// The Script of a threshold of three hashes and two keys, of which two are met.
-fn hashes_or_keys_script(alloc: Global) -> Result<Vec<u8>, AllocError> {
-    let lock = b"\x82\x01\x20\x88\xa8\x20";
-    joined(
-        alloc,
-        &[
-            b"\x82\x92\x63",
-            lock,
-            &sha256(&[0x11; 32]),
-            b"\x88",
-            lock,
-            &sha256(&[0x22; 32]),
-            b"\x88",
-            lock,
-            &sha256(&[0x33; 32]),
-            b"\x88\x51\x68\x7c\x21",
-            &A,
-            b"\xac\x93\x7c\x21",
-            &B,
-            b"\xac\x93\x52\x87",
-        ],
-    )
-}
+// Three preimages and a signature of the first of two keys, and both signatures.
+const PREIMAGES_AND_KEY: Spending = Spending {
+    text: "thresh(2,j:and_v(v:sha256(X),and_v(v:sha256(Y),and_v(v:sha256(Z),1))),s:pk(A),s:pk(B))",
+    script: "82926382012088a820X8882012088a820Y8882012088a820Z8851687c21Aac937c21Bac935287",
+    items: "-azyx",
+    witness: "060047P20J20I20Hc6",
+    signers: "AB",
+    counts: (23, 7),
+};
 
-// The witness of the three preimages, a signature of the first key and none of the second.
-fn hashes_or_keys_witness(alloc: Global) -> Result<Vec<u8>, AllocError> {
-    let script = hashes_or_keys_script(alloc)?;
-    let [first, second, third] = [[0x11; 32], [0x22; 32], [0x33; 32]];
-    joined(
-        alloc,
-        &[
-            b"\x06\x00\x47",
-            &SIG_A,
-            b"\x20",
-            &third,
-            b"\x20",
-            &second,
-            b"\x20",
-            &first,
-            b"\xc6",
-            &script,
-        ],
-    )
+const BOTH_KEYS: Spending = Spending {
+    items: "ba-",
+    witness: "0448Q47P00c6",
+    counts: (23, 4),
+    ..PREIMAGES_AND_KEY
+};
+
+// The bytes that two texts of digits spell, one after the other. Capital letters stand for digits.
+fn bytes_of(alloc: Global, first: &str, last: &str) -> Result<Vec<u8>, Fail> {
+    let mut digits = filled(alloc, first)?;
+    push_filled(&mut digits, last)?;
+    Ok(hex::decode(alloc, digits.as_str()).ok().ok_or("digits")?)
 }
 
 #[test]
@@ -109,12 +92,13 @@ fn witnesses_are_refused(rt: HostRuntime) {
 
 #[test]
 fn each_front_of_a_witness_is_truncated(rt: HostRuntime) -> Result<(), Fail> {
-    let witness = hashes_or_keys_witness(rt.alloc())?;
+    let alloc = rt.alloc();
+    let witness = bytes_of(alloc, PREIMAGES_AND_KEY.witness, PREIMAGES_AND_KEY.script)?;
     for length in 0..witness.len() {
-        let fault = read_witness(rt.alloc(), &witness[..length]).err();
+        let fault = read_witness(alloc, &witness[..length]).err();
         assert_eq!(rt; fault, Some(WitnessFault::Truncated));
     }
-    assert!(rt; read_witness(rt.alloc(), &witness).is_ok());
+    assert!(rt; read_witness(alloc, &witness).is_ok());
     Ok(())
 }
 
@@ -174,96 +158,60 @@ fn replays_are_refused(rt: HostRuntime) {
     }
 }
 
-#[test]
-fn two_of_three_keys_sign(rt: HostRuntime) -> Result<(), Fail> {
-    let alloc = rt.alloc();
-    let script = two_of_three_script(alloc)?;
-    assert!(rt; script.len() <= 10_000);
-    let mut stack = Stack::new(alloc);
-    stack.push(b"")?;
-    stack.push(&SIG_A)?;
-    stack.push(&SIG_C)?;
-    let witness = witness_bytes(alloc, &stack, &script)?;
-    let want = joined(
-        alloc,
-        &[b"\x04\x00\x47", &SIG_A, b"\x46", &SIG_C, b"\x69", &script],
-    )?;
-    assert_eq!(rt; witness.as_slice(), want.as_slice());
+// Whether the witness is that of these items and the Script, and its replay comes to these counts.
+fn is_replayed(alloc: Global, spending: &Spending) -> Result<bool, Fail> {
+    let script = bytes_of(alloc, "", spending.script)?;
+    let witness = bytes_of(alloc, spending.witness, spending.script)?;
+    let (stack, read) = read_witness(alloc, &witness)?;
+    let written = witness_bytes(alloc, &stack, read.as_slice())?;
+    if !holds(&stack, spending.items) || written.as_slice() != witness.as_slice() {
+        return Ok(false);
+    }
+    let report = replay_signed(alloc, spending.signers, &script, &witness)?;
+    Ok((report.ops, report.peak) == spending.counts)
+}
 
-    let mut pairs = Pairs::new(alloc);
-    pairs.push(&C, &SIG_C)?;
-    pairs.push(&B, &SIG_B)?;
-    pairs.push(&A, &SIG_A)?;
+// The replay where these keys sign.
+fn replay_signed(
+    alloc: Global,
+    signers: &str,
+    script: &[u8],
+    witness: &[u8],
+) -> Result<RunReport, Fail> {
+    let pairs = signed_by(alloc, signers)?;
     let table = pairs.as_slice();
     let sigs = SigCheck::new(table, |key: &[u8], sig: &[u8]| member(table, key, sig));
-    let program = program_of(&script);
-    let report = replay(alloc, &program, witness.as_slice(), &LOCKS, &sigs)?;
-    assert_eq!(rt; (report.ops, report.peak), (4, 8));
+    Ok(replay(alloc, &program_of(script), witness, &LOCKS, &sigs)?)
+}
+
+#[test]
+fn two_of_three_keys_sign(rt: HostRuntime) -> Result<(), Fail> {
+    assert!(rt; is_replayed(rt.alloc(), &TWO_KEYS)?);
     Ok(())
 }
 
 #[test]
 fn three_preimages_and_a_signature(rt: HostRuntime) -> Result<(), Fail> {
-    let alloc = rt.alloc();
-    let [first, second, third] = [[0x11; 32], [0x22; 32], [0x33; 32]];
-    let script = hashes_or_keys_script(alloc)?;
-    assert!(rt; script.len() <= 10_000);
-    let mut stack = Stack::new(alloc);
-    stack.push(b"")?;
-    stack.push(&SIG_A)?;
-    stack.push(&third)?;
-    stack.push(&second)?;
-    stack.push(&first)?;
-    let witness = witness_bytes(alloc, &stack, &script)?;
-    let want = joined(
-        alloc,
-        &[
-            b"\x06\x00\x47",
-            &SIG_A,
-            b"\x20",
-            &third,
-            b"\x20",
-            &second,
-            b"\x20",
-            &first,
-            b"\xc6",
-            &script,
-        ],
-    )?;
-    assert_eq!(rt; witness.as_slice(), want.as_slice());
-
-    let mut pairs = Pairs::new(alloc);
-    pairs.push(&A, &SIG_A)?;
-    pairs.push(&B, &SIG_B)?;
-    let table = pairs.as_slice();
-    let sigs = SigCheck::new(table, |key: &[u8], sig: &[u8]| member(table, key, sig));
-    let program = program_of(&script);
-    let report = replay(alloc, &program, witness.as_slice(), &LOCKS, &sigs)?;
-    assert_eq!(rt; (report.ops, report.peak), (23, 7));
+    assert!(rt; is_replayed(rt.alloc(), &PREIMAGES_AND_KEY)?);
     Ok(())
 }
-
-const HASHES_OR_KEYS: &str =
-    "thresh(2,j:and_v(v:sha256(X),and_v(v:sha256(Y),and_v(v:sha256(Z),1))),s:pk(A),s:pk(B))";
 
 // What a text and assets come to by their cheapest satisfaction, which has these items. The number of questions
 // about signatures is counted.
 fn carried(
     alloc: Global,
-    text: &str,
+    spending: &Spending,
     assets: &Assets,
-    items: &[&[u8]],
     asked: &Cell<u32>,
 ) -> Result<Carried, Fail> {
     let arena = Bump::new(alloc);
-    let text = tree_of(alloc, &arena, text)?;
+    let text = tree_of(alloc, &arena, spending.text)?;
     let tree = text.tree();
-    let mut work = Work::new(alloc, tree)?;
-    check_valid(tree, &mut work)?;
+    expect_valid(alloc, tree)?;
     let Some(stack) = cheapest(alloc, tree, assets)? else {
         return Err("no satisfaction")?;
     };
-    if !has_items(&stack, items) {
+    if !holds(&stack, spending.items) {
         return Err("other items")?;
     }
     let table = assets.pairs();
@@ -274,76 +222,37 @@ fn carried(
     Ok(carry(alloc, tree, &stack, assets, &sigs)?)
 }
 
-// Whether the stack has these items, bottom first.
-fn has_items(stack: &Stack, items: &[&[u8]]) -> bool {
-    if stack.len() != items.len() {
-        return false;
-    }
-    for i in 0..stack.len() {
-        if stack.item(i) != items[i] {
-            return false;
-        }
-    }
-    true
+// Whether the Script, its program, the witness and the counts are these.
+fn is_carried(alloc: Global, spending: &Spending, carried: &Carried) -> Result<bool, Fail> {
+    let script = bytes_of(alloc, "", spending.script)?;
+    let witness = bytes_of(alloc, spending.witness, spending.script)?;
+    let mut program = Vec::from_slice(alloc, b"\x00\x20")?;
+    program.extend_from_slice(&sha256(&script))?;
+    Ok(
+        carried.script.as_slice() == script.as_slice()
+            && carried.program.as_slice() == program.as_slice()
+            && carried.witness.as_slice() == witness.as_slice()
+            && (carried.report.ops, carried.report.peak) == spending.counts,
+    )
 }
 
-// Assets with a signature of each of these keys.
-fn signed(alloc: Global, pairs: &[(&[u8], &[u8])]) -> Result<Assets, Fail> {
-    let mut assets = Assets::new(alloc, LOCKS);
-    for (bytes, sig) in pairs {
-        let key = Key::from_bytes(bytes).ok_or("no key")?;
-        assets.add_sig(&key, sig)?;
-    }
-    Ok(assets)
-}
-
-// Compares the Script, its program, and the witness, which is these bytes and the Script.
-fn compare(
-    rt: &impl Abort,
-    alloc: Global,
-    carried: &Carried,
-    script: &[u8],
-    before: &[&[u8]],
-) -> Result<(), Fail> {
-    assert_eq!(rt; carried.script.as_slice(), script);
-    let program = joined(alloc, &[b"\x00\x20", &sha256(script)])?;
-    assert_eq!(rt; carried.program.as_slice(), program.as_slice());
-    let mut witness = joined(alloc, before)?;
-    witness.extend_from_slice(script)?;
-    assert_eq!(rt; carried.witness.as_slice(), witness.as_slice());
-    Ok(())
+// With the preimages or without, and with so many questions about signatures.
+fn carries(alloc: Global, spending: &Spending, preimages: bool, wanted: u32) -> Result<bool, Fail> {
+    let assets = assets_of(alloc, LOCKS, spending.signers, preimages)?;
+    let asked = Cell::new(0);
+    let carried = carried(alloc, spending, &assets, &asked)?;
+    Ok(is_carried(alloc, spending, &carried)? && asked.get() == wanted)
 }
 
 #[test]
 fn two_of_three_keys_are_carried(rt: HostRuntime) -> Result<(), Fail> {
-    let alloc = rt.alloc();
-    let assets = signed(alloc, &[(&C, &SIG_C), (&B, &SIG_B), (&A, &SIG_A)])?;
-    let asked = Cell::new(0);
-    let items: [&[u8]; 3] = [b"", &SIG_A, &SIG_C];
-    let carried = carried(alloc, "multi(2,A,B,C)", &assets, &items, &asked)?;
     // The last key with the last signature, then the other two with the first one.
-    assert_eq!(rt; asked.get(), 3);
-    let script = two_of_three_script(alloc)?;
-    let before: [&[u8]; 5] = [b"\x04\x00\x47", &SIG_A, b"\x46", &SIG_C, b"\x69"];
-    compare(&rt, alloc, &carried, &script, &before)?;
-    assert_eq!(rt; (carried.report.ops, carried.report.peak), (4, 8));
+    assert!(rt; carries(rt.alloc(), &TWO_KEYS, false, 3)?);
     Ok(())
 }
 
 #[test]
 fn two_signatures_are_carried(rt: HostRuntime) -> Result<(), Fail> {
-    let alloc = rt.alloc();
-    let mut assets = signed(alloc, &[(&A, &SIG_A), (&B, &SIG_B)])?;
-    for preimage in [[0x11; 32], [0x22; 32], [0x33; 32]] {
-        assets.add_preimage(&preimage)?;
-    }
-    let asked = Cell::new(0);
-    let items: [&[u8]; 3] = [&SIG_B, &SIG_A, b""];
-    let carried = carried(alloc, HASHES_OR_KEYS, &assets, &items, &asked)?;
-    assert_eq!(rt; asked.get(), 2);
-    let script = hashes_or_keys_script(alloc)?;
-    let before: [&[u8]; 5] = [b"\x04\x48", &SIG_B, b"\x47", &SIG_A, b"\x00\xc6"];
-    compare(&rt, alloc, &carried, &script, &before)?;
-    assert_eq!(rt; (carried.report.ops, carried.report.peak), (23, 4));
+    assert!(rt; carries(rt.alloc(), &BOTH_KEYS, true, 2)?);
     Ok(())
 }

@@ -1,7 +1,8 @@
 //! Tests of types, limits and the first reason against a text.
 
-use crate::samples::tree_of;
+use crate::samples::{AND_KEY, AND_KEYS, KEYS, N_OR_KEYS, OR_KEYS, tree_of};
 use bumpalo::Bump;
+use ms_samples::{nested, repeated};
 use ms_sane::{
     Limits, Rules, Sane, Unfit, Work, check_sane, check_sane_under, check_valid, check_valid_under,
     mix,
@@ -124,8 +125,10 @@ fn locks_of_two_kinds_are_mixed(rt: HostRuntime) -> Result<(), Fail> {
     let alloc = rt.alloc();
     let cases = [
         ("and_v(v:older(10),older(4194314))", Some(3)),
+        ("and_b(older(10),a:older(4194314))", Some(3)),
         ("and_b(after(499999999),a:after(500000000))", Some(3)),
         ("andor(older(10),older(4194314),1)", Some(3)),
+        ("pk(B)", None),
         ("andor(older(10),1,older(4194314))", None),
         ("or_b(older(10),a:older(4194314))", None),
         ("or_c(older(10),v:older(4194314))", None),
@@ -143,33 +146,6 @@ fn locks_of_two_kinds_are_mixed(rt: HostRuntime) -> Result<(), Fail> {
         assert_eq!(rt; mix(read.tree()), wanted, "{form}");
     }
     Ok(())
-}
-
-/// A list of 20 keys, of which one has to sign.
-const KEYS: &str = "multi(1,A,A,A,A,A,A,A,A,A,A,A,A,A,A,A,A,A,A,A,A)";
-
-/// Parts that open a parenthesis, each so many times, one in another around a last part.
-fn nested(alloc: Global, parts: &[(&str, u32)], last: &str) -> Result<String, AllocError> {
-    let mut form = String::new(alloc);
-    let mut closed = String::new(alloc);
-    for (part, count) in parts {
-        for _ in 0..*count {
-            form.push_str(part)?;
-            closed.push(')')?;
-        }
-    }
-    form.push_str(last)?;
-    form.push_str(closed.as_str())?;
-    Ok(form)
-}
-
-/// So many letters.
-fn repeated(alloc: Global, letter: &str, count: u32) -> Result<String, AllocError> {
-    let mut letters = String::new(alloc);
-    for _ in 0..count {
-        letters.push_str(letter)?;
-    }
-    Ok(letters)
 }
 
 /// The first reasons against a text's being valid, by policy and by consensus.
@@ -192,7 +168,7 @@ fn a_satisfaction_has_few_items_by_policy(rt: HostRuntime) -> Result<(), Fail> {
         (201, [Some(Unfit::Size(7_070)), Some(Unfit::Ops(202))]),
     ];
     for (count, wanted) in cases {
-        let form = nested(alloc, &[("and_v(v:pk(A),", count)], "pk(B)")?;
+        let form = nested(alloc, &[(AND_KEY, count)], "pk(B)")?;
         assert_eq!(rt; reasons(alloc, &form)?, wanted, "{count}");
     }
     Ok(())
@@ -201,37 +177,42 @@ fn a_satisfaction_has_few_items_by_policy(rt: HostRuntime) -> Result<(), Fail> {
 #[test]
 fn a_script_has_few_bytes(rt: HostRuntime) -> Result<(), Fail> {
     let alloc = rt.alloc();
-    let and_key = "and_v(v:pk(A),";
-    let and_keys = format!(in alloc; "and_v(v:{KEYS},")?;
-    let most = nested(alloc, &[(&and_keys, 5), (and_key, 5)], "older(32768)")?;
-    assert_eq!(rt; reasons(alloc, &most)?, [None, None]);
-    let over = nested(alloc, &[(&and_keys, 5), (and_key, 5)], "older(8388608)")?;
-    assert_eq!(rt; reasons(alloc, &over)?, [Some(Unfit::Size(3_601)), None]);
-
-    let or_keys = format!(in alloc; "or_i({KEYS},")?;
-    let most = nested(alloc, &[(and_key, 11), (&or_keys, 13)], KEYS)?;
-    assert_eq!(rt; reasons(alloc, &most)?, [Some(Unfit::Size(10_000)), None]);
-    let n_or_keys = format!(in alloc; "n:or_i({KEYS},")?;
-    let over = nested(
-        alloc,
-        &[(and_key, 11), (&n_or_keys, 1), (&or_keys, 12)],
-        KEYS,
-    )?;
     let too_large = Some(Unfit::Size(10_001));
-    assert_eq!(rt; reasons(alloc, &over)?, [too_large, too_large]);
+    let cases: [(&[(&str, usize)], &str, [Option<Unfit>; 2]); 4] = [
+        (&[(AND_KEYS, 5), (AND_KEY, 5)], "older(32768)", [None, None]),
+        (
+            &[(AND_KEYS, 5), (AND_KEY, 5)],
+            "older(8388608)",
+            [Some(Unfit::Size(3_601)), None],
+        ),
+        (
+            &[(AND_KEY, 11), (OR_KEYS, 13)],
+            KEYS,
+            [Some(Unfit::Size(10_000)), None],
+        ),
+        (
+            &[(AND_KEY, 11), (N_OR_KEYS, 1), (OR_KEYS, 12)],
+            KEYS,
+            [too_large, too_large],
+        ),
+    ];
+    for (parts, last, wanted) in cases {
+        let form = nested(alloc, parts, last)?;
+        assert_eq!(rt; reasons(alloc, &form)?, wanted);
+    }
     Ok(())
 }
 
 #[test]
 fn a_script_has_few_opcodes(rt: HostRuntime) -> Result<(), Fail> {
     let alloc = rt.alloc();
-    let or_keys = format!(in alloc; "or_i({KEYS},")?;
-    let either = nested(alloc, &[(&or_keys, 1)], KEYS)?;
-    let most = format!(in alloc; "{}:{either}", repeated(alloc, "n", 176)?)?;
-    assert_eq!(rt; reasons(alloc, &most)?, [None, None]);
-    let over = format!(in alloc; "{}:{either}", repeated(alloc, "n", 177)?)?;
+    let either = nested(alloc, &[(OR_KEYS, 1)], KEYS)?;
     let too_many = Some(Unfit::Ops(202));
-    assert_eq!(rt; reasons(alloc, &over)?, [too_many, too_many]);
+    for (letters, wanted) in [(175, [None, None]), (176, [too_many, too_many])] {
+        let form = repeated(alloc, "n", "n", letters, ":")?;
+        let form = repeated(alloc, &form, &either, 1, "")?;
+        assert_eq!(rt; reasons(alloc, &form)?, wanted);
+    }
     Ok(())
 }
 

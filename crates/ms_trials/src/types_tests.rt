@@ -1,18 +1,10 @@
-ghost use Rattle.std.specs.Prelude.{IfOk};
-ghost use Rattle.def_tree.specs.Range.{IsKey, IsInRange};
-ghost use Rattle.ms_tree.specs.Shape.{shape};
-
+//! Tests of types and malleability properties.
+use crate::samples::key_of;
 use bumpalo::Bump;
-use ms_tree::{HashVal, Key, Leaf, Tree, Two, Wrapper, leaf, multi, thresh, two, wrap};
+use ms_tree::{Leaf, Two, Wrapper, leaf, two, wrap};
 use ms_types::{Base, Mall, Rule, RuleAt, Ty, corr, mall};
 use std::alloc::Global;
 use std::test::Fail;
-
-fn key(first: u8) -> Result<Key, &'static str>
-    ensures { IfOk result IsKey }
-{
-    Key::from_bytes(&[first; 33]).ok_or("a key")
-}
 
 /// The base type and the letters of the properties that hold, in the order z o n d u.
 fn letters(ty: Ty) -> (Base, [bool; 5]) {
@@ -22,7 +14,7 @@ fn letters(ty: Ty) -> (Base, [bool; 5]) {
 #[test]
 fn each_base_type_is_given(rt: HostRuntime) -> Result<(), Fail> {
     let arena = Bump::new(rt.alloc());
-    let bare = leaf(&arena, Leaf::PkK(key(2)?))?;
+    let bare = leaf(&arena, Leaf::PkK(key_of(2)?))?;
     let ty = corr(&bare).ok().ok_or("a type")?;
     assert_eq!(rt; letters(ty), (Base::K, [false, true, true, true, true]));
     let checked = wrap(&arena, Wrapper::C, bare)?;
@@ -46,7 +38,7 @@ fn signed_forced_expressive(mall: Mall) -> [bool; 3] {
 #[test]
 fn properties_are_given(rt: HostRuntime) -> Result<(), Fail> {
     let arena = Bump::new(rt.alloc());
-    let bare = leaf(&arena, Leaf::PkK(key(2)?))?;
+    let bare = leaf(&arena, Leaf::PkK(key_of(2)?))?;
     let properties = mall(&bare).ok().ok_or("properties")?;
     assert_eq!(rt; signed_forced_expressive(properties), [true, false, true]);
     let checked = wrap(&arena, Wrapper::C, bare)?;
@@ -90,8 +82,8 @@ fn pairs_of_keys_have_their_properties(rt: HostRuntime) -> Result<(), Fail> {
         (Two::OrI, [true, false, false]),
     ];
     for (kind, wanted) in cases {
-        let x = leaf(&arena, Leaf::PkK(key(2)?))?;
-        let z = leaf(&arena, Leaf::PkK(key(3)?))?;
+        let x = leaf(&arena, Leaf::PkK(key_of(2)?))?;
+        let z = leaf(&arena, Leaf::PkK(key_of(3)?))?;
         let tree = two(&arena, kind, x, z)?;
         let properties = mall(&tree).ok().ok_or("properties")?;
         assert_eq!(rt; signed_forced_expressive(properties), wanted);
@@ -130,7 +122,7 @@ fn wrapped_keys_have_their_properties(rt: HostRuntime) -> Result<(), Fail> {
         (Wrapper::N, [true, false, true]),
     ];
     for (wrapper, wanted) in cases {
-        let x = leaf(&arena, Leaf::PkK(key(2)?))?;
+        let x = leaf(&arena, Leaf::PkK(key_of(2)?))?;
         let tree = wrap(&arena, wrapper, x)?;
         let properties = mall(&tree).ok().ok_or("properties")?;
         assert_eq!(rt; signed_forced_expressive(properties), wanted);

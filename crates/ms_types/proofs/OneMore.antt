@@ -6,7 +6,7 @@ use Rattle.std.proofs.Math.Dec.{eqb-suc-zero}
 use Rattle.std.proofs.Math.Bool.{and-true, and_assoc}
 use Rattle.def_types.specs.declared.Ty.{Ty}
 use Rattle.def_types.specs.Corr.{is_b, is_w, first_fits, others_fit, all_z, all_z_but_one}
-use Rattle.ms_types.specs.Children.{seen, and}
+use Rattle.ms_types.specs.Scaffolding.Children.{seen, and}
 
 -- a child behind the others
 all_z_snoc : (xs : List Ty) (x : Ty) → all_z (xs ++ x ∷ []) ≡ (all_z xs && x.z)

@@ -4,7 +4,7 @@ use Rattle.def_tree.specs.Size.{nodes, nodes_of}
 use Rattle.def_types.specs.declared.rule.RuleAt.{RuleAt}
 use Rattle.ms_tree.specs.declared.tree.Tree as trees
 use Rattle.ms_tree.specs.Shape.{shape, shapes}
-use Rattle.ms_types.specs.Seen.{seen_of}
+use Rattle.ms_types.specs.Scaffolding.Seen.{seen_of}
 
 -- what was seen of children is that of their types
 pub types_seen : {A C : Type 0} (seen : List A → C) (r : Result (List A) RuleAt) (s : C) → Ok s ≡ seen_of seen r → (types : List A) × (r ≡ Ok types) × (s ≡ seen types)

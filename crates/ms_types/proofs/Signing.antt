@@ -5,7 +5,7 @@ use Rattle.std.proofs.lemmas.List.Folds.{list_all-append}
 use Rattle.std.proofs.Math.Bool.{and-true}
 use Rattle.def_types.specs.declared.Mall.{Mall}
 use Rattle.def_types.specs.Malleable.{count_not_s}
-use Rattle.ms_types.specs.Signed.{signed, and}
+use Rattle.ms_types.specs.Scaffolding.Signed.{signed, and}
 
 -- at most all children have no s
 pub few_unsigned : (xs : List Mall) → count_not_s xs ≤ length xs

@@ -1,6 +1,3 @@
 pub mod Rows
 pub mod Checked
-pub mod Properties
-pub mod Children
-pub mod Seen
-pub mod Signed
+pub mod Scaffolding

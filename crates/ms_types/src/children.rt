@@ -1,7 +1,7 @@
 //! What the types of a threshold need to know of its children's types.
 ghost use Rattle.std.specs.Prelude.{◌≡◌, ◌<◌, ◌^◌};
-ghost use Rattle.ms_types.specs.Children.{and as the_and};
-ghost use Rattle.ms_types.specs.Signed.{and as and_signed};
+ghost use Rattle.ms_types.specs.Scaffolding.Children.{and as the_and};
+ghost use Rattle.ms_types.specs.Scaffolding.Signed.{and as and_signed};
 
 use crate::requirements::{may_be_first, may_follow};
 use def_types::{Mall, Ty};
@@ -15,6 +15,7 @@ pub struct Children {
     pub first_fits: bool,
     /// The others are W d u.
     pub others_fit: bool,
+    /// All are z.
     pub all_z: bool,
     /// All are z but one, which is o.
     pub all_z_but_one: bool,

@@ -1,9 +1,10 @@
+//! The correctness type system (BIP 379, type system, correctness).
 ghost use Rattle.std.specs.Prelude.{◌≡◌, ◌<◌, IfErr};
 ghost use Rattle.def_tree.specs.Range.{IsInRange};
 ghost use Rattle.def_tree.specs.Size.{nodes};
 ghost use Rattle.def_types.specs.Corr.{correctness, corr as the_corr};
 ghost use Rattle.ms_tree.specs.Shape.{shape};
-ghost use Rattle.ms_types.specs.Children.{seen as children_seen};
+ghost use Rattle.ms_types.specs.Scaffolding.Children.{seen as children_seen};
 
 use crate::children::Children;
 use crate::properties::{and_or_type, leaf_type, multi_type, thresh_type, two_type, wrap_type};

@@ -1,3 +1,4 @@
+//! The malleability properties (BIP 379, type system, malleability).
 #![tactic(auto, unfolding(def_types::proofs::Rows::mall_rows))]
 
 ghost use Rattle.std.specs.Prelude.{◌≡◌, ◌<◌, IfErr};
@@ -6,7 +7,7 @@ ghost use Rattle.def_tree.specs.Size.{nodes};
 ghost use Rattle.def_types.specs.Malleable.{malleability, mall as the_mall, two_row, wrap_row};
 ghost use Rattle.ms_tree.specs.Shape.{shape};
 ghost use Rattle.ms_types.specs.Checked.{requirements};
-ghost use Rattle.ms_types.specs.Signed.{signed};
+ghost use Rattle.ms_types.specs.Scaffolding.Signed.{signed};
 
 use crate::children::Signed;
 use crate::requirements::require;

@@ -3,8 +3,8 @@ ghost use Rattle.std.specs.Prelude.{◌≡◌, ◌&&◌, ◌||◌, ℕ, List};
 ghost use Rattle.def_types.specs.declared.Ty.{Ty as the_ty};
 ghost use Rattle.def_types.specs.Corr.{correctness, and_or_row, two_row, thresh_row, multi_row, wrap_row};
 ghost use Rattle.def_tree.specs.Tree.{Key};
-ghost use Rattle.ms_types.specs.Children.{seen};
-ghost use Rattle.ms_types.specs.Properties.{bare as the_bare};
+ghost use Rattle.ms_types.specs.Scaffolding.Children.{seen};
+ghost use Rattle.ms_types.specs.Scaffolding.Properties.{bare as the_bare};
 ghost use Rattle.ms_types.specs.Rows.{leaf_row};
 
 use crate::children::Children;
@@ -35,6 +35,7 @@ fn bare(base: Base) -> Ty
     }
 }
 
+/// The type of a fragment without children.
 #[tactic(auto, unfolding(def_types::proofs::Rows::corr_rows))]
 pub fn leaf_type(leaf: &Leaf) -> Ty
     ensures { result ≡ (leaf_row correctness leaf.now).gives }
@@ -49,6 +50,7 @@ pub fn leaf_type(leaf: &Leaf) -> Ty
     }
 }
 
+/// The type of an `andor` whose requirements are met.
 #[tactic(auto, unfolding(def_types::proofs::Rows::corr_rows))]
 pub fn and_or_type(x: Ty, y: Ty, z: Ty) -> Ty
     ensures { result ≡ (and_or_row x y z).gives }
@@ -62,6 +64,7 @@ pub fn and_or_type(x: Ty, y: Ty, z: Ty) -> Ty
     }
 }
 
+/// The type of a fragment with two children whose requirements are met.
 #[tactic(auto, unfolding(def_types::proofs::Rows::corr_rows))]
 pub fn two_type(kind: Two, x: Ty, y: Ty) -> Ty
     ensures { result ≡ (two_row kind x y).gives }
@@ -120,6 +123,7 @@ fn first_or_both(base: Base, x: Ty, y: Ty) -> Ty
     }
 }
 
+/// The type of a `thresh` whose requirements are met.
 #[tactic(auto, unfolding(def_types::proofs::Rows::corr_rows))]
 pub fn thresh_type(children: Children) -> Ty
     ensures { (k : ℕ) (types : List the_ty) → children ≡ seen types → result ≡ (thresh_row k types).gives }
@@ -139,6 +143,7 @@ pub fn multi_type() -> Ty
     ty!(B n d u)
 }
 
+/// The type of a wrapper's node whose requirement is met.
 #[tactic(auto, unfolding(def_types::proofs::Rows::corr_rows))]
 pub fn wrap_type(wrapper: Wrapper, x: Ty) -> Ty
     ensures { result ≡ (wrap_row wrapper x).gives }

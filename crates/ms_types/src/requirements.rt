@@ -5,7 +5,7 @@ ghost use Rattle.def_tree.specs.Tree.{Key};
 ghost use Rattle.def_types.specs.declared.Ty.{Ty as the_ty};
 ghost use Rattle.def_types.specs.Corr.{correctness, is_b, is_w, are_same as the_are_same, and_or_row, two_row, thresh_row, multi_row, wrap_row};
 ghost use Rattle.ms_types.specs.Checked.{requirements};
-ghost use Rattle.ms_types.specs.Children.{seen};
+ghost use Rattle.ms_types.specs.Scaffolding.Children.{seen};
 ghost use Rattle.ms_types.specs.Rows.{leaf_row};
 
 use crate::children::Children;
@@ -69,6 +69,7 @@ macro_rules! lock_arms {
     };
 }
 
+/// Refuses the number of a timelock that is none.
 #[tactic(auto, unfolding(def_types::proofs::Rows::corr_rows))]
 pub fn require_leaf(leaf: &Leaf) -> Result<(), Rule>
     ensures { result ≡ requirements (leaf_row correctness leaf.now) }
@@ -89,6 +90,7 @@ macro_rules! and_or_arm {
     };
 }
 
+/// Refuses the first requirement of `andor` that is false.
 #[tactic(auto, unfolding(def_types::proofs::Rows::corr_rows))]
 pub fn require_and_or(x: Ty, y: Ty, z: Ty) -> Result<(), Rule>
     ensures { result ≡ requirements (and_or_row x y z) }
@@ -112,6 +114,7 @@ macro_rules! pair_arms {
     };
 }
 
+/// Refuses the first requirement of a fragment with two children that is false.
 #[tactic(auto, unfolding(def_types::proofs::Rows::corr_rows))]
 pub fn require_two(kind: Two, x: Ty, y: Ty) -> Result<(), Rule>
     ensures { result ≡ requirements (two_row kind x y) }
@@ -169,6 +172,7 @@ macro_rules! thresh_arm {
     };
 }
 
+/// Refuses the first requirement of `thresh` that is false.
 #[tactic(auto, unfolding(def_types::proofs::Rows::corr_rows))]
 pub fn require_thresh(k: u64, children: Children) -> Result<(), Rule>
     ensures { (types : List the_ty) → children ≡ seen types → result ≡ requirements (thresh_row k types) }
@@ -191,6 +195,7 @@ macro_rules! multi_arm {
     };
 }
 
+/// Refuses the numbers of a `multi` that may not be.
 #[tactic(auto, unfolding(def_types::proofs::Rows::corr_rows))]
 pub fn require_multi(k: u64, count: u64) -> Result<(), Rule>
     ensures { (keys : List Key) → count ≡ length keys → result ≡ requirements (multi_row k keys) }
@@ -213,6 +218,7 @@ macro_rules! wrapper_arms {
     };
 }
 
+/// Refuses a wrapper's child that hasn't the type that it requires.
 #[tactic(auto, unfolding(def_types::proofs::Rows::corr_rows))]
 pub fn require_wrap(wrapper: Wrapper, x: Ty) -> Result<(), Rule>
     ensures { result ≡ requirements (wrap_row wrapper x) }

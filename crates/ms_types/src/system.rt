@@ -7,7 +7,7 @@ ghost use Rattle.def_types.specs.System.{typed_from, typed_each};
 ghost use Rattle.ms_tree.specs.Shape.{shape, shapes};
 ghost use Rattle.ms_types.specs.Checked.{checked, at_node};
 ghost use Rattle.ms_types.specs.Rows.{leaf_row};
-ghost use Rattle.ms_types.specs.Seen.{seen_of};
+ghost use Rattle.ms_types.specs.Scaffolding.Seen.{seen_of};
 
 use def_types::{Rule, RuleAt};
 use ms_tree::{Key, Leaf, Tree, Two, View, Wrapper};
@@ -24,12 +24,15 @@ pub trait TypeSystem: Copy {
     // What is kept of children of these types.
     ghost seen: { List Self → Self.Children };
 
+    /// A fragment without children.
     fn of_leaf(leaf: &Leaf) -> Result<Self, Rule>
         ensures { result ≡ checked (leaf_row rows leaf.now) };
 
+    /// `andor` with children of these types.
     fn of_and_or(x: Self, y: Self, z: Self) -> Result<Self, Rule>
         ensures { result ≡ checked (rows.and_or x y z) };
 
+    /// A fragment with two children of these types.
     fn of_two(kind: Two, x: Self, y: Self) -> Result<Self, Rule>
         ensures { result ≡ checked (rows.two kind x y) };
 
@@ -42,12 +45,15 @@ pub trait TypeSystem: Copy {
         requires { (types : List Self) × (children ≡ seen types) × (length types < 2 ^ 63) }
         ensures { (types : List Self) → children ≡ seen types → result ≡ seen (types ++ child ∷ []) };
 
+    /// `thresh` of this number with these children.
     fn of_thresh(k: u64, children: Self::Children) -> Result<Self, Rule>
         ensures { (types : List Self) → children ≡ seen types → result ≡ checked (rows.thresh k types) };
 
+    /// `multi` of this number with these keys.
     fn of_multi(k: u64, keys: &[Key]) -> Result<Self, Rule>
         ensures { result ≡ checked (rows.multi k keys.now) };
 
+    /// A wrapper with a child of this type.
     fn of_wrap(wrapper: Wrapper, x: Self) -> Result<Self, Rule>
         ensures { result ≡ checked (rows.wrap wrapper x) };
 }

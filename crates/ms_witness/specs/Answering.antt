@@ -16,13 +16,13 @@ Faults fault.Memory reading = Unit {0}
 Faults why reading = reading ≡ Err why
 
 -- what a definition gives, as contracts see what was read; only want of memory may come in its place
-abbrev pub Reads : {A B : Type 0} → (seen : B → A) → Result B WitnessFault → Result A WitnessFault → Type 0
-Reads seen (Ok part) reading = reading ≡ Ok (seen part)
-Reads seen (Err why) reading = Faults why reading
+abbrev pub ReadsAs : {A B : Type 0} → (seen : B → A) → Result B WitnessFault → Result A WitnessFault → Type 0
+ReadsAs seen (Ok part) reading = reading ≡ Ok (seen part)
+ReadsAs seen (Err why) reading = Faults why reading
 
 -- the same, where contracts see what was read as it is
 abbrev pub Gives : {A : Type 0} → Result A WitnessFault → Result A WitnessFault → Type 0
-Gives result reading = Reads (λ part. part) result reading
+Gives result reading = ReadsAs (λ part. part) result reading
 
 -- the stop of a replay for each fault of a witness, and for each stop of a run
 abbrev pub stop_of_fault : WitnessFault → ReplayStop

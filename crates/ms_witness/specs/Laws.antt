@@ -2,7 +2,7 @@
 use Rattle.std.specs.Prelude.{◌≡◌, List, Ok}
 use Rattle.def_script.specs.Bytes.{Bytes, IsBytes}
 use Rattle.def_script.specs.Witness.{witness_text}
-use Rattle.def_emit.specs.Program.{program_of}
+use Rattle.def_machine.specs.Program.{program_of}
 use Rattle.def_machine.specs.Machine.{Given}
 use Rattle.def_machine.specs.Run.{run}
 use Rattle.ms_witness.specs.Replaying.{replay, ran}

@@ -2,7 +2,7 @@
 -- Bitcoin Core: `VerifyWitnessProgram`).
 use Rattle.std.specs.Prelude.{List, if◌then◌else◌, Result, Ok, Err}
 use Rattle.std.specs.Str.{bytes_eq}
-use Rattle.def_emit.specs.Program.{program_of}
+use Rattle.def_machine.specs.Program.{program_of}
 use Rattle.def_machine.specs.Machine.{Given}
 use Rattle.def_machine.specs.Run.{Outcome, run}
 use Rattle.def_script.specs.Bytes.{Bytes}

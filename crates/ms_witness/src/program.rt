@@ -1,7 +1,7 @@
 //! The program of an output.
 
 ghost use Rattle.std.specs.Prelude.{◌≡◌};
-ghost use Rattle.def_emit.specs.Program.{program_of as the_program_of};
+ghost use Rattle.def_machine.specs.Program.{program_of as the_program_of};
 
 use ms_hash::sha256;
 

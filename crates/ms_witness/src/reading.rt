@@ -4,7 +4,7 @@ ghost use Rattle.std.specs.Prelude.{◌≡◌, ◌<◌, List, Ok, IfOk};
 ghost use Rattle.def_script.specs.Bytes.{Bytes};
 ghost use Rattle.def_script.specs.Witness.{witness_text};
 ghost use Rattle.ms_witness.specs.Reading.{FitsWitness, first_size as the_first_size, first_count as the_first_count, first_item as the_first_item, first_items, read_witness as the_read_witness};
-ghost use Rattle.ms_witness.specs.Answering.{Reads, Gives};
+ghost use Rattle.ms_witness.specs.Answering.{ReadsAs, Gives};
 
 use crate::fault::WitnessFault;
 use ms_script::{Blob, Stack, read_size};
@@ -13,7 +13,7 @@ use std::alloc::Global;
 /// The greatest number of items, and the greatest length of an item.
 const MOST_WITNESS: u64 = 10_000;
 
-/// Reads the witness of a P2WSH input (BIP 141): the stack, bottom first, and the Script, which is the last item.
+/// ReadsAs the witness of a P2WSH input (BIP 141): the stack, bottom first, and the Script, which is the last item.
 ///
 /// The first place in the bytes decides why they are refused. Each size is first read, which may be `Truncated` or
 /// `NonMinimalSize`; then a count of 0 is `Empty`, and a count or a length over 10,000 is `TooLong`; only then the
@@ -47,7 +47,7 @@ fn whole_witness(alloc: Global, bytes: &[u8]) -> Result<(Stack, Blob), WitnessFa
 /// The number of items, and the bytes after it.
 #[tactic(auto, unfolding(crate::specs::Reading::first_count))]
 fn first_count(bytes: &[u8]) -> Result<(u64, &[u8]), WitnessFault>
-    ensures count { Reads (λ part. (part.0, part.1.now)) result (the_first_count bytes.now) }
+    ensures count { ReadsAs (λ part. (part.0, part.1.now)) result (the_first_count bytes.now) }
     ensures some { IfOk result (λ part. 0 < part.0) }
 {
     let (count, rest) = first_size(bytes)?;
@@ -62,7 +62,7 @@ fn first_count(bytes: &[u8]) -> Result<(u64, &[u8]), WitnessFault>
 
 /// So many items, and the bytes after them.
 fn first_stack(alloc: Global, count: u64, bytes: &[u8]) -> Result<(Stack, &[u8]), WitnessFault>
-    ensures { Reads (λ part. (part.0, part.1.now)) result (first_items count bytes.now) }
+    ensures { ReadsAs (λ part. (part.0, part.1.now)) result (first_items count bytes.now) }
 {
     let mut stack = Stack::new(alloc);
     let mut rest = bytes;
@@ -77,7 +77,7 @@ fn first_stack(alloc: Global, count: u64, bytes: &[u8]) -> Result<(Stack, &[u8])
 /// An item, which stands after its length, and the bytes after it.
 #[tactic(auto, unfolding(crate::specs::Reading::first_item))]
 fn first_item(bytes: &[u8]) -> Result<(&[u8], &[u8]), WitnessFault>
-    ensures { Reads (λ part. (part.0.now, part.1.now)) result (the_first_item bytes.now) }
+    ensures { ReadsAs (λ part. (part.0.now, part.1.now)) result (the_first_item bytes.now) }
 {
     let (size, rest) = first_size(bytes)?;
     if size > MOST_WITNESS {
@@ -92,7 +92,7 @@ fn first_item(bytes: &[u8]) -> Result<(&[u8], &[u8]), WitnessFault>
 
 /// The size that the bytes begin with, and the bytes after it.
 fn first_size(bytes: &[u8]) -> Result<(u64, &[u8]), WitnessFault>
-    ensures { Reads (λ part. (part.0, part.1.now)) result (the_first_size bytes.now) }
+    ensures { ReadsAs (λ part. (part.0, part.1.now)) result (the_first_size bytes.now) }
 {
     let (size, next) = read_size(bytes, 0)?;
     Ok((size, &bytes[next..]))

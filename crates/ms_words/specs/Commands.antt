@@ -1,7 +1,7 @@
 -- What the words ask for.
-use Rattle.std.specs.Prelude.{⊤, List, IsUtf8}
+use Rattle.std.specs.Prelude.{⊤, List, IsUtf8, Option, MatchOption}
 use Rattle.def_script.specs.Bytes.{Bytes}
-use Rattle.def_answer.specs.Words.{Command, script, check, satisfy, satisfy_malleable, run, gen, policy, plan, audit, decode, IsForm}
+use Rattle.def_answer.specs.Words.{Command, script, check, satisfy, satisfy_malleable, run, gen, policy, plan, audit, decode, IsForm, HasNoForm}
 use Rattle.ms_words.specs.declared.words.Choice.{Choice}
 use Rattle.ms_words.specs.declared.words.Choice.TheVariants as choice
 use Rattle.ms_words.specs.declared.words.TextCommand.{TextCommand}
@@ -45,3 +45,7 @@ HasUtf8 (decode digits keys) = ⊤
 -- so is that of words with a form
 abbrev pub HaveUtf8 : (words : List Bytes) → Type 0
 HaveUtf8 words = (command : Command) → IsForm words command → HasUtf8 command
+
+-- the command whose words these are, or none where they have no form
+abbrev pub FindsForm : (words : List Bytes) → Option Asked → Type 0
+FindsForm words found = MatchOption found (HasNoForm words) (λ command. IsForm words (seen command))

@@ -3,14 +3,12 @@ ghost use Rattle.std.specs.Prelude.{◌≡◌, ◌≢◌, ℕ, [], ◌∷◌, co
 ghost use Rattle.std.specs.List.{list_all};
 ghost use Rattle.hex.specs.Hex.{is_hex_digit};
 ghost use Rattle.def_text.specs.Word.{key_of as the_key_of};
-ghost use Rattle.ms_text.specs.Words.{DecodesTo};
 ghost use Rattle.def_answer.specs.Words.{IsHex, IsCommand, IsForm, HasNoForm, gen};
-ghost use Rattle.ms_words.specs.Commands.{seen, HasUtf8};
+ghost use Rattle.ms_words.specs.Commands.{seen, FindsForm, HasUtf8};
 
 use crate::word::Word;
 use def_sane::Rules;
 use itoa::Buffer;
-use ms_tree::Key;
 
 /// The greatest number of `gen`.
 const MOST_CHILDREN: u32 = 30;
@@ -27,19 +25,28 @@ pub enum Choice {
 /// What is asked of a text, which has to be valid or sane by these rules.
 #[derive(Clone, Copy, Debug, PartialEq, Eq)]
 pub enum TextCommand {
+    /// `script`: its Script and the program of its output.
     Script(Rules),
+    /// `check`: what is known of it.
     Check(Rules),
+    /// `satisfy`: a satisfaction by the assets of a file.
     Satisfy(Choice),
+    /// `policy`: its abstract policy.
     Policy,
+    /// `plan`: which keys to ask, by a plan file.
     Plan,
+    /// `audit`: by which rows the stack of a run file satisfies it.
     Audit,
 }
 
 /// What the words ask for: something of a TEXT, a run, a text that is made from a number, or the text of a Script.
 #[derive(Clone, Copy, Debug)]
 pub enum Command<'a> {
+    /// What is asked of a TEXT, and the TEXT.
     Text(TextCommand, &'a str),
+    /// `run`: the run of a file's script.
     Run,
+    /// `gen`: the text and the assets that are made from this number, 1 to 30.
     Gen(u32),
     /// The digits of a Script, and the words of the keys.
     Decode(&'a str, &'a [Word]),
@@ -58,7 +65,7 @@ pub fn read_words(words: &[Word]) -> Option<Command<'_>>
 }
 
 fn one_word<'a>(name: &str) -> Option<Command<'a>>
-    ensures form { MatchOption result (HasNoForm (name.now ∷ [])) (λ command. IsForm (name.now ∷ []) (seen command)) }
+    ensures form { FindsForm (name.now ∷ []) result }
     ensures utf8 { IfSome result (λ command. HasUtf8 (seen command)) }
 {
     if name == "run" {
@@ -68,7 +75,7 @@ fn one_word<'a>(name: &str) -> Option<Command<'a>>
 }
 
 fn several_words<'a>(name: &str, word: &'a str, more: &'a [Word]) -> Option<Command<'a>>
-    ensures form { MatchOption result (HasNoForm (name.now ∷ word.entry.now ∷ more.entry.now)) (λ command. IsForm (name.now ∷ word.entry.now ∷ more.entry.now) (seen command)) }
+    ensures form { FindsForm (name.now ∷ word.entry.now ∷ more.entry.now) result }
     ensures utf8 { IfSome result (λ command. HasUtf8 (seen command)) }
 {
     if name == "decode" {
@@ -84,7 +91,7 @@ fn several_words<'a>(name: &str, word: &'a str, more: &'a [Word]) -> Option<Comm
 
 fn two_words<'a>(name: &str, word: &'a str) -> Option<Command<'a>>
     requires { name.now ≢ codes "decode" }
-    ensures form { MatchOption result (HasNoForm (name.now ∷ word.entry.now ∷ [])) (λ command. IsForm (name.now ∷ word.entry.now ∷ []) (seen command)) }
+    ensures form { FindsForm (name.now ∷ word.entry.now ∷ []) result }
     ensures utf8 { IfSome result (λ command. HasUtf8 (seen command)) }
 {
     if name == "script" {
@@ -137,7 +144,7 @@ fn is_decimal(n: u32, word: &str) -> bool
 
 fn three_words<'a>(name: &str, option: &str, text: &'a str) -> Option<Command<'a>>
     requires { name.now ≢ codes "decode" }
-    ensures form { MatchOption result (HasNoForm (name.now ∷ option.now ∷ text.entry.now ∷ [])) (λ command. IsForm (name.now ∷ option.now ∷ text.entry.now ∷ []) (seen command)) }
+    ensures form { FindsForm (name.now ∷ option.now ∷ text.entry.now ∷ []) result }
     ensures utf8 { IfSome result (λ command. HasUtf8 (seen command)) }
 {
     if name == "satisfy" && option == "--malleable" {
@@ -151,7 +158,7 @@ fn three_words<'a>(name: &str, option: &str, text: &'a str) -> Option<Command<'a
 
 fn consensus_words<'a>(name: &str, text: &'a str) -> Option<Command<'a>>
     requires { name.now ≢ codes "decode" }
-    ensures form { MatchOption result (HasNoForm (name.now ∷ codes "--consensus" ∷ text.entry.now ∷ [])) (λ command. IsForm (name.now ∷ codes "--consensus" ∷ text.entry.now ∷ []) (seen command)) }
+    ensures form { FindsForm (name.now ∷ codes "--consensus" ∷ text.entry.now ∷ []) result }
     ensures utf8 { IfSome result (λ command. HasUtf8 (seen command)) }
 {
     let rules = Rules::Consensus;
@@ -169,7 +176,7 @@ fn consensus_words<'a>(name: &str, text: &'a str) -> Option<Command<'a>>
 
 fn four_words<'a>(name: &str, first: &str, second: &str, text: &'a str) -> Option<Command<'a>>
     requires { name.now ≢ codes "decode" }
-    ensures form { MatchOption result (HasNoForm (name.now ∷ first.now ∷ second.now ∷ text.entry.now ∷ [])) (λ command. IsForm (name.now ∷ first.now ∷ second.now ∷ text.entry.now ∷ []) (seen command)) }
+    ensures form { FindsForm (name.now ∷ first.now ∷ second.now ∷ text.entry.now ∷ []) result }
     ensures utf8 { IfSome result (λ command. HasUtf8 (seen command)) }
 {
     if name == "satisfy" && first == "--malleable" && second == "--consensus" {
@@ -182,7 +189,7 @@ fn four_words<'a>(name: &str, first: &str, second: &str, text: &'a str) -> Optio
 }
 
 fn decode_words<'a>(digits: &'a str, keys: &'a [Word]) -> Option<Command<'a>>
-    ensures form { MatchOption result (HasNoForm (codes "decode" ∷ digits.entry.now ∷ keys.entry.now)) (λ command. IsForm (codes "decode" ∷ digits.entry.now ∷ keys.entry.now) (seen command)) }
+    ensures form { FindsForm (codes "decode" ∷ digits.entry.now ∷ keys.entry.now) result }
     ensures utf8 { IfSome result (λ command. HasUtf8 (seen command)) }
 {
     if !is_hex(digits.as_bytes()) {
@@ -228,30 +235,9 @@ fn are_keys(words: &[Word]) -> bool
     ensures { IsTrue result ↔ All (λ word. IsSome (the_key_of word)) words.now }
 {
     for word in words {
-        if key_of(word.as_str()).is_none() {
+        if word.key().is_none() {
             return false;
         }
     }
     true
-}
-
-/// The key that a word spells by 66 digits of either case. Takes no memory.
-pub fn key_of(word: &str) -> Option<Key>
-    ensures { result ≡ the_key_of word.now }
-{
-    let Some(bytes) = spelled(word.as_bytes()) else {
-        return None;
-    };
-    Key::from_bytes(&bytes)
-}
-
-/// The 33 bytes that a word of digits spells.
-fn spelled(word: &[u8]) -> Option<[u8; 33]>
-    ensures { DecodesTo 33 word.now result }
-{
-    let mut bytes = [0; 33];
-    match hex::decode_to_slice(word, &mut bytes) {
-        Ok(()) => Some(bytes),
-        Err(_) => None,
-    }
 }

@@ -1,5 +1,5 @@
 -- What a call for an audit shows.
-use Rattle.std.proofs.Common.{◌≡◌, ◌≢◌, ◌⊎◌, ℕ, ◌≤◌, nat_lt, if◌then◌else◌, Bool, true, false, inl, inr, List, Ok, Some, length, refl, sym, ap, subst, ◌∙◌}
+use Rattle.std.proofs.Common.{◌≡◌, ◌≢◌, ◌⊎◌, ℕ, ◌≤◌, nat_lt, if◌then◌else◌, Bool, true, false, inl, inr, List, Ok, length, refl, sym, ap, subst, ◌∙◌}
 use Rattle.std.specs.Io.KnownBytes.{Appends}
 use Rattle.std.specs.Str.{bytes_eq}
 use Rattle.std.proofs.lemmas.Bool.{le-ltb}
@@ -9,14 +9,13 @@ use Rattle.def_machine.specs.Run.{Outcome, accepted, refused, run}
 use Rattle.def_tree.specs.Tree.{Tree}
 use Rattle.def_emit.specs.Emit.{script_of}
 use Rattle.def_text.proofs.SpelledWritable.{spelled_writable}
-use Rattle.def_sane.specs.Unfit.{first_unfit_valid}
 use Rattle.def_files.specs.RunFile.{RunFile, run_of}
 use Rattle.def_audit.specs.declared.Step.{Step}
 use Rattle.def_answer.specs.Answer.{AreSteps, Replies, RepliesToWords, Answer}
 use Rattle.def_answer.specs.Laws.{walked}
 use Rattle.def_answer.specs.Lines.{file_line, wrong_script_line, not_accepted_line}
 use Rattle.def_answer.specs.Reading.{read}
-use Rattle.def_answer.specs.Reply.{Reply, reply, unless_unfit, unless_refused, MOST_FILE, given_by, audited_reply, witness_reply, audit_reply}
+use Rattle.def_answer.specs.Reply.{Reply, reply, unless_unfit, with_file, MOST_FILE, given_by, audited_reply, witness_reply, audit_reply}
 use Rattle.def_answer.specs.Report.{audit_report}
 use Rattle.def_answer.specs.Words.{IsForm}
 use Rattle.def_answer.specs.Words as words
@@ -28,7 +27,7 @@ use Rattle.def_answer.proofs.Sources.{passed_audit}
 use Rattle.def_answer.proofs.Unique.{one_form}
 use Rattle.ms_words.specs.Commands.{HaveUtf8}
 use Rattle.msat_cli.specs.Ends.{Call, HasAnswer, Ends, EndsAs}
-use Rattle.msat_cli.specs.Audits.{AsksAudit, RunsTo, PrintsSteps, PrintsWrongScript, PrintsFault, Audited, ShowsAudit}
+use Rattle.msat_cli.specs.Audits.{AsksAudit, RunsTo, PrintsSteps, PrintsWrongScript, PrintsFault, ShowsAudit}
 use Rattle.msat_cli.proofs.EndLemmas.{told_answer, ends_as_answered}
 use Rattle.msat_cli.proofs.SatisfactionLemmas.{second_of_two}
 
@@ -60,7 +59,7 @@ read_reply : (source : Bytes) (tree : Tree) (offsets : List ℕ) (steps : List S
     → audit_reply offsets steps source tree ≡ witness_reply offsets steps tree file
 read_reply source tree offsets steps file short given =
     second_of_two (nat_lt MOST_FILE (length source)) _ _ (le-ltb MOST_FILE (length source) short)
-    ∙ ap (unless_refused file_line (witness_reply offsets steps tree)) given
+    ∙ ap (with_file file_line (witness_reply offsets steps tree)) given
 
 -- ---- how the call ends
 

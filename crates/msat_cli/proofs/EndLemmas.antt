@@ -23,7 +23,7 @@ use Rattle.msat_cli.specs.declared.answer.Stop.{Stop}
 use Rattle.msat_cli.specs.declared.answer.Stop.TheVariants as stop
 use Rattle.msat_cli.specs.Sides.{Side, AreTold, Held}
 use Rattle.ms_words.specs.Commands.{HasUtf8, HaveUtf8}
-use Rattle.msat_cli.specs.Steps.{AnswersWords, Ended, Writes, WritesResult}
+use Rattle.msat_cli.specs.Scaffolding.Steps.{AnswersWords, Ended, Writes, WritesResult}
 use Rattle.msat_cli.specs.Ends.{Call, HasAnswer, Ends, TakesMemory, IsFault, EndsAsUsage, EndsAsAnswered, TellsShortFile, IsReadFor}
 
 -- ---- the answer

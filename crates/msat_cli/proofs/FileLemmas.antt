@@ -7,7 +7,7 @@ use Rattle.ms_io.specs.Moves.{GivesAll, GivesOver}
 use Rattle.def_answer.specs.Reply.{MOST_FILE}
 use Rattle.msat_cli.specs.declared.answer.Stop.TheVariants.{FileTooLong}
 use Rattle.msat_cli.specs.Sides.{Side, AreTold, Held, ReadsFront}
-use Rattle.msat_cli.specs.Steps.{StopsReading}
+use Rattle.msat_cli.specs.Scaffolding.Steps.{StopsReading}
 
 -- nothing was read, or written
 pub none_read : (told : Option Bytes) → ReadsFront told told

@@ -15,7 +15,7 @@ use Rattle.ms_plan_laws.proofs.Plans.{none_holds, lengths_decide, suffices_alway
 use Rattle.def_answer.specs.Answer.{Replies, RepliesToWords, Answer}
 use Rattle.def_answer.specs.Lines.{plan_file_line}
 use Rattle.def_answer.specs.Reading.{read}
-use Rattle.def_answer.specs.Reply.{Reply, reply, unless_unfit, unless_refused, MOST_FILE, planned_reply, plan_reply}
+use Rattle.def_answer.specs.Reply.{Reply, reply, unless_unfit, with_file, MOST_FILE, planned_reply, plan_reply}
 use Rattle.def_answer.specs.Report.{plan_report}
 use Rattle.def_answer.specs.Words as words
 use Rattle.def_answer.specs.declared.status.Status.{Status}
@@ -24,7 +24,7 @@ use Rattle.def_answer.proofs.Sources.{passed_text}
 use Rattle.def_answer.proofs.Unique.{one_form}
 use Rattle.ms_words.specs.Commands.{HaveUtf8}
 use Rattle.msat_cli.specs.Ends.{Call, HasAnswer, Ends, EndsAs}
-use Rattle.msat_cli.specs.Plans.{AsksPlan, PrintsPlan, FindsPlan, ShowsPlan}
+use Rattle.msat_cli.specs.Plans.{AsksPlan, PrintsPlan, ShowsPlan}
 use Rattle.msat_cli.proofs.EndLemmas.{told_answer, ends_as_answered}
 use Rattle.msat_cli.proofs.SatisfactionLemmas.{second_of_two}
 
@@ -47,7 +47,7 @@ read_reply : (source : Bytes) (tree : Tree) (file : PlanFile) → length source 
     → plan_reply source tree ≡ planned_reply (plan_by tree file)
 read_reply source tree file short given =
     second_of_two (nat_lt MOST_FILE (length source)) _ _ (le-ltb MOST_FILE (length source) short)
-    ∙ ap (unless_refused plan_file_line (λ (f : PlanFile). planned_reply (plan_of tree f.assets f.table))) given
+    ∙ ap (with_file plan_file_line (λ (f : PlanFile). planned_reply (plan_of tree f.assets f.table))) given
 
 -- so it is the one reply to a text that passes
 one_reply : (call : Call) (tree : Tree) (file : PlanFile) (r : Reply) (asked : AsksPlan call tree file) → HaveUtf8 call.words

@@ -13,7 +13,7 @@ use Rattle.def_assets.specs.Assets.{Assets}
 use Rattle.def_files.specs.AssetFile.{assets_of}
 use Rattle.def_files.proofs.Given.{asset_file_gives_assets}
 use Rattle.def_choice.specs.Strict.{strict}
-use Rattle.ms_laws.proofs.StrictFound.{strict_exists}
+use Rattle.ms_strict_laws.proofs.StrictChoiceExists.{strict_exists}
 use Rattle.ms_policy_laws.proofs.Satisfied.{policy_of_sane}
 use Rattle.def_answer.specs.declared.status.Status.TheVariants as status
 use Rattle.def_answer.specs.Answer.{Replies, RepliesToWords, Answer}

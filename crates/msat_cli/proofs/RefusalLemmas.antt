@@ -1,11 +1,10 @@
 -- Texts of `satisfy` that are refused.
-use Rattle.std.proofs.Common.{◌≡◌, ◌≢◌, inl, inr, ℕ, List, [], None, Some, refl, sym, ap, subst, ◌∙◌}
+use Rattle.std.proofs.Common.{◌≡◌, inl, inr, ℕ, List, [], None, Some, refl, sym, ap, subst, ◌∙◌}
 use Rattle.std.specs.Io.KnownBytes.{Appends}
 use Rattle.std.specs.Str.{IsUtf8}
 use Rattle.def_script.specs.Bytes.{Bytes}
 use Rattle.def_tree.specs.Tree.{Tree}
 use Rattle.def_text.specs.declared.TextFault.{TextFault}
-use Rattle.def_text.specs.declared.TextFault.TheVariants.{Memory}
 use Rattle.def_text.specs.Refusal.{TextReads, TextRefusal}
 use Rattle.def_sane.specs.declared.Unfit.{Unfit}
 use Rattle.def_choice.specs.Cheapest.{cheapest}
@@ -51,10 +50,10 @@ not_read : (choice : Choice) (text : Bytes) (words : List Bytes) → IsForm word
 not_read choice text words form never reads =
     never (subst NeedsSource (one_form words reads.0 (satisfy_by choice text) reads.1 form) reads.2)
 
-replies_fault : (choice : Choice) (text : Bytes) (fault : TextFault) → fault ≢ Memory → TextRefusal text fault
+replies_fault : (choice : Choice) (text : Bytes) (fault : TextFault) → TextRefusal text fault
     → Replies (satisfy_by choice text) [] (reply status.TextRefused (text_line fault))
-replies_fault (choice.Strict rules) text fault known refusal = (refused fault, (known, refusal), refl)
-replies_fault (choice.Cheapest rules) text fault known refusal = (refused fault, (known, refusal), refl)
+replies_fault (choice.Strict rules) text fault refusal = (refused fault, refusal, refl)
+replies_fault (choice.Cheapest rules) text fault refusal = (refused fault, refusal, refl)
 
 replies_unfit : (choice : Choice) (text : Bytes) (tree : Tree) (offsets : List ℕ) (unfit : Unfit) → TextReads text tree offsets
     → reason_by choice tree ≡ Some unfit → Replies (satisfy_by choice text) [] (reply status.TextRefused (unfit_line offsets unfit))
@@ -69,10 +68,10 @@ utf8_text (choice.Cheapest rules) text words utf8 form = utf8 _ form
 
 pub refuses_other_texts : (call : Call) → HaveUtf8 call.words → Ends call → RefusesOtherTexts call
 refuses_other_texts call utf8 e choice text form = (
-  λ fault known refusal.
+  λ fault refusal.
       refuses call (text_line fault) utf8 e
-      (not_read choice text call.words form (no_source (kind.Satisfy choice) text fault (utf8_text choice text call.words utf8 form) known refusal))
-      (record { replies = inl (satisfy_by choice text, form, replies_fault choice text fault known refusal) }),
+      (not_read choice text call.words form (no_source (kind.Satisfy choice) text fault (utf8_text choice text call.words utf8 form) refusal))
+      (record { replies = inl (satisfy_by choice text, form, replies_fault choice text fault refusal) }),
   λ tree offsets unfit reads is.
       refuses call (unfit_line offsets unfit) utf8 e
       (not_read choice text call.words form

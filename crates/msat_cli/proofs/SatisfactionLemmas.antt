@@ -21,20 +21,20 @@ use Rattle.def_sane.specs.declared.Rules.TheVariants.{Consensus}
 use Rattle.def_sane.specs.Unfit.{first_unfit_under, first_unfit_valid_under, IsValidUnder, IsSaneUnder}
 use Rattle.def_sane.proofs.Greatest.{limits_are_computed}
 use Rattle.def_sane.proofs.Meanings.{sane_means_under, valid_under_consensus, sane_under_consensus}
-use Rattle.def_satisfaction.specs.Weight.{weight}
+use Rattle.def_script.specs.Witness.{weight}
 use Rattle.def_satisfaction.specs.Satisfaction.{Sat}
 use Rattle.def_choice.specs.Cheapest.{cheapest}
 use Rattle.def_choice.specs.Strict.{strict}
 use Rattle.def_choice.proofs.Chosen.{cheapest_is_lightest, strict_is_canonical}
 use Rattle.def_promises.specs.Promises.{Unchangeable}
 use Rattle.def_promises.proofs.FreshItems.{fresh_has_item}
-use Rattle.ms_laws.proofs.Accepted.{canonical_is_accepted}
-use Rattle.ms_laws.proofs.StrictFound.{strict_exists}
-use Rattle.ms_laws.proofs.Unchanged.{strict_is_unchangeable, nothing_to_accept}
+use Rattle.ms_acceptance_laws.proofs.Accepted.{canonical_is_accepted}
+use Rattle.ms_strict_laws.proofs.StrictChoiceExists.{strict_exists}
+use Rattle.ms_strict_laws.proofs.TightIsUnchangeable.{strict_is_unchangeable, nothing_to_accept}
 use Rattle.def_answer.specs.Answer.{RepliesToText, Replies, RepliesToWords, Answer}
 use Rattle.def_answer.specs.Lines.{script_line, program_line, file_line}
 use Rattle.def_answer.specs.Reading.{read}
-use Rattle.def_answer.specs.Reply.{Reply, reply, unless_unfit, unless_refused, MOST_FILE, chosen_reply, satisfy_reply}
+use Rattle.def_answer.specs.Reply.{Reply, reply, unless_unfit, with_file, MOST_FILE, chosen_reply, satisfy_reply}
 use Rattle.def_answer.specs.Report.{item_line, tree_limits_line, witness_line, satisfy_report, replay, replay_line}
 use Rattle.def_answer.specs.declared.status.Status.{Status}
 use Rattle.def_answer.specs.declared.status.Status.TheVariants as status
@@ -102,7 +102,7 @@ pub read_reply : (rules : Rules) (choose : Tree → Assets → Option (List Byte
     → assets_of source ≡ Ok assets → satisfy_reply rules choose source tree ≡ chosen_reply rules tree assets (choose tree assets)
 read_reply rules choose source tree assets short file =
     second_of_two (nat_lt MOST_FILE (length source)) _ _ (le-ltb MOST_FILE (length source) short)
-    ∙ ap (unless_refused file_line (λ assets. chosen_reply rules tree assets (choose tree assets))) file
+    ∙ ap (with_file file_line (λ assets. chosen_reply rules tree assets (choose tree assets))) file
 
 -- so it is the one reply to a text that passes
 one_reply : (choice : Choice) (call : Call) (tree : Tree) (assets : Assets) (r : Reply) (asked : IsAsked choice call tree assets) → HaveUtf8 call.words

@@ -26,7 +26,6 @@ use Rattle.def_answer.proofs.Unique.{one_form}
 use Rattle.ms_report.specs.declared.answer.Answer.{Answer}
 use Rattle.msat_cli.specs.declared.answer.Stop.{Stop}
 use Rattle.msat_cli.specs.declared.answer.Stop.TheVariants as stop
-use Rattle.ms_words.specs.declared.words.Choice.{Choice}
 use Rattle.ms_words.specs.declared.words.Choice.TheVariants as choice
 use Rattle.ms_words.specs.declared.words.TextCommand.{TextCommand}
 use Rattle.ms_words.specs.declared.words.TextCommand.TheVariants as kind
@@ -40,7 +39,7 @@ use Rattle.ms_replies.specs.declared.fit.Demand.TheVariants as demand
 use Rattle.ms_replies.specs.declared.fit.Known.{Known}
 use Rattle.ms_replies.specs.declared.fit.Known.TheVariants as known
 use Rattle.ms_replies.specs.Fits.{reason_for, IsKnown, limits_in}
-use Rattle.msat_cli.specs.Steps.{reason_of, reply_of, ReadsFor, Answers, AnswersWords, AnswersFile, AnswersTree, AsDone, IsRefusal, Ended}
+use Rattle.msat_cli.specs.Scaffolding.Steps.{reason_of, reply_of, ReadsFor, Answers, AnswersWords, AnswersFile, AnswersTree, AsDone, IsRefusal, Ended}
 
 -- a step ends as another one does
 pub ended : (P Q : Reply → Type 0) (A B C D : Type 0) → ((r : Reply) → P r → Q r) → (A → C) → (B → D)
@@ -135,44 +134,44 @@ tree_ended kind text tree offsets source result reads h =
 
 -- ---- texts that are refused
 
-pub no_source : (kind : TextCommand) (text : Bytes) (fault : TextFault) → IsUtf8 text → fault ≢ Memory → TextRefusal text fault
+pub no_source : (kind : TextCommand) (text : Bytes) (fault : TextFault) → IsUtf8 text → TextRefusal text fault
     → ¬ NeedsSource (command_of kind text)
-no_source (kind.Script rules) text fault utf8 known refusal h = h
-no_source (kind.Check rules) text fault utf8 known refusal h = h
-no_source (kind.Satisfy (choice.Strict rules)) text fault utf8 known refusal h = absurd (none_beside_tree text h.0 h.1 fault utf8 known h.2 refusal)
-no_source (kind.Satisfy (choice.Cheapest rules)) text fault utf8 known refusal h = absurd (none_beside_tree text h.0 h.1 fault utf8 known h.2 refusal)
-no_source kind.Policy text fault utf8 known refusal h = h
-no_source kind.Plan text fault utf8 known refusal h = absurd (none_beside_tree text h.0 h.1 fault utf8 known h.2 refusal)
-no_source kind.Audit text fault utf8 known refusal h = absurd (none_beside_tree text h.0 h.1 fault utf8 known h.2 refusal)
+no_source (kind.Script rules) text fault utf8 refusal h = h
+no_source (kind.Check rules) text fault utf8 refusal h = h
+no_source (kind.Satisfy (choice.Strict rules)) text fault utf8 refusal h = absurd (none_beside_tree text h.0 h.1 fault utf8 h.2 refusal)
+no_source (kind.Satisfy (choice.Cheapest rules)) text fault utf8 refusal h = absurd (none_beside_tree text h.0 h.1 fault utf8 h.2 refusal)
+no_source kind.Policy text fault utf8 refusal h = h
+no_source kind.Plan text fault utf8 refusal h = absurd (none_beside_tree text h.0 h.1 fault utf8 h.2 refusal)
+no_source kind.Audit text fault utf8 refusal h = absurd (none_beside_tree text h.0 h.1 fault utf8 h.2 refusal)
 
 replies_refused : (kind : TextCommand) (text bytes : Bytes) (fault : TextFault) (r : Reply) → TextRefusal text fault → IsRefusal fault r
     → Replies (command_of kind text) bytes r
-replies_refused (kind.Script rules) text bytes fault r refusal is = (refused fault, (is.0, refusal), is.1)
-replies_refused (kind.Check rules) text bytes fault r refusal is = (refused fault, (is.0, refusal), is.1)
-replies_refused (kind.Satisfy (choice.Strict rules)) text bytes fault r refusal is = (refused fault, (is.0, refusal), is.1)
-replies_refused (kind.Satisfy (choice.Cheapest rules)) text bytes fault r refusal is = (refused fault, (is.0, refusal), is.1)
-replies_refused kind.Policy text bytes fault r refusal is = (refused fault, (is.0, refusal), is.1)
-replies_refused kind.Plan text bytes fault r refusal is = (refused fault, (is.0, refusal), is.1)
-replies_refused kind.Audit text bytes fault r refusal is = (refused fault, [], (is.0, refusal), tt, is.1)
+replies_refused (kind.Script rules) text bytes fault r refusal is = (refused fault, refusal, is.1)
+replies_refused (kind.Check rules) text bytes fault r refusal is = (refused fault, refusal, is.1)
+replies_refused (kind.Satisfy (choice.Strict rules)) text bytes fault r refusal is = (refused fault, refusal, is.1)
+replies_refused (kind.Satisfy (choice.Cheapest rules)) text bytes fault r refusal is = (refused fault, refusal, is.1)
+replies_refused kind.Policy text bytes fault r refusal is = (refused fault, refusal, is.1)
+replies_refused kind.Plan text bytes fault r refusal is = (refused fault, refusal, is.1)
+replies_refused kind.Audit text bytes fault r refusal is = (refused fault, [], refusal, tt, is.1)
 
 -- a text that isn't refused as too long isn't
-short_fault : (text : Bytes) (fault : TextFault) → fault ≢ TooLong → TextRefusal text fault → (fault ≡ Memory → length text ≤ MOST_BYTES)
+short_fault : (text : Bytes) (fault : TextFault) → fault ≢ TooLong → (fault ≢ Memory → TextRefusal text fault) → (fault ≡ Memory → length text ≤ MOST_BYTES)
     → length text ≤ MOST_BYTES
 short_fault text TooLong other refusal memory = absurd (other refl)
-short_fault text (Syntax at) other refusal memory = refusal.0
-short_fault text (TooDeep at) other refusal memory = refusal.0
+short_fault text (Syntax at) other refusal memory = (refusal (λ e. cc)).0
+short_fault text (TooDeep at) other refusal memory = (refusal (λ e. cc)).0
 short_fault text Memory other refusal memory = memory refl
 
 pub refused_ended : (kind : TextCommand) (text : Bytes) (fault : TextFault) (source : Side) (F : Type 0) (result : Result Answer Stop)
-    → IsUtf8 text → TextRefusal text fault → (fault ≡ Memory → length text ≤ MOST_BYTES) → IsUnread source
+    → IsUtf8 text → (fault ≢ Memory → TextRefusal text fault) → (fault ≡ Memory → length text ≤ MOST_BYTES) → IsUnread source
     → Ended (IsRefusal fault) ⊥ (fault ≢ TooLong) result
     → Ended (Answers (command_of kind text) source) F (HasShortText (command_of kind text)) result
 refused_ended kind text fault source F result utf8 refusal memory unread h =
     ended (IsRefusal fault) (Answers (command_of kind text) source) ⊥ (fault ≢ TooLong) F (HasShortText (command_of kind text))
     (λ r is. inl (record {
-      needless = no_source kind text fault utf8 is.0 refusal;
+      needless = no_source kind text fault utf8 (refusal is.0);
       unread = unread;
-      replies = λ bytes. replies_refused kind text bytes fault r refusal is;
+      replies = λ bytes. replies_refused kind text bytes fault r (refusal is.0) is;
     }))
     (λ f. absurd f) (λ other. short_text kind text (short_fault text fault other refusal memory)) result h
 

@@ -1,8 +1,8 @@
 pub mod Sides
-pub mod Steps
 pub mod Ends
 pub mod Satisfactions
 pub mod Plans
 pub mod Audits
 pub mod Policies
 pub mod Decodings
+pub mod Scaffolding

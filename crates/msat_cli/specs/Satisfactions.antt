@@ -1,24 +1,22 @@
 -- What a call of `msat` for `satisfy TEXT` or `satisfy --malleable TEXT`, by policy or with `--consensus`, shows of a
 -- satisfaction.
-use Rattle.std.specs.Prelude.{◌≡◌, ◌≢◌, ◌⊎◌, ℕ, ◌≤◌, ◌∷◌, ◌++◌, List, length, flat_map, codes, decimal, None, Some, Ok}
+use Rattle.std.specs.Prelude.{◌≡◌, ◌⊎◌, ℕ, ◌≤◌, ◌∷◌, ◌++◌, List, length, flat_map, codes, decimal, None, Some, Ok}
 use Rattle.std.specs.Io.KnownBytes.{Appends}
 use Rattle.hex.specs.Hex.{encode_lower}
 use Rattle.def_hash.specs.Hash.{sha256}
 use Rattle.def_script.specs.Bytes.{Bytes}
-use Rattle.def_script.specs.Witness.{witness_text}
+use Rattle.def_script.specs.Witness.{witness_text, weight}
 use Rattle.def_machine.specs.Stacks.{Pairs}
 use Rattle.def_machine.specs.Run.{run, accepted}
 use Rattle.def_tree.specs.Tree.{Tree}
 use Rattle.def_emit.specs.Emit.{script_of}
 use Rattle.def_text.specs.declared.TextFault.{TextFault}
-use Rattle.def_text.specs.declared.TextFault.TheVariants.{Memory}
 use Rattle.def_text.specs.Refusal.{TextReads, TextRefusal}
 use Rattle.def_sane.specs.declared.Rules.{Rules}
 use Rattle.def_sane.specs.declared.Unfit.{Unfit}
 use Rattle.def_assets.specs.Assets.{Assets}
 use Rattle.def_files.specs.AssetFile.{assets_of}
 use Rattle.def_sane.specs.Most.{limits_of}
-use Rattle.def_satisfaction.specs.Weight.{weight}
 use Rattle.def_satisfaction.specs.Satisfaction.{given_of, Sat, Holds}
 use Rattle.def_choice.specs.NonMalleable.{IsAccepted, Fresh, given_with}
 use Rattle.def_promises.specs.Acceptance.{IsAcceptedWithin}
@@ -72,7 +70,7 @@ pub record RefusesText (call : Call) (refusal : Bytes) : Type 0 where
 abbrev pub RefusesOtherTexts : Call → Type 0
 RefusesOtherTexts call =
     (choice : Choice) (text : Bytes) → IsForm call.words (satisfy_by choice text) →
-    ((fault : TextFault) → fault ≢ Memory → TextRefusal text fault → RefusesText call (text_line fault))
+    ((fault : TextFault) → TextRefusal text fault → RefusesText call (text_line fault))
     × ((tree : Tree) (offsets : List ℕ) (unfit : Unfit) → TextReads text tree offsets → reason_by choice tree ≡ Some unfit →
     RefusesText call (unfit_line offsets unfit))
 

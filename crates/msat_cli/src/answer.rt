@@ -2,11 +2,9 @@
 ghost use Rattle.std.specs.Prelude.{◌≤◌};
 ghost use Rattle.def_answer.specs.Sources.{NeedsSource, ReadsSource};
 ghost use Rattle.def_answer.specs.Words.{IsCommand};
-ghost use Rattle.ms_io.specs.Faults.{Rose};
 ghost use Rattle.msat_cli.specs.Sides.{side, ReadsFront, IsUnread};
 ghost use Rattle.ms_words.specs.Commands.{seen, HaveUtf8};
-ghost use Rattle.msat_cli.specs.Steps.{Answers, AnswersWords, Ended, AsMade};
-ghost use Rattle.msat_cli.specs.Ends.{HasShortText, TakesMemory};
+ghost use Rattle.msat_cli.specs.Scaffolding.Steps.{AsMade, EndsCommand, EndsWords};
 
 use crate::source::answer_run;
 use crate::texts::answer_text;
@@ -22,10 +20,15 @@ use std::alloc::{AllocError, Global};
 /// for all, and takes no memory.
 #[derive(Clone, Copy, Debug, PartialEq, Eq)]
 pub enum Stop {
+    /// The words have no form.
     Usage,
+    /// The text has more than 65,536 bytes.
     TextTooLong,
+    /// The source has more bytes than a file may have.
     FileTooLong,
+    /// A read of the source failed.
     ReadFault,
+    /// There was no memory.
     Memory,
 }
 
@@ -36,7 +39,7 @@ pub fn answer_words<S: Source>(
     words: &[Word],
     source: &mut S,
 ) -> Result<Answer, Stop>
-    ensures answer { Ended (AnswersWords words.now (side S.left S.faults source.old source.new)) (ReadsSource words.now × Rose (S.faults source.old) (S.faults source.new)) (TakesMemory words.now) result }
+    ensures answer { EndsWords words.now (side S.left S.faults source.old source.new) result }
     ensures utf8 { HaveUtf8 words.now }
     ensures later { S.faults source.old ≤ S.faults source.new }
     ensures front { ReadsFront (S.left source.old) (S.left source.new) }
@@ -57,7 +60,7 @@ fn answer_command<S: Source>(
     source: &mut S,
 ) -> Result<Answer, Stop>
     requires { IsCommand (seen command) }
-    ensures answer { Ended (Answers (seen command.entry) (side S.left S.faults source.old source.new)) (NeedsSource (seen command.entry) × Rose (S.faults source.old) (S.faults source.new)) (HasShortText (seen command.entry)) result }
+    ensures answer { EndsCommand (seen command.entry) (side S.left S.faults source.old source.new) result }
     ensures later { S.faults source.old ≤ S.faults source.new }
     ensures front { ReadsFront (S.left source.old) (S.left source.new) }
     ensures unread { ¬ NeedsSource (seen command.entry) → IsUnread (side S.left S.faults source.old source.new) }

@@ -6,6 +6,7 @@ pub use laws::{msat_without_faults, policy_tells_satisfied};
 pub use ms_generator::generated;
 pub use ms_words::Word;
 pub use program::msat;
+pub use source::MOST_FILE;
 
 mod answer;
 mod laws;

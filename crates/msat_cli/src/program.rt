@@ -1,8 +1,9 @@
+//! The top call: the answer to words and a source, written to a sink.
 ghost use Rattle.std.specs.Prelude.{◌≡◌, ◌≤◌};
 ghost use Rattle.def_answer.specs.Sources.{ReadsSource, IsOfSource};
 ghost use Rattle.ms_io.specs.Faults.{Rose};
 ghost use Rattle.msat_cli.specs.Sides.{side, ReadsFront, IsUnread};
-ghost use Rattle.msat_cli.specs.Steps.{Writes, WritesResult};
+ghost use Rattle.msat_cli.specs.Scaffolding.Steps.{Writes, WritesResult};
 ghost use Rattle.msat_cli.specs.Ends.{call, Ends, EndsAsUsage, EndsAsAnswered, IsReadFor};
 ghost use Rattle.msat_cli.specs.Audits.{ShowsAudit};
 ghost use Rattle.msat_cli.specs.Decodings.{ShowsReading};

@@ -1,15 +1,14 @@
 //! The file that the source holds, and what is answered to it.
-ghost use Rattle.std.specs.Prelude.{◌≡◌, ◌≤◌, ⊤, None, length, IfOk, IfErr};
+ghost use Rattle.std.specs.Prelude.{◌≡◌, ◌≤◌, None, length, IfOk, IfErr};
 ghost use Rattle.def_tree.specs.Range.{IsInRange};
 ghost use Rattle.def_sane.specs.Unfit.{IsSane, IsValid};
 ghost use Rattle.def_answer.specs.Laws.{walked};
 ghost use Rattle.def_answer.specs.Reply.{MOST_FILE as most_file, satisfy_reply, run_reply, plan_reply, audit_reply};
 ghost use Rattle.def_answer.specs.Report.{tree_limits_line};
 ghost use Rattle.ms_tree.specs.Shape.{shape};
-ghost use Rattle.ms_io.specs.Faults.{Rose};
 ghost use Rattle.ms_replies.specs.Choices.{chosen_by, rules_by, reason_by};
 ghost use Rattle.msat_cli.specs.Sides.{side, ReadsFront, Held};
-ghost use Rattle.msat_cli.specs.Steps.{StopsReading, AnswersFile, Ended};
+ghost use Rattle.msat_cli.specs.Scaffolding.Steps.{StopsReading, EndsFile};
 
 use crate::answer::{Stop, or_memory};
 use ms_io::{ReadStop, Source, read_all};
@@ -21,7 +20,7 @@ use ms_words::Choice;
 use std::alloc::Global;
 
 /// How many bytes a file may have.
-const MOST_FILE: usize = 1_048_576;
+pub const MOST_FILE: usize = 1_048_576;
 
 /// Answers with the satisfaction of a tree by the assets of the file that the source holds. There is no reason
 /// against the tree, and `limits` is the line of its limits.
@@ -35,7 +34,7 @@ pub fn answer_satisfaction<S: Source>(
     requires in_range { IsInRange (shape tree.now) }
     requires fit { reason_by choice (shape tree.now) ≡ None }
     requires limits { limits.now ≡ tree_limits_line (rules_by choice) (shape tree.now) }
-    ensures answer { Ended (AnswersFile (λ bytes. satisfy_reply (rules_by choice) (chosen_by choice) bytes (shape tree.now)) (side S.left S.faults source.old source.new)) (Rose (S.faults source.old) (S.faults source.new)) ⊤ result }
+    ensures answer { EndsFile (λ bytes. satisfy_reply (rules_by choice) (chosen_by choice) bytes (shape tree.now)) (side S.left S.faults source.old source.new) result }
     ensures later { S.faults source.old ≤ S.faults source.new }
     ensures front { ReadsFront (S.left source.old) (S.left source.new) }
 {
@@ -53,7 +52,7 @@ pub fn answer_plan<S: Source>(
 ) -> Result<Answer, Stop>
     requires in_range { IsInRange (shape tree.now) }
     requires sane { IsSane (shape tree.now) }
-    ensures answer { Ended (AnswersFile (λ bytes. plan_reply bytes (shape tree.now)) (side S.left S.faults source.old source.new)) (Rose (S.faults source.old) (S.faults source.new)) ⊤ result }
+    ensures answer { EndsFile (λ bytes. plan_reply bytes (shape tree.now)) (side S.left S.faults source.old source.new) result }
     ensures later { S.faults source.old ≤ S.faults source.new }
     ensures front { ReadsFront (S.left source.old) (S.left source.new) }
 {
@@ -71,7 +70,7 @@ pub fn answer_audit<S: Source>(
 ) -> Result<Answer, Stop>
     requires in_range { IsInRange (shape text.now.tree) }
     requires valid { IsValid (shape text.now.tree) }
-    ensures answer { Ended (AnswersFile (λ bytes. audit_reply text.now.offsets.items (walked (shape text.now.tree) bytes) bytes (shape text.now.tree)) (side S.left S.faults source.old source.new)) (Rose (S.faults source.old) (S.faults source.new)) ⊤ result }
+    ensures answer { EndsFile (λ bytes. audit_reply text.now.offsets.items (walked (shape text.now.tree) bytes) bytes (shape text.now.tree)) (side S.left S.faults source.old source.new) result }
     ensures later { S.faults source.old ≤ S.faults source.new }
     ensures front { ReadsFront (S.left source.old) (S.left source.new) }
 {
@@ -83,7 +82,7 @@ pub fn answer_audit<S: Source>(
 
 /// Answers the run of the file that the source holds.
 pub fn answer_run<S: Source>(alloc: Global, source: &mut S) -> Result<Answer, Stop>
-    ensures answer { Ended (AnswersFile run_reply (side S.left S.faults source.old source.new)) (Rose (S.faults source.old) (S.faults source.new)) ⊤ result }
+    ensures answer { EndsFile run_reply (side S.left S.faults source.old source.new) result }
     ensures later { S.faults source.old ≤ S.faults source.new }
     ensures front { ReadsFront (S.left source.old) (S.left source.new) }
 {

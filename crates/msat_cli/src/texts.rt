@@ -1,11 +1,10 @@
 //! What is answered to a text.
-ghost use Rattle.std.specs.Prelude.{◌≡◌, ◌≢◌, ◌*◌, ◌≤◌, ⊤, IfOk, vec_len};
+ghost use Rattle.std.specs.Prelude.{◌≡◌, ◌≢◌, ◌*◌, ◌≤◌, IfOk, vec_len};
 ghost use Rattle.std.specs.String.{string_bytes};
 ghost use Rattle.def_tree.specs.Range.{IsInRange};
 ghost use Rattle.def_tree.specs.Size.{measure};
 ghost use Rattle.ms_tree.specs.Shape.{shape};
 ghost use Rattle.ms_sane.specs.Place.{IsOfTree};
-ghost use Rattle.ms_io.specs.Faults.{Rose};
 ghost use Rattle.def_answer.specs.Lines.{unfit_line as the_unfit_line};
 ghost use Rattle.def_answer.specs.Reply.{reply, satisfy_reply};
 ghost use Rattle.def_answer.specs.Report.{check_report as the_check_report};
@@ -14,8 +13,7 @@ ghost use Rattle.ms_words.specs.Commands.{command_of};
 ghost use Rattle.ms_replies.specs.Fits.{demand_by, demand_of as the_demand_of, IsKnown};
 ghost use Rattle.msat_cli.specs.Sides.{side, ReadsFront, IsUnread};
 ghost use Rattle.ms_replies.specs.Choices.{rules_by, chosen_by};
-ghost use Rattle.msat_cli.specs.Steps.{ReadsFor, Answers, AnswersFile, AnswersTree, AsDone, IsRefusal, Ended};
-ghost use Rattle.msat_cli.specs.Ends.{HasShortText};
+ghost use Rattle.msat_cli.specs.Scaffolding.Steps.{ReadsFor, AsDone, IsRefusal, Ended, EndsFile, EndsTree, EndsCommand};
 
 use crate::answer::{Stop, or_memory};
 use crate::source::{answer_audit, answer_plan, answer_satisfaction};
@@ -41,7 +39,7 @@ pub fn answer_text<S: Source>(
     text: &str,
     source: &mut S,
 ) -> Result<Answer, Stop>
-    ensures answer { Ended (Answers (command_of kind text.now) (side S.left S.faults source.old source.new)) (NeedsSource (command_of kind text.now) × Rose (S.faults source.old) (S.faults source.new)) (HasShortText (command_of kind text.now)) result }
+    ensures answer { EndsCommand (command_of kind text.now) (side S.left S.faults source.old source.new) result }
     ensures later { S.faults source.old ≤ S.faults source.new }
     ensures front { ReadsFront (S.left source.old) (S.left source.new) }
     ensures unread { ¬ NeedsSource (command_of kind text.now) → IsUnread (side S.left S.faults source.old source.new) }
@@ -60,7 +58,7 @@ fn answer_tree<S: Source>(
     source: &mut S,
 ) -> Result<Answer, Stop>
     requires { IsInRange (shape text.now.tree) }
-    ensures answer { Ended (AnswersTree kind (shape text.now.tree) text.now.offsets.items (side S.left S.faults source.old source.new)) (ReadsFor kind (shape text.now.tree) × Rose (S.faults source.old) (S.faults source.new)) ⊤ result }
+    ensures answer { EndsTree kind (shape text.now.tree) text.now.offsets.items (side S.left S.faults source.old source.new) result }
     ensures later { S.faults source.old ≤ S.faults source.new }
     ensures front { ReadsFront (S.left source.old) (S.left source.new) }
     ensures unread { ¬ ReadsFor kind (shape text.now.tree) → IsUnread (side S.left S.faults source.old source.new) }
@@ -83,7 +81,7 @@ fn answer_fit<S: Source>(
     requires in_range { IsInRange (shape text.now.tree) }
     requires known { IsKnown (the_demand_of kind) (shape text.now.tree) fit.known }
     requires room { 4 * measure (shape text.now.tree) ≤ vec_len fit.work.slots }
-    ensures answer { Ended (AnswersTree kind (shape text.now.tree) text.now.offsets.items (side S.left S.faults source.old source.new)) (ReadsFor kind (shape text.now.tree) × Rose (S.faults source.old) (S.faults source.new)) ⊤ result }
+    ensures answer { EndsTree kind (shape text.now.tree) text.now.offsets.items (side S.left S.faults source.old source.new) result }
     ensures later { S.faults source.old ≤ S.faults source.new }
     ensures front { ReadsFront (S.left source.old) (S.left source.new) }
     ensures unread { ¬ ReadsFor kind (shape text.now.tree) → IsUnread (side S.left S.faults source.old source.new) }
@@ -141,7 +139,7 @@ fn answer_satisfy<S: Source>(
     requires in_range { IsInRange (shape tree.now) }
     requires known { IsKnown (demand_by choice) (shape tree.now) fit.known }
     requires room { 4 * measure (shape tree.now) ≤ vec_len fit.work.slots }
-    ensures answer { Ended (AnswersFile (λ bytes. satisfy_reply (rules_by choice) (chosen_by choice) bytes (shape tree.now)) (side S.left S.faults source.old source.new)) (Rose (S.faults source.old) (S.faults source.new)) ⊤ result }
+    ensures answer { EndsFile (λ bytes. satisfy_reply (rules_by choice) (chosen_by choice) bytes (shape tree.now)) (side S.left S.faults source.old source.new) result }
     ensures later { S.faults source.old ≤ S.faults source.new }
     ensures front { ReadsFront (S.left source.old) (S.left source.new) }
 {

@@ -1,21 +1,14 @@
-use crate::text_tests::{repeated, written};
+//! What `gen` makes of a number, and what is answered to it.
+
+use crate::asking::is_done;
 use ms_hash::{HashVal, sha256};
-use ms_oracle::Locks;
-use msat_cli::{Status, generated};
-use std::alloc::Global;
+use ms_oracle::{Locks, SigPair};
+use msat_cli::generated;
+use std::alloc::{AllocError, Global};
 use std::test::Fail;
 
 // SHA-256 of 32 bytes 03, by Python's hashlib over OpenSSL.
 const VALUE_3: &str = "648aa5c579fb30f38af744d97d6ec840c7a91277a499a0d780f3e7314eca090b";
-
-/// The report of `gen` with this number.
-fn report(alloc: Global, n: &str) -> Result<String, Fail> {
-    let (status, report) = written(alloc, &["gen", n], 1_048_576, 1_048_576, &[])?;
-    if status != Status::Done {
-        return Err("the status")?;
-    }
-    Ok(report)
-}
 
 #[test]
 fn thirty_children(rt: HostRuntime) -> Result<(), Fail> {
@@ -23,8 +16,7 @@ fn thirty_children(rt: HostRuntime) -> Result<(), Fail> {
         limits size 1200 ops 161 items 30 weight 1125\n\
         strict items 30 weight 738 peak 31\n\
         cheapest items 30 weight 738\n";
-    assert_eq!(rt; report(rt.alloc(), "30")?.as_str(), wanted);
-    Ok(())
+    is_done(&rt, rt.alloc(), &["gen", "30"], b"", wanted)
 }
 
 #[test]
@@ -33,54 +25,63 @@ fn few_children(rt: HostRuntime) -> Result<(), Fail> {
         limits size 158 ops 19 items 4 weight 150\n\
         strict items 4 weight 106 peak 5\n\
         cheapest items 4 weight 106\n";
-    assert_eq!(rt; report(rt.alloc(), "4")?.as_str(), four);
+    is_done(&rt, rt.alloc(), &["gen", "4"], b"", four)?;
     let one = "children 1 threshold 1\n\
         limits size 37 ops 2 items 1 weight 74\n\
         strict items 1 weight 71 peak 2\n\
         cheapest items 1 weight 71\n";
-    assert_eq!(rt; report(rt.alloc(), "1")?.as_str(), one);
-    Ok(())
+    is_done(&rt, rt.alloc(), &["gen", "1"], b"", one)
+}
+
+/// Adds the digits of a key: 02, and 32 times the same byte.
+fn push_key(alloc: Global, text: &mut String, byte: &str) -> Result<(), AllocError> {
+    text.push_str("02")?;
+    text.push_str(byte.repeat(alloc, 32)?.as_str())
 }
 
 #[test]
 fn text_of_four_children(rt: HostRuntime) -> Result<(), Fail> {
     let alloc = rt.alloc();
+    let mut wanted = String::from_str(alloc, "thresh(2")?;
+    for (before, byte) in [(",pk(", "01"), (",s:pk(", "02"), (",s:pk(", "03")] {
+        wanted.push_str(before)?;
+        push_key(alloc, &mut wanted, byte)?;
+        wanted.push(')')?;
+    }
+    wanted.push_str(",aj:and_v(v:sha256(")?;
+    wanted.push_str(VALUE_3)?;
+    wanted.push_str("),1))")?;
     let (text, _) = generated(alloc, 4)?;
-    let (zero, one, two) = (
-        repeated(alloc, "01", 32)?,
-        repeated(alloc, "02", 32)?,
-        repeated(alloc, "03", 32)?,
-    );
-    let wanted = format!(in alloc;
-        "thresh(2,pk(02{zero}),s:pk(02{one}),s:pk(02{two}),aj:and_v(v:sha256({VALUE_3}),1))"
-    )?;
     assert_eq!(rt; text.as_str(), wanted.as_str());
     Ok(())
 }
 
+/// Whether there is a pair of the key with these bytes behind a first byte 02 and of this signature.
+fn is_pair(pair: Option<&SigPair>, key: &[u8], sig: &[u8]) -> bool {
+    let Some(pair) = pair else {
+        return false;
+    };
+    pair.key().first() == Some(&2) && pair.key().get(1..) == Some(key) && pair.sig() == sig
+}
+
 #[test]
 fn assets_of_four_children(rt: HostRuntime) -> Result<(), Fail> {
-    let alloc = rt.alloc();
-    let (_, assets) = generated(alloc, 4)?;
+    let (_, assets) = generated(rt.alloc(), 4)?;
     let locks = Locks {
         version: 2,
         sequence: 4_294_967_294,
         locktime: 0,
     };
     assert_eq!(rt; assets.locks(), locks);
-    let wanted = [
-        ("01", "00", 70),
-        ("02", "01", 71),
-        ("03", "02", 72),
-        ("04", "03", 73),
+    let wanted: [(&[u8], &[u8]); 4] = [
+        (&[1; 32], &[0; 70]),
+        (&[2; 32], &[1; 71]),
+        (&[3; 32], &[2; 72]),
+        (&[4; 32], &[3; 73]),
     ];
     assert_eq!(rt; assets.pairs().len(), 4);
-    for (pair, (key, sig, length)) in assets.pairs().iter().zip(wanted) {
-        let digits = hex::encode(alloc, pair.key())?;
-        let key = format!(in alloc; "02{}", repeated(alloc, key, 32)?.as_str())?;
-        assert_eq!(rt; digits.as_str(), key.as_str());
-        let digits = hex::encode(alloc, pair.sig())?;
-        assert_eq!(rt; digits.as_str(), repeated(alloc, sig, length)?.as_str());
+    for (at, (key, sig)) in wanted.iter().enumerate() {
+        assert!(rt; is_pair(assets.pairs().get(at), key, sig));
     }
     for i in 0..4_u8 {
         let value = HashVal::Sha256(sha256(&[i; 32]));

@@ -3,7 +3,11 @@
 #![tactic(auto)]
 
 #[cfg(test)]
+mod asking;
+#[cfg(test)]
 mod audit_tests;
+#[cfg(test)]
+mod calls_tests;
 #[cfg(test)]
 mod consensus_tests;
 #[cfg(test)]
@@ -12,6 +16,8 @@ mod decode_tests;
 mod fault_tests;
 #[cfg(test)]
 mod generator_tests;
+#[cfg(test)]
+mod long_texts;
 #[cfg(test)]
 mod plan_tests;
 #[cfg(test)]

@@ -9,7 +9,7 @@ use Rattle.def_tree.specs.Range.{IsKey}
 use Rattle.def_emit.specs.Emit.{script_of}
 use Rattle.def_sane.specs.Unfit.{IsValid}
 use Rattle.def_decode.specs.Decoded.{first_with, IsReading}
-use Rattle.ms_decode_laws.specs.Reader.{read}
+use Rattle.ms_decode_laws.specs.Scaffolding.Reader.{read}
 
 -- the reader finds this tree
 pub record IsCandidate (keys : List Key) (script : Bytes) (t : Tree) : Type 0 where

@@ -1,23 +1,13 @@
 -- That a tree is in range has one proof at most, so that it can be kept beside the tree.
-use Rattle.std.specs.Prelude.{◌≡◌, ℕ, ◌⊎◌, List, All, slice_index}
-use Rattle.std.proofs.Common.{inl, inr, ap}
+use Rattle.std.specs.Prelude.{List, All}
 use Rattle.std.proofs.Props.{props}
 use Rattle.def_hash.specs.declared.HashKind.{HashKind}
 use Rattle.def_script.specs.Bytes.{Bytes}
 use Rattle.def_tree.specs.Tree.{Tree, Trees, Key, just_0, just_1, pk_k, pk_h, older, after, hash, and_or, two, thresh, multi, wrap, none, more}
 use Rattle.def_tree.specs.Range.{IsKey, IsDigest, IsWritable, AreWritable, IsInRange}
 
-same_number : (a b : ℕ) → IsProp (a ≡ b)
-same_number a b = hlevel props
-
-two_or_three-prop : (n : ℕ) → IsProp ((n ≡ 2) ⊎ (n ≡ 3))
-two_or_three-prop n (inl a) (inl b) = ap inl (same_number n 2 a b)
-two_or_three-prop n (inl a) (inr b) = cc
-two_or_three-prop n (inr a) (inl b) = cc
-two_or_three-prop n (inr a) (inr b) = ap inr (same_number n 3 a b)
-
 IsKey-prop : (key : Key) → IsProp (IsKey key)
-IsKey-prop key = hlevel (props, two_or_three-prop (slice_index key 0))
+IsKey-prop key = hlevel props
 
 IsDigest-prop : (kind : HashKind) (value : Bytes) → IsProp (IsDigest kind value)
 IsDigest-prop kind value = hlevel props

@@ -13,7 +13,7 @@ use Rattle.ms_hash.specs.declared.value.HashVal.{HashVal}
 use Rattle.ms_hash.specs.Value.{kind_of, bytes_of}
 use Rattle.ms_tree.specs.declared.tree.Leaf.{Leaf}
 use Rattle.ms_tree.specs.Shape.{leaf_shape}
-use Rattle.ms_decode_laws.specs.Reader.{is_key}
+use Rattle.def_script.specs.Key.{is_key}
 
 abbrev pub key_in : Bytes → Option Key
 key_in bytes = if is_key bytes then Some bytes else None

@@ -2,7 +2,7 @@
 use Rattle.std.specs.Prelude.{Option, Some, None, if◌then◌else◌}
 use Rattle.def_tree.specs.Tree.{Tree}
 use Rattle.ms_tree.specs.Shape.{shape}
-use Rattle.ms_decode_laws.specs.Reader.{fits}
+use Rattle.ms_decode_laws.specs.Scaffolding.Reader.{fits}
 use Rattle.ms_decode.specs.declared.part.Part.{Part}
 
 -- the tree, where it fits

@@ -1,8 +1,8 @@
 -- What follows an expression that was made, where it fits.
 use Rattle.std.specs.Prelude.{List, Option, Some, None}
 use Rattle.def_tree.specs.Tree.{Tree}
-use Rattle.ms_decode_laws.specs.Frame.{Frame}
-use Rattle.ms_decode_laws.specs.Reader.{State, settle, settle_side}
+use Rattle.ms_decode_laws.specs.Scaffolding.Frame.{Frame}
+use Rattle.ms_decode_laws.specs.Scaffolding.Reader.{State, settle, settle_side}
 
 abbrev pub settled : Option Tree → List Frame → Option State
 settled None fs = None

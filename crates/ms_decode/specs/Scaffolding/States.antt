@@ -3,9 +3,9 @@ use Rattle.std.specs.Prelude.{◌≡◌, ℕ, List, [], ◌∷◌, map, reverse,
 use Rattle.def_script.specs.Instruction.{Instruction, push, code}
 use Rattle.def_tree.specs.Tree as tree
 use Rattle.ms_tree.specs.Shape.{shapes}
-use Rattle.ms_decode_laws.specs.Frame as model_frame
-use Rattle.ms_decode_laws.specs.Want as model_want
-use Rattle.ms_decode_laws.specs.Reader.{State, at}
+use Rattle.ms_decode_laws.specs.Scaffolding.Frame as model_frame
+use Rattle.ms_decode_laws.specs.Scaffolding.Want as model_want
+use Rattle.ms_decode_laws.specs.Scaffolding.Reader.{State, at}
 use Rattle.ms_decode.specs.declared.children.Children.{Children}
 use Rattle.ms_decode.specs.declared.children.Numeral.{Numeral}
 use Rattle.ms_decode.specs.declared.codes.Code.{Code}

@@ -8,12 +8,13 @@ use Rattle.def_script.specs.Bytes.{Bytes}
 use Rattle.def_script.specs.Item.{Item}
 use Rattle.def_script.specs.Item as item
 use Rattle.def_machine.specs.declared.ScriptFault.TheVariants as fault
-use Rattle.def_machine.specs.Limits.{MAX_SCRIPT_ELEMENT_SIZE, MAX_STACK_SIZE}
+use Rattle.def_machine.specs.Limits.{MAX_STACK_SIZE}
+use Rattle.def_script.specs.Spell.{MAX_SCRIPT_ELEMENT_SIZE}
 use Rattle.def_machine.specs.Locks.{after_holds, older_holds}
 use Rattle.def_machine.specs.Faults.{OrFault, ◌>>=◌}
 use Rattle.def_machine.specs.Stacks.{Stack, Pairs}
 use Rattle.def_machine.specs.Effects.{verify, condition, to_alt_stack, from_alt_stack, if_dup, dup, swap, size, equal, zero_not_equal, add, bool_and, bool_or, hash, check_sig, lock}
-use Rattle.def_machine.specs.MultiSig.{counted, check_multi_sig}
+use Rattle.def_machine.specs.MultiSig.{within_op_limit, check_multi_sig}
 use Rattle.def_machine.specs.Machine.{Given, State, is_branching, fault_of}
 use Rattle.def_machine.specs.Run.{Outcome, accepted, refused, is_clean}
 use Rattle.ms_interp.specs.declared.branches.Branches.{Branches}
@@ -104,10 +105,10 @@ carry_push bytes minimal m =
     if nat_lt MAX_SCRIPT_ELEMENT_SIZE (length bytes) then Err fault.ElementSize
     else only_if (all_taken m.branches) (pushed bytes minimal) m
 
--- an opcode is counted and carried out
+-- an opcode is within_op_limit and carried out
 abbrev pub count_op : Machine → OrFault Machine
 count_op m = do
-  ops ← counted (m.ops + 1)
+  ops ← within_op_limit (m.ops + 1)
   Ok (record m { ops = ops })
 
 unfoldable pub carry_op : Given → Op → Machine → OrFault Machine

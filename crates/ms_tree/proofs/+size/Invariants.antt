@@ -3,7 +3,7 @@ use Rattle.std.proofs.Common.{◌≡◌, ◌+◌, ◌*◌, drop}
 use Rattle.def_tree.specs.Size.{nodes, nodes_of}
 use Rattle.def_tree.specs.Tree.{none}
 use Rattle.ms_tree.specs.Shape.{shape, shapes}
-use Rattle.ms_tree.specs.Size.{beside, size_of_trees}
+use Rattle.ms_tree.specs.Scaffolding.Size.{beside, size_of_trees}
 use Rattle.ms_tree.proofs.+size.Given as goal
 
 abbrev pub decreases-tree::Tree::size : goal.decreases-tree::Tree::size

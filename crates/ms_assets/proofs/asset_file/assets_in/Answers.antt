@@ -3,7 +3,7 @@ use Rattle.std.proofs.lemmas.Result.{err_from_is_err_and}
 use Rattle.serde_json.specs.View.{view}
 use Rattle.def_files.specs.declared.Member.TheVariants as member
 use Rattle.def_files.specs.Parts.{is_hex, is_hex_pair, key_of, sig_of, bytes_of}
-use Rattle.ms_assets.specs.Seen.{parts_seen}
+use Rattle.ms_assets.specs.Scaffolding.Seen.{parts_seen}
 use Rattle.ms_assets.proofs.Refusals.{object_none, no_hex_first}
 use Rattle.ms_assets.proofs.AssetRefusals.{HasShapes, HasNumbers, HasRead, number_stops, format_stops, pairs_end, strings_end, read_done}
 use Rattle.ms_assets.proofs.asset_file.assets_in.Goals as goal

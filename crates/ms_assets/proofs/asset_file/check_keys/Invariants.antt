@@ -1,6 +1,6 @@
 use Rattle.std.proofs.Common.{◌≡◌, not, drop}
 use Rattle.std.specs.List.{position_from}
-use Rattle.def_machine.specs.Stacks.{is_key}
+use Rattle.def_script.specs.Key.{is_key}
 use Rattle.ms_assets.proofs.asset_file.check_keys.Given as goal
 
 abbrev pub invariant-loop-pair : goal.invariant-loop-pair

@@ -1,6 +1,6 @@
 use Rattle.std.proofs.Common.{rules}
 use Rattle.std.proofs.lemmas.Fn.{always_returns_same}
-use Rattle.ms_assets.specs.Order.{Rank, is_before}
+use Rattle.ms_assets.specs.Scaffolding.Order.{Rank, is_before}
 use Rattle.ms_assets.proofs.Orders.{partitioned}
 use Rattle.ms_assets.proofs.signatures.count_before.Goals as goal
 

@@ -1,4 +1,4 @@
-use Rattle.std.proofs.Common.{List, length, sym, ap, ◌∙◌}
+use Rattle.std.proofs.Common.{length, sym, ap, ◌∙◌}
 use Rattle.def_answer.specs.Status.{code_of}
 use Rattle.ms_calls.specs.Buffers.{written_over}
 use Rattle.ms_calls.proofs.AnswerLemmas.{same_status, same_report, answer_is_no_stop}

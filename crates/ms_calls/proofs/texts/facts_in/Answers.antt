@@ -1,5 +1,4 @@
-use Rattle.def_emit.specs.Emit.{script_of}
-use Rattle.def_sane.specs.Unfit.{first_unfit_under, first_unfit_valid_under}
+use Rattle.def_sane.specs.Unfit.{first_unfit_under}
 use Rattle.ms_tree.specs.Shape.{shape}
 use Rattle.ms_calls.specs.Facts.{facts_of}
 use Rattle.ms_calls.specs.Given.{told}

@@ -1,4 +1,4 @@
-use Rattle.std.proofs.Common.{sym, subst, arith}
+use Rattle.std.proofs.Common.{sym, subst}
 use Rattle.ms_calls.specs.Words.{HasNoNul}
 use Rattle.ms_calls.proofs.WordLemmas.{no_word, free_front, other_word}
 use Rattle.ms_calls.proofs.words.first_word.Goals as goal

@@ -1,7 +1,7 @@
 use Rattle.std.proofs.Common.{◌≡◌, All, subst, ap, ◌∙◌}
 use Rattle.def_tree.specs.Range.{IsKey}
 use Rattle.def_decode.specs.Decoded.{first_with}
-use Rattle.ms_decode_laws.specs.Reader.{read}
+use Rattle.ms_decode_laws.specs.Scaffolding.Reader.{read}
 use Rattle.ms_decode.specs.Scaffolding.Codes.{AreCodes, HasNoCodes}
 use Rattle.ms_decode.specs.Scaffolding.Keys.{keys_of}
 use Rattle.ms_decode.specs.Scaffolding.Parts.{made}

@@ -1,6 +1,6 @@
 use Rattle.std.proofs.Common.{◌≡◌, reverse, ap, arith}
 use Rattle.std.proofs.lemmas.List.{length-reverse}
-use Rattle.ms_decode_laws.specs.Reader.{settle, keys_step}
+use Rattle.ms_decode_laws.specs.Scaffolding.Reader.{settle, keys_step}
 use Rattle.ms_decode.specs.Scaffolding.Parts.{tree_of}
 use Rattle.ms_decode.specs.Scaffolding.States.{frames_of, instruction_of}
 use Rattle.ms_decode.proofs.Signed.{keys_done}

@@ -1,6 +1,6 @@
 use Rattle.std.proofs.Common.{◌∙◌, ap}
 use Rattle.def_decode.specs.Decoded.{first_with}
-use Rattle.ms_decode_laws.specs.Reader.{at, finish}
+use Rattle.ms_decode_laws.specs.Scaffolding.Reader.{at, finish}
 use Rattle.ms_decode.specs.Scaffolding.Keys.{keys_of}
 use Rattle.ms_decode.specs.Scaffolding.States.{frames_of, want_of, instruction_of, backwards}
 use Rattle.ms_decode.proofs.Running.{stopped}

@@ -1,6 +1,6 @@
 use Rattle.std.proofs.Common.{◌≡◌, length, Some}
 use Rattle.def_decode.specs.Decoded.{first_with}
-use Rattle.ms_decode_laws.specs.Reader.{at, run, start}
+use Rattle.ms_decode_laws.specs.Scaffolding.Reader.{at, run, start}
 use Rattle.ms_decode.specs.Scaffolding.Keys.{keys_of}
 use Rattle.ms_decode.specs.Scaffolding.States.{frames_of, want_of, backwards}
 use Rattle.ms_decode.proofs.read.read_back.Given as goal

@@ -1,5 +1,5 @@
 use Rattle.std.proofs.Common.{◌≡◌, length}
-use Rattle.ms_decode_laws.specs.Reader.{settle}
+use Rattle.ms_decode_laws.specs.Scaffolding.Reader.{settle}
 use Rattle.ms_decode.specs.Scaffolding.Parts.{tree_of}
 use Rattle.ms_decode.specs.Scaffolding.States.{frames_of}
 use Rattle.ms_decode.proofs.settle.settle.Given as goal

@@ -3,7 +3,7 @@ use Rattle.std.proofs.Common.{◌≡◌, ◌+◌, ◌*◌, drop}
 use Rattle.def_emit.specs.Emit.{emit_added}
 use Rattle.def_tree.specs.Size.{nodes, nodes_of}
 use Rattle.ms_tree.specs.Shape.{shape, shapes}
-use Rattle.ms_emit.specs.Extent.{counted_all}
+use Rattle.ms_emit.specs.Extent.{extended_by}
 use Rattle.ms_emit.proofs.length.+add_tree.Given as goal
 
 abbrev pub decreases-add_tree : goal.decreases-add_tree
@@ -29,4 +29,4 @@ decreases-add_wrap l = 4 * nodes (shape l.x.now) + 1
 
 abbrev pub invariant-add_others-loop-child : goal.invariant-add_others-loop-child
 invariant-add_others-loop-child l =
-    counted_all l.extent (emit_added (shapes (drop l.child-index l.children))) ≡ counted_all l.initial.extent (emit_added (shapes l.children))
+    extended_by l.extent (emit_added (shapes (drop l.child-index l.children))) ≡ extended_by l.initial.extent (emit_added (shapes l.children))

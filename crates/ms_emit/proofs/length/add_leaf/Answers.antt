@@ -5,12 +5,12 @@ use Rattle.def_hash.proofs.Lengths.{digest_has_its_length}
 use Rattle.def_script.specs.declared.Op.TheVariants as op
 use Rattle.def_script.specs.Instruction.{push, code}
 use Rattle.ms_emit.specs.declared.extent.Extent.{Extent}
-use Rattle.ms_emit.specs.Extent.{counted}
+use Rattle.ms_emit.specs.Extent.{extended}
 use Rattle.ms_emit.proofs.length.add_leaf.Goals as goal
 
 pub returns-in_ok-code-in-PkH-3 : goal.returns-in_ok-code-in-PkH-3
 returns-in_ok-code-in-PkH-3 c =
     let hashed = c.in_ok-push_sized-in-PkH.ensures (hash160 c.in-PkH.key) (digest_has_its_length hash_kind.Hash160 c.in-PkH.key) in
-    let before = c.in_ok-code-in-PkH-2.ensures ∙ ap (λ (e : Extent). counted e (code op.Hash160)) c.in_ok-code-in-PkH.ensures in
-    let pushed = hashed ∙ ap (λ (e : Extent). counted e (push (hash160 c.in-PkH.key))) before in
-    rw c.in-PkH.is (c.in_ok-code-in-PkH-3.ensures ∙ ap (λ (e : Extent). counted e (code op.EqualVerify)) pushed)
+    let before = c.in_ok-code-in-PkH-2.ensures ∙ ap (λ (e : Extent). extended e (code op.Hash160)) c.in_ok-code-in-PkH.ensures in
+    let pushed = hashed ∙ ap (λ (e : Extent). extended e (push (hash160 c.in-PkH.key))) before in
+    rw c.in-PkH.is (c.in_ok-code-in-PkH-3.ensures ∙ ap (λ (e : Extent). extended e (code op.EqualVerify)) pushed)

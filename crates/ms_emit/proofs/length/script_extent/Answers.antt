@@ -1,6 +1,6 @@
 use Rattle.std.proofs.Common.{◌≡◌, ◌∙◌, ap, refl, arith}
 use Rattle.def_emit.specs.Emit.{emit}
-use Rattle.def_sane.specs.Limits.{opcode_count}
+use Rattle.def_script.specs.Instruction.{opcode_count}
 use Rattle.ms_tree.specs.Shape.{shape}
 use Rattle.ms_emit.specs.declared.extent.Extent.{Extent}
 use Rattle.ms_emit.proofs.Room.{bytes_of_script, opcodes_of_script, few_opcodes}

@@ -5,7 +5,6 @@ use Rattle.def_script.specs.Bytes.{Bytes}
 use Rattle.def_choice.specs.Cheapest.{cheapest}
 use Rattle.def_answer.specs.Report.{cheapest_line}
 use Rattle.ms_tree.specs.Shape.{shape}
-use Rattle.ms_report.proofs.Weights.{same_weight}
 use Rattle.ms_generator.proofs.GeneratorLemmas.{light, found}
 use Rattle.ms_generator.proofs.generator.cheapest_line.Goals as goal
 
@@ -19,4 +18,4 @@ returns c =
     let chosen = found (cheapest (shape c.args.tree.now) c.args.assets.now) _ c.in-Some.stack c.in_ok-stack.ensures.choice c.in-Some.is in
     subst (λ (stack : List Bytes). IfOk c.format.result (λ line. string_bytes line ≡ cheapest_line stack)) (sym chosen)
     (IfOk-weaker c.format.result _ (λ line. string_bytes line ≡ cheapest_line c.in-Some.stack)
-    (λ s e. simp append_assoc (rw (c.len-items.ensures, c.weight-weight.ensures, same_weight) at e)) c.format.ensures.ok)
+    (λ s e. simp append_assoc (rw (c.len-items.ensures, c.weight-weight.ensures) at e)) c.format.ensures.ok)

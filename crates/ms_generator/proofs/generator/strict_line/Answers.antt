@@ -5,7 +5,6 @@ use Rattle.def_script.specs.Bytes.{Bytes}
 use Rattle.def_choice.specs.Strict.{strict}
 use Rattle.def_answer.specs.Report.{strict_line, replay}
 use Rattle.ms_tree.specs.Shape.{shape}
-use Rattle.ms_report.proofs.Weights.{same_weight}
 use Rattle.ms_generator.proofs.GeneratorLemmas.{light, found, sane_is_valid, strict_sat}
 use Rattle.ms_generator.proofs.generator.strict_line.Goals as goal
 
@@ -21,4 +20,4 @@ returns c =
     subst (λ (stack : List Bytes). IfOk c.format.result (λ line. string_bytes line ≡ strict_line stack (replay (shape c.args.tree.now) c.args.assets.now stack)))
     (sym chosen)
     (IfOk-weaker c.format.result _ (λ line. string_bytes line ≡ strict_line c.in-Some.stack (replay (shape c.args.tree.now) c.args.assets.now c.in-Some.stack))
-    (λ s e. simp append_assoc (rw (c.len-items.ensures, c.weight-weight.ensures, c.in_ok-peak.ensures, same_weight) at e)) c.format.ensures.ok)
+    (λ s e. simp append_assoc (rw (c.len-items.ensures, c.weight-weight.ensures, c.in_ok-peak.ensures) at e)) c.format.ensures.ok)

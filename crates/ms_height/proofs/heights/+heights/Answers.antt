@@ -6,8 +6,8 @@ use Rattle.def_height.specs.Highest.{at_least, highest_sat, highest_dsat}
 use Rattle.ms_tree.specs.Shape.{shape, shapes}
 use Rattle.ms_tree.proofs.Parts.{nodes_at, in_range_at}
 use Rattle.ms_sane.proofs.Children.{typed_at, typed_children}
-use Rattle.ms_height.specs.Chosen.{chosen}
-use Rattle.ms_height.specs.Ready.{IsReady}
+use Rattle.ms_height.specs.Scaffolding.Chosen.{chosen}
+use Rattle.ms_height.specs.Scaffolding.Ready.{IsReady}
 use Rattle.ms_height.proofs.Bounds.{low_of}
 use Rattle.ms_height.proofs.Children.{few_children, ready_at, low_kept, room_kept, chosen_parts}
 use Rattle.ms_height.proofs.Keeping.{kept_more, kept_all}

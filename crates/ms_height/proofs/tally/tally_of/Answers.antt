@@ -1,5 +1,5 @@
 use Rattle.std.proofs.Common.{arith}
-use Rattle.ms_height.specs.Kept.{heights_in}
+use Rattle.ms_height.specs.Scaffolding.Kept.{heights_in}
 use Rattle.ms_height.proofs.Keeping.{length_in}
 use Rattle.ms_height.proofs.Tallies.{few_of}
 use Rattle.ms_height.proofs.tally.tally_of.Goals as goal

@@ -1,5 +1,5 @@
-use Rattle.ms_height.specs.Kept.{heights_in}
-use Rattle.ms_height.specs.Tally.{Counts}
+use Rattle.ms_height.specs.Scaffolding.Kept.{heights_in}
+use Rattle.ms_height.specs.Scaffolding.Tally.{Counts}
 use Rattle.ms_height.proofs.tally.tally_of.Given as goal
 
 abbrev pub invariant-loop-index : goal.invariant-loop-index

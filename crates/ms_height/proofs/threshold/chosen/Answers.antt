@@ -1,6 +1,6 @@
 use Rattle.std.proofs.Common.{◌≡◌, ◌+◌, ◌≤◌, ◌^◌, length, ℕ, get_or, ◌∙◌, subst, sym, arith}
 use Rattle.std.proofs.lemmas.List.{length-take}
-use Rattle.ms_height.specs.Kept.{heights_in, IsFitting}
+use Rattle.ms_height.specs.Scaffolding.Kept.{heights_in, IsFitting}
 use Rattle.ms_height.proofs.Keeping.{length_in}
 use Rattle.ms_height.proofs.Tallies.{counts_all, low_fits, known_bounds}
 use Rattle.ms_height.proofs.Exact.{chosen_none, chosen_exact}

@@ -2,9 +2,9 @@ use Rattle.std.proofs.Common.{◌≡◌, ◌-◌, ◌<◌, suc, length, drop, �
 use Rattle.std.proofs.lemmas.List.{drop_all}
 use Rattle.def_height.specs.Highest.{only}
 use Rattle.ms_height.specs.declared.highest.Heights.{Heights}
-use Rattle.ms_height.specs.Choice.{IsChoice}
-use Rattle.ms_height.specs.Kept.{ItemsBelow, IsFitting, heights_in}
-use Rattle.ms_height.specs.Low.{IsLowHeights}
+use Rattle.ms_height.specs.Scaffolding.Choice.{IsChoice}
+use Rattle.ms_height.specs.Scaffolding.Kept.{ItemsBelow, IsFitting, heights_in}
+use Rattle.ms_height.specs.Scaffolding.Low.{IsLowHeights}
 use Rattle.ms_height.proofs.Keeping.{length_in}
 use Rattle.ms_height.proofs.Tallies.{few_free}
 use Rattle.ms_height.proofs.Walks.{left_at, left_further, shorter, free_from, stuck_from, choice_behind, choice_from, choice_all}

@@ -1,6 +1,6 @@
 use Rattle.std.proofs.Common.{◌≤◌, drop, length}
-use Rattle.ms_height.specs.Choice.{IsChoice}
-use Rattle.ms_height.specs.Kept.{heights_in}
+use Rattle.ms_height.specs.Scaffolding.Choice.{IsChoice}
+use Rattle.ms_height.specs.Scaffolding.Kept.{heights_in}
 use Rattle.ms_height.proofs.Walks.{left_at}
 use Rattle.ms_height.proofs.threshold.chosen_within.Given as goal
 

@@ -1,7 +1,7 @@
 use Rattle.std.proofs.lemmas.Result.{IfOk-weaker}
 use Rattle.ms_tree.specs.Shape.{shape}
 use Rattle.def_choice.proofs.Chosen.{tight_is_canonical}
-use Rattle.ms_laws.proofs.Unchanged.{tight_is_unchangeable, tight_is_non_malleable}
+use Rattle.ms_strict_laws.proofs.TightIsUnchangeable.{tight_is_unchangeable, tight_is_non_malleable}
 use Rattle.ms_nonmal.proofs.Promises.{found_sat, found_none, found_non_malleable, found_nothing, found_lightest}
 use Rattle.ms_nonmal.proofs.satisfy.strict.Goals as goal
 

@@ -1,8 +1,9 @@
 use Rattle.std.proofs.Common.{sym, ◌∙◌}
 use Rattle.def_choice.proofs.Chosen.{strict_is_canonical}
-use Rattle.def_sane.proofs.Meanings.{sane_means}
+use Rattle.def_sane.specs.declared.Rules.TheVariants.{Policy}
+use Rattle.def_sane.proofs.Meanings.{sane_means, valid_under_consensus}
 use Rattle.ms_tree.specs.Shape.{shape}
-use Rattle.ms_plan.proofs.Light.{light}
+use Rattle.ms_row_laws.proofs.WithinLimits.{light_stack}
 use Rattle.ms_plan.proofs.FromTwo.{first_none, second_none, no_longer, plan_found}
 use Rattle.ms_plan.proofs.asking.plan_by.Goals as goal
 
@@ -24,7 +25,8 @@ differing-requires c =
 
 pub weight-weight-requires : goal.weight-weight-requires
 weight-weight-requires c =
-    light (shape c.args.tree.now) c.args.first.now c.in-Some.stack c.requires.in_range.writable ((sane_means (shape c.args.tree.now)).0 c.requires.sane).0 c.locks-locks.ensures.few.held
+    light_stack (shape c.args.tree.now) c.args.first.now c.in-Some.stack c.requires.in_range.writable
+    (valid_under_consensus Policy (shape c.args.tree.now) ((sane_means (shape c.args.tree.now)).0 c.requires.sane).0) c.locks-locks.ensures.few.held
     (strict_is_canonical (shape c.args.tree.now) c.args.first.now c.in-Some.stack c.requires.in_range.writable c.locks-locks.ensures.few.held (sym c.in_ok-stack.ensures ∙ c.in-Some.is))
 
 pub returns : goal.returns

@@ -3,7 +3,7 @@ use Rattle.std.proofs.Common.{◌≡◌, ◌+◌, ◌*◌, ◌++◌, drop, filte
 use Rattle.def_tree.specs.Size.{nodes, nodes_of}
 use Rattle.def_sane.specs.Keys.{keys_of_all}
 use Rattle.ms_tree.specs.Shape.{shape, shapes}
-use Rattle.ms_plan.specs.Marks.{signs}
+use Rattle.ms_plan.specs.Scaffolding.Marks.{signs}
 use Rattle.ms_plan.proofs.marks.+push_signers.Given as goal
 
 abbrev pub decreases-push_signers : goal.decreases-push_signers

@@ -1,5 +1,5 @@
 use Rattle.std.proofs.Common.{◌≡◌, ◌++◌, drop}
-use Rattle.ms_plan.specs.Marks.{marked}
+use Rattle.ms_plan.specs.Scaffolding.Marks.{marked}
 use Rattle.ms_plan.proofs.marks.add_signatures.Given as goal
 
 -- what is left to be added makes the whole

@@ -1,5 +1,5 @@
 use Rattle.std.proofs.Common.{◌≡◌, ◌++◌, drop}
-use Rattle.ms_plan.specs.Marks.{differing}
+use Rattle.ms_plan.specs.Scaffolding.Marks.{differing}
 use Rattle.ms_plan.proofs.marks.differing.Given as goal
 
 abbrev pub invariant-loop-place : goal.invariant-loop-place

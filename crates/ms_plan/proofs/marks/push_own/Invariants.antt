@@ -1,5 +1,5 @@
 use Rattle.std.proofs.Common.{◌≡◌, ◌++◌, drop, filter}
-use Rattle.ms_plan.specs.Marks.{signs}
+use Rattle.ms_plan.specs.Scaffolding.Marks.{signs}
 use Rattle.ms_plan.proofs.marks.push_own.Given as goal
 
 abbrev pub invariant-loop-key : goal.invariant-loop-key

@@ -6,7 +6,7 @@ use Rattle.def_files.specs.Parts.{elements, is_hex, key_of, bytes_of}
 use Rattle.def_plan.specs.declared.PlanMember.TheVariants as member
 use Rattle.def_plan.specs.declared.PlanFault.TheVariants as fault
 use Rattle.def_plan.specs.PlanFile.{key_elements, is_hex_key, length_at}
-use Rattle.ms_plan.specs.Reading.{parts_seen}
+use Rattle.ms_plan.specs.Scaffolding.Reading.{parts_seen}
 use Rattle.ms_plan.proofs.PlanRefusals.{object_none, hex_first, HasShapes, HasRead, number_stops, keys_end, preimages_end, read_done}
 use Rattle.ms_plan.proofs.plan_file.plan_in.Goals as goal
 

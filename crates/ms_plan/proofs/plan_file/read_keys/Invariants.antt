@@ -1,6 +1,6 @@
 use Rattle.std.proofs.Common.{◌≡◌, not, drop, ◌++◌}
 use Rattle.std.specs.List.{position_from}
-use Rattle.def_machine.specs.Stacks.{is_key}
+use Rattle.def_script.specs.Key.{is_key}
 use Rattle.ms_plan.proofs.plan_file.read_keys.Given as goal
 
 abbrev pub invariant-loop-entry : goal.invariant-loop-entry

@@ -1,7 +1,7 @@
 use Rattle.std.proofs.Common.{drop, map, ◌∙◌, ap, arith}
 use Rattle.def_policy.specs.Policy.{policies_of}
-use Rattle.ms_sane.specs.Choice.{total}
-use Rattle.ms_policy.specs.Cost.{costs}
+use Rattle.ms_choice.specs.Sums.{total}
+use Rattle.ms_policy.specs.Scaffolding.Cost.{costs}
 use Rattle.ms_policy.specs.Shape.{policy_shape}
 use Rattle.ms_policy.proofs.Bounds.{on_ok, cost-all, total-costs, total_front}
 use Rattle.ms_policy.proofs.keys.+least.Goals as goal

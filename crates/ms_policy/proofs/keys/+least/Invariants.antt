@@ -2,7 +2,7 @@
 use Rattle.std.proofs.Common.{◌≡◌, ◌≤◌, ◌++◌, drop, map}
 use Rattle.def_policy.specs.Policy.{policies_of}
 use Rattle.def_policy.specs.Size.{size_of, MOST_POLICIES}
-use Rattle.ms_policy.specs.Cost.{costs}
+use Rattle.ms_policy.specs.Scaffolding.Cost.{costs}
 use Rattle.ms_policy.specs.Shape.{policy_shape}
 use Rattle.ms_policy.proofs.keys.+least.Given as goal
 

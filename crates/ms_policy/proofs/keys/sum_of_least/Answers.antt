@@ -1,7 +1,7 @@
 use Rattle.std.proofs.Common.{Some, sym, ◌∙◌, ap, arith}
 use Rattle.std.proofs.lemmas.List.Sorted.{IsNonDecreasingBy-from_sort}
 use Rattle.std.specs.List.Sorted.{IsNonDecreasing}
-use Rattle.ms_sane.proofs.Totals.{total_split, total-permutation}
+use Rattle.ms_choice.proofs.Totals.{total_split, total-permutation}
 use Rattle.ms_policy.proofs.Sums.{too_few, first_ones}
 use Rattle.ms_policy.proofs.keys.sum_of_least.Goals as goal
 

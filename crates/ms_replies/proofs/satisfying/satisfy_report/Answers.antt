@@ -1,17 +1,15 @@
 use Rattle.std.proofs.Common.{◌≡◌, ◌∙◌}
 use Rattle.std.proofs.lemmas.Result.{IfOk-weaker}
 use Rattle.std.specs.String.{string_bytes}
-use Rattle.def_sane.proofs.Greatest.{limits_are_computed}
 use Rattle.ms_tree.specs.Shape.{shape}
 use Rattle.def_answer.specs.Report.{satisfy_report}
-use Rattle.ms_report.proofs.Weights.{light_stack}
+use Rattle.ms_row_laws.proofs.WithinLimits.{light_stack}
 use Rattle.ms_replies.proofs.SatisfiedLines.{satisfied_lines}
 use Rattle.ms_replies.proofs.satisfying.satisfy_report.Goals as goal
 
 pub satisfaction_report-requires : goal.satisfaction_report-requires
 satisfaction_report-requires c =
-    light_stack (shape c.args.tree.now) _ c.args.assets.now c.args.stack.now c.requires.in_range c.requires.valid (limits_are_computed (shape c.args.tree.now))
-    c.locks-locks.ensures.few.held c.requires.canonical
+    light_stack (shape c.args.tree.now) c.args.assets.now c.args.stack.now c.requires.in_range.writable c.requires.valid c.locks-locks.ensures.few.held c.requires.canonical
 
 pub returns : goal.returns
 returns c rules limits =

@@ -2,7 +2,7 @@
 use Rattle.std.proofs.Common.{◌≡◌, ◌≤◌, ◌+◌, ◌*◌, ◌++◌, drop, take, map}
 use Rattle.def_tree.specs.Size.{nodes, nodes_of, measure_of}
 use Rattle.ms_tree.specs.Shape.{shape, shapes}
-use Rattle.ms_sane.specs.Repeats.{entry, held_in}
+use Rattle.ms_sane.specs.Scaffolding.Repeats.{entry, held_in}
 use Rattle.ms_sane.proofs.keys.+copy.Given as goal
 
 abbrev pub decreases-copy_keys : goal.decreases-copy_keys

@@ -1,5 +1,5 @@
 use Rattle.std.proofs.Common.{◌≡◌, ◌+◌, ◌++◌, drop, take, map}
-use Rattle.ms_sane.specs.Repeats.{entry, held_by}
+use Rattle.ms_sane.specs.Scaffolding.Repeats.{entry, held_by}
 use Rattle.ms_sane.proofs.keys.copy_own.Given as goal
 
 abbrev pub invariant-loop-key : goal.invariant-loop-key

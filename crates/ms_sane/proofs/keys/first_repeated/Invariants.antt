@@ -1,5 +1,5 @@
 use Rattle.std.proofs.Common.{◌≡◌, [], drop, take}
-use Rattle.ms_sane.specs.Repeats.{repeats_first}
+use Rattle.ms_sane.specs.Scaffolding.Repeats.{repeats_first}
 use Rattle.ms_sane.proofs.keys.first_repeated.Given as goal
 
 abbrev pub invariant-loop-index : goal.invariant-loop-index

@@ -1,7 +1,7 @@
 use Rattle.std.proofs.Common.{[], ◌∙◌, ap, arith}
 use Rattle.ms_tree.specs.Shape.{shape}
 use Rattle.ms_tree.proofs.Parts.{nodes-le-measure}
-use Rattle.ms_sane.specs.Repeats.{repeats_first}
+use Rattle.ms_sane.specs.Scaffolding.Repeats.{repeats_first}
 use Rattle.ms_sane.proofs.Repeated.{first_is}
 use Rattle.ms_sane.proofs.keys.repeated_key_in.Goals as goal
 

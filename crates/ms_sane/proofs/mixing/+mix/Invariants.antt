@@ -3,7 +3,8 @@ use Rattle.std.proofs.Common.{◌≡◌, ◌+◌, ◌*◌, List, drop}
 use Rattle.def_tree.specs.Size.{nodes, nodes_of}
 use Rattle.def_sane.specs.Locks.{Kinds}
 use Rattle.ms_tree.specs.Shape.{shape, shapes}
-use Rattle.ms_sane.specs.Mixing.{kinds_from_each, together, behind}
+use Rattle.ms_sane.specs.Scaffolding.Mixing.{kinds_from_each, together}
+use Rattle.ms_types.specs.Scaffolding.Seen.{behind}
 use Rattle.ms_sane.proofs.mixing.+mix.Given as goal
 
 abbrev pub decreases-kinds_from : goal.decreases-kinds_from

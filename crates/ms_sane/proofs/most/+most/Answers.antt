@@ -5,10 +5,13 @@ use Rattle.def_tree.specs.Size.{nodes}
 use Rattle.def_sane.specs.Most.{most_sat, most_dsat}
 use Rattle.ms_tree.specs.Shape.{shape}
 use Rattle.ms_tree.proofs.Parts.{nodes_at, in_range_at}
-use Rattle.ms_sane.specs.Choice.{most_chosen}
-use Rattle.ms_sane.specs.Most.{IsReady, children_of}
+use Rattle.ms_sane.specs.Scaffolding.Most.{IsReady, children_in}
 use Rattle.ms_sane.proofs.Bounds.{light_of, multi_enough}
-use Rattle.ms_sane.proofs.Children.{measure_at, few_children, typed_at, typed_children, parts_chosen, length_written}
+use Rattle.ms_sane.proofs.Children.{measure_at, few_children, typed_at, typed_children, parts_chosen, same_takes, children_more, costs_alike}
+use Rattle.ms_choice.specs.Numbers.{costs_in}
+use Rattle.ms_choice.specs.Tally.{Tells}
+use Rattle.ms_choice.specs.Choice.{greatest}
+use Rattle.ms_choice.proofs.Tallies.{length_written, told_written}
 use Rattle.ms_sane.proofs.most.+most.Goals as goal
 
 pub most-of_thresh-requires : goal.most-of_thresh-requires
@@ -86,18 +89,42 @@ of_thresh-add-requires-clause-few t c =
     let few = few_children c.args.children.now c.loop-child.child-index c.child-item.result c.loop-child-test.true c.child-item.is in
     omega (arith, few, c.loop-child.invariant.place, c.requires.few)
 
+pub of_thresh-loop-child-preserved : goal.of_thresh-loop-child-preserved
+of_thresh-loop-child-preserved t c =
+    let xs = c.args.children.now in
+    let i = c.loop-child.child-index in
+    let x = c.child-item.result in
+    let slots = c.loop-child.slots in
+    let tally = c.loop-child.tally in
+    record {
+      fits = c.add.ensures.fits;
+      told = λ n.
+          let told = told_written n (children_in n (take i xs)) tally slots c.most-taken.new.slots (length slots - tally.free) c.loop-child.invariant.fits.room (c.loop-child.invariant.told n) in
+          let more = children_more n xs i x (costs_in n c.as_child.result) c.loop-child-test.true c.child-item.is (c.as_child.ensures.costs n ∙ costs_alike n c.most-taken.ensures.sat c.most-taken.ensures.dsat) in
+          subst (λ cs. Tells n cs c.add.new.self c.add.new.slots) more (c.add.ensures.told n (children_in n (take i xs)) told);
+      free = omega (arith, c.add.ensures.free, c.loop-child.invariant.free);
+      place = omega (arith, c.add.ensures.place, c.loop-child.invariant.place);
+    }
+
+pub of_thresh-greatest_of-requires-clause-told : goal.of_thresh-greatest_of-requires-clause-told
+of_thresh-greatest_of-requires-clause-told t c = λ n. (children_in n (take c.loop-child.child-index c.args.children.now), c.loop-child.invariant.told n)
+
 pub of_thresh-returns-clause-sat : goal.of_thresh-returns-clause-sat
 of_thresh-returns-clause-sat t c =
     let xs = c.args.children.now in
     let i = c.loop-child.child-index in
-    c.greatest_of-sat.ensures (children_of (take i xs)) c.loop-child.invariant.told ∙
-    ap (λ ys. most_chosen (children_of ys) c.args.k) (take_all i xs c.loop-child-test.false) ∙
-    parts_chosen xs c.args.k
+    same_takes _ _ (λ n.
+    c.taken_of-sat.ensures n ∙
+    c.greatest_of.ensures n (children_in n (take i xs)) (c.loop-child.invariant.told n) ∙
+    ap (λ ys. greatest (children_in n ys) c.args.k) (take_all i xs c.loop-child-test.false) ∙
+    sym (parts_chosen n xs c.args.k))
 
 pub of_thresh-returns-clause-dsat : goal.of_thresh-returns-clause-dsat
 of_thresh-returns-clause-dsat t c =
     let xs = c.args.children.now in
     let i = c.loop-child.child-index in
-    c.none_of-dsat.ensures (children_of (take i xs)) c.loop-child.slots c.loop-child.invariant.told ∙
-    ap (λ ys. most_chosen (children_of ys) 0) (take_all i xs c.loop-child-test.false) ∙
-    parts_chosen xs 0
+    same_takes _ _ (λ n.
+    c.taken_of-dsat.ensures n ∙
+    c.none_of.ensures.greatest n (children_in n (take i xs)) c.loop-child.slots (c.loop-child.invariant.told n) ∙
+    ap (λ ys. greatest (children_in n ys) 0) (take_all i xs c.loop-child-test.false) ∙
+    sym (parts_chosen n xs 0))

@@ -2,8 +2,9 @@
 use Rattle.std.proofs.Common.{◌≡◌, ◌≤◌, ◌+◌, ◌*◌, take}
 use Rattle.def_tree.specs.Size.{nodes, nodes_of}
 use Rattle.ms_tree.specs.Shape.{shape, shapes}
-use Rattle.ms_sane.specs.Tally.{Fits, Tells}
-use Rattle.ms_sane.specs.Most.{children_of}
+use Rattle.ms_choice.specs.declared.children.Number.{Number}
+use Rattle.ms_choice.specs.Tally.{Fits, Tells}
+use Rattle.ms_sane.specs.Scaffolding.Most.{children_in}
 use Rattle.ms_sane.proofs.most.+most.Given as goal
 
 abbrev pub decreases-most : goal.decreases-most
@@ -24,7 +25,7 @@ decreases-of_wrap l = 3 * nodes (shape l.x.now) + 1
 abbrev pub invariant-of_thresh-loop-child : goal.invariant-of_thresh-loop-child
 invariant-of_thresh-loop-child l = record {
   fits : Fits l.tally l.slots;
-  told : Tells (children_of (take l.child-index l.children)) l.tally l.slots;
+  told : (n : Number) → Tells n (children_in n (take l.child-index l.children)) l.tally l.slots;
   free : l.tally.free ≤ l.child-index;
   place : l.tally.place ≡ l.child-index;
 }

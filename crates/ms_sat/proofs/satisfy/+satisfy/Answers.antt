@@ -7,12 +7,13 @@ use Rattle.ms_tree.specs.declared.tree.Tree.{Tree}
 use Rattle.ms_tree.specs.Shape.{shape, shapes}
 use Rattle.ms_tree.proofs.Parts.{nodes_at}
 use Rattle.ms_sane.proofs.Children.{few_children}
-use Rattle.ms_sat.specs.Costs.{costs_of}
-use Rattle.ms_sat.specs.Choice.{chosen, set_by}
-use Rattle.ms_sat.specs.Pushed.{IsPushed}
+use Rattle.ms_sat.specs.Scaffolding.Costs.{costs_of}
+use Rattle.ms_sat.specs.Scaffolding.Choice.{chosen}
+use Rattle.ms_choice.specs.Marks.{set_by}
+use Rattle.ms_sat.specs.Scaffolding.Pushed.{IsPushed}
 use Rattle.ms_sat.specs.Rule.{stack_by, free_by, child_by, children_by}
-use Rattle.ms_sat.specs.Table.{AreEntries, Chooses, IsFound, below}
-use Rattle.ms_sat.specs.Way.{tree_of}
+use Rattle.ms_sat.specs.Scaffolding.Table.{AreEntries, Chooses, IsFound, below}
+use Rattle.ms_sat.specs.Scaffolding.Way.{tree_of}
 use Rattle.ms_sat.proofs.Pushed.{on_ok}
 use Rattle.ms_sat.proofs.Counts.{child_costs}
 use Rattle.ms_sat.proofs.Rows.{last_entries, dissatisfied_less, pushed_unless, same_weighed}

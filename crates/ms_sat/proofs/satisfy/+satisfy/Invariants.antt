@@ -5,10 +5,10 @@ use Rattle.def_tree.specs.Nodes.{nodes_of_all}
 use Rattle.def_choice.specs.Cheapest.{all_dissatisfied}
 use Rattle.ms_tree.specs.Shape.{shape, shapes}
 use Rattle.ms_sat.specs.declared.rule.Rule.{Rule}
-use Rattle.ms_sat.specs.Pushed.{IsPushed}
+use Rattle.ms_sat.specs.Scaffolding.Pushed.{IsPushed}
 use Rattle.ms_sat.specs.Rule.{child_by}
-use Rattle.ms_sat.specs.Table.{AreEntries}
-use Rattle.ms_sat.specs.Way.{tree_of, nodes_of_part, nodes_of_way, nodes_of_ways}
+use Rattle.ms_sat.specs.Scaffolding.Table.{AreEntries}
+use Rattle.ms_sat.specs.Scaffolding.Way.{tree_of, nodes_of_part, nodes_of_way, nodes_of_ways}
 use Rattle.ms_sat.proofs.Taken.{FromOn}
 use Rattle.ms_sat.proofs.satisfy.+satisfy.Given as goal
 

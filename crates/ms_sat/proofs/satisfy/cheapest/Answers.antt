@@ -3,8 +3,8 @@ use Rattle.std.proofs.lemmas.Result.{IfOk-weaker}
 use Rattle.def_choice.specs.Lightest.{IsLightest}
 use Rattle.def_choice.proofs.Chosen.{cheapest_is_lightest}
 use Rattle.def_satisfaction.specs.Satisfaction.{Sat}
-use Rattle.ms_laws.proofs.Accepted.{inversion_of}
-use Rattle.ms_laws.proofs.NodeLetters.{letters_of}
+use Rattle.ms_acceptance_laws.proofs.Accepted.{inversion_of}
+use Rattle.ms_letter_laws.proofs.NodeLetters.{letters_of}
 use Rattle.ms_tree.specs.Shape.{shape}
 use Rattle.ms_sat.proofs.Lightest.{none_lightest}
 use Rattle.ms_sat.proofs.satisfy.cheapest.Goals as goal

@@ -1,6 +1,6 @@
 use Rattle.std.proofs.Common.{◌++◌, ◌∙◌, sym, ap, subst}
-use Rattle.ms_sat.specs.Children.{children_of_keys, lengths_of_keys}
-use Rattle.ms_sat.specs.Table.{IsFound}
+use Rattle.ms_sat.specs.Scaffolding.Children.{children_of_keys, lengths_of_keys}
+use Rattle.ms_sat.specs.Scaffolding.Table.{IsFound}
 use Rattle.ms_sat.proofs.Pushed.{multi_pushed, on_ok}
 use Rattle.ms_sat.proofs.satisfy.push_multi.Goals as goal
 

@@ -1,8 +1,8 @@
 use Rattle.std.proofs.Common.{◌∙◌, ◌++◌, sym, ap, subst}
 use Rattle.def_assets.specs.Assets.{sig_of}
 use Rattle.def_choice.specs.Least.{item}
-use Rattle.ms_sat.specs.Pushed.{IsPushed}
-use Rattle.ms_sat.specs.Choice.{takes}
+use Rattle.ms_sat.specs.Scaffolding.Pushed.{IsPushed}
+use Rattle.ms_choice.specs.Marks.{takes}
 use Rattle.ms_sat.proofs.Pushed.{signed_at, signed_done}
 use Rattle.ms_sat.proofs.satisfy.push_signatures.Goals as goal
 use Rattle.ms_sat.proofs.satisfy.push_signatures.Goals.{then-is_taken+in_ok-push_signature, else-is_taken}

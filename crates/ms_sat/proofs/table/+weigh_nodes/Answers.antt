@@ -6,10 +6,11 @@ use Rattle.def_tree.proofs.NodeLists.{nodes_are_all}
 use Rattle.ms_tree.specs.Shape.{shape, shapes}
 use Rattle.ms_tree.proofs.Parts.{nodes_at, in_range_at}
 use Rattle.ms_sane.proofs.Bounds.{multi_enough}
-use Rattle.ms_sane.proofs.Children.{measure_at, few_children, typed_at, typed_children, length_written}
-use Rattle.ms_sat.specs.Children.{IsReady}
-use Rattle.ms_sat.specs.Count.{AreTold}
-use Rattle.ms_sat.specs.Table.{Adds, below}
+use Rattle.ms_sane.proofs.Children.{measure_at, few_children, typed_at, typed_children}
+use Rattle.ms_choice.proofs.Tallies.{length_written}
+use Rattle.ms_sat.specs.Scaffolding.Children.{IsReady}
+use Rattle.ms_sat.specs.Scaffolding.Count.{AreTold}
+use Rattle.ms_sat.specs.Scaffolding.Table.{Adds, below}
 use Rattle.ms_sat.proofs.Rows.{shape_more, nodes_more, same_weighed}
 use Rattle.ms_sat.proofs.Rules.{thresh_some, multi_some}
 use Rattle.ms_sat.proofs.StrictBounds.{light_by}

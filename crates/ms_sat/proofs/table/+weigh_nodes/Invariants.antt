@@ -3,8 +3,8 @@ use Rattle.std.proofs.Common.{◌≡◌, ◌≤◌, ◌+◌, ◌*◌, map, take}
 use Rattle.def_tree.specs.Size.{nodes, nodes_of}
 use Rattle.def_tree.specs.Nodes.{nodes_of_all}
 use Rattle.ms_tree.specs.Shape.{shape, shapes}
-use Rattle.ms_sat.specs.Table.{Adds}
-use Rattle.ms_sat.specs.Count.{AreFew, AreTold}
+use Rattle.ms_sat.specs.Scaffolding.Table.{Adds}
+use Rattle.ms_sat.specs.Scaffolding.Count.{AreFew, AreTold}
 use Rattle.ms_sat.proofs.table.+weigh_nodes.Given as goal
 
 abbrev pub decreases-weigh_nodes : goal.decreases-weigh_nodes

@@ -1,5 +1,5 @@
 use Rattle.std.proofs.Common.{◌∙◌, sym, ap}
-use Rattle.ms_sat.specs.Costs.{weight_of}
+use Rattle.ms_sat.specs.Scaffolding.Costs.{weight_of}
 use Rattle.ms_sat.proofs.Rules.{free_multi, multi_by}
 use Rattle.ms_sat.proofs.table.weigh_multi.Goals as goal
 

@@ -1,7 +1,7 @@
 use Rattle.std.proofs.Common.{◌∙◌, sym, ap}
 use Rattle.def_tree.specs.Tree as model
-use Rattle.ms_sat.specs.Costs.{weight_of}
-use Rattle.ms_sat.specs.Way.{tree_of}
+use Rattle.ms_sat.specs.Scaffolding.Costs.{weight_of}
+use Rattle.ms_sat.specs.Scaffolding.Way.{tree_of}
 use Rattle.ms_sat.proofs.Rows.{same_weighed}
 use Rattle.ms_sat.proofs.table.weigh_two.Goals as goal
 

@@ -1,6 +1,6 @@
 use Rattle.std.proofs.Common.{◌∙◌, sym, ap}
-use Rattle.ms_sat.specs.Costs.{weight_of}
-use Rattle.ms_sat.specs.Way.{IsSeen}
+use Rattle.ms_sat.specs.Scaffolding.Costs.{weight_of}
+use Rattle.ms_sat.specs.Scaffolding.Way.{IsSeen}
 use Rattle.ms_sat.proofs.table.weigh_wrap.Goals as goal
 
 pub returns : goal.returns

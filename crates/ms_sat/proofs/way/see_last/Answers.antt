@@ -1,7 +1,7 @@
 use Rattle.std.proofs.Common.{arith, subst, sym}
 use Rattle.def_tree.specs.Nodes.{all_nodes}
 use Rattle.ms_tree.specs.Shape.{shape}
-use Rattle.ms_sat.specs.Table.{AreEntries}
+use Rattle.ms_sat.specs.Scaffolding.Table.{AreEntries}
 use Rattle.ms_sat.proofs.Tables.{some_entries, last_entry, last_fits, split_front, split_back}
 use Rattle.ms_sat.proofs.way.see_last.Goals as goal
 

@@ -8,12 +8,16 @@ use Rattle.def_choice.specs.Cheapest.{cheapest_of, dissatisfaction}
 use Rattle.ms_tree.specs.Shape.{shape}
 use Rattle.ms_tree.proofs.Parts.{nodes_at, in_range_at}
 use Rattle.ms_sane.proofs.Bounds.{multi_enough}
-use Rattle.ms_sane.proofs.Children.{measure_at, few_children, typed_at, typed_children, length_written}
-use Rattle.ms_sat.specs.Costs.{weight_of, costs_of}
-use Rattle.ms_sat.specs.Children.{IsReady, child_of_tree, children_of}
-use Rattle.ms_sat.specs.Tally.{Tells}
+use Rattle.ms_sane.proofs.Children.{measure_at, few_children, typed_at, typed_children}
+use Rattle.ms_sat.specs.Scaffolding.Costs.{weight_of, costs_of}
+use Rattle.ms_sat.specs.Scaffolding.Children.{IsReady, child_of_tree, children_of}
+use Rattle.ms_choice.specs.declared.children.Number.TheVariants.{First}
+use Rattle.ms_choice.specs.Tally.{Tells}
+use Rattle.ms_sat.proofs.Picked.{chosen_weight, choice_weight}
+use Rattle.std.specs.Option.{option_map}
+use Rattle.ms_choice.specs.Choice.{Pick}
 use Rattle.ms_sat.proofs.Bounds.{light_of}
-use Rattle.ms_sat.proofs.Tallies.{told_written}
+use Rattle.ms_choice.proofs.Tallies.{told_written, length_written}
 use Rattle.ms_sat.proofs.Trees.{thresh_chosen, all_chosen, costs_child, costs_more}
 use Rattle.ms_sat.proofs.Weights.{both_weighs, least_weighs}
 use Rattle.ms_sat.proofs.weigh.+weigh.Goals as goal
@@ -82,13 +86,20 @@ pub of_thresh-returns-clause-sat : goal.of_thresh-returns-clause-sat
 of_thresh-returns-clause-sat t c =
     let xs = c.args.children.now in
     let assets = c.args.assets.now in
-    c.least_of-sat.ensures (children_of assets xs) c.tally_of-tally.ensures.told ∙ sym (ap weight_of (thresh_chosen assets c.args.k xs))
+    c.weight_of_choice-sat.ensures ∙
+    choice_weight (costs_of (children_of assets xs)) c.lightest_of.result ∙
+    ap (option_map (λ (pick : Pick). pick.0)) (c.lightest_of.ensures (costs_of (children_of assets xs)) c.tally_of-tally.ensures.told) ∙
+    chosen_weight (children_of assets xs) c.args.k ∙
+    sym (ap weight_of (thresh_chosen assets c.args.k xs))
 
 pub of_thresh-returns-clause-dsat : goal.of_thresh-returns-clause-dsat
 of_thresh-returns-clause-dsat t c =
     let xs = c.args.children.now in
     let assets = c.args.assets.now in
-    c.none_of-dsat.ensures (children_of assets xs) c.tally_of-tally.new.slots c.tally_of-tally.ensures.told ∙ sym (ap weight_of (all_chosen assets xs))
+    c.first_of-dsat.ensures ∙
+    c.none_of.ensures.least First (costs_of (children_of assets xs)) c.tally_of-tally.new.slots c.tally_of-tally.ensures.told ∙
+    chosen_weight (children_of assets xs) 0 ∙
+    sym (ap weight_of (all_chosen assets xs))
 
 pub tally_of-weigh-costs-requires : goal.tally_of-weigh-costs-requires
 tally_of-weigh-costs-requires t c =
@@ -107,8 +118,8 @@ tally_of-weigh-costs-requires t c =
       },
     )
 
-pub tally_of-add-requires-clause-room : goal.tally_of-add-requires-clause-room
-tally_of-add-requires-clause-room t c =
+pub tally_of-add_costs-requires-clause-room : goal.tally_of-add_costs-requires-clause-room
+tally_of-add_costs-requires-clause-room t c =
     let slots = c.loop-child.slots in
     let free = c.loop-child.tally.free in
     let few = few_children c.args.children.now c.loop-child.child-index c.child-item.result c.loop-child-test.true c.child-item.is in
@@ -117,8 +128,8 @@ tally_of-add-requires-clause-room t c =
     let written = length_written free slots c.weigh-costs.new.slots c.loop-child.invariant.fits.room part in
     omega (arith, written, few, c.loop-child.invariant.free, c.requires.room)
 
-pub tally_of-add-requires-clause-few : goal.tally_of-add-requires-clause-few
-tally_of-add-requires-clause-few t c =
+pub tally_of-add_costs-requires-clause-few : goal.tally_of-add_costs-requires-clause-few
+tally_of-add_costs-requires-clause-few t c =
     let few = few_children c.args.children.now c.loop-child.child-index c.child-item.result c.loop-child-test.true c.child-item.is in
     omega (arith, few, c.loop-child.invariant.place, c.requires.few)
 
@@ -130,15 +141,15 @@ tally_of-loop-child-preserved t c =
     let tally = c.loop-child.tally in
     let slots = c.loop-child.slots in
     let before = children_of assets (take i xs) in
-    let told = told_written (costs_of before) tally slots c.weigh-costs.new.slots (length slots - tally.free) c.loop-child.invariant.fits.room c.loop-child.invariant.told in
+    let told = told_written First (costs_of before) tally slots c.weigh-costs.new.slots (length slots - tally.free) c.loop-child.invariant.fits.room c.loop-child.invariant.told in
     let x = c.child-item.result in
     let is = costs_child assets x c.weigh-costs.result c.weigh-costs.ensures.sat c.weigh-costs.ensures.dsat in
     let more = costs_more (λ y. child_of_tree assets (shape y)) xs i x c.weigh-costs.result c.loop-child-test.true c.child-item.is is in
     record {
-      fits = c.add.ensures.fits;
-      told = subst (λ cs. Tells cs c.add.new.self c.add.new.slots) more (c.add.ensures.told (costs_of before) told);
-      free = omega (arith, c.add.ensures.free, c.loop-child.invariant.free);
-      place = omega (arith, c.add.ensures.place, c.loop-child.invariant.place);
+      fits = c.add_costs.ensures.fits;
+      told = subst (λ cs. Tells First cs c.add_costs.new.self c.add_costs.new.slots) more (c.add_costs.ensures.told (costs_of before) told);
+      free = omega (arith, c.add_costs.ensures.free, c.loop-child.invariant.free);
+      place = omega (arith, c.add_costs.ensures.place, c.loop-child.invariant.place);
     }
 
 -- the same of the kind that was found

@@ -2,9 +2,10 @@
 use Rattle.std.proofs.Common.{◌≡◌, ◌≤◌, ◌+◌, ◌*◌, take}
 use Rattle.def_tree.specs.Size.{nodes, nodes_of}
 use Rattle.ms_tree.specs.Shape.{shape, shapes}
-use Rattle.ms_sat.specs.Costs.{costs_of}
-use Rattle.ms_sat.specs.Tally.{Fits, Tells}
-use Rattle.ms_sat.specs.Children.{children_of}
+use Rattle.ms_sat.specs.Scaffolding.Costs.{costs_of}
+use Rattle.ms_choice.specs.declared.children.Number.TheVariants.{First}
+use Rattle.ms_choice.specs.Tally.{Fits, Tells}
+use Rattle.ms_sat.specs.Scaffolding.Children.{children_of}
 use Rattle.ms_sat.proofs.weigh.+weigh.Given as goal
 
 abbrev pub decreases-weigh : goal.decreases-weigh
@@ -28,7 +29,7 @@ decreases-of_wrap l = 4 * nodes (shape l.x.now) + 1
 abbrev pub invariant-tally_of-loop-child : goal.invariant-tally_of-loop-child
 invariant-tally_of-loop-child l = record {
   fits : Fits l.tally l.slots;
-  told : Tells (costs_of (children_of l.assets (take l.child-index l.children))) l.tally l.slots;
+  told : Tells First (costs_of (children_of l.assets (take l.child-index l.children))) l.tally l.slots;
   free : l.tally.free ≤ l.child-index;
   place : l.tally.place ≡ l.child-index;
 }

@@ -1,7 +1,7 @@
 use Rattle.std.proofs.Common.{◌≡◌, ◌∙◌, ◌+◌, ◌*◌, [], ◌∷◌, sym, ap, arith, Some}
 use Rattle.def_satisfaction.specs.Rows.{EMPTY}
 use Rattle.def_choice.specs.Cheapest.{signatures}
-use Rattle.ms_sat.specs.Children.{children_of_keys, lengths_of_keys}
+use Rattle.ms_sat.specs.Scaffolding.Children.{children_of_keys, lengths_of_keys}
 use Rattle.ms_sat.proofs.Bounds.{signatures_light, weight-replicate}
 use Rattle.ms_sat.proofs.Counts.{found_weight}
 use Rattle.ms_sat.proofs.Keys.{signatures_weigh}

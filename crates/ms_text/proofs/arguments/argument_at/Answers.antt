@@ -1,8 +1,8 @@
 use Rattle.std.proofs.Common.{sym, ap, ◌∙◌, arith}
 use Rattle.std.specs.Option.{option_map}
-use Rattle.def_text.specs.Reader.{leaf_of as spelled_by}
-use Rattle.ms_text.specs.Leaves.{leaf_tree}
-use Rattle.ms_text.specs.Names.{leaf_of}
+use Rattle.def_text.specs.Scaffolding.Reader.{leaf_of as spelled_by}
+use Rattle.ms_text.specs.Scaffolding.Leaves.{leaf_tree}
+use Rattle.ms_text.specs.Scaffolding.Names.{leaf_of}
 use Rattle.ms_text.proofs.NameLemmas.{no_empty_leaf}
 use Rattle.ms_text.proofs.PlaceLemmas.{word_goes, word_stops, word_some}
 use Rattle.ms_text.proofs.arguments.argument_at.Goals as goal

@@ -1,7 +1,7 @@
 use Rattle.std.proofs.Common.{sym, ap, ◌∙◌}
 use Rattle.std.proofs.lemmas.Result.{err_from_is_err_and}
-use Rattle.ms_text.specs.Leaves.{leaf_tree, leaf_of_key}
-use Rattle.ms_text.specs.Place.{machine_from}
+use Rattle.ms_text.specs.Scaffolding.Leaves.{leaf_tree, leaf_of_key}
+use Rattle.ms_text.specs.Scaffolding.Place.{machine_from}
 use Rattle.ms_text.proofs.AnswerLemmas.{refused}
 use Rattle.ms_text.proofs.KeyLemmas.{takes_of_key}
 use Rattle.ms_text.proofs.arguments.key_argument_at.Goals as goal

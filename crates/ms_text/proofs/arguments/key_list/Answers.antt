@@ -2,9 +2,9 @@ use Rattle.std.proofs.Common.{rules, ◌≡◌, ◌+◌, [], ◌∷◌, ◌++◌
 use Rattle.std.proofs.lemmas.List.Elements.{All-push}
 use Rattle.std.proofs.lemmas.Result.{err_from_is_err_and}
 use Rattle.def_tree.specs.Range.{IsKey}
-use Rattle.def_text.specs.Reader.{multi_comma, multi_key, multi_next}
+use Rattle.def_text.specs.Scaffolding.Reader.{multi_comma, multi_key, multi_next}
 use Rattle.ms_text.specs.declared.tokens.Separator.TheVariants as separator
-use Rattle.ms_text.specs.Place.{machine_from}
+use Rattle.ms_text.specs.Scaffolding.Place.{machine_from}
 use Rattle.ms_text.proofs.AnswerLemmas.{refused, along, key_read, key_behind}
 use Rattle.ms_text.proofs.StateLemmas.{takes_multi_comma, takes_multi_key, takes_multi_next, key_next}
 use Rattle.ms_text.proofs.arguments.key_list.Goals as goal

@@ -2,8 +2,8 @@
 use Rattle.std.proofs.Common.{◌≡◌, ℕ, ◌+◌, ◌-◌, ◌≤◌, List, length}
 use Rattle.std.specs.Prelude.{All}
 use Rattle.def_tree.specs.Range.{IsKey}
-use Rattle.def_text.specs.Reader.{Frame, multi_comma, multi_key}
-use Rattle.ms_text.specs.Place.{IsPlace, machine_from}
+use Rattle.def_text.specs.Scaffolding.Reader.{Frame, multi_comma, multi_key}
+use Rattle.ms_text.specs.Scaffolding.Place.{IsPlace, machine_from}
 use Rattle.ms_text.proofs.arguments.key_list.Given as goal
 
 abbrev pub invariant-loop-keys : goal.invariant-loop-keys

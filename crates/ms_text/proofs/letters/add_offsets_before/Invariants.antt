@@ -1,6 +1,6 @@
 -- What the rest of a run adds.
 use Rattle.std.proofs.Common.{◌≡◌, ◌+◌, drop}
-use Rattle.ms_text.specs.Runs.{offsets_before_run}
+use Rattle.ms_text.specs.Scaffolding.Runs.{offsets_before_run}
 use Rattle.ms_text.proofs.letters.add_offsets_before.Given as goal
 
 abbrev pub invariant-loop-byte : goal.invariant-loop-byte

@@ -2,8 +2,8 @@
 use Rattle.std.proofs.Common.{◌≡◌, ◌-◌, ◌≤◌, true, length, take, drop, is_some}
 use Rattle.std.specs.List.{list_all}
 use Rattle.def_text.specs.Token.{is_word_byte}
-use Rattle.def_text.specs.Reader.{letters_of}
-use Rattle.ms_text.specs.Place.{IsPlace}
+use Rattle.def_text.specs.Scaffolding.Reader.{letters_of}
+use Rattle.ms_text.specs.Scaffolding.Place.{IsPlace}
 use Rattle.ms_text.proofs.names.behind_letters.Given as goal
 
 abbrev pub invariant-loop-end : goal.invariant-loop-end

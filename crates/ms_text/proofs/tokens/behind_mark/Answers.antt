@@ -1,7 +1,7 @@
 use Rattle.std.proofs.Common.{sym, ◌∙◌}
 use Rattle.ms_text.proofs.PlaceLemmas.{place_behind_mark, mark_goes, mark_elsewhere, elsewhere_stops, byte_at, no_byte_at}
-use Rattle.ms_text.specs.Marks.{mark_read}
-use Rattle.ms_text.specs.Place.{rest}
+use Rattle.ms_text.specs.Scaffolding.Marks.{mark_read}
+use Rattle.ms_text.specs.Scaffolding.Place.{rest}
 use Rattle.ms_text.proofs.tokens.behind_mark.Goals as goal
 
 pub returns-then-is_byte_at-clause-place : goal.returns-then-is_byte_at-clause-place

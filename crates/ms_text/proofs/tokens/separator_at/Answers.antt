@@ -1,8 +1,8 @@
 use Rattle.std.proofs.Common.{sym, ◌∙◌}
 use Rattle.ms_text.specs.declared.tokens.Mark.TheVariants as mark
 use Rattle.ms_text.proofs.PlaceLemmas.{place_behind_mark, comma_goes, close_goes, separator_elsewhere, elsewhere_stops, byte_at, no_byte_at}
-use Rattle.ms_text.specs.Marks.{separator_read}
-use Rattle.ms_text.specs.Place.{rest}
+use Rattle.ms_text.specs.Scaffolding.Marks.{separator_read}
+use Rattle.ms_text.specs.Scaffolding.Place.{rest}
 use Rattle.ms_text.proofs.tokens.separator_at.Goals as goal
 
 pub returns-then-is_byte_at-clause-place : goal.returns-then-is_byte_at-clause-place

@@ -2,7 +2,7 @@
 use Rattle.std.proofs.Common.{◌≡◌, ◌-◌, ◌≤◌, true, length, take, drop}
 use Rattle.std.specs.List.{list_all}
 use Rattle.def_text.specs.Token.{is_word_byte}
-use Rattle.ms_text.specs.Place.{IsPlace}
+use Rattle.ms_text.specs.Scaffolding.Place.{IsPlace}
 use Rattle.ms_text.proofs.tokens.word_behind.Given as goal
 
 abbrev pub invariant-loop-end : goal.invariant-loop-end

@@ -3,7 +3,7 @@ use Rattle.std.proofs.Common.{◌≡◌, ◌+◌, ◌*◌, List, drop, length}
 use Rattle.def_tree.specs.Size.{nodes, nodes_of}
 use Rattle.ms_tree.specs.Shape.{shape, shapes}
 use Rattle.def_types.specs.System.{typed_each}
-use Rattle.ms_types.specs.Seen.{behind}
+use Rattle.ms_types.specs.Scaffolding.Seen.{behind}
 use Rattle.ms_types.proofs.system.+typed.Given as goal
 
 abbrev pub decreases-typed : goal.decreases-typed

@@ -1,7 +1,7 @@
 use Rattle.std.proofs.Common.{Ok, refl, sym, subst}
 use Rattle.std.specs.String.{string_bytes}
 use Rattle.def_answer.specs.declared.status.Status.TheVariants as status
-use Rattle.msat_cli.specs.Steps.{AsDone}
+use Rattle.msat_cli.specs.Scaffolding.Steps.{AsDone}
 use Rattle.msat_cli.proofs.texts.done.Goals as goal
 
 pub returns-in-Ok : goal.returns-in-Ok

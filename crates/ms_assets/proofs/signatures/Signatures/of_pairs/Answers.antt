@@ -1,7 +1,7 @@
 use Rattle.std.proofs.Common.{rules, subst}
 use Rattle.std.specs.Ordering.{is_lt}
 use Rattle.std.proofs.lemmas.Fn.{always_returns_same}
-use Rattle.ms_assets.specs.Order.{rank_cmp, rank_of, IsOrder}
+use Rattle.ms_assets.specs.Scaffolding.Order.{rank_cmp, rank_of, IsOrder}
 use Rattle.ms_assets.proofs.Orders.{weak}
 use Rattle.ms_assets.proofs.signatures.Signatures.of_pairs.Goals as goal
 

@@ -1,6 +1,6 @@
 use Rattle.std.proofs.Common.{◌++◌, [], ◌∷◌, sym, ◌∙◌, ap, length}
 use Rattle.std.specs.List.{insert}
-use Rattle.ms_assets.specs.Order.{IsOrder}
+use Rattle.ms_assets.specs.Scaffolding.Order.{IsOrder}
 use Rattle.ms_assets.proofs.Orders.{put_in, is_order, inserted}
 use Rattle.ms_assets.proofs.signatures.Signatures.push.Goals as goal
 

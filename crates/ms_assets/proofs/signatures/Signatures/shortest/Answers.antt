@@ -1,6 +1,6 @@
 use Rattle.std.proofs.Common.{sym, ◌∙◌, ap}
 use Rattle.def_assets.specs.Assets.{sigs_with, shortest}
-use Rattle.ms_assets.specs.Order.{IsOrder}
+use Rattle.ms_assets.specs.Scaffolding.Order.{IsOrder}
 use Rattle.ms_assets.proofs.Orders.{is_order, found_is, missing_is, not_within}
 use Rattle.ms_assets.proofs.signatures.Signatures.shortest.Goals as goal
 

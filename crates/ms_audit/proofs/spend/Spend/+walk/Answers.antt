@@ -6,7 +6,7 @@ use Rattle.ms_interp.specs.Answering.{given_by}
 use Rattle.ms_oracle.specs.Sound.{table_of}
 use Rattle.ms_audit_laws.specs.Walk.{forced, passed, ends}
 use Rattle.ms_audit.specs.declared.row.Row.{Row}
-use Rattle.ms_audit.specs.Walking.{verdict_of, Walks}
+use Rattle.ms_audit.specs.Scaffolding.Walking.{verdict_of, Walks}
 use Rattle.ms_audit.proofs.Courses.{ends_by, passed_is, few_counted, leaf_done, leaf_nodes, wrap_done, wrap_d_done, selected_one, two_done, thresh_done, count_step, nodes_left}
 use Rattle.ms_audit.proofs.spend.Spend.+walk.Goals as goal
 use Rattle.ms_audit.proofs.spend.Spend.+walk.Goals.{count-then-branch, count-else-branch}

@@ -2,7 +2,7 @@
 use Rattle.std.proofs.Common.{◌≡◌, ◌+◌, ◌*◌, ◌≤◌, length, drop}
 use Rattle.def_tree.specs.Size.{nodes, nodes_of}
 use Rattle.ms_audit_laws.specs.Walk.{walk_all}
-use Rattle.ms_audit.specs.Walking.{below, added}
+use Rattle.ms_audit.specs.Scaffolding.Walking.{below, added}
 use Rattle.ms_interp.specs.Answering.{given_by}
 use Rattle.ms_oracle.specs.Sound.{table_of}
 use Rattle.ms_tree.specs.Shape.{shape, shapes}

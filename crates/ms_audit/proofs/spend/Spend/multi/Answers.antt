@@ -3,7 +3,7 @@ use Rattle.def_machine.specs.Stacks.{is_empty}
 use Rattle.ms_interp.specs.Answering.{given_by}
 use Rattle.ms_oracle.specs.Sound.{table_of}
 use Rattle.ms_audit_laws.specs.Walk.{ended}
-use Rattle.ms_audit.specs.Walking.{below}
+use Rattle.ms_audit.specs.Scaffolding.Walking.{below}
 use Rattle.ms_audit.proofs.Lefts.{empty_is, multi_off}
 use Rattle.ms_audit.proofs.spend.Spend.multi.Goals as goal
 

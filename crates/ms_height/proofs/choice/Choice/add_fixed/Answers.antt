@@ -1,7 +1,7 @@
 use Rattle.std.proofs.Common.{◌≡◌, ◌+◌, max, ◌∙◌, ap, arith}
 use Rattle.def_height.specs.Highest.{only}
-use Rattle.ms_height.specs.Choice.{items_of}
-use Rattle.ms_height.specs.Chosen.{more_sats, more_dsats}
+use Rattle.ms_height.specs.Scaffolding.Choice.{items_of}
+use Rattle.ms_height.specs.Scaffolding.Chosen.{more_sats, more_dsats}
 use Rattle.ms_height.proofs.Choices.{fixed_child, length_sats, length_dsats}
 use Rattle.ms_height.proofs.choice.Choice.add_fixed.Goals as goal
 

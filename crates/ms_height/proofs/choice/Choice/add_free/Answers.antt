@@ -1,8 +1,8 @@
 use Rattle.std.proofs.Common.{◌≡◌, ℕ, ◌+◌, max, ◌∷◌, ◌∙◌, ap, subst, arith}
 use Rattle.def_height.specs.Highest.{only}
-use Rattle.ms_height.specs.Choice.{items_of, reach}
-use Rattle.ms_height.specs.Chosen.{more_sats, more_dsats}
-use Rattle.ms_height.specs.Tops.{IsTop}
+use Rattle.ms_height.specs.Scaffolding.Choice.{items_of, reach}
+use Rattle.ms_height.specs.Scaffolding.Chosen.{more_sats, more_dsats}
+use Rattle.ms_height.specs.Scaffolding.Tops.{IsTop}
 use Rattle.ms_height.proofs.Choices.{free_child, length_sats, length_dsats}
 use Rattle.ms_height.proofs.choice.Choice.add_free.Goals as goal
 

@@ -1,5 +1,5 @@
 use Rattle.std.proofs.Common.{◌+◌, ◌<◌, ◌∙◌, ap, sym, arith}
-use Rattle.ms_height.specs.Choice.{items_of}
+use Rattle.ms_height.specs.Scaffolding.Choice.{items_of}
 use Rattle.ms_height.proofs.Choices.{reach_at}
 use Rattle.ms_height.proofs.choice.Choice.height_at_dsat.Goals as goal
 

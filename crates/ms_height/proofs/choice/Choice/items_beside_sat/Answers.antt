@@ -1,5 +1,5 @@
 use Rattle.std.proofs.Common.{arith}
-use Rattle.ms_height.specs.Chosen.{more_sats, more_dsats}
+use Rattle.ms_height.specs.Scaffolding.Chosen.{more_sats, more_dsats}
 use Rattle.ms_height.proofs.choice.Choice.items_beside_sat.Goals as goal
 
 pub overflow_add-result : goal.overflow_add-result

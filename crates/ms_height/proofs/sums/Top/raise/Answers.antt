@@ -1,5 +1,5 @@
 use Rattle.std.proofs.Common.{◌≡◌, ◌+◌, ◌^◌, ◌∙◌, inr, length, arith}
-use Rattle.ms_height.specs.Tops.{equal}
+use Rattle.ms_height.specs.Scaffolding.Tops.{equal}
 use Rattle.ms_height.proofs.Marks.{excess_next, above_next, reached_next, above_excess, above_inside}
 use Rattle.ms_height.proofs.sums.Top.raise.Goals as goal
 

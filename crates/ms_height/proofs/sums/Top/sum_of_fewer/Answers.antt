@@ -1,5 +1,5 @@
 use Rattle.std.proofs.Common.{◌≡◌, ◌+◌, ◌-◌, ◌*◌, ◌∙◌, ap, arith}
-use Rattle.ms_height.specs.Chosen.{top}
+use Rattle.ms_height.specs.Scaffolding.Chosen.{top}
 use Rattle.ms_height.proofs.Tops.{top_is, fewer_reach}
 use Rattle.ms_height.proofs.Marks.{marks_most, excess_most}
 use Rattle.ms_height.proofs.sums.Top.sum_of_fewer.Goals as goal

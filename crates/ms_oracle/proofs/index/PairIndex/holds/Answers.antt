@@ -1,6 +1,7 @@
 use Rattle.std.proofs.Common.{◌∙◌, rules}
 use Rattle.std.proofs.lemmas.Fn.{always_returns_same}
-use Rattle.ms_oracle.specs.Scaffolding.Index.{pair_at, pair_cmp}
+use Rattle.ms_oracle.specs.Places.{pair_at}
+use Rattle.ms_oracle.specs.Scaffolding.Index.{pair_cmp}
 use Rattle.ms_oracle.proofs.Indexes.{search_finds}
 use Rattle.ms_oracle.proofs.index.PairIndex.holds.Goals as goal
 

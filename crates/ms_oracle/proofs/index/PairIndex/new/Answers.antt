@@ -2,7 +2,8 @@ use Rattle.std.proofs.Common.{rules}
 use Rattle.std.specs.Ordering.{is_lt}
 use Rattle.std.proofs.lemmas.Fn.{always_returns_same}
 use Rattle.std.proofs.lemmas.List.Sorted.{ranks_by}
-use Rattle.ms_oracle.specs.Scaffolding.Index.{pair_at, pair_cmp}
+use Rattle.ms_oracle.specs.Places.{pair_at}
+use Rattle.ms_oracle.specs.Scaffolding.Index.{pair_cmp}
 use Rattle.ms_oracle.proofs.Indexes.{pair_cmp-total}
 use Rattle.ms_oracle.proofs.index.PairIndex.new.Goals as goal
 

@@ -1,4 +1,5 @@
 use Rattle.std.proofs.Common.{refl, arith}
+use Rattle.ms_choice.specs.declared.children.Number.TheVariants.{First}
 use Rattle.ms_sat.proofs.table.Children.none.Goals as goal
 
 pub returns-clause-few : goal.returns-clause-few
@@ -12,7 +13,7 @@ returns-clause-few c = λ slots. record {
 
 pub returns-clause-told : goal.returns-clause-told
 returns-clause-told c = λ rule assets slots. record {
-  tally = c.new.ensures.told slots;
+  tally = c.new.ensures.told First slots;
   free = record { forced = refl; stuck = refl; free = refl };
   dsat = refl;
 }

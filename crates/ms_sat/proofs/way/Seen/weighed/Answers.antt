@@ -1,5 +1,5 @@
 use Rattle.std.proofs.Common.{[], arith}
-use Rattle.ms_sat.specs.Way.{tree_of}
+use Rattle.ms_sat.specs.Scaffolding.Way.{tree_of}
 use Rattle.ms_sat.proofs.Tables.{some_entries, last_entry}
 use Rattle.ms_sat.proofs.way.Seen.weighed.Goals as goal
 

@@ -1,5 +1,5 @@
 use Rattle.std.proofs.Common.{◌≡◌, take}
-use Rattle.ms_script.specs.Stacks.{weight as the_weight}
+use Rattle.def_script.specs.Witness.{weight as the_weight}
 use Rattle.ms_script.proofs.stack.Stack.weight.Given as goal
 
 abbrev pub invariant-loop-item : goal.invariant-loop-item

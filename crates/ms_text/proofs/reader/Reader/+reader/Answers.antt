@@ -1,18 +1,18 @@
 use Rattle.std.proofs.Common.{rules, ◌≡◌, ◌+◌, [], ◌∷◌, ◌++◌, ap, subst, sym, ◌∙◌, arith}
 use Rattle.std.proofs.lemmas.Result.{err_from_is_err_and}
 use Rattle.def_tree.specs.Tree.{and_or, thresh, more, none}
-use Rattle.def_text.specs.Reader as machine
+use Rattle.def_text.specs.Scaffolding.Reader as machine
 use Rattle.ms_tree.specs.Shape.{shape, shapes}
 use Rattle.ms_text.specs.declared.tokens.Separator.TheVariants as separator
-use Rattle.ms_text.specs.Names.{form_of, pair_of, HeadIs, IsLetters}
-use Rattle.ms_text.specs.Place.{machine_from}
+use Rattle.ms_text.specs.Scaffolding.Names.{form_of, pair_of, HeadIs, IsLetters}
+use Rattle.ms_text.specs.Scaffolding.Place.{machine_from}
 use Rattle.ms_text.proofs.AnswerLemmas.{refused, along, answers_along}
 use Rattle.ms_text.proofs.PartLemmas.{part_at, one_more, joined_count, joined_measure, joined_depth, joined_writable}
 use Rattle.ms_text.proofs.ExpressionLemmas.{name_begins, run_too_deep, run_begins}
 use Rattle.ms_text.proofs.NameLemmas.{letters_are_long}
 use Rattle.def_tree.specs.Range.{MOST_DEPTH}
-use Rattle.ms_text.specs.Room.{AreParts}
-use Rattle.ms_text.specs.Place.{rest}
+use Rattle.ms_text.specs.Scaffolding.Room.{AreParts}
+use Rattle.ms_text.specs.Scaffolding.Place.{rest}
 use Rattle.ms_text.proofs.RunLemmas.{run_offsets_are, run_is_long}
 use Rattle.ms_text.proofs.StateLemmas.{child_next, takes_colon_next, takes_andor_open, takes_andor_first, takes_andor_second, takes_andor_third, takes_pair_open, takes_pair_first, takes_pair_second, takes_thresh_open, takes_thresh_number, takes_thresh_comma, takes_thresh_child}
 use Rattle.ms_text.proofs.reader.Reader.+reader.Goals as goal

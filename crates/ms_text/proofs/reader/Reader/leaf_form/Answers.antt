@@ -1,8 +1,8 @@
 use Rattle.std.proofs.Common.{◌++◌, ◌∙◌}
 use Rattle.std.proofs.lemmas.Result.{err_from_is_err_and}
-use Rattle.def_text.specs.Reader.{leaf_open, leaf_word, leaf_close, ended, leaf_offsets}
-use Rattle.ms_text.specs.Leaves.{leaf_tree}
-use Rattle.ms_text.specs.Names.{leaf_of}
+use Rattle.def_text.specs.Scaffolding.Reader.{leaf_open, leaf_word, leaf_close, ended, leaf_offsets}
+use Rattle.ms_text.specs.Scaffolding.Leaves.{leaf_tree}
+use Rattle.ms_text.specs.Scaffolding.Names.{leaf_of}
 use Rattle.ms_text.proofs.AnswerLemmas.{refused, along}
 use Rattle.ms_text.proofs.StateLemmas.{takes_leaf_open, takes_leaf_word, takes_leaf_close}
 use Rattle.ms_text.proofs.reader.Reader.leaf_form.Goals as goal

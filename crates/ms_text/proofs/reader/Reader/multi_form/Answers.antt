@@ -1,6 +1,6 @@
 use Rattle.std.proofs.Common.{[], ◌∷◌, ◌++◌, ◌∙◌}
 use Rattle.std.proofs.lemmas.Result.{err_from_is_err_and}
-use Rattle.def_text.specs.Reader.{multi_open, multi_number, multi_comma}
+use Rattle.def_text.specs.Scaffolding.Reader.{multi_open, multi_number, multi_comma}
 use Rattle.ms_text.proofs.AnswerLemmas.{refused, along}
 use Rattle.ms_text.proofs.StateLemmas.{takes_multi_open, takes_multi_number}
 use Rattle.ms_text.proofs.reader.Reader.multi_form.Goals as goal

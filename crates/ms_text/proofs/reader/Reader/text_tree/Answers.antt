@@ -1,9 +1,9 @@
 use Rattle.std.proofs.Common.{[], ap, refl, sym, ◌∙◌, arith}
 use Rattle.std.proofs.lemmas.Result.{err_from_is_err_and}
 use Rattle.def_text.specs.declared.TextFault.TheVariants.{Syntax}
-use Rattle.def_text.specs.Reader.{expression}
+use Rattle.def_text.specs.Scaffolding.Reader.{expression}
 use Rattle.ms_tree.specs.Shape.{shape}
-use Rattle.ms_text.specs.Place.{machine_from}
+use Rattle.ms_text.specs.Scaffolding.Place.{machine_from}
 use Rattle.ms_text.proofs.AnswerLemmas.{along}
 use Rattle.ms_text.proofs.TextLemmas.{place_first, whole, refusal, trailing, offset_each}
 use Rattle.ms_text.proofs.reader.Reader.text_tree.Goals as goal

@@ -1,7 +1,7 @@
 use Rattle.std.proofs.Common.{◌-◌, length, sym, ap, ◌∙◌, arith}
 use Rattle.std.specs.Option.{option_map}
 use Rattle.ms_tree.specs.Shape.{shape}
-use Rattle.ms_text.specs.Names.{letter_of}
+use Rattle.ms_text.specs.Scaffolding.Names.{letter_of}
 use Rattle.ms_text.proofs.RunLemmas.{no_other_byte, run_starts, run_goes, one_larger}
 use Rattle.ms_text.proofs.reader.Reader.with_letters.Goals as goal
 

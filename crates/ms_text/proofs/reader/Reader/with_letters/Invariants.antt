@@ -1,10 +1,10 @@
 -- The letters that are left, from the first one on, and the tree that those behind them made.
 use Rattle.std.proofs.Common.{◌≡◌, ◌-◌, ◌≤◌, List, Some, length, take}
 use Rattle.def_text.specs.Letter.{Letter}
-use Rattle.def_text.specs.Reader.{Frame, letters_of, run_frames, ended, outcome}
+use Rattle.def_text.specs.Scaffolding.Reader.{Frame, letters_of, run_frames, ended, outcome}
 use Rattle.def_text.specs.Token.{Token}
 use Rattle.ms_tree.specs.Shape.{shape}
-use Rattle.ms_text.specs.Room.{IsLarger}
+use Rattle.ms_text.specs.Scaffolding.Room.{IsLarger}
 use Rattle.ms_text.proofs.reader.Reader.with_letters.Given as goal
 
 abbrev pub invariant-loop-left : goal.invariant-loop-left

@@ -1,5 +1,5 @@
 use Rattle.std.proofs.Common.{◌∙◌, sym, ap}
-use Rattle.ms_types.specs.Children.{and}
+use Rattle.ms_types.specs.Scaffolding.Children.{and}
 use Rattle.ms_types.proofs.OneMore.{seen_snoc}
 use Rattle.ms_types.proofs.correctness.TyTypeSystem.and_child.Goals as goal
 

@@ -1,5 +1,5 @@
 use Rattle.std.proofs.Common.{◌∙◌, sym, ap, arith}
-use Rattle.ms_types.specs.Signed.{and}
+use Rattle.ms_types.specs.Scaffolding.Signed.{and}
 use Rattle.ms_types.proofs.Signing.{few_unsigned, signed_snoc}
 use Rattle.ms_types.proofs.malleability.MallTypeSystem.and_child.Goals as goal
 

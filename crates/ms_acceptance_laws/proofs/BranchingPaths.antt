@@ -1,0 +1,361 @@
+-- The ways of the fragments and wrappers whose Scripts branch, set the top aside, swap or add.
+use Rattle.std.proofs.Common.{◌≡◌, ◌≢◌, ℕ, ◌+◌, Bool, true, false, List, [], ◌∷◌, ◌++◌, length, Ok, ℤ, refl, sym, ◌∙◌, ap, subst, inl, inr, append_assoc, arith}
+use Rattle.std.specs.Prelude.{◌+ℤ◌}
+use Rattle.def_hash.specs.declared.HashKind.{HashKind}
+use Rattle.def_hash.specs.declared.HashKind.TheVariants as hash_kind
+use Rattle.def_script.specs.declared.Op.TheVariants as op
+use Rattle.def_script.specs.Bytes.{Bytes}
+use Rattle.def_script.specs.Instruction.{Instruction, push, code}
+use Rattle.def_script.specs.Numbers.{natural_bytes, number_bytes}
+use Rattle.def_machine.specs.Faults.{OrFault, ◌>>=◌}
+use Rattle.def_machine.specs.Stacks.{Stack, bool_bytes}
+use Rattle.def_machine.specs.Effects.{to_alt_stack, dup, if_dup, swap, size, equal, verify, zero_not_equal, add, two_numbers, operand}
+use Rattle.def_machine.specs.Machine.{Given, State, is_live, act}
+use Rattle.def_types.specs.declared.Base.{Base}
+use Rattle.def_types.specs.declared.Base.TheVariants.{B, V, W}
+use Rattle.def_emit.specs.Emit.{number, hash_opcode}
+use Rattle.def_satisfaction.specs.Rows.{EMPTY, ONE, HasTop}
+use Rattle.def_height.specs.Course.{up, down, Course}
+use Rattle.def_height.specs.Formal.{Way, then, Is, Then, Followed}
+use Rattle.def_height.proofs.Courses.{rise_append}
+use Rattle.ms_acceptance_laws.proofs.ScriptRise.{rises}
+use Rattle.ms_acceptance_laws.proofs.StackEffects.{Left, Effect, both, plain, silent, pushes, left}
+use Rattle.ms_acceptance_laws.proofs.StackValues.{zero_not_equal-natural}
+use Rattle.ms_acceptance_laws.proofs.ForwardBases.{Beside, Short, split}
+use Rattle.ms_acceptance_laws.proofs.ForwardFragments.{swapped, sized, some_length}
+use Rattle.ms_acceptance_laws.proofs.UnlimitedMachine.{reached, one_more, free_step, free_steps}
+use Rattle.ms_acceptance_laws.proofs.InstructionEffects.{Does, all_taken, goes_from, push_does}
+use Rattle.ms_acceptance_laws.proofs.SignatureOpcodes.{equal_verify_does}
+use Rattle.ms_acceptance_laws.proofs.ScriptEffects.{then_does, if_dup_does, dup_does, swap_does, size_does, zero_not_equal_does, add_does}
+use Rattle.ms_acceptance_laws.proofs.RunHeights.{low_behind}
+use Rattle.ms_acceptance_laws.proofs.WithinCourse.{Keeps, Follows, does_follow, one_follows, keeps_then, keeps_rises, keeps_as}
+use Rattle.ms_acceptance_laws.proofs.UntakenBranches.{Still}
+use Rattle.ms_acceptance_laws.proofs.BranchCourses.{else_taken, else_passed, only_taken, only_passed}
+use Rattle.ms_acceptance_laws.proofs.SimplePaths.{Path, Child, followed, on_follows, path_keeps, both_items, unit_then, unit_end, begun_path, led_path, is_path}
+use Rattle.ms_row_laws.proofs.RunLog.{quiet}
+use Rattle.ms_row_laws.proofs.Outcomes.{bind_split, same_ok}
+
+pub b_not_w : B ≢ W
+b_not_w e = cc
+
+v_not_w : V ≢ W
+v_not_w e = cc
+
+-- single opcodes
+module _ (given : Given) (m : Stack) where
+  if_dup_one : plain if_dup (ONE ∷ m) ≡ Ok (left (ONE ∷ ONE ∷ m) quiet)
+  unfolding if_dup
+  if_dup_one = refl
+
+  if_dup_empty : plain if_dup (EMPTY ∷ m) ≡ Ok (left (EMPTY ∷ m) quiet)
+  unfolding if_dup
+  if_dup_empty = refl
+
+  duplicated : (x : Bytes) → plain dup (x ∷ m) ≡ Ok (left (x ∷ x ∷ m) quiet)
+  unfolding dup
+  duplicated x = refl
+
+  if_dup_one_follows : Follows given (code op.IfDup ∷ []) (up 1 ∷ []) (ONE ∷ m) (ONE ∷ ONE ∷ m)
+  if_dup_one_follows = one_follows given (code op.IfDup) (plain if_dup) (up 1 ∷ []) (ONE ∷ m) (ONE ∷ ONE ∷ m) quiet (if_dup_does given) if_dup_one (omega arith)
+
+  if_dup_empty_follows : Follows given (code op.IfDup ∷ []) (up 0 ∷ []) (EMPTY ∷ m) (EMPTY ∷ m)
+  if_dup_empty_follows = one_follows given (code op.IfDup) (plain if_dup) (up 0 ∷ []) (EMPTY ∷ m) (EMPTY ∷ m) quiet (if_dup_does given) if_dup_empty (omega arith)
+
+  dup_follows : (x : Bytes) → Follows given (code op.Dup ∷ []) (up 1 ∷ []) (x ∷ m) (x ∷ x ∷ m)
+  dup_follows x = one_follows given (code op.Dup) (plain dup) (up 1 ∷ []) (x ∷ m) (x ∷ x ∷ m) quiet (dup_does given) (duplicated x) (omega arith)
+
+  swap_follows : (x y : Bytes) → Follows given (code op.Swap ∷ []) (up 0 ∷ []) (x ∷ y ∷ m) (y ∷ x ∷ m)
+  swap_follows x y =
+      one_follows given (code op.Swap) (plain swap) (up 0 ∷ []) (x ∷ y ∷ m) (y ∷ x ∷ m) quiet (swap_does given)
+      (ap (λ (r : OrFault Stack). r >>= silent) (swapped x y m)) (omega arith)
+
+  size_follows : (x : Bytes) → Follows given (code op.Size ∷ []) (up 1 ∷ []) (x ∷ m) (natural_bytes (length x) ∷ x ∷ m)
+  size_follows x =
+      one_follows given (code op.Size) (plain size) (up 1 ∷ []) (x ∷ m) (natural_bytes (length x) ∷ x ∷ m) quiet (size_does given)
+      (ap (λ (r : OrFault Stack). r >>= silent) (sized x m)) (omega arith)
+
+  nonzero_follows : (v : Bytes) (b : Bool) → zero_not_equal (v ∷ m) ≡ Ok (bool_bytes b ∷ m) → Follows given (code op.ZeroNotEqual ∷ []) (up 0 ∷ []) (v ∷ m) (bool_bytes b ∷ m)
+  nonzero_follows v b is =
+      one_follows given (code op.ZeroNotEqual) (plain zero_not_equal) (up 0 ∷ []) (v ∷ m) (bool_bytes b ∷ m) quiet (zero_not_equal_does given)
+      (ap (λ (r : OrFault Stack). r >>= silent) is) (omega arith)
+
+-- SIZE 32 EQUALVERIFY leaves 32 bytes as they are
+measured : (x : Bytes) (m : Stack) → length x ≡ 32 →
+    both (plain size) (both (pushes (natural_bytes 32)) (both (plain equal) (plain verify))) (x ∷ m) ≡ Ok (left (x ∷ m) quiet)
+unfolding size equal verify
+measured x m e = rw e refl
+
+hash_flat : (kind : HashKind) (value : Bytes) → rises (code (hash_opcode kind) ∷ push value ∷ code op.Equal ∷ []) ≡ 1
+hash_flat hash_kind.Sha256 value = refl
+hash_flat hash_kind.Hash256 value = refl
+hash_flat hash_kind.Ripemd160 value = refl
+hash_flat hash_kind.Hash160 value = refl
+
+pub hash_path : (given : Given) (kind : HashKind) (value x : Bytes) (w : Stack) → length x ≡ 32 → w ≡ x ∷ [] →
+    Path given B (code op.Size ∷ number 32 ∷ code op.EqualVerify ∷ code (hash_opcode kind) ∷ push value ∷ code op.Equal ∷ []) (Is 1 (up 1 ∷ up 1 ∷ down 2 ∷ up 0 ∷ up 1 ∷ down 1 ∷ [])) w
+hash_path given kind value x w long e =
+    let front : List Instruction = code op.Size ∷ number 32 ∷ code op.EqualVerify ∷ [] in
+    let back : List Instruction = code (hash_opcode kind) ∷ push value ∷ code op.Equal ∷ [] in
+    let a : Course = up 1 ∷ up 1 ∷ down 2 ∷ [] in
+    let b : Course = up 0 ∷ up 1 ∷ down 1 ∷ [] in
+    is_path B 1 (a ++ b) w b_not_w (ap length e) (front ++ back)
+    (λ rest.
+    keeps_as given (front ++ back) (front ++ back) (a ++ b) (a ++ b) (x ∷ rest) (w ++ rest) refl refl (ap (λ (v : Stack). v ++ rest) e)
+    (keeps_then given front back a b (x ∷ rest) (x ∷ rest)
+    (does_follow given front (both (plain size) (both (pushes (natural_bytes 32)) (both (plain equal) (plain verify)))) a (x ∷ rest) (x ∷ rest) quiet
+    (then_does given (size_does given) (then_does given (push_does given (natural_bytes 32)) (equal_verify_does given)))
+    (measured x rest long) (omega arith) (keeps_rises given front a (x ∷ rest) (omega arith)))
+    (keeps_rises given back b (x ∷ rest) (omega (arith, hash_flat kind value)))))
+
+-- `andor`
+pub and_or_true_path : {given : Given} {base : Base} {cx cy cz : List Instruction} {P Q : Way → Type 0} {above below : Stack} → (h : Effect) (w : Stack) → (base ≢ W) → w ≡ above ++ below →
+    Child given B true true cx P above → Path given base cy Q below → Does given cz h → Still given cz →
+    Path given base (cx ++ (code op.NotIf ∷ (cz ++ code op.Else ∷ (cy ++ code op.EndIf ∷ [])))) (Then (Followed P (down 1 ∷ [])) Q) w
+and_or_true_path {given} {base} {cx} {cy} {cz} {P} {Q} {above} {below} h w n e x y does still =
+    unit_then base Q w below n e x (down 1 ∷ []) y.way y.formal y.items (code op.NotIf ∷ (cz ++ code op.Else ∷ (cy ++ code op.EndIf ∷ [])))
+    (λ rest. else_passed given false true y.way.course (below ++ rest) cz cy h refl does still (path_keeps n y rest))
+
+pub and_or_false_path : {given : Given} {base : Base} {u b : Bool} {cx cy cz : List Instruction} {P Q : Way → Type 0} {above below : Stack} → (w : Stack) → (base ≢ W) → w ≡ above ++ below →
+    Child given B true false cx P above → Child given base u b cz Q below → Still given cy →
+    Path given base (cx ++ (code op.NotIf ∷ (cz ++ code op.Else ∷ (cy ++ code op.EndIf ∷ [])))) (Then (Followed P (down 1 ∷ [])) Q) w
+and_or_false_path {given} {base} {u} {b} {cx} {cy} {cz} {P} {Q} {above} {below} w n e x z still =
+    unit_then base Q w below n e x (down 1 ∷ []) z.way z.formal z.items (code op.NotIf ∷ (cz ++ code op.Else ∷ (cy ++ code op.EndIf ∷ [])))
+    (λ rest.
+    let f = on_follows base u b given cz z.way.course below n z.follows rest in
+    else_taken given false false z.way.course (below ++ rest) cz cy f.0 refl f.1 still)
+
+-- `or_c`
+pub or_c_true_path : {given : Given} {cx cz : List Instruction} {P : Way → Type 0} {w : Stack} → Child given B true true cx P w → Still given cz →
+    Path given V (cx ++ (code op.NotIf ∷ (cz ++ code op.EndIf ∷ []))) (Followed P (down 1 ∷ [])) w
+or_c_true_path {given} {cx} {cz} {P} {w} x still =
+    unit_end V v_not_w x (down 1 ∷ []) (code op.NotIf ∷ (cz ++ code op.EndIf ∷ [])) (λ rest. only_passed given false true [] rest cz refl still)
+
+pub or_c_false_path : {given : Given} {cx cz : List Instruction} {P Q : Way → Type 0} {above below : Stack} → (w : Stack) → w ≡ above ++ below → Child given B true false cx P above → Path given V cz Q below →
+    Path given V (cx ++ (code op.NotIf ∷ (cz ++ code op.EndIf ∷ []))) (Then (Followed P (down 1 ∷ [])) Q) w
+or_c_false_path {given} {cx} {cz} {P} {Q} {above} {below} w e x z =
+    unit_then V Q w below v_not_w e x (down 1 ∷ []) z.way z.formal z.items (code op.NotIf ∷ (cz ++ code op.EndIf ∷ []))
+    (λ rest. only_taken given false false z.way.course (below ++ rest) cz refl (z.keeps rest))
+
+-- `or_d`
+pub or_d_true_path : {given : Given} {cx cz : List Instruction} {P : Way → Type 0} {w : Stack} → Child given B true true cx P w → Still given cz →
+    Path given B (cx ++ (code op.IfDup ∷ code op.NotIf ∷ (cz ++ code op.EndIf ∷ []))) (Followed P (up 1 ∷ down 1 ∷ [])) w
+or_d_true_path {given} {cx} {cz} {P} {w} x still =
+    let k : List Instruction = code op.NotIf ∷ (cz ++ code op.EndIf ∷ []) in
+    unit_end B b_not_w x (up 1 ∷ down 1 ∷ []) (code op.IfDup ∷ k)
+    (λ rest. keeps_then given (code op.IfDup ∷ []) k (up 1 ∷ []) (down 1 ∷ []) (ONE ∷ rest) (ONE ∷ ONE ∷ rest) (if_dup_one_follows given rest)
+    (only_passed given false true [] (ONE ∷ rest) cz refl still))
+
+pub or_d_false_path : {given : Given} {cx cz : List Instruction} {P Q : Way → Type 0} {above below : Stack} → (w : Stack) → w ≡ above ++ below → Child given B true false cx P above → Path given B cz Q below →
+    Path given B (cx ++ (code op.IfDup ∷ code op.NotIf ∷ (cz ++ code op.EndIf ∷ []))) (Then (Followed P (up 0 ∷ down 1 ∷ [])) Q) w
+or_d_false_path {given} {cx} {cz} {P} {Q} {above} {below} w e x z =
+    let k : List Instruction = code op.NotIf ∷ (cz ++ code op.EndIf ∷ []) in
+    unit_then B Q w below b_not_w e x (up 0 ∷ down 1 ∷ []) z.way z.formal z.items (code op.IfDup ∷ k)
+    (λ rest. keeps_then given (code op.IfDup ∷ []) k (up 0 ∷ []) (down 1 ∷ z.way.course) (EMPTY ∷ (below ++ rest)) (EMPTY ∷ (below ++ rest)) (if_dup_empty_follows given (below ++ rest))
+    (only_taken given false false z.way.course (below ++ rest) cz refl (z.keeps rest)))
+
+-- `or_i`
+pub or_i_true_path : {given : Given} {base : Base} {u b : Bool} {cx cz : List Instruction} {P : Way → Type 0} {below : Stack} → (w above : Stack) → (base ≢ W) → w ≡ above ++ below → above ≡ ONE ∷ [] →
+    Child given base u b cx P below → Still given cz → Path given base (code op.If ∷ (cx ++ code op.Else ∷ (cz ++ code op.EndIf ∷ []))) (Then (Is 1 (down 1 ∷ [])) P) w
+or_i_true_path {given} {base} {u} {b} {cx} {cz} {P} {below} w above n e i x still =
+    begun_path base P w above below ONE n e i (down 1 ∷ []) x.way x.formal x.items (code op.If ∷ (cx ++ code op.Else ∷ (cz ++ code op.EndIf ∷ [])))
+    (λ rest.
+    let f = on_follows base u b given cx x.way.course below n x.follows rest in
+    else_taken given true true x.way.course (below ++ rest) cx cz f.0 refl f.1 still)
+
+pub or_i_false_path : {given : Given} {base : Base} {cx cz : List Instruction} {Q : Way → Type 0} {below : Stack} → (f : Effect) (w above : Stack) → (base ≢ W) → w ≡ above ++ below → above ≡ EMPTY ∷ [] →
+    Path given base cz Q below → Does given cx f → Still given cx → Path given base (code op.If ∷ (cx ++ code op.Else ∷ (cz ++ code op.EndIf ∷ []))) (Then (Is 1 (down 1 ∷ [])) Q) w
+or_i_false_path {given} {base} {cx} {cz} {Q} {below} f w above n e i z does still =
+    begun_path base Q w above below EMPTY n e i (down 1 ∷ []) z.way z.formal z.items (code op.If ∷ (cx ++ code op.Else ∷ (cz ++ code op.EndIf ∷ [])))
+    (λ rest. else_passed given true false z.way.course (below ++ rest) cx cz f refl does still (path_keeps n z rest))
+
+-- `d:X`
+pub wrap_d_sat_path : {given : Given} {cx : List Instruction} {P : Way → Type 0} {below : Stack} → (w above : Stack) → w ≡ above ++ below → above ≡ ONE ∷ [] → below ≡ [] → Path given V cx P below →
+    Path given B (code op.Dup ∷ code op.If ∷ (cx ++ code op.EndIf ∷ [])) (Then (Is 1 (up 1 ∷ down 1 ∷ [])) P) w
+wrap_d_sat_path {given} {cx} {P} {below} w above e i none x =
+    let k : List Instruction = code op.If ∷ (cx ++ code op.EndIf ∷ []) in
+    begun_path B P w above below ONE b_not_w e i (up 1 ∷ down 1 ∷ []) x.way x.formal x.items (code op.Dup ∷ k)
+    (λ rest.
+    keeps_then given (code op.Dup ∷ []) k (up 1 ∷ []) (down 1 ∷ x.way.course) (ONE ∷ (below ++ rest)) (ONE ∷ ONE ∷ (below ++ rest)) (dup_follows given (below ++ rest) ONE)
+    (only_taken given true true x.way.course (ONE ∷ (below ++ rest)) cx refl
+    (keeps_as given cx cx x.way.course x.way.course (below ++ (ONE ∷ rest)) (ONE ∷ (below ++ rest)) refl refl
+    (ap (λ (v : Stack). ONE ∷ (v ++ rest)) none ∙ sym (ap (λ (v : Stack). v ++ (ONE ∷ rest)) none)) (x.keeps (ONE ∷ rest)))))
+
+pub wrap_d_dsat_path : {given : Given} {cx : List Instruction} → (w : Stack) → w ≡ EMPTY ∷ [] → Still given cx →
+    Path given B (code op.Dup ∷ code op.If ∷ (cx ++ code op.EndIf ∷ [])) (Is 1 (up 1 ∷ down 1 ∷ [])) w
+wrap_d_dsat_path {given} {cx} w e still =
+    let k : List Instruction = code op.If ∷ (cx ++ code op.EndIf ∷ []) in
+    is_path B 1 (up 1 ∷ down 1 ∷ []) w b_not_w (ap length e) (code op.Dup ∷ k)
+    (λ rest.
+    keeps_as given (code op.Dup ∷ k) (code op.Dup ∷ k) (up 1 ∷ down 1 ∷ []) (up 1 ∷ down 1 ∷ []) (EMPTY ∷ rest) (w ++ rest) refl refl (ap (λ (v : Stack). v ++ rest) e)
+    (keeps_then given (code op.Dup ∷ []) k (up 1 ∷ []) (down 1 ∷ []) (EMPTY ∷ rest) (EMPTY ∷ EMPTY ∷ rest) (dup_follows given rest EMPTY)
+    (only_passed given true false [] (EMPTY ∷ rest) cx refl still)))
+
+-- `j:X`
+pub wrap_j_sat_path : {given : Given} {cx : List Instruction} {P : Way → Type 0} {w : Stack} → HasTop w → Short w → Path given B cx P w →
+    Path given B (code op.Size ∷ code op.ZeroNotEqual ∷ code op.If ∷ (cx ++ code op.EndIf ∷ [])) (Then (Is 0 (up 1 ∷ up 0 ∷ down 1 ∷ [])) P) w
+wrap_j_sat_path {given} {cx} {P} {w} (top, m, is, some) short x =
+    let k : List Instruction = code op.If ∷ (cx ++ code op.EndIf ∷ []) in
+    let s : Short (top ∷ m) = subst Short is short in
+    led_path B P w b_not_w (up 1 ∷ up 0 ∷ down 1 ∷ []) x.way x.formal x.items (code op.Size ∷ code op.ZeroNotEqual ∷ k)
+    (λ rest.
+    let e : w ++ rest ≡ top ∷ (m ++ rest) = ap (λ (v : Stack). v ++ rest) is in
+    keeps_as given (code op.Size ∷ code op.ZeroNotEqual ∷ k) (code op.Size ∷ code op.ZeroNotEqual ∷ k) (up 1 ∷ up 0 ∷ down 1 ∷ x.way.course) (up 1 ∷ up 0 ∷ down 1 ∷ x.way.course)
+    (top ∷ (m ++ rest)) (w ++ rest) refl refl e
+    (keeps_then given (code op.Size ∷ []) (code op.ZeroNotEqual ∷ k) (up 1 ∷ []) (up 0 ∷ down 1 ∷ x.way.course) (top ∷ (m ++ rest)) (natural_bytes (length top) ∷ top ∷ (m ++ rest)) (size_follows given (m ++ rest) top)
+    (keeps_then given (code op.ZeroNotEqual ∷ []) k (up 0 ∷ []) (down 1 ∷ x.way.course) (natural_bytes (length top) ∷ top ∷ (m ++ rest)) (ONE ∷ top ∷ (m ++ rest))
+    (nonzero_follows given (top ∷ (m ++ rest)) (natural_bytes (length top)) true
+    (zero_not_equal-natural (length top) (top ∷ (m ++ rest)) s.0 ∙ ap (λ (c : Bool). Ok (bool_bytes c ∷ top ∷ (m ++ rest))) (some_length top some)))
+    (only_taken given true true x.way.course (top ∷ (m ++ rest)) cx refl
+    (keeps_as given cx cx x.way.course x.way.course (w ++ rest) (top ∷ (m ++ rest)) refl refl (sym e) (x.keeps rest))))))
+
+pub wrap_j_dsat_path : {given : Given} {cx : List Instruction} → (w : Stack) → w ≡ EMPTY ∷ [] → Still given cx →
+    Path given B (code op.Size ∷ code op.ZeroNotEqual ∷ code op.If ∷ (cx ++ code op.EndIf ∷ [])) (Is 1 (up 1 ∷ up 0 ∷ down 1 ∷ [])) w
+wrap_j_dsat_path {given} {cx} w e still =
+    let k : List Instruction = code op.If ∷ (cx ++ code op.EndIf ∷ []) in
+    is_path B 1 (up 1 ∷ up 0 ∷ down 1 ∷ []) w b_not_w (ap length e) (code op.Size ∷ code op.ZeroNotEqual ∷ k)
+    (λ rest.
+    keeps_as given (code op.Size ∷ code op.ZeroNotEqual ∷ k) (code op.Size ∷ code op.ZeroNotEqual ∷ k) (up 1 ∷ up 0 ∷ down 1 ∷ []) (up 1 ∷ up 0 ∷ down 1 ∷ []) (EMPTY ∷ rest) (w ++ rest) refl refl
+    (ap (λ (v : Stack). v ++ rest) e)
+    (keeps_then given (code op.Size ∷ []) (code op.ZeroNotEqual ∷ k) (up 1 ∷ []) (up 0 ∷ down 1 ∷ []) (EMPTY ∷ rest) (EMPTY ∷ EMPTY ∷ rest) (size_follows given rest EMPTY)
+    (keeps_then given (code op.ZeroNotEqual ∷ []) k (up 0 ∷ []) (down 1 ∷ []) (EMPTY ∷ EMPTY ∷ rest) (EMPTY ∷ EMPTY ∷ rest)
+    (nonzero_follows given (EMPTY ∷ rest) EMPTY false (zero_not_equal-natural 0 (EMPTY ∷ rest) (omega arith)))
+    (only_passed given true false [] (EMPTY ∷ rest) cx refl still))))
+
+-- `a:X`
+record IsAside (s t : State) (x : Bytes) (m : Stack) : Type 0 where
+  pub main : t.main ≡ m
+  pub alt : t.alt ≡ x ∷ s.alt
+  pub branches : t.branches ≡ s.branches
+
+aside_step : (given : Given) (s t : State) (x : Bytes) (m : Stack) → is_live s ≡ true → s.main ≡ x ∷ m → free_step given (code op.ToAltStack) s ≡ Ok t → IsAside s t x m
+unfolding act to_alt_stack
+aside_step given s t x m live is h =
+    let u : State = record (one_more s) { main = m; alt = x ∷ s.alt } in
+    let step : free_step given (code op.ToAltStack) s ≡ Ok u =
+    rw live (ap (λ (main : Stack). to_alt_stack main s.alt >>= λ stacks. Ok (record (one_more s) { main = stacks.0; alt = stacks.1 })) is) in
+    let e : u ≡ t = same_ok u t (sym step ∙ h) in
+    record {
+      main = sym (ap (λ (v : State). v.main) e);
+      alt = sym (ap (λ (v : State). v.alt) e);
+      branches = sym (ap (λ (v : State). v.branches) e);
+    }
+
+pub wrap_a_path : {given : Given} {cx : List Instruction} {P : Way → Type 0} {w : Stack} → Path given B cx P w →
+    Path given W (code op.ToAltStack ∷ (cx ++ code op.FromAltStack ∷ [])) (Then (Is 0 (up 0 ∷ [])) (Followed P (up 0 ∷ []))) w
+wrap_a_path {given} {cx} {P} {w} p = record {
+  way = then (record { items = 0; course = up 0 ∷ [] }) (followed p.way (up 0 ∷ []));
+  formal = (record { items = 0; course = up 0 ∷ [] }, followed p.way (up 0 ∷ []), refl, (p.way, record { items = 0; course = up 0 ∷ [] }, p.formal, refl, refl), refl);
+  items = omega (arith, p.items);
+  keeps = λ x rest. record {
+    low = λ s live is n h. (
+      omega (arith, h),
+      λ t e.
+          let o = aside_step given s t x (w ++ rest) live is e in
+          low_behind given cx (code op.FromAltStack ∷ []) t n refl
+          ((p.keeps rest).low t (ap all_taken o.branches ∙ live) o.main n
+          (omega (arith, h, rise_append p.way.course (up 0 ∷ []), ap length is, ap length o.main, ap length o.alt))),
+    );
+  };
+}
+
+-- `s:X`
+pub wrap_s_path : {given : Given} {cx : List Instruction} {P : Way → Type 0} {w : Stack} → (item : Bytes) → w ≡ item ∷ [] → Path given B cx P w → Path given W (code op.Swap ∷ cx) (Then (Is 0 (up 0 ∷ [])) P) w
+wrap_s_path {given} {cx} {P} {w} item e p = record {
+  way = then (record { items = 0; course = up 0 ∷ [] }) p.way;
+  formal = (record { items = 0; course = up 0 ∷ [] }, p.way, refl, p.formal, refl);
+  items = omega (arith, p.items);
+  keeps = λ x rest.
+      keeps_as given (code op.Swap ∷ cx) (code op.Swap ∷ cx) (up 0 ∷ p.way.course) (up 0 ∷ p.way.course) (x ∷ item ∷ rest) (x ∷ (w ++ rest)) refl refl (ap (λ (v : Stack). x ∷ (v ++ rest)) e)
+      (keeps_then given (code op.Swap ∷ []) cx (up 0 ∷ []) p.way.course (x ∷ item ∷ rest) (item ∷ x ∷ rest) (swap_follows given rest x item)
+      (keeps_as given cx cx p.way.course p.way.course (w ++ (x ∷ rest)) (item ∷ x ∷ rest) refl refl (sym (ap (λ (v : Stack). v ++ (x ∷ rest)) e)) (p.keeps (x ∷ rest))));
+}
+
+-- the first child of a threshold, and those behind it
+pub first_path : {given : Given} {b : Bool} {cx c : List Instruction} {P Q : Way → Type 0} {above below : Stack} → (w : Stack) → w ≡ above ++ below →
+    Child given B true b cx P above → Path given W c Q below → Path given B (cx ++ c) (Then (Followed P []) Q) w
+first_path {given} {b} {cx} {c} {P} {Q} {above} {below} w e x y =
+    unit_then B Q w below b_not_w e x [] y.way y.formal y.items c (λ rest. y.keeps (bool_bytes b) rest)
+
+-- ADD leaves one element of two
+two_on : (x v : Bytes) (s r : Stack) → Beside x v s r → (y : Bytes) × (z : Bytes) × (r ≡ y ∷ z ∷ s)
+two_on x v s r (inl e) = (x, v, e)
+two_on x v s r (inr e) = (v, x, e)
+
+sum_leaves : (y x : Bytes) (m end : Stack) → add (y ∷ x ∷ m) ≡ Ok end → (z : Bytes) × (end ≡ z ∷ m)
+unfolding add two_numbers
+sum_leaves y x m end h =
+    let taken = bind_split (two_numbers (y ∷ x ∷ m)) _ end h in
+    let b = bind_split (operand 4 y) _ taken.0 taken.1 in
+    let a = bind_split (operand 4 x) _ taken.0 b.2 in
+    let z : Bytes = number_bytes (taken.0.0 +ℤ taken.0.1) in
+    (z, sym (same_ok (z ∷ taken.0.2) end taken.2) ∙ ap (λ (s : Stack). z ∷ s) (sym (ap (λ (t : ℤ × ℤ × Stack). t.2) (same_ok (a.0, b.0, m) taken.0 a.2))))
+
+record IsSum (s t : State) (m : Stack) : Type 0 where
+  pub sum : Bytes
+  pub main : t.main ≡ sum ∷ m
+  pub alt : t.alt ≡ s.alt
+  pub branches : t.branches ≡ s.branches
+
+add_step : (given : Given) (s t : State) (y x : Bytes) (m : Stack) → is_live s ≡ true → s.main ≡ y ∷ x ∷ m → free_step given (code op.Add) s ≡ Ok t → IsSum s t m
+add_step given s t y x m live is h =
+    let moved : (plain add s.main >>= λ left. Ok (reached s 1 left)) ≡ Ok t =
+    sym (goes_from given (code op.Add ∷ []) (plain add) (add_does given) s live) ∙ ap (λ (r : OrFault State). r >>= free_steps given []) h in
+    let l = bind_split (plain add s.main) _ t moved in
+    let m = bind_split (add s.main) _ l.0 l.1 in
+    let z = sum_leaves y x _ m.0 (sym (ap add is) ∙ m.1) in
+    let e = same_ok (reached s 1 l.0) t l.2 in
+    record {
+      sum = z.0;
+      main = sym (ap (λ (v : State). v.main) e) ∙ sym (ap (λ (v : Left). v.main) (same_ok _ l.0 m.2)) ∙ z.1;
+      alt = sym (ap (λ (v : State). v.alt) e);
+      branches = sym (ap (λ (v : State). v.branches) e);
+    }
+
+add_keeps : (given : Given) (d : List Instruction) (course : Course) (y x : Bytes) (m : Stack) → ((z : Bytes) → Keeps given d course (z ∷ m)) → Keeps given (code op.Add ∷ d) (down 1 ∷ course) (y ∷ x ∷ m)
+add_keeps given d course y x m p = record {
+  low = λ s live is n h. (
+    omega (arith, h),
+    λ t e.
+        let o = add_step given s t y x m live is e in
+        (p o.sum).low t (ap all_taken o.branches ∙ live) o.main n (omega (arith, h, ap length is, ap length o.main, ap length o.alt)),
+  );
+}
+
+-- a further child, and those behind it
+pub added_path : {given : Given} {u b : Bool} {cx c : List Instruction} {P Q : Way → Type 0} {above below : Stack} → (w : Stack) → w ≡ above ++ below →
+    Child given W u b cx P above → Path given W c Q below → Path given W (cx ++ code op.Add ∷ c) (Then (Followed P (down 1 ∷ [])) Q) w
+added_path {given} {u} {b} {cx} {c} {P} {Q} {above} {below} w e x y = record {
+  way = then (followed x.way (down 1 ∷ [])) y.way;
+  formal = (followed x.way (down 1 ∷ []), y.way, (x.way, record { items = 0; course = down 1 ∷ [] }, x.formal, refl, refl), y.formal, refl);
+  items = both_items w above below x.way.items y.way.items (x.way.items + 0 + y.way.items) e x.items y.items (omega arith);
+  keeps = λ a rest.
+      let i = x.follows a (below ++ rest) in
+      let two = two_on a i.0 (below ++ rest) i.1 i.2 in
+      keeps_as given (cx ++ code op.Add ∷ c) (cx ++ code op.Add ∷ c) (x.way.course ++ (down 1 ∷ y.way.course)) ((x.way.course ++ down 1 ∷ []) ++ y.way.course) (a ∷ (above ++ (below ++ rest))) (a ∷ (w ++ rest))
+      refl (sym (append_assoc x.way.course (down 1 ∷ []) y.way.course)) (ap (λ (v : Stack). a ∷ v) (split w above below rest e))
+      (keeps_then given cx (code op.Add ∷ c) x.way.course (down 1 ∷ y.way.course) (a ∷ (above ++ (below ++ rest))) i.1 i.3
+      (keeps_as given (code op.Add ∷ c) (code op.Add ∷ c) (down 1 ∷ y.way.course) (down 1 ∷ y.way.course) (two.0 ∷ two.1 ∷ (below ++ rest)) i.1 refl refl two.2
+      (add_keeps given c y.way.course two.0 two.1 (below ++ rest) (λ z. y.keeps z rest))));
+}
+
+-- no children
+pub none_path : (given : Given) (w : Stack) → w ≡ [] → Path given W [] (Is 0 []) w
+none_path given w e = record {
+  way = record { items = 0; course = [] };
+  formal = refl;
+  items = ap length e;
+  keeps = λ x rest. record { low = λ s live is n h. omega (arith, h) };
+}
+
+-- and the comparison with the number of those that must be satisfied
+pub thresh_path : {given : Given} {c : List Instruction} {P : Way → Type 0} {w : Stack} → (k : ℕ) (p : Path given B c P w) → ((rest : Stack) → (v : Bytes) × Follows given c p.way.course (w ++ rest) (v ∷ rest)) →
+    Path given B (c ++ number k ∷ code op.Equal ∷ []) (Followed P (up 1 ∷ down 1 ∷ [])) w
+thresh_path {given} {c} {P} {w} k p follows = record {
+  way = followed p.way (up 1 ∷ down 1 ∷ []);
+  formal = (p.way, record { items = 0; course = up 1 ∷ down 1 ∷ [] }, p.formal, refl, refl);
+  items = omega (arith, p.items);
+  keeps = λ rest.
+      let f = follows rest in
+      keeps_then given c (number k ∷ code op.Equal ∷ []) p.way.course (up 1 ∷ down 1 ∷ []) (w ++ rest) (f.0 ∷ rest) f.1
+      (keeps_rises given (number k ∷ code op.Equal ∷ []) (up 1 ∷ down 1 ∷ []) (f.0 ∷ rest) (omega arith));
+}

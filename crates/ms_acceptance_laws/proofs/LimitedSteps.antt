@@ -1,0 +1,240 @@
+-- The machine with its limits makes the steps of the machine without them, or stops at a limit.
+use Rattle.std.proofs.Common.{◌≡◌, ℕ, ◌+◌, ◌<◌, ◌||◌, ◌⊎◌, inl, inr, max, nat_lt, Bool, true, false, [], ◌∷◌, ◌++◌, length, if◌then◌else◌, Ok, Err, refl, sym, ◌∙◌, ap, IsTrue, add-zero, ltb-true, le-ltb, arith}
+use Rattle.def_script.specs.declared.Op.{Op}
+use Rattle.def_script.specs.declared.Op.TheVariants as op
+use Rattle.def_script.specs.Instruction.{Instruction, push, code}
+use Rattle.def_script.specs.Spell.{IsShort}
+use Rattle.def_script.specs.Laws.{item_of}
+use Rattle.def_machine.specs.declared.ScriptFault.{ScriptFault}
+use Rattle.def_machine.specs.declared.ScriptFault.TheVariants as fault
+use Rattle.def_machine.specs.Faults.{OrFault, ◌>>=◌}
+use Rattle.def_machine.specs.Limits.{MAX_PUBKEYS_PER_MULTISIG, MAX_OPS_PER_SCRIPT, MAX_STACK_SIZE}
+use Rattle.def_machine.specs.Stacks.{Stack, Pairs, bool_bytes}
+use Rattle.def_machine.specs.Effects.{verify}
+use Rattle.def_machine.specs.MultiSig.{count, within_op_limit, some_off, one_off, tries, verdict, null_dummy, check_multi_sig}
+use Rattle.def_machine.specs.Machine.{Given, State, on_main, on_multi, act, only_if, is_branching, is_live, pushed, carry_out, count_op, settle, step, height}
+use Rattle.def_promises.specs.Limited.{is_limit}
+use Rattle.ms_acceptance_laws.proofs.StackEffects.{Left}
+use Rattle.ms_acceptance_laws.proofs.TreeEffects.{checks_multi_sig}
+use Rattle.ms_acceptance_laws.proofs.UnlimitedMachine.{reached, affect, free_act, free_step, one_more}
+use Rattle.ms_acceptance_laws.proofs.PeakUnseen.{peaked}
+use Rattle.ms_acceptance_laws.proofs.OpcodeGrowth.{verify_grows}
+use Rattle.ms_acceptance_laws.proofs.StepRises.{main_climbs, code_climbs}
+use Rattle.ms_row_laws.proofs.Outcomes.{bind_split, same_ok, bind_same}
+
+-- CHECKMULTISIG behind the number of keys
+abbrev after_count : {A : Type 0} → Pairs → ℕ × Stack → (Stack → Pairs → OrFault A) → OrFault A
+after_count table n next = do
+  keys ← some_off n.0 n.1
+  m ← count n.0 fault.SigCount keys.1
+  sigs ← some_off m.0 m.1
+  extra ← one_off sigs.1
+  tried ← tries table keys.0 sigs.0 []
+  passed ← verdict sigs.0 tried
+  empty ← null_dummy extra.0
+  next (bool_bytes passed.0 ∷ extra.1) passed.1
+
+through : {A B C : Type 0} (r : OrFault A) (f : A → OrFault C) (g : A → OrFault B) (k : B → OrFault C) → ((a : A) → f a ≡ (g a >>= k)) → (r >>= f) ≡ ((r >>= g) >>= k)
+through (Ok a) f g k same = same a
+through (Err e) f g k same = refl
+
+-- what is done with its result may be done inside
+after_count-then : {A B : Type 0} (table : Pairs) (n : ℕ × Stack) (next : Stack → Pairs → OrFault A) (k : A → OrFault B) →
+    after_count table n (λ main found. next main found >>= k) ≡ (after_count table n next >>= k)
+after_count-then table n next k =
+    through (some_off n.0 n.1) _ _ k (λ keys.
+    through (count n.0 fault.SigCount keys.1) _ _ k (λ m.
+    through (some_off m.0 m.1) _ _ k (λ sigs.
+    through (one_off sigs.1) _ _ k (λ extra.
+    through (tries table keys.0 sigs.0 []) _ _ k (λ tried.
+    through (verdict sigs.0 tried) _ _ k (λ passed.
+    through (null_dummy extra.0) _ _ k (λ empty. refl)))))))
+
+-- with a count of opcodes and the checks passed before
+abbrev multi_after : (ops : ℕ) → Pairs → Left → OrFault (Stack × ℕ × Pairs)
+multi_after ops checks left = within_op_limit (ops + left.log.keys) >>= λ total. Ok (left.main, total, checks ++ left.log.checks)
+
+abbrev multi_left : ℕ → Stack × Pairs → Left
+multi_left keys found = record { main = found.0; log = record { keys = keys; checks = found.1 } }
+
+abbrev found_after : Pairs → ℕ × Stack → OrFault (Stack × Pairs)
+found_after table n = after_count table n (λ main found. Ok (main, found))
+
+-- both forms of CHECKMULTISIG find the same
+free_form : (table : Pairs) (main : Stack) →
+    checks_multi_sig table main ≡ (count MAX_PUBKEYS_PER_MULTISIG fault.KeyCount main >>= λ n. found_after table n >>= λ found. Ok (multi_left n.0 found))
+unfolding checks_multi_sig
+free_form table main =
+    bind_same (count MAX_PUBKEYS_PER_MULTISIG fault.KeyCount main) _ _
+    (λ n. after_count-then table n (λ main found. Ok (main, found)) (λ found. Ok (multi_left n.0 found)))
+
+full_form : (table : Pairs) (main : Stack) (ops : ℕ) (checks : Pairs) →
+    check_multi_sig table main ops checks
+    ≡ (count MAX_PUBKEYS_PER_MULTISIG fault.KeyCount main >>= λ n. within_op_limit (ops + n.0) >>= λ total. found_after table n >>= λ found. Ok (found.0, total, checks ++ found.1))
+unfolding check_multi_sig
+full_form table main ops checks =
+    bind_same (count MAX_PUBKEYS_PER_MULTISIG fault.KeyCount main) _ _
+    (λ n. bind_same (within_op_limit (ops + n.0)) _ _
+    (λ total. after_count-then table n (λ main found. Ok (main, found)) (λ found. Ok (found.0, total, checks ++ found.1))))
+
+multi_counted : (table : Pairs) (main : Stack) (ops : ℕ) (checks : Pairs) (left : Left) → checks_multi_sig table main ≡ Ok left → check_multi_sig table main ops checks ≡ multi_after ops checks left
+multi_counted table main ops checks left h =
+    full_form table main ops checks ∙ go (count MAX_PUBKEYS_PER_MULTISIG fault.KeyCount main) (sym (free_form table main) ∙ h)
+  where
+    same : (n : ℕ × Stack) (found : Stack × Pairs) → found_after table n ≡ Ok found →
+        (within_op_limit (ops + n.0) >>= λ total. found_after table n >>= λ found. Ok (found.0, total, checks ++ found.1)) ≡ multi_after ops checks (multi_left n.0 found)
+    same n found e = bind_same (within_op_limit (ops + n.0)) _ _ (λ total. ap (λ (r : OrFault (Stack × Pairs)). r >>= λ found. Ok (found.0, total, checks ++ found.1)) e)
+
+    go : (r : OrFault (ℕ × Stack)) → (r >>= λ n. found_after table n >>= λ found. Ok (multi_left n.0 found)) ≡ Ok left →
+        (r >>= λ n. within_op_limit (ops + n.0) >>= λ total. found_after table n >>= λ found. Ok (found.0, total, checks ++ found.1)) ≡ multi_after ops checks left
+    go (Ok n) e =
+        let found = bind_split (found_after table n) _ left e in
+        same n found.0 found.1 ∙ ap (multi_after ops checks) (same_ok (multi_left n.0 found.0) left found.2)
+    go (Err fault) e = absurd cc
+
+-- and conversely
+multi_found : (table : Pairs) (main : Stack) (ops : ℕ) (checks : Pairs) (out : Stack × ℕ × Pairs) → check_multi_sig table main ops checks ≡ Ok out →
+    (left : Left) × (checks_multi_sig table main ≡ Ok left)
+multi_found table main ops checks out h =
+    go (count MAX_PUBKEYS_PER_MULTISIG fault.KeyCount main) (free_form table main) (sym (full_form table main ops checks) ∙ h)
+  where
+    go : (r : OrFault (ℕ × Stack)) → checks_multi_sig table main ≡ (r >>= λ n. found_after table n >>= λ found. Ok (multi_left n.0 found)) →
+        (r >>= λ n. within_op_limit (ops + n.0) >>= λ total. found_after table n >>= λ found. Ok (found.0, total, checks ++ found.1)) ≡ Ok out →
+        (left : Left) × (checks_multi_sig table main ≡ Ok left)
+    go (Ok n) form e =
+        let total = bind_split (within_op_limit (ops + n.0)) _ out e in
+        let found = bind_split (found_after table n) _ out total.2 in
+        (multi_left n.0 found.0, form ∙ ap (λ (r : OrFault (Stack × Pairs)). r >>= λ found. Ok (multi_left n.0 found)) found.1)
+    go (Err fault) form e = absurd cc
+
+-- a count of opcodes
+counted_or : (n : ℕ) → (within_op_limit n ≡ Ok n) ⊎ ((within_op_limit n ≡ Err fault.OpCount) × (MAX_OPS_PER_SCRIPT < n))
+unfolding within_op_limit
+counted_or n = go (nat_lt MAX_OPS_PER_SCRIPT n) refl
+  where
+    go : (over : Bool) → nat_lt MAX_OPS_PER_SCRIPT n ≡ over → (within_op_limit n ≡ Ok n) ⊎ ((within_op_limit n ≡ Err fault.OpCount) × (MAX_OPS_PER_SCRIPT < n))
+    go true e = inr (rw e refl, ltb-true _ _ e)
+    go false e = inl (rw e refl)
+
+-- a step is carried out, or there are too many opcodes
+abbrev OrTooMany : OrFault State → State → Type 0
+OrTooMany r t = (r ≡ Ok t) ⊎ ((r ≡ Err fault.OpCount) × (MAX_OPS_PER_SCRIPT < t.ops))
+
+multi_bounded : (table : Pairs) (s t : State) → affect (checks_multi_sig table) s ≡ Ok t → OrTooMany (on_multi (check_multi_sig table) s) t
+multi_bounded table s t h =
+    let left = bind_split (checks_multi_sig table s.main) _ t h in
+    go left.0 (multi_counted table s.main s.ops s.checks left.0 left.1) (same_ok (reached s 0 left.0) t left.2) (counted_or (s.ops + left.0.log.keys))
+  where
+    go : (left : Left) → check_multi_sig table s.main s.ops s.checks ≡ multi_after s.ops s.checks left → reached s 0 left ≡ t →
+        (within_op_limit (s.ops + left.log.keys) ≡ Ok (s.ops + left.log.keys)) ⊎ ((within_op_limit (s.ops + left.log.keys) ≡ Err fault.OpCount) × (MAX_OPS_PER_SCRIPT < s.ops + left.log.keys)) →
+        OrTooMany (on_multi (check_multi_sig table) s) t
+    go left e same (inl few) = inl (rw (e, few, ← same, add-zero s.ops) refl)
+    go left e same (inr many) = inr (rw (e, many.0) refl, rw (← same) (omega (arith, many.1)))
+
+act_bounded : (given : Given) (op : Op) (s t : State) → free_act given op s ≡ Ok t → OrTooMany (act given op s) t
+unfolding act
+act_bounded given op.CheckMultiSig s t h = multi_bounded given.table s t h
+act_bounded given op.CheckMultiSigVerify s t h =
+    let u = bind_split (affect (checks_multi_sig given.table) s) (on_main verify) t h in
+    go u.0 u.2 (multi_bounded given.table s u.0 u.1)
+  where
+    go : (u : State) → on_main verify u ≡ Ok t → OrTooMany (on_multi (check_multi_sig given.table) s) u → OrTooMany (on_multi (check_multi_sig given.table) s >>= on_main verify) t
+    go u e (inl few) = inl (rw few e)
+    go u e (inr many) =
+        let climb = main_climbs verify 0 verify_grows u t e in
+        inr (rw (many.0) refl, omega (arith, many.1, climb.ops))
+act_bounded given other s t h = inl h
+
+carry_bounded : (given : Given) (i : Instruction) (s t : State) → IsShort i → free_step given i s ≡ Ok t → OrTooMany (carry_out given (item_of i) s) t
+unfolding carry_out pushed
+carry_bounded given (push bytes) s t short h = inl (rw (le-ltb 520 (length bytes) short) h)
+carry_bounded given (code op) s t short h = go (counted_or (s.ops + 1))
+  where
+    done_or : (done : Bool) → only_if done (free_act given op) (one_more s) ≡ Ok t → OrTooMany (only_if done (act given op) (one_more s)) t
+    done_or true h = act_bounded given op (one_more s) t h
+    done_or false h = inl h
+
+    go : (within_op_limit (s.ops + 1) ≡ Ok (s.ops + 1)) ⊎ ((within_op_limit (s.ops + 1) ≡ Err fault.OpCount) × (MAX_OPS_PER_SCRIPT < s.ops + 1)) → OrTooMany (carry_out given (item_of (code op)) s) t
+    go (inl few) = rw few (done_or (is_branching op || is_live s) h)
+    go (inr many) = let climb = code_climbs given op s t h in inr (rw (many.0) refl, omega (arith, many.1, climb.ops))
+
+-- the elements on the stacks are few enough, or not
+abbrev pub settled : State → State
+settled t = peaked (max t.peak (height t)) t
+
+settle_or : (t : State) → (settle t ≡ Ok (settled t)) ⊎ ((settle t ≡ Err fault.StackSize) × (MAX_STACK_SIZE < height t))
+unfolding settle
+settle_or t = go (nat_lt MAX_STACK_SIZE (height t)) refl
+  where
+    go : (over : Bool) → nat_lt MAX_STACK_SIZE (height t) ≡ over → (settle t ≡ Ok (settled t)) ⊎ ((settle t ≡ Err fault.StackSize) × (MAX_STACK_SIZE < height t))
+    go true e = inr (rw e refl, ltb-true _ _ e)
+    go false e = inl (rw e refl)
+
+-- a step that stops at a limit, and why
+pub record StopsStep (r : OrFault State) (t : State) : Type 0 where
+  pub fault : ScriptFault
+  pub limit : IsTrue (is_limit fault)
+  pub stops : r ≡ Err fault
+  pub why : (MAX_OPS_PER_SCRIPT < t.ops) ⊎ (MAX_STACK_SIZE < height t)
+
+pub step_bounded : (given : Given) (i : Instruction) (s t : State) → IsShort i → free_step given i s ≡ Ok t →
+    (step given (item_of i) s ≡ Ok (settled t)) ⊎ StopsStep (step given (item_of i) s) t
+unfolding step
+step_bounded given i s t short h = go (carry_bounded given i s t short h) (settle_or t)
+  where
+    go : OrTooMany (carry_out given (item_of i) s) t → (settle t ≡ Ok (settled t)) ⊎ ((settle t ≡ Err fault.StackSize) × (MAX_STACK_SIZE < height t)) →
+        (step given (item_of i) s ≡ Ok (settled t)) ⊎ StopsStep (step given (item_of i) s) t
+    go (inl few) (inl low) = inl (rw few low)
+    go (inl few) (inr high) = inr (record { fault = fault.StackSize; limit = refl; stops = rw few (high.0); why = inr high.1 })
+    go (inr many) r = inr (record { fault = fault.OpCount; limit = refl; stops = rw (many.0) refl; why = inl many.1 })
+
+multi_free : (table : Pairs) (s t : State) → on_multi (check_multi_sig table) s ≡ Ok t → affect (checks_multi_sig table) s ≡ Ok t
+multi_free table s t h =
+    let out = bind_split (check_multi_sig table s.main s.ops s.checks) _ t h in
+    let left = multi_found table s.main s.ops s.checks out.0 out.1 in
+    go left.0 left.1 (multi_bounded table s (reached s 0 left.0) (affected left.0 left.1))
+  where
+    affected : (left : Left) → checks_multi_sig table s.main ≡ Ok left → affect (checks_multi_sig table) s ≡ Ok (reached s 0 left)
+    affected left e = rw e refl
+
+    go : (left : Left) → checks_multi_sig table s.main ≡ Ok left → OrTooMany (on_multi (check_multi_sig table) s) (reached s 0 left) → affect (checks_multi_sig table) s ≡ Ok t
+    go left e (inl few) = affected left e ∙ (sym few ∙ h)
+    go left e (inr many) = absurd (let f = many.0 in cc)
+
+-- conversely, what is carried out is a step of the machine without limits
+act_free : (given : Given) (op : Op) (s t : State) → act given op s ≡ Ok t → free_act given op s ≡ Ok t
+unfolding act
+act_free given op.CheckMultiSig s t h = multi_free given.table s t h
+act_free given op.CheckMultiSigVerify s t h =
+    let u = bind_split (on_multi (check_multi_sig given.table) s) (on_main verify) t h in
+    ap (λ (r : OrFault State). r >>= on_main verify) (multi_free given.table s u.0 u.1) ∙ u.2
+act_free given other s t h = h
+
+pub carry_free : (given : Given) (i : Instruction) (s t : State) → carry_out given (item_of i) s ≡ Ok t → free_step given i s ≡ Ok t
+unfolding carry_out pushed
+carry_free given (push bytes) s t h = go (nat_lt 520 (length bytes)) h
+  where
+    go : (long : Bool) → (if long then Err fault.ElementSize else only_if (is_live s) (pushed bytes true) s) ≡ Ok t → free_step given (push bytes) s ≡ Ok t
+    go true h = absurd cc
+    go false h = h
+carry_free given (code op) s t h = go (counted_or (s.ops + 1)) h
+  where
+    done_free : (done : Bool) → only_if done (act given op) (one_more s) ≡ Ok t → only_if done (free_act given op) (one_more s) ≡ Ok t
+    done_free true h = act_free given op (one_more s) t h
+    done_free false h = h
+
+    go : (within_op_limit (s.ops + 1) ≡ Ok (s.ops + 1)) ⊎ ((within_op_limit (s.ops + 1) ≡ Err fault.OpCount) × (MAX_OPS_PER_SCRIPT < s.ops + 1)) →
+        (count_op s >>= λ u. only_if (is_branching op || is_live u) (act given op) u) ≡ Ok t → free_step given (code op) s ≡ Ok t
+    go (inl few) h = done_free (is_branching op || is_live s) (rw few at h)
+    go (inr many) h = absurd (let e = many.0 in cc)
+
+-- and up to the peak the step is the same
+pub step_free : (given : Given) (i : Instruction) (s t : State) → step given (item_of i) s ≡ Ok t → (u : State) × (free_step given i s ≡ Ok u) × (t ≡ settled u)
+unfolding step
+step_free given i s t h =
+    let u = bind_split (carry_out given (item_of i) s) settle t h in
+    (u.0, carry_free given i s u.0 u.1, go u.0 u.2 (settle_or u.0))
+  where
+    go : (u : State) → settle u ≡ Ok t → (settle u ≡ Ok (settled u)) ⊎ ((settle u ≡ Err fault.StackSize) × (MAX_STACK_SIZE < height u)) → t ≡ settled u
+    go u e (inl low) = same_ok t (settled u) (sym e ∙ low)
+    go u e (inr high) = absurd (let f = high.0 in cc)

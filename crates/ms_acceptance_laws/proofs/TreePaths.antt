@@ -1,0 +1,292 @@
+-- The run of each canonical row of the satisfaction table keeps within the course of a formal one with as many items.
+use Rattle.std.proofs.Common.{◌≡◌, ◌≢◌, ℕ, zero, suc, ◌+◌, Bool, true, false, IsTrue, List, [], ◌∷◌, ◌++◌, length, map, replicate, Option, Some, None, refl, sym, ◌∙◌, ap, subst, inl, inr, arith}
+use Rattle.std.proofs.lemmas.List.{length-append, length-replicate, nil_from_length}
+use Rattle.def_script.specs.declared.Op.TheVariants as op
+use Rattle.def_script.specs.Bytes.{Bytes}
+use Rattle.def_script.specs.Instruction.{Instruction, push, code}
+use Rattle.def_script.specs.Numbers.{natural_bytes}
+use Rattle.def_machine.specs.Stacks.{Stack}
+use Rattle.def_machine.specs.Machine.{Given}
+use Rattle.def_tree.specs.declared.Two.TheVariants as kind
+use Rattle.def_tree.specs.declared.Wrapper.TheVariants as wrapper
+use Rattle.def_tree.specs.Tree.{Tree, Trees, Key, just_0, just_1, pk_k, pk_h, older, after, hash, and_or, two, thresh, multi, wrap, none, more}
+use Rattle.def_tree.specs.Range.{IsWritable, AreWritable}
+use Rattle.def_types.specs.declared.Base.{Base}
+use Rattle.def_types.specs.declared.Base.TheVariants.{B, V, K, W}
+use Rattle.def_types.specs.Typed.{type_of, IsTyped, AreTyped}
+use Rattle.def_types.proofs.Rows.{corr_rows}
+use Rattle.def_types.proofs.Facts.{typed-and_or, typed-and_v, typed-and_b, typed-or_b, typed-or_c, typed-or_d, typed-or_i, typed-thresh, typed-thresh_none, typed-wrap_a, typed-wrap_s, typed-wrap_c, typed-wrap_d, typed-wrap_v, typed-wrap_j, typed-wrap_n, OthersFit}
+use Rattle.def_emit.specs.Emit.{number, emit, emit_sum, emit_added}
+use Rattle.def_satisfaction.specs.Setting.{Setting}
+use Rattle.def_satisfaction.specs.Rows.{EMPTY, ZEROS, row, parts}
+use Rattle.def_height.specs.declared.Highest.{Highest}
+use Rattle.def_height.specs.Course.{up, down, Course}
+use Rattle.def_height.specs.Formal.{Way, Is, Then, Followed, FormalSat, FormalDsat, FormalParts}
+use Rattle.def_height.specs.Highest.{highest_sat, highest_dsat, highest_parts}
+use Rattle.def_height.proofs.Courses.{ups, downs, IsHighest}
+use Rattle.def_height.proofs.Heights.{left, rise_multi, fit_children, sat_highest, dsat_highest, first_highest}
+use Rattle.ms_acceptance_laws.proofs.ScriptRise.{rises}
+use Rattle.ms_acceptance_laws.proofs.TreeEffects.{den, den_sum}
+use Rattle.ms_row_laws.proofs.RowLogs.{sat_log, dsat_log, parts_log}
+use Rattle.ms_row_laws.proofs.RowLengths.{takes_none, takes_one, one_item}
+use Rattle.ms_row_laws.proofs.RowTops.{takes_item}
+use Rattle.ms_row_laws.proofs.SmallThresholds.{Few, AllFew}
+use Rattle.ms_acceptance_laws.proofs.ForwardBases.{Short}
+use Rattle.ms_acceptance_laws.proofs.ForwardTrees.{upper, lower, sat_ends, dsat_ends, sum_ends}
+use Rattle.ms_acceptance_laws.proofs.ScriptEffects.{and_or_script, or_c_script, or_d_script, or_i_script, does, does_sum}
+use Rattle.ms_acceptance_laws.proofs.WithinCourse.{Follows, does_follow}
+use Rattle.ms_acceptance_laws.proofs.UntakenBranches.{still}
+use Rattle.ms_acceptance_laws.proofs.SimplePaths.{Path, Child, child_of, path_as, path_script, leaf_path, both_items, and_v_path, behind_path, wrap_v_path, two_path}
+use Rattle.ms_acceptance_laws.proofs.BranchingPaths.{b_not_w, hash_path, and_or_true_path, and_or_false_path, or_c_true_path, or_c_false_path, or_d_true_path, or_d_false_path, or_i_true_path, or_i_false_path, wrap_a_path, wrap_s_path, wrap_d_sat_path, wrap_d_dsat_path, wrap_j_sat_path, wrap_j_dsat_path, first_path, added_path, none_path, thresh_path}
+
+k_not_w : K ≢ W
+k_not_w e = cc
+
+-- what a formal way leaves
+leaves_of : (elements : ℕ) (P : Way → Type 0) (o : Option Highest) → IsHighest elements P o → (v : Way) → P v → v.items + ups v.course ≡ elements + downs v.course
+leaves_of elements P None h v p = absurd (h v p)
+leaves_of elements P (Some m) h v p = h.leaves v p
+
+sat_leaves : (t : Tree) → IsTyped t → (v : Way) → FormalSat t v → v.items + ups v.course ≡ left t + downs v.course
+sat_leaves t typed = leaves_of (left t) (FormalSat t) (highest_sat t) (sat_highest t typed)
+
+dsat_leaves : (t : Tree) → IsTyped t → (v : Way) → FormalDsat t v → v.items + ups v.course ≡ left t + downs v.course
+dsat_leaves t typed = leaves_of (left t) (FormalDsat t) (highest_dsat t) (dsat_highest t typed)
+
+-- a child by its path
+sat_child : (s : Setting) (t : Tree) → IsWritable t → IsTyped t → Few t → (w : Stack) → Short w → (row s t).sat w → (base : Base) → (type_of t).base ≡ base →
+    Path s.given (type_of t).base (emit t) (FormalSat t) w → Child s.given base (type_of t).u true (emit t) (FormalSat t) w
+sat_child s t k typed few w short r base is p =
+    subst (λ (c : Base). Child s.given c (type_of t).u true (emit t) (FormalSat t) w) is
+    (child_of s.given (type_of t).base (type_of t).u true (emit t) (den s.given t) (FormalSat t) w (sat_log s t w r) (does s.given t)
+    (λ rest. sat_ends s t k typed few w rest short r) (sat_leaves t typed) p)
+
+dsat_child : (s : Setting) (t : Tree) → IsWritable t → IsTyped t → Few t → (w : Stack) → Short w → (row s t).dsat w → (base : Base) → (type_of t).base ≡ base →
+    Path s.given (type_of t).base (emit t) (FormalDsat t) w → Child s.given base (type_of t).u false (emit t) (FormalDsat t) w
+dsat_child s t k typed few w short r base is p =
+    subst (λ (c : Base). Child s.given c (type_of t).u false (emit t) (FormalDsat t) w) is
+    (child_of s.given (type_of t).base (type_of t).u false (emit t) (den s.given t) (FormalDsat t) w (dsat_log s t w r) (does s.given t)
+    (λ rest. dsat_ends s t k typed few w rest short r) (dsat_leaves t typed) p)
+
+unit_child : {given : Given} {base : Base} {u b : Bool} {c : List Instruction} {P : Way → Type 0} {w : Stack} → u ≡ true → Child given base u b c P w → Child given base true b c P w
+unit_child {given} {base} {u} {b} {c} {P} {w} e x = subst (λ (v : Bool). Child given base v b c P w) e x
+
+path_base : {given : Given} {base : Base} {c : List Instruction} {P : Way → Type 0} {w : Stack} → (other : Base) → base ≡ other → Path given base c P w → Path given other c P w
+path_base {given} {base} {c} {P} {w} other e p = subst (λ (b : Base). Path given b c P w) e p
+
+-- the pushes of a `multi`
+rises-append : (c d : List Instruction) → rises (c ++ d) ≡ rises c + rises d
+rises-append [] d = omega arith
+rises-append (i ∷ c) d = omega (arith, rises-append c d)
+
+rises-pushes : (keys : List Key) → rises (map push keys) ≡ length keys
+rises-pushes [] = refl
+rises-pushes (key ∷ keys) = omega (arith, rises-pushes keys)
+
+multi_path : (given : Given) (k : ℕ) (keys : List Key) (w : Stack) → length w ≡ k + 1 →
+    Path given B (emit (multi k keys)) (Is (k + 1) (replicate (length keys + 2) (up 1) ++ down (length keys + k + 2) ∷ [])) w
+multi_path given k keys w is =
+    let end : Course = down (length keys + k + 2) ∷ [] in
+    let e : rises (emit (multi k keys)) ≡ (1 + rises (map push keys)) + 1 = rises-append (number k ∷ map push keys) (number (length keys) ∷ code op.CheckMultiSig ∷ []) in
+    leaf_path given B (emit (multi k keys)) (k + 1) (replicate (length keys + 2) (up 1) ++ end) w b_not_w is
+    (omega (arith, e, rises-pushes keys, rise_multi (length keys + 2) end))
+
+-- of the children of a threshold
+satisfied_path : {given : Given} {base : Base} {c : List Instruction} {w : Stack} → (first : Course) (x : Tree) (xs : Trees) (n m : ℕ) → n ≡ suc m →
+    Path given base c (Then (Followed (FormalSat x) first) (FormalParts (down 1 ∷ []) xs m)) w → Path given base c (FormalParts first (more x xs) n) w
+satisfied_path {given} {base} {c} {w} first x xs n m e p =
+    subst (λ (k : ℕ). Path given base c (FormalParts first (more x xs) k) w) (sym e) (path_as (FormalParts first (more x xs) (suc m)) (λ v h. inl h) p)
+
+dissatisfied_path : {given : Given} {base : Base} {c : List Instruction} {w : Stack} → (first : Course) (x : Tree) (xs : Trees) (n : ℕ) →
+    Path given base c (Then (Followed (FormalDsat x) first) (FormalParts (down 1 ∷ []) xs n)) w → Path given base c (FormalParts first (more x xs) n) w
+dissatisfied_path first x xs zero p = p
+dissatisfied_path first x xs (suc n) p = path_as (FormalParts first (more x xs) (suc n)) (λ v h. inr h) p
+
+no_parts_path : (given : Given) (n : ℕ) (w : Stack) → n ≡ 0 → w ≡ [] → Path given W [] (FormalParts (down 1 ∷ []) none n) w
+no_parts_path given zero w e i = none_path given w i
+no_parts_path given (suc n) w e i = absurd (omega (arith, e))
+
+sum_follows : (s : Setting) (k : ℕ) (x : Tree) (xs : Trees) → IsWritable (thresh k (more x xs)) → IsTyped (thresh k (more x xs)) → Few (thresh k (more x xs)) → (n : ℕ) (w : Stack) → Short w →
+    parts s (more x xs) n w → (p : Path s.given B (emit_sum (more x xs)) (FormalParts [] (more x xs) n) w) → (rest : Stack) →
+    (v : Bytes) × Follows s.given (emit_sum (more x xs)) p.way.course (w ++ rest) (v ∷ rest)
+sum_follows s k x xs writable typed few n w short r p rest =
+    let leaves = leaves_of 1 (FormalParts [] (more x xs) n) (highest_parts 1 (more x xs) n) (first_highest (more x xs) n (fit_children k x xs typed)) p.way p.formal in (
+      natural_bytes n,
+      does_follow s.given (emit_sum (more x xs)) (den_sum s.given (more x xs)) p.way.course (w ++ rest) (natural_bytes n ∷ rest) (parts_log s (more x xs) n w r) (does_sum s.given (more x xs))
+          (sum_ends s k (more x xs) writable typed few n w rest short r) (omega (arith, leaves, p.items, length-append w rest)) (p.keeps rest),
+    )
+
+module _ (s : Setting) (no_more : IsTrue s.all_rows → ⊥) where
+  mutual
+    unfolding corr_rows
+
+    pub sat_path : (t : Tree) → IsWritable t → IsTyped t → Few t → (w : Stack) → Short w → (row s t).sat w → Path s.given (type_of t).base (emit t) (FormalSat t) w
+    sat_path just_0 k typed few w short r = absurd r
+    sat_path just_1 k typed few w short r = leaf_path s.given B (emit just_1) 0 (up 1 ∷ []) w b_not_w (ap length r) (omega arith)
+    sat_path (pk_k key) k typed few w short r = leaf_path s.given K (emit (pk_k key)) 1 (up 1 ∷ []) w k_not_w (ap length r.2) (omega arith)
+    sat_path (pk_h key) k typed few w short r =
+        leaf_path s.given K (emit (pk_h key)) 2 (up 1 ∷ up 0 ∷ up 1 ∷ down 2 ∷ []) w k_not_w (both_items w r.4.1 r.4.0 1 1 2 r.4.4 (ap length r.4.3) (ap length r.4.2.2) refl) (omega arith)
+    sat_path (older n) k typed few w short r = leaf_path s.given B (emit (older n)) 0 (up 1 ∷ up 0 ∷ []) w b_not_w (ap length r.1) (omega arith)
+    sat_path (after n) k typed few w short r = leaf_path s.given B (emit (after n)) 0 (up 1 ∷ up 0 ∷ []) w b_not_w (ap length r.1) (omega arith)
+    sat_path (hash kind value) k typed few w short r = hash_path s.given kind value r.0 w r.1.0.0 r.2
+    sat_path (and_or x y z) k typed few w short (inl r) =
+        let p = typed-and_or x y z typed in
+        path_as (FormalSat (and_or x y z)) (λ v h. inl h) (path_script (emit (and_or x y z)) (and_or_script x y z)
+        (and_or_true_path (den s.given z) w p.7 r.4
+        (unit_child p.5 (sat_child s x k.0 p.0 few.0 r.1 (upper w r.1 r.0 r.4 short) r.3 B p.3 (sat_path x k.0 p.0 few.0 r.1 (upper w r.1 r.0 r.4 short) r.3))) (sat_path y k.1 p.1 few.1 r.0 (lower w r.1 r.0 r.4 short) r.2) (does s.given z) (still s.given z)))
+    sat_path (and_or x y z) k typed few w short (inr r) =
+        let p = typed-and_or x y z typed in
+        path_as (FormalSat (and_or x y z)) (λ v h. inr h) (path_script (emit (and_or x y z)) (and_or_script x y z)
+        (and_or_false_path w p.7 r.4
+        (unit_child p.5 (dsat_child s x k.0 p.0 few.0 r.1 (upper w r.1 r.0 r.4 short) r.3 B p.3 (dsat_path x k.0 p.0 few.0 r.1 (upper w r.1 r.0 r.4 short) r.3))) (sat_child s z k.2 p.2 few.2 r.0 (lower w r.1 r.0 r.4 short) r.2 (type_of y).base (sym p.6) (sat_path z k.2 p.2 few.2 r.0 (lower w r.1 r.0 r.4 short) r.2)) (still s.given y)))
+    sat_path (two kind.AndV x y) k typed few w short r =
+        let p = typed-and_v x y typed in
+        and_v_path w p.3 r.4 (sat_child s x k.0 p.0 few.0 r.1 (upper w r.1 r.0 r.4 short) r.3 V p.2 (sat_path x k.0 p.0 few.0 r.1 (upper w r.1 r.0 r.4 short) r.3)) (sat_path y k.1 p.1 few.1 r.0 (lower w r.1 r.0 r.4 short) r.2)
+    sat_path (two kind.AndB x y) k typed few w short r =
+        let p = typed-and_b x y typed in
+        two_path w (code op.BoolAnd ∷ []) r.4 refl (sat_child s x k.0 p.0 few.0 r.1 (upper w r.1 r.0 r.4 short) r.3 B p.2 (sat_path x k.0 p.0 few.0 r.1 (upper w r.1 r.0 r.4 short) r.3)) (path_base W p.3 (sat_path y k.1 p.1 few.1 r.0 (lower w r.1 r.0 r.4 short) r.2))
+    sat_path (two kind.OrB x z) k typed few w short (inl r) =
+        let p = typed-or_b x z typed in
+        path_as (FormalSat (two kind.OrB x z)) (λ v h. inl h)
+        (two_path w (code op.BoolOr ∷ []) r.4 refl (sat_child s x k.0 p.0 few.0 r.1 (upper w r.1 r.0 r.4 short) r.3 B p.2 (sat_path x k.0 p.0 few.0 r.1 (upper w r.1 r.0 r.4 short) r.3)) (path_base W p.4 (dsat_path z k.1 p.1 few.1 r.0 (lower w r.1 r.0 r.4 short) r.2)))
+    sat_path (two kind.OrB x z) k typed few w short (inr (inl r)) =
+        let p = typed-or_b x z typed in
+        path_as (FormalSat (two kind.OrB x z)) (λ v h. inr h)
+        (two_path w (code op.BoolOr ∷ []) r.4 refl (dsat_child s x k.0 p.0 few.0 r.1 (upper w r.1 r.0 r.4 short) r.3 B p.2 (dsat_path x k.0 p.0 few.0 r.1 (upper w r.1 r.0 r.4 short) r.3)) (path_base W p.4 (sat_path z k.1 p.1 few.1 r.0 (lower w r.1 r.0 r.4 short) r.2)))
+    sat_path (two kind.OrB x z) k typed few w short (inr (inr r)) = absurd (no_more r.0)
+    sat_path (two kind.OrC x z) k typed few w short (inl r) =
+        let p = typed-or_c x z typed in
+        path_as (FormalSat (two kind.OrC x z)) (λ v h. inl h) (path_script (emit (two kind.OrC x z)) (or_c_script x z)
+        (or_c_true_path (unit_child p.4 (sat_child s x k.0 p.0 few.0 w short r B p.2 (sat_path x k.0 p.0 few.0 w short r))) (still s.given z)))
+    sat_path (two kind.OrC x z) k typed few w short (inr r) =
+        let p = typed-or_c x z typed in
+        path_as (FormalSat (two kind.OrC x z)) (λ v h. inr h) (path_script (emit (two kind.OrC x z)) (or_c_script x z)
+        (or_c_false_path w r.4 (unit_child p.4 (dsat_child s x k.0 p.0 few.0 r.1 (upper w r.1 r.0 r.4 short) r.3 B p.2 (dsat_path x k.0 p.0 few.0 r.1 (upper w r.1 r.0 r.4 short) r.3))) (path_base V p.5 (sat_path z k.1 p.1 few.1 r.0 (lower w r.1 r.0 r.4 short) r.2))))
+    sat_path (two kind.OrD x z) k typed few w short (inl r) =
+        let p = typed-or_d x z typed in
+        path_as (FormalSat (two kind.OrD x z)) (λ v h. inl h) (path_script (emit (two kind.OrD x z)) (or_d_script x z)
+        (or_d_true_path (unit_child p.4 (sat_child s x k.0 p.0 few.0 w short r B p.2 (sat_path x k.0 p.0 few.0 w short r))) (still s.given z)))
+    sat_path (two kind.OrD x z) k typed few w short (inr r) =
+        let p = typed-or_d x z typed in
+        path_as (FormalSat (two kind.OrD x z)) (λ v h. inr h) (path_script (emit (two kind.OrD x z)) (or_d_script x z)
+        (or_d_false_path w r.4 (unit_child p.4 (dsat_child s x k.0 p.0 few.0 r.1 (upper w r.1 r.0 r.4 short) r.3 B p.2 (dsat_path x k.0 p.0 few.0 r.1 (upper w r.1 r.0 r.4 short) r.3))) (path_base B p.5 (sat_path z k.1 p.1 few.1 r.0 (lower w r.1 r.0 r.4 short) r.2))))
+    sat_path (two kind.OrI x z) k typed few w short (inl r) =
+        let p = typed-or_i x z typed in
+        path_as (FormalSat (two kind.OrI x z)) (λ v h. inl h) (path_script (emit (two kind.OrI x z)) (or_i_script x z)
+        (or_i_true_path w r.1 p.3 r.4 r.3 (sat_child s x k.0 p.0 few.0 r.0 (lower w r.1 r.0 r.4 short) r.2 (type_of x).base refl (sat_path x k.0 p.0 few.0 r.0 (lower w r.1 r.0 r.4 short) r.2)) (still s.given z)))
+    sat_path (two kind.OrI x z) k typed few w short (inr r) =
+        let p = typed-or_i x z typed in
+        path_as (FormalSat (two kind.OrI x z)) (λ v h. inr h) (path_script (emit (two kind.OrI x z)) (or_i_script x z)
+        (or_i_false_path (den s.given x) w r.1 p.3 r.4 r.3 (path_base (type_of x).base (sym p.2) (sat_path z k.1 p.1 few.1 r.0 (lower w r.1 r.0 r.4 short) r.2)) (does s.given x) (still s.given x)))
+    sat_path (thresh k none) writable typed few w short r = absurd (typed-thresh_none k typed)
+    sat_path (thresh k (more x xs)) writable typed few w short r =
+        let p = sum_path k (more x xs) writable typed few k w short r in
+        thresh_path k p (sum_follows s k x xs writable typed few k w short r p)
+    sat_path (multi k keys) writable typed few w short r =
+        multi_path s.given k keys w (both_items w r.1 r.0 k 1 (k + 1) r.4 r.3.0 (ap length r.2) refl)
+    sat_path (wrap wrapper.A x) k typed few w short r =
+        let p = typed-wrap_a x typed in
+        wrap_a_path (path_base B p.1 (sat_path x k p.0 few w short r))
+    sat_path (wrap wrapper.S x) k typed few w short r =
+        let p = typed-wrap_s x typed in
+        let item = one_item w ((takes_one s x p.0 p.2).sat w r) in
+        wrap_s_path item.0 item.1 (path_base B p.1 (sat_path x k p.0 few w short r))
+    sat_path (wrap wrapper.C x) k typed few w short r =
+        let p = typed-wrap_c x typed in
+        behind_path B k_not_w b_not_w (down 1 ∷ []) (code op.CheckSig ∷ []) refl (path_base K p.1 (sat_path x k p.0 few w short r))
+    sat_path (wrap wrapper.D x) k typed few w short r =
+        let p = typed-wrap_d x typed in
+        wrap_d_sat_path w r.1 r.4 r.3 (nil_from_length r.0 ((takes_none s x p.2).sat r.0 r.2)) (path_base V p.1 (sat_path x k p.0 few r.0 (lower w r.1 r.0 r.4 short) r.2))
+    sat_path (wrap wrapper.V x) k typed few w short r =
+        let p = typed-wrap_v x typed in
+        wrap_v_path (path_base B p.1 (sat_path x k p.0 few w short r))
+    sat_path (wrap wrapper.J x) k typed few w short r =
+        let p = typed-wrap_j x typed in
+        wrap_j_sat_path ((takes_item s x p.0 p.2).sat w r) short (path_base B p.1 (sat_path x k p.0 few w short r))
+    sat_path (wrap wrapper.N x) k typed few w short r =
+        let p = typed-wrap_n x typed in
+        behind_path B b_not_w b_not_w (up 0 ∷ []) (code op.ZeroNotEqual ∷ []) refl (path_base B p.1 (sat_path x k p.0 few w short r))
+
+    pub dsat_path : (t : Tree) → IsWritable t → IsTyped t → Few t → (w : Stack) → Short w → (row s t).dsat w → Path s.given (type_of t).base (emit t) (FormalDsat t) w
+    dsat_path just_0 k typed few w short r = leaf_path s.given B (emit just_0) 0 (up 1 ∷ []) w b_not_w (ap length r) (omega arith)
+    dsat_path just_1 k typed few w short r = absurd r
+    dsat_path (pk_k key) k typed few w short r = leaf_path s.given K (emit (pk_k key)) 1 (up 1 ∷ []) w k_not_w (ap length r) (omega arith)
+    dsat_path (pk_h key) k typed few w short r =
+        leaf_path s.given K (emit (pk_h key)) 2 (up 1 ∷ up 0 ∷ up 1 ∷ down 2 ∷ []) w k_not_w (both_items w r.4.1 r.4.0 1 1 2 r.4.4 (ap length r.4.3) (ap length r.4.2) refl) (omega arith)
+    dsat_path (older n) k typed few w short r = absurd r
+    dsat_path (after n) k typed few w short r = absurd r
+    dsat_path (hash kind value) k typed few w short (inl r) = hash_path s.given kind value ZEROS w r.0.0 r.1
+    dsat_path (hash kind value) k typed few w short (inr r) = absurd (no_more r.0)
+    dsat_path (and_or x y z) k typed few w short (inl r) =
+        let p = typed-and_or x y z typed in
+        path_script (emit (and_or x y z)) (and_or_script x y z)
+        (and_or_false_path w p.7 r.4
+        (unit_child p.5 (dsat_child s x k.0 p.0 few.0 r.1 (upper w r.1 r.0 r.4 short) r.3 B p.3 (dsat_path x k.0 p.0 few.0 r.1 (upper w r.1 r.0 r.4 short) r.3))) (dsat_child s z k.2 p.2 few.2 r.0 (lower w r.1 r.0 r.4 short) r.2 (type_of y).base (sym p.6) (dsat_path z k.2 p.2 few.2 r.0 (lower w r.1 r.0 r.4 short) r.2)) (still s.given y))
+    dsat_path (and_or x y z) k typed few w short (inr r) = absurd (no_more r.0)
+    dsat_path (two kind.AndV x y) k typed few w short r = absurd (no_more r.0)
+    dsat_path (two kind.AndB x y) k typed few w short (inl r) =
+        let p = typed-and_b x y typed in
+        two_path w (code op.BoolAnd ∷ []) r.4 refl (dsat_child s x k.0 p.0 few.0 r.1 (upper w r.1 r.0 r.4 short) r.3 B p.2 (dsat_path x k.0 p.0 few.0 r.1 (upper w r.1 r.0 r.4 short) r.3)) (path_base W p.3 (dsat_path y k.1 p.1 few.1 r.0 (lower w r.1 r.0 r.4 short) r.2))
+    dsat_path (two kind.AndB x y) k typed few w short (inr r) = absurd (no_more r.0)
+    dsat_path (two kind.OrB x z) k typed few w short r =
+        let p = typed-or_b x z typed in
+        two_path w (code op.BoolOr ∷ []) r.4 refl (dsat_child s x k.0 p.0 few.0 r.1 (upper w r.1 r.0 r.4 short) r.3 B p.2 (dsat_path x k.0 p.0 few.0 r.1 (upper w r.1 r.0 r.4 short) r.3)) (path_base W p.4 (dsat_path z k.1 p.1 few.1 r.0 (lower w r.1 r.0 r.4 short) r.2))
+    dsat_path (two kind.OrC x z) k typed few w short r = absurd r
+    dsat_path (two kind.OrD x z) k typed few w short r =
+        let p = typed-or_d x z typed in
+        path_script (emit (two kind.OrD x z)) (or_d_script x z)
+        (or_d_false_path w r.4 (unit_child p.4 (dsat_child s x k.0 p.0 few.0 r.1 (upper w r.1 r.0 r.4 short) r.3 B p.2 (dsat_path x k.0 p.0 few.0 r.1 (upper w r.1 r.0 r.4 short) r.3))) (path_base B p.5 (dsat_path z k.1 p.1 few.1 r.0 (lower w r.1 r.0 r.4 short) r.2)))
+    dsat_path (two kind.OrI x z) k typed few w short (inl r) =
+        let p = typed-or_i x z typed in
+        path_as (FormalDsat (two kind.OrI x z)) (λ v h. inl h) (path_script (emit (two kind.OrI x z)) (or_i_script x z)
+        (or_i_true_path w r.1 p.3 r.4 r.3 (dsat_child s x k.0 p.0 few.0 r.0 (lower w r.1 r.0 r.4 short) r.2 (type_of x).base refl (dsat_path x k.0 p.0 few.0 r.0 (lower w r.1 r.0 r.4 short) r.2)) (still s.given z)))
+    dsat_path (two kind.OrI x z) k typed few w short (inr r) =
+        let p = typed-or_i x z typed in
+        path_as (FormalDsat (two kind.OrI x z)) (λ v h. inr h) (path_script (emit (two kind.OrI x z)) (or_i_script x z)
+        (or_i_false_path (den s.given x) w r.1 p.3 r.4 r.3 (path_base (type_of x).base (sym p.2) (dsat_path z k.1 p.1 few.1 r.0 (lower w r.1 r.0 r.4 short) r.2)) (does s.given x) (still s.given x)))
+    dsat_path (thresh k none) writable typed few w short r = absurd (typed-thresh_none k typed)
+    dsat_path (thresh k (more x xs)) writable typed few w short (inl r) =
+        let p = sum_path k (more x xs) writable typed few 0 w short r in
+        thresh_path k p (sum_follows s k x xs writable typed few 0 w short r p)
+    dsat_path (thresh k (more x xs)) writable typed few w short (inr r) = absurd (no_more r.0)
+    dsat_path (multi k keys) writable typed few w short r = multi_path s.given k keys w (ap length r ∙ length-replicate (k + 1) EMPTY)
+    dsat_path (wrap wrapper.A x) k typed few w short r =
+        let p = typed-wrap_a x typed in
+        wrap_a_path (path_base B p.1 (dsat_path x k p.0 few w short r))
+    dsat_path (wrap wrapper.S x) k typed few w short r =
+        let p = typed-wrap_s x typed in
+        let item = one_item w ((takes_one s x p.0 p.2).dsat w r) in
+        wrap_s_path item.0 item.1 (path_base B p.1 (dsat_path x k p.0 few w short r))
+    dsat_path (wrap wrapper.C x) k typed few w short r =
+        let p = typed-wrap_c x typed in
+        behind_path B k_not_w b_not_w (down 1 ∷ []) (code op.CheckSig ∷ []) refl (path_base K p.1 (dsat_path x k p.0 few w short r))
+    dsat_path (wrap wrapper.D x) k typed few w short r = wrap_d_dsat_path w r (still s.given x)
+    dsat_path (wrap wrapper.V x) k typed few w short r = absurd r
+    dsat_path (wrap wrapper.J x) k typed few w short (inl r) = wrap_j_dsat_path w r (still s.given x)
+    dsat_path (wrap wrapper.J x) k typed few w short (inr r) = absurd (no_more r.0)
+    dsat_path (wrap wrapper.N x) k typed few w short r =
+        let p = typed-wrap_n x typed in
+        behind_path B b_not_w b_not_w (up 0 ∷ []) (code op.ZeroNotEqual ∷ []) refl (path_base B p.1 (dsat_path x k p.0 few w short r))
+
+    -- all children of a threshold, n of them satisfied
+    sum_path : (k : ℕ) (xs : Trees) → IsWritable (thresh k xs) → IsTyped (thresh k xs) → Few (thresh k xs) → (n : ℕ) (w : Stack) → Short w → parts s xs n w →
+        Path s.given B (emit_sum xs) (FormalParts [] xs n) w
+    sum_path k none writable typed few n w short r = absurd (typed-thresh_none k typed)
+    sum_path k (more x xs) writable typed few n w short (inl (m, is, r)) =
+        let p = typed-thresh k x xs typed in
+        satisfied_path [] x xs n m is
+        (first_path w r.4 (unit_child p.6 (sat_child s x writable.2.0 p.0 few.1.0 r.1 (upper w r.1 r.0 r.4 short) r.3 B p.4 (sat_path x writable.2.0 p.0 few.1.0 r.1 (upper w r.1 r.0 r.4 short) r.3))) (parts_path xs writable.2.1 p.1 p.7 few.1.1 m r.0 (lower w r.1 r.0 r.4 short) r.2))
+    sum_path k (more x xs) writable typed few n w short (inr r) =
+        let p = typed-thresh k x xs typed in
+        dissatisfied_path [] x xs n
+        (first_path w r.4 (unit_child p.6 (dsat_child s x writable.2.0 p.0 few.1.0 r.1 (upper w r.1 r.0 r.4 short) r.3 B p.4 (dsat_path x writable.2.0 p.0 few.1.0 r.1 (upper w r.1 r.0 r.4 short) r.3))) (parts_path xs writable.2.1 p.1 p.7 few.1.1 n r.0 (lower w r.1 r.0 r.4 short) r.2))
+
+    -- further children, behind the sum of those before them
+    parts_path : (xs : Trees) → AreWritable xs → AreTyped xs → OthersFit xs → AllFew xs → (n : ℕ) (w : Stack) → Short w → parts s xs n w → Path s.given W (emit_added xs) (FormalParts (down 1 ∷ []) xs n) w
+    parts_path none k typed fit few n w short r = no_parts_path s.given n w r.0 r.1
+    parts_path (more x xs) k typed fit few n w short (inl (m, is, r)) =
+        satisfied_path (down 1 ∷ []) x xs n m is
+        (added_path w r.4 (sat_child s x k.0 typed.0 few.0 r.1 (upper w r.1 r.0 r.4 short) r.3 W fit.0 (sat_path x k.0 typed.0 few.0 r.1 (upper w r.1 r.0 r.4 short) r.3)) (parts_path xs k.1 typed.1 fit.3 few.1 m r.0 (lower w r.1 r.0 r.4 short) r.2))
+    parts_path (more x xs) k typed fit few n w short (inr r) =
+        dissatisfied_path (down 1 ∷ []) x xs n
+        (added_path w r.4 (dsat_child s x k.0 typed.0 few.0 r.1 (upper w r.1 r.0 r.4 short) r.3 W fit.0 (dsat_path x k.0 typed.0 few.0 r.1 (upper w r.1 r.0 r.4 short) r.3)) (parts_path xs k.1 typed.1 fit.3 few.1 n r.0 (lower w r.1 r.0 r.4 short) r.2))

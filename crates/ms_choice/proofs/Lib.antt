@@ -1,0 +1,10 @@
+pub mod Totals
+pub mod Gains
+pub mod Picks
+pub mod Greatest
+pub mod Lightest
+pub mod Marks
+pub mod Sorted
+pub mod Tallies
+pub mod Listed
+pub mod Allowed

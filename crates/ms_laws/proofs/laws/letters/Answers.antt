@@ -1,5 +1,0 @@
-use Rattle.ms_laws.proofs.laws.letters.Goals as goal
-use Rattle.ms_laws.proofs.NodeLetters.{letters_of}
-
-pub returns : goal.returns
-returns c = record { letters = letters_of }

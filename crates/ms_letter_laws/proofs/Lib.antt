@@ -1,0 +1,5 @@
+pub mod LettersZonu
+pub mod MissedHashes
+pub mod LettersDsfe
+pub mod InheritedByNodes
+pub mod NodeLetters

@@ -1,0 +1,14 @@
+pub mod Outcomes
+pub mod RunLog
+pub mod RowLogs
+pub mod KeyLists
+pub mod MultisigTries
+pub mod RowLengths
+pub mod RowTops
+pub mod SmallThresholds
+pub mod ConsensusLimits
+pub mod SatisfactionSizes
+pub mod WithinLimits
+pub mod NeededSignatures
+pub mod UniqueDissatisfaction
+pub mod DecidableRows

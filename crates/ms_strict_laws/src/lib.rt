@@ -1,0 +1,4 @@
+//! What nobody can change of the satisfactions of a miniscript, proved over the definitions.
+#![tactic(auto)]
+
+mod laws;

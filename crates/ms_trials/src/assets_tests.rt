@@ -1,0 +1,474 @@
+//! Tests of assets and of both files.
+use ms_assets::{AddStop, AssetFault, Assets, Member, read_assets, read_run};
+use ms_hash::{HashKind, HashVal, hash_of};
+use ms_oracle::Locks;
+use ms_tree::Key;
+use std::alloc::{AllocError, Global};
+use std::process::Abort;
+use std::test::Fail;
+
+const LOCKS: Locks = Locks {
+    version: 2,
+    sequence: 144,
+    locktime: 500_000,
+};
+
+// A key whose bytes after the first are all these.
+fn key(last: u8) -> Option<Key> {
+    let mut bytes = [last; 33];
+    bytes[0] = 2;
+    Key::from_bytes(&bytes)
+}
+
+// Whether this is the signature of a key.
+fn finds(assets: &Assets, key: &Key, sig: &[u8]) -> bool {
+    match assets.sig_of(key) {
+        Some(found) => found == sig,
+        None => false,
+    }
+}
+
+#[test]
+fn signatures_are_found_by_their_keys(rt: HostRuntime) -> Result<(), Fail> {
+    let mut assets = Assets::new(rt.alloc(), LOCKS);
+    let one = key(1).ok_or("no key")?;
+    let two = key(2).ok_or("no key")?;
+    assert_eq!(rt; assets.add_sig(&one, &[]), Err(AddStop::SigLength));
+    assert_eq!(rt; assets.add_sig(&one, &[0; 74]), Err(AddStop::SigLength));
+    assert_eq!(rt; assets.add_sig(&one, &[7; 73]), Ok(()));
+    assert_eq!(rt; assets.add_sig(&one, b"sig"), Err(AddStop::RepeatedKey));
+    assert!(rt; finds(&assets, &one, &[7; 73]));
+    assert_eq!(rt; assets.sig_of(&two), None);
+    assert_eq!(rt; assets.add_sig(&two, b"sig"), Ok(()));
+    assert!(rt; finds(&assets, &two, b"sig"));
+    assert_eq!(rt; assets.pairs().len(), 2);
+    assert_eq!(rt; assets.locks(), LOCKS);
+    Ok(())
+}
+
+// Adds further signatures of a key: so many bytes, each of them this one.
+fn add_all(assets: &mut Assets, key: &Key, sigs: &[(u8, usize)]) -> Result<(), AddStop> {
+    for (byte, length) in sigs {
+        let bytes = [*byte; 74];
+        let length = if *length < 74 { *length } else { 74 };
+        assets.add_another(key, &bytes[..length])?;
+    }
+    Ok(())
+}
+
+#[test]
+fn the_first_of_the_shortest_signatures_is_found(rt: HostRuntime) -> Result<(), Fail> {
+    let mut assets = Assets::new(rt.alloc(), LOCKS);
+    let one = key(1).ok_or("no key")?;
+    let two = key(2).ok_or("no key")?;
+    assert_eq!(rt;
+        add_all(&mut assets, &one, &[(7, 73), (9, 71), (8, 71), (6, 72)]),
+        Ok(())
+    );
+    assert!(rt; finds(&assets, &one, &[9; 71]));
+    assert_eq!(rt; assets.sig_of(&two), None);
+    assert_eq!(rt; add_all(&mut assets, &two, &[(9, 71)]), Ok(()));
+    assert_eq!(rt; add_all(&mut assets, &one, &[(5, 70)]), Ok(()));
+    assert!(rt; finds(&assets, &one, &[5; 70]));
+    assert!(rt; finds(&assets, &two, &[9; 71]));
+    assert_eq!(rt; assets.pairs().len(), 6);
+    Ok(())
+}
+
+#[test]
+fn further_signatures_are_refused(rt: HostRuntime) -> Result<(), Fail> {
+    let mut assets = Assets::new(rt.alloc(), LOCKS);
+    let one = key(1).ok_or("no key")?;
+    assert_eq!(rt;
+        add_all(&mut assets, &one, &[(7, 73), (7, 72), (7, 73)]),
+        Err(AddStop::RepeatedKey)
+    );
+    assert_eq!(rt;
+        add_all(&mut assets, &one, &[(7, 0)]),
+        Err(AddStop::SigLength)
+    );
+    assert_eq!(rt;
+        add_all(&mut assets, &one, &[(7, 74)]),
+        Err(AddStop::SigLength)
+    );
+    assert_eq!(rt; assets.add_sig(&one, &[8; 70]), Err(AddStop::RepeatedKey));
+    assert_eq!(rt; assets.pairs().len(), 2);
+    Ok(())
+}
+
+#[test]
+fn assets_are_few(rt: HostRuntime) -> Result<(), Fail> {
+    let mut assets = Assets::new(rt.alloc(), LOCKS);
+    for i in 0..256_u16 {
+        let byte = (i % 256) as u8;
+        let mut bytes = [0; 33];
+        bytes[0] = 2;
+        bytes[1] = byte;
+        let key = Key::from_bytes(&bytes).ok_or("no key")?;
+        assert_eq!(rt; assets.add_sig(&key, b"sig"), Ok(()));
+        assert_eq!(rt; assets.add_preimage(&[byte; 32]), Ok(()));
+    }
+    let other = key(9).ok_or("no key")?;
+    assert_eq!(rt; assets.add_sig(&other, &[0; 74]), Err(AddStop::SigLength));
+    assert_eq!(rt; assets.add_sig(&other, b"sig"), Err(AddStop::TooMany));
+    assert_eq!(rt;
+        assets.add_another(&other, &[0; 74]),
+        Err(AddStop::SigLength)
+    );
+    assert_eq!(rt; assets.add_another(&other, b"sig"), Err(AddStop::TooMany));
+    assert_eq!(rt; assets.add_preimage(&[0; 32]), Err(AddStop::TooMany));
+    Ok(())
+}
+
+// SHA-256 of 32 zero bytes.
+const OF_ZEROS: [u8; 32] = [
+    0x66, 0x68, 0x7a, 0xad, 0xf8, 0x62, 0xbd, 0x77, 0x6c, 0x8f, 0xc1, 0x8b, 0x8e, 0x9f, 0x8e, 0x20,
+    0x08, 0x97, 0x14, 0x85, 0x6e, 0xe2, 0x33, 0xb3, 0x90, 0x2a, 0x59, 0x1d, 0x0d, 0x5f, 0x29, 0x25,
+];
+
+#[test]
+fn preimages_are_found_by_their_hashes(rt: HostRuntime) -> Result<(), Fail> {
+    let mut assets = Assets::new(rt.alloc(), LOCKS);
+    let value = HashVal::Sha256(OF_ZEROS);
+    assert_eq!(rt; assets.preimage_of(&value), None);
+    assert_eq!(rt; assets.add_preimage(&[1; 32]), Ok(()));
+    assert_eq!(rt; assets.add_preimage(&[0; 32]), Ok(()));
+    assert_eq!(rt; assets.preimage_of(&value), Some([0; 32].as_slice()));
+    assert_eq!(rt; assets.preimage_of(&HashVal::Hash256(OF_ZEROS)), None);
+    let other = hash_of(HashKind::Hash160, &[1; 32]);
+    assert_eq!(rt; assets.preimage_of(&other), Some([1; 32].as_slice()));
+    Ok(())
+}
+
+// The assets of a file.
+fn assets_from(alloc: Global, file: &str) -> Result<Assets, Fail> {
+    if file.len() > 1_048_576 {
+        return Err("a long file")?;
+    }
+    Ok(read_assets(alloc, file.as_bytes()).ok().ok_or("refused")?)
+}
+
+// 32 zero bytes as a preimage.
+const ZEROS: &str =
+    "{\"preimages\":[\"0000000000000000000000000000000000000000000000000000000000000000\"]}";
+
+#[test]
+fn one_preimage_answers_for_the_four_functions(rt: HostRuntime) -> Result<(), Fail> {
+    let assets = assets_from(rt.alloc(), ZEROS)?;
+    // By Python's hashlib, over OpenSSL 3.0.
+    let values = [
+        HashVal::Sha256(OF_ZEROS),
+        HashVal::Hash256(
+            *b"\x2b\x32\xdb\x6c\x2c\x0a\x62\x35\xfb\x13\x97\xe8\x22\x5e\xa8\x5e\x0f\x0e\x6e\x8c\x7b\x12\x6d\x00\x16\xcc\xbd\xe0\xe6\x67\x15\x1e",
+        ),
+        HashVal::Ripemd160(
+            *b"\xd1\xa7\x01\x26\xff\x7a\x14\x9c\xa6\xf9\xb6\x38\xdb\x08\x44\x80\x44\x0f\xf8\x42",
+        ),
+        HashVal::Hash160(
+            *b"\xb8\xbc\xb0\x7f\x63\x44\xb4\x2a\xb0\x42\x50\xc8\x6a\x6e\x8b\x75\xd3\xfd\xbb\xc6",
+        ),
+    ];
+    for value in values {
+        assert_eq!(rt; assets.preimage_of(&value), Some([0; 32].as_slice()));
+    }
+    Ok(())
+}
+
+#[test]
+fn timelocks_hold(rt: HostRuntime) -> Result<(), Fail> {
+    // operand, whether a relative lock of it holds, and an absolute one
+    let cases: [(u64, bool, bool); 7] = [
+        (1, true, true),
+        (144, true, true),
+        (145, false, true),
+        (500_000, false, true),
+        (0x1_0090, true, true),
+        (0x40_0001, false, false),
+        (500_000_000, false, false),
+    ];
+    let assets = Assets::new(rt.alloc(), LOCKS);
+    let last = Assets::new(
+        rt.alloc(),
+        Locks {
+            version: 1,
+            sequence: 0xffff_ffff,
+            locktime: 9,
+        },
+    );
+    for (n, older, after) in cases {
+        assert!(rt; 1 <= n && n < 0x8000_0000);
+        assert_eq!(rt; assets.holds_older(n), older);
+        assert_eq!(rt; assets.holds_after(n), after);
+        assert!(rt; !last.holds_older(n) && !last.holds_after(n));
+    }
+    Ok(())
+}
+
+// Capital letters stand for digits: `A` and `B` for keys, `E` for a signature of one byte, `P` and `Q` for two of 72, `R` for one
+// of 73, and `S` for one of 74.
+fn filled(alloc: Global, form: &str) -> Result<String, AllocError> {
+    let mut text = String::new(alloc);
+    for letter in form.chars() {
+        match letter {
+            'A' => text.push_str(&spelled(alloc, "02", "01", 32)?)?,
+            'B' => text.push_str(&spelled(alloc, "02", "02", 32)?)?,
+            'E' => text.push_str("Aa")?,
+            'P' => text.push_str(&spelled(alloc, "", "Aa", 72)?)?,
+            'Q' => text.push_str(&spelled(alloc, "", "bb", 72)?)?,
+            'R' => text.push_str(&spelled(alloc, "", "Aa", 73)?)?,
+            'S' => text.push_str(&spelled(alloc, "", "Aa", 74)?)?,
+            other => text.push(other)?,
+        }
+    }
+    Ok(text)
+}
+
+// A text, and another one so many times.
+fn spelled(alloc: Global, first: &str, digits: &str, count: u32) -> Result<String, AllocError> {
+    let mut text = String::from_str(alloc, first)?;
+    for _ in 0..count {
+        text.push_str(digits)?;
+    }
+    Ok(text)
+}
+
+// Which file is read.
+#[derive(Clone, Copy)]
+enum File {
+    Assets,
+    Run,
+}
+
+// Why a file is refused.
+fn fault_of(rt: &impl Abort, alloc: Global, file: File, text: &str) -> Option<AssetFault> {
+    assert!(rt; text.len() <= 1_048_576);
+    match file {
+        File::Assets => read_assets(alloc, text.as_bytes()).err(),
+        File::Run => read_run(alloc, text.as_bytes()).err(),
+    }
+}
+
+// Compares what becomes of each file of a table with the word that stands behind it.
+fn compare_rows(rt: &impl Abort, alloc: Global, file: File, rows: &str) -> Result<(), Fail> {
+    for row in rows.lines() {
+        let (form, wanted) = row.split_once(" => ").ok_or("a row")?;
+        let text = filled(alloc, form)?;
+        let answer = match fault_of(rt, alloc, file, &text) {
+            Some(fault) => format!(in alloc; "{fault:?}")?,
+            None => String::from_str(alloc, "read")?,
+        };
+        assert_eq!(rt; answer.as_str(), wanted, "{form}");
+    }
+    Ok(())
+}
+
+// Asset files. Those from the third part on have several faults: the order of the refusals, then of the members, then of the
+// places.
+const ASSET_ROWS: &str = r#" => NotJson
+{"version":2 => NotJson
+[] => Shape(Whole)
+null => Shape(Whole)
+{"sequence":4294967296} => Number(Sequence)
+{"version":-0} => Number(Version)
+{"version":1.0} => Number(Version)
+{"locktime":1e0} => Number(Locktime)
+{"locktime":null} => Number(Locktime)
+{"signatures":null} => Shape(Signatures)
+{"signatures":[{"key":""}]} => Shape(Signatures)
+{"signatures":[{"key":"","sig":0}]} => Shape(Signatures)
+{"preimages":["",[]]} => Shape(Preimages)
+{"preimages":["00","0x"]} => Hex(Preimages, 1)
+{"signatures":[{"key":"","sig":""}]} => KeyForm(0)
+{"preimages":["00"]} => PreimageLength(0)
+{"format":1} => read
+{"format":2} => read
+{"format":0} => Number(Format)
+{"format":3} => Number(Format)
+{"format":2.0} => Number(Format)
+{"format":2e0} => Number(Format)
+{"format":"2"} => Number(Format)
+{"format":null} => Number(Format)
+{"format":4294967298} => Number(Format)
+{"format":3,"format":2} => read
+{"version":-1,"preimages":{},"signatures":{}} => Shape(Signatures)
+{"version":-1,"preimages":[0]} => Shape(Preimages)
+{"preimages":["0"],"locktime":-1} => Number(Locktime)
+{"locktime":-1,"sequence":-1} => Number(Sequence)
+{"format":3,"version":-1} => Number(Version)
+{"format":3,"locktime":-1} => Number(Locktime)
+{"format":3,"preimages":[0]} => Shape(Preimages)
+{"format":3,"signatures":[{"key":"0","sig":""}]} => Number(Format)
+{"preimages":["0"],"signatures":[{"key":"","sig":"00"},{"key":"00","sig":"0"},{"key":"g0","sig":""}]} => Hex(Signatures, 1)
+{"preimages":["0"],"signatures":[{"key":"","sig":""}]} => Hex(Preimages, 0)
+{"preimages":[""],"signatures":[{"key":"","sig":""}]} => KeyForm(0)
+{"preimages":["",""],"signatures":[]} => PreimageLength(0)
+{"version":0,"version":{}} => Number(Version)"#;
+
+// Asset files with signatures.
+const SIGNATURE_ROWS: &str = r#"{"signatures":[{"key":"A","sig":"E"},{"key":"B","sig":"R"}]} => read
+{"signatures":[{"key":"A","sig":"E"},{"key":"B","sig":"S"}]} => SigLength(1)
+{"signatures":[{"key":"A","sig":"S"},{"key":"B","sig":"S"}]} => SigLength(0)
+{"signatures":[{"key":"A","sig":"P"},{"key":"B","sig":""}]} => SigLength(1)
+{"signatures":[{"key":"A","sig":"P"},{"key":"A","sig":"P"}]} => RepeatedKey(1)
+{"signatures":[{"key":"A","sig":"P"},{"key":"A","sig":"S"}]} => SigLength(1)
+{"signatures":[{"key":"A","sig":"P"},{"key":"A","sig":"Q"}]} => RepeatedKey(1)
+{"format":1,"signatures":[{"key":"A","sig":"P"},{"key":"A","sig":"Q"}]} => RepeatedKey(1)
+{"format":2,"signatures":[{"key":"A","sig":"P"},{"key":"A","sig":"Q"}]} => read
+{"format":2,"signatures":[{"key":"A","sig":"P"},{"key":"B","sig":"P"}]} => read
+{"format":2,"signatures":[{"key":"A","sig":"P"},{"key":"A","sig":"P"}]} => RepeatedKey(1)
+{"format":2,"signatures":[{"key":"A","sig":"P"},{"key":"A","sig":"Q"},{"key":"B","sig":"P"},{"key":"A","sig":"P"}]} => RepeatedKey(3)
+{"format":2,"signatures":[{"key":"A","sig":"P"},{"key":"A","sig":"P"},{"key":"A","sig":"S"}]} => SigLength(2)"#;
+
+#[test]
+fn asset_files_are_refused(rt: HostRuntime) -> Result<(), Fail> {
+    compare_rows(&rt, rt.alloc(), File::Assets, ASSET_ROWS)?;
+    compare_rows(&rt, rt.alloc(), File::Assets, SIGNATURE_ROWS)
+}
+
+// A file of format 2 with so many signatures of one key: that at place i has 73 - i % 60 bytes, each of them i.
+fn many_signatures(alloc: Global, count: u16) -> Result<String, AllocError> {
+    let mut text = String::from_str(alloc, "{\"format\":2,\"signatures\":[")?;
+    for i in 0..count {
+        let bytes = [(i % 256) as u8; 73];
+        let digits = hex::encode(alloc, &bytes[..73 - (i % 60) as usize])?;
+        if i > 0 {
+            text.push(',')?;
+        }
+        let form = filled(alloc, "{\"key\":\"A\",\"sig\":\"")?;
+        text.push_str(&form)?;
+        text.push_str(&digits)?;
+        text.push_str("\"}")?;
+    }
+    text.push_str("]}")?;
+    Ok(text)
+}
+
+#[test]
+fn a_key_may_have_all_signatures_of_a_file(rt: HostRuntime) -> Result<(), Fail> {
+    let text = many_signatures(rt.alloc(), 256)?;
+    let assets = assets_from(rt.alloc(), &text)?;
+    let one = key(1).ok_or("no key")?;
+    assert_eq!(rt; assets.pairs().len(), 256);
+    assert!(rt; finds(&assets, &one, &[59; 14]));
+    Ok(())
+}
+
+#[test]
+fn a_file_has_at_most_256_signatures(rt: HostRuntime) -> Result<(), Fail> {
+    let text = many_signatures(rt.alloc(), 257)?;
+    let fault = fault_of(&rt, rt.alloc(), File::Assets, &text);
+    assert_eq!(rt; fault, Some(AssetFault::TooMany(Member::Signatures)));
+    Ok(())
+}
+
+#[test]
+fn asset_files_are_read(rt: HostRuntime) -> Result<(), Fail> {
+    let text = filled(
+        rt.alloc(),
+        "{\"signatures\":[{\"key\":\"A\",\"sig\":\"E\"},{\"key\":\"B\",\"sig\":\"EE\"}]}",
+    )?;
+    let assets = assets_from(rt.alloc(), &text)?;
+    let two = key(2).ok_or("no key")?;
+    assert_eq!(rt; assets.pairs().len(), 2);
+    assert!(rt; finds(&assets, &two, &[0xaa, 0xaa]));
+    Ok(())
+}
+
+#[test]
+fn locks_of_asset_files_are_read(rt: HostRuntime) -> Result<(), Fail> {
+    let without = Locks {
+        version: 2,
+        sequence: 4_294_967_294,
+        locktime: 0,
+    };
+    let cases = [
+        ("{}", without),
+        ("{\"signatures\":[]}", without),
+        (
+            "{\"version\":-1,\"locktime\":[],\"note\":[null],\"version\":1,\"lockt\\u0069me\":7}",
+            Locks {
+                version: 1,
+                locktime: 7,
+                ..without
+            },
+        ),
+    ];
+    for (file, locks) in cases {
+        let assets = assets_from(rt.alloc(), file)?;
+        assert!(rt; assets.pairs().is_empty());
+        assert_eq!(rt; assets.locks(), locks);
+    }
+    Ok(())
+}
+
+// The example of docs/FORMATS.md, whose key is that of the private key 1.
+#[test]
+fn the_documented_asset_file_is_read(rt: HostRuntime) -> Result<(), Fail> {
+    let assets = assets_from(
+        rt.alloc(),
+        "{\"sequence\":144,\n \"signatures\":[{\"key\":\"0279be667ef9dcbbac55a06295ce870b07029bfcdb2dce28d959f2815b16f81798\",\"sig\":\"3044\"}],\n \"preimages\":[\"0000000000000000000000000000000000000000000000000000000000000000\"]}",
+    )?;
+    let key = Key::from_bytes(
+        b"\x02\x79\xbe\x66\x7e\xf9\xdc\xbb\xac\x55\xa0\x62\x95\xce\x87\x0b\x07\x02\x9b\xfc\xdb\x2d\xce\x28\xd9\x59\xf2\x81\x5b\x16\xf8\x17\x98",
+    ).ok_or("no key")?;
+    assert!(rt; finds(&assets, &key, &[0x30, 0x44]));
+    let value = HashVal::Sha256(OF_ZEROS);
+    assert_eq!(rt; assets.preimage_of(&value), Some([0; 32].as_slice()));
+    assert_eq!(rt;
+        assets.locks(),
+        Locks {
+            version: 2,
+            sequence: 144,
+            locktime: 0
+        }
+    );
+    Ok(())
+}
+
+// Run files. The order of the refusals, then of the members, then of the places; the format is passed over.
+const RUN_ROWS: &str = r#"{} => Shape(Script)
+{"script":"5"} => Hex(Script, 0)
+{"script":51} => Shape(Script)
+[] => Shape(Whole)
+{"signatures":0} => Shape(Signatures)
+{"script":"51","witness":[0],"version":-1} => Shape(Witness)
+{"script":"5","version":-1} => Number(Version)
+{"script":"5","witness":["5"],"signatures":[{"key":"","sig":"5"}]} => Hex(Signatures, 0)
+{"script":"5","witness":["5"]} => Hex(Script, 0)
+{"script":"51","witness":["","5"]} => Hex(Witness, 1)
+{"script":"51","format":3} => read
+{"script":"51","format":"2","signatures":[{"key":"A","sig":"P"},{"key":"A","sig":"P"}]} => read"#;
+
+#[test]
+fn run_files_are_refused(rt: HostRuntime) -> Result<(), Fail> {
+    compare_rows(&rt, rt.alloc(), File::Run, RUN_ROWS)
+}
+
+#[test]
+fn a_run_file_may_have_a_script_alone(rt: HostRuntime) -> Result<(), Fail> {
+    let file = read_run(rt.alloc(), b"{\"script\":\"51\"}")
+        .ok()
+        .ok_or("refused")?;
+    assert_eq!(rt; file.script.as_slice(), [0x51].as_slice());
+    assert_eq!(rt; file.stack.len(), 0);
+    Ok(())
+}
+
+#[test]
+fn run_files_are_read(rt: HostRuntime) -> Result<(), Fail> {
+    let text =
+        "{\"script\":\"\",\"witness\":[\"\",\"0aFF\"],\"locktime\":1,\"preimages\":0,\"signatures\":[{\"key\":\"\",\"sig\":\"00\"},{\"key\":\"\",\"sig\":\"\"}]}";
+    let file = read_run(rt.alloc(), text.as_bytes()).ok().ok_or("refused")?;
+    assert_eq!(rt; file.stack.len(), 2);
+    assert_eq!(rt; file.stack.item(1), [0x0a, 0xff].as_slice());
+    assert_eq!(rt;
+        file.locks,
+        Locks {
+            version: 2,
+            sequence: 4_294_967_294,
+            locktime: 1
+        }
+    );
+    assert_eq!(rt; file.pairs.as_slice().len(), 2);
+    Ok(())
+}

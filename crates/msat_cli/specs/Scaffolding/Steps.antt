@@ -1,0 +1,170 @@
+-- The steps on the way to an answer: the reasons against a tree, and what a step answers.
+use Rattle.std.specs.Prelude.{◌≡◌, ◌≢◌, ℕ, ◌<◌, length, List, ⊤, Option, None, Result, Ok, Err, ◌⊎◌}
+use Rattle.std.specs.Io.KnownBytes.{Appends, Keeps}
+use Rattle.std.specs.String.{string_bytes}
+use Rattle.def_script.specs.Bytes.{Bytes}
+use Rattle.def_tree.specs.Tree.{Tree}
+use Rattle.def_text.specs.declared.TextFault.{TextFault}
+use Rattle.def_text.specs.declared.TextFault.TheVariants as text_fault
+use Rattle.def_sane.specs.declared.Unfit.{Unfit}
+use Rattle.def_sane.specs.Unfit.{first_unfit, first_unfit_valid}
+use Rattle.ms_io.specs.Faults.{Rose}
+use Rattle.ms_io.specs.Moves.{AppendsPrefix}
+use Rattle.def_answer.specs.declared.status.Status.{Status}
+use Rattle.def_answer.specs.declared.status.Status.TheVariants as status
+use Rattle.def_answer.specs.Answer.{script_reply, check_reply, policy_reply, Replies}
+use Rattle.def_answer.specs.Laws.{walked}
+use Rattle.def_answer.specs.Lines.{usage_line, text_line, file_too_long_line}
+use Rattle.def_answer.specs.Reply.{Reply, reply, usage_reply, unless_unfit, MOST_FILE, satisfy_reply, plan_reply, audit_reply}
+use Rattle.def_answer.specs.Sources.{NeedsSource, ReadsSource}
+use Rattle.def_answer.specs.Words.{Command, IsForm, HasNoForm}
+use Rattle.ms_report.specs.declared.answer.Answer.{Answer}
+use Rattle.msat_cli.specs.declared.answer.Stop.{Stop}
+use Rattle.msat_cli.specs.declared.answer.Stop.TheVariants as stop
+use Rattle.ms_words.specs.declared.words.TextCommand.{TextCommand}
+use Rattle.ms_words.specs.declared.words.TextCommand.TheVariants as kind
+use Rattle.ms_replies.specs.Choices.{chosen_by, rules_by, reason_by}
+use Rattle.ms_replies.specs.Fits.{demand_of, reason_for}
+use Rattle.msat_cli.specs.Sides.{Side, IsUnread, Held}
+use Rattle.msat_cli.specs.Ends.{HasShortText, TakesMemory}
+
+-- ---- what is done with a tree
+
+-- the reasons against a tree that are tested
+abbrev pub reason_of : TextCommand → Tree → Option Unfit
+reason_of kind = reason_for (demand_of kind)
+
+-- what is replied where there is none
+abbrev pub reply_of : TextCommand → (source : Bytes) → (offsets : List ℕ) → Tree → Reply
+reply_of (kind.Script rules) source offsets = script_reply
+reply_of (kind.Check rules) source offsets = check_reply rules
+reply_of (kind.Satisfy choice) source offsets = satisfy_reply (rules_by choice) (chosen_by choice) source
+reply_of kind.Policy source offsets = policy_reply
+reply_of kind.Plan source offsets = plan_reply source
+reply_of kind.Audit source offsets = λ tree. audit_reply offsets (walked tree source) source tree
+
+-- a file is read for it
+abbrev pub ReadsFor : TextCommand → Tree → Type 0
+ReadsFor (kind.Script rules) tree = ⊥
+ReadsFor (kind.Check rules) tree = ⊥
+ReadsFor (kind.Satisfy choice) tree = reason_by choice tree ≡ None
+ReadsFor kind.Policy tree = ⊥
+ReadsFor kind.Plan tree = first_unfit tree ≡ None
+ReadsFor kind.Audit tree = first_unfit_valid tree ≡ None
+
+-- the reply to a tree with these offsets, with every source: nothing was read
+pub record AnswersAtOnce (kind : TextCommand) (tree : Tree) (offsets : List ℕ) (source : Side) (r : Reply) : Type 0 where
+  pub needless : ¬ ReadsFor kind tree
+  pub unread : IsUnread source
+  pub replies : (bytes : Bytes) → r ≡ unless_unfit (reason_of kind tree) offsets (reply_of kind bytes offsets tree)
+
+-- the reply to what the source held
+pub record AnswersFile (next : Bytes → Reply) (source : Side) (r : Reply) : Type 0 where
+  pub bytes : Bytes
+  pub held : Held source bytes
+  pub replies : r ≡ next bytes
+
+-- the reply to a tree
+abbrev pub AnswersTree : TextCommand → Tree → (offsets : List ℕ) → (source : Side) → Reply → Type 0
+AnswersTree kind tree offsets source r =
+    AnswersAtOnce kind tree offsets source r ⊎ (ReadsFor kind tree × AnswersFile (λ bytes. reply_of kind bytes offsets tree) source r)
+
+-- the reply to a text that is refused
+abbrev pub IsRefusal : TextFault → Reply → Type 0
+IsRefusal fault r = (fault ≢ text_fault.Memory) × (r ≡ reply status.TextRefused (text_line fault))
+
+-- why the file isn't read whole
+abbrev pub StopsReading : (source : Side) → Stop → Type 0
+StopsReading source stop.Usage = ⊥
+StopsReading source stop.TextTooLong = ⊥
+StopsReading source stop.FileTooLong = (bytes : Bytes) × Held source bytes × (MOST_FILE < length bytes)
+StopsReading source stop.ReadFault = Rose source.before source.now
+StopsReading source stop.Memory = ⊤
+
+-- ---- answers
+
+-- the reply to the command, with every source: nothing was read
+pub record RepliesUnread (command : Command) (source : Side) (r : Reply) : Type 0 where
+  pub needless : ¬ NeedsSource command
+  pub unread : IsUnread source
+  pub replies : (bytes : Bytes) → Replies command bytes r
+
+-- the reply to the command, with what the source held
+pub record RepliesToFile (command : Command) (source : Side) (r : Reply) : Type 0 where
+  pub needed : NeedsSource command
+  pub bytes : Bytes
+  pub held : Held source bytes
+  pub replies : Replies command bytes r
+
+-- the reply to the command
+abbrev pub Answers : Command → (source : Side) → Reply → Type 0
+Answers command source r = RepliesUnread command source r ⊎ RepliesToFile command source r
+
+-- the reply to words without a form
+pub record RepliesUsage (words : List Bytes) (r : Reply) : Type 0 where
+  pub none : HasNoForm words
+  pub replies : r ≡ usage_reply
+
+-- the reply to the words
+abbrev pub AnswersWords : (words : List Bytes) → (source : Side) → Reply → Type 0
+AnswersWords words source r =
+    RepliesUsage words r ⊎ ((command : Command) × IsForm words command × Answers command source r)
+
+-- ---- how a step ends
+
+-- with a reply that is an answer, with a fault of the source, or for want of memory
+abbrev pub Ended : (IsAnswer : Reply → Type 0) → (Fails Wants : Type 0) → Result Answer Stop → Type 0
+Ended IsAnswer Fails Wants (Ok answer) = IsAnswer (reply answer.status (string_bytes answer.report))
+Ended IsAnswer Fails Wants (Err stop.Usage) = IsAnswer usage_reply
+Ended IsAnswer Fails Wants (Err stop.TextTooLong) = IsAnswer (reply status.TextRefused (text_line text_fault.TooLong))
+Ended IsAnswer Fails Wants (Err stop.FileTooLong) = IsAnswer (reply status.FileRefused file_too_long_line)
+Ended IsAnswer Fails Wants (Err stop.ReadFault) = Fails
+Ended IsAnswer Fails Wants (Err stop.Memory) = Wants
+
+-- with the reply to the words, or with a fault of the source where they read it
+abbrev pub EndsWords : (words : List Bytes) → (source : Side) → Result Answer Stop → Type 0
+EndsWords words source = Ended (AnswersWords words source) (ReadsSource words × Rose source.before source.now) (TakesMemory words)
+
+-- with the reply to what the source held, or with a fault of the source
+abbrev pub EndsFile : (next : Bytes → Reply) → (source : Side) → Result Answer Stop → Type 0
+EndsFile next source = Ended (AnswersFile next source) (Rose source.before source.now) ⊤
+
+-- with the reply to a tree, or with a fault of the source where a file is read for it
+abbrev pub EndsTree : TextCommand → Tree → (offsets : List ℕ) → (source : Side) → Result Answer Stop → Type 0
+EndsTree kind tree offsets source = Ended (AnswersTree kind tree offsets source) (ReadsFor kind tree × Rose source.before source.now) ⊤
+
+-- with the reply to a command, with a fault of the source where it needs one, or for want of memory where its text isn't too long
+abbrev pub EndsCommand : Command → (source : Side) → Result Answer Stop → Type 0
+EndsCommand command source = Ended (Answers command source) (NeedsSource command × Rose source.before source.now) (HasShortText command)
+
+-- a report that takes memory alone, of what was done
+abbrev pub AsDone : {A E : Type 0} → (bytes : A → Bytes) → Result A E → Result Answer Stop → Type 0
+AsDone bytes (Ok text) result =
+    (answer : Answer) × (result ≡ Ok answer) × (reply answer.status (string_bytes answer.report) ≡ reply status.Done (bytes text))
+AsDone bytes (Err e) result = result ≡ Err stop.Memory
+
+-- an answer that takes memory alone
+abbrev pub AsMade : {E : Type 0} → Result Answer E → Result Answer Stop → Type 0
+AsMade (Ok answer) result = result ≡ Ok answer
+AsMade (Err e) result = result ≡ Err stop.Memory
+
+-- ---- how a report is written
+
+-- whole, or up to a fault of the sink, which was counted
+abbrev pub Writes : Status → (report : Bytes) → (sink : Side) → Status → Type 0
+Writes answer report sink result =
+    ((result ≡ answer) × Appends sink.old sink.new report)
+    ⊎ ((result ≡ status.WriteFault) × AppendsPrefix sink.old sink.new report × Rose sink.before sink.now)
+
+-- nothing is written
+abbrev pub WritesNothing : Status → (sink : Side) → Status → Type 0
+WritesNothing wanted sink result = (result ≡ wanted) × Keeps sink.old sink.new
+
+-- what is written of an answer, and with which status
+abbrev pub WritesResult : Result Answer Stop → (sink : Side) → Status → Type 0
+WritesResult (Ok answer) = Writes answer.status (string_bytes answer.report)
+WritesResult (Err stop.Usage) = Writes status.Usage usage_line
+WritesResult (Err stop.TextTooLong) = Writes status.TextRefused (text_line text_fault.TooLong)
+WritesResult (Err stop.FileTooLong) = Writes status.FileRefused file_too_long_line
+WritesResult (Err stop.ReadFault) = WritesNothing status.ReadFault
+WritesResult (Err stop.Memory) = WritesNothing status.Memory
