@@ -27,8 +27,10 @@ chmod +x "$work/kit/toolchain/bin/clang"
 # What comes of it can't be linked as a program, since it has counters and no fuzzer. The product is put back.
 out=$top/crates/msat/out
 mkdir "$work/product"
-mv "$out/msat" "$out/msat.o" "$out/msat.stamp" "$work/product" || stop "the product can't be set aside"
 trap 'mv "$work"/product/* "$out"; rm -rf "$work"' EXIT
+mv "$out/msat" "$out/msat.o" "$work/product" || stop "the product can't be set aside"
+# `rt ci` leaves no stamp.
+[ ! -e "$out/msat.stamp" ] || mv "$out/msat.stamp" "$work/product"
 (cd "$top/crates/msat" && "$work/kit/bin/rt" run -- script 1) >"$work/log" 2>&1
 [ -s "$out/msat.o" ] || { cat "$work/log" >&2 && stop "the program isn't compiled with counters"; }
 objcopy --redefine-sym main=msat_main "$out/msat.o" "$work/msat.o" || stop "the program has no main"
