@@ -10,7 +10,7 @@ ghost use Rattle.def_files.specs.Refusals.{unless_any};
 ghost use Rattle.ms_assets.specs.Scaffolding.Seen.{parts_seen};
 ghost use Rattle.ms_assets.specs.Parts.{first_refused, Reads, ReadsOr, ReadsOrMemory, IsOrMemory, repeats, value_refusals};
 
-use crate::assets::{Assets, MOST_PREIMAGES, MOST_SIGNATURES};
+use crate::assets::{Assets, MOST_PREIMAGES, MOST_SIGNATURES, is_signature};
 use crate::list_fault::ListFault;
 use crate::members::{pair_list, read_format, read_json, read_locks, text_list};
 use crate::preimage::Preimage;
@@ -120,13 +120,6 @@ fn check_keys(pairs: &[SigPair]) -> Result<(), AssetFault>
         place += 1;
     }
     Ok(())
-}
-
-/// Whether a signature has 1 to 73 bytes.
-fn is_signature(sig: &[u8]) -> bool
-    ensures { result ≡ the_is_signature sig.now }
-{
-    1 <= sig.len() && sig.len() <= 73
 }
 
 /// Refuses the first signature that hasn't its length.

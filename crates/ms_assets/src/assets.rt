@@ -4,6 +4,7 @@ ghost use Rattle.std.specs.Str.{bytes_eq};
 ghost use Rattle.def_hash.specs.Hash.{digest_of};
 ghost use Rattle.def_machine.specs.Locks.{after_holds, older_holds};
 ghost use Rattle.def_assets.specs.Assets.{sig_of as the_sig_of, known, unsigned};
+ghost use Rattle.def_files.specs.AssetFile.{is_signature as the_is_signature};
 ghost use Rattle.def_files.specs.Laws.{AreFewAssets};
 ghost use Rattle.ms_assets.specs.declared.assets.AddStop.TheVariants as stop;
 ghost use Rattle.ms_assets.specs.Scaffolding.Seen.{held};
@@ -24,6 +25,13 @@ pub const MOST_SIGNATURES: usize = 256;
 
 /// How many preimages assets hold at most.
 pub const MOST_PREIMAGES: usize = 256;
+
+/// Whether a signature has 1 to 73 bytes.
+pub(crate) fn is_signature(sig: &[u8]) -> bool
+    ensures { result ≡ the_is_signature sig.now }
+{
+    1 <= sig.len() && sig.len() <= 73
+}
 
 /// Why a signature or a preimage isn't added, in the order in which the reasons are tested.
 #[derive(Clone, Copy, Debug, PartialEq, Eq)]
@@ -172,7 +180,7 @@ impl Assets {
     fn size_stop(&self, sig: &[u8]) -> Option<AddStop>
         ensures { result ≡ the_size_stop self.now sig.now }
     {
-        if sig.is_empty() || sig.len() > 73 {
+        if !is_signature(sig) {
             return Some(AddStop::SigLength);
         }
         if self.pairs.as_slice().len() >= MOST_SIGNATURES {

@@ -1,3 +1,5 @@
+//! The slots of the working room of a choice.
+
 /// Working room for one child that can be satisfied and dissatisfied: how much more its satisfaction takes
 /// than its dissatisfaction, in each number, and which child it is. Slots are ordered by the first
 /// difference and then by the place. Users keep other numbers in it too.

@@ -1,6 +1,7 @@
 //! The arms that the rows of the table of fragments make. They add a fragment's Script to an output `$out`,
 //! which has methods `push`, `code` and `verify`: a Script, or what a Script comes to. A module that calls
-//! them has for its output the functions `add_tree`, `add_hash` and `push_number`, and the macro `key_push`.
+//! them has for its output the functions `add_tree`, `add_hash` and `push_number`, and the macros `key_push`
+//! and `step`, which takes a call of any of these, and hands on its refusal where it can refuse.
 
 /// Adds opcodes, and pushes of numbers. VERIFY is fused with the opcode before it where that has a
 /// VERIFY form.
@@ -9,13 +10,13 @@ macro_rules! opcodes {
         $(opcodes!($out, $op);)*
     };
     ($out:ident, Verify) => {
-        $out.verify()?;
+        step!($out.verify());
     };
     ($out:ident, $number:literal) => {
-        push_number($out, $number)?;
+        step!(push_number($out, $number));
     };
     ($out:ident, $op:ident) => {
-        $out.code(Op::$op)?;
+        step!($out.code(Op::$op));
     };
 }
 
@@ -38,10 +39,10 @@ macro_rules! leaf_arms {
             })*
             $(Leaf::$lock(n) => {
                 opcodes!($out, $before_lock);
-                push_number($out, n)?;
+                step!(push_number($out, n));
                 opcodes!($out, $behind_lock);
             })*
-            Leaf::Hash(value) => add_hash($out, &value)?,
+            Leaf::Hash(value) => step!(add_hash($out, &value)),
         }
     };
 }
@@ -56,7 +57,7 @@ macro_rules! hash_arms {
         match $value {
             $(HashVal::$variant(bytes) => {
                 opcodes!($out, $before);
-                $out.push(bytes)?;
+                step!($out.push(bytes));
                 opcodes!($out, $behind);
             })*
         }
@@ -71,11 +72,11 @@ macro_rules! and_or_arm {
         $($others:tt)*
     ) => {
         opcodes!($out, $before);
-        add_tree($out, $x)?;
+        step!(add_tree($out, $x));
         opcodes!($out, $behind_x);
-        add_tree($out, $z)?;
+        step!(add_tree($out, $z));
         opcodes!($out, $behind_z);
-        add_tree($out, $y)?;
+        step!(add_tree($out, $y));
         opcodes!($out, $behind_y);
     };
 }
@@ -90,9 +91,9 @@ macro_rules! pair_arms {
         match $kind {
             $(Two::$variant => {
                 opcodes!($out, $before);
-                add_tree($out, $x)?;
+                step!(add_tree($out, $x));
                 opcodes!($out, $between);
-                add_tree($out, $z)?;
+                step!(add_tree($out, $z));
                 opcodes!($out, $behind);
             })*
         }
@@ -136,7 +137,7 @@ macro_rules! wrapper_arms {
         match $wrapper {
             $(Wrapper::$variant => {
                 opcodes!($out, $before);
-                add_tree($out, $x)?;
+                step!(add_tree($out, $x));
                 opcodes!($out, $behind);
             })*
         }

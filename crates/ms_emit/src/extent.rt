@@ -1,11 +1,10 @@
 //! What a Script comes to: the length of its bytes, and its opcodes that count.
-ghost use Rattle.std.specs.Prelude.{◌≡◌, ◌+◌, ◌≤◌, ℕ, List, length, OnOk};
+ghost use Rattle.std.specs.Prelude.{◌≡◌, ◌+◌, ◌≤◌, ℕ, List, length};
 ghost use Rattle.def_script.specs.Instruction.{push, code};
 ghost use Rattle.def_script.specs.Spell.{shortest_push};
 ghost use Rattle.ms_emit.specs.Extent.{capped_u64, extended, extended_verify};
 
 use ms_script::{Op, push_length, verify_form_of};
-use std::convert::Infallible;
 
 /// What a Script comes to. It takes instructions as a Script does, and keeps none of them. Each number
 /// goes up to `u64::MAX`.
@@ -28,21 +27,19 @@ impl Extent {
     };
 
     /// A push of these bytes.
-    pub fn push(&mut self, bytes: &[u8]) -> Result<(), Infallible>
-        ensures { OnOk result (self.new ≡ extended self.old (push bytes.now)) }
+    pub fn push(&mut self, bytes: &[u8])
+        ensures { self.new ≡ extended self.old (push bytes.now) }
     {
         self.add_push(push_length(bytes));
-        Ok(())
     }
 
     /// A push of as many bytes as a key or a digest has, which are no small number.
-    pub fn push_sized(&mut self, size: u8) -> Result<(), Infallible>
+    pub fn push_sized(&mut self, size: u8)
         requires several { 2 ≤ size }
         requires short { size ≤ 75 }
-        ensures { OnOk result ((bytes : List ℕ) → length bytes ≡ size → self.new ≡ extended self.old (push bytes)) }
+        ensures { (bytes : List ℕ) → length bytes ≡ size → self.new ≡ extended self.old (push bytes) }
     {
         self.add_push(1 + size as u64);
-        Ok(())
     }
 
     /// A push that is spelled in so many bytes.
@@ -54,23 +51,21 @@ impl Extent {
     }
 
     /// An opcode.
-    pub fn code(&mut self, op: Op) -> Result<(), Infallible>
-        ensures { OnOk result (self.new ≡ extended self.old (code op)) }
+    pub fn code(&mut self, op: Op)
+        ensures { self.new ≡ extended self.old (code op) }
     {
         self.add_opcode();
         self.fuses = verify_form_of(op).is_some();
-        Ok(())
     }
 
     /// VERIFY, which is fused with the last opcode where that has a form for it.
-    pub fn verify(&mut self) -> Result<(), Infallible>
-        ensures { OnOk result (self.new ≡ extended_verify self.old) }
+    pub fn verify(&mut self)
+        ensures { self.new ≡ extended_verify self.old }
     {
         if !self.fuses {
             self.add_opcode();
         }
         self.fuses = false;
-        Ok(())
     }
 
     fn add_opcode(&mut self)

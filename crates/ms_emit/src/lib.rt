@@ -8,4 +8,5 @@ pub use translation::{emit, script_bytes};
 mod arms;
 mod extent;
 mod length;
+mod numbers;
 mod translation;

@@ -11,8 +11,9 @@ ghost use Rattle.ms_tree.specs.Shape.{shape, shapes, leaf_shape};
 use crate::arms::{
     and_or_arm, hash_arms, leaf_arms, list_opcodes, opcodes, pair_arms, wrapper_arms,
 };
+use crate::numbers::number_bytes;
 use ms_hash::hash160;
-use ms_script::{Blob, Op, Script, encode, num_encode};
+use ms_script::{Blob, Op, Script, encode};
 use ms_tree::{HashVal, Key, Leaf, Tree, Two, View, Wrapper, fragment_rows};
 use std::alloc::{AllocError, Global};
 
@@ -49,6 +50,13 @@ fn add_tree(script: &mut Script, tree: &Tree<'_>) -> Result<(), AllocError>
         View::Multi(k, keys) => add_multi(script, k, keys),
         View::Wrap(wrapper, x) => add_wrap(script, wrapper, x),
     }
+}
+
+/// A step that refuses for want of memory.
+macro_rules! step {
+    ($step:expr) => {
+        $step?
+    };
 }
 
 /// Adds the push of a key, or of its hash.
@@ -159,5 +167,5 @@ fn push_number(script: &mut Script, number: u64) -> Result<(), AllocError>
     requires { number < TEN_DIGITS }
     ensures { OnOk result (script.new ≡ script.old ++ the_number number ∷ []) }
 {
-    script.push(num_encode(number as i64).as_slice())
+    script.push(number_bytes(number).as_slice())
 }

@@ -12,7 +12,7 @@ ghost use Rattle.def_plan.specs.FileLaws.{IsPlanFile};
 ghost use Rattle.ms_assets.specs.Parts.{first_refused, Reads, ReadsOr, IsOr, repeated};
 ghost use Rattle.ms_plan.specs.Scaffolding.Reading.{seen, file_with, parts_seen, shape_of_keys, entries_at, value_refusals};
 
-use crate::lengths::{KeyLen, KeyLens, MOST_KEYS};
+use crate::lengths::{KeyLen, KeyLens, MOST_KEYS, is_length};
 use def_plan::{PlanFault, PlanMember};
 use ms_assets::{
     Assets, ListFault, Member, Preimage, few, list_at, number_of, preimages_of, read_json,
@@ -289,7 +289,7 @@ fn read_lengths(alloc: Global, keyed: &[Keyed]) -> Result<KeyLens, PlanFault>
     let mut place = 0;
     for entry in keyed {
         let length = entry.length;
-        if length < 1 || length > 73 {
+        if !is_length(length) {
             return Err(PlanFault::Length(place));
         }
         let key = entry.key;

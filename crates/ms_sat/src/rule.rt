@@ -1,3 +1,5 @@
+//! The two rules by which a satisfaction is chosen.
+
 /// How a satisfaction is chosen.
 #[derive(Clone, Copy, Debug, PartialEq, Eq)]
 pub enum Rule {

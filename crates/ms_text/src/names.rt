@@ -2,6 +2,7 @@
 ghost use Rattle.std.specs.Prelude.{◌≡◌, ◌+◌, ◌-◌, ◌≤◌, true, false, length, take, drop, is_some};
 ghost use Rattle.std.specs.List.{list_all};
 ghost use Rattle.std.specs.Option.{option_map};
+ghost use Rattle.std.specs.Str.{bytes_eq};
 ghost use Rattle.def_text.specs.Scaffolding.Reader.{FORMS, first_named, LETTERS, first_letter, letters_of};
 ghost use Rattle.def_text.specs.Token.{is_word_byte};
 ghost use Rattle.ms_text.specs.Scaffolding.Names.{form_of, letter_of, starts_letter, HeadIs};
@@ -82,10 +83,17 @@ pub enum Head {
     Neither,
 }
 
+/// Whether a word is a name.
+fn is_name(word: &[u8], name: &str) -> bool
+    ensures { result ≡ bytes_eq word.now name.now }
+{
+    word == name.as_bytes()
+}
+
 /// The value beside the first of some names that is the word.
 macro_rules! value_named {
     ($word:ident { $($name:literal => $value:expr,)* }) => {
-        $(if $word == $name.as_bytes() {
+        $(if is_name($word, $name) {
             return Some($value);
         })*
     };

@@ -1,3 +1,5 @@
+//! The rows of the fragments, from which other crates make arms.
+
 /// The table of fragments (BIP 379, translation table). It hands its rows to a macro of the caller's,
 /// which makes arms of them: `fragment_rows!(make!(given))` is `make! { (given) leaves {..} .. }`.
 ///

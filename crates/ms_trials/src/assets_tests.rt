@@ -28,49 +28,97 @@ fn finds(assets: &Assets, key: &Key, sig: &[u8]) -> bool {
     }
 }
 
-#[test]
-fn signatures_are_found_by_their_keys(rt: HostRuntime) -> Result<(), Fail> {
-    let mut assets = Assets::new(rt.alloc(), LOCKS);
-    let one = key(1).ok_or("no key")?;
-    let two = key(2).ok_or("no key")?;
-    assert_eq!(rt; assets.add_sig(&one, &[]), Err(AddStop::SigLength));
-    assert_eq!(rt; assets.add_sig(&one, &[0; 74]), Err(AddStop::SigLength));
-    assert_eq!(rt; assets.add_sig(&one, &[7; 73]), Ok(()));
-    assert_eq!(rt; assets.add_sig(&one, b"sig"), Err(AddStop::RepeatedKey));
-    assert!(rt; finds(&assets, &one, &[7; 73]));
-    assert_eq!(rt; assets.sig_of(&two), None);
-    assert_eq!(rt; assets.add_sig(&two, b"sig"), Ok(()));
-    assert!(rt; finds(&assets, &two, b"sig"));
-    assert_eq!(rt; assets.pairs().len(), 2);
-    assert_eq!(rt; assets.locks(), LOCKS);
+// A signature to add, and why it is refused, if it is.
+#[derive(Clone, Copy)]
+struct Addition {
+    // The bytes of its key after the first.
+    key: u8,
+    // Its bytes, and how many they are, up to 74.
+    byte: u8,
+    length: usize,
+    // Whether its key may have others.
+    further: bool,
+    stop: Option<AddStop>,
+}
+
+// The one signature of a key.
+fn sole(key: u8, byte: u8, length: usize, stop: Option<AddStop>) -> Addition {
+    Addition {
+        key,
+        byte,
+        length,
+        further: false,
+        stop,
+    }
+}
+
+// One more signature of a key.
+fn further(key: u8, byte: u8, length: usize, stop: Option<AddStop>) -> Addition {
+    Addition {
+        key,
+        byte,
+        length,
+        further: true,
+        stop,
+    }
+}
+
+// Adds signatures, of which some are refused.
+fn add_each(rt: &impl Abort, assets: &mut Assets, additions: &[Addition]) -> Result<(), Fail> {
+    for addition in additions {
+        let key = key(addition.key).ok_or("no key")?;
+        let bytes = [addition.byte; 74];
+        let sig = &bytes[..addition.length.min(74)];
+        let added = if addition.further {
+            assets.add_another(&key, sig)
+        } else {
+            assets.add_sig(&key, sig)
+        };
+        assert_eq!(rt; added.err(), addition.stop);
+    }
     Ok(())
 }
 
-// Adds further signatures of a key: so many bytes, each of them this one.
-fn add_all(assets: &mut Assets, key: &Key, sigs: &[(u8, usize)]) -> Result<(), AddStop> {
-    for (byte, length) in sigs {
-        let bytes = [*byte; 74];
-        let length = if *length < 74 { *length } else { 74 };
-        assets.add_another(key, &bytes[..length])?;
-    }
+// Whether a key's signature is so many bytes, each of them this one.
+fn finds_bytes(assets: &Assets, of: u8, byte: u8, length: usize) -> bool {
+    let Some(key) = key(of) else {
+        return false;
+    };
+    finds(assets, &key, &[byte; 74][..length.min(74)])
+}
+
+#[test]
+fn signatures_are_found_by_their_keys(rt: HostRuntime) -> Result<(), Fail> {
+    let mut assets = Assets::new(rt.alloc(), LOCKS);
+    let additions = [
+        sole(1, 0, 0, Some(AddStop::SigLength)),
+        sole(1, 0, 74, Some(AddStop::SigLength)),
+        sole(1, 7, 73, None),
+        sole(1, 7, 3, Some(AddStop::RepeatedKey)),
+    ];
+    add_each(&rt, &mut assets, &additions)?;
+    assert!(rt; finds_bytes(&assets, 1, 7, 73) && !finds_bytes(&assets, 2, 5, 3));
+    add_each(&rt, &mut assets, &[sole(2, 5, 3, None)])?;
+    assert!(rt; finds_bytes(&assets, 1, 7, 73) && finds_bytes(&assets, 2, 5, 3));
+    assert_eq!(rt; assets.pairs().len(), 2);
+    assert_eq!(rt; assets.locks(), LOCKS);
     Ok(())
 }
 
 #[test]
 fn the_first_of_the_shortest_signatures_is_found(rt: HostRuntime) -> Result<(), Fail> {
     let mut assets = Assets::new(rt.alloc(), LOCKS);
-    let one = key(1).ok_or("no key")?;
-    let two = key(2).ok_or("no key")?;
-    assert_eq!(rt;
-        add_all(&mut assets, &one, &[(7, 73), (9, 71), (8, 71), (6, 72)]),
-        Ok(())
-    );
-    assert!(rt; finds(&assets, &one, &[9; 71]));
-    assert_eq!(rt; assets.sig_of(&two), None);
-    assert_eq!(rt; add_all(&mut assets, &two, &[(9, 71)]), Ok(()));
-    assert_eq!(rt; add_all(&mut assets, &one, &[(5, 70)]), Ok(()));
-    assert!(rt; finds(&assets, &one, &[5; 70]));
-    assert!(rt; finds(&assets, &two, &[9; 71]));
+    let additions = [
+        further(1, 7, 73, None),
+        further(1, 9, 71, None),
+        further(1, 8, 71, None),
+        further(1, 6, 72, None),
+    ];
+    add_each(&rt, &mut assets, &additions)?;
+    assert!(rt; finds_bytes(&assets, 1, 9, 71) && !finds_bytes(&assets, 2, 9, 71));
+    let additions = [further(2, 9, 71, None), further(1, 5, 70, None)];
+    add_each(&rt, &mut assets, &additions)?;
+    assert!(rt; finds_bytes(&assets, 1, 5, 70) && finds_bytes(&assets, 2, 9, 71));
     assert_eq!(rt; assets.pairs().len(), 6);
     Ok(())
 }
@@ -78,20 +126,15 @@ fn the_first_of_the_shortest_signatures_is_found(rt: HostRuntime) -> Result<(), 
 #[test]
 fn further_signatures_are_refused(rt: HostRuntime) -> Result<(), Fail> {
     let mut assets = Assets::new(rt.alloc(), LOCKS);
-    let one = key(1).ok_or("no key")?;
-    assert_eq!(rt;
-        add_all(&mut assets, &one, &[(7, 73), (7, 72), (7, 73)]),
-        Err(AddStop::RepeatedKey)
-    );
-    assert_eq!(rt;
-        add_all(&mut assets, &one, &[(7, 0)]),
-        Err(AddStop::SigLength)
-    );
-    assert_eq!(rt;
-        add_all(&mut assets, &one, &[(7, 74)]),
-        Err(AddStop::SigLength)
-    );
-    assert_eq!(rt; assets.add_sig(&one, &[8; 70]), Err(AddStop::RepeatedKey));
+    let additions = [
+        further(1, 7, 73, None),
+        further(1, 7, 72, None),
+        further(1, 7, 73, Some(AddStop::RepeatedKey)),
+        further(1, 7, 0, Some(AddStop::SigLength)),
+        further(1, 7, 74, Some(AddStop::SigLength)),
+        sole(1, 8, 70, Some(AddStop::RepeatedKey)),
+    ];
+    add_each(&rt, &mut assets, &additions)?;
     assert_eq!(rt; assets.pairs().len(), 2);
     Ok(())
 }
@@ -101,21 +144,19 @@ fn assets_are_few(rt: HostRuntime) -> Result<(), Fail> {
     let mut assets = Assets::new(rt.alloc(), LOCKS);
     for i in 0..256_u16 {
         let byte = (i % 256) as u8;
-        let mut bytes = [0; 33];
-        bytes[0] = 2;
+        let mut bytes = [2; 33];
         bytes[1] = byte;
         let key = Key::from_bytes(&bytes).ok_or("no key")?;
         assert_eq!(rt; assets.add_sig(&key, b"sig"), Ok(()));
         assert_eq!(rt; assets.add_preimage(&[byte; 32]), Ok(()));
     }
-    let other = key(9).ok_or("no key")?;
-    assert_eq!(rt; assets.add_sig(&other, &[0; 74]), Err(AddStop::SigLength));
-    assert_eq!(rt; assets.add_sig(&other, b"sig"), Err(AddStop::TooMany));
-    assert_eq!(rt;
-        assets.add_another(&other, &[0; 74]),
-        Err(AddStop::SigLength)
-    );
-    assert_eq!(rt; assets.add_another(&other, b"sig"), Err(AddStop::TooMany));
+    let additions = [
+        sole(9, 0, 74, Some(AddStop::SigLength)),
+        sole(9, 0, 3, Some(AddStop::TooMany)),
+        further(9, 0, 74, Some(AddStop::SigLength)),
+        further(9, 0, 3, Some(AddStop::TooMany)),
+    ];
+    add_each(&rt, &mut assets, &additions)?;
     assert_eq!(rt; assets.add_preimage(&[0; 32]), Err(AddStop::TooMany));
     Ok(())
 }
@@ -126,17 +167,25 @@ const OF_ZEROS: [u8; 32] = [
     0x08, 0x97, 0x14, 0x85, 0x6e, 0xe2, 0x33, 0xb3, 0x90, 0x2a, 0x59, 0x1d, 0x0d, 0x5f, 0x29, 0x25,
 ];
 
+// Whether the preimage of a hash value is 32 such bytes.
+fn finds_preimage(assets: &Assets, value: &HashVal, byte: u8) -> bool {
+    match assets.preimage_of(value) {
+        Some(preimage) => preimage == [byte; 32].as_slice(),
+        None => false,
+    }
+}
+
 #[test]
 fn preimages_are_found_by_their_hashes(rt: HostRuntime) -> Result<(), Fail> {
     let mut assets = Assets::new(rt.alloc(), LOCKS);
     let value = HashVal::Sha256(OF_ZEROS);
-    assert_eq!(rt; assets.preimage_of(&value), None);
-    assert_eq!(rt; assets.add_preimage(&[1; 32]), Ok(()));
-    assert_eq!(rt; assets.add_preimage(&[0; 32]), Ok(()));
-    assert_eq!(rt; assets.preimage_of(&value), Some([0; 32].as_slice()));
-    assert_eq!(rt; assets.preimage_of(&HashVal::Hash256(OF_ZEROS)), None);
-    let other = hash_of(HashKind::Hash160, &[1; 32]);
-    assert_eq!(rt; assets.preimage_of(&other), Some([1; 32].as_slice()));
+    assert!(rt; assets.preimage_of(&value).is_none());
+    for byte in [1, 0] {
+        assert_eq!(rt; assets.add_preimage(&[byte; 32]), Ok(()));
+    }
+    assert!(rt; finds_preimage(&assets, &value, 0));
+    assert!(rt; assets.preimage_of(&HashVal::Hash256(OF_ZEROS)).is_none());
+    assert!(rt; finds_preimage(&assets, &hash_of(HashKind::Hash160, &[1; 32]), 1));
     Ok(())
 }
 
@@ -169,7 +218,7 @@ fn one_preimage_answers_for_the_four_functions(rt: HostRuntime) -> Result<(), Fa
         ),
     ];
     for value in values {
-        assert_eq!(rt; assets.preimage_of(&value), Some([0; 32].as_slice()));
+        assert!(rt; finds_preimage(&assets, &value, 0));
     }
     Ok(())
 }
@@ -413,7 +462,7 @@ fn the_documented_asset_file_is_read(rt: HostRuntime) -> Result<(), Fail> {
     ).ok_or("no key")?;
     assert!(rt; finds(&assets, &key, &[0x30, 0x44]));
     let value = HashVal::Sha256(OF_ZEROS);
-    assert_eq!(rt; assets.preimage_of(&value), Some([0; 32].as_slice()));
+    assert!(rt; finds_preimage(&assets, &value, 0));
     assert_eq!(rt;
         assets.locks(),
         Locks {

@@ -1,6 +1,8 @@
 //! Tests: published digests, and digests of messages at the edges of a block.
 
 use ms_hash::*;
+use std::alloc::Global;
+use std::process::Abort;
 use std::test::Fail;
 
 const GENERATOR: [u8; 33] = [
@@ -8,6 +10,12 @@ const GENERATOR: [u8; 33] = [
     0x07, 0x02, 0x9b, 0xfc, 0xdb, 0x2d, 0xce, 0x28, 0xd9, 0x59, 0xf2, 0x81, 0x5b, 0x16, 0xf8, 0x17,
     0x98,
 ];
+
+// Compares a digest with these digits.
+fn is_digest(rt: &impl Abort, alloc: Global, digest: &[u8], wanted: &str) -> Result<(), Fail> {
+    assert_eq!(rt; hex::encode(alloc, digest)?.as_str(), wanted);
+    Ok(())
+}
 
 #[test]
 fn ripemd160_of_published_messages(rt: HostRuntime) -> Result<(), Fail> {
@@ -37,8 +45,8 @@ fn ripemd160_of_published_messages(rt: HostRuntime) -> Result<(), Fail> {
             "9b752e45573d4b39f4dbd3323cab82bf63326bfb",
         ),
     ];
-    for (message, want) in cases {
-        assert_eq!(rt; hex::encode(rt.alloc(), ripemd160(message))?.as_str(), want);
+    for (message, wanted) in cases {
+        is_digest(&rt, rt.alloc(), &ripemd160(message), wanted)?;
     }
     Ok(())
 }
@@ -60,8 +68,8 @@ fn sha256_of_published_messages(rt: HostRuntime) -> Result<(), Fail> {
             "66687aadf862bd776c8fc18b8e9f8e20089714856ee233b3902a591d0d5f2925",
         ),
     ];
-    for (message, want) in cases {
-        assert_eq!(rt; hex::encode(rt.alloc(), sha256(message))?.as_str(), want);
+    for (message, wanted) in cases {
+        is_digest(&rt, rt.alloc(), &sha256(message), wanted)?;
     }
     Ok(())
 }
@@ -109,49 +117,44 @@ fn digests_at_the_edges_of_a_block(rt: HostRuntime) -> Result<(), Fail> {
     let letters = [b'a'; 120];
     for (count, of_ripemd160, of_sha256) in cases {
         let message = &letters[..count];
-        assert_eq!(rt;
-            hex::encode(rt.alloc(), ripemd160(message))?.as_str(),
-            of_ripemd160
-        );
-        assert_eq!(rt;
-            hex::encode(rt.alloc(), sha256(message))?.as_str(),
-            of_sha256
-        );
+        is_digest(&rt, rt.alloc(), &ripemd160(message), of_ripemd160)?;
+        is_digest(&rt, rt.alloc(), &sha256(message), of_sha256)?;
     }
     Ok(())
 }
 
+// BIP 173's key hash of the generator point.
+const HASH160_OF_GENERATOR: &str = "751e76e8199196d454941c45d1b3a323f1433bd6";
+
+// SHA-256 twice of `hello`, a common example.
+const HASH256_OF_HELLO: &str = "9595c9df90075148eb06860365df33584b75bff782a510c6cd4883a419833d50";
+
+#[test]
+fn digests_of_digests(rt: HostRuntime) -> Result<(), Fail> {
+    is_digest(&rt, rt.alloc(), &hash160(&GENERATOR), HASH160_OF_GENERATOR)?;
+    is_digest(&rt, rt.alloc(), &hash256(b"hello"), HASH256_OF_HELLO)
+}
+
 #[test]
 fn hash_values_by_kind(rt: HostRuntime) -> Result<(), Fail> {
-    // BIP 173's key hash of the generator point, and SHA-256 twice of `hello`, a common example.
-    let hash160_of_generator = "751e76e8199196d454941c45d1b3a323f1433bd6";
-    let hash256_of_hello = "9595c9df90075148eb06860365df33584b75bff782a510c6cd4883a419833d50";
-    assert_eq!(rt;
-        hex::encode(rt.alloc(), hash160(&GENERATOR))?.as_str(),
-        hash160_of_generator
-    );
-    assert_eq!(rt;
-        hex::encode(rt.alloc(), hash256(b"hello"))?.as_str(),
-        hash256_of_hello
-    );
     let cases: [(HashKind, &[u8], &str); 4] = [
         (
             HashKind::Sha256,
             b"abc",
             "ba7816bf8f01cfea414140de5dae2223b00361a396177a9cb410ff61f20015ad",
         ),
-        (HashKind::Hash256, b"hello", hash256_of_hello),
+        (HashKind::Hash256, b"hello", HASH256_OF_HELLO),
         (
             HashKind::Ripemd160,
             b"abc",
             "8eb208f7e05d987a9b044a8e98c6b087f15a0bfc",
         ),
-        (HashKind::Hash160, &GENERATOR, hash160_of_generator),
+        (HashKind::Hash160, &GENERATOR, HASH160_OF_GENERATOR),
     ];
-    for (kind, message, want) in cases {
+    for (kind, message, wanted) in cases {
         let value = hash_of(kind, message);
         assert_eq!(rt; value.kind(), kind);
-        assert_eq!(rt; hex::encode(rt.alloc(), value.as_bytes())?.as_str(), want);
+        is_digest(&rt, rt.alloc(), value.as_bytes(), wanted)?;
     }
     Ok(())
 }

@@ -2,10 +2,6 @@
 //! side, over one way to write texts, keys and assets; what is promised of the calls stands with them.
 #![tactic(auto)]
 
-pub use samples::{
-    A, B, C, LOCKS, SIG_A, SIG_B, SIG_C, assets_of, filled, key, key_of, signed_by, tree_of,
-};
-
 #[cfg(test)]
 mod assets_tests;
 #[cfg(test)]
@@ -38,6 +34,7 @@ mod plan_tests;
 mod policy_tests;
 #[cfg(test)]
 mod replay_tests;
+#[cfg(test)]
 mod samples;
 #[cfg(test)]
 mod sane_tests;

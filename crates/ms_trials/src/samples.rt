@@ -69,24 +69,31 @@ pub fn key(letter: char) -> Result<Key, &'static str>
     }
 }
 
-/// The key all of whose bytes are this one.
-pub fn key_of(byte: u8) -> Result<Key, &'static str>
-    ensures { IfOk result IsKey }
-{
-    key_from(&[byte; 33])
-}
-
 /// The pairs of the keys that letters stand for, `A`, `B` and `C` for any other, and one signature of each.
 pub fn signed_by(alloc: Global, signers: &str) -> Result<Pairs, AllocError> {
     let mut pairs = Pairs::new(alloc);
     for signer in signers.chars() {
-        match signer {
-            'A' => pairs.push(&A, &SIG_A)?,
-            'B' => pairs.push(&B, &SIG_B)?,
-            _ => pairs.push(&C, &SIG_C)?,
-        }
+        let (key, sig): (&[u8], &[u8]) = match signer {
+            'A' => (&A, &SIG_A),
+            'B' => (&B, &SIG_B),
+            _ => (&C, &SIG_C),
+        };
+        pairs.push(key, sig)?;
     }
     Ok(pairs)
+}
+
+/// The letter of the key, the bytes, and whether it is a further one, of the signature that a letter stands for in `assets_of`.
+fn signature_of(letter: char) -> (char, &'static [u8], bool) {
+    match letter {
+        'A' => ('A', &SIG_A, false),
+        'B' => ('B', &SIG_B, false),
+        'D' => ('A', &[0xdd; 70], true),
+        'E' => ('A', &[0xee; 70], true),
+        'F' => ('B', &[0xff; 70], true),
+        'G' => ('B', &[0xbb; 71], true),
+        _ => ('C', &SIG_C, false),
+    }
 }
 
 /// Assets with the signatures that letters stand for, and with the preimages of `X`, `Y` and `Z`, all three or none. `A`, `B` and
@@ -100,14 +107,12 @@ pub fn assets_of(
 ) -> Result<Assets, &'static str> {
     let mut assets = Assets::new(alloc, locks);
     for letter in signed.chars() {
-        let added = match letter {
-            'A' => assets.add_sig(&key('A')?, &SIG_A),
-            'B' => assets.add_sig(&key('B')?, &SIG_B),
-            'D' => assets.add_another(&key('A')?, &[0xdd; 70]),
-            'E' => assets.add_another(&key('A')?, &[0xee; 70]),
-            'F' => assets.add_another(&key('B')?, &[0xff; 70]),
-            'G' => assets.add_another(&key('B')?, &[0xbb; 71]),
-            _ => assets.add_sig(&key('C')?, &SIG_C),
+        let (signer, sig, is_further) = signature_of(letter);
+        let key = key(signer)?;
+        let added = if is_further {
+            assets.add_another(&key, sig)
+        } else {
+            assets.add_sig(&key, sig)
         };
         if added.is_err() {
             return Err("another signature");

@@ -7,46 +7,50 @@ use ms_sane::{
     Limits, Rules, Sane, Unfit, Work, check_sane, check_sane_under, check_valid, check_valid_under,
     mix,
 };
-use ms_types::{Base, Rule, RuleAt};
+use ms_types::{Rule, RuleAt};
 use std::alloc::{AllocError, Global};
 use std::test::Fail;
 
+/// Sane texts, with the base type, the properties z, o, n, d, u, s, f and e, the size, the opcodes, the items and the weight.
+const SANE: &str = "pk(B) => B onduse 35 1 1 74
+and_v(v:and_v(v:pk(A),pk(B)),pk(C)) => B nusf 105 3 3 222
+0 => B zduse 1 0 0 0
+and_v(v:pk(A),or_i(and_v(v:pk(B),older(10)),older(4194314))) => B nsf 80 7 3 150";
+
 #[test]
 fn sane_texts_have_types_and_limits(rt: HostRuntime) -> Result<(), Fail> {
-    let alloc = rt.alloc();
-    // The properties z, o, n, d and u, then s, f and e; size, opcodes, items and weight.
-    let cases = [
-        ("pk(B)", "onduse", [35, 1, 1, 74]),
-        (
-            "and_v(v:and_v(v:pk(A),pk(B)),pk(C))",
-            "nusf",
-            [105, 3, 3, 222],
-        ),
-        ("0", "zduse", [1, 0, 0, 0]),
-        (
-            "and_v(v:pk(A),or_i(and_v(v:pk(B),older(10)),older(4194314)))",
-            "nsf",
-            [80, 7, 3, 150],
-        ),
-    ];
-    for (form, wanted, [size, ops, items, weight]) in cases {
-        let arena = Bump::new(alloc);
-        let read = tree_of(alloc, &arena, form)?;
-        let mut work = Work::new(alloc, read.tree())?;
-        let sane = check_sane(read.tree(), &mut work)
-            .ok()
-            .ok_or("a sane text")?;
-        let limits = Limits {
-            size,
-            ops,
-            items,
-            weight,
-        };
-        assert_eq!(rt; sane.limits, limits, "{form}");
-        assert_eq!(rt; sane.ty.base, Base::B, "{form}");
-        assert_eq!(rt; letters(alloc, &sane)?.as_str(), wanted, "{form}");
+    for row in SANE.lines() {
+        let (form, wanted) = row.split_once(" => ").ok_or("a row")?;
+        let told = told_of(rt.alloc(), form)?;
+        assert_eq!(rt; told.as_str(), wanted, "{form}");
     }
     Ok(())
+}
+
+/// What the type and the limits of a sane text are, in the words of such a row.
+fn told_of(alloc: Global, form: &str) -> Result<String, Fail> {
+    let sane = sane_under(alloc, form, Rules::Policy)?.ok_or("a sane text")?;
+    let letters = letters(alloc, &sane)?;
+    let Limits {
+        size,
+        ops,
+        items,
+        weight,
+    } = sane.limits;
+    let base = sane.ty.base;
+    Ok(format!(in alloc; "{base:?} {letters} {size} {ops} {items} {weight}")?)
+}
+
+/// The type and the limits of a text that is sane under these rules.
+fn sane_under(alloc: Global, form: &str, rules: Rules) -> Result<Option<Sane>, Fail> {
+    let arena = Bump::new(alloc);
+    let read = tree_of(alloc, &arena, form)?;
+    let mut work = Work::new(alloc, read.tree())?;
+    let checked = match rules {
+        Rules::Policy => check_sane(read.tree(), &mut work),
+        Rules::Consensus => check_sane_under(read.tree(), rules, &mut work),
+    };
+    Ok(checked.ok())
 }
 
 /// The letters of the properties that hold.
@@ -81,7 +85,6 @@ fn malleable(node: u32, rule: Rule) -> Unfit {
 
 #[test]
 fn the_first_reason_is_given(rt: HostRuntime) -> Result<(), Fail> {
-    let alloc = rt.alloc();
     let cases = [
         ("or_b(sha256(H),s:pk(A))", malleable(4, Rule::OrBE)),
         ("thresh(1,sha256(H),s:pk(A))", malleable(4, Rule::ThreshE)),
@@ -111,18 +114,21 @@ fn the_first_reason_is_given(rt: HostRuntime) -> Result<(), Fail> {
         ("and_b(older(10),a:older(4194314))", Unfit::NoSignature),
     ];
     for (form, wanted) in cases {
-        let arena = Bump::new(alloc);
-        let read = tree_of(alloc, &arena, form)?;
-        let mut work = Work::new(alloc, read.tree())?;
-        let found = check_sane(read.tree(), &mut work).err();
-        assert_eq!(rt; found, Some(wanted), "{form}");
+        assert_eq!(rt; reason_of(rt.alloc(), form)?, Some(wanted), "{form}");
     }
     Ok(())
 }
 
+/// The first reason against a text's being sane.
+fn reason_of(alloc: Global, form: &str) -> Result<Option<Unfit>, Fail> {
+    let arena = Bump::new(alloc);
+    let read = tree_of(alloc, &arena, form)?;
+    let mut work = Work::new(alloc, read.tree())?;
+    Ok(check_sane(read.tree(), &mut work).err())
+}
+
 #[test]
 fn locks_of_two_kinds_are_mixed(rt: HostRuntime) -> Result<(), Fail> {
-    let alloc = rt.alloc();
     let cases = [
         ("and_v(v:older(10),older(4194314))", Some(3)),
         ("and_b(older(10),a:older(4194314))", Some(3)),
@@ -141,11 +147,16 @@ fn locks_of_two_kinds_are_mixed(rt: HostRuntime) -> Result<(), Fail> {
         ("and_v(v:or_i(older(10),older(4194314)),1)", None),
     ];
     for (form, wanted) in cases {
-        let arena = Bump::new(alloc);
-        let read = tree_of(alloc, &arena, form)?;
-        assert_eq!(rt; mix(read.tree()), wanted, "{form}");
+        assert_eq!(rt; mix_of(rt.alloc(), form)?, wanted, "{form}");
     }
     Ok(())
+}
+
+/// The first node of a text that mixes locks of two kinds.
+fn mix_of(alloc: Global, form: &str) -> Result<Option<u32>, Fail> {
+    let arena = Bump::new(alloc);
+    let read = tree_of(alloc, &arena, form)?;
+    Ok(mix(read.tree()))
 }
 
 /// The first reasons against a text's being valid, by policy and by consensus.
@@ -218,13 +229,9 @@ fn a_script_has_few_opcodes(rt: HostRuntime) -> Result<(), Fail> {
 
 #[test]
 fn what_policy_allows_is_sane_by_consensus(rt: HostRuntime) -> Result<(), Fail> {
-    let alloc = rt.alloc();
-    let arena = Bump::new(alloc);
-    let read = tree_of(alloc, &arena, "and_v(v:pk(A),and_v(v:pk(B),pk(C)))")?;
-    let mut work = Work::new(alloc, read.tree())?;
-    let by_policy = check_sane(read.tree(), &mut work).ok();
-    let by_consensus = check_sane_under(read.tree(), Rules::Consensus, &mut work).ok();
-    assert_eq!(rt; by_policy.is_some(), true);
-    assert_eq!(rt; by_policy, by_consensus);
+    let form = "and_v(v:pk(A),and_v(v:pk(B),pk(C)))";
+    let by_policy = sane_under(rt.alloc(), form, Rules::Policy)?;
+    assert!(rt; by_policy.is_some());
+    assert_eq!(rt; sane_under(rt.alloc(), form, Rules::Consensus)?, by_policy);
     Ok(())
 }

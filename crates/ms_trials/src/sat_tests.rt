@@ -12,80 +12,76 @@ use std::alloc::Global;
 use std::process::Abort;
 use std::test::Fail;
 
-/// The weights of a satisfaction and of a dissatisfaction, and the items of the satisfaction.
-type Choice<'a> = (Option<u64>, Option<u64>, Option<&'a str>);
+/// The least weights of a valid text's satisfactions and dissatisfactions.
+fn costs_of(alloc: Global, form: &str, assets: &Assets) -> Result<Costs, Fail> {
+    let arena = Bump::new(alloc);
+    let text = tree_of(alloc, &arena, form)?;
+    expect_valid(alloc, text.tree())?;
+    let mut work = Work::new(alloc, text.tree())?;
+    Ok(costs(text.tree(), assets, &mut work))
+}
 
-/// The least weights of a valid text are these, and its cheapest satisfaction has these items.
+/// Whether a valid text's cheapest satisfaction has these items, or there is none of either.
+fn has_cheapest(
+    alloc: Global,
+    form: &str,
+    assets: &Assets,
+    items: Option<&str>,
+) -> Result<bool, Fail> {
+    let arena = Bump::new(alloc);
+    let text = tree_of(alloc, &arena, form)?;
+    expect_valid(alloc, text.tree())?;
+    let found = cheapest(alloc, text.tree(), assets)?;
+    Ok(is_choice(&found, items))
+}
+
+/// Compares a valid text's least weights, of a satisfaction and of a dissatisfaction, and the items of its cheapest satisfaction,
+/// in a row of words, of which each may be `none`.
 fn chooses(
     rt: &impl Abort,
     alloc: Global,
     form: &str,
     assets: &Assets,
-    (sat, dsat, items): Choice<'_>,
+    wanted: &str,
 ) -> Result<(), Fail> {
-    let arena = Bump::new(alloc);
-    let text = tree_of(alloc, &arena, form)?;
-    expect_valid(alloc, text.tree())?;
-    let mut work = Work::new(alloc, text.tree())?;
-    assert_eq!(rt; costs(text.tree(), assets, &mut work), Costs { sat, dsat });
-    let found = cheapest(alloc, text.tree(), assets)?;
-    assert!(rt; is_choice(&found, items));
+    let (sat, others) = wanted.split_once(' ').ok_or("a row")?;
+    let (dsat, items) = others.split_once(' ').ok_or("a row")?;
+    let wanted = Costs {
+        sat: sat.parse().ok(),
+        dsat: dsat.parse().ok(),
+    };
+    assert_eq!(rt; costs_of(alloc, form, assets)?, wanted, "{form}");
+    let items = if items == "none" { None } else { Some(items) };
+    assert!(rt; has_cheapest(alloc, form, assets, items)?, "{form}");
     Ok(())
 }
 
+/// Texts, the signatures that are there, and what is chosen. The lightest signatures stand in the order of their keys, or are too
+/// few; children of least difference are satisfied; the lighter branch is taken; of equal weights the first, but of branches the
+/// push for the second one is the lighter one; of several signatures the first of the shortest, and of two such keys the first;
+/// each key signs by its own shortest signature; the third of three stands for the second.
+const CHOICES: &str = "multi(2,A,B,C) CBA => 144 3 -ac
+multi(2,A,B,C) C => none 3 none
+thresh(2,j:and_v(v:sha256(X),and_v(v:sha256(Y),and_v(v:sha256(Z),1))),s:pk(A),s:pk(B)) AB => 146 3 ba-
+and_v(v:pk(B),or_i(pk(A),and_v(v:sha256(X),and_v(v:sha256(Y),sha256(Z))))) AB => 147 none a1b
+thresh(1,pk(A),s:pk(B)) GA => 73 2 -a
+multi(1,A,B) GA => 73 2 -a
+or_b(pk(A),s:pk(B)) GA => 73 2 -a
+or_i(pk(A),pk(B)) GA => 73 2 g-
+pk(A) ABDFE => 71 1 d
+multi(1,A,B) ABDFE => 72 2 -d
+thresh(1,pk(A),s:pk(B)) ABDFE => 72 2 -d
+multi(1,B,A) DBF => 72 2 -f
+andor(pk(A),pk(B),pk(C)) ABC => 72 2 c-
+andor(pk(A),pk(B),pk(C)) AB => 145 2 ba";
+
 #[test]
 fn the_lightest_choice_is_taken(rt: HostRuntime) -> Result<(), Fail> {
-    let alloc = rt.alloc();
-    let cases: [(&str, &str, Choice<'_>); 14] = [
-        // The lightest signatures, in the order of their keys; and too few.
-        ("multi(2,A,B,C)", "CBA", (Some(144), Some(3), Some("-ac"))),
-        ("multi(2,A,B,C)", "C", (None, Some(3), None)),
-        // Children of least difference are satisfied.
-        (
-            "thresh(2,j:and_v(v:sha256(X),and_v(v:sha256(Y),and_v(v:sha256(Z),1))),s:pk(A),s:pk(B))",
-            "AB",
-            (Some(146), Some(3), Some("ba-")),
-        ),
-        // The lighter branch.
-        (
-            "and_v(v:pk(B),or_i(pk(A),and_v(v:sha256(X),and_v(v:sha256(Y),sha256(Z)))))",
-            "AB",
-            (Some(147), None, Some("a1b")),
-        ),
-        // Of equal weights the first; of branches the push for the second one is the lighter one.
-        (
-            "thresh(1,pk(A),s:pk(B))",
-            "GA",
-            (Some(73), Some(2), Some("-a")),
-        ),
-        ("multi(1,A,B)", "GA", (Some(73), Some(2), Some("-a"))),
-        ("or_b(pk(A),s:pk(B))", "GA", (Some(73), Some(2), Some("-a"))),
-        ("or_i(pk(A),pk(B))", "GA", (Some(73), Some(2), Some("g-"))),
-        // Of several signatures the first of the shortest, and of two such keys the first.
-        ("pk(A)", "ABDFE", (Some(71), Some(1), Some("d"))),
-        ("multi(1,A,B)", "ABDFE", (Some(72), Some(2), Some("-d"))),
-        (
-            "thresh(1,pk(A),s:pk(B))",
-            "ABDFE",
-            (Some(72), Some(2), Some("-d")),
-        ),
-        // Each key signs by its own shortest signature.
-        ("multi(1,B,A)", "DBF", (Some(72), Some(2), Some("-f"))),
-        // The third of three stands for the second.
-        (
-            "andor(pk(A),pk(B),pk(C))",
-            "ABC",
-            (Some(72), Some(2), Some("c-")),
-        ),
-        (
-            "andor(pk(A),pk(B),pk(C))",
-            "AB",
-            (Some(145), Some(2), Some("ba")),
-        ),
-    ];
-    for (form, signed, choice) in cases {
-        let assets = assets_of(alloc, LOCKS, signed, true)?;
-        chooses(&rt, alloc, form, &assets, choice)?;
+    for row in CHOICES.lines() {
+        let (given, wanted) = row.split_once(" => ").ok_or("a row")?;
+        let (form, signed) = given.split_once(' ').ok_or("a row")?;
+        let assets = assets_of(rt.alloc(), LOCKS, signed, true)?;
+        chooses(&rt, rt.alloc(), form, &assets, wanted)?;
     }
     Ok(())
 }
@@ -93,16 +89,16 @@ fn the_lightest_choice_is_taken(rt: HostRuntime) -> Result<(), Fail> {
 #[test]
 fn a_lock_has_to_hold(rt: HostRuntime) -> Result<(), Fail> {
     let alloc = rt.alloc();
-    let cases: [(u32, Choice<'_>); 3] = [
-        (144, (Some(108), None, Some("bB-"))),
-        (143, (None, None, None)),
-        (4_194_448, (None, None, None)),
+    let cases = [
+        (144, "108 none bB-"),
+        (143, "none none none"),
+        (4_194_448, "none none none"),
     ];
-    for (sequence, choice) in cases {
+    for (sequence, wanted) in cases {
         let locks = Locks { sequence, ..LOCKS };
         let assets = assets_of(alloc, locks, "B", false)?;
         let form = "or_d(pk(A),and_v(v:pkh(B),older(144)))";
-        chooses(&rt, alloc, form, &assets, choice)?;
+        chooses(&rt, alloc, form, &assets, wanted)?;
     }
     Ok(())
 }
@@ -115,39 +111,29 @@ const ZEROS_OR_KEY: &str =
 fn zeros_that_hash_to_the_value_dissatisfy_nothing(rt: HostRuntime) -> Result<(), Fail> {
     let alloc = rt.alloc();
     let mut assets = assets_of(alloc, LOCKS, "A", false)?;
-    chooses(&rt, alloc, ZEROS_OR_KEY, &assets, (None, None, None))?;
+    chooses(&rt, alloc, ZEROS_OR_KEY, &assets, "none none none")?;
     assets.add_preimage(&[0; 32])?;
-    chooses(
-        &rt,
-        alloc,
-        ZEROS_OR_KEY,
-        &assets,
-        (Some(34), None, Some("-0")),
-    )
+    chooses(&rt, alloc, ZEROS_OR_KEY, &assets, "34 none -0")
 }
 
-/// After `costs` of two signatures of three keys the first slots hold these lengths and places.
-fn sorts(
-    rt: &impl Abort,
-    alloc: Global,
-    assets: &Assets,
-    sorted: &[(i64, u32)],
-) -> Result<(), Fail> {
+/// Whether the first slots hold these lengths and places after `costs` of two signatures of three keys.
+fn sorts(alloc: Global, assets: &Assets, sorted: &[(i64, u32)]) -> Result<bool, Fail> {
     let arena = Bump::new(alloc);
     let text = tree_of(alloc, &arena, "multi(2,A,B,C)")?;
     expect_valid(alloc, text.tree())?;
     let mut work = Work::new(alloc, text.tree())?;
     let _ = costs(text.tree(), assets, &mut work);
-    for (at, (length, place)) in sorted.iter().enumerate() {
-        let slot = Slot {
-            first: *length,
-            place: *place,
-            second: 0,
-            third: 0,
-        };
-        assert_eq!(rt; work.slots.get(at), Some(&slot));
+    Ok(hold(&work.slots, sorted))
+}
+
+/// Whether the first slots hold these lengths and places.
+fn hold(slots: &[Slot], sorted: &[(i64, u32)]) -> bool {
+    for (slot, (length, place)) in slots.iter().zip(sorted) {
+        if (slot.first, slot.place) != (*length, *place) {
+            return false;
+        }
     }
-    Ok(())
+    sorted.len() <= slots.len()
 }
 
 #[test]
@@ -162,7 +148,7 @@ fn slots_hold_the_lengths_of_signatures(rt: HostRuntime) -> Result<(), Fail> {
     ];
     for (signed, sorted) in cases {
         let assets = assets_of(alloc, LOCKS, signed, false)?;
-        sorts(&rt, alloc, &assets, sorted)?;
+        assert!(rt; sorts(alloc, &assets, sorted)?, "{signed}");
     }
     Ok(())
 }

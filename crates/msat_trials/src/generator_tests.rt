@@ -56,12 +56,14 @@ fn text_of_four_children(rt: HostRuntime) -> Result<(), Fail> {
     Ok(())
 }
 
-/// Whether there is a pair of the key with these bytes behind a first byte 02 and of this signature.
-fn is_pair(pair: Option<&SigPair>, key: &[u8], sig: &[u8]) -> bool {
-    let Some(pair) = pair else {
-        return false;
-    };
-    pair.key().first() == Some(&2) && pair.key().get(1..) == Some(key) && pair.sig() == sig
+/// Whether there is a pair of this signature and of the key with 32 such bytes behind a first byte 02.
+fn is_pair(pair: Option<&SigPair>, byte: u8, sig: &[u8]) -> bool {
+    let mut key = [byte; 33];
+    key[0] = 2;
+    match pair {
+        Some(pair) => pair.key() == key.as_slice() && pair.sig() == sig,
+        None => false,
+    }
 }
 
 #[test]
@@ -73,15 +75,10 @@ fn assets_of_four_children(rt: HostRuntime) -> Result<(), Fail> {
         locktime: 0,
     };
     assert_eq!(rt; assets.locks(), locks);
-    let wanted: [(&[u8], &[u8]); 4] = [
-        (&[1; 32], &[0; 70]),
-        (&[2; 32], &[1; 71]),
-        (&[3; 32], &[2; 72]),
-        (&[4; 32], &[3; 73]),
-    ];
+    let wanted: [(u8, &[u8]); 4] = [(1, &[0; 70]), (2, &[1; 71]), (3, &[2; 72]), (4, &[3; 73])];
     assert_eq!(rt; assets.pairs().len(), 4);
-    for (at, (key, sig)) in wanted.iter().enumerate() {
-        assert!(rt; is_pair(assets.pairs().get(at), key, sig));
+    for (at, (byte, sig)) in wanted.iter().enumerate() {
+        assert!(rt; is_pair(assets.pairs().get(at), *byte, sig));
     }
     for i in 0..4_u8 {
         let value = HashVal::Sha256(sha256(&[i; 32]));

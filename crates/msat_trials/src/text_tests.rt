@@ -3,7 +3,7 @@
 use crate::asking::{ROOM, is_answered, is_done, last_line, written};
 use crate::long_texts::{chain, either, key_chain, wrapped};
 use ms_io::{NullSink, SureSource};
-use ms_samples::{filled, push_filled};
+use ms_samples::filled;
 use msat_cli::{Status, Word, msat_without_faults};
 use std::alloc::{AllocError, Global};
 use std::process::Abort;
@@ -57,18 +57,16 @@ pub struct Checked {
 
 /// The whole report.
 pub fn check_report(alloc: Global, checked: &Checked) -> Result<String, AllocError> {
-    let mut report = filled(alloc, "text ")?;
-    push_filled(&mut report, checked.printed)?;
-    report.push_str("\ntype ")?;
-    report.push_str(checked.letters)?;
-    report.push_str("\nscript ")?;
-    push_filled(&mut report, checked.script)?;
-    report.push_str("\nprogram 0020")?;
-    report.push_str(checked.digest)?;
-    report.push_str("\nlimits size ")?;
-    report.push_str(checked.limits)?;
-    report.push('\n')?;
-    Ok(report)
+    let printed = filled(alloc, checked.printed)?;
+    let script = filled(alloc, checked.script)?;
+    format!(in alloc;
+        "text {}\ntype {}\nscript {}\nprogram 0020{}\nlimits size {}\n",
+        printed.as_str(),
+        checked.letters,
+        script.as_str(),
+        checked.digest,
+        checked.limits
+    )
 }
 
 fn is_checked(rt: &impl Abort, alloc: Global, checked: &Checked) -> Result<(), Fail> {

@@ -12,10 +12,10 @@ use Rattle.ms_emit.specs.Extent.{extended, extended_by, extended_verify}
 use Rattle.ms_emit.proofs.Counting.{verify_behind, others_left}
 use Rattle.ms_emit.proofs.length.+add_tree.Goals as goal
 
-pub add_wrap-returns-in_ok-verify-in-V : goal.add_wrap-returns-in_ok-verify-in-V
-add_wrap-returns-in_ok-verify-in-V t c =
+pub add_wrap-returns-in-V : goal.add_wrap-returns-in-V
+add_wrap-returns-in-V t c =
     rw c.in-V.is
-    (c.in_ok-verify-in-V.ensures ∙ ap extended_verify c.in_ok-add_tree-in-V.ensures ∙ sym (verify_behind c.args.extent.now (shape c.args.x.now)))
+    (c.verify.ensures ∙ ap extended_verify c.add_tree-in-V.ensures ∙ sym (verify_behind c.args.extent.now (shape c.args.x.now)))
 
 pub add_others-add_tree-requires : goal.add_others-add_tree-requires
 add_others-add_tree-requires t c =
@@ -31,7 +31,7 @@ add_sum-add_others-requires t c =
 pub add_others-loop-child-preserved : goal.add_others-loop-child-preserved
 add_others-loop-child-preserved t c =
     let others = emit_added (shapes (drop (c.loop-child.child-index + 1) c.args.children.now)) in
-    let added = c.in_ok-code.ensures ∙ ap (λ (e : Extent). extended e (code op.Add)) c.in_ok-add_tree.ensures in
+    let added = c.code.ensures ∙ ap (λ (e : Extent). extended e (code op.Add)) c.add_tree.ensures in
     ap (λ (e : Extent). extended_by e others) added
     ∙ others_left c.loop-child.extent c.args.children.now c.loop-child.child-index c.child-item.result c.loop-child-test.true c.child-item.is
     ∙ c.loop-child.invariant

@@ -8,9 +8,9 @@ use Rattle.ms_emit.specs.declared.extent.Extent.{Extent}
 use Rattle.ms_emit.specs.Extent.{extended}
 use Rattle.ms_emit.proofs.length.add_leaf.Goals as goal
 
-pub returns-in_ok-code-in-PkH-3 : goal.returns-in_ok-code-in-PkH-3
-returns-in_ok-code-in-PkH-3 c =
-    let hashed = c.in_ok-push_sized-in-PkH.ensures (hash160 c.in-PkH.key) (digest_has_its_length hash_kind.Hash160 c.in-PkH.key) in
-    let before = c.in_ok-code-in-PkH-2.ensures ∙ ap (λ (e : Extent). extended e (code op.Hash160)) c.in_ok-code-in-PkH.ensures in
+pub returns-in-PkH : goal.returns-in-PkH
+returns-in-PkH c =
+    let hashed = c.push_sized.ensures (hash160 c.in-PkH.key) (digest_has_its_length hash_kind.Hash160 c.in-PkH.key) in
+    let before = c.code-in-PkH.ensures ∙ ap (λ (e : Extent). extended e (code op.Hash160)) c.code.ensures in
     let pushed = hashed ∙ ap (λ (e : Extent). extended e (push (hash160 c.in-PkH.key))) before in
-    rw c.in-PkH.is (c.in_ok-code-in-PkH-3.ensures ∙ ap (λ (e : Extent). extended e (code op.EqualVerify)) pushed)
+    rw c.in-PkH.is (c.code-in-PkH-2.ensures ∙ ap (λ (e : Extent). extended e (code op.EqualVerify)) pushed)
