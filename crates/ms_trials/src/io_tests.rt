@@ -186,12 +186,15 @@ fn a_memory_sink_keeps_to_its_bounds(rt: HostRuntime) -> Result<(), Fail> {
     Ok(())
 }
 
-// Compares what a read of so many bytes, up to four, gives; none where it fails.
-fn gives(rt: &impl Abort, source: &mut MemSource, size: usize, wanted: Option<&[u8]>) {
+// What a read gives: how many bytes, and four bytes of zeros with these in front.
+type Given = (usize, [u8; 4]);
+
+// Compares what a read of so many bytes, up to four, gives; none where it fails, and then no byte is changed.
+fn gives(rt: &impl Abort, source: &mut MemSource, size: usize, wanted: Option<Given>) {
     let mut buf = [0; 4];
     match (source.read(&mut buf[..size.min(4)]), wanted) {
-        (Ok(count), Some(bytes)) => assert!(rt; buf.get(..count) == Some(bytes)),
-        (Err(SourceFailed), None) => assert!(rt; buf == [0; 4]),
+        (Ok(count), Some(given)) => assert_eq!(rt; (count, buf), given),
+        (Err(SourceFailed), None) => assert_eq!(rt; buf, [0; 4]),
         _ => assert!(rt; false),
     }
 }
@@ -201,13 +204,13 @@ fn a_memory_source_keeps_to_its_bounds(rt: HostRuntime) -> Result<(), Fail> {
     let bytes = Vec::from_slice(rt.alloc(), b"abcdefg")?;
     let fail_at = Vec::from_slice(rt.alloc(), &[1, 3])?;
     let mut source = MemSource::new(bytes, 3, fail_at);
-    let reads: [(usize, Option<&[u8]>); 6] = [
-        (4, Some(b"abc")),
+    let reads: [(usize, Option<Given>); 6] = [
+        (4, Some((3, *b"abc\0"))),
         (4, None),
-        (2, Some(b"de")),
+        (2, Some((2, *b"de\0\0"))),
         (4, None),
-        (4, Some(b"fg")),
-        (4, Some(b"")),
+        (4, Some((2, *b"fg\0\0"))),
+        (4, Some((0, [0; 4]))),
     ];
     for (size, wanted) in reads {
         gives(&rt, &mut source, size, wanted);

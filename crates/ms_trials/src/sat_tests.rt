@@ -126,10 +126,16 @@ fn sorts(alloc: Global, assets: &Assets, sorted: &[(i64, u32)]) -> Result<bool, 
     Ok(hold(&work.slots, sorted))
 }
 
-/// Whether the first slots hold these lengths and places.
+/// Whether the first slots hold these lengths and places, and nothing else.
 fn hold(slots: &[Slot], sorted: &[(i64, u32)]) -> bool {
     for (slot, (length, place)) in slots.iter().zip(sorted) {
-        if (slot.first, slot.place) != (*length, *place) {
+        let wanted = Slot {
+            first: *length,
+            place: *place,
+            second: 0,
+            third: 0,
+        };
+        if *slot != wanted {
             return false;
         }
     }
