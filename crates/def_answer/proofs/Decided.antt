@@ -11,16 +11,14 @@ use Rattle.def_hash.specs.declared.HashKind.{HashKind}
 use Rattle.def_hash.specs.Hash.{digest_length}
 use Rattle.def_script.specs.Bytes.{Bytes, IsBytes}
 use Rattle.def_script.specs.Instruction.{Instruction, push, code}
-use Rattle.def_script.specs.Spell.{IsShort}
 use Rattle.def_script.specs.Item.{Item}
 use Rattle.def_script.specs.Item as item
 use Rattle.def_script.specs.Items.{items}
-use Rattle.def_script.specs.Laws.{item_of, CanSpell}
-use Rattle.def_script.proofs.Reading.{items-spell}
+use Rattle.def_script.specs.Laws.{item_of}
 use Rattle.def_tree.specs.Tree.{Key, Tree, Trees, just_0, just_1, pk_k, pk_h, older, after, hash, and_or, two, thresh, multi, wrap, none, more}
 use Rattle.def_tree.specs.Range.{IsKey, IsDigest, IsWritable, AreWritable, TEN_DIGITS, count}
 use Rattle.def_emit.specs.Emit.{emit, script_of}
-use Rattle.def_emit.proofs.Short.{short-emit}
+use Rattle.def_emit.proofs.Short.{items-script_of}
 use Rattle.def_sane.specs.declared.Unfit.{Unfit}
 use Rattle.def_sane.specs.Unfit.{first_unfit_valid}
 use Rattle.def_decode.specs.Nested.{EachHashed, EachHashedOf}
@@ -182,14 +180,9 @@ same_instructions [] = refl
 same_instructions (push bytes ∷ is) = ap (λ rest. push bytes ∷ rest) (same_instructions is)
 same_instructions (code op ∷ is) = ap (λ rest. code op ∷ rest) (same_instructions is)
 
-can_spell : (i : Instruction) → IsShort i → CanSpell i
-can_spell (push bytes) h = omega (arith, h)
-can_spell (code op) h = tt
-
 items_of : (keys : List Key) (script : Bytes) (t : Tree) → IsReading keys script t → items script ≡ map item_of (emit t)
 items_of keys script t h =
-    let short = short-emit t h.writable in
-    ap items (sym h.same) ∙ items-spell (emit t) (λ k d below. can_spell _ (short.all k d below))
+    ap items (sym h.same) ∙ items-script_of t h.writable
 
 abbrev pub found_in : List Key → Bytes → Option Tree
 found_in keys script = read (first_with keys) (reverse (instructions (items script)))

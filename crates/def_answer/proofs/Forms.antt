@@ -13,11 +13,11 @@ use Rattle.std.proofs.lemmas.Slice.Eq.{bytes_eq-Decides}
 use Rattle.def_script.specs.Bytes.{Bytes}
 use Rattle.def_text.specs.Word.{key_of}
 use Rattle.def_sane.specs.declared.Rules.TheVariants.{Policy, Consensus}
-use Rattle.def_answer.specs.Words.{Command, script, check, satisfy, satisfy_malleable, run, gen, policy, plan, audit, decode, words_of, MOST_CHILDREN, IsCommand, IsForm, HasNoForm}
+use Rattle.def_answer.specs.Words.{Command, script, check, satisfy, satisfy_malleable, run, gen, policy, plan, audit, decode, words_of, MOST_GENERATED, IsCommand, IsForm, HasNoForm}
 
 -- the number of 1 to 30 that a word spells
 unfoldable pub children_of : Bytes → Option ℕ
-children_of word = find (λ n. bytes_eq (decimal n) word) (range_with_len 1 MOST_CHILDREN)
+children_of word = find (λ n. bytes_eq (decimal n) word) (range_with_len 1 MOST_GENERATED)
 
 abbrev pub one_word : (first : Bytes) → Option Command
 one_word first = if bytes_eq first (codes "run") then Some run else None

@@ -15,7 +15,7 @@ use Rattle.def_choice.specs.Least.{both, lighter, least}
 use Rattle.def_choice.specs.Cheapest.{Child, stack_of, cheapest_of, cheapest_children}
 use Rattle.def_choice.specs.Strict.{free_children, has_all, strict_of, strict_children}
 use Rattle.def_choice.proofs.Listed.{sets_are_all}
-use Rattle.def_answer.specs.Generated.{threshold_of, children, generated_tree, generated_assets}
+use Rattle.def_answer.specs.Generated.{threshold_of, generated_children, generated_tree, generated_assets}
 use Rattle.def_answer.specs.Laws.{GeneratedIsSatisfied}
 use Rattle.def_answer.proofs.Computing.{answers_on_literals}
 use Rattle.def_answer.proofs.UpTo.{UpTo, holds_at}
@@ -110,7 +110,7 @@ can_satisfy assets xs k =
     (count xs) k
 
 abbrev IsSatisfiable : ℕ → Type 0
-IsSatisfiable n = can_satisfy (generated_assets n) (children n 0) (threshold_of n) ≡ true
+IsSatisfiable n = can_satisfy (generated_assets n) (generated_children n 0) (threshold_of n) ≡ true
 
 satisfiable_10 : UpTo IsSatisfiable 10
 unfolding answers_on_literals
@@ -158,5 +158,5 @@ turned_some (Some stack) h = refl
 
 pub generated_is_satisfied : GeneratedIsSatisfied
 generated_is_satisfied n some few =
-    let has = has_both (generated_assets n) (threshold_of n) (children n 0) (holds_at IsSatisfiable 30 n satisfiable_30 some few) in
+    let has = has_both (generated_assets n) (threshold_of n) (generated_children n 0) (holds_at IsSatisfiable 30 n satisfiable_30 some few) in
     (turned_some (cheapest_of (generated_assets n) (generated_tree n)) has.cheap, turned_some (strict_of (generated_assets n) (generated_tree n)) has.strict)

@@ -20,7 +20,7 @@ use Rattle.def_sane.specs.declared.Rules.TheVariants.{Policy}
 use Rattle.def_sane.specs.declared.Unfit.{Unfit}
 use Rattle.def_sane.specs.declared.Unfit.TheVariants as unfit
 use Rattle.def_sane.specs.Unfit.{broken_rule, wrong_top, too_large, too_many_ops, too_many_items, malleable, no_signature, mixed_locks, repeated, first_reason, first_unfit_valid, IsSane}
-use Rattle.def_answer.specs.Generated.{threshold_of, pk_child, hash_child, child, children, generated_tree}
+use Rattle.def_answer.specs.Generated.{threshold_of, pk_child, hash_child, child, generated_children, generated_tree}
 use Rattle.def_answer.specs.Laws.{GeneratedIsSane}
 use Rattle.def_answer.proofs.Computing.{answers_on_literals}
 use Rattle.def_answer.proofs.UpTo.{UpTo, holds_at}
@@ -48,7 +48,7 @@ abbrev AreSmall : Trees → Type 0
 AreSmall none = ⊤
 AreSmall (more x xs) = IsSmall x × AreSmall xs
 
-children_are_small : (n i : ℕ) → AreSmall (children n i)
+children_are_small : (n i : ℕ) → AreSmall (generated_children n i)
 children_are_small zero i = tt
 children_are_small (suc n) i = (child_is_small i, children_are_small n (i + 1))
 
@@ -73,7 +73,7 @@ parts_take (more x xs) (suc k) h =
     (both_take (count xs) 1 (most_parts xs k) (most_sat x) (parts_take xs k h.1) h.0.sat)
     (both_take (count xs) 1 (most_parts xs (suc k)) (most_dsat x) (parts_take xs (suc k) h.1) h.0.dsat)
 
-counted_children : (n i : ℕ) → count (children n i) ≡ n
+counted_children : (n i : ℕ) → count (generated_children n i) ≡ n
 counted_children zero i = refl
 counted_children (suc n) i = let rest = counted_children n (i + 1) in omega (arith, rest)
 
@@ -186,5 +186,5 @@ sane_tree tree m e takes few =
 pub generated_is_sane : GeneratedIsSane
 generated_is_sane n some few =
     let same = counted_children n 0 in
-    sane_tree (generated_tree n) (count (children n 0)) (holds_at IsFit 30 n fit_30 some few)
-    (parts_take (children n 0) (threshold_of n) (children_are_small n 0)) (omega (arith, same))
+    sane_tree (generated_tree n) (count (generated_children n 0)) (holds_at IsFit 30 n fit_30 some few)
+    (parts_take (generated_children n 0) (threshold_of n) (children_are_small n 0)) (omega (arith, same))

@@ -9,7 +9,7 @@ use Rattle.def_tree.specs.Tree.{Key}
 use Rattle.def_policy.specs.Policy.{Policy, Policies, never, always, key, older, after, hash, all, any, thresh, none, more}
 use Rattle.def_policy.specs.Truth.{how_many, is_true, truths, with_keys}
 use Rattle.def_policy.specs.Keys.{keys, keys_of, AreLeastKeys}
-use Rattle.def_answer.specs.LeastKeys.{sets, lesser, smallest, least_keys}
+use Rattle.def_answer.specs.LeastKeys.{key_sets, lesser, smallest, least_keys}
 use Rattle.def_answer.specs.Laws.{LeastKeysAreLeast, OneLeast}
 
 abbrev signs : List Key → Key → Bool
@@ -88,14 +88,14 @@ all_differ k (x ∷ s) e = go (bytes_eq k x) refl (λ e. all_differ k s e) e
     go true q rest e = cc e
     go false q rest e = (q, rest e)
 
-each_distinct : (ks s : List Key) → In s (sets ks) → IsDistinct bytes_eq s
+each_distinct : (ks s : List Key) → In s (key_sets ks) → IsDistinct bytes_eq s
 unfolding IsDistinct
 each_distinct [] s (inl is) = subst (IsDistinct bytes_eq) (sym is) tt
 each_distinct [] s (inr h) = absurd h
-each_distinct (k ∷ ks) s h = elim (in_either s (sets ks) (map (λ t. k ∷ t) (without k (sets ks))) h) [
+each_distinct (k ∷ ks) s h = elim (in_either s (key_sets ks) (map (λ t. k ∷ t) (without k (key_sets ks))) h) [
   | inl a ↦ each_distinct ks s a
   | inr b ↦
-      let split = rest_of k s (sets ks) b in
+      let split = rest_of k s (key_sets ks) b in
       subst (IsDistinct bytes_eq) (sym split.is) (all_differ k split.rest split.lacks, each_distinct ks split.rest split.before)
 ]
 
@@ -202,7 +202,7 @@ dropped_signs k q b e ks = any-filter_same (bytes_eq q) (λ x. not (bytes_eq k x
 -- a set of the first keys that has those among the others alone
 record Chosen (others ks : List Key) : Type 0 where
   set : List Key
-  member : In set (sets ks)
+  member : In set (key_sets ks)
   same : (q : Key) → signs set q ≡ (signs ks q && signs others q)
   few : length set ≤ length others
 
@@ -233,8 +233,8 @@ choose (k ∷ ks) others = go (signs others k) refl (choose ks (dropped k others
         let dropped_one = one_fewer k others some in
         record {
           set = k ∷ rest.set;
-          member = in_right (k ∷ rest.set) (sets ks) (map (λ t. k ∷ t) (without k (sets ks)))
-              (in_with k rest.set (without k (sets ks)) (in_without k rest.set (sets ks) rest.member lacks));
+          member = in_right (k ∷ rest.set) (key_sets ks) (map (λ t. k ∷ t) (without k (key_sets ks)))
+              (in_with k rest.set (without k (key_sets ks)) (in_without k rest.set (key_sets ks) rest.member lacks));
           same = λ q. ap (λ b. bytes_eq q k || b) (rest.same q ∙ ap (λ b. signs ks q && b) (dropped_signs k q (bytes_eq q k) refl others))
               ∙ having k q ks others (bytes_eq q k) refl some;
           few = omega (arith, before, dropped_one);
@@ -242,7 +242,7 @@ choose (k ∷ ks) others = go (signs others k) refl (choose ks (dropped k others
     go false lacks rest whole =
         record {
           set = whole.set;
-          member = in_left whole.set (sets ks) (map (λ t. k ∷ t) (without k (sets ks))) whole.member;
+          member = in_left whole.set (key_sets ks) (map (λ t. k ∷ t) (without k (key_sets ks))) whole.member;
           same = λ q. whole.same q ∙ lacking k q ks others (bytes_eq q k) refl lacks;
           few = whole.few;
         }
@@ -291,8 +291,8 @@ mutual
 
 -- keys that suffice are no fewer than the smallest set that does
 enough : (p : Policy) (others : List Key) → is_true (with_keys others) p ≡ true
-    → AtMost (smallest (λ s. is_true (with_keys s) p) (sets (keys p))) (length others)
-enough p others e = go (smallest passes (sets (keys p))) (no_more passes (sets (keys p)) chosen.set chosen.member (alike ∙ e))
+    → AtMost (smallest (λ s. is_true (with_keys s) p) (key_sets (keys p))) (length others)
+enough p others e = go (smallest passes (key_sets (keys p))) (no_more passes (key_sets (keys p)) chosen.set chosen.member (alike ∙ e))
   where
     passes : List Key → Bool
     passes s = is_true (with_keys s) p
@@ -309,12 +309,12 @@ enough p others e = go (smallest passes (sets (keys p))) (no_more passes (sets (
 
 pub least_keys_are_least : LeastKeysAreLeast
 unfolding least_keys
-least_keys_are_least p = go (smallest (λ s. is_true (with_keys s) p) (sets (keys p))) refl
+least_keys_are_least p = go (smallest (λ s. is_true (with_keys s) p) (key_sets (keys p))) refl
   where
-    go : (o : Option ℕ) → smallest (λ s. is_true (with_keys s) p) (sets (keys p)) ≡ o → AreLeastKeys p o
+    go : (o : Option ℕ) → smallest (λ s. is_true (with_keys s) p) (key_sets (keys p)) ≡ o → AreLeastKeys p o
     go None e = λ others suffices. subst (λ o. AtMost o (length others)) e (enough p others suffices)
     go (Some n) e =
-        let found = found_set (λ s. is_true (with_keys s) p) (sets (keys p)) n e in
+        let found = found_set (λ s. is_true (with_keys s) p) (key_sets (keys p)) n e in
         record {
           signers = found.set;
           distinct = each_distinct (keys p) found.set found.member;

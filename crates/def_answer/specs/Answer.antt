@@ -24,7 +24,7 @@ use Rattle.def_answer.specs.declared.status.Status.TheVariants as status
 use Rattle.def_answer.specs.Words.{Command, script, check, satisfy, satisfy_malleable, gen, policy, plan, audit, decode, IsForm, HasNoForm}
 use Rattle.def_answer.specs.Words as words
 use Rattle.def_answer.specs.Lines.{limits_line, no_reading_line}
-use Rattle.def_answer.specs.Report.{script_report, check_report, policy_report, decode_report, replay, children_line, strict_line, cheapest_line}
+use Rattle.def_answer.specs.Report.{script_report, check_report, policy_report, decode_report, outcome_with, children_line, strict_line, cheapest_line}
 use Rattle.def_answer.specs.Generated.{threshold_of, generated_tree, generated_assets}
 use Rattle.def_answer.specs.Reading.{Reading, HasReading}
 use Rattle.def_answer.specs.Reading as reading
@@ -35,7 +35,7 @@ unfoldable pub gen_report : (n : ℕ) → (strict cheapest : List Bytes) → Byt
 gen_report n strict cheapest =
     children_line n (threshold_of n)
     ++ limits_line (limits_of (generated_tree n))
-    ++ strict_line strict (replay (generated_tree n) (generated_assets n) strict)
+    ++ strict_line strict (outcome_with (generated_tree n) (generated_assets n) strict)
     ++ cheapest_line cheapest
 
 -- the generated tree can always be satisfied

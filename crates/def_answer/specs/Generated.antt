@@ -67,9 +67,9 @@ hash_child i = wrap A (wrap J (two AndV (wrap V (hash Sha256 (generated_value i)
 abbrev pub child : ℕ → Tree
 child i = if i == 0 then pk_child i else if i % 3 == 0 then hash_child i else wrap S (pk_child i)
 
-abbrev pub children : (n i : ℕ) → Trees
-children zero i = none
-children (suc n) i = more (child i) (children n (i + 1))
+abbrev pub generated_children : (n i : ℕ) → Trees
+generated_children zero i = none
+generated_children (suc n) i = more (child i) (generated_children n (i + 1))
 
 abbrev pub generated_tree : (n : ℕ) → Tree
-generated_tree n = thresh (threshold_of n) (children n 0)
+generated_tree n = thresh (threshold_of n) (generated_children n 0)

@@ -17,7 +17,7 @@ use Rattle.def_choice.specs.Strict.{strict}
 use Rattle.ms_audit_laws.specs.Walk.{trail_of}
 use Rattle.def_answer.specs.declared.status.Status.{Status}
 use Rattle.def_answer.specs.declared.status.Status.TheVariants as status
-use Rattle.def_answer.specs.Words.{Command, audit, decode, MOST_CHILDREN, IsForm, HasNoForm}
+use Rattle.def_answer.specs.Words.{Command, audit, decode, MOST_GENERATED, IsForm, HasNoForm}
 use Rattle.def_answer.specs.LeastKeys.{least_keys}
 use Rattle.def_answer.specs.Lines.{file_too_long_line}
 use Rattle.def_answer.specs.Generated.{generated_text, generated_tree, generated_assets}
@@ -145,17 +145,17 @@ OneLeast = (policy : Policy) (n m : Option ℕ) → AreLeastKeys policy n → Ar
 -- the generated text is read as the generated tree
 abbrev pub GeneratedIsRead : Type 0
 GeneratedIsRead =
-    (n : ℕ) → 1 ≤ n → n ≤ MOST_CHILDREN → (offsets : List ℕ) × TextReads (generated_text n) (generated_tree n) offsets
+    (n : ℕ) → 1 ≤ n → n ≤ MOST_GENERATED → (offsets : List ℕ) × TextReads (generated_text n) (generated_tree n) offsets
 
 abbrev pub GeneratedIsSane : Type 0
-GeneratedIsSane = (n : ℕ) → 1 ≤ n → n ≤ MOST_CHILDREN → IsSane (generated_tree n)
+GeneratedIsSane = (n : ℕ) → 1 ≤ n → n ≤ MOST_GENERATED → IsSane (generated_tree n)
 
 abbrev pub GeneratedAreAssets : Type 0
-GeneratedAreAssets = (n : ℕ) → n ≤ MOST_CHILDREN → AreAssets (generated_assets n)
+GeneratedAreAssets = (n : ℕ) → n ≤ MOST_GENERATED → AreAssets (generated_assets n)
 
 -- and with these assets the generated tree has both satisfactions
 abbrev pub GeneratedIsSatisfied : Type 0
 GeneratedIsSatisfied =
-    (n : ℕ) → 1 ≤ n → n ≤ MOST_CHILDREN →
+    (n : ℕ) → 1 ≤ n → n ≤ MOST_GENERATED →
     IsSome (cheapest (generated_tree n) (generated_assets n))
     × IsSome (strict (generated_tree n) (generated_assets n))

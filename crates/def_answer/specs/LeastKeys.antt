@@ -8,9 +8,9 @@ use Rattle.def_policy.specs.Truth.{is_true, with_keys}
 use Rattle.def_policy.specs.Keys.{keys}
 
 -- every set of some keys, as a list in which no key stands twice: those without the first key, and those with it
-abbrev pub sets : List Key → List (List Key)
-sets [] = [] ∷ []
-sets (k ∷ ks) = sets ks ++ map (λ s. k ∷ s) (filter (λ s. not (list_any (bytes_eq k) s)) (sets ks))
+abbrev pub key_sets : List Key → List (List Key)
+key_sets [] = [] ∷ []
+key_sets (k ∷ ks) = key_sets ks ++ map (λ s. k ∷ s) (filter (λ s. not (list_any (bytes_eq k) s)) (key_sets ks))
 
 abbrev pub lesser : ℕ → Option ℕ → Option ℕ
 lesser n None = Some n
@@ -23,4 +23,4 @@ smallest passes (s ∷ ss) = if passes s then lesser (length s) (smallest passes
 
 -- the least number of keys with which the policy is true where every hash and lock is met, or none where no keys do
 unfoldable pub least_keys : Policy → Option ℕ
-least_keys policy = smallest (λ s. is_true (with_keys s) policy) (sets (keys policy))
+least_keys policy = smallest (λ s. is_true (with_keys s) policy) (key_sets (keys policy))

@@ -84,8 +84,8 @@ replay_line stack outcome =
     ++ codes " weight " ++ decimal (weight stack) ++ codes " peak " ++ decimal (peak_of outcome))
 
 -- the run of a stack on a tree's Script under the locks and signatures of the assets
-abbrev pub replay : Tree → Assets → (stack : List Bytes) → Outcome
-replay tree assets stack = run (given_of assets) (script_of tree) stack
+abbrev pub outcome_with : Tree → Assets → (stack : List Bytes) → Outcome
+outcome_with tree assets stack = run (given_of assets) (script_of tree) stack
 
 -- the stack's items are printed bottom first
 unfoldable pub satisfy_report : Rules → Tree → Assets → (stack : List Bytes) → Bytes
@@ -95,7 +95,7 @@ satisfy_report rules tree assets stack =
     ++ tree_limits_line rules tree
     ++ flat_map item_line stack
     ++ witness_line stack (script_of tree)
-    ++ replay_line stack (replay tree assets stack)
+    ++ replay_line stack (outcome_with tree assets stack)
 
 -- ---- run
 

@@ -48,8 +48,8 @@ words_of (audit text) = codes "audit" ∷ text ∷ []
 words_of (decode digits keys) = codes "decode" ∷ digits ∷ keys
 
 -- the greatest number that `gen` takes
-abbrev pub MOST_CHILDREN : ℕ
-MOST_CHILDREN = 30
+abbrev pub MOST_GENERATED : ℕ
+MOST_GENERATED = 30
 
 -- an even number of hexadecimal digits of either case
 abbrev pub IsHex : Bytes → Type 0
@@ -62,7 +62,7 @@ IsCommand (check rules text) = ⊤
 IsCommand (satisfy rules text) = ⊤
 IsCommand (satisfy_malleable rules text) = ⊤
 IsCommand run = ⊤
-IsCommand (gen n) = (1 ≤ n) × (n ≤ MOST_CHILDREN)
+IsCommand (gen n) = (1 ≤ n) × (n ≤ MOST_GENERATED)
 IsCommand (policy text) = ⊤
 IsCommand (plan text) = ⊤
 IsCommand (audit text) = ⊤

@@ -5,6 +5,7 @@ use Rattle.std.specs.Str.{bytes_eq}
 use Rattle.def_hash.specs.declared.HashKind.{HashKind}
 use Rattle.def_hash.specs.Hash.{digest_of}
 use Rattle.def_script.specs.Bytes.{Bytes, IsBytes}
+use Rattle.def_script.specs.Signature.{MAX_SIGNATURE_SIZE}
 use Rattle.def_machine.specs.declared.Locks.{Locks}
 use Rattle.def_machine.specs.Stacks.{Pairs}
 use Rattle.def_tree.specs.Range.{IsKey}
@@ -45,7 +46,7 @@ unsigned assets = record assets { pairs = [] }
 -- a signature has 1 to 73 bytes
 pub record IsSignature (sig : Bytes) : Type 0 where
   pub some : 1 ≤ length sig
-  pub few : length sig ≤ 73
+  pub few : length sig ≤ MAX_SIGNATURE_SIZE
   pub bytes : IsBytes sig
 
 -- a preimage has 32 bytes

@@ -1,4 +1,4 @@
--- The pushes of a tree's Script are short.
+-- The pushes of a tree's Script are short, so its items are its instructions.
 use Rattle.std.proofs.Common.{◌≡◌, ℕ, zero, suc, ◌+◌, ◌/◌, ◌%◌, ◌≤◌, nat_lt, Bool, true, false, List, [], ◌∷◌, ◌++◌, length, map, Option, Some, None, All, if◌then◌else◌, arith, slice_index_or}
 use Rattle.std.proofs.lemmas.List.Elements.{All-nil, All-append, All-cons, All-head, All-tail, All-map}
 use Rattle.def_hash.specs.declared.HashKind.{HashKind}
@@ -10,11 +10,14 @@ use Rattle.def_script.specs.Instruction.{Instruction, push, code}
 use Rattle.def_script.specs.Numbers.{natural_bytes, signed_bytes, sign_bit}
 use Rattle.def_script.specs.Spell.{IsShort}
 use Rattle.def_script.specs.Verify.{verify_form, verified_op, verified}
+use Rattle.def_script.specs.Items.{items}
+use Rattle.def_script.specs.Laws.{item_of}
+use Rattle.def_script.proofs.Reading.{items-spell, all_short-spell}
 use Rattle.def_tree.specs.declared.Two.TheVariants as kind
 use Rattle.def_tree.specs.declared.Wrapper.TheVariants as wrapper
 use Rattle.def_tree.specs.Tree.{Key, Tree, Trees, just_0, just_1, pk_k, pk_h, older, after, hash, and_or, two, thresh, multi, wrap, none, more}
 use Rattle.def_tree.specs.Range.{IsWritable, AreWritable, IsKey}
-use Rattle.def_emit.specs.Emit.{number, emit, emit_sum, emit_added}
+use Rattle.def_emit.specs.Emit.{push_number, emit, emit_sum, emit_added, script_of}
 use Rattle.def_script.proofs.KeyLemmas.{key_length}
 
 -- a record, so that the lists are found from the facts about them
@@ -46,7 +49,7 @@ length-natural_bytes : (n : ℕ) → length (natural_bytes n) ≤ 520
 length-natural_bytes zero = omega arith
 length-natural_bytes (suc n) = omega (arith, length-signed_bytes 5 false (suc n))
 
-counted : (n : ℕ) (rest : List Instruction) → AllShort rest → AllShort (number n ∷ rest)
+counted : (n : ℕ) (rest : List Instruction) → AllShort rest → AllShort (push_number n ∷ rest)
 counted n rest = pushed (natural_bytes n) rest (length-natural_bytes n)
 
 digest : (kind : HashKind) (value : List ℕ) → length value ≡ digest_length kind → length value ≤ 520
@@ -108,3 +111,6 @@ mutual
   short_added : (xs : Trees) → AreWritable xs → AllShort (emit_added xs)
   short_added none w = empty
   short_added (more x xs) w = joined _ _ (short-emit x w.0) (opcode _ _ (short_added xs w.1))
+
+pub items-script_of : (t : Tree) → IsWritable t → items (script_of t) ≡ map item_of (emit t)
+items-script_of t writable = let short = short-emit t writable in items-spell (emit t) (all_short-spell (emit t) short.all)

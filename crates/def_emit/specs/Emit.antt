@@ -1,5 +1,5 @@
 -- The translation of a miniscript tree to Script (BIP 379, translation table). `[X]` of that table is
--- `emit x` here, and `<n>` is `number n`.
+-- `emit x` here, and `<n>` is `push_number n`.
 use Rattle.std.specs.Prelude.{ℕ, List, [], ◌∷◌, ◌++◌, length, map}
 use Rattle.def_hash.specs.declared.HashKind.{HashKind}
 use Rattle.def_hash.specs.declared.HashKind.TheVariants as hash_kind
@@ -16,8 +16,8 @@ use Rattle.def_tree.specs.declared.Wrapper.TheVariants as wrapper
 use Rattle.def_tree.specs.Tree.{Tree, Trees, just_0, just_1, pk_k, pk_h, older, after, hash, and_or, two, thresh, multi, wrap, none, more}
 
 -- the push of a number in its shortest form
-abbrev pub number : ℕ → Instruction
-number n = push (natural_bytes n)
+abbrev pub push_number : ℕ → Instruction
+push_number n = push (natural_bytes n)
 
 -- the opcode of a hash function
 abbrev pub hash_opcode : HashKind → Op
@@ -29,13 +29,13 @@ hash_opcode hash_kind.Hash160 = op.Hash160
 -- the Script of a tree, as instructions
 abbrev mutual
   pub emit : Tree → List Instruction
-  emit just_0 = number 0 ∷ []
-  emit just_1 = number 1 ∷ []
+  emit just_0 = push_number 0 ∷ []
+  emit just_1 = push_number 1 ∷ []
   emit (pk_k key) = push key ∷ []
   emit (pk_h key) = code op.Dup ∷ code op.Hash160 ∷ push (hash160 key) ∷ code op.EqualVerify ∷ []
-  emit (older n) = number n ∷ code op.Csv ∷ []
-  emit (after n) = number n ∷ code op.Cltv ∷ []
-  emit (hash kind value) = code op.Size ∷ number 32 ∷ code op.EqualVerify ∷ code (hash_opcode kind) ∷ push value ∷ code op.Equal ∷ []
+  emit (older n) = push_number n ∷ code op.Csv ∷ []
+  emit (after n) = push_number n ∷ code op.Cltv ∷ []
+  emit (hash kind value) = code op.Size ∷ push_number 32 ∷ code op.EqualVerify ∷ code (hash_opcode kind) ∷ push value ∷ code op.Equal ∷ []
   emit (and_or x y z) = emit x ++ code op.NotIf ∷ emit z ++ code op.Else ∷ emit y ++ code op.EndIf ∷ []
   emit (two kind.AndV x y) = emit x ++ emit y
   emit (two kind.AndB x y) = emit x ++ emit y ++ code op.BoolAnd ∷ []
@@ -43,8 +43,8 @@ abbrev mutual
   emit (two kind.OrC x y) = emit x ++ code op.NotIf ∷ emit y ++ code op.EndIf ∷ []
   emit (two kind.OrD x y) = emit x ++ code op.IfDup ∷ code op.NotIf ∷ emit y ++ code op.EndIf ∷ []
   emit (two kind.OrI x y) = code op.If ∷ emit x ++ code op.Else ∷ emit y ++ code op.EndIf ∷ []
-  emit (thresh k xs) = emit_sum xs ++ number k ∷ code op.Equal ∷ []
-  emit (multi k keys) = number k ∷ map push keys ++ number (length keys) ∷ code op.CheckMultiSig ∷ []
+  emit (thresh k xs) = emit_sum xs ++ push_number k ∷ code op.Equal ∷ []
+  emit (multi k keys) = push_number k ∷ map push keys ++ push_number (length keys) ∷ code op.CheckMultiSig ∷ []
   emit (wrap wrapper.A x) = code op.ToAltStack ∷ emit x ++ code op.FromAltStack ∷ []
   emit (wrap wrapper.S x) = code op.Swap ∷ emit x
   emit (wrap wrapper.C x) = emit x ++ code op.CheckSig ∷ []

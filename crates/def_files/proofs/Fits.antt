@@ -8,6 +8,7 @@ use Rattle.std.proofs.lemmas.List.Sums.{AllPass-from_list_all}
 use Rattle.serde_json.specs.Data.{Data}
 use Rattle.serde_json.specs.Find.{as_number, as_u64}
 use Rattle.def_script.specs.Bytes.{Bytes, IsBytes}
+use Rattle.def_script.specs.Signature.{MAX_SIGNATURE_SIZE}
 use Rattle.def_script.specs.Key.{is_key}
 use Rattle.def_tree.specs.Range.{IsKey}
 use Rattle.def_assets.specs.Assets.{IsSignature, IsPreimage}
@@ -19,7 +20,7 @@ key_fits key e bytes = record { form = e; bytes = bytes }
 
 pub signature_fits : (sig : Bytes) → is_signature sig ≡ true → IsBytes sig → IsSignature sig
 signature_fits sig e bytes =
-    let parts = and_parts (nat_le 1 (length sig)) (nat_le (length sig) 73) e in
+    let parts = and_parts (nat_le 1 (length sig)) (nat_le (length sig) MAX_SIGNATURE_SIZE) e in
     record { some = leb-true 1 (length sig) parts.0; few = leb-true (length sig) 73 parts.1; bytes = bytes }
 
 pub preimage_fits : (preimage : Bytes) → is_preimage preimage ≡ true → IsBytes preimage → IsPreimage preimage

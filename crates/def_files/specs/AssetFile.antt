@@ -1,8 +1,9 @@
 -- The asset file: signatures, preimages and the values of the locks.
-use Rattle.std.specs.Prelude.{ℕ, ◌==◌, ◌&&◌, nat_le, Bool, List, [], ◌∷◌, length, map, Result, unwrap_or}
+use Rattle.std.specs.Prelude.{ℕ, ◌==◌, Bool, List, [], ◌∷◌, length, map, Result, unwrap_or}
 use Rattle.serde_json.specs.Data.{Data}
 use Rattle.def_script.specs.Bytes.{Bytes}
 use Rattle.def_script.specs.Key.{is_key}
+use Rattle.def_script.specs.Signature.{is_signature_size}
 use Rattle.def_assets.specs.Assets.{Assets}
 use Rattle.def_files.specs.declared.Format.TheVariants.{One as one}
 use Rattle.def_files.specs.declared.Member.TheVariants as member
@@ -16,9 +17,9 @@ use Rattle.def_files.specs.Refusals.{Refusal, unless_each, unless_any, given, no
 abbrev pub MOST_PREIMAGES : ℕ
 MOST_PREIMAGES = 256
 
--- a signature has 1 to 73 bytes, and a preimage 32
+-- a signature's length, and that of a preimage, which has 32 bytes
 abbrev pub is_signature : Bytes → Bool
-is_signature sig = nat_le 1 (length sig) && nat_le (length sig) 73
+is_signature sig = is_signature_size (length sig)
 
 abbrev pub is_preimage : Bytes → Bool
 is_preimage preimage = length preimage == 32

@@ -4,7 +4,8 @@ use Rattle.def_tree.specs.declared.Two.TheVariants as kind
 use Rattle.def_tree.specs.declared.Wrapper.TheVariants as wrapper
 use Rattle.def_tree.specs.Tree.{Tree, Trees, just_0, just_1, pk_k, pk_h, older, after, hash, and_or, two, thresh, multi, wrap, none, more}
 use Rattle.def_sane.specs.Formal as sane
-use Rattle.def_sane.specs.Formal.{Takes, nothing, item, same_items, tried, plus, SIGNATURE, PREIMAGE, empty, one}
+use Rattle.def_script.specs.Signature.{MAX_SIGNATURE_SIZE}
+use Rattle.def_sane.specs.Formal.{Takes, nothing, item, same_items, tried, plus, PREIMAGE, empty, one}
 use Rattle.def_height.specs.Course.{down, Course}
 use Rattle.def_height.specs.Formal.{Way, then, Never, Is, Either, Then, Followed, FormalSat, FormalDsat, FormalParts}
 use Rattle.def_height.specs.Laws.{CoursesAreOfFormals, FormalsHaveCourses}
@@ -70,8 +71,8 @@ mutual
   sat_alike : (t : Tree) → AreAlike (FormalSat t) (sane.FormalSat t)
   sat_alike just_0 = alike_never
   sat_alike just_1 = alike_is _ _ nothing refl
-  sat_alike (pk_k key) = alike_is _ _ (item SIGNATURE) refl
-  sat_alike (pk_h key) = alike_is _ _ (plus (item SIGNATURE) (item (length key))) refl
+  sat_alike (pk_k key) = alike_is _ _ (item MAX_SIGNATURE_SIZE) refl
+  sat_alike (pk_h key) = alike_is _ _ (plus (item MAX_SIGNATURE_SIZE) (item (length key))) refl
   sat_alike (older n) = alike_is _ _ nothing refl
   sat_alike (after n) = alike_is _ _ nothing refl
   sat_alike (hash kind value) = alike_is _ _ (item PREIMAGE) refl
@@ -83,7 +84,7 @@ mutual
   sat_alike (two kind.OrD x z) = alike_either (alike_followed _ (sat_alike x)) (alike_then (alike_followed _ (dsat_alike x)) (sat_alike z))
   sat_alike (two kind.OrI x z) = alike_either (alike_then (alike_is _ _ one refl) (sat_alike x)) (alike_then (alike_is _ _ empty refl) (sat_alike z))
   sat_alike (thresh k xs) = alike_followed _ (parts_alike [] xs k)
-  sat_alike (multi k keys) = alike_is _ _ (plus (plus empty (same_items k SIGNATURE)) (tried (length keys))) (omega arith)
+  sat_alike (multi k keys) = alike_is _ _ (plus (plus empty (same_items k MAX_SIGNATURE_SIZE)) (tried (length keys))) (omega arith)
   sat_alike (wrap wrapper.A x) = alike_led _ (alike_followed _ (sat_alike x))
   sat_alike (wrap wrapper.S x) = alike_led _ (sat_alike x)
   sat_alike (wrap wrapper.C x) = alike_followed _ (sat_alike x)

@@ -8,7 +8,7 @@ use Rattle.def_script.specs.Verify.{verify_form, verified_op, verified}
 use Rattle.def_tree.specs.declared.Two.TheVariants as kind
 use Rattle.def_tree.specs.declared.Wrapper.TheVariants as wrapper
 use Rattle.def_tree.specs.Tree.{Key, Tree, Trees, and_or, two, thresh, multi, wrap, more}
-use Rattle.def_emit.specs.Emit.{number, emit, emit_sum, emit_added}
+use Rattle.def_emit.specs.Emit.{push_number, emit, emit_sum, emit_added}
 
 abbrev pub ops : Tree → ℕ
 ops t = opcode_count (emit t)
@@ -35,7 +35,7 @@ opcodes_pushed [] rest = refl
 opcodes_pushed (key ∷ keys) rest = opcodes_pushed keys rest
 
 pub ops_multi : (k : ℕ) (keys : List Key) → ops (multi k keys) ≡ 1
-ops_multi k keys = opcodes_pushed keys (number (length keys) ∷ code op.CheckMultiSig ∷ [])
+ops_multi k keys = opcodes_pushed keys (push_number (length keys) ∷ code op.CheckMultiSig ∷ [])
 
 pub ops_and_or : (x y z : Tree) → ops (and_or x y z) ≡ ops x + ops y + ops z + 3
 ops_and_or x y z = omega (arith, opcodes_append (emit x ++ (code op.NotIf ∷ emit z) ++ (code op.Else ∷ emit y)) (code op.EndIf ∷ []), opcodes_append (emit x ++ (code op.NotIf ∷ emit z)) (code op.Else ∷ emit y), opcodes_append (emit x) (code op.NotIf ∷ emit z))
@@ -59,7 +59,7 @@ pub ops_or_i : (x y : Tree) → ops (two kind.OrI x y) ≡ ops x + ops y + 3
 ops_or_i x y = omega (arith, opcodes_append (emit x ++ (code op.Else ∷ emit y)) (code op.EndIf ∷ []), opcodes_append (emit x) (code op.Else ∷ emit y))
 
 pub ops_thresh : (k : ℕ) (xs : Trees) → ops (thresh k xs) ≡ opcode_count (emit_sum xs) + 1
-ops_thresh k xs = opcodes_append (emit_sum xs) (number k ∷ code op.Equal ∷ [])
+ops_thresh k xs = opcodes_append (emit_sum xs) (push_number k ∷ code op.Equal ∷ [])
 
 pub ops_sum : (x : Tree) (xs : Trees) → opcode_count (emit_sum (more x xs)) ≡ ops x + opcode_count (emit_added xs)
 ops_sum x xs = opcodes_append (emit x) (emit_added xs)

@@ -11,6 +11,7 @@ use Rattle.serde_json.specs.Data.{Data}
 use Rattle.serde_json.specs.Find.{as_str}
 use Rattle.def_script.specs.Bytes.{Bytes}
 use Rattle.def_script.specs.Key.{is_key}
+use Rattle.def_script.specs.Signature.{MAX_SIGNATURE_SIZE, is_signature_size}
 use Rattle.def_tree.specs.Range.{IsKey}
 use Rattle.def_assets.specs.Assets.{IsPreimage, same_pair}
 use Rattle.def_files.specs.declared.Member.TheVariants as file_member
@@ -26,7 +27,7 @@ use Rattle.def_plan.specs.declared.PlanMember.TheVariants as member
 use Rattle.def_plan.specs.declared.PlanFault.{PlanFault}
 use Rattle.def_plan.specs.declared.PlanFault.TheVariants as fault
 use Rattle.def_plan.specs.Lengths.{MOST_KEYS}
-use Rattle.def_plan.specs.PlanFile.{PlanFile, key_list, key_elements, is_estimate, is_hex_key, length_at, is_length, plan_refusals, plan_in, given, plan_file_of}
+use Rattle.def_plan.specs.PlanFile.{PlanFile, key_list, key_elements, is_estimate, is_hex_key, length_at, plan_refusals, plan_in, given, plan_file_of}
 use Rattle.def_plan.specs.FileLaws.{IsPlanFile, PlanFileGivesPlan, PlansWantNoMemory}
 
 abbrev entry_of : Data → Bytes × ℕ
@@ -40,10 +41,10 @@ fewer : {A B : Type 0} (f : A → B) (xs : List A) {most : ℕ} → length xs �
 fewer f xs h = let same = length-map xs f in omega (arith, same)
 
 -- what the test of lengths says of each element
-lengths_fit : (P : ℕ → Type 0) (xs : List Data) → ((n : ℕ) → is_length n ≡ true → P n) → list_all is_length (map length_at xs) ≡ true
+lengths_fit : (P : ℕ → Type 0) (xs : List Data) → ((n : ℕ) → is_signature_size n ≡ true → P n) → list_all is_signature_size (map length_at xs) ≡ true
     → All (λ x. P (length_at x)) xs
 lengths_fit P xs fits e k d h =
-    fits (length_at (slice_index_or xs k d)) (AllPass-from_list_all (λ x. is_length (length_at x)) xs (sym (list_all-map is_length length_at xs) ∙ e) k d h)
+    fits (length_at (slice_index_or xs k d)) (AllPass-from_list_all (λ x. is_signature_size (length_at x)) xs (sym (list_all-map is_signature_size length_at xs) ∙ e) k d h)
 
 none_distinct : IsDistinct same_pair []
 unfolding IsDistinct
@@ -57,9 +58,9 @@ plan_fits value file e =
     let keys = key_elements value in
     let preimages = elements file_member.Preimages value in
     let fit = all_mapped key_of is_key IsKey keys key_fits (each_held is_key fault.KeyForm (map key_of keys) rest.0) (λ x. spelled-IsBytes (key_text x)) in
-    let lengths = each_held is_length fault.Length (map length_at keys) rest.1.0 in
-    let some = lengths_fit (λ n. 1 ≤ n) keys (λ n q. leb-true 1 n (and_parts (nat_le 1 n) (nat_le n 73) q).0) lengths in
-    let short = lengths_fit (λ n. n ≤ 73) keys (λ n q. leb-true n 73 (and_parts (nat_le 1 n) (nat_le n 73) q).1) lengths in
+    let lengths = each_held is_signature_size fault.Length (map length_at keys) rest.1.0 in
+    let some = lengths_fit (λ n. 1 ≤ n) keys (λ n q. leb-true 1 n (and_parts (nat_le 1 n) (nat_le n MAX_SIGNATURE_SIZE) q).0) lengths in
+    let short = lengths_fit (λ n. n ≤ MAX_SIGNATURE_SIZE) keys (λ n q. leb-true n MAX_SIGNATURE_SIZE (and_parts (nat_le 1 n) (nat_le n MAX_SIGNATURE_SIZE) q).1) lengths in
     let texts = all_mapped bytes_of is_preimage IsPreimage preimages preimage_fits (each_held is_preimage fault.PreimageLength (map bytes_of preimages) rest.1.1.0) (λ x. spelled-IsBytes (as_str x)) in
     let distinct = distinct_keys fault.RepeatedKey (map key_of keys) rest.1.1.1.1.1.0 in
     subst IsPlanFile none.1 (record {
@@ -82,7 +83,7 @@ plan_fits value file e =
         keys = All-map (λ entry. IsKey entry.0) entry_of keys fit;
         distinct = rw (firsts_mapped keys) distinct;
         some = All-map (λ entry. 1 ≤ entry.1) entry_of keys some;
-        short = All-map (λ entry. entry.1 ≤ 73) entry_of keys short;
+        short = All-map (λ entry. entry.1 ≤ MAX_SIGNATURE_SIZE) entry_of keys short;
       };
     })
 
@@ -124,7 +125,7 @@ faults_tell value =
                     (
                       each_tells P is_key fault.KeyForm (map key_of keys) (λ i q. cc q),
                       (
-                        each_tells P is_length fault.Length (map length_at keys) (λ i q. cc q),
+                        each_tells P is_signature_size fault.Length (map length_at keys) (λ i q. cc q),
                         (
                           each_tells P is_preimage fault.PreimageLength (strings file_member.Preimages value) (λ i q. cc q),
                           (

@@ -4,6 +4,7 @@ use Rattle.std.specs.List.{IsDistinct}
 use Rattle.std.specs.Option.{option_map}
 use Rattle.std.specs.Str.{bytes_eq}
 use Rattle.def_script.specs.Bytes.{Bytes}
+use Rattle.def_script.specs.Signature.{MAX_SIGNATURE_SIZE}
 use Rattle.def_tree.specs.Tree.{Key}
 use Rattle.def_tree.specs.Range.{IsKey}
 use Rattle.def_assets.specs.Assets.{Assets, sig_of}
@@ -26,7 +27,7 @@ pub record AreLengths (table : Lengths) : Type 0 where
   pub keys : All (λ entry. IsKey entry.0) table
   pub distinct : IsDistinct bytes_eq (map (λ entry. entry.0) table)
   pub some : All (λ entry. 1 ≤ entry.1) table
-  pub short : All (λ entry. entry.1 ≤ 73) table
+  pub short : All (λ entry. entry.1 ≤ MAX_SIGNATURE_SIZE) table
 
 -- the other assets have the locks and the preimages of these; their signatures are their own
 pub record IsLike (assets other : Assets) : Type 0 where

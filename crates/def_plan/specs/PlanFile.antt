@@ -5,6 +5,7 @@ use Rattle.serde_json.specs.Data.{Data}
 use Rattle.serde_json.specs.Find.{get}
 use Rattle.def_script.specs.Bytes.{Bytes}
 use Rattle.def_script.specs.Key.{is_key}
+use Rattle.def_script.specs.Signature.{is_signature_size}
 use Rattle.def_assets.specs.Assets.{Assets}
 use Rattle.def_files.specs.declared.Member.TheVariants as file_member
 use Rattle.def_files.specs.Json.{reading, is_object, number_of, elements_or_empty, is_list_of, spelled}
@@ -44,10 +45,6 @@ is_hex_key e = is_some (spelled (key_text e))
 abbrev pub length_at : Data → ℕ
 length_at e = unwrap_or (number_at_length e) 0
 
--- a signature has 1 to 73 bytes
-abbrev pub is_length : ℕ → Bool
-is_length n = nat_le 1 n && nat_le n 73
-
 -- ---- the refusals
 
 -- after NotJson, which is number 1
@@ -66,7 +63,7 @@ plan_refusals file =
     unless_each is_hex (fault.Hex member.Preimages) (elements file_member.Preimages file) ∷
     -- 5, 6, 7: the form of a key, the length of its signature, the length of a preimage
     unless_each is_key fault.KeyForm (map key_of (key_elements file)) ∷
-    unless_each is_length fault.Length (map length_at (key_elements file)) ∷
+    unless_each is_signature_size fault.Length (map length_at (key_elements file)) ∷
     unless_each is_preimage fault.PreimageLength (strings file_member.Preimages file) ∷
     -- 8, how many there are
     unless (nat_le (length (key_elements file)) MOST_KEYS) (fault.TooMany member.Keys) ∷

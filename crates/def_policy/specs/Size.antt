@@ -40,8 +40,8 @@ abbrev mutual
 abbrev pub MOST_POLICIES : ℕ
 MOST_POLICIES = 262144
 
-abbrev pub MOST_DEPTH : ℕ
-MOST_DEPTH = 514
+abbrev pub MOST_POLICY_DEPTH : ℕ
+MOST_POLICY_DEPTH = 514
 
 -- the operand of a timelock in range (BIP 65, BIP 112)
 pub record IsLock (n : ℕ) : Type 0 where

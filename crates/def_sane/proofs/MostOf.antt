@@ -4,7 +4,8 @@ use Rattle.std.proofs.lemmas.Bool.{cases_lt}
 use Rattle.def_tree.specs.declared.Two.TheVariants as kind
 use Rattle.def_tree.specs.declared.Wrapper.TheVariants as wrapper
 use Rattle.def_tree.specs.Tree.{Tree, Trees, just_0, just_1, pk_k, pk_h, older, after, hash, and_or, two, thresh, multi, wrap, none, more}
-use Rattle.def_sane.specs.Formal.{Takes, nothing, item, same_items, tried, plus, SIGNATURE, PREIMAGE, empty, one, Never, Is, Both, Either, FormalSat, FormalDsat, FormalParts}
+use Rattle.def_sane.specs.Formal.{Takes, nothing, item, same_items, tried, plus, PREIMAGE, empty, one, Never, Is, Both, Either, FormalSat, FormalDsat, FormalParts}
+use Rattle.def_script.specs.Signature.{MAX_SIGNATURE_SIZE}
 use Rattle.def_sane.specs.Most.{greater, both, either, most_sat, most_dsat, most_parts}
 
 module _ (number : Takes → ℕ) (of_plus : (a b : Takes) → number (plus a b) ≡ number a + number b) (of_greater : (a b : Takes) → number (greater a b) ≡ max (number a) (number b)) where
@@ -61,8 +62,8 @@ module _ (number : Takes → ℕ) (of_plus : (a b : Takes) → number (plus a b)
     pub sat-most : (x : Tree) → IsMost (FormalSat x) (most_sat x)
     sat-most just_0 = never-most
     sat-most just_1 = is-most nothing
-    sat-most (pk_k key) = is-most (item SIGNATURE)
-    sat-most (pk_h key) = is-most (plus (item SIGNATURE) (item (length key)))
+    sat-most (pk_k key) = is-most (item MAX_SIGNATURE_SIZE)
+    sat-most (pk_h key) = is-most (plus (item MAX_SIGNATURE_SIZE) (item (length key)))
     sat-most (older n) = is-most nothing
     sat-most (after n) = is-most nothing
     sat-most (hash kind value) = is-most (item PREIMAGE)
@@ -77,7 +78,7 @@ module _ (number : Takes → ℕ) (of_plus : (a b : Takes) → number (plus a b)
     sat-most (two kind.OrI x z) =
         either-most _ _ _ _ (both-most _ _ _ _ (sat-most x) (is-most one)) (both-most _ _ _ _ (sat-most z) (is-most empty))
     sat-most (thresh k xs) = parts-most xs k
-    sat-most (multi k keys) = is-most (plus (plus empty (same_items k SIGNATURE)) (tried (length keys)))
+    sat-most (multi k keys) = is-most (plus (plus empty (same_items k MAX_SIGNATURE_SIZE)) (tried (length keys)))
     sat-most (wrap wrapper.A x) = sat-most x
     sat-most (wrap wrapper.S x) = sat-most x
     sat-most (wrap wrapper.C x) = sat-most x

@@ -2,6 +2,7 @@
 -- canonical ones as if each signature were at hand with 73 bytes, each preimage were at hand, each lock
 -- held, and each hash could be dissatisfied by 32 bytes.
 use Rattle.std.specs.Prelude.{◌≡◌, ℕ, zero, suc, ◌+◌, ◌*◌, ◌⊎◌, length}
+use Rattle.def_script.specs.Signature.{MAX_SIGNATURE_SIZE}
 use Rattle.def_tree.specs.declared.Two.TheVariants as kind
 use Rattle.def_tree.specs.declared.Wrapper.TheVariants as wrapper
 use Rattle.def_tree.specs.Tree.{Tree, Trees, just_0, just_1, pk_k, pk_h, older, after, hash, and_or, two, thresh, multi, wrap, none, more}
@@ -33,10 +34,6 @@ tried keys = record { items = 0; weight = 0; keys = keys }
 abbrev pub plus : Takes → Takes → Takes
 plus a b = record { items = a.items + b.items; weight = a.weight + b.weight; keys = a.keys + b.keys }
 
--- the longest signature
-abbrev pub SIGNATURE : ℕ
-SIGNATURE = 73
-
 -- a preimage, and what stands for one in a dissatisfaction
 abbrev pub PREIMAGE : ℕ
 PREIMAGE = 32
@@ -67,8 +64,8 @@ abbrev mutual
   pub FormalSat : Tree → Takes → Type 0
   FormalSat just_0 = Never
   FormalSat just_1 = Is nothing
-  FormalSat (pk_k key) = Is (item SIGNATURE)
-  FormalSat (pk_h key) = Is (plus (item SIGNATURE) (item (length key)))
+  FormalSat (pk_k key) = Is (item MAX_SIGNATURE_SIZE)
+  FormalSat (pk_h key) = Is (plus (item MAX_SIGNATURE_SIZE) (item (length key)))
   FormalSat (older n) = Is nothing
   FormalSat (after n) = Is nothing
   FormalSat (hash kind value) = Is (item PREIMAGE)
@@ -80,7 +77,7 @@ abbrev mutual
   FormalSat (two kind.OrD x z) = Either (FormalSat x) (Both (FormalSat z) (FormalDsat x))
   FormalSat (two kind.OrI x z) = Either (Both (FormalSat x) (Is one)) (Both (FormalSat z) (Is empty))
   FormalSat (thresh k xs) = FormalParts xs k
-  FormalSat (multi k keys) = Is (plus (plus empty (same_items k SIGNATURE)) (tried (length keys)))
+  FormalSat (multi k keys) = Is (plus (plus empty (same_items k MAX_SIGNATURE_SIZE)) (tried (length keys)))
   FormalSat (wrap wrapper.A x) = FormalSat x
   FormalSat (wrap wrapper.S x) = FormalSat x
   FormalSat (wrap wrapper.C x) = FormalSat x

@@ -5,8 +5,9 @@ use Rattle.def_tree.specs.declared.Wrapper.TheVariants as wrapper
 use Rattle.def_tree.specs.Tree.{Tree, Trees, just_0, just_1, pk_k, pk_h, older, after, hash, and_or, two, thresh, multi, wrap, none, more}
 use Rattle.def_emit.specs.Emit.{emit, script_of}
 use Rattle.def_sane.specs.declared.Limits.{Limits}
-use Rattle.def_sane.specs.Formal.{Takes, nothing, item, same_items, tried, plus, SIGNATURE, PREIMAGE, empty, one}
+use Rattle.def_sane.specs.Formal.{Takes, nothing, item, same_items, tried, plus, PREIMAGE, empty, one}
 use Rattle.def_script.specs.Instruction.{opcode_count}
+use Rattle.def_script.specs.Signature.{MAX_SIGNATURE_SIZE}
 
 -- the greater of each number
 abbrev pub greater : Takes → Takes → Takes
@@ -38,8 +39,8 @@ abbrev mutual
   pub most_sat : Tree → Option Takes
   most_sat just_0 = None
   most_sat just_1 = Some nothing
-  most_sat (pk_k key) = Some (item SIGNATURE)
-  most_sat (pk_h key) = Some (plus (item SIGNATURE) (item (length key)))
+  most_sat (pk_k key) = Some (item MAX_SIGNATURE_SIZE)
+  most_sat (pk_h key) = Some (plus (item MAX_SIGNATURE_SIZE) (item (length key)))
   most_sat (older n) = Some nothing
   most_sat (after n) = Some nothing
   most_sat (hash kind value) = Some (item PREIMAGE)
@@ -51,7 +52,7 @@ abbrev mutual
   most_sat (two kind.OrD x z) = either (most_sat x) (both (most_sat z) (most_dsat x))
   most_sat (two kind.OrI x z) = either (both (most_sat x) (Some one)) (both (most_sat z) (Some empty))
   most_sat (thresh k xs) = most_parts xs k
-  most_sat (multi k keys) = Some (plus (plus empty (same_items k SIGNATURE)) (tried (length keys)))
+  most_sat (multi k keys) = Some (plus (plus empty (same_items k MAX_SIGNATURE_SIZE)) (tried (length keys)))
   most_sat (wrap wrapper.A x) = most_sat x
   most_sat (wrap wrapper.S x) = most_sat x
   most_sat (wrap wrapper.C x) = most_sat x

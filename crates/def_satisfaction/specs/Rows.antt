@@ -13,7 +13,7 @@ use Rattle.def_machine.specs.MultiSig.{is_good}
 use Rattle.def_tree.specs.declared.Two.TheVariants as kind
 use Rattle.def_tree.specs.declared.Wrapper.TheVariants as wrapper
 use Rattle.def_tree.specs.Tree.{Tree, Trees, Key, just_0, just_1, pk_k, pk_h, older, after, hash, and_or, two, thresh, multi, wrap, none, more}
-use Rattle.def_satisfaction.specs.StackSet.{StackSet, Never, Nothing, Item, Is, If, Both, Either}
+use Rattle.def_satisfaction.specs.StackSet.{StackSet, Never, Nothing, Element, Is, If, Both, Either}
 use Rattle.def_satisfaction.specs.Setting.{Setting, CountsAsPreimage, CountsAsKey}
 
 pub record Row : Type 1 where
@@ -45,7 +45,7 @@ just_1_row = record { dsat = Never; sat = Nothing }
 
 -- a signature of the key: a string that isn't empty and that the table holds with it
 abbrev pub Signature : Setting → Key → StackSet
-Signature s key = Item (λ sig. IsTrue (is_good s.given.table key sig))
+Signature s key = Element (λ sig. IsTrue (is_good s.given.table key sig))
 
 -- `pk_k(key)`
 abbrev pub pk_k_row : Setting → Key → Row
@@ -84,8 +84,8 @@ abbrev pub hash_row : Setting → HashKind → Bytes → Row
 hash_row s kind value = record {
   dsat =
       Either (If (IsNoPreimageOf kind value ZEROS) (Is ZEROS))
-      (NotCanonical s (Item (IsNoPreimageOf kind value)));
-  sat = Item (λ preimage. IsPreimageOf kind value preimage × CountsAsPreimage s.mode kind value preimage);
+      (NotCanonical s (Element (IsNoPreimageOf kind value)));
+  sat = Element (λ preimage. IsPreimageOf kind value preimage × CountsAsPreimage s.mode kind value preimage);
 }
 
 -- `andor(X,Y,Z)`

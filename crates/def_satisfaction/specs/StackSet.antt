@@ -13,8 +13,8 @@ Never stack = ⊥
 abbrev pub Nothing : StackSet
 Nothing stack = stack ≡ []
 
-abbrev pub Item : (Bytes → Type 0) → StackSet
-Item P stack = (item : Bytes) × P item × (stack ≡ item ∷ [])
+abbrev pub Element : (Bytes → Type 0) → StackSet
+Element P stack = (item : Bytes) × P item × (stack ≡ item ∷ [])
 
 abbrev pub Is : Bytes → StackSet
 Is item stack = stack ≡ item ∷ []

@@ -11,8 +11,7 @@ use Rattle.def_script.specs.declared.Op.TheVariants as op
 use Rattle.def_script.specs.Bytes.{Bytes}
 use Rattle.def_script.specs.Instruction.{Instruction, push, code}
 use Rattle.def_script.specs.Numbers.{number_bytes}
-use Rattle.def_script.specs.Spell.{opcode_byte, shortest_push, sized_push, byte_push, spell_one, spell}
-use Rattle.def_script.specs.Item.{Item}
+use Rattle.def_script.specs.Spell.{opcode_byte, shortest_push, sized_push, byte_push, spell_one, spell, IsShort}
 use Rattle.def_script.specs.Item as item
 use Rattle.def_script.specs.Items.{is_minimal_push, read_push, push_size, first_item, items_after, items}
 use Rattle.def_script.specs.Laws.{item_of, CanSpell, ByteStandsForOp, SpellingIsReadBack}
@@ -182,6 +181,14 @@ spelling_is_read_back [] rest can = refl
 spelling_is_read_back (i ∷ script) rest can =
     rw append_assoc (instruction-read i (spell script ++ rest) (All-head CanSpell i script can)
     ∙ ap (λ s. item_of i ∷ s) (spelling_is_read_back script rest (All-tail CanSpell i script can)))
+
+-- instructions with short pushes can be spelled
+short-spells : (i : Instruction) → IsShort i → CanSpell i
+short-spells (push bytes) short = omega (arith, short)
+short-spells (code op) short = tt
+
+pub all_short-spell : (script : List Instruction) → All IsShort script → All CanSpell script
+all_short-spell script short k d below = short-spells _ (short k d below)
 
 -- the items of a spelled Script are its instructions
 pub items-spell : (script : List Instruction) → All CanSpell script → items (spell script) ≡ map item_of script

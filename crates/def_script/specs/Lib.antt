@@ -1,5 +1,6 @@
 pub mod Bytes
 pub mod Key
+pub mod Signature
 pub mod Instruction
 pub mod Numbers
 pub mod Spell

@@ -5,6 +5,7 @@ use Rattle.std.proofs.lemmas.Bool.{leb-true, false≢true, and_parts}
 use Rattle.std.proofs.lemmas.List.{append-nil, reverse-reverse}
 use Rattle.std.proofs.lemmas.List.Elements.{All-head, All-tail, All-weaker}
 use Rattle.def_script.specs.Bytes.{Bytes}
+use Rattle.def_script.specs.Signature.{MAX_SIGNATURE_SIZE}
 use Rattle.def_script.specs.Decode.{truth}
 use Rattle.def_script.specs.Spell.{MAX_SCRIPT_ELEMENT_SIZE}
 use Rattle.def_machine.specs.Stacks.{Stack, Pairs}
@@ -125,7 +126,7 @@ accepts_row tree limits assets table stack writable consensus are_limits are sat
     let top = has_peak s refl tree writable consensus w short r in
     let height = height_is_computed tree consensus.typed in
     let done =
-    accepted_run s.given tree w (left (ends.0 ∷ []) (sat_log s tree w r)) ends.0 top.most writable consensus.size (All-weaker (λ item. length item ≤ 73) (λ item. length item ≤ 520) (λ item h. omega (arith, h)) w sized.short) ends.1 refl ends.2
+    accepted_run s.given tree w (left (ends.0 ∷ []) (sat_log s tree w r)) ends.0 top.most writable consensus.size (All-weaker (λ item. length item ≤ MAX_SIGNATURE_SIZE) (λ item. length item ≤ 520) (λ item h. omega (arith, h)) w sized.short) ends.1 refl ends.2
     (omega (arith, few, most, consensus.ops)) top.low
     (omega (arith, top.below (height_of tree) height, height_is_low tree consensus.typed consensus.base consensus.ops (height_of tree) height)) in
     record {

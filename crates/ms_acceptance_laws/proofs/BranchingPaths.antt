@@ -13,7 +13,7 @@ use Rattle.def_machine.specs.Effects.{to_alt_stack, dup, if_dup, swap, size, equ
 use Rattle.def_machine.specs.Machine.{Given, State, is_live, act}
 use Rattle.def_types.specs.declared.Base.{Base}
 use Rattle.def_types.specs.declared.Base.TheVariants.{B, V, W}
-use Rattle.def_emit.specs.Emit.{number, hash_opcode}
+use Rattle.def_emit.specs.Emit.{push_number, hash_opcode}
 use Rattle.def_satisfaction.specs.Rows.{EMPTY, ONE, HasTop}
 use Rattle.def_height.specs.Course.{up, down, Course}
 use Rattle.def_height.specs.Formal.{Way, then, Is, Then, Followed}
@@ -92,9 +92,9 @@ hash_flat hash_kind.Ripemd160 value = refl
 hash_flat hash_kind.Hash160 value = refl
 
 pub hash_path : (given : Given) (kind : HashKind) (value x : Bytes) (w : Stack) → length x ≡ 32 → w ≡ x ∷ [] →
-    Path given B (code op.Size ∷ number 32 ∷ code op.EqualVerify ∷ code (hash_opcode kind) ∷ push value ∷ code op.Equal ∷ []) (Is 1 (up 1 ∷ up 1 ∷ down 2 ∷ up 0 ∷ up 1 ∷ down 1 ∷ [])) w
+    Path given B (code op.Size ∷ push_number 32 ∷ code op.EqualVerify ∷ code (hash_opcode kind) ∷ push value ∷ code op.Equal ∷ []) (Is 1 (up 1 ∷ up 1 ∷ down 2 ∷ up 0 ∷ up 1 ∷ down 1 ∷ [])) w
 hash_path given kind value x w long e =
-    let front : List Instruction = code op.Size ∷ number 32 ∷ code op.EqualVerify ∷ [] in
+    let front : List Instruction = code op.Size ∷ push_number 32 ∷ code op.EqualVerify ∷ [] in
     let back : List Instruction = code (hash_opcode kind) ∷ push value ∷ code op.Equal ∷ [] in
     let a : Course = up 1 ∷ up 1 ∷ down 2 ∷ [] in
     let b : Course = up 0 ∷ up 1 ∷ down 1 ∷ [] in
@@ -349,13 +349,13 @@ none_path given w e = record {
 
 -- and the comparison with the number of those that must be satisfied
 pub thresh_path : {given : Given} {c : List Instruction} {P : Way → Type 0} {w : Stack} → (k : ℕ) (p : Path given B c P w) → ((rest : Stack) → (v : Bytes) × Follows given c p.way.course (w ++ rest) (v ∷ rest)) →
-    Path given B (c ++ number k ∷ code op.Equal ∷ []) (Followed P (up 1 ∷ down 1 ∷ [])) w
+    Path given B (c ++ push_number k ∷ code op.Equal ∷ []) (Followed P (up 1 ∷ down 1 ∷ [])) w
 thresh_path {given} {c} {P} {w} k p follows = record {
   way = followed p.way (up 1 ∷ down 1 ∷ []);
   formal = (p.way, record { items = 0; course = up 1 ∷ down 1 ∷ [] }, p.formal, refl, refl);
   items = omega (arith, p.items);
   keeps = λ rest.
       let f = follows rest in
-      keeps_then given c (number k ∷ code op.Equal ∷ []) p.way.course (up 1 ∷ down 1 ∷ []) (w ++ rest) (f.0 ∷ rest) f.1
-      (keeps_rises given (number k ∷ code op.Equal ∷ []) (up 1 ∷ down 1 ∷ []) (f.0 ∷ rest) (omega arith));
+      keeps_then given c (push_number k ∷ code op.Equal ∷ []) p.way.course (up 1 ∷ down 1 ∷ []) (w ++ rest) (f.0 ∷ rest) f.1
+      (keeps_rises given (push_number k ∷ code op.Equal ∷ []) (up 1 ∷ down 1 ∷ []) (f.0 ∷ rest) (omega arith));
 }

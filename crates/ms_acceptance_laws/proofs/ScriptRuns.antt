@@ -5,9 +5,10 @@ use Rattle.std.proofs.lemmas.List.{reverse-reverse}
 use Rattle.std.proofs.lemmas.List.Elements.{All-head, All-tail}
 use Rattle.def_script.specs.Bytes.{Bytes}
 use Rattle.def_script.specs.Decode.{truth}
-use Rattle.def_script.specs.Instruction.{Instruction, push, code, opcode_count}
-use Rattle.def_script.specs.Spell.{IsShort, MAX_SCRIPT_ELEMENT_SIZE}
-use Rattle.def_script.specs.Laws.{item_of, CanSpell}
+use Rattle.def_script.specs.Instruction.{opcode_count}
+use Rattle.def_script.specs.Spell.{MAX_SCRIPT_ELEMENT_SIZE}
+use Rattle.def_script.specs.Laws.{item_of}
+use Rattle.def_script.proofs.Reading.{all_short-spell}
 use Rattle.def_machine.specs.declared.ScriptFault.TheVariants as fault
 use Rattle.def_machine.specs.Faults.{OrFault}
 use Rattle.def_machine.specs.Limits.{MAX_SCRIPT_SIZE, MAX_OPS_PER_SCRIPT, MAX_STACK_SIZE}
@@ -30,11 +31,6 @@ use Rattle.ms_acceptance_laws.proofs.LimitedInstructions.{Ends, Stops, bounded, 
 use Rattle.ms_acceptance_laws.proofs.RunHeights.{IsLow, low_start}
 use Rattle.ms_row_laws.proofs.Outcomes.{bind_split, sure, same_ok}
 
--- a writable tree's Script can be spelled
-short_spells : (i : Instruction) → IsShort i → CanSpell i
-short_spells (push bytes) short = omega (arith, short)
-short_spells (code op) short = tt
-
 -- the state at the start
 abbrev pub first : Stack → State
 first w = record { main = w; alt = []; branches = []; ops = 0; peak = length w; checks = [] }
@@ -44,7 +40,7 @@ runs : (given : Given) (t : Tree) (stack : List Bytes) → IsWritable t →
     run given (script_of t) stack ≡ leads (start (script_of t) (reverse stack)) 0 (λ s. steps given (map item_of (emit t)) 0 s ended)
 runs given t stack writable =
     let short = short-emit t writable in
-    spelled_run given (emit t) stack (λ k d low. short_spells _ (short.all k d low))
+    spelled_run given (emit t) stack (all_short-spell (emit t) short.all)
 
 -- what its instructions do from the start
 does_first : (given : Given) (t : Tree) (w : Stack) (left : Left) → den given t w ≡ Ok left → free_steps given (emit t) (first w) ≡ Ok (reached (first w) (opcode_count (emit t)) left)

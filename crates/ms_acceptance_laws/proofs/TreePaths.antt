@@ -16,7 +16,7 @@ use Rattle.def_types.specs.declared.Base.TheVariants.{B, V, K, W}
 use Rattle.def_types.specs.Typed.{type_of, IsTyped, AreTyped}
 use Rattle.def_types.proofs.Rows.{corr_rows}
 use Rattle.def_types.proofs.Facts.{typed-and_or, typed-and_v, typed-and_b, typed-or_b, typed-or_c, typed-or_d, typed-or_i, typed-thresh, typed-thresh_none, typed-wrap_a, typed-wrap_s, typed-wrap_c, typed-wrap_d, typed-wrap_v, typed-wrap_j, typed-wrap_n, OthersFit}
-use Rattle.def_emit.specs.Emit.{number, emit, emit_sum, emit_added}
+use Rattle.def_emit.specs.Emit.{push_number, emit, emit_sum, emit_added}
 use Rattle.def_satisfaction.specs.Setting.{Setting}
 use Rattle.def_satisfaction.specs.Rows.{EMPTY, ZEROS, row, parts}
 use Rattle.def_height.specs.declared.Highest.{Highest}
@@ -87,7 +87,7 @@ multi_path : (given : Given) (k : ℕ) (keys : List Key) (w : Stack) → length 
     Path given B (emit (multi k keys)) (Is (k + 1) (replicate (length keys + 2) (up 1) ++ down (length keys + k + 2) ∷ [])) w
 multi_path given k keys w is =
     let end : Course = down (length keys + k + 2) ∷ [] in
-    let e : rises (emit (multi k keys)) ≡ (1 + rises (map push keys)) + 1 = rises-append (number k ∷ map push keys) (number (length keys) ∷ code op.CheckMultiSig ∷ []) in
+    let e : rises (emit (multi k keys)) ≡ (1 + rises (map push keys)) + 1 = rises-append (push_number k ∷ map push keys) (push_number (length keys) ∷ code op.CheckMultiSig ∷ []) in
     leaf_path given B (emit (multi k keys)) (k + 1) (replicate (length keys + 2) (up 1) ++ end) w b_not_w is
     (omega (arith, e, rises-pushes keys, rise_multi (length keys + 2) end))
 

@@ -4,13 +4,13 @@ ghost use Rattle.std.specs.Prelude.{◌≡◌, ◌^◌, ◌<◌, ◌≤◌, List
 ghost use Rattle.std.specs.List.{list_any};
 ghost use Rattle.serde_json.specs.View.{view};
 ghost use Rattle.def_script.specs.Key.{is_key as the_is_key};
-ghost use Rattle.def_files.specs.AssetFile.{is_signature as the_is_signature, is_preimage, asset_refusals, assets_in as the_assets_in, assets_of};
+ghost use Rattle.def_files.specs.AssetFile.{is_signature, is_preimage, asset_refusals, assets_in as the_assets_in, assets_of};
 ghost use Rattle.def_files.specs.Parts.{same_under};
 ghost use Rattle.def_files.specs.Refusals.{unless_any};
 ghost use Rattle.ms_assets.specs.Scaffolding.Seen.{parts_seen};
 ghost use Rattle.ms_assets.specs.Parts.{first_refused, Reads, ReadsOr, ReadsOrMemory, IsOrMemory, repeats, value_refusals};
 
-use crate::assets::{Assets, MOST_PREIMAGES, MOST_SIGNATURES, is_signature};
+use crate::assets::{Assets, MOST_PREIMAGES, MOST_SIGNATURES};
 use crate::list_fault::ListFault;
 use crate::members::{pair_list, read_format, read_json, read_locks, text_list};
 use crate::preimage::Preimage;
@@ -18,7 +18,7 @@ use crate::signatures::Signatures;
 use crate::texts::{read_pairs, read_strings};
 use def_files::{AssetFault, Format, Member};
 use ms_oracle::{Locks, Pairs, SigPair};
-use ms_script::{Stack, is_key};
+use ms_script::{Stack, is_key, is_signature_size};
 use serde_json::Value;
 use std::alloc::Global;
 
@@ -125,11 +125,11 @@ fn check_keys(pairs: &[SigPair]) -> Result<(), AssetFault>
 /// Refuses the first signature that hasn't its length.
 fn check_sigs(pairs: &[SigPair]) -> Result<(), AssetFault>
     requires { length pairs.now < 2 ^ 32 }
-    ensures { Reads (first_refused (λ pair. the_is_signature pair.1) AssetFault.SigLength pairs.now) (λ unit. unit) tt result }
+    ensures { Reads (first_refused (λ pair. is_signature pair.1) AssetFault.SigLength pairs.now) (λ unit. unit) tt result }
 {
     let mut place = 0;
     for pair in pairs {
-        if !is_signature(pair.sig()) {
+        if !is_signature_size(pair.sig().len()) {
             return Err(AssetFault::SigLength(place));
         }
         place += 1;

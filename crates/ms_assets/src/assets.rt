@@ -4,7 +4,6 @@ ghost use Rattle.std.specs.Str.{bytes_eq};
 ghost use Rattle.def_hash.specs.Hash.{digest_of};
 ghost use Rattle.def_machine.specs.Locks.{after_holds, older_holds};
 ghost use Rattle.def_assets.specs.Assets.{sig_of as the_sig_of, known, unsigned};
-ghost use Rattle.def_files.specs.AssetFile.{is_signature as the_is_signature};
 ghost use Rattle.def_files.specs.Laws.{AreFewAssets};
 ghost use Rattle.ms_assets.specs.declared.assets.AddStop.TheVariants as stop;
 ghost use Rattle.ms_assets.specs.Scaffolding.Seen.{held};
@@ -16,6 +15,7 @@ use crate::preimage::Preimage;
 use crate::signatures::Signatures;
 use ms_hash::HashVal;
 use ms_oracle::{Locks, SigPair, member};
+use ms_script::is_signature_size;
 use ms_tree::Key;
 use std::alloc::{AllocError, AllocFailed, Global};
 use std::marker::Model;
@@ -25,13 +25,6 @@ pub const MOST_SIGNATURES: usize = 256;
 
 /// How many preimages assets hold at most.
 pub const MOST_PREIMAGES: usize = 256;
-
-/// Whether a signature has 1 to 73 bytes.
-pub(crate) fn is_signature(sig: &[u8]) -> bool
-    ensures { result ≡ the_is_signature sig.now }
-{
-    1 <= sig.len() && sig.len() <= 73
-}
 
 /// Why a signature or a preimage isn't added, in the order in which the reasons are tested.
 #[derive(Clone, Copy, Debug, PartialEq, Eq)]
@@ -180,7 +173,7 @@ impl Assets {
     fn size_stop(&self, sig: &[u8]) -> Option<AddStop>
         ensures { result ≡ the_size_stop self.now sig.now }
     {
-        if !is_signature(sig) {
+        if !is_signature_size(sig.len()) {
             return Some(AddStop::SigLength);
         }
         if self.pairs.as_slice().len() >= MOST_SIGNATURES {

@@ -19,7 +19,7 @@ use Rattle.ms_tree.specs.declared.tree.Leaf.{Leaf}
 use Rattle.ms_tree.specs.declared.tree.Leaf.TheVariants as leaf
 use Rattle.ms_tree.specs.declared.tree.Tree as code_tree
 use Rattle.ms_tree.specs.Shape.{leaf_shape, shape, shapes}
-use Rattle.ms_audit_laws.specs.Walk.{Found, Counted, Walker, Verdict, Next, ends, goes, ended, next, go_on, walk_child, count_on, count_behind, count_verdict, forced, passed, walk, walk_all, after_and_v, after_and_b, after_or_b, after_or_c, after_or_d}
+use Rattle.ms_audit_laws.specs.Walk.{Found, Counted, Walker, Verdict, Next, ends, goes, with_step, next, go_on, walk_child, count_on, count_behind, count_verdict, forced, passed, walk, walk_all, after_and_v, after_and_b, after_or_b, after_or_c, after_or_d}
 use Rattle.ms_audit_laws.proofs.Walks.{some_is, own}
 use Rattle.ms_audit.specs.declared.course.Course.{Course}
 use Rattle.ms_audit.specs.declared.course.WalkStop.{WalkStop}
@@ -32,7 +32,7 @@ behind_some (Some f) steps g e =
     let h = some_is (record { sat = f.sat; steps = steps ++ f.steps; rest = f.rest }) g e in
     (f, refl, ap (λ (x : Found). x.sat) h, ap (λ (x : Found). x.steps) h, ap (λ (x : Found). x.rest) h)
 
-pub behind_ended : (steps before : List Step) (node : ℕ) (v : Verdict) (rest : Stack) → behind steps (ended node v before rest) ≡ ended node v (steps ++ before) rest
+pub behind_ended : (steps before : List Step) (node : ℕ) (v : Verdict) (rest : Stack) → behind steps (with_step node v before rest) ≡ with_step node v (steps ++ before) rest
 behind_ended steps before node None rest = refl
 behind_ended steps before node (Some v) rest =
     ap (λ (s : List Step). Some (record { sat = v.0; steps = s; rest = rest })) (sym (append_assoc steps before (own node v.0 v.1 ∷ [])))
@@ -40,22 +40,22 @@ behind_ended steps before node (Some v) rest =
 -- a child, and nothing more
 pub child_end : (node : ℕ) (w : Walker) (follow : Bool → Next) (steps : List Step) (s : Stack) (sat : Bool) (after : List Step) (rest : Stack) (v : Verdict) →
     behind steps (w s) ≡ Some (record { sat = sat; steps = after; rest = rest }) → follow sat ≡ ends v →
-    behind steps (walk_child node w follow s) ≡ ended node v after rest
+    behind steps (walk_child node w follow s) ≡ with_step node v after rest
 child_end node w follow steps s sat after rest v e is =
     let h = behind_some (w s) steps _ e in
     let f = h.0 in
     ap (λ o. behind steps (next o (λ first. go_on node (follow first.sat) first))) h.1
     ∙ ap (λ n. behind steps (go_on node n f)) (ap follow h.2 ∙ is)
     ∙ behind_ended steps f.steps node v f.rest
-    ∙ ap (λ t. ended node v t f.rest) h.3
-    ∙ ap (ended node v after) h.4
+    ∙ ap (λ t. with_step node v t f.rest) h.3
+    ∙ ap (with_step node v after) h.4
 
 -- a child, and another one
 pub child_go : (node : ℕ) (w second : Walker) (follow : Bool → Next) (verdict : Bool → Verdict) (steps : List Step) (s : Stack)
     (a : Bool) (middle : List Step) (between : Stack) (b : Bool) (after : List Step) (rest : Stack) →
     behind steps (w s) ≡ Some (record { sat = a; steps = middle; rest = between }) → follow a ≡ goes second verdict →
     behind middle (second between) ≡ Some (record { sat = b; steps = after; rest = rest }) →
-    behind steps (walk_child node w follow s) ≡ ended node (verdict b) after rest
+    behind steps (walk_child node w follow s) ≡ with_step node (verdict b) after rest
 child_go node w second follow verdict steps s a middle between b after rest e is e2 =
     let h = behind_some (w s) steps _ e in
     let f = h.0 in
@@ -63,11 +63,11 @@ child_go node w second follow verdict steps s a middle between b after rest e is
     let g = k.0 in
     ap (λ o. behind steps (next o (λ first. go_on node (follow first.sat) first))) h.1
     ∙ ap (λ n. behind steps (go_on node n f)) (ap follow h.2 ∙ is)
-    ∙ ap (λ o. behind steps (next o (λ x. ended node (verdict x.sat) (f.steps ++ x.steps) x.rest))) (ap second h.4 ∙ k.1)
+    ∙ ap (λ o. behind steps (next o (λ x. with_step node (verdict x.sat) (f.steps ++ x.steps) x.rest))) (ap second h.4 ∙ k.1)
     ∙ behind_ended steps (f.steps ++ g.steps) node (verdict g.sat) g.rest
-    ∙ ap (λ t. ended node (verdict g.sat) t g.rest) (sym (append_assoc steps f.steps g.steps) ∙ ap (λ t. t ++ g.steps) h.3 ∙ k.3)
-    ∙ ap (λ (v : Bool). ended node (verdict v) after g.rest) k.2
-    ∙ ap (ended node (verdict b) after) k.4
+    ∙ ap (λ t. with_step node (verdict g.sat) t g.rest) (sym (append_assoc steps f.steps g.steps) ∙ ap (λ t. t ++ g.steps) h.3 ∙ k.3)
+    ∙ ap (λ (v : Bool). with_step node (verdict v) after g.rest) k.2
+    ∙ ap (with_step node (verdict b) after) k.4
 
 -- the node's own step ends its walk
 next_on : (result : Result Bool WalkStop) (n m p : ℕ) → m + 1 ≡ p → IfOk result (λ sat. n ≡ m + 1) → IfOk result (λ sat. n ≡ p)
@@ -75,10 +75,10 @@ next_on (Ok sat) n m p e h = h ∙ e
 next_on (Err e') n m p e h = tt
 
 pub finish : (given : Given) (stack : List Bytes) (tree : Tree) (s b c : Course) (result : Result Bool WalkStop) (v : Verdict) →
-    behind s.steps.items (walk given s.next tree (below stack s.left)) ≡ ended b.next v b.steps.items (below stack b.left) →
+    behind s.steps.items (walk given s.next tree (below stack s.left)) ≡ with_step b.next v b.steps.items (below stack b.left) →
     b.next + 1 ≡ s.next + nodes tree → b.left ≤ length stack → Ends v b c result → Walks given stack tree s c result
 finish given stack tree s b c result v e n l h = record {
-  found = subst (Finds result c.steps.items (below stack c.left)) (sym (e ∙ ap (λ (m : ℕ). ended b.next v b.steps.items (below stack m)) (sym h.left))) (h.found (below stack c.left));
+  found = subst (Finds result c.steps.items (below stack c.left)) (sym (e ∙ ap (λ (m : ℕ). with_step b.next v b.steps.items (below stack m)) (sym h.left))) (h.found (below stack c.left));
   next = next_on result c.next b.next (s.next + nodes tree) n h.next;
   left = let same = h.left in omega (arith, same, l);
 }
@@ -90,13 +90,13 @@ ends_by v w b c result e h = subst (λ v. Ends v b c result) e h
 -- a fragment without children
 pub leaf_done : (given : Given) (stack : List Bytes) (tree : Tree) (s b c : Course) (result : Result Bool WalkStop) (v : Verdict) →
     nodes tree ≡ 1 → b.steps.items ≡ s.steps.items → b.next ≡ s.next → b.left ≤ length stack →
-    walk given s.next tree (below stack s.left) ≡ ended s.next v [] (below stack b.left) → Ends v b c result → Walks given stack tree s c result
+    walk given s.next tree (below stack s.left) ≡ with_step s.next v [] (below stack b.left) → Ends v b c result → Walks given stack tree s c result
 leaf_done given stack tree s b c result v one steps same l e h =
     finish given stack tree s b c result v
     (ap (behind s.steps.items) e
     ∙ behind_ended s.steps.items [] s.next v (below stack b.left)
-    ∙ ap (λ (t : List Step). ended s.next v t (below stack b.left)) (append-nil s.steps.items ∙ sym steps)
-    ∙ ap (λ (n : ℕ). ended n v b.steps.items (below stack b.left)) (sym same))
+    ∙ ap (λ (t : List Step). with_step s.next v t (below stack b.left)) (append-nil s.steps.items ∙ sym steps)
+    ∙ ap (λ (n : ℕ). with_step n v b.steps.items (below stack b.left)) (sym same))
     (omega (arith, one, same)) l h
 
 pub leaf_nodes : (l : Leaf) → nodes (leaf_shape l) ≡ 1
@@ -117,7 +117,7 @@ child_done given stack tree x s a b c result sat node follow v steps is h f n m 
     (ap (λ (t : List Step). behind t (walk given s.next tree (below stack s.left))) (sym steps)
     ∙ ap (behind a.steps.items) is
     ∙ child_end node (walk given a.next x) follow a.steps.items (below stack a.left) sat b.steps.items (below stack b.left) v h.found f
-    ∙ ap (λ (k : ℕ). ended k v b.steps.items (below stack b.left)) (sym n))
+    ∙ ap (λ (k : ℕ). with_step k v b.steps.items (below stack b.left)) (sym n))
     (omega (arith, n, m)) h.left e
 
 -- `d`, below a selector
@@ -201,9 +201,9 @@ two_done given stack k x z s a b c result first second other h e h2 ends_so =
           (ap (λ (m : ℕ). behind a.steps.items (walk given m z (below stack a.left))) (sym at) ∙ h2.found)
       | inr stops ↦
           child_end (s.next + nodes x + nodes z) (walk given s.next x) (two_next k (walk given (s.next + nodes x) z)) s.steps.items (below stack s.left) first a.steps.items (below stack a.left) None h.found stops.0
-          ∙ ap (λ v. ended (s.next + nodes x + nodes z) v b.steps.items (below stack b.left)) (sym (stops.1 second))
+          ∙ ap (λ v. with_step (s.next + nodes x + nodes z) v b.steps.items (below stack b.left)) (sym (stops.1 second))
     ]
-    ∙ ap (λ (m : ℕ). ended m (verdict_of_two k first second) b.steps.items (below stack b.left)) (sym node))
+    ∙ ap (λ (m : ℕ). with_step m (verdict_of_two k first second) b.steps.items (below stack b.left)) (sym node))
     (omega (arith, node)) h2.left ends_so
 
 -- a threshold
@@ -221,12 +221,12 @@ thresh_done given stack k xs s b c result count h e =
     let a = added_some (walk_all given s.next xs (below stack s.left)) s.steps.items _ h.found in
     let f = a.0 in
     finish given stack (thresh k xs) s b c result (count_verdict (count == k) (count == 0))
-    (ap (λ o. behind s.steps.items (next o (λ c. ended (s.next + nodes_of xs) (count_verdict (c.count == k) (c.count == 0)) c.steps c.rest))) a.1
+    (ap (λ o. behind s.steps.items (next o (λ c. with_step (s.next + nodes_of xs) (count_verdict (c.count == k) (c.count == 0)) c.steps c.rest))) a.1
     ∙ behind_ended s.steps.items f.steps (s.next + nodes_of xs) (count_verdict (f.count == k) (f.count == 0)) f.rest
-    ∙ ap (λ (n : ℕ). ended (s.next + nodes_of xs) (count_verdict (n == k) (n == 0)) (s.steps.items ++ f.steps) f.rest) a.2
-    ∙ ap (λ (t : List Step). ended (s.next + nodes_of xs) (count_verdict (count == k) (count == 0)) t f.rest) a.3
-    ∙ ap (ended (s.next + nodes_of xs) (count_verdict (count == k) (count == 0)) b.steps.items) a.4
-    ∙ ap (λ (m : ℕ). ended m (count_verdict (count == k) (count == 0)) b.steps.items (below stack b.left)) (sym at))
+    ∙ ap (λ (n : ℕ). with_step (s.next + nodes_of xs) (count_verdict (n == k) (n == 0)) (s.steps.items ++ f.steps) f.rest) a.2
+    ∙ ap (λ (t : List Step). with_step (s.next + nodes_of xs) (count_verdict (count == k) (count == 0)) t f.rest) a.3
+    ∙ ap (with_step (s.next + nodes_of xs) (count_verdict (count == k) (count == 0)) b.steps.items) a.4
+    ∙ ap (λ (m : ℕ). with_step m (count_verdict (count == k) (count == 0)) b.steps.items (below stack b.left)) (sym at))
     (omega (arith, at)) h.left e
 
 abbrev some_counted : Counted → Option Counted

@@ -8,7 +8,7 @@ use Rattle.def_machine.specs.Stacks.{Stack, Pairs, is_empty}
 use Rattle.def_machine.specs.MultiSig.{is_good}
 use Rattle.def_tree.specs.Tree.{Key}
 use Rattle.def_machine.specs.Machine.{Given}
-use Rattle.ms_audit_laws.specs.Walk.{ended, are_found, multi_verdict, walk_multi_off, walk_multi}
+use Rattle.ms_audit_laws.specs.Walk.{with_step, are_found, multi_verdict, walk_multi_off, walk_multi}
 use Rattle.ms_audit.specs.Scaffolding.Walking.{below}
 
 -- the last of the first elements of a list stands first, turned round
@@ -63,7 +63,7 @@ drop_short stack top (suc k) few within =
 -- what `multi` takes
 pub multi_off : (given : Given) (node k : ℕ) (keys : List Key) (stack : List Bytes) (left : ℕ) → k < left → left ≤ length stack →
     walk_multi given node k keys (below stack left) ≡
-    ended node (multi_verdict (is_empty (get_or stack (left - k - 1) [])) (are_found given.table (reverse keys) (take (left - (left - k)) (below stack left))) (list_all is_empty (take (left - (left - k)) (below stack left)))) []
+    with_step node (multi_verdict (is_empty (get_or stack (left - k - 1) [])) (are_found given.table (reverse keys) (take (left - (left - k)) (below stack left))) (list_all is_empty (take (left - (left - k)) (below stack left)))) []
     (below stack (left - k - 1))
 multi_off given node k keys stack left some within =
     let same : k ≡ left - (left - k) = omega (arith, some) in

@@ -22,7 +22,7 @@ use Rattle.def_audit.specs.declared.Step.{Step}
 use Rattle.def_audit.specs.TrailRows.{TrailRow, WithTop, bare_row, pk_h_trails, hash_trails}
 use Rattle.def_satisfaction.proofs.EqualParts.{first_same}
 use Rattle.ms_row_laws.proofs.MultisigTries.{all_empty, all_empties, empties_split, rest_good, rest_bad}
-use Rattle.ms_audit_laws.specs.Walk.{Found, Verdict, ended, sig_verdict, key_verdict, forced, hash_verdict, multi_verdict, walk_pk_k, walk_pk_h, walk_hash, are_found, walk_multi_off, walk_multi}
+use Rattle.ms_audit_laws.specs.Walk.{Found, Verdict, with_step, sig_verdict, key_verdict, forced, hash_verdict, multi_verdict, walk_pk_k, walk_pk_h, walk_hash, are_found, walk_multi_off, walk_multi}
 use Rattle.ms_audit_laws.proofs.Walks.{side, Taken, IsWalk, is_found, none_found, own, same_steps}
 
 -- a stack of a leaf by this verdict
@@ -30,49 +30,49 @@ abbrev Fits : TrailRow → (node : ℕ) → Stack → Verdict → Type 0
 Fits t node taken None = Unit {0}
 Fits t node taken (Some v) = side t v.0 taken (own node v.0 v.1 ∷ [])
 
-leaf_sound : (t : TrailRow) (node : ℕ) (v : Verdict) (stack taken rest : Stack) (f : Found) → stack ≡ taken ++ rest → Fits t node taken v → ended node v [] rest ≡ Some f → Taken t stack f
+leaf_sound : (t : TrailRow) (node : ℕ) (v : Verdict) (stack taken rest : Stack) (f : Found) → stack ≡ taken ++ rest → Fits t node taken v → with_step node v [] rest ≡ Some f → Taken t stack f
 leaf_sound t node None stack taken rest f p h e = none_found _ f e
 leaf_sound t node (Some v) stack taken rest f p h e = is_found t stack _ f e (taken, h, p)
 
 leaf_done : (node : ℕ) (sat extra : Bool) (before steps : List Step) (rest : Stack) (v : Verdict) → v ≡ Some (sat, extra) → before ≡ [] → steps ≡ before ++ own node sat extra ∷ [] →
-    ended node v [] rest ≡ Some (record { sat = sat; steps = steps; rest = rest })
+    with_step node v [] rest ≡ Some (record { sat = sat; steps = steps; rest = rest })
 leaf_done node sat extra before steps rest v e b s =
-    ap (λ v. ended node v [] rest) e ∙ same_steps node sat extra [] steps rest (s ∙ ap (λ w. w ++ own node sat extra ∷ []) b)
+    ap (λ v. with_step node v [] rest) e ∙ same_steps node sat extra [] steps rest (s ∙ ap (λ w. w ++ own node sat extra ∷ []) b)
 
-pub just_0_walk : (node : ℕ) → IsWalk (bare_row node just_0_row) (ended node (Some (false, false)) [])
+pub just_0_walk : (node : ℕ) → IsWalk (bare_row node just_0_row) (with_step node (Some (false, false)) [])
 just_0_walk node = record { sound = sound; complete = complete }
   where
-    sound : (stack : Stack) (f : Found) → ended node (Some (false, false)) [] stack ≡ Some f → Taken (bare_row node just_0_row) stack f
+    sound : (stack : Stack) (f : Found) → with_step node (Some (false, false)) [] stack ≡ Some f → Taken (bare_row node just_0_row) stack f
     sound stack f e = leaf_sound (bare_row node just_0_row) node (Some (false, false)) stack [] stack f refl ([], (refl, refl), refl) e
 
-    complete : (sat : Bool) (taken : Stack) (steps : List Step) (rest : Stack) → side (bare_row node just_0_row) sat taken steps → ended node (Some (false, false)) [] (taken ++ rest) ≡ Some (record { sat = sat; steps = steps; rest = rest })
+    complete : (sat : Bool) (taken : Stack) (steps : List Step) (rest : Stack) → side (bare_row node just_0_row) sat taken steps → with_step node (Some (false, false)) [] (taken ++ rest) ≡ Some (record { sat = sat; steps = steps; rest = rest })
     complete true taken steps rest h = absurd h.1.0
     complete false taken steps rest h =
-        ap (λ w. ended node (Some (false, false)) [] (w ++ rest)) h.1.0 ∙ leaf_done node false false h.0 steps rest (Some (false, false)) refl h.1.1 h.2
+        ap (λ w. with_step node (Some (false, false)) [] (w ++ rest)) h.1.0 ∙ leaf_done node false false h.0 steps rest (Some (false, false)) refl h.1.1 h.2
 
-pub just_1_walk : (node : ℕ) → IsWalk (bare_row node just_1_row) (ended node (Some (true, false)) [])
+pub just_1_walk : (node : ℕ) → IsWalk (bare_row node just_1_row) (with_step node (Some (true, false)) [])
 just_1_walk node = record { sound = sound; complete = complete }
   where
-    sound : (stack : Stack) (f : Found) → ended node (Some (true, false)) [] stack ≡ Some f → Taken (bare_row node just_1_row) stack f
+    sound : (stack : Stack) (f : Found) → with_step node (Some (true, false)) [] stack ≡ Some f → Taken (bare_row node just_1_row) stack f
     sound stack f e = leaf_sound (bare_row node just_1_row) node (Some (true, false)) stack [] stack f refl ([], (refl, refl), refl) e
 
-    complete : (sat : Bool) (taken : Stack) (steps : List Step) (rest : Stack) → side (bare_row node just_1_row) sat taken steps → ended node (Some (true, false)) [] (taken ++ rest) ≡ Some (record { sat = sat; steps = steps; rest = rest })
+    complete : (sat : Bool) (taken : Stack) (steps : List Step) (rest : Stack) → side (bare_row node just_1_row) sat taken steps → with_step node (Some (true, false)) [] (taken ++ rest) ≡ Some (record { sat = sat; steps = steps; rest = rest })
     complete false taken steps rest h = absurd h.1.0
     complete true taken steps rest h =
-        ap (λ w. ended node (Some (true, false)) [] (w ++ rest)) h.1.0 ∙ leaf_done node true false h.0 steps rest (Some (true, false)) refl h.1.1 h.2
+        ap (λ w. with_step node (Some (true, false)) [] (w ++ rest)) h.1.0 ∙ leaf_done node true false h.0 steps rest (Some (true, false)) refl h.1.1 h.2
 
 -- a lock
-pub lock_walk : (node : ℕ) (holds : Bool) → IsWalk (bare_row node (record { dsat = Never; sat = If (IsTrue holds) Nothing })) (ended node (forced holds) [])
+pub lock_walk : (node : ℕ) (holds : Bool) → IsWalk (bare_row node (record { dsat = Never; sat = If (IsTrue holds) Nothing })) (with_step node (forced holds) [])
 lock_walk node holds = record { sound = sound holds; complete = complete }
   where
-    sound : (holds : Bool) (stack : Stack) (f : Found) → ended node (forced holds) [] stack ≡ Some f → Taken (bare_row node (record { dsat = Never; sat = If (IsTrue holds) Nothing })) stack f
+    sound : (holds : Bool) (stack : Stack) (f : Found) → with_step node (forced holds) [] stack ≡ Some f → Taken (bare_row node (record { dsat = Never; sat = If (IsTrue holds) Nothing })) stack f
     sound true stack f e = leaf_sound (bare_row node (record { dsat = Never; sat = If (IsTrue true) Nothing })) node (Some (true, false)) stack [] stack f refl ([], ((refl, refl), refl), refl) e
     sound false stack f e = none_found _ f e
 
-    complete : (sat : Bool) (taken : Stack) (steps : List Step) (rest : Stack) → side (bare_row node (record { dsat = Never; sat = If (IsTrue holds) Nothing })) sat taken steps → ended node (forced holds) [] (taken ++ rest) ≡ Some (record { sat = sat; steps = steps; rest = rest })
+    complete : (sat : Bool) (taken : Stack) (steps : List Step) (rest : Stack) → side (bare_row node (record { dsat = Never; sat = If (IsTrue holds) Nothing })) sat taken steps → with_step node (forced holds) [] (taken ++ rest) ≡ Some (record { sat = sat; steps = steps; rest = rest })
     complete false taken steps rest h = absurd h.1.0
     complete true taken steps rest h =
-        ap (λ w. ended node (forced holds) [] (w ++ rest)) h.1.0.1 ∙ leaf_done node true false h.0 steps rest (forced holds) (ap forced h.1.0.0) h.1.1 h.2
+        ap (λ w. with_step node (forced holds) [] (w ++ rest)) h.1.0.1 ∙ leaf_done node true false h.0 steps rest (forced holds) (ap forced h.1.0.0) h.1.1 h.2
 
 -- a string without a byte
 pub is_nothing : (bytes : Bytes) → is_empty bytes ≡ true → bytes ≡ EMPTY

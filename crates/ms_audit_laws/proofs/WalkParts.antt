@@ -13,7 +13,7 @@ use Rattle.def_audit.specs.declared.Step.{Step}
 use Rattle.def_audit.specs.TrailSet.{TrailSet, Bare, Both, Then}
 use Rattle.def_audit.specs.TrailRows.{TrailRow, bare_row, TrailsOfNone, TrailsOf, and_or_trails, and_v_trails, and_b_trails, or_b_trails, or_c_trails, or_d_trails, or_i_trails, thresh_trails, wrap_d_trails, wrap_v_trails, wrap_j_trails, wrap_trails}
 use Rattle.def_satisfaction.proofs.EqualParts.{first_same}
-use Rattle.ms_audit_laws.specs.Walk.{Found, Walker, ends, ended, forced, walk_child, passed, next, Counted, count_behind, count_on, count_child, selected, by_selector, unless_empty, count_verdict, walk_thresh, after_and_or, after_and_v, after_and_b, after_or_b, after_or_c, after_or_d}
+use Rattle.ms_audit_laws.specs.Walk.{Found, Walker, ends, with_step, forced, walk_child, passed, next, Counted, count_behind, count_on, count_child, selected, by_selector, unless_empty, count_verdict, walk_thresh, after_and_or, after_and_v, after_and_b, after_or_b, after_or_c, after_or_d}
 use Rattle.ms_audit_laws.proofs.Walks.{side, Taken, IsWalk, some_is, is_found, none_found, own, Allows, Follows, Split, ends_follow, goes_follow, child_is_walk, same_steps, ends_split, goes_split}
 use Rattle.ms_audit_laws.proofs.WalkLeaves.{is_nothing, just_0_walk}
 
@@ -210,9 +210,9 @@ or_i_walk node x z wx wz i k =
     parts false taken steps (before, inr h, e) = inr (below_selector node false EMPTY z.dsat taken steps before h e)
 
 -- `d`
-pub wrap_d_walk : (node : ℕ) (x : TrailRow) (w : Walker) → IsWalk x w → IsWalk (wrap_d_trails node x) (by_selector (walk_child node w (λ sat. ends (forced sat))) (ended node (Some (false, false)) []))
+pub wrap_d_walk : (node : ℕ) (x : TrailRow) (w : Walker) → IsWalk x w → IsWalk (wrap_d_trails node x) (by_selector (walk_child node w (λ sat. ends (forced sat))) (with_step node (Some (false, false)) []))
 wrap_d_walk node x w i =
-    selector_walk (wrap_d_trails node x) (wrap_v_trails node x) (bare_row node just_0_row) (walk_child node w (λ sat. ends (forced sat))) (ended node (Some (false, false)) []) (wrap_v_walk node x w i) (just_0_walk node) one empty parts
+    selector_walk (wrap_d_trails node x) (wrap_v_trails node x) (bare_row node just_0_row) (walk_child node w (λ sat. ends (forced sat))) (with_step node (Some (false, false)) []) (wrap_v_walk node x w i) (just_0_walk node) one empty parts
   where
     one : (sat : Bool) (taken : Stack) (steps : List Step) → side (wrap_v_trails node x) sat taken steps → side (wrap_d_trails node x) sat (ONE ∷ taken) steps
     one true taken steps h = (h.0, on_selector ONE x.sat taken h.0 h.1, h.2)
@@ -336,7 +336,7 @@ pub thresh_walk : (node k : ℕ) (parts : ℕ → TrailSet) (w : Stack → Optio
 thresh_walk node k parts w some i = record { sound = sound; complete = complete }
   where
     fits : (stack : Stack) (f : Found) (c : Counted) (taken : Stack) → parts c.count taken c.steps → stack ≡ taken ++ c.rest → (met no_child : Bool) → (c.count == k) ≡ met → (c.count == 0) ≡ no_child →
-        ended node (count_verdict met no_child) c.steps c.rest ≡ Some f → Taken (thresh_trails node k parts) stack f
+        with_step node (count_verdict met no_child) c.steps c.rest ≡ Some f → Taken (thresh_trails node k parts) stack f
     fits stack f c taken p e true no_child m n h =
         is_found (thresh_trails node k parts) stack _ f h (taken, (c.steps, subst (λ n. parts n taken c.steps) (eqb-true c.count k m) p, refl), e)
     fits stack f c taken p e false true m n h =
@@ -347,15 +347,15 @@ thresh_walk node k parts w some i = record { sound = sound; complete = complete 
     sound : (stack : Stack) (f : Found) → walk_thresh node k w stack ≡ Some f → Taken (thresh_trails node k parts) stack f
     sound stack f e = go (w stack) refl e
       where
-        go : (o : Option Counted) → w stack ≡ o → next o (λ c. ended node (count_verdict (c.count == k) (c.count == 0)) c.steps c.rest) ≡ Some f → Taken (thresh_trails node k parts) stack f
+        go : (o : Option Counted) → w stack ≡ o → next o (λ c. with_step node (count_verdict (c.count == k) (c.count == 0)) c.steps c.rest) ≡ Some f → Taken (thresh_trails node k parts) stack f
         go None p h = none_found _ f h
         go (Some c) p h = let r = i.sound stack c p in fits stack f c r.0 r.1 r.2 (c.count == k) (c.count == 0) refl refl h
 
     done : (n : ℕ) (sat extra : Bool) (taken : Stack) (before steps : List Step) (rest : Stack) → parts n taken before → count_verdict (n == k) (n == 0) ≡ Some (sat, extra) → steps ≡ before ++ own node sat extra ∷ [] →
         walk_thresh node k w (taken ++ rest) ≡ Some (record { sat = sat; steps = steps; rest = rest })
     done n sat extra taken before steps rest p v e =
-        ap (λ o. next o (λ c. ended node (count_verdict (c.count == k) (c.count == 0)) c.steps c.rest)) (i.complete n taken before rest p)
-        ∙ ap (λ v. ended node v before rest) v
+        ap (λ o. next o (λ c. with_step node (count_verdict (c.count == k) (c.count == 0)) c.steps c.rest)) (i.complete n taken before rest p)
+        ∙ ap (λ v. with_step node v before rest) v
         ∙ same_steps node sat extra before steps rest e
 
     complete : (sat : Bool) (taken : Stack) (steps : List Step) (rest : Stack) → side (thresh_trails node k parts) sat taken steps → walk_thresh node k w (taken ++ rest) ≡ Some (record { sat = sat; steps = steps; rest = rest })

@@ -6,7 +6,7 @@ use Rattle.def_machine.specs.Stacks.{Stack}
 use Rattle.def_audit.specs.declared.Step.{Step}
 use Rattle.def_audit.specs.TrailSet.{TrailSet, Both, Then}
 use Rattle.def_audit.specs.TrailRows.{TrailRow}
-use Rattle.ms_audit_laws.specs.Walk.{Found, Walker, Verdict, Next, ends, goes, ended, next, go_on, walk_child}
+use Rattle.ms_audit_laws.specs.Walk.{Found, Walker, Verdict, Next, ends, goes, with_step, next, go_on, walk_child}
 
 -- the stacks that satisfy, or those that dissatisfy
 abbrev pub side : TrailRow → Bool → TrailSet
@@ -61,13 +61,13 @@ ends_follow x t node a (Some v) h taken rest steps g s e =
 pub goes_follow : (x y t : TrailRow) (node : ℕ) (a : Bool) (w : Walker) (verdict : Bool → Verdict) → IsWalk y w →
     ((b : Bool) → Allows (Both (side y b) (side x a)) t node (verdict b)) → Follows x t node a (goes w verdict)
 goes_follow x y t node a w verdict i h taken rest steps g s e =
-    let p = next_some (w rest) (λ second. ended node (verdict second.sat) (steps ++ second.steps) second.rest) g e in
+    let p = next_some (w rest) (λ second. with_step node (verdict second.sat) (steps ++ second.steps) second.rest) g e in
     let f = p.0 in
     let r = i.sound rest f p.1 in
     go (verdict f.sat) f (h f.sat) r.0 r.1 r.2 p.2
   where
     go : (v : Verdict) (f : Found) → Allows (Both (side y f.sat) (side x a)) t node v → (more : Stack) → side y f.sat more f.steps → rest ≡ more ++ f.rest →
-        ended node v (steps ++ f.steps) f.rest ≡ Some g → (more : Stack) × side t g.sat (taken ++ more) g.steps × (rest ≡ more ++ g.rest)
+        with_step node v (steps ++ f.steps) f.rest ≡ Some g → (more : Stack) × side t g.sat (taken ++ more) g.steps × (rest ≡ more ++ g.rest)
     go None f allows more s2 r e = none_found _ g e
     go (Some v) f allows more s2 r e =
         subst (λ g. (more : Stack) × side t g.sat (taken ++ more) g.steps × (rest ≡ more ++ g.rest)) (some_is _ g e)
@@ -107,7 +107,7 @@ child_is_walk x t node w follow i follows splits = record { sound = sound; compl
 
 -- a step behind those of the children
 pub same_steps : (node : ℕ) (sat extra : Bool) (before steps : List Step) (rest : Stack) → steps ≡ before ++ own node sat extra ∷ [] →
-    ended node (Some (sat, extra)) before rest ≡ Some (record { sat = sat; steps = steps; rest = rest })
+    with_step node (Some (sat, extra)) before rest ≡ Some (record { sat = sat; steps = steps; rest = rest })
 same_steps node sat extra before steps rest e = ap (λ (s : List Step). Some (record { sat = sat; steps = s; rest = rest })) (sym e)
 
 -- a child alone
@@ -138,7 +138,7 @@ goes_split x y node follow w verdict a b sat extra taken steps i e v h =
       parts = p.6;
       finish = λ rest.
           ap (λ n. go_on node n (record { sat = a; steps = p.2; rest = p.0 ++ rest })) e
-          ∙ ap (λ o. next o (λ second. ended node (verdict second.sat) (p.2 ++ second.steps) second.rest)) (i.complete b p.0 p.3 rest p.4)
-          ∙ ap (λ o. ended node o (p.2 ++ p.3) rest) v
+          ∙ ap (λ o. next o (λ second. with_step node (verdict second.sat) (p.2 ++ second.steps) second.rest)) (i.complete b p.0 p.3 rest p.4)
+          ∙ ap (λ o. with_step node o (p.2 ++ p.3) rest) v
           ∙ same_steps node sat extra (p.2 ++ p.3) steps rest (h.2 ∙ ap (λ s. s ++ own node sat extra ∷ []) p.7);
     }

@@ -32,9 +32,9 @@ abbrev pub Verdict : Type 0
 Verdict = Option (Bool × Bool)
 
 -- the node's own step behind those of its children
-abbrev pub ended : (node : ℕ) → Verdict → List Step → Stack → Option Found
-ended node None steps rest = None
-ended node (Some v) steps rest =
+abbrev pub with_step : (node : ℕ) → Verdict → List Step → Stack → Option Found
+with_step node None steps rest = None
+with_step node (Some v) steps rest =
     Some (record { sat = v.0; steps = steps ++ record { node = node; sat = v.0; extra = v.1 } ∷ []; rest = rest })
 
 -- what follows where something was found
@@ -48,9 +48,9 @@ pub data Next : Type 0 where
   goes : Walker → (Bool → Verdict) → Next
 
 abbrev pub go_on : (node : ℕ) → Next → Found → Option Found
-go_on node (ends verdict) first = ended node verdict first.steps first.rest
+go_on node (ends verdict) first = with_step node verdict first.steps first.rest
 go_on node (goes walker verdict) first =
-    next (walker first.rest) (λ second. ended node (verdict second.sat) (first.steps ++ second.steps) second.rest)
+    next (walker first.rest) (λ second. with_step node (verdict second.sat) (first.steps ++ second.steps) second.rest)
 
 -- a child, and what follows it
 abbrev pub walk_child : (node : ℕ) → Walker → (Bool → Next) → Walker
@@ -65,7 +65,7 @@ sig_verdict false false = None
 -- `pk_k(key)`
 abbrev pub walk_pk_k : Given → (node : ℕ) → Key → Walker
 walk_pk_k given node key [] = None
-walk_pk_k given node key (top ∷ rest) = ended node (sig_verdict (is_good given.table key top) (is_empty top)) [] rest
+walk_pk_k given node key (top ∷ rest) = with_step node (sig_verdict (is_good given.table key top) (is_empty top)) [] rest
 
 -- a key with the hash, which may be the fragment's own
 abbrev pub key_verdict : (fits own good empty : Bool) → Verdict
@@ -79,7 +79,7 @@ abbrev pub walk_pk_h : Given → (node : ℕ) → Key → Walker
 walk_pk_h given node key [] = None
 walk_pk_h given node key (other ∷ []) = None
 walk_pk_h given node key (other ∷ sig ∷ rest) =
-    ended node
+    with_step node
     (key_verdict (is_key other && bytes_eq (hash160 other) (hash160 key)) (bytes_eq other key) (is_good given.table other sig) (is_empty sig)) []
     rest
 
@@ -98,7 +98,7 @@ hash_verdict true false zeros = Some (false, not zeros)
 abbrev pub walk_hash : (node : ℕ) → HashKind → Bytes → Walker
 walk_hash node kind value [] = None
 walk_hash node kind value (top ∷ rest) =
-    ended node (hash_verdict (length top == 32) (bytes_eq (digest_of kind top) value) (bytes_eq top ZEROS)) [] rest
+    with_step node (hash_verdict (length top == 32) (bytes_eq (digest_of kind top) value) (bytes_eq top ZEROS)) [] rest
 
 -- each signature is that of the first key left that takes it
 abbrev pub are_found : Pairs → List Key → List Bytes → Bool
@@ -117,7 +117,7 @@ multi_verdict true false false = None
 abbrev pub walk_multi_off : Given → (node : ℕ) → List Key → (sigs : Stack) → Walker
 walk_multi_off given node keys sigs [] = None
 walk_multi_off given node keys sigs (dummy ∷ rest) =
-    ended node (multi_verdict (is_empty dummy) (are_found given.table (reverse keys) sigs) (list_all is_empty sigs)) [] rest
+    with_step node (multi_verdict (is_empty dummy) (are_found given.table (reverse keys) sigs) (list_all is_empty sigs)) [] rest
 
 abbrev pub walk_multi : Given → (node : ℕ) → (k : ℕ) → List Key → Walker
 walk_multi given node k keys stack = walk_multi_off given node keys (take k stack) (drop k stack)
@@ -164,12 +164,12 @@ passed sat = ends (Some (sat, false))
 abbrev pub unless_empty : (node : ℕ) → Walker → Walker
 unless_empty node walker [] = None
 unless_empty node walker (top ∷ rest) =
-    if is_empty top then ended node (Some (false, false)) [] rest else walker (top ∷ rest)
+    if is_empty top then with_step node (Some (false, false)) [] rest else walker (top ∷ rest)
 
 -- `thresh(k,X1,..,Xn)`, from its children
 abbrev pub walk_thresh : (node : ℕ) → (k : ℕ) → (Stack → Option Counted) → Walker
 walk_thresh node k children stack =
-    next (children stack) (λ c. ended node (count_verdict (c.count == k) (c.count == 0)) c.steps c.rest)
+    next (children stack) (λ c. with_step node (count_verdict (c.count == k) (c.count == 0)) c.steps c.rest)
 
 -- what follows the first child of `andor(X,Y,Z)`
 abbrev pub after_and_or : (y z : Walker) → Bool → Next
@@ -204,12 +204,12 @@ after_or_d z false = goes z (λ sat. Some (sat, false))
 -- the walk over each fragment, whose nodes have the numbers from `first` on
 abbrev mutual
   pub walk : Given → (first : ℕ) → Tree → Walker
-  walk given first just_0 = ended first (Some (false, false)) []
-  walk given first just_1 = ended first (Some (true, false)) []
+  walk given first just_0 = with_step first (Some (false, false)) []
+  walk given first just_1 = with_step first (Some (true, false)) []
   walk given first (pk_k key) = walk_pk_k given first key
   walk given first (pk_h key) = walk_pk_h given first key
-  walk given first (older n) = ended first (forced (older_holds n given.locks)) []
-  walk given first (after n) = ended first (forced (after_holds n given.locks)) []
+  walk given first (older n) = with_step first (forced (older_holds n given.locks)) []
+  walk given first (after n) = with_step first (forced (after_holds n given.locks)) []
   walk given first (hash kind value) = walk_hash first kind value
   walk given first (and_or x y z) =
       walk_child (first + nodes x + nodes y + nodes z) (walk given first x)
@@ -229,7 +229,7 @@ abbrev mutual
   walk given first (wrap wrapper.C x) = walk_child (first + nodes x) (walk given first x) passed
   walk given first (wrap wrapper.D x) =
       by_selector (walk_child (first + nodes x) (walk given first x) (λ sat. ends (forced sat)))
-      (ended (first + nodes x) (Some (false, false)) [])
+      (with_step (first + nodes x) (Some (false, false)) [])
   walk given first (wrap wrapper.V x) = walk_child (first + nodes x) (walk given first x) (λ sat. ends (forced sat))
   walk given first (wrap wrapper.J x) =
       unless_empty (first + nodes x) (walk_child (first + nodes x) (walk given first x) (λ sat. ends (Some (sat, not sat))))

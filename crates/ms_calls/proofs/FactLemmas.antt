@@ -10,7 +10,7 @@ use Rattle.def_height.specs.Height.{IsHeight}
 use Rattle.def_height.proofs.Found.{height_is_unique}
 use Rattle.ms_calls.specs.declared.facts.Facts.{Facts}
 use Rattle.ms_calls.specs.Facts.{facts_by, facts_of}
-use Rattle.ms_calls.specs.Given.{told, unless_unfit}
+use Rattle.ms_calls.specs.TextReply.{told, unless_unfit}
 
 pub known_facts : (rules : Rules) (t : Tree) (sane : Sane) (height : ℕ) (offsets : List ℕ) (facts : Facts) → IsKnownSaneUnder rules t sane → IsHeight t height
     → facts ≡ facts_by sane.ty sane.mall sane.limits height → unless_unfit (first_unfit_under rules t) offsets (told (facts_of t)) ≡ told facts

@@ -11,7 +11,7 @@ use Rattle.def_answer.proofs.Unique.{one_reading}
 use Rattle.ms_calls.specs.declared.stopping.Stop.{Stop}
 use Rattle.ms_calls.specs.declared.stopping.Stop.TheVariants as stop
 use Rattle.ms_calls.specs.Reasons.{code_of_reason}
-use Rattle.ms_calls.specs.Given.{Given, text_refused, text_given, unless_unfit}
+use Rattle.ms_calls.specs.TextReply.{TextReply, text_refused, text_given, unless_unfit}
 use Rattle.ms_calls.specs.Stops.{Finds, FindsOf, StopsReading, StopsFitting}
 use Rattle.ms_replies.specs.declared.fit.Demand.{Demand}
 use Rattle.ms_replies.specs.declared.fit.Demand.TheVariants as demand
@@ -19,7 +19,7 @@ use Rattle.ms_replies.specs.declared.fit.Known.{Known}
 use Rattle.ms_replies.specs.declared.fit.Known.TheVariants as known
 use Rattle.ms_replies.specs.Fits.{reason_for, IsKnown}
 
-finds_of : {A : Type 0} (text : Bytes) (given : Reading → Given A) (result : Result A Stop) → IsUtf8 text
+finds_of : {A : Type 0} (text : Bytes) (given : Reading → TextReply A) (result : Result A Stop) → IsUtf8 text
     → ((reading : Reading) → HasReading text reading → Finds (given reading) result) → (result ≡ Err stop.Unreadable → ⊥) → FindsOf text given result
 finds_of text given (Ok a) utf8 finds readable = (utf8, finds)
 finds_of text given (Err (stop.TextRefused reason)) utf8 finds readable = (utf8, finds)
@@ -28,7 +28,7 @@ finds_of text given (Err stop.NoSatisfaction) utf8 finds readable = (utf8, finds
 finds_of text given (Err stop.Unreadable) utf8 finds readable = absurd (readable refl)
 finds_of text given (Err stop.Memory) utf8 finds readable = (utf8, finds)
 
-is_readable : {A : Type 0} (given : Given A) (result : Result A Stop) → Finds given result → result ≡ Err stop.Unreadable → ⊥
+is_readable : {A : Type 0} (given : TextReply A) (result : Result A Stop) → Finds given result → result ≡ Err stop.Unreadable → ⊥
 is_readable given (Ok a) finds is = cc is
 is_readable given (Err (stop.TextRefused reason)) finds is = cc is
 is_readable given (Err (stop.FileRefused reason)) finds is = cc is
@@ -37,7 +37,7 @@ is_readable given (Err stop.Unreadable) finds is = absurd finds
 is_readable given (Err stop.Memory) finds is = cc is
 
 -- a tree that was read
-pub finds_of_tree : {A : Type 0} (text : Bytes) (first_reason : Tree → Option Unfit) (next : Tree → Given A) (tree : Tree) (offsets : List ℕ) (result : Result A Stop)
+pub finds_of_tree : {A : Type 0} (text : Bytes) (first_reason : Tree → Option Unfit) (next : Tree → TextReply A) (tree : Tree) (offsets : List ℕ) (result : Result A Stop)
     → IsUtf8 text → TextReads text tree offsets → Finds (unless_unfit (first_reason tree) offsets (next tree)) result → FindsOf text (text_given first_reason next) result
 finds_of_tree text first_reason next tree offsets result utf8 reads finds =
     finds_of text (text_given first_reason next) result utf8
@@ -45,7 +45,7 @@ finds_of_tree text first_reason next tree offsets result utf8 reads finds =
     (is_readable (unless_unfit (first_reason tree) offsets (next tree)) result finds)
 
 -- a text that wasn't read
-pub finds_of_stop : {A : Type 0} (text : Bytes) (first_reason : Tree → Option Unfit) (next : Tree → Given A) (s : Stop) → StopsReading text s
+pub finds_of_stop : {A : Type 0} (text : Bytes) (first_reason : Tree → Option Unfit) (next : Tree → TextReply A) (s : Stop) → StopsReading text s
     → FindsOf text (text_given first_reason next) (Err s)
 finds_of_stop text first_reason next (stop.TextRefused reason) (utf8, why) =
     (utf8, λ reading h. subst (λ r. text_given first_reason next r ≡ text_refused reason) (one_reading text (refused why.0) reading utf8 why.1 h) (ap text_refused (sym why.2)))
@@ -63,7 +63,7 @@ passed (demand.Sane rules) tree (known.Valid valid) h = absurd h
 passed (demand.Sane rules) tree (known.Sane sane) h = h.0
 
 -- a tree that doesn't pass
-pub finds_of_misfit : {A : Type 0} (reason : Option Unfit) (offsets : List ℕ) (next : Given A) (s : Stop) → StopsFitting reason offsets s
+pub finds_of_misfit : {A : Type 0} (reason : Option Unfit) (offsets : List ℕ) (next : TextReply A) (s : Stop) → StopsFitting reason offsets s
     → Finds (unless_unfit reason offsets next) (Err s)
 finds_of_misfit None offsets next (stop.TextRefused why) stops = let none : None ≡ Some why = stops in absurd (let no : ⊥ = cc in no)
 finds_of_misfit (Some unfit) offsets next (stop.TextRefused why) stops =

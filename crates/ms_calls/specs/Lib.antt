@@ -4,5 +4,5 @@ pub mod Words
 pub mod Facts
 pub mod Reasons
 pub mod Items
-pub mod Given
+pub mod TextReply
 pub mod Stops

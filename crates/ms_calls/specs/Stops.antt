@@ -11,10 +11,10 @@ use Rattle.ms_calls.specs.declared.stopping.Stop.TheVariants as stop
 use Rattle.def_files.specs.declared.AssetFault.{AssetFault}
 use Rattle.def_files.specs.declared.AssetFault.TheVariants as file_fault
 use Rattle.ms_calls.specs.Reasons.{code_of_fault, code_of_reason, code_of_file}
-use Rattle.ms_calls.specs.Given.{Given, told, text_refused, file_refused, no_satisfaction}
+use Rattle.ms_calls.specs.TextReply.{TextReply, told, text_refused, file_refused, no_satisfaction}
 
 -- a step found what is given, unless memory was wanting
-abbrev pub Finds : {A : Type 0} → Given A → Result A Stop → Type 0
+abbrev pub Finds : {A : Type 0} → TextReply A → Result A Stop → Type 0
 Finds given (Ok a) = given ≡ told a
 Finds given (Err (stop.TextRefused reason)) = given ≡ text_refused reason
 Finds given (Err (stop.FileRefused reason)) = given ≡ file_refused reason
@@ -23,7 +23,7 @@ Finds given (Err stop.Unreadable) = ⊥
 Finds given (Err stop.Memory) = ⊤
 
 -- a step on a text found what its reading gives, or the text isn't UTF-8
-abbrev pub FindsOf : {A : Type 0} → (text : Bytes) → (Reading → Given A) → Result A Stop → Type 0
+abbrev pub FindsOf : {A : Type 0} → (text : Bytes) → (Reading → TextReply A) → Result A Stop → Type 0
 FindsOf text given (Err stop.Unreadable) = ¬ IsUtf8 text
 FindsOf text given result = IsUtf8 text × ((reading : Reading) → HasReading text reading → Finds (given reading) result)
 

@@ -6,7 +6,7 @@ ghost use Rattle.def_sane.specs.declared.Rules.TheVariants.{Consensus};
 ghost use Rattle.def_sane.specs.Unfit.{IsValidUnder, first_unfit_valid_under};
 ghost use Rattle.ms_tree.specs.Shape.{shape};
 ghost use Rattle.ms_replies.specs.Choices.{chosen_by, reason_by};
-ghost use Rattle.ms_calls.specs.Given.{HoldsOfGiven, told, code_given, reason_after, value_after, buffer_after, needed_after, rules_for as the_rules_for, choice_for as the_choice_for, unless_unfit, file_given, where_one, weight_given, witness_given, least_weight_given, witness_items, chosen_given, bytes_given, lengths_given};
+ghost use Rattle.ms_calls.specs.TextReply.{HoldsOfReply, told, code_given, reason_after, value_after, buffer_after, needed_after, rules_for as the_rules_for, choice_for as the_choice_for, unless_unfit, file_given, where_one, weight_given, witness_given, least_weight_given, witness_items, chosen_given, bytes_given, lengths_given};
 ghost use Rattle.ms_calls.specs.Stops.{Finds, FindsOf, file_refusal as the_file_refusal};
 
 use crate::copying::{write_lengths, write_over};
@@ -40,9 +40,9 @@ pub fn least_weight(
     weight: &mut u64,
     reason: &mut Reason,
 ) -> u32
-    ensures code { HoldsOfGiven text.now result (weight_given (the_rules_for consensus) file.now) (λ given. result ≡ code_given given) }
-    ensures weight { HoldsOfGiven text.now result (weight_given (the_rules_for consensus) file.now) (λ given. weight.new ≡ value_after weight.old given) }
-    ensures reason { HoldsOfGiven text.now result (weight_given (the_rules_for consensus) file.now) (λ given. reason.new ≡ reason_after reason.old given) }
+    ensures code { HoldsOfReply text.now result (weight_given (the_rules_for consensus) file.now) (λ given. result ≡ code_given given) }
+    ensures weight { HoldsOfReply text.now result (weight_given (the_rules_for consensus) file.now) (λ given. weight.new ≡ value_after weight.old given) }
+    ensures reason { HoldsOfReply text.now result (weight_given (the_rules_for consensus) file.now) (λ given. reason.new ≡ reason_after reason.old given) }
     ensures unreadable { result ≡ 11 ↔ (¬ IsUtf8 text.now) }
     ensures kept { (result ≡ 11) ⊎ (result ≡ 7) → weight.new ≡ weight.old }
     ensures kept_reason { (result ≡ 11) ⊎ (result ≡ 7) → reason.new ≡ reason.old }
@@ -77,12 +77,12 @@ pub fn witness(
     count: &mut usize,
     reason: &mut Reason,
 ) -> u32
-    ensures code { HoldsOfGiven text.now result (witness_given (the_choice_for malleable consensus) file.now) (λ given. result ≡ code_given given) }
-    ensures bytes { HoldsOfGiven text.now result (witness_given (the_choice_for malleable consensus) file.now) (λ given. bytes.new ≡ buffer_after bytes.old (bytes_given given)) }
-    ensures needed { HoldsOfGiven text.now result (witness_given (the_choice_for malleable consensus) file.now) (λ given. needed.new ≡ needed_after needed.old (bytes_given given)) }
-    ensures lengths { HoldsOfGiven text.now result (witness_given (the_choice_for malleable consensus) file.now) (λ given. lengths.new ≡ buffer_after lengths.old (lengths_given given)) }
-    ensures count { HoldsOfGiven text.now result (witness_given (the_choice_for malleable consensus) file.now) (λ given. count.new ≡ needed_after count.old (lengths_given given)) }
-    ensures reason { HoldsOfGiven text.now result (witness_given (the_choice_for malleable consensus) file.now) (λ given. reason.new ≡ reason_after reason.old given) }
+    ensures code { HoldsOfReply text.now result (witness_given (the_choice_for malleable consensus) file.now) (λ given. result ≡ code_given given) }
+    ensures bytes { HoldsOfReply text.now result (witness_given (the_choice_for malleable consensus) file.now) (λ given. bytes.new ≡ buffer_after bytes.old (bytes_given given)) }
+    ensures needed { HoldsOfReply text.now result (witness_given (the_choice_for malleable consensus) file.now) (λ given. needed.new ≡ needed_after needed.old (bytes_given given)) }
+    ensures lengths { HoldsOfReply text.now result (witness_given (the_choice_for malleable consensus) file.now) (λ given. lengths.new ≡ buffer_after lengths.old (lengths_given given)) }
+    ensures count { HoldsOfReply text.now result (witness_given (the_choice_for malleable consensus) file.now) (λ given. count.new ≡ needed_after count.old (lengths_given given)) }
+    ensures reason { HoldsOfReply text.now result (witness_given (the_choice_for malleable consensus) file.now) (λ given. reason.new ≡ reason_after reason.old given) }
     ensures unreadable { result ≡ 11 ↔ (¬ IsUtf8 text.now) }
     ensures kept { (result ≡ 11) ⊎ (result ≡ 7) → bytes.new ≡ bytes.old }
     ensures kept_needed { (result ≡ 11) ⊎ (result ≡ 7) → needed.new ≡ needed.old }

@@ -8,7 +8,7 @@ ghost use Rattle.def_sane.specs.Unfit.{first_unfit_under, first_unfit_valid_unde
 ghost use Rattle.ms_tree.specs.Shape.{shape};
 ghost use Rattle.ms_replies.specs.Fits.{reason_for, IsKnown};
 ghost use Rattle.ms_calls.specs.Facts.{facts_of};
-ghost use Rattle.ms_calls.specs.Given.{HoldsOfGiven, told, code_given, reason_after, value_after, buffer_after, needed_after, rules_for as the_rules_for, unless_unfit, script_given, facts_given};
+ghost use Rattle.ms_calls.specs.TextReply.{HoldsOfReply, told, code_given, reason_after, value_after, buffer_after, needed_after, rules_for as the_rules_for, unless_unfit, script_given, facts_given};
 ghost use Rattle.ms_calls.specs.Stops.{Finds, FindsOf, StopsReading, StopsFitting, refusal as the_refusal};
 
 use crate::copying::write_over;
@@ -37,10 +37,10 @@ pub fn script(
     needed: &mut usize,
     reason: &mut Reason,
 ) -> u32
-    ensures code { HoldsOfGiven text.now result (script_given (the_rules_for consensus)) (λ given. result ≡ code_given given) }
-    ensures script { HoldsOfGiven text.now result (script_given (the_rules_for consensus)) (λ given. script.new ≡ buffer_after script.old given) }
-    ensures needed { HoldsOfGiven text.now result (script_given (the_rules_for consensus)) (λ given. needed.new ≡ needed_after needed.old given) }
-    ensures reason { HoldsOfGiven text.now result (script_given (the_rules_for consensus)) (λ given. reason.new ≡ reason_after reason.old given) }
+    ensures code { HoldsOfReply text.now result (script_given (the_rules_for consensus)) (λ given. result ≡ code_given given) }
+    ensures script { HoldsOfReply text.now result (script_given (the_rules_for consensus)) (λ given. script.new ≡ buffer_after script.old given) }
+    ensures needed { HoldsOfReply text.now result (script_given (the_rules_for consensus)) (λ given. needed.new ≡ needed_after needed.old given) }
+    ensures reason { HoldsOfReply text.now result (script_given (the_rules_for consensus)) (λ given. reason.new ≡ reason_after reason.old given) }
     ensures unreadable { result ≡ 11 ↔ (¬ IsUtf8 text.now) }
     ensures kept { (result ≡ 11) ⊎ (result ≡ 7) → script.new ≡ script.old }
     ensures kept_needed { (result ≡ 11) ⊎ (result ≡ 7) → needed.new ≡ needed.old }
@@ -67,9 +67,9 @@ pub fn check(
     facts: &mut Facts,
     reason: &mut Reason,
 ) -> u32
-    ensures code { HoldsOfGiven text.now result (facts_given (the_rules_for consensus)) (λ given. result ≡ code_given given) }
-    ensures facts { HoldsOfGiven text.now result (facts_given (the_rules_for consensus)) (λ given. facts.new ≡ value_after facts.old given) }
-    ensures reason { HoldsOfGiven text.now result (facts_given (the_rules_for consensus)) (λ given. reason.new ≡ reason_after reason.old given) }
+    ensures code { HoldsOfReply text.now result (facts_given (the_rules_for consensus)) (λ given. result ≡ code_given given) }
+    ensures facts { HoldsOfReply text.now result (facts_given (the_rules_for consensus)) (λ given. facts.new ≡ value_after facts.old given) }
+    ensures reason { HoldsOfReply text.now result (facts_given (the_rules_for consensus)) (λ given. reason.new ≡ reason_after reason.old given) }
     ensures unreadable { result ≡ 11 ↔ (¬ IsUtf8 text.now) }
     ensures kept { (result ≡ 11) ⊎ (result ≡ 7) → facts.new ≡ facts.old }
     ensures kept_reason { (result ≡ 11) ⊎ (result ≡ 7) → reason.new ≡ reason.old }

@@ -4,7 +4,7 @@ use Rattle.std.proofs.lemmas.Bool.Decides.{nat_tests}
 use Rattle.ms_choice.specs.declared.children.Costs.{Costs}
 use Rattle.ms_choice.specs.declared.kinds.KindCounts.{KindCounts}
 use Rattle.ms_choice.specs.Choice.{Pick, picks, lighter, least, lightest, heavier, most}
-use Rattle.ms_choice.specs.Kinds.{counted, allows, Counts}
+use Rattle.ms_choice.specs.Kinds.{with_child, allows, Counts}
 use Rattle.ms_choice.specs.Tally.{forced, stuck, free, forced_by, stuck_by, free_by}
 use Rattle.ms_choice.proofs.Totals.{total_push}
 use Rattle.ms_choice.proofs.Picks.{added, counted_most, most_chosen, greatest_is}
@@ -103,11 +103,11 @@ allowed cs kinds k told =
 
 -- ---- a further child
 
-pub counts_push : (cs : List Costs) (c : Costs) (kinds : KindCounts) → Counts cs kinds → Counts (cs ++ c ∷ []) (counted kinds (is_some c.sat) (is_some c.dsat))
+pub counts_push : (cs : List Costs) (c : Costs) (kinds : KindCounts) → Counts cs kinds → Counts (cs ++ c ∷ []) (with_child kinds (is_some c.sat) (is_some c.dsat))
 counts_push cs c kinds told = go c.sat c.dsat (total_push (λ c. forced_by c.sat c.dsat) cs c) (total_push (λ c. stuck_by c.sat c.dsat) cs c) (over_free-push (λ difference place. 1) 0 cs c)
   where
     go : (s d : Option ℕ) → forced (cs ++ c ∷ []) ≡ forced cs + forced_by s d → stuck (cs ++ c ∷ []) ≡ stuck cs + stuck_by s d → free (cs ++ c ∷ []) ≡ free cs + free_by (λ difference place. 1) (0 + length cs) s d
-        → Counts (cs ++ c ∷ []) (counted kinds (is_some s) (is_some d))
+        → Counts (cs ++ c ∷ []) (with_child kinds (is_some s) (is_some d))
     go None None x y z = record { forced = omega (arith, x, told.forced); stuck = omega (arith, y, told.stuck); free = omega (arith, z, told.free) }
     go None (Some d) x y z = record { forced = omega (arith, x, told.forced); stuck = omega (arith, y, told.stuck); free = omega (arith, z, told.free) }
     go (Some s) None x y z = record { forced = omega (arith, x, told.forced); stuck = omega (arith, y, told.stuck); free = omega (arith, z, told.free) }

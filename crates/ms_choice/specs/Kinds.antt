@@ -11,11 +11,11 @@ pub record IsFew (kinds : KindCounts) (n : ℕ) : Type 0 where
   pub free : kinds.free < n
 
 -- with a further child that can be satisfied, and that can be dissatisfied
-abbrev pub counted : KindCounts → (sat dsat : Bool) → KindCounts
-counted kinds true true = record kinds { free = kinds.free + 1 }
-counted kinds true false = record kinds { forced = kinds.forced + 1 }
-counted kinds false true = kinds
-counted kinds false false = record kinds { stuck = kinds.stuck + 1 }
+abbrev pub with_child : KindCounts → (sat dsat : Bool) → KindCounts
+with_child kinds true true = record kinds { free = kinds.free + 1 }
+with_child kinds true false = record kinds { forced = kinds.forced + 1 }
+with_child kinds false true = kinds
+with_child kinds false false = record kinds { stuck = kinds.stuck + 1 }
 
 -- so many of the children can be satisfied and the others dissatisfied
 abbrev pub allows : KindCounts → (count : ℕ) → Bool

@@ -1,6 +1,6 @@
 //! How many children there are of each kind, and how many of them can be satisfied.
 ghost use Rattle.std.specs.Prelude.{◌≡◌, ◌+◌, ◌<◌, ◌≤◌, ◌⊎◌, IfSome, None};
-ghost use Rattle.ms_choice.specs.Kinds.{IsFew, counted, allows as the_allows};
+ghost use Rattle.ms_choice.specs.Kinds.{IsFew, with_child, allows as the_allows};
 ghost use Rattle.ms_choice.specs.Tally.{MOST_CHILDREN};
 
 /// How many children there are of each kind. A free child can be satisfied and dissatisfied, a forced one
@@ -26,7 +26,7 @@ impl KindCounts {
     /// Counts a further child in, which can be satisfied and dissatisfied as is said. There are at most 2^17.
     pub fn add(&mut self, sat: bool, dsat: bool)
         requires { IsFew self.old MOST_CHILDREN }
-        ensures { self.new ≡ counted self.old sat dsat }
+        ensures { self.new ≡ with_child self.old sat dsat }
     {
         match (sat, dsat) {
             (true, true) => self.free += 1,

@@ -8,9 +8,10 @@ use Rattle.def_script.specs.Items.{items}
 use Rattle.def_tree.specs.Tree.{Tree, Key}
 use Rattle.def_tree.specs.Range.{IsKey, IsWritable}
 use Rattle.def_emit.specs.Emit.{emit}
+use Rattle.def_emit.proofs.Short.{items-script_of}
 use Rattle.def_decode.specs.Decoded.{first_with, IsReading, IsDecoded}
 use Rattle.ms_decode_laws.specs.Scaffolding.Reader.{read}
-use Rattle.ms_decode_laws.proofs.Decoding.{found_in, items_of, reading_is_found, found_is_decoded}
+use Rattle.ms_decode_laws.proofs.Decoding.{found_in, reading_is_found, found_is_decoded}
 use Rattle.ms_decode.specs.declared.codes.Code.{Code}
 use Rattle.ms_decode.specs.Scaffolding.States.{instruction_of, backwards}
 use Rattle.ms_decode.specs.Scaffolding.Codes.{AreCodes, HasNoCodes}
@@ -19,7 +20,7 @@ use Rattle.ms_decode.proofs.Listed.{read_has}
 
 -- bytes that aren't the spelling of instructions
 pub no_codes : (keys : List Key) (script : Bytes) → HasNoCodes script → (t : Tree) → IsReading keys script t → ⊥
-no_codes keys script none t h = none (emit t) (ap items (sym h.same) ∙ items_of t h.writable)
+no_codes keys script none t h = none (emit t) (ap items (sym h.same) ∙ items-script_of t h.writable)
 
 -- what the reader finds in these instructions
 pub may_be : (keys : List Key) (script : Bytes) (codes : List Code) (o : Option Tree) → All IsKey keys → AreCodes script codes → o ≡ read (first_with keys) (backwards codes) → MayBe keys script o

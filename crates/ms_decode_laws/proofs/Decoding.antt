@@ -9,18 +9,17 @@ use Rattle.std.proofs.lemmas.Slice.Eq.{bytes_eq-Decides}
 use Rattle.def_hash.specs.Hash.{hash160}
 use Rattle.def_script.specs.Bytes.{Bytes}
 use Rattle.def_script.specs.Instruction.{Instruction, push, code, opcode_count}
-use Rattle.def_script.specs.Spell.{sized_push, byte_push, spell_one, spell, IsShort}
+use Rattle.def_script.specs.Spell.{sized_push, byte_push, spell_one, spell}
 use Rattle.def_script.specs.Items.{items}
-use Rattle.def_script.specs.Laws.{item_of, CanSpell}
-use Rattle.def_script.proofs.Reading.{items-spell}
+use Rattle.def_script.specs.Laws.{item_of}
 use Rattle.def_tree.specs.Tree.{Tree, Trees, Key, just_0, just_1, pk_k, pk_h, older, after, hash, and_or, two, thresh, multi, wrap, none, more}
 use Rattle.def_tree.specs.Size.{measure, depth}
-use Rattle.def_tree.specs.Range.{IsKey, IsWritable, MOST_MEASURE, MOST_DEPTH}
+use Rattle.def_tree.specs.Range.{IsKey, MOST_MEASURE, MOST_DEPTH}
 use Rattle.def_types.specs.declared.Base.TheVariants.{B, W}
 use Rattle.def_types.specs.declared.Ty.{Ty}
 use Rattle.def_types.specs.Typed.{type_of, IsTyped}
 use Rattle.def_emit.specs.Emit.{emit, script_of}
-use Rattle.def_emit.proofs.Short.{short-emit}
+use Rattle.def_emit.proofs.Short.{items-script_of}
 use Rattle.def_sane.specs.declared.Limits.{Limits}
 use Rattle.def_sane.specs.Most.{most_sat, number_of, limits_of}
 use Rattle.def_sane.specs.Unfit.{MOST_SIZE, MOST_OPS, MOST_ITEMS}
@@ -270,16 +269,9 @@ map_injective (i ∷ a) (j ∷ b) e =
     let q = map_injective a b rest in
     λ k. p k ∷ q k
 
-can_spell : (i : Instruction) → IsShort i → CanSpell i
-can_spell (push bytes) h = omega (arith, h)
-can_spell (code op) h = tt
-
-pub items_of : (t : Tree) → IsWritable t → items (script_of t) ≡ map item_of (emit t)
-items_of t w = let short = short-emit t w in items-spell (emit t) (λ k d below. can_spell _ (short.all k d below))
-
 -- so these are the instructions of a tree with this Script
 emit_of : (keys : List Key) (script : Bytes) (t : Tree) (is : List Instruction) → items script ≡ map item_of is → IsReading keys script t → emit t ≡ is
-emit_of keys script t is e h = map_injective (emit t) is (sym (items_of t h.writable) ∙ ap items h.same ∙ e)
+emit_of keys script t is e h = map_injective (emit t) is (sym (items-script_of t h.writable) ∙ ap items h.same ∙ e)
 
 -- a Script that can be read: what the reader finds can be read too
 pub record IsFound (keys : List Key) (script : Bytes) (is : List Instruction) : Type 0 where
@@ -307,7 +299,7 @@ found_is_decoded keys script is t all e f h =
 
 pub one_is_decoded : OneIsDecoded
 one_is_decoded keys script t v h i =
-    let e : items script ≡ map item_of (emit v) = ap items (sym i.reading.same) ∙ items_of v i.reading.writable in
+    let e : items script ≡ map item_of (emit v) = ap items (sym i.reading.same) ∙ items-script_of v i.reading.writable in
     let same : emit t ≡ emit v = emit_of keys script t (emit v) e h.reading in
     let both : Some t ≡ Some v = sym (decoded_is_read keys script t h) ∙ ap (λ (l : List Instruction). read (first_with keys) (reverse l)) same ∙ decoded_is_read keys script v i in
     cc

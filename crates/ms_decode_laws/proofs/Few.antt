@@ -6,7 +6,7 @@ use Rattle.def_tree.specs.declared.Two.TheVariants as kind
 use Rattle.def_tree.specs.declared.Wrapper.TheVariants as wrapper
 use Rattle.def_tree.specs.Tree.{Tree, Trees, Key, just_0, just_1, pk_k, pk_h, older, after, hash, and_or, two, thresh, multi, wrap, none, more}
 use Rattle.def_tree.specs.Size.{measure, measure_of}
-use Rattle.def_emit.specs.Emit.{number}
+use Rattle.def_emit.specs.Emit.{push_number}
 use Rattle.ms_decode_laws.proofs.Onto.{back, fused, onto, onto_sum, onto_added}
 use Rattle.ms_decode_laws.proofs.Low.{head_fuses}
 
@@ -60,7 +60,7 @@ mutual
       let b = (few_of y (code op.Else ∷ onto x (code op.If ∷ l))).few in
       record { few = omega (arith, a, b) }
   few_of (thresh k xs) l = let a = few_sum xs l in record { few = omega (arith, a) }
-  few_of (multi k keys) l = let a = length-back keys (number k ∷ l) in record { few = omega (arith, a) }
+  few_of (multi k keys) l = let a = length-back keys (push_number k ∷ l) in record { few = omega (arith, a) }
   few_of (wrap wrapper.A x) l = let a = (few_of x (code op.ToAltStack ∷ l)).few in record { few = omega (arith, a) }
   few_of (wrap wrapper.S x) l = let a = (few_of x (code op.Swap ∷ l)).few in record { few = omega (arith, a) }
   few_of (wrap wrapper.C x) l = let a = (few_of x l).few in record { few = omega (arith, a) }

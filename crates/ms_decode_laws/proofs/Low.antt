@@ -13,7 +13,7 @@ use Rattle.def_types.specs.Corr.{all_z, all_z_but_one}
 use Rattle.def_types.specs.Typed.{type_of, types_of, IsTyped, AreTyped}
 use Rattle.def_types.proofs.Rows.{corr_rows}
 use Rattle.def_types.proofs.Facts.{all_true, OthersFit, typed-and_or, typed-and_v, typed-and_b, typed-or_b, typed-or_c, typed-or_d, typed-or_i, typed-thresh, typed-thresh_none, typed-wrap_a, typed-wrap_s, typed-wrap_c, typed-wrap_d, typed-wrap_v, typed-wrap_j, typed-wrap_n}
-use Rattle.def_emit.specs.Emit.{number}
+use Rattle.def_emit.specs.Emit.{push_number}
 use Rattle.def_decode.specs.Nested.{is_and_v, RightNested, AreRightNested}
 use Rattle.ms_decode_laws.proofs.Onto.{back, fused, onto, onto_sum, onto_added}
 
@@ -126,7 +126,7 @@ mutual
   ops-onto (two kind.OrD x y) h n l = let a = ops-onto x h.0 n.0 l in let b = ops-onto y h.1 n.1 (code op.NotIf ∷ code op.IfDup ∷ onto x l) in omega (arith, a, b)
   ops-onto (two kind.OrI x y) h n l = let a = ops-onto x h.0 n.0 (code op.If ∷ l) in let b = ops-onto y h.1 n.1 (code op.Else ∷ onto x (code op.If ∷ l)) in omega (arith, a, b)
   ops-onto (thresh k xs) h n l = let a = ops_sum-onto xs h.0 n l in omega (arith, a)
-  ops-onto (multi k keys) h n l = let a = count_pushes keys (number k ∷ l) in omega (arith, a)
+  ops-onto (multi k keys) h n l = let a = count_pushes keys (push_number k ∷ l) in omega (arith, a)
   ops-onto (wrap wrapper.A x) h n l = let a = ops-onto x h.0 n (code op.ToAltStack ∷ l) in omega (arith, a)
   ops-onto (wrap wrapper.S x) h n l = let a = ops-onto x h.0 n (code op.Swap ∷ l) in omega (arith, a)
   ops-onto (wrap wrapper.C x) h n l = let a = ops-onto x h.0 n.1 l in omega (arith, a)

@@ -13,8 +13,9 @@ use Rattle.def_types.specs.declared.Ty.{Ty}
 use Rattle.def_types.specs.Row.{Row, AllHold}
 use Rattle.def_types.specs.Corr.{and_or_row, two_row, thresh_row, wrap_row}
 use Rattle.def_types.specs.Typed.{type_of, types_of, IsTyped, AreTyped}
-use Rattle.def_emit.specs.Emit.{number}
-use Rattle.def_sane.specs.Formal.{item, plus, SIGNATURE, empty, one}
+use Rattle.def_emit.specs.Emit.{push_number}
+use Rattle.def_script.specs.Signature.{MAX_SIGNATURE_SIZE}
+use Rattle.def_sane.specs.Formal.{item, plus, empty, one}
 use Rattle.def_sane.specs.Most.{both, either, counted, most_sat, most_dsat, most_parts}
 use Rattle.std.specs.Prelude.{Some}
 use Rattle.def_decode.specs.Nested.{RightNested, AreRightNested, EachHashed, EachHashedOf}
@@ -138,7 +139,7 @@ module _ (P : Key → Type 0) (g : Key → Key) (same_hash : (k : Key) → hash1
           nested = tt;
           writable = e.1;
           hashed = e.0;
-          sat = λ k. Some (plus (item SIGNATURE) (item (same k)));
+          sat = λ k. Some (plus (item MAX_SIGNATURE_SIZE) (item (same k)));
           dsat = λ k. Some (plus empty (item (same k)));
           order = λ l. λ k. code op.EqualVerify ∷ push (same_hash key k) ∷ code op.Hash160 ∷ code op.Dup ∷ l;
         }
@@ -243,7 +244,7 @@ module _ (P : Key → Type 0) (g : Key → Key) (same_hash : (k : Key) → hash1
           hashed = i.hashed;
           sat = λ k. i.parts k n;
           dsat = λ k. i.parts k 0;
-          order = λ l. ap (λ o. code op.Equal ∷ number n ∷ o) (i.sum l);
+          order = λ l. ap (λ o. code op.Equal ∷ push_number n ∷ o) (i.sum l);
         }
     is_nest (multi n keys) h w e = record { type = refl; typed = h; nested = tt; writable = w; hashed = tt; sat = refl; dsat = refl; order = λ l. refl }
     is_nest (wrap wrapper.A x) h w e =

@@ -8,7 +8,7 @@ use Rattle.def_script.specs.Verify.{verified}
 use Rattle.def_tree.specs.declared.Two.TheVariants as kind
 use Rattle.def_tree.specs.declared.Wrapper.TheVariants as wrapper
 use Rattle.def_tree.specs.Tree.{Tree, Trees, just_0, just_1, pk_k, pk_h, older, after, hash, and_or, two, thresh, multi, wrap, none, more}
-use Rattle.def_emit.specs.Emit.{number, hash_opcode, emit, emit_sum, emit_added}
+use Rattle.def_emit.specs.Emit.{push_number, hash_opcode, emit, emit_sum, emit_added}
 use Rattle.def_emit.proofs.Behind.{has_first}
 
 -- instructions backwards, in front of others
@@ -29,13 +29,13 @@ fused is = code op.Verify ∷ is
 
 abbrev mutual
   pub onto : Tree → List Instruction → List Instruction
-  onto just_0 is = number 0 ∷ is
-  onto just_1 is = number 1 ∷ is
+  onto just_0 is = push_number 0 ∷ is
+  onto just_1 is = push_number 1 ∷ is
   onto (pk_k key) is = push key ∷ is
   onto (pk_h key) is = code op.EqualVerify ∷ push (hash160 key) ∷ code op.Hash160 ∷ code op.Dup ∷ is
-  onto (older n) is = code op.Csv ∷ number n ∷ is
-  onto (after n) is = code op.Cltv ∷ number n ∷ is
-  onto (hash kind value) is = code op.Equal ∷ push value ∷ code (hash_opcode kind) ∷ code op.EqualVerify ∷ number 32 ∷ code op.Size ∷ is
+  onto (older n) is = code op.Csv ∷ push_number n ∷ is
+  onto (after n) is = code op.Cltv ∷ push_number n ∷ is
+  onto (hash kind value) is = code op.Equal ∷ push value ∷ code (hash_opcode kind) ∷ code op.EqualVerify ∷ push_number 32 ∷ code op.Size ∷ is
   onto (and_or x y z) is = code op.EndIf ∷ onto y (code op.Else ∷ onto z (code op.NotIf ∷ onto x is))
   onto (two kind.AndV x y) is = onto y (onto x is)
   onto (two kind.AndB x y) is = code op.BoolAnd ∷ onto y (onto x is)
@@ -43,8 +43,8 @@ abbrev mutual
   onto (two kind.OrC x z) is = code op.EndIf ∷ onto z (code op.NotIf ∷ onto x is)
   onto (two kind.OrD x z) is = code op.EndIf ∷ onto z (code op.NotIf ∷ code op.IfDup ∷ onto x is)
   onto (two kind.OrI x z) is = code op.EndIf ∷ onto z (code op.Else ∷ onto x (code op.If ∷ is))
-  onto (thresh k xs) is = code op.Equal ∷ number k ∷ onto_sum xs is
-  onto (multi k keys) is = code op.CheckMultiSig ∷ number (length keys) ∷ back (map push keys) (number k ∷ is)
+  onto (thresh k xs) is = code op.Equal ∷ push_number k ∷ onto_sum xs is
+  onto (multi k keys) is = code op.CheckMultiSig ∷ push_number (length keys) ∷ back (map push keys) (push_number k ∷ is)
   onto (wrap wrapper.A x) is = code op.FromAltStack ∷ onto x (code op.ToAltStack ∷ is)
   onto (wrap wrapper.S x) is = onto x (code op.Swap ∷ is)
   onto (wrap wrapper.C x) is = code op.CheckSig ∷ onto x is
@@ -141,10 +141,10 @@ mutual
       joined ((code op.If ∷ emit x) ++ (code op.Else ∷ emit z)) (code op.EndIf ∷ []) is (code op.EndIf ∷ b) b
       (joined (code op.If ∷ emit x) (code op.Else ∷ emit z) is b a (onto_back x (code op.If ∷ is)) (onto_back z (code op.Else ∷ a))) refl
   onto_back (thresh k xs) is =
-      joined (emit_sum xs) (number k ∷ code op.Equal ∷ []) is (code op.Equal ∷ number k ∷ onto_sum xs is) (onto_sum xs is) (onto_sum_back xs is) refl
+      joined (emit_sum xs) (push_number k ∷ code op.Equal ∷ []) is (code op.Equal ∷ push_number k ∷ onto_sum xs is) (onto_sum xs is) (onto_sum_back xs is) refl
   onto_back (multi k keys) is =
-      let b = back (map push keys) (number k ∷ is) in
-      joined (number k ∷ map push keys) (number (length keys) ∷ code op.CheckMultiSig ∷ []) is (code op.CheckMultiSig ∷ number (length keys) ∷ b) b refl refl
+      let b = back (map push keys) (push_number k ∷ is) in
+      joined (push_number k ∷ map push keys) (push_number (length keys) ∷ code op.CheckMultiSig ∷ []) is (code op.CheckMultiSig ∷ push_number (length keys) ∷ b) b refl refl
   onto_back (wrap wrapper.A x) is =
       let b = onto x (code op.ToAltStack ∷ is) in
       joined (code op.ToAltStack ∷ emit x) (code op.FromAltStack ∷ []) is (code op.FromAltStack ∷ b) b (onto_back x (code op.ToAltStack ∷ is)) refl

@@ -12,7 +12,7 @@ use Rattle.def_tree.specs.declared.Two.TheVariants as kind
 use Rattle.def_tree.specs.declared.Wrapper.TheVariants as wrapper
 use Rattle.def_tree.specs.Tree as tree
 use Rattle.def_tree.specs.Tree.{Tree, Trees, Key, none, more}
-use Rattle.def_emit.specs.Emit.{number}
+use Rattle.def_emit.specs.Emit.{push_number}
 use Rattle.ms_decode_laws.specs.Scaffolding.Frame.{Frame}
 use Rattle.ms_decode_laws.specs.Scaffolding.Frame as frame
 use Rattle.ms_decode_laws.specs.Scaffolding.Want as want
@@ -163,7 +163,7 @@ module _ (find : Bytes → Option Key) where
   key_pushed fs key e = rw e refl
 
   abbrev sized_rest : List Instruction → List Instruction
-  sized_rest l = code op.EqualVerify ∷ number 32 ∷ code op.Size ∷ l
+  sized_rest l = code op.EqualVerify ∷ push_number 32 ∷ code op.Size ∷ l
 
   hash_seen : (h : HashKind) (value : Bytes) (fs : List Frame) → (length value == digest_length h) ≡ true → hashed h value fs ≡ Some (at (want.compared (tree.hash h value)) fs)
   hash_seen h value fs e = rw e refl
@@ -198,7 +198,7 @@ module _ (find : Bytes → Option Key) where
     one_reads t (hash_one hash_kind.Hash256 value e) fs l = ap (λ (s : Option State). run find s (sized_rest l)) (hash_seen hash_kind.Hash256 value fs e)
     one_reads t (hash_one hash_kind.Ripemd160 value e) fs l = ap (λ (s : Option State). run find s (sized_rest l)) (hash_seen hash_kind.Ripemd160 value fs e)
     one_reads t (hash_one hash_kind.Hash160 value e) fs l =
-        ap (λ (b : Bool). run find (if b then Some (at (want.sized (tree.hash hash_kind.Hash160 value)) fs) else None) (number 32 ∷ code op.Size ∷ l)) e
+        ap (λ (b : Bool). run find (if b then Some (at (want.sized (tree.hash hash_kind.Hash160 value)) fs) else None) (push_number 32 ∷ code op.Size ∷ l)) e
     one_reads t (and_or_one x y z p q r e) fs l =
         row_reads y q (frame.ended ∷ fs) _ ∙ row_reads z r (frame.else_seen y ∷ fs) _ ∙ one_reads x p (frame.condition y z ∷ fs) l ∙ grown_fits _ _ l e
     one_reads t (and_b_one x y p q e) fs l =
@@ -221,10 +221,10 @@ module _ (find : Bytes → Option Key) where
         ∙ one_reads x p (frame.first k xs ∷ fs) l ∙ grown_fits _ _ l e
     one_reads t (multi_one k ks n m s a e) fs l =
         let none_more : length ks ≡ 0 + length ks = omega arith in
-        ap (λ (st : Option State). run find st (back (map push ks) (number k ∷ l))) (count_read fs (natural_bytes (length ks)) (length ks) m s)
-        ∙ ap (λ (n : ℕ). run find (Some (at (want.keys n []) fs)) (back (map push ks) (number k ∷ l))) none_more
-        ∙ keys_read ks a 0 [] fs (number k ∷ l)
-        ∙ ap (λ (others : List Key). run find (Some (at (want.keys 0 others) fs)) (number k ∷ l)) (append-nil ks)
+        ap (λ (st : Option State). run find st (back (map push ks) (push_number k ∷ l))) (count_read fs (natural_bytes (length ks)) (length ks) m s)
+        ∙ ap (λ (n : ℕ). run find (Some (at (want.keys n []) fs)) (back (map push ks) (push_number k ∷ l))) none_more
+        ∙ keys_read ks a 0 [] fs (push_number k ∷ l)
+        ∙ ap (λ (others : List Key). run find (Some (at (want.keys 0 others) fs)) (push_number k ∷ l)) (append-nil ks)
         ∙ ap (λ (o : Option ℕ). run find (signed_by ks fs o) l) n
         ∙ grown_fits (tree.multi k ks) (settle (tree.multi k ks) fs) l e
     one_reads t (c_one x p e) fs l = one_reads x p (frame.under wrapper.C ∷ fs) l ∙ grown_fits _ _ l e

@@ -2,7 +2,7 @@
 #![tactic(auto, using(crate::proofs::Counting::counted_behind))]
 
 ghost use Rattle.std.specs.Prelude.{◌≡◌, ◌<◌, ◌≤◌, ◌*◌, length, map, All};
-ghost use Rattle.def_emit.specs.Emit.{number as the_number, emit as the_emit, emit_sum as the_sum, emit_added as the_added, script_of};
+ghost use Rattle.def_emit.specs.Emit.{push_number as the_number, emit as the_emit, emit_sum as the_sum, emit_added as the_added, script_of};
 ghost use Rattle.def_script.specs.Instruction.{opcode_count as the_opcode_count, push};
 ghost use Rattle.def_tree.specs.Range.{MOST_MEASURE, TEN_DIGITS, IsInRange};
 ghost use Rattle.def_tree.specs.Size.{measure};

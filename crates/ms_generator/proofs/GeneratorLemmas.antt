@@ -29,7 +29,7 @@ use Rattle.def_choice.proofs.Chosen.{strict_is_canonical}
 use Rattle.def_answer.specs.Generated.{threshold_of, generated_key, generated_sig, generated_preimage, generated_assets, child_text, children_text, generated_text, generated_tree}
 use Rattle.def_answer.specs.Answer.{gen_report}
 use Rattle.def_answer.specs.Lines.{limits_line}
-use Rattle.def_answer.specs.Report.{replay, strict_line, cheapest_line, children_line}
+use Rattle.def_answer.specs.Report.{outcome_with, strict_line, cheapest_line, children_line}
 use Rattle.def_answer.proofs.GeneratedRead.{generated_is_read}
 use Rattle.def_answer.proofs.GeneratedHeld.{generated_are_assets}
 use Rattle.def_answer.proofs.GeneratedSane.{generated_is_sane}
@@ -153,7 +153,7 @@ found choice answer stack is some = ap (λ o. unwrap_or o []) (sym is ∙ some)
 -- the lines of the report, one after the other
 pub gen_lines : (n : ℕ) (tree : Tree) (assets : Assets) (children limits strict_text cheapest_text first second all : Bytes)
     → tree ≡ generated_tree n → assets ≡ generated_assets n → children ≡ children_line n (threshold_of n) → limits ≡ limits_line (limits_of tree)
-    → strict_text ≡ strict_line (unwrap_or (strict tree assets) []) (replay tree assets (unwrap_or (strict tree assets) []))
+    → strict_text ≡ strict_line (unwrap_or (strict tree assets) []) (outcome_with tree assets (unwrap_or (strict tree assets) []))
     → cheapest_text ≡ cheapest_line (unwrap_or (cheapest tree assets) [])
     → first ≡ children ++ limits → second ≡ first ++ strict_text → all ≡ second ++ cheapest_text
     → all ≡ gen_report n (unwrap_or (strict (generated_tree n) (generated_assets n)) []) (unwrap_or (cheapest (generated_tree n) (generated_assets n)) [])

@@ -12,8 +12,8 @@ ghost use Rattle.ms_tree.specs.Shape.{shape};
 ghost use Rattle.def_answer.specs.Answer.{gen_report as the_gen_report, gen_reply};
 ghost use Rattle.def_answer.specs.Generated.{threshold_of as the_threshold_of, generated_key, generated_preimage, generated_assets, pk_text as the_pk_text, hash_text as the_hash_text, child_text as the_child_text, generated_text, generated_tree as the_generated_tree};
 ghost use Rattle.def_answer.specs.Reply.{reply};
-ghost use Rattle.def_answer.specs.Report.{children_line as the_children_line, strict_line as the_strict_line, cheapest_line as the_cheapest_line, peak_of, replay};
-ghost use Rattle.def_answer.specs.Words.{MOST_CHILDREN};
+ghost use Rattle.def_answer.specs.Report.{children_line as the_children_line, strict_line as the_strict_line, cheapest_line as the_cheapest_line, peak_of, outcome_with};
+ghost use Rattle.def_answer.specs.Words.{MOST_GENERATED};
 ghost use Rattle.ms_generator.specs.Chosen.{strict_items, cheapest_items};
 
 use bumpalo::Bump;
@@ -27,7 +27,7 @@ use ms_replay::carry;
 use ms_report::{Answer, limits_line};
 use ms_sane::{Work, limits};
 use ms_sat::cheapest;
-use ms_script::Stack;
+use ms_script::{MAX_SIGNATURE_SIZE, Stack};
 use ms_text::read_text;
 use ms_tree::{Key, Tree};
 use std::alloc::{AllocError, Global};
@@ -43,7 +43,7 @@ const LOCKS: Locks = Locks {
 /// what `gen` makes from a number.
 pub fn generated(alloc: Global, n: u32) -> Result<(String, Assets), AllocError>
     requires least { 1 ≤ n }
-    requires most { n ≤ MOST_CHILDREN }
+    requires most { n ≤ MOST_GENERATED }
     ensures text { IfOk result (λ made. string_bytes made.0 ≡ generated_text n) }
     ensures assets { IfOk result (λ made. made.1 ≡ generated_assets n) }
 {
@@ -52,7 +52,7 @@ pub fn generated(alloc: Global, n: u32) -> Result<(String, Assets), AllocError>
 
 /// The key of a child, by its number.
 fn key_of(i: u8) -> Key
-    requires { i < MOST_CHILDREN }
+    requires { i < MOST_GENERATED }
     ensures { result ≡ generated_key i }
 {
     let mut bytes = [i + 1; 33];
@@ -69,7 +69,7 @@ fn preimage_of(i: u8) -> [u8; 32]
 
 /// The assets with the signatures and preimages of all children.
 fn all_assets(alloc: Global, n: u32) -> Result<Assets, AllocError>
-    requires { n ≤ MOST_CHILDREN }
+    requires { n ≤ MOST_GENERATED }
     ensures { IfOk result (λ assets. assets ≡ generated_assets n) }
 {
     let mut assets = Assets::new(alloc, LOCKS);
@@ -81,11 +81,11 @@ fn all_assets(alloc: Global, n: u32) -> Result<Assets, AllocError>
 
 /// Adds the signature and the preimage of a child. The signature has 70 to 73 bytes.
 fn add_child(assets: &mut Assets, i: u8) -> Result<(), AllocError>
-    requires number { i < MOST_CHILDREN }
+    requires number { i < MOST_GENERATED }
     requires earlier { assets.old ≡ generated_assets i }
     ensures { OnOk result (assets.new ≡ generated_assets (i + 1)) }
 {
-    let longest = [i; 73];
+    let longest = [i; MAX_SIGNATURE_SIZE];
     let length = 70 + i as usize % 4;
     added(assets.add_sig(&key_of(i), &longest[..length]))?;
     added(assets.add_preimage(&preimage_of(i)))
@@ -105,7 +105,7 @@ fn added(answer: Result<(), AddStop>) -> Result<(), AllocError>
 
 /// Half of the children, rounded up.
 fn threshold_of(n: u32) -> u32
-    requires { n ≤ MOST_CHILDREN }
+    requires { n ≤ MOST_GENERATED }
     ensures { result ≡ the_threshold_of n }
 {
     (n + 1) / 2
@@ -113,7 +113,7 @@ fn threshold_of(n: u32) -> u32
 
 /// The text of the threshold.
 fn thresh_text(alloc: Global, n: u32) -> Result<String, AllocError>
-    requires { n ≤ MOST_CHILDREN }
+    requires { n ≤ MOST_GENERATED }
     ensures { IfOk result (λ text. string_bytes text ≡ generated_text n) }
 {
     let threshold = threshold_of(n);
@@ -128,7 +128,7 @@ fn thresh_text(alloc: Global, n: u32) -> Result<String, AllocError>
 
 /// The text of a child: the first one is a key, every third one after it a hash, and the others are keys.
 fn child_text(alloc: Global, i: u8) -> Result<String, AllocError>
-    requires { i < MOST_CHILDREN }
+    requires { i < MOST_GENERATED }
     ensures { IfOk result (λ text. string_bytes text ≡ the_child_text i) }
 {
     if i == 0 {
@@ -143,7 +143,7 @@ fn child_text(alloc: Global, i: u8) -> Result<String, AllocError>
 
 /// The key of a child as a fragment.
 fn pk_text(alloc: Global, i: u8) -> Result<String, AllocError>
-    requires { i < MOST_CHILDREN }
+    requires { i < MOST_GENERATED }
     ensures { IfOk result (λ text. string_bytes text ≡ the_pk_text i) }
 {
     let key = hex::encode(alloc, key_of(i).as_bytes())?;
@@ -162,7 +162,7 @@ fn hash_text(alloc: Global, i: u8) -> Result<String, AllocError>
 #[tactic(auto, unfolding(def_answer::specs::Answer::gen_reply))]
 pub fn answer_gen(alloc: Global, arena: &Bump<Global>, n: u32) -> Result<Answer, AllocError>
     requires least { 1 ≤ n }
-    requires most { n ≤ MOST_CHILDREN }
+    requires most { n ≤ MOST_GENERATED }
     ensures { IfOk result (λ answer. reply answer.status (string_bytes answer.report) ≡ gen_reply n) }
 {
     let (text, assets) = generated(alloc, n)?;
@@ -181,7 +181,7 @@ fn generated_tree<'a>(
     text: &str,
 ) -> Result<Tree<'a>, AllocError>
     requires least { 1 ≤ n }
-    requires most { n ≤ MOST_CHILDREN }
+    requires most { n ≤ MOST_GENERATED }
     requires text { text.now ≡ generated_text n }
     ensures tree { IfOk result (λ tree. shape tree ≡ the_generated_tree n) }
     ensures in_range { IfOk result (λ tree. IsInRange (shape tree)) }
@@ -198,7 +198,7 @@ fn generated_tree<'a>(
 /// The children and the threshold, the limits, and both satisfactions.
 #[tactic(auto, unfolding(def_answer::specs::Answer::gen_report))]
 fn gen_report(alloc: Global, n: u32, tree: &Tree<'_>, assets: &Assets) -> Result<String, AllocError>
-    requires most { n ≤ MOST_CHILDREN }
+    requires most { n ≤ MOST_GENERATED }
     requires in_range { IsInRange (shape tree.now) }
     requires sane { IsSaneUnder Consensus (shape tree.now) }
     requires tree { shape tree.now ≡ the_generated_tree n }
@@ -218,7 +218,7 @@ fn gen_report(alloc: Global, n: u32, tree: &Tree<'_>, assets: &Assets) -> Result
 
 /// The line of the children and the threshold.
 fn children_line(alloc: Global, n: u32) -> Result<String, AllocError>
-    requires { n ≤ MOST_CHILDREN }
+    requires { n ≤ MOST_GENERATED }
     ensures { IfOk result (λ line. string_bytes line ≡ the_children_line n (the_threshold_of n)) }
 {
     let threshold = threshold_of(n);
@@ -230,7 +230,7 @@ fn strict_line(alloc: Global, tree: &Tree<'_>, assets: &Assets) -> Result<String
     requires in_range { IsInRange (shape tree.now) }
     requires sane { IsSaneUnder Consensus (shape tree.now) }
     requires found { IsSome (the_strict (shape tree.now) assets.now) }
-    ensures { IfOk result (λ line. string_bytes line ≡ the_strict_line (strict_items (shape tree.now) assets.now) (replay (shape tree.now) assets.now (strict_items (shape tree.now) assets.now))) }
+    ensures { IfOk result (λ line. string_bytes line ≡ the_strict_line (strict_items (shape tree.now) assets.now) (outcome_with (shape tree.now) assets.now (strict_items (shape tree.now) assets.now))) }
 {
     let _locks = assets.locks();
     let Some(stack) = strict(alloc, tree, assets)? else {
@@ -266,7 +266,7 @@ fn run_peak(
     requires in_range { IsInRange (shape tree.now) }
     requires valid { IsValidUnder Consensus (shape tree.now) }
     requires canonical { Sat (shape tree.now) assets.now stack.now }
-    ensures { IfOk result (λ peak. peak ≡ peak_of (replay (shape tree.now) assets.now stack.now)) }
+    ensures { IfOk result (λ peak. peak ≡ peak_of (outcome_with (shape tree.now) assets.now stack.now)) }
 {
     let pairs = assets.pairs();
     let index = PairIndex::new(alloc, pairs)?;

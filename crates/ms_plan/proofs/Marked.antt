@@ -2,6 +2,7 @@
 use Rattle.std.proofs.Common.{◌≡◌, ℕ, ◌+◌, ◌<◌, [], ◌∷◌, ◌++◌, length, replicate, take, drop, ◌≤◌, get_or, append_assoc, sym, ◌∙◌, ap, subst}
 use Rattle.std.proofs.lemmas.List.{drop_more, take-replicate}
 use Rattle.def_script.specs.Bytes.{Bytes}
+use Rattle.def_script.specs.Signature.{MAX_SIGNATURE_SIZE}
 use Rattle.def_tree.specs.Tree.{Key}
 use Rattle.def_assets.specs.Assets.{Assets}
 use Rattle.def_plan.specs.Lengths.{Lengths}
@@ -9,10 +10,10 @@ use Rattle.ms_plan.specs.declared.marks.Marks.{Marks}
 use Rattle.ms_plan.specs.Scaffolding.Marks.{mark_of, marked}
 
 -- a signature is cut to its length
-pub cut : (old : Assets) (key : Key) (n mark : ℕ) (entry : Key × ℕ) → (key, n) ≡ entry → entry.1 ≤ 73 →
+pub cut : (old : Assets) (key : Key) (n mark : ℕ) (entry : Key × ℕ) → (key, n) ≡ entry → entry.1 ≤ MAX_SIGNATURE_SIZE →
     record old { pairs = old.pairs ++ (key, take n (replicate 73 mark)) ∷ [] } ≡ record old { pairs = old.pairs ++ (entry.0, replicate entry.1 mark) ∷ [] }
 cut old key n mark entry e short =
-    let few : n ≤ 73 = subst (λ m. m ≤ 73) (sym (ap (λ x. x.1) e)) short in
+    let few : n ≤ MAX_SIGNATURE_SIZE = subst (λ m. m ≤ MAX_SIGNATURE_SIZE) (sym (ap (λ x. x.1) e)) short in
     ap (λ sig. record old { pairs = old.pairs ++ (key, sig) ∷ [] }) (take-replicate n 73 mark few) ∙
     ap (λ x. record old { pairs = old.pairs ++ (x.0, replicate x.1 mark) ∷ [] }) e
 

@@ -4,6 +4,7 @@ use Rattle.std.specs.Str.{bytes_eq}
 use Rattle.std.proofs.lemmas.List.{length-map}
 use Rattle.serde_json.specs.Data.{Data}
 use Rattle.def_script.specs.Bytes.{Bytes}
+use Rattle.def_script.specs.Signature.{is_signature_size}
 use Rattle.def_machine.specs.declared.Locks.{Locks}
 use Rattle.def_script.specs.Key.{is_key}
 use Rattle.def_files.specs.declared.Member.TheVariants as file_member
@@ -15,7 +16,7 @@ use Rattle.def_plan.specs.declared.PlanMember.TheVariants as member
 use Rattle.def_plan.specs.declared.PlanFault.{PlanFault}
 use Rattle.def_plan.specs.declared.PlanFault.TheVariants as fault
 use Rattle.def_plan.specs.Lengths.{Lengths, MOST_KEYS}
-use Rattle.def_plan.specs.PlanFile.{PlanFile, key_list, key_elements, is_estimate, is_hex_key, length_at, is_length, plan_refusals, plan_in}
+use Rattle.def_plan.specs.PlanFile.{PlanFile, key_list, key_elements, is_estimate, is_hex_key, length_at, plan_refusals, plan_in}
 use Rattle.ms_assets.specs.Parts.{first, first_refused, IsOr, repeated}
 use Rattle.ms_assets.proofs.Refusals.{after, stops, after_three, stops_in_three, each_first, first_refused-map}
 use Rattle.ms_plan.specs.Scaffolding.Reading.{value_refusals}
@@ -112,10 +113,10 @@ keys_same list =
     first_refused-map (λ (entry : Bytes × ℕ). is_key entry.0) fault.KeyForm entry_of list
     ∙ sym (each_first is_key fault.KeyForm (map key_of list) ∙ first_refused-map is_key fault.KeyForm key_of list)
 
-lengths_same : (list : List Data) → first_refused (λ (entry : Bytes × ℕ). is_length entry.1) fault.Length (map entry_of list) ≡ unless_each is_length fault.Length (map length_at list)
+lengths_same : (list : List Data) → first_refused (λ (entry : Bytes × ℕ). is_signature_size entry.1) fault.Length (map entry_of list) ≡ unless_each is_signature_size fault.Length (map length_at list)
 lengths_same list =
-    first_refused-map (λ (entry : Bytes × ℕ). is_length entry.1) fault.Length entry_of list
-    ∙ sym (each_first is_length fault.Length (map length_at list) ∙ first_refused-map is_length fault.Length length_at list)
+    first_refused-map (λ (entry : Bytes × ℕ). is_signature_size entry.1) fault.Length entry_of list
+    ∙ sym (each_first is_signature_size fault.Length (map length_at list) ∙ first_refused-map is_signature_size fault.Length length_at list)
 
 repeats_same : (list : List Data) → repeated fault.RepeatedKey (map entry_of list) ≡ no_repeat bytes_eq fault.RepeatedKey (map key_of list)
 unfolding repeated

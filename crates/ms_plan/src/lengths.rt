@@ -1,9 +1,9 @@
 //! Keys, and the lengths that their signatures are estimated to have.
 ghost use Rattle.std.specs.Prelude.{◌≡◌, IsTrue};
 ghost use Rattle.def_plan.specs.Lengths.{AreLengths, length_of};
-ghost use Rattle.def_plan.specs.PlanFile.{is_length as the_is_length};
 ghost use Rattle.ms_plan.specs.Estimates.{CanStandBefore};
 
+use ms_script::is_signature_size;
 use ms_tree::Key;
 use std::marker::Model;
 
@@ -132,18 +132,11 @@ pub fn are_lengths(table: &[KeyLen]) -> bool
     true
 }
 
-/// Whether a signature can have this length: 1 to 73 bytes.
-pub(crate) fn is_length(length: u32) -> bool
-    ensures { result ≡ the_is_length length }
-{
-    1 <= length && length <= 73
-}
-
 /// Whether an entry has a length of a signature, and its key isn't that of a later one.
 fn can_stand_before(entry: &KeyLen, later: &[KeyLen]) -> bool
     ensures { IsTrue result → CanStandBefore entry.now later.now }
 {
     // Its clause tells what a key always is.
     let _bytes = entry.key.as_bytes();
-    is_length(entry.length as u32) && length_in(later, &entry.key).is_none()
+    is_signature_size(entry.length as usize) && length_in(later, &entry.key).is_none()
 }

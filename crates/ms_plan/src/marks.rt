@@ -3,6 +3,7 @@
 ghost use Rattle.std.specs.Prelude.{◌≡◌, ◌+◌, ◌≤◌, ◌<◌, ◌++◌, [], ◌∷◌, length, filter, replicate, IfOk, OnOk, All};
 ghost use Rattle.std.specs.List.{list_any};
 ghost use Rattle.std.specs.Str.{bytes_eq};
+ghost use Rattle.def_script.specs.Signature.{MAX_SIGNATURE_SIZE as the_max_signature_size};
 ghost use Rattle.def_tree.specs.Range.{IsInRange};
 ghost use Rattle.def_sane.specs.Keys.{keys as the_keys, keys_of_all};
 ghost use Rattle.def_plan.specs.Lengths.{AreLengths};
@@ -11,7 +12,7 @@ ghost use Rattle.ms_plan.specs.Scaffolding.Marks.{mark_of, marked, differing as 
 
 use crate::lengths::KeyLen;
 use ms_assets::Assets;
-use ms_script::Stack;
+use ms_script::{MAX_SIGNATURE_SIZE, Stack};
 use ms_tree::{Key, Leaf, Tree, View};
 use std::alloc::{AllocError, Global};
 
@@ -49,10 +50,10 @@ pub fn add_signatures(assets: &mut Assets, marks: Marks, table: &[KeyLen]) -> Re
 
 /// Adds a signature of the entry's length, all of whose bytes are this one.
 fn add_signature(assets: &mut Assets, entry: &KeyLen, mark: u8) -> Result<(), AllocError>
-    requires { entry.now.1 ≤ 73 }
+    requires { entry.now.1 ≤ the_max_signature_size }
     ensures { OnOk result (assets.new ≡ record assets.old { pairs = assets.old.pairs ++ (entry.now.0, replicate entry.now.1 mark) ∷ [] }) }
 {
-    let signature = [mark; 73];
+    let signature = [mark; MAX_SIGNATURE_SIZE];
     match assets.add_sig(&entry.key, &signature[..entry.length as usize]) {
         Ok(()) => Ok(()),
         Err(_) => Err(AllocError),

@@ -4,22 +4,23 @@ ghost use Rattle.std.specs.List.{list_all, list_any};
 ghost use Rattle.std.specs.Str.{bytes_eq};
 ghost use Rattle.serde_json.specs.View.{view};
 ghost use Rattle.def_script.specs.Key.{is_key};
+ghost use Rattle.def_script.specs.Signature.{is_signature_size as the_is_signature_size};
 ghost use Rattle.def_files.specs.AssetFile.{is_preimage};
 ghost use Rattle.def_files.specs.Parts.{bytes_of, is_hex, key_of};
 ghost use Rattle.def_files.specs.Refusals.{unless_any};
-ghost use Rattle.def_plan.specs.PlanFile.{key_elements, number_at_length, is_estimate as the_is_estimate, is_hex_key, length_at, is_length, plan_refusals, plan_in as the_plan_in, plan_file_of};
+ghost use Rattle.def_plan.specs.PlanFile.{key_elements, number_at_length, is_estimate as the_is_estimate, is_hex_key, length_at, plan_refusals, plan_in as the_plan_in, plan_file_of};
 ghost use Rattle.def_plan.specs.FileLaws.{IsPlanFile};
 ghost use Rattle.ms_assets.specs.Parts.{first_refused, Reads, ReadsOr, IsOr, repeated};
 ghost use Rattle.ms_plan.specs.Scaffolding.Reading.{seen, file_with, parts_seen, shape_of_keys, entries_at, value_refusals};
 
-use crate::lengths::{KeyLen, KeyLens, MOST_KEYS, is_length};
+use crate::lengths::{KeyLen, KeyLens, MOST_KEYS};
 use def_plan::{PlanFault, PlanMember};
 use ms_assets::{
     Assets, ListFault, Member, Preimage, few, list_at, number_of, preimages_of, read_json,
     read_locks, spelled_at, strings_of, text_at, text_list,
 };
 use ms_oracle::Locks;
-use ms_script::{Blob, Stack};
+use ms_script::{Blob, Stack, is_signature_size};
 use ms_tree::Key;
 use serde_json::Value;
 use std::alloc::{AllocError, Global};
@@ -283,13 +284,13 @@ fn read_keys(alloc: Global, entries: &[Entry]) -> Result<Vec<Keyed>, PlanFault>
 /// The table of the keys with their lengths, or the refusal of the first length that no signature has.
 fn read_lengths(alloc: Global, keyed: &[Keyed]) -> Result<KeyLens, PlanFault>
     requires { length keyed.now < 2 ^ 32 }
-    ensures { ReadsOr PlanFault.Memory (first_refused (λ entry. is_length entry.1) PlanFault.Length keyed.now) (λ table. table) keyed.now result }
+    ensures { ReadsOr PlanFault.Memory (first_refused (λ entry. the_is_signature_size entry.1) PlanFault.Length keyed.now) (λ table. table) keyed.now result }
 {
     let mut entries = Vec::new(alloc);
     let mut place = 0;
     for entry in keyed {
         let length = entry.length;
-        if !is_length(length) {
+        if !is_signature_size(length as usize) {
             return Err(PlanFault::Length(place));
         }
         let key = entry.key;

@@ -7,6 +7,7 @@ use Rattle.std.proofs.lemmas.Bool.{false≢true}
 use Rattle.std.proofs.lemmas.List.{length-replicate}
 use Rattle.std.proofs.lemmas.List.Elements.{All-map}
 use Rattle.def_script.specs.Bytes.{Bytes, IsBytes}
+use Rattle.def_script.specs.Signature.{MAX_SIGNATURE_SIZE}
 use Rattle.def_machine.specs.declared.Locks.{Locks}
 use Rattle.def_machine.specs.Stacks.{Pairs}
 use Rattle.def_tree.specs.Tree.{Key}
@@ -71,7 +72,7 @@ zero_bytes zero i = omega arith
 zero_bytes (suc n) zero = omega arith
 zero_bytes (suc n) (suc i) = zero_bytes n i
 
-zero_signature : (n : ℕ) → (1 ≤ n) × (n ≤ 73) → IsSignature (replicate n 0)
+zero_signature : (n : ℕ) → (1 ≤ n) × (n ≤ MAX_SIGNATURE_SIZE) → IsSignature (replicate n 0)
 zero_signature n h = record {
   some = rw (length-replicate {A = ℕ} n 0) h.0;
   few = rw (length-replicate {A = ℕ} n 0) h.1;

@@ -7,7 +7,7 @@ use Rattle.def_tree.specs.Range.{IsInRange}
 use Rattle.def_policy.specs.Policy.{Policy, Policies, never, always, key, older, after, hash, all, any, thresh, none, more, policies_of}
 use Rattle.def_policy.specs.Plain.{plain}
 use Rattle.def_policy.specs.Simple.{simple}
-use Rattle.def_policy.specs.Size.{size, size_of, depth, MOST_POLICIES, MOST_DEPTH}
+use Rattle.def_policy.specs.Size.{size, size_of, depth, MOST_POLICIES, MOST_POLICY_DEPTH}
 use Rattle.def_policy.proofs.Sizes.{simple_is_smaller, plain_is_small}
 use Rattle.ms_choice.specs.Sums.{total}
 use Rattle.ms_policy.specs.Scaffolding.Cost.{plus, least_sum, count, and_also, cost, costs}
@@ -84,7 +84,7 @@ policy_is_few tree range =
     let r = range.measure in
     omega arith
 
-pub policy_is_shallow : (tree : Tree) → IsInRange tree → depth (simple (plain tree)) ≤ MOST_DEPTH
+pub policy_is_shallow : (tree : Tree) → IsInRange tree → depth (simple (plain tree)) ≤ MOST_POLICY_DEPTH
 policy_is_shallow tree range =
     let a = simple_is_smaller (plain tree) in
     let b = plain_is_small tree in

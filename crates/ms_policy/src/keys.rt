@@ -2,7 +2,7 @@
 ghost use Rattle.std.specs.Prelude.{◌≡◌, ◌≤◌, IfOk, map};
 ghost use Rattle.def_policy.specs.Keys.{AreLeastKeys, HasDistinctKeys};
 ghost use Rattle.def_policy.specs.Policy.{policies_of};
-ghost use Rattle.def_policy.specs.Size.{size, size_of, depth, MOST_POLICIES, MOST_DEPTH};
+ghost use Rattle.def_policy.specs.Size.{size, size_of, depth, MOST_POLICIES, MOST_POLICY_DEPTH};
 ghost use Rattle.ms_policy.specs.Scaffolding.Cost.{cost, costs, least_sum};
 ghost use Rattle.ms_policy.specs.Shape.{policy_shape};
 ghost use Rattle.ms_choice.specs.Sums.{total};
@@ -16,7 +16,7 @@ use std::alloc::{AllocError, Global};
 pub fn least_keys(alloc: Global, policy: &Policy) -> Result<Option<u64>, AllocError>
     requires distinct { HasDistinctKeys (policy_shape policy.now) }
     requires few { size (policy_shape policy.now) ≤ MOST_POLICIES }
-    requires shallow { depth (policy_shape policy.now) ≤ MOST_DEPTH }
+    requires shallow { depth (policy_shape policy.now) ≤ MOST_POLICY_DEPTH }
     ensures { IfOk result (λ n. AreLeastKeys (policy_shape policy.now) n) }
 {
     least(alloc, policy)

@@ -5,7 +5,7 @@ ghost use Rattle.def_policy.specs.Laws.{SaysSatisfiable};
 ghost use Rattle.def_policy.specs.Plain.{join_of as the_join_of, plain, plain_each};
 ghost use Rattle.def_policy.specs.Policy as policy;
 ghost use Rattle.def_policy.specs.Simple.{joined, simple, simple_each};
-ghost use Rattle.def_policy.specs.Size.{size, depth, HasLocks, MOST_POLICIES, MOST_DEPTH};
+ghost use Rattle.def_policy.specs.Size.{size, depth, HasLocks, MOST_POLICIES, MOST_POLICY_DEPTH};
 ghost use Rattle.def_sane.specs.Unfit.{IsSane};
 ghost use Rattle.def_tree.specs.Range.{IsInRange};
 ghost use Rattle.ms_policy.specs.Shape.{policy_shape};
@@ -26,7 +26,7 @@ pub fn policy_of(alloc: Global, tree: &Tree<'_>) -> Result<Policy, AllocError>
     ensures simple { IfOk result (λ p. policy_shape p ≡ simple (plain (shape tree.now))) }
     ensures satisfied { IfOk result (λ p. SaysSatisfiable (shape tree.now) (policy_shape p)) }
     ensures few { IfOk result (λ p. size (policy_shape p) ≤ MOST_POLICIES) }
-    ensures shallow { IfOk result (λ p. depth (policy_shape p) ≤ MOST_DEPTH) }
+    ensures shallow { IfOk result (λ p. depth (policy_shape p) ≤ MOST_POLICY_DEPTH) }
     ensures distinct { IfOk result (λ p. HasDistinctKeys (policy_shape p)) }
     ensures locks { IfOk result (λ p. HasLocks (policy_shape p)) }
 {

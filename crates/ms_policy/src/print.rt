@@ -3,7 +3,7 @@ ghost use Rattle.std.specs.Prelude.{◌≡◌, ◌≤◌, [], ◌++◌, codes, m
 ghost use Rattle.std.specs.String.{string_bytes};
 ghost use Rattle.def_policy.specs.Policy.{policies_of};
 ghost use Rattle.def_policy.specs.Print.{printed, printed_parts};
-ghost use Rattle.def_policy.specs.Size.{depth, MOST_DEPTH};
+ghost use Rattle.def_policy.specs.Size.{depth, MOST_POLICY_DEPTH};
 ghost use Rattle.ms_policy.specs.Shape.{policy_shape};
 
 use crate::policy::Policy;
@@ -14,7 +14,7 @@ use std::alloc::{AllocError, Global};
 /// and `thresh` with their parts in parentheses. It asks that the policy is at most 514 deep. The only refusal is want of
 /// memory.
 pub fn print_policy(alloc: Global, policy: &Policy) -> Result<String, AllocError>
-    requires { depth (policy_shape policy.now) ≤ MOST_DEPTH }
+    requires { depth (policy_shape policy.now) ≤ MOST_POLICY_DEPTH }
     ensures { IfOk result (λ text. string_bytes text ≡ printed (policy_shape policy.now)) }
 {
     let mut out = String::new(alloc);

@@ -2,7 +2,7 @@
 ghost use Rattle.std.specs.Prelude.{◌≡◌, ◌≤◌, map};
 ghost use Rattle.std.specs.List.{list_all, list_any};
 ghost use Rattle.def_policy.specs.Policy.{policies_of};
-ghost use Rattle.def_policy.specs.Size.{depth, HasLocks, HaveLocks, MOST_DEPTH};
+ghost use Rattle.def_policy.specs.Size.{depth, HasLocks, HaveLocks, MOST_POLICY_DEPTH};
 ghost use Rattle.def_policy.specs.Truth.{facts_of, how_many, is_true, truths};
 ghost use Rattle.ms_policy.specs.Shape.{policy_shape};
 
@@ -14,7 +14,7 @@ use ms_assets::Assets;
 /// most 514 deep. Takes no memory.
 pub fn holds(policy: &Policy, assets: &Assets) -> bool
     requires locks { HasLocks (policy_shape policy.now) }
-    requires shallow { depth (policy_shape policy.now) ≤ MOST_DEPTH }
+    requires shallow { depth (policy_shape policy.now) ≤ MOST_POLICY_DEPTH }
     ensures { result ≡ is_true (facts_of assets.now) (policy_shape policy.now) }
 {
     is_met(policy, assets)

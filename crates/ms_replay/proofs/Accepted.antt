@@ -2,6 +2,7 @@
 use Rattle.std.proofs.Common.{◌≡◌, ℕ, ◌≤◌, List, [], ◌∷◌, length, All, sym, ap, ◌∙◌, arith}
 use Rattle.std.proofs.lemmas.List.Elements.{All-head, All-tail, All-nil, All-cons}
 use Rattle.def_script.specs.Bytes.{Bytes}
+use Rattle.def_script.specs.Signature.{MAX_SIGNATURE_SIZE}
 use Rattle.def_script.specs.Witness.{witness_text}
 use Rattle.def_machine.specs.declared.Locks.{Locks}
 use Rattle.def_machine.specs.Stacks.{Pairs}
@@ -43,11 +44,11 @@ is_within tree assets stack s limits table are_limits holds =
     canonical_is_accepted tree limits assets table stack s.in_range.writable s.valid are_limits s.few.held holds s.sat
 
 -- items of at most 73 bytes fit a witness
-items_fit : (stack : List Bytes) → All (λ item. length item ≤ 73) stack → All (λ item. length item ≤ 10000) stack
+items_fit : (stack : List Bytes) → All (λ item. length item ≤ MAX_SIGNATURE_SIZE) stack → All (λ item. length item ≤ 10000) stack
 items_fit [] h = All-nil (λ item. length item ≤ 10000)
 items_fit (x ∷ stack) h =
-    let i = All-head (λ item. length item ≤ 73) x stack h in
-    All-cons (λ item. length item ≤ 10000) x stack (omega (arith, i)) (items_fit stack (All-tail (λ item. length item ≤ 73) x stack h))
+    let i = All-head (λ item. length item ≤ MAX_SIGNATURE_SIZE) x stack h in
+    All-cons (λ item. length item ≤ 10000) x stack (omega (arith, i)) (items_fit stack (All-tail (λ item. length item ≤ MAX_SIGNATURE_SIZE) x stack h))
 
 pub fits_witness : (tree : Tree) (assets : Assets) (stack : List Bytes) → Satisfies tree assets stack → FitsWitness stack (script_of tree)
 fits_witness tree assets stack s =

@@ -9,12 +9,12 @@ use Rattle.def_emit.specs.Emit.{script_of}
 use Rattle.def_assets.specs.Assets.{Assets}
 use Rattle.def_sane.specs.declared.Rules.{Rules}
 use Rattle.def_choice.specs.NonMalleable.{given_with}
-use Rattle.def_answer.specs.Report.{tree_limits_line, replay, satisfy_report}
+use Rattle.def_answer.specs.Report.{tree_limits_line, outcome_with, satisfy_report}
 use Rattle.ms_report.specs.Satisfactions.{satisfaction_lines}
 
 -- the replay is the run under the assets' own pairs
 own_run : (tree : Tree) (assets : Assets) (stack : List Bytes) (table : Pairs) (outcome : Outcome) → table ≡ assets.pairs
-    → run (given_with assets table) (script_of tree) stack ≡ outcome → replay tree assets stack ≡ outcome
+    → run (given_with assets table) (script_of tree) stack ≡ outcome → outcome_with tree assets stack ≡ outcome
 own_run tree assets stack table outcome same ran = subst (λ t. run (given_with assets t) (script_of tree) stack ≡ outcome) same ran
 
 -- the lines of its Script, of the limits, of the stack, of the witness and of the run are those of the report
@@ -25,5 +25,5 @@ pub satisfied_lines : (rules : Rules) (tree : Tree) (assets : Assets) (stack : L
     → all ≡ satisfaction_lines limits script stack witness outcome → all ≡ satisfy_report rules tree assets stack
 unfolding satisfaction_lines satisfy_report
 satisfied_lines rules tree assets stack table outcome limits script witness all same_table ran is_limits is_script is_witness e =
-    let own : outcome ≡ replay tree assets stack = sym (own_run tree assets stack table outcome same_table ran) in
+    let own : outcome ≡ outcome_with tree assets stack = sym (own_run tree assets stack table outcome same_table ran) in
     rw (e, is_limits, is_script, is_witness, own) (refl {a = satisfy_report rules tree assets stack})

@@ -4,7 +4,7 @@ ghost use Rattle.def_tree.specs.Range.{IsInRange};
 ghost use Rattle.def_tree.specs.Size.{measure};
 ghost use Rattle.ms_tree.specs.Shape.{shape};
 ghost use Rattle.ms_sane.specs.Place.{IsOfTree};
-ghost use Rattle.ms_sane.specs.Short.{IsShort};
+ghost use Rattle.ms_sane.specs.Short.{IsShortOf};
 ghost use Rattle.ms_replies.specs.Fits.{demand_of as the_demand_of, rules_for, reason_for, IsKnown, IsReason, limits_in, misfit_of};
 ghost use Rattle.ms_replies.specs.declared.fit.Misfit.TheVariants.{Memory as NoMemory};
 
@@ -110,7 +110,7 @@ pub fn fit_tree(alloc: Global, tree: &Tree<'_>, demand: Demand) -> Result<Fit, M
 /// What is known of a tree without working room, or the first reason against it.
 fn short(tree: &Tree<'_>, demand: Demand) -> Result<Short, Unfit>
     requires { IsInRange (shape tree.now) }
-    ensures short { IfOk result (IsShort (rules_for demand) (shape tree.now)) }
+    ensures short { IfOk result (IsShortOf (rules_for demand) (shape tree.now)) }
     ensures unfit { IfErr result (λ unfit. reason_for demand (shape tree.now) ≡ Some unfit) }
     ensures place { IfErr result (IsOfTree (shape tree.now)) }
 {
@@ -122,7 +122,7 @@ fn short(tree: &Tree<'_>, demand: Demand) -> Result<Short, Unfit>
 
 /// What else is known of it, or the first reason against it.
 fn known_of(short: Short, tree: &Tree<'_>, demand: Demand, work: &mut Work) -> Result<Known, Unfit>
-    requires short { IsShort (rules_for demand) (shape tree.now) short }
+    requires short { IsShortOf (rules_for demand) (shape tree.now) short }
     requires in_range { IsInRange (shape tree.now) }
     requires room { 4 * measure (shape tree.now) ≤ vec_len work.old.slots }
     ensures known { IfOk result (IsKnown demand (shape tree.now)) }

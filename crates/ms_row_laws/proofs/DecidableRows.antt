@@ -16,7 +16,7 @@ use Rattle.def_tree.specs.declared.Wrapper.TheVariants as wrapper
 use Rattle.def_tree.specs.Range.{count}
 use Rattle.def_tree.specs.Tree.{Tree, Trees, Key, just_0, just_1, pk_k, pk_h, older, after, hash, and_or, two, thresh, multi, wrap, none, more}
 use Rattle.def_satisfaction.proofs.EqualParts.{first_same, rest_same, never_empty}
-use Rattle.def_satisfaction.specs.StackSet.{StackSet, Item, Is, If, Both, Either, Nothing, Never}
+use Rattle.def_satisfaction.specs.StackSet.{StackSet, Element, Is, If, Both, Either, Nothing, Never}
 use Rattle.def_satisfaction.specs.Setting.{Setting, Mode, any, only, CountsAsPreimage, CountsAsKey}
 use Rattle.def_satisfaction.specs.Rows.{Row, EMPTY, ONE, ZEROS, NotCanonical, Signature, WithHashOf, IsPreimageOf, IsNoPreimageOf, PartsOf, AreSignatures, HasTop, row, parts}
 use Rattle.ms_row_laws.proofs.SmallThresholds.{parts_few}
@@ -123,7 +123,7 @@ decided_never w = inr (λ r. r)
 decided_is : (item : Bytes) → DecidedSet (Is item)
 decided_is item w = same_stack_or_not w (item ∷ [])
 
-decided_item : (P : Bytes → Type 0) → ((x : Bytes) → Decided (P x)) → DecidedSet (Item P)
+decided_item : (P : Bytes → Type 0) → ((x : Bytes) → Decided (P x)) → DecidedSet (Element P)
 decided_item P p [] = inr (λ r. never_empty r.0 [] r.2)
 decided_item P p (x ∷ []) = elim (p x) [
   | inl r ↦ inl (x, r, refl)

@@ -6,12 +6,13 @@ use Rattle.std.proofs.lemmas.List.Elements.{All-nil, All-cons, All-head, All-tai
 use Rattle.def_script.specs.Bytes.{Bytes}
 use Rattle.def_machine.specs.Stacks.{Stack, Pairs}
 use Rattle.def_script.specs.Key.{is_key}
+use Rattle.def_script.specs.Signature.{MAX_SIGNATURE_SIZE}
 use Rattle.def_machine.specs.MultiSig.{is_good}
 use Rattle.def_tree.specs.declared.Two.TheVariants as kind
 use Rattle.def_tree.specs.declared.Wrapper.TheVariants as wrapper
 use Rattle.def_tree.specs.Tree.{Tree, Trees, Key, just_0, just_1, pk_k, pk_h, older, after, hash, and_or, two, thresh, multi, wrap, none, more}
 use Rattle.def_tree.specs.Range.{IsKey, IsWritable, AreWritable}
-use Rattle.def_sane.specs.Formal.{Takes, nothing, item, same_items, tried, plus, SIGNATURE, empty, Is, Both, Either, FormalSat, FormalDsat, FormalParts}
+use Rattle.def_sane.specs.Formal.{Takes, nothing, item, same_items, tried, plus, empty, Is, Both, Either, FormalSat, FormalDsat, FormalParts}
 use Rattle.def_satisfaction.specs.StackSet as stacks
 use Rattle.def_script.specs.Witness.{weight}
 use Rattle.def_satisfaction.specs.Setting.{Setting}
@@ -22,7 +23,7 @@ use Rattle.ms_row_laws.proofs.RowLogs.{sat_log, dsat_log, parts_log}
 
 -- a string has the length of a signature or less
 abbrev pub IsShort : Bytes → Type 0
-IsShort x = length x ≤ 73
+IsShort x = length x ≤ MAX_SIGNATURE_SIZE
 
 abbrev pub AreShort : Stack → Type 0
 AreShort = All IsShort
@@ -58,7 +59,7 @@ sized-nothing S w e = record {
 }
 
 -- an item of n bytes or less
-sized-one : (S : Type 0) (n : ℕ) (x : Bytes) (w : Stack) → n ≤ 73 → (S → length x ≤ n) → w ≡ x ∷ [] → SizedIf S (Is (item n)) w 0
+sized-one : (S : Type 0) (n : ℕ) (x : Bytes) (w : Stack) → n ≤ MAX_SIGNATURE_SIZE → (S → length x ≤ n) → w ≡ x ∷ [] → SizedIf S (Is (item n)) w 0
 sized-one S n x w few short e = record {
   takes = item n;
   formal = refl;
@@ -108,14 +109,14 @@ sized-tried S a w n p = record {
 pub weight-short : (w : Stack) → AreShort w → weight w ≤ length w * 74
 weight-short [] h = omega arith
 weight-short (x ∷ w) h =
-    let l : length x ≤ 73 = All-head IsShort x w h in
+    let l : length x ≤ MAX_SIGNATURE_SIZE = All-head IsShort x w h in
     let k = weight-short w (All-tail IsShort x w h) in
     omega (arith, l, k)
 
 -- short items, so many
-sized-signatures : (S : Type 0) (k : ℕ) (w : Stack) → length w ≡ k → (S → AreShort w) → SizedIf S (Is (same_items k SIGNATURE)) w 0
+sized-signatures : (S : Type 0) (k : ℕ) (w : Stack) → length w ≡ k → (S → AreShort w) → SizedIf S (Is (same_items k MAX_SIGNATURE_SIZE)) w 0
 sized-signatures S k w e short = record {
-  takes = same_items k SIGNATURE;
+  takes = same_items k MAX_SIGNATURE_SIZE;
   formal = refl;
   items = e;
   keys = refl;
@@ -154,7 +155,7 @@ sized-none S zero w e f = sized-nothing S w f
 sized-none S (suc n) w e f = absurd (omega (arith, e))
 
 -- signatures, each of the length of one or less
-short_signatures : (table : Pairs) → ((key sig : Bytes) → IsTrue (is_good table key sig) → length sig ≤ 73) →
+short_signatures : (table : Pairs) → ((key sig : Bytes) → IsTrue (is_good table key sig) → length sig ≤ MAX_SIGNATURE_SIZE) →
     (keys : List Key) (sigs : Stack) → AreSignatures table keys sigs → AreShort sigs
 short_signatures table few keys [] h = All-nil IsShort
 short_signatures table few [] (sig ∷ sigs) h = absurd h
@@ -162,7 +163,7 @@ short_signatures table few (key ∷ keys) (sig ∷ sigs) (inl h) =
     All-cons IsShort sig sigs (few key sig h.0) (short_signatures table few keys sigs h.1)
 short_signatures table few (key ∷ keys) (sig ∷ sigs) (inr h) = short_signatures table few keys (sig ∷ sigs) h
 
-module _ (s : Setting) (no_more : IsTrue s.all_rows → ⊥) (S : Type 0) (few : S → (key sig : Bytes) → IsTrue (is_good s.given.table key sig) → length sig ≤ 73) where
+module _ (s : Setting) (no_more : IsTrue s.all_rows → ⊥) (S : Type 0) (few : S → (key sig : Bytes) → IsTrue (is_good s.given.table key sig) → length sig ≤ MAX_SIGNATURE_SIZE) where
   -- a row that joins two
   sat_sat : (x y : Tree) (w : Stack) (r : stacks.Both (row s y).sat (row s x).sat w) →
       SizedIf S (FormalSat y) r.0 (sat_log s y r.0 r.2).keys → SizedIf S (FormalSat x) r.1 (sat_log s x r.1 r.3).keys →
@@ -185,13 +186,13 @@ module _ (s : Setting) (no_more : IsTrue s.all_rows → ⊥) (S : Type 0) (few :
   dsat_dsat x y w r p q = sized-both S (FormalDsat y) (FormalDsat x) w r.0 r.1 _ _ _ r.4 refl p q
 
   -- with an item on top that tells which it is
-  told : (P : Takes → Type 0) (n : ℕ) (x : Bytes) (w below above : Stack) (k : ℕ) → n ≤ 73 → length x ≤ n → w ≡ above ++ below → above ≡ x ∷ [] →
+  told : (P : Takes → Type 0) (n : ℕ) (x : Bytes) (w below above : Stack) (k : ℕ) → n ≤ MAX_SIGNATURE_SIZE → length x ≤ n → w ≡ above ++ below → above ≡ x ∷ [] →
       SizedIf S P below k → SizedIf S (Both P (Is (item n))) w k
   told P n x w below above k few short e f p =
       sized-both S P (Is (item n)) w below above k 0 k e (omega arith) p (sized-one S n x above few (λ h. short) f)
 
   -- a key and its signature, or the empty string
-  with_key : (n : ℕ) (key other x : Bytes) (w below above : Stack) → IsKey key → IsTrue (is_key other) → n ≤ 73 → (S → length x ≤ n) → w ≡ above ++ below → below ≡ x ∷ [] → above ≡ other ∷ [] →
+  with_key : (n : ℕ) (key other x : Bytes) (w below above : Stack) → IsKey key → IsTrue (is_key other) → n ≤ MAX_SIGNATURE_SIZE → (S → length x ≤ n) → w ≡ above ++ below → below ≡ x ∷ [] → above ≡ other ∷ [] →
       SizedIf S (Is (plus (item n) (item (length key)))) w 0
   with_key n key other x w below above is form few short e f g =
       let k = key_length key is.form in
@@ -203,11 +204,11 @@ module _ (s : Setting) (no_more : IsTrue s.all_rows → ⊥) (S : Type 0) (few :
 
   multi_sat : (k : ℕ) (keys : List Key) (w : Stack) (r : (row s (multi k keys)).sat w) → SizedIf S (FormalSat (multi k keys)) w (length keys)
   multi_sat k keys w r =
-      let both = sized-both S (Is empty) (Is (same_items k SIGNATURE)) w r.0 r.1 0 0 0 r.4 refl
+      let both = sized-both S (Is empty) (Is (same_items k MAX_SIGNATURE_SIZE)) w r.0 r.1 0 0 0 r.4 refl
       (sized-one S 0 EMPTY r.0 (omega arith) (λ h. omega arith) r.2)
       (sized-signatures S k r.1 r.3.0 (λ h. short_signatures s.given.table (few h) (reverse keys) r.1 r.3.1)) in
-      sized-tried S (plus empty (same_items k SIGNATURE)) w (length keys)
-      (sized-as S (Both (Is empty) (Is (same_items k SIGNATURE))) (Is (plus empty (same_items k SIGNATURE))) w 0 0 (both-is empty (same_items k SIGNATURE)) refl both)
+      sized-tried S (plus empty (same_items k MAX_SIGNATURE_SIZE)) w (length keys)
+      (sized-as S (Both (Is empty) (Is (same_items k MAX_SIGNATURE_SIZE))) (Is (plus empty (same_items k MAX_SIGNATURE_SIZE))) w 0 0 (both-is empty (same_items k MAX_SIGNATURE_SIZE)) refl both)
 
   mutual
     pub sized_if_sat : (t : Tree) → IsWritable t → (w : Stack) (r : (row s t).sat w) → SizedIf S (FormalSat t) w (sat_log s t w r).keys

@@ -4,6 +4,7 @@ use Rattle.std.proofs.lemmas.Bool.{false≢true}
 use Rattle.std.specs.Prelude.{⊤}
 use Rattle.std.proofs.lemmas.List.{length-reverse, reverse-reverse}
 use Rattle.def_script.specs.Bytes.{Bytes}
+use Rattle.def_script.specs.Signature.{MAX_SIGNATURE_SIZE}
 use Rattle.def_machine.specs.Stacks.{Stack}
 use Rattle.def_machine.specs.MultiSig.{is_good}
 use Rattle.def_tree.specs.Tree.{Tree, Trees}
@@ -30,7 +31,7 @@ use Rattle.ms_row_laws.proofs.RowLogs.{sat_log, dsat_log, parts_log}
 use Rattle.ms_row_laws.proofs.SatisfactionSizes.{IsShort, AreShort, weight-short, SizedIf, sized_if_sat, sized_if_dsat, sized_if_parts}
 use Rattle.ms_row_laws.proofs.KeyLists.{all_reversed}
 
-good_short : (assets : Assets) → AreAssets assets → (key sig : Bytes) → IsTrue (is_good assets.pairs key sig) → length sig ≤ 73
+good_short : (assets : Assets) → AreAssets assets → (key sig : Bytes) → IsTrue (is_good assets.pairs key sig) → length sig ≤ MAX_SIGNATURE_SIZE
 good_short assets are key sig h = let is = good_is_signature assets are key sig h in is.few
 
 -- a formal one with as many items and keys, and as much weight or more

@@ -18,7 +18,7 @@ pub record IsExtent (tree : Tree) (extent : Extent) : Type 0 where
   pub few : extent.opcodes ≤ 8 * measure tree
 
 -- it has this type, its top is B, and its Script comes to this and isn't too large under these rules
-pub record IsShort (rules : Rules) (tree : Tree) (short : Short) : Type 0 where
+pub record IsShortOf (rules : Rules) (tree : Tree) (short : Short) : Type 0 where
   pub typed : corr tree ≡ Ok short.ty
   pub top : short.ty.base ≡ B
   pub extent : IsExtent tree short.extent

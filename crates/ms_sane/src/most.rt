@@ -11,10 +11,11 @@ ghost use Rattle.ms_sane.specs.Scaffolding.Most.{IsReady};
 
 use crate::takes::{Most, Takes, both, either, taken_of};
 use ms_choice::{Slot, Tally};
+use ms_script::MAX_SIGNATURE_SIZE;
 use ms_tree::{Key, Leaf, Tree, Two, View, Wrapper};
 
 /// The longest signature, in bytes.
-const SIGNATURE: u64 = 73;
+const SIGNATURE: u64 = MAX_SIGNATURE_SIZE as u64;
 
 /// A preimage, and what stands for one in a dissatisfaction, in bytes.
 const PREIMAGE: u64 = 32;

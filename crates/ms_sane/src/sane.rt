@@ -5,7 +5,7 @@ ghost use Rattle.def_tree.specs.Size.{measure};
 ghost use Rattle.def_sane.specs.Unfit.{first_unfit, first_unfit_under, IsKnownSane, IsKnownSaneUnder};
 ghost use Rattle.ms_tree.specs.Shape.{shape};
 ghost use Rattle.ms_sane.specs.Place.{IsOfTree};
-ghost use Rattle.ms_sane.specs.Short.{IsShort};
+ghost use Rattle.ms_sane.specs.Short.{IsShortOf};
 
 use crate::keys::repeated_key;
 use crate::mixing::mix;
@@ -51,7 +51,7 @@ pub fn check_sane_of(
     rules: Rules,
     work: &mut Work,
 ) -> Result<Sane, Unfit>
-    requires short { IsShort rules (shape tree.now) short }
+    requires short { IsShortOf rules (shape tree.now) short }
     requires in_range { IsInRange (shape tree.now) }
     requires room { 4 * measure (shape tree.now) ≤ vec_len work.old.slots }
     ensures sane { IfOk result (λ sane. IsKnownSaneUnder rules (shape tree.now) sane) }

@@ -5,7 +5,7 @@ ghost use Rattle.def_tree.specs.Size.{measure};
 ghost use Rattle.def_sane.specs.Unfit.{first_unfit_under, first_unfit_valid, first_unfit_valid_under, IsKnownValid, IsKnownValidUnder, size_limit as the_size_limit, are_too_many as the_too_many};
 ghost use Rattle.ms_tree.specs.Shape.{shape};
 ghost use Rattle.ms_sane.specs.Place.{IsOfTree};
-ghost use Rattle.ms_sane.specs.Short.{IsShort};
+ghost use Rattle.ms_sane.specs.Short.{IsShortOf};
 
 use crate::resources::limits_from;
 use crate::work::Work;
@@ -60,7 +60,7 @@ pub struct Short {
 /// takes no working room.
 pub fn check_short(tree: &Tree<'_>, rules: Rules) -> Result<Short, Unfit>
     requires { IsInRange (shape tree.now) }
-    ensures short { IfOk result (IsShort rules (shape tree.now)) }
+    ensures short { IfOk result (IsShortOf rules (shape tree.now)) }
     ensures unfit { IfErr result (λ unfit. first_unfit_valid_under rules (shape tree.now) ≡ Some unfit) }
     ensures not_sane { IfErr result (λ unfit. first_unfit_under rules (shape tree.now) ≡ Some unfit) }
     ensures place { IfErr result (λ unfit. IsOfTree (shape tree.now) unfit) }
@@ -117,7 +117,7 @@ pub fn check_valid_of(
     rules: Rules,
     work: &mut Work,
 ) -> Result<Valid, Unfit>
-    requires short { IsShort rules (shape tree.now) short }
+    requires short { IsShortOf rules (shape tree.now) short }
     requires in_range { IsInRange (shape tree.now) }
     requires room { 4 * measure (shape tree.now) ≤ vec_len work.old.slots }
     ensures valid { IfOk result (λ valid. IsKnownValidUnder rules (shape tree.now) valid) }

@@ -14,7 +14,7 @@ use Rattle.ms_choice.specs.declared.children.Costs.{Costs}
 use Rattle.ms_choice.specs.declared.choice.Choice.{Choice}
 use Rattle.ms_sat.specs.declared.table.Weighed.{Weighed}
 use Rattle.ms_choice.specs.declared.kinds.KindCounts.{KindCounts}
-use Rattle.ms_choice.specs.Kinds.{counted, Counts}
+use Rattle.ms_choice.specs.Kinds.{with_child, Counts}
 use Rattle.ms_choice.proofs.Allowed.{counts_push as kinds_push}
 use Rattle.ms_sat.specs.Scaffolding.Costs.{weight_of, costs_of, costs_of_child, sum_of}
 use Rattle.ms_sat.specs.Scaffolding.Choice.{chosen}
@@ -52,7 +52,7 @@ costs_push f ts t c is =
 -- ---- what is counted
 
 pub counts_push : (rule : Rule) (assets : Assets) (ts : List model.Tree) (t : model.Tree) (w : Weighed) (kinds : KindCounts) → Counts (costs_of (map (free_child_by rule assets) ts)) kinds → IsWeighed rule assets t w
-    → Counts (costs_of (map (free_child_by rule assets) (ts ++ t ∷ []))) (counted kinds w.free (is_some w.costs.dsat))
+    → Counts (costs_of (map (free_child_by rule assets) (ts ++ t ∷ []))) (with_child kinds w.free (is_some w.costs.dsat))
 counts_push rule assets ts t w kinds told h =
     let f = free_child_by rule assets in
     let c : Costs = costs_of_child (f t) in
@@ -60,8 +60,8 @@ counts_push rule assets ts t w kinds told h =
     let more : costs_of (map f ts) ++ c ∷ [] ≡ costs_of (map f (ts ++ t ∷ [])) = costs_push f ts t c refl in
     let sat : is_some c.sat ≡ w.free = some_weight (free_by rule assets t) ∙ sym h.free in
     let dsat : is_some c.dsat ≡ is_some w.costs.dsat = sym (ap is_some h.dsat) in
-    let same : counted kinds (is_some c.sat) (is_some c.dsat) ≡ counted kinds w.free (is_some w.costs.dsat) = ap (λ b. counted kinds b (is_some c.dsat)) sat ∙ ap (counted kinds w.free) dsat in
-    subst (λ cs. Counts cs (counted kinds w.free (is_some w.costs.dsat))) more (subst (Counts (costs_of (map f ts) ++ c ∷ [])) same all)
+    let same : with_child kinds (is_some c.sat) (is_some c.dsat) ≡ with_child kinds w.free (is_some w.costs.dsat) = ap (λ b. with_child kinds b (is_some c.dsat)) sat ∙ ap (with_child kinds w.free) dsat in
+    subst (λ cs. Counts cs (with_child kinds w.free (is_some w.costs.dsat))) more (subst (Counts (costs_of (map f ts) ++ c ∷ [])) same all)
 
 -- ---- dissatisfactions
 

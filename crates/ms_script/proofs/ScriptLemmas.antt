@@ -5,12 +5,12 @@ use Rattle.std.proofs.lemmas.List.{map-set}
 use Rattle.def_script.specs.declared.Op.{Op}
 use Rattle.def_script.specs.declared.Op.TheVariants as op
 use Rattle.def_script.specs.Bytes.{Bytes}
-use Rattle.def_script.specs.Instruction.{Instruction, push, code}
+use Rattle.def_script.specs.Instruction.{Instruction, code}
 use Rattle.def_script.specs.Spell.{IsShort, spell}
 use Rattle.def_script.specs.Items.{items}
-use Rattle.def_script.specs.Laws.{item_of, CanSpell}
+use Rattle.def_script.specs.Laws.{item_of}
 use Rattle.def_script.specs.Verify.{verified, verified_last}
-use Rattle.def_script.proofs.Reading.{items-spell}
+use Rattle.def_script.proofs.Reading.{items-spell, all_short-spell}
 use Rattle.def_script.proofs.VerifyLemmas.{verified-set, verified-plain}
 use Rattle.ms_script.specs.declared.script.Instr.{Instr}
 use Rattle.ms_script.specs.declared.script.Instr.TheVariants.{Code}
@@ -37,10 +37,6 @@ pub short_at : (xs : List Instr) (n : ℕ) (x : Instr) → n < length xs → x �
 short_at xs n x below at all =
     subst IsShort (at_place xs n x at) (all n (instruction_of x) (omega (arith, below, length-map xs instruction_of)))
 
-short_is_spellable : (i : Instruction) → IsShort i → CanSpell i
-short_is_spellable (push bytes) short = omega (arith, short)
-short_is_spellable (code op) short = tt
-
 -- the bytes of a Script of short pushes are read back
 pub read_back : (script : List Instruction) (bytes : Bytes) → All IsShort script → bytes ≡ spell script → items bytes ≡ map item_of script
-read_back script bytes short is = ap items is ∙ items-spell script (λ k d below. short_is_spellable (get_or script k d) (short k d below))
+read_back script bytes short is = ap items is ∙ items-spell script (all_short-spell script short)

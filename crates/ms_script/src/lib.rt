@@ -9,6 +9,7 @@ pub use numbers::{NumBytes, num_decode, num_encode, truth};
 pub use pushes::{PushForm, push_byte, push_form, push_length};
 pub use reading::{InstrRef, next_instr};
 pub use script::{Instr, Script, verify_form_of};
+pub use signature::{MAX_SIGNATURE_SIZE, is_signature_size};
 pub use sizes::{SizeBytes, compact_size, read_size};
 pub use stack::Stack;
 
@@ -20,5 +21,6 @@ mod opcodes;
 mod pushes;
 mod reading;
 mod script;
+mod signature;
 mod sizes;
 mod stack;

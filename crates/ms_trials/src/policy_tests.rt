@@ -1,7 +1,7 @@
 //! Tests: policies of texts, how few keys suffice, and when they are met.
 ghost use Rattle.std.specs.Prelude.{◌≤◌, IfOk};
 ghost use Rattle.def_policy.specs.Keys.{HasDistinctKeys};
-ghost use Rattle.def_policy.specs.Size.{size, depth, HasLocks, MOST_POLICIES, MOST_DEPTH};
+ghost use Rattle.def_policy.specs.Size.{size, depth, HasLocks, MOST_POLICIES, MOST_POLICY_DEPTH};
 ghost use Rattle.ms_policy.specs.Shape.{policy_shape};
 
 use crate::fitness::expect_sane;
@@ -23,7 +23,7 @@ const HASHES_OR_KEYS: &str =
 /// The policy of a sane text.
 fn policy_of_text(alloc: Global, form: &str) -> Result<Policy, Fail>
     ensures few { IfOk result (λ p. size (policy_shape p) ≤ MOST_POLICIES) }
-    ensures shallow { IfOk result (λ p. depth (policy_shape p) ≤ MOST_DEPTH) }
+    ensures shallow { IfOk result (λ p. depth (policy_shape p) ≤ MOST_POLICY_DEPTH) }
     ensures distinct { IfOk result (λ p. HasDistinctKeys (policy_shape p)) }
     ensures locks { IfOk result (λ p. HasLocks (policy_shape p)) }
 {

@@ -238,3 +238,10 @@ fn stacks_grow_at_the_top(rt: HostRuntime) -> Result<(), Fail> {
     assert_eq!(rt; stack.weight(), 5);
     Ok(())
 }
+
+#[test]
+fn signatures_have_up_to_73_bytes(rt: HostRuntime) {
+    for (size, is_size) in [(0, false), (1, true), (73, true), (74, false)] {
+        assert_eq!(rt; is_signature_size(size), is_size);
+    }
+}

@@ -28,13 +28,13 @@ abbrev pub ◌>>=◌ : {A B : Type 0} → Result A WitnessFault → (A → Resul
 abbrev pub Part : Type 0 → Type 0
 Part A = Result (A × Bytes) WitnessFault
 
-abbrev pub fault_of : SizeFault → WitnessFault
-fault_of size.Truncated = Truncated
-fault_of size.NotShortest = NonMinimalSize
+abbrev pub fault_of_size : SizeFault → WitnessFault
+fault_of_size size.Truncated = Truncated
+fault_of_size size.NotShortest = NonMinimalSize
 
 abbrev pub size_of : Bytes → SizeReading → Part ℕ
 size_of bytes (Ok read) = Ok (read.0, drop read.1 bytes)
-size_of bytes (Err fault) = Err (fault_of fault)
+size_of bytes (Err fault) = Err (fault_of_size fault)
 
 -- the CompactSize that the bytes begin with
 abbrev pub first_size : Bytes → Part ℕ

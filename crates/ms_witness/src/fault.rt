@@ -1,7 +1,7 @@
 //! Why bytes are no witness.
 
 ghost use Rattle.std.specs.Prelude.{◌≡◌};
-ghost use Rattle.ms_witness.specs.Reading.{fault_of};
+ghost use Rattle.ms_witness.specs.Reading.{fault_of_size};
 ghost use Rattle.ms_witness.specs.declared.fault.WitnessFault.TheVariants.{Memory};
 
 use ms_script::SizeFault;
@@ -32,7 +32,7 @@ pub enum WitnessFault {
 }
 
 impl From<SizeFault> for WitnessFault {
-    ghost from_gives = { λ size why. why ≡ fault_of size };
+    ghost from_gives = { λ size why. why ≡ fault_of_size size };
 
     fn from(fault: SizeFault) -> WitnessFault {
         match fault {

@@ -7,7 +7,7 @@ ghost use Rattle.def_answer.specs.Answer.{Answer};
 ghost use Rattle.def_answer.specs.declared.status.Status.{Status};
 ghost use Rattle.def_answer.specs.Status.{code_of};
 ghost use Rattle.ms_calls.specs.Buffers.{written_over};
-ghost use Rattle.ms_calls.specs.Given.{HoldsOfGiven, code_given, reason_after, value_after, buffer_after, needed_after, bytes_given, lengths_given, rules_for, choice_for, script_given, facts_given, weight_given, witness_given};
+ghost use Rattle.ms_calls.specs.TextReply.{HoldsOfReply, code_given, reason_after, value_after, buffer_after, needed_after, bytes_given, lengths_given, rules_for, choice_for, script_given, facts_given, weight_given, witness_given};
 ghost use Rattle.ms_calls.specs.Words.{AreWords, AreNoWords};
 
 use ms_calls::{Facts, Reason};
@@ -43,10 +43,10 @@ pub extern "C" fn msat_script(
     needed: &mut usize,
     reason: &mut Reason,
 ) -> u32
-    ensures code { HoldsOfGiven text.now result (script_given (rules_for consensus)) (λ given. result ≡ code_given given) }
-    ensures script { HoldsOfGiven text.now result (script_given (rules_for consensus)) (λ given. script.new ≡ buffer_after script.old given) }
-    ensures needed { HoldsOfGiven text.now result (script_given (rules_for consensus)) (λ given. needed.new ≡ needed_after needed.old given) }
-    ensures reason { HoldsOfGiven text.now result (script_given (rules_for consensus)) (λ given. reason.new ≡ reason_after reason.old given) }
+    ensures code { HoldsOfReply text.now result (script_given (rules_for consensus)) (λ given. result ≡ code_given given) }
+    ensures script { HoldsOfReply text.now result (script_given (rules_for consensus)) (λ given. script.new ≡ buffer_after script.old given) }
+    ensures needed { HoldsOfReply text.now result (script_given (rules_for consensus)) (λ given. needed.new ≡ needed_after needed.old given) }
+    ensures reason { HoldsOfReply text.now result (script_given (rules_for consensus)) (λ given. reason.new ≡ reason_after reason.old given) }
     ensures unreadable { result ≡ 11 ↔ (¬ IsUtf8 text.now) }
     ensures kept { (result ≡ 11) ⊎ (result ≡ 7) → script.new ≡ script.old }
     ensures kept_needed { (result ≡ 11) ⊎ (result ≡ 7) → needed.new ≡ needed.old }
@@ -64,9 +64,9 @@ pub extern "C" fn msat_check(
     facts: &mut Facts,
     reason: &mut Reason,
 ) -> u32
-    ensures code { HoldsOfGiven text.now result (facts_given (rules_for consensus)) (λ given. result ≡ code_given given) }
-    ensures facts { HoldsOfGiven text.now result (facts_given (rules_for consensus)) (λ given. facts.new ≡ value_after facts.old given) }
-    ensures reason { HoldsOfGiven text.now result (facts_given (rules_for consensus)) (λ given. reason.new ≡ reason_after reason.old given) }
+    ensures code { HoldsOfReply text.now result (facts_given (rules_for consensus)) (λ given. result ≡ code_given given) }
+    ensures facts { HoldsOfReply text.now result (facts_given (rules_for consensus)) (λ given. facts.new ≡ value_after facts.old given) }
+    ensures reason { HoldsOfReply text.now result (facts_given (rules_for consensus)) (λ given. reason.new ≡ reason_after reason.old given) }
     ensures unreadable { result ≡ 11 ↔ (¬ IsUtf8 text.now) }
     ensures kept { (result ≡ 11) ⊎ (result ≡ 7) → facts.new ≡ facts.old }
     ensures kept_reason { (result ≡ 11) ⊎ (result ≡ 7) → reason.new ≡ reason.old }
@@ -84,9 +84,9 @@ pub extern "C" fn msat_least_weight(
     weight: &mut u64,
     reason: &mut Reason,
 ) -> u32
-    ensures code { HoldsOfGiven text.now result (weight_given (rules_for consensus) file.now) (λ given. result ≡ code_given given) }
-    ensures weight { HoldsOfGiven text.now result (weight_given (rules_for consensus) file.now) (λ given. weight.new ≡ value_after weight.old given) }
-    ensures reason { HoldsOfGiven text.now result (weight_given (rules_for consensus) file.now) (λ given. reason.new ≡ reason_after reason.old given) }
+    ensures code { HoldsOfReply text.now result (weight_given (rules_for consensus) file.now) (λ given. result ≡ code_given given) }
+    ensures weight { HoldsOfReply text.now result (weight_given (rules_for consensus) file.now) (λ given. weight.new ≡ value_after weight.old given) }
+    ensures reason { HoldsOfReply text.now result (weight_given (rules_for consensus) file.now) (λ given. reason.new ≡ reason_after reason.old given) }
     ensures unreadable { result ≡ 11 ↔ (¬ IsUtf8 text.now) }
     ensures kept { (result ≡ 11) ⊎ (result ≡ 7) → weight.new ≡ weight.old }
     ensures kept_reason { (result ≡ 11) ⊎ (result ≡ 7) → reason.new ≡ reason.old }
@@ -109,12 +109,12 @@ pub extern "C" fn msat_witness(
     count: &mut usize,
     reason: &mut Reason,
 ) -> u32
-    ensures code { HoldsOfGiven text.now result (witness_given (choice_for malleable consensus) file.now) (λ given. result ≡ code_given given) }
-    ensures bytes { HoldsOfGiven text.now result (witness_given (choice_for malleable consensus) file.now) (λ given. bytes.new ≡ buffer_after bytes.old (bytes_given given)) }
-    ensures needed { HoldsOfGiven text.now result (witness_given (choice_for malleable consensus) file.now) (λ given. needed.new ≡ needed_after needed.old (bytes_given given)) }
-    ensures lengths { HoldsOfGiven text.now result (witness_given (choice_for malleable consensus) file.now) (λ given. lengths.new ≡ buffer_after lengths.old (lengths_given given)) }
-    ensures count { HoldsOfGiven text.now result (witness_given (choice_for malleable consensus) file.now) (λ given. count.new ≡ needed_after count.old (lengths_given given)) }
-    ensures reason { HoldsOfGiven text.now result (witness_given (choice_for malleable consensus) file.now) (λ given. reason.new ≡ reason_after reason.old given) }
+    ensures code { HoldsOfReply text.now result (witness_given (choice_for malleable consensus) file.now) (λ given. result ≡ code_given given) }
+    ensures bytes { HoldsOfReply text.now result (witness_given (choice_for malleable consensus) file.now) (λ given. bytes.new ≡ buffer_after bytes.old (bytes_given given)) }
+    ensures needed { HoldsOfReply text.now result (witness_given (choice_for malleable consensus) file.now) (λ given. needed.new ≡ needed_after needed.old (bytes_given given)) }
+    ensures lengths { HoldsOfReply text.now result (witness_given (choice_for malleable consensus) file.now) (λ given. lengths.new ≡ buffer_after lengths.old (lengths_given given)) }
+    ensures count { HoldsOfReply text.now result (witness_given (choice_for malleable consensus) file.now) (λ given. count.new ≡ needed_after count.old (lengths_given given)) }
+    ensures reason { HoldsOfReply text.now result (witness_given (choice_for malleable consensus) file.now) (λ given. reason.new ≡ reason_after reason.old given) }
     ensures unreadable { result ≡ 11 ↔ (¬ IsUtf8 text.now) }
     ensures kept { (result ≡ 11) ⊎ (result ≡ 7) → bytes.new ≡ bytes.old }
     ensures kept_needed { (result ≡ 11) ⊎ (result ≡ 7) → needed.new ≡ needed.old }

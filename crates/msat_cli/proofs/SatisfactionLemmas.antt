@@ -35,7 +35,7 @@ use Rattle.def_answer.specs.Answer.{RepliesToText, Replies, RepliesToWords, Answ
 use Rattle.def_answer.specs.Lines.{script_line, program_line, file_line}
 use Rattle.def_answer.specs.Reading.{read}
 use Rattle.def_answer.specs.Reply.{Reply, reply, unless_unfit, with_file, MOST_FILE, chosen_reply, satisfy_reply}
-use Rattle.def_answer.specs.Report.{item_line, tree_limits_line, witness_line, satisfy_report, replay, replay_line}
+use Rattle.def_answer.specs.Report.{item_line, tree_limits_line, witness_line, satisfy_report, outcome_with, replay_line}
 use Rattle.def_answer.specs.declared.status.Status.{Status}
 use Rattle.def_answer.specs.declared.status.Status.TheVariants as status
 use Rattle.def_answer.proofs.Sources.{passed_text}
@@ -45,7 +45,7 @@ use Rattle.ms_words.specs.declared.words.Choice.TheVariants as choice
 use Rattle.ms_words.specs.Commands.{HaveUtf8, satisfy_by}
 use Rattle.ms_replies.specs.Choices.{rules_by, reason_by, chosen_by}
 use Rattle.msat_cli.specs.Ends.{Call, HasAnswer, Ends, EndsAs}
-use Rattle.msat_cli.specs.Satisfactions.{IsAsked, Shows, ShowsSuch, IsAcceptedByAll, WeighsLeast, FindsWhereOneExists, ShowsCanonical, Prints, ShowsWitness, ShowsAccepted, ShowsNonMalleable, FindsNothingToAccept, ShowsLightest}
+use Rattle.msat_cli.specs.Satisfactions.{IsAsked, ShowsStack, ShowsSuch, IsAcceptedByAll, WeighsLeast, FindsWhereOneExists, ShowsCanonical, Prints, ShowsWitness, ShowsAccepted, ShowsNonMalleable, FindsNothingToAccept, ShowsLightest}
 use Rattle.msat_cli.proofs.EndLemmas.{told_answer, ends_as_answered}
 
 -- ---- what is asked
@@ -163,7 +163,7 @@ written_reply choice call tree assets report utf8 a asked =
 
 stack_written : (choice : Choice) (call : Call) (tree : Tree) (assets : Assets) (report : Bytes) (o : Option (List Bytes)) → chosen_by choice tree assets ≡ o
     → reply call.status report ≡ chosen_reply (rules_by choice) tree assets o → Appends call.sink.old call.sink.new report
-    → call.status ≡ status.Done → (stack : List Bytes) × Shows choice call tree assets stack
+    → call.status ≡ status.Done → (stack : List Bytes) × ShowsStack choice call tree assets stack
 stack_written choice call tree assets report None is e w done =
     let nothing : call.status ≡ status.NoSatisfaction = ap (λ (r : Reply). r.status) e in absurd (cc (sym done ∙ nothing))
 stack_written choice call tree assets report (Some stack) is e w done =
@@ -171,7 +171,7 @@ stack_written choice call tree assets report (Some stack) is e w done =
     (stack, record { chosen = is; written = subst (Appends call.sink.old call.sink.new) shown w })
 
 shown_stack : (choice : Choice) (call : Call) (tree : Tree) (assets : Assets) → HaveUtf8 call.words → Ends call → IsAsked choice call tree assets
-    → call.status ≡ status.Done → (stack : List Bytes) × Shows choice call tree assets stack
+    → call.status ≡ status.Done → (stack : List Bytes) × ShowsStack choice call tree assets stack
 shown_stack choice call tree assets utf8 (inl (report, a, w)) asked done =
     stack_written choice call tree assets report (chosen_by choice tree assets) refl (written_reply choice call tree assets report utf8 a asked) w done
 shown_stack choice call tree assets utf8 (inr (inl w)) asked done = absurd (cc (sym w.0 ∙ done))
@@ -180,7 +180,7 @@ shown_stack choice call tree assets utf8 (inr (inr (inr m))) asked done = absurd
 
 -- what holds of each stack that is shown holds of the one that is
 shows_such : (choice : Choice) (call : Call) (P : Tree → Assets → List Bytes → Type 0) → HaveUtf8 call.words → Ends call
-    → ((tree : Tree) (assets : Assets) (stack : List Bytes) → IsAsked choice call tree assets → Shows choice call tree assets stack → P tree assets stack)
+    → ((tree : Tree) (assets : Assets) (stack : List Bytes) → IsAsked choice call tree assets → ShowsStack choice call tree assets stack → P tree assets stack)
     → ShowsSuch choice call P
 shows_such choice call P utf8 e holds tree assets asked done =
     let found = shown_stack choice call tree assets utf8 e asked done in
@@ -203,7 +203,7 @@ nothing_chosen choice call tree assets utf8 (inr (inr (inr m))) asked is = absur
 -- ---- what is shown
 
 is_canonical : (choice : Choice) (call : Call) (tree : Tree) (assets : Assets) (stack : List Bytes) → HaveUtf8 call.words → IsAsked choice call tree assets
-    → Shows choice call tree assets stack → Sat tree assets stack
+    → ShowsStack choice call tree assets stack → Sat tree assets stack
 is_canonical choice call tree assets stack utf8 asked shown =
     chosen_is_canonical choice tree assets stack (writable choice call tree assets utf8 asked) (are_held asked) shown.chosen
 
@@ -228,7 +228,7 @@ finds_where_one_exists call utf8 e choice tree assets asked =
     }
 
 is_accepted : (choice : Choice) (call : Call) (tree : Tree) (assets : Assets) (stack : List Bytes) → HaveUtf8 call.words → IsAsked choice call tree assets
-    → Shows choice call tree assets stack → IsAcceptedByAll tree assets stack
+    → ShowsStack choice call tree assets stack → IsAcceptedByAll tree assets stack
 is_accepted choice call tree assets stack utf8 asked shown = record {
   size = refl;
   within = λ table holds.
@@ -241,7 +241,7 @@ shows_accepted call utf8 e choice =
     shows_such choice call IsAcceptedByAll utf8 e (λ tree assets stack. is_accepted choice call tree assets stack utf8)
 
 -- the lines of the report, with the counts of the run
-lines : (rules : Rules) (old new : Option Bytes) (tree : Tree) (assets : Assets) (stack : List Bytes) (outcome : Outcome) → replay tree assets stack ≡ outcome
+lines : (rules : Rules) (old new : Option Bytes) (tree : Tree) (assets : Assets) (stack : List Bytes) (outcome : Outcome) → outcome_with tree assets stack ≡ outcome
     → Appends old new (satisfy_report rules tree assets stack)
     → Appends old new (script_line (script_of tree) ++ program_line (script_of tree) ++ tree_limits_line rules tree
     ++ flat_map item_line stack ++ witness_line stack (script_of tree) ++ replay_line stack outcome)
@@ -251,7 +251,7 @@ lines rules old new tree assets stack outcome ran h =
     ++ flat_map item_line stack ++ witness_line stack (script_of tree) ++ replay_line stack o)) ran h
 
 prints : (choice : Choice) (call : Call) (tree : Tree) (assets : Assets) (stack : List Bytes) → HaveUtf8 call.words → IsAsked choice call tree assets
-    → Shows choice call tree assets stack → Prints (rules_by choice) call.sink tree assets stack
+    → ShowsStack choice call tree assets stack → Prints (rules_by choice) call.sink tree assets stack
 prints choice call tree assets stack utf8 asked shown =
     let own = (is_accepted choice call tree assets stack utf8 asked shown).within assets.pairs (λ key sig held. held) in
     record {

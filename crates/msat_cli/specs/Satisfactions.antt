@@ -49,7 +49,7 @@ pub record IsAsked (choice : Choice) (call : Call) (tree : Tree) (assets : Asset
   pub file : assets_of bytes ≡ Ok assets
 
 -- the stack is the one that is chosen, and its report was written whole
-pub record Shows (choice : Choice) (call : Call) (tree : Tree) (assets : Assets) (stack : List Bytes) : Type 0 where
+pub record ShowsStack (choice : Choice) (call : Call) (tree : Tree) (assets : Assets) (stack : List Bytes) : Type 0 where
   pub chosen : chosen_by choice tree assets ≡ Some stack
   pub written : Appends call.sink.old call.sink.new (satisfy_report (rules_by choice) tree assets stack)
 
@@ -57,7 +57,7 @@ pub record Shows (choice : Choice) (call : Call) (tree : Tree) (assets : Assets)
 abbrev pub ShowsSuch : (choice : Choice) → Call → (Tree → Assets → List Bytes → Type 0) → Type 0
 ShowsSuch choice call P =
     (tree : Tree) (assets : Assets) → IsAsked choice call tree assets → call.status ≡ status.Done →
-    (stack : List Bytes) × Shows choice call tree assets stack × P tree assets stack
+    (stack : List Bytes) × ShowsStack choice call tree assets stack × P tree assets stack
 
 -- ---- other texts are refused
 
@@ -136,7 +136,7 @@ FreshOnesHaveItem tree assets =
     HasUnknownPreimage tree assets stack ⊎ HasOtherKey tree stack
 
 -- where there is none, what is accepted under the assets' own signatures is fresh
-pub record NothingToAccept (tree : Tree) (assets : Assets) : Type 0 where
+pub record HasNothingToAccept (tree : Tree) (assets : Assets) : Type 0 where
   pub none : (stack : List Bytes) → ¬ Sat tree assets stack
   pub accepted : (stack : List Bytes) (checks : Pairs) → IsAccepted tree (given_with assets assets.pairs) stack checks →
       Fresh tree assets assets.pairs stack
@@ -145,7 +145,7 @@ pub record NothingToAccept (tree : Tree) (assets : Assets) : Type 0 where
 abbrev pub FindsNothingToAccept : Call → Type 0
 FindsNothingToAccept call =
     (rules : Rules) (tree : Tree) (assets : Assets) → IsAsked (choice.Strict rules) call tree assets → call.status ≡ status.NoSatisfaction →
-    NothingToAccept tree assets
+    HasNothingToAccept tree assets
 
 -- ---- it is the lightest
 

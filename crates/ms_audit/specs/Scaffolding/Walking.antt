@@ -12,7 +12,7 @@ use Rattle.def_tree.specs.declared.Two.{Two}
 use Rattle.def_tree.specs.declared.Two.TheVariants as kind
 use Rattle.def_satisfaction.specs.Rows.{EMPTY, ONE}
 use Rattle.def_audit.specs.declared.Step.{Step}
-use Rattle.ms_audit_laws.specs.Walk.{Found, Counted, Walker, Verdict, forced, ended, by_selector, walk, walk_all}
+use Rattle.ms_audit_laws.specs.Walk.{Found, Counted, Walker, Verdict, forced, with_step, by_selector, walk, walk_all}
 use Rattle.ms_audit.specs.declared.row.Row.{Row}
 use Rattle.ms_audit.specs.declared.course.Course.{Course}
 use Rattle.ms_audit.specs.declared.course.WalkStop.{WalkStop}
@@ -58,7 +58,7 @@ Finds (Err stop.Memory) steps rest found = Unit {0}
 
 -- a leaf takes so much of the stack, by this row
 abbrev pub Takes : Result (Option Row) WalkStop → (node : ℕ) → Stack → Option Found → Type 0
-Takes (Ok row) node rest found = found ≡ ended node (verdict_of row) [] rest
+Takes (Ok row) node rest found = found ≡ with_step node (verdict_of row) [] rest
 Takes (Err stop.NoRow) node rest found = found ≡ None
 Takes (Err stop.Memory) node rest found = ⊥
 
@@ -68,7 +68,7 @@ TakesAs given stack tree old new result = (node : ℕ) → Takes result node (be
 
 -- a node's own step is added, by this verdict
 pub record Ends (verdict : Verdict) (old new : Course) (result : Result Bool WalkStop) : Type 0 where
-  pub found : (rest : Stack) → Finds result new.steps.items rest (ended old.next verdict old.steps.items rest)
+  pub found : (rest : Stack) → Finds result new.steps.items rest (with_step old.next verdict old.steps.items rest)
   pub next : IfOk result (λ sat. new.next ≡ old.next + 1)
   pub left : new.left ≡ old.left
 

@@ -2,6 +2,7 @@
 use Rattle.std.specs.Prelude.{nat_le, List, [], ◌∷◌, length, map, Option, Result, Ok, Err}
 use Rattle.serde_json.specs.Data.{Data}
 use Rattle.def_script.specs.Bytes.{Bytes}
+use Rattle.def_script.specs.Signature.{is_signature_size}
 use Rattle.def_script.specs.Key.{is_key}
 use Rattle.def_machine.specs.declared.Locks.{Locks}
 use Rattle.def_files.specs.Json.{is_list_of}
@@ -12,7 +13,7 @@ use Rattle.def_plan.specs.declared.PlanMember.TheVariants as member
 use Rattle.def_plan.specs.declared.PlanFault.{PlanFault}
 use Rattle.def_plan.specs.declared.PlanFault.TheVariants as fault
 use Rattle.def_plan.specs.Lengths.{Lengths, MOST_KEYS}
-use Rattle.def_plan.specs.PlanFile.{PlanFile, key_list, is_estimate, length_at, is_length}
+use Rattle.def_plan.specs.PlanFile.{PlanFile, key_list, is_estimate, length_at}
 use Rattle.ms_assets.specs.Parts.{first_refused, repeated}
 use Rattle.ms_plan.specs.declared.plan_file.PlanParts.{PlanParts}
 
@@ -39,7 +40,7 @@ entries_at elements = map (λ e. (key_of e, length_at e)) elements
 abbrev pub value_refusals : Lengths → (preimages : List Bytes) → List (Option PlanFault)
 value_refusals table preimages =
     first_refused (λ entry. is_key entry.0) fault.KeyForm table ∷
-    first_refused (λ entry. is_length entry.1) fault.Length table ∷
+    first_refused (λ entry. is_signature_size entry.1) fault.Length table ∷
     first_refused is_preimage fault.PreimageLength preimages ∷
     unless (nat_le (length table) MOST_KEYS) (fault.TooMany member.Keys) ∷
     unless (nat_le (length preimages) MOST_PREIMAGES) (fault.TooMany member.Preimages) ∷

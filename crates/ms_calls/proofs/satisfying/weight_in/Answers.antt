@@ -1,6 +1,6 @@
 use Rattle.def_sane.specs.Unfit.{first_unfit_valid_under}
 use Rattle.ms_tree.specs.Shape.{shape}
-use Rattle.ms_calls.specs.Given.{least_weight_given}
+use Rattle.ms_calls.specs.TextReply.{least_weight_given}
 use Rattle.ms_calls.proofs.TextLemmas.{finds_of_tree, finds_of_stop}
 use Rattle.ms_calls.proofs.satisfying.weight_in.Goals as goal
 

@@ -1,6 +1,6 @@
 use Rattle.ms_tree.specs.Shape.{shape}
 use Rattle.ms_replies.specs.Choices.{chosen_by, reason_by}
-use Rattle.ms_calls.specs.Given.{chosen_given}
+use Rattle.ms_calls.specs.TextReply.{chosen_given}
 use Rattle.ms_calls.proofs.TextLemmas.{finds_of_tree, finds_of_stop}
 use Rattle.ms_calls.proofs.satisfying.witness_in.Goals as goal
 

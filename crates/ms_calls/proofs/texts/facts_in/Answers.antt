@@ -1,7 +1,7 @@
 use Rattle.def_sane.specs.Unfit.{first_unfit_under}
 use Rattle.ms_tree.specs.Shape.{shape}
 use Rattle.ms_calls.specs.Facts.{facts_of}
-use Rattle.ms_calls.specs.Given.{told}
+use Rattle.ms_calls.specs.TextReply.{told}
 use Rattle.ms_calls.proofs.TextLemmas.{finds_of_tree, finds_of_stop}
 use Rattle.ms_calls.proofs.texts.facts_in.Goals as goal
 

@@ -2,7 +2,7 @@ use Rattle.std.proofs.Common.{◌≤◌, sym, subst}
 use Rattle.def_policy.specs.Laws.{SaysSatisfiable}
 use Rattle.def_policy.specs.Policy.{Policy}
 use Rattle.def_policy.specs.Keys.{HasDistinctKeys}
-use Rattle.def_policy.specs.Size.{size, depth, HasLocks, MOST_POLICIES, MOST_DEPTH}
+use Rattle.def_policy.specs.Size.{size, depth, HasLocks, MOST_POLICIES, MOST_POLICY_DEPTH}
 use Rattle.def_sane.proofs.Meanings.{sane_means, valid_means}
 use Rattle.ms_tree.specs.Shape.{shape}
 use Rattle.ms_policy.proofs.Bounds.{on_ok, policy_is_few, policy_is_shallow}
@@ -23,7 +23,7 @@ returns-clause-few c =
 
 pub returns-clause-shallow : goal.returns-clause-shallow
 returns-clause-shallow c =
-    let Shallow : Policy → Type 0 = λ p. depth p ≤ MOST_DEPTH in
+    let Shallow : Policy → Type 0 = λ p. depth p ≤ MOST_POLICY_DEPTH in
     on_ok _ _ c.simplified.result (λ p e. subst Shallow (sym e) (policy_is_shallow (shape c.args.tree.now) c.requires.in_range)) c.simplified.ensures
 
 pub returns-clause-distinct : goal.returns-clause-distinct

@@ -24,51 +24,51 @@ use Rattle.ms_calls.specs.Facts.{facts_of}
 use Rattle.ms_calls.specs.Items.{Joined, joined}
 use Rattle.ms_calls.specs.Reasons.{code_of_fault, code_of_reason, code_of_file, file_too_long}
 
-pub data Given (A : Type 0) : Type 0 where
+pub data TextReply (A : Type 0) : Type 0 where
   -- what was asked for
-  told : A → Given A
+  told : A → TextReply A
   -- the text or the asset file is refused
-  text_refused : Reason → Given A
-  file_refused : Reason → Given A
+  text_refused : Reason → TextReply A
+  file_refused : Reason → TextReply A
   -- there is no canonical satisfaction with the file's assets
-  no_satisfaction : Given A
+  no_satisfaction : TextReply A
 
 -- so it is with what is given for a text's reading, unless the call's code says that memory was wanting or that the text
 -- isn't UTF-8
-abbrev pub HoldsOfGiven : {A : Type 0} → (text : Bytes) → (code : ℕ) → (given : Reading → Given A) → (IsSo : Given A → Type 0) → Type 0
-HoldsOfGiven text code given IsSo = (reading : Reading) → HasReading text reading → code ≢ 7 → code ≢ 11 → IsSo (given reading)
+abbrev pub HoldsOfReply : {A : Type 0} → (text : Bytes) → (code : ℕ) → (given : Reading → TextReply A) → (IsSo : TextReply A → Type 0) → Type 0
+HoldsOfReply text code given IsSo = (reading : Reading) → HasReading text reading → code ≢ 7 → code ≢ 11 → IsSo (given reading)
 
 -- ---- what stands after the call
 
 -- its code, as the program's own
-abbrev pub code_given : {A : Type 0} → Given A → ℕ
+abbrev pub code_given : {A : Type 0} → TextReply A → ℕ
 code_given (told a) = 0
 code_given (text_refused reason) = 2
 code_given (file_refused reason) = 3
 code_given no_satisfaction = 4
 
 -- the reason, in place of the one before where there is a refusal
-abbrev pub reason_after : {A : Type 0} → (before : Reason) → Given A → Reason
+abbrev pub reason_after : {A : Type 0} → (before : Reason) → TextReply A → Reason
 reason_after before (told a) = before
 reason_after before (text_refused reason) = reason
 reason_after before (file_refused reason) = reason
 reason_after before no_satisfaction = before
 
 -- a value, in place of the one before where it is told
-abbrev pub value_after : {A : Type 0} → (before : A) → Given A → A
+abbrev pub value_after : {A : Type 0} → (before : A) → TextReply A → A
 value_after before (told a) = a
 value_after before (text_refused reason) = before
 value_after before (file_refused reason) = before
 value_after before no_satisfaction = before
 
 -- bytes, over the beginning of a buffer where they are told, and how many they are
-abbrev pub buffer_after : (before : Bytes) → Given Bytes → Bytes
+abbrev pub buffer_after : (before : Bytes) → TextReply Bytes → Bytes
 buffer_after before (told bytes) = written_over before bytes
 buffer_after before (text_refused reason) = before
 buffer_after before (file_refused reason) = before
 buffer_after before no_satisfaction = before
 
-abbrev pub needed_after : (before : ℕ) → Given Bytes → ℕ
+abbrev pub needed_after : (before : ℕ) → TextReply Bytes → ℕ
 needed_after before (told bytes) = length bytes
 needed_after before (text_refused reason) = before
 needed_after before (file_refused reason) = before
@@ -87,43 +87,43 @@ choice_for false consensus = choice.Strict (rules_for consensus)
 choice_for true consensus = choice.Cheapest (rules_for consensus)
 
 -- the reason against a tree, or else what comes next
-abbrev pub unless_unfit : {A : Type 0} → Option Unfit → (offsets : List ℕ) → Given A → Given A
+abbrev pub unless_unfit : {A : Type 0} → Option Unfit → (offsets : List ℕ) → TextReply A → TextReply A
 unless_unfit None offsets next = next
 unless_unfit (Some unfit) offsets next = text_refused (code_of_reason offsets unfit)
 
 -- the refusal of a text, the first reason against its tree, or else what comes next
-abbrev pub text_given : {A : Type 0} → (first_reason : Tree → Option Unfit) → (next : Tree → Given A) → Reading → Given A
+abbrev pub text_given : {A : Type 0} → (first_reason : Tree → Option Unfit) → (next : Tree → TextReply A) → Reading → TextReply A
 text_given first_reason next (read tree offsets) = unless_unfit (first_reason tree) offsets (next tree)
 text_given first_reason next (refused fault) = text_refused (code_of_fault fault)
 
 -- the refusal of an asset file, or else what comes next
-abbrev pub with_assets : {A : Type 0} → (next : Assets → Given A) → Result Assets AssetFault → Given A
+abbrev pub with_assets : {A : Type 0} → (next : Assets → TextReply A) → Result Assets AssetFault → TextReply A
 with_assets next (Ok assets) = next assets
 with_assets next (Err fault) = file_refused (code_of_file fault)
 
-abbrev pub file_given : {A : Type 0} → (next : Assets → Given A) → (file : Bytes) → Given A
+abbrev pub file_given : {A : Type 0} → (next : Assets → TextReply A) → (file : Bytes) → TextReply A
 file_given next file =
     if nat_lt MOST_FILE (length file) then file_refused file_too_long else with_assets next (assets_of file)
 
 -- what is told of a satisfaction, where there is one
-abbrev pub where_one : {A : Type 0} → Option A → Given A
+abbrev pub where_one : {A : Type 0} → Option A → TextReply A
 where_one None = no_satisfaction
 where_one (Some a) = told a
 
 -- the Script of a valid text
-abbrev pub script_given : Rules → Reading → Given Bytes
+abbrev pub script_given : Rules → Reading → TextReply Bytes
 script_given rules = text_given (first_unfit_valid_under rules) (λ tree. told (script_of tree))
 
 -- what is known of a sane text
-abbrev pub facts_given : Rules → Reading → Given Facts
+abbrev pub facts_given : Rules → Reading → TextReply Facts
 facts_given rules = text_given (first_unfit_under rules) (λ tree. told (facts_of tree))
 
 -- the least weight of a canonical satisfaction
-abbrev pub least_weight_given : (file : Bytes) → Tree → Given ℕ
+abbrev pub least_weight_given : (file : Bytes) → Tree → TextReply ℕ
 least_weight_given file tree = file_given (λ assets. where_one (option_map weight (cheapest tree assets))) file
 
 -- that of a valid text
-abbrev pub weight_given : Rules → (file : Bytes) → Reading → Given ℕ
+abbrev pub weight_given : Rules → (file : Bytes) → Reading → TextReply ℕ
 weight_given rules file = text_given (first_unfit_valid_under rules) (least_weight_given file)
 
 -- the items of the witness of a satisfaction: its stack, bottom first, and the Script
@@ -131,22 +131,22 @@ abbrev pub witness_items : Tree → (stack : List Bytes) → Joined
 witness_items tree stack = joined (stack ++ script_of tree ∷ [])
 
 -- those of a satisfaction that is chosen
-abbrev pub chosen_given : (choice : Tree → Assets → Option (List Bytes)) → (file : Bytes) → Tree → Given Joined
+abbrev pub chosen_given : (choice : Tree → Assets → Option (List Bytes)) → (file : Bytes) → Tree → TextReply Joined
 chosen_given choice file tree =
     file_given (λ assets. where_one (option_map (witness_items tree) (choice tree assets))) file
 
 -- those of the satisfaction of a text
-abbrev pub witness_given : Choice → (file : Bytes) → Reading → Given Joined
+abbrev pub witness_given : Choice → (file : Bytes) → Reading → TextReply Joined
 witness_given choice file = text_given (reason_by choice) (chosen_given (chosen_by choice) file)
 
 -- their bytes and their lengths
-abbrev pub bytes_given : Given Joined → Given Bytes
+abbrev pub bytes_given : TextReply Joined → TextReply Bytes
 bytes_given (told items) = told items.bytes
 bytes_given (text_refused reason) = text_refused reason
 bytes_given (file_refused reason) = file_refused reason
 bytes_given no_satisfaction = no_satisfaction
 
-abbrev pub lengths_given : Given Joined → Given (List ℕ)
+abbrev pub lengths_given : TextReply Joined → TextReply (List ℕ)
 lengths_given (told items) = told items.lengths
 lengths_given (text_refused reason) = text_refused reason
 lengths_given (file_refused reason) = file_refused reason
