@@ -32,9 +32,9 @@ behind_some (Some f) steps g e =
     let h = some_is (record { sat = f.sat; steps = steps ++ f.steps; rest = f.rest }) g e in
     (f, refl, ap (λ (x : Found). x.sat) h, ap (λ (x : Found). x.steps) h, ap (λ (x : Found). x.rest) h)
 
-pub behind_ended : (steps before : List Step) (node : ℕ) (v : Verdict) (rest : Stack) → behind steps (with_step node v before rest) ≡ with_step node v (steps ++ before) rest
-behind_ended steps before node None rest = refl
-behind_ended steps before node (Some v) rest =
+pub behind-with_step : (steps before : List Step) (node : ℕ) (v : Verdict) (rest : Stack) → behind steps (with_step node v before rest) ≡ with_step node v (steps ++ before) rest
+behind-with_step steps before node None rest = refl
+behind-with_step steps before node (Some v) rest =
     ap (λ (s : List Step). Some (record { sat = v.0; steps = s; rest = rest })) (sym (append_assoc steps before (own node v.0 v.1 ∷ [])))
 
 -- a child, and nothing more
@@ -46,7 +46,7 @@ child_end node w follow steps s sat after rest v e is =
     let f = h.0 in
     ap (λ o. behind steps (next o (λ first. go_on node (follow first.sat) first))) h.1
     ∙ ap (λ n. behind steps (go_on node n f)) (ap follow h.2 ∙ is)
-    ∙ behind_ended steps f.steps node v f.rest
+    ∙ behind-with_step steps f.steps node v f.rest
     ∙ ap (λ t. with_step node v t f.rest) h.3
     ∙ ap (with_step node v after) h.4
 
@@ -64,7 +64,7 @@ child_go node w second follow verdict steps s a middle between b after rest e is
     ap (λ o. behind steps (next o (λ first. go_on node (follow first.sat) first))) h.1
     ∙ ap (λ n. behind steps (go_on node n f)) (ap follow h.2 ∙ is)
     ∙ ap (λ o. behind steps (next o (λ x. with_step node (verdict x.sat) (f.steps ++ x.steps) x.rest))) (ap second h.4 ∙ k.1)
-    ∙ behind_ended steps (f.steps ++ g.steps) node (verdict g.sat) g.rest
+    ∙ behind-with_step steps (f.steps ++ g.steps) node (verdict g.sat) g.rest
     ∙ ap (λ t. with_step node (verdict g.sat) t g.rest) (sym (append_assoc steps f.steps g.steps) ∙ ap (λ t. t ++ g.steps) h.3 ∙ k.3)
     ∙ ap (λ (v : Bool). with_step node (verdict v) after g.rest) k.2
     ∙ ap (with_step node (verdict b) after) k.4
@@ -94,7 +94,7 @@ pub leaf_done : (given : Given) (stack : List Bytes) (tree : Tree) (s b c : Cour
 leaf_done given stack tree s b c result v one steps same l e h =
     finish given stack tree s b c result v
     (ap (behind s.steps.items) e
-    ∙ behind_ended s.steps.items [] s.next v (below stack b.left)
+    ∙ behind-with_step s.steps.items [] s.next v (below stack b.left)
     ∙ ap (λ (t : List Step). with_step s.next v t (below stack b.left)) (append-nil s.steps.items ∙ sym steps)
     ∙ ap (λ (n : ℕ). with_step n v b.steps.items (below stack b.left)) (sym same))
     (omega (arith, one, same)) l h
@@ -222,7 +222,7 @@ thresh_done given stack k xs s b c result count h e =
     let f = a.0 in
     finish given stack (thresh k xs) s b c result (count_verdict (count == k) (count == 0))
     (ap (λ o. behind s.steps.items (next o (λ c. with_step (s.next + nodes_of xs) (count_verdict (c.count == k) (c.count == 0)) c.steps c.rest))) a.1
-    ∙ behind_ended s.steps.items f.steps (s.next + nodes_of xs) (count_verdict (f.count == k) (f.count == 0)) f.rest
+    ∙ behind-with_step s.steps.items f.steps (s.next + nodes_of xs) (count_verdict (f.count == k) (f.count == 0)) f.rest
     ∙ ap (λ (n : ℕ). with_step (s.next + nodes_of xs) (count_verdict (n == k) (n == 0)) (s.steps.items ++ f.steps) f.rest) a.2
     ∙ ap (λ (t : List Step). with_step (s.next + nodes_of xs) (count_verdict (count == k) (count == 0)) t f.rest) a.3
     ∙ ap (with_step (s.next + nodes_of xs) (count_verdict (count == k) (count == 0)) b.steps.items) a.4

@@ -35,7 +35,7 @@ impl<'a> Source for ByteSource<'a> {
 
     ghost faults = { λ _. 0 };
 
-    /// HoldsOfReply as many bytes as the buffer has room for, or all that are left.
+    /// Gives as many bytes as the buffer has room for, or all that are left.
     fn read(&mut self, buf: &mut [u8]) -> Result<usize, SourceFailed>
         ensures bound { ReadsAtMost result buf.new }
         ensures bytes { ReadConsumes (Some self.old) (Some self.new) result buf.new }
