@@ -13,11 +13,11 @@ pub enum Status {
     Usage,
     /// The text has no tree, or there is a reason against its tree, of those that the command asks for.
     TextRefused,
-    /// The asset file or the run file is refused, or has over 1,048,576 bytes.
+    /// The asset file, the run file or the plan file is refused, or has over 1,048,576 bytes.
     FileRefused,
-    /// No canonical satisfaction of the text exists with the file's assets.
+    /// No canonical satisfaction of the text exists with the file's assets, or none even where all keys of a plan file sign.
     NoSatisfaction,
-    /// The source failed, and nothing was written.
+    /// The source failed where a file is wanted, and nothing was written.
     ReadFault,
     /// The sink failed, and has a front of the report.
     WriteFault,
@@ -27,7 +27,7 @@ pub enum Status {
     ScriptRefused,
     /// The run file's script isn't the text's, or the interpreter refused its stack.
     NotAccepted,
-    /// No miniscript has the Script that was given, with the keys that were listed.
+    /// No miniscript that is valid by the limits of policy, whose keys of `pk_h` are listed, has the Script that was given.
     NoReading,
 }
 

@@ -1,4 +1,4 @@
-//! Definitions of the height of a miniscript: how many elements both stacks hold at most while one of its
+//! Definitions of the height of a miniscript: how many elements both stacks hold at most while one of its canonical
 //! satisfactions is run.
 #![tactic(auto)]
 

@@ -1,5 +1,5 @@
--- Runs that show each fault, and where it stops short. Each is refused for the reason that its line says and for no
--- other; timelocks stand in LockRows.
+-- Runs that show each fault, and where it stops short. The fault that a line names is the first one that the run
+-- meets; timelocks stand in LockRows.
 use Rattle.std.specs.Prelude.{◌≡◌, [], ◌∷◌, ◌++◌, replicate}
 use Rattle.def_hash.specs.Hex.{from_hex}
 use Rattle.def_machine.specs.declared.ScriptFault.TheVariants as fault

@@ -6,17 +6,17 @@ pub mod laws;
 
 pub use def_types::{Mall, RuleAt, Ty};
 
-/// What a miniscript takes at most: the bytes of its Script, the opcodes that count in a run of it, and
-/// the items and the weight of a satisfaction.
+/// What a miniscript takes at most: the bytes of its Script, the opcodes that count in a run of it on a canonical
+/// satisfaction, and the items and the weight of one.
 #[derive(Clone, Copy, Debug, PartialEq, Eq)]
 pub struct Limits {
     /// The bytes of its Script.
     pub size: u64,
     /// The opcodes that count in a run of its Script, with the keys of each `multi` that is executed.
     pub ops: u64,
-    /// The items of a satisfaction, without the Script.
+    /// The items of a canonical satisfaction, without the Script.
     pub items: u64,
-    /// The weight of a satisfaction, in bytes: the sum over its items, without the Script, of 1 and the item's length.
+    /// The weight of a canonical satisfaction, in bytes: the sum over its items, without the Script, of 1 and the item's length.
     pub weight: u64,
 }
 
@@ -39,9 +39,9 @@ pub enum Unfit {
     TopNotB,
     /// The Script has this many bytes, which are too many.
     Size(u64),
-    /// A run counts this many opcodes, which are too many.
+    /// A run on a canonical satisfaction counts this many opcodes, which are too many.
     Ops(u64),
-    /// A satisfaction has this many items, which are too many.
+    /// A canonical satisfaction has this many items, which are too many.
     Items(u64),
     /// A requirement of the malleability properties is false, at this node.
     Malleable(RuleAt),

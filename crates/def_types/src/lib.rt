@@ -29,7 +29,7 @@ pub struct Ty {
     pub z: bool,
     /// One-arg: it takes exactly one item.
     pub o: bool,
-    /// Nonzero: its satisfactions never have an empty string on top.
+    /// Nonzero: it takes an item at least, and no satisfaction has the empty string on top.
     pub n: bool,
     /// Dissatisfiable: there is a dissatisfaction that can always be given.
     pub d: bool,

@@ -1,4 +1,4 @@
-//! The height of a miniscript: how many elements both stacks hold at most while a satisfaction is run.
+//! The height of a miniscript: how many elements both stacks hold at most while a canonical satisfaction is run.
 #![tactic(auto)]
 
 mod choice;

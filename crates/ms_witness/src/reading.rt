@@ -13,7 +13,7 @@ use std::alloc::Global;
 /// The greatest number of items, and the greatest length of an item.
 const MOST_WITNESS: u64 = 10_000;
 
-/// ReadsAs the witness of a P2WSH input (BIP 141): the stack, bottom first, and the Script, which is the last item.
+/// Reads the witness of a P2WSH input (BIP 141): the stack, bottom first, and the Script, which is the last item.
 ///
 /// The first place in the bytes decides why they are refused. Each size is first read, which may be `Truncated` or
 /// `NonMinimalSize`; then a count of 0 is `Empty`, and a count or a length over 10,000 is `TooLong`; only then the

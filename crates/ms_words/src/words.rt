@@ -16,16 +16,17 @@ const MOST_CHILDREN: u32 = 30;
 /// How a satisfaction is chosen, and by which rules its text has to be sane or valid.
 #[derive(Clone, Copy, Debug, PartialEq, Eq)]
 pub enum Choice {
-    /// Of a sane text, so that nobody can change it.
+    /// Of a sane text, by the strict choice: nobody can change it without a signature that it doesn't show, another preimage
+    /// or another key with the same hash.
     Strict(Rules),
-    /// Of a valid text, so that it weighs least.
+    /// Of a valid text, so that no canonical one weighs less.
     Cheapest(Rules),
 }
 
 /// What is asked of a text, which has to be valid or sane by these rules.
 #[derive(Clone, Copy, Debug, PartialEq, Eq)]
 pub enum TextCommand {
-    /// `script`: its Script and the program of its output.
+    /// `script`: its Script.
     Script(Rules),
     /// `check`: what is known of it.
     Check(Rules),
