@@ -16,6 +16,12 @@
  *
  * No state is kept between calls, so threads may call at once. Nothing is printed, no file is opened, and nothing that is
  * allocated is left. Bytes behind those that a call writes stay as they were, and so does what an answer doesn't speak of.
+ *
+ * A satisfaction is canonical where BIP 379's table makes it by rows that it doesn't mark as non-canonical, with what the file
+ * holds: its signatures, for a hash the first of its preimages that has it, for a key hash the condition's own key, and 32 zero
+ * bytes where a hash is dissatisfied. That nobody can change it means: every other stack that is accepted in the same
+ * transaction passes the check of a signature that this one doesn't show, be it one that the file holds too; or has a preimage
+ * other than the first that the file has for its hash; or another key with the HASH160 of a key of the condition.
  */
 #ifndef MSAT_H
 #define MSAT_H
@@ -35,11 +41,11 @@ enum {
     MSAT_USAGE = 1,           /* the words are those of no command */
     MSAT_TEXT_REFUSED = 2,    /* the text is refused, and why is told */
     MSAT_FILE_REFUSED = 3,    /* the asset file, plan file or run file is refused, and why is told */
-    MSAT_NO_SATISFACTION = 4, /* there is no satisfaction, or no plan */
+    MSAT_NO_SATISFACTION = 4, /* there is no canonical satisfaction, or no plan */
     MSAT_NO_MEMORY = 7,       /* memory was wanting: nothing was written */
     MSAT_SCRIPT_REFUSED = 8,  /* the interpreter refused the script of a run file */
     MSAT_NOT_ACCEPTED = 9,    /* the stack of a run file doesn't satisfy the text */
-    MSAT_NO_READING = 10,     /* no miniscript has the Script that was to be decoded */
+    MSAT_NO_READING = 10,     /* no miniscript that is valid by policy, with the keys named, has the Script to be decoded */
     MSAT_UNREADABLE = 11      /* the words aren't so many, or a word or a text isn't UTF-8: nothing was written */
 };
 
@@ -96,8 +102,8 @@ enum { MSAT_WHOLE, MSAT_VERSION, MSAT_SEQUENCE, MSAT_LOCKTIME, MSAT_SIGNATURES, 
 
 /* What is known of a sane text. */
 struct msat_facts {
-    uint64_t size, ops, items, weight; /* its limits */
-    uint64_t height;                   /* the most elements that both stacks hold together while a satisfaction is run */
+    uint64_t size, ops, items, weight; /* its limits: the greatest numbers over all canonical satisfactions */
+    uint64_t height;                   /* the most elements that both stacks hold together while a canonical one is run */
     uint32_t base;                     /* 0 is B, 1 is V, 2 is K, 3 is W */
     bool z, o, n, d, u, s, f, e;       /* the properties of both types */
 };
@@ -126,8 +132,8 @@ uint32_t msat_check(bool consensus, const uint8_t *text, size_t text_len, struct
 uint32_t msat_least_weight(bool consensus, const uint8_t *text, size_t text_len, const uint8_t *file, size_t file_len,
                            uint64_t *weight, struct msat_reason *reason);
 
-/* The items of the witness of a satisfaction by an asset file, bottom first, the Script as the last one. It is the satisfaction
- * of a sane text that nobody can change, or with `malleable` the lightest one of a valid text.
+/* The items of the witness of a satisfaction by an asset file, bottom first, the Script as the last one. It is the strict
+ * satisfaction of a sane text, which nobody can change, or with `malleable` the lightest canonical one of a valid text.
  *
  * bytes    room for the items, one after the other. The beginning is written as far as there is room.
  * needed   how many bytes all items have
@@ -135,8 +141,8 @@ uint32_t msat_least_weight(bool consensus, const uint8_t *text, size_t text_len,
  *          fit, not how many bytes that is.
  * count    how many items there are
  *
- * Where there was too little room in either, call again. A text has at most 101 items by the limits of policy, and a satisfaction
- * of each text weighs at most `weight` of msat_facts, so that with the Script there are at most `weight + size` bytes.
+ * Where there was too little room in either, call again. By the limits of policy there are at most 101 items, and both satisfactions
+ * weigh at most `weight` of msat_facts, so that with the Script there are at most `weight + size` bytes.
  */
 uint32_t msat_witness(bool malleable, bool consensus, const uint8_t *text, size_t text_len, const uint8_t *file, size_t file_len,
                       uint8_t *bytes, size_t bytes_len, size_t *needed, size_t *lengths, size_t lengths_len, size_t *count,

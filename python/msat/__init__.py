@@ -131,7 +131,9 @@ def facts(text: str, *, consensus: bool = False) -> Facts:
 
 
 def satisfy(text: str, assets: File, *, malleable: bool = False, consensus: bool = False) -> Satisfaction:
-    """The satisfaction of a sane text by these assets that nobody can change, or with `malleable` the lightest one of a valid text.
+    """The canonical satisfaction of a sane text by these assets that nobody can change without a signature that it doesn't show,
+    another preimage than the first known one of its hash, or another key with the same HASH160; or with `malleable` the lightest
+    canonical one of a valid text.
 
     >>> satisfy("pk(020101010101010101010101010101010101010101010101010101010101010101)", Assets())
     Traceback (most recent call last):
@@ -193,7 +195,7 @@ def run(file: File) -> Accepted:
 
 
 def policy(text: str) -> Policy:
-    """What a sane text demands.
+    """What a sane text demands, and how many keys have to sign at least where every hash and lock is met.
 
     >>> policy("pk(020101010101010101010101010101010101010101010101010101010101010101)").keys
     1
@@ -204,7 +206,8 @@ def policy(text: str) -> Policy:
 
 
 def plan(text: str, file: File) -> Plan:
-    """Which keys to ask for a signature, by a plan file: assets whose `keys` say who can sign.
+    """Which keys to ask for a signature, by a plan file: assets whose `keys` say who can sign. They are enough, and where none of their
+    signatures is longer than estimated the satisfaction weighs no more than is told.
 
     >>> KEY = bytes.fromhex("020101010101010101010101010101010101010101010101010101010101010101")
     >>> plan(f"pk({KEY.hex()})", Assets(keys=(Estimate(KEY, 72),))).weight
@@ -235,7 +238,7 @@ def audit(text: str, file: File) -> Audit:
 
 
 def decode(script: bytes, keys: Sequence[bytes] = ()) -> str:
-    """The text that a Script is read back as. The keys are those that its hashes of keys may have.
+    """The text, valid by the limits of policy, that a Script is read back as. The keys are those that its hashes of keys may be of.
 
     >>> decode(bytes.fromhex("029000b2"))
     'older(144)'

@@ -8,7 +8,7 @@ from typing import Optional, Union
 @dataclass(frozen=True)
 class Limits:
     """What a miniscript takes at most: the bytes of its Script, the opcodes that count in a run of it, and the items and the
-    weight of a satisfaction. By the rules of consensus also the elements that the stacks hold together."""
+    weight of a canonical satisfaction. By the rules of consensus also the elements that the stacks hold together in its run."""
 
     size: int
     ops: int
@@ -102,7 +102,8 @@ class Policy:
 
 @dataclass(frozen=True)
 class Plan:
-    """The keys to ask for a signature, and the most that the satisfaction will weigh then."""
+    """The keys to ask for a signature, and the most that the satisfaction will weigh then, where none of theirs is longer than
+    estimated."""
 
     keys: tuple[bytes, ...]
     weight: int
