@@ -13,11 +13,11 @@ pub struct Facts {
     pub size: u64,
     /// The most opcodes that count in a run of it.
     pub ops: u64,
-    /// The most items of a satisfaction.
+    /// The most items of a canonical satisfaction.
     pub items: u64,
-    /// The most that a satisfaction weighs.
+    /// The most that a canonical satisfaction weighs.
     pub weight: u64,
-    /// The most elements that the stacks hold together while a satisfaction is run.
+    /// The most elements that the stacks hold together while a canonical one is run.
     pub height: u64,
     /// The base type: 0 is B, 1 is V, 2 is K and 3 is W. A sane text is B.
     pub base: u32,

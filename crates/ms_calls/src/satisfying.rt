@@ -102,7 +102,7 @@ pub fn witness(
     }
 }
 
-/// The least weight of a satisfaction of a text.
+/// The least weight of a canonical satisfaction of a text.
 fn weight_in(alloc: Global, rules: Rules, text: &[u8], file: &[u8]) -> Result<u64, Stop>
     ensures { FindsOf text.now (weight_given rules file.now) result }
 {
@@ -113,7 +113,7 @@ fn weight_in(alloc: Global, rules: Rules, text: &[u8], file: &[u8]) -> Result<u6
     }
 }
 
-/// The least weight of a satisfaction of a text that was read.
+/// The least weight of a canonical satisfaction of a text that was read.
 fn weight_of_text(
     alloc: Global,
     rules: Rules,
@@ -127,7 +127,7 @@ fn weight_of_text(
     weight_of_tree(alloc, text.tree(), file, &mut passing.work)
 }
 
-/// The least weight of a satisfaction of a valid tree.
+/// The least weight of a canonical satisfaction of a valid tree.
 fn weight_of_tree(alloc: Global, tree: &Tree<'_>, file: &[u8], work: &mut Work) -> Result<u64, Stop>
     requires in_range { IsInRange (shape tree.now) }
     requires valid { IsValidUnder Consensus (shape tree.now) }
