@@ -2,7 +2,9 @@
 """Tries the Python package on each example, and runs the examples in its docstrings; and tries what is asked without a report on
 texts and files that are refused in each way, against the report. Ends with 1 where anything differs."""
 
+import copy
 import doctest
+import pickle
 import random
 import re
 import sys
@@ -185,6 +187,34 @@ def try_names() -> None:
         faults.append(f"include/msat.h has the kinds {kinds}")
 
 
+def try_edges() -> None:
+    """Texts and files that aren't UTF-8 or have a NUL, exceptions that are copied, and files of no kind."""
+    for word in ("\ud800", "\udcff", "a\0", "\0"):
+        if msat.answer(["script", word]) != (11, ""):
+            faults.append(f"answer {word!a}: {msat.answer(['script', word])}")
+        for call in (msat.script, msat.facts, msat.check, msat.policy):
+            if refusal(call, word) != ("Unreadable", ""):
+                faults.append(f"{call.__name__} {word!a}: {refusal(call, word)}")
+        for call in (msat.satisfy, msat.witness, msat.least_weight, msat.plan, msat.audit):
+            if refusal(call, word, b"{}") != ("Unreadable", ""):
+                faults.append(f"{call.__name__} {word!a}: {refusal(call, word, b'{}')}")
+    for file in ("\ud800", "\udcff", b"\xff", bytearray(b"\xff")):
+        if refusal(msat.least_weight, f"pk({KEYS[0]})", file) != ("FileRefused", "refused file NotJson\n"):
+            faults.append(f"a file {file!a}")
+    for file in ([1, 2], 5, None, Path("/")):
+        try:
+            msat.satisfy(f"pk({KEYS[0]})", file)
+            faults.append(f"a file {file!r} is taken")
+        except TypeError:
+            pass
+    refused = [errors.MsatError("r\n"), errors.Unreadable(""), errors.TextRefused("refused text Size 9\n", "Size", None, None, 9),
+               errors.FileRefused("refused file Hex script 1\n", "Hex", "script", 1)]  # fmt: skip
+    for one in refused:
+        for other in (copy.copy(one), copy.deepcopy(one), pickle.loads(pickle.dumps(one))):
+            if type(other) is not type(one) or vars(other) != vars(one) or str(other) != str(one):
+                faults.append(f"a copy of {one!r} is {other!r}")
+
+
 def try_folders(folders: list[Path]) -> None:
     for folder in folders:
         try_answer(folder)
@@ -200,7 +230,8 @@ for thread in threads:
     thread.join()
 try_refusals()
 try_names()
-for module in (msat, msat.results, errors):
+try_edges()
+for module in (msat, msat.results, errors, msat._library):
     failed = doctest.testmod(module, optionflags=doctest.IGNORE_EXCEPTION_DETAIL).failed
     if failed:
         faults.append(f"{module.__name__}: {failed} examples of docstrings fail")

@@ -49,6 +49,7 @@ from .results import (
     Signature,
     Step,
     file_bytes,
+    spelled,
 )
 
 __all__ = [
@@ -59,7 +60,7 @@ __all__ = [
 ]  # fmt: skip
 
 
-def answer(words: Sequence[str], source: bytes = b"") -> tuple[int, str]:
+def answer(words: Sequence[str], source: File = b"") -> tuple[int, str]:
     """The exit status and the report of the program for these words, where its standard input holds `source`.
 
     A word that isn't UTF-8, as one with a lone surrogate, or that has a NUL gives 11 and no report.
@@ -71,14 +72,13 @@ def answer(words: Sequence[str], source: bytes = b"") -> tuple[int, str]:
     >>> answer(["script", "\\udcff"])
     (11, '')
     """
-    spelled = [_spelled(word) for word in words]
-    if any(b"\0" in word for word in spelled):
+    if any("\0" in word for word in words):
         return _library.UNREADABLE, ""
-    code, text = _library.answer(spelled, bytes(source))
+    code, text = _library.answer([spelled(word) for word in words], file_bytes(source))
     return code, text.decode()
 
 
-def report(words: Sequence[str], source: bytes = b"") -> str:
+def report(words: Sequence[str], source: File = b"") -> str:
     """The report of these words where the status is 0; otherwise the refusal is raised.
 
     >>> report(["policy", "older(144)"])
@@ -97,7 +97,7 @@ def script(text: str, *, consensus: bool = False) -> bytes:
     >>> script("older(144)").hex()
     '029000b2'
     """
-    code, found, reason = _library.script(consensus, _spelled(text))
+    code, found, reason = _library.script(consensus, _text(text))
     _refuse_by(code, reason)
     return found
 
@@ -124,7 +124,7 @@ def facts(text: str, *, consensus: bool = False) -> Facts:
     >>> facts("pk(020101010101010101010101010101010101010101010101010101010101010101)")
     Facts(limits=Limits(size=35, ops=1, items=1, weight=74, height=2), type='Bonduse')
     """
-    code, found, reason = _library.check(consensus, _spelled(text))
+    code, found, reason = _library.check(consensus, _text(text))
     _refuse_by(code, reason)
     limits = Limits(found.size, found.ops, found.items, found.weight, found.height)
     return Facts(limits, "BVKW"[found.base] + "".join(letter for letter in "zondusfe" if getattr(found, letter)))
@@ -157,7 +157,7 @@ def least_weight(text: str, assets: File, *, consensus: bool = False) -> int:
     >>> least_weight("or_i(pk(020101010101010101010101010101010101010101010101010101010101010101),older(9))", Assets(sequence=9))
     1
     """
-    code, weight, reason = _library.least_weight(consensus, _spelled(text), file_bytes(assets))
+    code, weight, reason = _library.least_weight(consensus, _text(text), file_bytes(assets))
     _refuse_by(code, reason)
     assert weight is not None
     return weight
@@ -170,7 +170,7 @@ def witness(text: str, assets: File, *, malleable: bool = False, consensus: bool
     >>> [item.hex() for item in witness(f"or_i(pk({KEY}),older(9))", Assets(sequence=9), malleable=True)]
     ['', '6321020101010101010101010101010101010101010101010101010101010101010101ac6759b268']
     """
-    code, items, reason = _library.witness(malleable, consensus, _spelled(text), file_bytes(assets))
+    code, items, reason = _library.witness(malleable, consensus, _text(text), file_bytes(assets))
     _refuse_by(code, reason)
     return items
 
@@ -247,9 +247,11 @@ def decode(script: bytes, keys: Sequence[bytes] = ()) -> str:
     return lines["text"][0]
 
 
-def _spelled(word: str) -> bytes:
-    """A word as the bytes that the library reads. A lone surrogate stands for a byte that isn't UTF-8, as in `sys.argv`."""
-    return word.encode(errors="surrogateescape")
+def _text(text: str) -> bytes:
+    """A text as the bytes that the library reads. One with a NUL is no word, and is refused as `answer` refuses it."""
+    if "\0" in text:
+        raise Unreadable("")
+    return spelled(text)
 
 
 def _rules(consensus: bool) -> list[str]:

@@ -32,20 +32,27 @@ class Facts(ctypes.Structure):
     ]
 
 
-def _places() -> list[Path]:
-    """Where the shared object may lie: as told, beside the installed package, or in the repository."""
-    here = Path(__file__).resolve()
-    told = os.environ.get("MSAT_LIBRARY")
-    if told:
-        return [Path(told)]
-    return [here.parents[3] / NAME, here.parents[2] / "crates/msat_c/out" / NAME]
+def places(package: Path) -> list[Path]:
+    """Where the shared object of a package may lie, whose folder this is: beside it, and where `./install` has put both, in the
+    folder `lib` of the prefix. No other place is looked at, so that nothing is loaded that others could have put there.
+
+    >>> [str(place) for place in places(Path("/usr/local/lib/python3/dist-packages/msat"))]
+    ['/usr/local/lib/python3/dist-packages/msat/libmsat.so.1', '/usr/local/lib/libmsat.so.1']
+    >>> [str(place) for place in places(Path("/tmp/checkout/python/msat"))]
+    ['/tmp/checkout/python/msat/libmsat.so.1']
+    """
+    installed = package.parents[2:3] if package.match("lib/python3/dist-packages/msat") else ()
+    return [folder / NAME for folder in (package, *installed)]
 
 
 def _load() -> ctypes.CDLL:
-    for place in _places():
+    told = os.environ.get("MSAT_LIBRARY")
+    tried = [Path(told)] if told else places(Path(__file__).resolve().parent)
+    for place in tried:
         if place.exists():
             return ctypes.CDLL(str(place))
-    return ctypes.CDLL(NAME)
+    names = ", ".join(map(str, tried))
+    raise ImportError(f"msat: {NAME} isn't there ({names}): ./install puts it there, and MSAT_LIBRARY names another place")
 
 
 _READ = [ctypes.c_char_p, ctypes.c_size_t]

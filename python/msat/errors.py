@@ -14,6 +14,10 @@ class MsatError(Exception):
         super().__init__(report.strip() or type(self).__name__)
         self.report = report
 
+    def __reduce__(self) -> tuple:
+        """Copies and pickles are made of what it was made of."""
+        return type(self), (self.report,)
+
 
 class Usage(MsatError):
     """The words are those of no command."""
@@ -32,6 +36,10 @@ class Refused(MsatError):
         self.subject = subject
         self.place = place
         self.number = number
+
+    def __reduce__(self) -> tuple:
+        """Copies and pickles are made of what it was made of."""
+        return type(self), (self.report, self.name, self.subject, self.place, self.number)
 
 
 class TextRefused(Refused):

@@ -165,11 +165,31 @@ File = Union[Assets, dict, str, bytes]
 
 
 def file_bytes(file: File) -> bytes:
-    """The bytes of a file that is given as assets, as an object of JSON, as its text or as they are."""
+    """The bytes of a file that is given as assets, as an object of JSON, as its text or as they are.
+
+    >>> file_bytes(5)
+    Traceback (most recent call last):
+    TypeError: a file is Assets, a dict, a str or bytes, and no int
+    """
     if isinstance(file, Assets):
         return file.json()
     if isinstance(file, dict):
         return json.dumps(file).encode()
     if isinstance(file, str):
-        return file.encode()
-    return bytes(file)
+        return spelled(file)
+    if isinstance(file, (bytes, bytearray, memoryview)):
+        return bytes(file)
+    raise TypeError(f"a file is Assets, a dict, a str or bytes, and no {type(file).__name__}")
+
+
+def spelled(word: str) -> bytes:
+    """A text as the bytes that the library reads. A lone surrogate stands for a byte that isn't UTF-8, as in `sys.argv`, and one
+    that stands for none gives bytes that aren't UTF-8 either.
+
+    >>> spelled("\udcff"), spelled("\ud800")
+    (b'\xff', b'\xed\xa0\x80')
+    """
+    try:
+        return word.encode(errors="surrogateescape")
+    except UnicodeEncodeError:
+        return word.encode(errors="surrogatepass")
