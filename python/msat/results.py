@@ -183,7 +183,7 @@ def file_bytes(file: File) -> bytes:
 
 
 def spelled(word: str) -> bytes:
-    """A text as the bytes that the library reads. A lone surrogate stands for a byte that isn't UTF-8, as in `sys.argv`, and one
+    r"""A text as the bytes that the library reads. A lone surrogate stands for a byte that isn't UTF-8, as in `sys.argv`, and one
     that stands for none gives bytes that aren't UTF-8 either.
 
     >>> spelled("\udcff"), spelled("\ud800")
