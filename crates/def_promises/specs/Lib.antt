@@ -3,3 +3,4 @@ pub mod Acceptance
 pub mod Letters
 pub mod Promises
 pub mod Examples
+pub mod Courses

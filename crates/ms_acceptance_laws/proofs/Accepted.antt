@@ -2,16 +2,16 @@
 use Rattle.std.proofs.Common.{◌≡◌, ℕ, ◌+◌, ◌^◌, ◌<◌, ◌≤◌, nat_le, Bool, true, false, List, [], ◌∷◌, ◌++◌, length, reverse, All, Ok, refl, sym, ◌∙◌, ap, subst, ◌⊎◌, inl, inr, arith}
 use Rattle.std.specs.List.{list_all}
 use Rattle.std.proofs.lemmas.Bool.{leb-true, false≢true, and_parts}
-use Rattle.std.proofs.lemmas.List.{append-nil, reverse-reverse}
+use Rattle.std.proofs.lemmas.List.{append-nil, reverse-reverse, length-reverse}
 use Rattle.std.proofs.lemmas.List.Elements.{All-head, All-tail, All-weaker}
 use Rattle.def_script.specs.Bytes.{Bytes}
 use Rattle.def_script.specs.Signature.{MAX_SIGNATURE_SIZE}
 use Rattle.def_script.specs.Decode.{truth}
 use Rattle.def_script.specs.Spell.{MAX_SCRIPT_ELEMENT_SIZE}
 use Rattle.def_machine.specs.Stacks.{Stack, Pairs}
-use Rattle.def_machine.specs.Machine.{Given}
+use Rattle.def_machine.specs.Machine.{Given, State}
 use Rattle.def_machine.specs.declared.ScriptFault.{ScriptFault}
-use Rattle.def_machine.specs.Run.{run, accepted, refused}
+use Rattle.def_machine.specs.Run.{Outcome, run, accepted, refused}
 use Rattle.def_tree.specs.Tree.{Tree}
 use Rattle.def_tree.specs.Range.{IsWritable}
 use Rattle.def_types.specs.declared.Base.{Base}
@@ -21,9 +21,11 @@ use Rattle.def_assets.specs.Assets.{Assets, AreAssets, known}
 use Rattle.def_sane.specs.declared.Limits.{Limits}
 use Rattle.def_sane.specs.Limits.{AreLimits}
 use Rattle.def_script.specs.Instruction.{opcode_count}
-use Rattle.def_sane.proofs.Greatest.{limits_are_unique}
+use Rattle.def_sane.specs.Most.{limits_of}
+use Rattle.def_sane.proofs.Greatest.{limits_are_unique, limits_are_computed}
 use Rattle.def_height.specs.Formal.{Way, FormalSat}
 use Rattle.def_height.specs.Height.{IsHeight, peak}
+use Rattle.def_height.specs.Height as height_of_way
 use Rattle.def_height.specs.Highest.{height_of}
 use Rattle.def_height.proofs.Found.{height_is_computed}
 use Rattle.def_height.proofs.Bounds.{height_is_low}
@@ -34,6 +36,7 @@ use Rattle.def_satisfaction.proofs.Canonical.{held}
 use Rattle.def_satisfaction.proofs.Wider.{IsWider, row_within}
 use Rattle.def_choice.specs.NonMalleable.{IsAccepted, given_with}
 use Rattle.def_promises.specs.Acceptance.{IsAcceptedWithin, CanonicalIsAccepted, InversionHolds}
+use Rattle.def_promises.specs.Courses.{HasCourse, CanonicalHasCourse}
 use Rattle.def_promises.specs.Limited.{StopsAtLimit}
 use Rattle.def_satisfaction.proofs.EqualParts.{first_same, rest_same}
 use Rattle.ms_acceptance_laws.proofs.TreeEffects.{den}
@@ -44,11 +47,12 @@ use Rattle.ms_acceptance_laws.proofs.ForwardBases.{Short, Ends, EndsB}
 use Rattle.ms_acceptance_laws.proofs.ForwardTrees.{sat_ends}
 use Rattle.ms_acceptance_laws.proofs.BackwardBases.{Back, BackB, logged, Took}
 use Rattle.ms_acceptance_laws.proofs.BackwardTrees.{inverts}
+use Rattle.ms_acceptance_laws.proofs.UnlimitedMachine.{reached, free_steps}
 use Rattle.ms_acceptance_laws.proofs.RunHeights.{IsLow}
 use Rattle.ms_acceptance_laws.proofs.SimplePaths.{Path}
 use Rattle.ms_acceptance_laws.proofs.TreePaths.{sat_path}
 use Rattle.ms_row_laws.proofs.WithinLimits.{sized_sat, within_limits, few_ops}
-use Rattle.ms_acceptance_laws.proofs.ScriptRuns.{first, accepted_run, run_accepted, run_or_limit, too_long}
+use Rattle.ms_acceptance_laws.proofs.ScriptRuns.{first, does_first, accepted_run, run_accepted, run_or_limit, too_long}
 use Rattle.ms_row_laws.proofs.RunLog.{Log}
 use Rattle.ms_acceptance_laws.proofs.StackEffects.{left}
 
@@ -90,17 +94,24 @@ pub record Accepts (tree : Tree) (limits : Limits) (assets : Assets) (table : Pa
   pub run : run (given_with assets table) (script_of tree) stack ≡ accepted (opcode_count (emit tree) + (sat_log (canonical_with assets table) tree (reverse stack) r).keys) peak (sat_log (canonical_with assets table) tree (reverse stack) r).checks
   pub few_ops : opcode_count (emit tree) + (sat_log (canonical_with assets table) tree (reverse stack) r).keys ≤ limits.ops
   pub low : (height : ℕ) → IsHeight tree height → peak ≤ height
+  pub way : Way
+  pub formal : FormalSat tree way
+  pub items : length stack ≡ way.items
+  pub course : peak ≡ height_of_way.peak way
 
 -- no way is higher than the height
 below_height : (tree : Tree) (h : ℕ) → IsHeight tree h → (way : Way) → FormalSat tree way → peak way ≤ h
 below_height tree h (inl g) way formal = g.3 way formal
 below_height tree h (inr g) way formal = absurd (g.0 way formal)
 
--- how high the stacks get
+-- how high the stacks get: as high as on a formal satisfaction with as many items
 record HasPeak (tree : Tree) (given : Given) (w : Stack) : Type 0 where
-  pub most : ℕ
-  pub low : IsLow given (emit tree) (first w) most
-  pub below : (h : ℕ) → IsHeight tree h → most ≤ h
+  pub way : Way
+  pub formal : FormalSat tree way
+  pub items : length w ≡ way.items
+  pub low : IsLow given (emit tree) (first w) (peak way)
+  pub high : (t : State) → free_steps given (emit tree) (first w) ≡ Ok t → (n : ℕ) → IsLow given (emit tree) (first w) n → peak way ≤ n
+  pub below : (h : ℕ) → IsHeight tree h → peak way ≤ h
 
 has_peak : (s : Setting) → s.all_rows ≡ false → (tree : Tree) → IsWritable tree → IsWithinConsensus tree → (w : Stack) → Short w → (row s tree).sat w → HasPeak tree s.given w
 has_peak s canonical tree writable consensus w short r =
@@ -108,8 +119,11 @@ has_peak s canonical tree writable consensus w short r =
     subst (λ (b : Base). Path s.given b (emit tree) (FormalSat tree) w) consensus.base
     (sat_path s (λ i. false≢true (sym canonical ∙ i)) tree writable consensus.typed (few_children tree consensus) w short r) in
     record {
-      most = peak path.way;
+      way = path.way;
+      formal = path.formal;
+      items = path.items;
       low = (path.keeps []).low (first w) refl (sym (append-nil w)) (peak path.way) (omega (arith, path.items));
+      high = λ t e n h. let top = (path.keeps []).high (first w) t refl (sym (append-nil w)) e n h in omega (arith, top, path.items);
       below = λ h is. below_height tree h is path.way path.formal;
     }
 
@@ -126,7 +140,7 @@ accepts_row tree limits assets table stack writable consensus are_limits are sat
     let top = has_peak s refl tree writable consensus w short r in
     let height = height_is_computed tree consensus.typed in
     let done =
-    accepted_run s.given tree w (left (ends.0 ∷ []) (sat_log s tree w r)) ends.0 top.most writable consensus.size (All-weaker (λ item. length item ≤ MAX_SIGNATURE_SIZE) (λ item. length item ≤ 520) (λ item h. omega (arith, h)) w sized.short) ends.1 refl ends.2
+    accepted_run s.given tree w (left (ends.0 ∷ []) (sat_log s tree w r)) ends.0 (peak top.way) writable consensus.size (All-weaker (λ item. length item ≤ MAX_SIGNATURE_SIZE) (λ item. length item ≤ 520) (λ item h. omega (arith, h)) w sized.short) ends.1 refl ends.2
     (omega (arith, few, most, consensus.ops)) top.low
     (omega (arith, top.below (height_of tree) height, height_is_low tree consensus.typed consensus.base consensus.ops (height_of tree) height)) in
     record {
@@ -134,6 +148,10 @@ accepts_row tree limits assets table stack writable consensus are_limits are sat
       run = ap (run s.given (script_of tree)) (sym (reverse-reverse stack)) ∙ done.2;
       few_ops = few;
       low = λ h is. omega (arith, done.1, top.below h is);
+      way = top.way;
+      formal = top.formal;
+      items = omega (arith, top.items, length-reverse stack);
+      course = let most = top.high (reached (first w) (opcode_count (emit tree)) (left (ends.0 ∷ []) (sat_log s tree w r))) (does_first s.given tree w (left (ends.0 ∷ []) (sat_log s tree w r)) ends.1) done.0 done.3 in omega (arith, most, done.1);
     }
 
 pub accepts : (tree : Tree) (limits : Limits) (assets : Assets) (table : Pairs) (stack : List Bytes) → IsWritable tree → IsWithinConsensus tree → AreLimits tree limits → AreAssets assets → (holds : Holds table assets) → (sat : Sat tree assets stack) → Accepts tree limits assets table stack (sat_with tree assets table (reverse stack) holds sat)
@@ -160,6 +178,15 @@ accepted_in_consensus tree limits assets table stack writable consensus are_limi
 pub canonical_is_accepted : CanonicalIsAccepted
 canonical_is_accepted tree limits assets table stack writable valid are_limits are holds sat =
     accepted_in_consensus tree limits assets table stack writable (valid_consensus tree valid) are_limits are holds sat
+
+-- its peak is that of a formal satisfaction
+with_peak : (outcome : Outcome) (ops p q : ℕ) (checks : Pairs) → outcome ≡ accepted ops p checks → p ≡ q → outcome ≡ accepted ops q checks
+with_peak outcome ops p q checks e same = e ∙ ap (λ (n : ℕ). accepted ops n checks) same
+
+pub canonical_has_course : CanonicalHasCourse
+canonical_has_course tree assets table stack writable valid are holds sat =
+    let a = accepts tree (limits_of tree) assets table stack writable (valid_consensus tree valid) (limits_are_computed tree) are holds sat in
+    record { way = a.way; formal = a.formal; items = a.items; ops = _; checks = _; run = with_peak _ _ a.peak _ _ a.run a.course }
 
 -- the row of an accepted stack, and the pairs that its run found good
 pub record Accounted (tree : Tree) (given : Given) (stack : List Bytes) (checks : Pairs) : Type 0 where

@@ -3,22 +3,22 @@ use Rattle.std.proofs.Common.{◌≡◌, ◌≢◌, ℕ, ◌+◌, Bool, true, fa
 use Rattle.std.specs.Prelude.{◌+ℤ◌}
 use Rattle.def_hash.specs.declared.HashKind.{HashKind}
 use Rattle.def_hash.specs.declared.HashKind.TheVariants as hash_kind
+use Rattle.def_hash.specs.Hash.{digest_of}
 use Rattle.def_script.specs.declared.Op.TheVariants as op
 use Rattle.def_script.specs.Bytes.{Bytes}
 use Rattle.def_script.specs.Instruction.{Instruction, push, code}
 use Rattle.def_script.specs.Numbers.{natural_bytes, number_bytes}
 use Rattle.def_machine.specs.Faults.{OrFault, ◌>>=◌}
 use Rattle.def_machine.specs.Stacks.{Stack, bool_bytes}
-use Rattle.def_machine.specs.Effects.{to_alt_stack, dup, if_dup, swap, size, equal, verify, zero_not_equal, add, two_numbers, operand}
+use Rattle.def_machine.specs.Effects.{to_alt_stack, dup, if_dup, swap, size, equal, verify, zero_not_equal, add, hash, two_numbers, operand}
 use Rattle.def_machine.specs.Machine.{Given, State, is_live, act}
 use Rattle.def_types.specs.declared.Base.{Base}
-use Rattle.def_types.specs.declared.Base.TheVariants.{B, V, W}
+use Rattle.def_types.specs.declared.Base.TheVariants.{B, V, K, W}
 use Rattle.def_emit.specs.Emit.{push_number, hash_opcode}
 use Rattle.def_satisfaction.specs.Rows.{EMPTY, ONE, HasTop}
 use Rattle.def_height.specs.Course.{up, down, Course}
 use Rattle.def_height.specs.Formal.{Way, then, Is, Then, Followed}
-use Rattle.def_height.proofs.Courses.{rise_append}
-use Rattle.ms_acceptance_laws.proofs.ScriptRise.{rises}
+use Rattle.def_height.proofs.Courses.{rise_append, rise_ends}
 use Rattle.ms_acceptance_laws.proofs.StackEffects.{Left, Effect, both, plain, silent, pushes, left}
 use Rattle.ms_acceptance_laws.proofs.StackValues.{zero_not_equal-natural}
 use Rattle.ms_acceptance_laws.proofs.ForwardBases.{Beside, Short, split}
@@ -26,9 +26,9 @@ use Rattle.ms_acceptance_laws.proofs.ForwardFragments.{swapped, sized, some_leng
 use Rattle.ms_acceptance_laws.proofs.UnlimitedMachine.{reached, one_more, free_step, free_steps}
 use Rattle.ms_acceptance_laws.proofs.InstructionEffects.{Does, all_taken, goes_from, push_does}
 use Rattle.ms_acceptance_laws.proofs.SignatureOpcodes.{equal_verify_does}
-use Rattle.ms_acceptance_laws.proofs.ScriptEffects.{then_does, if_dup_does, dup_does, swap_does, size_does, zero_not_equal_does, add_does}
-use Rattle.ms_acceptance_laws.proofs.RunHeights.{low_behind}
-use Rattle.ms_acceptance_laws.proofs.WithinCourse.{Keeps, Follows, does_follow, one_follows, keeps_then, keeps_rises, keeps_as}
+use Rattle.ms_acceptance_laws.proofs.ScriptEffects.{then_does, hash_does, if_dup_does, dup_does, swap_does, size_does, zero_not_equal_does, add_does}
+use Rattle.ms_acceptance_laws.proofs.RunHeights.{low_first, low_behind}
+use Rattle.ms_acceptance_laws.proofs.WithinCourse.{Keeps, Follows, does_follow, one_follows, parted, keeps_then, keeps_pushes, keeps_as}
 use Rattle.ms_acceptance_laws.proofs.UntakenBranches.{Still}
 use Rattle.ms_acceptance_laws.proofs.BranchCourses.{else_taken, else_passed, only_taken, only_passed}
 use Rattle.ms_acceptance_laws.proofs.SimplePaths.{Path, Child, followed, on_follows, path_keeps, both_items, unit_then, unit_end, begun_path, led_path, is_path}
@@ -37,6 +37,9 @@ use Rattle.ms_row_laws.proofs.Outcomes.{bind_split, same_ok}
 
 pub b_not_w : B ≢ W
 b_not_w e = cc
+
+pub k_not_w : K ≢ W
+k_not_w e = cc
 
 v_not_w : V ≢ W
 v_not_w e = cc
@@ -56,40 +59,42 @@ module _ (given : Given) (m : Stack) where
   duplicated x = refl
 
   if_dup_one_follows : Follows given (code op.IfDup ∷ []) (up 1 ∷ []) (ONE ∷ m) (ONE ∷ ONE ∷ m)
-  if_dup_one_follows = one_follows given (code op.IfDup) (plain if_dup) (up 1 ∷ []) (ONE ∷ m) (ONE ∷ ONE ∷ m) quiet (if_dup_does given) if_dup_one (omega arith)
+  if_dup_one_follows = one_follows given (code op.IfDup) (plain if_dup) (up 1 ∷ []) (ONE ∷ m) (ONE ∷ ONE ∷ m) quiet (if_dup_does given) if_dup_one (omega arith) (omega arith)
 
   if_dup_empty_follows : Follows given (code op.IfDup ∷ []) (up 0 ∷ []) (EMPTY ∷ m) (EMPTY ∷ m)
-  if_dup_empty_follows = one_follows given (code op.IfDup) (plain if_dup) (up 0 ∷ []) (EMPTY ∷ m) (EMPTY ∷ m) quiet (if_dup_does given) if_dup_empty (omega arith)
+  if_dup_empty_follows = one_follows given (code op.IfDup) (plain if_dup) (up 0 ∷ []) (EMPTY ∷ m) (EMPTY ∷ m) quiet (if_dup_does given) if_dup_empty (omega arith) (omega arith)
 
   dup_follows : (x : Bytes) → Follows given (code op.Dup ∷ []) (up 1 ∷ []) (x ∷ m) (x ∷ x ∷ m)
-  dup_follows x = one_follows given (code op.Dup) (plain dup) (up 1 ∷ []) (x ∷ m) (x ∷ x ∷ m) quiet (dup_does given) (duplicated x) (omega arith)
+  dup_follows x = one_follows given (code op.Dup) (plain dup) (up 1 ∷ []) (x ∷ m) (x ∷ x ∷ m) quiet (dup_does given) (duplicated x) (omega arith) (omega arith)
 
   swap_follows : (x y : Bytes) → Follows given (code op.Swap ∷ []) (up 0 ∷ []) (x ∷ y ∷ m) (y ∷ x ∷ m)
   swap_follows x y =
       one_follows given (code op.Swap) (plain swap) (up 0 ∷ []) (x ∷ y ∷ m) (y ∷ x ∷ m) quiet (swap_does given)
-      (ap (λ (r : OrFault Stack). r >>= silent) (swapped x y m)) (omega arith)
+      (ap (λ (r : OrFault Stack). r >>= silent) (swapped x y m)) (omega arith) (omega arith)
+
+  digested : (k : HashKind) (x : Bytes) → plain (hash k) (x ∷ m) ≡ Ok (left (digest_of k x ∷ m) quiet)
+  unfolding hash
+  digested k x = refl
+
+  hash_follows : (k : HashKind) (x : Bytes) → Follows given (code (hash_opcode k) ∷ []) (up 0 ∷ []) (x ∷ m) (digest_of k x ∷ m)
+  hash_follows k x =
+      one_follows given (code (hash_opcode k)) (plain (hash k)) (up 0 ∷ []) (x ∷ m) (digest_of k x ∷ m) quiet (hash_does given k) (digested k x) (omega arith) (omega arith)
 
   size_follows : (x : Bytes) → Follows given (code op.Size ∷ []) (up 1 ∷ []) (x ∷ m) (natural_bytes (length x) ∷ x ∷ m)
   size_follows x =
       one_follows given (code op.Size) (plain size) (up 1 ∷ []) (x ∷ m) (natural_bytes (length x) ∷ x ∷ m) quiet (size_does given)
-      (ap (λ (r : OrFault Stack). r >>= silent) (sized x m)) (omega arith)
+      (ap (λ (r : OrFault Stack). r >>= silent) (sized x m)) (omega arith) (omega arith)
 
   nonzero_follows : (v : Bytes) (b : Bool) → zero_not_equal (v ∷ m) ≡ Ok (bool_bytes b ∷ m) → Follows given (code op.ZeroNotEqual ∷ []) (up 0 ∷ []) (v ∷ m) (bool_bytes b ∷ m)
   nonzero_follows v b is =
       one_follows given (code op.ZeroNotEqual) (plain zero_not_equal) (up 0 ∷ []) (v ∷ m) (bool_bytes b ∷ m) quiet (zero_not_equal_does given)
-      (ap (λ (r : OrFault Stack). r >>= silent) is) (omega arith)
+      (ap (λ (r : OrFault Stack). r >>= silent) is) (omega arith) (omega arith)
 
 -- SIZE 32 EQUALVERIFY leaves 32 bytes as they are
 measured : (x : Bytes) (m : Stack) → length x ≡ 32 →
     both (plain size) (both (pushes (natural_bytes 32)) (both (plain equal) (plain verify))) (x ∷ m) ≡ Ok (left (x ∷ m) quiet)
 unfolding size equal verify
 measured x m e = rw e refl
-
-hash_flat : (kind : HashKind) (value : Bytes) → rises (code (hash_opcode kind) ∷ push value ∷ code op.Equal ∷ []) ≡ 1
-hash_flat hash_kind.Sha256 value = refl
-hash_flat hash_kind.Hash256 value = refl
-hash_flat hash_kind.Ripemd160 value = refl
-hash_flat hash_kind.Hash160 value = refl
 
 pub hash_path : (given : Given) (kind : HashKind) (value x : Bytes) (w : Stack) → length x ≡ 32 → w ≡ x ∷ [] →
     Path given B (code op.Size ∷ push_number 32 ∷ code op.EqualVerify ∷ code (hash_opcode kind) ∷ push value ∷ code op.Equal ∷ []) (Is 1 (up 1 ∷ up 1 ∷ down 2 ∷ up 0 ∷ up 1 ∷ down 1 ∷ [])) w
@@ -104,8 +109,27 @@ hash_path given kind value x w long e =
     (keeps_then given front back a b (x ∷ rest) (x ∷ rest)
     (does_follow given front (both (plain size) (both (pushes (natural_bytes 32)) (both (plain equal) (plain verify)))) a (x ∷ rest) (x ∷ rest) quiet
     (then_does given (size_does given) (then_does given (push_does given (natural_bytes 32)) (equal_verify_does given)))
-    (measured x rest long) (omega arith) (keeps_rises given front a (x ∷ rest) (omega arith)))
-    (keeps_rises given back b (x ∷ rest) (omega (arith, hash_flat kind value)))))
+    (measured x rest long) (omega arith)
+    (keeps_then given (code op.Size ∷ []) (push_number 32 ∷ code op.EqualVerify ∷ []) (up 1 ∷ []) (up 1 ∷ down 2 ∷ []) (x ∷ rest) (natural_bytes (length x) ∷ x ∷ rest) (size_follows given rest x)
+    (keeps_pushes given (natural_bytes 32 ∷ []) (code op.EqualVerify ∷ []) (up 1 ∷ down 2 ∷ []) (natural_bytes (length x) ∷ x ∷ rest) refl refl)))
+    (keeps_then given (code (hash_opcode kind) ∷ []) (push value ∷ code op.Equal ∷ []) (up 0 ∷ []) (up 1 ∷ down 1 ∷ []) (x ∷ rest) (digest_of kind x ∷ rest) (hash_follows given rest kind x)
+    (keeps_pushes given (value ∷ []) (code op.Equal ∷ []) (up 1 ∷ down 1 ∷ []) (digest_of kind x ∷ rest) refl refl))))
+
+-- `pk_h`
+pub pk_h_path : (given : Given) (value other : Bytes) (w above below : Stack) → w ≡ above ++ below → above ≡ other ∷ [] → length below ≡ 1 →
+    Path given K (code op.Dup ∷ code op.Hash160 ∷ push value ∷ code op.EqualVerify ∷ []) (Is 2 (up 1 ∷ up 0 ∷ up 1 ∷ down 2 ∷ [])) w
+pk_h_path given value other w above below e i one =
+    is_path K 2 (up 1 ∷ up 0 ∷ up 1 ∷ down 2 ∷ []) w k_not_w (both_items w above below 1 1 2 e (ap length i) one refl)
+    (code op.Dup ∷ code op.Hash160 ∷ push value ∷ code op.EqualVerify ∷ [])
+    (λ rest.
+    let m : Stack = below ++ rest in
+    keeps_as given (code op.Dup ∷ code op.Hash160 ∷ push value ∷ code op.EqualVerify ∷ []) (code op.Dup ∷ code op.Hash160 ∷ push value ∷ code op.EqualVerify ∷ [])
+    (up 1 ∷ up 0 ∷ up 1 ∷ down 2 ∷ []) (up 1 ∷ up 0 ∷ up 1 ∷ down 2 ∷ []) (other ∷ m) (w ++ rest) refl refl
+    (ap (λ (v : Stack). v ++ rest) (e ∙ ap (λ (v : Stack). v ++ below) i))
+    (keeps_then given (code op.Dup ∷ []) (code op.Hash160 ∷ push value ∷ code op.EqualVerify ∷ []) (up 1 ∷ []) (up 0 ∷ up 1 ∷ down 2 ∷ []) (other ∷ m) (other ∷ other ∷ m) (dup_follows given m other)
+    (keeps_then given (code op.Hash160 ∷ []) (push value ∷ code op.EqualVerify ∷ []) (up 0 ∷ []) (up 1 ∷ down 2 ∷ []) (other ∷ other ∷ m) (digest_of hash_kind.Hash160 other ∷ other ∷ m)
+    (hash_follows given (other ∷ m) hash_kind.Hash160 other)
+    (keeps_pushes given (value ∷ []) (code op.EqualVerify ∷ []) (up 1 ∷ down 2 ∷ []) (digest_of hash_kind.Hash160 other ∷ other ∷ m) refl refl))))
 
 -- `andor`
 pub and_or_true_path : {given : Given} {base : Base} {cx cy cz : List Instruction} {P Q : Way → Type 0} {above below : Stack} → (h : Effect) (w : Stack) → (base ≢ W) → w ≡ above ++ below →
@@ -128,7 +152,7 @@ and_or_false_path {given} {base} {u} {b} {cx} {cy} {cz} {P} {Q} {above} {below} 
 pub or_c_true_path : {given : Given} {cx cz : List Instruction} {P : Way → Type 0} {w : Stack} → Child given B true true cx P w → Still given cz →
     Path given V (cx ++ (code op.NotIf ∷ (cz ++ code op.EndIf ∷ []))) (Followed P (down 1 ∷ [])) w
 or_c_true_path {given} {cx} {cz} {P} {w} x still =
-    unit_end V v_not_w x (down 1 ∷ []) (code op.NotIf ∷ (cz ++ code op.EndIf ∷ [])) (λ rest. only_passed given false true [] rest cz refl still)
+    unit_end V v_not_w x (down 1 ∷ []) (code op.NotIf ∷ (cz ++ code op.EndIf ∷ [])) (λ rest. only_passed given false true [] rest cz refl refl still)
 
 pub or_c_false_path : {given : Given} {cx cz : List Instruction} {P Q : Way → Type 0} {above below : Stack} → (w : Stack) → w ≡ above ++ below → Child given B true false cx P above → Path given V cz Q below →
     Path given V (cx ++ (code op.NotIf ∷ (cz ++ code op.EndIf ∷ []))) (Then (Followed P (down 1 ∷ [])) Q) w
@@ -143,7 +167,7 @@ or_d_true_path {given} {cx} {cz} {P} {w} x still =
     let k : List Instruction = code op.NotIf ∷ (cz ++ code op.EndIf ∷ []) in
     unit_end B b_not_w x (up 1 ∷ down 1 ∷ []) (code op.IfDup ∷ k)
     (λ rest. keeps_then given (code op.IfDup ∷ []) k (up 1 ∷ []) (down 1 ∷ []) (ONE ∷ rest) (ONE ∷ ONE ∷ rest) (if_dup_one_follows given rest)
-    (only_passed given false true [] (ONE ∷ rest) cz refl still))
+    (only_passed given false true [] (ONE ∷ rest) cz refl refl still))
 
 pub or_d_false_path : {given : Given} {cx cz : List Instruction} {P Q : Way → Type 0} {above below : Stack} → (w : Stack) → w ≡ above ++ below → Child given B true false cx P above → Path given B cz Q below →
     Path given B (cx ++ (code op.IfDup ∷ code op.NotIf ∷ (cz ++ code op.EndIf ∷ []))) (Then (Followed P (up 0 ∷ down 1 ∷ [])) Q) w
@@ -188,7 +212,7 @@ wrap_d_dsat_path {given} {cx} w e still =
     (λ rest.
     keeps_as given (code op.Dup ∷ k) (code op.Dup ∷ k) (up 1 ∷ down 1 ∷ []) (up 1 ∷ down 1 ∷ []) (EMPTY ∷ rest) (w ++ rest) refl refl (ap (λ (v : Stack). v ++ rest) e)
     (keeps_then given (code op.Dup ∷ []) k (up 1 ∷ []) (down 1 ∷ []) (EMPTY ∷ rest) (EMPTY ∷ EMPTY ∷ rest) (dup_follows given rest EMPTY)
-    (only_passed given true false [] (EMPTY ∷ rest) cx refl still)))
+    (only_passed given true false [] (EMPTY ∷ rest) cx refl refl still)))
 
 -- `j:X`
 pub wrap_j_sat_path : {given : Given} {cx : List Instruction} {P : Way → Type 0} {w : Stack} → HasTop w → Short w → Path given B cx P w →
@@ -219,7 +243,7 @@ wrap_j_dsat_path {given} {cx} w e still =
     (keeps_then given (code op.Size ∷ []) (code op.ZeroNotEqual ∷ k) (up 1 ∷ []) (up 0 ∷ down 1 ∷ []) (EMPTY ∷ rest) (EMPTY ∷ EMPTY ∷ rest) (size_follows given rest EMPTY)
     (keeps_then given (code op.ZeroNotEqual ∷ []) k (up 0 ∷ []) (down 1 ∷ []) (EMPTY ∷ EMPTY ∷ rest) (EMPTY ∷ EMPTY ∷ rest)
     (nonzero_follows given (EMPTY ∷ rest) EMPTY false (zero_not_equal-natural 0 (EMPTY ∷ rest) (omega arith)))
-    (only_passed given true false [] (EMPTY ∷ rest) cx refl still))))
+    (only_passed given true false [] (EMPTY ∷ rest) cx refl refl still))))
 
 -- `a:X`
 record IsAside (s t : State) (x : Bytes) (m : Stack) : Type 0 where
@@ -255,6 +279,12 @@ wrap_a_path {given} {cx} {P} {w} p = record {
           ((p.keeps rest).low t (ap all_taken o.branches ∙ live) o.main n
           (omega (arith, h, rise_append p.way.course (up 0 ∷ []), ap length is, ap length o.main, ap length o.alt))),
     );
+    high = λ s t live is e n h.
+        let u = bind_split (free_step given (code op.ToAltStack) s) _ t e in
+        let o = aside_step given s u.0 x (w ++ rest) live is u.1 in
+        let v = parted given cx (code op.FromAltStack ∷ []) u.0 t u.2 in
+        let top = (p.keeps rest).high u.0 v.0 (ap all_taken o.branches ∙ live) o.main v.1 n (low_first given cx (code op.FromAltStack ∷ []) u.0 n (h.1 u.0 u.1)) in
+        omega (arith, top, rise_append p.way.course (up 0 ∷ []), rise_ends p.way.course, ap length is, ap length o.main, ap length o.alt);
   };
 }
 
@@ -319,6 +349,11 @@ add_keeps given d course y x m p = record {
         let o = add_step given s t y x m live is e in
         (p o.sum).low t (ap all_taken o.branches ∙ live) o.main n (omega (arith, h, ap length is, ap length o.main, ap length o.alt)),
   );
+  high = λ s t live is e n h.
+      let u = bind_split (free_step given (code op.Add) s) (free_steps given d) t e in
+      let o = add_step given s u.0 y x m live is u.1 in
+      let top = (p o.sum).high u.0 t (ap all_taken o.branches ∙ live) o.main u.2 n (h.1 u.0 u.1) in
+      omega (arith, h.0, top, ap length is, ap length o.main, ap length o.alt);
 }
 
 -- a further child, and those behind it
@@ -344,7 +379,7 @@ none_path given w e = record {
   way = record { items = 0; course = [] };
   formal = refl;
   items = ap length e;
-  keeps = λ x rest. record { low = λ s live is n h. omega (arith, h) };
+  keeps = λ x rest. record { low = λ s live is n h. omega (arith, h); high = λ s t live is e n h. omega (arith, h) };
 }
 
 -- and the comparison with the number of those that must be satisfied
@@ -357,5 +392,5 @@ thresh_path {given} {c} {P} {w} k p follows = record {
   keeps = λ rest.
       let f = follows rest in
       keeps_then given c (push_number k ∷ code op.Equal ∷ []) p.way.course (up 1 ∷ down 1 ∷ []) (w ++ rest) (f.0 ∷ rest) f.1
-      (keeps_rises given (push_number k ∷ code op.Equal ∷ []) (up 1 ∷ down 1 ∷ []) (f.0 ∷ rest) (omega arith));
+      (keeps_pushes given (natural_bytes k ∷ []) (code op.Equal ∷ []) (up 1 ∷ down 1 ∷ []) (f.0 ∷ rest) refl refl);
 }

@@ -15,15 +15,15 @@ use Rattle.ms_acceptance_laws.proofs.InstructionEffects.{Does, all_taken}
 use Rattle.ms_row_laws.proofs.Outcomes.{bind_same, bind_assoc, bind_ok}
 
 -- whether the last opcode does VERIFY too
-abbrev is_fused : Option Op → Bool
+abbrev pub is_fused : Option Op → Bool
 is_fused (Some form) = true
 is_fused None = false
 
-abbrev fuses_last : Instruction → Bool
+abbrev pub fuses_last : Instruction → Bool
 fuses_last (push bytes) = false
 fuses_last (code last) = is_fused (verify_form last)
 
-abbrev fuses : List Instruction → Bool
+abbrev pub fuses : List Instruction → Bool
 fuses [] = false
 fuses (last ∷ []) = fuses_last last
 fuses (first ∷ second ∷ rest) = fuses (second ∷ rest)
@@ -34,7 +34,7 @@ added true = 0
 added false = 1
 
 -- VERIFY by itself, or by the last opcode
-abbrev closing : Given → Bool → Step
+abbrev pub closing : Given → Bool → Step
 closing given true s = only_if (is_live s) (on_main verify) s
 closing given false s = free_step given (code op.Verify) s
 
@@ -72,7 +72,7 @@ last_closes given (code op.CheckMultiSig) s = go (is_live s) refl
     go false dead = rw (dead, dead) refl
 last_closes given (code other) s = unfused given (code other) s
 
-closes : (given : Given) (c : List Instruction) (s : State) → free_steps given (verified c) s ≡ (free_steps given c s >>= closing given (fuses c))
+pub closes : (given : Given) (c : List Instruction) (s : State) → free_steps given (verified c) s ≡ (free_steps given c s >>= closing given (fuses c))
 closes given [] s = bind_ok (free_step given (code op.Verify) s)
 closes given (last ∷ []) s = last_closes given last s
 closes given (first ∷ second ∷ rest) s =

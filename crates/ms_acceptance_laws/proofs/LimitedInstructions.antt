@@ -15,7 +15,7 @@ use Rattle.ms_acceptance_laws.proofs.ScriptRise.{rises}
 use Rattle.ms_acceptance_laws.proofs.UnlimitedMachine.{free_step, free_steps}
 use Rattle.ms_acceptance_laws.proofs.PeakUnseen.{peaked, with_peak, step_peak, steps_peak}
 use Rattle.ms_acceptance_laws.proofs.StepRises.{Climbs, step_climbs}
-use Rattle.ms_acceptance_laws.proofs.RunHeights.{IsLow, low_start}
+use Rattle.ms_acceptance_laws.proofs.RunHeights.{IsLow, low_start, low_next}
 use Rattle.ms_acceptance_laws.proofs.LimitedSteps.{StopsStep, settled, step_bounded, step_free}
 use Rattle.ms_row_laws.proofs.Outcomes.{bind_split, same_ok}
 
@@ -60,31 +60,40 @@ bounded given (i ∷ is) s t short h =
     go u (inl e) (inr stops) = inr (record { fault = stops.fault; limit = stops.limit; at = λ place. stops.at (place + 1); steps = λ place next. rw (e, stops.steps (place + 1) next) refl })
     go u (inr stop) rest = inr (record { fault = stop.fault; limit = stop.limit; at = λ place. place; steps = λ place next. rw (stop.stops) refl })
 
--- within the limits on opcodes and stacks the instructions lead to the end, up to a peak no higher than the stacks get
-pub record LowEnds (given : Given) (is : List Instruction) (s t : State) (n : ℕ) : Type 0 where
+-- within the limits on opcodes and stacks the instructions lead to the end, up to a peak no higher than the stacks get, and no
+-- lower
+pub record LowEnds (given : Given) (is : List Instruction) (p : ℕ) (s t : State) (n : ℕ) : Type 0 where
   pub peak : ℕ
   pub low : peak ≤ n
-  pub steps : (place : ℕ) (next : ℕ → State → Outcome) → steps given (map item_of is) place s next ≡ next (place + length (map item_of is)) (peaked peak t)
+  pub later : p ≤ peak
+  pub top : height s ≤ p → IsLow given is s peak
+  pub steps : (place : ℕ) (next : ℕ → State → Outcome) → steps given (map item_of is) place (peaked p s) next ≡ next (place + length (map item_of is)) (peaked peak t)
 
-pub low_ends : (given : Given) (is : List Instruction) (p n : ℕ) (s t : State) → All IsShort is → free_steps given is s ≡ Ok t → IsLow given is s n → p ≤ n → n ≤ MAX_STACK_SIZE → t.ops ≤ MAX_OPS_PER_SCRIPT → LowEnds given is (peaked p s) t n
+pub low_ends : (given : Given) (is : List Instruction) (p n : ℕ) (s t : State) → All IsShort is → free_steps given is s ≡ Ok t → IsLow given is s n → p ≤ n → n ≤ MAX_STACK_SIZE → t.ops ≤ MAX_OPS_PER_SCRIPT → LowEnds given is p s t n
 unfolding steps
-low_ends given [] p n s t short h low few room ops = record { peak = p; low = few; steps = λ place next. rw (← same_ok s t h, add-zero place) refl }
+low_ends given [] p n s t short h low few room ops = record { peak = p; low = few; later = omega arith; top = λ under. under; steps = λ place next. rw (← same_ok s t h, add-zero place) refl }
 low_ends given (i ∷ is) p n s t short h low few room ops =
     let u = bind_split (free_step given i s) (free_steps given is) t h in
     let then = low.1 u.0 u.1 in
     let high = low_start given is u.0 n then in
-    go u.0 high (steps_climb given is u.0 t u.2)
+    go u.0 u.1 high (steps_climb given is u.0 t u.2)
     (step_bounded given i (peaked p s) (peaked p u.0) (All-head IsShort i is short) (step_peak p given i s ∙ ap (with_peak p) u.1))
     (low_ends given is (max p (height u.0)) n u.0 t (All-tail IsShort i is short) u.2 then (omega (arith, few, high)) room ops)
   where
     longer : (place : ℕ) → place + 1 + length (map item_of is) ≡ place + length (map item_of (i ∷ is))
     longer place = omega arith
 
-    go : (u : State) → height u ≤ n → Climbs u t (rises is) →
+    go : (u : State) → free_step given i s ≡ Ok u → height u ≤ n → Climbs u t (rises is) →
         (step given (item_of i) (peaked p s) ≡ Ok (settled (peaked p u))) ⊎ StopsStep (step given (item_of i) (peaked p s)) (peaked p u) →
-        LowEnds given is (peaked (max p (height u)) u) t n → LowEnds given (i ∷ is) (peaked p s) t n
-    go u high climb (inl e) ends = record { peak = ends.peak; low = ends.low; steps = λ place next. rw (e, ends.steps (place + 1) next, longer place) refl }
-    go u high climb (inr stop) ends = absurd (never stop.why)
+        LowEnds given is (max p (height u)) u t n → LowEnds given (i ∷ is) p s t n
+    go u free high climb (inl e) ends = record {
+      peak = ends.peak;
+      low = ends.low;
+      later = omega (arith, ends.later);
+      top = λ under. low_next given i is s u ends.peak (omega (arith, under, ends.later)) free (ends.top (omega arith));
+      steps = λ place next. rw (e, ends.steps (place + 1) next, longer place) refl;
+    }
+    go u free high climb (inr stop) ends = absurd (never stop.why)
       where
         never : (MAX_OPS_PER_SCRIPT < u.ops) ⊎ (MAX_STACK_SIZE < height u) → ⊥
         never (inl many) = omega (arith, many, climb.ops, ops)

@@ -46,7 +46,7 @@ module _ (given : Given) where
   pushes_does [] = nothing_does given
   pushes_does (key ∷ keys) = then_does (push_does given key) (pushes_does keys)
 
-  hash_does : (kind : HashKind) → Does given (code (hash_opcode kind) ∷ []) (plain (hash kind))
+  pub hash_does : (kind : HashKind) → Does given (code (hash_opcode kind) ∷ []) (plain (hash kind))
   unfolding act
   hash_does hash_kind.Sha256 = code_does given op.Sha256 (hash hash_kind.Sha256) refl (λ s. refl)
   hash_does hash_kind.Hash256 = code_does given op.Hash256 (hash hash_kind.Hash256) refl (λ s. refl)

@@ -43,7 +43,7 @@ runs given t stack writable =
     spelled_run given (emit t) stack (all_short-spell (emit t) short.all)
 
 -- what its instructions do from the start
-does_first : (given : Given) (t : Tree) (w : Stack) (left : Left) → den given t w ≡ Ok left → free_steps given (emit t) (first w) ≡ Ok (reached (first w) (opcode_count (emit t)) left)
+pub does_first : (given : Given) (t : Tree) (w : Stack) (left : Left) → den given t w ≡ Ok left → free_steps given (emit t) (first w) ≡ Ok (reached (first w) (opcode_count (emit t)) left)
 does_first given t w left h = goes_from given (emit t) (den given t) (does given t) (first w) refl ∙ rw h refl
 
 all_short : (w : Stack) → All (λ item. length item ≤ 520) w → list_all (λ x. nat_le (length x) MAX_SCRIPT_ELEMENT_SIZE) w ≡ true
@@ -89,11 +89,11 @@ within given t w left x writable small short h one good =
         )
     go (inr stops) = inr (record { fault = stops.fault; place = stops.at 0; limit = stops.limit; run = run_is given t w writable small short ∙ stops.steps 0 ended })
 
--- within the limits it is accepted, and its peak is no higher than the stacks get
+-- within the limits it is accepted, and its peak is no higher than the stacks get, and no lower
 pub accepted_run : (given : Given) (t : Tree) (w : Stack) (left : Left) (x : Bytes) (n : ℕ) → IsWritable t → length (script_of t) ≤ 10000 →
     All (λ item. length item ≤ 520) w → den given t w ≡ Ok left → left.main ≡ x ∷ [] → truth x ≡ true →
     opcode_count (emit t) + left.log.keys ≤ MAX_OPS_PER_SCRIPT → IsLow given (emit t) (first w) n → n ≤ MAX_STACK_SIZE →
-    (peak : ℕ) × (peak ≤ n) × (run given (script_of t) (reverse w) ≡ accepted (opcode_count (emit t) + left.log.keys) peak left.log.checks)
+    (peak : ℕ) × (peak ≤ n) × (run given (script_of t) (reverse w) ≡ accepted (opcode_count (emit t) + left.log.keys) peak left.log.checks) × IsLow given (emit t) (first w) peak
 accepted_run given t w left x n writable small short h one good few low room =
     let s = short-emit t writable in
     let e =
@@ -103,6 +103,7 @@ accepted_run given t w left x n writable small short h one good few low room =
       e.low,
       run_is given t w writable small (all_short w short) ∙ e.steps 0 ended ∙ ends_well _ e.peak (opcode_count (emit t)) w left x one good
           ∙ ap (λ (n : ℕ). accepted n e.peak left.log.checks) (no_more_ops (opcode_count (emit t)) left.log.keys),
+      e.top (omega arith),
     )
 
 -- an element that is too long stops it at the start

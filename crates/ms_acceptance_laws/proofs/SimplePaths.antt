@@ -18,7 +18,7 @@ use Rattle.ms_acceptance_laws.proofs.StackEffects.{Effect}
 use Rattle.ms_acceptance_laws.proofs.StackValues.{Value}
 use Rattle.ms_acceptance_laws.proofs.ForwardBases.{Ends, Beside, split, unit_value}
 use Rattle.ms_acceptance_laws.proofs.InstructionEffects.{Does}
-use Rattle.ms_acceptance_laws.proofs.WithinCourse.{Keeps, Follows, does_follow, keeps_then, keeps_behind, keeps_verified, keeps_rises, keeps_as}
+use Rattle.ms_acceptance_laws.proofs.WithinCourse.{Keeps, Follows, does_follow, keeps_then, keeps_behind, keeps_verified, keeps_as}
 use Rattle.ms_row_laws.proofs.RunLog.{Log}
 
 -- from these items, on top of anything, the instructions of a fragment keep within a course
@@ -129,15 +129,6 @@ path_script {given} {base} {c} {P} {w} d e p = subst (λ (z : List Instruction).
 pub both_items : (w above below : Stack) (m n k : ℕ) → w ≡ above ++ below → length above ≡ m → length below ≡ n → k ≡ m + n → length w ≡ k
 both_items w above below m n k e i j sum = omega (arith, ap length e, length-append above below, i, j, sum)
 
--- no items but those of the row, in so many instructions
-pub leaf_path : (given : Given) (base : Base) (c : List Instruction) (items : ℕ) (course : Course) (w : Stack) → (base ≢ W) → length w ≡ items → rises c ≤ rise course → Path given base c (Is items course) w
-leaf_path given base c items course w n is few = record {
-  way = record { items = items; course = course };
-  formal = refl;
-  items = is;
-  keeps = keeps_on base given c course w n (λ rest. keeps_rises given c course (w ++ rest) few);
-}
-
 pub path_keeps : {given : Given} {base : Base} {c : List Instruction} {P : Way → Type 0} {w : Stack} → (base ≢ W) → (p : Path given base c P w) → (rest : Stack) → Keeps given c p.way.course (w ++ rest)
 path_keeps {base = B} n p = p.keeps
 path_keeps {base = V} n p = p.keeps
@@ -219,13 +210,13 @@ is_path {given} base items course w n is k keeps = record {
 }
 
 -- instructions behind a child that raise nothing
-pub behind_path : {given : Given} {base : Base} {c : List Instruction} {P : Way → Type 0} {w : Stack} → (other : Base) → (base ≢ W) → (other ≢ W) → (steps : Course) (d : List Instruction) → rises d ≡ 0 →
+pub behind_path : {given : Given} {base : Base} {c : List Instruction} {P : Way → Type 0} {w : Stack} → (other : Base) → (base ≢ W) → (other ≢ W) → (steps : Course) (d : List Instruction) → rises d ≡ 0 → rise steps ≡ 0 →
     Path given base c P w → Path given other (c ++ d) (Followed P steps) w
-behind_path {given} {base} {c} {P} {w} other m n steps d flat p = record {
+behind_path {given} {base} {c} {P} {w} other m n steps d flat level p = record {
   way = followed p.way steps;
   formal = (p.way, record { items = 0; course = steps }, p.formal, refl, refl);
   items = omega (arith, p.items);
-  keeps = keeps_on other given (c ++ d) (p.way.course ++ steps) w n (λ rest. keeps_behind given c d p.way.course steps (w ++ rest) flat (path_keeps m p rest));
+  keeps = keeps_on other given (c ++ d) (p.way.course ++ steps) w n (λ rest. keeps_behind given c d p.way.course steps (w ++ rest) flat level (path_keeps m p rest));
 }
 
 -- `v:X`
@@ -234,7 +225,7 @@ wrap_v_path {given} {c} {P} {w} p = record {
   way = followed p.way (down 1 ∷ []);
   formal = (p.way, record { items = 0; course = down 1 ∷ [] }, p.formal, refl, refl);
   items = omega (arith, p.items);
-  keeps = λ rest. keeps_verified given c p.way.course (down 1 ∷ []) (w ++ rest) (p.keeps rest);
+  keeps = λ rest. keeps_verified given c p.way.course (down 1 ∷ []) (w ++ rest) refl (p.keeps rest);
 }
 
 -- `and_b`, `or_b`
@@ -246,7 +237,7 @@ two_path {given} {u} {b} {cx} {cy} {P} {Q} {above} {below} w d e flat x y = reco
   items = both_items w above below x.way.items y.way.items (x.way.items + y.way.items + 0) e x.items y.items (omega arith);
   keeps = λ rest.
       let i = x.follows (below ++ rest) in
-      keeps_behind given (cx ++ cy) d (x.way.course ++ y.way.course) (down 1 ∷ []) (w ++ rest) flat
+      keeps_behind given (cx ++ cy) d (x.way.course ++ y.way.course) (down 1 ∷ []) (w ++ rest) flat refl
       (keeps_as given (cx ++ cy) (cx ++ cy) (x.way.course ++ y.way.course) (x.way.course ++ y.way.course) (above ++ (below ++ rest)) (w ++ rest) refl refl (split w above below rest e)
       (keeps_then given cx cy x.way.course y.way.course (above ++ (below ++ rest)) (i.0 ∷ (below ++ rest)) i.2 (y.keeps i.0 rest)));
 }

@@ -1,6 +1,7 @@
 -- The run of each canonical row of the satisfaction table keeps within the course of a formal one with as many items.
 use Rattle.std.proofs.Common.{◌≡◌, ◌≢◌, ℕ, zero, suc, ◌+◌, Bool, true, false, IsTrue, List, [], ◌∷◌, ◌++◌, length, map, replicate, Option, Some, None, refl, sym, ◌∙◌, ap, subst, inl, inr, arith}
 use Rattle.std.proofs.lemmas.List.{length-append, length-replicate, nil_from_length}
+use Rattle.def_hash.specs.Hash.{hash160}
 use Rattle.def_script.specs.declared.Op.TheVariants as op
 use Rattle.def_script.specs.Bytes.{Bytes}
 use Rattle.def_script.specs.Instruction.{Instruction, push, code}
@@ -18,9 +19,9 @@ use Rattle.def_types.proofs.Rows.{corr_rows}
 use Rattle.def_types.proofs.Facts.{typed-and_or, typed-and_v, typed-and_b, typed-or_b, typed-or_c, typed-or_d, typed-or_i, typed-thresh, typed-thresh_none, typed-wrap_a, typed-wrap_s, typed-wrap_c, typed-wrap_d, typed-wrap_v, typed-wrap_j, typed-wrap_n, OthersFit}
 use Rattle.def_emit.specs.Emit.{push_number, emit, emit_sum, emit_added}
 use Rattle.def_satisfaction.specs.Setting.{Setting}
-use Rattle.def_satisfaction.specs.Rows.{EMPTY, ZEROS, row, parts}
+use Rattle.def_satisfaction.specs.Rows.{EMPTY, ONE, ZEROS, row, parts}
 use Rattle.def_height.specs.declared.Highest.{Highest}
-use Rattle.def_height.specs.Course.{up, down, Course}
+use Rattle.def_height.specs.Course.{up, down, Course, rise}
 use Rattle.def_height.specs.Formal.{Way, Is, Then, Followed, FormalSat, FormalDsat, FormalParts}
 use Rattle.def_height.specs.Highest.{highest_sat, highest_dsat, highest_parts}
 use Rattle.def_height.proofs.Courses.{ups, downs, IsHighest}
@@ -34,13 +35,10 @@ use Rattle.ms_row_laws.proofs.SmallThresholds.{Few, AllFew}
 use Rattle.ms_acceptance_laws.proofs.ForwardBases.{Short}
 use Rattle.ms_acceptance_laws.proofs.ForwardTrees.{upper, lower, sat_ends, dsat_ends, sum_ends}
 use Rattle.ms_acceptance_laws.proofs.ScriptEffects.{and_or_script, or_c_script, or_d_script, or_i_script, does, does_sum}
-use Rattle.ms_acceptance_laws.proofs.WithinCourse.{Follows, does_follow}
+use Rattle.ms_acceptance_laws.proofs.WithinCourse.{Follows, does_follow, keeps_pushes}
 use Rattle.ms_acceptance_laws.proofs.UntakenBranches.{still}
-use Rattle.ms_acceptance_laws.proofs.SimplePaths.{Path, Child, child_of, path_as, path_script, leaf_path, both_items, and_v_path, behind_path, wrap_v_path, two_path}
-use Rattle.ms_acceptance_laws.proofs.BranchingPaths.{b_not_w, hash_path, and_or_true_path, and_or_false_path, or_c_true_path, or_c_false_path, or_d_true_path, or_d_false_path, or_i_true_path, or_i_false_path, wrap_a_path, wrap_s_path, wrap_d_sat_path, wrap_d_dsat_path, wrap_j_sat_path, wrap_j_dsat_path, first_path, added_path, none_path, thresh_path}
-
-k_not_w : K ≢ W
-k_not_w e = cc
+use Rattle.ms_acceptance_laws.proofs.SimplePaths.{Path, Child, child_of, path_as, path_script, is_path, both_items, and_v_path, behind_path, wrap_v_path, two_path}
+use Rattle.ms_acceptance_laws.proofs.BranchingPaths.{b_not_w, k_not_w, hash_path, pk_h_path, and_or_true_path, and_or_false_path, or_c_true_path, or_c_false_path, or_d_true_path, or_d_false_path, or_i_true_path, or_i_false_path, wrap_a_path, wrap_s_path, wrap_d_sat_path, wrap_d_dsat_path, wrap_j_sat_path, wrap_j_dsat_path, first_path, added_path, none_path, thresh_path}
 
 -- what a formal way leaves
 leaves_of : (elements : ℕ) (P : Way → Type 0) (o : Option Highest) → IsHighest elements P o → (v : Way) → P v → v.items + ups v.course ≡ elements + downs v.course
@@ -74,22 +72,31 @@ unit_child {given} {base} {u} {b} {c} {P} {w} e x = subst (λ (v : Bool). Child 
 path_base : {given : Given} {base : Base} {c : List Instruction} {P : Way → Type 0} {w : Stack} → (other : Base) → base ≡ other → Path given base c P w → Path given other c P w
 path_base {given} {base} {c} {P} {w} other e p = subst (λ (b : Base). Path given b c P w) e p
 
--- the pushes of a `multi`
-rises-append : (c d : List Instruction) → rises (c ++ d) ≡ rises c + rises d
-rises-append [] d = omega arith
-rises-append (i ∷ c) d = omega (arith, rises-append c d)
+-- pushes, and then opcodes that raise nothing
+pushes_path : (given : Given) (base : Base) (pushed : List Bytes) (d : List Instruction) (items : ℕ) (course : Course) (w : Stack) → (base ≢ W) → length w ≡ items →
+    rises (map push pushed ++ d) ≡ length pushed → rise course ≡ length pushed → Path given base (map push pushed ++ d) (Is items course) w
+pushes_path given base pushed d items course w n is flat top =
+    is_path base items course w n is (map push pushed ++ d) (λ rest. keeps_pushes given pushed d course (w ++ rest) flat top)
 
-rises-pushes : (keys : List Key) → rises (map push keys) ≡ length keys
-rises-pushes [] = refl
-rises-pushes (key ∷ keys) = omega (arith, rises-pushes keys)
+-- a `multi`
+rises-pushes : (items : List Bytes) (d : List Instruction) → rises (map push items ++ d) ≡ length items + rises d
+rises-pushes [] d = omega arith
+rises-pushes (item ∷ items) d = omega (arith, rises-pushes items d)
+
+pushed_keys : (keys : List Key) (last : Bytes) (d : List Instruction) → map push (keys ++ last ∷ []) ++ d ≡ map push keys ++ (push last ∷ d)
+pushed_keys [] last d = refl
+pushed_keys (key ∷ keys) last d = ap (λ (c : List Instruction). push key ∷ c) (pushed_keys keys last d)
 
 multi_path : (given : Given) (k : ℕ) (keys : List Key) (w : Stack) → length w ≡ k + 1 →
     Path given B (emit (multi k keys)) (Is (k + 1) (replicate (length keys + 2) (up 1) ++ down (length keys + k + 2) ∷ [])) w
 multi_path given k keys w is =
     let end : Course = down (length keys + k + 2) ∷ [] in
-    let e : rises (emit (multi k keys)) ≡ (1 + rises (map push keys)) + 1 = rises-append (push_number k ∷ map push keys) (push_number (length keys) ∷ code op.CheckMultiSig ∷ []) in
-    leaf_path given B (emit (multi k keys)) (k + 1) (replicate (length keys + 2) (up 1) ++ end) w b_not_w is
-    (omega (arith, e, rises-pushes keys, rise_multi (length keys + 2) end))
+    let pushed : List Bytes = natural_bytes k ∷ (keys ++ natural_bytes (length keys) ∷ []) in
+    let many : length (keys ++ natural_bytes (length keys) ∷ []) ≡ length keys + 1 = length-append keys (natural_bytes (length keys) ∷ []) in
+    path_script (emit (multi k keys)) (ap (λ (c : List Instruction). push_number k ∷ c) (pushed_keys keys (natural_bytes (length keys)) (code op.CheckMultiSig ∷ [])))
+    (pushes_path given B pushed (code op.CheckMultiSig ∷ []) (k + 1) (replicate (length keys + 2) (up 1) ++ end) w b_not_w is
+    (omega (arith, rises-pushes pushed (code op.CheckMultiSig ∷ [])))
+    (omega (arith, many, rise_multi (length keys + 2) end)))
 
 -- of the children of a threshold
 satisfied_path : {given : Given} {base : Base} {c : List Instruction} {w : Stack} → (first : Course) (x : Tree) (xs : Trees) (n m : ℕ) → n ≡ suc m →
@@ -122,12 +129,12 @@ module _ (s : Setting) (no_more : IsTrue s.all_rows → ⊥) where
 
     pub sat_path : (t : Tree) → IsWritable t → IsTyped t → Few t → (w : Stack) → Short w → (row s t).sat w → Path s.given (type_of t).base (emit t) (FormalSat t) w
     sat_path just_0 k typed few w short r = absurd r
-    sat_path just_1 k typed few w short r = leaf_path s.given B (emit just_1) 0 (up 1 ∷ []) w b_not_w (ap length r) (omega arith)
-    sat_path (pk_k key) k typed few w short r = leaf_path s.given K (emit (pk_k key)) 1 (up 1 ∷ []) w k_not_w (ap length r.2) (omega arith)
+    sat_path just_1 k typed few w short r = pushes_path s.given B (ONE ∷ []) [] 0 (up 1 ∷ []) w b_not_w (ap length r) refl refl
+    sat_path (pk_k key) k typed few w short r = pushes_path s.given K (key ∷ []) [] 1 (up 1 ∷ []) w k_not_w (ap length r.2) refl refl
     sat_path (pk_h key) k typed few w short r =
-        leaf_path s.given K (emit (pk_h key)) 2 (up 1 ∷ up 0 ∷ up 1 ∷ down 2 ∷ []) w k_not_w (both_items w r.4.1 r.4.0 1 1 2 r.4.4 (ap length r.4.3) (ap length r.4.2.2) refl) (omega arith)
-    sat_path (older n) k typed few w short r = leaf_path s.given B (emit (older n)) 0 (up 1 ∷ up 0 ∷ []) w b_not_w (ap length r.1) (omega arith)
-    sat_path (after n) k typed few w short r = leaf_path s.given B (emit (after n)) 0 (up 1 ∷ up 0 ∷ []) w b_not_w (ap length r.1) (omega arith)
+        pk_h_path s.given (hash160 key) r.0 w r.4.1 r.4.0 r.4.4 r.4.3 (ap length r.4.2.2)
+    sat_path (older n) k typed few w short r = pushes_path s.given B (natural_bytes n ∷ []) (code op.Csv ∷ []) 0 (up 1 ∷ up 0 ∷ []) w b_not_w (ap length r.1) refl refl
+    sat_path (after n) k typed few w short r = pushes_path s.given B (natural_bytes n ∷ []) (code op.Cltv ∷ []) 0 (up 1 ∷ up 0 ∷ []) w b_not_w (ap length r.1) refl refl
     sat_path (hash kind value) k typed few w short r = hash_path s.given kind value r.0 w r.1.0.0 r.2
     sat_path (and_or x y z) k typed few w short (inl r) =
         let p = typed-and_or x y z typed in
@@ -193,7 +200,7 @@ module _ (s : Setting) (no_more : IsTrue s.all_rows → ⊥) where
         wrap_s_path item.0 item.1 (path_base B p.1 (sat_path x k p.0 few w short r))
     sat_path (wrap wrapper.C x) k typed few w short r =
         let p = typed-wrap_c x typed in
-        behind_path B k_not_w b_not_w (down 1 ∷ []) (code op.CheckSig ∷ []) refl (path_base K p.1 (sat_path x k p.0 few w short r))
+        behind_path B k_not_w b_not_w (down 1 ∷ []) (code op.CheckSig ∷ []) refl refl (path_base K p.1 (sat_path x k p.0 few w short r))
     sat_path (wrap wrapper.D x) k typed few w short r =
         let p = typed-wrap_d x typed in
         wrap_d_sat_path w r.1 r.4 r.3 (nil_from_length r.0 ((takes_none s x p.2).sat r.0 r.2)) (path_base V p.1 (sat_path x k p.0 few r.0 (lower w r.1 r.0 r.4 short) r.2))
@@ -205,14 +212,14 @@ module _ (s : Setting) (no_more : IsTrue s.all_rows → ⊥) where
         wrap_j_sat_path ((takes_item s x p.0 p.2).sat w r) short (path_base B p.1 (sat_path x k p.0 few w short r))
     sat_path (wrap wrapper.N x) k typed few w short r =
         let p = typed-wrap_n x typed in
-        behind_path B b_not_w b_not_w (up 0 ∷ []) (code op.ZeroNotEqual ∷ []) refl (path_base B p.1 (sat_path x k p.0 few w short r))
+        behind_path B b_not_w b_not_w (up 0 ∷ []) (code op.ZeroNotEqual ∷ []) refl refl (path_base B p.1 (sat_path x k p.0 few w short r))
 
     pub dsat_path : (t : Tree) → IsWritable t → IsTyped t → Few t → (w : Stack) → Short w → (row s t).dsat w → Path s.given (type_of t).base (emit t) (FormalDsat t) w
-    dsat_path just_0 k typed few w short r = leaf_path s.given B (emit just_0) 0 (up 1 ∷ []) w b_not_w (ap length r) (omega arith)
+    dsat_path just_0 k typed few w short r = pushes_path s.given B (EMPTY ∷ []) [] 0 (up 1 ∷ []) w b_not_w (ap length r) refl refl
     dsat_path just_1 k typed few w short r = absurd r
-    dsat_path (pk_k key) k typed few w short r = leaf_path s.given K (emit (pk_k key)) 1 (up 1 ∷ []) w k_not_w (ap length r) (omega arith)
+    dsat_path (pk_k key) k typed few w short r = pushes_path s.given K (key ∷ []) [] 1 (up 1 ∷ []) w k_not_w (ap length r) refl refl
     dsat_path (pk_h key) k typed few w short r =
-        leaf_path s.given K (emit (pk_h key)) 2 (up 1 ∷ up 0 ∷ up 1 ∷ down 2 ∷ []) w k_not_w (both_items w r.4.1 r.4.0 1 1 2 r.4.4 (ap length r.4.3) (ap length r.4.2) refl) (omega arith)
+        pk_h_path s.given (hash160 key) r.0 w r.4.1 r.4.0 r.4.4 r.4.3 (ap length r.4.2)
     dsat_path (older n) k typed few w short r = absurd r
     dsat_path (after n) k typed few w short r = absurd r
     dsat_path (hash kind value) k typed few w short (inl r) = hash_path s.given kind value ZEROS w r.0.0 r.1
@@ -259,14 +266,14 @@ module _ (s : Setting) (no_more : IsTrue s.all_rows → ⊥) where
         wrap_s_path item.0 item.1 (path_base B p.1 (dsat_path x k p.0 few w short r))
     dsat_path (wrap wrapper.C x) k typed few w short r =
         let p = typed-wrap_c x typed in
-        behind_path B k_not_w b_not_w (down 1 ∷ []) (code op.CheckSig ∷ []) refl (path_base K p.1 (dsat_path x k p.0 few w short r))
+        behind_path B k_not_w b_not_w (down 1 ∷ []) (code op.CheckSig ∷ []) refl refl (path_base K p.1 (dsat_path x k p.0 few w short r))
     dsat_path (wrap wrapper.D x) k typed few w short r = wrap_d_dsat_path w r (still s.given x)
     dsat_path (wrap wrapper.V x) k typed few w short r = absurd r
     dsat_path (wrap wrapper.J x) k typed few w short (inl r) = wrap_j_dsat_path w r (still s.given x)
     dsat_path (wrap wrapper.J x) k typed few w short (inr r) = absurd (no_more r.0)
     dsat_path (wrap wrapper.N x) k typed few w short r =
         let p = typed-wrap_n x typed in
-        behind_path B b_not_w b_not_w (up 0 ∷ []) (code op.ZeroNotEqual ∷ []) refl (path_base B p.1 (dsat_path x k p.0 few w short r))
+        behind_path B b_not_w b_not_w (up 0 ∷ []) (code op.ZeroNotEqual ∷ []) refl refl (path_base B p.1 (dsat_path x k p.0 few w short r))
 
     -- all children of a threshold, n of them satisfied
     sum_path : (k : ℕ) (xs : Trees) → IsWritable (thresh k xs) → IsTyped (thresh k xs) → Few (thresh k xs) → (n : ℕ) (w : Stack) → Short w → parts s xs n w →
