@@ -3,3 +3,4 @@ pub mod WalkLeaves
 pub mod WalkParts
 pub mod WalkTrees
 pub mod Canonical
+pub mod CanonicalSteps

@@ -54,3 +54,21 @@ CanonicalIsSat =
     (tree : Tree) (assets : Assets) (table : Pairs) (steps : List Step) (stack : List Bytes) → IsValidUnder Consensus tree → Holds table assets →
     Derives tree (given_with assets table) true steps stack → IsTrue (is_canonical steps) →
     FullSat tree (given_of assets) (only (known assets)) stack → Sat tree assets stack
+
+-- a canonical satisfaction has steps by canonical rows alone, under each table that holds the assets' signatures
+abbrev pub SatHasCanonicalSteps : Type 0
+SatHasCanonicalSteps =
+    (tree : Tree) (assets : Assets) (table : Pairs) (stack : List Bytes) → Holds table assets → Sat tree assets stack →
+    (steps : List Step) × Derives tree (given_with assets table) true steps stack × IsTrue (is_canonical steps)
+
+-- a stack that is a canonical satisfaction, by assets with these locks whose signatures the table holds, has these steps
+-- by canonical rows alone
+abbrev pub IsCanonicalWhereSat : Tree → Given → (stack : List Bytes) → List Step → Type 0
+IsCanonicalWhereSat tree given stack steps =
+    (assets : Assets) → assets.locks ≡ given.locks → Holds given.table assets → Sat tree assets stack → IsTrue (is_canonical steps)
+
+-- and over a miniscript that is valid under consensus it has no others
+abbrev pub SatIsCanonical : Type 0
+SatIsCanonical =
+    (tree : Tree) (given : Given) (steps : List Step) (stack : List Bytes) → IsValidUnder Consensus tree →
+    Derives tree given true steps stack → IsCanonicalWhereSat tree given stack steps

@@ -1,6 +1,6 @@
 //! What the definitions imply.
 
-ghost use Rattle.ms_audit_laws.specs.Laws.{WalkIsTrail, TrailIsUnique, AcceptedHasTrail, TrailIsAccepted, CanonicalIsSat};
+ghost use Rattle.ms_audit_laws.specs.Laws.{WalkIsTrail, TrailIsUnique, AcceptedHasTrail, TrailIsAccepted, CanonicalIsSat, SatHasCanonicalSteps, SatIsCanonical};
 
 /// A walk finds the steps by which a stack satisfies a miniscript, and there are no others.
 pub fn walks()
@@ -14,7 +14,10 @@ pub fn acceptance()
     ensures is_accepted { TrailIsAccepted }
 {}
 
-/// Steps by canonical rows alone, with what assets hold, are those of a canonical satisfaction.
+/// Steps by canonical rows alone, with what assets hold, are those of a canonical satisfaction; and a canonical
+/// satisfaction has such steps, and no others.
 pub fn canonical()
-    ensures { CanonicalIsSat }
+    ensures is_sat { CanonicalIsSat }
+    ensures has_steps { SatHasCanonicalSteps }
+    ensures no_others { SatIsCanonical }
 {}
