@@ -1,4 +1,5 @@
 pub mod Nested
 pub mod Decoded
+pub mod Alike
 pub mod Laws
 pub mod Examples

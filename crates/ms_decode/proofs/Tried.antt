@@ -9,9 +9,10 @@ use Rattle.def_tree.specs.Tree.{Tree, Key}
 use Rattle.def_tree.specs.Range.{IsKey, IsWritable}
 use Rattle.def_emit.specs.Emit.{emit}
 use Rattle.def_emit.proofs.Short.{items-script_of}
+use Rattle.def_decode.specs.Alike.{IsLikeEach}
 use Rattle.def_decode.specs.Decoded.{first_with, IsReading, IsDecoded}
 use Rattle.ms_decode_laws.specs.Scaffolding.Reader.{read}
-use Rattle.ms_decode_laws.proofs.Decoding.{found_in, reading_is_found, found_is_decoded}
+use Rattle.ms_decode_laws.proofs.Decoding.{found_in, reading_is_found, found_is_decoded, decoded_is_alike}
 use Rattle.ms_decode.specs.declared.codes.Code.{Code}
 use Rattle.ms_decode.specs.Scaffolding.States.{instruction_of, backwards}
 use Rattle.ms_decode.specs.Scaffolding.Codes.{AreCodes, HasNoCodes}
@@ -44,6 +45,10 @@ tried_some keys script t m w s =
       listed = read_has (λ k. Contains keys k) (first_with keys) (λ v k e. found_in Key (λ key. bytes_eq (hash160 key) v) keys k e) (reverse m.instructions) t m.found;
       same = s.1;
     })
+
+-- which is like every tree with it
+pub tried_alike : (keys : List Key) (script : Bytes) (t : Tree) → IsCandidate keys script t → IsWritable t → IsScriptOf t script → IsLikeEach keys script t
+tried_alike keys script t m w s = decoded_is_alike keys script t m.are_keys (tried_some keys script t m w s)
 
 -- or it isn't so
 pub tried_none : (keys : List Key) (script : Bytes) (t : Tree) → IsCandidate keys script t → (IsScriptOf t script → ⊥) → (v : Tree) → IsReading keys script v → ⊥

@@ -1,5 +1,6 @@
 //! A Script read back as a miniscript.
 ghost use Rattle.std.specs.Prelude.{◌≡◌, ◌↔◌, IsTrue, Ok, None, IfOk, IfSome};
+ghost use Rattle.def_decode.specs.Alike.{IsLikeEach};
 ghost use Rattle.def_decode.specs.Decoded.{IsReading, IsDecoded};
 ghost use Rattle.def_tree.specs.Range.{IsInRange};
 ghost use Rattle.def_tree.specs.Tree.{Tree as TheTree};
@@ -25,6 +26,9 @@ const MOST_SIZE: usize = 3_600;
 /// an `and_v` or an `and_b`; or none exactly where no valid miniscript, whose `pk_h` keys all stand in the list, has these
 /// bytes as its Script (Bitcoin Core: `DecodeScript`). The Script of a `pk_h` holds a HASH160 alone: it becomes the first
 /// key of the list with it. Want of memory is its only refusal.
+///
+/// What is given has the type, the limits and the malleability properties of every miniscript with these bytes as its
+/// Script, and is sane exactly where one is whose `pk_h` keys are the first ones of the list too.
 pub fn decode<'a>(
     alloc: Global,
     arena: &'a Bump<Global>,
@@ -33,6 +37,7 @@ pub fn decode<'a>(
 ) -> Result<Option<Tree<'a>>, AllocError>
     ensures some { IfOk result (λ o. IfSome o (λ t. IsDecoded keys.now script.now (shape t))) }
     ensures in_range { IfOk result (λ o. IfSome o (λ t. IsInRange (shape t))) }
+    ensures alike { IfOk result (λ o. IfSome o (λ t. IsLikeEach keys.now script.now (shape t))) }
     ensures none { result ≡ Ok None → (t : TheTree) → IsReading keys.now script.now t → ⊥ }
 {
     let Some(part) = read(alloc, arena, script, keys)? else {

@@ -1,5 +1,5 @@
 -- What a Script is decoded to: the tree that the reader finds, where there is one.
-use Rattle.std.proofs.Common.{◌≡◌, ℕ, zero, suc, ◌+◌, ◌<◌, ◌≤◌, ◌==◌, ◌&&◌, nat_le, Bool, true, false, List, [], ◌∷◌, ◌++◌, length, map, reverse, append-nil, slice_index_or, All, Option, Some, None, if◌then◌else◌, refl, sym, ◌∙◌, ap, subst, arith}
+use Rattle.std.proofs.Common.{◌≡◌, ◌↔◌, ℕ, zero, suc, ◌+◌, ◌<◌, ◌≤◌, ◌==◌, ◌&&◌, nat_le, Bool, true, false, List, [], ◌∷◌, ◌++◌, length, map, reverse, append-nil, slice_index_or, All, Option, Some, None, Ok, if◌then◌else◌, refl, sym, ◌∙◌, ap, subst, arith}
 use Rattle.std.specs.List.{find, Contains}
 use Rattle.std.specs.Int.{w16, w32, to_le_bytes}
 use Rattle.std.specs.Str.{bytes_eq}
@@ -17,20 +17,28 @@ use Rattle.def_tree.specs.Size.{measure, depth}
 use Rattle.def_tree.specs.Range.{IsKey, MOST_MEASURE, MOST_DEPTH}
 use Rattle.def_types.specs.declared.Base.TheVariants.{B, W}
 use Rattle.def_types.specs.declared.Ty.{Ty}
-use Rattle.def_types.specs.Typed.{type_of, IsTyped}
+use Rattle.def_types.specs.declared.Mall.{Mall}
+use Rattle.def_types.specs.Malleable.{mall}
+use Rattle.def_types.specs.Typed.{type_of, IsTyped, mall_of, IsMallTyped}
+use Rattle.def_types.proofs.Typing.{mall_is_non_malleable}
 use Rattle.def_emit.specs.Emit.{emit, script_of}
 use Rattle.def_emit.proofs.Short.{items-script_of}
 use Rattle.def_sane.specs.declared.Limits.{Limits}
 use Rattle.def_sane.specs.Most.{most_sat, number_of, limits_of}
-use Rattle.def_sane.specs.Unfit.{MOST_SIZE, MOST_OPS, MOST_ITEMS}
-use Rattle.def_sane.proofs.Meanings.{valid_means}
+use Rattle.def_sane.specs.Locks.{mix}
+use Rattle.def_sane.specs.Keys as held
+use Rattle.def_sane.specs.Keys.{AreDistinct}
+use Rattle.def_sane.specs.Unfit.{MOST_SIZE, MOST_OPS, MOST_ITEMS, IsValid, IsSane}
+use Rattle.def_sane.proofs.Meanings.{valid_means, sane_means}
 use Rattle.def_decode.specs.Nested.{RightNested, EachHashed, EachHashedOf}
 use Rattle.def_decode.specs.Decoded.{first_with, IsReading, IsDecoded}
-use Rattle.def_decode.specs.Laws.{HasDecoded, EachIsDecoded, OneIsDecoded}
+use Rattle.def_decode.specs.Alike.{HasFirstKeys, IsAlike}
+use Rattle.def_decode.specs.Laws.{HasDecoded, EachIsDecoded, OneIsDecoded, DecodedIsAlike}
 use Rattle.ms_decode_laws.specs.Scaffolding.Reader.{read}
 use Rattle.ms_decode_laws.proofs.Onto.{back, back_reverse, onto, onto_back}
 use Rattle.ms_decode_laws.proofs.ReadBack.{tree_reads}
 use Rattle.ms_decode_laws.proofs.Nest.{nest, IsNest, is_nest}
+use Rattle.ms_decode_laws.proofs.Alike.{nest_properties, nest_typed, nest_mix, nest_keys}
 use Rattle.ms_decode_laws.proofs.Low.{ops-onto, low}
 use Rattle.ms_decode_laws.proofs.Few.{few_of}
 use Rattle.ms_decode_laws.proofs.Fitting.{Fit, parses}
@@ -143,6 +151,24 @@ same_limits t n e s = λ k. record {
   weight = number_of (λ t. t.weight) (s k);
 }
 
+-- the same malleability properties, and sane alike
+same_properties : (t n : Tree) → IsMallTyped n ↔ IsMallTyped t → mall_of n ≡ mall_of t → (m : Mall) → (mall n ≡ Ok m) ↔ (mall t ≡ Ok m)
+same_properties t n typed is m =
+    let a = mall_is_non_malleable n m in
+    let b = mall_is_non_malleable t m in (
+      λ e. let h = a.0 e in b.1 (typed.0 h.0, h.1 ∙ is),
+      λ e. let h = b.0 e in a.1 (typed.1 h.0, h.1 ∙ sym is),
+    )
+
+same_sane : (t n : Tree) → IsValid n ↔ IsValid t → IsMallTyped n ↔ IsMallTyped t → mall_of n ≡ mall_of t → (mix n ≡ None) ↔ (mix t ≡ None) → held.keys n ≡ held.keys t → IsSane n ↔ IsSane t
+same_sane t n valid typed is locks keys =
+    let a = sane_means n in
+    let b = sane_means t in
+    let s : (mall_of n).s ≡ (mall_of t).s = ap (λ (m : Mall). m.s) is in (
+      λ e. let h = a.0 e in b.1 (valid.0 h.0, typed.0 h.1, sym s ∙ h.2, locks.0 h.3, subst AreDistinct keys h.4),
+      λ e. let h = b.0 e in a.1 (valid.1 h.0, typed.1 h.1, s ∙ h.2, locks.1 h.3, subst AreDistinct (sym keys) h.4),
+    )
+
 nest_is_decoded : (keys : List Key) (script : Bytes) (t : Tree) → All IsKey keys → IsReading keys script t → HasDecoded keys script t
 nest_is_decoded keys script t all h =
     let P : Key → Type 0 = λ k. first_with keys (hash160 k) ≡ Some k in
@@ -158,11 +184,12 @@ nest_is_decoded keys script t all h =
     let stack : (limits_of n).items ≤ MOST_ITEMS = subst (λ (m : Limits). m.items ≤ MOST_ITEMS) (sym l) v.4 in
     let base : (type_of n).base ≡ B = ap (λ (ty : Ty). ty.base) i.type ∙ v.1 in
     let listed : EachHashed (λ k. Contains keys k) n = each_map P (λ k. Contains keys k) (λ k f. found_in Key (λ key. bytes_eq (hash160 key) (hash160 k)) keys k f) n i.hashed in
+    let valid : IsValid n = (valid_means n).1 (i.typed, base, size, count, stack) in
     record {
       nested = n;
       decoded = record {
         reading = record {
-          valid = (valid_means n).1 (i.typed, base, size, count, stack);
+          valid = valid;
           writable = i.writable;
           listed = listed;
           same = ap spell e ∙ h.same;
@@ -170,9 +197,22 @@ nest_is_decoded keys script t all h =
         nested = i.nested;
         first = i.hashed;
       };
-      type = i.type;
-      limits = l;
+      alike = record {
+        type = i.type;
+        limits = l;
+        properties = same_properties t n (nest_typed (first_of keys) t) (nest_properties (first_of keys) t);
+        locks = nest_mix (first_of keys) t;
+        held = λ first. nest_keys (first_of keys) t (kept first);
+        sane = λ first.
+            same_sane t n ((λ e. h.valid), (λ e. valid)) (nest_typed (first_of keys) t) (nest_properties (first_of keys) t) (nest_mix (first_of keys) t)
+            (nest_keys (first_of keys) t (kept first));
+      };
     }
+  where
+    -- the first listed key with the HASH160 of a first one is that one
+    kept : HasFirstKeys keys t → EachHashed (λ key. first_of keys key ≡ key) t
+    kept first =
+        each_map (λ key. first_with keys (hash160 key) ≡ Some key) (λ key. first_of keys key ≡ key) (λ key e. ap (λ (o : Option Key). or_key o key) e) t first
 
 pub each_is_decoded : EachIsDecoded
 each_is_decoded keys script t all h = nest_is_decoded keys script t all h
@@ -303,3 +343,9 @@ one_is_decoded keys script t v h i =
     let same : emit t ≡ emit v = emit_of keys script t (emit v) e h.reading in
     let both : Some t ≡ Some v = sym (decoded_is_read keys script t h) ∙ ap (λ (l : List Instruction). read (first_with keys) (reverse l)) same ∙ decoded_is_read keys script v i in
     cc
+
+-- what a Script is decoded to is like each of its readings
+pub decoded_is_alike : DecodedIsAlike
+decoded_is_alike keys script decoded all d tree h =
+    let found = nest_is_decoded keys script tree all h in
+    subst (IsAlike keys tree) (one_is_decoded keys script found.nested decoded found.decoded d) found.alike

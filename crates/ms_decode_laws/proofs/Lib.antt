@@ -6,4 +6,5 @@ pub mod Nest
 pub mod Low
 pub mod Few
 pub mod Fitting
+pub mod Alike
 pub mod Decoding

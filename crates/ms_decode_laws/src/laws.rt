@@ -1,10 +1,12 @@
 //! What a Script can be read as.
 
-ghost use Rattle.def_decode.specs.Laws.{EachIsDecoded, OneIsDecoded};
+ghost use Rattle.def_decode.specs.Laws.{EachIsDecoded, OneIsDecoded, DecodedIsAlike};
 
-/// A Script that can be read as a valid miniscript can be read as one that is nested to the right, of the same type
-/// and limits, and as no other such one.
+/// A Script that can be read as a valid miniscript can be read as one that is nested to the right, and as no other such
+/// one. That one has the type, the limits and the malleability properties of each that the Script can be read as, and is
+/// sane exactly where one with the same keys is.
 pub fn decoding()
     ensures each { EachIsDecoded }
     ensures one { OneIsDecoded }
+    ensures alike { DecodedIsAlike }
 {}

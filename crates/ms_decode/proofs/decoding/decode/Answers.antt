@@ -3,7 +3,7 @@ use Rattle.std.proofs.lemmas.Bool.{both_ways}
 use Rattle.ms_tree.specs.Shape.{shape}
 use Rattle.ms_decode.specs.Scaffolding.Decoding.{IsCandidate, MayBe}
 use Rattle.ms_decode.specs.Scaffolding.Parts.{made}
-use Rattle.ms_decode.proofs.Tried.{tried_some, tried_none}
+use Rattle.ms_decode.proofs.Tried.{tried_some, tried_alike, tried_none}
 use Rattle.ms_decode.proofs.decoding.decode.Goals as goal
 
 pub returns-then-branch-clause-some : goal.returns-then-branch-clause-some
@@ -11,6 +11,12 @@ returns-then-branch-clause-some c =
     let m : IsCandidate c.args.keys.now c.args.script.now (shape c.in-Some.part.tree) = subst (λ o. MayBe c.args.keys.now c.args.script.now (made o)) c.in-Some.is c.in_ok-part.ensures in
     let r = c.in_ok-is_script_of.ensures in
     tried_some c.args.keys.now c.args.script.now (shape c.in-Some.part.tree) m c.in-Some.part.in_range.writable (r.0 c.if-branch.true)
+
+pub returns-then-branch-clause-alike : goal.returns-then-branch-clause-alike
+returns-then-branch-clause-alike c =
+    let m : IsCandidate c.args.keys.now c.args.script.now (shape c.in-Some.part.tree) = subst (λ o. MayBe c.args.keys.now c.args.script.now (made o)) c.in-Some.is c.in_ok-part.ensures in
+    let r = c.in_ok-is_script_of.ensures in
+    tried_alike c.args.keys.now c.args.script.now (shape c.in-Some.part.tree) m c.in-Some.part.in_range.writable (r.0 c.if-branch.true)
 
 pub returns-else-branch-clause-none : goal.returns-else-branch-clause-none
 returns-else-branch-clause-none c =
