@@ -33,8 +33,9 @@ pub fn strict(alloc: Global, tree: &Tree<'_>, assets: &Assets) -> Result<Option<
     ensures non_malleable { IfOk result (λ found. (stack : List Bytes) → found ≡ Some stack → NonMalleable (shape tree.now) assets.now stack × Unchangeable (shape tree.now) assets.now stack) }
     ensures nothing { IfOk result (λ found. found ≡ None → AcceptsFreshAlone (shape tree.now) assets.now) }
     ensures lightest { IfOk result (IsLightestUnchanged (shape tree.now) assets.now) }
-    ensures tight { IfOk result (λ found. (stack : List Bytes) → Sat (shape tree.now) assets.now stack → NonMalleable (shape tree.now) assets.now stack ↔ Tight (shape tree.now) assets.now stack) }
-    ensures tight_unchangeable { IfOk result (λ found. (stack : List Bytes) → Tight (shape tree.now) assets.now stack → Unchangeable (shape tree.now) assets.now stack) }
+    // Of every canonical satisfaction, whatever is found: nobody can change it exactly where it is tight.
+    ensures tight { (stack : List Bytes) → Sat (shape tree.now) assets.now stack → NonMalleable (shape tree.now) assets.now stack ↔ Tight (shape tree.now) assets.now stack }
+    ensures tight_unchangeable { (stack : List Bytes) → Tight (shape tree.now) assets.now stack → Unchangeable (shape tree.now) assets.now stack }
 {
     // Its clauses tell what assets always are.
     let _locks = assets.locks();

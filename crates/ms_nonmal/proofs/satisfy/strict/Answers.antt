@@ -31,14 +31,10 @@ returns-clause-lightest c =
     (λ found is. found_lightest (shape c.args.tree.now) c.args.assets.now found c.requires.in_range.writable c.requires.sane c.locks-locks.ensures.few.held is) c.satisfaction.ensures
 
 pub returns-clause-tight : goal.returns-clause-tight
-returns-clause-tight c =
-    IfOk-weaker c.satisfaction.result _ _
-    (λ found is stack sat.
-    tight_is_non_malleable (shape c.args.tree.now) c.args.assets.now stack c.requires.in_range.writable c.requires.sane c.locks-locks.ensures.few.held sat) c.satisfaction.ensures
+returns-clause-tight c stack sat =
+    tight_is_non_malleable (shape c.args.tree.now) c.args.assets.now stack c.requires.in_range.writable c.requires.sane c.locks-locks.ensures.few.held sat
 
 pub returns-clause-tight_unchangeable : goal.returns-clause-tight_unchangeable
-returns-clause-tight_unchangeable c =
-    IfOk-weaker c.satisfaction.result _ _
-    (λ found is stack tight.
+returns-clause-tight_unchangeable c stack tight =
     tight_is_unchangeable (shape c.args.tree.now) c.args.assets.now stack c.requires.in_range.writable c.requires.sane c.locks-locks.ensures.few.held
-    (tight_is_canonical (shape c.args.tree.now) c.args.assets.now stack tight) tight) c.satisfaction.ensures
+    (tight_is_canonical (shape c.args.tree.now) c.args.assets.now stack tight) tight
