@@ -235,6 +235,7 @@ run_file() {
 echo "| Case | Its answer | Allocations | Made good | Reads | Writes |"
 echo "|---|---|---|---|---|---|"
 for folder in "$top"/examples/*/; do
+    [ -e "$folder/words" ] || continue
     words=$(cat "$folder/words")
     [ "$words" != "gen 30" ] || continue
     wanted=$(cat "$folder/status" 2>/dev/null || echo 0)
