@@ -29,7 +29,7 @@ use Rattle.def_satisfaction.proofs.Computed.{right_branch, left_branch}
 use Rattle.def_satisfaction.proofs.Canonical.{sat_is_full_sat, only_is_any}
 use Rattle.def_satisfaction.proofs.OfBytes.{sat_is_of_bytes}
 use Rattle.def_choice.specs.NonMalleable.{IsAccepted, HasNewPair, Fresh, IsTableOfBytes, given_with}
-use Rattle.def_promises.specs.Examples.{by_key, by_preimages, only_key_b, chain, AcceptanceIsMet, StrictIsMet, KeyCanBeChanged, NothingIsMet, KeyHasLetters, OneHasLetters, DeepHasLetters, HashIsMissed}
+use Rattle.def_promises.specs.Examples.{by_key, by_preimages, only_key_b, chain, AcceptanceIsMet, AllIsMet, StrictIsMet, KeyCanBeChanged, NothingIsMet, KeyHasLetters, OneHasLetters, DeepHasLetters, HashIsMissed}
 use Rattle.def_satisfaction.proofs.EqualParts.{first_same}
 use Rattle.def_satisfaction.proofs.Forms.{bytes, never_both, one_of_both, key_form, digest_form, signature_form, preimage_form}
 
@@ -255,3 +255,19 @@ hash_1_missed = (preimage_2, preimage_2_bytes, (refl, λ h. let e : 0x9f ≡ 0x0
 pub hash_is_missed : HashIsMissed
 hash_is_missed kind value (zero, below, e) = subst IsMissed e hash_1_missed
 hash_is_missed kind value (suc k, below, e) = absurd (omega arith)
+
+pub all_is_met : AllIsMet
+unfolding computing
+all_is_met = (
+  (sig_b, refl),
+  (
+    (sig_a, refl),
+    (
+      (preimage_1, refl, (refl, refl), (refl, λ h. let e : 0x66 ≡ 0x02 = first_same _ _ _ _ h in omega (arith, e))),
+      (
+        (preimage_2, refl, (refl, refl), (refl, λ h. let e : 0x66 ≡ 0x9f = first_same _ _ _ _ h in omega (arith, e))),
+        (preimage_3, refl, (refl, refl), (refl, λ h. let e : 0x66 ≡ 0xde = first_same _ _ _ _ h in omega (arith, e))),
+      ),
+    ),
+  ),
+)

@@ -26,6 +26,7 @@ use Rattle.def_satisfaction.specs.Samples.{pair_a, pair_b, preimage_1, preimage_
 use Rattle.def_choice.specs.Strict.{strict}
 use Rattle.def_choice.specs.NonMalleable.{IsAccepted, HasNewPair, Fresh, NonMalleable, given_with}
 use Rattle.def_promises.specs.Acceptance.{IsAcceptedWithin}
+use Rattle.def_promises.specs.Courses.{HasAll}
 use Rattle.def_promises.specs.Letters.{HashesCanBeMissed}
 
 -- `and_v(v:pk(B),or_i(pk(A),and_v(v:sha256(h1),and_v(v:sha256(h2),sha256(h3)))))`: by the key A and by the
@@ -49,6 +50,10 @@ pub record AcceptanceIsMet : Type 0 where
   pub sat : Sat key_and_key_or_hashes keys_and_preimages by_preimages
   pub full : FullSat key_and_key_or_hashes (given_of keys_and_preimages) any by_preimages
   pub accepted : IsAcceptedWithin key_and_key_or_hashes limits (given_of keys_and_preimages) by_preimages
+
+-- of the runs of all formal satisfactions: the assets have all that the miniscript can take
+abbrev pub AllIsMet : Type 0
+AllIsMet = HasAll keys_and_preimages key_and_key_or_hashes
 
 -- of the strict choice: the miniscript is sane, there is a strict choice, and another stack is accepted,
 -- which passes a check more

@@ -2,6 +2,7 @@
 
 ghost use Rattle.def_promises.specs.Examples.{
   AcceptanceIsMet,
+  AllIsMet,
   StrictIsMet,
   KeyCanBeChanged,
   NothingIsMet,
@@ -14,6 +15,7 @@ ghost use Rattle.def_promises.specs.Examples.{
 /// What the promises presuppose is met.
 pub fn instances()
     ensures acceptance { AcceptanceIsMet }
+    ensures all { AllIsMet }
     ensures strict { StrictIsMet }
     ensures key_can_be_changed { KeyCanBeChanged }
     ensures nothing { NothingIsMet }

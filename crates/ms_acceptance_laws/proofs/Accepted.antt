@@ -21,6 +21,8 @@ use Rattle.def_assets.specs.Assets.{Assets, AreAssets, known}
 use Rattle.def_sane.specs.declared.Limits.{Limits}
 use Rattle.def_sane.specs.Limits.{AreLimits}
 use Rattle.def_script.specs.Instruction.{opcode_count}
+use Rattle.def_sane.specs.declared.Rules.TheVariants.{Consensus}
+use Rattle.def_sane.specs.Unfit.{IsValidUnder}
 use Rattle.def_sane.specs.Most.{limits_of}
 use Rattle.def_sane.proofs.Greatest.{limits_are_unique, limits_are_computed}
 use Rattle.def_height.specs.Formal.{Way, FormalSat}
@@ -36,7 +38,7 @@ use Rattle.def_satisfaction.proofs.Canonical.{held}
 use Rattle.def_satisfaction.proofs.Wider.{IsWider, row_within}
 use Rattle.def_choice.specs.NonMalleable.{IsAccepted, given_with}
 use Rattle.def_promises.specs.Acceptance.{IsAcceptedWithin, CanonicalIsAccepted, InversionHolds}
-use Rattle.def_promises.specs.Courses.{HasCourse, CanonicalHasCourse}
+use Rattle.def_promises.specs.Courses.{HasCourse, CanonicalHasCourse, HasAll, IsRun, EachFormalIsRun, HeightIsReached}
 use Rattle.def_promises.specs.Limited.{StopsAtLimit}
 use Rattle.def_satisfaction.proofs.EqualParts.{first_same, rest_same}
 use Rattle.ms_acceptance_laws.proofs.TreeEffects.{den}
@@ -48,6 +50,7 @@ use Rattle.ms_acceptance_laws.proofs.ForwardTrees.{sat_ends}
 use Rattle.ms_acceptance_laws.proofs.BackwardBases.{Back, BackB, logged, Took}
 use Rattle.ms_acceptance_laws.proofs.BackwardTrees.{inverts}
 use Rattle.ms_acceptance_laws.proofs.UnlimitedMachine.{reached, free_steps}
+use Rattle.ms_acceptance_laws.proofs.RowWays.{SatWay, sat_formal, sat_one, has_sat}
 use Rattle.ms_acceptance_laws.proofs.RunHeights.{IsLow}
 use Rattle.ms_acceptance_laws.proofs.SimplePaths.{Path}
 use Rattle.ms_acceptance_laws.proofs.TreePaths.{sat_path}
@@ -95,7 +98,7 @@ pub record Accepts (tree : Tree) (limits : Limits) (assets : Assets) (table : Pa
   pub few_ops : opcode_count (emit tree) + (sat_log (canonical_with assets table) tree (reverse stack) r).keys ≤ limits.ops
   pub low : (height : ℕ) → IsHeight tree height → peak ≤ height
   pub way : Way
-  pub formal : FormalSat tree way
+  pub is : SatWay (canonical_with assets table) tree (reverse stack) r way
   pub items : length stack ≡ way.items
   pub course : peak ≡ height_of_way.peak way
 
@@ -105,26 +108,26 @@ below_height tree h (inl g) way formal = g.3 way formal
 below_height tree h (inr g) way formal = absurd (g.0 way formal)
 
 -- how high the stacks get: as high as on a formal satisfaction with as many items
-record HasPeak (tree : Tree) (given : Given) (w : Stack) : Type 0 where
+record HasPeak (s : Setting) (tree : Tree) (w : Stack) (r : (row s tree).sat w) : Type 0 where
   pub way : Way
-  pub formal : FormalSat tree way
+  pub is : SatWay s tree w r way
   pub items : length w ≡ way.items
-  pub low : IsLow given (emit tree) (first w) (peak way)
-  pub high : (t : State) → free_steps given (emit tree) (first w) ≡ Ok t → (n : ℕ) → IsLow given (emit tree) (first w) n → peak way ≤ n
+  pub low : IsLow s.given (emit tree) (first w) (peak way)
+  pub high : (t : State) → free_steps s.given (emit tree) (first w) ≡ Ok t → (n : ℕ) → IsLow s.given (emit tree) (first w) n → peak way ≤ n
   pub below : (h : ℕ) → IsHeight tree h → peak way ≤ h
 
-has_peak : (s : Setting) → s.all_rows ≡ false → (tree : Tree) → IsWritable tree → IsWithinConsensus tree → (w : Stack) → Short w → (row s tree).sat w → HasPeak tree s.given w
+has_peak : (s : Setting) → s.all_rows ≡ false → (tree : Tree) → IsWritable tree → IsWithinConsensus tree → (w : Stack) → Short w → (r : (row s tree).sat w) → HasPeak s tree w r
 has_peak s canonical tree writable consensus w short r =
     let path =
-    subst (λ (b : Base). Path s.given b (emit tree) (FormalSat tree) w) consensus.base
+    subst (λ (b : Base). Path s.given b (emit tree) (SatWay s tree w r) w) consensus.base
     (sat_path s (λ i. false≢true (sym canonical ∙ i)) tree writable consensus.typed (few_children tree consensus) w short r) in
     record {
       way = path.way;
-      formal = path.formal;
+      is = path.formal;
       items = path.items;
       low = (path.keeps []).low (first w) refl (sym (append-nil w)) (peak path.way) (omega (arith, path.items));
       high = λ t e n h. let top = (path.keeps []).high (first w) t refl (sym (append-nil w)) e n h in omega (arith, top, path.items);
-      below = λ h is. below_height tree h is path.way path.formal;
+      below = λ h is. below_height tree h is path.way (sat_formal s tree w r path.way path.formal);
     }
 
 -- every row of a canonical satisfaction tells what its run logs
@@ -149,7 +152,7 @@ accepts_row tree limits assets table stack writable consensus are_limits are sat
       few_ops = few;
       low = λ h is. omega (arith, done.1, top.below h is);
       way = top.way;
-      formal = top.formal;
+      is = top.is;
       items = omega (arith, top.items, length-reverse stack);
       course = let most = top.high (reached (first w) (opcode_count (emit tree)) (left (ends.0 ∷ []) (sat_log s tree w r))) (does_first s.given tree w (left (ends.0 ∷ []) (sat_log s tree w r)) ends.1) done.0 done.3 in omega (arith, most, done.1);
     }
@@ -186,7 +189,37 @@ with_peak outcome ops p q checks e same = e ∙ ap (λ (n : ℕ). accepted ops n
 pub canonical_has_course : CanonicalHasCourse
 canonical_has_course tree assets table stack writable valid are holds sat =
     let a = accepts tree (limits_of tree) assets table stack writable (valid_consensus tree valid) (limits_are_computed tree) are holds sat in
-    record { way = a.way; formal = a.formal; items = a.items; ops = _; checks = _; run = with_peak _ _ a.peak _ _ a.run a.course }
+    record { way = a.way; formal = sat_formal _ tree (reverse stack) _ a.way a.is; items = a.items; ops = _; checks = _; run = with_peak _ _ a.peak _ _ a.run a.course }
+
+-- with all that a miniscript can take each formal satisfaction is run
+module _ (tree : Tree) (assets : Assets) (way : Way) (writable : IsWritable tree) (valid : IsValidUnder Consensus tree) (are : AreAssets assets) where
+  run_by : (stack : List Bytes) (r : (row (canonical assets) tree).sat (reverse stack)) → SatWay (canonical assets) tree (reverse stack) r way →
+      IsRun tree assets way.items (peak way)
+  run_by stack r is =
+      let a = accepts_row tree (limits_of tree) assets assets.pairs stack writable (valid_consensus tree valid) (limits_are_computed tree) are r r in
+      let same : a.way ≡ way = sat_one (canonical assets) tree (reverse stack) r a.way way a.is is in
+      record {
+        stack = stack;
+        sat = r;
+        items = a.items ∙ ap (λ (v : Way). v.items) same;
+        ops = _;
+        checks = _;
+        run = with_peak _ _ a.peak _ _ a.run (a.course ∙ ap peak same);
+      }
+
+  formal_is_run : HasAll assets tree → FormalSat tree way → IsRun tree assets way.items (peak way)
+  formal_is_run all formal =
+      let h = has_sat assets tree writable (valid_consensus tree valid).typed all way formal in
+      let P : Stack → Type 0 = λ w. (r : (row (canonical assets) tree).sat w) → SatWay (canonical assets) tree w r way → IsRun tree assets way.items (peak way) in
+      subst P (reverse-reverse h.0) (run_by (reverse h.0)) h.1 h.2
+
+pub each_formal_is_run : EachFormalIsRun
+each_formal_is_run tree assets way writable valid are all formal = formal_is_run tree assets way writable valid are all formal
+
+pub height_is_reached : HeightIsReached
+height_is_reached tree assets height writable valid are all way formal (inl g) =
+    (g.0.items, subst (IsRun tree assets g.0.items) g.2 (formal_is_run tree assets g.0 writable valid are all g.1))
+height_is_reached tree assets height writable valid are all way formal (inr g) = absurd (g.0 way formal)
 
 -- the row of an accepted stack, and the pairs that its run found good
 pub record Accounted (tree : Tree) (given : Given) (stack : List Bytes) (checks : Pairs) : Type 0 where

@@ -29,6 +29,7 @@ pub mod UntakenBranches
 pub mod BranchCourses
 pub mod SimplePaths
 pub mod BranchingPaths
+pub mod RowWays
 pub mod TreePaths
 pub mod LimitedSteps
 pub mod LimitedInstructions

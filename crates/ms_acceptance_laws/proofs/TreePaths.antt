@@ -26,6 +26,7 @@ use Rattle.def_height.specs.Formal.{Way, Is, Then, Followed, FormalSat, FormalDs
 use Rattle.def_height.specs.Highest.{highest_sat, highest_dsat, highest_parts}
 use Rattle.def_height.proofs.Courses.{ups, downs, IsHighest}
 use Rattle.def_height.proofs.Heights.{left, rise_multi, fit_children, sat_highest, dsat_highest, first_highest}
+use Rattle.ms_acceptance_laws.proofs.RowWays.{SatWay, DsatWay, PartsWay, sat_formal, dsat_formal, parts_formal}
 use Rattle.ms_acceptance_laws.proofs.ScriptRise.{rises}
 use Rattle.ms_acceptance_laws.proofs.TreeEffects.{den, den_sum}
 use Rattle.ms_row_laws.proofs.RowLogs.{sat_log, dsat_log, parts_log}
@@ -52,19 +53,19 @@ dsat_leaves : (t : Tree) → IsTyped t → (v : Way) → FormalDsat t v → v.it
 dsat_leaves t typed = leaves_of (left t) (FormalDsat t) (highest_dsat t) (dsat_highest t typed)
 
 -- a child by its path
-sat_child : (s : Setting) (t : Tree) → IsWritable t → IsTyped t → Few t → (w : Stack) → Short w → (row s t).sat w → (base : Base) → (type_of t).base ≡ base →
-    Path s.given (type_of t).base (emit t) (FormalSat t) w → Child s.given base (type_of t).u true (emit t) (FormalSat t) w
+sat_child : (s : Setting) (t : Tree) → IsWritable t → IsTyped t → Few t → (w : Stack) → Short w → (r : (row s t).sat w) → (base : Base) → (type_of t).base ≡ base →
+    Path s.given (type_of t).base (emit t) (SatWay s t w r) w → Child s.given base (type_of t).u true (emit t) (SatWay s t w r) w
 sat_child s t k typed few w short r base is p =
-    subst (λ (c : Base). Child s.given c (type_of t).u true (emit t) (FormalSat t) w) is
-    (child_of s.given (type_of t).base (type_of t).u true (emit t) (den s.given t) (FormalSat t) w (sat_log s t w r) (does s.given t)
-    (λ rest. sat_ends s t k typed few w rest short r) (sat_leaves t typed) p)
+    subst (λ (c : Base). Child s.given c (type_of t).u true (emit t) (SatWay s t w r) w) is
+    (child_of s.given (type_of t).base (type_of t).u true (emit t) (den s.given t) (SatWay s t w r) w (sat_log s t w r) (does s.given t)
+    (λ rest. sat_ends s t k typed few w rest short r) (λ v h. sat_leaves t typed v (sat_formal s t w r v h)) p)
 
-dsat_child : (s : Setting) (t : Tree) → IsWritable t → IsTyped t → Few t → (w : Stack) → Short w → (row s t).dsat w → (base : Base) → (type_of t).base ≡ base →
-    Path s.given (type_of t).base (emit t) (FormalDsat t) w → Child s.given base (type_of t).u false (emit t) (FormalDsat t) w
+dsat_child : (s : Setting) (t : Tree) → IsWritable t → IsTyped t → Few t → (w : Stack) → Short w → (r : (row s t).dsat w) → (base : Base) → (type_of t).base ≡ base →
+    Path s.given (type_of t).base (emit t) (DsatWay s t w r) w → Child s.given base (type_of t).u false (emit t) (DsatWay s t w r) w
 dsat_child s t k typed few w short r base is p =
-    subst (λ (c : Base). Child s.given c (type_of t).u false (emit t) (FormalDsat t) w) is
-    (child_of s.given (type_of t).base (type_of t).u false (emit t) (den s.given t) (FormalDsat t) w (dsat_log s t w r) (does s.given t)
-    (λ rest. dsat_ends s t k typed few w rest short r) (dsat_leaves t typed) p)
+    subst (λ (c : Base). Child s.given c (type_of t).u false (emit t) (DsatWay s t w r) w) is
+    (child_of s.given (type_of t).base (type_of t).u false (emit t) (den s.given t) (DsatWay s t w r) w (dsat_log s t w r) (does s.given t)
+    (λ rest. dsat_ends s t k typed few w rest short r) (λ v h. dsat_leaves t typed v (dsat_formal s t w r v h)) p)
 
 unit_child : {given : Given} {base : Base} {u b : Bool} {c : List Instruction} {P : Way → Type 0} {w : Stack} → u ≡ true → Child given base u b c P w → Child given base true b c P w
 unit_child {given} {base} {u} {b} {c} {P} {w} e x = subst (λ (v : Bool). Child given base v b c P w) e x
@@ -98,26 +99,12 @@ multi_path given k keys w is =
     (omega (arith, rises-pushes pushed (code op.CheckMultiSig ∷ [])))
     (omega (arith, many, rise_multi (length keys + 2) end)))
 
--- of the children of a threshold
-satisfied_path : {given : Given} {base : Base} {c : List Instruction} {w : Stack} → (first : Course) (x : Tree) (xs : Trees) (n m : ℕ) → n ≡ suc m →
-    Path given base c (Then (Followed (FormalSat x) first) (FormalParts (down 1 ∷ []) xs m)) w → Path given base c (FormalParts first (more x xs) n) w
-satisfied_path {given} {base} {c} {w} first x xs n m e p =
-    subst (λ (k : ℕ). Path given base c (FormalParts first (more x xs) k) w) (sym e) (path_as (FormalParts first (more x xs) (suc m)) (λ v h. inl h) p)
-
-dissatisfied_path : {given : Given} {base : Base} {c : List Instruction} {w : Stack} → (first : Course) (x : Tree) (xs : Trees) (n : ℕ) →
-    Path given base c (Then (Followed (FormalDsat x) first) (FormalParts (down 1 ∷ []) xs n)) w → Path given base c (FormalParts first (more x xs) n) w
-dissatisfied_path first x xs zero p = p
-dissatisfied_path first x xs (suc n) p = path_as (FormalParts first (more x xs) (suc n)) (λ v h. inr h) p
-
-no_parts_path : (given : Given) (n : ℕ) (w : Stack) → n ≡ 0 → w ≡ [] → Path given W [] (FormalParts (down 1 ∷ []) none n) w
-no_parts_path given zero w e i = none_path given w i
-no_parts_path given (suc n) w e i = absurd (omega (arith, e))
-
+-- the children of a threshold
 sum_follows : (s : Setting) (k : ℕ) (x : Tree) (xs : Trees) → IsWritable (thresh k (more x xs)) → IsTyped (thresh k (more x xs)) → Few (thresh k (more x xs)) → (n : ℕ) (w : Stack) → Short w →
-    parts s (more x xs) n w → (p : Path s.given B (emit_sum (more x xs)) (FormalParts [] (more x xs) n) w) → (rest : Stack) →
+    (r : parts s (more x xs) n w) → (p : Path s.given B (emit_sum (more x xs)) (PartsWay s [] (more x xs) n w r) w) → (rest : Stack) →
     (v : Bytes) × Follows s.given (emit_sum (more x xs)) p.way.course (w ++ rest) (v ∷ rest)
 sum_follows s k x xs writable typed few n w short r p rest =
-    let leaves = leaves_of 1 (FormalParts [] (more x xs) n) (highest_parts 1 (more x xs) n) (first_highest (more x xs) n (fit_children k x xs typed)) p.way p.formal in (
+    let leaves = leaves_of 1 (FormalParts [] (more x xs) n) (highest_parts 1 (more x xs) n) (first_highest (more x xs) n (fit_children k x xs typed)) p.way (parts_formal s [] (more x xs) n w r p.way p.formal) in (
       natural_bytes n,
       does_follow s.given (emit_sum (more x xs)) (den_sum s.given (more x xs)) p.way.course (w ++ rest) (natural_bytes n ∷ rest) (parts_log s (more x xs) n w r) (does_sum s.given (more x xs))
           (sum_ends s k (more x xs) writable typed few n w rest short r) (omega (arith, leaves, p.items, length-append w rest)) (p.keeps rest),
@@ -127,7 +114,7 @@ module _ (s : Setting) (no_more : IsTrue s.all_rows → ⊥) where
   mutual
     unfolding corr_rows
 
-    pub sat_path : (t : Tree) → IsWritable t → IsTyped t → Few t → (w : Stack) → Short w → (row s t).sat w → Path s.given (type_of t).base (emit t) (FormalSat t) w
+    pub sat_path : (t : Tree) → IsWritable t → IsTyped t → Few t → (w : Stack) → Short w → (r : (row s t).sat w) → Path s.given (type_of t).base (emit t) (SatWay s t w r) w
     sat_path just_0 k typed few w short r = absurd r
     sat_path just_1 k typed few w short r = pushes_path s.given B (ONE ∷ []) [] 0 (up 1 ∷ []) w b_not_w (ap length r) refl refl
     sat_path (pk_k key) k typed few w short r = pushes_path s.given K (key ∷ []) [] 1 (up 1 ∷ []) w k_not_w (ap length r.2) refl refl
@@ -138,12 +125,12 @@ module _ (s : Setting) (no_more : IsTrue s.all_rows → ⊥) where
     sat_path (hash kind value) k typed few w short r = hash_path s.given kind value r.0 w r.1.0.0 r.2
     sat_path (and_or x y z) k typed few w short (inl r) =
         let p = typed-and_or x y z typed in
-        path_as (FormalSat (and_or x y z)) (λ v h. inl h) (path_script (emit (and_or x y z)) (and_or_script x y z)
+        path_as _ (λ v h. h) (path_script (emit (and_or x y z)) (and_or_script x y z)
         (and_or_true_path (den s.given z) w p.7 r.4
         (unit_child p.5 (sat_child s x k.0 p.0 few.0 r.1 (upper w r.1 r.0 r.4 short) r.3 B p.3 (sat_path x k.0 p.0 few.0 r.1 (upper w r.1 r.0 r.4 short) r.3))) (sat_path y k.1 p.1 few.1 r.0 (lower w r.1 r.0 r.4 short) r.2) (does s.given z) (still s.given z)))
     sat_path (and_or x y z) k typed few w short (inr r) =
         let p = typed-and_or x y z typed in
-        path_as (FormalSat (and_or x y z)) (λ v h. inr h) (path_script (emit (and_or x y z)) (and_or_script x y z)
+        path_as _ (λ v h. h) (path_script (emit (and_or x y z)) (and_or_script x y z)
         (and_or_false_path w p.7 r.4
         (unit_child p.5 (dsat_child s x k.0 p.0 few.0 r.1 (upper w r.1 r.0 r.4 short) r.3 B p.3 (dsat_path x k.0 p.0 few.0 r.1 (upper w r.1 r.0 r.4 short) r.3))) (sat_child s z k.2 p.2 few.2 r.0 (lower w r.1 r.0 r.4 short) r.2 (type_of y).base (sym p.6) (sat_path z k.2 p.2 few.2 r.0 (lower w r.1 r.0 r.4 short) r.2)) (still s.given y)))
     sat_path (two kind.AndV x y) k typed few w short r =
@@ -154,36 +141,36 @@ module _ (s : Setting) (no_more : IsTrue s.all_rows → ⊥) where
         two_path w (code op.BoolAnd ∷ []) r.4 refl (sat_child s x k.0 p.0 few.0 r.1 (upper w r.1 r.0 r.4 short) r.3 B p.2 (sat_path x k.0 p.0 few.0 r.1 (upper w r.1 r.0 r.4 short) r.3)) (path_base W p.3 (sat_path y k.1 p.1 few.1 r.0 (lower w r.1 r.0 r.4 short) r.2))
     sat_path (two kind.OrB x z) k typed few w short (inl r) =
         let p = typed-or_b x z typed in
-        path_as (FormalSat (two kind.OrB x z)) (λ v h. inl h)
+        path_as _ (λ v h. h)
         (two_path w (code op.BoolOr ∷ []) r.4 refl (sat_child s x k.0 p.0 few.0 r.1 (upper w r.1 r.0 r.4 short) r.3 B p.2 (sat_path x k.0 p.0 few.0 r.1 (upper w r.1 r.0 r.4 short) r.3)) (path_base W p.4 (dsat_path z k.1 p.1 few.1 r.0 (lower w r.1 r.0 r.4 short) r.2)))
     sat_path (two kind.OrB x z) k typed few w short (inr (inl r)) =
         let p = typed-or_b x z typed in
-        path_as (FormalSat (two kind.OrB x z)) (λ v h. inr h)
+        path_as _ (λ v h. h)
         (two_path w (code op.BoolOr ∷ []) r.4 refl (dsat_child s x k.0 p.0 few.0 r.1 (upper w r.1 r.0 r.4 short) r.3 B p.2 (dsat_path x k.0 p.0 few.0 r.1 (upper w r.1 r.0 r.4 short) r.3)) (path_base W p.4 (sat_path z k.1 p.1 few.1 r.0 (lower w r.1 r.0 r.4 short) r.2)))
     sat_path (two kind.OrB x z) k typed few w short (inr (inr r)) = absurd (no_more r.0)
     sat_path (two kind.OrC x z) k typed few w short (inl r) =
         let p = typed-or_c x z typed in
-        path_as (FormalSat (two kind.OrC x z)) (λ v h. inl h) (path_script (emit (two kind.OrC x z)) (or_c_script x z)
+        path_as _ (λ v h. h) (path_script (emit (two kind.OrC x z)) (or_c_script x z)
         (or_c_true_path (unit_child p.4 (sat_child s x k.0 p.0 few.0 w short r B p.2 (sat_path x k.0 p.0 few.0 w short r))) (still s.given z)))
     sat_path (two kind.OrC x z) k typed few w short (inr r) =
         let p = typed-or_c x z typed in
-        path_as (FormalSat (two kind.OrC x z)) (λ v h. inr h) (path_script (emit (two kind.OrC x z)) (or_c_script x z)
+        path_as _ (λ v h. h) (path_script (emit (two kind.OrC x z)) (or_c_script x z)
         (or_c_false_path w r.4 (unit_child p.4 (dsat_child s x k.0 p.0 few.0 r.1 (upper w r.1 r.0 r.4 short) r.3 B p.2 (dsat_path x k.0 p.0 few.0 r.1 (upper w r.1 r.0 r.4 short) r.3))) (path_base V p.5 (sat_path z k.1 p.1 few.1 r.0 (lower w r.1 r.0 r.4 short) r.2))))
     sat_path (two kind.OrD x z) k typed few w short (inl r) =
         let p = typed-or_d x z typed in
-        path_as (FormalSat (two kind.OrD x z)) (λ v h. inl h) (path_script (emit (two kind.OrD x z)) (or_d_script x z)
+        path_as _ (λ v h. h) (path_script (emit (two kind.OrD x z)) (or_d_script x z)
         (or_d_true_path (unit_child p.4 (sat_child s x k.0 p.0 few.0 w short r B p.2 (sat_path x k.0 p.0 few.0 w short r))) (still s.given z)))
     sat_path (two kind.OrD x z) k typed few w short (inr r) =
         let p = typed-or_d x z typed in
-        path_as (FormalSat (two kind.OrD x z)) (λ v h. inr h) (path_script (emit (two kind.OrD x z)) (or_d_script x z)
+        path_as _ (λ v h. h) (path_script (emit (two kind.OrD x z)) (or_d_script x z)
         (or_d_false_path w r.4 (unit_child p.4 (dsat_child s x k.0 p.0 few.0 r.1 (upper w r.1 r.0 r.4 short) r.3 B p.2 (dsat_path x k.0 p.0 few.0 r.1 (upper w r.1 r.0 r.4 short) r.3))) (path_base B p.5 (sat_path z k.1 p.1 few.1 r.0 (lower w r.1 r.0 r.4 short) r.2))))
     sat_path (two kind.OrI x z) k typed few w short (inl r) =
         let p = typed-or_i x z typed in
-        path_as (FormalSat (two kind.OrI x z)) (λ v h. inl h) (path_script (emit (two kind.OrI x z)) (or_i_script x z)
+        path_as _ (λ v h. h) (path_script (emit (two kind.OrI x z)) (or_i_script x z)
         (or_i_true_path w r.1 p.3 r.4 r.3 (sat_child s x k.0 p.0 few.0 r.0 (lower w r.1 r.0 r.4 short) r.2 (type_of x).base refl (sat_path x k.0 p.0 few.0 r.0 (lower w r.1 r.0 r.4 short) r.2)) (still s.given z)))
     sat_path (two kind.OrI x z) k typed few w short (inr r) =
         let p = typed-or_i x z typed in
-        path_as (FormalSat (two kind.OrI x z)) (λ v h. inr h) (path_script (emit (two kind.OrI x z)) (or_i_script x z)
+        path_as _ (λ v h. h) (path_script (emit (two kind.OrI x z)) (or_i_script x z)
         (or_i_false_path (den s.given x) w r.1 p.3 r.4 r.3 (path_base (type_of x).base (sym p.2) (sat_path z k.1 p.1 few.1 r.0 (lower w r.1 r.0 r.4 short) r.2)) (does s.given x) (still s.given x)))
     sat_path (thresh k none) writable typed few w short r = absurd (typed-thresh_none k typed)
     sat_path (thresh k (more x xs)) writable typed few w short r =
@@ -214,7 +201,7 @@ module _ (s : Setting) (no_more : IsTrue s.all_rows → ⊥) where
         let p = typed-wrap_n x typed in
         behind_path B b_not_w b_not_w (up 0 ∷ []) (code op.ZeroNotEqual ∷ []) refl refl (path_base B p.1 (sat_path x k p.0 few w short r))
 
-    pub dsat_path : (t : Tree) → IsWritable t → IsTyped t → Few t → (w : Stack) → Short w → (row s t).dsat w → Path s.given (type_of t).base (emit t) (FormalDsat t) w
+    pub dsat_path : (t : Tree) → IsWritable t → IsTyped t → Few t → (w : Stack) → Short w → (r : (row s t).dsat w) → Path s.given (type_of t).base (emit t) (DsatWay s t w r) w
     dsat_path just_0 k typed few w short r = pushes_path s.given B (EMPTY ∷ []) [] 0 (up 1 ∷ []) w b_not_w (ap length r) refl refl
     dsat_path just_1 k typed few w short r = absurd r
     dsat_path (pk_k key) k typed few w short r = pushes_path s.given K (key ∷ []) [] 1 (up 1 ∷ []) w k_not_w (ap length r) refl refl
@@ -245,11 +232,11 @@ module _ (s : Setting) (no_more : IsTrue s.all_rows → ⊥) where
         (or_d_false_path w r.4 (unit_child p.4 (dsat_child s x k.0 p.0 few.0 r.1 (upper w r.1 r.0 r.4 short) r.3 B p.2 (dsat_path x k.0 p.0 few.0 r.1 (upper w r.1 r.0 r.4 short) r.3))) (path_base B p.5 (dsat_path z k.1 p.1 few.1 r.0 (lower w r.1 r.0 r.4 short) r.2)))
     dsat_path (two kind.OrI x z) k typed few w short (inl r) =
         let p = typed-or_i x z typed in
-        path_as (FormalDsat (two kind.OrI x z)) (λ v h. inl h) (path_script (emit (two kind.OrI x z)) (or_i_script x z)
+        path_as _ (λ v h. h) (path_script (emit (two kind.OrI x z)) (or_i_script x z)
         (or_i_true_path w r.1 p.3 r.4 r.3 (dsat_child s x k.0 p.0 few.0 r.0 (lower w r.1 r.0 r.4 short) r.2 (type_of x).base refl (dsat_path x k.0 p.0 few.0 r.0 (lower w r.1 r.0 r.4 short) r.2)) (still s.given z)))
     dsat_path (two kind.OrI x z) k typed few w short (inr r) =
         let p = typed-or_i x z typed in
-        path_as (FormalDsat (two kind.OrI x z)) (λ v h. inr h) (path_script (emit (two kind.OrI x z)) (or_i_script x z)
+        path_as _ (λ v h. h) (path_script (emit (two kind.OrI x z)) (or_i_script x z)
         (or_i_false_path (den s.given x) w r.1 p.3 r.4 r.3 (path_base (type_of x).base (sym p.2) (dsat_path z k.1 p.1 few.1 r.0 (lower w r.1 r.0 r.4 short) r.2)) (does s.given x) (still s.given x)))
     dsat_path (thresh k none) writable typed few w short r = absurd (typed-thresh_none k typed)
     dsat_path (thresh k (more x xs)) writable typed few w short (inl r) =
@@ -276,24 +263,20 @@ module _ (s : Setting) (no_more : IsTrue s.all_rows → ⊥) where
         behind_path B b_not_w b_not_w (up 0 ∷ []) (code op.ZeroNotEqual ∷ []) refl refl (path_base B p.1 (dsat_path x k p.0 few w short r))
 
     -- all children of a threshold, n of them satisfied
-    sum_path : (k : ℕ) (xs : Trees) → IsWritable (thresh k xs) → IsTyped (thresh k xs) → Few (thresh k xs) → (n : ℕ) (w : Stack) → Short w → parts s xs n w →
-        Path s.given B (emit_sum xs) (FormalParts [] xs n) w
+    sum_path : (k : ℕ) (xs : Trees) → IsWritable (thresh k xs) → IsTyped (thresh k xs) → Few (thresh k xs) → (n : ℕ) (w : Stack) → Short w → (r : parts s xs n w) →
+        Path s.given B (emit_sum xs) (PartsWay s [] xs n w r) w
     sum_path k none writable typed few n w short r = absurd (typed-thresh_none k typed)
     sum_path k (more x xs) writable typed few n w short (inl (m, is, r)) =
         let p = typed-thresh k x xs typed in
-        satisfied_path [] x xs n m is
         (first_path w r.4 (unit_child p.6 (sat_child s x writable.2.0 p.0 few.1.0 r.1 (upper w r.1 r.0 r.4 short) r.3 B p.4 (sat_path x writable.2.0 p.0 few.1.0 r.1 (upper w r.1 r.0 r.4 short) r.3))) (parts_path xs writable.2.1 p.1 p.7 few.1.1 m r.0 (lower w r.1 r.0 r.4 short) r.2))
     sum_path k (more x xs) writable typed few n w short (inr r) =
         let p = typed-thresh k x xs typed in
-        dissatisfied_path [] x xs n
         (first_path w r.4 (unit_child p.6 (dsat_child s x writable.2.0 p.0 few.1.0 r.1 (upper w r.1 r.0 r.4 short) r.3 B p.4 (dsat_path x writable.2.0 p.0 few.1.0 r.1 (upper w r.1 r.0 r.4 short) r.3))) (parts_path xs writable.2.1 p.1 p.7 few.1.1 n r.0 (lower w r.1 r.0 r.4 short) r.2))
 
     -- further children, behind the sum of those before them
-    parts_path : (xs : Trees) → AreWritable xs → AreTyped xs → OthersFit xs → AllFew xs → (n : ℕ) (w : Stack) → Short w → parts s xs n w → Path s.given W (emit_added xs) (FormalParts (down 1 ∷ []) xs n) w
-    parts_path none k typed fit few n w short r = no_parts_path s.given n w r.0 r.1
+    parts_path : (xs : Trees) → AreWritable xs → AreTyped xs → OthersFit xs → AllFew xs → (n : ℕ) (w : Stack) → Short w → (r : parts s xs n w) → Path s.given W (emit_added xs) (PartsWay s (down 1 ∷ []) xs n w r) w
+    parts_path none k typed fit few n w short r = none_path s.given w r.1
     parts_path (more x xs) k typed fit few n w short (inl (m, is, r)) =
-        satisfied_path (down 1 ∷ []) x xs n m is
         (added_path w r.4 (sat_child s x k.0 typed.0 few.0 r.1 (upper w r.1 r.0 r.4 short) r.3 W fit.0 (sat_path x k.0 typed.0 few.0 r.1 (upper w r.1 r.0 r.4 short) r.3)) (parts_path xs k.1 typed.1 fit.3 few.1 m r.0 (lower w r.1 r.0 r.4 short) r.2))
     parts_path (more x xs) k typed fit few n w short (inr r) =
-        dissatisfied_path (down 1 ∷ []) x xs n
         (added_path w r.4 (dsat_child s x k.0 typed.0 few.0 r.1 (upper w r.1 r.0 r.4 short) r.3 W fit.0 (dsat_path x k.0 typed.0 few.0 r.1 (upper w r.1 r.0 r.4 short) r.3)) (parts_path xs k.1 typed.1 fit.3 few.1 n r.0 (lower w r.1 r.0 r.4 short) r.2))

@@ -1,7 +1,7 @@
 //! What the interpreter accepts of a miniscript.
 
 ghost use Rattle.def_promises.specs.Acceptance.{CanonicalIsAccepted, InversionHolds};
-ghost use Rattle.def_promises.specs.Courses.{CanonicalHasCourse};
+ghost use Rattle.def_promises.specs.Courses.{CanonicalHasCourse, EachFormalIsRun, HeightIsReached};
 
 /// The interpreter accepts the canonical satisfactions of a valid miniscript, within its limits, and its stacks get as
 /// high as on a formal satisfaction with as many items; and what it accepts is a satisfaction, which it accepts but for
@@ -10,4 +10,11 @@ pub fn acceptance()
     ensures canonical { CanonicalIsAccepted }
     ensures course { CanonicalHasCourse }
     ensures inversion { InversionHolds }
+{}
+
+/// With assets that have all that a valid miniscript can take, each of its formal satisfactions is run, with exactly the
+/// peak of its course; so the height is reached.
+pub fn heights()
+    ensures formal { EachFormalIsRun }
+    ensures reached { HeightIsReached }
 {}

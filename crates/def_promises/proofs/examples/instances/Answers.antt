@@ -1,8 +1,11 @@
 use Rattle.def_promises.proofs.examples.instances.Goals as goal
-use Rattle.def_promises.proofs.Instances.{acceptance_is_met, strict_is_met, key_can_be_changed, nothing_is_met, key_has_letters, one_has_letters, deep_has_letters, hash_is_missed}
+use Rattle.def_promises.proofs.Instances.{acceptance_is_met, all_is_met, strict_is_met, key_can_be_changed, nothing_is_met, key_has_letters, one_has_letters, deep_has_letters, hash_is_missed}
 
 pub returns-clause-acceptance : goal.returns-clause-acceptance
 returns-clause-acceptance c = acceptance_is_met
+
+pub returns-clause-all : goal.returns-clause-all
+returns-clause-all c = all_is_met
 
 pub returns-clause-strict : goal.returns-clause-strict
 returns-clause-strict c = strict_is_met
