@@ -9,6 +9,7 @@ ghost use Rattle.def_sane.specs.declared.Rules.TheVariants.{Consensus};
 ghost use Rattle.def_sane.specs.Unfit.{IsValidUnder};
 ghost use Rattle.def_tree.specs.Range.{IsInRange};
 ghost use Rattle.ms_audit.specs.Answering.{Audits};
+ghost use Rattle.ms_audit_laws.specs.Laws.{IsCanonicalWhereSat};
 ghost use Rattle.ms_interp.specs.Answering.{given_by};
 ghost use Rattle.ms_oracle.specs.Sound.{table_of, IsSound};
 ghost use Rattle.ms_tree.specs.Shape.{shape};
@@ -32,6 +33,9 @@ use std::alloc::{AllocError, Global};
 ///
 /// `Refused` comes exactly where the run is refused, as by `run`, and else there is an audit with the run's report: what
 /// is accepted satisfies the tree, and by these steps alone. Only `Memory` may come in place of any answer.
+///
+/// Of a stack that is a canonical satisfaction by what some assets hold, whose signatures are good and which have these
+/// locks, all steps are by canonical rows.
 pub fn audit<F: Fn(&[u8], &[u8]) -> bool>(
     alloc: Global,
     tree: &Tree<'_>,
@@ -45,6 +49,7 @@ pub fn audit<F: Fn(&[u8], &[u8]) -> bool>(
     requires sound { IsSound F.Fn sigs.now }
     ensures outcome { Audits result (the_run (given_by (table_of sigs.now) locks.now) (script_of (shape tree.now)) stack.now) }
     ensures derives { IfOk result (λ audit. Derives (shape tree.now) (given_by (table_of sigs.now) locks.now) true audit.trail stack.now) }
+    ensures canonical { IfOk result (λ audit. IsCanonicalWhereSat (shape tree.now) (given_by (table_of sigs.now) locks.now) stack.now audit.trail) }
 {
     let script = script_bytes(alloc, tree)?;
     let report = run(alloc, script.as_slice(), stack, locks, sigs)?;
