@@ -1,13 +1,13 @@
 -- A policy made simple is simple.
-use Rattle.std.proofs.Common.{◌≡◌, ℕ, false, not, ◌||◌, List, [], ◌∷◌, ◌++◌, filter, flat_map}
+use Rattle.std.proofs.Common.{◌≡◌, ℕ, suc, ◌≤◌, false, not, ◌||◌, List, [], ◌∷◌, ◌++◌, length, filter, flat_map, refl, ap, arith}
 use Rattle.std.specs.Bool.{⊤}
 use Rattle.std.specs.List.{list_any}
 use Rattle.def_policy.specs.declared.Join.{Join}
 use Rattle.def_policy.specs.declared.Join.TheVariants as join
 use Rattle.def_policy.specs.Policy.{Policy, Policies, never, always, key, older, after, hash, all, any, thresh, none, more, list_of, policies_of}
 use Rattle.def_policy.specs.Simple.{is_decisive, opened, gathered, joined, is_always, is_never, threshold, simple_each}
-use Rattle.def_policy.specs.Laws.{IsPart, AreParts, ArePartsOfAll, ArePartsOfAny, IsNoAll, IsNoAny, IsSimple, SimpleIsSimple}
-use Rattle.def_policy.proofs.Joins.{joined_cases, chosen_cases}
+use Rattle.def_policy.specs.Laws.{count, IsPart, AreParts, ArePartsOfAll, ArePartsOfAny, IsNoAll, IsNoAny, IsSimple, SimpleIsSimple}
+use Rattle.def_policy.proofs.Joins.{joined_cases, chosen_cases_within}
 
 abbrev pub Each : (Policy → Type 0) → List Policy → Type 0
 Each P [] = ⊤
@@ -22,7 +22,7 @@ abbrev pub IsPartOf : Join → Policy → Type 0
 IsPartOf join.All x = IsPart x × IsNoAll x
 IsPartOf join.Any x = IsPart x × IsNoAny x
 
-part_is_simple : (x : Policy) → IsPart x → IsSimple x
+pub part_is_simple : (x : Policy) → IsPart x → IsSimple x
 part_is_simple never p = tt
 part_is_simple always p = tt
 part_is_simple (key k) p = tt
@@ -33,11 +33,19 @@ part_is_simple (all parts) p = p
 part_is_simple (any parts) p = p
 part_is_simple (thresh k parts) p = p
 
-parts_of_all : (parts : Policies) → ArePartsOfAll parts → Each (IsPartOf join.All) (list_of parts)
+-- as many as in the list
+pub count_of : (parts : List Policy) → count (policies_of parts) ≡ length parts
+count_of [] = refl
+count_of (x ∷ xs) = ap suc (count_of xs)
+
+two_of : (x y : Policy) (xs : List Policy) → 2 ≤ count (policies_of (x ∷ y ∷ xs))
+two_of x y xs = omega arith
+
+pub parts_of_all : (parts : Policies) → ArePartsOfAll parts → Each (IsPartOf join.All) (list_of parts)
 parts_of_all none p = tt
 parts_of_all (more x xs) p = ((p.0, p.1), parts_of_all xs p.2)
 
-parts_of_any : (parts : Policies) → ArePartsOfAny parts → Each (IsPartOf join.Any) (list_of parts)
+pub parts_of_any : (parts : Policies) → ArePartsOfAny parts → Each (IsPartOf join.Any) (list_of parts)
 parts_of_any none p = tt
 parts_of_any (more x xs) p = ((p.0, p.1), parts_of_any xs p.2)
 
@@ -57,11 +65,11 @@ opened_form : (how : Join) (parts : List Policy) → Each IsSimple parts → lis
 opened_form how [] p e = tt
 opened_form join.All (never ∷ xs) p e = absurd (cc)
 opened_form join.All (always ∷ xs) p e = opened_form join.All xs p.1 e
-opened_form join.All (all parts ∷ xs) p e = each_append (IsPartOf join.All) (list_of parts) _ (parts_of_all parts p.0) (opened_form join.All xs p.1 e)
+opened_form join.All (all parts ∷ xs) p e = each_append (IsPartOf join.All) (list_of parts) _ (parts_of_all parts p.0.0) (opened_form join.All xs p.1 e)
 opened_form join.All (x ∷ xs) p e = ((p.0, tt), opened_form join.All xs p.1 e)
 opened_form join.Any (always ∷ xs) p e = absurd (cc)
 opened_form join.Any (never ∷ xs) p e = opened_form join.Any xs p.1 e
-opened_form join.Any (any parts ∷ xs) p e = each_append (IsPartOf join.Any) (list_of parts) _ (parts_of_any parts p.0) (opened_form join.Any xs p.1 e)
+opened_form join.Any (any parts ∷ xs) p e = each_append (IsPartOf join.Any) (list_of parts) _ (parts_of_any parts p.0.0) (opened_form join.Any xs p.1 e)
 opened_form join.Any (x ∷ xs) p e = ((p.0, tt), opened_form join.Any xs p.1 e)
 
 gathered_form : (how : Join) (parts : List Policy) → Each (IsPartOf how) parts → IsSimple (gathered how parts)
@@ -69,8 +77,8 @@ gathered_form join.All [] p = tt
 gathered_form join.Any [] p = tt
 gathered_form join.All (x ∷ []) p = part_is_simple x p.0.0
 gathered_form join.Any (x ∷ []) p = part_is_simple x p.0.0
-gathered_form join.All (x ∷ y ∷ xs) p = all_of_parts (x ∷ y ∷ xs) p
-gathered_form join.Any (x ∷ y ∷ xs) p = any_of_parts (x ∷ y ∷ xs) p
+gathered_form join.All (x ∷ y ∷ xs) p = (all_of_parts (x ∷ y ∷ xs) p, two_of x y xs)
+gathered_form join.Any (x ∷ y ∷ xs) p = (any_of_parts (x ∷ y ∷ xs) p, two_of x y xs)
 
 decisive_form : (how : Join) (parts : List Policy) → Each IsSimple parts → IsSimple (joined how parts)
 decisive_form join.All parts p = joined_cases IsSimple join.All parts (λ e. tt) (λ e. gathered_form join.All _ (opened_form join.All parts p e))
@@ -91,8 +99,8 @@ threshold_form : (k : ℕ) (parts : List Policy) → Each IsSimple parts → IsS
 threshold_form k parts p =
     let left = left_form parts p in
     let simple = parts_are_simple _ left in
-    chosen_cases IsSimple _ _ (λ e. tt) (λ e. tt) (λ e. decisive_form join.Any _ simple) (λ e. decisive_form join.All _ simple)
-    (these_parts _ left)
+    chosen_cases_within IsSimple _ _ (λ e. tt) (λ e. tt) (λ e. decisive_form join.Any _ simple) (λ e. decisive_form join.All _ simple)
+    (λ two less. let same = count_of (filter (λ part. not (is_always part || is_never part)) parts) in (these_parts _ left, two, omega arith))
 
 mutual
   pub simple_is_simple : SimpleIsSimple

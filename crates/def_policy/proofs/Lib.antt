@@ -2,3 +2,4 @@ pub mod Joins
 pub mod Truths
 pub mod Forms
 pub mod Sizes
+pub mod Kept

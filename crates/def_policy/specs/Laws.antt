@@ -1,5 +1,5 @@
 -- What the definitions imply.
-use Rattle.std.specs.Prelude.{◌≡◌, ◌*◌, ◌≤◌, ◌↔◌, IsTrue, List, ⊤}
+use Rattle.std.specs.Prelude.{◌≡◌, ℕ, ◌*◌, ◌<◌, ◌≤◌, ◌↔◌, IsTrue, List, length, Some, ⊤}
 use Rattle.def_script.specs.Bytes.{Bytes}
 use Rattle.def_tree.specs.Tree.{Tree}
 use Rattle.def_tree.specs.Range.{IsWritable}
@@ -7,17 +7,23 @@ use Rattle.def_tree.specs.Size as tree_size
 use Rattle.def_assets.specs.Assets.{Assets, AreAssets}
 use Rattle.def_sane.specs.Unfit.{IsSane}
 use Rattle.def_satisfaction.specs.Satisfaction.{Sat}
-use Rattle.def_policy.specs.Policy.{Policy, Policies, never, always, key, older, after, hash, all, any, thresh, none, more}
+use Rattle.def_policy.specs.Policy.{Policy, Policies, never, always, key, older, after, hash, all, any, thresh, none, more, list_of}
 use Rattle.def_policy.specs.Plain.{plain}
 use Rattle.def_policy.specs.Simple.{simple}
 use Rattle.def_policy.specs.Truth.{Facts, is_true, facts_of}
+use Rattle.def_policy.specs.Keys.{AreLeastKeys}
 use Rattle.def_policy.specs.Size.{size, depth}
 
 -- making a policy simple doesn't change when it is true
 abbrev pub SimpleKeepsTruth : Type 0
 SimpleKeepsTruth = (facts : Facts) (policy : Policy) → is_true facts (simple policy) ≡ is_true facts policy
 
--- a part is neither Always nor Never, no All has an All among its parts, and no Any an Any; and so in all parts
+-- how many parts there are
+abbrev pub count : Policies → ℕ
+count parts = length (list_of parts)
+
+-- a part is neither Always nor Never, no All has an All among its parts, and no Any an Any; All and Any have at least two
+-- parts, and a threshold wants more than one of them and not all; and so in all parts
 abbrev mutual
   pub IsPart : Policy → Type 0
   IsPart never = ⊥
@@ -26,9 +32,9 @@ abbrev mutual
   IsPart (older n) = ⊤
   IsPart (after n) = ⊤
   IsPart (hash kind value) = ⊤
-  IsPart (all parts) = ArePartsOfAll parts
-  IsPart (any parts) = ArePartsOfAny parts
-  IsPart (thresh k parts) = AreParts parts
+  IsPart (all parts) = ArePartsOfAll parts × (2 ≤ count parts)
+  IsPart (any parts) = ArePartsOfAny parts × (2 ≤ count parts)
+  IsPart (thresh k parts) = AreParts parts × (2 ≤ k) × (k < count parts)
 
   pub AreParts : Policies → Type 0
   AreParts none = ⊤
@@ -59,6 +65,13 @@ IsSimple policy = IsPart policy
 abbrev pub SimpleIsSimple : Type 0
 SimpleIsSimple = (policy : Policy) → IsSimple (simple policy)
 
+-- and a simple one is left as it is, so that making it simple twice is making it simple once
+abbrev pub SimpleIsKept : Type 0
+SimpleIsKept = (policy : Policy) → IsSimple policy → simple policy ≡ policy
+
+abbrev pub SimpleOnce : Type 0
+SimpleOnce = (policy : Policy) → simple (simple policy) ≡ simple policy
+
 -- it grows neither in size nor in depth
 abbrev pub SimpleIsSmaller : Type 0
 SimpleIsSmaller = (policy : Policy) → (size (simple policy) ≤ size policy) × (depth (simple policy) ≤ depth policy)
@@ -79,3 +92,11 @@ SaysSatisfiable tree policy =
 -- the policy of every sane miniscript does
 abbrev pub PolicyOfSane : Type 0
 PolicyOfSane = (tree : Tree) → IsWritable tree → IsSane tree → SaysSatisfiable tree (simple (plain tree))
+
+-- a policy wants a signature: where every hash and lock is met it is true with one key at least
+abbrev pub WantsKey : Policy → Type 0
+WantsKey policy = (n : ℕ) → AreLeastKeys policy (Some n) → 1 ≤ n
+
+-- that of every sane miniscript does
+abbrev pub SaneWantsKey : Type 0
+SaneWantsKey = (tree : Tree) → IsWritable tree → IsSane tree → WantsKey (simple (plain tree))

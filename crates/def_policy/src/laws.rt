@@ -1,11 +1,14 @@
 //! What the definitions imply.
 
-ghost use Rattle.def_policy.specs.Laws.{SimpleKeepsTruth, SimpleIsSimple, SimpleIsSmaller, PlainIsSmall};
+ghost use Rattle.def_policy.specs.Laws.{SimpleKeepsTruth, SimpleIsSimple, SimpleIsKept, SimpleOnce, SimpleIsSmaller, PlainIsSmall};
 
-/// Making a policy simple changes no truth, and gives a simple one, which is no larger and no deeper.
+/// Making a policy simple changes no truth, and gives a simple one, which is no larger and no deeper. A simple one is left
+/// as it is.
 pub fn simple()
     ensures truth { SimpleKeepsTruth }
     ensures form { SimpleIsSimple }
+    ensures kept { SimpleIsKept }
+    ensures once { SimpleOnce }
     ensures smaller { SimpleIsSmaller }
 {}
 

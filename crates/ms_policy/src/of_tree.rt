@@ -1,7 +1,7 @@
 //! The policy of a miniscript, made simple.
 ghost use Rattle.std.specs.Prelude.{◌≡◌, ◌≤◌, [], ◌∷◌, map, All, IfOk};
 ghost use Rattle.def_policy.specs.Keys.{HasDistinctKeys};
-ghost use Rattle.def_policy.specs.Laws.{SaysSatisfiable};
+ghost use Rattle.def_policy.specs.Laws.{SaysSatisfiable, IsSimple, WantsKey};
 ghost use Rattle.def_policy.specs.Plain.{join_of as the_join_of, plain, plain_each};
 ghost use Rattle.def_policy.specs.Policy as policy;
 ghost use Rattle.def_policy.specs.Simple.{joined, simple, simple_each};
@@ -18,13 +18,16 @@ use ms_tree::{Key, Leaf, Tree, Two, View};
 use std::alloc::{AllocError, Global};
 
 /// The policy of a sane miniscript in range, made simple. It is true of assets exactly where they make a canonical
-/// satisfaction. At most 262,144 policies are in it, itself and all parts of parts counted, it is at most 514 deep, no
+/// satisfaction. It joins two parts at least in each `all` and `any`, a threshold wants more than one part and not all, and
+/// it wants the signature of one key at least, where any are enough. At most 262,144 policies are in it, itself and all parts of parts counted, it is at most 514 deep, no
 /// key stands twice in it, and its timelocks have operands from 1 to 2^31 - 1. The only refusal is want of memory.
 pub fn policy_of(alloc: Global, tree: &Tree<'_>) -> Result<Policy, AllocError>
     requires in_range { IsInRange (shape tree.now) }
     requires sane { IsSane (shape tree.now) }
     ensures simple { IfOk result (λ p. policy_shape p ≡ simple (plain (shape tree.now))) }
     ensures satisfied { IfOk result (λ p. SaysSatisfiable (shape tree.now) (policy_shape p)) }
+    ensures form { IfOk result (λ p. IsSimple (policy_shape p)) }
+    ensures signed { IfOk result (λ p. WantsKey (policy_shape p)) }
     ensures few { IfOk result (λ p. size (policy_shape p) ≤ MOST_POLICIES) }
     ensures shallow { IfOk result (λ p. depth (policy_shape p) ≤ MOST_POLICY_DEPTH) }
     ensures distinct { IfOk result (λ p. HasDistinctKeys (policy_shape p)) }

@@ -4,3 +4,4 @@ pub mod Counted
 pub mod Signers
 pub mod Atoms
 pub mod Satisfied
+pub mod NeedsKey

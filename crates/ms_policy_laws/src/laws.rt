@@ -1,8 +1,13 @@
 //! What the definitions imply.
 
-ghost use Rattle.def_policy.specs.Laws.{PolicyOfSane};
+ghost use Rattle.def_policy.specs.Laws.{PolicyOfSane, SaneWantsKey};
 
 /// The policy of a sane miniscript is true of assets exactly where they make a canonical satisfaction.
 pub fn satisfied()
     ensures { PolicyOfSane }
+{}
+
+/// The policy of a sane miniscript wants the signature of one key at least.
+pub fn signed()
+    ensures { SaneWantsKey }
 {}
