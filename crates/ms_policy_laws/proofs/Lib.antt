@@ -5,3 +5,6 @@ pub mod Signers
 pub mod Atoms
 pub mod Satisfied
 pub mod NeedsKey
+mod LockKinds
+mod LocksHeld
+pub mod OneTransaction
