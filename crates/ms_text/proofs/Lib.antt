@@ -1,3 +1,4 @@
+mod AddedLemmas
 pub mod WordLemmas
 pub mod NameLemmas
 pub mod PlaceLemmas

@@ -1,5 +1,5 @@
 //! The printed form of a tree (BIP 379): no sugar, all wrapper letters before one colon, digits in lower case.
-ghost use Rattle.std.specs.Prelude.{◌≡◌, ℕ, ◌++◌, [], ◌∷◌, codes, decimal, true, false, Bool, List, All, IfOk, OnOk, if◌then◌else◌};
+ghost use Rattle.std.specs.Prelude.{◌≡◌, ℕ, ◌++◌, [], ◌∷◌, codes, decimal, true, false, Bool, List, All, IfOk, OnOk, OnErr, if◌then◌else◌};
 ghost use Rattle.std.specs.String.{string_bytes};
 ghost use Rattle.hex.specs.Hex.{encode_lower};
 ghost use Rattle.def_text.specs.Letter.{wrapper_byte};
@@ -9,6 +9,7 @@ ghost use Rattle.def_text.specs.Token.{tokens};
 ghost use Rattle.def_text.specs.Word.{hash_name, two_name};
 ghost use Rattle.def_tree.specs.Range.{IsInRange};
 ghost use Rattle.def_tree.specs.Tree as model;
+ghost use Rattle.ms_text.specs.Added.{AddsFront};
 ghost use Rattle.ms_tree.specs.Shape.{shape, shapes, leaf_shape};
 
 use def_tree::{HashKind, Two, Wrapper};
@@ -208,14 +209,16 @@ fn print_leaf(alloc: Global, out: &mut String, leaf: Leaf) -> Result<(), AllocEr
     fragment_rows!(leaf_arms!(alloc, out, leaf))
 }
 
-/// Adds a name and, in parentheses, bytes in hexadecimal digits of lower case. Refuses for want of memory alone.
+/// Adds a name and, in parentheses, bytes in hexadecimal digits of lower case. Refuses for want of memory alone; what stood
+/// before is then kept, and a front of what was to be added may stand behind it.
 pub fn print_call(
     alloc: Global,
     out: &mut String,
     name: &str,
     bytes: &[u8],
 ) -> Result<(), AllocError>
-    ensures { OnOk result (string_bytes out.new ≡ string_bytes out.old ++ (name.now ++ codes "(" ++ encode_lower bytes.now ++ codes ")")) }
+    ensures ok { OnOk result (string_bytes out.new ≡ string_bytes out.old ++ (name.now ++ codes "(" ++ encode_lower bytes.now ++ codes ")")) }
+    ensures err { OnErr result (AddsFront (string_bytes out.old) (string_bytes out.new) (name.now ++ codes "(" ++ encode_lower bytes.now)) }
 {
     out.push_str(name)?;
     out.push_str("(")?;
@@ -223,9 +226,11 @@ pub fn print_call(
     out.push_str(")")
 }
 
-/// Adds a name and, in parentheses, a number in decimal digits. Refuses for want of memory alone.
+/// Adds a name and, in parentheses, a number in decimal digits. Refuses for want of memory alone; what stood before is then
+/// kept, and a front of what was to be added may stand behind it.
 pub fn print_lock(alloc: Global, out: &mut String, name: &str, n: u64) -> Result<(), AllocError>
-    ensures { OnOk result (string_bytes out.new ≡ string_bytes out.old ++ (name.now ++ codes "(" ++ decimal n ++ codes ")")) }
+    ensures ok { OnOk result (string_bytes out.new ≡ string_bytes out.old ++ (name.now ++ codes "(" ++ decimal n ++ codes ")")) }
+    ensures err { OnErr result (AddsFront (string_bytes out.old) (string_bytes out.new) (name.now ++ codes "(" ++ decimal n)) }
 {
     out.push_str(name)?;
     out.push_str("(")?;
@@ -234,15 +239,17 @@ pub fn print_lock(alloc: Global, out: &mut String, name: &str, n: u64) -> Result
 }
 
 fn print_hex(alloc: Global, out: &mut String, bytes: &[u8]) -> Result<(), AllocError>
-    ensures { OnOk result (string_bytes out.new ≡ string_bytes out.old ++ encode_lower bytes.now) }
+    ensures ok { OnOk result (string_bytes out.new ≡ string_bytes out.old ++ encode_lower bytes.now) }
+    ensures err { OnErr result (string_bytes out.new ≡ string_bytes out.old) }
 {
     let digits = hex::encode(alloc, bytes)?;
     out.push_str(digits.as_str())
 }
 
-/// Adds a number in decimal digits. Refuses for want of memory alone.
+/// Adds a number in decimal digits. Refuses for want of memory alone; what stood before is then all there is.
 pub fn print_number(alloc: Global, out: &mut String, n: u64) -> Result<(), AllocError>
-    ensures { OnOk result (string_bytes out.new ≡ string_bytes out.old ++ decimal n) }
+    ensures ok { OnOk result (string_bytes out.new ≡ string_bytes out.old ++ decimal n) }
+    ensures err { OnErr result (string_bytes out.new ≡ string_bytes out.old) }
 {
     let digits = format!(in alloc; "{n}")?;
     out.push_str(digits.as_str())
