@@ -93,16 +93,3 @@ pub fn repeated(
     text.push_str(last)?;
     Ok(text)
 }
-
-/// Parts that open a parenthesis, each so many times, one in another around a last part. Refuses for want of memory alone.
-pub fn nested(alloc: Global, parts: &[(&str, usize)], last: &str) -> Result<String, AllocError> {
-    let mut text = String::new(alloc);
-    for &(part, count) in parts {
-        text.push_str(part.repeat(alloc, count)?.as_str())?;
-    }
-    text.push_str(last)?;
-    for &(_, count) in parts {
-        text.push_str(")".repeat(alloc, count)?.as_str())?;
-    }
-    Ok(text)
-}

@@ -1,9 +1,10 @@
-//! Tests of heights: how many elements stand on both stacks at most.
+//! Tests of heights: how many elements stand on both stacks at most. Those of sane texts, which the program prints, stand in
+//! `examples/rows/consensus.rows`.
 
-use crate::samples::{AND_KEY, KEYS, OR_KEYS, tree_of};
+use crate::samples::tree_of;
 use bumpalo::Bump;
 use ms_height::height;
-use ms_samples::{nested, repeated};
+use ms_samples::repeated;
 use ms_sane::Work;
 use ms_types::corr;
 use std::alloc::Global;
@@ -24,22 +25,7 @@ fn height_of(alloc: Global, form: &str) -> Result<u64, Fail> {
 fn satisfactions_reach_these_heights(rt: HostRuntime) -> Result<(), Fail> {
     let alloc = rt.alloc();
     let cases = [
-        ("0", 0),
         ("pk(B)", 2),
-        ("and_v(v:and_v(v:pk(A),pk(B)),pk(C))", 4),
-        ("multi(2,A,B,C)", 8),
-        ("or_d(pk(A),and_v(v:pkh(B),older(144)))", 4),
-        ("and_v(v:pk(A),older(65536))", 2),
-        (
-            "thresh(2,j:and_v(v:sha256(H),and_v(v:sha256(H),and_v(v:sha256(H),1))),s:pk(A),s:pk(B))",
-            7,
-        ),
-        (
-            "and_v(v:pk(B),or_i(pk(A),and_v(v:sha256(H),and_v(v:sha256(H),sha256(H)))))",
-            6,
-        ),
-        ("thresh(3,pk(A),s:pk(B),s:pk(C),sln:older(32))", 5),
-        ("thresh(1,sha256(H),s:pk(A))", 4),
         // IFDUP over an item that stays, and a satisfaction that lies below what a dissatisfaction takes.
         ("or_d(n:0,pk(A))", 2),
         ("or_d(n:or_i(0,1),0)", 2),
@@ -52,45 +38,45 @@ fn satisfactions_reach_these_heights(rt: HostRuntime) -> Result<(), Fail> {
     Ok(())
 }
 
+/// Thresholds with their heights, by listing all formal satisfactions with their courses.
+const THRESHOLDS: [(&str, u64); 14] = [
+    ("thresh(1,pk(A),s:pk(B))", 3),
+    ("thresh(1,pkh(A),a:0)", 4),
+    ("thresh(1,0)", 0),
+    // Children that take more items satisfied, and ones that take more dissatisfied.
+    ("thresh(1,0,al:and_v(vlll:1,1),a:or_i(1,llll:0))", 10),
+    ("thresh(2,0,al:and_v(vlll:1,1),a:or_i(1,llll:0))", 6),
+    ("thresh(3,0,al:and_v(vlll:1,1),a:or_i(1,llll:0))", 0),
+    ("thresh(1,0,a:or_i(1,llll:0),al:and_v(vlll:1,1))", 10),
+    ("thresh(2,0,a:or_i(1,llll:0),al:and_v(vlll:1,1))", 6),
+    (
+        "thresh(3,multi(1,A,B,C),a:or_i(1,llll:0),al:and_v(vlll:1,1),s:pk(A))",
+        17,
+    ),
+    (
+        "thresh(4,multi(1,A,B,C),a:or_i(1,llll:0),al:and_v(vlll:1,1),s:pk(A))",
+        13,
+    ),
+    (
+        "thresh(2,0,al:and_v(vlll:1,1),al:and_v(vll:1,1),al:and_v(vl:1,1),a:or_i(1,l:0))",
+        11,
+    ),
+    (
+        "thresh(2,0,a:or_i(1,llll:0),a:or_i(1,lll:0),a:or_i(1,ll:0),al:1)",
+        12,
+    ),
+    ("thresh(3,sha256(H),al:and_v(vlll:1,1),a:multi(1,A,B))", 9),
+    // A threshold below another one.
+    (
+        "thresh(2,thresh(1,0,al:and_v(vlll:1,1),a:or_i(1,llll:0)),a:thresh(2,0,al:1,a:or_i(1,lll:0)),s:pk(A))",
+        16,
+    ),
+];
+
 #[test]
 fn thresholds_reach_these_heights(rt: HostRuntime) -> Result<(), Fail> {
-    let alloc = rt.alloc();
-    // By listing all formal satisfactions with their courses.
-    let cases = [
-        ("thresh(1,pk(A),s:pk(B))", 3),
-        ("thresh(1,pkh(A),a:0)", 4),
-        ("thresh(1,0)", 0),
-        // Children that take more items satisfied, and ones that take more dissatisfied.
-        ("thresh(1,0,al:and_v(vlll:1,1),a:or_i(1,llll:0))", 10),
-        ("thresh(2,0,al:and_v(vlll:1,1),a:or_i(1,llll:0))", 6),
-        ("thresh(3,0,al:and_v(vlll:1,1),a:or_i(1,llll:0))", 0),
-        ("thresh(1,0,a:or_i(1,llll:0),al:and_v(vlll:1,1))", 10),
-        ("thresh(2,0,a:or_i(1,llll:0),al:and_v(vlll:1,1))", 6),
-        (
-            "thresh(3,multi(1,A,B,C),a:or_i(1,llll:0),al:and_v(vlll:1,1),s:pk(A))",
-            17,
-        ),
-        (
-            "thresh(4,multi(1,A,B,C),a:or_i(1,llll:0),al:and_v(vlll:1,1),s:pk(A))",
-            13,
-        ),
-        (
-            "thresh(2,0,al:and_v(vlll:1,1),al:and_v(vll:1,1),al:and_v(vl:1,1),a:or_i(1,l:0))",
-            11,
-        ),
-        (
-            "thresh(2,0,a:or_i(1,llll:0),a:or_i(1,lll:0),a:or_i(1,ll:0),al:1)",
-            12,
-        ),
-        ("thresh(3,sha256(H),al:and_v(vlll:1,1),a:multi(1,A,B))", 9),
-        // A threshold below another one.
-        (
-            "thresh(2,thresh(1,0,al:and_v(vlll:1,1),a:or_i(1,llll:0)),a:thresh(2,0,al:1,a:or_i(1,lll:0)),s:pk(A))",
-            16,
-        ),
-    ];
-    for (form, wanted) in cases {
-        assert_eq!(rt; height_of(alloc, form)?, wanted, "{form}");
+    for (form, wanted) in THRESHOLDS {
+        assert_eq!(rt; height_of(rt.alloc(), form)?, wanted, "{form}");
     }
     Ok(())
 }
@@ -133,17 +119,6 @@ fn many_keys_reach_these_heights(rt: HostRuntime) -> Result<(), Fail> {
     for (first, part, count, wanted) in lists {
         let form = repeated(alloc, first, part, count, ")")?;
         assert_eq!(rt; height_of(alloc, &form)?, wanted, "{first}");
-    }
-    let chains: [(&[(&str, usize)], &str, u64); 3] = [
-        // A signature for each key, and one key.
-        (&[(AND_KEY, 100)], "pk(A)", 102),
-        (&[(AND_KEY, 200)], "pk(A)", 202),
-        // 14 lists under `or_i`, behind 11 keys: the largest Script that there may be.
-        (&[(AND_KEY, 11), (OR_KEYS, 13)], KEYS, 27),
-    ];
-    for (parts, last, wanted) in chains {
-        let form = nested(alloc, parts, last)?;
-        assert_eq!(rt; height_of(alloc, &form)?, wanted);
     }
     Ok(())
 }

@@ -1,4 +1,4 @@
-//! Tests of plans and of plan files.
+//! Tests of plans and of plan files: that each call gives its answer. Further ones stand in `examples/rows/plan.rows`.
 
 use crate::fitness::expect_sane;
 use crate::samples::{A, B, LOCKS, assets_of, filled, key, tree_of};
@@ -6,7 +6,7 @@ use bumpalo::Bump;
 use ms_assets::Assets;
 use ms_oracle::Locks;
 use ms_plan::{
-    Estimate, KeyLen, KeyLens, Keys, PlanFault, PlanMember, are_lengths, length_in, plan, read_plan,
+    Estimate, KeyLen, KeyLens, Keys, PlanFault, are_lengths, length_in, plan, read_plan,
 };
 use ms_tree::Key;
 use std::alloc::Global;
@@ -77,23 +77,6 @@ fn asks(
 }
 
 #[test]
-fn the_shortest_signatures_are_asked_in_the_order_of_their_keys(
-    rt: HostRuntime,
-) -> Result<(), Fail> {
-    let alloc = rt.alloc();
-    let assets = assets_of(alloc, locks_of(0xffff_fffe), "", false)?;
-    let form = "multi(2,A,B,C)";
-    let all = [('A', 71), ('B', 72), ('C', 70)];
-    asks(&rt, alloc, form, &assets, &all, Some(("AC", 144)))?;
-    let turned = [('C', 70), ('B', 72), ('A', 71)];
-    asks(&rt, alloc, form, &assets, &turned, Some(("AC", 144)))?;
-    // Signatures of one length: the first keys.
-    let same = [('C', 72), ('B', 72), ('A', 72)];
-    asks(&rt, alloc, form, &assets, &same, Some(("AB", 147)))?;
-    asks(&rt, alloc, form, &assets, &[('B', 72)], None)
-}
-
-#[test]
 fn a_lock_takes_the_place_of_a_key(rt: HostRuntime) -> Result<(), Fail> {
     let alloc = rt.alloc();
     let form = "thresh(3,pk(A),s:pk(B),s:pk(C),sln:older(32))";
@@ -103,21 +86,6 @@ fn a_lock_takes_the_place_of_a_key(rt: HostRuntime) -> Result<(), Fail> {
         asks(&rt, alloc, form, &assets, &keys, wanted)?;
     }
     Ok(())
-}
-
-#[test]
-fn preimages_take_the_place_of_a_key(rt: HostRuntime) -> Result<(), Fail> {
-    let alloc = rt.alloc();
-    let form = "and_v(v:pk(B),or_i(pk(A),and_v(v:sha256(X),and_v(v:sha256(Y),sha256(Z)))))";
-    let keys = [('A', 71), ('B', 72)];
-    for (preimages, wanted) in [(true, ("B", 173)), (false, ("BA", 147))] {
-        let assets = assets_of(alloc, locks_of(0xffff_fffe), "", preimages)?;
-        asks(&rt, alloc, form, &assets, &keys, Some(wanted))?;
-    }
-    // A signature of 32 bytes of a preimage's kind, and one of a single byte, aren't taken for others.
-    let short = [('A', 1), ('B', 32)];
-    let assets = assets_of(alloc, locks_of(0xffff_fffe), "", true)?;
-    asks(&rt, alloc, form, &assets, &short, Some(("B", 133)))
 }
 
 #[test]
@@ -146,18 +114,6 @@ fn tables_of_other_entries_are_no_lengths(rt: HostRuntime) -> Result<(), Fail> {
     Ok(())
 }
 
-/// The refusal of a file in which `A`, `B` and `C` stand for keys.
-fn refusal(alloc: Global, form: &str) -> Result<Option<PlanFault>, Fail> {
-    let file = filled(alloc, form)?;
-    if file.len() > 100_000 {
-        return Err("a short file")?;
-    }
-    match read_plan(alloc, file.as_bytes()) {
-        Ok(_) => Ok(None),
-        Err(fault) => Ok(Some(fault)),
-    }
-}
-
 #[test]
 fn plan_files_are_read_and_refused(rt: HostRuntime) -> Result<(), Fail> {
     let alloc = rt.alloc();
@@ -176,35 +132,6 @@ fn plan_files_are_read_and_refused(rt: HostRuntime) -> Result<(), Fail> {
     };
     assert!(&rt; first.key.as_bytes() == B.as_slice() && first.length == 73);
     assert!(&rt; second.key.as_bytes() == A.as_slice() && second.length == 1);
-    let rows = [
-        ("{\"keys\":", PlanFault::NotJson),
-        (
-            "{\"keys\":[{\"key\":\"A\"}]}",
-            PlanFault::Shape(PlanMember::Keys),
-        ),
-        (
-            "{\"preimages\":[\"\",\"0\"],\"keys\":[{\"key\":\"\",\"length\":1}]}",
-            PlanFault::Hex(PlanMember::Preimages, 1),
-        ),
-        (
-            "{\"keys\":[{\"key\":\"A\",\"length\":74},{\"key\":\"00\",\"length\":71}]}",
-            PlanFault::KeyForm(1),
-        ),
-        (
-            "{\"keys\":[{\"key\":\"A\",\"length\":71},{\"key\":\"B\",\"length\":74}]}",
-            PlanFault::Length(1),
-        ),
-        (
-            "{\"preimages\":[\"X\",\"00\"]}",
-            PlanFault::PreimageLength(1),
-        ),
-        (
-            "{\"keys\":[{\"key\":\"A\",\"length\":71},{\"key\":\"A\",\"length\":72}]}",
-            PlanFault::RepeatedKey(1),
-        ),
-    ];
-    for (form, wanted) in rows {
-        assert_eq!(&rt; refusal(alloc, form)?, Some(wanted));
-    }
+    assert_eq!(&rt; read_plan(alloc, b"{}[").err(), Some(PlanFault::NotJson));
     Ok(())
 }

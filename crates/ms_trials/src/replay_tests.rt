@@ -5,7 +5,6 @@ use crate::items::holds;
 use crate::samples::{LOCKS, assets_of, filled, signed_by, tree_of};
 use bumpalo::Bump;
 use ms_assets::Assets;
-use ms_hash::sha256;
 use ms_interp::{RunReport, ScriptFault};
 use ms_oracle::{Pairs, SigCheck, member};
 use ms_replay::{Carried, carry};
@@ -122,53 +121,49 @@ fn replay_unsigned(
     replay(alloc, program, bytes, &LOCKS, &sigs)
 }
 
+// The program of the Script 51 by Python's hashlib over OpenSSL.
+const OF_ONE: [u8; 34] =
+    *b"\x00\x20\x4a\xe8\x15\x72\xf0\x6e\x1b\x88\xfd\x5c\xed\x7a\x1a\x00\x09\x45\x43\x2e\x83\xe1\x55\x1e\x6f\x72\x1e\xe9\xc0\x0b\x8c\xc3\x32\x60";
+
 #[test]
 fn replays_are_refused(rt: HostRuntime) {
-    // The program of the Script 51 by Python's hashlib over OpenSSL.
-    let found =
-        *b"\x00\x20\x4a\xe8\x15\x72\xf0\x6e\x1b\x88\xfd\x5c\xed\x7a\x1a\x00\x09\x45\x43\x2e\x83\xe1\x55\x1e\x6f\x72\x1e\xe9\xc0\x0b\x8c\xc3\x32\x60";
-    let wanted = [0; 34];
+    let wrong = ReplayStop::WrongProgram {
+        wanted: [0; 34],
+        found: OF_ONE,
+    };
+    let trailing = ReplayStop::Witness(WitnessFault::Trailing);
+    let unclean = ReplayStop::Refused(ScriptFault::CleanStack, 1);
     let cases: [([u8; 34], &[u8], ReplayStop); 4] = [
-        (
-            wanted,
-            b"\x01\x01\x51",
-            ReplayStop::WrongProgram { wanted, found },
-        ),
-        (
-            wanted,
-            b"\x01\x01\x51\x00",
-            ReplayStop::Witness(WitnessFault::Trailing),
-        ),
-        (
-            wanted,
-            b"\x02\x00\x01\x51",
-            ReplayStop::WrongProgram { wanted, found },
-        ),
-        (
-            found,
-            b"\x02\x00\x01\x51",
-            ReplayStop::Refused(ScriptFault::CleanStack, 1),
-        ),
+        ([0; 34], b"\x01\x01\x51", wrong),
+        ([0; 34], b"\x01\x01\x51\x00", trailing),
+        ([0; 34], b"\x02\x00\x01\x51", wrong),
+        (OF_ONE, b"\x02\x00\x01\x51", unclean),
     ];
     for (program, bytes, stop) in cases {
-        assert_eq!(rt;
-            replay_unsigned(rt.alloc(), &program, bytes).err(),
-            Some(stop)
-        );
+        let found = replay_unsigned(rt.alloc(), &program, bytes).err();
+        assert_eq!(rt; found, Some(stop));
     }
 }
 
-// Whether the witness is that of these items and the Script, and its replay comes to these counts.
+// Whether bytes are those that two texts of digits spell.
+fn are_bytes(alloc: Global, bytes: &[u8], first: &str, last: &str) -> Result<bool, Fail> {
+    let wanted = bytes_of(alloc, first, last)?;
+    Ok(wanted.as_slice() == bytes)
+}
+
+// Whether the witness is that of these items and the Script.
+fn is_read(alloc: Global, spending: &Spending, witness: &[u8]) -> Result<bool, Fail> {
+    let (stack, script) = read_witness(alloc, witness)?;
+    let written = witness_bytes(alloc, &stack, script.as_slice())?;
+    Ok(holds(&stack, spending.items) && written.as_slice() == witness)
+}
+
+// Whether the witness is read and written, and its replay comes to these counts.
 fn is_replayed(alloc: Global, spending: &Spending) -> Result<bool, Fail> {
     let script = bytes_of(alloc, "", spending.script)?;
     let witness = bytes_of(alloc, spending.witness, spending.script)?;
-    let (stack, read) = read_witness(alloc, &witness)?;
-    let written = witness_bytes(alloc, &stack, read.as_slice())?;
-    if !holds(&stack, spending.items) || written.as_slice() != witness.as_slice() {
-        return Ok(false);
-    }
     let report = replay_signed(alloc, spending.signers, &script, &witness)?;
-    Ok((report.ops, report.peak) == spending.counts)
+    Ok((report.ops, report.peak) == spending.counts && is_read(alloc, spending, &witness)?)
 }
 
 // The replay where these keys sign.
@@ -224,15 +219,12 @@ fn carried(
 
 // Whether the Script, its program, the witness and the counts are these.
 fn is_carried(alloc: Global, spending: &Spending, carried: &Carried) -> Result<bool, Fail> {
-    let script = bytes_of(alloc, "", spending.script)?;
-    let witness = bytes_of(alloc, spending.witness, spending.script)?;
-    let mut program = Vec::from_slice(alloc, b"\x00\x20")?;
-    program.extend_from_slice(&sha256(&script))?;
+    let (script, witness) = (carried.script.as_slice(), carried.witness.as_slice());
     Ok(
-        carried.script.as_slice() == script.as_slice()
-            && carried.program.as_slice() == program.as_slice()
-            && carried.witness.as_slice() == witness.as_slice()
-            && (carried.report.ops, carried.report.peak) == spending.counts,
+        (carried.report.ops, carried.report.peak) == spending.counts
+            && carried.program.as_slice() == program_of(script).as_slice()
+            && are_bytes(alloc, script, "", spending.script)?
+            && are_bytes(alloc, witness, spending.witness, spending.script)?,
     )
 }
 

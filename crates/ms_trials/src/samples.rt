@@ -18,21 +18,6 @@ pub const LOCKS: Locks = Locks {
     locktime: 0,
 };
 
-/// A list of 20 keys, of which one has to sign.
-pub const KEYS: &str = "multi(1,A,A,A,A,A,A,A,A,A,A,A,A,A,A,A,A,A,A,A,A)";
-
-/// The beginning of a pair of such a list and another part, as the text has it, and behind a wrapper.
-pub const AND_KEYS: &str = "and_v(v:multi(1,A,A,A,A,A,A,A,A,A,A,A,A,A,A,A,A,A,A,A,A),";
-
-/// The beginning of such a pair of alternatives.
-pub const OR_KEYS: &str = "or_i(multi(1,A,A,A,A,A,A,A,A,A,A,A,A,A,A,A,A,A,A,A,A),";
-
-/// The same behind a wrapper.
-pub const N_OR_KEYS: &str = "n:or_i(multi(1,A,A,A,A,A,A,A,A,A,A,A,A,A,A,A,A,A,A,A,A),";
-
-/// The beginning of a pair of a key and another part.
-pub const AND_KEY: &str = "and_v(v:pk(A),";
-
 /// The tree of a text in which capital letters stand for digits. Refuses, by what is wanting, a text that can't be read, and for
 /// want of memory.
 pub fn tree_of<'a>(

@@ -1,45 +1,15 @@
-//! Tests of types, limits and the first reason against a text.
+//! Tests of types, limits and the first reason against a text: that each call gives its answer. What `msat script` and `msat check` print
+//! of further texts stands in `examples/rows/`.
 
-use crate::samples::{AND_KEY, AND_KEYS, KEYS, N_OR_KEYS, OR_KEYS, tree_of};
+use crate::samples::tree_of;
 use bumpalo::Bump;
-use ms_samples::{nested, repeated};
 use ms_sane::{
-    Limits, Rules, Sane, Unfit, Work, check_sane, check_sane_under, check_valid, check_valid_under,
-    mix,
+    Limits, Rules, Sane, Unfit, Valid, Work, check_sane, check_sane_under, check_valid,
+    check_valid_under, mix,
 };
-use ms_types::{Rule, RuleAt};
-use std::alloc::{AllocError, Global};
+use ms_types::{Base, Rule, RuleAt};
+use std::alloc::Global;
 use std::test::Fail;
-
-/// Sane texts, with the base type, the properties z, o, n, d, u, s, f and e, the size, the opcodes, the items and the weight.
-const SANE: &str = "pk(B) => B onduse 35 1 1 74
-and_v(v:and_v(v:pk(A),pk(B)),pk(C)) => B nusf 105 3 3 222
-0 => B zduse 1 0 0 0
-and_v(v:pk(A),or_i(and_v(v:pk(B),older(10)),older(4194314))) => B nsf 80 7 3 150";
-
-#[test]
-fn sane_texts_have_types_and_limits(rt: HostRuntime) -> Result<(), Fail> {
-    for row in SANE.lines() {
-        let (form, wanted) = row.split_once(" => ").ok_or("a row")?;
-        let told = told_of(rt.alloc(), form)?;
-        assert_eq!(rt; told.as_str(), wanted, "{form}");
-    }
-    Ok(())
-}
-
-/// What the type and the limits of a sane text are, in the words of such a row.
-fn told_of(alloc: Global, form: &str) -> Result<String, Fail> {
-    let sane = sane_under(alloc, form, Rules::Policy)?.ok_or("a sane text")?;
-    let letters = letters(alloc, &sane)?;
-    let Limits {
-        size,
-        ops,
-        items,
-        weight,
-    } = sane.limits;
-    let base = sane.ty.base;
-    Ok(format!(in alloc; "{base:?} {letters} {size} {ops} {items} {weight}")?)
-}
 
 /// The type and the limits of a text that is sane under these rules.
 fn sane_under(alloc: Global, form: &str, rules: Rules) -> Result<Option<Sane>, Fail> {
@@ -53,26 +23,51 @@ fn sane_under(alloc: Global, form: &str, rules: Rules) -> Result<Option<Sane>, F
     Ok(checked.ok())
 }
 
-/// The letters of the properties that hold.
-fn letters(alloc: Global, sane: &Sane) -> Result<String, AllocError> {
+const LIMITS: Limits = Limits {
+    size: 80,
+    ops: 7,
+    items: 3,
+    weight: 150,
+};
+
+const TWO_LOCKS: &str = "and_v(v:pk(A),or_i(and_v(v:pk(B),older(10)),older(4194314)))";
+
+#[test]
+fn sane_texts_have_types_and_limits(rt: HostRuntime) -> Result<(), Fail> {
+    let sane = sane_under(rt.alloc(), TWO_LOCKS, Rules::Policy)?.ok_or("a sane text")?;
+    assert_eq!(rt; sane.limits, LIMITS);
     let (ty, mall) = (sane.ty, sane.mall);
-    let properties = [
-        (ty.z, "z"),
-        (ty.o, "o"),
-        (ty.n, "n"),
-        (ty.d, "d"),
-        (ty.u, "u"),
-        (mall.s, "s"),
-        (mall.f, "f"),
-        (mall.e, "e"),
-    ];
-    let mut letters = String::new(alloc);
-    for (holds, letter) in properties {
-        if holds {
-            letters.push_str(letter)?;
-        }
+    assert_eq!(rt; ty.base, Base::B);
+    assert_eq!(rt;
+        [ty.z, ty.o, ty.n, ty.d, ty.u],
+        [false, false, true, false, false]
+    );
+    assert_eq!(rt; [mall.s, mall.f, mall.e], [true, true, false]);
+    Ok(())
+}
+
+/// The type and the limits of a text that is valid by policy, or those of one that is valid by consensus.
+fn valid_under(alloc: Global, form: &str, rules: Rules) -> Result<Result<Valid, Unfit>, Fail> {
+    let arena = Bump::new(alloc);
+    let read = tree_of(alloc, &arena, form)?;
+    let mut work = Work::new(alloc, read.tree())?;
+    Ok(match rules {
+        Rules::Policy => check_valid(read.tree(), &mut work),
+        Rules::Consensus => check_valid_under(read.tree(), rules, &mut work),
+    })
+}
+
+#[test]
+fn valid_texts_have_limits(rt: HostRuntime) -> Result<(), Fail> {
+    for rules in [Rules::Policy, Rules::Consensus] {
+        let valid = valid_under(rt.alloc(), TWO_LOCKS, rules)?
+            .ok()
+            .ok_or("a valid text")?;
+        assert_eq!(rt; valid.limits, LIMITS);
+        let refused = valid_under(rt.alloc(), "older(0)", rules)?.err();
+        assert_eq!(rt; refused, Some(rule(0, Rule::OlderRange)));
     }
-    Ok(letters)
+    Ok(())
 }
 
 fn rule(node: u32, rule: Rule) -> Unfit {
@@ -87,31 +82,14 @@ fn malleable(node: u32, rule: Rule) -> Unfit {
 fn the_first_reason_is_given(rt: HostRuntime) -> Result<(), Fail> {
     let cases = [
         ("or_b(sha256(H),s:pk(A))", malleable(4, Rule::OrBE)),
-        ("thresh(1,sha256(H),s:pk(A))", malleable(4, Rule::ThreshE)),
         ("1", Unfit::NoSignature),
         (
             "and_v(v:pk(A),and_b(older(10),a:older(4194314)))",
             Unfit::MixedLocks(6),
         ),
-        ("and_v(v:pk(A),pkh(A))", Unfit::RepeatedKey(3)),
-        ("thresh(1,dv:older(1),s:pk(A))", rule(6, Rule::ThreshFirst)),
-        ("thresh(3,pk(A),s:pk(B))", rule(5, Rule::ThreshRange)),
-        ("older(0)", rule(0, Rule::OlderRange)),
-        ("v:pk(A)", Unfit::TopNotB),
-        // A key of a list, behind itself and behind one that stands alone.
-        ("multi(1,A,A)", Unfit::RepeatedKey(0)),
         ("or_d(pkh(A),multi(1,B,A))", Unfit::RepeatedKey(2)),
-        ("or_d(multi(1,B,A),pk(A))", Unfit::RepeatedKey(1)),
-        // A reason that is tested earlier comes first.
-        ("or_d(multi(1,A,A),sha256(H))", Unfit::NoSignature),
-        ("or_i(older(10),older(4194314))", malleable(2, Rule::OrIS)),
-        ("and_v(v:older(10),older(4194314))", Unfit::NoSignature),
-        (
-            "and_v(v:and_v(v:pk(A),pk(A)),and_v(v:after(1),after(500000000)))",
-            Unfit::MixedLocks(10),
-        ),
-        ("and_b(pk(A),a:pk_k(A))", rule(3, Rule::WrapA)),
-        ("and_b(older(10),a:older(4194314))", Unfit::NoSignature),
+        ("thresh(1,dv:older(1),s:pk(A))", rule(6, Rule::ThreshFirst)),
+        ("v:pk(A)", Unfit::TopNotB),
     ];
     for (form, wanted) in cases {
         assert_eq!(rt; reason_of(rt.alloc(), form)?, Some(wanted), "{form}");
@@ -157,74 +135,6 @@ fn mix_of(alloc: Global, form: &str) -> Result<Option<u32>, Fail> {
     let arena = Bump::new(alloc);
     let read = tree_of(alloc, &arena, form)?;
     Ok(mix(read.tree()))
-}
-
-/// The first reasons against a text's being valid, by policy and by consensus.
-fn reasons(alloc: Global, form: &str) -> Result<[Option<Unfit>; 2], Fail> {
-    let arena = Bump::new(alloc);
-    let read = tree_of(alloc, &arena, form)?;
-    let mut work = Work::new(alloc, read.tree())?;
-    let by_policy = check_valid(read.tree(), &mut work).err();
-    let by_consensus = check_valid_under(read.tree(), Rules::Consensus, &mut work).err();
-    Ok([by_policy, by_consensus])
-}
-
-#[test]
-fn a_satisfaction_has_few_items_by_policy(rt: HostRuntime) -> Result<(), Fail> {
-    let alloc = rt.alloc();
-    let cases = [
-        (99, [None, None]),
-        (100, [Some(Unfit::Items(101)), None]),
-        (200, [Some(Unfit::Size(7_035)), None]),
-        (201, [Some(Unfit::Size(7_070)), Some(Unfit::Ops(202))]),
-    ];
-    for (count, wanted) in cases {
-        let form = nested(alloc, &[(AND_KEY, count)], "pk(B)")?;
-        assert_eq!(rt; reasons(alloc, &form)?, wanted, "{count}");
-    }
-    Ok(())
-}
-
-#[test]
-fn a_script_has_few_bytes(rt: HostRuntime) -> Result<(), Fail> {
-    let alloc = rt.alloc();
-    let too_large = Some(Unfit::Size(10_001));
-    let cases: [(&[(&str, usize)], &str, [Option<Unfit>; 2]); 4] = [
-        (&[(AND_KEYS, 5), (AND_KEY, 5)], "older(32768)", [None, None]),
-        (
-            &[(AND_KEYS, 5), (AND_KEY, 5)],
-            "older(8388608)",
-            [Some(Unfit::Size(3_601)), None],
-        ),
-        (
-            &[(AND_KEY, 11), (OR_KEYS, 13)],
-            KEYS,
-            [Some(Unfit::Size(10_000)), None],
-        ),
-        (
-            &[(AND_KEY, 11), (N_OR_KEYS, 1), (OR_KEYS, 12)],
-            KEYS,
-            [too_large, too_large],
-        ),
-    ];
-    for (parts, last, wanted) in cases {
-        let form = nested(alloc, parts, last)?;
-        assert_eq!(rt; reasons(alloc, &form)?, wanted);
-    }
-    Ok(())
-}
-
-#[test]
-fn a_script_has_few_opcodes(rt: HostRuntime) -> Result<(), Fail> {
-    let alloc = rt.alloc();
-    let either = nested(alloc, &[(OR_KEYS, 1)], KEYS)?;
-    let too_many = Some(Unfit::Ops(202));
-    for (letters, wanted) in [(175, [None, None]), (176, [too_many, too_many])] {
-        let form = repeated(alloc, "n", "n", letters, ":")?;
-        let form = repeated(alloc, &form, &either, 1, "")?;
-        assert_eq!(rt; reasons(alloc, &form)?, wanted);
-    }
-    Ok(())
 }
 
 #[test]

@@ -5,7 +5,6 @@ use crate::items::is_choice;
 use crate::samples::{LOCKS, assets_of, tree_of};
 use bumpalo::Bump;
 use ms_assets::Assets;
-use ms_oracle::Locks;
 use ms_sane::{Slot, Work};
 use ms_sat::{Costs, cheapest, costs};
 use std::alloc::Global;
@@ -84,36 +83,6 @@ fn the_lightest_choice_is_taken(rt: HostRuntime) -> Result<(), Fail> {
         chooses(&rt, rt.alloc(), form, &assets, wanted)?;
     }
     Ok(())
-}
-
-#[test]
-fn a_lock_has_to_hold(rt: HostRuntime) -> Result<(), Fail> {
-    let alloc = rt.alloc();
-    let cases = [
-        (144, "108 none bB-"),
-        (143, "none none none"),
-        (4_194_448, "none none none"),
-    ];
-    for (sequence, wanted) in cases {
-        let locks = Locks { sequence, ..LOCKS };
-        let assets = assets_of(alloc, locks, "B", false)?;
-        let form = "or_d(pk(A),and_v(v:pkh(B),older(144)))";
-        chooses(&rt, alloc, form, &assets, wanted)?;
-    }
-    Ok(())
-}
-
-/// The first hash value is the SHA-256 of 32 zero bytes, by Python's hashlib over OpenSSL.
-const ZEROS_OR_KEY: &str =
-    "thresh(1,sha256(66687aadf862bd776c8fc18b8e9f8e20089714856ee233b3902a591d0d5f2925),s:pk(A))";
-
-#[test]
-fn zeros_that_hash_to_the_value_dissatisfy_nothing(rt: HostRuntime) -> Result<(), Fail> {
-    let alloc = rt.alloc();
-    let mut assets = assets_of(alloc, LOCKS, "A", false)?;
-    chooses(&rt, alloc, ZEROS_OR_KEY, &assets, "none none none")?;
-    assets.add_preimage(&[0; 32])?;
-    chooses(&rt, alloc, ZEROS_OR_KEY, &assets, "34 none -0")
 }
 
 /// Whether the first slots hold these lengths and places after `costs` of two signatures of three keys.

@@ -68,17 +68,28 @@ fn children_are_seen(rt: HostRuntime) -> Result<(), Fail> {
         return Err("not n")?;
     };
     assert_eq!(rt; size(one), (1, 1, 1));
+    Ok(())
+}
 
-    let (x, y) = (leaf(&arena, Leaf::Zero)?, leaf(&arena, Leaf::One)?);
-    let tree = and_or(&arena, x, y, either)?;
-    assert_eq!(rt; size(&tree), (7, 7, 4));
+#[test]
+fn three_children_are_seen(rt: HostRuntime) -> Result<(), Fail> {
+    let arena = Bump::new(rt.alloc());
+    let x = leaf(&arena, Leaf::Zero)?;
+    let y = leaf(&arena, Leaf::One)?;
+    let z = leaf(&arena, Leaf::Older(9))?;
+    let tree = and_or(&arena, x, y, z)?;
+    assert_eq!(rt; size(&tree), (4, 4, 2));
     let View::AndOr(x, y, z) = tree.view() else {
         return Err("not andor")?;
     };
     assert_eq!(rt;
         (size(x), size(y), size(z)),
-        ((1, 1, 1), (1, 1, 1), (4, 4, 3))
+        ((1, 1, 1), (1, 1, 1), (1, 1, 1))
     );
+    let View::Leaf(last) = z.view() else {
+        return Err("no leaf")?;
+    };
+    assert_eq!(rt; last, Leaf::Older(9));
     Ok(())
 }
 

@@ -1,131 +1,107 @@
-//! Faults at each read and each write, and input that is made to hurt.
+//! Faults at each read and at each write.
 
-use crate::asking::{ROOM, asked, asked_of, is_told_unread, shows_nothing, written};
-use crate::long_texts::{chain, either, key_chain, wrapped};
-use crate::run_tests;
-use crate::satisfy_tests::{
-    Form, KEY_OR_LOCK, LOCK_HOLDS, asset_file, is_refused, is_unsatisfied, report_of,
-};
-use crate::text_tests::{KEY, check_report};
-use ms_io::{MemSource, read_all};
-use ms_samples::repeated;
-use msat_cli::Status;
-use std::alloc::Global;
-use std::process::Abort;
+use crate::asking::{read_in_fours, words_of, written_in_twos};
+use ms_io::{NullSink, SureSource};
+use msat_cli::{Status, msat_without_faults};
 use std::test::Fail;
+
+/// A timelock of nine blocks, which needs no item. The Script's SHA-256 by Python's hashlib over OpenSSL.
+const SATISFIED: &str = "script 59b2
+program 0020b767b44c108723a2805054b779d40059219854408cfce574ff5c17950c23d4da
+limits size 2 ops 1 items 0 weight 0
+witness 010259b2
+replay ops 1 items 0 weight 0 peak 1
+";
 
 #[test]
 fn each_read_can_fail(rt: HostRuntime) -> Result<(), Fail> {
-    let alloc = rt.alloc();
-    let file = asset_file(alloc, "\"sequence\":144,", "B", "")?;
-    let words = ["satisfy", KEY_OR_LOCK];
-    // Each read gives 16 bytes, or what is left, and one more finds the end.
-    let reads = file.len().div_ceil(16) as u64 + 1;
-    for failing in 0..reads {
-        shows_nothing(&rt, alloc, &words, file.as_bytes(), 16, failing)?;
+    let words = ["satisfy", "--malleable", "older(9)"];
+    // Four reads give the fourteen bytes, and one more finds the end.
+    for failing in 0..5 {
+        let (status, report) = read_in_fours(rt.alloc(), &words, "{\"sequence\":9}", &[failing])?;
+        assert_eq!(rt; status, Status::ReadFault);
+        assert!(rt; report.is_empty());
     }
-    let (status, report) = asked(alloc, &words, file.as_bytes(), 16, &[reads])?;
+    let (status, report) = read_in_fours(rt.alloc(), &words, "{\"sequence\":9}", &[5])?;
     assert_eq!(rt; status, Status::Done);
-    assert_eq!(rt; report.as_str(), report_of(alloc, &LOCK_HOLDS)?.as_str());
+    assert_eq!(rt; report.as_str(), SATISFIED);
     Ok(())
 }
 
 #[test]
 fn each_write_can_fail(rt: HostRuntime) -> Result<(), Fail> {
-    let alloc = rt.alloc();
-    let whole = check_report(alloc, &KEY)?;
-    let words = ["check", KEY.text];
-    let writes = whole.len().div_ceil(10);
-    for failing in 0..writes {
-        let (status, report) = written(alloc, &words, ROOM, 10, &[failing as u64])?;
-        assert_eq!(rt; status, Status::WriteFault);
-        assert_eq!(rt; Some(report.as_str()), whole.get(..10 * failing));
-    }
-    let (status, report) = written(alloc, &words, ROOM, 10, &[writes as u64])?;
-    assert_eq!(rt; status, Status::Done);
-    assert_eq!(rt; report.as_str(), whole.as_str());
-    Ok(())
-}
-
-#[test]
-fn a_stack_of_more_than_a_thousand_items_is_run(rt: HostRuntime) -> Result<(), Fail> {
-    let alloc = rt.alloc();
-    for (others, fault) in [(1_001, "CleanStack at 1"), (1_002, "StackSize at 0")] {
-        let items = repeated(alloc, ",\"witness\":[\"\"", ",\"\"", others, "]")?;
-        run_tests::is_refused(&rt, alloc, "ae", &items, fault)?;
-    }
-    Ok(())
-}
-
-#[test]
-fn lists_inside_one_another_are_passed_over(rt: HostRuntime) -> Result<(), Fail> {
-    let alloc = rt.alloc();
-    let open = repeated(alloc, "{\"other\":", "[", 100, "")?;
-    let passed = repeated(alloc, &open, "]", 100, "}")?;
-    is_unsatisfied(&rt, alloc, Form::Strict, "pk(A)", &passed)?;
-    let open = repeated(alloc, "{\"other\":", "[", 200, "")?;
-    let deep = repeated(alloc, &open, "]", 200, "}")?;
-    is_refused(&rt, alloc, &deep, "NotJson")
-}
-
-#[test]
-fn the_first_key_is_refused_before_the_count(rt: HostRuntime) -> Result<(), Fail> {
-    let alloc = rt.alloc();
-    let first = "{\"signatures\":[{\"key\":\"\",\"sig\":\"\"}";
-    let file = repeated(alloc, first, ",{\"key\":\"\",\"sig\":\"\"}", 256, "]}")?;
-    is_refused(&rt, alloc, &file, "KeyForm 0")
-}
-
-/// A source of a refused text holds what it held.
-fn is_left(rt: &impl Abort, alloc: Global, words: &[&str]) -> Result<(), Fail> {
-    let mut source = MemSource::new(Vec::from_slice(alloc, b"{}")?, 1, Vec::new(alloc));
-    let (status, _) = asked_of(alloc, words, &mut source)?;
-    assert_eq!(rt; status, Status::TextRefused);
-    let left = read_all(alloc, &mut source, 2).ok().ok_or("bytes")?;
-    assert_eq!(rt; left.as_slice(), b"{}".as_slice());
-    Ok(())
-}
-
-/// Asks for both satisfactions of a text over a source whose first read would fail, compares what follows the words
-/// `refused text`, and sees that the source holds what it held.
-fn is_refused_unread(
-    rt: &impl Abort,
-    alloc: Global,
-    text: &str,
-    refusal: &str,
-) -> Result<(), Fail> {
-    let report = format!(in alloc; "refused text {refusal}\n")?;
-    let forms: [&[&str]; 2] = [&["satisfy", text], &["satisfy", "--malleable", text]];
-    for words in forms {
-        is_told_unread(rt, alloc, words, Status::TextRefused, &report)?;
-        is_left(rt, alloc, words)?;
-    }
-    Ok(())
-}
-
-#[test]
-fn nothing_is_read_for_a_refused_text(rt: HostRuntime) -> Result<(), Fail> {
-    let alloc = rt.alloc();
     let cases = [
-        (255, "0", "Ops 255"),
-        (256, "0", "TooDeep at 257"),
-        (300, "0", "TooDeep at 0"),
-        (65_536, "", "TooLong"),
+        (0, "", Status::WriteFault),
+        (1, "59", Status::WriteFault),
+        (2, "59b2", Status::WriteFault),
+        (3, "59b2\n", Status::Done),
     ];
-    for (letters, fragment, refusal) in cases {
-        let text = wrapped(alloc, letters, fragment)?;
-        is_refused_unread(&rt, alloc, &text, refusal)?;
+    for (failing, wanted, ends) in cases {
+        let words = ["script", "older(9)"];
+        let (status, report) = written_in_twos(rt.alloc(), &words, 99, &[failing])?;
+        assert_eq!(rt; status, ends);
+        assert_eq!(rt; report.as_str(), wanted);
     }
     Ok(())
 }
 
 #[test]
-fn nothing_is_read_for_a_text_over_a_limit(rt: HostRuntime) -> Result<(), Fail> {
-    let alloc = rt.alloc();
-    let large = chain(alloc, 5, 5, "older(8388608)")?;
-    is_refused_unread(&rt, alloc, &large, "Size 3601")?;
-    let opcodes = either(alloc, 177)?;
-    is_refused_unread(&rt, alloc, &opcodes, "Ops 202")?;
-    let items = key_chain(alloc, 100)?;
-    is_refused_unread(&rt, alloc, &items, "Items 101")
+fn a_fault_of_the_sink_leaves_a_prefix(rt: HostRuntime) -> Result<(), Fail> {
+    let cases = [
+        (0, "", Status::WriteFault),
+        (3, "59b", Status::WriteFault),
+        (4, "59b2", Status::WriteFault),
+        (5, "59b2\n", Status::Done),
+    ];
+    for (room, wanted, ends) in cases {
+        let (status, report) = written_in_twos(rt.alloc(), &["script", "older(9)"], room, &[])?;
+        assert_eq!(rt; status, ends);
+        assert_eq!(rt; report.as_str(), wanted);
+    }
+    Ok(())
+}
+
+#[test]
+fn a_fault_of_the_source_shows_nothing(rt: HostRuntime) -> Result<(), Fail> {
+    for command in ["satisfy", "plan", "audit"] {
+        let (status, report) = read_in_fours(rt.alloc(), &[command, "0"], "{\"version\":2}", &[1])?;
+        assert_eq!(rt; status, Status::ReadFault, "{command}");
+        assert!(rt; report.is_empty(), "{command}");
+    }
+    Ok(())
+}
+
+#[test]
+fn a_fault_of_the_source_writes_nothing(rt: HostRuntime) -> Result<(), Fail> {
+    let cases = [
+        (1, "", Status::ReadFault),
+        (9, "accepted ops 0 peak 1\n", Status::Done),
+    ];
+    for (failing, wanted, ends) in cases {
+        let (status, report) = read_in_fours(
+            rt.alloc(),
+            &["run"],
+            "{\"script\":\"51\"}",
+            &[failing],
+        )?;
+        assert_eq!(rt; status, ends);
+        assert_eq!(rt; report.as_str(), wanted);
+    }
+    Ok(())
+}
+
+#[test]
+fn nothing_fails_over_memory(rt: HostRuntime) -> Result<(), Fail> {
+    let words = words_of(rt.alloc(), &["script", "older(9)"])?;
+    let mut source = SureSource::new(Vec::new(rt.alloc()));
+    let status = msat_without_faults(rt.alloc(), &words, &mut source, &mut NullSink::new());
+    assert_eq!(rt; status.code(), 0);
+    Ok(())
+}
+
+#[test]
+fn statuses_have_their_codes(rt: HostRuntime) {
+    assert_eq!(rt; Status::ScriptRefused.code(), 8);
+    assert_eq!(rt; Status::NotAccepted.code(), 9);
+    assert_eq!(rt; Status::NoReading.code(), 10);
 }

@@ -1,30 +1,12 @@
-//! What `msat` answers for worked rows, for words, texts and files that are refused, and where reading, writing or memory fails: the
-//! tests of the program's top call. What is promised of it stands with it.
+//! What the program answers where reading or writing fails, what `gen` makes, and the calls of the library: tests of top calls. What is
+//! promised of each call stands with it; what the program answers to words and files stands in `examples/rows/`.
 #![tactic(auto)]
 
 #[cfg(test)]
 mod asking;
 #[cfg(test)]
-mod audit_tests;
-#[cfg(test)]
 mod calls_tests;
-#[cfg(test)]
-mod consensus_tests;
-#[cfg(test)]
-mod decode_tests;
 #[cfg(test)]
 mod fault_tests;
 #[cfg(test)]
 mod generator_tests;
-#[cfg(test)]
-mod long_texts;
-#[cfg(test)]
-mod plan_tests;
-#[cfg(test)]
-mod policy_tests;
-#[cfg(test)]
-mod run_tests;
-#[cfg(test)]
-mod satisfy_tests;
-#[cfg(test)]
-mod text_tests;
