@@ -1,11 +1,11 @@
 -- Moves of bytes that follow one another.
-use Rattle.std.proofs.Common.{ℕ, ◌≡◌, ◌-◌, ◌+◌, ◌<◌, ◌≤◌, List, ◌++◌, length, take, drop, sym, ◌∙◌, ap, subst, append_assoc, length-append, arith}
+use Rattle.std.proofs.Common.{ℕ, ◌≡◌, ◌-◌, ◌+◌, ◌<◌, ◌≤◌, List, ◌++◌, length, take, drop, sym, ◌∙◌, ap, subst, append_assoc, length-append, length-take, arith}
 use Rattle.std.proofs.lemmas.List.{take-append-drop, take_rest}
 use Rattle.std.proofs.Math.Seq.{take-append_seam}
 use Rattle.std.proofs.KnownBytes.{Appends-trans, Appends-kept, Consumes-trans}
 use Rattle.std.specs.declared.option.Option.{Option}
 use Rattle.std.specs.Io.KnownBytes.{Appends, Consumes, Keeps}
-use Rattle.ms_io.specs.Calls.{Offers, one_call}
+use Rattle.ms_io.specs.Calls.{Offers, one_call, Gives, one_read}
 use Rattle.ms_io.specs.Moves.{AppendsPrefix, WritesSoFar, GivesWithin, GivesOver}
 
 -- one more piece was taken
@@ -50,3 +50,13 @@ gives_within old now new done more limit before then within = record {
   within = omega (arith, length-append done more);
   given = Consumes-trans old now new done more before then;
 }
+
+-- with one more piece, all of both was given
+pub consumes_more : (old now new : Option (List ℕ)) (done more items : List ℕ) → Consumes old now done → Consumes now new more → items ≡ done ++ more → Consumes old new items
+consumes_more old now new done more items before then e = subst (Consumes old new) (sym e) (Consumes-trans old now new done more before then)
+
+-- one more piece was given by a call
+pub gives_more : {Source : Type 0} (gives : Source → ℕ → List ℕ → Source → Type 0) (old now next : Source) (bytes buffer items : List ℕ) (room n : ℕ) → Gives gives old now bytes → 0 < n → n ≤ length buffer
+    → gives now room (take n buffer) next → items ≡ bytes ++ take n buffer → Gives gives old next items
+gives_more gives old now next bytes buffer items room n given more short last e =
+    subst (Gives gives old next) (sym e) (one_read now next bytes (take n buffer) room given (omega (arith, more, short, length-take n buffer)) last)

@@ -74,3 +74,10 @@ abbrev pub after_read : SourceMemory → (room : ℕ) → SourceMemory
 after_read s room =
     if call_fails s.fail_at s.calls then record s { calls = next_count s.calls; failures = next_count s.failures }
     else record s { left = drop (read_count s room) s.left; calls = next_count s.calls }
+
+-- a call of `read` that gives these bytes into a buffer of this length, and one that fails
+abbrev pub ReadGives : SourceMemory → (room : ℕ) → (bytes : List ℕ) → SourceMemory → Type 0
+ReadGives old room bytes new = (call_fails old.fail_at old.calls ≡ false) × (bytes ≡ take (read_count old room) old.left) × (new ≡ after_read old room)
+
+abbrev pub ReadFails : SourceMemory → (room : ℕ) → SourceMemory → Type 0
+ReadFails old room new = (call_fails old.fail_at old.calls ≡ true) × (new ≡ after_read old room)

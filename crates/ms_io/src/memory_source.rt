@@ -1,10 +1,10 @@
 //! A source over memory that fails where it is told to, to try what reads from a source.
 
-ghost use Rattle.std.specs.Prelude.{◌≡◌, ℕ, ◌+◌, ◌-◌, ◌^◌, ◌<◌, ◌≤◌, ◌↔◌, min, List, length, take, drop, IsTrue, IsErr, IfOk, Some};
+ghost use Rattle.std.specs.Prelude.{◌≡◌, ℕ, ◌+◌, ◌-◌, ◌^◌, ◌<◌, ◌≤◌, ◌↔◌, min, List, length, take, drop, IsTrue, IsErr, IfOk, MatchResult, Some};
 ghost use Rattle.std.specs.Io.{ReadsAtMost};
 ghost use Rattle.std.specs.Io.KnownBytes.{ReadConsumes};
 ghost use Rattle.ms_io.specs.Faults.{HasCause};
-ghost use Rattle.ms_io.specs.Memory.{SourceMemory, call_fails, read_count, after_read};
+ghost use Rattle.ms_io.specs.Memory.{SourceMemory, call_fails, read_count, after_read, ReadGives, ReadFails};
 
 use crate::memory::call_fails;
 use crate::source::{Source, SourceFailed};
@@ -54,12 +54,17 @@ impl Source for MemSource {
 
     ghost faults = { λ s. s.failures };
 
+    ghost gives = { ReadGives };
+
+    ghost fails = { ReadFails };
+
     /// Gives the least of the chunk, the buffer's length and the bytes that are left. Fails exactly where the number
     /// of the call is listed, and gives nothing then.
     fn read(&mut self, buf: &mut [u8]) -> Result<usize, SourceFailed>
         ensures bound { ReadsAtMost result buf.new }
         ensures bytes { ReadConsumes (Some self.old.left) (Some self.new.left) result buf.new }
         ensures cause { HasCause self.old.failures self.new.failures result }
+        ensures call { MatchResult result (λ n. ReadGives self.old (length buf.old) (take n buf.new) self.new) (λ _. ReadFails self.old (length buf.old) self.new) }
         ensures fails { IsErr result ↔ IsTrue (call_fails self.old.fail_at self.old.calls) }
         ensures count { IfOk result (λ n. n ≡ read_count self.old (length buf.old)) }
         ensures after { self.new ≡ after_read self.old (length buf.old) }

@@ -34,6 +34,10 @@ impl<R: Read + Drop> Source for StdSource<R> {
 
     ghost faults = { λ s. s.faults };
 
+    ghost gives = { λ old _ _ new. new.faults ≡ old.faults };
+
+    ghost fails = { λ old _ new. new.faults ≡ next_count old.faults };
+
     /// One call of the reader. Whatever error it answers is a fault, an interrupted call too.
     fn read(&mut self, buf: &mut [u8]) -> Result<usize, SourceFailed>
         ensures bound { ReadsAtMost result buf.new }
@@ -41,6 +45,7 @@ impl<R: Read + Drop> Source for StdSource<R> {
         ensures cause { HasCause self.old.faults self.new.faults result }
         ensures kept { OnOk result (self.new.faults ≡ self.old.faults) }
         ensures counted { OnErr result (self.new.faults ≡ next_count self.old.faults) }
+        ensures call { MatchResult result (λ _. self.new.faults ≡ self.old.faults) (λ _. self.new.faults ≡ next_count self.old.faults) }
     {
         match self.reader.read(buf) {
             Ok(count) => Ok(count),

@@ -38,11 +38,16 @@ impl Source for SureSource {
 
     ghost faults = { λ _. 0 };
 
+    ghost gives = { λ old room bytes new. (bytes ≡ take room old) × (new ≡ drop room old) };
+
+    ghost fails = { λ _ _ _. ⊥ };
+
     /// Gives as many bytes as the buffer has room for, or all that are left.
     fn read(&mut self, buf: &mut [u8]) -> Result<usize, SourceFailed>
         ensures bound { ReadsAtMost result buf.new }
         ensures bytes { ReadConsumes (Some self.old) (Some self.new) result buf.new }
         ensures cause { HasCause 0 0 result }
+        ensures call { MatchResult result (λ n. (take n buf.new ≡ take (length buf.old) self.old) × (self.new ≡ drop (length buf.old) self.old)) (λ _. ⊥) }
         ensures count { result ≡ Ok (min (length buf.old) (length self.old)) }
     {
         let rest = &self.bytes[self.at..];

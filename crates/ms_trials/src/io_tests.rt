@@ -276,3 +276,33 @@ fn one_byte_over_the_limit_is_too_long(rt: HostRuntime) -> Result<(), Fail> {
     assert_eq!(rt; read.map(|bytes| bytes.len()), Err(ReadStop::TooLong));
     Ok(())
 }
+
+// So many bytes, each of which has its own value among those beside it.
+fn counted(alloc: Global, count: usize) -> Result<Vec<u8>, AllocError> {
+    let mut bytes = Vec::new(alloc);
+    for place in 0..count {
+        bytes.push((place % 251) as u8)?;
+    }
+    Ok(bytes)
+}
+
+#[test]
+fn many_bytes_go_through_std(rt: HostRuntime) -> Result<(), Fail> {
+    // one chunk of reading, sixteen of them, one byte less and one more
+    for count in [4_096, 65_535, 65_536, 65_537] {
+        let bytes = counted(rt.alloc(), count)?;
+        let mut source = StdSource::new(Cursor::new(bytes.as_slice()));
+        let read = read_all(rt.alloc(), &mut source, 65_537);
+        assert!(rt; read.is_ok_and(|read| read.as_slice() == bytes.as_slice()));
+        assert_eq!(rt; source.faults, 0);
+        let mut sink = StdSink::new(Vec::new(rt.alloc()));
+        assert_eq!(rt; put_all(&mut sink, &bytes), Ok(()));
+        assert!(rt; sink.writer.as_slice() == bytes.as_slice());
+        assert_eq!(rt; sink.faults, 0);
+    }
+    let bytes = counted(rt.alloc(), 65_536)?;
+    let mut source = StdSource::new(Cursor::new(bytes.as_slice()));
+    let read = read_all(rt.alloc(), &mut source, 65_535);
+    assert_eq!(rt; read.map(|read| read.len()), Err(ReadStop::TooLong));
+    Ok(())
+}
