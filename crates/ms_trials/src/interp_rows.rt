@@ -282,6 +282,50 @@ pub const RUNS: [Row; 29] = [
     },
 ];
 
+// What is no key: two bytes.
+const NO_KEY: &[u8] = b"\x02\x02";
+
+/// CHECKMULTISIG asks the last key first, and the form of a key only when it comes to it; a signature that isn't empty
+/// and passes no check is refused before an item too many that isn't empty; none of none passes. And NOTIF asks for a
+/// minimal item, as IF does.
+pub const ORDERS: [Row; 5] = [
+    Row {
+        script: &[b"\x51\x02", NO_KEY, b"\x21", A, b"\x52\xae"],
+        items: &[b"", SA],
+        locks: LOCKS,
+        table: &[(A, SA)],
+        outcome: Outcome::Accepted(3, 6, &[(A, SA)]),
+    },
+    Row {
+        script: &[b"\x51\x21", A, b"\x02", NO_KEY, b"\x52\xae"],
+        items: &[b"", SA],
+        locks: LOCKS,
+        table: &[(A, SA)],
+        outcome: Outcome::Refused(ScriptFault::KeyForm, 4),
+    },
+    Row {
+        script: &[b"\x51\x21", A, b"\x51\xae"],
+        items: &[b"\x01", SA],
+        locks: LOCKS,
+        table: &[],
+        outcome: Outcome::Refused(ScriptFault::NullFail, 3),
+    },
+    Row {
+        script: &[b"\x00\x00\x00\xae"],
+        items: &[],
+        locks: LOCKS,
+        table: &[],
+        outcome: Outcome::Accepted(1, 3, &[]),
+    },
+    Row {
+        script: &[b"\x64\x51\x67\x51\x68"],
+        items: &[b"\x02"],
+        locks: LOCKS,
+        table: &[],
+        outcome: Outcome::Refused(ScriptFault::MinimalIf, 0),
+    },
+];
+
 /// Runs of whole expressions: `or_b(pk(A),s:pk(B))` with both signatures and with that of A twice,
 /// `multi(2,A,B,C)`, `or_d(pk(A),and_v(v:pkh(B),older(144)))` and `thresh(1,sha256(Z),s:pk(A))`.
 pub const EXPRESSIONS: [Row; 5] = [

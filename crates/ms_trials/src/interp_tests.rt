@@ -1,5 +1,5 @@
 //! Runs on the real call, with ample memory.
-use crate::interp_rows::{A, B, C, EXPRESSIONS, LOCKS, Outcome, RUNS, Row, SA, SB, SC};
+use crate::interp_rows::{A, B, C, EXPRESSIONS, LOCKS, ORDERS, Outcome, RUNS, Row, SA, SB, SC};
 use ms_interp::{RunStop, ScriptFault, run};
 use ms_oracle::{Pairs, SigCheck, SigPair, member};
 use ms_script::Stack;
@@ -68,6 +68,14 @@ fn comes_out(alloc: Global, row: &Row) -> Result<bool, AllocError> {
 fn each_fault_has_its_place(rt: HostRuntime) -> Result<(), Fail> {
     for (i, row) in RUNS.iter().enumerate() {
         assert!(rt; comes_out(rt.alloc(), row)?, "run {i}");
+    }
+    Ok(())
+}
+
+#[test]
+fn keys_are_asked_from_the_last_one(rt: HostRuntime) -> Result<(), Fail> {
+    for (i, row) in ORDERS.iter().enumerate() {
+        assert!(rt; comes_out(rt.alloc(), row)?, "order {i}");
     }
     Ok(())
 }
