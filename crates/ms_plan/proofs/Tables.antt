@@ -6,7 +6,7 @@ use Rattle.std.specs.Str.{bytes_eq}
 use Rattle.std.proofs.lemmas.Bool.{false≢true, cases_Bool}
 use Rattle.std.proofs.lemmas.Option.{none-some}
 use Rattle.std.proofs.lemmas.List.{drop_more, take_all, length-drop}
-use Rattle.std.proofs.lemmas.List.Elements.{All-nil, All-cons}
+use Rattle.std.proofs.lemmas.List.Elements.{All-nil, All-cons, All-head, All-tail}
 use Rattle.std.proofs.lemmas.Slice.Eq.{bytes_eq-Decides}
 use Rattle.def_tree.specs.Range.{IsKey}
 use Rattle.def_tree.specs.Tree.{Key}
@@ -60,6 +60,49 @@ pub entry_at : (table : Lengths) (place : ℕ) (entry : Key × ℕ) → place < 
 entry_at table place entry below is h all rest =
     let more : drop place table ≡ entry ∷ drop (place + 1) table = drop_more table place entry below ∙ ap (λ x. x ∷ drop (place + 1) table) (sym is) in
     all (subst AreEntries (sym more) (one_entry entry (drop (place + 1) table) h rest))
+
+-- and back: what a table begins with, and what is left
+unlisted : (key : Key) (table : Lengths) → AllByRecursion (λ other. bytes_eq key other ≡ false) (map (λ entry. entry.0) table) → length_of table key ≡ None
+unlisted key [] h = refl
+unlisted key (entry ∷ table) h = rw flipped (unlisted key table h.1)
+  where
+    flipped : bytes_eq entry.0 key ≡ false
+    flipped =
+        elim (cases_Bool (bytes_eq entry.0 key)) [
+          | inl same ↦ absurd (false≢true (sym h.0 ∙ (bytes_eq-Decides key entry.0).1 (sym ((bytes_eq-Decides entry.0 key).0 same))))
+          | inr other ↦ other
+        ]
+
+pub first_entry : (entry : Key × ℕ) (table : Lengths) → AreEntries (entry ∷ table) → CanStandBefore entry table
+unfolding IsDistinct
+first_entry entry table h = record {
+  key = All-head (λ e. IsKey e.0) entry table h.keys;
+  some = All-head (λ e. 1 ≤ e.1) entry table h.some;
+  short = All-head (λ e. e.1 ≤ 73) entry table h.short;
+  once = unlisted entry.0 table h.distinct.0;
+}
+
+pub left_entries : (entry : Key × ℕ) (table : Lengths) → AreEntries (entry ∷ table) → AreEntries table
+unfolding IsDistinct
+left_entries entry table h = record {
+  keys = All-tail (λ e. IsKey e.0) entry table h.keys;
+  distinct = h.distinct.1;
+  some = All-tail (λ e. 1 ≤ e.1) entry table h.some;
+  short = All-tail (λ e. e.1 ≤ 73) entry table h.short;
+}
+
+module _ (table : Lengths) (place : ℕ) (entry : Key × ℕ) (below : place < length table) (is : entry ≡ get_or table place entry) where
+  begins : drop place table ≡ entry ∷ drop (place + 1) table
+  begins = drop_more table place entry below ∙ ap (λ x. x ∷ drop (place + 1) table) (sym is)
+
+  pub entry_stands : AreEntries (drop place table) → CanStandBefore entry (drop (place + 1) table)
+  entry_stands h = first_entry entry (drop (place + 1) table) (subst AreEntries begins h)
+
+  pub entries_left : AreEntries (drop place table) → AreEntries (drop (place + 1) table)
+  entries_left h = left_entries entry (drop (place + 1) table) (subst AreEntries begins h)
+
+pub entries_of : (table : Lengths) → AreLengths table → AreEntries table
+entries_of table h = record { keys = h.keys; distinct = h.distinct; some = h.some; short = h.short }
 
 -- the length of an entry's key is the entry's
 own_length : (table : Lengths) (place : ℕ) (entry : Key × ℕ) → IsDistinct bytes_eq (map (λ e. e.0) table) → place < length table → entry ≡ get_or table place entry →

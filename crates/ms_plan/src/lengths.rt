@@ -1,5 +1,5 @@
 //! Keys, and the lengths that their signatures are estimated to have.
-ghost use Rattle.std.specs.Prelude.{◌≡◌, IsTrue};
+ghost use Rattle.std.specs.Prelude.{◌≡◌, ◌↔◌, IsTrue};
 ghost use Rattle.def_plan.specs.Lengths.{AreLengths, length_of};
 ghost use Rattle.ms_plan.specs.Estimates.{CanStandBefore};
 
@@ -119,7 +119,7 @@ pub fn length_in(table: &[KeyLen], key: &Key) -> Option<u8>
 /// Whether a table can be estimated by: at most 256 entries, no key twice, and lengths of 1 to 73 bytes. Takes no memory,
 /// and never refuses.
 pub fn are_lengths(table: &[KeyLen]) -> bool
-    ensures { IsTrue result → AreLengths table.now }
+    ensures { IsTrue result ↔ AreLengths table.now }
 {
     if table.len() > MOST_KEYS {
         return false;
@@ -134,7 +134,7 @@ pub fn are_lengths(table: &[KeyLen]) -> bool
 
 /// Whether an entry has a length of a signature, and its key isn't that of a later one.
 fn can_stand_before(entry: &KeyLen, later: &[KeyLen]) -> bool
-    ensures { IsTrue result → CanStandBefore entry.now later.now }
+    ensures { IsTrue result ↔ CanStandBefore entry.now later.now }
 {
     // Its clause tells what a key always is.
     let _bytes = entry.key.as_bytes();
