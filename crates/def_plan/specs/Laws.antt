@@ -5,7 +5,7 @@ use Rattle.def_tree.specs.Range.{IsWritable}
 use Rattle.def_assets.specs.Assets.{Assets, AreAssets}
 use Rattle.def_sane.specs.Unfit.{IsSane}
 use Rattle.def_plan.specs.Lengths.{Lengths, AreLengths, IsEstimate, estimated}
-use Rattle.def_plan.specs.Plan.{Plan, plan_of, NoneIsExact, Suffices, IsLeast, AsksListed, AsksNoneInVain, AsksInOrder, LengthsDecide}
+use Rattle.def_plan.specs.Plan.{Plan, plan_of, NoneIsExact, Suffices, WeighsAtMost, IsLeast, AsksListed, AsksNoneInVain, AsksInOrder, LengthsDecide}
 
 -- of every sane miniscript, all assets and every table
 pub record IsInput (tree : Tree) (assets : Assets) (table : Lengths) : Type 0 where
@@ -37,7 +37,10 @@ OfEachPlan Holds =
     plan_of tree assets table ≡ Some plan → Holds tree assets table plan
 
 abbrev pub SufficesAlways : Type 0
-SufficesAlways = OfEachPlan Suffices
+SufficesAlways = OfEachPlan (λ tree assets table plan. Suffices tree assets plan)
+
+abbrev pub WeighsAtMostAlways : Type 0
+WeighsAtMostAlways = OfEachPlan WeighsAtMost
 
 abbrev pub LeastAlways : Type 0
 LeastAlways = OfEachPlan IsLeast

@@ -34,12 +34,12 @@ pub record IsLike (assets other : Assets) : Type 0 where
   pub locks : other.locks ≡ assets.locks
   pub preimages : other.preimages ≡ assets.preimages
 
--- the other assets fit a table below: the key of each signature has an entry, and the signature is no longer
-pub record FitsBelow (assets : Assets) (table : Lengths) (other : Assets) : Type 0 where
-  pub like : IsLike assets other
-  pub pairs : (key sig : Bytes) → Contains other.pairs (key, sig) → (n : ℕ) × (length_of table key ≡ Some n) × (length sig ≤ n)
+-- the other assets have a signature of each of these keys that is no longer than estimated, whoever else signs
+abbrev pub SignBelow : (keys : Key → Type 0) → (table : Lengths) → Assets → Type 0
+SignBelow keys table assets =
+    (key : Key) → keys key → (n : ℕ) × (sig : Bytes) × (length_of table key ≡ Some n) × (sig_of assets key ≡ Some sig) × (length sig ≤ n)
 
--- they fit it above: the key of each signature has an entry, and the signature is no shorter
+-- the other assets fit a table above: the key of each signature has an entry, and the signature is no shorter
 pub record FitsAbove (assets : Assets) (table : Lengths) (other : Assets) : Type 0 where
   pub like : IsLike assets other
   pub pairs : (key sig : Bytes) → Contains other.pairs (key, sig) → (n : ℕ) × (length_of table key ≡ Some n) × (n ≤ length sig)
@@ -56,3 +56,7 @@ estimated assets table = record assets { pairs = map (λ entry. (entry.0, replic
 -- the assets have a signature of each of these keys, and of no other one
 abbrev pub Sign : (keys : Key → Type 0) → Assets → Type 0
 Sign keys assets = (key : Key) → IsSome (sig_of assets key) ↔ keys key
+
+-- the assets have a signature of each of these keys, whoever else signs
+abbrev pub SignAll : (keys : Key → Type 0) → Assets → Type 0
+SignAll keys assets = (key : Key) → keys key → IsSome (sig_of assets key)

@@ -9,7 +9,7 @@ use Rattle.def_script.specs.Witness.{weight}
 use Rattle.def_satisfaction.specs.Satisfaction.{Sat}
 use Rattle.def_choice.specs.Strict.{strict}
 use Rattle.def_choice.specs.NonMalleable.{NonMalleable}
-use Rattle.def_plan.specs.Lengths.{Lengths, length_of, IsLike, FitsBelow, FitsAbove, IsEstimate, estimated, Sign}
+use Rattle.def_plan.specs.Lengths.{Lengths, length_of, IsLike, FitsAbove, IsEstimate, estimated, Sign, SignAll, SignBelow}
 use Rattle.def_plan.specs.Taken.{taken}
 
 pub record Plan : Type 0 where
@@ -34,11 +34,16 @@ NoneIsExact tree assets table found =
     (other : Assets) → AreAssets other → IsLike assets other → Sign (λ key. IsSome (length_of table key)) other →
     (found ≡ None) ↔ ((stack : List Bytes) → ¬ Sat tree other stack)
 
--- signatures of the plan's keys alone are enough, where none is longer than estimated: then the strict choice weighs
--- at most the plan's weight
-abbrev pub Suffices : Tree → Assets → Lengths → Plan → Type 0
-Suffices tree assets table plan =
-    (other : Assets) → AreAssets other → FitsBelow assets table other → Sign (Contains plan.keys) other →
+-- signatures of the plan's keys are enough, of whatever lengths, and whoever else signs
+abbrev pub Suffices : Tree → Assets → Plan → Type 0
+Suffices tree assets plan =
+    (other : Assets) → AreAssets other → IsLike assets other → SignAll (Contains plan.keys) other → IsSome (strict tree other)
+
+-- where of each of the plan's keys a signature is no longer than estimated, the strict choice weighs at most the plan's
+-- weight, whoever else signs, and however long those signatures are
+abbrev pub WeighsAtMost : Tree → Assets → Lengths → Plan → Type 0
+WeighsAtMost tree assets table plan =
+    (other : Assets) → AreAssets other → IsLike assets other → SignBelow (Contains plan.keys) table other →
     (stack : List Bytes) × (strict tree other ≡ Some stack) × (weight stack ≤ plan.weight)
 
 -- whatever listed keys sign, where no signature is shorter than estimated no satisfaction that nobody can change

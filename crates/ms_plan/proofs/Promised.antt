@@ -5,9 +5,9 @@ use Rattle.def_tree.specs.Range.{IsWritable}
 use Rattle.def_assets.specs.Assets.{Assets, AreAssets}
 use Rattle.def_sane.specs.Unfit.{IsSane}
 use Rattle.def_plan.specs.Lengths.{Lengths, AreLengths}
-use Rattle.def_plan.specs.Plan.{Plan, plan_of, NoneIsExact, Suffices, IsLeast, AsksListed, AsksNoneInVain, AsksInOrder, LengthsDecide}
+use Rattle.def_plan.specs.Plan.{Plan, plan_of, NoneIsExact, Suffices, WeighsAtMost, IsLeast, AsksListed, AsksNoneInVain, AsksInOrder, LengthsDecide}
 use Rattle.def_plan.specs.Laws.{IsInput}
-use Rattle.ms_plan_laws.proofs.Plans.{none_holds, lengths_decide, suffices_always, least_always, listed_always, none_in_vain_ever, in_order_always}
+use Rattle.ms_plan_laws.proofs.Plans.{none_holds, lengths_decide, suffices_always, weighs_at_most_always, least_always, listed_always, none_in_vain_ever, in_order_always}
 
 -- the facts of the call, and what it answers
 pub record Made (tree : Tree) (assets : Assets) (table : Lengths) (found : Option Plan) : Type 0 where
@@ -28,8 +28,11 @@ module _ (tree : Tree) (assets : Assets) (table : Lengths) (found : Option Plan)
   pub made_lengths : LengthsDecide tree assets table found
   made_lengths = subst (LengthsDecide tree assets table) (sym m.is) (lengths_decide tree assets table m.input)
 
-  pub made_suffices : (plan : Plan) → found ≡ Some plan → Suffices tree assets table plan
+  pub made_suffices : (plan : Plan) → found ≡ Some plan → Suffices tree assets plan
   made_suffices plan e = suffices_always tree assets table plan m.input (sym m.is ∙ e)
+
+  pub made_weight : (plan : Plan) → found ≡ Some plan → WeighsAtMost tree assets table plan
+  made_weight plan e = weighs_at_most_always tree assets table plan m.input (sym m.is ∙ e)
 
   pub made_least : (plan : Plan) → found ≡ Some plan → IsLeast tree assets table plan
   made_least plan e = least_always tree assets table plan m.input (sym m.is ∙ e)

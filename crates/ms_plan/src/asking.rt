@@ -4,7 +4,7 @@ ghost use Rattle.def_tree.specs.Range.{IsInRange};
 ghost use Rattle.def_assets.specs.Assets.{Assets as Held};
 ghost use Rattle.def_sane.specs.Unfit.{IsSane};
 ghost use Rattle.def_plan.specs.Lengths.{Lengths, AreLengths};
-ghost use Rattle.def_plan.specs.Plan.{Plan as Planned, plan_of, NoneIsExact, Suffices, IsLeast, AsksListed, AsksNoneInVain, AsksInOrder, LengthsDecide};
+ghost use Rattle.def_plan.specs.Plan.{Plan as Planned, plan_of, NoneIsExact, Suffices, WeighsAtMost, IsLeast, AsksListed, AsksNoneInVain, AsksInOrder, LengthsDecide};
 ghost use Rattle.ms_tree.specs.Shape.{shape};
 ghost use Rattle.ms_plan.specs.Estimates.{IsSound, table_of as the_table};
 ghost use Rattle.ms_plan.specs.Scaffolding.Marked.{AreMarked, with_marks as the_marked};
@@ -22,9 +22,9 @@ use std::alloc::{AllocError, Global};
 /// satisfaction has with signatures of the estimated lengths, and what it weighs. `None` where no canonical satisfaction
 /// exists even when all of them sign. The tree is sane, and the assets hold no signature. Refuses for want of memory alone.
 ///
-/// Signatures of the plan's keys alone are enough: where none is longer than estimated the strict satisfaction weighs no
-/// more than the plan. Where none is shorter, whatever listed keys sign, no satisfaction that nobody can change weighs
-/// less. Each key is listed and asked once, in the order of the nodes and, in a `multi`, of its positions, and none in vain:
+/// Signatures of the plan's keys are enough, of whatever lengths, and whoever else signs: where none of theirs is longer
+/// than estimated the strict satisfaction weighs no more than the plan. Where none is shorter, whatever listed keys sign,
+/// no satisfaction that nobody can change weighs less. Each key is listed and asked once, in the order of the nodes and, in a `multi`, of its positions, and none in vain:
 /// without its signature those of the plan's other keys satisfy nothing. Only the lengths decide.
 pub fn plan<F: Fn(&Key) -> Option<u8>>(
     alloc: Global,
@@ -38,7 +38,8 @@ pub fn plan<F: Fn(&Key) -> Option<u8>>(
     requires sound { IsSound F.Fn estimate.now }
     ensures choice { IfOk result (λ found. found ≡ plan_of (shape tree.now) assets.now (the_table estimate.now)) }
     ensures none { IfOk result (λ found. NoneIsExact (shape tree.now) assets.now (the_table estimate.now) found) }
-    ensures suffices { IfOk result (λ found. (plan : Planned) → found ≡ Some plan → Suffices (shape tree.now) assets.now (the_table estimate.now) plan) }
+    ensures suffices { IfOk result (λ found. (plan : Planned) → found ≡ Some plan → Suffices (shape tree.now) assets.now plan) }
+    ensures weight { IfOk result (λ found. (plan : Planned) → found ≡ Some plan → WeighsAtMost (shape tree.now) assets.now (the_table estimate.now) plan) }
     ensures least { IfOk result (λ found. (plan : Planned) → found ≡ Some plan → IsLeast (shape tree.now) assets.now (the_table estimate.now) plan) }
     ensures listed { IfOk result (λ found. (plan : Planned) → found ≡ Some plan → AsksListed (the_table estimate.now) plan) }
     ensures none_in_vain { IfOk result (λ found. (plan : Planned) → found ≡ Some plan → AsksNoneInVain (shape tree.now) assets.now plan) }

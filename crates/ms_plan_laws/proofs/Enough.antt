@@ -37,40 +37,6 @@ use Rattle.ms_plan_laws.proofs.Options.{first_taken, both_joined, item_is}
 use Rattle.ms_plan_laws.proofs.Sets.{each-filter, ones, IsSet, sets_are, set_is_taken}
 use Rattle.ms_plan_laws.proofs.Moved.{with_pairs}
 
--- beside what is chosen is a stack of the set that weighs no more
-abbrev pub Enough : Option Stack → StackSet → Type 0
-Enough m P = (w : Stack) → m ≡ Some w → (v : Stack) × P v × (weight v ≤ weight w)
-
-one_enough : (m : Option Stack) (P : StackSet) → ((w : Stack) → m ≡ Some w → P w) → Enough m P
-one_enough m P is w e = (w, is w e, omega arith)
-
-both_enough : (a b : Option Stack) (P Q : StackSet) → Enough a P → Enough b Q → Enough (both a b) (Both P Q)
-both_enough a b P Q p q w e =
-    let j = both_joined a b w e in
-    let x = p j.below j.left in
-    let y = q j.above j.right in
-    let f : weight w ≡ weight (j.above ++ j.below) = ap weight j.whole in
-    (y.0 ++ x.0, (x.0, y.0, x.1, y.1, refl), omega (arith, f, x.2, y.2, weight-append j.above j.below, weight-append y.0 x.0))
-
--- one of two options, where tight stacks of a free option are free
-first_enough : (F G P Q : StackSet) (f g a b : Option Stack) → IsLightest F f → IsLightest G g → (HasOne F → Within P F) → (HasOne G → Within Q G) →
-    (takes_former f g a b ≡ true → Enough a P) → (takes_former f g a b ≡ false → Enough b Q) → Enough (free_first f g a b) (FreeFirst F G P Q)
-first_enough F G P Q (Some u) g a b ff gg pf qg p q w e =
-    let x = p refl w e in
-    (x.0, inl (x.1, λ one. pf (u, ff.is u refl) x.0 x.1), x.2)
-first_enough F G P Q None (Some u) a b ff gg pf qg p q w e =
-    let x = q refl w e in
-    (x.0, inr (x.1, λ one. qg (u, gg.is u refl) x.0 x.1), x.2)
-first_enough F G P Q None None a b ff gg pf qg p q w e =
-    elim (first_taken None None a b w e) [
-      | inl t ↦ (let x = p t.0 w t.1 in (x.0, inl (x.1, λ one. absurd (never one)), x.2))
-      | inr t ↦ (let x = q t.0 w t.1 in (x.0, inr (x.1, λ one. absurd (never one)), x.2))
-    ]
-  where
-    never : HasOne (Either F G) → ⊥
-    never (v, inl i) = let k = ff.lightest v i in none-some k.0 k.1
-    never (v, inr i) = let k = gg.lightest v i in none-some k.0 k.1
-
 -- the last key's signature behind the others'
 behind : (table : Pairs) (keys : List Key) (key : Key) (sigs : Stack) (sig : Bytes) → is_good table key sig ≡ true → AreSignatures table keys sigs →
     AreSignatures table (keys ++ key ∷ []) (sigs ++ sig ∷ [])
@@ -88,167 +54,202 @@ pub wanted_or_not : (wanted : Bool) (rest : Bool) → ((not wanted || true) && r
 wanted_or_not true rest h = h
 wanted_or_not false rest h = h
 
-module _ (assets : Assets) (pairs : Pairs) (are : AreAssets assets) where
-  abbrev there : Assets
-  there = with_pairs assets pairs
+pub not_free : (assets : Assets) → AreAssets assets → (x : Tree) → IsWritable x → is_some (free assets x) ≡ false → HasOne (free_row assets x).sat → ⊥
+not_free assets are x writable e one = go (free assets x) (free_best assets are x writable) e
+  where
+    go : (o : Option Stack) → IsLightest (free_row assets x).sat o → is_some o ≡ false → ⊥
+    go None best e = let k = best.lightest one.0 one.1 in none-some k.0 k.1
+    go (Some v) best e = false≢true (sym e)
 
-  -- of each of these keys a signature is there that isn't longer
-  abbrev pub Signed : List Key → Type 0
-  Signed keys = (key : Key) → Contains keys key → (sig : Bytes) → sig_of assets key ≡ Some sig → (g : Bytes) × (is_good pairs key g ≡ true) × (length g ≤ length sig)
+module _ (Light : Type 0) where
+  -- beside what is chosen is a stack of the set that weighs no more, where `Light` is so
+  abbrev pub Enough : Option Stack → StackSet → Type 0
+  Enough m P = (w : Stack) → m ≡ Some w → (v : Stack) × P v × (Light → weight v ≤ weight w)
 
-  left : (a b : List Key) → Signed (a ++ b) → Signed a
-  left a b h key i = h key (Contains-append_left a b key i)
+  one_enough : (m : Option Stack) (P : StackSet) → ((w : Stack) → m ≡ Some w → P w) → Enough m P
+  one_enough m P is w e = (w, is w e, λ _. omega arith)
 
-  right : (a b : List Key) → Signed (a ++ b) → Signed b
-  right a b h key i = h key (Contains-append_right a b key i)
+  both_enough : (a b : Option Stack) (P Q : StackSet) → Enough a P → Enough b Q → Enough (both a b) (Both P Q)
+  both_enough a b P Q p q w e =
+      let j = both_joined a b w e in
+      let x = p j.below j.left in
+      let y = q j.above j.right in
+      let f : weight w ≡ weight (j.above ++ j.below) = ap weight j.whole in
+      (y.0 ++ x.0, (x.0, y.0, x.1, y.1, refl), λ light. let a = x.2 light in let b = y.2 light in omega (arith, f, a, b, weight-append j.above j.below, weight-append y.0 x.0))
 
-  if_former : (test : Bool) (a b : List Key) → Signed (if test then a else b) → test ≡ true → Signed a
-  if_former true a b h e = h
-  if_former false a b h e = absurd (false≢true e)
-
-  if_latter : (test : Bool) (a b : List Key) → Signed (if test then a else b) → test ≡ false → Signed b
-  if_latter true a b h e = absurd (false≢true (sym e))
-  if_latter false a b h e = h
-
-  signature_enough : (key : Key) → Signed (key ∷ []) → (sig : Bytes) → sig_of assets key ≡ Some sig → (g : Bytes) × (is_good pairs key g ≡ true) × (length g ≤ length sig)
-  signature_enough key h sig e = h key (0, omega arith, refl) sig e
-
-  item_enough : (key : Key) → Signed (key ∷ []) → Enough (item (sig_of assets key)) (signed_row there (pk_k key)).sat
-  item_enough key h w e =
-      let i = item_is (sig_of assets key) w e in
-      let x = signature_enough key h i.0 i.1 in
-      let f : weight w ≡ weight (i.0 ∷ []) = ap weight i.2 in
-      (x.0 ∷ [], (x.0, x.1, refl), omega (arith, f, x.2))
-
-  signers_enough : (keys : List Key) (set : List Bool) → Signed (keys_of_set keys set) → (w : Stack) → signatures_of assets keys set ≡ Some w →
-      (v : Stack) × AreSignatures pairs (reverse keys) v × (length v ≡ ones set) × (weight v ≤ weight w)
-  signers_enough [] [] h w e = ([], tt, refl, omega arith)
-  signers_enough [] (b ∷ set) h w e = absurd (none-some w e)
-  signers_enough (key ∷ keys) [] h w e = absurd (none-some w e)
-  signers_enough (key ∷ keys) (true ∷ set) h w e =
-      let j = both_joined (item (sig_of assets key)) (signatures_of assets keys set) w e in
-      let i = item_is (sig_of assets key) j.below j.left in
-      let x = h key (0, omega arith, refl) i.0 i.1 in
-      let y = signers_enough keys set (right (key ∷ []) (keys_of_set keys set) h) j.above j.right in
-      let f : weight w ≡ weight (j.above ++ i.0 ∷ []) = ap weight (j.whole ∙ ap (λ u. j.above ++ u) i.2) in (
-        y.0 ++ x.0 ∷ [],
-        rw (reverse-cons key keys) (behind pairs (reverse keys) key y.0 x.0 x.1 y.1),
-        omega (arith, y.2, length-append y.0 (x.0 ∷ [])),
-        omega (arith, f, x.2, y.3, weight-append j.above (i.0 ∷ []), weight-append y.0 (x.0 ∷ [])),
-      )
-  signers_enough (key ∷ keys) (false ∷ set) h w e =
-      let y = signers_enough keys set h w e in
-      (y.0, rw (reverse-cons key keys) (without_last pairs (reverse keys) key y.0 y.1), y.2, y.3)
-
-  dsat_there : (x : Tree) → IsWritable x → (w : Stack) → dissatisfaction x ≡ Some w → (signed_row there x).dsat w
-  dsat_there x writable w e =
-      dsat_within (canonical assets) (canonical there) false≢true (λ key other h. h) x w ((dsat_best assets x writable).is w e)
-
-  is_enough : (x : Bytes) → Enough (Some (x ∷ [])) (Is x)
-  is_enough x = one_enough _ (Is x) (λ w e. sym (same_Some (x ∷ []) w e))
-
-  dsat_enough : (x : Tree) → IsWritable x → Enough (dissatisfaction x) (signed_row there x).dsat
-  dsat_enough x writable = one_enough (dissatisfaction x) (signed_row there x).dsat (dsat_there x writable)
-
-  pub not_free : (x : Tree) → IsWritable x → is_some (free assets x) ≡ false → HasOne (free_row assets x).sat → ⊥
-  not_free x writable e one = go (free assets x) (free_best assets are x writable) e
+  -- one of two options, where tight stacks of a free option are free
+  first_enough : (F G P Q : StackSet) (f g a b : Option Stack) → IsLightest F f → IsLightest G g → (HasOne F → Within P F) → (HasOne G → Within Q G) →
+      (takes_former f g a b ≡ true → Enough a P) → (takes_former f g a b ≡ false → Enough b Q) → Enough (free_first f g a b) (FreeFirst F G P Q)
+  first_enough F G P Q (Some u) g a b ff gg pf qg p q w e =
+      let x = p refl w e in
+      (x.0, inl (x.1, λ one. pf (u, ff.is u refl) x.0 x.1), x.2)
+  first_enough F G P Q None (Some u) a b ff gg pf qg p q w e =
+      let x = q refl w e in
+      (x.0, inr (x.1, λ one. qg (u, gg.is u refl) x.0 x.1), x.2)
+  first_enough F G P Q None None a b ff gg pf qg p q w e =
+      elim (first_taken None None a b w e) [
+        | inl t ↦ (let x = p t.0 w t.1 in (x.0, inl (x.1, λ one. absurd (never one)), x.2))
+        | inr t ↦ (let x = q t.0 w t.1 in (x.0, inr (x.1, λ one. absurd (never one)), x.2))
+      ]
     where
-      go : (o : Option Stack) → IsLightest (free_row assets x).sat o → is_some o ≡ false → ⊥
-      go None best e = let k = best.lightest one.0 one.1 in none-some k.0 k.1
-      go (Some v) best e = false≢true (sym e)
+      never : HasOne (Either F G) → ⊥
+      never (v, inl i) = let k = ff.lightest v i in none-some k.0 k.1
+      never (v, inr i) = let k = gg.lightest v i in none-some k.0 k.1
 
-  mutual
-    pub taken_enough : (t : Tree) → IsWritable t → Signed (taken assets t) → Enough (strict_of assets t) (TightSat there t)
-    taken_enough just_0 w h = one_enough _ _ (sat_best assets are just_0 w).is
-    taken_enough just_1 w h = one_enough _ _ (sat_best assets are just_1 w).is
-    taken_enough (pk_k key) w h = item_enough key h
-    taken_enough (pk_h key) w h = λ v e.
-        let x = both_enough _ _ _ _ (item_enough key h) (is_enough key) v e in
-        (x.0, (key, w.form, refl, refl, x.1), x.2)
-    taken_enough (older n) w h = one_enough _ _ (sat_best assets are (older n) w).is
-    taken_enough (after n) w h = one_enough _ _ (sat_best assets are (after n) w).is
-    taken_enough (hash kind value) w h = one_enough _ _ (sat_best assets are (hash kind value) w).is
-    taken_enough (and_or x y z) w h =
-        first_enough _ _ _ _ _ _ _ _
-        (best_both _ _ _ _ (free_best assets are y w.1) (free_best assets are x w.0))
-        (best_both _ _ _ _ (free_best assets are z w.2) (free_dsat_best assets are x w.0))
-        (below_free _ _ _ _ (tight_free there y) (tight_free there x))
-        (below_free _ _ _ _ (tight_free there z) (always _ _ (free_dsat there x)))
-        (λ e. let s = if_former _ (taken assets x ++ taken assets y) (taken assets z) h e in
-        both_enough _ _ _ _ (taken_enough y w.1 (right (taken assets x) (taken assets y) s)) (taken_enough x w.0 (left (taken assets x) (taken assets y) s)))
-        (λ e. both_enough _ _ _ _ (taken_enough z w.2 (if_latter _ (taken assets x ++ taken assets y) (taken assets z) h e)) (dsat_enough x w.0))
-    taken_enough (two kind.AndV x y) w h =
-        both_enough _ _ _ _ (taken_enough y w.1 (right (taken assets x) (taken assets y) h)) (taken_enough x w.0 (left (taken assets x) (taken assets y) h))
-    taken_enough (two kind.AndB x y) w h =
-        both_enough _ _ _ _ (taken_enough y w.1 (right (taken assets x) (taken assets y) h)) (taken_enough x w.0 (left (taken assets x) (taken assets y) h))
-    taken_enough (two kind.OrB x z) w h =
-        first_enough _ _ _ _ _ _ _ _
-        (best_both _ _ _ _ (free_dsat_best assets are z w.1) (free_best assets are x w.0))
-        (best_both _ _ _ _ (free_best assets are z w.1) (free_dsat_best assets are x w.0))
-        (below_free _ _ _ _ (always _ _ (free_dsat there z)) (tight_free there x))
-        (below_free _ _ _ _ (tight_free there z) (always _ _ (free_dsat there x)))
-        (λ e. both_enough _ _ _ _ (dsat_enough z w.1) (taken_enough x w.0 (if_former _ (taken assets x) (taken assets z) h e)))
-        (λ e. both_enough _ _ _ _ (taken_enough z w.1 (if_latter _ (taken assets x) (taken assets z) h e)) (dsat_enough x w.0))
-    taken_enough (two kind.OrC x z) w h =
-        first_enough _ _ _ _ _ _ _ _
-        (free_best assets are x w.0)
-        (best_both _ _ _ _ (free_best assets are z w.1) (free_dsat_best assets are x w.0))
-        (tight_free there x)
-        (below_free _ _ _ _ (tight_free there z) (always _ _ (free_dsat there x)))
-        (λ e. taken_enough x w.0 (if_former _ (taken assets x) (taken assets z) h e))
-        (λ e. both_enough _ _ _ _ (taken_enough z w.1 (if_latter _ (taken assets x) (taken assets z) h e)) (dsat_enough x w.0))
-    taken_enough (two kind.OrD x z) w h =
-        first_enough _ _ _ _ _ _ _ _
-        (free_best assets are x w.0)
-        (best_both _ _ _ _ (free_best assets are z w.1) (free_dsat_best assets are x w.0))
-        (tight_free there x)
-        (below_free _ _ _ _ (tight_free there z) (always _ _ (free_dsat there x)))
-        (λ e. taken_enough x w.0 (if_former _ (taken assets x) (taken assets z) h e))
-        (λ e. both_enough _ _ _ _ (taken_enough z w.1 (if_latter _ (taken assets x) (taken assets z) h e)) (dsat_enough x w.0))
-    taken_enough (two kind.OrI x z) w h =
-        first_enough _ _ _ _ _ _ _ _
-        (best_both _ _ _ _ (free_best assets are x w.0) (is_best ONE))
-        (best_both _ _ _ _ (free_best assets are z w.1) (is_best EMPTY))
-        (below_free _ _ _ _ (tight_free there x) (always _ _ (same _)))
-        (below_free _ _ _ _ (tight_free there z) (always _ _ (same _)))
-        (λ e. both_enough _ _ _ _ (taken_enough x w.0 (if_former _ (taken assets x) (taken assets z) h e)) (is_enough ONE))
-        (λ e. both_enough _ _ _ _ (taken_enough z w.1 (if_latter _ (taken assets x) (taken assets z) h e)) (is_enough EMPTY))
-    taken_enough (thresh k xs) w h = λ v e.
-        let t = set_is_taken (λ set. IsSet (count xs) k set × (has_all (free_children assets xs) set ≡ true)) (stack_of (strict_children assets xs)) _
-        (each-filter (IsSet (count xs) k) (has_all (free_children assets xs)) (sets (count xs) k) (sets_are (count xs) k)) v e in
-        let x = children_enough xs w.2 (children_taken assets k xs) t.0.1 h v t.1 in
-        (x.0, subst (λ n. TightParts there xs n x.0) t.0.0.1 x.1, x.2)
-    taken_enough (multi k keys) w h = λ v e.
-        let j = both_joined _ _ v e in
-        let t = set_is_taken (IsSet (length keys) k) (signatures_of assets keys) (sets (length keys) k) (sets_are (length keys) k) j.above j.right in
-        let y = signers_enough keys (signers_taken assets k keys) h j.above t.1 in
-        let one = same_Some (EMPTY ∷ []) j.below j.left in
-        let f : weight v ≡ weight (j.above ++ EMPTY ∷ []) = ap weight (j.whole ∙ ap (λ u. j.above ++ u) (sym one)) in (
-          y.0 ++ EMPTY ∷ [],
-          (EMPTY ∷ [], y.0, refl, (y.2 ∙ t.0.1, y.1), refl),
-          omega (arith, f, y.3, weight-append j.above (EMPTY ∷ []), weight-append y.0 (EMPTY ∷ [])),
+  module _ (assets : Assets) (pairs : Pairs) (are : AreAssets assets) where
+    abbrev there : Assets
+    there = with_pairs assets pairs
+
+    -- of each of these keys a signature is there, which isn't longer where `Light` is so
+    abbrev pub Signed : List Key → Type 0
+    Signed keys = (key : Key) → Contains keys key → (sig : Bytes) → sig_of assets key ≡ Some sig → (g : Bytes) × (is_good pairs key g ≡ true) × (Light → length g ≤ length sig)
+
+    left : (a b : List Key) → Signed (a ++ b) → Signed a
+    left a b h key i = h key (Contains-append_left a b key i)
+
+    right : (a b : List Key) → Signed (a ++ b) → Signed b
+    right a b h key i = h key (Contains-append_right a b key i)
+
+    if_former : (test : Bool) (a b : List Key) → Signed (if test then a else b) → test ≡ true → Signed a
+    if_former true a b h e = h
+    if_former false a b h e = absurd (false≢true e)
+
+    if_latter : (test : Bool) (a b : List Key) → Signed (if test then a else b) → test ≡ false → Signed b
+    if_latter true a b h e = absurd (false≢true (sym e))
+    if_latter false a b h e = h
+
+    signature_enough : (key : Key) → Signed (key ∷ []) → (sig : Bytes) → sig_of assets key ≡ Some sig → (g : Bytes) × (is_good pairs key g ≡ true) × (Light → length g ≤ length sig)
+    signature_enough key h sig e = h key (0, omega arith, refl) sig e
+
+    item_enough : (key : Key) → Signed (key ∷ []) → Enough (item (sig_of assets key)) (signed_row there (pk_k key)).sat
+    item_enough key h w e =
+        let i = item_is (sig_of assets key) w e in
+        let x = signature_enough key h i.0 i.1 in
+        let f : weight w ≡ weight (i.0 ∷ []) = ap weight i.2 in
+        (x.0 ∷ [], (x.0, x.1, refl), λ light. let a = x.2 light in omega (arith, f, a))
+
+    signers_enough : (keys : List Key) (set : List Bool) → Signed (keys_of_set keys set) → (w : Stack) → signatures_of assets keys set ≡ Some w →
+        (v : Stack) × AreSignatures pairs (reverse keys) v × (length v ≡ ones set) × (Light → weight v ≤ weight w)
+    signers_enough [] [] h w e = ([], tt, refl, λ _. omega arith)
+    signers_enough [] (b ∷ set) h w e = absurd (none-some w e)
+    signers_enough (key ∷ keys) [] h w e = absurd (none-some w e)
+    signers_enough (key ∷ keys) (true ∷ set) h w e =
+        let j = both_joined (item (sig_of assets key)) (signatures_of assets keys set) w e in
+        let i = item_is (sig_of assets key) j.below j.left in
+        let x = h key (0, omega arith, refl) i.0 i.1 in
+        let y = signers_enough keys set (right (key ∷ []) (keys_of_set keys set) h) j.above j.right in
+        let f : weight w ≡ weight (j.above ++ i.0 ∷ []) = ap weight (j.whole ∙ ap (λ u. j.above ++ u) i.2) in (
+          y.0 ++ x.0 ∷ [],
+          rw (reverse-cons key keys) (behind pairs (reverse keys) key y.0 x.0 x.1 y.1),
+          omega (arith, y.2, length-append y.0 (x.0 ∷ [])),
+          λ light. let a = x.2 light in let b = y.3 light in omega (arith, f, a, b, weight-append j.above (i.0 ∷ []), weight-append y.0 (x.0 ∷ [])),
         )
-    taken_enough (wrap wrapper.A x) w h = taken_enough x w h
-    taken_enough (wrap wrapper.S x) w h = taken_enough x w h
-    taken_enough (wrap wrapper.C x) w h = taken_enough x w h
-    taken_enough (wrap wrapper.D x) w h = both_enough _ _ _ _ (taken_enough x w h) (is_enough ONE)
-    taken_enough (wrap wrapper.V x) w h = taken_enough x w h
-    taken_enough (wrap wrapper.J x) w h = taken_enough x w h
-    taken_enough (wrap wrapper.N x) w h = taken_enough x w h
+    signers_enough (key ∷ keys) (false ∷ set) h w e =
+        let y = signers_enough keys set h w e in
+        (y.0, rw (reverse-cons key keys) (without_last pairs (reverse keys) key y.0 y.1), y.2, y.3)
 
-    children_enough : (xs : Trees) → AreWritable xs → (set : List Bool) → has_all (free_children assets xs) set ≡ true → Signed (taken_of_children assets xs set) →
-        Enough (stack_of (strict_children assets xs) set) (TightParts there xs (ones set))
-    children_enough none w [] all h v e = one_enough (Some []) (TightParts there none 0) (λ v e. (refl, sym (same_Some [] v e))) v e
-    children_enough none w (b ∷ set) all h v e = absurd (none-some v e)
-    children_enough (more x xs) w [] all h v e = absurd (none-some v e)
-    children_enough (more x xs) w (true ∷ set) all h v e =
-        let rest = children_enough xs w.1 set (wanted_or_not (is_some (free assets x)) _ all) (right (taken assets x) (taken_of_children assets xs set) h) in
-        let y = both_enough _ _ (TightParts there xs (ones set)) (TightSat there x) rest (taken_enough x w.0 (left (taken assets x) (taken_of_children assets xs set) h)) v e in
-        let j = y.1 in
-        (y.0, inl (ones set, refl, (j.0, j.1, j.2, (j.3, λ one. tight_free there x one j.1 j.3), j.4)), y.2)
-    children_enough (more x xs) w (false ∷ set) all h v e =
-        let n = not_wanted (is_some (free assets x)) _ all in
-        let rest = children_enough xs w.1 set n.1 h in
-        let y = both_enough _ _ (TightParts there xs (ones set)) (signed_row there x).dsat rest (dsat_enough x w.0) v e in
-        let j = y.1 in
-        (y.0, inr (j.0, j.1, j.2, (not_free x w.0 n.0, j.3), j.4), y.2)
+    dsat_there : (x : Tree) → IsWritable x → (w : Stack) → dissatisfaction x ≡ Some w → (signed_row there x).dsat w
+    dsat_there x writable w e =
+        dsat_within (canonical assets) (canonical there) false≢true (λ key other h. h) x w ((dsat_best assets x writable).is w e)
+
+    is_enough : (x : Bytes) → Enough (Some (x ∷ [])) (Is x)
+    is_enough x = one_enough _ (Is x) (λ w e. sym (same_Some (x ∷ []) w e))
+
+    dsat_enough : (x : Tree) → IsWritable x → Enough (dissatisfaction x) (signed_row there x).dsat
+    dsat_enough x writable = one_enough (dissatisfaction x) (signed_row there x).dsat (dsat_there x writable)
+
+    mutual
+      pub taken_enough : (t : Tree) → IsWritable t → Signed (taken assets t) → Enough (strict_of assets t) (TightSat there t)
+      taken_enough just_0 w h = one_enough _ _ (sat_best assets are just_0 w).is
+      taken_enough just_1 w h = one_enough _ _ (sat_best assets are just_1 w).is
+      taken_enough (pk_k key) w h = item_enough key h
+      taken_enough (pk_h key) w h = λ v e.
+          let x = both_enough _ _ _ _ (item_enough key h) (is_enough key) v e in
+          (x.0, (key, w.form, refl, refl, x.1), x.2)
+      taken_enough (older n) w h = one_enough _ _ (sat_best assets are (older n) w).is
+      taken_enough (after n) w h = one_enough _ _ (sat_best assets are (after n) w).is
+      taken_enough (hash kind value) w h = one_enough _ _ (sat_best assets are (hash kind value) w).is
+      taken_enough (and_or x y z) w h =
+          first_enough _ _ _ _ _ _ _ _
+          (best_both _ _ _ _ (free_best assets are y w.1) (free_best assets are x w.0))
+          (best_both _ _ _ _ (free_best assets are z w.2) (free_dsat_best assets are x w.0))
+          (below_free _ _ _ _ (tight_free there y) (tight_free there x))
+          (below_free _ _ _ _ (tight_free there z) (always _ _ (free_dsat there x)))
+          (λ e. let s = if_former _ (taken assets x ++ taken assets y) (taken assets z) h e in
+          both_enough _ _ _ _ (taken_enough y w.1 (right (taken assets x) (taken assets y) s)) (taken_enough x w.0 (left (taken assets x) (taken assets y) s)))
+          (λ e. both_enough _ _ _ _ (taken_enough z w.2 (if_latter _ (taken assets x ++ taken assets y) (taken assets z) h e)) (dsat_enough x w.0))
+      taken_enough (two kind.AndV x y) w h =
+          both_enough _ _ _ _ (taken_enough y w.1 (right (taken assets x) (taken assets y) h)) (taken_enough x w.0 (left (taken assets x) (taken assets y) h))
+      taken_enough (two kind.AndB x y) w h =
+          both_enough _ _ _ _ (taken_enough y w.1 (right (taken assets x) (taken assets y) h)) (taken_enough x w.0 (left (taken assets x) (taken assets y) h))
+      taken_enough (two kind.OrB x z) w h =
+          first_enough _ _ _ _ _ _ _ _
+          (best_both _ _ _ _ (free_dsat_best assets are z w.1) (free_best assets are x w.0))
+          (best_both _ _ _ _ (free_best assets are z w.1) (free_dsat_best assets are x w.0))
+          (below_free _ _ _ _ (always _ _ (free_dsat there z)) (tight_free there x))
+          (below_free _ _ _ _ (tight_free there z) (always _ _ (free_dsat there x)))
+          (λ e. both_enough _ _ _ _ (dsat_enough z w.1) (taken_enough x w.0 (if_former _ (taken assets x) (taken assets z) h e)))
+          (λ e. both_enough _ _ _ _ (taken_enough z w.1 (if_latter _ (taken assets x) (taken assets z) h e)) (dsat_enough x w.0))
+      taken_enough (two kind.OrC x z) w h =
+          first_enough _ _ _ _ _ _ _ _
+          (free_best assets are x w.0)
+          (best_both _ _ _ _ (free_best assets are z w.1) (free_dsat_best assets are x w.0))
+          (tight_free there x)
+          (below_free _ _ _ _ (tight_free there z) (always _ _ (free_dsat there x)))
+          (λ e. taken_enough x w.0 (if_former _ (taken assets x) (taken assets z) h e))
+          (λ e. both_enough _ _ _ _ (taken_enough z w.1 (if_latter _ (taken assets x) (taken assets z) h e)) (dsat_enough x w.0))
+      taken_enough (two kind.OrD x z) w h =
+          first_enough _ _ _ _ _ _ _ _
+          (free_best assets are x w.0)
+          (best_both _ _ _ _ (free_best assets are z w.1) (free_dsat_best assets are x w.0))
+          (tight_free there x)
+          (below_free _ _ _ _ (tight_free there z) (always _ _ (free_dsat there x)))
+          (λ e. taken_enough x w.0 (if_former _ (taken assets x) (taken assets z) h e))
+          (λ e. both_enough _ _ _ _ (taken_enough z w.1 (if_latter _ (taken assets x) (taken assets z) h e)) (dsat_enough x w.0))
+      taken_enough (two kind.OrI x z) w h =
+          first_enough _ _ _ _ _ _ _ _
+          (best_both _ _ _ _ (free_best assets are x w.0) (is_best ONE))
+          (best_both _ _ _ _ (free_best assets are z w.1) (is_best EMPTY))
+          (below_free _ _ _ _ (tight_free there x) (always _ _ (same _)))
+          (below_free _ _ _ _ (tight_free there z) (always _ _ (same _)))
+          (λ e. both_enough _ _ _ _ (taken_enough x w.0 (if_former _ (taken assets x) (taken assets z) h e)) (is_enough ONE))
+          (λ e. both_enough _ _ _ _ (taken_enough z w.1 (if_latter _ (taken assets x) (taken assets z) h e)) (is_enough EMPTY))
+      taken_enough (thresh k xs) w h = λ v e.
+          let t = set_is_taken (λ set. IsSet (count xs) k set × (has_all (free_children assets xs) set ≡ true)) (stack_of (strict_children assets xs)) _
+          (each-filter (IsSet (count xs) k) (has_all (free_children assets xs)) (sets (count xs) k) (sets_are (count xs) k)) v e in
+          let x = children_enough xs w.2 (children_taken assets k xs) t.0.1 h v t.1 in
+          (x.0, subst (λ n. TightParts there xs n x.0) t.0.0.1 x.1, x.2)
+      taken_enough (multi k keys) w h = λ v e.
+          let j = both_joined _ _ v e in
+          let t = set_is_taken (IsSet (length keys) k) (signatures_of assets keys) (sets (length keys) k) (sets_are (length keys) k) j.above j.right in
+          let y = signers_enough keys (signers_taken assets k keys) h j.above t.1 in
+          let one = same_Some (EMPTY ∷ []) j.below j.left in
+          let f : weight v ≡ weight (j.above ++ EMPTY ∷ []) = ap weight (j.whole ∙ ap (λ u. j.above ++ u) (sym one)) in (
+            y.0 ++ EMPTY ∷ [],
+            (EMPTY ∷ [], y.0, refl, (y.2 ∙ t.0.1, y.1), refl),
+            λ light. let a = y.3 light in omega (arith, f, a, weight-append j.above (EMPTY ∷ []), weight-append y.0 (EMPTY ∷ [])),
+          )
+      taken_enough (wrap wrapper.A x) w h = taken_enough x w h
+      taken_enough (wrap wrapper.S x) w h = taken_enough x w h
+      taken_enough (wrap wrapper.C x) w h = taken_enough x w h
+      taken_enough (wrap wrapper.D x) w h = both_enough _ _ _ _ (taken_enough x w h) (is_enough ONE)
+      taken_enough (wrap wrapper.V x) w h = taken_enough x w h
+      taken_enough (wrap wrapper.J x) w h = taken_enough x w h
+      taken_enough (wrap wrapper.N x) w h = taken_enough x w h
+
+      children_enough : (xs : Trees) → AreWritable xs → (set : List Bool) → has_all (free_children assets xs) set ≡ true → Signed (taken_of_children assets xs set) →
+          Enough (stack_of (strict_children assets xs) set) (TightParts there xs (ones set))
+      children_enough none w [] all h v e = one_enough (Some []) (TightParts there none 0) (λ v e. (refl, sym (same_Some [] v e))) v e
+      children_enough none w (b ∷ set) all h v e = absurd (none-some v e)
+      children_enough (more x xs) w [] all h v e = absurd (none-some v e)
+      children_enough (more x xs) w (true ∷ set) all h v e =
+          let rest = children_enough xs w.1 set (wanted_or_not (is_some (free assets x)) _ all) (right (taken assets x) (taken_of_children assets xs set) h) in
+          let y = both_enough _ _ (TightParts there xs (ones set)) (TightSat there x) rest (taken_enough x w.0 (left (taken assets x) (taken_of_children assets xs set) h)) v e in
+          let j = y.1 in
+          (y.0, inl (ones set, refl, (j.0, j.1, j.2, (j.3, λ one. tight_free there x one j.1 j.3), j.4)), y.2)
+      children_enough (more x xs) w (false ∷ set) all h v e =
+          let n = not_wanted (is_some (free assets x)) _ all in
+          let rest = children_enough xs w.1 set n.1 h in
+          let y = both_enough _ _ (TightParts there xs (ones set)) (signed_row there x).dsat rest (dsat_enough x w.0) v e in
+          let j = y.1 in
+          (y.0, inr (j.0, j.1, j.2, (not_free assets are x w.0 n.0, j.3), j.4), y.2)

@@ -27,8 +27,8 @@ use Rattle.ms_strict_laws.proofs.StrictChoiceExists.{lightest_of_tight, tight_of
 use Rattle.ms_strict_laws.proofs.UnchangeableIsTight.{tight_if_non_malleable}
 use Rattle.def_plan.specs.Lengths.{Lengths, AreLengths, length_of, IsLike, IsEstimate, estimated}
 use Rattle.def_plan.specs.Taken.{taken}
-use Rattle.def_plan.specs.Plan.{Plan, plan_with, plan_of, NoneIsExact, Suffices, IsLeast, AsksListed, AsksNoneInVain, AsksInOrder, IsPartOf}
-use Rattle.def_plan.specs.Laws.{IsInput, NoneHolds, LengthsDecideAll, SufficesAlways, LeastAlways, ListedAlways, NoneInVainEver, InOrderAlways}
+use Rattle.def_plan.specs.Plan.{Plan, plan_with, plan_of, NoneIsExact, Suffices, WeighsAtMost, IsLeast, AsksListed, AsksNoneInVain, AsksInOrder, IsPartOf}
+use Rattle.def_plan.specs.Laws.{IsInput, NoneHolds, LengthsDecideAll, SufficesAlways, WeighsAtMostAlways, LeastAlways, ListedAlways, NoneInVainEver, InOrderAlways}
 use Rattle.ms_plan_laws.proofs.Moved.{with_pairs, tight_moved}
 use Rattle.ms_plan_laws.proofs.Enough.{taken_enough}
 use Rattle.ms_plan_laws.proofs.Vain.{vain}
@@ -166,21 +166,40 @@ module _ (tree : Tree) (assets : Assets) (table : Lengths) (input : IsInput tree
     is : IsPlan tree F plan
     is = plan_is tree F plan found
 
-    pub suffices : Suffices tree assets table plan
-    suffices other are fits sign =
-        let x = taken_enough F other.pairs are_assets tree input.writable signed is.stack is.strict in
-        let e = like_with F other (like_both assets F other is_estimate.like fits.like) in
-        let t : TightSat other tree (reverse (reverse x.0)) = subst (λ a. TightSat a tree (reverse (reverse x.0))) (sym e) (subst (TightSat (with_pairs F other.pairs) tree) (sym (reverse-reverse x.0)) x.1) in
-        let s = lightest_of_tight tree other (reverse x.0) input.writable sane are t in
-        (s.0, s.1, let a = x.2 in let b = s.2 in let c = is.weight in omega (arith, a, b, c, weight-reverse x.0))
+    -- a tight stack where the plan's keys sign
+    tight_there : (other : Assets) → AreAssets other → IsLike assets other → (Light : Type 0) →
+        ((key : Key) → Contains plan.keys key → (sig : Bytes) → sig_of F key ≡ Some sig → (g : Bytes) × (sig_of other key ≡ Some g) × (Light → length g ≤ length sig)) →
+        (v : List Bytes) × Tight tree other v × (Light → weight v ≤ plan.weight)
+    tight_there other are like Light signed =
+        let x = taken_enough Light F other.pairs are_assets tree input.writable
+        (λ key i sig h.
+        let g = signed key (subst (λ ks. Contains ks key) (sym is.keys) i) sig h in
+        (g.0, held_is_good other are key g.0 g.1, g.2)) is.stack is.strict in (
+          reverse x.0,
+          subst (λ a. TightSat a tree (reverse (reverse x.0))) (sym (like_with F other (like_both assets F other is_estimate.like like)))
+              (subst (TightSat (with_pairs F other.pairs) tree) (sym (reverse-reverse x.0)) x.1),
+          λ light. let a = x.2 light in let c = is.weight in omega (arith, a, c, weight-reverse x.0),
+        )
+
+    pub suffices : Suffices tree assets plan
+    suffices other are like sign =
+        let t = tight_there other are like ⊥
+        (λ key i sig h. let g = some_or_none (sig_of other key) (sign key i) in (g.0, g.1, λ never. absurd never)) in
+        let s = lightest_of_tight tree other t.0 input.writable sane are t.1 in
+        some_is _ s.0 s.1
+
+    pub weighs_at_most : WeighsAtMost tree assets table plan
+    weighs_at_most other are like sign =
+        let t = tight_there other are like ⊤ short in
+        let s = lightest_of_tight tree other t.0 input.writable sane are t.1 in
+        (s.0, s.1, let a = t.2 tt in let b = s.2 in omega (arith, a, b))
       where
-        signed : (key : Key) → Contains (taken F tree) key → (sig : Bytes) → sig_of F key ≡ Some sig → (g : Bytes) × (is_good other.pairs key g ≡ true) × (length g ≤ length sig)
-        signed key i sig h =
-            let g = some_or_none (sig_of other key) ((sign key).1 (subst (λ ks. Contains ks key) (sym is.keys) i)) in
-            let n = fits.pairs key g.0 (held_of other key g.0 g.1) in
-            let l = same_Some n.0 (length sig) (sym n.1 ∙ of_length key sig h) in
-            let m = n.2 in
-            (g.0, held_is_good other are key g.0 g.1, omega (arith, l, m))
+        short : (key : Key) → Contains plan.keys key → (sig : Bytes) → sig_of F key ≡ Some sig → (g : Bytes) × (sig_of other key ≡ Some g) × (⊤ → length g ≤ length sig)
+        short key i sig h =
+            let n = sign key i in
+            let l = same_Some n.0 (length sig) (sym n.2 ∙ of_length key sig h) in
+            let m = n.4 in
+            (n.1, n.3, λ light. omega (arith, l, m))
 
     pub is_least : IsLeast tree assets table plan
     is_least other stack are fits sat unchanged =
@@ -237,6 +256,9 @@ none_holds = none_is_exact
 
 pub suffices_always : SufficesAlways
 suffices_always tree assets table plan input found = suffices tree assets table input plan found
+
+pub weighs_at_most_always : WeighsAtMostAlways
+weighs_at_most_always tree assets table plan input found = weighs_at_most tree assets table input plan found
 
 pub least_always : LeastAlways
 least_always tree assets table plan input found = is_least tree assets table input plan found

@@ -284,7 +284,7 @@ module _ (assets : Assets) (are : AreAssets assets) (pairs : Pairs) where
   not_chosen : (x : Tree) (xs : Trees) (set : List Bool) → Fits x → Disjoint (keys x) (keys_of_all xs) → is_some (free assets x) ≡ false →
       OnlySign (taken_of_children assets xs set) (keys x ++ keys_of_all xs) → IsEmpty (Sats x)
   not_chosen x xs set f apart e only v h =
-      not_free assets pairs are x f.writable e
+      not_free assets are x f.writable e
       (freed x f (none_of _ _ (keys x) (Contains-append_left (keys x) (keys_of_all xs)) (λ key i j. apart key i (children_in assets xs set key j)) only) v h)
 
   few_parts : (xs : Trees) → AllFit xs → (set : List Bool) → (w : Stack) → stack_of (strict_children assets xs) set ≡ Some w → has_all (free_children assets xs) set ≡ true →

@@ -12,6 +12,7 @@ use std::test::Fail;
 
 const LOCKS: Locks = Locks {
     sequence: 16,
+    locktime: 9,
     ..samples::LOCKS
 };
 
@@ -71,6 +72,7 @@ fn shown(alloc: Global, trail: &[Step]) -> Result<String, AllocError> {
 }
 
 // A text, the items of a witness of it, bottom first, and their steps, where A, B and C sign.
+#[derive(Drop)]
 struct Row {
     form: &'static str,
     items: &'static str,
@@ -138,7 +140,7 @@ const OTHER_ROWS: [Row; 8] = [
     },
 ];
 
-const CANONICAL_ROWS: [Row; 13] = [
+const CANONICAL_ROWS: [Row; 18] = [
     Row {
         form: HASH_OR_KEY,
         items: "a0",
@@ -204,6 +206,40 @@ const CANONICAL_ROWS: [Row; 13] = [
         items: "c-a",
         steps: " 0+ 1+ 2- 3- 4- 5+ 6+ 7+ 8+",
     },
+    // `pk_h`, with a signature and without, `n`, and `after`.
+    Row {
+        form: "pkh(B)",
+        items: "bB",
+        steps: " 0+ 1+",
+    },
+    Row {
+        form: "or_d(pkh(B),pk(A))",
+        items: "a-B",
+        steps: " 0- 1- 2+ 3+ 4+",
+    },
+    Row {
+        form: "or_d(n:pk(A),pk(B))",
+        items: "a",
+        steps: " 0+ 1+ 2+ 5+",
+    },
+    Row {
+        form: "or_d(n:pk(A),pk(B))",
+        items: "b-",
+        steps: " 0- 1- 2- 3+ 4+ 5+",
+    },
+    Row {
+        form: "and_v(v:pk(A),after(9))",
+        items: "a",
+        steps: " 0+ 1+ 2+ 3+ 4+",
+    },
+];
+
+// Each hash of 32 bytes 11, or a key; the latter three by Python's hashlib over OpenSSL.
+const HASHES: [&str; 4] = [
+    "or_b(sha256(X),s:pk(A))",
+    "or_b(hash256(59420d36b80353ed5a5822ca464cc9bffb8abe9cd63959651d3cd85a8252d83f),s:pk(A))",
+    "or_b(ripemd160(e5a0500d3009d803632658b21646518eb42b8433),s:pk(A))",
+    "or_b(hash160(4d5209774e22ea63e2987579562d9a4ea3dab623),s:pk(A))",
 ];
 
 #[test]
@@ -218,6 +254,24 @@ fn each_row_that_is_not_canonical(rt: HostRuntime) -> Result<(), Fail> {
 fn canonical_rows(rt: HostRuntime) -> Result<(), Fail> {
     for (i, row) in CANONICAL_ROWS.iter().enumerate() {
         assert!(rt; has_steps(rt.alloc(), row)?, "row {i}");
+    }
+    Ok(())
+}
+
+// By a preimage alone, by 32 zero bytes and a key, by other bytes and a key, and by both.
+#[test]
+fn each_hash_has_its_rows(rt: HostRuntime) -> Result<(), Fail> {
+    let rows = [
+        ("-x", " 0+ 1- 2- 3- 4+"),
+        ("a0", " 0- 1+ 2+ 3+ 4+"),
+        ("ay", " 0-x 1+ 2+ 3+ 4+"),
+        ("ax", " 0+ 1+ 2+ 3+ 4+x"),
+    ];
+    for form in HASHES {
+        for (items, steps) in rows {
+            let row = Row { form, items, steps };
+            assert!(rt; has_steps(rt.alloc(), &row)?, "{form} {items}");
+        }
     }
     Ok(())
 }

@@ -9,6 +9,9 @@ use Rattle.def_machine.specs.Run.{Outcome, accepted, refused, run}
 use Rattle.def_tree.specs.Tree.{Tree}
 use Rattle.def_emit.specs.Emit.{script_of}
 use Rattle.def_text.proofs.SpelledWritable.{spelled_writable}
+use Rattle.def_sane.specs.declared.Rules.TheVariants.{Policy}
+use Rattle.def_sane.specs.Unfit.{IsValid}
+use Rattle.def_sane.proofs.Meanings.{valid_under_consensus}
 use Rattle.def_files.specs.RunFile.{RunFile, run_of}
 use Rattle.def_audit.specs.declared.Step.{Step}
 use Rattle.def_answer.specs.Answer.{AreSteps, Replies, RepliesToWords, Answer}
@@ -25,6 +28,7 @@ use Rattle.def_answer.proofs.AuditSteps.{walked_are_steps}
 use Rattle.def_answer.proofs.Early.{not_accepted_is_of_audit}
 use Rattle.def_answer.proofs.Sources.{passed_audit}
 use Rattle.def_answer.proofs.Unique.{one_form}
+use Rattle.ms_audit_laws.proofs.WalkTrees.{trail_is_unique}
 use Rattle.ms_words.specs.Commands.{HaveUtf8}
 use Rattle.msat_cli.specs.Ends.{Call, HasAnswer, Ends, EndsAs}
 use Rattle.msat_cli.specs.Audits.{AsksAudit, RunsTo, PrintsSteps, PrintsWrongScript, PrintsFault, ShowsAudit}
@@ -108,10 +112,10 @@ Shown call tree offsets file =
     × (call.status ≡ status.NotAccepted → PrintsWrongScript call.sink tree file ⊎ PrintsFault call.sink tree file)
 
 shown_run : (call : Call) (tree : Tree) (offsets : List ℕ) (file : RunFile) (report : Bytes) (source : Bytes) (steps : List Step) (o : Outcome)
-    → run_of source ≡ Ok file → AreSteps tree source steps → RunsTo tree file o → reply call.status report ≡ audited_reply offsets steps o
+    → IsValid tree → run_of source ≡ Ok file → AreSteps tree source steps → RunsTo tree file o → reply call.status report ≡ audited_reply offsets steps o
     → Appends call.sink.old call.sink.new report → Shown call tree offsets file
 unfolding audit_report
-shown_run call tree offsets file report source steps (accepted ops peak checks) given are runs e w = (
+shown_run call tree offsets file report source steps (accepted ops peak checks) valid given are runs e w = (
   λ done. record {
     ops = ops;
     peak = peak;
@@ -119,11 +123,14 @@ shown_run call tree offsets file report source steps (accepted ops peak checks) 
     runs = runs;
     steps = steps;
     derives = are file ops peak checks given runs.run;
+    unique = λ others derives.
+        trail_is_unique tree (given_by file) others steps file.stack (valid_under_consensus Policy tree valid) derives
+        (are file ops peak checks given runs.run);
     written = same_report call report (audit_report offsets steps ops peak) status.Done e w;
   },
   λ not. let done : call.status ≡ status.Done = same_status _ _ e in absurd (cc (sym not ∙ done)),
 )
-shown_run call tree offsets file report source steps (refused fault place) given are runs e w = (
+shown_run call tree offsets file report source steps (refused fault place) valid given are runs e w = (
   λ done. let not : call.status ≡ status.NotAccepted = same_status _ _ e in absurd (cc (sym done ∙ not)),
   λ not. inr (record {
     fault = fault;
@@ -133,16 +140,16 @@ shown_run call tree offsets file report source steps (refused fault place) given
   }),
 )
 
-shown_reply : (call : Call) (tree : Tree) (offsets : List ℕ) (file : RunFile) (report source : Bytes) → run_of source ≡ Ok file
+shown_reply : (call : Call) (tree : Tree) (offsets : List ℕ) (file : RunFile) (report source : Bytes) → IsValid tree → run_of source ≡ Ok file
     → WrittenReply call tree offsets file source report → Appends call.sink.old call.sink.new report → Shown call tree offsets file
-shown_reply call tree offsets file report source given (steps, are, e) w = go (bytes_eq file.script (script_of tree)) refl
+shown_reply call tree offsets file report source valid given (steps, are, e) w = go (bytes_eq file.script (script_of tree)) refl
   where
     go : (b : Bool) → bytes_eq file.script (script_of tree) ≡ b → Shown call tree offsets file
     go true is =
         let same = (bytes_eq-Decides file.script (script_of tree)).0 is in
         let o = run (given_by file) (script_of tree) file.stack in
         let runs : RunsTo tree file o = record { script = same; run = refl } in
-        shown_run call tree offsets file report source steps o given are runs (e ∙ run_reply tree offsets steps file o runs) w
+        shown_run call tree offsets file report source steps o valid given are runs (e ∙ run_reply tree offsets steps file o runs) w
     go false is =
         let other : file.script ≢ script_of tree = λ same. cc (sym is ∙ (bytes_eq-Decides file.script (script_of tree)).1 same) in
         let wrong = e ∙ other_reply tree offsets steps file other in (
@@ -153,7 +160,7 @@ shown_reply call tree offsets file report source given (steps, are, e) w = go (b
 shown : (call : Call) (tree : Tree) (offsets : List ℕ) (file : RunFile) → HaveUtf8 call.words → Ends call → AsksAudit call tree offsets file
     → Shown call tree offsets file
 shown call tree offsets file utf8 (inl (report, a, w)) asked =
-    shown_reply call tree offsets file report asked.bytes asked.given (written_reply call tree offsets file report utf8 a asked) w
+    shown_reply call tree offsets file report asked.bytes asked.valid asked.given (written_reply call tree offsets file report utf8 a asked) w
 shown call tree offsets file utf8 (inr (inl w)) asked = (λ done. absurd (cc (sym w.0 ∙ done)), λ not. absurd (cc (sym w.0 ∙ not)))
 shown call tree offsets file utf8 (inr (inr (inl r))) asked = (λ done. absurd (cc (sym r.0 ∙ done)), λ not. absurd (cc (sym r.0 ∙ not)))
 shown call tree offsets file utf8 (inr (inr (inr m))) asked = (λ done. absurd (cc (sym m.0 ∙ done)), λ not. absurd (cc (sym m.0 ∙ not)))

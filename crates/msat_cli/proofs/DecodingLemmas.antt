@@ -2,7 +2,7 @@
 use Rattle.std.proofs.Common.{◌≡◌, List, [], map, inl, inr, refl, sym, ap, subst, ◌∙◌}
 use Rattle.std.specs.Io.KnownBytes.{Appends}
 use Rattle.def_script.specs.Bytes.{Bytes}
-use Rattle.ms_decode_laws.proofs.Decoding.{each_is_decoded}
+use Rattle.ms_decode_laws.proofs.Decoding.{each_is_decoded, decoded_is_alike}
 use Rattle.def_answer.specs.declared.status.Status.TheVariants as status
 use Rattle.def_answer.specs.Answer.{bytes_of, decode_reply, no_reading_reply, RepliesToScript, Replies, RepliesToWords, Answer}
 use Rattle.def_answer.specs.Lines.{no_reading_line}
@@ -43,16 +43,17 @@ written_reply call digits words report form h =
 
 -- ---- what is shown
 
-prints_tree : (call : Call) (digits : Bytes) (words : List Bytes) (report : Bytes) → call.status ≡ status.Done
+prints_tree : (call : Call) (digits : Bytes) (words : List Bytes) (report : Bytes) → IsForm call.words (decode digits words) → call.status ≡ status.Done
     → Appends call.sink.old call.sink.new report → RepliesToScript (map bytes_of words) (bytes_of digits) (reply call.status report)
     → PrintsTree call.sink (map bytes_of words) (bytes_of digits)
 unfolding decode_report
-prints_tree call digits words report is w (inl h) = record {
+prints_tree call digits words report form is w (inl h) = record {
   tree = h.0;
   decoded = h.1;
+  alike = decoded_is_alike (map bytes_of words) (bytes_of digits) h.0 (are_keys words form.in_range.1) h.1;
   written = subst (Appends call.sink.old call.sink.new) (ap (λ (r : Reply). r.report) h.2) w;
 }
-prints_tree call digits words report is w (inr h) =
+prints_tree call digits words report form is w (inr h) =
     let other : call.status ≡ status.NoReading = ap (λ (r : Reply). r.status) h.1 in absurd (cc (sym is ∙ other))
 
 prints_none : (call : Call) (digits : Bytes) (words : List Bytes) (report : Bytes) → call.status ≡ status.NoReading
@@ -67,7 +68,7 @@ prints_none call digits words report is w (inr h) = record {
 
 some_shown : (call : Call) (digits : Bytes) (words : List Bytes) → IsForm call.words (decode digits words) → Ends call → call.status ≡ status.Done
     → PrintsTree call.sink (map bytes_of words) (bytes_of digits)
-some_shown call digits words form (inl (report, h, w)) is = prints_tree call digits words report is w (written_reply call digits words report form h)
+some_shown call digits words form (inl (report, h, w)) is = prints_tree call digits words report form is w (written_reply call digits words report form h)
 some_shown call digits words form (inr (inl w)) is = absurd (cc (sym w.0 ∙ is))
 some_shown call digits words form (inr (inr (inl r))) is = absurd (cc (sym r.0 ∙ is))
 some_shown call digits words form (inr (inr (inr m))) is = absurd (cc (sym m.0 ∙ is))

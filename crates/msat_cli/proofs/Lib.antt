@@ -1,6 +1,7 @@
 mod FileLemmas
 mod StepLemmas
 mod EndLemmas
+mod MoreSignatures
 mod SatisfactionLemmas
 mod RefusalLemmas
 mod PlanLemmas

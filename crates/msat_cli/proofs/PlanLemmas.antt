@@ -11,7 +11,7 @@ use Rattle.def_plan.specs.Plan.{Plan, plan_of}
 use Rattle.def_plan.specs.PlanFile.{PlanFile, plan_file_of}
 use Rattle.def_plan.specs.Laws.{IsInput}
 use Rattle.def_plan.proofs.FileGiven.{plan_file_gives_plan}
-use Rattle.ms_plan_laws.proofs.Plans.{none_holds, lengths_decide, suffices_always, least_always, listed_always, none_in_vain_ever, in_order_always}
+use Rattle.ms_plan_laws.proofs.Plans.{none_holds, lengths_decide, suffices_always, weighs_at_most_always, least_always, listed_always, none_in_vain_ever, in_order_always}
 use Rattle.def_answer.specs.Answer.{Replies, RepliesToWords, Answer}
 use Rattle.def_answer.specs.Lines.{plan_file_line}
 use Rattle.def_answer.specs.Reading.{read}
@@ -100,7 +100,9 @@ prints : (call : Call) (tree : Tree) (file : PlanFile) (found : Plan) (report : 
 unfolding plan_report
 prints call tree file found report given is same written = record {
   found = found;
+  planned = is;
   suffices = suffices_always tree file.assets file.table found given is;
+  weight = weighs_at_most_always tree file.assets file.table found given is;
   least = least_always tree file.assets file.table found given is;
   listed = listed_always tree file.assets file.table found given is;
   none_in_vain = none_in_vain_ever tree file.assets file.table found given is;

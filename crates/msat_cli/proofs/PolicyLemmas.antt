@@ -6,6 +6,9 @@ use Rattle.def_tree.specs.Tree.{Tree}
 use Rattle.def_tree.specs.Range.{IsWritable}
 use Rattle.def_text.proofs.SpelledInRange.{spelled_in_range}
 use Rattle.def_sane.specs.Unfit.{IsSane}
+use Rattle.def_policy.specs.Plain.{plain}
+use Rattle.def_policy.proofs.Forms.{simple_is_simple}
+use Rattle.ms_policy_laws.proofs.NeedsKey.{sane_wants_key}
 use Rattle.ms_policy_laws.proofs.Satisfied.{policy_of_sane}
 use Rattle.def_answer.specs.Answer.{policy_reply, Answer}
 use Rattle.def_answer.specs.LeastKeys.{least_keys}
@@ -46,6 +49,8 @@ prints call tree report writes sane is written = record {
   least = least_keys (policy_of tree);
   is_least = least_keys_are_least (policy_of tree);
   satisfiable = policy_of_sane tree writes sane;
+  form = simple_is_simple (plain tree);
+  signed = sane_wants_key tree writes sane;
   written = subst (Appends call.sink.old call.sink.new) is written;
 }
 

@@ -5,14 +5,16 @@ use Rattle.std.specs.List.{flat_map}
 use Rattle.std.specs.Io.KnownBytes.{Appends}
 use Rattle.std.proofs.lemmas.Bool.{le-ltb}
 use Rattle.def_script.specs.Bytes.{Bytes}
-use Rattle.def_machine.specs.Run.{Outcome, accepted}
+use Rattle.def_machine.specs.Stacks.{Pairs}
+use Rattle.def_machine.specs.Run.{Outcome, accepted, run}
 use Rattle.def_tree.specs.Tree.{Tree}
-use Rattle.def_tree.specs.Range.{IsWritable}
+use Rattle.def_tree.specs.Range.{IsInRange, IsWritable}
 use Rattle.def_emit.specs.Emit.{script_of}
 use Rattle.def_text.specs.Refusal.{TextReads}
 use Rattle.def_text.proofs.SpelledInRange.{spelled_in_range}
 use Rattle.def_assets.specs.Assets.{Assets, AreAssets}
 use Rattle.def_files.specs.AssetFile.{assets_of}
+use Rattle.def_files.specs.Laws.{AreFewAssets}
 use Rattle.def_files.proofs.Given.{asset_file_gives_assets}
 use Rattle.def_sane.specs.declared.Unfit.{Unfit}
 use Rattle.def_sane.specs.Most.{limits_of}
@@ -20,17 +22,22 @@ use Rattle.def_sane.specs.declared.Rules.{Rules}
 use Rattle.def_sane.specs.declared.Rules.TheVariants.{Consensus}
 use Rattle.def_sane.specs.Unfit.{first_unfit_under, first_unfit_valid_under, IsValidUnder, IsSaneUnder}
 use Rattle.def_sane.proofs.Greatest.{limits_are_computed}
-use Rattle.def_sane.proofs.Meanings.{sane_means_under, valid_under_consensus, sane_under_consensus}
+use Rattle.def_sane.proofs.Meanings.{valid_means_under, sane_means_under, valid_under_consensus, sane_under_consensus}
+use Rattle.def_height.specs.Highest.{height_of}
+use Rattle.def_height.proofs.Found.{height_is_computed}
 use Rattle.def_script.specs.Witness.{weight}
-use Rattle.def_satisfaction.specs.Satisfaction.{Sat}
+use Rattle.def_satisfaction.specs.Satisfaction.{given_of, Sat, Holds}
+use Rattle.def_choice.specs.NonMalleable.{given_with}
+use Rattle.def_choice.specs.Tight.{Tight}
 use Rattle.def_choice.specs.Cheapest.{cheapest}
 use Rattle.def_choice.specs.Strict.{strict}
-use Rattle.def_choice.proofs.Chosen.{cheapest_is_lightest, strict_is_canonical}
+use Rattle.def_choice.proofs.Chosen.{cheapest_is_lightest, strict_is_canonical, strict_is_tight}
+use Rattle.def_promises.specs.Acceptance.{IsAcceptedWithin}
 use Rattle.def_promises.specs.Promises.{Unchangeable}
 use Rattle.def_promises.proofs.FreshItems.{fresh_has_item}
-use Rattle.ms_acceptance_laws.proofs.Accepted.{canonical_is_accepted}
 use Rattle.ms_strict_laws.proofs.StrictChoiceExists.{strict_exists}
-use Rattle.ms_strict_laws.proofs.TightIsUnchangeable.{strict_is_unchangeable, nothing_to_accept}
+use Rattle.ms_strict_laws.proofs.TightIsUnchangeable.{strict_is_unchangeable, nothing_to_accept, tight_is_non_malleable}
+use Rattle.ms_strict_laws.proofs.UnchangeableIsTight.{strict_is_lightest}
 use Rattle.def_answer.specs.Answer.{RepliesToText, Replies, RepliesToWords, Answer}
 use Rattle.def_answer.specs.Lines.{script_line, program_line, file_line}
 use Rattle.def_answer.specs.Reading.{read}
@@ -40,22 +47,33 @@ use Rattle.def_answer.specs.declared.status.Status.{Status}
 use Rattle.def_answer.specs.declared.status.Status.TheVariants as status
 use Rattle.def_answer.proofs.Sources.{passed_text}
 use Rattle.def_answer.proofs.Unique.{one_form}
+use Rattle.ms_replay.proofs.Accepted.{Satisfies, is_within, fits_witness}
+use Rattle.ms_witness.specs.Replaying.{ran}
+use Rattle.ms_witness.proofs.Witnesses.{witness_is_replayed}
 use Rattle.ms_words.specs.declared.words.Choice.{Choice}
 use Rattle.ms_words.specs.declared.words.Choice.TheVariants as choice
 use Rattle.ms_words.specs.Commands.{HaveUtf8, satisfy_by}
 use Rattle.ms_replies.specs.Choices.{rules_by, reason_by, chosen_by}
+use Rattle.msat_cli.specs.Sides.{Side}
 use Rattle.msat_cli.specs.Ends.{Call, HasAnswer, Ends, EndsAs}
-use Rattle.msat_cli.specs.Satisfactions.{IsAsked, ShowsStack, ShowsSuch, IsAcceptedByAll, WeighsLeast, FindsWhereOneExists, ShowsCanonical, Prints, ShowsWitness, ShowsAccepted, ShowsNonMalleable, FindsNothingToAccept, ShowsLightest}
+use Rattle.msat_cli.specs.Satisfactions.{IsAsked, ShowsStack, ShowsSuch, ReplaysAs, IsAcceptedByAll, WeighsLeast, WeighsLeastUnchanged, FindsWhereOneExists, ShowsCanonical, Prints, ShowsWitness, ShowsAccepted, ShowsNonMalleable, FindsNothingToAccept, ShowsLightest, ShowsTight, TellsUnchanged, ShowsLightestUnchanged}
 use Rattle.msat_cli.proofs.EndLemmas.{told_answer, ends_as_answered}
+use Rattle.msat_cli.proofs.MoreSignatures.{run_stays}
 
 -- ---- what is asked
 
+in_range : (choice : Choice) (call : Call) (tree : Tree) (assets : Assets) → HaveUtf8 call.words → IsAsked choice call tree assets → IsInRange tree
+in_range (choice.Strict rules) call tree assets utf8 asked = spelled_in_range asked.text tree asked.offsets (utf8 _ asked.form) asked.reads
+in_range (choice.Cheapest rules) call tree assets utf8 asked = spelled_in_range asked.text tree asked.offsets (utf8 _ asked.form) asked.reads
+
 writable : (choice : Choice) (call : Call) (tree : Tree) (assets : Assets) → HaveUtf8 call.words → IsAsked choice call tree assets → IsWritable tree
-writable (choice.Strict rules) call tree assets utf8 asked = (spelled_in_range asked.text tree asked.offsets (utf8 _ asked.form) asked.reads).writable
-writable (choice.Cheapest rules) call tree assets utf8 asked = (spelled_in_range asked.text tree asked.offsets (utf8 _ asked.form) asked.reads).writable
+writable choice call tree assets utf8 asked = (in_range choice call tree assets utf8 asked).writable
+
+are_few : {choice : Choice} {call : Call} {tree : Tree} {assets : Assets} → IsAsked choice call tree assets → AreFewAssets assets
+are_few asked = asset_file_gives_assets _ _ asked.file
 
 are_held : {choice : Choice} {call : Call} {tree : Tree} {assets : Assets} → IsAsked choice call tree assets → AreAssets assets
-are_held asked = (asset_file_gives_assets _ _ asked.file).held
+are_held asked = (are_few asked).held
 
 -- what is sane or valid by any rules is so by consensus
 pub is_sane : (rules : Rules) (tree : Tree) → reason_by (choice.Strict rules) tree ≡ None → IsSaneUnder Consensus tree
@@ -227,18 +245,14 @@ finds_where_one_exists call utf8 e choice tree assets asked =
           none_where_none choice tree assets stack writes asked.fit held (nothing_chosen choice call tree assets utf8 e asked is);
     }
 
-is_accepted : (choice : Choice) (call : Call) (tree : Tree) (assets : Assets) (stack : List Bytes) → HaveUtf8 call.words → IsAsked choice call tree assets
-    → ShowsStack choice call tree assets stack → IsAcceptedByAll tree assets stack
-is_accepted choice call tree assets stack utf8 asked shown = record {
-  size = refl;
-  within = λ table holds.
-      canonical_is_accepted tree (limits_of tree) assets table stack (writable choice call tree assets utf8 asked) (is_valid choice tree asked.fit)
-      (limits_are_computed tree) (are_held asked) holds (is_canonical choice call tree assets stack utf8 asked shown);
+is_satisfied : (choice : Choice) (call : Call) (tree : Tree) (assets : Assets) (stack : List Bytes) → HaveUtf8 call.words → IsAsked choice call tree assets
+    → ShowsStack choice call tree assets stack → Satisfies tree assets stack
+is_satisfied choice call tree assets stack utf8 asked shown = record {
+  in_range = in_range choice call tree assets utf8 asked;
+  valid = is_valid choice tree asked.fit;
+  few = are_few asked;
+  sat = is_canonical choice call tree assets stack utf8 asked shown;
 }
-
-pub shows_accepted : (call : Call) → HaveUtf8 call.words → Ends call → ShowsAccepted call
-shows_accepted call utf8 e choice =
-    shows_such choice call IsAcceptedByAll utf8 e (λ tree assets stack. is_accepted choice call tree assets stack utf8)
 
 -- the lines of the report, with the counts of the run
 lines : (rules : Rules) (old new : Option Bytes) (tree : Tree) (assets : Assets) (stack : List Bytes) (outcome : Outcome) → outcome_with tree assets stack ≡ outcome
@@ -246,14 +260,15 @@ lines : (rules : Rules) (old new : Option Bytes) (tree : Tree) (assets : Assets)
     → Appends old new (script_line (script_of tree) ++ program_line (script_of tree) ++ tree_limits_line rules tree
     ++ flat_map item_line stack ++ witness_line stack (script_of tree) ++ replay_line stack outcome)
 unfolding satisfy_report
-lines rules old new tree assets stack outcome ran h =
+lines rules old new tree assets stack outcome same h =
     subst (λ o. Appends old new (script_line (script_of tree) ++ program_line (script_of tree) ++ tree_limits_line rules tree
-    ++ flat_map item_line stack ++ witness_line stack (script_of tree) ++ replay_line stack o)) ran h
+    ++ flat_map item_line stack ++ witness_line stack (script_of tree) ++ replay_line stack o)) same h
 
 prints : (choice : Choice) (call : Call) (tree : Tree) (assets : Assets) (stack : List Bytes) → HaveUtf8 call.words → IsAsked choice call tree assets
     → ShowsStack choice call tree assets stack → Prints (rules_by choice) call.sink tree assets stack
 prints choice call tree assets stack utf8 asked shown =
-    let own = (is_accepted choice call tree assets stack utf8 asked shown).within assets.pairs (λ key sig held. held) in
+    let here = is_satisfied choice call tree assets stack utf8 asked shown in
+    let own = is_within tree assets stack here (limits_of tree) assets.pairs (limits_are_computed tree) (λ key sig held. held) in
     record {
       ops = own.ops;
       peak = own.peak;
@@ -265,6 +280,54 @@ prints choice call tree assets stack utf8 asked shown =
 pub shows_witness : (call : Call) → HaveUtf8 call.words → Ends call → ShowsWitness call
 shows_witness call utf8 e choice =
     shows_such choice call (Prints (rules_by choice) call.sink) utf8 e (λ tree assets stack. prints choice call tree assets stack utf8)
+
+-- ---- it is accepted
+
+same_counts : (ops peak most height : ℕ) (checks others : Pairs) → accepted ops peak checks ≡ accepted most height others → (ops ≡ most) × (peak ≡ height)
+same_counts ops peak most height checks others e = (cc, cc)
+
+-- the witness is replayed as the run, with the same counts where more signatures are good
+replays : (tree : Tree) (assets : Assets) (stack : List Bytes) (ops peak : ℕ) (checks : Pairs) → Satisfies tree assets stack
+    → run (given_of assets) (script_of tree) stack ≡ accepted ops peak checks → (table : Pairs) → Holds table assets
+    → ReplaysAs tree (given_with assets table) stack ops peak
+replays tree assets stack ops peak checks satisfies ran_so table holds =
+    let other = run_stays assets.pairs table holds assets.locks (script_of tree) stack ops peak checks ran_so in (
+      other.0,
+      witness_is_replayed (given_with assets table) stack (script_of tree) (fits_witness tree assets stack satisfies) ∙ ap ran other.1,
+    )
+
+-- what was printed of a canonical satisfaction is within the limits and the height, whatever further signatures are good
+accepted_by_all : (rules : Rules) (sink : Side) (tree : Tree) (assets : Assets) (stack : List Bytes) → Satisfies tree assets stack
+    → Prints rules sink tree assets stack → IsAcceptedByAll rules sink tree assets stack
+accepted_by_all rules sink tree assets stack satisfies printed =
+    let within : (table : Pairs) → Holds table assets → IsAcceptedWithin tree (limits_of tree) (given_with assets table) stack
+    = λ table holds. is_within tree assets stack satisfies (limits_of tree) table (limits_are_computed tree) holds in
+    let own = within assets.pairs (λ key sig held. held) in
+    let same = same_counts own.ops own.peak printed.ops printed.peak own.checks printed.checks (sym own.run ∙ printed.run) in
+    let height = height_is_computed tree ((valid_means_under Consensus tree).0 satisfies.valid).0 in
+    record {
+      prints = printed;
+      limits = limits_are_computed tree;
+      height = height;
+      few_ops = subst (λ n. n ≤ (limits_of tree).ops) same.0 own.few_ops;
+      few_items = own.few_items;
+      light = own.light;
+      low = subst (λ n. n ≤ height_of tree) same.1 (own.low (height_of tree) height);
+      replayed = replays tree assets stack printed.ops printed.peak printed.checks satisfies printed.run;
+      within = within;
+    }
+
+is_accepted : (choice : Choice) (call : Call) (tree : Tree) (assets : Assets) (stack : List Bytes) → HaveUtf8 call.words → IsAsked choice call tree assets
+    → ShowsStack choice call tree assets stack → IsAcceptedByAll (rules_by choice) call.sink tree assets stack
+is_accepted choice call tree assets stack utf8 asked shown =
+    accepted_by_all (rules_by choice) call.sink tree assets stack (is_satisfied choice call tree assets stack utf8 asked shown)
+    (prints choice call tree assets stack utf8 asked shown)
+
+pub shows_accepted : (call : Call) → HaveUtf8 call.words → Ends call → ShowsAccepted call
+shows_accepted call utf8 e choice =
+    shows_such choice call (IsAcceptedByAll (rules_by choice) call.sink) utf8 e (λ tree assets stack. is_accepted choice call tree assets stack utf8)
+
+-- ---- nobody can change it
 
 pub shows_non_malleable : (call : Call) → HaveUtf8 call.words → Ends call → ShowsNonMalleable call
 shows_non_malleable call utf8 e rules =
@@ -293,3 +356,20 @@ shows_lightest call utf8 e rules =
     shows_such (choice.Cheapest rules) call WeighsLeast utf8 e (λ tree assets stack asked shown other sat.
     let best = cheapest_is_lightest tree assets (writable (choice.Cheapest rules) call tree assets utf8 asked) (are_held asked) in
     weighs (cheapest tree assets) stack (weight other) shown.chosen (best.lightest other sat))
+
+-- ---- of those that nobody can change
+
+pub shows_tight : (call : Call) → HaveUtf8 call.words → Ends call → ShowsTight call
+shows_tight call utf8 e rules =
+    shows_such (choice.Strict rules) call Tight utf8 e (λ tree assets stack asked shown.
+    strict_is_tight tree assets stack (writable (choice.Strict rules) call tree assets utf8 asked) (are_held asked) shown.chosen)
+
+pub tells_unchanged : (call : Call) → HaveUtf8 call.words → TellsUnchanged call
+tells_unchanged call utf8 rules tree assets asked stack sat =
+    tight_is_non_malleable tree assets stack (writable (choice.Strict rules) call tree assets utf8 asked) (is_sane rules tree asked.fit) (are_held asked) sat
+
+pub shows_lightest_unchanged : (call : Call) → HaveUtf8 call.words → Ends call → ShowsLightestUnchanged call
+shows_lightest_unchanged call utf8 e rules =
+    shows_such (choice.Strict rules) call WeighsLeastUnchanged utf8 e (λ tree assets stack asked shown other sat unchanged.
+    weighs (strict tree assets) stack (weight other) shown.chosen
+    (strict_is_lightest tree assets other (writable (choice.Strict rules) call tree assets utf8 asked) (is_sane rules tree asked.fit) (are_held asked) sat unchanged))

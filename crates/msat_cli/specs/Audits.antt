@@ -39,7 +39,7 @@ pub record RunsTo (tree : Tree) (file : RunFile) (outcome : Outcome) : Type 0 wh
   pub run : run (given_by file) (script_of tree) file.stack ≡ outcome
 
 -- what the sink got of a stack that is accepted: the counts of the run, the steps by which the stack satisfies the tree,
--- and whether all are by canonical rows
+-- by no others, and whether all are by canonical rows
 pub record PrintsSteps (sink : Side) (tree : Tree) (offsets : List ℕ) (file : RunFile) : Type 0 where
   pub ops : ℕ
   pub peak : ℕ
@@ -47,6 +47,7 @@ pub record PrintsSteps (sink : Side) (tree : Tree) (offsets : List ℕ) (file : 
   pub runs : RunsTo tree file (accepted ops peak checks)
   pub steps : List Step
   pub derives : Derives tree (given_by file) true steps file.stack
+  pub unique : (others : List Step) → Derives tree (given_by file) true others file.stack → others ≡ steps
   pub written : Appends sink.old sink.new (
       line (codes "accepted ops " ++ decimal ops ++ codes " peak " ++ decimal peak)
       ++ flat_map (step_line offsets) steps ++ canonical_line steps)

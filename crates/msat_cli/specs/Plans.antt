@@ -6,7 +6,7 @@ use Rattle.def_script.specs.Bytes.{Bytes}
 use Rattle.def_tree.specs.Tree.{Tree}
 use Rattle.def_text.specs.Refusal.{TextReads}
 use Rattle.def_sane.specs.Unfit.{IsSane}
-use Rattle.def_plan.specs.Plan.{Plan, plan_of, NoneIsExact, Suffices, IsLeast, AsksListed, AsksNoneInVain, AsksInOrder, LengthsDecide}
+use Rattle.def_plan.specs.Plan.{Plan, plan_of, NoneIsExact, Suffices, WeighsAtMost, IsLeast, AsksListed, AsksNoneInVain, AsksInOrder, LengthsDecide}
 use Rattle.def_plan.specs.PlanFile.{PlanFile, plan_file_of}
 use Rattle.def_answer.specs.declared.status.Status.TheVariants as status
 use Rattle.def_answer.specs.Lines.{line}
@@ -28,12 +28,15 @@ pub record AsksPlan (call : Call) (tree : Tree) (file : PlanFile) : Type 0 where
   pub short : length bytes ≤ MOST_FILE
   pub given : plan_file_of bytes ≡ Ok file
 
--- what the sink got: the keys of the plan in the order of the nodes and, in a `multi`, of its positions, and the greatest
--- weight. Signatures of these keys alone are enough; where none is shorter than estimated nothing lighter is to be had that
+-- what the sink got: the keys of the plan by the file's estimates in the order of the nodes and, in a `multi`, of its
+-- positions, and the greatest weight. Signatures of these keys are enough, of whatever lengths, and whoever else signs; where
+-- none of theirs is longer than estimated they need no more weight; where none is shorter nothing lighter is to be had that
 -- nobody can change; only listed keys are asked, each once, and none in vain
 pub record PrintsPlan (sink : Side) (tree : Tree) (file : PlanFile) : Type 0 where
   pub found : Plan
-  pub suffices : Suffices tree file.assets file.table found
+  pub planned : plan_of tree file.assets file.table ≡ Some found
+  pub suffices : Suffices tree file.assets found
+  pub weight : WeighsAtMost tree file.assets file.table found
   pub least : IsLeast tree file.assets file.table found
   pub listed : AsksListed file.table found
   pub none_in_vain : AsksNoneInVain tree file.assets found

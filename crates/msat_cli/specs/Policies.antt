@@ -11,7 +11,7 @@ use Rattle.def_policy.specs.Plain.{plain}
 use Rattle.def_policy.specs.Simple.{simple}
 use Rattle.def_policy.specs.Print.{printed}
 use Rattle.def_policy.specs.Keys.{AreLeastKeys}
-use Rattle.def_policy.specs.Laws.{SaysSatisfiable}
+use Rattle.def_policy.specs.Laws.{SaysSatisfiable, IsSimple, WantsKey}
 use Rattle.def_policy.specs.Truth.{is_true, facts_of}
 use Rattle.def_answer.specs.declared.status.Status.TheVariants as status
 use Rattle.def_answer.specs.Answer.{Answer}
@@ -32,11 +32,14 @@ pub record AsksPolicy (call : Call) (tree : Tree) : Type 0 where
 
 -- what the sink got: the policy of the tree, made simple, and the least number of keys that make it true where every hash
 -- and lock is met, or `none` where no keys do. The policy is true of assets exactly where they make a canonical
--- satisfaction
+-- satisfaction; each All and Any joins two parts at least, and a threshold wants more than one and not all; the number is 1
+-- at least
 pub record PrintsPolicy (sink : Side) (tree : Tree) : Type 0 where
   pub least : Option ℕ
   pub is_least : AreLeastKeys (simple (plain tree)) least
   pub satisfiable : SaysSatisfiable tree (simple (plain tree))
+  pub form : IsSimple (simple (plain tree))
+  pub signed : WantsKey (simple (plain tree))
   pub written : Appends sink.old sink.new (
       line (codes "policy " ++ printed (simple (plain tree))) ++ line (codes "keys " ++ number_or_none least))
 

@@ -1,12 +1,14 @@
 -- What a call of `msat` for `satisfy TEXT` or `satisfy --malleable TEXT`, by policy or with `--consensus`, shows of a
 -- satisfaction.
-use Rattle.std.specs.Prelude.{◌≡◌, ◌⊎◌, ℕ, ◌≤◌, ◌∷◌, ◌++◌, List, length, flat_map, codes, decimal, None, Some, Ok}
+use Rattle.std.specs.Prelude.{◌≡◌, ◌↔◌, ◌⊎◌, ℕ, ◌≤◌, ◌∷◌, ◌++◌, List, length, flat_map, codes, decimal, None, Some, Ok}
 use Rattle.std.specs.Io.KnownBytes.{Appends}
 use Rattle.hex.specs.Hex.{encode_lower}
 use Rattle.def_hash.specs.Hash.{sha256}
 use Rattle.def_script.specs.Bytes.{Bytes}
 use Rattle.def_script.specs.Witness.{witness_text, weight}
 use Rattle.def_machine.specs.Stacks.{Pairs}
+use Rattle.def_machine.specs.Machine.{Given}
+use Rattle.def_machine.specs.Program.{program_of}
 use Rattle.def_machine.specs.Run.{run, accepted}
 use Rattle.def_tree.specs.Tree.{Tree}
 use Rattle.def_emit.specs.Emit.{script_of}
@@ -16,9 +18,13 @@ use Rattle.def_sane.specs.declared.Rules.{Rules}
 use Rattle.def_sane.specs.declared.Unfit.{Unfit}
 use Rattle.def_assets.specs.Assets.{Assets}
 use Rattle.def_files.specs.AssetFile.{assets_of}
+use Rattle.def_sane.specs.Limits.{AreLimits}
 use Rattle.def_sane.specs.Most.{limits_of}
+use Rattle.def_height.specs.Height.{IsHeight}
+use Rattle.def_height.specs.Highest.{height_of}
 use Rattle.def_satisfaction.specs.Satisfaction.{given_of, Sat, Holds}
-use Rattle.def_choice.specs.NonMalleable.{IsAccepted, Fresh, given_with}
+use Rattle.def_choice.specs.NonMalleable.{IsAccepted, Fresh, NonMalleable, given_with}
+use Rattle.def_choice.specs.Tight.{Tight}
 use Rattle.def_promises.specs.Acceptance.{IsAcceptedWithin}
 use Rattle.def_promises.specs.Promises.{HasUnknownPreimage, HasOtherKey, Unchangeable}
 use Rattle.def_answer.specs.declared.status.Status.TheVariants as status
@@ -26,6 +32,7 @@ use Rattle.def_answer.specs.Lines.{line, text_line, unfit_line}
 use Rattle.def_answer.specs.Report.{item_line, tree_limits_line, satisfy_report}
 use Rattle.def_answer.specs.Reply.{MOST_FILE}
 use Rattle.def_answer.specs.Words.{IsForm}
+use Rattle.ms_witness.specs.Replaying.{replay, ran}
 use Rattle.ms_words.specs.declared.words.Choice.{Choice}
 use Rattle.ms_words.specs.declared.words.Choice.TheVariants as choice
 use Rattle.ms_words.specs.Commands.{satisfy_by}
@@ -114,13 +121,27 @@ ShowsWitness call = (choice : Choice) → ShowsSuch choice call (Prints (rules_b
 
 -- ---- the interpreter accepts it
 
--- under every table that holds the assets' signatures, within the printed limits
-pub record IsAcceptedByAll (tree : Tree) (assets : Assets) (stack : List Bytes) : Type 0 where
-  pub size : length (script_of tree) ≡ (limits_of tree).size
+-- the bytes of the witness, under the program of the tree's Script, replay as a run that is accepted with these counts
+abbrev pub ReplaysAs : Tree → Given → (stack : List Bytes) → (ops peak : ℕ) → Type 0
+ReplaysAs tree given stack ops peak =
+    (checks : Pairs) × (replay given (program_of (script_of tree)) (witness_text stack (script_of tree)) ≡ ran (accepted ops peak checks))
+
+-- the limits that were printed are the tree's, and so is the height, which `--consensus` prints; the counts that were printed
+-- are within them. Under every table that holds the assets' signatures the witness replays with these counts, and the run is
+-- within the limits
+pub record IsAcceptedByAll (rules : Rules) (sink : Side) (tree : Tree) (assets : Assets) (stack : List Bytes) : Type 0 where
+  pub prints : Prints rules sink tree assets stack
+  pub limits : AreLimits tree (limits_of tree)
+  pub height : IsHeight tree (height_of tree)
+  pub few_ops : prints.ops ≤ (limits_of tree).ops
+  pub few_items : length stack ≤ (limits_of tree).items
+  pub light : weight stack ≤ (limits_of tree).weight
+  pub low : prints.peak ≤ height_of tree
+  pub replayed : (table : Pairs) → Holds table assets → ReplaysAs tree (given_with assets table) stack prints.ops prints.peak
   pub within : (table : Pairs) → Holds table assets → IsAcceptedWithin tree (limits_of tree) (given_with assets table) stack
 
 abbrev pub ShowsAccepted : Call → Type 0
-ShowsAccepted call = (choice : Choice) → ShowsSuch choice call IsAcceptedByAll
+ShowsAccepted call = (choice : Choice) → ShowsSuch choice call (IsAcceptedByAll (rules_by choice) call.sink)
 
 -- ---- nobody can change it
 
@@ -155,3 +176,27 @@ WeighsLeast tree assets stack = (other : List Bytes) → Sat tree assets other �
 
 abbrev pub ShowsLightest : Call → Type 0
 ShowsLightest call = (rules : Rules) → ShowsSuch (choice.Cheapest rules) call WeighsLeast
+
+-- ---- of those that nobody can change
+
+-- it is tight
+abbrev pub ShowsTight : Call → Type 0
+ShowsTight call = (rules : Rules) → ShowsSuch (choice.Strict rules) call Tight
+
+-- nobody can change a canonical satisfaction exactly where it is tight
+abbrev pub UnchangedIsTight : Tree → Assets → Type 0
+UnchangedIsTight tree assets =
+    (stack : List Bytes) → Sat tree assets stack → NonMalleable tree assets stack ↔ Tight tree assets stack
+
+-- however the call ends
+abbrev pub TellsUnchanged : Call → Type 0
+TellsUnchanged call =
+    (rules : Rules) (tree : Tree) (assets : Assets) → IsAsked (choice.Strict rules) call tree assets → UnchangedIsTight tree assets
+
+-- no canonical satisfaction that nobody can change weighs less
+abbrev pub WeighsLeastUnchanged : Tree → Assets → (stack : List Bytes) → Type 0
+WeighsLeastUnchanged tree assets stack =
+    (other : List Bytes) → Sat tree assets other → NonMalleable tree assets other → weight stack ≤ weight other
+
+abbrev pub ShowsLightestUnchanged : Call → Type 0
+ShowsLightestUnchanged call = (rules : Rules) → ShowsSuch (choice.Strict rules) call WeighsLeastUnchanged

@@ -9,7 +9,7 @@ ghost use Rattle.msat_cli.specs.Audits.{ShowsAudit};
 ghost use Rattle.msat_cli.specs.Decodings.{ShowsReading};
 ghost use Rattle.msat_cli.specs.Plans.{ShowsPlan};
 ghost use Rattle.msat_cli.specs.Policies.{ShowsPolicy};
-ghost use Rattle.msat_cli.specs.Satisfactions.{FindsWhereOneExists, ShowsCanonical, ShowsWitness, ShowsAccepted, ShowsNonMalleable, FindsNothingToAccept, RefusesOtherTexts, ShowsLightest};
+ghost use Rattle.msat_cli.specs.Satisfactions.{FindsWhereOneExists, ShowsCanonical, ShowsWitness, ShowsAccepted, ShowsNonMalleable, FindsNothingToAccept, RefusesOtherTexts, ShowsLightest, ShowsTight, TellsUnchanged, ShowsLightestUnchanged};
 
 use crate::answer::{Stop, answer_words};
 use bumpalo::Bump;
@@ -26,9 +26,9 @@ const TEXT_TOO_LONG: &[u8] = b"refused text TooLong\n";
 const FILE_TOO_LONG: &[u8] = b"refused file TooLong\n";
 
 /// Answers the words of a command line: makes the report, writes it to the sink by one call of `put_all`, and gives
-/// the status. The words are `script TEXT`, `check TEXT`, `satisfy TEXT`, `satisfy --malleable TEXT`, `run`, `gen N`,
-/// `policy TEXT`, `plan TEXT`, `audit TEXT` and `decode HEX KEY..`. The source is read only for `run`, and for `satisfy`, `plan`
-/// and `audit` where the text was neither refused nor unfit.
+/// the status. The words are `script TEXT`, `check TEXT`, `satisfy TEXT`, `satisfy --malleable TEXT`, each of them also with
+/// `--consensus` before TEXT, and `run`, `gen N`, `policy TEXT`, `plan TEXT`, `audit TEXT` and `decode HEX KEY..`. The source is
+/// read only for `run`, and for `satisfy`, `plan` and `audit` where the text was neither refused nor unfit.
 pub fn msat<S: Source, K: Sink>(
     alloc: Global,
     words: &[Word],
@@ -53,9 +53,10 @@ pub fn msat<S: Source, K: Sink>(
     ensures without_source { ¬ ReadsSource words.now → ¬ IsOfSource result }
 
     // For every sane text and readable asset file, `satisfy TEXT` writes a canonical satisfaction exactly where one
-    // exists, as a witness with its Script; the interpreter accepts it within the printed limits; every other stack that
-    // it accepts passes a check that this one doesn't, or holds an unknown preimage or another key; and other texts are
-    // refused, by their place or by the first reason against their tree.
+    // exists, as a witness with its Script; the interpreter accepts it within the printed limits and height, and with the
+    // printed counts whatever further signatures are good; every other stack that it accepts passes a check that this one
+    // doesn't, or holds an unknown preimage or another key; and other texts are refused, by their place or by the first
+    // reason against their tree.
     ensures exists { FindsWhereOneExists (call words.now (side S.left S.faults source.old source.new) (side K.written K.faults sink.old sink.new) result) }
     ensures canonical { ShowsCanonical (call words.now (side S.left S.faults source.old source.new) (side K.written K.faults sink.old sink.new) result) }
     ensures witness { ShowsWitness (call words.now (side S.left S.faults source.old source.new) (side K.written K.faults sink.old sink.new) result) }
@@ -63,6 +64,11 @@ pub fn msat<S: Source, K: Sink>(
     ensures non_malleable { ShowsNonMalleable (call words.now (side S.left S.faults source.old source.new) (side K.written K.faults sink.old sink.new) result) }
     ensures nothing { FindsNothingToAccept (call words.now (side S.left S.faults source.old source.new) (side K.written K.faults sink.old sink.new) result) }
     ensures other_texts { RefusesOtherTexts (call words.now (side S.left S.faults source.old source.new) (side K.written K.faults sink.old sink.new) result) }
+
+    // It is tight, as each canonical satisfaction is that nobody can change, and no other; and none of these weighs less.
+    ensures tight { ShowsTight (call words.now (side S.left S.faults source.old source.new) (side K.written K.faults sink.old sink.new) result) }
+    ensures unchanged { TellsUnchanged (call words.now (side S.left S.faults source.old source.new) (side K.written K.faults sink.old sink.new) result) }
+    ensures lightest_unchanged { ShowsLightestUnchanged (call words.now (side S.left S.faults source.old source.new) (side K.written K.faults sink.old sink.new) result) }
 
     // `satisfy --malleable TEXT` does so for every valid text, but its satisfaction weighs least, and may be changed.
     ensures lightest { ShowsLightest (call words.now (side S.left S.faults source.old source.new) (side K.written K.faults sink.old sink.new) result) }

@@ -2,7 +2,7 @@ use Rattle.std.proofs.Common.{◌∙◌}
 use Rattle.std.proofs.lemmas.Result.{IfOk-weaker}
 use Rattle.ms_tree.specs.Shape.{shape}
 use Rattle.ms_plan.specs.Estimates.{table_of}
-use Rattle.ms_plan.proofs.Promised.{made, made_none, made_lengths, made_suffices, made_least, made_listed, made_none_in_vain, made_in_order}
+use Rattle.ms_plan.proofs.Promised.{made, made_none, made_lengths, made_suffices, made_weight, made_least, made_listed, made_none_in_vain, made_in_order}
 use Rattle.ms_plan.proofs.asking.plan.Goals as goal
 
 pub returns-clause-none : goal.returns-clause-none
@@ -23,6 +23,13 @@ pub returns-clause-suffices : goal.returns-clause-suffices
 returns-clause-suffices g c =
     IfOk-weaker c.plan_of_table.result _ _
     (λ found is. made_suffices (shape c.args.tree.now) c.args.assets.now (table_of c.args.estimate.now) found
+    (made (shape c.args.tree.now) c.args.assets.now (table_of c.args.estimate.now) _ found c.requires.in_range.writable c.requires.sane c.locks-locks.ensures.few.held c.requires.sound.0 (c.as_slice.ensures ∙ c.in_ok-lengths.ensures) is))
+    c.plan_of_table.ensures
+
+pub returns-clause-weight : goal.returns-clause-weight
+returns-clause-weight g c =
+    IfOk-weaker c.plan_of_table.result _ _
+    (λ found is. made_weight (shape c.args.tree.now) c.args.assets.now (table_of c.args.estimate.now) found
     (made (shape c.args.tree.now) c.args.assets.now (table_of c.args.estimate.now) _ found c.requires.in_range.writable c.requires.sane c.locks-locks.ensures.few.held c.requires.sound.0 (c.as_slice.ensures ∙ c.in_ok-lengths.ensures) is))
     c.plan_of_table.ensures
 

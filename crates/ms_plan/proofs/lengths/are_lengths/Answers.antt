@@ -8,8 +8,8 @@ use Rattle.ms_plan.proofs.lengths.are_lengths.Goals as goal
 pub loop-place-preserved : goal.loop-place-preserved
 loop-place-preserved c = (
   entry_at c.args.table.now c.loop-place.place c.index-table-place.result c.loop-place-test.true c.index-table-place.is
-  (subst (CanStandBefore c.index-table-place.result) (to_the_end c.args.table.now (c.loop-place.place + 1)) (c.if-not-can_stand_before.ensures.0 refl))
-  c.loop-place.invariant.0,
+      (subst (CanStandBefore c.index-table-place.result) (to_the_end c.args.table.now (c.loop-place.place + 1)) (c.if-not-can_stand_before.ensures.0 refl))
+      c.loop-place.invariant.0,
   λ all. entries_left c.args.table.now c.loop-place.place c.index-table-place.result c.loop-place-test.true c.index-table-place.is (c.loop-place.invariant.1 all),
 )
 

@@ -1,6 +1,6 @@
 use Rattle.ms_plan_laws.proofs.laws.plans.Goals as goal
 use Rattle.ms_plan_laws.proofs.Found.{estimate_exists}
-use Rattle.ms_plan_laws.proofs.Plans.{none_holds, lengths_decide, suffices_always, least_always, listed_always, none_in_vain_ever, in_order_always}
+use Rattle.ms_plan_laws.proofs.Plans.{none_holds, lengths_decide, suffices_always, weighs_at_most_always, least_always, listed_always, none_in_vain_ever, in_order_always}
 
 pub returns-clause-estimate : goal.returns-clause-estimate
 returns-clause-estimate c = estimate_exists
@@ -13,6 +13,9 @@ returns-clause-lengths c = lengths_decide
 
 pub returns-clause-suffices : goal.returns-clause-suffices
 returns-clause-suffices c = suffices_always
+
+pub returns-clause-weight : goal.returns-clause-weight
+returns-clause-weight c = weighs_at_most_always
 
 pub returns-clause-least : goal.returns-clause-least
 returns-clause-least c = least_always

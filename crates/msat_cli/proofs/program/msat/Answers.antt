@@ -1,7 +1,7 @@
 use Rattle.msat_cli.specs.Sides.{side}
 use Rattle.msat_cli.specs.Ends.{Call, call}
 use Rattle.msat_cli.proofs.EndLemmas.{ends, ends_as_usage, ends_as_answered, fault_rose, read_fault_rose, tells_nothing, was_read}
-use Rattle.msat_cli.proofs.SatisfactionLemmas.{finds_where_one_exists, shows_canonical, shows_witness, shows_accepted, shows_non_malleable, finds_nothing_to_accept, shows_lightest}
+use Rattle.msat_cli.proofs.SatisfactionLemmas.{finds_where_one_exists, shows_canonical, shows_witness, shows_accepted, shows_non_malleable, finds_nothing_to_accept, shows_lightest, shows_tight, tells_unchanged, shows_lightest_unchanged}
 use Rattle.msat_cli.proofs.RefusalLemmas.{refuses_other_texts}
 use Rattle.msat_cli.proofs.PlanLemmas.{shows_plan}
 use Rattle.msat_cli.proofs.AuditLemmas.{shows_audit}
@@ -61,6 +61,15 @@ returns-clause-other_texts g c = refuses_other_texts (this g c) c.answer_words-a
 
 pub returns-clause-lightest : goal.returns-clause-lightest
 returns-clause-lightest g c = shows_lightest (this g c) c.answer_words-answer.ensures.utf8 (returns-clause-end g c)
+
+pub returns-clause-tight : goal.returns-clause-tight
+returns-clause-tight g c = shows_tight (this g c) c.answer_words-answer.ensures.utf8 (returns-clause-end g c)
+
+pub returns-clause-unchanged : goal.returns-clause-unchanged
+returns-clause-unchanged g c = tells_unchanged (this g c) c.answer_words-answer.ensures.utf8
+
+pub returns-clause-lightest_unchanged : goal.returns-clause-lightest_unchanged
+returns-clause-lightest_unchanged g c = shows_lightest_unchanged (this g c) c.answer_words-answer.ensures.utf8 (returns-clause-end g c)
 
 pub returns-clause-policy : goal.returns-clause-policy
 returns-clause-policy g c = shows_policy (this g c) c.answer_words-answer.ensures.utf8 (returns-clause-end g c)
