@@ -1,0 +1,4 @@
+mod Words
+mod Names
+pub mod Apart
+pub mod Printable
