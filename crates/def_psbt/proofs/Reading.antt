@@ -1,0 +1,186 @@
+-- What is read was written so, and has nothing wrong.
+use Rattle.std.proofs.Common.{◌≡◌, ℕ, zero, suc, ◌+◌, ◌-◌, ◌^◌, ◌<◌, ◌≤◌, ◌==◌, nat_lt, Bool, true, false, cond, List, [], ◌∷◌, ◌++◌, length, length-append, take, drop, get_or, Option, Some, None, inl, inr, ⊎_elim, Result, Ok, Err, refl, sym, ap, subst, ◌∙◌, append_assoc, arith}
+use Rattle.std.proofs.lemmas.Bool.{cases_Bool, ltb-false, eqb-true}
+use Rattle.std.proofs.lemmas.List.{length-drop, length-take-le, drop-drop, take-append-drop, get_or-drop, append-nil, nil_from_length, drop_all}
+use Rattle.std.proofs.lemmas.List.Concat.{flat_map-cons}
+use Rattle.std.proofs.lemmas.List.Elements.{All-from_recursion}
+use Rattle.std.proofs.lemmas.Slice.Eq.{bytes_eq-Decides}
+use Rattle.std.specs.List.{flat_map, AllByRecursion}
+use Rattle.def_script.specs.declared.SizeFault.{SizeFault}
+use Rattle.def_script.specs.Bytes.{Bytes, IsBytes}
+use Rattle.def_script.specs.Sizes.{SizeReading, size_bytes, read_size}
+use Rattle.def_script.specs.Witness.{sized}
+use Rattle.def_script.proofs.Sizing.{size_has_one_spelling}
+use Rattle.def_psbt.specs.declared.PsbtFault.{PsbtFault}
+use Rattle.def_psbt.specs.declared.PsbtFault.TheVariants.{Truncated, Trailing}
+use Rattle.def_psbt.specs.declared.Refusal.{Refusal}
+use Rattle.def_psbt.specs.declared.Refusal.TheVariants.{At}
+use Rattle.def_psbt.specs.Transaction.{Transaction}
+use Rattle.def_psbt.specs.Map.{Pair, Map, Psbt, pair_text, map_text, magic, psbt_text}
+use Rattle.def_psbt.specs.Listed.{Form, global_form, input_form, output_form, pair_fault}
+use Rattle.def_psbt.specs.Reading.{◌>>=◌, Read, placed, size_at, bytes_at, string_at, pair_at, tested, sound_pair_at, pairs_at, map_at, maps_at, transaction_in, transaction_or, ended, read_psbt}
+use Rattle.def_psbt.specs.Source.{MAX_SOURCE_SIZE, has_magic}
+use Rattle.def_psbt.specs.Laws.{IsSoundPair, IsSoundMap, IsSound, ReadIsWritten}
+
+bind_ok : {A B : Type 0} (r : Result A Refusal) (f : A → Result B Refusal) (y : B) → (r >>= f) ≡ Ok y → (x : A) × (r ≡ Ok x) × (f x ≡ Ok y)
+bind_ok (Ok x) f y e = (x, refl, e)
+bind_ok (Err refusal) f y e = absurd cc
+
+abbrev done : {A : Type 0} → A → Result A Refusal
+done x = Ok x
+
+ok_is : {A : Type 0} (x y : A) → done x ≡ done y → x ≡ y
+ok_is x y e = cc
+
+-- what stands from one place to another
+pub record From (psbt : Bytes) (at : ℕ) (text : Bytes) (end : ℕ) : Type 0 where
+  pub parts : drop at psbt ≡ text ++ drop end psbt
+
+then : (psbt : Bytes) (at : ℕ) (first : Bytes) (middle : ℕ) (second : Bytes) (end : ℕ) → From psbt at first middle → From psbt middle second end → From psbt at (first ++ second) end
+then psbt at first middle second end p q = record { parts = p.parts ∙ ap (λ (x : Bytes). first ++ x) q.parts ∙ sym (append_assoc first second (drop end psbt)) }
+
+drop_fits : (n : ℕ) (bytes : Bytes) → IsBytes bytes → IsBytes (drop n bytes)
+drop_fits n bytes h i = rw get_or-drop (h (n + i))
+
+size_from : (psbt : Bytes) (at : ℕ) (read : ℕ × ℕ) → IsBytes psbt → size_at psbt at ≡ Ok read → From psbt at (size_bytes read.0) read.1
+unfolding size_at
+size_from psbt at read fits e = go (read_size (drop at psbt)) refl e
+  where
+    go : (reading : SizeReading) → read_size (drop at psbt) ≡ reading → placed at reading ≡ Ok read → From psbt at (size_bytes read.0) read.1
+    go (Ok size) is e =
+        let same : (size.0, at + size.1) ≡ read = ok_is _ _ e in
+        let spelled = size_has_one_spelling (drop at psbt) size (drop_fits at psbt fits) is in
+        subst (λ (r : ℕ × ℕ). From psbt at (size_bytes r.0) r.1) same (record { parts = spelled ∙ ap (λ (x : Bytes). size_bytes size.0 ++ x) (drop-drop size.1 at psbt) })
+    go (Err fault) is e = absurd cc
+
+guard_ok : {A : Type 0} (b : Bool) (refusal : Refusal) (x y : A) → cond b (Err refusal) (Ok x) ≡ Ok y → (b ≡ false) × (x ≡ y)
+guard_ok true refusal x y e = absurd cc
+guard_ok false refusal x y e = (refl, ok_is x y e)
+
+-- a string that was read is as long as its size says, and lies within the bytes
+string_from : (psbt : Bytes) (at : ℕ) (read : Bytes × ℕ) → IsBytes psbt → string_at psbt at ≡ Ok read → From psbt at (sized read.0) read.1 × (length read.0 ≤ length psbt)
+unfolding string_at bytes_at
+string_from psbt at read fits e =
+    let s = bind_ok (size_at psbt at) (λ size. cond (nat_lt (length psbt) (size.1 + size.0)) (Err (At Truncated size.1)) (Ok (take size.0 (drop size.1 psbt), size.1 + size.0))) read e in
+    let g = guard_ok (nat_lt (length psbt) (s.0.1 + s.0.0)) (At Truncated s.0.1) (take s.0.0 (drop s.0.1 psbt), s.0.1 + s.0.0) read s.2 in
+    let inside : s.0.1 + s.0.0 ≤ length psbt = ltb-false _ _ g.0 in
+    let room : length (drop s.0.1 psbt) ≡ length psbt - s.0.1 = length-drop s.0.1 psbt in
+    let long : length (take s.0.0 (drop s.0.1 psbt)) ≡ s.0.0 = length-take-le s.0.0 (drop s.0.1 psbt) (omega arith) in
+    let size = size_from psbt at s.0 fits s.1 in
+    let text : From psbt s.0.1 (take s.0.0 (drop s.0.1 psbt)) (s.0.1 + s.0.0) =
+    record { parts = sym (take-append-drop s.0.0 (drop s.0.1 psbt)) ∙ ap (λ (x : Bytes). take s.0.0 (drop s.0.1 psbt) ++ x) (drop-drop s.0.0 s.0.1 psbt) } in
+    let both = then psbt at (size_bytes s.0.0) s.0.1 (take s.0.0 (drop s.0.1 psbt)) (s.0.1 + s.0.0) size text in
+    let whole : From psbt at (sized (take s.0.0 (drop s.0.1 psbt))) (s.0.1 + s.0.0) = subst (λ (n : ℕ). From psbt at (size_bytes n ++ take s.0.0 (drop s.0.1 psbt)) (s.0.1 + s.0.0)) (sym long) both in
+    subst (λ (r : Bytes × ℕ). From psbt at (sized r.0) r.1 × (length r.0 ≤ length psbt)) g.1 (whole, omega arith)
+
+pair_from : (psbt : Bytes) (at : ℕ) (read : Pair × ℕ) → IsBytes psbt → pair_at psbt at ≡ Ok read
+    → From psbt at (pair_text read.0) read.1 × (length read.0.key ≤ length psbt) × (length read.0.value ≤ length psbt)
+unfolding pair_at
+pair_from psbt at read fits e =
+    let k = bind_ok (string_at psbt at) (λ key. string_at psbt key.1 >>= λ value. Ok (record { key = key.0; value = value.0 }, value.1)) read e in
+    let v = bind_ok (string_at psbt k.0.1) (λ value. Ok (record { key = k.0.0; value = value.0 }, value.1)) read k.2 in
+    let key = string_from psbt at k.0 fits k.1 in
+    let value = string_from psbt k.0.1 v.0 fits v.1 in
+    let made : Pair × ℕ = (record { key = k.0.0; value = v.0.0 }, v.0.1) in
+    subst (λ (r : Pair × ℕ). From psbt at (pair_text r.0) r.1 × (length r.0.key ≤ length psbt) × (length r.0.value ≤ length psbt)) (ok_is made read v.2)
+    (then psbt at (sized k.0.0) k.0.1 (sized v.0.0) v.0.1 key.0 value.0, key.1, value.1)
+
+tested_ok : (o : Option PsbtFault) (at : ℕ) (read x : Pair × ℕ) → tested o at read ≡ Ok x → (o ≡ None) × (read ≡ x)
+tested_ok None at read x e = (refl, ok_is read x e)
+tested_ok (Some fault) at read x e = absurd cc
+
+map_cons : (pair : Pair) (map : Map) → map_text (pair ∷ map) ≡ pair_text pair ++ map_text map
+map_cons pair map = ap (λ (x : Bytes). x ++ 0x00 ∷ []) (flat_map-cons pair_text pair map) ∙ append_assoc (pair_text pair) (flat_map pair_text map) (0x00 ∷ [])
+
+pairs_from : (forms : ℕ → Form) (psbt : Bytes) (room : ℕ) (before : Map) (at : ℕ) (read : Map × ℕ) → IsBytes psbt → length psbt < 2 ^ 64 → pairs_at forms psbt room before at ≡ Ok read
+    → From psbt at (map_text read.0) read.1 × IsSoundMap forms before read.0
+unfolding pairs_at sound_pair_at size_bytes
+pairs_from forms psbt zero before at read fits small e = absurd cc
+pairs_from forms psbt (suc room) before at read fits small e =
+    let s = bind_ok (size_at psbt at) (λ size. cond (size.0 == 0) (Ok ([], size.1)) (sound_pair_at forms psbt before at
+    >>= λ pair. pairs_at forms psbt room (before ++ pair.0 ∷ []) pair.1 >>= λ pairs. Ok (pair.0 ∷ pairs.0, pairs.1))) read e in
+    let size = size_from psbt at s.0 fits s.1 in
+    go (λ before at read. pairs_from forms psbt room before at read fits small) s.0 size (s.0.0 == 0) refl s.2
+  where
+    go : ((before : Map) (at : ℕ) (read : Map × ℕ) → pairs_at forms psbt room before at ≡ Ok read → From psbt at (map_text read.0) read.1 × IsSoundMap forms before read.0)
+        → (size : ℕ × ℕ) → From psbt at (size_bytes size.0) size.1 → (b : Bool) → (size.0 == 0) ≡ b → cond b (Ok ([], size.1)) (sound_pair_at forms psbt before at
+        >>= λ pair. pairs_at forms psbt room (before ++ pair.0 ∷ []) pair.1 >>= λ pairs. Ok (pair.0 ∷ pairs.0, pairs.1)) ≡ Ok read
+        → From psbt at (map_text read.0) read.1 × IsSoundMap forms before read.0
+    go again size from true z e =
+        let zero_size : size.0 ≡ 0 = eqb-true _ _ z in
+        subst (λ (r : Map × ℕ). From psbt at (map_text r.0) r.1 × IsSoundMap forms before r.0) (ok_is ([], size.1) read e)
+        (subst (λ (n : ℕ). From psbt at (size_bytes n) size.1) zero_size from, tt)
+    go again size from false z e =
+        let p = bind_ok (sound_pair_at forms psbt before at) (λ pair. pairs_at forms psbt room (before ++ pair.0 ∷ []) pair.1 >>= λ pairs. Ok (pair.0 ∷ pairs.0, pairs.1)) read e in
+        let q = bind_ok (pair_at psbt at) (λ read. tested (pair_fault forms before read.0) at read) p.0 p.1 in
+        let t = tested_ok (pair_fault forms before q.0.0) at q.0 p.0 q.2 in
+        let r = bind_ok (pairs_at forms psbt room (before ++ p.0.0 ∷ []) p.0.1) (λ pairs. Ok (p.0.0 ∷ pairs.0, pairs.1)) read p.2 in
+        let fault : pair_fault forms before p.0.0 ≡ None = subst (λ (x : Pair × ℕ). pair_fault forms before x.0 ≡ None) t.1 t.0 in
+        let first = pair_from psbt at p.0 fits (q.1 ∙ ap (λ (x : Pair × ℕ). done x) t.1) in
+        let others = again (before ++ p.0.0 ∷ []) p.0.1 r.0 r.1 in
+        let made : Map × ℕ = (p.0.0 ∷ r.0.0, r.0.1) in
+        let text = then psbt at (pair_text p.0.0) p.0.1 (map_text r.0.0) r.0.1 first.0 others.0 in
+        let key = first.1 in
+        let value = first.2 in
+        subst (λ (x : Map × ℕ). From psbt at (map_text x.0) x.1 × IsSoundMap forms before x.0) (ok_is made read r.2)
+        (subst (λ (x : Bytes). From psbt at x r.0.1) (sym (map_cons p.0.0 r.0.0)) text, (record { fault = fault; key = omega (arith, key); value = omega (arith, value) }, others.1))
+
+maps_from : (forms : ℕ → Form) (psbt : Bytes) (count : ℕ) (at : ℕ) (read : List Map × ℕ) → IsBytes psbt → length psbt < 2 ^ 64 → maps_at forms psbt count at ≡ Ok read
+    → From psbt at (flat_map map_text read.0) read.1 × AllByRecursion (λ map. IsSoundMap forms [] map) read.0 × (length read.0 ≡ count)
+unfolding maps_at
+maps_from forms psbt zero at read fits small e =
+    subst (λ (r : List Map × ℕ). From psbt at (flat_map map_text r.0) r.1 × AllByRecursion (λ map. IsSoundMap forms [] map) r.0 × (length r.0 ≡ 0)) (ok_is ([], at) read e) (record { parts = refl }, tt, refl)
+maps_from forms psbt (suc count) at read fits small e =
+    let m = bind_ok (map_at forms psbt at) (λ map. maps_at forms psbt count map.1 >>= λ maps. Ok (map.0 ∷ maps.0, maps.1)) read e in
+    let r = bind_ok (maps_at forms psbt count m.0.1) (λ maps. Ok (m.0.0 ∷ maps.0, maps.1)) read m.2 in
+    let first = pairs_from forms psbt (suc (length psbt)) [] at m.0 fits small m.1 in
+    let others = maps_from forms psbt count m.0.1 r.0 fits small r.1 in
+    let made : List Map × ℕ = (m.0.0 ∷ r.0.0, r.0.1) in
+    let text = then psbt at (map_text m.0.0) m.0.1 (flat_map map_text r.0.0) r.0.1 first.0 others.0 in
+    subst (λ (x : List Map × ℕ). From psbt at (flat_map map_text x.0) x.1 × AllByRecursion (λ map. IsSoundMap forms [] map) x.0 × (length x.0 ≡ suc count)) (ok_is made read r.2)
+    (subst (λ (x : Bytes). From psbt at x r.0.1) (sym (flat_map-cons map_text m.0.0 r.0.0)) text, (first.1, others.1), ap suc others.2)
+
+there_is : (o : Option Transaction) (after : ℕ) (transaction : Transaction) → transaction_or o after ≡ Ok transaction → o ≡ Some transaction
+there_is (Some found) after transaction e = ap Some (ok_is found transaction e)
+there_is None after transaction e = absurd cc
+
+ended_ok : (psbt : Bytes) (at : ℕ) (made read : Psbt) → ended psbt at made ≡ Ok read → (length psbt ≤ at) × (made ≡ read)
+ended_ok psbt at made read e = let g = guard_ok (nat_lt at (length psbt)) (At Trailing at) made read e in (ltb-false _ _ g.0, g.1)
+
+pub read_is_written : ReadIsWritten
+unfolding read_psbt
+read_is_written bytes psbt fits size begins e =
+    let small : length bytes < 2 ^ 64 = omega arith in
+    let g = bind_ok (map_at global_form bytes 5) (λ global. transaction_or (transaction_in global.0) global.1 >>= λ transaction. maps_at input_form bytes (length transaction.inputs) global.1
+    >>= λ inputs. maps_at output_form bytes (length transaction.outputs) inputs.1
+    >>= λ outputs. ended bytes outputs.1 (record { global = global.0; transaction = transaction; inputs = inputs.0; outputs = outputs.0 })) psbt e in
+    let t = bind_ok (transaction_or (transaction_in g.0.0) g.0.1) (λ transaction. maps_at input_form bytes (length transaction.inputs) g.0.1
+    >>= λ inputs. maps_at output_form bytes (length transaction.outputs) inputs.1
+    >>= λ outputs. ended bytes outputs.1 (record { global = g.0.0; transaction = transaction; inputs = inputs.0; outputs = outputs.0 })) psbt g.2 in
+    let i = bind_ok (maps_at input_form bytes (length t.0.inputs) g.0.1) (λ inputs. maps_at output_form bytes (length t.0.outputs) inputs.1
+    >>= λ outputs. ended bytes outputs.1 (record { global = g.0.0; transaction = t.0; inputs = inputs.0; outputs = outputs.0 })) psbt t.2 in
+    let o = bind_ok (maps_at output_form bytes (length t.0.outputs) i.0.1) (λ outputs. ended bytes outputs.1 (record { global = g.0.0; transaction = t.0; inputs = i.0.0; outputs = outputs.0 })) psbt i.2 in
+    let made : Psbt = record { global = g.0.0; transaction = t.0; inputs = i.0.0; outputs = o.0.0 } in
+    let end = ended_ok bytes o.0.1 made psbt o.2 in
+    let global = pairs_from global_form bytes (suc (length bytes)) [] 5 g.0 fits small g.1 in
+    let inputs = maps_from input_form bytes (length t.0.inputs) g.0.1 i.0 fits small i.1 in
+    let outputs = maps_from output_form bytes (length t.0.outputs) i.0.1 o.0 fits small o.1 in
+    let maps = then bytes 5 (map_text g.0.0) g.0.1 (flat_map map_text i.0.0 ++ flat_map map_text o.0.0) o.0.1 global.0
+    (then bytes g.0.1 (flat_map map_text i.0.0) i.0.1 (flat_map map_text o.0.0) o.0.1 inputs.0 outputs.0) in
+    let nothing : drop o.0.1 bytes ≡ [] = drop_all o.0.1 bytes end.0 in
+    let front : take 5 bytes ≡ magic = (bytes_eq-Decides (take 5 bytes) magic).0 begins in
+    let tail : drop 5 bytes ≡ map_text g.0.0 ++ (flat_map map_text i.0.0 ++ flat_map map_text o.0.0) =
+    maps.parts ∙ ap (λ (x : Bytes). (map_text g.0.0 ++ (flat_map map_text i.0.0 ++ flat_map map_text o.0.0)) ++ x) nothing ∙ append-nil (map_text g.0.0 ++ (flat_map map_text i.0.0 ++ flat_map map_text o.0.0)) in
+    let text : bytes ≡ psbt_text g.0.0 i.0.0 o.0.0 =
+    sym (take-append-drop 5 bytes) ∙ ap (λ (x : Bytes). x ++ drop 5 bytes) front ∙ ap (λ (x : Bytes). magic ++ x) tail in
+    subst (λ (p : Psbt). IsSound p × (bytes ≡ psbt_text p.global p.inputs p.outputs)) end.1 (
+      record {
+        global = global.1;
+        transaction = there_is (transaction_in g.0.0) g.0.1 t.0 t.1;
+        inputs = All-from_recursion (λ map. IsSoundMap input_form [] map) i.0.0 inputs.1;
+        outputs = All-from_recursion (λ map. IsSoundMap output_form [] map) o.0.0 outputs.1;
+        each_input = inputs.2;
+        each_output = outputs.2;
+      },
+      text,
+    )

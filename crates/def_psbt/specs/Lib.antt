@@ -1,0 +1,10 @@
+pub mod Transaction
+pub mod Map
+pub mod Part
+pub mod TransactionReading
+pub mod Forms
+pub mod Listed
+pub mod Reading
+pub mod Source
+pub mod Examples
+pub mod Laws

@@ -1,0 +1,108 @@
+-- The types that are listed, and what is wrong with a pair of a map (BIP 174, "Specification").
+use Rattle.std.specs.Prelude.{ℕ, ◌==◌, not, nat_le, Bool, true, false, length, if◌then◌else◌, is_some, Option, Some, None, Ok, Err}
+use Rattle.std.specs.List.{list_any}
+use Rattle.std.specs.Int.{w32, from_le_bytes}
+use Rattle.std.specs.Str.{bytes_eq}
+use Rattle.def_hash.specs.declared.HashKind.{HashKind}
+use Rattle.def_hash.specs.declared.HashKind.TheVariants as kind
+use Rattle.def_hash.specs.Hash.{digest_of, digest_length}
+use Rattle.def_script.specs.Bytes.{Bytes}
+use Rattle.def_script.specs.Sizes.{SizeReading, read_size}
+use Rattle.def_psbt.specs.declared.PsbtFault.{PsbtFault}
+use Rattle.def_psbt.specs.declared.PsbtFault.TheVariants.{RepeatedKey, KeyForm, ValueForm, Version}
+use Rattle.def_psbt.specs.Map.{Pair, Map, type_of, data_of}
+use Rattle.def_psbt.specs.TransactionReading.{transaction_of, network_transaction_of}
+use Rattle.def_psbt.specs.Forms.{is_public_key, is_signature, is_unsigned, output_of, witness_of, is_derivation}
+
+-- the form of a type: which data its keys have, and what is wrong with a value under such data
+pub record Form : Type 0 where
+  pub key : (data_bytes : Bytes) → Bool
+  pub value : (data_bytes value : Bytes) → Option PsbtFault
+
+-- a value that passes a test
+abbrev pub passes : Bool → Option PsbtFault
+passes true = None
+passes false = Some ValueForm
+
+-- keys without data
+abbrev pub no_data : Bytes → Bool
+no_data bytes = nat_le (length bytes) 0
+
+-- keys without data, and a test of the value
+abbrev pub plain : (Bytes → Bool) → Form
+plain test = record { key = no_data; value = λ data_bytes value. passes (test value) }
+
+-- keys that name a public key, and a test of the value
+abbrev pub keyed : (Bytes → Bool) → Form
+keyed test = record { key = is_public_key; value = λ data_bytes value. passes (test value) }
+
+-- keys that are the digest of the value
+abbrev pub preimage : HashKind → Form
+preimage kind = record {
+  key = λ data_bytes. length data_bytes == digest_length kind;
+  value = λ data_bytes value. passes (bytes_eq (digest_of kind value) data_bytes);
+}
+
+-- any key and any value
+abbrev pub unlisted : Form
+unlisted = record { key = λ data_bytes. true; value = λ data_bytes value. None }
+
+-- a version of 4 bytes, low byte first, which is 0
+abbrev pub version_fault : Bytes → Option PsbtFault
+version_fault value =
+    if length value == 4 then (if from_le_bytes w32 value == 0 then None else Some Version)
+    else Some ValueForm
+
+-- the types of the global map
+unfoldable pub global_form : (type : ℕ) → Form
+global_form type =
+    if type == 0x00 then plain (λ value. is_unsigned (transaction_of value))
+    else if type == 0xfb then record { key = no_data; value = λ data_bytes value. version_fault value }
+    else unlisted
+
+-- the types of a map of an input
+unfoldable pub input_form : (type : ℕ) → Form
+input_form type =
+    if type == 0x00 then plain (λ value. is_some (network_transaction_of value))
+    else if type == 0x01 then plain (λ value. is_some (output_of value))
+    else if type == 0x02 then keyed is_signature
+    else if type == 0x03 then plain (λ value. length value == 4)
+    else if type == 0x04 then plain (λ value. true)
+    else if type == 0x05 then plain (λ value. true)
+    else if type == 0x06 then keyed is_derivation
+    else if type == 0x07 then plain (λ value. true)
+    else if type == 0x08 then plain (λ value. is_some (witness_of value))
+    else if type == 0x0a then preimage kind.Ripemd160
+    else if type == 0x0b then preimage kind.Sha256
+    else if type == 0x0c then preimage kind.Hash160
+    else if type == 0x0d then preimage kind.Hash256
+    else unlisted
+
+-- no type of a map of an output is listed
+abbrev pub output_form : (type : ℕ) → Form
+output_form type = unlisted
+
+-- the type inside a key is whole and in its shortest spelling
+abbrev pub is_typed : SizeReading → Bool
+is_typed (Ok read) = true
+is_typed (Err fault) = false
+
+-- the same key stood before
+abbrev pub stands : (key : Bytes) → Map → Bool
+stands key before = list_any (λ (pair : Pair). bytes_eq key pair.key) before
+
+-- what is wrong with a pair by its form alone
+abbrev pub form_fault : Form → Pair → Option PsbtFault
+form_fault form pair =
+    if form.key (data_of pair.key) then form.value (data_of pair.key) pair.value
+    else Some KeyForm
+
+-- what is wrong with a pair by its key and its value alone
+unfoldable pub shape_fault : (forms : ℕ → Form) → Pair → Option PsbtFault
+shape_fault forms pair =
+    if is_typed (read_size pair.key) then form_fault (forms (type_of pair.key)) pair
+    else Some KeyForm
+
+-- what is wrong with a pair that was read whole behind others of its map, in the order of the tests
+unfoldable pub pair_fault : (forms : ℕ → Form) → (before : Map) → Pair → Option PsbtFault
+pair_fault forms before pair = if stands pair.key before then Some RepeatedKey else shape_fault forms pair

@@ -1,0 +1,5 @@
+pub mod Answered
+pub mod Computing
+mod Computed
+pub mod Unique
+pub mod Written

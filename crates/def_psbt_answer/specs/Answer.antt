@@ -1,0 +1,30 @@
+-- The answer of `msat-psbt`: for each list of words and each content of the source a status and a report.
+use Rattle.std.specs.Prelude.{◌≡◌, List, Option, Some, None, Result, Ok, Err}
+use Rattle.def_script.specs.Bytes.{Bytes}
+use Rattle.def_psbt.specs.declared.Refusal.{Refusal}
+use Rattle.def_psbt.specs.Map.{Psbt}
+use Rattle.def_psbt.specs.Source.{psbt_of}
+use Rattle.def_spend.specs.Reading.{Input, AreInputs}
+use Rattle.def_psbt_answer.specs.declared.status.Status.{Status}
+use Rattle.def_psbt_answer.specs.Words.{Command, command_of}
+use Rattle.def_psbt_answer.specs.Report.{Form}
+use Rattle.def_psbt_answer.specs.Reply.{Reply, reply, usage_reply, refusal_reply, form_of, command_reply}
+
+-- the reply to a PSBT that came in a form, by its inputs, each read
+abbrev pub RepliesToPsbt : Command → Form → Psbt → Reply → Type 0
+RepliesToPsbt command form psbt r =
+    (inputs : List Input) × AreInputs psbt inputs × (r ≡ command_reply command form psbt inputs)
+
+-- the reply to what a source gives
+abbrev pub RepliesToSource : Command → Form → Result Psbt Refusal → Reply → Type 0
+RepliesToSource command form (Ok psbt) r = RepliesToPsbt command form psbt r
+RepliesToSource command form (Err refusal) r = r ≡ refusal_reply refusal
+
+-- the reply to words: to their command, or where they have none
+abbrev pub RepliesToWords : Option Command → (source : Bytes) → Reply → Type 0
+RepliesToWords (Some command) source r = RepliesToSource command (form_of source) (psbt_of source) r
+RepliesToWords None source r = r ≡ usage_reply
+
+-- the words and the source have this answer
+pub record Answer (words : List Bytes) (source : Bytes) (status : Status) (report : Bytes) : Type 0 where
+  pub replies : RepliesToWords (command_of words) source (reply status report)

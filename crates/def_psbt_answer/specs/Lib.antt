@@ -1,0 +1,11 @@
+pub mod Status
+pub mod Words
+pub mod Names
+pub mod Lines
+pub mod Fee
+pub mod Report
+pub mod Reply
+pub mod Answer
+pub mod Laws
+pub mod Samples
+pub mod Rows

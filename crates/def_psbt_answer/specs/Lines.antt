@@ -1,0 +1,94 @@
+-- The lines of refusals, and those of the transaction and of an input. Numbers are printed in decimal, bytes as
+-- lower-case digits, an empty string as `-`, and ids of transactions in reverse order, as users know them.
+use Rattle.std.specs.Prelude.{ℕ, ◌+◌, ◌==◌, List, [], ◌∷◌, ◌++◌, length, reverse, codes, decimal, if◌then◌else◌, Option, unwrap_or}
+use Rattle.hex.specs.Hex.{encode_lower}
+use Rattle.def_script.specs.Bytes.{Bytes}
+use Rattle.def_psbt.specs.declared.Refusal.{Refusal}
+use Rattle.def_psbt.specs.declared.Refusal.TheVariants as refusal
+use Rattle.def_psbt.specs.Transaction.{TransactionInput, TransactionOutput, Transaction, id_of}
+use Rattle.def_spend.specs.declared.State.{State}
+use Rattle.def_spend.specs.Fields.{last_byte}
+use Rattle.def_spend.specs.Amount.{Amount}
+use Rattle.def_spend.specs.Amount as amount
+use Rattle.def_answer.specs.Lines.{line}
+use Rattle.def_answer.specs.Report.{item_digits}
+use Rattle.def_psbt_answer.specs.Names.{fault_name, state_name}
+
+-- ---- refusals
+
+abbrev pub refusal_line : Refusal → Bytes
+refusal_line refusal.TooLong = line (codes "refused psbt TooLong")
+refusal_line refusal.NotBase64 = line (codes "refused psbt NotBase64")
+refusal_line refusal.Magic = line (codes "refused psbt Magic")
+refusal_line (refusal.At fault at) = line (codes "refused psbt " ++ fault_name fault ++ codes " at " ++ decimal at)
+
+abbrev pub not_final_line : (number : ℕ) → Bytes
+not_final_line number = line (codes "not final " ++ decimal number)
+
+-- ---- the transaction
+
+abbrev pub id_digits : (id : Bytes) → Bytes
+id_digits id = encode_lower (reverse id)
+
+abbrev pub psbt_line : Transaction → Bytes
+psbt_line transaction =
+    line (codes "psbt inputs " ++ decimal (length transaction.inputs) ++ codes " outputs " ++ decimal (length transaction.outputs)
+    ++ codes " version " ++ decimal transaction.version ++ codes " locktime " ++ decimal transaction.lock_time
+    ++ codes " txid " ++ id_digits (id_of transaction))
+
+abbrev pub output_line : (number : ℕ) → TransactionOutput → Bytes
+output_line number output =
+    line (codes "output " ++ decimal number ++ codes " " ++ decimal output.amount ++ codes " " ++ item_digits output.script)
+
+-- the outputs from a number on
+abbrev pub output_lines : (number : ℕ) → List TransactionOutput → Bytes
+output_lines number [] = []
+output_lines number (output ∷ outputs) = output_line number output ++ output_lines (number + 1) outputs
+
+-- ---- an input
+
+abbrev pub input_line : (number : ℕ) → State → Bytes
+input_line number state = line (codes "input " ++ decimal number ++ codes " " ++ state_name state)
+
+abbrev pub outpoint_line : TransactionInput → Bytes
+outpoint_line input =
+    line (codes "outpoint " ++ id_digits input.outpoint.id ++ codes " " ++ decimal input.outpoint.index
+    ++ codes " sequence " ++ decimal input.sequence)
+
+abbrev pub amount_line : Amount → Bytes
+amount_line amount.unknown = line (codes "amount unknown")
+amount_line (amount.proved satoshis) = line (codes "amount " ++ decimal satoshis ++ codes " proved")
+amount_line (amount.claimed satoshis) = line (codes "amount " ++ decimal satoshis ++ codes " claimed")
+
+abbrev pub unchecked_line : Bytes
+unchecked_line = line (codes "unchecked")
+
+-- a key with its signature: the number of the signature's hash type
+abbrev pub signature_line : Bytes × Bytes → Bytes
+signature_line pair = line (codes "signature " ++ encode_lower pair.0 ++ codes " " ++ decimal (last_byte pair.1))
+
+abbrev pub policy_line : (policy : Bytes) → Bytes
+policy_line policy = line (codes "policy " ++ policy)
+
+abbrev pub weight_line : (weight : ℕ) → Bytes
+weight_line weight = line (codes "weight " ++ decimal weight)
+
+abbrev pub no_plan_line : Bytes
+no_plan_line = line (codes "no plan")
+
+-- ---- hashes
+
+-- a hash, where there is one
+abbrev pub hash_digits : Option Bytes → Bytes
+hash_digits hash = item_digits (unwrap_or hash [])
+
+-- what a signature of the asked type signs: of ALL, or of another type
+abbrev pub sign_line : (type : ℕ) → (hash : Option Bytes) → Bytes
+sign_line type hash =
+    if type == 1 then line (codes "sign 1 " ++ hash_digits hash)
+    else line (codes "sign-other " ++ decimal type ++ codes " " ++ hash_digits hash)
+
+-- what a signature that is there has to sign
+abbrev pub check_line : Bytes × Bytes → (hash : Option Bytes) → Bytes
+check_line pair hash =
+    line (codes "check " ++ encode_lower pair.0 ++ codes " " ++ encode_lower pair.1 ++ codes " " ++ hash_digits hash)

@@ -1,0 +1,78 @@
+-- What a finalizer writes, and the network transaction of a PSBT (BIP 174, "Input Finalizer", "Transaction Extractor").
+use Rattle.std.specs.Prelude.{ℕ, ◌||◌, not, Bool, List, [], ◌∷◌, ◌++◌, map, filter, if◌then◌else◌, unwrap_or}
+use Rattle.std.specs.List.{flat_map, list_any}
+use Rattle.std.specs.Int.{w32, to_le_bytes}
+use Rattle.def_script.specs.Bytes.{Bytes}
+use Rattle.def_script.specs.Witness.{witness_text}
+use Rattle.def_psbt.specs.Transaction.{TransactionInput, Transaction, inputs_text, outputs_text, transaction_text}
+use Rattle.def_psbt.specs.Map.{Pair, Map, Psbt, type_of}
+use Rattle.def_spend.specs.Fields.{PARTIAL_SIG, FINAL_SCRIPTSIG, FINAL_SCRIPTWITNESS, RIPEMD160, HASH256, field, is_between}
+use Rattle.def_spend.specs.Hashes.{script_in}
+use Rattle.def_spend.specs.Reading.{Input, has_item}
+use Rattle.def_spend.specs.States.{state_of, is_ready, stack_of}
+
+-- ---- the final map
+
+-- what only signers want, and what was final: cleared once the input is
+abbrev pub is_cleared : (type : ℕ) → Bool
+is_cleared type = is_between PARTIAL_SIG FINAL_SCRIPTWITNESS type || is_between RIPEMD160 HASH256 type
+
+abbrev pub is_kept : Pair → Bool
+is_kept pair = not (is_cleared (type_of pair.key))
+
+abbrev pub witness_pair : (witness : Bytes) → Pair
+witness_pair witness = record { key = FINAL_SCRIPTWITNESS ∷ []; value = witness }
+
+-- the pairs that are kept, in their order, and the final witness behind them
+abbrev pub final_map : (fields : Map) → (witness : Bytes) → Map
+final_map fields witness = filter is_kept fields ++ witness_pair witness ∷ []
+
+-- the witness of a Ready input: its satisfaction, and the witness script
+abbrev pub witness_of : Input → Bytes
+witness_of input = witness_text (stack_of input) (script_in input.spend.fields)
+
+-- the map as it is written
+abbrev pub written_map : Input → Map
+written_map input =
+    if is_ready (state_of input) then final_map input.spend.fields (witness_of input) else input.spend.fields
+
+-- the PSBT with each input that is Ready made final
+abbrev pub finalized : Psbt → List Input → Psbt
+finalized psbt inputs = record psbt { inputs = map written_map inputs }
+
+-- ---- the network transaction (BIP 144)
+
+-- an input with its final scriptSig
+abbrev pub final_input : TransactionInput → (fields : Map) → TransactionInput
+final_input input fields = record input { script_sig = unwrap_or (field FINAL_SCRIPTSIG fields) [] }
+
+abbrev pub final_inputs : List TransactionInput → List Map → List TransactionInput
+final_inputs [] maps = []
+final_inputs (input ∷ inputs) [] = []
+final_inputs (input ∷ inputs) (fields ∷ maps) = final_input input fields ∷ final_inputs inputs maps
+
+-- the transaction of a PSBT with the final scriptSigs
+abbrev pub final_transaction : Psbt → Transaction
+final_transaction psbt = record psbt.transaction { inputs = final_inputs psbt.transaction.inputs psbt.inputs }
+
+-- the final witness, which has no item where there is none
+abbrev pub final_witness : (fields : Map) → Bytes
+final_witness fields = unwrap_or (field FINAL_SCRIPTWITNESS fields) (0x00 ∷ [])
+
+-- the bytes of a transaction with witnesses: the marker and the flag behind the version, and the witnesses before the
+-- lock time
+abbrev pub witnessed_text : Transaction → (witnesses : List Bytes) → Bytes
+witnessed_text transaction witnesses =
+    to_le_bytes w32 transaction.version
+    ++ 0x00 ∷ 0x01 ∷ []
+    ++ inputs_text transaction.inputs
+    ++ outputs_text transaction.outputs
+    ++ flat_map (λ witness. witness) witnesses
+    ++ to_le_bytes w32 transaction.lock_time
+
+-- the bytes of the transaction as the network takes it: with witnesses where one has an item
+abbrev pub network_text : Psbt → Bytes
+network_text psbt =
+    if list_any (λ fields. has_item (field FINAL_SCRIPTWITNESS fields)) psbt.inputs
+    then witnessed_text (final_transaction psbt) (map final_witness psbt.inputs)
+    else transaction_text (final_transaction psbt)

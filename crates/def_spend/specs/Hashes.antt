@@ -1,0 +1,26 @@
+-- What the signatures of an input sign, by its map.
+use Rattle.std.specs.Prelude.{ℕ, [], Option, unwrap_or}
+use Rattle.std.specs.Option.{option_map}
+use Rattle.def_script.specs.Bytes.{Bytes}
+use Rattle.def_psbt.specs.Map.{Map}
+use Rattle.def_spend.specs.Fields.{WITNESS_SCRIPT, field}
+use Rattle.def_spend.specs.Amount.{known_amount}
+use Rattle.def_spend.specs.Utxo.{utxo_of, amount_of}
+use Rattle.def_spend.specs.HashTypes.{hash_type_of}
+use Rattle.def_spend.specs.SignatureHash.{signature_hash}
+use Rattle.def_spend.specs.Input.{Spend}
+
+-- the witness script of an input that has one
+abbrev pub script_in : (fields : Map) → Bytes
+script_in fields = unwrap_or (field WITNESS_SCRIPT fields) []
+
+-- the amount of an input whose output is known
+abbrev pub spent_amount : Spend → ℕ
+spent_amount spend = known_amount (amount_of (utxo_of spend.input.outpoint spend.fields))
+
+-- what a signature signs whose hash type has this number, where it is one
+abbrev pub hash_by : (number : ℕ) → Spend → Option Bytes
+hash_by number spend =
+    option_map
+    (λ type. signature_hash type spend.transaction spend.number spend.input (script_in spend.fields) (spent_amount spend))
+    (hash_type_of number)

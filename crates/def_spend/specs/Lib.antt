@@ -1,0 +1,12 @@
+pub mod Fields
+pub mod Amount
+pub mod Utxo
+pub mod HashTypes
+pub mod SignatureHash
+pub mod Input
+pub mod Hashes
+pub mod Reading
+pub mod States
+pub mod Asking
+pub mod Finalized
+pub mod SignedExamples

@@ -1,0 +1,9 @@
+mod Places
+mod Reading
+mod Repeating
+mod Shapes
+mod Sizes
+mod Skipping
+mod Unsigned
+mod Walked
+mod Walking

@@ -1,0 +1,8 @@
+use Rattle.std.proofs.Common.{◌≡◌, ◌-◌, ◌≤◌, length, ◌++◌, option_map}
+use Rattle.ms_psbt.specs.Scaffolding.Outpoints.{empties}
+use Rattle.ms_psbt.proofs.transaction.empty_inputs.Given as goal
+
+abbrev pub invariant-loop : goal.invariant-loop
+invariant-loop l =
+    (l.at ≤ length l.bytes)
+    × (option_map (λ places. l.places.items ++ places) (empties l.bytes (l.count - l.counter) l.at) ≡ empties l.bytes l.count l.from)

@@ -1,0 +1,50 @@
+-- Keys that stand twice, by their places. No public clause cites it, so it need not be believed.
+use Rattle.std.specs.Prelude.{◌≡◌, ℕ, ◌+◌, ◌<◌, ◌≤◌, nat_le, List, [], ◌∷◌, ◌++◌, length, take, drop, slice_index, if◌then◌else◌, Option, Some, None, Result, Ok, Err}
+use Rattle.std.specs.Cmp.Lexicographic.{slice_cmp}
+use Rattle.std.specs.List.{list_any}
+use Rattle.std.specs.Ordering.{nat_cmp, ordering_then}
+use Rattle.std.specs.Str.{bytes_eq}
+use Rattle.std.specs.declared.cmp.Ordering.{Ordering}
+use Rattle.def_script.specs.Bytes.{Bytes}
+use Rattle.def_psbt.specs.Reading.{Read, string_at}
+use Rattle.ms_psbt.specs.declared.repeats.Keys.{Keys}
+use Rattle.ms_psbt.specs.declared.repeats.Keys.TheVariants as keys
+
+abbrev pub key_read : Read Bytes → Bytes
+key_read (Ok read) = read.0
+key_read (Err refusal) = []
+
+-- the key at a place
+abbrev pub key_at : Keys → (bytes : Bytes) → (place : ℕ) → Bytes
+key_at keys.Pairs bytes place = key_read (string_at bytes place)
+key_at keys.Outpoints bytes place = take 36 (drop place bytes)
+
+-- a key, and its place
+abbrev pub rank_cmp : (first second : Bytes × ℕ) → Ordering
+rank_cmp first second = ordering_then (slice_cmp nat_cmp first.0 second.0) (nat_cmp first.1 second.1)
+
+abbrev pub rank_of : Keys → (bytes : Bytes) → (place : ℕ) → Bytes × ℕ
+rank_of keys bytes place = (key_at keys bytes place, place)
+
+-- the first of some places whose key is one of some, or that of an earlier one
+unfoldable pub repeat_in : Keys → (bytes : Bytes) → (before : List Bytes) → (places : List ℕ) → Option ℕ
+repeat_in keys bytes before [] = None
+repeat_in keys bytes before (place ∷ places) =
+    if list_any (bytes_eq (key_at keys bytes place)) before then Some place
+    else repeat_in keys bytes (before ++ key_at keys bytes place ∷ []) places
+
+-- of neighbours among the first places of an order whose keys are the same, the least latter one
+pub record IsLeast (keys : Keys) (bytes : Bytes) (order : List ℕ) (high least : ℕ) : Type 0 where
+  pub place : ℕ
+  pub inside : place + 1 < high
+  pub same : key_at keys bytes (slice_index order place) ≡ key_at keys bytes (slice_index order (place + 1))
+  pub is : least ≡ slice_index order (place + 1)
+  pub bound : (k : ℕ) → k + 1 < high → key_at keys bytes (slice_index order k) ≡ key_at keys bytes (slice_index order (k + 1)) → least ≤ slice_index order (k + 1)
+
+abbrev pub LeastOf : Keys → (bytes : Bytes) → (order : List ℕ) → (high : ℕ) → Option ℕ → Type 0
+LeastOf keys bytes order high (Some least) = IsLeast keys bytes order high least
+LeastOf keys bytes order high None = (k : ℕ) → k + 1 < high → key_at keys bytes (slice_index order k) ≡ key_at keys bytes (slice_index order (k + 1)) → ⊥
+
+abbrev pub least_of : Option ℕ → ℕ → ℕ
+least_of (Some other) place = if nat_le other place then other else place
+least_of None place = place

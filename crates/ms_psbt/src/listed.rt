@@ -1,0 +1,139 @@
+//! What is wrong with a pair by its form.
+
+ghost use Rattle.std.specs.Prelude.{◌≡◌, ◌^◌, ◌<◌, length, nat_lt, IfOk};
+ghost use Rattle.def_psbt.specs.Map.{Pair};
+ghost use Rattle.def_psbt.specs.Listed.{version_fault as the_version_fault, global_form, input_form, preimage, shape_fault as the_shape_fault};
+ghost use Rattle.ms_psbt.specs.Scaffolding.Kinds.{forms_of, passing, fault_by};
+
+use crate::forms::{digest_length, is_derivation, is_digest, is_public_key};
+use crate::pairs::PairRef;
+use crate::parts::first_size;
+use crate::signature::is_signature;
+use crate::transaction::{is_network_transaction, is_output, is_unsigned, is_witness};
+use def_psbt::PsbtFault;
+use ms_hash::HashKind;
+use std::alloc::{AllocError, Global};
+
+/// Which maps these are.
+#[derive(Clone, Copy, Debug, PartialEq, Eq)]
+pub enum MapKind {
+    /// The global map.
+    Global,
+    /// Those of inputs.
+    Input,
+    /// Those of outputs.
+    Output,
+}
+
+/// What is wrong with a pair by its key and its value alone. `AllocError` comes only where memory is wanting.
+pub fn shape_fault(
+    alloc: Global,
+    kind: MapKind,
+    pair: &PairRef<'_>,
+) -> Result<Option<PsbtFault>, AllocError>
+    requires { length pair.now.value < 2 ^ 32 }
+    ensures { IfOk result (λ fault. fault ≡ the_shape_fault (forms_of kind) pair.now) }
+{
+    match first_size(pair.key()) {
+        Some((type_number, key_data)) => typed_fault(
+            alloc,
+            kind,
+            type_number,
+            key_data,
+            pair.value(),
+        ),
+        None => Ok(Some(PsbtFault::KeyForm)),
+    }
+}
+
+fn typed_fault(
+    alloc: Global,
+    kind: MapKind,
+    type_number: u64,
+    key_data: &[u8],
+    value: &[u8],
+) -> Result<Option<PsbtFault>, AllocError>
+    requires { length value.now < 2 ^ 32 }
+    ensures { IfOk result (λ fault. fault ≡ fault_by (forms_of kind type_number) key_data.now value.now) }
+{
+    match kind {
+        MapKind::Global => global_fault(alloc, type_number, key_data, value),
+        MapKind::Input => Ok(input_fault(type_number, key_data, value)),
+        MapKind::Output => Ok(None),
+    }
+}
+
+fn passes(is_key: bool, is_value: bool) -> Option<PsbtFault>
+    ensures { result ≡ passing is_key is_value }
+{
+    if !is_key {
+        Some(PsbtFault::KeyForm)
+    } else if !is_value {
+        Some(PsbtFault::ValueForm)
+    } else {
+        None
+    }
+}
+
+#[tactic(auto, unfolding(def_psbt::specs::Listed::global_form))]
+fn global_fault(
+    alloc: Global,
+    type_number: u64,
+    key_data: &[u8],
+    value: &[u8],
+) -> Result<Option<PsbtFault>, AllocError>
+    requires { length value.now < 2 ^ 32 }
+    ensures { IfOk result (λ fault. fault ≡ fault_by (global_form type_number) key_data.now value.now) }
+{
+    match type_number {
+        0x00 => Ok(passes(key_data.is_empty(), is_unsigned(alloc, value)?)),
+        0xfb => Ok(if key_data.is_empty() {
+            version_fault(value)
+        } else {
+            Some(PsbtFault::KeyForm)
+        }),
+        _ => Ok(None),
+    }
+}
+
+fn version_fault(value: &[u8]) -> Option<PsbtFault>
+    ensures { result ≡ the_version_fault value.now }
+{
+    match *value {
+        [0, 0, 0, 0] => None,
+        [_, _, _, _] => Some(PsbtFault::Version),
+        _ => Some(PsbtFault::ValueForm),
+    }
+}
+
+#[tactic(auto, unfolding(def_psbt::specs::Listed::input_form))]
+fn input_fault(type_number: u64, key_data: &[u8], value: &[u8]) -> Option<PsbtFault>
+    ensures { result ≡ fault_by (input_form type_number) key_data.now value.now }
+{
+    match type_number {
+        0x00 => passes(key_data.is_empty(), is_network_transaction(value)),
+        0x01 => passes(key_data.is_empty(), is_output(value)),
+        0x02 => passes(is_public_key(key_data), is_signature(value)),
+        0x03 => passes(key_data.is_empty(), value.len() == 4),
+        0x04 | 0x05 | 0x07 => passes(key_data.is_empty(), true),
+        0x06 => passes(is_public_key(key_data), is_derivation(value)),
+        0x08 => passes(key_data.is_empty(), is_witness(value)),
+        0x0a => preimage_fault(HashKind::Ripemd160, key_data, value),
+        0x0b => preimage_fault(HashKind::Sha256, key_data, value),
+        0x0c => preimage_fault(HashKind::Hash160, key_data, value),
+        0x0d => preimage_fault(HashKind::Hash256, key_data, value),
+        _ => None,
+    }
+}
+
+fn preimage_fault(kind: HashKind, key_data: &[u8], value: &[u8]) -> Option<PsbtFault>
+    ensures { result ≡ fault_by (preimage kind) key_data.now value.now }
+{
+    if key_data.len() != digest_length(kind) {
+        Some(PsbtFault::KeyForm)
+    } else if !is_digest(kind, value, key_data) {
+        Some(PsbtFault::ValueForm)
+    } else {
+        None
+    }
+}

@@ -1,0 +1,136 @@
+//! Maps of a PSBT: where they end, and the first place at which they are refused.
+
+ghost use Rattle.std.specs.Prelude.{◌≡◌, suc, ◌^◌, ◌<◌, ◌≤◌, ◌++◌, length, IfOk};
+ghost use Rattle.std.specs.List.Sorted.{IsStrictlyIncreasing};
+ghost use Rattle.def_psbt.specs.Reading.{map_at, maps_at};
+ghost use Rattle.ms_psbt.specs.Scaffolding.Kinds.{forms_of};
+ghost use Rattle.ms_psbt.specs.Seen.{ReadsOr};
+ghost use Rattle.ms_psbt.specs.Scaffolding.Walks.{step_at, walk_from, end_of, starts_from, walk_seen, IsStepWithin};
+
+use crate::listed::{MapKind, shape_fault};
+use crate::pairs::{pair_at, size_at};
+use crate::repeats::{Keys, first_repeat};
+use crate::stop::ReadStop;
+use def_psbt::{PsbtFault, Refusal};
+use std::alloc::{AllocError, Global};
+
+/// What follows a pair.
+enum Step {
+    /// The map has ended before this place.
+    End(usize),
+    /// A pair that was read whole, with nothing wrong by its form, ends before this place.
+    Pair(usize),
+    /// A pair that was read whole has a fault.
+    Fault(Refusal),
+    /// No pair was read whole.
+    Cut(Refusal),
+}
+
+fn next_step(alloc: Global, kind: MapKind, psbt: &[u8], at: usize) -> Result<Step, AllocError>
+    requires at { at ≤ length psbt.now }
+    requires room { length psbt.now < 2 ^ 32 }
+    ensures step { IfOk result (λ step. step ≡ step_at (forms_of kind) psbt.now at) }
+    ensures within { IfOk result (λ step. IsStepWithin at (length psbt.now) step) }
+{
+    let (size, next) = match size_at(psbt, at) {
+        Ok(read) => read,
+        Err(refusal) => return Ok(Step::Cut(refusal)),
+    };
+    if size == 0 {
+        return Ok(Step::End(next));
+    }
+    let (pair, next) = match pair_at(psbt, at) {
+        Ok(read) => read,
+        Err(refusal) => return Ok(Step::Cut(refusal)),
+    };
+    match shape_fault(alloc, kind, &pair)? {
+        Some(fault) => Ok(Step::Fault(Refusal::At(fault, at))),
+        None => Ok(Step::Pair(next)),
+    }
+}
+
+/// What a walk over the pairs of a map finds, keys that stand twice left aside.
+#[derive(Drop)]
+struct Walked {
+    /// The places of the pairs that were read whole.
+    places: Vec<u32>,
+    /// The place behind the map, or the first refusal.
+    outcome: Result<usize, Refusal>,
+}
+
+/// Walks over the pairs from a place on, to the end of their map.
+fn walk(alloc: Global, kind: MapKind, psbt: &[u8], from: usize) -> Result<Walked, AllocError>
+    requires from { from ≤ length psbt.now }
+    requires room { length psbt.now < 2 ^ 32 }
+    ensures walk { IfOk result (λ walked. walk_seen walked ≡ walk_from (forms_of kind) psbt.now (suc (length psbt.now)) from) }
+    ensures up { IfOk result (λ walked. IsStrictlyIncreasing walked.places.items) }
+    ensures within { IfOk result (λ walked. IfOk walked.outcome (λ end. end ≤ length psbt.now)) }
+{
+    let mut places = Vec::new(alloc);
+    let mut at = from;
+    loop {
+        match next_step(alloc, kind, psbt, at)? {
+            Step::End(next) => {
+                return Ok(Walked {
+                    places,
+                    outcome: Ok(next),
+                });
+            }
+            Step::Cut(refusal) => {
+                return Ok(Walked {
+                    places,
+                    outcome: Err(refusal),
+                });
+            }
+            Step::Fault(refusal) => {
+                places.push(at as u32)?;
+                return Ok(Walked {
+                    places,
+                    outcome: Err(refusal),
+                });
+            }
+            Step::Pair(next) => {
+                places.push(at as u32)?;
+                at = next;
+            }
+        }
+    }
+}
+
+/// The place behind the map that begins at a place, or its first refusal. It demands that the place lies within the bytes, or
+/// right behind them, and that there are less than 2^32 of them.
+pub fn map_end(alloc: Global, kind: MapKind, psbt: &[u8], at: usize) -> Result<usize, ReadStop>
+    requires at { at ≤ length psbt.now }
+    requires room { length psbt.now < 2 ^ 32 }
+    ensures reading { ReadsOr (λ end. end) result (end_of (map_at (forms_of kind) psbt.now at)) }
+    ensures within { IfOk result (λ end. end ≤ length psbt.now) }
+{
+    let mut walked = walk(alloc, kind, psbt, at)?;
+    match first_repeat(Keys::Pairs, psbt, &mut walked.places) {
+        Some(place) => Err(ReadStop::Refused(Refusal::At(PsbtFault::RepeatedKey, place as usize))),
+        None => Ok(walked.outcome?),
+    }
+}
+
+/// The place behind so many maps from a place on, or their first refusal; the place of each map is added.
+pub fn maps_end(
+    alloc: Global,
+    kind: MapKind,
+    psbt: &[u8],
+    count: u64,
+    from: usize,
+    starts: &mut Vec<u32>,
+) -> Result<usize, ReadStop>
+    requires from { from ≤ length psbt.now }
+    requires room { length psbt.now < 2 ^ 32 }
+    ensures reading { ReadsOr (λ end. end) result (end_of (maps_at (forms_of kind) psbt.now count from)) }
+    ensures starts { IfOk result (λ end. starts.new.items ≡ starts.old.items ++ starts_from (forms_of kind) psbt.now count from) }
+    ensures within { IfOk result (λ end. end ≤ length psbt.now) }
+{
+    let mut at = from;
+    for _ in 0..count {
+        starts.push(at as u32)?;
+        at = map_end(alloc, kind, psbt, at)?;
+    }
+    Ok(at)
+}

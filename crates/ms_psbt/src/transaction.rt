@@ -1,0 +1,270 @@
+//! Transactions, which are tested and not copied.
+
+ghost use Rattle.std.specs.Prelude.{◌≡◌, ◌^◌, ◌<◌, ◌≤◌, length, is_some, option_map, IfOk};
+ghost use Rattle.def_psbt.specs.Part.{first_bytes as the_first_bytes, first_string as the_first_string};
+ghost use Rattle.def_psbt.specs.TransactionReading.{transaction_of, witnessed_transaction_of, network_transaction_of};
+ghost use Rattle.def_psbt.specs.Forms.{is_unsigned as the_is_unsigned, output_of, witness_of};
+ghost use Rattle.ms_psbt.specs.Seen.{IsPart, rest_of};
+ghost use Rattle.ms_psbt.specs.Scaffolding.Skips.{skip_of, skips, list_skip, witness_skip, sides_skip, counts_read, witnessed_skip, input_skip, output_skip, is_all as the_is_all, counts_of};
+ghost use Rattle.ms_psbt.specs.Scaffolding.Outpoints.{Places, empties, is_empty_input as the_is_empty_input};
+
+use crate::parts::{first_bytes, first_size, first_string};
+use crate::repeats::{Keys, first_repeat};
+use ms_script::read_size;
+use std::alloc::{AllocError, Global};
+
+/// A part of a transaction.
+#[derive(Clone, Copy)]
+pub enum Kind {
+    /// An input: an outpoint, a scriptSig, a sequence number.
+    Input,
+    /// An output: an amount and a Script.
+    Output,
+    /// An item of a witness, behind its size.
+    Item,
+}
+
+/// The bytes behind a part of this kind.
+pub fn skip(kind: Kind, bytes: &[u8]) -> Option<&[u8]>
+    ensures { IsPart (λ rest. rest.now) result (skip_of kind bytes.now) }
+{
+    match kind {
+        Kind::Input => skip_input(bytes),
+        Kind::Output => skip_output(bytes),
+        Kind::Item => skip_string(bytes),
+    }
+}
+
+fn skip_string(bytes: &[u8]) -> Option<&[u8]>
+    ensures { IsPart (λ rest. rest.now) result (rest_of (the_first_string bytes.now)) }
+{
+    let (_, rest) = first_string(bytes)?;
+    Some(rest)
+}
+
+fn skip_bytes(count: u64, bytes: &[u8]) -> Option<&[u8]>
+    ensures { IsPart (λ rest. rest.now) result (rest_of (the_first_bytes count bytes.now)) }
+{
+    let (_, rest) = first_bytes(count, bytes)?;
+    Some(rest)
+}
+
+#[tactic(auto, unfolding(crate::specs::Scaffolding::Skips::input_skip))]
+fn skip_input(bytes: &[u8]) -> Option<&[u8]>
+    ensures { IsPart (λ rest. rest.now) result (input_skip bytes.now) }
+{
+    let rest = skip_bytes(32, bytes)?;
+    let rest = skip_bytes(4, rest)?;
+    let rest = skip_string(rest)?;
+    skip_bytes(4, rest)
+}
+
+#[tactic(auto, unfolding(crate::specs::Scaffolding::Skips::output_skip))]
+fn skip_output(bytes: &[u8]) -> Option<&[u8]>
+    ensures { IsPart (λ rest. rest.now) result (output_skip bytes.now) }
+{
+    let rest = skip_bytes(8, bytes)?;
+    skip_string(rest)
+}
+
+/// The bytes behind so many parts of a kind.
+fn skip_many(kind: Kind, count: u64, bytes: &[u8]) -> Option<&[u8]>
+    ensures { IsPart (λ rest. rest.now) result (skips (skip_of kind) count bytes.now) }
+{
+    let mut rest = bytes;
+    for _ in 0..count {
+        rest = skip(kind, rest)?;
+    }
+    Some(rest)
+}
+
+/// The number of parts, and the bytes behind them.
+#[tactic(auto, unfolding(crate::specs::Scaffolding::Skips::list_skip))]
+fn skip_list(kind: Kind, bytes: &[u8]) -> Option<(u64, &[u8])>
+    ensures { IsPart (λ part. (part.0, part.1.now)) result (list_skip (skip_of kind) bytes.now) }
+{
+    let (count, rest) = first_size(bytes)?;
+    let rest = skip_many(kind, count, rest)?;
+    Some((count, rest))
+}
+
+/// The bytes behind a witness.
+fn skip_witness(bytes: &[u8]) -> Option<&[u8]>
+    ensures { IsPart (λ rest. rest.now) result (witness_skip bytes.now) }
+{
+    let (_, rest) = skip_list(Kind::Item, bytes)?;
+    Some(rest)
+}
+
+fn skip_witnesses(count: u64, bytes: &[u8]) -> Option<&[u8]>
+    ensures { IsPart (λ rest. rest.now) result (skips witness_skip count bytes.now) }
+{
+    let mut rest = bytes;
+    for _ in 0..count {
+        rest = skip_witness(rest)?;
+    }
+    Some(rest)
+}
+
+/// The numbers of inputs and of outputs, and the bytes behind them.
+#[tactic(auto, unfolding(crate::specs::Scaffolding::Skips::sides_skip))]
+fn skip_sides(bytes: &[u8]) -> Option<((u64, u64), &[u8])>
+    ensures { IsPart (λ part. (part.0, part.1.now)) result (sides_skip bytes.now) }
+{
+    let (inputs, rest) = skip_list(Kind::Input, bytes)?;
+    let (outputs, rest) = skip_list(Kind::Output, rest)?;
+    Some(((inputs, outputs), rest))
+}
+
+/// The numbers of inputs and of outputs of a transaction without witnesses, which is all of the bytes. Takes no memory.
+pub fn transaction_counts(bytes: &[u8]) -> Option<(u64, u64)>
+    ensures { result ≡ option_map counts_of (transaction_of bytes.now) }
+{
+    read_counts(bytes)
+}
+
+#[tactic(auto, unfolding(crate::specs::Scaffolding::Skips::counts_read))]
+fn read_counts(bytes: &[u8]) -> Option<(u64, u64)>
+    ensures { result ≡ counts_read bytes.now }
+{
+    let rest = skip_bytes(4, bytes)?;
+    let (counts, rest) = skip_sides(rest)?;
+    let rest = skip_bytes(4, rest)?;
+    if rest.is_empty() { Some(counts) } else { None }
+}
+
+#[tactic(auto, unfolding(crate::specs::Scaffolding::Skips::witnessed_skip))]
+fn skip_witnessed(bytes: &[u8]) -> Option<&[u8]>
+    ensures { IsPart (λ rest. rest.now) result (witnessed_skip bytes.now) }
+{
+    let rest = skip_bytes(4, bytes)?;
+    let (marker, rest) = first_bytes(2, rest)?;
+    let (counts, rest) = skip_sides(rest)?;
+    let rest = skip_witnesses(counts.0, rest)?;
+    let rest = skip_bytes(4, rest)?;
+    if marker[1] == 1 && counts.0 > 0 {
+        Some(rest)
+    } else {
+        None
+    }
+}
+
+/// Whether nothing is left.
+fn is_all(rest: Option<&[u8]>) -> bool
+    ensures { result ≡ the_is_all (option_map (λ r. r.now) rest.entry) }
+{
+    match rest {
+        Some(rest) => rest.is_empty(),
+        None => false,
+    }
+}
+
+fn is_witnessed(bytes: &[u8]) -> bool
+    ensures { result ≡ is_some (witnessed_transaction_of bytes.now) }
+{
+    is_all(skip_witnessed(bytes))
+}
+
+/// Whether bytes are a transaction with or without witnesses, whole.
+#[tactic(auto, unfolding(def_psbt::specs::TransactionReading::network_transaction_of))]
+pub fn is_network_transaction(bytes: &[u8]) -> bool
+    ensures { result ≡ is_some (network_transaction_of bytes.now) }
+{
+    if bytes.len() > 4 && bytes[4] == 0 {
+        is_witnessed(bytes)
+    } else {
+        transaction_counts(bytes).is_some()
+    }
+}
+
+/// Whether bytes are an output, whole. Takes no memory.
+pub fn is_output(bytes: &[u8]) -> bool
+    ensures { result ≡ is_some (output_of bytes.now) }
+{
+    is_all(skip_output(bytes))
+}
+
+/// Whether bytes are a witness, whole. Takes no memory.
+pub fn is_witness(bytes: &[u8]) -> bool
+    ensures { result ≡ is_some (witness_of bytes.now) }
+{
+    is_all(skip_witness(bytes))
+}
+
+/// The places of the outpoints of so many inputs from a place on, where their scriptSigs are empty: each then has 41 bytes.
+fn empty_inputs(
+    alloc: Global,
+    bytes: &[u8],
+    count: u64,
+    from: usize,
+) -> Result<Option<Vec<u32>>, AllocError>
+    requires from { from ≤ length bytes.now }
+    requires room { length bytes.now < 2 ^ 32 }
+    ensures { IfOk result (λ places. option_map (λ v. v.items) places ≡ empties bytes.now count from) }
+{
+    let mut places = Vec::new(alloc);
+    let mut at = from;
+    for _ in 0..count {
+        let is_empty = is_empty_input(bytes, at);
+        if is_empty {
+            places.push(at as u32)?;
+            at += 41;
+        } else {
+            return Ok(None);
+        }
+    }
+    Ok(Some(places))
+}
+
+/// Whether an input at a place has 41 bytes, of which that of the size of its scriptSig is 0.
+fn is_empty_input(bytes: &[u8], at: usize) -> bool
+    requires { at ≤ length bytes.now }
+    ensures { result ≡ the_is_empty_input bytes.now at }
+{
+    let rest = &bytes[at..];
+    rest.len() >= 41 && rest[36] == 0
+}
+
+/// The places of the outpoints of a transaction whose inputs have empty scriptSigs; none where one hasn't.
+fn outpoint_places(alloc: Global, bytes: &[u8]) -> Result<Option<Vec<u32>>, AllocError>
+    requires { length bytes.now < 2 ^ 32 }
+    ensures { IfOk result (λ places. Places bytes.now (transaction_of bytes.now) (option_map (λ v. v.items) places)) }
+{
+    if bytes.len() < 4 {
+        return Ok(None);
+    }
+    match read_size(bytes, 4) {
+        Ok((count, from)) => input_places(alloc, bytes, count, from),
+        Err(_) => Ok(None),
+    }
+}
+
+fn input_places(
+    alloc: Global,
+    bytes: &[u8],
+    count: u64,
+    from: usize,
+) -> Result<Option<Vec<u32>>, AllocError>
+    requires room { length bytes.now < 2 ^ 32 }
+    ensures { IfOk result (λ places. from ≤ length bytes.now → option_map (λ v. v.items) places ≡ empties bytes.now count from) }
+{
+    if from > bytes.len() {
+        return Ok(None);
+    }
+    empty_inputs(alloc, bytes, count, from)
+}
+
+/// Whether bytes are a transaction without witnesses, whole, whose inputs have empty scriptSigs, and of which no outpoint
+/// stands twice.
+pub fn is_unsigned(alloc: Global, bytes: &[u8]) -> Result<bool, AllocError>
+    requires { length bytes.now < 2 ^ 32 }
+    ensures { IfOk result (λ is. is ≡ the_is_unsigned (transaction_of bytes.now)) }
+{
+    if transaction_counts(bytes).is_none() {
+        return Ok(false);
+    }
+    match outpoint_places(alloc, bytes)? {
+        Some(mut places) => Ok(first_repeat(Keys::Outpoints, bytes, &mut places).is_none()),
+        None => Ok(false),
+    }
+}

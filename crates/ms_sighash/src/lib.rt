@@ -1,0 +1,10 @@
+//! What the signatures of a transaction sign (BIP 143), over the bytes of the transaction as they lie in a PSBT.
+#![tactic(auto)]
+
+pub use def_spend::{HashType, SignedOutputs};
+pub use shared::SharedHashes;
+
+mod pieces;
+mod shared;
+#[cfg(test)]
+mod tests;
