@@ -2,3 +2,4 @@ pub mod Faults
 pub mod Calls
 pub mod Moves
 pub mod Memory
+pub mod Sides

@@ -5,6 +5,7 @@ pub use answer::Answer;
 pub use audits::audit_report;
 pub use files::{file_line, plan_file_line};
 pub use limits::{limits_line, tree_limits_line};
+pub use names::rule_name;
 pub use plans::plan_report;
 pub use policies::policy_report;
 pub use runs::{accepted_report, not_accepted_line, refused_report};

@@ -21,7 +21,7 @@ use Rattle.def_answer.proofs.Unique.{one_form, one_reply}
 use Rattle.ms_report.specs.declared.answer.Answer.{Answer as Made}
 use Rattle.msat_cli.specs.declared.answer.Stop.{Stop}
 use Rattle.msat_cli.specs.declared.answer.Stop.TheVariants as stop
-use Rattle.msat_cli.specs.Sides.{Side, AreTold, Held}
+use Rattle.ms_io.specs.Sides.{Side, AreTold, Held}
 use Rattle.ms_words.specs.Commands.{HasUtf8, HaveUtf8}
 use Rattle.msat_cli.specs.Scaffolding.Steps.{AnswersWords, Ended, Writes, WritesResult}
 use Rattle.msat_cli.specs.Ends.{Call, HasAnswer, Ends, TakesMemory, IsFault, EndsAsUsage, EndsAsAnswered, TellsShortFile, IsReadFor}
@@ -159,7 +159,7 @@ ends_as_usage call (inr (inr (inr m))) none = absurd (none m.2.0 m.2.1)
 -- ---- what is read
 
 -- the source was read to its end for a file that isn't too long, and a longer one is refused
-read_for : (s : Status) (source : Side) (bytes : Bytes) → Held source bytes → (MOST_FILE < length bytes → s ≡ status.FileRefused)
+read_for : (s : Status) (source : Side) (bytes : Bytes) → Held MOST_FILE source bytes → (MOST_FILE < length bytes → s ≡ status.FileRefused)
     → IsReadFor s source
 read_for s source bytes held long = go (nat_lt MOST_FILE (length bytes)) refl
   where

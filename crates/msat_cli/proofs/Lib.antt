@@ -1,4 +1,3 @@
-mod FileLemmas
 mod StepLemmas
 mod EndLemmas
 mod MoreSignatures

@@ -54,7 +54,7 @@ use Rattle.ms_words.specs.declared.words.Choice.{Choice}
 use Rattle.ms_words.specs.declared.words.Choice.TheVariants as choice
 use Rattle.ms_words.specs.Commands.{HaveUtf8, satisfy_by}
 use Rattle.ms_replies.specs.Choices.{rules_by, reason_by, chosen_by}
-use Rattle.msat_cli.specs.Sides.{Side}
+use Rattle.ms_io.specs.Sides.{Side}
 use Rattle.msat_cli.specs.Ends.{Call, HasAnswer, Ends, EndsAs}
 use Rattle.msat_cli.specs.Satisfactions.{IsAsked, ShowsStack, ShowsSuch, ReplaysAs, IsAcceptedByAll, WeighsLeast, WeighsLeastUnchanged, FindsWhereOneExists, ShowsCanonical, Prints, ShowsWitness, ShowsAccepted, ShowsNonMalleable, FindsNothingToAccept, ShowsLightest, ShowsTight, TellsUnchanged, ShowsLightestUnchanged}
 use Rattle.msat_cli.proofs.EndLemmas.{told_answer, ends_as_answered}

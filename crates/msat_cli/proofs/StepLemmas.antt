@@ -31,7 +31,7 @@ use Rattle.ms_words.specs.declared.words.TextCommand.{TextCommand}
 use Rattle.ms_words.specs.declared.words.TextCommand.TheVariants as kind
 use Rattle.ms_words.specs.declared.words.Command.{Command as Asked}
 use Rattle.def_answer.specs.Sources.{Passes, NeedsSource, ReadsSource}
-use Rattle.msat_cli.specs.Sides.{Side, IsUnread}
+use Rattle.ms_io.specs.Sides.{Side, IsUnread}
 use Rattle.msat_cli.specs.Ends.{HasShortText, TakesMemory}
 use Rattle.ms_words.specs.Commands.{seen, HasUtf8, HaveUtf8, command_of}
 use Rattle.ms_replies.specs.declared.fit.Demand.{Demand}

@@ -18,7 +18,7 @@ use Rattle.def_answer.specs.Names.{script_fault_name}
 use Rattle.def_answer.specs.Report.{step_line, canonical_line}
 use Rattle.def_answer.specs.Reply.{MOST_FILE, given_by}
 use Rattle.def_answer.specs.Words.{audit, IsForm}
-use Rattle.msat_cli.specs.Sides.{Side}
+use Rattle.ms_io.specs.Sides.{Side}
 use Rattle.msat_cli.specs.Ends.{Call, EndsAs}
 
 -- the words ask for the audit of a text, which is read as this tree, a valid one, with these places of its nodes; and the

@@ -10,7 +10,7 @@ use Rattle.def_answer.specs.declared.status.Status.TheVariants as status
 use Rattle.def_answer.specs.Answer.{bytes_of}
 use Rattle.def_answer.specs.Lines.{line}
 use Rattle.def_answer.specs.Words.{decode, IsForm}
-use Rattle.msat_cli.specs.Sides.{Side}
+use Rattle.ms_io.specs.Sides.{Side}
 use Rattle.msat_cli.specs.Ends.{Call, EndsAs}
 
 -- what the sink got: the printed form of the tree that the Script is decoded to, which is like each that it can be read as, and

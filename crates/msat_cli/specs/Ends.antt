@@ -11,7 +11,7 @@ use Rattle.def_answer.specs.Answer.{Answer}
 use Rattle.def_answer.specs.Reply.{MOST_FILE}
 use Rattle.def_answer.specs.Sources.{ReadsSource}
 use Rattle.def_answer.specs.Words.{Command, script, check, satisfy, satisfy_malleable, run, gen, policy, plan, audit, decode, IsForm, HasNoForm}
-use Rattle.msat_cli.specs.Sides.{Side, AreTold}
+use Rattle.ms_io.specs.Sides.{Side, AreTold}
 
 -- the words of a call, what it did to the source and to the sink, and its status
 pub record Call : Type 0 where

@@ -1,4 +1,3 @@
-pub mod Sides
 pub mod Ends
 pub mod Satisfactions
 pub mod Plans

@@ -12,7 +12,7 @@ use Rattle.def_answer.specs.declared.status.Status.TheVariants as status
 use Rattle.def_answer.specs.Lines.{line}
 use Rattle.def_answer.specs.Reply.{MOST_FILE}
 use Rattle.def_answer.specs.Words.{plan, IsForm}
-use Rattle.msat_cli.specs.Sides.{Side}
+use Rattle.ms_io.specs.Sides.{Side}
 use Rattle.msat_cli.specs.Ends.{Call, EndsAs}
 
 -- the words ask for the plan of a text, which is read as this tree, a sane one; and the source tells a plan file, which

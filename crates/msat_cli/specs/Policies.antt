@@ -19,7 +19,7 @@ use Rattle.def_answer.specs.Lines.{line}
 use Rattle.def_answer.specs.Reply.{MOST_FILE}
 use Rattle.def_answer.specs.Report.{number_or_none}
 use Rattle.def_answer.specs.Words.{policy, IsForm}
-use Rattle.msat_cli.specs.Sides.{Side}
+use Rattle.ms_io.specs.Sides.{Side}
 use Rattle.msat_cli.specs.Ends.{Call, EndsAs}
 
 -- the words ask for the policy of a text, which is read as this tree, a sane one

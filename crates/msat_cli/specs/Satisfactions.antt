@@ -37,7 +37,7 @@ use Rattle.ms_words.specs.declared.words.Choice.{Choice}
 use Rattle.ms_words.specs.declared.words.Choice.TheVariants as choice
 use Rattle.ms_words.specs.Commands.{satisfy_by}
 use Rattle.ms_replies.specs.Choices.{rules_by, reason_by, chosen_by}
-use Rattle.msat_cli.specs.Sides.{Side}
+use Rattle.ms_io.specs.Sides.{Side}
 use Rattle.msat_cli.specs.Ends.{Call, EndsAs}
 
 -- ---- what is asked, and what is shown

@@ -2,7 +2,7 @@
 ghost use Rattle.std.specs.Prelude.{◌≡◌, ◌≤◌};
 ghost use Rattle.def_answer.specs.Sources.{ReadsSource, IsOfSource};
 ghost use Rattle.ms_io.specs.Faults.{Rose};
-ghost use Rattle.msat_cli.specs.Sides.{side, ReadsFront, IsUnread};
+ghost use Rattle.ms_io.specs.Sides.{side, ReadsFront, IsUnread};
 ghost use Rattle.msat_cli.specs.Scaffolding.Steps.{Writes, WritesResult};
 ghost use Rattle.msat_cli.specs.Ends.{call, Ends, EndsAsUsage, EndsAsAnswered, IsReadFor};
 ghost use Rattle.msat_cli.specs.Audits.{ShowsAudit};

@@ -7,7 +7,7 @@ ghost use Rattle.def_answer.specs.Reply.{MOST_FILE as most_file, satisfy_reply, 
 ghost use Rattle.def_answer.specs.Report.{tree_limits_line};
 ghost use Rattle.ms_tree.specs.Shape.{shape};
 ghost use Rattle.ms_replies.specs.Choices.{chosen_by, rules_by, reason_by};
-ghost use Rattle.msat_cli.specs.Sides.{side, ReadsFront, Held};
+ghost use Rattle.ms_io.specs.Sides.{side, ReadsFront, Held};
 ghost use Rattle.msat_cli.specs.Scaffolding.Steps.{StopsReading, EndsFile};
 
 use crate::answer::{Stop, or_memory};
@@ -94,7 +94,7 @@ pub fn answer_run<S: Source>(alloc: Global, source: &mut S) -> Result<Answer, St
 
 /// Reads the file that the source holds.
 fn read_file<S: Source>(alloc: Global, source: &mut S) -> Result<Vec<u8>, Stop>
-    ensures held { IfOk result (λ bytes. Held (side S.left S.faults source.old source.new) bytes.items) }
+    ensures held { IfOk result (λ bytes. Held most_file (side S.left S.faults source.old source.new) bytes.items) }
     ensures short { IfOk result (λ bytes. length bytes.items ≤ most_file) }
     ensures stop { IfErr result (StopsReading (side S.left S.faults source.old source.new)) }
     ensures later { S.faults source.old ≤ S.faults source.new }

@@ -11,7 +11,7 @@ ghost use Rattle.def_answer.specs.Report.{check_report as the_check_report};
 ghost use Rattle.def_answer.specs.Sources.{NeedsSource};
 ghost use Rattle.ms_words.specs.Commands.{command_of};
 ghost use Rattle.ms_replies.specs.Fits.{demand_by, demand_of as the_demand_of, IsKnown};
-ghost use Rattle.msat_cli.specs.Sides.{side, ReadsFront, IsUnread};
+ghost use Rattle.ms_io.specs.Sides.{side, ReadsFront, IsUnread};
 ghost use Rattle.ms_replies.specs.Choices.{rules_by, chosen_by};
 ghost use Rattle.msat_cli.specs.Scaffolding.Steps.{ReadsFor, AsDone, IsRefusal, Ended, EndsFile, EndsTree, EndsCommand};
 

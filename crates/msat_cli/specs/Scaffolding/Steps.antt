@@ -25,7 +25,7 @@ use Rattle.ms_words.specs.declared.words.TextCommand.{TextCommand}
 use Rattle.ms_words.specs.declared.words.TextCommand.TheVariants as kind
 use Rattle.ms_replies.specs.Choices.{chosen_by, rules_by, reason_by}
 use Rattle.ms_replies.specs.Fits.{demand_of, reason_for}
-use Rattle.msat_cli.specs.Sides.{Side, IsUnread, Held}
+use Rattle.ms_io.specs.Sides.{Side, IsUnread, Held}
 use Rattle.msat_cli.specs.Ends.{HasShortText, TakesMemory}
 
 -- ---- what is done with a tree
@@ -61,7 +61,7 @@ pub record AnswersAtOnce (kind : TextCommand) (tree : Tree) (offsets : List ℕ)
 -- the reply to what the source held
 pub record AnswersFile (next : Bytes → Reply) (source : Side) (r : Reply) : Type 0 where
   pub bytes : Bytes
-  pub held : Held source bytes
+  pub held : Held MOST_FILE source bytes
   pub replies : r ≡ next bytes
 
 -- the reply to a tree
@@ -77,7 +77,7 @@ IsRefusal fault r = (fault ≢ text_fault.Memory) × (r ≡ reply status.TextRef
 abbrev pub StopsReading : (source : Side) → Stop → Type 0
 StopsReading source stop.Usage = ⊥
 StopsReading source stop.TextTooLong = ⊥
-StopsReading source stop.FileTooLong = (bytes : Bytes) × Held source bytes × (MOST_FILE < length bytes)
+StopsReading source stop.FileTooLong = (bytes : Bytes) × Held MOST_FILE source bytes × (MOST_FILE < length bytes)
 StopsReading source stop.ReadFault = Rose source.before source.now
 StopsReading source stop.Memory = ⊤
 
@@ -93,7 +93,7 @@ pub record RepliesUnread (command : Command) (source : Side) (r : Reply) : Type 
 pub record RepliesToFile (command : Command) (source : Side) (r : Reply) : Type 0 where
   pub needed : NeedsSource command
   pub bytes : Bytes
-  pub held : Held source bytes
+  pub held : Held MOST_FILE source bytes
   pub replies : Replies command bytes r
 
 -- the reply to the command
