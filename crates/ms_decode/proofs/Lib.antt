@@ -5,3 +5,4 @@ pub mod Running
 pub mod Tried
 pub mod Signed
 pub mod Reading
+pub mod Dups

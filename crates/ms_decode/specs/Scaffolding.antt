@@ -8,3 +8,4 @@ pub mod Settled
 pub mod Keys
 pub mod Leaves
 pub mod Decoding
+pub mod Dups

@@ -9,7 +9,7 @@ ghost use Rattle.ms_decode.specs.Scaffolding.Decoding.{MayBe, IsScriptOf};
 ghost use Rattle.ms_decode.specs.Scaffolding.Parts.{made};
 
 use crate::codes::read_codes;
-use crate::found::hash_keys;
+use crate::found::{hash_keys, wanted_keys};
 use crate::part::Part;
 use crate::read::read_back;
 use bumpalo::Bump;
@@ -65,7 +65,7 @@ fn read<'a>(
     let Some(codes) = read_codes(alloc, script)? else {
         return Ok(None);
     };
-    let hashed = hash_keys(alloc, keys)?;
+    let hashed = hash_keys(alloc, wanted_keys(&codes, keys))?;
     let part = read_back(alloc, arena, &hashed, codes)?;
     Ok(part)
 }

@@ -1,11 +1,12 @@
-use Rattle.std.proofs.Common.{◌≡◌, All, subst, ap, ◌∙◌}
-use Rattle.def_tree.specs.Range.{IsKey}
+use Rattle.std.proofs.Common.{◌≡◌, [], if◌then◌else◌, ap, ◌∙◌}
 use Rattle.def_decode.specs.Decoded.{first_with}
 use Rattle.ms_decode_laws.specs.Scaffolding.Reader.{read}
 use Rattle.ms_decode.specs.Scaffolding.Codes.{AreCodes, HasNoCodes}
+use Rattle.ms_decode.specs.Scaffolding.Dups.{has_dup}
 use Rattle.ms_decode.specs.Scaffolding.Keys.{keys_of}
 use Rattle.ms_decode.specs.Scaffolding.Parts.{made}
 use Rattle.ms_decode.specs.Scaffolding.States.{backwards}
+use Rattle.ms_decode.proofs.Dups.{read_same}
 use Rattle.ms_decode.proofs.Tried.{no_codes, may_be}
 use Rattle.ms_decode.proofs.decoding.read.Goals as goal
 
@@ -17,8 +18,9 @@ returns-in_default c =
 pub returns : goal.returns
 returns c =
     let are : AreCodes c.args.script.now c.in-Some.codes.items = rw c.in-Some.is at c.in_ok-codes.ensures in
-    let same : keys_of c.in_ok-hashed.hashed.items ≡ c.args.keys.now = c.in_ok-hashed.ensures.keys in
-    let all : All IsKey c.args.keys.now = subst (All IsKey) same c.in_ok-hashed.ensures.are_keys in
+    let same : keys_of c.in_ok-hashed.hashed.items ≡ (if has_dup c.in-Some.codes.items then c.args.keys.now else []) =
+    c.in_ok-hashed.ensures.keys ∙ c.wanted_keys.ensures.wanted ∙ ap (λ codes. if has_dup codes then c.args.keys.now else []) c.deref.ensures.value in
     let read_so : made c.in_ok-part.part ≡ read (first_with (keys_of c.in_ok-hashed.hashed.items)) (backwards c.in-Some.codes.items) =
-    c.in_ok-part.ensures ∙ ap (λ h. read (first_with (keys_of h)) (backwards c.in-Some.codes.items)) c.deref.ensures.value in
-    may_be c.args.keys.now c.args.script.now c.in-Some.codes.items (made c.in_ok-part.part) all are (read_so ∙ ap (λ keys. read (first_with keys) (backwards c.in-Some.codes.items)) same)
+    c.in_ok-part.ensures ∙ ap (λ h. read (first_with (keys_of h)) (backwards c.in-Some.codes.items)) c.deref-2.ensures.value in
+    may_be c.args.keys.now c.args.script.now c.in-Some.codes.items (made c.in_ok-part.part) c.wanted_keys.ensures.are_keys are
+    (read_so ∙ ap (λ keys. read (first_with keys) (backwards c.in-Some.codes.items)) same ∙ read_same c.args.keys.now c.in-Some.codes.items)
