@@ -1,3 +1,3 @@
 mod Computed
-mod Reading
+pub mod Reading
 mod Writing

@@ -92,7 +92,8 @@ tested_ok (Some fault) at read x e = absurd cc
 map_cons : (pair : Pair) (map : Map) → map_text (pair ∷ map) ≡ pair_text pair ++ map_text map
 map_cons pair map = ap (λ (x : Bytes). x ++ 0x00 ∷ []) (flat_map-cons pair_text pair map) ∙ append_assoc (pair_text pair) (flat_map pair_text map) (0x00 ∷ [])
 
-pairs_from : (forms : ℕ → Form) (psbt : Bytes) (room : ℕ) (before : Map) (at : ℕ) (read : Map × ℕ) → IsBytes psbt → length psbt < 2 ^ 64 → pairs_at forms psbt room before at ≡ Ok read
+-- pairs that were read stand there, and have nothing wrong
+pub pairs_from : (forms : ℕ → Form) (psbt : Bytes) (room : ℕ) (before : Map) (at : ℕ) (read : Map × ℕ) → IsBytes psbt → length psbt < 2 ^ 64 → pairs_at forms psbt room before at ≡ Ok read
     → From psbt at (map_text read.0) read.1 × IsSoundMap forms before read.0
 unfolding pairs_at sound_pair_at size_bytes
 pairs_from forms psbt zero before at read fits small e = absurd cc

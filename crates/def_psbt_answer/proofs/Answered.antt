@@ -16,8 +16,9 @@ use Rattle.def_spend.specs.Input.{Spend, spends_of}
 use Rattle.def_spend.specs.Reading.{Input, witness_script, ReadsAs, HasReading, AreInputs}
 use Rattle.def_answer.proofs.Decided.{decided, decided_is, decided_not}
 use Rattle.def_psbt_answer.specs.declared.status.Status.{Status}
-use Rattle.def_psbt_answer.specs.Words.{Command, command_of}
-use Rattle.def_psbt_answer.specs.Report.{Form}
+use Rattle.def_psbt_answer.specs.declared.words.Command.{Command}
+use Rattle.def_psbt_answer.specs.Words.{command_of}
+use Rattle.def_psbt_answer.specs.declared.words.Form.{Form}
 use Rattle.def_psbt_answer.specs.Reply.{Reply, reply, usage_reply, refusal_reply, form_of, command_reply}
 use Rattle.def_psbt_answer.specs.Answer.{RepliesToSource, RepliesToWords, Answer}
 

@@ -1,5 +1,5 @@
 -- Words and a source have at most one answer.
-use Rattle.std.proofs.Common.{◌≡◌, suc, List, [], ◌∷◌, map, All, Option, Some, None, Result, Ok, Err, refl, sym, ◌∙◌, ap, subst, arith}
+use Rattle.std.proofs.Common.{◌≡◌, ℕ, zero, suc, slice_get, List, [], ◌∷◌, map, All, Option, Some, None, Result, Ok, Err, refl, sym, ◌∙◌, ap, subst, arith}
 use Rattle.def_script.specs.Bytes.{Bytes}
 use Rattle.def_tree.specs.Tree.{Key, Tree}
 use Rattle.ms_decode_laws.proofs.Decoding.{one_is_decoded}
@@ -8,9 +8,11 @@ use Rattle.def_psbt.specs.Map.{Psbt}
 use Rattle.def_psbt.specs.Source.{psbt_of}
 use Rattle.def_spend.specs.declared.State.{State}
 use Rattle.def_spend.specs.Fields.{keys_in}
+use Rattle.def_spend.specs.Input.{Spend, spends_of}
 use Rattle.def_spend.specs.Reading.{Input, witness_script, IsReadAs, ReadsAs, HasReading, AreInputs}
-use Rattle.def_psbt_answer.specs.Words.{Command, command_of}
-use Rattle.def_psbt_answer.specs.Report.{Form}
+use Rattle.def_psbt_answer.specs.declared.words.Command.{Command}
+use Rattle.def_psbt_answer.specs.Words.{command_of}
+use Rattle.def_psbt_answer.specs.declared.words.Form.{Form}
 use Rattle.def_psbt_answer.specs.Reply.{Reply, form_of, command_reply}
 use Rattle.def_psbt_answer.specs.Answer.{RepliesToSource, RepliesToWords}
 use Rattle.def_psbt_answer.specs.Laws.{OneAnswer, OneReading}
@@ -46,6 +48,23 @@ one_list (x ∷ xs) (y ∷ ys) e h k =
 
 pub one_inputs : (psbt : Psbt) (a b : List Input) → AreInputs psbt a → AreInputs psbt b → a ≡ b
 one_inputs psbt a b h k = one_list a b (h.spends ∙ sym k.spends) h.read k.read
+
+-- the input with a number, once it is read
+read_at : (inputs : List Input) (spends : List Spend) (number : ℕ) (input : Input) → map (λ input. input.spend) inputs ≡ spends → All HasReading inputs
+    → slice_get spends number ≡ Some input.spend → HasReading input → slice_get inputs number ≡ Some input
+read_at [] [] number input e h is read = absurd cc
+read_at [] (spend ∷ spends) number input e h is read = absurd cc
+read_at (x ∷ xs) [] number input e h is read = absurd cc
+read_at (x ∷ xs) (spend ∷ spends) zero input e h is read =
+    let same : x.spend ≡ input.spend = cc in
+    ap Some (one_reading x input (h 0 x (omega arith)) read same)
+read_at (x ∷ xs) (spend ∷ spends) (suc number) input e h is read =
+    let rest : map (λ input. input.spend) xs ≡ spends = cc in
+    read_at xs spends number input rest (λ i d lt. h (suc i) d (omega arith)) is read
+
+pub input_at : (psbt : Psbt) (inputs : List Input) (number : ℕ) (input : Input) → AreInputs psbt inputs
+    → slice_get (spends_of psbt) number ≡ Some input.spend → HasReading input → slice_get inputs number ≡ Some input
+input_at psbt inputs number input are is read = read_at inputs (spends_of psbt) number input are.spends are.read is read
 
 -- ---- the answer
 

@@ -6,8 +6,9 @@ use Rattle.def_psbt.specs.Map.{Psbt}
 use Rattle.def_psbt.specs.Source.{psbt_of}
 use Rattle.def_spend.specs.Reading.{Input, AreInputs}
 use Rattle.def_psbt_answer.specs.declared.status.Status.{Status}
-use Rattle.def_psbt_answer.specs.Words.{Command, command_of}
-use Rattle.def_psbt_answer.specs.Report.{Form}
+use Rattle.def_psbt_answer.specs.declared.words.Command.{Command}
+use Rattle.def_psbt_answer.specs.Words.{command_of}
+use Rattle.def_psbt_answer.specs.declared.words.Form.{Form}
 use Rattle.def_psbt_answer.specs.Reply.{Reply, reply, usage_reply, refusal_reply, form_of, command_reply}
 
 -- the reply to a PSBT that came in a form, by its inputs, each read

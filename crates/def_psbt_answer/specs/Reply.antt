@@ -12,10 +12,12 @@ use Rattle.def_spend.specs.Finalized.{network_text}
 use Rattle.def_answer.specs.Lines.{line, usage_line}
 use Rattle.def_psbt_answer.specs.declared.status.Status.{Status}
 use Rattle.def_psbt_answer.specs.declared.status.Status.TheVariants as status
-use Rattle.def_psbt_answer.specs.Words.{Command, finalize, inspect, extract, hashes}
+use Rattle.def_psbt_answer.specs.declared.words.Command.{Command}
+use Rattle.def_psbt_answer.specs.declared.words.Command.TheVariants as command
+use Rattle.def_psbt_answer.specs.declared.words.Form.{Form}
+use Rattle.def_psbt_answer.specs.declared.words.Form.TheVariants as form
 use Rattle.def_psbt_answer.specs.Lines.{refusal_line, not_final_line}
-use Rattle.def_psbt_answer.specs.Report.{Form, inspect_report, hashes_report, finalize_report}
-use Rattle.def_psbt_answer.specs.Report as form
+use Rattle.def_psbt_answer.specs.Report.{inspect_report, hashes_report, finalize_report}
 
 pub record Reply : Type 0 where
   pub status : Status
@@ -39,7 +41,7 @@ settled_status inputs = if list_all is_settled inputs then status.Done else stat
 
 -- the form of a source
 abbrev pub form_of : (source : Bytes) → Form
-form_of source = if has_magic source then form.bytes else form.base64
+form_of source = if has_magic source then form.Bytes else form.Base64
 
 -- an input that isn't Final, if there is one
 abbrev pub first_open : List Input → Option Input
@@ -55,7 +57,7 @@ extract_reply psbt [] = reply status.Open (not_final_line 0)
 extract_reply psbt (input ∷ inputs) = extract_by (first_open (input ∷ inputs)) psbt
 
 abbrev pub command_reply : Command → Form → Psbt → List Input → Reply
-command_reply finalize form psbt inputs = reply (settled_status inputs) (finalize_report form psbt inputs)
-command_reply inspect form psbt inputs = reply (settled_status inputs) (inspect_report psbt.transaction inputs)
-command_reply extract form psbt inputs = extract_reply psbt inputs
-command_reply hashes form psbt inputs = reply status.Done (hashes_report inputs)
+command_reply command.Finalize form psbt inputs = reply (settled_status inputs) (finalize_report form psbt inputs)
+command_reply command.Inspect form psbt inputs = reply (settled_status inputs) (inspect_report psbt.transaction inputs)
+command_reply command.Extract form psbt inputs = extract_reply psbt inputs
+command_reply command.Hashes form psbt inputs = reply status.Done (hashes_report inputs)

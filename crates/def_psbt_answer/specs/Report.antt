@@ -23,6 +23,8 @@ use Rattle.def_spend.specs.Asking.{plan_with, unsigned_keys}
 use Rattle.def_spend.specs.Finalized.{finalized}
 use Rattle.def_answer.specs.Lines.{line}
 use Rattle.def_answer.specs.Report.{decode_report, policy_of, ask_line, weight_line as most_weight_line}
+use Rattle.def_psbt_answer.specs.declared.words.Form.{Form}
+use Rattle.def_psbt_answer.specs.declared.words.Form.TheVariants as form
 use Rattle.def_psbt_answer.specs.Lines.{psbt_line, output_lines, input_line, outpoint_line, amount_line, unchecked_line, signature_line, policy_line, weight_line, no_plan_line, sign_line, check_line}
 use Rattle.def_psbt_answer.specs.Fee.{fee_line}
 
@@ -89,15 +91,10 @@ hashes_report inputs = flat_map input_hashes inputs
 
 -- ---- finalize
 
--- the form in which a PSBT came: its bytes, or their base64
-pub data Form : Type 0 where
-  bytes : Form
-  base64 : Form
-
 -- a PSBT in a form: base64 in one line
 abbrev pub in_form : Form → (psbt : Bytes) → Bytes
-in_form bytes psbt = psbt
-in_form base64 psbt = line (encode_of standard psbt)
+in_form form.Bytes psbt = psbt
+in_form form.Base64 psbt = line (encode_of standard psbt)
 
 -- the bytes of the finalised PSBT
 abbrev pub finalized_text : Psbt → List Input → Bytes

@@ -2,25 +2,17 @@
 use Rattle.std.specs.Prelude.{List, [], ◌∷◌, codes, find, Option, None}
 use Rattle.std.specs.Str.{bytes_eq}
 use Rattle.def_script.specs.Bytes.{Bytes}
-
-pub data Command : Type 0 where
-  -- the PSBT with each input that is Ready made final
-  finalize : Command
-  -- what the transaction does with the money, and what each input is and lacks
-  inspect : Command
-  -- the network transaction
-  extract : Command
-  -- what the signatures of each input sign
-  hashes : Command
+use Rattle.def_psbt_answer.specs.declared.words.Command.{Command}
+use Rattle.def_psbt_answer.specs.declared.words.Command.TheVariants as command
 
 abbrev pub name_of : Command → Bytes
-name_of finalize = codes "finalize"
-name_of inspect = codes "inspect"
-name_of extract = codes "extract"
-name_of hashes = codes "hashes"
+name_of command.Finalize = codes "finalize"
+name_of command.Inspect = codes "inspect"
+name_of command.Extract = codes "extract"
+name_of command.Hashes = codes "hashes"
 
 abbrev pub every_command : List Command
-every_command = finalize ∷ inspect ∷ extract ∷ hashes ∷ []
+every_command = command.Finalize ∷ command.Inspect ∷ command.Extract ∷ command.Hashes ∷ []
 
 -- the command of a list of words, where it has this form
 abbrev pub command_of : (words : List Bytes) → Option Command

@@ -5,5 +5,7 @@ pub mod examples;
 pub mod laws;
 
 pub use status::Status;
+pub use words::{Command, Form};
 
 mod status;
+mod words;

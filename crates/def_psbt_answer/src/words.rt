@@ -1,0 +1,23 @@
+//! What is asked of `msat-psbt`, and the forms of a PSBT.
+
+/// What is asked of `msat-psbt`, each by a word of its own.
+#[derive(Clone, Copy, Debug, PartialEq, Eq)]
+pub enum Command {
+    /// The PSBT with each input that is Ready made final.
+    Finalize,
+    /// What the transaction does with the money, and what each input is and lacks.
+    Inspect,
+    /// The network transaction.
+    Extract,
+    /// What the signatures of each input sign.
+    Hashes,
+}
+
+/// The form in which a PSBT came, and goes out.
+#[derive(Clone, Copy, Debug, PartialEq, Eq)]
+pub enum Form {
+    /// Its bytes.
+    Bytes,
+    /// Their base64.
+    Base64,
+}

@@ -1,0 +1,212 @@
+-- What the map of an input holds: keys, and assets.
+use Rattle.std.proofs.Common.{◌≡◌, ℕ, suc, ◌^◌, ◌<◌, ◌==◌, ◌&&◌, ◌||◌, nat_le, Bool, true, false, cond, List, [], ◌∷◌, ◌++◌, length, map, filter, drop, All, Option, Some, None, Ok, Err, refl, sym, ap, subst, ◌∙◌, arith}
+use Rattle.std.specs.List.{AllByRecursion, IsDistinct}
+use Rattle.std.specs.Str.{bytes_eq}
+use Rattle.std.proofs.lemmas.Bool.{and_parts, eqb-true, leb-true, false≢true}
+use Rattle.std.proofs.lemmas.Slice.Eq.{bytes_eq-Decides}
+use Rattle.std.proofs.lemmas.List.Elements.{All-from_recursion, recursion_from_All}
+use Rattle.def_script.specs.Bytes.{Bytes, IsBytes}
+use Rattle.def_script.specs.Key.{is_key}
+use Rattle.def_script.specs.Sizes.{SizeReading, size_bytes, read_size}
+use Rattle.def_script.proofs.Sizing.{size_has_one_spelling}
+use Rattle.def_tree.specs.Range.{IsKey}
+use Rattle.def_assets.specs.Assets.{IsSignature, IsPreimage, AreAssets, same_key}
+use Rattle.def_assets.proofs.Distinct.{distinct_pairs}
+use Rattle.def_psbt.specs.declared.PsbtFault.{PsbtFault}
+use Rattle.def_psbt.specs.declared.PsbtFault.TheVariants.{RepeatedKey, KeyForm}
+use Rattle.def_psbt.specs.Map.{Pair, Map, type_of, data_of, type_read, data_read}
+use Rattle.def_psbt.specs.Forms.{is_signature, is_der_sequence}
+use Rattle.def_psbt.specs.Listed.{Form, is_typed, stands, passes, form_fault, input_form, shape_fault, pair_fault}
+use Rattle.def_psbt.specs.Laws.{IsSoundMap}
+use Rattle.def_spend.specs.Fields.{PARTIAL_SIG, BIP32_DERIVATION, has_type, is_signed, signatures_in, has_key, keys_in, is_preimage_pair, preimages_in}
+use Rattle.def_spend.specs.Input.{Spend, assets_of}
+use Rattle.ms_given_laws.specs.Given.{IsMapOfBytes}
+use Rattle.ms_given_laws.proofs.BytesOf.{dropped}
+use Rattle.ms_given_laws.proofs.Maps.{IsPairOfBytes}
+
+-- what holds of what is made of the elements that pass a test
+pub each_kept : {A B : Type 0} (P : A → Type 0) (Q : B → Type 0) (test : A → Bool) (make : A → B) → ((x : A) → test x ≡ true → P x → Q (make x)) → (xs : List A)
+    → AllByRecursion P xs → AllByRecursion Q (map make (filter test xs))
+each_kept {A} {B} P Q test make each [] h = tt
+each_kept {A} {B} P Q test make each (x ∷ xs) h = go (test x) refl (each_kept P Q test make each xs h.1)
+  where
+    go : (b : Bool) → test x ≡ b → AllByRecursion Q (map make (filter test xs)) → AllByRecursion Q (map make (cond b (x ∷ filter test xs) (filter test xs)))
+    go true e rest = (each x e h.0, rest)
+    go false e rest = rest
+
+-- ---- keys
+
+pub data_bytes : (key : Bytes) → IsBytes key → IsBytes (data_of key)
+data_bytes key fits = go (read_size key)
+  where
+    go : (reading : SizeReading) → IsBytes (data_read reading key)
+    go (Ok read) = dropped read.1 key fits
+    go (Err fault) = λ i. omega arith
+
+-- a key with a type that isn't 0 is the type and its data
+pub key_is : (key : Bytes) (type : ℕ) → IsBytes key → type_of key ≡ suc type → key ≡ size_bytes (suc type) ++ data_of key
+key_is key type fits e = go (read_size key) refl e
+  where
+    go : (reading : SizeReading) → read_size key ≡ reading → type_read reading ≡ suc type → key ≡ size_bytes (suc type) ++ data_read reading key
+    go (Ok read) is e = size_has_one_spelling key read fits is ∙ ap (λ (n : ℕ). size_bytes n ++ drop read.1 key) e
+    go (Err fault) is e = absurd (omega (arith, e))
+
+pub keys_are : (fields : Map) → IsMapOfBytes fields → All IsKey (keys_in fields)
+keys_are fields fits =
+    All-from_recursion IsKey (keys_in fields)
+    (each_kept IsPairOfBytes IsKey has_key (λ pair. data_of pair.key) (λ pair test h. record {
+      form = (and_parts (has_type PARTIAL_SIG pair || has_type BIP32_DERIVATION pair) (is_key (data_of pair.key)) test).1;
+      bytes = data_bytes pair.key h.0;
+    }) fields (recursion_from_All IsPairOfBytes fields fits))
+
+-- ---- the form of each pair
+
+not_again : (b : Bool) (fault : Option PsbtFault) → cond b (Some RepeatedKey) fault ≡ None → (b ≡ false) × (fault ≡ None)
+not_again true fault e = absurd cc
+not_again false fault e = (refl, e)
+
+pub fault_none : (forms : ℕ → Form) (before : Map) (pair : Pair) → pair_fault forms before pair ≡ None → (stands pair.key before ≡ false) × (shape_fault forms pair ≡ None)
+unfolding pair_fault
+fault_none forms before pair e = not_again (stands pair.key before) (shape_fault forms pair) e
+
+-- a pair with nothing wrong by itself
+abbrev pub HasShape : (forms : ℕ → Form) → Pair → Type 0
+HasShape forms pair = shape_fault forms pair ≡ None
+
+pub shapes : (forms : ℕ → Form) (before map : Map) → IsSoundMap forms before map → AllByRecursion (HasShape forms) map
+shapes forms before [] h = tt
+shapes forms before (pair ∷ map) h = ((fault_none forms before pair h.0.fault).1, shapes forms (before ++ pair ∷ []) map h.1)
+
+some_form : (b : Bool) (fault : Option PsbtFault) → cond b fault (Some KeyForm) ≡ None → (b ≡ true) × (fault ≡ None)
+some_form true fault e = (refl, e)
+some_form false fault e = absurd cc
+
+-- the form of the pair's type holds
+pub form_of : (forms : ℕ → Form) (pair : Pair) → HasShape forms pair
+    → ((forms (type_of pair.key)).key (data_of pair.key) ≡ true) × ((forms (type_of pair.key)).value (data_of pair.key) pair.value ≡ None)
+unfolding shape_fault
+form_of forms pair e =
+    let typed = some_form (is_typed (read_size pair.key)) (form_fault (forms (type_of pair.key)) pair) e in
+    some_form ((forms (type_of pair.key)).key (data_of pair.key)) ((forms (type_of pair.key)).value (data_of pair.key) pair.value) typed.1
+
+passed : (b : Bool) → passes b ≡ None → b ≡ true
+passed true e = refl
+passed false e = absurd cc
+
+-- the value of a pair of the type of signatures is one
+pub signature_form : (pair : Pair) → HasShape input_form pair → has_type PARTIAL_SIG pair ≡ true → is_signature pair.value ≡ true
+unfolding input_form
+signature_form pair shape is =
+    let type : type_of pair.key ≡ 0x02 = eqb-true (type_of pair.key) 0x02 is in
+    passed (is_signature pair.value) (subst (λ (n : ℕ). (input_form n).value (data_of pair.key) pair.value ≡ None) type (form_of input_form pair shape).1)
+
+signature_is : (sig : Bytes) → IsBytes sig → is_signature sig ≡ true → IsSignature sig
+unfolding is_signature
+signature_is sig fits e =
+    let parts = and_parts (nat_le 9 (length sig) && nat_le (length sig) 73) (is_der_sequence sig) e in
+    let sizes = and_parts (nat_le 9 (length sig)) (nat_le (length sig) 73) parts.0 in
+    let low = leb-true 9 (length sig) sizes.0 in
+    let high = leb-true (length sig) 73 sizes.1 in
+    record { some = omega (arith, low); few = high; bytes = fits }
+
+-- ---- no key signs twice
+
+differ : (forms : ℕ → Form) (first : Pair) (before after map : Map) → IsSoundMap forms (before ++ first ∷ after) map → AllByRecursion (λ (pair : Pair). bytes_eq pair.key first.key ≡ false) map
+differ forms first before after [] h = tt
+differ forms first before after (pair ∷ map) h = (
+  other before ((fault_none forms (before ++ first ∷ after) pair h.0.fault).0),
+  differ forms first before (after ++ pair ∷ []) map (subst (λ (former : Map). IsSoundMap forms former map) (joined before) h.1),
+)
+  where
+    joined : (before : Map) → (before ++ first ∷ after) ++ pair ∷ [] ≡ before ++ first ∷ (after ++ pair ∷ [])
+    joined [] = refl
+    joined (x ∷ before) = ap (λ (l : Map). x ∷ l) (joined before)
+
+    left : (a b : Bool) → (a || b) ≡ false → a ≡ false
+    left true b e = absurd (false≢true (sym e))
+    left false b e = refl
+
+    right : (a b : Bool) → (a || b) ≡ false → b ≡ false
+    right true b e = absurd (false≢true (sym e))
+    right false b e = e
+
+    other : (before : Map) → stands pair.key (before ++ first ∷ after) ≡ false → bytes_eq pair.key first.key ≡ false
+    other [] e = left (bytes_eq pair.key first.key) (stands pair.key after) e
+    other (x ∷ before) e = other before (right (bytes_eq pair.key x.key) (stands pair.key (before ++ first ∷ after)) e)
+
+-- of two pairs of signatures, with different keys, the keys that sign differ
+keys_differ : (first pair : Pair) → IsPairOfBytes first → IsPairOfBytes pair → has_type PARTIAL_SIG first ≡ true → has_type PARTIAL_SIG pair ≡ true
+    → bytes_eq pair.key first.key ≡ false → bytes_eq (data_of first.key) (data_of pair.key) ≡ false
+keys_differ first pair fits own signs_first signs other =
+    go (bytes_eq (data_of first.key) (data_of pair.key)) refl
+  where
+    go : (b : Bool) → bytes_eq (data_of first.key) (data_of pair.key) ≡ b → b ≡ false
+    go false e = refl
+    go true e =
+        let same_data = (bytes_eq-Decides (data_of first.key) (data_of pair.key)).0 e in
+        let one = key_is first.key 1 fits.0 (eqb-true (type_of first.key) 0x02 signs_first) in
+        let two = key_is pair.key 1 own.0 (eqb-true (type_of pair.key) 0x02 signs) in
+        let same : pair.key ≡ first.key = two ∙ ap (λ (d : Bytes). size_bytes 2 ++ d) (sym same_data) ∙ sym one in
+        absurd (false≢true (sym other ∙ (bytes_eq-Decides pair.key first.key).1 same))
+
+abbrev pub signature : Pair → Bytes × Bytes
+signature pair = (data_of pair.key, pair.value)
+
+signs : (pair : Pair) → is_signed pair ≡ true → has_type PARTIAL_SIG pair ≡ true
+signs pair e = (and_parts (has_type PARTIAL_SIG pair) (is_key (data_of pair.key)) e).0
+
+later_differ : (first : Pair) (fields : Map) → IsPairOfBytes first → is_signed first ≡ true → AllByRecursion IsPairOfBytes fields → AllByRecursion (λ (pair : Pair). bytes_eq pair.key first.key ≡ false) fields
+    → AllByRecursion (λ other. same_key (signature first) other ≡ false) (signatures_in fields)
+later_differ first [] fits is all h = tt
+later_differ first (pair ∷ fields) fits is all h = go (is_signed pair) refl (later_differ first fields fits is all.1 h.1)
+  where
+    go : (b : Bool) → is_signed pair ≡ b → AllByRecursion (λ other. same_key (signature first) other ≡ false) (signatures_in fields)
+        → AllByRecursion (λ (other : Bytes × Bytes). same_key (signature first) other ≡ false) (map signature (cond b (pair ∷ filter is_signed fields) (filter is_signed fields)))
+    go true e rest = (keys_differ first pair fits all.0 (signs first is) (signs pair e) h.0, rest)
+    go false e rest = rest
+
+pub one_signature : (before fields : Map) → IsSoundMap input_form before fields → AllByRecursion IsPairOfBytes fields → IsDistinct same_key (signatures_in fields)
+unfolding IsDistinct
+one_signature before [] sound all = tt
+one_signature before (pair ∷ fields) sound all = go (is_signed pair) refl (one_signature (before ++ pair ∷ []) fields sound.1 all.1)
+  where
+    go : (b : Bool) → is_signed pair ≡ b → IsDistinct same_key (signatures_in fields)
+        → IsDistinct same_key (map signature (cond b (pair ∷ filter is_signed fields) (filter is_signed fields)))
+    go true e rest = (later_differ pair fields all.0 e all.1 (differ input_form pair before [] fields sound.1), rest)
+    go false e rest = rest
+
+-- ---- the assets
+
+-- the numbers of the locks
+pub record HasLocks (spend : Spend) : Type 0 where
+  pub version : spend.transaction.version < 2 ^ 32
+  pub sequence : spend.input.sequence < 2 ^ 32
+  pub lock_time : spend.transaction.lock_time < 2 ^ 32
+
+pub assets_are : (spend : Spend) → HasLocks spend → IsSoundMap input_form [] spend.fields → IsMapOfBytes spend.fields → AreAssets (assets_of spend)
+assets_are spend locks sound fits =
+    let all = recursion_from_All IsPairOfBytes spend.fields fits in
+    let forms = shapes input_form [] spend.fields sound in
+    record {
+      keys = All-from_recursion (λ pair. IsKey pair.0) (signatures_in spend.fields)
+          (each_kept IsPairOfBytes (λ pair. IsKey pair.0) is_signed signature (λ pair test h. record {
+            form = (and_parts (has_type PARTIAL_SIG pair) (is_key (data_of pair.key)) test).1;
+            bytes = data_bytes pair.key h.0;
+          }) spend.fields all);
+      signatures = All-from_recursion (λ pair. IsSignature pair.1) (signatures_in spend.fields)
+          (each_kept (λ pair. IsPairOfBytes pair × HasShape input_form pair) (λ pair. IsSignature pair.1) is_signed signature
+          (λ pair test h. signature_is pair.value h.0.1 (signature_form pair h.1 (signs pair test))) spend.fields (both_hold spend.fields all forms));
+      distinct = distinct_pairs (signatures_in spend.fields) (one_signature [] spend.fields sound all);
+      preimages = All-from_recursion IsPreimage (preimages_in spend.fields)
+          (each_kept IsPairOfBytes IsPreimage is_preimage_pair (λ pair. pair.value) (λ pair test h. record {
+            length = eqb-true (length pair.value) 32 ((and_parts _ (length pair.value == 32) test).1);
+            bytes = h.1;
+          }) spend.fields all);
+      version = locks.version;
+      sequence = locks.sequence;
+      locktime = locks.lock_time;
+    }
+  where
+    both_hold : (fields : Map) → AllByRecursion IsPairOfBytes fields → AllByRecursion (HasShape input_form) fields → AllByRecursion (λ pair. IsPairOfBytes pair × HasShape input_form pair) fields
+    both_hold [] p q = tt
+    both_hold (pair ∷ fields) p q = ((p.0, q.0), both_hold fields p.1 q.1)

@@ -1,0 +1,62 @@
+-- Every PSBT that a source of bytes gives is whole, and its inputs hold keys and assets.
+use Rattle.std.proofs.Common.{ℕ, ◌+◌, List, [], ◌∷◌, subst}
+use Rattle.std.specs.List.{AllByRecursion}
+use Rattle.std.proofs.lemmas.List.Elements.{All-from_recursion, recursion_from_All}
+use Rattle.def_script.specs.Bytes.{IsBytes}
+use Rattle.def_psbt.specs.Transaction.{TransactionInput, Transaction}
+use Rattle.def_psbt.specs.Map.{Map, Psbt}
+use Rattle.def_psbt.specs.Listed.{input_form}
+use Rattle.def_psbt.specs.Laws.{IsSoundMap, ReadIsWritten}
+use Rattle.def_spend.specs.Input.{Spend, spends_from, spends_of}
+use Rattle.ms_given_laws.specs.Given.{IsInput, IsTransaction, IsMapOfBytes, IsWhole, EachIsSound, EachHasKeys, EachHasAssets}
+use Rattle.ms_given_laws.proofs.Decoded.{from_source}
+use Rattle.ms_given_laws.proofs.Maps.{whole_is}
+use Rattle.ms_given_laws.proofs.Held.{HasLocks, keys_are, assets_are}
+
+-- what each input has beside its map
+pub record HasPlace (spend : Spend) : Type 0 where
+  pub locks : HasLocks spend
+  pub sound : IsSoundMap input_form [] spend.fields
+  pub fits : IsMapOfBytes spend.fields
+
+places_from : (transaction : Transaction) (number : ℕ) (inputs : List TransactionInput) (maps : List Map) → IsTransaction transaction
+    → AllByRecursion IsInput inputs → AllByRecursion (λ map. IsSoundMap input_form [] map) maps → AllByRecursion IsMapOfBytes maps
+    → AllByRecursion HasPlace (spends_from transaction number inputs maps)
+places_from transaction number [] maps whole ins sound fits = tt
+places_from transaction number (input ∷ inputs) [] whole ins sound fits = tt
+places_from transaction number (input ∷ inputs) (fields ∷ maps) whole ins sound fits = (
+  record {
+    locks = record { version = whole.version; sequence = ins.0.sequence; lock_time = whole.lock_time };
+    sound = sound.0;
+    fits = fits.0;
+  },
+  places_from transaction (number + 1) inputs maps whole ins.1 sound.1 fits.1,
+)
+
+-- of a PSBT that is whole
+pub places : (psbt : Psbt) → IsWhole psbt → AllByRecursion HasPlace (spends_of psbt)
+places psbt whole =
+    places_from psbt.transaction 0 psbt.transaction.inputs psbt.inputs whole.transaction
+    (recursion_from_All IsInput psbt.transaction.inputs whole.transaction.inputs)
+    (recursion_from_All (λ map. IsSoundMap input_form [] map) psbt.inputs whole.sound.inputs)
+    (recursion_from_All IsMapOfBytes psbt.inputs whole.inputs)
+
+weaker : {A : Type 0} (P Q : A → Type 0) → ((x : A) → P x → Q x) → (xs : List A) → AllByRecursion P xs → AllByRecursion Q xs
+weaker P Q f [] h = tt
+weaker P Q f (x ∷ xs) h = (f x h.0, weaker P Q f xs h.1)
+
+pub each_is_sound : ReadIsWritten → EachIsSound
+each_is_sound law source psbt fits e =
+    let b = from_source source psbt fits e in
+    let told = law b.0 psbt b.1.fits b.1.short b.1.magic b.1.read in
+    whole_is psbt told.0 (subst IsBytes told.1 b.1.fits)
+
+pub each_has_keys : ReadIsWritten → EachHasKeys
+each_has_keys law source psbt fits e =
+    All-from_recursion _ (spends_of psbt)
+    (weaker HasPlace _ (λ spend place. keys_are spend.fields place.fits) (spends_of psbt) (places psbt (each_is_sound law source psbt fits e)))
+
+pub each_has_assets : ReadIsWritten → EachHasAssets
+each_has_assets law source psbt fits e =
+    All-from_recursion _ (spends_of psbt)
+    (weaker HasPlace _ (λ spend place. assets_are spend place.locks place.sound place.fits) (spends_of psbt) (places psbt (each_is_sound law source psbt fits e)))

@@ -1,0 +1,10 @@
+pub mod PartsBack
+pub mod Existing
+pub mod Sounding
+pub mod Wholes
+pub mod Sources
+pub mod Again
+pub mod AloneMaps
+pub mod PartsWritten
+pub mod NetworkTexts
+mod Computed

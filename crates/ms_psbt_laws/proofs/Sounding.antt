@@ -1,0 +1,287 @@
+-- What is written is sound: the kept pairs of each Ready input with its final witness, and the maps of others.
+use Rattle.std.proofs.Common.{◌≡◌, ℕ, zero, suc, ◌+◌, ◌*◌, ◌^◌, ◌<◌, ◌≤◌, ◌||◌, nat_lt, Bool, true, false, not, cond, List, [], ◌∷◌, ◌++◌, length, map, filter, All, Some, None, is_some, refl, sym, ap, subst, ◌∙◌, if◌then◌else◌, arith}
+use Rattle.std.specs.List.{flat_map, AllByRecursion, find}
+use Rattle.std.specs.Int.{w16, w32, w64, to_le_bytes, byte_at, bytes_low_first}
+use Rattle.std.specs.Option.{option_map}
+use Rattle.std.specs.Str.{bytes_eq}
+use Rattle.std.proofs.lemmas.Bool.{false≢true, ltb-true}
+use Rattle.std.proofs.lemmas.List.{append-nil, length-append}
+use Rattle.std.proofs.lemmas.List.Concat.{flat_map-cons}
+use Rattle.std.proofs.lemmas.List.Elements.{All-nil, All-cons, All-append, All-filter, recursion_from_All}
+use Rattle.std.proofs.lemmas.Slice.Eq.{bytes_eq-Decides}
+use Rattle.def_script.specs.Bytes.{Bytes, IsBytes}
+use Rattle.def_script.specs.Sizes.{size_bytes, read_size}
+use Rattle.def_script.specs.Witness.{sized, items_text, witness_text}
+use Rattle.def_emit.specs.Emit.{script_of}
+use Rattle.def_satisfaction.proofs.OfBytes.{sat_is_of_bytes}
+use Rattle.ms_witness.specs.Reading.{MOST_WITNESS, FitsWitness}
+use Rattle.def_psbt.specs.Map.{Pair, Map, type_of}
+use Rattle.def_psbt.specs.Part.{Part, first_string, first_list, whole}
+use Rattle.def_psbt.specs.Forms as forms
+use Rattle.def_psbt.specs.Listed.{Form, stands, shape_fault, pair_fault, input_form}
+use Rattle.def_psbt.specs.Laws.{IsSoundPair, IsSoundMap}
+use Rattle.def_spend.specs.declared.State.{State}
+use Rattle.def_spend.specs.declared.State.TheVariants as state
+use Rattle.def_spend.specs.Fields.{WITNESS_SCRIPT, FINAL_SCRIPTWITNESS, has_type, field}
+use Rattle.def_spend.specs.Input.{assets_of}
+use Rattle.def_spend.specs.Reading.{Input}
+use Rattle.def_spend.specs.States.{state_of, is_ready, stack_of}
+use Rattle.def_spend.specs.Finalized.{is_cleared, is_kept, witness_pair, final_map, witness_of, written_map}
+use Rattle.ms_given_laws.specs.Given.{OfEachInput, EachIsSound, IsMapOfBytes}
+use Rattle.ms_given_laws.proofs.BytesOf as bytes
+use Rattle.ms_given_laws.proofs.Maps.{IsPairOfBytes}
+use Rattle.ms_given_laws.proofs.Parts.{some_is}
+use Rattle.ms_given_laws.proofs.Held.{fault_none}
+use Rattle.ms_given_laws.proofs.Joined.{sound_joins}
+use Rattle.ms_spend_laws.proofs.Inputs.{IsGiven, held, of_each}
+use Rattle.ms_spend_laws.proofs.States.{opens, ready_some, stack_is, writes}
+use Rattle.ms_spend_laws.proofs.Chosen.{IsChosen, canonical, fits_witness, witness_is}
+use Rattle.ms_psbt_laws.proofs.PartsBack.{AreItems, witness_back}
+
+-- ---- the kept pairs
+
+-- what doesn't stand before doesn't stand among the kept ones
+abbrev Within : (kept before : Map) → Type 0
+Within kept before = (key : Bytes) → stands key before ≡ false → stands key kept ≡ false
+
+left_false : (a b : Bool) → (a || b) ≡ false → a ≡ false
+left_false true b e = absurd (false≢true (sym e))
+left_false false b e = refl
+
+right_false : (a b : Bool) → (a || b) ≡ false → b ≡ false
+right_false true b e = absurd (false≢true (sym e))
+right_false false b e = e
+
+both_false : (a b : Bool) → a ≡ false → b ≡ false → (a || b) ≡ false
+both_false true b e f = absurd (false≢true (sym e))
+both_false false b e f = f
+
+stands_front : (key : Bytes) (before : Map) (pair : Pair) → stands key (before ++ pair ∷ []) ≡ false → stands key before ≡ false
+stands_front key [] pair e = refl
+stands_front key (x ∷ before) pair e =
+    both_false (bytes_eq key x.key) (stands key before) (left_false (bytes_eq key x.key) (stands key (before ++ pair ∷ [])) e)
+    (stands_front key before pair (right_false (bytes_eq key x.key) (stands key (before ++ pair ∷ [])) e))
+
+stands_last : (key : Bytes) (before : Map) (pair : Pair) → stands key (before ++ pair ∷ []) ≡ false → bytes_eq key pair.key ≡ false
+stands_last key [] pair e = left_false (bytes_eq key pair.key) false e
+stands_last key (x ∷ before) pair e = stands_last key before pair (right_false (bytes_eq key x.key) (stands key (before ++ pair ∷ [])) e)
+
+stands_both : (key : Bytes) (before : Map) (pair : Pair) → stands key before ≡ false → bytes_eq key pair.key ≡ false → stands key (before ++ pair ∷ []) ≡ false
+stands_both key [] pair e f = both_false (bytes_eq key pair.key) false f refl
+stands_both key (x ∷ before) pair e f =
+    both_false (bytes_eq key x.key) (stands key (before ++ pair ∷ [])) (left_false (bytes_eq key x.key) (stands key before) e)
+    (stands_both key before pair (right_false (bytes_eq key x.key) (stands key before) e) f)
+
+still_sound : (forms : ℕ → Form) (before kept : Map) (pair : Pair) → Within kept before → IsSoundPair forms before pair → IsSoundPair forms kept pair
+unfolding pair_fault
+still_sound forms before kept pair within sound =
+    let parts = fault_none forms before pair sound.fault in
+    let new : stands pair.key kept ≡ false = within pair.key parts.0 in
+    record { fault = rw new parts.1; key = sound.key; value = sound.value }
+
+filtered : (forms : ℕ → Form) (test : Pair → Bool) (before kept map : Map) → Within kept before → IsSoundMap forms before map → IsSoundMap forms kept (filter test map)
+filtered forms test before kept [] within sound = tt
+filtered forms test before kept (pair ∷ map) within sound =
+    go (test pair)
+    (filtered forms test (before ++ pair ∷ []) (kept ++ pair ∷ []) map
+    (λ key e. stands_both key kept pair (within key (stands_front key before pair e)) (stands_last key before pair e)) sound.1)
+    (filtered forms test (before ++ pair ∷ []) kept map (λ key e. within key (stands_front key before pair e)) sound.1)
+  where
+    go : (b : Bool) → IsSoundMap forms (kept ++ pair ∷ []) (filter test map) → IsSoundMap forms kept (filter test map)
+        → IsSoundMap forms kept (cond b (pair ∷ filter test map) (filter test map))
+    go true with_it without = (still_sound forms before kept pair within sound.0, with_it)
+    go false with_it without = without
+
+-- ---- the final witness
+
+none_is_final : (fields : Map) → stands (FINAL_SCRIPTWITNESS ∷ []) (filter is_kept fields) ≡ false
+unfolding read_size
+none_is_final [] = refl
+none_is_final (pair ∷ fields) = go (is_kept pair) refl (none_is_final fields)
+  where
+    other : (b : Bool) → bytes_eq (FINAL_SCRIPTWITNESS ∷ []) pair.key ≡ b → is_kept pair ≡ true → b ≡ false
+    other false e kept = refl
+    other true e kept =
+        let same = (bytes_eq-Decides (FINAL_SCRIPTWITNESS ∷ []) pair.key).0 e in
+        let cleared : false ≡ true = subst (λ (key : Bytes). not (is_cleared (type_of key)) ≡ true) (sym same) kept in
+        absurd (false≢true cleared)
+
+    go : (b : Bool) → is_kept pair ≡ b → stands (FINAL_SCRIPTWITNESS ∷ []) (filter is_kept fields) ≡ false
+        → stands (FINAL_SCRIPTWITNESS ∷ []) (cond b (pair ∷ filter is_kept fields) (filter is_kept fields)) ≡ false
+    go true e rest = both_false (bytes_eq (FINAL_SCRIPTWITNESS ∷ []) pair.key) _ (other (bytes_eq (FINAL_SCRIPTWITNESS ∷ []) pair.key) refl e) rest
+    go false e rest = rest
+
+-- items that were written are the witness
+pub items_back : (items : List Bytes) → AreItems items → forms.witness_of (items_text items) ≡ Some items
+unfolding whole
+items_back items are =
+    let read = witness_back items [] are in
+    ap (λ (l : Bytes). whole (first_list first_string l)) (sym (append-nil (items_text items))) ∙ ap (λ (o : Part (List Bytes)). whole o) read
+
+size_few : (n : ℕ) → length (size_bytes n) ≤ 9
+unfolding size_bytes
+size_few n = go (nat_lt n 0xfd) (nat_lt n (2 ^ 16)) (nat_lt n (2 ^ 32))
+  where
+    go : (a b c : Bool) → length (if a then n ∷ [] else if b then 0xfd ∷ to_le_bytes w16 n else if c then 0xfe ∷ to_le_bytes w32 n else 0xff ∷ to_le_bytes w64 n) ≤ 9
+    go true b c = omega arith
+    go false true c = omega arith
+    go false false true = omega arith
+    go false false false = omega arith
+
+items_few : (items : List Bytes) → AllByRecursion (λ (item : Bytes). length item ≤ MOST_WITNESS) items → length (flat_map sized items) ≤ length items * 10009
+items_few [] h = omega arith
+items_few (item ∷ items) h =
+    let long : length (flat_map sized (item ∷ items)) ≡ length (sized item) + length (flat_map sized items) =
+    ap length (flat_map-cons sized item items) ∙ length-append (sized item) (flat_map sized items) in
+    let first = h.0 in
+    omega (arith, long, length-append (size_bytes (length item)) item, size_few (length item), first, items_few items h.1)
+
+-- the items of a witness within its limits
+abbrev pub all_items : List Bytes → Bytes → List Bytes
+all_items stack script = stack ++ script ∷ []
+
+each_fits : (stack : List Bytes) (script : Bytes) → FitsWitness stack script → AllByRecursion (λ (item : Bytes). length item ≤ MOST_WITNESS) (all_items stack script)
+each_fits stack script fits =
+    recursion_from_All (λ (item : Bytes). length item ≤ MOST_WITNESS) (all_items stack script)
+    (All-append (λ (item : Bytes). length item ≤ MOST_WITNESS) stack (script ∷ []) fits.items
+    (All-cons (λ (item : Bytes). length item ≤ MOST_WITNESS) script [] fits.last (All-nil (λ (item : Bytes). length item ≤ MOST_WITNESS))))
+
+short_of : (items : List Bytes) → AllByRecursion (λ (item : Bytes). length item ≤ MOST_WITNESS) items → AllByRecursion (λ (item : Bytes). length item < 2 ^ 64) items
+short_of [] h = tt
+short_of (item ∷ items) h = (let first = h.0 in omega (arith, first), short_of items h.1)
+
+pub are_items : (stack : List Bytes) (script : Bytes) → FitsWitness stack script → AreItems (all_items stack script)
+are_items stack script fits =
+    let few = fits.few in
+    record { few = omega (arith, few, length-append stack (script ∷ [])); short = short_of (all_items stack script) (each_fits stack script fits) }
+
+witness_short : (stack : List Bytes) (script : Bytes) → FitsWitness stack script → length (witness_text stack script) < 2 ^ 64
+witness_short stack script fits =
+    let few = fits.few in
+    let items = items_few (all_items stack script) (each_fits stack script fits) in
+    let size = size_few (length (all_items stack script)) in
+    let both = length-append (size_bytes (length (all_items stack script))) (flat_map sized (all_items stack script)) in
+    omega (arith, few, length-append stack (script ∷ []), items, size, both)
+
+final_fault : (fields : Map) (witness : Bytes) → is_some (forms.witness_of witness) ≡ true → pair_fault input_form (filter is_kept fields) (witness_pair witness) ≡ None
+unfolding pair_fault shape_fault read_size input_form
+final_fault fields witness form = rw (none_is_final fields, form) refl
+
+-- the map of a Ready input is sound
+final_sound : (fields : Map) (stack : List Bytes) (script : Bytes) → IsSoundMap input_form [] fields → FitsWitness stack script
+    → IsSoundMap input_form [] (final_map fields (witness_text stack script))
+final_sound fields stack script sound fits =
+    let form : is_some (forms.witness_of (witness_text stack script)) ≡ true = ap is_some (items_back (all_items stack script) (are_items stack script fits)) in
+    sound_joins input_form [] (filter is_kept fields) (witness_pair (witness_text stack script) ∷ [])
+    (filtered input_form is_kept [] [] fields (λ key e. e) sound)
+    (record { fault = final_fault fields (witness_text stack script) form; key = omega arith; value = witness_short stack script fits }, tt)
+
+-- ---- it consists of bytes
+
+-- the bytes of a number, low byte first
+one_byte : (i n : ℕ) → byte_at i n < 256
+one_byte zero n = omega arith
+one_byte (suc i) n = omega arith
+
+low_first : (i k n : ℕ) → IsBytes (bytes_low_first i k n)
+low_first i zero n = bytes.none
+low_first i (suc k) n = bytes.more (byte_at i n) (bytes_low_first (suc i) k n) (one_byte i n) (low_first (suc i) k n)
+
+pub size_fits : (n : ℕ) → IsBytes (size_bytes n)
+unfolding size_bytes
+size_fits n = go (nat_lt n 0xfd) refl (nat_lt n (2 ^ 16)) (nat_lt n (2 ^ 32))
+  where
+    go : (a : Bool) → nat_lt n 0xfd ≡ a → (b c : Bool)
+        → IsBytes (if a then n ∷ [] else if b then 0xfd ∷ to_le_bytes w16 n else if c then 0xfe ∷ to_le_bytes w32 n else 0xff ∷ to_le_bytes w64 n)
+    go true e b c = let low : n < 0xfd = ltb-true n 0xfd e in bytes.more n [] (omega arith) bytes.none
+    go false e true c = bytes.more 0xfd (to_le_bytes w16 n) (omega arith) (low_first 0 2 n)
+    go false e false true = bytes.more 0xfe (to_le_bytes w32 n) (omega arith) (low_first 0 4 n)
+    go false e false false = bytes.more 0xff (to_le_bytes w64 n) (omega arith) (low_first 0 8 n)
+
+pub sized_fits : (item : Bytes) → IsBytes item → IsBytes (sized item)
+sized_fits item h = bytes.both (size_bytes (length item)) item (size_fits (length item)) h
+
+each_sized : (items : List Bytes) → AllByRecursion IsBytes items → AllByRecursion (λ (item : Bytes). IsBytes (sized item)) items
+each_sized [] h = tt
+each_sized (item ∷ items) h = (sized_fits item h.0, each_sized items h.1)
+
+witness_fits : (items : List Bytes) → AllByRecursion IsBytes items → IsBytes (items_text items)
+witness_fits items h =
+    bytes.both (size_bytes (length items)) (flat_map sized items) (size_fits (length items)) (bytes.joined sized items (each_sized items h))
+
+-- ---- each map as it is written
+
+-- a map of an input that is sound and consists of bytes
+pub record IsGoodMap (fields : Map) : Type 0 where
+  pub sound : IsSoundMap input_form [] fields
+  pub fits : IsMapOfBytes fields
+
+ready_is : (s : State) → is_ready s ≡ true → s ≡ state.Ready
+ready_is state.Ready e = refl
+ready_is state.Final e = absurd cc
+ready_is state.NoUtxo e = absurd cc
+ready_is state.WrongUtxo e = absurd cc
+ready_is state.OtherOutput e = absurd cc
+ready_is state.NoScript e = absurd cc
+ready_is state.WrongScript e = absurd cc
+ready_is state.NoReading e = absurd cc
+ready_is (state.Unfit unfit) e = absurd cc
+ready_is state.WrongSighash e = absurd cc
+ready_is state.TooMany e = absurd cc
+ready_is state.Unsatisfied e = absurd cc
+
+-- the final witness of a Ready input
+pub record IsFinalWitness (input : Input) : Type 0 where
+  pub script : Bytes
+  pub is : witness_of input ≡ witness_text (stack_of input) script
+  pub fits : FitsWitness (stack_of input) script
+  pub stack_bytes : All IsBytes (stack_of input)
+  pub script_bytes : IsBytes script
+
+-- the value of a field consists of bytes
+field_bytes : (type : ℕ) (fields : Map) (value : Bytes) → AllByRecursion IsPairOfBytes fields → field type fields ≡ Some value → IsBytes value
+field_bytes type [] value all e = absurd cc
+field_bytes type (pair ∷ fields) value all e = go (has_type type pair) (field_bytes type fields value all.1) e
+  where
+    go : (b : Bool) → (field type fields ≡ Some value → IsBytes value) → option_map (λ (p : Pair). p.value) (cond b (Some pair) (find (has_type type) fields)) ≡ Some value → IsBytes value
+    go true rest e = subst IsBytes (some_is pair.value value e) all.0.1
+    go false rest e = rest e
+
+pub final_witness : (input : Input) → IsGiven input → is_ready (state_of input) ≡ true → IsFinalWitness input
+final_witness input given ready =
+    let o = opens input state.Ready given.read tt (ready_is (state_of input) ready) in
+    let some = ready_some _ o.chosen in
+    let stack = stack_is input o.tree o.script some.0 o.tried some.1 in
+    let c : IsChosen input o.tree o.script = record { given = given; tried = o.tried; chosen = some.1 ∙ ap Some (sym stack) } in
+    let w = witness_is input o.tree o.script o.tried in
+    let place = given.place in
+    record {
+      script = script_of o.tree;
+      is = w.witness;
+      fits = fits_witness input o.tree o.script c;
+      stack_bytes = sat_is_of_bytes o.tree (assets_of input.spend) (stack_of input) (writes input o.tree o.script o.tried) (held input given) (canonical input o.tree o.script c);
+      script_bytes = field_bytes WITNESS_SCRIPT input.spend.fields (script_of o.tree) (recursion_from_All IsPairOfBytes input.spend.fields place.fits) w.script;
+    }
+
+final_good : (input : Input) → IsGiven input → IsFinalWitness input → IsGoodMap (final_map input.spend.fields (witness_of input))
+final_good input given w =
+    let place = given.place in
+    let items = All-append IsBytes (stack_of input) (w.script ∷ []) w.stack_bytes (All-cons IsBytes w.script [] w.script_bytes (All-nil IsBytes)) in
+    let text = witness_fits (all_items (stack_of input) w.script) (recursion_from_All IsBytes (all_items (stack_of input) w.script) items) in
+    let key : IsBytes (FINAL_SCRIPTWITNESS ∷ []) = bytes.more FINAL_SCRIPTWITNESS [] (omega arith) bytes.none in
+    subst (λ (witness : Bytes). IsGoodMap (final_map input.spend.fields witness)) (sym w.is) (record {
+      sound = final_sound input.spend.fields (stack_of input) w.script place.sound w.fits;
+      fits = All-append IsPairOfBytes (filter is_kept input.spend.fields) (witness_pair (witness_text (stack_of input) w.script) ∷ [])
+          (All-filter is_kept IsPairOfBytes input.spend.fields place.fits)
+          (All-cons IsPairOfBytes (witness_pair (witness_text (stack_of input) w.script)) [] (key, text) (All-nil IsPairOfBytes));
+    })
+
+pub good_map : (input : Input) → IsGiven input → IsGoodMap (written_map input)
+good_map input given = go (is_ready (state_of input)) refl
+  where
+    go : (b : Bool) → is_ready (state_of input) ≡ b → IsGoodMap (if b then final_map input.spend.fields (witness_of input) else input.spend.fields)
+    go true e = final_good input given (final_witness input given e)
+    go false e = record { sound = given.place.sound; fits = given.place.fits }
+
+pub good_maps : EachIsSound → OfEachInput (λ input. IsGoodMap (written_map input))
+good_maps law = of_each law _ good_map

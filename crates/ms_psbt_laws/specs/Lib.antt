@@ -1,0 +1,4 @@
+pub mod Existence
+pub mod Written
+pub mod Alone
+pub mod Network

@@ -1,0 +1,43 @@
+//! What is promised of PSBTs.
+
+ghost use Rattle.ms_psbt_laws.specs.Existence.{EachHasAnswer, EachIsRead};
+ghost use Rattle.ms_psbt_laws.specs.Written.{WrittenIsRead, ReadyIsMadeFinal, ReportIsSource, AnsweredAgain};
+ghost use Rattle.ms_psbt_laws.specs.Alone.{MapDecidesAlone};
+ghost use Rattle.ms_psbt_laws.specs.Network.{NetworkIsRead, IdStays};
+
+use def_psbt::laws::psbts;
+use ms_given_laws::laws::given;
+
+/// Every list of words and every source of bytes have an answer, and each input a reading.
+pub fn existence()
+    ensures answer { EachHasAnswer }
+    ensures reading { EachIsRead }
+{
+    given();
+}
+
+/// What `finalize` writes is read again, with nothing lost, and `finalize` answers to it as before; and each Ready input is
+/// written with its witness.
+pub fn written()
+    ensures bytes { WrittenIsRead }
+    ensures ready { ReadyIsMadeFinal }
+    ensures source { ReportIsSource }
+    ensures again { AnsweredAgain }
+{
+    psbts();
+    given();
+}
+
+/// The state of an input, its witness, its hashes and its lines depend on its map, the transaction and its number alone.
+pub fn alone()
+    ensures map { MapDecidesAlone }
+{}
+
+/// What `extract` writes is read again, with each final scriptSig and each final witness, and has the same id where no
+/// final scriptSig has a byte.
+pub fn network()
+    ensures read { NetworkIsRead }
+    ensures id { IdStays }
+{
+    given();
+}

@@ -1,0 +1,189 @@
+-- The signatures that a plan asks for make an input Ready.
+use Rattle.std.proofs.Common.{◌≡◌, ℕ, ◌≤◌, ◌==◌, ◌&&◌, ◌||◌, nat_lt, Bool, true, false, not, cond, IsTrue, IsSome, is_some, All, ◌⊎◌, List, [], ◌∷◌, ◌++◌, length, map, filter, Contains, Option, Some, None, Ok, inl, inr, refl, sym, ap, subst, ◌∙◌, arith}
+use Rattle.std.specs.List.{AllByRecursion}
+use Rattle.std.proofs.lemmas.Bool.{eq-eqb, lt-ltb}
+use Rattle.std.proofs.lemmas.List.Elements.{recursion_from_All, All-contains, Contains-append_right}
+use Rattle.def_script.specs.Bytes.{Bytes}
+use Rattle.def_script.specs.Witness.{weight}
+use Rattle.def_machine.specs.Stacks.{Pairs}
+use Rattle.def_tree.specs.Tree.{Key, Tree}
+use Rattle.def_assets.specs.Assets.{Assets, IsSignature, AreAssets, sig_of}
+use Rattle.def_assets.proofs.Distinct.{only_signature}
+use Rattle.def_sane.specs.Keys.{keys}
+use Rattle.def_choice.specs.Strict.{strict}
+use Rattle.def_decode.specs.Decoded.{IsDecoded}
+use Rattle.def_plan.specs.Lengths.{IsLike, SignBelow}
+use Rattle.def_plan.specs.Plan.{Plan}
+use Rattle.ms_plan_laws.proofs.Found.{held_of}
+use Rattle.ms_plan_laws.proofs.Order.{first_or_other, in_part}
+use Rattle.ms_plan_laws.proofs.Plans.{weighs_at_most_always, in_order_always}
+use Rattle.def_psbt.specs.Map.{Pair, Map, data_of}
+use Rattle.def_spend.specs.declared.State.TheVariants as state
+use Rattle.def_spend.specs.Fields.{is_signed, signatures_in, keys_in, last_byte, asked_type}
+use Rattle.def_spend.specs.HashTypes.{hash_type_of}
+use Rattle.def_spend.specs.Input.{assets_of}
+use Rattle.def_spend.specs.Reading.{Input, witness_script, ReadsAs, HasReading}
+use Rattle.def_spend.specs.States.{has_other_type, is_sighash_wrong, choice_state}
+use Rattle.def_spend.specs.Asking.{length_by, lengths_of, plan_with, unsigned_keys}
+use Rattle.ms_given_laws.specs.Given.{EachIsSound}
+use Rattle.ms_given_laws.proofs.Maps.{IsPairOfBytes}
+use Rattle.ms_given_laws.proofs.Held.{HasLocks, one_signature, assets_are}
+use Rattle.ms_spend_laws.specs.Tried.{IsTried}
+use Rattle.ms_spend_laws.specs.Planned.{NoPlanIsVain, ConsistsOf, with_map, AreAdded, IsReadyWithin, PlanMakesReady, HaveOwnHashes, ReadingStays}
+use Rattle.ms_spend_laws.proofs.Inputs.{IsGiven, held}
+use Rattle.ms_spend_laws.proofs.States.{state_is, stack_is, writes, of_each_in}
+use Rattle.ms_spend_laws.proofs.Mixed.{turned, made_stays, none_among}
+use Rattle.ms_spend_laws.proofs.Reread.{AreSigned, preimages_stay, asked_stays, script_stays, decoded_appended, decoded_among}
+use Rattle.ms_spend_laws.proofs.Planning.{is_input, listed, no_plan}
+
+pub no_plan_is_vain : EachIsSound → NoPlanIsVain
+no_plan_is_vain law = of_each_in law state.Unsatisfied tt _ (λ input tree script given tried e.
+    no_plan tree (assets_of input.spend) (is_input tree (assets_of input.spend) (writes input tree script tried) tried.sane (held input given)))
+
+-- an input, its tree, its plan, and the pairs that are added
+module _ (input : Input) (tree : Tree) (script : Bytes) (given : IsGiven input) (tried : IsTried input tree script)
+    (plan : Plan) (planned : plan_with tree (assets_of input.spend) ≡ Some plan)
+    (added later : Map) (are : AreAdded input (unsigned_keys (assets_of input.spend) plan.keys) added later) where
+  abbrev one : Assets
+  one = assets_of input.spend
+
+  abbrev again : Input
+  again = with_map input later
+
+  abbrev other : Assets
+  other = assets_of again.spend
+
+  signed : AreSigned added
+  signed = recursion_from_All (λ pair. is_signed pair ≡ true) added are.signatures
+
+  locks : HasLocks again.spend
+  locks = record { version = given.place.locks.version; sequence = given.place.locks.sequence; lock_time = given.place.locks.lock_time }
+
+  other_held : AreAssets other
+  other_held = assets_are again.spend locks are.sound are.bytes
+
+  like : IsLike one other
+  like = record { locks = refl; preimages = preimages_stay later input.spend.fields added are.parts signed }
+
+  -- a signature of either map is there
+  abbrev pair_of : Pair → Bytes × Bytes
+  pair_of pair = (data_of pair.key, pair.value)
+
+  old_there : (key sig : Bytes) → Contains (signatures_in input.spend.fields) (key, sig) → Contains (signatures_in later) (key, sig)
+  old_there key sig i = made_stays is_signed pair_of later input.spend.fields added are.parts (key, sig) i
+
+  new_there : (key sig : Bytes) → Contains (signatures_in added) (key, sig) → Contains (signatures_in later) (key, sig)
+  new_there key sig i = made_stays is_signed pair_of later added input.spend.fields (turned later input.spend.fields added are.parts) (key, sig) i
+
+  only : (key sig : Bytes) → Contains (signatures_in again.spend.fields) (key, sig) → sig_of other key ≡ Some sig
+  only key sig i = only_signature other key sig (one_signature [] later are.sound (recursion_from_All IsPairOfBytes later are.bytes)) i
+
+  -- ---- each key of the plan signs
+
+  kept_in : (ks : List Key) (key : Key) → Contains ks key → sig_of one key ≡ None → Contains (unsigned_keys one ks) key
+  kept_in [] key i e = absurd (let low = i.1 in omega (arith, low))
+  kept_in (first ∷ ks) key i e =
+      elim (first_or_other first ks key i) [
+        | inl same ↦
+            let open_key : not (is_some (sig_of one first)) ≡ true = ap (λ o. not (is_some o)) (ap (sig_of one) (sym same) ∙ e) in
+            subst (λ l. Contains l key) (sym (ap (λ b. cond b (first ∷ unsigned_keys one ks) (unsigned_keys one ks)) open_key)) (0, omega arith, sym same)
+        | inr rest ↦ behind (not (is_some (sig_of one first))) (kept_in ks key rest e)
+      ]
+    where
+      behind : (b : Bool) → Contains (unsigned_keys one ks) key → Contains (cond b (first ∷ unsigned_keys one ks) (unsigned_keys one ks)) key
+      behind true i = Contains-append_right (first ∷ []) (unsigned_keys one ks) key i
+      behind false i = i
+
+  signs : (key : Key) → Contains plan.keys key → (o : Option Bytes) → sig_of one key ≡ o → (sig : Bytes) × (sig_of other key ≡ Some sig) × (length sig ≤ length_by o)
+  signs key i (Some sig) e =
+      let there = old_there key sig (held_of one key sig e) in
+      (sig, only key sig there, omega arith)
+  signs key i None e =
+      let new = are.each key (kept_in plan.keys key i e) in
+      let there = new_there key new.0 new.1 in
+      let is : IsSignature new.0 = All-contains (λ pair. IsSignature pair.1) other.pairs (key, new.0) other_held.signatures there in
+      (new.0, only key new.0 there, is.few)
+
+  below : SignBelow (Contains plan.keys) (lengths_of tree one) other
+  below key i =
+      let input_is = is_input tree one (writes input tree script tried) tried.sane (held input given) in
+      let order = in_order_always tree one (lengths_of tree one) plan input_is planned in
+      let there = in_part plan.keys (keys tree) order.order key i in
+      let sig = signs key i (sig_of one key) refl in
+      (length_by (sig_of one key), sig.0, listed (λ k. length_by (sig_of one k)) (keys tree) key there, sig.1, sig.2)
+
+  light : (stack : List Bytes) × (strict tree other ≡ Some stack) × (weight stack ≤ plan.weight)
+  light =
+      let input_is = is_input tree one (writes input tree script tried) tried.sane (held input given) in
+      weighs_at_most_always tree one (lengths_of tree one) plan input_is planned other other_held like below
+
+  -- ---- the state
+
+  spends : witness_script again.spend ≡ Ok script
+  spends = script_stays input.spend later added are.parts signed ∙ tried.spends
+
+  decoded : IsDecoded (keys_in later) script tree
+  decoded =
+      let read = are.read in
+      subst (λ o. ReadsAs (keys_in later) (Ok script) o) tried.read (subst (λ r. ReadsAs (keys_in later) r input.tree) spends read)
+
+  -- no signature has another type
+  old_types : (type : ℕ) (pairs : Pairs) → IsSome (hash_type_of type) → is_sighash_wrong type pairs ≡ false → has_other_type type pairs ≡ false
+  old_types type [] some e = refl
+  old_types type (pair ∷ pairs) some e =
+      let some_pair : nat_lt 0 (length (pair ∷ pairs)) ≡ true = lt-ltb _ _ (omega arith) in
+      sym (ap (λ b. not b || has_other_type type (pair ∷ pairs)) some)
+      ∙ sym (ap (λ b. b && (not (is_some (hash_type_of type)) || has_other_type type (pair ∷ pairs))) some_pair) ∙ e
+
+  new_types : (type : ℕ) (l : Map) → AllByRecursion (λ pair. last_byte pair.value ≡ type) l → has_other_type type (signatures_in l) ≡ false
+  new_types type [] h = refl
+  new_types type (pair ∷ l) h = go (is_signed pair) (new_types type l h.1)
+    where
+      go : (b : Bool) → has_other_type type (signatures_in l) ≡ false
+          → has_other_type type (map (λ (p : Pair). (data_of p.key, p.value)) (cond b (pair ∷ filter is_signed l) (filter is_signed l))) ≡ false
+      go true rest = ap (λ n. not (n == type) || has_other_type type (signatures_in l)) h.0 ∙ ap (λ b. not b || has_other_type type (signatures_in l)) (eq-eqb type type refl) ∙ rest
+      go false rest = rest
+
+  right : (type : ℕ) (pairs : Pairs) → IsSome (hash_type_of type) → has_other_type type pairs ≡ false → is_sighash_wrong type pairs ≡ false
+  right type [] some e = refl
+  right type (pair ∷ pairs) some e =
+      let some_pair : nat_lt 0 (length (pair ∷ pairs)) ≡ true = lt-ltb _ _ (omega arith) in
+      ap (λ b. b && (not (is_some (hash_type_of type)) || has_other_type type (pair ∷ pairs))) some_pair
+      ∙ ap (λ b. not b || has_other_type type (pair ∷ pairs)) some ∙ e
+
+  types : is_sighash_wrong (asked_type later) (signatures_in later) ≡ false
+  types =
+      let type : ℕ = asked_type input.spend.fields in
+      let old = old_types (asked_type input.spend.fields) (signatures_in input.spend.fields) are.type tried.types in
+      let new = new_types (asked_type input.spend.fields) added (recursion_from_All (λ pair. last_byte pair.value ≡ asked_type input.spend.fields) added are.types) in
+      let all = none_among (λ pair. not (last_byte pair.1 == type)) is_signed pair_of later input.spend.fields added are.parts old new in
+      ap (λ t. is_sighash_wrong t (signatures_in later)) (asked_stays later input.spend.fields added are.parts signed)
+      ∙ right (asked_type input.spend.fields) (signatures_in later) are.type all
+
+  pub ready_within : IsReadyWithin again plan.weight
+  ready_within =
+      let t : IsTried again tree script = record { spends = spends; read = tried.read; decoded = decoded; sane = tried.sane; types = types; few = are.few } in
+      record {
+        ready = state_is again tree script t ∙ ap choice_state light.1;
+        weight = subst (λ s. weight s ≤ plan.weight) (sym (stack_is again tree script light.0 t light.1)) light.2;
+      }
+
+pub plan_makes_ready : EachIsSound → PlanMakesReady
+plan_makes_ready law = of_each_in law state.Unsatisfied tt _ (λ input tree script given tried e. ready_within input tree script given tried)
+
+-- ---- what it is read as
+
+-- signatures leave what the input is read as
+read_stays : (input : Input) (tree : Tree) (script : Bytes) → IsTried input tree script → (added later : Map) → ConsistsOf later input.spend.fields added
+    → All (λ pair. IsTrue (is_signed pair)) added → (later ≡ input.spend.fields ++ added) ⊎ HaveOwnHashes (keys_in later) → HasReading (with_map input later)
+read_stays input tree script tried added later parts signatures how =
+    let signed : AreSigned added = recursion_from_All (λ pair. is_signed pair ≡ true) added signatures in
+    let spends = script_stays input.spend later added parts signed ∙ tried.spends in
+    subst (λ r. ReadsAs (keys_in later) r input.tree) (sym spends) (subst (λ o. ReadsAs (keys_in later) (Ok script) o) (sym tried.read) (decoded_by how))
+  where
+    decoded_by : (later ≡ input.spend.fields ++ added) ⊎ HaveOwnHashes (keys_in later) → IsDecoded (keys_in later) script tree
+    decoded_by (inl same) = subst (λ (l : Map). IsDecoded (keys_in l) script tree) (sym same) (decoded_appended input.spend.fields added script tree tried.decoded)
+    decoded_by (inr own) = decoded_among later input.spend.fields added script tree parts own tried.decoded
+
+pub reading_stays : EachIsSound → ReadingStays
+reading_stays law = of_each_in law state.Unsatisfied tt _ (λ input tree script given tried e. read_stays input tree script tried)

@@ -1,0 +1,165 @@
+-- What is promised of the stack of a Ready input, and of an Unsatisfied one.
+use Rattle.std.proofs.Common.{◌≡◌, ℕ, ◌≤◌, List, [], length, Option, Some, sym, ap, subst, ◌∙◌, arith}
+use Rattle.std.specs.Prelude.{unwrap_or}
+use Rattle.std.proofs.lemmas.List.Elements.{All-weaker}
+use Rattle.def_script.specs.Bytes.{Bytes}
+use Rattle.def_script.specs.Signature.{MAX_SIGNATURE_SIZE}
+use Rattle.def_script.specs.Witness.{witness_text, weight}
+use Rattle.def_machine.specs.Stacks.{Pairs}
+use Rattle.def_machine.specs.Machine.{Given}
+use Rattle.def_machine.specs.Program.{program_of}
+use Rattle.def_tree.specs.Tree.{Tree}
+use Rattle.def_emit.specs.Emit.{script_of}
+use Rattle.def_sane.specs.declared.Limits.{Limits}
+use Rattle.def_sane.specs.declared.Rules.TheVariants.{Consensus}
+use Rattle.def_sane.specs.Limits.{AreLimits}
+use Rattle.def_sane.specs.Most.{limits_of}
+use Rattle.def_sane.specs.Unfit.{IsValidUnder}
+use Rattle.def_sane.proofs.Greatest.{limits_are_computed}
+use Rattle.def_sane.proofs.Meanings.{sane_means_under}
+use Rattle.def_satisfaction.specs.Satisfaction.{Sat, Holds}
+use Rattle.def_choice.specs.NonMalleable.{NonMalleable, given_with}
+use Rattle.def_choice.specs.Strict.{strict}
+use Rattle.def_choice.proofs.Chosen.{strict_is_canonical, strict_is_tight}
+use Rattle.def_promises.specs.Acceptance.{IsAcceptedWithin}
+use Rattle.def_promises.proofs.FreshItems.{fresh_has_item}
+use Rattle.ms_acceptance_laws.proofs.Accepted.{canonical_is_accepted}
+use Rattle.ms_row_laws.proofs.WithinLimits.{within_limits, valid_limits}
+use Rattle.ms_strict_laws.proofs.TightIsUnchangeable.{strict_is_unchangeable, nothing_to_accept}
+use Rattle.ms_strict_laws.proofs.UnchangeableIsTight.{strict_is_lightest}
+use Rattle.ms_witness.specs.Reading.{FitsWitness}
+use Rattle.ms_witness.specs.Replaying.{replay, ran}
+use Rattle.ms_witness.proofs.Witnesses.{witness_is_replayed}
+use Rattle.def_psbt.specs.Transaction.{TransactionOutput}
+use Rattle.def_spend.specs.declared.State.TheVariants as state
+use Rattle.def_spend.specs.Input.{assets_of}
+use Rattle.def_spend.specs.Reading.{Input}
+use Rattle.def_spend.specs.States.{stack_of}
+use Rattle.def_spend.specs.Finalized.{witness_of}
+use Rattle.ms_given_laws.specs.Given.{EachIsSound}
+use Rattle.ms_spend_laws.specs.Tried.{IsTried, OfEachIn}
+use Rattle.ms_spend_laws.specs.Ready.{spent_output, ReadyIsCanonical, IsWitness, ReadyHasWitness, ReplaysAccepted, IsAcceptedByAll, ReadyIsAccepted, ReadyIsUnchangeable, ReadyIsTight, ReadyIsLightest}
+use Rattle.ms_spend_laws.specs.Unsatisfied.{HasNothingToAccept, UnsatisfiedHasNothing}
+use Rattle.ms_spend_laws.proofs.Inputs.{IsGiven, held}
+use Rattle.ms_spend_laws.proofs.States.{script_is, ready_some, unsatisfied_none, writes, sane_for_all, stack_is, of_each_in, none_satisfies}
+
+-- an input whose stack is chosen
+pub record IsChosen (input : Input) (tree : Tree) (script : Bytes) : Type 0 where
+  pub given : IsGiven input
+  pub tried : IsTried input tree script
+  pub chosen : strict tree (assets_of input.spend) ≡ Some (stack_of input)
+
+-- what holds of these holds of each that is Ready
+of_each_ready : EachIsSound → (Holds : Input → Tree → Type 0) → ((input : Input) (tree : Tree) (script : Bytes) → IsChosen input tree script → Holds input tree) → OfEachIn state.Ready Holds
+of_each_ready law Holds holds = of_each_in law state.Ready tt Holds (λ input tree script given tried e.
+    let some = ready_some (strict tree (assets_of input.spend)) e in
+    let stack = stack_is input tree script some.0 tried some.1 in
+    holds input tree script (record { given = given; tried = tried; chosen = some.1 ∙ ap Some (sym stack) }))
+
+pub canonical : (input : Input) (tree : Tree) (script : Bytes) → IsChosen input tree script → Sat tree (assets_of input.spend) (stack_of input)
+canonical input tree script c = strict_is_canonical tree (assets_of input.spend) (stack_of input) (writes input tree script c.tried) (held input c.given) c.chosen
+
+pub ready_is_canonical : EachIsSound → ReadyIsCanonical
+ready_is_canonical law = of_each_ready law _ canonical
+
+-- ---- the witness
+
+same_script : (input : Input) (tree : Tree) (script : Bytes) → IsTried input tree script → script ≡ script_of tree
+same_script input tree script t = sym t.decoded.reading.same
+
+pub witness_is : (input : Input) (tree : Tree) (script : Bytes) → IsTried input tree script → IsWitness input tree
+witness_is input tree script t =
+    let same = same_script input tree script t in
+    let found = script_is input.spend script t.spends in
+    record {
+      script = found.held ∙ ap Some same;
+      output = found.output;
+      spent = found.spent;
+      program = found.program ∙ ap program_of same;
+      witness = ap (λ o. witness_text (stack_of input) (unwrap_or o [])) (found.held ∙ ap Some same);
+    }
+
+pub ready_has_witness : EachIsSound → ReadyHasWitness
+ready_has_witness law = of_each_ready law _ (λ input tree script c. witness_is input tree script c.tried)
+
+-- ---- it is accepted
+
+valid : (input : Input) (tree : Tree) (script : Bytes) → IsTried input tree script → IsValidUnder Consensus tree
+valid input tree script t = ((sane_means_under Consensus tree).0 (sane_for_all input tree script t)).0
+
+pub fits_witness : (input : Input) (tree : Tree) (script : Bytes) → IsChosen input tree script → FitsWitness (stack_of input) (script_of tree)
+fits_witness input tree script c =
+    let limits = limits_of tree in
+    let are_limits : AreLimits tree limits = limits_are_computed tree in
+    let within = within_limits tree limits (assets_of input.spend) (stack_of input) (writes input tree script c.tried) are_limits (held input c.given) (canonical input tree script c) in
+    let most = valid_limits tree limits (valid input tree script c.tried) are_limits in
+    let size : limits.size ≡ length (script_of tree) = are_limits.size in
+    record {
+      few = omega (arith, within.0, most.2);
+      items = All-weaker (λ item. length item ≤ MAX_SIGNATURE_SIZE) (λ item. length item ≤ 10000) (λ item short. omega (arith, short)) (stack_of input) within.2;
+      last = omega (arith, size, most.0);
+    }
+
+within : (input : Input) (tree : Tree) (script : Bytes) → IsChosen input tree script → (limits : Limits) (table : Pairs) → AreLimits tree limits → Holds table (assets_of input.spend)
+    → IsAcceptedWithin tree limits (given_with (assets_of input.spend) table) (stack_of input)
+within input tree script c limits table are holds =
+    canonical_is_accepted tree limits (assets_of input.spend) table (stack_of input) (writes input tree script c.tried) (valid input tree script c.tried) are
+    (held input c.given) holds (canonical input tree script c)
+
+one_output : (a b : TransactionOutput) (o : Option TransactionOutput) → o ≡ Some a → o ≡ Some b → a ≡ b
+one_output a b o p q = cc (sym p ∙ q)
+
+replays : (input : Input) (tree : Tree) (script : Bytes) → IsChosen input tree script → (table : Pairs) → Holds table (assets_of input.spend)
+    → ReplaysAccepted input (given_with (assets_of input.spend) table)
+replays input tree script c table holds output spent =
+    let given : Given = given_with (assets_of input.spend) table in
+    let w = witness_is input tree script c.tried in
+    let a = within input tree script c (limits_of tree) table (limits_are_computed tree) holds in
+    let same = one_output w.output output (spent_output input.spend) w.spent spent in
+    let program : output.script ≡ program_of (script_of tree) = ap (λ (o : TransactionOutput). o.script) (sym same) ∙ w.program in (
+      a.ops,
+      a.peak,
+      a.checks,
+      ap (λ p. replay given p (witness_of input)) program ∙ ap (replay given (program_of (script_of tree))) w.witness
+          ∙ witness_is_replayed given (stack_of input) (script_of tree) (fits_witness input tree script c) ∙ ap ran a.run,
+    )
+
+pub ready_is_accepted : EachIsSound → ReadyIsAccepted
+ready_is_accepted law = of_each_ready law IsAcceptedByAll (λ input tree script c. record { replayed = replays input tree script c; within = within input tree script c })
+
+-- ---- nobody can change it
+
+pub ready_is_unchangeable : EachIsSound → ReadyIsUnchangeable
+ready_is_unchangeable law = of_each_ready law _ (λ input tree script c.
+    strict_is_unchangeable tree (assets_of input.spend) (stack_of input) (writes input tree script c.tried) (sane_for_all input tree script c.tried) (held input c.given) c.chosen)
+
+pub ready_is_tight : EachIsSound → ReadyIsTight
+ready_is_tight law = of_each_ready law _ (λ input tree script c.
+    strict_is_tight tree (assets_of input.spend) (stack_of input) (writes input tree script c.tried) (held input c.given) c.chosen)
+
+-- the weight of the one that was chosen
+weighs : (chosen : Option (List Bytes)) (stack : List Bytes) (most : ℕ) → chosen ≡ Some stack
+    → ((found : List Bytes) × (chosen ≡ Some found) × (weight found ≤ most)) → weight stack ≤ most
+weighs chosen stack most is found =
+    let same : found.0 ≡ stack = cc (sym found.1 ∙ is) in subst (λ (s : List Bytes). weight s ≤ most) same found.2
+
+lightest : (input : Input) (tree : Tree) (script : Bytes) → IsChosen input tree script → (other : List Bytes) → Sat tree (assets_of input.spend) other
+    → NonMalleable tree (assets_of input.spend) other → weight (stack_of input) ≤ weight other
+lightest input tree script c other sat unchanged =
+    weighs (strict tree (assets_of input.spend)) (stack_of input) (weight other) c.chosen
+    (strict_is_lightest tree (assets_of input.spend) other (writes input tree script c.tried) (sane_for_all input tree script c.tried) (held input c.given) sat unchanged)
+
+pub ready_is_lightest : EachIsSound → ReadyIsLightest
+ready_is_lightest law = of_each_ready law _ lightest
+
+-- ---- there is nothing to accept
+
+pub unsatisfied_has_nothing : EachIsSound → UnsatisfiedHasNothing
+unsatisfied_has_nothing law = of_each_in law state.Unsatisfied tt (λ input tree. HasNothingToAccept tree (assets_of input.spend)) (λ input tree script given tried e.
+    let none = unsatisfied_none (strict tree (assets_of input.spend)) e in
+    record {
+      none = none_satisfies input tree script given tried none;
+      accepted = λ stack checks accepted.
+          nothing_to_accept tree (assets_of input.spend) stack checks (writes input tree script tried) (sane_for_all input tree script tried) (held input given) none accepted;
+      fresh = λ table stack fresh. fresh_has_item tree (assets_of input.spend) table stack fresh;
+    })

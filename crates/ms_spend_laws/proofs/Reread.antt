@@ -1,0 +1,188 @@
+-- An input with further signatures in its map: what it spends and what it is read as stay.
+use Rattle.std.proofs.Common.{◌≡◌, ℕ, ◌==◌, ◌&&◌, ◌||◌, Bool, true, false, cond, List, [], ◌∷◌, ◌++◌, length, map, filter, find, Contains, Some, Result, Err, inl, inr, refl, sym, ap, subst, ◌∙◌, arith}
+use Rattle.std.specs.List.{AllByRecursion}
+use Rattle.std.specs.Option.{option_map, option_and_then}
+use Rattle.std.specs.Str.{bytes_eq}
+use Rattle.std.proofs.lemmas.Bool.{and_parts, eqb-true, false≢true}
+use Rattle.std.proofs.lemmas.List.{map-append}
+use Rattle.std.proofs.lemmas.List.Elements.{filter-append, Contains-append_left, Contains-append_right}
+use Rattle.std.proofs.lemmas.Slice.Eq.{bytes_eq-Decides}
+use Rattle.def_hash.specs.Hash.{hash160}
+use Rattle.def_script.specs.Bytes.{Bytes}
+use Rattle.def_script.specs.Key.{is_key}
+use Rattle.def_tree.specs.Tree.{Key, Tree, Trees, just_0, just_1, pk_k, pk_h, older, after, hash, and_or, two, thresh, multi, wrap, none, more}
+use Rattle.def_decode.specs.Nested.{EachHashed, EachHashedOf}
+use Rattle.def_decode.specs.Decoded.{first_with, IsDecoded}
+use Rattle.def_psbt.specs.Transaction.{Outpoint}
+use Rattle.def_psbt.specs.Map.{Pair, Map, type_of, data_of}
+use Rattle.def_psbt.specs.TransactionReading.{network_transaction_of}
+use Rattle.def_psbt.specs.Forms.{output_of}
+use Rattle.def_spend.specs.Fields.{NON_WITNESS_UTXO, WITNESS_UTXO, PARTIAL_SIG, SIGHASH_TYPE, WITNESS_SCRIPT, FINAL_SCRIPTSIG, FINAL_SCRIPTWITNESS, RIPEMD160, HASH256, has_type, is_between, field, is_signed, has_key, keys_in, is_preimage_pair, preimages_in, asked, asked_type}
+use Rattle.def_spend.specs.Utxo.{Utxo, utxo_by, utxo_of}
+use Rattle.def_spend.specs.Utxo as utxo
+use Rattle.def_spend.specs.Input.{Spend}
+use Rattle.def_spend.specs.Reading.{has_byte, has_item, has_final, is_program, script_for, script_of_output, script_of_utxo, witness_script}
+use Rattle.ms_spend_laws.specs.Planned.{ConsistsOf, HaveOwnHashes}
+use Rattle.ms_spend_laws.proofs.Mixed.{found_among, kept_among, first_or_rest, made_stays}
+use Rattle.def_spend.specs.declared.State.{State}
+use Rattle.def_spend.specs.declared.State.TheVariants as state
+
+-- ---- lists
+
+-- what is found stays
+found_stays : {A : Type 0} (test : A → Bool) (xs ys : List A) (a : A) → find test xs ≡ Some a → find test (xs ++ ys) ≡ Some a
+found_stays {A} test [] ys a e = absurd cc
+found_stays {A} test (x ∷ xs) ys a e = go (test x) (found_stays test xs ys a) e
+  where
+    go : (b : Bool) → (find test xs ≡ Some a → find test (xs ++ ys) ≡ Some a) → cond b (Some x) (find test xs) ≡ Some a → cond b (Some x) (find test (xs ++ ys)) ≡ Some a
+    go true rest e = e
+    go false rest e = rest e
+
+-- what is found passes, and stands there
+pub found_is : {A : Type 0} (test : A → Bool) (xs : List A) (a : A) → find test xs ≡ Some a → (test a ≡ true) × Contains xs a
+found_is {A} test [] a e = absurd cc
+found_is {A} test (x ∷ xs) a e = go (test x) refl (found_is test xs a) e
+  where
+    go : (b : Bool) → test x ≡ b → (find test xs ≡ Some a → (test a ≡ true) × Contains xs a) → cond b (Some x) (find test xs) ≡ Some a → (test a ≡ true) × Contains (x ∷ xs) a
+    go true is rest e = let same : x ≡ a = cc in (subst (λ y. test y ≡ true) same is, (0, omega arith, same))
+    go false is rest e = let h = rest e in (h.0, Contains-append_right (x ∷ []) xs a h.1)
+
+-- something is found where an element passes
+some_found : {A : Type 0} (test : A → Bool) (xs : List A) (a : A) → Contains xs a → test a ≡ true → (y : A) × (find test xs ≡ Some y)
+some_found {A} test [] a i p = absurd (let low = i.1 in omega (arith, low))
+some_found {A} test (x ∷ xs) a i p = go (test x) refl (some_found test xs a)
+  where
+    go : (b : Bool) → test x ≡ b → (Contains xs a → test a ≡ true → (y : A) × (find test xs ≡ Some y)) → (y : A) × (cond b (Some x) (find test xs) ≡ Some y)
+    go true is rest = (x, refl)
+    go false is rest =
+        elim (first_or_rest a x xs i) [
+          | inl same ↦ absurd (false≢true (sym is ∙ ap test same ∙ p))
+          | inr j ↦ rest j p
+        ]
+
+each : {A : Type 0} (P Q : A → Type 0) → ((x : A) → P x → Q x) → (xs : List A) → AllByRecursion P xs → AllByRecursion Q xs
+each {A} P Q f [] h = tt
+each {A} P Q f (x ∷ xs) h = (f x h.0, each P Q f xs h.1)
+
+-- ---- the fields of a map with further signatures
+
+-- all pairs are signatures of compressed keys
+abbrev pub AreSigned : Map → Type 0
+AreSigned added = AllByRecursion (λ pair. is_signed pair ≡ true) added
+
+type_is : (pair : Pair) → is_signed pair ≡ true → type_of pair.key ≡ PARTIAL_SIG
+type_is pair e = eqb-true (type_of pair.key) PARTIAL_SIG (and_parts (has_type PARTIAL_SIG pair) (is_key (data_of pair.key)) e).0
+
+module _ (later fields added : Map) (parts : ConsistsOf later fields added) (signed : AreSigned added) where
+  -- another field than the signatures
+  pub field_stays : (type : ℕ) → (PARTIAL_SIG == type) ≡ false → field type later ≡ field type fields
+  field_stays type other =
+      ap (option_map (λ (pair : Pair). pair.value)) (found_among (has_type type) later fields added parts
+      (each (λ pair. is_signed pair ≡ true) (λ pair. has_type type pair ≡ false) (λ pair e. ap (λ n. n == type) (type_is pair e) ∙ other) added signed))
+
+  pub preimages_stay : preimages_in later ≡ preimages_in fields
+  preimages_stay =
+      ap (map (λ (pair : Pair). pair.value)) (kept_among is_preimage_pair later fields added parts
+      (each (λ pair. is_signed pair ≡ true) (λ pair. is_preimage_pair pair ≡ false)
+      (λ pair e. ap (λ (n : ℕ). is_between RIPEMD160 HASH256 n && (length pair.value == 32)) (type_is pair e)) added signed))
+
+  pub asked_stays : asked_type later ≡ asked_type fields
+  asked_stays = ap asked (field_stays SIGHASH_TYPE refl)
+
+  final_stays : has_final later ≡ has_final fields
+  final_stays =
+      ap (λ o. has_byte o || has_item (field FINAL_SCRIPTWITNESS later)) (field_stays FINAL_SCRIPTSIG refl)
+      ∙ ap (λ o. has_byte (field FINAL_SCRIPTSIG fields) || has_item o) (field_stays FINAL_SCRIPTWITNESS refl)
+
+  utxo_stays : (outpoint : Outpoint) → utxo_of outpoint later ≡ utxo_of outpoint fields
+  utxo_stays outpoint =
+      ap (λ o. utxo_by (option_and_then network_transaction_of o) (option_and_then output_of (field WITNESS_UTXO later)) outpoint) (field_stays NON_WITNESS_UTXO refl)
+      ∙ ap (λ o. utxo_by (option_and_then network_transaction_of (field NON_WITNESS_UTXO fields)) (option_and_then output_of o) outpoint) (field_stays WITNESS_UTXO refl)
+
+-- the script that is found, by that of the map
+by_output : (output : Bytes) (fields other : Map) → field WITNESS_SCRIPT other ≡ field WITNESS_SCRIPT fields → script_of_output output other ≡ script_of_output output fields
+by_output output fields other e = ap (λ o. cond (is_program output) (script_for output o) (Err state.OtherOutput)) e
+
+by_utxo : (u : Utxo) (fields other : Map) → field WITNESS_SCRIPT other ≡ field WITNESS_SCRIPT fields → script_of_utxo u other ≡ script_of_utxo u fields
+by_utxo utxo.none fields other e = refl
+by_utxo utxo.wrong fields other e = refl
+by_utxo (utxo.proved output) fields other e = by_output output.script fields other e
+by_utxo (utxo.claimed output) fields other e = by_output output.script fields other e
+
+abbrev script_unless : Bool → Result Bytes State → Result Bytes State
+script_unless final script = cond final (Err state.Final) script
+
+pub script_stays : (spend : Spend) (later added : Map) → ConsistsOf later spend.fields added → AreSigned added → witness_script (record spend { fields = later }) ≡ witness_script spend
+script_stays spend later added parts signed =
+    let script = field_stays later spend.fields added parts signed WITNESS_SCRIPT refl in
+    ap (λ b. script_unless b (script_of_utxo (utxo_of spend.input.outpoint later) later)) (final_stays later spend.fields added parts signed)
+    ∙ ap (λ u. script_unless (has_final spend.fields) (script_of_utxo u later)) (utxo_stays later spend.fields added parts signed spend.input.outpoint)
+    ∙ ap (script_unless (has_final spend.fields)) (by_utxo (utxo_of spend.input.outpoint spend.fields) spend.fields later script)
+
+-- ---- the reading
+
+mutual
+  each_key : (P Q : Key → Type 0) → ((k : Key) → P k → Q k) → (t : Tree) → EachHashed P t → EachHashed Q t
+  each_key P Q f just_0 h = tt
+  each_key P Q f just_1 h = tt
+  each_key P Q f (pk_k key) h = tt
+  each_key P Q f (pk_h key) h = f key h
+  each_key P Q f (older n) h = tt
+  each_key P Q f (after n) h = tt
+  each_key P Q f (hash kind value) h = tt
+  each_key P Q f (and_or x y z) h = (each_key P Q f x h.0, each_key P Q f y h.1, each_key P Q f z h.2)
+  each_key P Q f (two kind x y) h = (each_key P Q f x h.0, each_key P Q f y h.1)
+  each_key P Q f (thresh k xs) h = each_key_of P Q f xs h
+  each_key P Q f (multi k keys) h = tt
+  each_key P Q f (wrap wrapper x) h = each_key P Q f x h
+
+  each_key_of : (P Q : Key → Type 0) → ((k : Key) → P k → Q k) → (xs : Trees) → EachHashedOf P xs → EachHashedOf Q xs
+  each_key_of P Q f none h = tt
+  each_key_of P Q f (more x xs) h = (each_key P Q f x h.0, each_key_of P Q f xs h.1)
+
+keys_join : (fields added : Map) → keys_in (fields ++ added) ≡ keys_in fields ++ keys_in added
+keys_join fields added =
+    ap (map (λ (pair : Pair). data_of pair.key)) (filter-append has_key fields added)
+    ∙ map-append (λ (pair : Pair). data_of pair.key) (filter has_key fields) (filter has_key added)
+
+-- with keys behind those that were listed, a Script is read as before
+decoded_behind : (keys others : List Key) (script : Bytes) (tree : Tree) → IsDecoded keys script tree → IsDecoded (keys ++ others) script tree
+decoded_behind keys others script tree d = record {
+  reading = record {
+    valid = d.reading.valid;
+    writable = d.reading.writable;
+    listed = each_key (λ key. Contains keys key) (λ key. Contains (keys ++ others) key) (λ key i. Contains-append_left keys others key i) tree d.reading.listed;
+    same = d.reading.same;
+  };
+  nested = d.nested;
+  first = each_key (λ key. first_with keys (hash160 key) ≡ Some key) (λ key. first_with (keys ++ others) (hash160 key) ≡ Some key)
+      (λ key e. found_stays (λ k. bytes_eq (hash160 k) (hash160 key)) keys others key e) tree d.first;
+}
+
+pub decoded_appended : (fields added : Map) (script : Bytes) (tree : Tree) → IsDecoded (keys_in fields) script tree → IsDecoded (keys_in (fields ++ added)) script tree
+decoded_appended fields added script tree d =
+    subst (λ ks. IsDecoded ks script tree) (sym (keys_join fields added)) (decoded_behind (keys_in fields) (keys_in added) script tree d)
+
+-- a listed key that was the first with its HASH160 still is, where it is the only one
+still_first : (keys : List Key) (key : Key) → HaveOwnHashes keys → Contains keys key → first_with keys (hash160 key) ≡ Some key
+still_first keys key own i =
+    let passes : bytes_eq (hash160 key) (hash160 key) ≡ true = (bytes_eq-Decides (hash160 key) (hash160 key)).1 refl in
+    let f = some_found (λ k. bytes_eq (hash160 k) (hash160 key)) keys key i passes in
+    let is = found_is (λ k. bytes_eq (hash160 k) (hash160 key)) keys f.0 f.1 in
+    f.1 ∙ ap Some (own f.0 key is.1 i ((bytes_eq-Decides (hash160 f.0) (hash160 key)).0 is.0))
+
+pub decoded_among : (later fields added : Map) (script : Bytes) (tree : Tree) → ConsistsOf later fields added → HaveOwnHashes (keys_in later) → IsDecoded (keys_in fields) script tree
+    → IsDecoded (keys_in later) script tree
+decoded_among later fields added script tree parts own d =
+    let stays : (key : Key) → Contains (keys_in fields) key → Contains (keys_in later) key = λ key i. made_stays has_key (λ pair. data_of pair.key) later fields added parts key i in
+    record {
+      reading = record {
+        valid = d.reading.valid;
+        writable = d.reading.writable;
+        listed = each_key (λ key. Contains (keys_in fields) key) (λ key. Contains (keys_in later) key) stays tree d.reading.listed;
+        same = d.reading.same;
+      };
+      nested = d.nested;
+      first = each_key (λ key. first_with (keys_in fields) (hash160 key) ≡ Some key) (λ key. first_with (keys_in later) (hash160 key) ≡ Some key)
+          (λ key e. still_first (keys_in later) key own (stays key (found_is (λ k. bytes_eq (hash160 k) (hash160 key)) (keys_in fields) key e).1)) tree d.first;
+    }

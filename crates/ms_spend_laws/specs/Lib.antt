@@ -1,0 +1,4 @@
+pub mod Tried
+pub mod Ready
+pub mod Unsatisfied
+pub mod Planned

@@ -1,0 +1,92 @@
+-- What is promised of the witness of a Ready input.
+use Rattle.std.specs.Prelude.{◌≡◌, ℕ, ◌≤◌, List, Option, Some, None}
+use Rattle.def_script.specs.Bytes.{Bytes}
+use Rattle.def_script.specs.Witness.{witness_text, weight}
+use Rattle.def_machine.specs.Stacks.{Pairs}
+use Rattle.def_machine.specs.Machine.{Given}
+use Rattle.def_machine.specs.Program.{program_of}
+use Rattle.def_machine.specs.Run.{accepted}
+use Rattle.def_tree.specs.Tree.{Tree}
+use Rattle.def_emit.specs.Emit.{script_of}
+use Rattle.def_sane.specs.Limits.{AreLimits}
+use Rattle.def_sane.specs.declared.Limits.{Limits}
+use Rattle.def_satisfaction.specs.Satisfaction.{Sat, Holds}
+use Rattle.def_choice.specs.Tight.{Tight}
+use Rattle.def_choice.specs.NonMalleable.{NonMalleable, given_with}
+use Rattle.def_promises.specs.Acceptance.{IsAcceptedWithin}
+use Rattle.def_promises.specs.Promises.{Unchangeable}
+use Rattle.def_psbt.specs.Transaction.{TransactionOutput}
+use Rattle.def_spend.specs.declared.State.TheVariants as state
+use Rattle.def_spend.specs.Fields.{WITNESS_SCRIPT, field}
+use Rattle.def_spend.specs.Utxo.{Utxo, utxo_of}
+use Rattle.def_spend.specs.Utxo as utxo
+use Rattle.def_spend.specs.Input.{Spend, assets_of}
+use Rattle.def_spend.specs.Reading.{Input}
+use Rattle.def_spend.specs.States.{stack_of}
+use Rattle.def_spend.specs.Finalized.{witness_of}
+use Rattle.ms_witness.specs.Replaying.{replay, ran}
+use Rattle.ms_spend_laws.specs.Tried.{OfEachIn}
+
+-- the output that is spent, where it is known
+abbrev pub output_in : Utxo → Option TransactionOutput
+output_in utxo.none = None
+output_in utxo.wrong = None
+output_in (utxo.proved output) = Some output
+output_in (utxo.claimed output) = Some output
+
+abbrev pub spent_output : Spend → Option TransactionOutput
+spent_output spend = output_in (utxo_of spend.input.outpoint spend.fields)
+
+-- ---- it is a canonical satisfaction, as a witness
+
+abbrev pub ReadyIsCanonical : Type 0
+ReadyIsCanonical = OfEachIn state.Ready (λ input tree. Sat tree (assets_of input.spend) (stack_of input))
+
+-- the witness is that of the stack, and its last item is the map's witness script: it is the Script of the miniscript, and
+-- the spent output is its program
+pub record IsWitness (input : Input) (tree : Tree) : Type 0 where
+  pub script : field WITNESS_SCRIPT input.spend.fields ≡ Some (script_of tree)
+  pub output : TransactionOutput
+  pub spent : spent_output input.spend ≡ Some output
+  pub program : output.script ≡ program_of (script_of tree)
+  pub witness : witness_of input ≡ witness_text (stack_of input) (script_of tree)
+
+abbrev pub ReadyHasWitness : Type 0
+ReadyHasWitness = OfEachIn state.Ready IsWitness
+
+-- ---- the interpreter accepts it
+
+-- the bytes of the witness, under the spent Script, replay as a run that is accepted
+abbrev pub ReplaysAccepted : Input → Given → Type 0
+ReplaysAccepted input given =
+    (output : TransactionOutput) → spent_output input.spend ≡ Some output →
+    (ops : ℕ) × (peak : ℕ) × (checks : Pairs) × (replay given output.script (witness_of input) ≡ ran (accepted ops peak checks))
+
+-- with the transaction's locks, under every table that holds the input's signatures; and the run is within the limits of
+-- the miniscript
+pub record IsAcceptedByAll (input : Input) (tree : Tree) : Type 0 where
+  pub replayed : (table : Pairs) → Holds table (assets_of input.spend) → ReplaysAccepted input (given_with (assets_of input.spend) table)
+  pub within : (limits : Limits) (table : Pairs) → AreLimits tree limits → Holds table (assets_of input.spend) →
+      IsAcceptedWithin tree limits (given_with (assets_of input.spend) table) (stack_of input)
+
+abbrev pub ReadyIsAccepted : Type 0
+ReadyIsAccepted = OfEachIn state.Ready IsAcceptedByAll
+
+-- ---- nobody can change it
+
+-- every other stack that is accepted passes a check that this one doesn't, or is fresh and has an unknown preimage or
+-- another key with the same hash
+abbrev pub ReadyIsUnchangeable : Type 0
+ReadyIsUnchangeable = OfEachIn state.Ready (λ input tree. Unchangeable tree (assets_of input.spend) (stack_of input))
+
+-- ---- of those that nobody can change
+
+abbrev pub ReadyIsTight : Type 0
+ReadyIsTight = OfEachIn state.Ready (λ input tree. Tight tree (assets_of input.spend) (stack_of input))
+
+-- no canonical satisfaction that nobody can change weighs less
+abbrev pub ReadyIsLightest : Type 0
+ReadyIsLightest =
+    OfEachIn state.Ready (λ input tree.
+    (other : List Bytes) → Sat tree (assets_of input.spend) other → NonMalleable tree (assets_of input.spend) other →
+    weight (stack_of input) ≤ weight other)
