@@ -10,3 +10,5 @@ mod fields;
 mod hash_types;
 mod kind;
 mod signed;
+#[cfg(test)]
+mod tests;

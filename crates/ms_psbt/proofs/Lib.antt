@@ -1,9 +1,13 @@
+mod Holding
+pub mod Pairing
 mod Places
+mod Placing
 mod Reading
 mod Repeating
 mod Shapes
 mod Sizes
 mod Skipping
+mod Sourcing
 mod Unsigned
 mod Walked
 mod Walking

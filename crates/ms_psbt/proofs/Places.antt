@@ -1,5 +1,5 @@
 -- Keys at places.
-use Rattle.std.proofs.Common.{◌≡◌, ℕ, ◌<◌, [], length, drop, refl, sym, ◌∙◌, ap, arith}
+use Rattle.std.proofs.Common.{◌≡◌, ℕ, ◌<◌, [], length, drop, refl, arith}
 use Rattle.std.proofs.lemmas.List.{drop_all}
 use Rattle.def_script.specs.Bytes.{Bytes}
 use Rattle.def_script.specs.Sizes.{read_size}

@@ -1,16 +1,18 @@
 -- The maps of a PSBT, one after the other, come to what its bytes give.
-use Rattle.std.proofs.Common.{◌≡◌, ℕ, zero, suc, ◌+◌, ◌-◌, ◌<◌, ◌≤◌, ◌==◌, nat_lt, Bool, true, false, cond, List, [], ◌∷◌, ◌++◌, length, Option, Some, None, option_map, Result, Ok, Err, refl, sym, ap, subst, ◌∙◌, arith}
-use Rattle.std.specs.Prelude.{find}
-use Rattle.std.proofs.lemmas.Bool.{cases_Bool, lt-ltb, le-ltb, eqb-true, eqb-false, ne_eqb}
-use Rattle.def_script.specs.Bytes.{Bytes}
+use Rattle.std.proofs.Common.{◌≡◌, ℕ, zero, suc, ◌+◌, ◌-◌, ◌^◌, ◌<◌, ◌≤◌, ◌==◌, nat_lt, true, false, cond, List, [], ◌∷◌, ◌++◌, length, Option, Some, None, option_map, Ok, Err, refl, sym, ap, subst, ◌∙◌, arith}
+use Rattle.std.proofs.lemmas.Bool.{lt-ltb, le-ltb, ne_eqb}
+use Rattle.def_script.specs.Bytes.{Bytes, IsBytes}
 use Rattle.def_psbt.specs.declared.PsbtFault.{PsbtFault}
-use Rattle.def_psbt.specs.declared.PsbtFault.TheVariants.{Truncated, NoTransaction, Trailing}
+use Rattle.def_psbt.specs.declared.PsbtFault.TheVariants.{NoTransaction, Trailing}
 use Rattle.def_psbt.specs.declared.Refusal.{Refusal}
 use Rattle.def_psbt.specs.declared.Refusal.TheVariants.{At}
 use Rattle.def_psbt.specs.Transaction.{Transaction}
-use Rattle.def_psbt.specs.Map.{Pair, Map, Psbt, type_of}
+use Rattle.def_psbt.specs.Laws.{IsSound}
+use Rattle.def_psbt.specs.Map.{Pair, Map, Psbt, type_of, map_text, psbt_text}
+use Rattle.def_psbt.specs.Source.{MAX_SOURCE_SIZE, has_magic}
+use Rattle.def_psbt.proofs.Reading.{pairs_from, read_is_written}
 use Rattle.def_psbt.specs.TransactionReading.{transaction_of}
-use Rattle.def_psbt.specs.Listed.{Form, pair_fault, global_form, input_form, output_form}
+use Rattle.def_psbt.specs.Listed.{pair_fault, global_form, input_form, output_form}
 use Rattle.def_psbt.specs.Reading.{◌>>=◌, Read, size_at, pair_at, tested, sound_pair_at, pairs_at, map_at, maps_at, pair_of_type, transaction_in_pair, transaction_in, read_psbt}
 use Rattle.ms_psbt.specs.declared.stop.ReadStop.{ReadStop}
 use Rattle.ms_psbt.specs.declared.stop.ReadStop.TheVariants as stop
@@ -18,20 +20,11 @@ use Rattle.ms_psbt.specs.Seen.{ReadsOr}
 use Rattle.ms_psbt.specs.Scaffolding.Skips.{counts_of}
 use Rattle.ms_psbt.specs.Scaffolding.Walks.{end_of, starts_from}
 use Rattle.ms_psbt.specs.Whole.{read_or, psbt_seen}
-use Rattle.ms_psbt.specs.Scaffolding.Kept.{IsRead, counted_value, counted_pair}
+use Rattle.ms_psbt.specs.Scaffolding.Kept.{IsRead, places_of, counted_value, counted_pair}
+use Rattle.ms_psbt.proofs.Placing.{bind_ok, done, ok_is, magic_long, ends_behind, places_are}
 use Rattle.ms_psbt.proofs.Walking.{ended_at, refused_at}
 
 -- ---- the pairs of a map that is whole, one after the other
-
-bind_ok : {A B : Type 0} (r : Result A Refusal) (f : A → Result B Refusal) (y : B) → (r >>= f) ≡ Ok y → (x : A) × (r ≡ Ok x) × (f x ≡ Ok y)
-bind_ok (Ok x) f y e = (x, refl, e)
-bind_ok (Err refusal) f y e = absurd cc
-
-abbrev done : {A : Type 0} → A → Result A Refusal
-done x = Ok x
-
-ok_is : {A : Type 0} (x y : A) → done x ≡ done y → x ≡ y
-ok_is x y e = cc
 
 tested_ok : (o : Option PsbtFault) (at : ℕ) (read x : Pair × ℕ) → tested o at read ≡ Ok x → read ≡ x
 tested_ok None at read x e = ok_is read x e
@@ -245,19 +238,23 @@ module _ (bytes : Bytes) (after : ℕ) (value : Bytes) (counts : ℕ × ℕ) (g 
           let no_more : nat_lt last (length bytes) ≡ false = le-ltb _ _ none in
           rw (read, there, inputs, outputs, no_more) refl
 
-      pub is_read : (inputs outputs : List ℕ) → length bytes ≤ last → inputs ≡ starts_from input_form bytes counts.0 after → outputs ≡ starts_from output_form bytes counts.1 middle
-          → IsRead bytes value inputs outputs
+      pub is_read : (places : List ℕ) → IsBytes bytes → length bytes ≤ MAX_SOURCE_SIZE → has_magic bytes ≡ true → after ≤ length bytes → middle ≤ length bytes → length bytes ≤ last
+          → places ≡ starts_from input_form bytes counts.0 after ++ middle ∷ [] → IsRead bytes value places
       unfolding held
-      is_read inputs outputs none i o =
+      is_read places fits short begins after_inside middle_inside none p =
           let e : read_psbt bytes ≡ Ok held = whole none in
+          let written = read_is_written bytes held fits short begins e in
+          let small : length bytes < 2 ^ 64 = omega arith in
+          let five : 5 ≤ length bytes = magic_long bytes begins in
           let seen : psbt_seen bytes ≡ held = ap (read_or (record { global = []; transaction = record { version = 0; inputs = []; outputs = []; lock_time = 0 }; inputs = []; outputs = [] })) e in
+          let global_is : after ≡ 5 + length (map_text g.global) = ends_behind bytes 5 g.global after (pairs_from global_form bytes (suc (length bytes)) [] 5 (g.global, after) fits small g.read).0 five after_inside in
+          let are : starts_from input_form bytes (length g.transaction.inputs) after ++ middle ∷ [] ≡ places_of after inputs_read.0 =
+          places_are input_form bytes fits small (length g.transaction.inputs) after (inputs_read.0, middle) inputs_read.1 middle_inside in
           record {
             read = e ∙ ap (λ (p : Psbt). done p) (sym seen);
+            sound = subst (λ (p : Psbt). IsSound p) (sym seen) written.0;
+            text = subst (λ (p : Psbt). bytes ≡ psbt_text p.global p.inputs p.outputs) (sym seen) written.1;
             value = subst (λ (p : Psbt). option_map (λ (pair : Pair). pair.value) (pair_of_type 0x00 p.global) ≡ Some value) (sym seen) g.is;
-            after_global = after;
-            global_ends = ap end_of g.read;
-            inputs_are = subst (λ (p : Psbt). inputs ≡ starts_from input_form bytes (length p.transaction.inputs) after) (sym seen) (i ∙ ap (λ (n : ℕ). starts_from input_form bytes n after) (sym inputs_count));
-            after_inputs = middle;
-            inputs_end = subst (λ (p : Psbt). end_of (maps_at input_form bytes (length p.transaction.inputs) after) ≡ Ok middle) (sym seen) (ap (λ (n : ℕ). end_of (maps_at input_form bytes n after)) inputs_count ∙ inputs_end);
-            outputs_are = subst (λ (p : Psbt). outputs ≡ starts_from output_form bytes (length p.transaction.outputs) middle) (sym seen) (o ∙ ap (λ (n : ℕ). starts_from output_form bytes n middle) (sym outputs_count));
+            places_are = subst (λ (p : Psbt). places ≡ places_of (5 + length (map_text p.global)) p.inputs) (sym seen)
+                (p ∙ ap (λ (n : ℕ). starts_from input_form bytes n after ++ middle ∷ []) (sym inputs_count) ∙ are ∙ ap (λ (n : ℕ). places_of n inputs_read.0) global_is);
           }

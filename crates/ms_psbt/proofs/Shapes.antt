@@ -1,11 +1,11 @@
 -- What is wrong with a pair, by the type at the front of its key.
-use Rattle.std.proofs.Common.{◌≡◌, ℕ, List, if◌then◌else◌, Option, Some, None, Result, Ok, Err, refl}
+use Rattle.std.proofs.Common.{◌≡◌, ℕ, if◌then◌else◌, Option, Some, None, Ok, Err, refl}
 use Rattle.def_script.specs.Bytes.{Bytes}
 use Rattle.def_script.specs.Sizes.{SizeReading, read_size}
 use Rattle.def_psbt.specs.declared.PsbtFault.{PsbtFault}
 use Rattle.def_psbt.specs.declared.PsbtFault.TheVariants.{KeyForm}
-use Rattle.def_psbt.specs.Map.{Pair, type_of, data_of, type_read, data_read}
-use Rattle.def_psbt.specs.Listed.{Form, is_typed, form_fault, shape_fault}
+use Rattle.def_psbt.specs.Map.{Pair, type_read, data_read}
+use Rattle.def_psbt.specs.Listed.{Form, is_typed, shape_fault}
 use Rattle.def_psbt.specs.Part.{Part, first_size, size_part}
 use Rattle.ms_psbt.specs.Scaffolding.Kinds.{fault_by}
 

@@ -1,14 +1,13 @@
 -- Skipping parts comes to the same as reading them.
-use Rattle.std.proofs.Common.{◌≡◌, ℕ, zero, suc, ◌+◌, ◌-◌, ◌<◌, ◌≤◌, ◌==◌, ◌&&◌, nat_lt, nat_le, Bool, true, false, cond, is_some, slice_index, List, [], ◌∷◌, length, Option, Some, None, option_map, Bor, refl, sym, ap, subst, ◌∙◌, arith}
+use Rattle.std.proofs.Common.{◌≡◌, ℕ, zero, suc, ◌+◌, ◌-◌, ◌<◌, ◌≤◌, ◌==◌, ◌&&◌, nat_lt, nat_le, Bool, true, false, cond, is_some, slice_index, List, ◌∷◌, length, Option, Some, None, option_map, Bor, refl, sym, ap, ◌∙◌, arith}
 use Rattle.std.specs.Int.{Width, w32, w64, byte_len, from_le_bytes}
 use Rattle.def_script.specs.Bytes.{Bytes}
 use Rattle.def_psbt.specs.Transaction.{Outpoint, TransactionInput, TransactionOutput, Transaction}
 use Rattle.def_psbt.specs.Part.{Part, ◌>>=◌, first_bytes, first_number, first_size, first_string, first_many, first_list, whole}
 use Rattle.def_psbt.specs.TransactionReading.{first_outpoint, first_input, first_output, first_sides, transaction_of, witnessed_transaction_of, first_witness}
 use Rattle.def_psbt.specs.Forms.{output_of, witness_of}
-use Rattle.ms_psbt.specs.declared.transaction.Kind.{Kind}
 use Rattle.ms_psbt.specs.declared.transaction.Kind.TheVariants as kind
-use Rattle.ms_psbt.specs.Seen.{IsPart, rest_of}
+use Rattle.ms_psbt.specs.Seen.{IsPart, rest_of, counted_part}
 use Rattle.ms_psbt.specs.Scaffolding.Skips.{skip_of, skips, counted, list_skip, witness_skip, input_skip, output_skip, sides_skip, all_read, counts_read, counts_of, witnessed_skip, is_all}
 
 -- ---- parts and the bytes behind them
@@ -65,25 +64,20 @@ many_count {A} first (suc count) bytes = go (λ rest. many_count first count res
     go h (Some read) = more read.0 (first_many first count read.1) (h read.1)
     go h None = tt
 
--- the number of parts, and the bytes behind them
-abbrev pub counted_rest : {A : Type 0} → Part (List A) → Option (ℕ × Bytes)
-counted_rest (Some read) = Some (length read.0, read.1)
-counted_rest None = None
-
-counts_rest : {A : Type 0} (count : ℕ) (part : Part (List A)) (rest : Option Bytes) → Counts count part → rest_of part ≡ rest → counted_rest part ≡ counted count rest
+counts_rest : {A : Type 0} (count : ℕ) (part : Part (List A)) (rest : Option Bytes) → Counts count part → rest_of part ≡ rest → counted_part part ≡ counted count rest
 counts_rest count (Some read) rest n e = ap (λ (k : ℕ). Some (k, read.1)) n ∙ ap (counted count) e
 counts_rest count None rest n e = ap (counted count) e
 
 pub list_rest : {A : Type 0} (first : Bytes → Part A) (skip : Bytes → Option Bytes) → ((bytes : Bytes) → rest_of (first bytes) ≡ skip bytes)
-    → (bytes : Bytes) → counted_rest (first_list first bytes) ≡ list_skip skip bytes
+    → (bytes : Bytes) → counted_part (first_list first bytes) ≡ list_skip skip bytes
 unfolding first_list list_skip
 list_rest {A} first skip h bytes = go (first_size bytes)
   where
-    go : (size : Part ℕ) → counted_rest (size >>= λ count. first_many first count.0 count.1) ≡ (size >>= λ size. counted size.0 (skips skip size.0 size.1))
+    go : (size : Part ℕ) → counted_part (size >>= λ count. first_many first count.0 count.1) ≡ (size >>= λ size. counted size.0 (skips skip size.0 size.1))
     go (Some size) = counts_rest size.0 (first_many first size.0 size.1) (skips skip size.0 size.1) (many_count first size.0 size.1) (many_rest first skip h size.0 size.1)
     go None = refl
 
-rest_counted : {A : Type 0} (part : Part (List A)) → rest_of part ≡ rest_of (counted_rest part)
+rest_counted : {A : Type 0} (part : Part (List A)) → rest_of part ≡ rest_of (counted_part part)
 rest_counted (Some read) = refl
 rest_counted None = refl
 
@@ -153,12 +147,12 @@ unfolding first_sides sides_skip
 sides_rest bytes = go (first_list first_input bytes) ∙ ap (λ (inputs : Option (ℕ × Bytes)). inputs >>= behind) (list_rest first_input (skip_of kind.Input) input_rest bytes)
   where
     ends : (inputs : List TransactionInput) (part : Part (List TransactionOutput)) → sides_counted (part >>= λ outputs. Some ((inputs, outputs.0), outputs.1))
-        ≡ (counted_rest part >>= λ outputs. Some ((length inputs, outputs.0), outputs.1))
+        ≡ (counted_part part >>= λ outputs. Some ((length inputs, outputs.0), outputs.1))
     ends inputs (Some read) = refl
     ends inputs None = refl
 
     go : (part : Part (List TransactionInput)) → sides_counted (part >>= λ inputs. first_list first_output inputs.1 >>= λ outputs. Some ((inputs.0, outputs.0), outputs.1))
-        ≡ (counted_rest part >>= behind)
+        ≡ (counted_part part >>= behind)
     go (Some read) = ends read.0 (first_list first_output read.1) ∙ ap (λ (o : Option (ℕ × Bytes)). o >>= λ outputs. Some ((length read.0, outputs.0), outputs.1)) (list_rest first_output (skip_of kind.Output) output_rest read.1)
     go None = refl
 

@@ -1,7 +1,7 @@
 -- Where inputs have empty scriptSigs, their outpoints stand each 41 bytes behind the one before.
 use Rattle.std.proofs.Common.{◌≡◌, ℕ, zero, suc, ◌+◌, ◌-◌, ◌^◌, ◌<◌, ◌≤◌, ◌⊎◌, inl, inr, ⊎_elim, ◌==◌, ◌&&◌, ◌||◌, not, nat_lt, nat_le, Bool, true, false, cond, is_some, is_none, List, [], ◌∷◌, ◌++◌, length, map, take, drop, get_or, Option, Some, None, option_map, Result, Ok, Err, refl, sym, ap, subst, ◌∙◌, append_assoc, arith}
-use Rattle.std.proofs.lemmas.Bool.{cases_Bool, cases_lt, ltb-false, leb-true, leb-false, le-leb, eqb-true, eqb-false, ne_eqb}
-use Rattle.std.proofs.lemmas.List.{length-drop, length-take-le, take-append-drop, take-take, drop-take, drop-drop, get_or-drop, get_or-take, append-nil}
+use Rattle.std.proofs.lemmas.Bool.{cases_Bool, cases_lt, ltb-false, leb-true, le-leb, eqb-true, eqb-false, ne_eqb}
+use Rattle.std.proofs.lemmas.List.{length-drop, length-take-le, take-append-drop, take-take, drop-take, drop-drop, get_or-drop, append-nil}
 use Rattle.std.proofs.lemmas.List.Folds.{list_any-append}
 use Rattle.std.proofs.lemmas.Nat.{le_bytes_4}
 use Rattle.std.proofs.lemmas.Slice.Eq.{bytes_eq-Decides}
@@ -13,7 +13,7 @@ use Rattle.def_script.specs.declared.SizeFault.{SizeFault}
 use Rattle.def_script.specs.Bytes.{Bytes, IsBytes}
 use Rattle.def_script.specs.Sizes.{SizeReading, read_wide, read_size}
 use Rattle.def_psbt.specs.Transaction.{Outpoint, TransactionInput, TransactionOutput, Transaction, outpoint_text}
-use Rattle.def_psbt.specs.Part.{Part, ◌>>=◌, first_bytes, first_number, first_size, size_part, first_string, first_many, first_list, whole}
+use Rattle.def_psbt.specs.Part.{◌>>=◌, first_bytes, first_number, first_size, size_part, first_string, first_many, first_list, whole}
 use Rattle.def_psbt.specs.TransactionReading.{first_outpoint, first_input, first_output, first_sides, transaction_of}
 use Rattle.def_psbt.specs.Forms.{has_no_script_sig, outpoint_texts, stands_twice, is_unsigned}
 use Rattle.ms_psbt.specs.declared.repeats.Keys.{Keys}
@@ -22,7 +22,7 @@ use Rattle.ms_psbt.specs.Scaffolding.Repeats.{key_at, repeat_in}
 use Rattle.ms_script.specs.SizeReads.{size_at}
 use Rattle.std.specs.Prelude.{IfOk}
 use Rattle.ms_psbt.proofs.Sizes.{place_within}
-use Rattle.ms_psbt.specs.Scaffolding.Outpoints.{AreOutpoints, Places, is_empty_input, empties}
+use Rattle.ms_psbt.specs.Scaffolding.Outpoints.{Places, is_empty_input, empties}
 
 -- ---- parts that are there
 

@@ -1,5 +1,5 @@
 -- A walk, step by step.
-use Rattle.std.proofs.Common.{◌≡◌, ℕ, zero, suc, ◌+◌, ◌-◌, ◌<◌, ◌≤◌, ◌⊎◌, inl, inr, ⊎_elim, List, [], ◌∷◌, ◌++◌, length, length-append, get_or, Result, Ok, Err, refl, sym, ap, subst, ◌∙◌, append_assoc, arith}
+use Rattle.std.proofs.Common.{◌≡◌, ℕ, zero, suc, ◌+◌, ◌<◌, ◌≤◌, ⊎_elim, List, [], ◌∷◌, ◌++◌, length, length-append, get_or, Result, Err, refl, sym, ap, subst, ◌∙◌, append_assoc, arith}
 use Rattle.std.proofs.Math.Seq.{get_or-append_seam}
 use Rattle.std.proofs.lemmas.Bool.{cases_lt}
 use Rattle.std.proofs.lemmas.List.{append-nil, get_or_append_left}
@@ -9,7 +9,7 @@ use Rattle.def_psbt.specs.declared.Refusal.{Refusal}
 use Rattle.def_psbt.specs.Listed.{Form}
 use Rattle.ms_psbt.specs.declared.maps.Step.{Step}
 use Rattle.ms_psbt.specs.declared.maps.Step.TheVariants as step
-use Rattle.ms_psbt.specs.Scaffolding.Walks.{step_at, Walk, ended, behind, walk_step, walk_from}
+use Rattle.ms_psbt.specs.Scaffolding.Walks.{step_at, Walk, ended, walk_step, walk_from}
 
 -- places before another one, in ascending order
 pub record Before (places : List ℕ) (at : ℕ) : Type 0 where

@@ -11,14 +11,13 @@ use Rattle.def_psbt.specs.declared.Refusal.TheVariants.{At}
 use Rattle.def_psbt.specs.Map.{Pair, Map}
 use Rattle.def_psbt.specs.Listed.{Form, stands, shape_fault, pair_fault}
 use Rattle.def_psbt.specs.Reading.{◌>>=◌, Read, size_at, string_at, pair_at, tested, sound_pair_at, pairs_at, map_at, maps_at}
-use Rattle.ms_psbt.specs.declared.maps.Step.{Step}
 use Rattle.ms_psbt.specs.declared.maps.Step.TheVariants as step
 use Rattle.ms_psbt.specs.declared.repeats.Keys.TheVariants as keys
 use Rattle.ms_psbt.specs.declared.stop.ReadStop.{ReadStop}
 use Rattle.ms_psbt.specs.declared.stop.ReadStop.TheVariants as stop
 use Rattle.ms_psbt.specs.Seen.{ReadsOr}
 use Rattle.ms_psbt.specs.Scaffolding.Repeats.{key_at, key_read, repeat_in}
-use Rattle.ms_psbt.specs.Scaffolding.Walks.{step_at, after_test, after_pair, after_size, Walk, ended, behind, walk_step, walk_from, repeated_or, end_of, starts_from}
+use Rattle.ms_psbt.specs.Scaffolding.Walks.{after_test, after_pair, after_size, Walk, ended, behind, walk_step, walk_from, repeated_or, end_of, starts_from}
 use Rattle.ms_psbt.proofs.Walked.{walk_of}
 
 abbrev done : {A : Type 0} → A → Result A Refusal

@@ -1,3 +1,5 @@
 pub mod Seen
 pub mod Whole
+pub mod Sources
+pub mod Pairs
 pub mod Scaffolding

@@ -5,3 +5,4 @@ pub mod Outpoints
 pub mod Walks
 pub mod Kinds
 pub mod Kept
+pub mod Pairs

@@ -1,5 +1,5 @@
 -- What is read, as contracts see it.
-use Rattle.std.specs.Prelude.{◌≡◌, Option, Some, None, Result, Ok, Err}
+use Rattle.std.specs.Prelude.{◌≡◌, ℕ, List, length, Option, Some, None, Result, Ok, Err}
 use Rattle.def_script.specs.Bytes.{Bytes}
 use Rattle.def_psbt.specs.declared.Refusal.{Refusal}
 use Rattle.ms_psbt.specs.declared.stop.ReadStop.{ReadStop}
@@ -25,3 +25,8 @@ IsPart seen None reading = reading ≡ None
 abbrev pub rest_of : {A : Type 0} → Option (A × Bytes) → Option Bytes
 rest_of (Some part) = Some part.1
 rest_of None = None
+
+-- how many parts a list has, and the bytes behind it
+abbrev pub counted_part : {A : Type 0} → Option (List A × Bytes) → Option (ℕ × Bytes)
+counted_part (Some part) = Some (length part.0, part.1)
+counted_part None = None

@@ -2,8 +2,10 @@
 
 ghost use Rattle.std.specs.Prelude.{◌≡◌, ◌<◌, ◌≤◌, length, IfOk};
 ghost use Rattle.def_psbt.specs.Reading.{fault_of_size, size_at as the_size_at, string_at as the_string_at, pair_at as the_pair_at};
+ghost use Rattle.def_psbt.specs.Map.{type_of, data_of};
 ghost use Rattle.ms_psbt.specs.Seen.{Reads};
 
+use crate::parts::first_size;
 use def_psbt::{PsbtFault, Refusal};
 use ms_script::{SizeFault, read_size};
 use std::marker::Model;
@@ -24,18 +26,46 @@ impl<'a> Model for PairRef<'a> {
 }
 
 impl<'a> PairRef<'a> {
-    /// The key, its type and its data.
+    /// The pair of this key and this value.
+    pub(crate) fn new(key: &'a [u8], value: &'a [u8]) -> PairRef<'a>
+        ensures key { result.key ≡ key.entry.now }
+        ensures value { result.value ≡ value.entry.now }
+    {
+        PairRef { key, value }
+    }
+
+    /// The key, its type and its data. Takes no memory.
     pub fn key(&self) -> &'a [u8]
         ensures { result.now ≡ self.now.key }
     {
         self.key
     }
 
-    /// The value.
+    /// The value. Takes no memory.
     pub fn value(&self) -> &'a [u8]
         ensures { result.now ≡ self.now.value }
     {
         self.value
+    }
+
+    /// The type at the front of the key. Takes no memory.
+    pub fn key_type(&self) -> u64
+        ensures { result ≡ type_of self.now.key }
+    {
+        match read_size(self.key, 0) {
+            Ok((type_number, _)) => type_number,
+            Err(_) => 0,
+        }
+    }
+
+    /// The data of the key, behind its type. Takes no memory.
+    pub fn key_data(&self) -> &'a [u8]
+        ensures { result.now ≡ data_of self.now.key }
+    {
+        match first_size(self.key) {
+            Some((_, key_data)) => key_data,
+            None => &[],
+        }
     }
 }
 

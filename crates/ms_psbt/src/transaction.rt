@@ -80,7 +80,7 @@ fn skip_many(kind: Kind, count: u64, bytes: &[u8]) -> Option<&[u8]>
 
 /// The number of parts, and the bytes behind them.
 #[tactic(auto, unfolding(crate::specs::Scaffolding::Skips::list_skip))]
-fn skip_list(kind: Kind, bytes: &[u8]) -> Option<(u64, &[u8])>
+pub fn skip_list(kind: Kind, bytes: &[u8]) -> Option<(u64, &[u8])>
     ensures { IsPart (λ part. (part.0, part.1.now)) result (list_skip (skip_of kind) bytes.now) }
 {
     let (count, rest) = first_size(bytes)?;
@@ -96,7 +96,8 @@ fn skip_witness(bytes: &[u8]) -> Option<&[u8]>
     Some(rest)
 }
 
-fn skip_witnesses(count: u64, bytes: &[u8]) -> Option<&[u8]>
+/// The bytes behind so many witnesses.
+pub fn skip_each_witness(count: u64, bytes: &[u8]) -> Option<&[u8]>
     ensures { IsPart (λ rest. rest.now) result (skips witness_skip count bytes.now) }
 {
     let mut rest = bytes;
@@ -140,7 +141,7 @@ fn skip_witnessed(bytes: &[u8]) -> Option<&[u8]>
     let rest = skip_bytes(4, bytes)?;
     let (marker, rest) = first_bytes(2, rest)?;
     let (counts, rest) = skip_sides(rest)?;
-    let rest = skip_witnesses(counts.0, rest)?;
+    let rest = skip_each_witness(counts.0, rest)?;
     let rest = skip_bytes(4, rest)?;
     if marker[1] == 1 && counts.0 > 0 {
         Some(rest)

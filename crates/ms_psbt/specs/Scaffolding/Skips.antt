@@ -1,8 +1,8 @@
 -- The bytes behind parts of transactions. No public clause cites it, so it need not be believed.
-use Rattle.std.specs.Prelude.{ℕ, zero, suc, ◌-◌, ◌==◌, ◌&&◌, nat_lt, nat_le, Bool, false, List, [], ◌∷◌, length, drop, slice_index, if◌then◌else◌, Option, Some, None}
+use Rattle.std.specs.Prelude.{ℕ, zero, suc, ◌==◌, ◌&&◌, nat_lt, nat_le, Bool, false, length, slice_index, if◌then◌else◌, Option, Some, None}
 use Rattle.def_script.specs.Bytes.{Bytes}
 use Rattle.def_psbt.specs.Transaction.{Transaction}
-use Rattle.def_psbt.specs.Part.{Part, ◌>>=◌, first_bytes, first_size, first_string}
+use Rattle.def_psbt.specs.Part.{◌>>=◌, first_bytes, first_size, first_string}
 use Rattle.ms_psbt.specs.declared.transaction.Kind.{Kind}
 use Rattle.ms_psbt.specs.declared.transaction.Kind.TheVariants as kind
 use Rattle.ms_psbt.specs.Seen.{rest_of}

@@ -1,5 +1,5 @@
 -- A walk over the pairs of a map that leaves keys that stand twice aside. No public clause cites it, so it need not be believed.
-use Rattle.std.specs.Prelude.{◌≡◌, ℕ, zero, suc, ◌<◌, ◌≤◌, ◌==◌, List, [], ◌∷◌, if◌then◌else◌, Option, Some, None, Result, Ok, Err}
+use Rattle.std.specs.Prelude.{ℕ, zero, suc, ◌<◌, ◌≤◌, ◌==◌, List, [], ◌∷◌, if◌then◌else◌, Option, Some, None, Result, Ok, Err}
 use Rattle.def_script.specs.Bytes.{Bytes}
 use Rattle.def_psbt.specs.declared.PsbtFault.{PsbtFault}
 use Rattle.def_psbt.specs.declared.PsbtFault.TheVariants.{Truncated, RepeatedKey}

@@ -1,8 +1,7 @@
 use Rattle.std.proofs.Common.{◌≡◌, ◌+◌, ◌-◌, ◌++◌, subst, sym}
 use Rattle.std.proofs.lemmas.Result.{err_from_is_err_and}
-use Rattle.def_psbt.specs.Reading.{maps_at}
 use Rattle.ms_psbt.specs.Scaffolding.Kinds.{forms_of}
-use Rattle.ms_psbt.specs.Scaffolding.Walks.{end_of, starts_from}
+use Rattle.ms_psbt.specs.Scaffolding.Walks.{starts_from}
 use Rattle.ms_psbt.proofs.Walking.{maps_more, starts_more, maps_stop, maps_done, starts_done}
 use Rattle.ms_psbt.proofs.maps.maps_end.Goals as goal
 

@@ -1,4 +1,4 @@
-use Rattle.std.proofs.Common.{ℕ, suc, ◌-◌, ◌≤◌, length}
+use Rattle.std.proofs.Common.{suc, ◌-◌, ◌≤◌, length}
 use Rattle.ms_psbt.specs.Scaffolding.Kinds.{forms_of}
 use Rattle.ms_psbt.specs.Scaffolding.Walks.{walk_from}
 use Rattle.ms_psbt.proofs.Walked.{Before, WalksOn}

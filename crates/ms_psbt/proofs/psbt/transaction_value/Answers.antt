@@ -1,5 +1,4 @@
 use Rattle.std.proofs.Common.{ap, sym, ◌∙◌, Some}
-use Rattle.def_psbt.specs.Map.{type_of}
 use Rattle.ms_psbt.proofs.Reading.{in_map, no_size, at_end, no_pair, found_here, goes_on}
 use Rattle.ms_psbt.proofs.psbt.transaction_value.Goals as goal
 
@@ -19,12 +18,12 @@ returns-in_default-pair_at c = λ map e.
 pub returns-then-key_type-eq0 : goal.returns-then-key_type-eq0
 returns-then-key_type-eq0 c = λ map e.
     found_here c.args.psbt.now c.loop-size.at _ (c.loop-size.invariant.1 map e) (c.in-Ok.size, c.in-Ok.field-0-1) c.in-Ok.ensures.reading c.if-size-eq0.false
-    (c.in-Ok-pair_at.pair, c.in-Ok-pair_at.next) c.in-Ok-pair_at.ensures.reading (ap type_of (sym c.key.ensures) ∙ sym c.key_type.ensures ∙ c.if-key_type-eq0.true)
+    (c.in-Ok-pair_at.pair, c.in-Ok-pair_at.next) c.in-Ok-pair_at.ensures.reading (sym c.key_type.ensures ∙ c.if-key_type-eq0.true)
     ∙ ap Some (sym c.value.ensures)
 
 pub loop-size-preserved : goal.loop-size-preserved
 loop-size-preserved c = (
   c.in-Ok-pair_at.ensures.within,
   λ map e. goes_on c.args.psbt.now c.loop-size.at _ (c.loop-size.invariant.1 map e) (c.in-Ok.size, c.in-Ok.field-0-1) c.in-Ok.ensures.reading c.if-size-eq0.false
-      (c.in-Ok-pair_at.pair, c.in-Ok-pair_at.next) c.in-Ok-pair_at.ensures.reading (λ z. c.if-key_type-eq0.false (c.key_type.ensures ∙ ap type_of c.key.ensures ∙ z)),
+      (c.in-Ok-pair_at.pair, c.in-Ok-pair_at.next) c.in-Ok-pair_at.ensures.reading (λ z. c.if-key_type-eq0.false (c.key_type.ensures ∙ z)),
 )

@@ -1,4 +1,4 @@
-use Rattle.std.proofs.Common.{◌≤◌, ◌<◌, length, inl, inr, ⊎_elim, arith}
+use Rattle.std.proofs.Common.{◌≤◌, length, inl, inr, ⊎_elim, arith}
 use Rattle.std.proofs.lemmas.Bool.{cases_lt}
 use Rattle.ms_psbt.proofs.Repeating.{least_none, least_end}
 use Rattle.ms_psbt.proofs.repeats.least_repeat.Goals as goal

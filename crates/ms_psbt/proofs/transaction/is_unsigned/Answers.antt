@@ -1,4 +1,4 @@
-use Rattle.std.proofs.Common.{not, Some, option_map, ap, subst, ◌∙◌}
+use Rattle.std.proofs.Common.{not, option_map, ap, subst, ◌∙◌}
 use Rattle.def_psbt.specs.TransactionReading.{transaction_of}
 use Rattle.ms_psbt.specs.Scaffolding.Outpoints.{Places}
 use Rattle.ms_psbt.specs.Scaffolding.Skips.{counts_of}

@@ -1,6 +1,4 @@
 use Rattle.std.proofs.Common.{None, option_map, arith}
-use Rattle.def_psbt.specs.TransactionReading.{transaction_of}
-use Rattle.ms_psbt.specs.Scaffolding.Outpoints.{Places}
 use Rattle.ms_psbt.proofs.Unsigned.{places_ok, places_short, places_err, if_ok}
 use Rattle.ms_psbt.proofs.transaction.outpoint_places.Goals as goal
 

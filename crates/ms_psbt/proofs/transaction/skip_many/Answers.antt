@@ -1,6 +1,4 @@
-use Rattle.std.proofs.Common.{◌≡◌, None, subst, sym}
-use Rattle.ms_psbt.specs.Seen.{IsPart}
-use Rattle.ms_psbt.specs.Scaffolding.Skips.{skip_of, skips, witness_skip}
+use Rattle.ms_psbt.specs.Scaffolding.Skips.{skip_of, skips}
 use Rattle.ms_psbt.proofs.Skipping.{skips_on, skips_none, skips_done}
 use Rattle.ms_psbt.proofs.transaction.skip_many.Goals as goal
 

@@ -1,5 +1,5 @@
 use Rattle.std.proofs.Common.{◌≡◌, ◌-◌}
-use Rattle.ms_psbt.specs.Scaffolding.Skips.{skip_of, skips, witness_skip}
+use Rattle.ms_psbt.specs.Scaffolding.Skips.{skip_of, skips}
 use Rattle.ms_psbt.proofs.transaction.skip_many.Given as goal
 
 abbrev pub invariant-loop : goal.invariant-loop

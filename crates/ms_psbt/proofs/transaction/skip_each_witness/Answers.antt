@@ -1,8 +1,6 @@
-use Rattle.std.proofs.Common.{◌≡◌, None, subst, sym}
-use Rattle.ms_psbt.specs.Seen.{IsPart}
-use Rattle.ms_psbt.specs.Scaffolding.Skips.{skip_of, skips, witness_skip}
+use Rattle.ms_psbt.specs.Scaffolding.Skips.{skips, witness_skip}
 use Rattle.ms_psbt.proofs.Skipping.{skips_on, skips_none, skips_done}
-use Rattle.ms_psbt.proofs.transaction.skip_witnesses.Goals as goal
+use Rattle.ms_psbt.proofs.transaction.skip_each_witness.Goals as goal
 
 pub returns-in_err-rest : goal.returns-in_err-rest
 returns-in_err-rest c = rw c.from_residual.ensures (skips_none (witness_skip) c.args.count c.loop.counter c.loop.rest.now (skips (witness_skip) c.args.count c.args.bytes.now) c.loop-test.true c.in_err-rest.ensures c.loop.invariant)

@@ -1,0 +1,2 @@
+pub mod KeyCount
+pub mod Tables

@@ -1,0 +1,11 @@
+//! The state of an input of a PSBT whose witness script is known, its satisfaction, and its final witness.
+#![tactic(auto)]
+
+pub use def_spend::State;
+pub use settled::{Settled, settle};
+pub use witness::final_witness;
+
+mod settled;
+#[cfg(test)]
+mod tests;
+mod witness;

@@ -1,0 +1,42 @@
+//! The final witness of an input.
+
+ghost use Rattle.std.specs.Prelude.{◌≡◌, Some, IfOk};
+ghost use Rattle.def_choice.specs.Strict.{strict};
+ghost use Rattle.def_emit.specs.Emit.{script_of};
+ghost use Rattle.def_promises.specs.Promises.{Unchangeable};
+ghost use Rattle.def_sane.specs.Unfit.{IsSane};
+ghost use Rattle.def_script.specs.Witness.{witness_text};
+ghost use Rattle.def_tree.specs.Range.{IsInRange};
+ghost use Rattle.ms_finalize.specs.Witnesses.{IsReplayed};
+ghost use Rattle.ms_tree.specs.Shape.{shape};
+
+use ms_assets::Assets;
+use ms_script::{Blob, Stack};
+use ms_tree::Tree;
+use ms_witness::witness_bytes;
+use std::alloc::{AllocError, Global};
+
+/// The final witness of an input: the strict satisfaction of its miniscript, bottom first, and its witness script, which is the
+/// miniscript's, as the last item. Refuses for want of memory alone.
+///
+/// The interpreter accepts it under the script's program, under every table that holds the signatures of the assets, and with
+/// their locks; and nobody can change it.
+pub fn final_witness(
+    alloc: Global,
+    tree: &Tree<'_>,
+    script: &[u8],
+    assets: &Assets,
+    stack: &Stack,
+) -> Result<Blob, AllocError>
+    requires in_range { IsInRange (shape tree.now) }
+    requires sane { IsSane (shape tree.now) }
+    requires script { script_of (shape tree.now) ≡ script.now }
+    requires chosen { strict (shape tree.now) assets.now ≡ Some stack.now }
+    ensures witness { IfOk result (λ witness. witness ≡ witness_text stack.now script.now) }
+    ensures accepted { IfOk result (λ witness. IsReplayed assets.now script.now witness) }
+    ensures unchangeable { Unchangeable (shape tree.now) assets.now stack.now }
+{
+    // Its clauses tell what assets always are.
+    let _locks = assets.locks();
+    witness_bytes(alloc, stack, script)
+}

@@ -1,0 +1,42 @@
+-- What is kept of an input that was read. No public clause cites it, so it need not be believed.
+use Rattle.std.specs.Prelude.{◌≡◌, ℕ, ◌≤◌, ◌^◌, List, slice_get, IfSome, Option, Some}
+use Rattle.def_script.specs.Bytes.{Bytes}
+use Rattle.def_script.specs.Witness.{weight}
+use Rattle.def_psbt.specs.Transaction.{TransactionInput}
+use Rattle.def_psbt.specs.Map.{Psbt}
+use Rattle.def_tree.specs.Tree.{Tree}
+use Rattle.def_tree.specs.Range.{IsInRange}
+use Rattle.def_assets.specs.Assets.{Assets}
+use Rattle.def_spend.specs.declared.State.{State}
+use Rattle.def_spend.specs.Utxo.{utxo_of, amount_of}
+use Rattle.def_spend.specs.Input.{Spend, spends_of}
+use Rattle.def_spend.specs.Reading.{HasReading}
+use Rattle.def_spend.specs.States.{state_of}
+use Rattle.ms_fields.specs.Held.{Held, held_in}
+use Rattle.ms_finalize.specs.Settled.{input_of, assets_in, chosen_in}
+use Rattle.ms_utxo.specs.declared.amount.Amount.{Amount}
+use Rattle.ms_utxo.specs.Spending.{amount_seen}
+use Rattle.ms_input.specs.Seen.{spend_at}
+
+-- where an input stands
+pub record IsAt (psbt : Psbt) (number : ℕ) (spend : Spend) (input : TransactionInput) (held : Held) : Type 0 where
+  pub there : slice_get (spends_of psbt) number ≡ Some spend
+  pub transaction : spend.transaction ≡ psbt.transaction
+  pub same_number : spend.number ≡ number
+  pub same_input : input ≡ spend.input
+  pub map_is : slice_get psbt.inputs number ≡ Some spend.fields
+  pub fields : held ≡ held_in spend.fields
+
+-- what is found of it
+pub record IsFound (spend : Spend) (amount : Amount) (tree : Option Tree) (state : State) (assets : Option Assets) (stack : Option (List Bytes)) : Type 0 where
+  pub amount_is : amount_seen amount ≡ amount_of (utxo_of spend.input.outpoint spend.fields)
+  pub reading : HasReading (input_of spend tree)
+  pub in_range : IfSome tree IsInRange
+  pub state_is : state ≡ state_of (input_of spend tree)
+  pub assets_are : assets ≡ assets_in state spend
+  pub stack_is : stack ≡ chosen_in state (input_of spend tree)
+  pub light : IfSome stack (λ items. weight items ≤ 2 ^ 40)
+
+pub record IsRead (psbt : Psbt) (number : ℕ) (input : TransactionInput) (held : Held) (amount : Amount) (tree : Option Tree) (state : State) (assets : Option Assets) (stack : Option (List Bytes)) : Type 0 where
+  pub at : IsAt psbt number (spend_at psbt number) input held
+  pub found : IsFound (spend_at psbt number) amount tree state assets stack

@@ -1,0 +1,238 @@
+//! An input of a PSBT that was read.
+
+ghost use Rattle.std.specs.Prelude.{◌≡◌, ◌<◌, ◌≤◌, ◌^◌, Some, None, length, slice_get, if◌then◌else◌, All, IfOk, IfSome, option_map};
+ghost use Rattle.def_script.specs.Witness.{weight};
+ghost use Rattle.def_promises.specs.Promises.{Unchangeable};
+ghost use Rattle.def_spend.specs.Fields.{signatures_in, asked_type as the_asked_type};
+ghost use Rattle.def_spend.specs.Finalized.{witness_of};
+ghost use Rattle.def_spend.specs.Hashes.{hash_by as the_hash_by, script_in};
+ghost use Rattle.def_spend.specs.Input.{spends_of, assets_of};
+ghost use Rattle.def_spend.specs.Reading.{HasReading};
+ghost use Rattle.def_spend.specs.States.{state_of, is_ready, stack_of};
+ghost use Rattle.def_spend.specs.Utxo.{utxo_of, amount_of};
+ghost use Rattle.def_tree.specs.Range.{IsInRange};
+ghost use Rattle.def_tree.specs.Tree.{Tree as TheTree};
+ghost use Rattle.ms_asking.specs.Asked.{asked_plan as the_asked_plan};
+ghost use Rattle.ms_finalize.specs.Witnesses.{IsReplayed};
+ghost use Rattle.ms_input.specs.Seen.{input_seen};
+ghost use Rattle.ms_sighash.specs.Shared.{shared_of, IsOutputText};
+ghost use Rattle.ms_transaction.specs.Unsigned.{IsUnsigned};
+ghost use Rattle.ms_tree.specs.Shape.{shape};
+ghost use Rattle.ms_utxo.specs.Spending.{amount_seen};
+
+use crate::gathering::fields_of;
+use crate::signing::{known_amount, script_or_none};
+use bumpalo::Bump;
+use ms_asking::asked_plan;
+use ms_assets::Assets;
+use ms_fields::{Fields, SignedRef, hash_type_of};
+use ms_finalize::{final_witness, settle};
+use ms_oracle::Locks;
+use ms_plan::Plan;
+use ms_psbt::Psbt;
+use ms_script::{Blob, Stack};
+use ms_sighash::SharedHashes;
+use ms_transaction::{InputRef, TransactionRef};
+use ms_tree::Tree;
+use ms_utxo::{Amount, State, spending};
+use std::alloc::{AllocError, Global};
+use std::marker::Model;
+
+/// An input of a PSBT that was read: what its map holds, its amount, its state, the miniscript that its witness script is read
+/// as, and its satisfaction where it is Ready. Contracts see where it stands in the PSBT and the miniscript,
+/// which `input_seen` makes the definition's input. The miniscript lies in an arena, and all else of the map in the bytes of the PSBT.
+#[derive(Drop)]
+pub struct Input<'p, 't> {
+    psbt: &'p Psbt<'p>,
+    number: usize,
+    input: InputRef<'p>,
+    fields: Fields<'p>,
+    amount: Amount,
+    tree: Option<Tree<'t>>,
+    state: State,
+    assets: Option<Assets>,
+    stack: Option<Stack>,
+}
+
+impl<'p, 't> Model for Input<'p, 't> {
+    ghost use Rattle.std.specs.Prelude.{option_map};
+    ghost use Rattle.std.specs.Coded.{codes};
+    ghost use Rattle.ms_tree.specs.Shape.{shape};
+    ghost use Rattle.ms_input.specs.Seen.{Seen, spend_at, tree_code};
+    ghost use Rattle.ms_input.specs.Scaffolding.Kept.{IsRead};
+
+    ghost Value = { Seen };
+
+    ghost coded = { Prim.hlevel (codes, tree_code) };
+
+    ghost view = { λ i. record { spend = spend_at i.psbt.now i.number; tree = i.tree } };
+
+    ghost invariant = { λ i. IsRead i.psbt.now i.number i.input i.fields i.amount (option_map shape i.tree) i.state i.assets i.stack };
+}
+
+impl<'p, 't> Input<'p, 't> {
+    /// Reads the input of a PSBT with this number, from 0, where this is its transaction: gathers what its map holds, looks for the output that it spends, and
+    /// reads its witness script with the keys of its map. The miniscript is put into the arena, which serves this input alone
+    /// where it is let go with it. Refuses for want of memory alone.
+    pub fn read(
+        alloc: Global,
+        arena: &'t Bump<Global>,
+        psbt: &'p Psbt<'p>,
+        transaction: &TransactionRef<'p>,
+        number: usize,
+    ) -> Result<Input<'p, 't>, AllocError>
+        requires transaction { transaction.now ≡ psbt.now.transaction }
+        requires unsigned { All IsUnsigned transaction.now.inputs }
+        requires number { number < length psbt.now.inputs }
+        ensures spend { IfOk result (λ input. slice_get (spends_of psbt.entry.now) number ≡ Some input.spend) }
+        ensures transaction { IfOk result (λ input. input.spend.transaction ≡ psbt.entry.now.transaction) }
+        ensures number { IfOk result (λ input. input.spend.number ≡ number) }
+        ensures fields { IfOk result (λ input. slice_get psbt.entry.now.inputs number ≡ Some input.spend.fields) }
+        ensures reading { IfOk result (λ input. HasReading (input_seen input)) }
+    {
+        // Its clauses tell that each input has a map.
+        let _count = psbt.input_count();
+        let input = transaction.input(number);
+        let fields = fields_of(alloc, psbt.input_map(number))?;
+        let spent = spending(&input, &fields);
+        let locks = Locks {
+            version: transaction.version(),
+            sequence: input.sequence(),
+            locktime: transaction.lock_time(),
+        };
+        match spent.script {
+            Ok(script) => {
+                let settled = settle(alloc, arena, script, &fields, locks)?;
+                Ok(Input {
+                    psbt,
+                    number,
+                    input,
+                    fields,
+                    amount: spent.amount,
+                    tree: settled.tree,
+                    state: settled.state,
+                    assets: settled.assets,
+                    stack: settled.stack,
+                })
+            }
+            Err(state) => Ok(Input {
+                psbt,
+                number,
+                input,
+                fields,
+                amount: spent.amount,
+                tree: None,
+                state,
+                assets: None,
+                stack: None,
+            }),
+        }
+    }
+
+    /// The state. Takes no memory.
+    pub fn state(&self) -> State
+        ensures { result ≡ state_of (input_seen self.now) }
+    {
+        self.state
+    }
+
+    /// Its number among the inputs, from 0. Takes no memory.
+    pub fn number(&self) -> usize
+        ensures { result ≡ self.now.spend.number }
+    {
+        self.number
+    }
+
+    /// What it spends, in satoshis. Takes no memory.
+    pub fn amount(&self) -> Amount
+        ensures { amount_seen result ≡ amount_of (utxo_of self.now.spend.input.outpoint self.now.spend.fields) }
+    {
+        self.amount
+    }
+
+    /// What the transaction says of it. Takes no memory.
+    pub fn outpoint(&self) -> &InputRef<'p>
+        ensures { result.now ≡ self.now.spend.input }
+    {
+        &self.input
+    }
+
+    /// The signatures of compressed keys, in the map's order. Takes no memory.
+    pub fn signatures(&self) -> &[SignedRef<'p>]
+        ensures { result.now ≡ signatures_in self.now.spend.fields }
+    {
+        self.fields.pairs()
+    }
+
+    /// The number of the hash type that is asked, that of ALL where none is. Takes no memory.
+    pub fn asked_type(&self) -> u32
+        ensures { result ≡ the_asked_type self.now.spend.fields }
+    {
+        self.fields.asked_type()
+    }
+
+    /// The miniscript that its witness script is read as, where there is one. Takes no memory.
+    pub fn tree(&self) -> Option<&Tree<'t>>
+        ensures tree { option_map (λ t. shape t.now) result ≡ (input_seen self.now).tree }
+        ensures in_range { IfSome result (λ t. IsInRange (shape t.now)) }
+    {
+        self.tree.as_ref()
+    }
+
+    /// The satisfaction of a Ready input, bottom first; none of another one. Takes no memory.
+    pub fn stack(&self) -> Option<&Stack>
+        ensures stack { option_map (λ s. s.now) result ≡ (if is_ready (state_of (input_seen self.now)) then Some (stack_of (input_seen self.now)) else None) }
+        ensures light { IfSome result (λ s. weight s.now ≤ 2 ^ 40) }
+    {
+        self.stack.as_ref()
+    }
+
+    /// Which keys to ask for a signature besides those that signed, and what the satisfaction weighs at most; `None` where no
+    /// canonical satisfaction exists even when all keys sign. It demands that the input is Unsatisfied. Refuses for want of
+    /// memory alone.
+    pub fn plan(&self, alloc: Global) -> Result<Option<Plan>, AllocError>
+        requires { state_of (input_seen self.now) ≡ State.Unsatisfied }
+        ensures { (tree : TheTree) → (input_seen self.now).tree ≡ Some tree → IfOk result (λ found. found ≡ the_asked_plan tree (assets_of self.now.spend)) }
+    {
+        let (Some(tree), Some(assets)) = (&self.tree, &self.assets) else {
+            return Ok(None);
+        };
+        asked_plan(alloc, tree, assets)
+    }
+
+    /// The final witness: the satisfaction, and the witness script as its last item. It demands that the input is Ready.
+    /// Refuses for want of memory alone.
+    ///
+    /// The interpreter accepts it under every table that holds the input's signatures, with the transaction's locks, and nobody
+    /// can change it.
+    pub fn witness(&self, alloc: Global) -> Result<Blob, AllocError>
+        requires { state_of (input_seen self.now) ≡ State.Ready }
+        ensures witness { IfOk result (λ witness. witness ≡ witness_of (input_seen self.now)) }
+        ensures accepted { IfOk result (λ witness. IsReplayed (assets_of self.now.spend) (script_in self.now.spend.fields) witness) }
+        ensures unchangeable { IfOk result (λ witness. (tree : TheTree) → (input_seen self.now).tree ≡ Some tree → Unchangeable tree (assets_of self.now.spend) (stack_of (input_seen self.now))) }
+    {
+        let (Some(tree), Some(assets), Some(stack)) = (&self.tree, &self.assets, &self.stack) else {
+            return Err(AllocError);
+        };
+        let script = script_or_none(self.fields.script());
+        final_witness(alloc, tree, script, assets, stack)
+    }
+
+    /// What a signature of the hash type with this number signs, or `None` exactly where it is none: by what all signatures of
+    /// the transaction share, and the bytes of its output with the input's number, where there is one. Takes no memory.
+    pub fn hash_by(
+        &self,
+        shared: &SharedHashes,
+        output: Option<&[u8]>,
+        number: u32,
+    ) -> Option<[u8; 32]>
+        requires shared { shared.now ≡ shared_of self.now.spend.transaction }
+        requires output { IsOutputText (slice_get self.now.spend.transaction.outputs self.now.spend.number) output }
+        ensures { result ≡ the_hash_by number self.now.spend }
+    {
+        let hash_type = hash_type_of(number)?;
+        let script = script_or_none(self.fields.script());
+        let amount = known_amount(self.amount);
+        Some(shared.signature_hash(hash_type, self.input.bytes(), output, script, amount))
+    }
+}

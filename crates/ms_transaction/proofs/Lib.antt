@@ -1,0 +1,4 @@
+mod BothSides
+mod Fronts
+mod Inputs
+mod Spelling
