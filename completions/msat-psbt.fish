@@ -1,0 +1,6 @@
+# Completion of msat-psbt's words for fish. The PSBT comes on standard input.
+complete -c msat-psbt -f
+complete -c msat-psbt -n __fish_use_subcommand -a finalize -d 'the PSBT with each input that is Ready made final'
+complete -c msat-psbt -n __fish_use_subcommand -a inspect -d 'what the transaction does with the money, and what each input demands and lacks'
+complete -c msat-psbt -n __fish_use_subcommand -a extract -d 'the network transaction of a PSBT whose inputs are all final'
+complete -c msat-psbt -n __fish_use_subcommand -a hashes -d 'what the signatures of each input sign'

@@ -1,0 +1,62 @@
+//! The lines that every input has, and those of its signatures.
+ghost use Rattle.std.specs.Prelude.{◌≡◌, ◌++◌, [], flat_map, OnOk};
+ghost use Rattle.def_psbt_answer.specs.Lines.{input_line, outpoint_line, unchecked_line, signature_line};
+
+use crate::names::push_state;
+use crate::pieces::{push_digits, push_id, push_named, push_number_line, push_text};
+use def_spend::State;
+use ms_fields::{SignedRef, last_byte};
+use std::alloc::AllocError;
+
+/// Adds the line of an input: its number from 0, and its state. `AllocError` comes only where memory is wanting.
+pub fn push_input_line(report: &mut Vec<u8>, number: usize, state: State) -> Result<(), AllocError>
+    ensures { OnOk result (report.new.items ≡ report.old.items ++ input_line number state) }
+{
+    push_named(report, "input ", number as u64)?;
+    push_text(report, " ")?;
+    push_state(report, state)?;
+    push_text(report, "\n")
+}
+
+/// Adds the line of what the transaction says of an input: the id and the number of its outpoint, and its sequence number.
+/// `AllocError` comes only where memory is wanting.
+pub fn push_outpoint_line(
+    report: &mut Vec<u8>,
+    id: &[u8],
+    index: u32,
+    sequence: u32,
+) -> Result<(), AllocError>
+    ensures { OnOk result (report.new.items ≡ report.old.items ++ outpoint_line (record { outpoint = record { id = id.now; index = index }; script_sig = []; sequence = sequence })) }
+{
+    push_text(report, "outpoint ")?;
+    push_id(report, id)?;
+    push_named(report, " ", index as u64)?;
+    push_number_line(report, " sequence ", sequence as u64)
+}
+
+/// Adds the line of an input that is Final. `AllocError` comes only where memory is wanting.
+pub fn push_unchecked_line(report: &mut Vec<u8>) -> Result<(), AllocError>
+    ensures { OnOk result (report.new.items ≡ report.old.items ++ unchecked_line) }
+{
+    push_text(report, "unchecked\n")
+}
+
+/// Adds a line for each key with its signature, in their order: the key, and the number of the signature's hash type.
+/// `AllocError` comes only where memory is wanting.
+pub fn push_signature_lines(report: &mut Vec<u8>, pairs: &[SignedRef<'_>]) -> Result<(), AllocError>
+    ensures { OnOk result (report.new.items ≡ report.old.items ++ flat_map signature_line pairs.now) }
+{
+    for pair in pairs {
+        push_signature_line(report, pair)?;
+    }
+    Ok(())
+}
+
+/// Adds the line of a key with its signature.
+fn push_signature_line(report: &mut Vec<u8>, pair: &SignedRef<'_>) -> Result<(), AllocError>
+    ensures { OnOk result (report.new.items ≡ report.old.items ++ signature_line pair.now) }
+{
+    push_text(report, "signature ")?;
+    push_digits(report, pair.key().as_bytes())?;
+    push_number_line(report, " ", last_byte(pair.sig()) as u64)
+}

@@ -1,0 +1,64 @@
+//! Names as reports print them.
+ghost use Rattle.std.specs.Prelude.{◌≡◌, ◌++◌, OnOk};
+ghost use Rattle.def_psbt_answer.specs.Names.{fault_name as the_fault_name, state_name};
+
+use crate::pieces::push_text;
+use def_psbt::PsbtFault;
+use def_spend::{State, Unfit};
+use ms_report::rule_name;
+use std::alloc::AllocError;
+
+/// The name of a fault of a PSBT. Takes no memory.
+pub fn fault_name(fault: PsbtFault) -> &'static str
+    ensures { result.now ≡ the_fault_name fault }
+{
+    match fault {
+        PsbtFault::Truncated => "Truncated",
+        PsbtFault::Size => "Size",
+        PsbtFault::RepeatedKey => "RepeatedKey",
+        PsbtFault::KeyForm => "KeyForm",
+        PsbtFault::ValueForm => "ValueForm",
+        PsbtFault::Version => "Version",
+        PsbtFault::NoTransaction => "NoTransaction",
+        PsbtFault::Trailing => "Trailing",
+    }
+}
+
+/// Adds the name of a state, and of why a miniscript isn't sane, without the place.
+pub fn push_state(report: &mut Vec<u8>, state: State) -> Result<(), AllocError>
+    ensures { OnOk result (report.new.items ≡ report.old.items ++ state_name state) }
+{
+    match state {
+        State::Final => push_text(report, "Final"),
+        State::NoUtxo => push_text(report, "NoUtxo"),
+        State::WrongUtxo => push_text(report, "WrongUtxo"),
+        State::OtherOutput => push_text(report, "OtherOutput"),
+        State::NoScript => push_text(report, "NoScript"),
+        State::WrongScript => push_text(report, "WrongScript"),
+        State::NoReading => push_text(report, "NoReading"),
+        State::Unfit(unfit) => push_unfit(report, unfit),
+        State::WrongSighash => push_text(report, "WrongSighash"),
+        State::TooMany => push_text(report, "TooMany"),
+        State::Unsatisfied => push_text(report, "Unsatisfied"),
+        State::Ready => push_text(report, "Ready"),
+    }
+}
+
+/// Adds the name of the state of a miniscript that isn't sane.
+fn push_unfit(report: &mut Vec<u8>, unfit: Unfit) -> Result<(), AllocError>
+    ensures { OnOk result (report.new.items ≡ report.old.items ++ state_name (State.Unfit unfit)) }
+{
+    let (name, rule) = match unfit {
+        Unfit::Rule(at) => ("Unfit Rule ", rule_name(at.rule)),
+        Unfit::TopNotB => ("Unfit TopNotB", ""),
+        Unfit::Size(_) => ("Unfit Size", ""),
+        Unfit::Ops(_) => ("Unfit Ops", ""),
+        Unfit::Items(_) => ("Unfit Items", ""),
+        Unfit::Malleable(at) => ("Unfit Malleable ", rule_name(at.rule)),
+        Unfit::NoSignature => ("Unfit NoSignature", ""),
+        Unfit::MixedLocks(_) => ("Unfit MixedLocks", ""),
+        Unfit::RepeatedKey(_) => ("Unfit RepeatedKey", ""),
+    };
+    push_text(report, name)?;
+    push_text(report, rule)
+}

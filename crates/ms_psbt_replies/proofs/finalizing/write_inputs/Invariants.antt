@@ -1,0 +1,8 @@
+use Rattle.std.proofs.Common.{List, take}
+use Rattle.def_spend.specs.Reading.{Input, AreInputs}
+use Rattle.ms_psbt_replies.specs.Scaffolding.Written.{IsWritten}
+use Rattle.ms_psbt_replies.proofs.finalizing.write_inputs.Given as goal
+
+-- the maps of the inputs so far are written
+abbrev pub invariant-loop-number : goal.invariant-loop-number
+invariant-loop-number l = (inputs : List Input) → AreInputs l.psbt inputs → IsWritten l.psbt (take l.number inputs) l.written

@@ -1,0 +1,110 @@
+//! `finalize`: the PSBT with each input that is Ready made final.
+ghost use Rattle.std.specs.Prelude.{◌≡◌, ◌&&◌, ◌+◌, ◌<◌, ◌++◌, [], ◌∷◌, if◌then◌else◌, List, All, Some, length, slice_get, take, IfOk, OnOk};
+ghost use Rattle.def_psbt.specs.Map.{map_text};
+ghost use Rattle.def_spend.specs.Finalized.{written_map};
+ghost use Rattle.def_spend.specs.Reading.{Input as TheInput, AreInputs};
+ghost use Rattle.def_psbt_answer.specs.Report.{finalize_report};
+ghost use Rattle.def_psbt_answer.specs.Reply.{reply, is_settled as the_is_settled, settled_status};
+ghost use Rattle.ms_input.specs.Seen.{input_seen};
+ghost use Rattle.ms_transaction.specs.Unsigned.{IsUnsigned};
+ghost use Rattle.ms_psbt_replies.specs.Scaffolding.Written.{IsWritten};
+
+use crate::reply::Reply;
+use bumpalo::Bump;
+use def_psbt_answer::{Form, Status};
+use ms_input::{Input, State};
+use ms_psbt::Psbt;
+use ms_psbt_report::is_settled;
+use ms_psbt_write::{begin_psbt, finish_psbt, in_form, push_final_map, push_map};
+use ms_transaction::{TransactionRef, unsigned_transaction};
+use std::alloc::{AllocError, Global};
+
+/// What is written of a PSBT up to the map of an input.
+#[derive(Debug, Drop)]
+pub struct Written {
+    /// Its bytes.
+    pub text: Vec<u8>,
+    /// Whether all inputs before that one are Final or Ready.
+    pub are_settled: bool,
+}
+
+/// The PSBT with each input that is Ready made final, in a form. Nothing else of it is touched.
+#[tactic(auto, unfolding(def_psbt_answer::specs::Report::finalize_report))]
+pub fn finalize<'p>(alloc: Global, form: Form, psbt: &'p Psbt<'p>) -> Result<Reply, AllocError>
+    ensures { IfOk result (λ made. (inputs : List TheInput) → AreInputs psbt.entry.now inputs → reply made.status made.report.items ≡ reply (settled_status inputs) (finalize_report form psbt.entry.now inputs)) }
+{
+    let mut written = write_inputs(alloc, psbt)?;
+    finish_psbt(&mut written.text, psbt)?;
+    Ok(Reply {
+        status: status_of(written.are_settled),
+        report: in_form(alloc, form, written.text)?,
+    })
+}
+
+/// What is written before the maps of outputs.
+fn write_inputs<'p>(alloc: Global, psbt: &'p Psbt<'p>) -> Result<Written, AllocError>
+    ensures { IfOk result (λ written. (inputs : List TheInput) → AreInputs psbt.entry.now inputs → IsWritten psbt.entry.now inputs written) }
+{
+    let transaction = unsigned_transaction(psbt);
+    let mut written = Written {
+        text: begin_psbt(alloc, psbt)?,
+        are_settled: true,
+    };
+    for number in 0..psbt.input_count() {
+        write_input(alloc, psbt, &transaction, number, &mut written)?;
+    }
+    Ok(written)
+}
+
+/// Adds the map of the input with this number, made final where it is Ready.
+fn write_input<'p>(
+    alloc: Global,
+    psbt: &'p Psbt<'p>,
+    transaction: &TransactionRef<'p>,
+    number: usize,
+    written: &mut Written,
+) -> Result<(), AllocError>
+    requires transaction { transaction.now ≡ psbt.now.transaction }
+    requires unsigned { All IsUnsigned transaction.now.inputs }
+    requires number { number < length psbt.now.inputs }
+    ensures { (inputs : List TheInput) → AreInputs psbt.entry.now inputs → IsWritten psbt.entry.now (take number inputs) written.old → OnOk result (IsWritten psbt.entry.now (take (number + 1) inputs) written.new) }
+{
+    let arena = Bump::new(alloc);
+    let input = Input::read(alloc, &arena, psbt, transaction, number)?;
+    add_map(alloc, psbt, &input, number, &mut written.text)?;
+    written.are_settled = written.are_settled && is_settled(input.state());
+    Ok(())
+}
+
+/// Adds the map of an input as it is written.
+fn add_map<'p>(
+    alloc: Global,
+    psbt: &'p Psbt<'p>,
+    input: &Input<'p, '_>,
+    number: usize,
+    text: &mut Vec<u8>,
+) -> Result<(), AllocError>
+    requires number { number < length psbt.now.inputs }
+    requires map { slice_get psbt.now.inputs number ≡ Some input.now.spend.fields }
+    ensures { OnOk result (text.new.items ≡ text.old.items ++ map_text (written_map (input_seen input.now))) }
+{
+    let map = psbt.input_map(number);
+    match input.state() {
+        State::Ready => {
+            let witness = input.witness(alloc)?;
+            push_final_map(text, map, witness.as_slice())
+        }
+        _ => push_map(text, &map),
+    }
+}
+
+/// Whether all inputs are Final or Ready, as a status.
+fn status_of(are_settled: bool) -> Status
+    ensures { result ≡ (if are_settled then Status.Done else Status.Open) }
+{
+    if are_settled {
+        Status::Done
+    } else {
+        Status::Open
+    }
+}

@@ -1,0 +1,71 @@
+//! The reply to a command, with the bytes that the source held.
+ghost use Rattle.std.specs.Prelude.{◌≡◌, List, IfOk};
+ghost use Rattle.def_psbt.specs.Source.{psbt_of};
+ghost use Rattle.def_spend.specs.Reading.{Input as TheInput, AreInputs};
+ghost use Rattle.def_psbt_answer.specs.Answer.{RepliesToSource};
+ghost use Rattle.def_psbt_answer.specs.Reply.{reply, form_of as the_form_of, command_reply as the_command_reply};
+
+use crate::extracting::extract;
+use crate::finalizing::finalize;
+use crate::reply::{Reply, refused};
+use def_psbt_answer::{Command, Form, Status};
+use ms_given_laws::laws::given;
+use ms_psbt::{Psbt, ReadStop, has_magic, psbt_bytes, read_psbt};
+use ms_psbt_report::{hashes, inspect};
+use std::alloc::{AllocError, Global};
+
+/// The reply to a command, with the bytes that the source held: a PSBT (BIP 174, version 0) as its bytes or as base64. Refuses for
+/// want of memory alone.
+#[tactic(auto, unfolding(def_psbt::specs::Source::psbt_of))]
+pub fn source_reply(alloc: Global, command: Command, source: &[u8]) -> Result<Reply, AllocError>
+    ensures { IfOk result (λ made. RepliesToSource command (the_form_of source.now) (psbt_of source.now) (reply made.status made.report.items)) }
+{
+    given();
+    let bytes = match psbt_bytes(alloc, source) {
+        Ok(bytes) => bytes,
+        Err(ReadStop::Refused(refusal)) => return refused(alloc, refusal),
+        Err(ReadStop::Memory) => return Err(AllocError),
+    };
+    match read_psbt(alloc, bytes.as_slice()) {
+        Ok(psbt) => command_reply(alloc, command, form_of(source), &psbt),
+        Err(ReadStop::Refused(refusal)) => refused(alloc, refusal),
+        Err(ReadStop::Memory) => Err(AllocError),
+    }
+}
+
+/// The form in which a PSBT came.
+fn form_of(source: &[u8]) -> Form
+    ensures { result ≡ the_form_of source.now }
+{
+    if has_magic(source) {
+        Form::Bytes
+    } else {
+        Form::Base64
+    }
+}
+
+/// The reply to a command, with a PSBT that came in a form.
+fn command_reply<'p>(
+    alloc: Global,
+    command: Command,
+    form: Form,
+    psbt: &'p Psbt<'p>,
+) -> Result<Reply, AllocError>
+    ensures { IfOk result (λ made. (inputs : List TheInput) → AreInputs psbt.entry.now inputs → reply made.status made.report.items ≡ the_command_reply command form psbt.entry.now inputs) }
+{
+    match command {
+        Command::Finalize => finalize(alloc, form, psbt),
+        Command::Inspect => {
+            let made = inspect(alloc, psbt)?;
+            Ok(Reply {
+                status: made.status,
+                report: made.report,
+            })
+        }
+        Command::Extract => extract(alloc, psbt),
+        Command::Hashes => Ok(Reply {
+            status: Status::Done,
+            report: hashes(alloc, psbt)?,
+        }),
+    }
+}

@@ -1,0 +1,98 @@
+-- Loops over the inputs of a PSBT.
+use Rattle.std.proofs.Common.{◌≡◌, ℕ, ◌+◌, ◌≤◌, ◌<◌, ◌++◌, Bool, true, false, not, List, [], ◌∷◌, take, drop, length, find, get_or, slice_get, Option, Some, None, refl, sym, ap, subst, ◌∙◌, arith}
+use Rattle.std.specs.List.{flat_map}
+use Rattle.std.specs.Option.{option_map}
+use Rattle.std.proofs.lemmas.List.{flat_map_more, take_all, drop_all}
+use Rattle.std.proofs.lemmas.Option.{slice_get-get_or}
+use Rattle.def_script.specs.Bytes.{Bytes}
+use Rattle.def_psbt.specs.Map.{Map, Psbt}
+use Rattle.def_spend.specs.Input.{spends_of}
+use Rattle.def_spend.specs.Reading.{Input, HasReading, AreInputs, has_final}
+use Rattle.def_spend.specs.States.{state_of, is_final}
+use Rattle.def_psbt_answer.specs.Reply.{first_open}
+use Rattle.def_psbt_answer.specs.Report.{input_hashes}
+use Rattle.def_psbt_answer.proofs.Unique.{input_at}
+use Rattle.ms_psbt_report.specs.declared.inspecting.Told.{Told}
+use Rattle.ms_psbt_report.specs.Scaffolding.Told.{AreTold}
+use Rattle.ms_psbt_report.proofs.Lists.{take_with, drop_with}
+use Rattle.ms_psbt_report.proofs.Sane.{final_state}
+use Rattle.ms_psbt_report.proofs.Spends.{spend_at, count_inputs, own_spend}
+
+-- all inputs are among so many
+pub all_taken : (psbt : Psbt) (inputs : List Input) (count number : ℕ) → AreInputs psbt inputs → count ≡ length psbt.inputs
+    → count ≡ length psbt.transaction.inputs → count ≤ number → take number inputs ≡ inputs
+all_taken psbt inputs count number are maps own past =
+    let long : length inputs ≡ count = count_inputs psbt inputs count are maps own in
+    take_all number inputs (omega arith)
+
+-- the input with a number follows those of lesser numbers
+pub taken_more : (psbt : Psbt) (inputs : List Input) (number : ℕ) (input : Input) → AreInputs psbt inputs
+    → slice_get (spends_of psbt) number ≡ Some input.spend → HasReading input → take (number + 1) inputs ≡ take number inputs ++ input ∷ []
+taken_more psbt inputs number input are there read = take_with inputs number input (input_at psbt inputs number input are there read)
+
+pub told_more : (psbt : Psbt) (inputs : List Input) (number : ℕ) (input : Input) (told : Told) → AreInputs psbt inputs
+    → slice_get (spends_of psbt) number ≡ Some input.spend → HasReading input → AreTold (take number inputs ++ input ∷ []) told
+    → AreTold (take (number + 1) inputs) told
+told_more psbt inputs number input told are there read h =
+    subst (λ (xs : List Input). AreTold xs told) (sym (taken_more psbt inputs number input are there read)) h
+
+pub hashes_more : (psbt : Psbt) (inputs : List Input) (number : ℕ) (input : Input) (before after : Bytes) → AreInputs psbt inputs
+    → slice_get (spends_of psbt) number ≡ Some input.spend → HasReading input → before ≡ flat_map input_hashes (take number inputs)
+    → after ≡ before ++ input_hashes input → after ≡ flat_map input_hashes (take (number + 1) inputs)
+hashes_more psbt inputs number input before after are there read is e =
+    e ∙ ap (λ bytes. bytes ++ input_hashes input) is ∙ flat_map_more input_hashes [] (take number inputs) input
+    ∙ ap (flat_map input_hashes) (sym (taken_more psbt inputs number input are there read))
+
+-- ---- the first that isn't Final
+
+-- the input with a number, by its map
+record IsNumbered (psbt : Psbt) (inputs : List Input) (place : ℕ) (input : Input) : Type 0 where
+  found : drop place inputs ≡ input ∷ drop (place + 1) inputs
+  fields : slice_get psbt.inputs place ≡ Some input.spend.fields
+  number : input.spend.number ≡ place
+
+numbered : (psbt : Psbt) (inputs : List Input) (count number : ℕ) → AreInputs psbt inputs → count ≡ length psbt.inputs
+    → count ≡ length psbt.transaction.inputs → number < count → (input : Input) × IsNumbered psbt inputs number input
+numbered psbt [] count number are maps own below =
+    let long : length {A = Input} [] ≡ count = count_inputs psbt [] count are maps own in absurd (omega arith)
+numbered psbt (first ∷ rest) count number are maps own below =
+    let inputs = first ∷ rest in
+    let long : length inputs ≡ count = count_inputs psbt inputs count are maps own in
+    let is = slice_get-get_or inputs number first (omega arith) in
+    let at = spend_at psbt number (get_or inputs number first).spend (own_spend psbt inputs number (get_or inputs number first) are is) in
+    (get_or inputs number first, record { found = drop_with inputs number (get_or inputs number first) is; fields = at.fields; number = at.number })
+
+passed : (input : Input) (rest : List Input) → is_final (state_of input) ≡ true → first_open (input ∷ rest) ≡ first_open rest
+passed input rest h = rw h refl
+
+stopped : (input : Input) (rest : List Input) → is_final (state_of input) ≡ false → first_open (input ∷ rest) ≡ Some input
+stopped input rest h = rw h refl
+
+-- what is told of the map with a number
+abbrev Tells : Psbt → ℕ → Bool → Type 0
+Tells psbt number is = (map : Map) → slice_get psbt.inputs number ≡ Some map → is ≡ has_final map
+
+pub open_more : (psbt : Psbt) (inputs : List Input) (count number : ℕ) → AreInputs psbt inputs → count ≡ length psbt.inputs
+    → count ≡ length psbt.transaction.inputs → number < count → Tells psbt number true → first_open (drop number inputs) ≡ first_open inputs
+    → first_open (drop (number + 1) inputs) ≡ first_open inputs
+open_more psbt inputs count number are maps own below tells h =
+    let (input, at) = numbered psbt inputs count number are maps own below in
+    let final : is_final (state_of input) ≡ true = final_state input ∙ sym (tells input.spend.fields at.fields) in
+    sym (passed input (drop (number + 1) inputs) final) ∙ ap first_open (sym at.found) ∙ h
+
+pub open_here : (psbt : Psbt) (inputs : List Input) (count number : ℕ) → AreInputs psbt inputs → count ≡ length psbt.inputs
+    → count ≡ length psbt.transaction.inputs → number < count → Tells psbt number false → first_open (drop number inputs) ≡ first_open inputs
+    → Some number ≡ option_map (λ (input : Input). input.spend.number) (first_open inputs)
+open_here psbt inputs count number are maps own below tells h =
+    let (input, at) = numbered psbt inputs count number are maps own below in
+    let stays : is_final (state_of input) ≡ false = final_state input ∙ sym (tells input.spend.fields at.fields) in
+    let first : Some input ≡ first_open inputs = sym (stopped input (drop (number + 1) inputs) stays) ∙ ap first_open (sym at.found) ∙ h in
+    ap Some (sym at.number) ∙ ap (option_map (λ (i : Input). i.spend.number)) first
+
+pub open_nowhere : (psbt : Psbt) (inputs : List Input) (count number : ℕ) → AreInputs psbt inputs → count ≡ length psbt.inputs
+    → count ≡ length psbt.transaction.inputs → count ≤ number → first_open (drop number inputs) ≡ first_open inputs
+    → None ≡ option_map (λ (input : Input). input.spend.number) (first_open inputs)
+open_nowhere psbt inputs count number are maps own past h =
+    let long : length inputs ≡ count = count_inputs psbt inputs count are maps own in
+    let none : None ≡ first_open inputs = ap first_open (sym (drop_all number inputs (omega arith))) ∙ h in
+    ap (option_map (λ (i : Input). i.spend.number)) none

@@ -1,0 +1,4 @@
+-- What the contracts of private functions speak of. No public clause cites it, so it need not be believed.
+pub mod Sums
+pub mod Told
+pub mod Tables

@@ -1,0 +1,42 @@
+//! `hashes`: what the signatures of each input sign.
+ghost use Rattle.std.specs.Prelude.{◌≡◌, List, drop, slice_get, IfOk};
+ghost use Rattle.def_spend.specs.Reading.{Input as TheInput, AreInputs};
+ghost use Rattle.def_psbt_answer.specs.Report.{hashes_report};
+ghost use Rattle.ms_sighash.specs.Shared.{IsOutputText};
+
+use crate::inputs::push_input_hashes;
+use bumpalo::Bump;
+use ms_input::{Input, shared_hashes};
+use ms_psbt::Psbt;
+use ms_transaction::{Outputs, unsigned_transaction};
+use std::alloc::{AllocError, Global};
+
+/// What the signatures of each input of a PSBT sign (BIP 143). What all of them share is hashed once. Refuses for want of memory
+/// alone.
+#[tactic(auto, unfolding(def_psbt_answer::specs::Report::hashes_report))]
+pub fn hashes<'p>(alloc: Global, psbt: &'p Psbt<'p>) -> Result<Vec<u8>, AllocError>
+    ensures { IfOk result (λ report. (inputs : List TheInput) → AreInputs psbt.entry.now inputs → report.items ≡ hashes_report inputs) }
+{
+    let transaction = unsigned_transaction(psbt);
+    let shared = shared_hashes(&transaction);
+    let mut outputs = transaction.outputs();
+    let mut report = Vec::new(alloc);
+    for number in 0..psbt.input_count() {
+        let arena = Bump::new(alloc);
+        let input = Input::read(alloc, &arena, psbt, &transaction, number)?;
+        let output = next_output(&mut outputs);
+        push_input_hashes(&mut report, &input, &shared, output)?;
+    }
+    Ok(report)
+}
+
+/// The bytes of the next output, where there is one; it is taken from those that are left.
+fn next_output<'p>(outputs: &mut Outputs<'p>) -> Option<&'p [u8]>
+    ensures first { IsOutputText (slice_get outputs.old 0) result }
+    ensures rest { outputs.new ≡ drop 1 outputs.old }
+{
+    match outputs.next() {
+        Some(output) => Some(output.bytes()),
+        None => None,
+    }
+}

@@ -1,0 +1,140 @@
+//! `inspect`: what the transaction does with the money, and what each input is and lacks.
+ghost use Rattle.std.specs.Prelude.{◌≡◌, ℕ, ◌+◌, ◌*◌, ◌<◌, ◌≤◌, ◌^◌, ◌&&◌, ◌||◌, ◌++◌, [], ◌∷◌, if◌then◌else◌, List, length, take, All, IfOk, IfSome, OnOk};
+ghost use Rattle.def_spend.specs.States.{is_final, is_ready};
+ghost use Rattle.def_spend.specs.Reading.{Input as TheInput, AreInputs};
+ghost use Rattle.def_psbt_answer.specs.Reply.{settled_status};
+ghost use Rattle.def_psbt_answer.specs.Report.{inspect_report};
+ghost use Rattle.ms_input.specs.Seen.{input_seen};
+ghost use Rattle.ms_transaction.specs.Unsigned.{IsUnsigned};
+ghost use Rattle.ms_psbt_report.specs.Scaffolding.Told.{AreTold};
+
+use crate::inputs::push_input_report;
+use crate::spent::Spent;
+use crate::states::is_settled;
+use crate::transactions::{push_outputs, push_transaction};
+use bumpalo::Bump;
+use def_psbt_answer::Status;
+use ms_input::{Input, State};
+use ms_psbt::Psbt;
+use ms_psbt_lines::push_fee_line;
+use ms_transaction::{TransactionRef, unsigned_transaction};
+use std::alloc::{AllocError, Global};
+
+/// What `inspect` answers.
+#[derive(Debug, Drop)]
+pub struct Inspection {
+    /// Whether all inputs are Final or Ready.
+    pub status: Status,
+    /// What it prints.
+    pub report: Vec<u8>,
+}
+
+/// What the inputs tell, those that were read.
+#[derive(Debug, Drop)]
+pub struct Told {
+    /// Their reports.
+    pub lines: Vec<u8>,
+    /// What they spend.
+    pub spent: Spent,
+    /// Whether all of them are Final or Ready.
+    pub are_settled: bool,
+}
+
+/// What the transaction of a PSBT does with the money, and of each input what it is, what it demands, and what is missing. Each
+/// input is read once. Refuses for want of memory alone.
+#[tactic(auto, unfolding(def_psbt_answer::specs::Report::inspect_report))]
+pub fn inspect<'p>(alloc: Global, psbt: &'p Psbt<'p>) -> Result<Inspection, AllocError>
+    ensures status { IfOk result (λ made. (inputs : List TheInput) → AreInputs psbt.entry.now inputs → made.status ≡ settled_status inputs) }
+    ensures report { IfOk result (λ made. (inputs : List TheInput) → AreInputs psbt.entry.now inputs → made.report.items ≡ inspect_report psbt.entry.now.transaction inputs) }
+{
+    let transaction = unsigned_transaction(psbt);
+    let told = tell_inputs(alloc, psbt, &transaction)?;
+    let mut report = Vec::new(alloc);
+    push_transaction(&mut report, &transaction)?;
+    let paid = push_outputs(&mut report, &transaction)?;
+    push_fee_line(
+        &mut report,
+        told.spent.satoshis,
+        paid,
+        told.spent.are_proved,
+    )?;
+    report.extend_from_slice(&told.lines)?;
+    Ok(Inspection {
+        status: status_of(told.are_settled),
+        report,
+    })
+}
+
+/// The status of a reply to inputs.
+fn status_of(are_settled: bool) -> Status
+    ensures { result ≡ (if are_settled then Status.Done else Status.Open) }
+{
+    if are_settled {
+        Status::Done
+    } else {
+        Status::Open
+    }
+}
+
+/// What all inputs tell.
+fn tell_inputs<'p>(
+    alloc: Global,
+    psbt: &'p Psbt<'p>,
+    transaction: &TransactionRef<'p>,
+) -> Result<Told, AllocError>
+    requires transaction { transaction.now ≡ psbt.now.transaction }
+    requires unsigned { All IsUnsigned transaction.now.inputs }
+    ensures { IfOk result (λ told. (inputs : List TheInput) → AreInputs psbt.entry.now inputs → AreTold inputs told) }
+{
+    let mut told = Told {
+        lines: Vec::new(alloc),
+        spent: Spent {
+            satoshis: Some(0),
+            are_proved: true,
+        },
+        are_settled: true,
+    };
+    for number in 0..psbt.input_count() {
+        tell_input(alloc, psbt, transaction, number, &mut told)?;
+    }
+    Ok(told)
+}
+
+/// Adds what the input with this number tells to what those before it told.
+fn tell_input<'p>(
+    alloc: Global,
+    psbt: &'p Psbt<'p>,
+    transaction: &TransactionRef<'p>,
+    number: usize,
+    told: &mut Told,
+) -> Result<(), AllocError>
+    requires transaction { transaction.now ≡ psbt.now.transaction }
+    requires unsigned { All IsUnsigned transaction.now.inputs }
+    requires number { number < length psbt.now.inputs }
+    requires most { IfSome told.old.spent.satoshis (λ satoshis. satoshis ≤ number * 0xffff_ffff_ffff_ffff) }
+    ensures told { (inputs : List TheInput) → AreInputs psbt.entry.now inputs → AreTold (take number inputs) told.old → OnOk result (AreTold (take (number + 1) inputs) told.new) }
+    ensures most { OnOk result (IfSome told.new.spent.satoshis (λ satoshis. satoshis ≤ (number + 1) * 0xffff_ffff_ffff_ffff)) }
+{
+    let arena = Bump::new(alloc);
+    let input = Input::read(alloc, &arena, psbt, transaction, number)?;
+    add_input(alloc, told, &input)
+}
+
+/// Adds what an input tells to what those before it told.
+fn add_input(alloc: Global, told: &mut Told, input: &Input<'_, '_>) -> Result<(), AllocError>
+    requires { IfSome told.old.spent.satoshis (λ satoshis. satoshis + 2 ^ 64 ≤ 2 ^ 128) }
+    ensures told { (inputs : List TheInput) → AreTold inputs told.old → OnOk result (AreTold (inputs ++ input_seen input.now ∷ []) told.new) }
+    ensures most { (most : ℕ) → IfSome told.old.spent.satoshis (λ satoshis. satoshis ≤ most) → OnOk result (IfSome told.new.spent.satoshis (λ satoshis. satoshis ≤ most + 0xffff_ffff_ffff_ffff)) }
+{
+    push_input_report(alloc, &mut told.lines, input)?;
+    told.spent = told.spent.with(input.amount());
+    told.are_settled = stay_settled(told.are_settled, input.state());
+    Ok(())
+}
+
+/// Whether inputs are Final or Ready, with one more in this state.
+fn stay_settled(are_settled: bool, state: State) -> bool
+    ensures { result ≡ (are_settled && (is_final state || is_ready state)) }
+{
+    are_settled && is_settled(state)
+}

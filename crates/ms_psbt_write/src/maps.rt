@@ -1,0 +1,48 @@
+//! Maps of inputs, as they are and made final.
+
+ghost use Rattle.std.specs.Prelude.{◌≡◌, ◌++◌, not, filter, OnOk};
+ghost use Rattle.std.specs.List.{flat_map};
+ghost use Rattle.def_psbt.specs.Map.{pair_text, map_text};
+ghost use Rattle.def_spend.specs.Finalized.{is_cleared as the_is_cleared, is_kept, final_map};
+
+use crate::pieces::push_pair;
+use ms_psbt::Pairs;
+use std::alloc::AllocError;
+
+/// Whether the pairs of a type are cleared once the input is final: what only signers want, and what was final before.
+fn is_cleared(type_number: u64) -> bool
+    ensures { result ≡ the_is_cleared type_number }
+{
+    (0x02 <= type_number && type_number <= 0x08) || (0x0a <= type_number && type_number <= 0x0d)
+}
+
+/// Adds the pairs of a map that are kept, in their order.
+fn push_kept(out: &mut Vec<u8>, map: Pairs<'_>) -> Result<(), AllocError>
+    ensures { OnOk result (out.new.items ≡ out.old.items ++ flat_map pair_text (filter is_kept map.entry)) }
+{
+    for pair in map {
+        if !is_cleared(pair.key_type()) {
+            push_pair(out, pair.key(), pair.value())?;
+        }
+    }
+    Ok(())
+}
+
+/// Adds a map as it is. Refuses for want of memory alone.
+pub fn push_map(out: &mut Vec<u8>, map: &Pairs<'_>) -> Result<(), AllocError>
+    ensures { OnOk result (out.new.items ≡ out.old.items ++ map_text map.now) }
+{
+    out.extend_from_slice(map.bytes())?;
+    Ok(())
+}
+
+/// Adds the final map of an input: the pairs of its map that are kept, in their order and byte for byte, and its final witness
+/// behind them (BIP 174, "Input Finalizer"). Refuses for want of memory alone.
+pub fn push_final_map(out: &mut Vec<u8>, map: Pairs<'_>, witness: &[u8]) -> Result<(), AllocError>
+    ensures { OnOk result (out.new.items ≡ out.old.items ++ map_text (final_map map.entry witness.now)) }
+{
+    push_kept(out, map)?;
+    push_pair(out, &[0x08], witness)?;
+    out.push(0x00)?;
+    Ok(())
+}

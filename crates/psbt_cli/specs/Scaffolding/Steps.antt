@@ -1,0 +1,71 @@
+-- The steps on the way to an answer. No public clause cites it, so it need not be believed.
+use Rattle.std.specs.Prelude.{◌≡◌, ◌≢◌, ◌⊎◌, ⊤, List, None, Some, Result, Ok, Err}
+use Rattle.std.specs.Io.KnownBytes.{Appends, Keeps}
+use Rattle.def_script.specs.Bytes.{Bytes}
+use Rattle.ms_io.specs.Faults.{Rose}
+use Rattle.ms_io.specs.Moves.{AppendsPrefix}
+use Rattle.ms_io.specs.Sides.{Side, Held}
+use Rattle.def_psbt.specs.declared.Refusal.TheVariants.{TooLong}
+use Rattle.def_psbt.specs.Source.{MAX_SOURCE_SIZE, psbt_of}
+use Rattle.def_psbt_answer.specs.declared.status.Status.{Status}
+use Rattle.def_psbt_answer.specs.declared.status.Status.TheVariants as status
+use Rattle.def_psbt_answer.specs.declared.words.Command.{Command}
+use Rattle.def_psbt_answer.specs.Words.{command_of}
+use Rattle.def_psbt_answer.specs.Lines.{refusal_line}
+use Rattle.def_answer.specs.Lines.{usage_line}
+use Rattle.def_psbt_answer.specs.Reply.{Reply, reply, usage_reply, refusal_reply, form_of}
+use Rattle.def_psbt_answer.specs.Answer.{RepliesToSource}
+use Rattle.ms_psbt_replies.specs.declared.reply.Reply.{Reply as Made}
+use Rattle.psbt_cli.specs.declared.answer.Stop.{Stop}
+use Rattle.psbt_cli.specs.declared.answer.Stop.TheVariants as stop
+
+-- the reply to a command, with what the source held
+pub record AnswersCommand (command : Command) (source : Side) (r : Reply) : Type 0 where
+  pub bytes : Bytes
+  pub held : Held MAX_SOURCE_SIZE source bytes
+  pub replies : RepliesToSource command (form_of bytes) (psbt_of bytes) r
+
+-- the reply to the words
+abbrev pub AnswersWords : (words : List Bytes) → (source : Side) → Reply → Type 0
+AnswersWords words source r =
+    ((command_of words ≡ None) × (r ≡ usage_reply))
+    ⊎ ((command : Command) × (command_of words ≡ Some command) × AnswersCommand command source r)
+
+-- how a step ends: with a reply that is an answer, with a fault of the source, or for want of memory
+abbrev pub Ended : (IsAnswer : Reply → Type 0) → (Fails Wants : Type 0) → Result Made Stop → Type 0
+Ended IsAnswer Fails Wants (Ok made) = IsAnswer (reply made.status (made.report.items))
+Ended IsAnswer Fails Wants (Err stop.Usage) = IsAnswer usage_reply
+Ended IsAnswer Fails Wants (Err stop.TooLong) = IsAnswer (refusal_reply TooLong)
+Ended IsAnswer Fails Wants (Err stop.ReadFault) = Fails
+Ended IsAnswer Fails Wants (Err stop.Memory) = Wants
+
+-- with the reply to a command, but never with that to words that name none
+abbrev pub EndsCommand : Command → (source : Side) → Result Made Stop → Type 0
+EndsCommand command source (Ok made) = AnswersCommand command source (reply made.status (made.report.items))
+EndsCommand command source (Err stop.Usage) = ⊥
+EndsCommand command source (Err stop.TooLong) = AnswersCommand command source (refusal_reply TooLong)
+EndsCommand command source (Err stop.ReadFault) = Rose source.before source.now
+EndsCommand command source (Err stop.Memory) = ⊤
+
+-- with the reply to the words
+abbrev pub EndsWords : (words : List Bytes) → (source : Side) → Result Made Stop → Type 0
+EndsWords words source =
+    Ended (AnswersWords words source) (Rose source.before source.now × (command_of words ≢ None)) (command_of words ≢ None)
+
+-- how a report is written: whole, or up to a fault of the sink, which was counted
+abbrev pub Writes : Status → (report : Bytes) → (sink : Side) → Status → Type 0
+Writes answer report sink result =
+    ((result ≡ answer) × Appends sink.old sink.new report)
+    ⊎ ((result ≡ status.WriteFault) × AppendsPrefix sink.old sink.new report × Rose sink.before sink.now)
+
+-- nothing is written
+abbrev pub WritesNothing : Status → (sink : Side) → Status → Type 0
+WritesNothing wanted sink result = (result ≡ wanted) × Keeps sink.old sink.new
+
+-- what is written of a reply, and with which status
+abbrev pub WritesResult : Result Made Stop → (sink : Side) → Status → Type 0
+WritesResult (Ok made) = Writes made.status (made.report.items)
+WritesResult (Err stop.Usage) = Writes status.Usage usage_line
+WritesResult (Err stop.TooLong) = Writes status.Refused (refusal_line TooLong)
+WritesResult (Err stop.ReadFault) = WritesNothing status.ReadFault
+WritesResult (Err stop.Memory) = WritesNothing status.Memory

@@ -1,0 +1,69 @@
+-- What a call of `msat-psbt` writes, by its command.
+use Rattle.std.specs.Prelude.{◌≡◌, ◌⊎◌, List, Some, Ok, Err}
+use Rattle.std.specs.Io.KnownBytes.{Appends}
+use Rattle.def_script.specs.Bytes.{Bytes, IsBytes}
+use Rattle.def_psbt.specs.declared.Refusal.{Refusal}
+use Rattle.def_psbt.specs.Map.{Psbt}
+use Rattle.def_psbt.specs.Source.{psbt_of}
+use Rattle.def_spend.specs.Reading.{Input, AreInputs}
+use Rattle.def_psbt_answer.specs.declared.status.Status.{Status}
+use Rattle.def_psbt_answer.specs.declared.status.Status.TheVariants as status
+use Rattle.def_psbt_answer.specs.declared.words.Command.{Command}
+use Rattle.def_psbt_answer.specs.declared.words.Command.TheVariants as command
+use Rattle.def_psbt_answer.specs.Words.{command_of}
+use Rattle.def_psbt_answer.specs.Lines.{refusal_line}
+use Rattle.def_psbt_answer.specs.Report.{inspect_report, hashes_report, finalize_report}
+use Rattle.def_psbt_answer.specs.Reply.{reply, settled_status, form_of, extract_reply}
+use Rattle.psbt_cli.specs.Ends.{Call, IsFault}
+
+-- ---- what is asked, and what is shown
+
+-- the words name this command, and the source tells bytes
+pub record IsCalled (command : Command) (call : Call) (source : Bytes) : Type 0 where
+  pub named : command_of call.words ≡ Some command
+  pub told : call.source.old ≡ Some source
+  pub bytes : IsBytes source
+
+-- and they give this PSBT, with these inputs, each read
+pub record IsAsked (command : Command) (call : Call) (source : Bytes) (psbt : Psbt) (inputs : List Input) : Type 0 where
+  pub called : IsCalled command call source
+  pub given : psbt_of source ≡ Ok psbt
+  pub read : AreInputs psbt inputs
+
+-- a report of which this holds was written whole, unless memory was wanting or a fault came
+abbrev pub WritesSuch : Call → ((report : Bytes) → Type 0) → Type 0
+WritesSuch call Holds = IsFault call.status call.source call.sink ⊎ ((report : Bytes) × Appends call.sink.old call.sink.new report × Holds report)
+
+-- so is one of what was asked
+abbrev pub Shows : Command → Call → ((source : Bytes) → Psbt → List Input → (report : Bytes) → Type 0) → Type 0
+Shows command call Holds =
+    (source : Bytes) (psbt : Psbt) (inputs : List Input) → IsAsked command call source psbt inputs → WritesSuch call (Holds source psbt inputs)
+
+-- ---- what is written
+
+-- the PSBT with each input that is Ready made final, in the form in which it came
+abbrev pub ShowsFinalized : Call → Type 0
+ShowsFinalized call =
+    Shows command.Finalize call (λ source psbt inputs report.
+    (report ≡ finalize_report (form_of source) psbt inputs) × (call.status ≡ settled_status inputs))
+
+-- what the transaction does with the money, and what each input is and lacks
+abbrev pub ShowsInspected : Call → Type 0
+ShowsInspected call =
+    Shows command.Inspect call (λ source psbt inputs report.
+    (report ≡ inspect_report psbt.transaction inputs) × (call.status ≡ settled_status inputs))
+
+-- the network transaction, or which input isn't final
+abbrev pub ShowsExtracted : Call → Type 0
+ShowsExtracted call = Shows command.Extract call (λ source psbt inputs report. reply call.status report ≡ extract_reply psbt inputs)
+
+-- what the signatures of each input sign
+abbrev pub ShowsHashes : Call → Type 0
+ShowsHashes call =
+    Shows command.Hashes call (λ source psbt inputs report. (report ≡ hashes_report inputs) × (call.status ≡ status.Done))
+
+-- a source that gives no PSBT is refused, by the first place that is wrong
+abbrev pub RefusesSource : Call → Type 0
+RefusesSource call =
+    (command : Command) (source : Bytes) (refusal : Refusal) → IsCalled command call source → psbt_of source ≡ Err refusal →
+    WritesSuch call (λ report. (report ≡ refusal_line refusal) × (call.status ≡ status.Refused))
