@@ -1,39 +1,59 @@
 /* msat: a Miniscript satisfier for P2WSH outputs, as a library.
+ * SPDX-License-Identifier: MIT
  *
  * Each function is proved to give what msat's definitions say of its arguments, as long as C keeps to what this file demands
- * of it. Nothing checks that, but a debug build (without NDEBUG) asserts what can be seen from here.
+ * of it. Nothing checks that; with MSAT_ASSERT defined before this file is read, each call
+ * asserts what can be seen from here, unless NDEBUG is.
+ * It is C11, and C++11 or newer. The library is for 64-bit Linux, x86-64-v2 (SSE4.2 and POPCNT, as processors have since 2009).
  *
  * What C owes in every call:
  *   - A pointer and the length after it name that many bytes, or that many numbers, all of them readable, and writable where the
  *     pointer isn't const. NULL may stand with the length 0, and nowhere else.
- *   - A single value that is written, as `size_t *`, is never NULL.
- *   - Numbers are aligned as their type, and were written before the call, also those that the call may write over.
+ *   - A single value that is lent, as `size_t *` or `struct msat_reason *`, is never NULL.
+ *   - All that is lent was written before the call, also what the call may write over: buffers, numbers, and structures whole, as
+ *     by `= {0}` or memset. A bool is 0 or 1, also in a structure that the call may write over.
+ *   - Numbers are aligned as their type.
  *   - What one call writes overlaps nothing else that the call is given, and no other thread touches it meanwhile. What a call
  *     only reads may be read by others at the same time.
  *   - malloc, realloc and free come from one allocator, and align blocks as the C standard says.
  *   - No call is made from a signal handler, nor in the child of a fork of a process that has several threads, before exec.
- *   - The stack of calls has room, as a thread's usual 8 MB.
+ *   - The stack of calls has 512 KiB left; a thread has 8 MiB by glibc, 2 MiB by Rust and 1 MiB by a JVM, where nothing else is told.
+ *     At most 171 KiB were measured, over the longest and the deepest texts and files, and the tests fail above 256 KiB.
  *
  * No state is kept between calls, so threads may call at once. Nothing is printed, no file is opened, and nothing that is
  * allocated is left. Bytes behind those that a call writes stay as they were, and so does what an answer doesn't speak of.
+ * Most memory is taken for files: one of 1,048,576 bytes, the longest that is read, takes up to 133 MiB of heap where it is full of
+ * small values; longer ones are refused at once. Texts, arrays and a file with all that may be held take up to 6 MiB.
  *
- * A satisfaction is canonical where BIP 379's table makes it by rows that it doesn't mark as non-canonical, with what the file
- * holds: its signatures, for a hash the first of its preimages that has it, for a key hash the condition's own key, and 32 zero
- * bytes where a hash is dissatisfied. That nobody can change it means: every other stack that is accepted in the same
- * transaction passes the check of a signature that this one doesn't show, be it one that the file holds too; or has a preimage
- * other than the first that the file has for its hash; or another key with the HASH160 of a key of the condition.
+ * A satisfaction is canonical where BIP 379's table makes it by rows that it doesn't mark as non-canonical, with what is held:
+ * its signatures, for a hash the first of its preimages that has it, for a key hash the condition's own key, and 32 zero
+ * bytes where a hash is dissatisfied. That nobody can change it means exactly: every other stack that the interpreter accepts in
+ * the same transaction passes the check of a signature that this one's run doesn't, be it one that is held and left out; or has a
+ * preimage of a hash of the condition other than the first one held for it; or another key with the HASH160 of a `pk_h` key.
+ *
+ * Texts are UTF-8 and need no NUL behind them. Within 1.x no function, constant or structure named here changes its meaning, its
+ * number or its layout; new ones may come, and later kinds and codes with them.
  */
 #ifndef MSAT_H
 #define MSAT_H
 
-#include <assert.h>
 #include <stdbool.h>
 #include <stddef.h>
 #include <stdint.h>
 
+/* The version of this file. */
+#define MSAT_VERSION_MAJOR 1
+#define MSAT_VERSION_MINOR 0
+#define MSAT_VERSION_PATCH 0
+/* As one number, as msat_version tells that of the library that is loaded. */
+#define MSAT_VERSION_NUMBER (MSAT_VERSION_MAJOR * 1000000 + MSAT_VERSION_MINOR * 1000 + MSAT_VERSION_PATCH)
+
 #ifdef __cplusplus
 extern "C" {
 #endif
+
+/* The version of the library that is loaded: 1000000 for 1.0.0, and 1002003 for 1.2.3. */
+uint32_t msat_version(void);
 
 /* The codes that calls answer, which are the exit statuses of the program msat. */
 enum {
@@ -60,13 +80,24 @@ enum {
  *
  * MSAT_NO_MEMORY and MSAT_UNREADABLE leave `report` and `*needed` as they were, every other code comes with a report.
  */
-uint32_t msat_answer(size_t count, const uint8_t *words, size_t words_len, const uint8_t *source, size_t source_len,
-                     uint8_t *report, size_t report_len, size_t *needed);
+uint32_t msat_answer(size_t count, const char *words, size_t words_len, const void *source, size_t source_len, char *report,
+                     size_t report_len, size_t *needed);
+
+/* Answers the words of a command line, as `msat-psbt` does where its standard input holds `source`: one word of `finalize`,
+ * `inspect`, `extract` and `hashes`. The source is a PSBT (BIP 174), its bytes or their base64, of at most 16,777,216 bytes; the rest is
+ * as in msat_answer, and the report of `finalize` has whatever bytes a PSBT has. MSAT_DONE comes where no input stays open, MSAT_PSBT_OPEN
+ * where one does, and MSAT_PSBT_REFUSED where the source is none, with why. */
+enum {
+    MSAT_PSBT_REFUSED = 3, /* the source is no PSBT that is read, and why is told */
+    MSAT_PSBT_OPEN = 4     /* some input stays open; what was asked for was given all the same, but for `extract` */
+};
+uint32_t msat_psbt_answer(size_t count, const char *words, size_t words_len, const void *source, size_t source_len, char *report,
+                          size_t report_len, size_t *needed);
 
 /* Why a text or an asset file is refused, as plain numbers. What isn't named at its kind is 0. */
 struct msat_reason {
     uint32_t kind;   /* one of the kinds below, or 0 where there is none */
-    uint32_t rule;   /* the requirement that is false, from 0 in the order of docs/FORMATS.md; of a file's member its number below */
+    uint32_t rule;   /* the requirement that is false, one of MSAT_RULE_..; of a file its member, one of MSAT_MEMBER_.. */
     uint32_t place;  /* the byte of the text, or the element of the file's list, from 0 */
     uint64_t number; /* what the size, the opcodes or the items come to */
 };
@@ -95,10 +126,62 @@ enum {
     MSAT_SIG_LENGTH,        /* place */
     MSAT_PREIMAGE_LENGTH,   /* place, in the preimages */
     MSAT_TOO_MANY,          /* rule: the member */
-    MSAT_FILE_REPEATED_KEY, /* place, in the signatures */
+    MSAT_FILE_REPEATED_KEY  /* place, in the signatures */
+};
+/* The requirements of BIP 379's tables of types, as `rule` numbers them; docs/FORMATS.md (msat(5)) says what each asks for. */
+enum {
+    /* of MSAT_RULE */
+    MSAT_RULE_OLDER_RANGE = 0,
+    MSAT_RULE_AFTER_RANGE,
+    MSAT_RULE_AND_OR_X,
+    MSAT_RULE_AND_OR_YZ,
+    MSAT_RULE_AND_VX,
+    MSAT_RULE_AND_VY,
+    MSAT_RULE_AND_BX,
+    MSAT_RULE_AND_BY,
+    MSAT_RULE_OR_BX,
+    MSAT_RULE_OR_BZ,
+    MSAT_RULE_OR_CX,
+    MSAT_RULE_OR_CZ,
+    MSAT_RULE_OR_DX,
+    MSAT_RULE_OR_DZ,
+    MSAT_RULE_OR_IXZ,
+    MSAT_RULE_THRESH_RANGE,
+    MSAT_RULE_THRESH_FIRST,
+    MSAT_RULE_THRESH_OTHER,
+    MSAT_RULE_MULTI_RANGE,
+    MSAT_RULE_WRAP_A,
+    MSAT_RULE_WRAP_S,
+    MSAT_RULE_WRAP_C,
+    MSAT_RULE_WRAP_D,
+    MSAT_RULE_WRAP_V,
+    MSAT_RULE_WRAP_J,
+    MSAT_RULE_WRAP_N,
+    /* of MSAT_MALLEABLE */
+    MSAT_RULE_AND_OR_E,
+    MSAT_RULE_AND_OR_S,
+    MSAT_RULE_OR_BE,
+    MSAT_RULE_OR_BS,
+    MSAT_RULE_OR_CE,
+    MSAT_RULE_OR_CS,
+    MSAT_RULE_OR_DE,
+    MSAT_RULE_OR_DS,
+    MSAT_RULE_OR_IS,
+    MSAT_RULE_THRESH_E,
+    MSAT_RULE_THRESH_S
 };
 /* The members of files, as `rule` numbers them: the whole file is 0. */
-enum { MSAT_WHOLE, MSAT_VERSION, MSAT_SEQUENCE, MSAT_LOCKTIME, MSAT_SIGNATURES, MSAT_PREIMAGES, MSAT_FORMAT = 8 };
+enum {
+    MSAT_MEMBER_FILE = 0,
+    MSAT_MEMBER_VERSION,
+    MSAT_MEMBER_SEQUENCE,
+    MSAT_MEMBER_LOCKTIME,
+    MSAT_MEMBER_SIGNATURES,
+    MSAT_MEMBER_PREIMAGES,
+    MSAT_MEMBER_SCRIPT,
+    MSAT_MEMBER_WITNESS,
+    MSAT_MEMBER_FORMAT
+};
 
 /* What is known of a sane text. */
 struct msat_facts {
@@ -112,24 +195,24 @@ struct msat_facts {
  * limits of consensus, and not to those of policy. Each answers
  *
  *   MSAT_DONE              what was asked for was given;
- *   MSAT_TEXT_REFUSED      and `*reason` says why: a text that isn't valid for msat_script, msat_least_weight and
- *                          msat_witness with `malleable`, one that isn't sane for msat_check and msat_witness without it;
- *   MSAT_FILE_REFUSED      and `*reason` says why, where there is a file;
- *   MSAT_NO_SATISFACTION   where there is a file, and no canonical satisfaction with what it holds;
+ *   MSAT_TEXT_REFUSED      and `*reason` says why: a text that isn't valid for msat_script, msat_least_weight, and msat_witness and
+ *                          msat_satisfy with `malleable`; one that isn't sane for msat_check, msat_policy, and these two without it;
+ *   MSAT_FILE_REFUSED      and `*reason` says why, where there is a file, or arrays in its place;
+ *   MSAT_NO_SATISFACTION   where there is one, and no canonical satisfaction with what it holds;
  *   MSAT_UNREADABLE        exactly where the text isn't UTF-8;
  *   MSAT_NO_MEMORY         in place of any other code but MSAT_UNREADABLE.
  */
 
 /* The Script of a valid text: its beginning is written to `script`, and `*needed` is its whole length. */
-uint32_t msat_script(bool consensus, const uint8_t *text, size_t text_len, uint8_t *script, size_t script_len, size_t *needed,
+uint32_t msat_script(bool consensus, const char *text, size_t text_len, uint8_t *script, size_t script_len, size_t *needed,
                      struct msat_reason *reason);
 
 /* Whether a text is sane, and what is known of it then. */
-uint32_t msat_check(bool consensus, const uint8_t *text, size_t text_len, struct msat_facts *facts, struct msat_reason *reason);
+uint32_t msat_check(bool consensus, const char *text, size_t text_len, struct msat_facts *facts, struct msat_reason *reason);
 
 /* The least weight of a canonical satisfaction of a valid text by an asset file, in bytes: for each item 1 and its length, the
  * Script aside. */
-uint32_t msat_least_weight(bool consensus, const uint8_t *text, size_t text_len, const uint8_t *file, size_t file_len,
+uint32_t msat_least_weight(bool consensus, const char *text, size_t text_len, const void *file, size_t file_len,
                            uint64_t *weight, struct msat_reason *reason);
 
 /* The items of the witness of a satisfaction by an asset file, bottom first, the Script as the last one. It is the strict
@@ -141,31 +224,108 @@ uint32_t msat_least_weight(bool consensus, const uint8_t *text, size_t text_len,
  *          fit, not how many bytes that is.
  * count    how many items there are
  *
- * Where there was too little room in either, call again. By the limits of policy there are at most 101 items, and both satisfactions
- * weigh at most `weight` of msat_facts, so that with the Script there are at most `weight + size` bytes.
+ * Where there was too little room in either, call again. Room enough for a sane text, with `malleable` too: `items + 1` lengths and
+ * `weight + size` bytes, with the limits of msat_facts by the same `consensus`. Of a text that is valid and not sane, which
+ * `malleable` takes, msat_check tells no limits: by those of policy there are at most 100 items of at most 73 bytes and a Script of at
+ * most 3600, so that 101 lengths and 10900 bytes are enough; by consensus alone no number is told.
  */
-uint32_t msat_witness(bool malleable, bool consensus, const uint8_t *text, size_t text_len, const uint8_t *file, size_t file_len,
+uint32_t msat_witness(bool malleable, bool consensus, const char *text, size_t text_len, const void *file, size_t file_len,
                       uint8_t *bytes, size_t bytes_len, size_t *needed, size_t *lengths, size_t lengths_len, size_t *count,
                       struct msat_reason *reason);
+
+/* The same without an asset file: what is held lies in arrays.
+ *
+ * version, sequence, locktime   the version of the spending transaction, the sequence number of the input, and the transaction's
+ *                               locktime, as a signature commits to them
+ * keys                          compressed keys of 33 bytes, one after the other: the key of each signature
+ * signatures                    the signatures as they stand in a witness, one after the other, of 1 to 73 bytes
+ * signature_lengths             how many bytes each has. A key may stand with several; the shortest is taken.
+ * preimages                     preimages of 32 bytes, one after the other
+ *
+ * Arrays are refused as an asset file of format 2 with the same is, with MSAT_FILE_REFUSED: before all else by MSAT_SHAPE of
+ * MSAT_MEMBER_SIGNATURES where there aren't 33 bytes of keys for each length, or the lengths don't add up to `signatures_len`; by
+ * MSAT_SHAPE of MSAT_MEMBER_PREIMAGES where these aren't 32 bytes each; by MSAT_TOO_MANY over 256 of either; and then by
+ * MSAT_KEY_FORM, MSAT_SIG_LENGTH or MSAT_FILE_REPEATED_KEY, of which the first that applies anywhere is told, at its first place.
+ */
+uint32_t msat_satisfy(bool malleable, bool consensus, const char *text, size_t text_len, uint32_t version, uint32_t sequence,
+                      uint32_t locktime, const uint8_t *keys, size_t keys_len, const uint8_t *signatures, size_t signatures_len,
+                      const size_t *signature_lengths, size_t signature_count, const uint8_t *preimages, size_t preimages_len,
+                      uint8_t *bytes, size_t bytes_len, size_t *needed, size_t *lengths, size_t lengths_len, size_t *count,
+                      struct msat_reason *reason);
+
+/* What a text demands that is sane by the limits of policy: the beginning of its printed policy is written to `policy`, and `*needed`
+ * is its whole length; `*keys` is the least number of keys that have to sign where every hash lock and timelock is met, or
+ * MSAT_NEVER where no signatures are enough. */
+uint32_t msat_policy(const char *text, size_t text_len, char *policy, size_t policy_len, size_t *needed, uint64_t *keys,
+                     struct msat_reason *reason);
+#define MSAT_NEVER UINT64_MAX
+
+/* The text, valid by the limits of policy, that a Script is read back as: its beginning is written to `text`, and `*needed` is its
+ * whole length. `keys` are compressed keys of 33 bytes, one after the other: those that the Script's hashes of keys may be of.
+ * The answer is MSAT_DONE; MSAT_NO_READING where no such text has this Script; MSAT_USAGE where the keys are none; or MSAT_NO_MEMORY.
+ * After all but MSAT_DONE nothing was written. */
+uint32_t msat_decode(const uint8_t *script, size_t script_len, const uint8_t *keys, size_t keys_len, char *text, size_t text_len,
+                     size_t *needed);
 
 #ifdef __cplusplus
 }
 #endif
 
-#ifndef NDEBUG
+/* The names that reports print, or NULL where a number has none. */
+
+/* of a refusal's kind, as "Syntax" */
+static inline const char *msat_fault_name(uint32_t kind) {
+    static const char *const names[] = {
+        "TooLong", "Syntax", "TooDeep", "Rule", "TopNotB", "Size", "Ops", "Items", "Malleable", "NoSignature", "MixedLocks",
+        "RepeatedKey", "TooLong", "NotJson", "Shape", "Number", "Hex", "KeyForm", "SigLength", "PreimageLength", "TooMany",
+        "RepeatedKey"};
+    return kind >= 1 && kind - 1 < sizeof names / sizeof names[0] ? names[kind - 1] : NULL;
+}
+
+/* of a rule, as "OlderRange" */
+static inline const char *msat_rule_name(uint32_t rule) {
+    static const char *const names[] = {
+        "OlderRange", "AfterRange", "AndOrX", "AndOrYZ", "AndVX", "AndVY", "AndBX", "AndBY", "OrBX", "OrBZ", "OrCX", "OrCZ",
+        "OrDX", "OrDZ", "OrIXZ", "ThreshRange", "ThreshFirst", "ThreshOther", "MultiRange", "WrapA", "WrapS", "WrapC",
+        "WrapD", "WrapV", "WrapJ", "WrapN", "AndOrE", "AndOrS", "OrBE", "OrBS", "OrCE", "OrCS", "OrDE", "OrDS", "OrIS",
+        "ThreshE", "ThreshS"};
+    return rule < sizeof names / sizeof names[0] ? names[rule] : NULL;
+}
+
+/* of a file's member, as "signatures"; the whole is "file" */
+static inline const char *msat_member_name(uint32_t member) {
+    static const char *const names[] = {
+        "file", "version", "sequence", "locktime", "signatures", "preimages", "script", "witness", "format"};
+    return member < sizeof names / sizeof names[0] ? names[member] : NULL;
+}
+
+#if defined MSAT_ASSERT && !defined NDEBUG
+#include <assert.h>
+static inline uintptr_t msat_address(const void *at) {
+#ifdef __cplusplus
+    return reinterpret_cast<uintptr_t>(at);
+#else
+    return (uintptr_t)at;
+#endif
+}
+
 /* A buffer is there, unless its length is 0. */
 #define MSAT_IS_BUFFER(at, len) ((at) != NULL || (len) == 0)
 /* A value is there, and aligned as values of its size may have to be. */
-#define MSAT_IS_VALUE(at) ((at) != NULL && (uintptr_t)(at) % (sizeof *(at) < 8 ? sizeof *(at) : 8) == 0)
+#define MSAT_IS_VALUE(at) ((at) != NULL && msat_address(at) % (sizeof *(at) < 8 ? sizeof *(at) : 8) == 0)
 /* Two ranges of bytes have none in common. */
 #define MSAT_ARE_APART(a, a_len, b, b_len) \
-    ((a_len) == 0 || (b_len) == 0 || (uintptr_t)(a) + (a_len) <= (uintptr_t)(b) || (uintptr_t)(b) + (b_len) <= (uintptr_t)(a))
+    ((a_len) == 0 || (b_len) == 0 || msat_address(a) + (a_len) <= msat_address(b) || msat_address(b) + (b_len) <= msat_address(a))
 /* What a call writes at `at` overlaps neither the text nor the file. */
 #define MSAT_IS_APART(at, len, text, text_len, file, file_len) \
     (MSAT_ARE_APART(at, len, text, text_len) && MSAT_ARE_APART(at, len, file, file_len))
+/* What msat_satisfy writes at `at` overlaps nothing that it reads. */
+#define MSAT_IS_OUT(at, len) \
+    (MSAT_IS_APART(at, len, text, text_len, keys, keys_len) && MSAT_IS_APART(at, len, signatures, signatures_len, preimages, preimages_len) && \
+     MSAT_ARE_APART(at, len, signature_lengths, given))
 
-static inline uint32_t msat_answer_asserted(size_t count, const uint8_t *words, size_t words_len, const uint8_t *source,
-                                            size_t source_len, uint8_t *report, size_t report_len, size_t *needed) {
+static inline uint32_t msat_answer_asserted(size_t count, const char *words, size_t words_len, const void *source,
+                                            size_t source_len, char *report, size_t report_len, size_t *needed) {
     assert(MSAT_IS_BUFFER(words, words_len) && MSAT_IS_BUFFER(source, source_len) && MSAT_IS_BUFFER(report, report_len));
     assert(MSAT_IS_VALUE(needed));
     assert(MSAT_IS_APART(report, report_len, words, words_len, source, source_len));
@@ -174,7 +334,17 @@ static inline uint32_t msat_answer_asserted(size_t count, const uint8_t *words, 
     return msat_answer(count, words, words_len, source, source_len, report, report_len, needed);
 }
 
-static inline uint32_t msat_script_asserted(bool consensus, const uint8_t *text, size_t text_len, uint8_t *script,
+static inline uint32_t msat_psbt_answer_asserted(size_t count, const char *words, size_t words_len, const void *source,
+                                                 size_t source_len, char *report, size_t report_len, size_t *needed) {
+    assert(MSAT_IS_BUFFER(words, words_len) && MSAT_IS_BUFFER(source, source_len) && MSAT_IS_BUFFER(report, report_len));
+    assert(MSAT_IS_VALUE(needed));
+    assert(MSAT_IS_APART(report, report_len, words, words_len, source, source_len));
+    assert(MSAT_IS_APART(needed, sizeof *needed, words, words_len, source, source_len));
+    assert(MSAT_ARE_APART(report, report_len, needed, sizeof *needed));
+    return msat_psbt_answer(count, words, words_len, source, source_len, report, report_len, needed);
+}
+
+static inline uint32_t msat_script_asserted(bool consensus, const char *text, size_t text_len, uint8_t *script,
                                             size_t script_len, size_t *needed, struct msat_reason *reason) {
     assert(MSAT_IS_BUFFER(text, text_len) && MSAT_IS_BUFFER(script, script_len));
     assert(MSAT_IS_VALUE(needed) && MSAT_IS_VALUE(reason));
@@ -185,7 +355,7 @@ static inline uint32_t msat_script_asserted(bool consensus, const uint8_t *text,
     return msat_script(consensus, text, text_len, script, script_len, needed, reason);
 }
 
-static inline uint32_t msat_check_asserted(bool consensus, const uint8_t *text, size_t text_len, struct msat_facts *facts,
+static inline uint32_t msat_check_asserted(bool consensus, const char *text, size_t text_len, struct msat_facts *facts,
                                            struct msat_reason *reason) {
     assert(MSAT_IS_BUFFER(text, text_len));
     assert(MSAT_IS_VALUE(facts) && MSAT_IS_VALUE(reason));
@@ -194,7 +364,7 @@ static inline uint32_t msat_check_asserted(bool consensus, const uint8_t *text, 
     return msat_check(consensus, text, text_len, facts, reason);
 }
 
-static inline uint32_t msat_least_weight_asserted(bool consensus, const uint8_t *text, size_t text_len, const uint8_t *file,
+static inline uint32_t msat_least_weight_asserted(bool consensus, const char *text, size_t text_len, const void *file,
                                                   size_t file_len, uint64_t *weight, struct msat_reason *reason) {
     assert(MSAT_IS_BUFFER(text, text_len) && MSAT_IS_BUFFER(file, file_len));
     assert(MSAT_IS_VALUE(weight) && MSAT_IS_VALUE(reason));
@@ -204,14 +374,14 @@ static inline uint32_t msat_least_weight_asserted(bool consensus, const uint8_t 
     return msat_least_weight(consensus, text, text_len, file, file_len, weight, reason);
 }
 
-static inline uint32_t msat_witness_asserted(bool malleable, bool consensus, const uint8_t *text, size_t text_len,
-                                             const uint8_t *file, size_t file_len, uint8_t *bytes, size_t bytes_len,
+static inline uint32_t msat_witness_asserted(bool malleable, bool consensus, const char *text, size_t text_len,
+                                             const void *file, size_t file_len, uint8_t *bytes, size_t bytes_len,
                                              size_t *needed, size_t *lengths, size_t lengths_len, size_t *count,
                                              struct msat_reason *reason) {
     size_t told = lengths_len * sizeof *lengths;
     assert(MSAT_IS_BUFFER(text, text_len) && MSAT_IS_BUFFER(file, file_len));
     assert(MSAT_IS_BUFFER(bytes, bytes_len) && MSAT_IS_BUFFER(lengths, lengths_len));
-    assert((uintptr_t)lengths % sizeof *lengths == 0 && lengths_len <= SIZE_MAX / sizeof *lengths);
+    assert(msat_address(lengths) % sizeof *lengths == 0 && lengths_len <= SIZE_MAX / sizeof *lengths);
     assert(MSAT_IS_VALUE(needed) && MSAT_IS_VALUE(count) && MSAT_IS_VALUE(reason));
     assert(MSAT_IS_APART(bytes, bytes_len, text, text_len, file, file_len));
     assert(MSAT_IS_APART(bytes, bytes_len, lengths, told, reason, sizeof *reason));
@@ -228,12 +398,64 @@ static inline uint32_t msat_witness_asserted(bool malleable, bool consensus, con
                         reason);
 }
 
-/* Calls go through the assertions. A function's own name stands in parentheses where they are to be passed over. */
+static inline uint32_t msat_satisfy_asserted(bool malleable, bool consensus, const char *text, size_t text_len, uint32_t version,
+                                             uint32_t sequence, uint32_t locktime, const uint8_t *keys, size_t keys_len,
+                                             const uint8_t *signatures, size_t signatures_len, const size_t *signature_lengths,
+                                             size_t signature_count, const uint8_t *preimages, size_t preimages_len, uint8_t *bytes,
+                                             size_t bytes_len, size_t *needed, size_t *lengths, size_t lengths_len, size_t *count,
+                                             struct msat_reason *reason) {
+    size_t told = lengths_len * sizeof *lengths, given = signature_count * sizeof *signature_lengths;
+    assert(MSAT_IS_BUFFER(text, text_len) && MSAT_IS_BUFFER(keys, keys_len) && MSAT_IS_BUFFER(signatures, signatures_len));
+    assert(MSAT_IS_BUFFER(signature_lengths, signature_count) && MSAT_IS_BUFFER(preimages, preimages_len));
+    assert(MSAT_IS_BUFFER(bytes, bytes_len) && MSAT_IS_BUFFER(lengths, lengths_len));
+    assert(msat_address(lengths) % sizeof *lengths == 0 && lengths_len <= SIZE_MAX / sizeof *lengths);
+    assert(msat_address(signature_lengths) % sizeof *lengths == 0 && signature_count <= SIZE_MAX / sizeof *lengths);
+    assert(MSAT_IS_VALUE(needed) && MSAT_IS_VALUE(count) && MSAT_IS_VALUE(reason));
+    assert(MSAT_IS_OUT(bytes, bytes_len) && MSAT_IS_OUT(lengths, told) && MSAT_IS_OUT(needed, sizeof *needed));
+    assert(MSAT_IS_OUT(count, sizeof *count) && MSAT_IS_OUT(reason, sizeof *reason));
+    assert(MSAT_IS_APART(bytes, bytes_len, lengths, told, reason, sizeof *reason));
+    assert(MSAT_IS_APART(bytes, bytes_len, needed, sizeof *needed, count, sizeof *count));
+    assert(MSAT_IS_APART(lengths, told, needed, sizeof *needed, count, sizeof *count));
+    assert(MSAT_IS_APART(reason, sizeof *reason, needed, sizeof *needed, count, sizeof *count));
+    assert(MSAT_ARE_APART(needed, sizeof *needed, count, sizeof *count) && MSAT_ARE_APART(reason, sizeof *reason, lengths, told));
+    return msat_satisfy(malleable, consensus, text, text_len, version, sequence, locktime, keys, keys_len, signatures, signatures_len,
+                        signature_lengths, signature_count, preimages, preimages_len, bytes, bytes_len, needed, lengths, lengths_len,
+                        count, reason);
+}
+
+static inline uint32_t msat_policy_asserted(const char *text, size_t text_len, char *policy, size_t policy_len, size_t *needed,
+                                            uint64_t *keys, struct msat_reason *reason) {
+    assert(MSAT_IS_BUFFER(text, text_len) && MSAT_IS_BUFFER(policy, policy_len));
+    assert(MSAT_IS_VALUE(needed) && MSAT_IS_VALUE(keys) && MSAT_IS_VALUE(reason));
+    assert(MSAT_IS_APART(policy, policy_len, text, text_len, needed, sizeof *needed));
+    assert(MSAT_IS_APART(policy, policy_len, keys, sizeof *keys, reason, sizeof *reason));
+    assert(MSAT_IS_APART(needed, sizeof *needed, text, text_len, keys, sizeof *keys));
+    assert(MSAT_IS_APART(reason, sizeof *reason, text, text_len, keys, sizeof *keys));
+    assert(MSAT_ARE_APART(keys, sizeof *keys, text, text_len) && MSAT_ARE_APART(reason, sizeof *reason, needed, sizeof *needed));
+    return msat_policy(text, text_len, policy, policy_len, needed, keys, reason);
+}
+
+static inline uint32_t msat_decode_asserted(const uint8_t *script, size_t script_len, const uint8_t *keys, size_t keys_len, char *text,
+                                            size_t text_len, size_t *needed) {
+    assert(MSAT_IS_BUFFER(script, script_len) && MSAT_IS_BUFFER(keys, keys_len) && MSAT_IS_BUFFER(text, text_len));
+    assert(MSAT_IS_VALUE(needed));
+    assert(MSAT_IS_APART(text, text_len, script, script_len, keys, keys_len));
+    assert(MSAT_IS_APART(needed, sizeof *needed, script, script_len, keys, keys_len));
+    assert(MSAT_ARE_APART(text, text_len, needed, sizeof *needed));
+    return msat_decode(script, script_len, keys, keys_len, text, text_len, needed);
+}
+
+/* Calls go through the assertions. Where a name is to be taken by itself, as a member `->msat_check(..)`, it is put into parentheses
+ * or MSAT_ASSERT is left out. */
 #define msat_answer(...) msat_answer_asserted(__VA_ARGS__)
+#define msat_psbt_answer(...) msat_psbt_answer_asserted(__VA_ARGS__)
 #define msat_script(...) msat_script_asserted(__VA_ARGS__)
 #define msat_check(...) msat_check_asserted(__VA_ARGS__)
 #define msat_least_weight(...) msat_least_weight_asserted(__VA_ARGS__)
 #define msat_witness(...) msat_witness_asserted(__VA_ARGS__)
+#define msat_satisfy(...) msat_satisfy_asserted(__VA_ARGS__)
+#define msat_policy(...) msat_policy_asserted(__VA_ARGS__)
+#define msat_decode(...) msat_decode_asserted(__VA_ARGS__)
 #endif
 
 #endif

@@ -3,3 +3,5 @@ pub mod AnswerLemmas
 pub mod TextLemmas
 pub mod FactLemmas
 pub mod ItemLemmas
+pub mod PolicyLemmas
+pub mod ReadingLemmas

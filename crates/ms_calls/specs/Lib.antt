@@ -6,3 +6,6 @@ pub mod Reasons
 pub mod Items
 pub mod TextReply
 pub mod Stops
+pub mod Version
+pub mod Readings
+pub mod Demanded

@@ -139,6 +139,13 @@ chosen_given choice file tree =
 abbrev pub witness_given : Choice → (file : Bytes) → Reading → TextReply Joined
 witness_given choice file = text_given (reason_by choice) (chosen_given (chosen_by choice) file)
 
+-- those by assets in arrays, which may be refused as those of a file
+abbrev pub held_given : (choice : Tree → Assets → Option (List Bytes)) → (held : Result Assets AssetFault) → Tree → TextReply Joined
+held_given choice held tree = with_assets (λ assets. where_one (option_map (witness_items tree) (choice tree assets))) held
+
+abbrev pub satisfied_given : Choice → (held : Result Assets AssetFault) → Reading → TextReply Joined
+satisfied_given choice held = text_given (reason_by choice) (held_given (chosen_by choice) held)
+
 -- their bytes and their lengths
 abbrev pub bytes_given : TextReply Joined → TextReply Bytes
 bytes_given (told items) = told items.bytes

@@ -1,20 +1,30 @@
 //! What a program in another language asks of `msat`, as calls over plain bytes and numbers.
 #![tactic(auto)]
 
-pub use answering::answer;
+pub use answering::{NO_MEMORY, UNREADABLE, answer};
 pub use copying::{write_lengths, write_over};
 pub use facts::Facts;
+pub use holding::satisfy;
+pub use memory::{ByteSink, ByteSource};
+pub use policies::policy;
+pub use readings::decode;
 pub use reason::Reason;
 pub use satisfying::{least_weight, witness};
 pub use texts::{check, script};
+pub use versions::version;
+pub use words::{NoWords, read_words};
 
 mod answering;
 mod copying;
 mod facts;
+mod holding;
 mod items;
 mod memory;
+mod policies;
+mod readings;
 mod reason;
 mod satisfying;
 mod stopping;
 mod texts;
+mod versions;
 mod words;

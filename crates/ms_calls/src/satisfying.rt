@@ -158,7 +158,7 @@ fn assets_in(alloc: Global, file: &[u8]) -> Result<Assets, Stop>
 }
 
 /// The stop of a file that is refused.
-fn file_refusal(fault: AssetFault) -> Stop
+pub fn file_refusal(fault: AssetFault) -> Stop
     ensures { result ≡ the_file_refusal fault }
 {
     match fault {
@@ -176,7 +176,7 @@ fn file_refusal(fault: AssetFault) -> Stop
 }
 
 /// How the satisfaction is chosen, and by which rules.
-fn choice_for(malleable: bool, consensus: bool) -> Choice
+pub fn choice_for(malleable: bool, consensus: bool) -> Choice
     ensures { result ≡ the_choice_for malleable consensus }
 {
     if malleable {
@@ -229,7 +229,7 @@ fn witness_of_tree(
 }
 
 /// The items of the witness of a satisfaction, where one was found.
-fn items_of(
+pub fn items_of(
     alloc: Global,
     tree: &Tree<'_>,
     found: Result<Option<Stack>, AllocError>,

@@ -1,17 +1,32 @@
-//! The static library for C, with one export for each call of `ms_calls`. `include/msat.h` declares them.
+//! The static library for C, with one export for each call of `ms_calls` and of `ms_psbt_calls`. `include/msat.h` declares them.
 #![tactic(auto)]
 
-ghost use Rattle.std.specs.Prelude.{◌≡◌, ◌≢◌, ◌⊎◌, ◌↔◌, List, length, IsUtf8};
+ghost use Rattle.std.specs.Prelude.{◌≡◌, ◌≢◌, ◌⊎◌, ◌↔◌, true, false, List, length, IsUtf8};
 ghost use Rattle.def_script.specs.Bytes.{Bytes};
 ghost use Rattle.def_answer.specs.Answer.{Answer};
 ghost use Rattle.def_answer.specs.declared.status.Status.{Status};
 ghost use Rattle.def_answer.specs.Status.{code_of};
+ghost use Rattle.def_psbt_answer.specs.Answer.{Answer as PsbtAnswer};
+ghost use Rattle.def_psbt_answer.specs.declared.status.Status.{Status as PsbtStatus};
+ghost use Rattle.def_psbt_answer.specs.Status.{code_of as psbt_code_of};
+ghost use Rattle.ms_arrays.specs.ArrayAssets.{assets_of_arrays};
 ghost use Rattle.ms_calls.specs.Buffers.{written_over};
-ghost use Rattle.ms_calls.specs.TextReply.{HoldsOfReply, code_given, reason_after, value_after, buffer_after, needed_after, bytes_given, lengths_given, rules_for, choice_for, script_given, facts_given, weight_given, witness_given};
+ghost use Rattle.ms_calls.specs.Demanded.{policy_given, printed_given, keys_given};
+ghost use Rattle.ms_calls.specs.Readings.{are_keys, keys_in, TellsDecoded, HasNoReading};
+ghost use Rattle.ms_calls.specs.TextReply.{HoldsOfReply, code_given, reason_after, value_after, buffer_after, needed_after, bytes_given, lengths_given, rules_for, choice_for, script_given, facts_given, weight_given, witness_given, satisfied_given};
+ghost use Rattle.ms_calls.specs.Version.{number_of, MAJOR, MINOR, PATCH};
 ghost use Rattle.ms_calls.specs.Words.{AreWords, AreNoWords};
 
 use ms_calls::{Facts, Reason};
 use std::alloc::Global;
+
+/// The version of the library, as one number: a million for each major one, a thousand for each minor one, and the patch.
+#[unsafe(no_mangle)]
+pub extern "C" fn msat_version() -> u32
+    ensures { result ≡ number_of MAJOR MINOR PATCH }
+{
+    ms_calls::version()
+}
 
 /// Answers the words of a command line, as the program does where its standard input holds `source`.
 #[unsafe(no_mangle)]
@@ -31,6 +46,26 @@ pub extern "C" fn msat_answer(
     ensures kept_needed { (result ≡ 11) ⊎ (result ≡ 7) → needed.new ≡ needed.old }
 {
     ms_calls::answer(alloc, count, words, source, report, needed)
+}
+
+/// Answers the words of a command line, as the program `msat-psbt` does where its standard input holds `source`.
+#[unsafe(no_mangle)]
+pub extern "C" fn msat_psbt_answer(
+    alloc: Global,
+    count: usize,
+    words: &[u8],
+    source: &[u8],
+    report: &mut [u8],
+    needed: &mut usize,
+) -> u32
+    ensures status { (list : List Bytes) (s : PsbtStatus) (r : Bytes) → AreWords count words.now list → PsbtAnswer list source.now s r → result ≢ 7 → result ≡ psbt_code_of s }
+    ensures written { (list : List Bytes) (s : PsbtStatus) (r : Bytes) → AreWords count words.now list → PsbtAnswer list source.now s r → result ≢ 7 → report.new ≡ written_over report.old r }
+    ensures needed { (list : List Bytes) (s : PsbtStatus) (r : Bytes) → AreWords count words.now list → PsbtAnswer list source.now s r → result ≢ 7 → needed.new ≡ length r }
+    ensures unreadable { AreNoWords count words.now → (result ≡ 11) ⊎ (result ≡ 7) }
+    ensures kept { (result ≡ 11) ⊎ (result ≡ 7) → report.new ≡ report.old }
+    ensures kept_needed { (result ≡ 11) ⊎ (result ≡ 7) → needed.new ≡ needed.old }
+{
+    ms_psbt_calls::psbt_answer(alloc, count, words, source, report, needed)
 }
 
 /// The Script of a text that is valid by the limits of policy, or by those of consensus alone.
@@ -125,4 +160,102 @@ pub extern "C" fn msat_witness(
     ms_calls::witness(
         alloc, malleable, consensus, text, file, bytes, needed, lengths, count, reason,
     )
+}
+
+/// The items of the witness of a satisfaction of a text by what a wallet holds in arrays, as `msat_witness` gives them by an asset
+/// file.
+#[unsafe(no_mangle)]
+pub extern "C" fn msat_satisfy(
+    alloc: Global,
+    malleable: bool,
+    consensus: bool,
+    text: &[u8],
+    version: u32,
+    sequence: u32,
+    locktime: u32,
+    keys: &[u8],
+    signatures: &[u8],
+    signature_lengths: &[usize],
+    preimages: &[u8],
+    bytes: &mut [u8],
+    needed: &mut usize,
+    lengths: &mut [usize],
+    count: &mut usize,
+    reason: &mut Reason,
+) -> u32
+    ensures code { HoldsOfReply text.now result (satisfied_given (choice_for malleable consensus) (assets_of_arrays (record { version = version; sequence = sequence; locktime = locktime }) keys.now signatures.now signature_lengths.now preimages.now)) (λ given. result ≡ code_given given) }
+    ensures bytes { HoldsOfReply text.now result (satisfied_given (choice_for malleable consensus) (assets_of_arrays (record { version = version; sequence = sequence; locktime = locktime }) keys.now signatures.now signature_lengths.now preimages.now)) (λ given. bytes.new ≡ buffer_after bytes.old (bytes_given given)) }
+    ensures needed { HoldsOfReply text.now result (satisfied_given (choice_for malleable consensus) (assets_of_arrays (record { version = version; sequence = sequence; locktime = locktime }) keys.now signatures.now signature_lengths.now preimages.now)) (λ given. needed.new ≡ needed_after needed.old (bytes_given given)) }
+    ensures lengths { HoldsOfReply text.now result (satisfied_given (choice_for malleable consensus) (assets_of_arrays (record { version = version; sequence = sequence; locktime = locktime }) keys.now signatures.now signature_lengths.now preimages.now)) (λ given. lengths.new ≡ buffer_after lengths.old (lengths_given given)) }
+    ensures count { HoldsOfReply text.now result (satisfied_given (choice_for malleable consensus) (assets_of_arrays (record { version = version; sequence = sequence; locktime = locktime }) keys.now signatures.now signature_lengths.now preimages.now)) (λ given. count.new ≡ needed_after count.old (lengths_given given)) }
+    ensures reason { HoldsOfReply text.now result (satisfied_given (choice_for malleable consensus) (assets_of_arrays (record { version = version; sequence = sequence; locktime = locktime }) keys.now signatures.now signature_lengths.now preimages.now)) (λ given. reason.new ≡ reason_after reason.old given) }
+    ensures unreadable { result ≡ 11 ↔ (¬ IsUtf8 text.now) }
+    ensures kept { (result ≡ 11) ⊎ (result ≡ 7) → bytes.new ≡ bytes.old }
+    ensures kept_needed { (result ≡ 11) ⊎ (result ≡ 7) → needed.new ≡ needed.old }
+    ensures kept_lengths { (result ≡ 11) ⊎ (result ≡ 7) → lengths.new ≡ lengths.old }
+    ensures kept_count { (result ≡ 11) ⊎ (result ≡ 7) → count.new ≡ count.old }
+    ensures kept_reason { (result ≡ 11) ⊎ (result ≡ 7) → reason.new ≡ reason.old }
+{
+    ms_calls::satisfy(
+        alloc,
+        malleable,
+        consensus,
+        text,
+        version,
+        sequence,
+        locktime,
+        keys,
+        signatures,
+        signature_lengths,
+        preimages,
+        bytes,
+        needed,
+        lengths,
+        count,
+        reason,
+    )
+}
+
+/// The text that a Script is read back as, with keys of 33 bytes, one after the other, for its hashes of keys.
+#[unsafe(no_mangle)]
+pub extern "C" fn msat_decode(
+    alloc: Global,
+    script: &[u8],
+    keys: &[u8],
+    text: &mut [u8],
+    needed: &mut usize,
+) -> u32
+    ensures code { (result ≡ 0) ⊎ ((result ≡ 1) ⊎ ((result ≡ 7) ⊎ (result ≡ 10))) }
+    ensures decoded { result ≡ 0 → TellsDecoded (keys_in keys.now) script.now text.old text.new needed.new }
+    ensures none { result ≡ 10 → HasNoReading (keys_in keys.now) script.now }
+    ensures keys { (result ≡ 0) ⊎ (result ≡ 10) → are_keys keys.now ≡ true }
+    ensures usage { result ≡ 1 → are_keys keys.now ≡ false }
+    ensures kept { result ≢ 0 → text.new ≡ text.old }
+    ensures kept_needed { result ≢ 0 → needed.new ≡ needed.old }
+{
+    ms_calls::decode(alloc, script, keys, text, needed)
+}
+
+/// The printed policy of a text that is sane by the limits of policy, and the least number of keys that have to sign.
+#[unsafe(no_mangle)]
+pub extern "C" fn msat_policy(
+    alloc: Global,
+    text: &[u8],
+    printed: &mut [u8],
+    needed: &mut usize,
+    keys: &mut u64,
+    reason: &mut Reason,
+) -> u32
+    ensures code { HoldsOfReply text.now result policy_given (λ given. result ≡ code_given given) }
+    ensures printed { HoldsOfReply text.now result policy_given (λ given. printed.new ≡ buffer_after printed.old (printed_given given)) }
+    ensures needed { HoldsOfReply text.now result policy_given (λ given. needed.new ≡ needed_after needed.old (printed_given given)) }
+    ensures keys { HoldsOfReply text.now result policy_given (λ given. keys.new ≡ value_after keys.old (keys_given given)) }
+    ensures reason { HoldsOfReply text.now result policy_given (λ given. reason.new ≡ reason_after reason.old given) }
+    ensures unreadable { result ≡ 11 ↔ (¬ IsUtf8 text.now) }
+    ensures kept { (result ≡ 11) ⊎ (result ≡ 7) → printed.new ≡ printed.old }
+    ensures kept_needed { (result ≡ 11) ⊎ (result ≡ 7) → needed.new ≡ needed.old }
+    ensures kept_keys { (result ≡ 11) ⊎ (result ≡ 7) → keys.new ≡ keys.old }
+    ensures kept_reason { (result ≡ 11) ⊎ (result ≡ 7) → reason.new ≡ reason.old }
+{
+    ms_calls::policy(alloc, text, printed, needed, keys, reason)
 }

@@ -1,5 +1,7 @@
 //! Tests of the calls that other languages make.
-use ms_calls::{Facts, Reason, answer, check, least_weight, script, witness};
+use ms_calls::{
+    Facts, Reason, answer, check, decode, least_weight, policy, satisfy, script, witness,
+};
 use std::alloc::Global;
 use std::process::Abort;
 use std::test::Fail;
@@ -164,6 +166,77 @@ fn a_witness_has_its_items(rt: HostRuntime) -> Result<(), Fail> {
         false,
         KEY_OR_LOCK,
         SEQUENCE_OF_9,
+        &mut bytes,
+        &mut needed,
+        &mut lengths,
+        &mut count,
+        &mut reason,
+    );
+    assert_eq!(rt; code, 0);
+    assert_eq!(rt; (needed, count), (40, 2));
+    assert_eq!(rt; &lengths, &[0, 40, 99]);
+    assert_eq!(rt; &bytes, b"\x63\x21");
+    Ok(())
+}
+
+#[test]
+fn a_sane_text_has_its_policy(rt: HostRuntime) -> Result<(), Fail> {
+    let mut printed = [b'-'; 8];
+    let mut needed = 99;
+    let mut keys = 99;
+    let mut reason = NO_REASON;
+    let text = b"pk(020101010101010101010101010101010101010101010101010101010101010101)";
+    let code = policy(
+        rt.alloc(),
+        text,
+        &mut printed,
+        &mut needed,
+        &mut keys,
+        &mut reason,
+    );
+    assert_eq!(rt; code, 0);
+    assert_eq!(rt; (needed, keys), (71, 1));
+    assert_eq!(rt; &printed, b"key(0201");
+    Ok(())
+}
+
+#[test]
+fn a_script_is_read_back(rt: HostRuntime) -> Result<(), Fail> {
+    let mut text = [b'-'; 12];
+    let mut needed = 99;
+    let code = decode(rt.alloc(), b"\x02\x90\x00\xb2", &[], &mut text, &mut needed);
+    assert_eq!(rt; (code, needed), (0, 10));
+    assert_eq!(rt; &text, b"older(144)--");
+    assert_eq!(rt;
+        decode(rt.alloc(), b"\x52", &[], &mut text, &mut needed),
+        10
+    );
+    assert_eq!(rt;
+        decode(rt.alloc(), b"\x51", &[2; 32], &mut text, &mut needed),
+        1
+    );
+    Ok(())
+}
+
+#[test]
+fn assets_in_arrays_satisfy(rt: HostRuntime) -> Result<(), Fail> {
+    let mut bytes = [b'-'; 2];
+    let mut lengths = [99; 3];
+    let mut needed = 99;
+    let mut count = 99;
+    let mut reason = NO_REASON;
+    let code = satisfy(
+        rt.alloc(),
+        true,
+        false,
+        KEY_OR_LOCK,
+        2,
+        9,
+        0,
+        &[],
+        &[],
+        &[],
+        &[7; 32],
         &mut bytes,
         &mut needed,
         &mut lengths,

@@ -1,0 +1,3 @@
+-- What assets are that are given as arrays of bytes.
+pub mod Pieces
+pub mod ArrayAssets

@@ -1,0 +1,14 @@
+use Rattle.def_sane.specs.Unfit.{first_unfit}
+use Rattle.ms_tree.specs.Shape.{shape}
+use Rattle.ms_calls.specs.Demanded.{demanded}
+use Rattle.ms_calls.specs.TextReply.{told}
+use Rattle.ms_calls.proofs.TextLemmas.{finds_of_tree, finds_of_stop}
+use Rattle.ms_calls.proofs.policies.policy_in.Goals as goal
+
+pub returns-in-Ok : goal.returns-in-Ok
+returns-in-Ok c =
+    finds_of_tree c.args.text.now first_unfit (λ tree. told (demanded tree)) (shape c.in-Ok.text.tree) c.in-Ok.text.offsets.items
+    c.policy_of_text.result c.in-Ok.ensures.utf8 c.in-Ok.ensures.read c.policy_of_text.ensures
+
+pub returns : goal.returns
+returns c = finds_of_stop c.args.text.now first_unfit (λ tree. told (demanded tree)) c.in-Err.stop c.in-Err.ensures.stop

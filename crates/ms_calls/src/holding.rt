@@ -1,0 +1,138 @@
+//! The satisfaction of a text by what a wallet holds in arrays, without an asset file.
+ghost use Rattle.std.specs.Prelude.{◌≡◌, ◌⊎◌, ◌↔◌, None, IsUtf8};
+ghost use Rattle.def_tree.specs.Range.{IsInRange};
+ghost use Rattle.ms_tree.specs.Shape.{shape};
+ghost use Rattle.ms_replies.specs.Choices.{chosen_by, reason_by};
+ghost use Rattle.ms_arrays.specs.ArrayAssets.{assets_of_arrays};
+ghost use Rattle.ms_calls.specs.TextReply.{HoldsOfReply, told, with_assets, code_given, reason_after, buffer_after, needed_after, choice_for as the_choice_for, unless_unfit, held_given, satisfied_given, bytes_given, lengths_given};
+ghost use Rattle.ms_calls.specs.Stops.{Finds, FindsOf};
+
+use crate::copying::{write_lengths, write_over};
+use crate::items::Items;
+use crate::reason::Reason;
+use crate::satisfying::{choice_for, file_refusal, items_of};
+use crate::stopping::{DONE, Stop};
+use crate::texts::{fit, read};
+use bumpalo::Bump;
+use ms_arrays::Arrays;
+use ms_assets::Assets;
+use ms_oracle::Locks;
+use ms_replies::{demand_of, satisfaction};
+use ms_text::TextTree;
+use ms_tree::Tree;
+use ms_words::{Choice, TextCommand};
+use std::alloc::Global;
+
+/// The items of the witness of a satisfaction of a text, as `witness` gives them, by what is held in arrays: the transaction's
+/// version, the input's sequence number and the transaction's locktime; keys of 33 bytes, one after the other, and at each place
+/// a signature of the key there, one after the other, with their lengths; and preimages of 32 bytes, one after the other. A key
+/// may stand there with several signatures, and the shortest is taken.
+///
+/// The answer is 0; 2 where the text is refused and 3 where the arrays are, for the reason for which an asset file of format 2
+/// is; 4 where there is no satisfaction; 7 where memory was wanting; and 11 where the text isn't UTF-8. What an answer doesn't
+/// speak of is as it was.
+pub fn satisfy(
+    alloc: Global,
+    malleable: bool,
+    consensus: bool,
+    text: &[u8],
+    version: u32,
+    sequence: u32,
+    locktime: u32,
+    keys: &[u8],
+    signatures: &[u8],
+    signature_lengths: &[usize],
+    preimages: &[u8],
+    bytes: &mut [u8],
+    needed: &mut usize,
+    lengths: &mut [usize],
+    count: &mut usize,
+    reason: &mut Reason,
+) -> u32
+    ensures code { HoldsOfReply text.now result (satisfied_given (the_choice_for malleable consensus) (assets_of_arrays (record { version = version; sequence = sequence; locktime = locktime }) keys.now signatures.now signature_lengths.now preimages.now)) (λ given. result ≡ code_given given) }
+    ensures bytes { HoldsOfReply text.now result (satisfied_given (the_choice_for malleable consensus) (assets_of_arrays (record { version = version; sequence = sequence; locktime = locktime }) keys.now signatures.now signature_lengths.now preimages.now)) (λ given. bytes.new ≡ buffer_after bytes.old (bytes_given given)) }
+    ensures needed { HoldsOfReply text.now result (satisfied_given (the_choice_for malleable consensus) (assets_of_arrays (record { version = version; sequence = sequence; locktime = locktime }) keys.now signatures.now signature_lengths.now preimages.now)) (λ given. needed.new ≡ needed_after needed.old (bytes_given given)) }
+    ensures lengths { HoldsOfReply text.now result (satisfied_given (the_choice_for malleable consensus) (assets_of_arrays (record { version = version; sequence = sequence; locktime = locktime }) keys.now signatures.now signature_lengths.now preimages.now)) (λ given. lengths.new ≡ buffer_after lengths.old (lengths_given given)) }
+    ensures count { HoldsOfReply text.now result (satisfied_given (the_choice_for malleable consensus) (assets_of_arrays (record { version = version; sequence = sequence; locktime = locktime }) keys.now signatures.now signature_lengths.now preimages.now)) (λ given. count.new ≡ needed_after count.old (lengths_given given)) }
+    ensures reason { HoldsOfReply text.now result (satisfied_given (the_choice_for malleable consensus) (assets_of_arrays (record { version = version; sequence = sequence; locktime = locktime }) keys.now signatures.now signature_lengths.now preimages.now)) (λ given. reason.new ≡ reason_after reason.old given) }
+    ensures unreadable { result ≡ 11 ↔ (¬ IsUtf8 text.now) }
+    ensures kept { (result ≡ 11) ⊎ (result ≡ 7) → bytes.new ≡ bytes.old }
+    ensures kept_needed { (result ≡ 11) ⊎ (result ≡ 7) → needed.new ≡ needed.old }
+    ensures kept_lengths { (result ≡ 11) ⊎ (result ≡ 7) → lengths.new ≡ lengths.old }
+    ensures kept_count { (result ≡ 11) ⊎ (result ≡ 7) → count.new ≡ count.old }
+    ensures kept_reason { (result ≡ 11) ⊎ (result ≡ 7) → reason.new ≡ reason.old }
+{
+    let locks = Locks {
+        version,
+        sequence,
+        locktime,
+    };
+    let arrays = Arrays::new(locks, keys, signatures, signature_lengths, preimages);
+    match satisfied_in(alloc, choice_for(malleable, consensus), text, &arrays) {
+        Ok(items) => {
+            *needed = items.bytes().len();
+            let _bytes = write_over(items.bytes(), bytes);
+            *count = items.lengths().len();
+            let _lengths = write_lengths(items.lengths(), lengths);
+            DONE
+        }
+        Err(stop) => stop.tell(reason),
+    }
+}
+
+/// The items of the witness of the satisfaction that is chosen of a text.
+fn satisfied_in(
+    alloc: Global,
+    choice: Choice,
+    text: &[u8],
+    arrays: &Arrays<'_>,
+) -> Result<Items, Stop>
+    ensures { FindsOf text.now (satisfied_given choice arrays.now) result }
+{
+    let arena = Bump::new(alloc);
+    match read(alloc, &arena, text) {
+        Ok(text) => satisfied_of_text(alloc, choice, &text, arrays),
+        Err(stop) => Err(stop),
+    }
+}
+
+/// The items of the witness of the satisfaction that is chosen of a text that was read.
+fn satisfied_of_text(
+    alloc: Global,
+    choice: Choice,
+    text: &TextTree<'_>,
+    arrays: &Arrays<'_>,
+) -> Result<Items, Stop>
+    requires { IsInRange (shape text.now.tree) }
+    ensures { Finds (unless_unfit (reason_by choice (shape text.now.tree)) text.now.offsets.items (held_given (chosen_by choice) arrays.now (shape text.now.tree))) result }
+{
+    let _passing = fit(alloc, text, demand_of(TextCommand::Satisfy(choice)))?;
+    satisfied_of_tree(alloc, choice, text.tree(), arrays)
+}
+
+/// The items of the witness of the satisfaction that is chosen of a tree against which there is no reason.
+fn satisfied_of_tree(
+    alloc: Global,
+    choice: Choice,
+    tree: &Tree<'_>,
+    arrays: &Arrays<'_>,
+) -> Result<Items, Stop>
+    requires in_range { IsInRange (shape tree.now) }
+    requires fit { reason_by choice (shape tree.now) ≡ None }
+    ensures { Finds (held_given (chosen_by choice) arrays.now (shape tree.now)) result }
+{
+    match held_in(alloc, arrays) {
+        Ok(assets) => items_of(alloc, tree, satisfaction(alloc, choice, tree, &assets)),
+        Err(stop) => Err(stop),
+    }
+}
+
+/// The assets that arrays hold.
+fn held_in(alloc: Global, arrays: &Arrays<'_>) -> Result<Assets, Stop>
+    ensures { Finds (with_assets told arrays.now) result }
+{
+    match arrays.assets(alloc) {
+        Ok(assets) => Ok(assets),
+        Err(fault) => Err(file_refusal(fault)),
+    }
+}

@@ -1,0 +1,76 @@
+//! The top call of `msat-psbt` over buffers.
+ghost use Rattle.std.specs.Prelude.{◌≡◌, ◌≢◌, ◌⊎◌, List, length, IfOk};
+ghost use Rattle.def_script.specs.Bytes.{Bytes};
+ghost use Rattle.def_psbt_answer.specs.Answer.{Answer};
+ghost use Rattle.def_psbt_answer.specs.Status.{code_of};
+ghost use Rattle.ms_calls.specs.Buffers.{written_over};
+ghost use Rattle.ms_calls.specs.Words.{AreWords, AreNoWords};
+
+use def_psbt_answer::Status;
+use ms_calls::{ByteSink, ByteSource, NO_MEMORY, NoWords, UNREADABLE, read_words, write_over};
+use psbt_cli::{Word, msat_psbt};
+use std::alloc::{AllocError, Global};
+
+/// A status, and the whole report that goes with it.
+#[derive(Drop)]
+struct Outcome {
+    /// The status.
+    status: Status,
+    /// The report's bytes.
+    report: Vec<u8>,
+}
+
+/// Answers the words of a command line, as the program `msat-psbt` does where its standard input holds `source`: a PSBT
+/// (BIP 174), as its bytes or as base64.
+///
+/// The words lie in one buffer, each with a 0 after it, and there are `count` of them. The report's beginning is written over
+/// the buffer's, as far as there is room, and `needed` is how many bytes the whole report has: with so much room a second call
+/// gives it whole. The answer is the program's exit code: 0, 1, 3 or 4, and further 7 where memory was wanting and 11 where the
+/// buffer isn't so many words. After 7 and 11 the buffer and `needed` are as they were.
+pub fn psbt_answer(
+    alloc: Global,
+    count: usize,
+    words: &[u8],
+    source: &[u8],
+    report: &mut [u8],
+    needed: &mut usize,
+) -> u32
+    // The answer is that of the words and the source.
+    ensures status { (list : List Bytes) (s : Status) (r : Bytes) → AreWords count words.now list → Answer list source.now s r → result ≢ 7 → result ≡ code_of s }
+    ensures written { (list : List Bytes) (s : Status) (r : Bytes) → AreWords count words.now list → Answer list source.now s r → result ≢ 7 → report.new ≡ written_over report.old r }
+    ensures needed { (list : List Bytes) (s : Status) (r : Bytes) → AreWords count words.now list → Answer list source.now s r → result ≢ 7 → needed.new ≡ length r }
+    // Where there are no words there is no answer.
+    ensures unreadable { AreNoWords count words.now → (result ≡ 11) ⊎ (result ≡ 7) }
+    ensures kept { (result ≡ 11) ⊎ (result ≡ 7) → report.new ≡ report.old }
+    ensures kept_needed { (result ≡ 11) ⊎ (result ≡ 7) → needed.new ≡ needed.old }
+{
+    let words = match read_words(alloc, count, words) {
+        Ok(words) => words,
+        Err(NoWords::Unreadable) => return UNREADABLE,
+        Err(NoWords::Memory) => return NO_MEMORY,
+    };
+    match answer_words(alloc, &words, source) {
+        Ok(outcome) => {
+            *needed = outcome.report.len();
+            let _count = write_over(&outcome.report, report);
+            outcome.status.code() as u32
+        }
+        Err(AllocError) => NO_MEMORY,
+    }
+}
+
+/// The status and the whole report of the words and the source.
+fn answer_words(alloc: Global, words: &[Word], source: &[u8]) -> Result<Outcome, AllocError>
+    ensures { IfOk result (λ outcome. Answer words.now source.now outcome.status outcome.report.items) }
+{
+    let mut source = ByteSource::new(source);
+    let mut sink = ByteSink::new(alloc);
+    let status = msat_psbt(alloc, words, &mut source, &mut sink);
+    match status {
+        Status::Memory | Status::ReadFault | Status::WriteFault => Err(AllocError),
+        _ => Ok(Outcome {
+            status,
+            report: sink.bytes,
+        }),
+    }
+}
