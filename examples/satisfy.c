@@ -6,23 +6,23 @@
 #include <string.h>
 
 /* All bytes of a file, and how many these are, or NULL. */
-static uint8_t *read_file(const char *name, size_t *length) {
+static char *read_file(const char *name, size_t *length) {
     FILE *file = fopen(name, "rb");
     if (!file)
         return NULL;
     size_t room = 1 << 21; /* a longer file is refused anyway */
-    uint8_t *bytes = malloc(room);
+    char *bytes = malloc(room);
     *length = bytes ? fread(bytes, 1, room, file) : 0;
     fclose(file);
     return bytes;
 }
 
 /* Words after one another, each with its NUL, in one buffer. */
-static uint8_t *join(size_t count, const char *const *words, size_t *length) {
+static char *join(size_t count, const char *const *words, size_t *length) {
     *length = 0;
     for (size_t i = 0; i < count; i++)
         *length += strlen(words[i]) + 1;
-    uint8_t *joined = malloc(*length), *next = joined;
+    char *joined = malloc(*length), *next = joined;
     for (size_t i = 0; joined && i < count; i++) {
         size_t size = strlen(words[i]) + 1;
         memcpy(next, words[i], size);
@@ -38,9 +38,9 @@ int main(int argc, char **argv) {
     }
     size_t words_len, source_len, needed = 0, room = 4096;
     const char *const words[] = {"satisfy", argv[1]};
-    uint8_t *joined = join(2, words, &words_len);
-    uint8_t *source = read_file(argv[2], &source_len);
-    uint8_t *report = malloc(room);
+    char *joined = join(2, words, &words_len);
+    char *source = read_file(argv[2], &source_len);
+    char *report = malloc(room);
     if (!joined || !source || !report) {
         fprintf(stderr, "satisfy: no file, or no memory\n");
         return 1;

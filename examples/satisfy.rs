@@ -7,7 +7,7 @@ use std::process::ExitCode;
 const NO_MEMORY: u32 = 7;
 const UNREADABLE: u32 = 11;
 
-extern "C" {
+unsafe extern "C" {
     fn msat_answer(
         count: usize,
         words: *const u8,

@@ -1,9 +1,11 @@
 /* Tries the library from C.
  * Usage: calls rows FOLDER..       each example, with buffers of several lengths
  *        calls queries FOLDER..    what is asked without a report, of each example: Script, limits, least weight, witness
+ *        calls arrays              satisfactions by keys, signatures and preimages in arrays, and arrays that are refused
  *        calls words               words that can't be read, and NULL with the length 0
+ *        calls names               the version, and the names of refusals, rules and members
  *        calls demands             calls that break a demand of the header, which a debug build stops
- *        calls threads FOLDER..    eight threads at once with the same answers
+ *        calls threads FOLDER..    eight threads at once, with stacks of 512 KiB, with the same answers
  *        calls random COUNT SEED FOLDER..    calls over random inputs, made of the examples
  * Ends with 1 where an answer is another one than it has to be. Buffers have exactly the length that is told, on the heap, so
  * that AddressSanitizer and valgrind see what is touched beyond. */
@@ -29,7 +31,12 @@ struct example {
     struct bytes source;
     struct bytes report;
     uint32_t status;
+    bool is_psbt; /* one of msat-psbt */
 };
+
+static const char *chars(struct bytes text) {
+    return (const char *)text.at;
+}
 
 static void fail(const char *what, const char *where) {
     fprintf(stderr, "calls: %s: %s\n", where, what);
@@ -93,6 +100,11 @@ static struct example read_example(const char *folder) {
         else
             free(source.at);
     }
+    struct bytes psbt = read_file(folder, "source", &example.is_psbt);
+    if (example.is_psbt)
+        example.source = psbt;
+    else
+        free(psbt.at);
     example.report = read_file(folder, "report", NULL);
     example.report.at = realloc(example.report.at, example.report.length + 1);
     example.report.at[example.report.length] = 0; /* so that numbers in it end */
@@ -103,13 +115,19 @@ static struct example read_example(const char *folder) {
     return example;
 }
 
+/* The answer of these words over a source, by the call of the example's program. */
+static uint32_t ask(const struct example *example, struct bytes words, struct bytes source, char *report, size_t length, size_t *needed) {
+    if (example->is_psbt)
+        return msat_psbt_answer(example->count, chars(words), words.length, source.at, source.length, report, length, needed);
+    return msat_answer(example->count, chars(words), words.length, source.at, source.length, report, length, needed);
+}
+
 /* The example's answer in a buffer of this length: what it holds, and nothing else. */
 static void try_room(const struct example *example, size_t length) {
-    uint8_t *report = room(length);
+    char *report = room(length);
     memset(report, 0xa5, length);
     size_t needed = 12345;
-    uint32_t status = msat_answer(example->count, example->words.at, example->words.length, example->source.at,
-                                  example->source.length, length ? report : NULL, length, &needed);
+    uint32_t status = ask(example, example->words, example->source, length ? report : NULL, length, &needed);
     if (status != example->status)
         fail("another status", example->folder);
     if (needed != example->report.length)
@@ -118,7 +136,7 @@ static void try_room(const struct example *example, size_t length) {
     if (memcmp(report, example->report.at, written) != 0)
         fail("another report", example->folder);
     for (size_t i = written; i < length; i++)
-        if (report[i] != 0xa5)
+        if (report[i] != (char)0xa5)
             fail("a byte behind the report was written", example->folder);
     free(report);
 }
@@ -189,7 +207,7 @@ static void try_script(const struct example *example, struct bytes text, struct 
     memset(script, 0xa5, length);
     size_t needed = 12345, written = wanted.length < length ? wanted.length : length;
     struct msat_reason reason = {7, 7, 7, 7};
-    if (msat_script(has_word(example, "--consensus"), text.at, text.length, length ? script : NULL, length, &needed, &reason) != 0 ||
+    if (msat_script(has_word(example, "--consensus"), chars(text), text.length, length ? script : NULL, length, &needed, &reason) != 0 ||
         needed != wanted.length || reason.kind != 7)
         fail("another Script", example->folder);
     if (memcmp(script, wanted.at, written) != 0)
@@ -206,7 +224,7 @@ static void try_witness(const struct example *example, struct bytes text, struct
     size_t *found = room(most * sizeof *found), needed = 12345, items = 12345;
     memset(bytes, 0xa5, length), memset(found, 0xa5, most * sizeof *found);
     struct msat_reason reason = {7, 7, 7, 7};
-    uint32_t code = msat_witness(has_word(example, "--malleable"), has_word(example, "--consensus"), text.at, text.length,
+    uint32_t code = msat_witness(has_word(example, "--malleable"), has_word(example, "--consensus"), chars(text), text.length,
                                  example->source.at, example->source.length, length ? bytes : NULL, length, &needed,
                                  most ? found : NULL, most, &items, &reason);
     size_t written = wanted.length < length ? wanted.length : length, told = count < most ? count : most;
@@ -240,7 +258,7 @@ static void try_satisfaction(const struct example *example, struct bytes text, s
     struct msat_reason reason = {7, 7, 7, 7};
     size_t start = 0;
     uint64_t replayed = number_in(line_of(example, "replay", &start), "weight");
-    if (msat_least_weight(has_word(example, "--consensus"), text.at, text.length, example->source.at, example->source.length, &weight,
+    if (msat_least_weight(has_word(example, "--consensus"), chars(text), text.length, example->source.at, example->source.length, &weight,
                           &reason) != 0 ||
         weight > replayed || (has_word(example, "--malleable") && weight != replayed))
         fail("another weight", example->folder);
@@ -249,13 +267,14 @@ static void try_satisfaction(const struct example *example, struct bytes text, s
 
 static void try_facts(const struct example *example, struct bytes text) {
     struct msat_facts facts;
-    memset(&facts, 0xa5, sizeof facts);
+    memset(&facts, 0, sizeof facts);
+    facts.size = 12345;
     struct msat_reason reason = {7, 7, 7, 7};
-    uint32_t code = msat_check(has_word(example, "--consensus"), text.at, text.length, &facts, &reason);
+    uint32_t code = msat_check(has_word(example, "--consensus"), chars(text), text.length, &facts, &reason);
     if (code != example->status)
         fail("another code", example->folder);
     if (code == MSAT_TEXT_REFUSED) {
-        if (reason.kind < MSAT_TOO_LONG || reason.kind > MSAT_REPEATED_KEY || facts.size != UINT64_MAX / 255 * 0xa5)
+        if (reason.kind < MSAT_TOO_LONG || reason.kind > MSAT_REPEATED_KEY || facts.size != 12345)
             fail("another refusal", example->folder);
         return;
     }
@@ -268,9 +287,86 @@ static void try_facts(const struct example *example, struct bytes text) {
         fail("another height", example->folder);
 }
 
+/* A text of a report, up to the end of its line. */
+static size_t length_of(const char *line) {
+    size_t length = 0;
+    while (line[length] != '\n')
+        length++;
+    return length;
+}
+
+/* That a buffer of this length holds the beginning of a text, and nothing else. */
+static void expect_text(const struct example *example, const char *found, size_t length, const char *line, size_t needed) {
+    size_t whole = line ? length_of(line) : 0, written = whole < length ? whole : length;
+    if (line && (needed != whole || memcmp(found, line, written) != 0))
+        fail("another text", example->folder);
+    for (size_t i = written; i < length; i++)
+        if (found[i] != (char)0xa5)
+            fail("a byte behind the text was written", example->folder);
+}
+
+static void try_policy(const struct example *example, struct bytes text) {
+    size_t from = 0, after = 0;
+    const char *line = line_of(example, "policy", &from), *number = line_of(example, "keys", &after);
+    const size_t rooms[] = {0, 1, line ? length_of(line) - 1 : 5, line ? length_of(line) : 6, 2000};
+    for (size_t i = 0; i < 5; i++) {
+        char *found = room(rooms[i]);
+        memset(found, 0xa5, rooms[i]);
+        size_t needed = 12345;
+        uint64_t keys = 12345;
+        struct msat_reason reason = {7, 7, 7, 7};
+        uint32_t code = msat_policy(chars(text), text.length, rooms[i] ? found : NULL, rooms[i], &needed, &keys, &reason);
+        if (code != example->status || (code == MSAT_DONE) != (reason.kind == 7))
+            fail("another code", example->folder);
+        if (number ? keys != (*number == 'n' ? MSAT_NEVER : strtoull(number, NULL, 10)) : keys != 12345)
+            fail("another number of keys", example->folder);
+        expect_text(example, found, rooms[i], line, needed);
+        free(found);
+    }
+}
+
+/* The words behind `decode` are a Script and keys, in digits. */
+static void try_decode(const struct example *example) {
+    struct bytes script = {room(example->words.length), 0}, keys = {room(example->words.length), 0};
+    size_t at = strlen("decode") + 1;
+    for (bool first = true; at < example->words.length; first = false)
+        for (struct bytes *to = first ? &script : &keys; ; at += 2) {
+            const uint8_t *digits = example->words.at + at;
+            if (*digits == 0) {
+                at++;
+                break;
+            }
+            to->at[to->length++] = (uint8_t)(digit((char)digits[0]) << 4 | digit((char)digits[1]));
+        }
+    script.at = realloc(script.at, script.length ? script.length : 1), keys.at = realloc(keys.at, keys.length ? keys.length : 1);
+    size_t from = 0;
+    const char *line = line_of(example, "text", &from);
+    const size_t rooms[] = {0, 1, line ? length_of(line) - 1 : 5, line ? length_of(line) : 6, 2000};
+    for (size_t i = 0; i < 5; i++) {
+        char *found = room(rooms[i]);
+        memset(found, 0xa5, rooms[i]);
+        size_t needed = 12345;
+        uint32_t code = msat_decode(script.at, script.length, keys.length ? keys.at : NULL, keys.length, rooms[i] ? found : NULL, rooms[i], &needed);
+        if (code != example->status || (code != MSAT_DONE && needed != 12345))
+            fail("another code", example->folder);
+        expect_text(example, found, rooms[i], line, needed);
+        free(found);
+    }
+    size_t needed = 12345;
+    const uint8_t broken[66] = {2};
+    if (msat_decode(script.at, script.length, broken, 32, NULL, 0, &needed) != MSAT_USAGE || needed != 12345 ||
+        msat_decode(script.at, script.length, broken, 66, NULL, 0, &needed) != MSAT_USAGE || needed != 12345)
+        fail("keys that are none are taken", example->folder);
+    free(script.at), free(keys.at);
+}
+
 static void try_queries(const struct example *example) {
     struct bytes text = last_word(example);
     size_t from = 0;
+    if (has_word(example, "policy"))
+        try_policy(example, text);
+    if (has_word(example, "decode"))
+        try_decode(example);
     const char *line = line_of(example, "script", &from);
     if (has_word(example, "check"))
         try_facts(example, text);
@@ -288,18 +384,151 @@ static void try_queries(const struct example *example) {
     free(text.at);
 }
 
+/* ---- what is held in arrays */
+
+static uint8_t *copied(const void *from, size_t length) {
+    uint8_t *at = room(length);
+    if (length)
+        memcpy(at, from, length);
+    return at;
+}
+
+struct arrays {
+    const char *text;
+    uint32_t locktime;
+    struct bytes keys, signatures, preimages;
+    const size_t *lengths;
+    size_t count;
+};
+
+/* A call with arrays of exactly their length, and with buffers of these. */
+static uint32_t satisfy(const struct arrays *held, struct bytes *items, size_t *lengths, size_t most, size_t *count, size_t *needed,
+                        struct msat_reason *reason) {
+    uint8_t *keys = copied(held->keys.at, held->keys.length), *signatures = copied(held->signatures.at, held->signatures.length);
+    uint8_t *preimages = copied(held->preimages.at, held->preimages.length), *bytes = room(items->length);
+    size_t *told = (size_t *)copied(held->lengths, held->count * sizeof *told), *found = room(most * sizeof *found);
+    char *text = (char *)copied(held->text, strlen(held->text));
+    memset(bytes, 0xa5, items->length), memset(found, 0xa5, most * sizeof *found);
+    uint32_t code = msat_satisfy(false, false, text, strlen(held->text), 2, 0xfffffffe, held->locktime, held->keys.length ? keys : NULL,
+                                 held->keys.length, held->signatures.length ? signatures : NULL, held->signatures.length,
+                                 held->count ? told : NULL, held->count, held->preimages.length ? preimages : NULL,
+                                 held->preimages.length, bytes, items->length, needed, found, most, count, reason);
+    for (size_t at = code == MSAT_DONE ? *needed : 0; at < items->length; at++)
+        if (bytes[at] != 0xa5)
+            fail("a byte behind the others was written", held->text);
+    for (size_t at = code == MSAT_DONE ? *count : 0; at < most; at++)
+        if (found[at] != SIZE_MAX / 255 * 0xa5)
+            fail("a length behind the others was written", held->text);
+    if (items->length)
+        memcpy(items->at, bytes, items->length);
+    memcpy(lengths, found, most * sizeof *found);
+    free(keys), free(signatures), free(preimages), free(bytes), free(told), free(found), free(text);
+    return code;
+}
+
+static void expect_refused(struct arrays held, uint32_t kind, uint32_t rule, uint32_t place) {
+    struct bytes none = {(uint8_t[1]){0}, 0};
+    size_t lengths[1], count = 77, needed = 77;
+    struct msat_reason reason = {7, 7, 7, 7};
+    uint32_t code = satisfy(&held, &none, lengths, 0, &count, &needed, &reason);
+    if (code != MSAT_FILE_REFUSED || reason.kind != kind || reason.rule != rule || reason.place != place || reason.number != 0)
+        fail("another refusal of arrays", msat_fault_name(kind));
+    if (count != 77 || needed != 77)
+        fail("something was written", msat_fault_name(kind));
+}
+
+static void try_arrays(void) {
+    uint8_t keys[257 * 33], signatures[257 * 73], preimages[257 * 32 + 1], bytes[400];
+    size_t lengths[257], found[4], count = 77, needed = 77;
+    memset(keys, 2, sizeof keys), memset(signatures, 0xaa, sizeof signatures), memset(preimages, 0, sizeof preimages);
+    keys[33] = 3;
+    for (size_t i = 0; i < 257; i++)
+        lengths[i] = 73;
+    /* two of two keys, a hash of 32 zeros, and a lock */
+    char text[512] = "and_v(v:multi(2,", digits[67] = "";
+    for (size_t i = 0; i < 66; i++)
+        digits[i] = i == 1 ? '3' : i % 2 ? '2' : '0';
+    for (size_t i = 0; i < 66; i++)
+        text[16 + i] = i % 2 ? '2' : '0';
+    strcpy(text + 82, ","), strcpy(text + 83, digits);
+    strcat(text, "),and_v(v:after(9),sha256(66687aadf862bd776c8fc18b8e9f8e20089714856ee233b3902a591d0d5f2925)))");
+    lengths[0] = 70, lengths[1] = 71, lengths[2] = 72;
+    struct arrays held = {text, 9, {keys, 66}, {signatures, 141}, {preimages, 32}, lengths, 2};
+    struct bytes items = {bytes, sizeof bytes};
+    struct msat_reason reason = {7, 7, 7, 7};
+    if (satisfy(&held, &items, found, 4, &count, &needed, &reason) != MSAT_DONE || reason.kind != 7)
+        fail("no satisfaction", "arrays");
+    static const size_t wanted[] = {32, 0, 70, 71};
+    if (count != 5 || memcmp(found, wanted, sizeof wanted) != 0 || needed < 32 + 141 || memcmp(bytes + 32, signatures, 141) != 0)
+        fail("another satisfaction", "arrays");
+    held.locktime = 8;
+    if (satisfy(&held, &items, found, 4, &count, &needed, &reason) != MSAT_NO_SATISFACTION || reason.kind != 7)
+        fail("a satisfaction too early", "arrays");
+    held.locktime = 9;
+    struct arrays other = held;
+    other.keys.length = 65;
+    expect_refused(other, MSAT_SHAPE, MSAT_MEMBER_SIGNATURES, 0);
+    other = held, other.count = 1;
+    expect_refused(other, MSAT_SHAPE, MSAT_MEMBER_SIGNATURES, 0);
+    other = held, other.signatures.length = 140;
+    expect_refused(other, MSAT_SHAPE, MSAT_MEMBER_SIGNATURES, 0);
+    other = held, other.signatures.length = 142;
+    expect_refused(other, MSAT_SHAPE, MSAT_MEMBER_SIGNATURES, 0);
+    const size_t over[] = {142, SIZE_MAX};
+    other = held, other.lengths = over;
+    expect_refused(other, MSAT_SHAPE, MSAT_MEMBER_SIGNATURES, 0);
+    other = held, other.preimages.length = 33;
+    expect_refused(other, MSAT_SHAPE, MSAT_MEMBER_PREIMAGES, 0);
+    other = held, other.preimages.length = 257 * 32;
+    expect_refused(other, MSAT_TOO_MANY, MSAT_MEMBER_PREIMAGES, 0);
+    lengths[0] = lengths[1] = lengths[2] = 73;
+    other = held, other.count = 257, other.keys.length = sizeof keys, other.signatures.length = sizeof signatures;
+    expect_refused(other, MSAT_TOO_MANY, MSAT_MEMBER_SIGNATURES, 0);
+    other = held, other.count = 4, other.keys.length = 4 * 33, other.signatures.length = 4 * 73;
+    expect_refused(other, MSAT_FILE_REPEATED_KEY, 0, 2);
+    lengths[1] = 74, lengths[0] = 67;
+    other = held;
+    expect_refused(other, MSAT_SIG_LENGTH, 0, 1);
+    keys[33] = 4;
+    expect_refused(other, MSAT_KEY_FORM, 0, 1);
+    other.text = "pk(1)";
+    reason.kind = 7;
+    if (satisfy(&other, &items, found, 4, &count, &needed, &reason) != MSAT_TEXT_REFUSED || reason.kind != MSAT_SYNTAX)
+        fail("another refusal", "a text with arrays");
+    other.text = "\xff";
+    reason.kind = 7;
+    if (satisfy(&other, &items, found, 4, &count, &needed, &reason) != MSAT_UNREADABLE || reason.kind != 7)
+        fail("a text was read", "a text with arrays");
+}
+
+static void try_names(void) {
+    if (msat_version() != MSAT_VERSION_NUMBER)
+        fail("the library has another version than the header", "msat_version");
+    if (strcmp(msat_fault_name(MSAT_TOO_LONG), "TooLong") != 0 || strcmp(msat_fault_name(MSAT_REPEATED_KEY), "RepeatedKey") != 0 ||
+        strcmp(msat_fault_name(MSAT_FILE_TOO_LONG), "TooLong") != 0 || strcmp(msat_fault_name(MSAT_FILE_REPEATED_KEY), "RepeatedKey") != 0 ||
+        strcmp(msat_fault_name(MSAT_NOT_JSON), "NotJson") != 0 || msat_fault_name(0) || msat_fault_name(MSAT_FILE_REPEATED_KEY + 1))
+        fail("another name", "msat_fault_name");
+    if (strcmp(msat_rule_name(MSAT_RULE_OLDER_RANGE), "OlderRange") != 0 || strcmp(msat_rule_name(MSAT_RULE_WRAP_N), "WrapN") != 0 ||
+        strcmp(msat_rule_name(MSAT_RULE_AND_OR_E), "AndOrE") != 0 || strcmp(msat_rule_name(MSAT_RULE_THRESH_S), "ThreshS") != 0 ||
+        msat_rule_name(MSAT_RULE_THRESH_S + 1) || msat_rule_name(UINT32_MAX))
+        fail("another name", "msat_rule_name");
+    if (strcmp(msat_member_name(MSAT_MEMBER_FILE), "file") != 0 || strcmp(msat_member_name(MSAT_MEMBER_FORMAT), "format") != 0 ||
+        msat_member_name(MSAT_MEMBER_FORMAT + 1))
+        fail("another name", "msat_member_name");
+}
+
 static void expect_unreadable(size_t count, const char *words, size_t length) {
-    uint8_t report[16];
+    char report[16];
     size_t needed = 77;
     memset(report, 0xa5, sizeof report);
-    uint8_t *held = room(length);
+    char *held = room(length);
     memcpy(held, words, length);
     if (msat_answer(count, length ? held : NULL, length, NULL, 0, report, sizeof report, &needed) != MSAT_UNREADABLE)
         fail("words were read", words);
     if (needed != 77)
         fail("the length was written", words);
     for (size_t i = 0; i < sizeof report; i++)
-        if (report[i] != 0xa5)
+        if (report[i] != (char)0xa5)
             fail("the buffer was written", words);
     free(held);
 }
@@ -315,10 +544,10 @@ static void try_words(void) {
     expect_unreadable(2, "script\0\xed\xa0\x80\0", 11);
     expect_unreadable((size_t)-1, "run\0", 4);
     struct msat_reason reason = {7, 7, 7, 7};
-    struct msat_facts facts;
+    struct msat_facts facts = {0};
     uint64_t weight = 77;
     size_t length = 77, count = 77;
-    const uint8_t broken[] = {'1', 0xff};
+    const char broken[] = {'1', (char)0xff};
     if (msat_script(false, broken, 2, NULL, 0, &length, &reason) != MSAT_UNREADABLE ||
         msat_check(false, broken, 2, &facts, &reason) != MSAT_UNREADABLE ||
         msat_least_weight(false, broken, 2, NULL, 0, &weight, &reason) != MSAT_UNREADABLE ||
@@ -331,7 +560,7 @@ static void try_words(void) {
     if (msat_least_weight(false, broken, 1, NULL, 0, &weight, &reason) != MSAT_FILE_REFUSED || reason.kind != MSAT_NOT_JSON)
         fail("another refusal", "no file");
     size_t needed = 0;
-    uint8_t report[14];
+    char report[14];
     if (msat_answer(0, NULL, 0, NULL, 0, report, sizeof report, &needed) != MSAT_USAGE || needed != 14 ||
         memcmp(report, "refused usage\n", 14) != 0)
         fail("another answer", "no words");
@@ -340,25 +569,26 @@ static void try_words(void) {
 /* ---- demands */
 
 static void break_demand(int which) {
-    uint8_t bytes[64] = "1";
-    size_t numbers[8];
-    uint64_t weight;
-    struct msat_facts facts;
-    struct msat_reason reason;
+    char bytes[64] = "1";
+    uint8_t *raw = (uint8_t *)bytes;
+    size_t numbers[8] = {0};
+    uint64_t weight = 0;
+    struct msat_facts facts = {0};
+    struct msat_reason reason = {0};
     switch (which) {
     case 0: msat_answer(1, NULL, 1, NULL, 0, bytes, 1, numbers); break;
     case 1: msat_answer(0, bytes, 2, NULL, 0, bytes + 1, 1, numbers); break;
     case 2: msat_answer(0, NULL, 0, NULL, 0, bytes, 8, NULL); break;
-    case 3: msat_answer(0, NULL, 0, (uint8_t *)numbers, 1, bytes, 8, numbers); break;
-    case 4: msat_script(false, bytes, 1, bytes, 1, numbers, &reason); break;
-    case 5: msat_script(false, bytes, 1, bytes + 1, 1, numbers, NULL); break;
-    case 6: msat_check(false, (uint8_t *)&facts, 1, &facts, &reason); break;
+    case 3: msat_answer(0, NULL, 0, numbers, 1, bytes, 8, numbers); break;
+    case 4: msat_script(false, bytes, 1, raw, 1, numbers, &reason); break;
+    case 5: msat_script(false, bytes, 1, raw + 1, 1, numbers, NULL); break;
+    case 6: msat_check(false, (char *)&facts, 1, &facts, &reason); break;
     case 7: msat_check(false, bytes, 1, (struct msat_facts *)&reason, &reason); break;
     case 8: msat_least_weight(false, bytes, 1, NULL, 1, &weight, &reason); break;
     case 9: msat_least_weight(false, bytes, 1, NULL, 0, &reason.number, &reason); break;
-    case 10: msat_witness(false, false, bytes, 1, NULL, 0, bytes + 1, 8, numbers, numbers, 4, numbers + 4, &reason); break;
-    case 11: msat_witness(false, false, bytes, 1, NULL, 0, bytes + 1, 8, numbers, numbers + 1, 4, numbers, &reason); break;
-    case 12: msat_witness(false, false, bytes, 1, NULL, 0, bytes, 8, numbers, numbers + 1, 4, numbers + 5, &reason); break;
+    case 10: msat_witness(false, false, bytes, 1, NULL, 0, raw + 1, 8, numbers, numbers, 4, numbers + 4, &reason); break;
+    case 11: msat_witness(false, false, bytes, 1, NULL, 0, raw + 1, 8, numbers, numbers + 1, 4, numbers, &reason); break;
+    case 12: msat_witness(false, false, bytes, 1, NULL, 0, raw, 8, numbers, numbers + 1, 4, numbers + 5, &reason); break;
     }
 }
 
@@ -394,8 +624,11 @@ static void *try_all(void *given) {
 
 static void try_threads(struct examples all) {
     pthread_t threads[8];
+    pthread_attr_t small;
+    if (pthread_attr_init(&small) != 0 || pthread_attr_setstacksize(&small, 512 << 10) != 0)
+        fail("no stack of 512 KiB", "pthread_attr_setstacksize");
     for (size_t i = 0; i < 8; i++)
-        if (pthread_create(&threads[i], NULL, try_all, &all) != 0)
+        if (pthread_create(&threads[i], &small, try_all, &all) != 0)
             fail("no thread", "pthread_create");
     for (size_t i = 0; i < 8; i++)
         pthread_join(threads[i], NULL);
@@ -447,25 +680,31 @@ static void query_random(const char *where, struct bytes text, struct bytes file
     uint8_t *bytes = room(length);
     size_t *lengths = room(most * sizeof *lengths);
     uint64_t weight = 12345;
-    struct msat_facts facts;
-    struct msat_reason reason = {0, 0, 0, 0};
+    struct msat_facts facts = {0};
+    struct msat_reason reason = {0};
     memset(bytes, 0xa5, length), memset(lengths, 0xa5, most * sizeof *lengths);
     uint32_t code;
-    switch (random_below(4)) {
+    switch (random_below(6)) {
+    case 4:
+        code = msat_policy(chars(text), text.length, (char *)bytes, length, &needed, &weight, &reason);
+        break;
+    case 5:
+        code = msat_decode((uint8_t *)text.at, text.length, file.at, file.length / 33 * 33 % 100, (char *)bytes, length, &needed);
+        break;
     case 0:
-        code = msat_script(consensus, text.at, text.length, bytes, length, &needed, &reason);
+        code = msat_script(consensus, chars(text), text.length, bytes, length, &needed, &reason);
         break;
     case 1:
-        code = msat_check(consensus, text.at, text.length, &facts, &reason);
+        code = msat_check(consensus, chars(text), text.length, &facts, &reason);
         break;
     case 2:
-        code = msat_least_weight(consensus, text.at, text.length, file.at, file.length, &weight, &reason);
+        code = msat_least_weight(consensus, chars(text), text.length, file.at, file.length, &weight, &reason);
         break;
     default:
-        code = msat_witness(malleable, consensus, text.at, text.length, file.at, file.length, bytes, length, &needed, lengths, most,
+        code = msat_witness(malleable, consensus, chars(text), text.length, file.at, file.length, bytes, length, &needed, lengths, most,
                             &count, &reason);
     }
-    if (code > MSAT_NO_SATISFACTION && code != MSAT_UNREADABLE)
+    if (code > MSAT_NO_SATISFACTION && code != MSAT_UNREADABLE && code != MSAT_NO_READING)
         fail("a code that doesn't come here", where);
     if ((reason.kind != 0) != (code == MSAT_TEXT_REFUSED || code == MSAT_FILE_REFUSED))
         fail("a reason without a refusal, or a refusal without one", where);
@@ -490,9 +729,9 @@ static void try_random(struct examples all, uint64_t count) {
             source = changed(example->source);
         }
         size_t length = random_below(3) ? random_below(2000) : random_below(4), needed = 12345;
-        uint8_t *report = room(length);
+        char *report = room(length);
         memset(report, 0xa5, length);
-        uint32_t status = msat_answer(example->count, words.at, words.length, source.at, source.length, report, length, &needed);
+        uint32_t status = ask(example, words, source, report, length, &needed);
         if (status == 5 || status == 6 || status == MSAT_NO_MEMORY || status > MSAT_UNREADABLE)
             fail("a status that doesn't come here", example->folder);
         answered[status]++;
@@ -500,7 +739,7 @@ static void try_random(struct examples all, uint64_t count) {
         if (status == MSAT_UNREADABLE && needed != 12345)
             fail("the length was written", example->folder);
         for (size_t at = written; at < length; at++)
-            if (report[at] != 0xa5)
+            if (report[at] != (char)0xa5)
                 fail("a byte behind the report was written", example->folder);
         if (random_below(4) == 0) {
             struct bytes word = last_word(example), text = changed(word);
@@ -529,6 +768,10 @@ int main(int argc, char **argv) {
         all.each[all.count++] = read_example(argv[i]);
     if (strcmp(what, "words") == 0)
         try_words();
+    else if (strcmp(what, "arrays") == 0)
+        try_arrays();
+    else if (strcmp(what, "names") == 0)
+        try_names();
     else if (strcmp(what, "demands") == 0)
         try_demands();
     else if (all.count == 0)

@@ -4,6 +4,7 @@ texts and files that are refused in each way, against the report. Ends with 1 wh
 
 import copy
 import doctest
+import json
 import pickle
 import random
 import re
@@ -177,9 +178,19 @@ def try_names() -> None:
     rules = [name for table in tables for row in table.strip().splitlines()[2:] for name in re.findall(r"`([A-Z]\w+)`", row.split("|")[1])]
     if tuple(rules) != errors.RULES:
         faults.append(f"docs/FORMATS.md has the rules {rules}")
-    order = re.search(r"in the order (`file`.*?),\nthen by the first element", formats, re.S)
+    order = re.search(r"in\s+the\s+order\s+(`file`.*?),\s+then\s+by\s+the\s+first\s+element", formats, re.S)
     if tuple(re.findall(r"`(\w+)`", order[1])) != errors.MEMBERS:
         faults.append(f"docs/FORMATS.md has the members {order[1]}")
+    header = (TOP / "include/msat.h").read_text()
+    for start, wanted_names in (("MSAT_RULE_", errors.RULES), ("MSAT_MEMBER_", errors.MEMBERS)):
+        found = re.findall(rf"^    {start}(\w+)(?: = 0)?,?$", header, re.M)
+        if [name.replace("_", "").lower() for name in found] != [name.lower() for name in wanted_names]:
+            faults.append(f"include/msat.h has {start}.. of {found}")
+    numbered = (TOP / "crates/ms_calls/specs/Reasons.antt").read_text()
+    for called, wanted_names in (("rule", errors.RULES), ("member", ("Whole", *(name.title() for name in errors.MEMBERS[1:])))):
+        found = re.findall(rf"^code_of_{called} {called}\.(\w+) = (\d+)$", numbered, re.M)
+        if found != [(name, str(number)) for number, name in enumerate(wanted_names)]:
+            faults.append(f"ms_calls numbers each {called} otherwise: {found}")
     listed = re.search(r"enum \{\s*/\* of a text \*/(.*?)\};", (TOP / "include/msat.h").read_text(), re.S)
     kinds = [name.lower().replace("_", "") for name in re.findall(r"MSAT_(\w+)", listed[1])]
     wanted = [*map(str.lower, errors.TEXT_KINDS), "filetoolong", *map(str.lower, errors.FILE_KINDS[1:-1]), "filerepeatedkey"]
@@ -215,21 +226,84 @@ def try_edges() -> None:
                 faults.append(f"a copy of {one!r} is {other!r}")
 
 
+def held_by(file: dict) -> msat.Assets:
+    """The assets of an asset file."""
+    numbers = {name: file[name] for name in ("version", "sequence", "locktime") if name in file}
+    signatures = tuple(msat.Signature(bytes.fromhex(it["key"]), bytes.fromhex(it["sig"])) for it in file.get("signatures", []))
+    return msat.Assets(signatures=signatures, preimages=tuple(map(bytes.fromhex, file.get("preimages", []))), **numbers)
+
+
+def try_arrays() -> None:
+    """What is held in arrays gives what a file with the same does, also where it is refused, in rooms of several lengths."""
+    random.seed(2)
+    keys = [bytes.fromhex(key) for key in KEYS]
+    held = [held_by(json.loads(path.read_text())) for path in TOP.glob("examples/*/assets.json")]
+    for number in range(400):
+        some = random.choices(keys, k=random.randrange(6))
+        signatures = tuple(msat.Signature(key, random.choice([b"", b"\x30"]) + random.randbytes(random.choice([1, 40, 71, 72, 73]))) for key in some)
+        if number % 40 == 0:
+            signatures += (msat.Signature(b"\5" + keys[0][1:], b"1"),)
+        known = tuple(random.choices([bytes(32), b"\1" * 32], k=random.randrange(3)))
+        held.append(msat.Assets(random.choice([1, 2]), random.choice([9, 144, 4194305, 2**32 - 1]), random.choice([0, 9, 600000000]), signatures, known))
+    texts = [path.read_text().rstrip("\n") for path in TOP.glob("examples/*/text")]
+    texts += [f"multi(2,{','.join(KEYS[:3])})", f"or_d(pk({KEYS[0]}),and_v(v:pkh({KEYS[1]}),older(9)))", f"and_v(v:pk({KEYS[2]}),sha256({HASH}))", "pk(1)", "\udcff"]
+    for assets in held:
+        for text in random.sample(texts, 6):
+            for malleable, consensus in ((False, False), (True, True)):
+                by_arrays = refusal(msat.witness, text, assets, malleable=malleable, consensus=consensus)
+                by_file = refusal(msat.witness, text, assets.json(), malleable=malleable, consensus=consensus)
+                if by_arrays != by_file:
+                    faults.append(f"arrays {text} {assets}: {by_arrays}, and by the file {by_file}")
+    room = [msat._library.satisfy(False, False, texts[-5].encode(), *held_of(keys), size, most)[1] for size, most in ((0, 0), (1, 1), (150, 3), (9000, 9))]
+    if len({*room}) != 1 or len(room[0]) != 4:
+        faults.append(f"arrays: other items with other room: {room}")
+
+
+def held_of(keys: list[bytes]) -> tuple:
+    """A signature of each key, in arrays."""
+    return (2, 9, 9), [(key, b"\x30" * 71) for key in keys], []
+
+
+def try_version() -> None:
+    """The versions of the package, of the library, of the header and of the crates of Rust are one."""
+    header = (TOP / "include/msat.h").read_text()
+    told = tuple(int(re.search(rf"MSAT_VERSION_{part} (\d+)", header)[1]) for part in ("MAJOR", "MINOR", "PATCH"))
+    named = ".".join(map(str, told))
+    crates = [re.search(r'^version = "(.*)"', (TOP / f"rust/{name}/Cargo.toml").read_text(), re.M)[1] for name in ("msat-sys", "msat")]
+    packaged = re.search(r"^Version: (.*)", (TOP / "include/msat.pc.in").read_text(), re.M)[1]
+    logged = re.search(r"^## (\d.*)", (TOP / "CHANGELOG.md").read_text(), re.M)[1]
+    if msat._library.version() != told or {msat.__version__, packaged, logged, *crates} != {named}:
+        faults.append(f"versions: {msat._library.version()}, {told}, {msat.__version__}, {packaged}, {logged}, {crates}")
+
+
 def try_folders(folders: list[Path]) -> None:
     for folder in folders:
         try_answer(folder)
         try_class(folder)
 
 
+def in_threads(count: int, *calls) -> None:
+    """Calls with their arguments one after the other, in each of so many threads at once, whose stacks have 512 KiB."""
+    threading.stack_size(512 * 1024)
+
+    def each() -> None:
+        for call, *arguments in calls:
+            call(*arguments)
+
+    threads = [threading.Thread(target=each) for _ in range(count)]
+    for thread in threads:
+        thread.start()
+    for thread in threads:
+        thread.join()
+
+
 folders = sorted(path.parent for path in TOP.glob("examples/*/words"))
 try_folders(folders)
-threads = [threading.Thread(target=try_folders, args=(folders,)) for _ in range(8)]
-for thread in threads:
-    thread.start()
-for thread in threads:
-    thread.join()
-try_refusals()
+in_threads(8, (try_folders, folders))
+in_threads(1, (try_refusals,))
+try_arrays()
 try_names()
+try_version()
 try_edges()
 for module in (msat, msat.results, errors, msat._library):
     failed = doctest.testmod(module, optionflags=doctest.IGNORE_EXCEPTION_DETAIL).failed

@@ -33,6 +33,7 @@ from .errors import (
     file_line,
     text_line,
 )
+from .psbt import NoCurve, NotFinal, PsbtRefused, extract, finalize, hashes, inspect, verify
 from .results import (
     Accepted,
     Assets,
@@ -57,7 +58,11 @@ __all__ = [
     "NoSatisfaction", "NotAccepted", "Plan", "Policy", "Refused", "Replay", "Satisfaction", "ScriptRefused", "Signature", "Step",
     "TextRefused", "Unreadable", "Usage", "answer", "audit", "check", "decode", "facts", "least_weight", "plan", "policy", "report",
     "run", "satisfy", "script", "witness",
+    # of PSBTs
+    "NoCurve", "NotFinal", "PsbtRefused", "extract", "finalize", "hashes", "inspect", "verify",
 ]  # fmt: skip
+
+__version__ = "1.0.0"
 
 
 def answer(words: Sequence[str], source: File = b"") -> tuple[int, str]:
@@ -164,13 +169,18 @@ def least_weight(text: str, assets: File, *, consensus: bool = False) -> int:
 
 
 def witness(text: str, assets: File, *, malleable: bool = False, consensus: bool = False) -> tuple[bytes, ...]:
-    """The items of the witness of the satisfaction that `satisfy` gives: the stack, bottom first, and the Script.
+    """The items of the witness of the satisfaction that `satisfy` gives: the stack, bottom first, and the Script. `Assets` are handed
+    over as they are, bytes and numbers, without a file.
 
     >>> KEY = "020101010101010101010101010101010101010101010101010101010101010101"
     >>> [item.hex() for item in witness(f"or_i(pk({KEY}),older(9))", Assets(sequence=9), malleable=True)]
     ['', '6321020101010101010101010101010101010101010101010101010101010101010101ac6759b268']
     """
-    code, items, reason = _library.witness(malleable, consensus, _text(text), file_bytes(assets))
+    held = assets.arrays() if isinstance(assets, Assets) else None
+    if held is not None:
+        code, items, reason = _library.satisfy(malleable, consensus, _text(text), *held)
+    else:
+        code, items, reason = _library.witness(malleable, consensus, _text(text), file_bytes(assets))
     _refuse_by(code, reason)
     return items
 
@@ -200,9 +210,9 @@ def policy(text: str) -> Policy:
     >>> policy("pk(020101010101010101010101010101010101010101010101010101010101010101)").keys
     1
     """
-    lines = _lines(report(["policy", text]))
-    keys = lines["keys"][0]
-    return Policy(policy=lines["policy"][0], keys=None if keys == "none" else int(keys))
+    code, found, keys, reason = _library.policy(_text(text))
+    _refuse_by(code, reason)
+    return Policy(policy=found, keys=None if keys == _library.NEVER else keys)
 
 
 def plan(text: str, file: File) -> Plan:
@@ -243,8 +253,11 @@ def decode(script: bytes, keys: Sequence[bytes] = ()) -> str:
     >>> decode(bytes.fromhex("029000b2"))
     'older(144)'
     """
-    lines = _lines(report(["decode", script.hex(), *(key.hex() for key in keys)]))
-    return lines["text"][0]
+    joined = b"".join(bytes(key) if len(key) == 33 else b"\0" for key in keys)
+    code, found = _library.decode(bytes(script), joined)
+    if code != _library.DONE:
+        _refuse(code, {1: "refused usage\n", 10: "no reading\n"}.get(code, ""))
+    return found
 
 
 def _text(text: str) -> bytes:

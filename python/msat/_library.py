@@ -3,12 +3,14 @@
 import ctypes
 import os
 from pathlib import Path
-from typing import Optional, Sequence
+from typing import Callable, Optional, Sequence
 
 NAME = "libmsat.so.1"
 DONE = 0
 NO_MEMORY = 7
 UNREADABLE = 11
+NEVER = 2**64 - 1  # the number of keys where no signatures are enough
+MAJOR = 1  # the major version of the library that this package is for
 
 
 class Reason(ctypes.Structure):
@@ -36,13 +38,13 @@ def places(package: Path) -> list[Path]:
     """Where the shared object of a package may lie, whose folder this is: beside it, and where `./install` has put both, in the
     folder `lib` of the prefix. No other place is looked at, so that nothing is loaded that others could have put there.
 
-    >>> [str(place) for place in places(Path("/usr/local/lib/python3/dist-packages/msat"))]
-    ['/usr/local/lib/python3/dist-packages/msat/libmsat.so.1', '/usr/local/lib/libmsat.so.1']
+    >>> [str(place) for place in places(Path("/usr/local/lib/python3.11/dist-packages/msat"))]
+    ['/usr/local/lib/python3.11/dist-packages/msat/libmsat.so.1', '/usr/local/lib/libmsat.so.1']
     >>> [str(place) for place in places(Path("/tmp/checkout/python/msat"))]
     ['/tmp/checkout/python/msat/libmsat.so.1']
     """
-    installed = package.parents[2:3] if package.match("lib/python3/dist-packages/msat") else ()
-    return [folder / NAME for folder in (package, *installed)]
+    installed = any(package.match(f"lib/python3*/{name}/msat") for name in ("dist-packages", "site-packages"))
+    return [folder / NAME for folder in (package, *(package.parents[2:3] if installed else ()))]
 
 
 def _load() -> ctypes.CDLL:
@@ -60,11 +62,18 @@ _BYTES = [ctypes.POINTER(ctypes.c_uint8), ctypes.c_size_t]
 _SIZES = [ctypes.POINTER(ctypes.c_size_t), ctypes.c_size_t]
 _SIZE = ctypes.POINTER(ctypes.c_size_t)
 _REASON = ctypes.POINTER(Reason)
-_CALLS = {
+_CALLS: dict[str, list] = {
+    "msat_version": [],
     "msat_answer": [ctypes.c_size_t, *_READ, *_READ, *_BYTES, _SIZE],
+    "msat_psbt_answer": [ctypes.c_size_t, *_READ, *_READ, *_BYTES, _SIZE],
     "msat_script": [ctypes.c_bool, *_READ, *_BYTES, _SIZE, _REASON],
     "msat_check": [ctypes.c_bool, *_READ, ctypes.POINTER(Facts), _REASON],
     "msat_least_weight": [ctypes.c_bool, *_READ, *_READ, ctypes.POINTER(ctypes.c_uint64), _REASON],
+    "msat_satisfy": [
+        ctypes.c_bool, ctypes.c_bool, *_READ, *3 * [ctypes.c_uint32], *_READ, *_READ, *_SIZES, *_READ, *_BYTES, _SIZE, *_SIZES, _SIZE, _REASON,
+    ],  # fmt: skip
+    "msat_policy": [*_READ, *_BYTES, _SIZE, ctypes.POINTER(ctypes.c_uint64), _REASON],
+    "msat_decode": [*_READ, *_READ, *_BYTES, _SIZE],
     "msat_witness": [ctypes.c_bool, ctypes.c_bool, *_READ, *_READ, *_BYTES, _SIZE, *_SIZES, _SIZE, _REASON],
 }
 
@@ -72,6 +81,16 @@ _library = _load()
 for _name, _types in _CALLS.items():
     getattr(_library, _name).restype = ctypes.c_uint32
     getattr(_library, _name).argtypes = _types
+
+
+def version() -> tuple[int, int, int]:
+    """The version of the shared object that is loaded."""
+    number = _library.msat_version()
+    return number // 1000000, number // 1000 % 1000, number % 1000
+
+
+if version()[0] != MAJOR:
+    raise ImportError(f"msat: {_library._name} has the version {'.'.join(map(str, version()))}, and this package is for {MAJOR}")
 
 
 def answer(words: Sequence[bytes], source: bytes, room: int = 32768) -> tuple[int, bytes]:
@@ -126,13 +145,50 @@ def witness(
     malleable: bool, consensus: bool, text: bytes, file: bytes, room: int = 8192, most: int = 128
 ) -> tuple[int, tuple[bytes, ...], Reason]:
     """The code, the items and the reason of a call of msat_witness."""
+    return _items(room, most, lambda *out: _library.msat_witness(malleable, consensus, text, len(text), file, len(file), *out))
+
+
+def satisfy(
+    malleable: bool, consensus: bool, text: bytes, locks: tuple[int, int, int], pairs: Sequence[tuple[bytes, bytes]],
+    preimages: Sequence[bytes], room: int = 8192, most: int = 128,
+) -> tuple[int, tuple[bytes, ...], Reason]:  # fmt: skip
+    """The code, the items and the reason of a call of msat_satisfy, of keys with their signatures."""
+    keys, signatures = b"".join(key for key, _ in pairs), b"".join(sig for _, sig in pairs)
+    sizes, known = (ctypes.c_size_t * len(pairs))(*(len(sig) for _, sig in pairs)), b"".join(preimages)
+    held = (text, len(text), *locks, keys, len(keys), signatures, len(signatures), sizes, len(pairs), known, len(known))
+    return _items(room, most, lambda *out: _library.msat_satisfy(malleable, consensus, *held, *out))
+
+
+def policy(text: bytes, room: int = 4096) -> tuple[int, str, int, Reason]:
+    """The code, the printed policy, the number of keys and the reason of a call of msat_policy."""
+    needed, keys, reason = ctypes.c_size_t(0), ctypes.c_uint64(0), Reason()
+    while True:
+        found = (ctypes.c_uint8 * room)()
+        code = _library.msat_policy(
+            text, len(text), found, room, ctypes.byref(needed), ctypes.byref(keys), ctypes.byref(reason)
+        )
+        if needed.value <= room:
+            return code, bytes(memoryview(found)[: needed.value]).decode(), keys.value, reason
+        room = needed.value
+
+
+def decode(script: bytes, keys: bytes, room: int = 4096) -> tuple[int, str]:
+    """The code and the text of a call of msat_decode."""
+    needed = ctypes.c_size_t(0)
+    while True:
+        found = (ctypes.c_uint8 * room)()
+        code = _library.msat_decode(script, len(script), keys, len(keys), found, room, ctypes.byref(needed))
+        if needed.value <= room:
+            return code, bytes(memoryview(found)[: needed.value]).decode()
+        room = needed.value
+
+
+def _items(room: int, most: int, call: Callable[..., int]) -> tuple[int, tuple[bytes, ...], Reason]:
+    """The code, the items and the reason of a call that gives items, which is made again where there was too little room."""
     needed, count, reason = ctypes.c_size_t(0), ctypes.c_size_t(0), Reason()
     while True:
         found, lengths = (ctypes.c_uint8 * room)(), (ctypes.c_size_t * most)()
-        code = _library.msat_witness(
-            malleable, consensus, text, len(text), file, len(file), found, room, ctypes.byref(needed), lengths, most,
-            ctypes.byref(count), ctypes.byref(reason),
-        )
+        code = call(found, room, ctypes.byref(needed), lengths, most, ctypes.byref(count), ctypes.byref(reason))
         if needed.value <= room and count.value <= most:
             return code, _parts(bytes(memoryview(found)[: needed.value]), lengths[: count.value]), reason
         room, most = max(room, needed.value), max(most, count.value)

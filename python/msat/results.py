@@ -140,6 +140,22 @@ class Assets:
     preimages: tuple[bytes, ...] = ()
     keys: tuple[Estimate, ...] = field(default=(), kw_only=True)
 
+    def arrays(self) -> Optional[tuple[tuple[int, int, int], list[tuple[bytes, bytes]], tuple[bytes, ...]]]:
+        """The numbers of the locks, the keys with their signatures, and the preimages, as the library takes them in arrays; None
+        where they don't lie there piece by piece, or are too many, and are refused as a file.
+
+        >>> Assets(signatures=(Signature(33 * b"\\2", b"\\0"),), locktime=9).arrays()[0]
+        (2, 4294967294, 9)
+        >>> Assets(signatures=(Signature(b"\\2", b"\\0"),)).arrays() is None
+        True
+        """
+        locks = (self.version, self.sequence, self.locktime)
+        fit = all(len(it.key) == 33 for it in self.signatures) and all(len(it) == 32 for it in self.preimages)
+        few = len(self.signatures) <= 256 and len(self.preimages) <= 256
+        if not fit or not few or not all(0 <= number < 2**32 for number in locks):
+            return None
+        return locks, [(it.key, it.sig) for it in self.signatures], tuple(self.preimages)
+
     def json(self) -> bytes:
         """The asset file, in format 2 where a key has several signatures, or with `keys` the plan file.
 

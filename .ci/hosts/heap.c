@@ -1,0 +1,224 @@
+/* Measures what a call takes at most, of the stack and of the heap, over texts and files that ask for the most: long ones, deep ones,
+ * and files of as many small values as they may have. Prints both, and ends with 1 where either is over what the header tells.
+ * Usage: heap MOST-STACK MOST-HEAP    in bytes
+ * Built with -Wl,--wrap=malloc,--wrap=realloc,--wrap=free, and over the archive. */
+#include <malloc.h>
+#include <msat.h>
+#include <pthread.h>
+#include <stdio.h>
+#include <stdlib.h>
+#include <string.h>
+#include <sys/mman.h>
+
+enum { STACK = 1 << 20, ROOM = 1 << 21 };
+
+static size_t held, most;
+void *__real_malloc(size_t size);
+void *__real_realloc(void *at, size_t size);
+void __real_free(void *at);
+
+static void count(size_t before, void *at) {
+    held += at ? malloc_usable_size(at) : 0;
+    held -= before;
+    most = held > most ? held : most;
+}
+
+void *__wrap_malloc(size_t size) {
+    void *at = __real_malloc(size);
+    count(0, at);
+    return at;
+}
+
+void *__wrap_realloc(void *old, size_t size) {
+    size_t before = old ? malloc_usable_size(old) : 0;
+    void *at = __real_realloc(old, size);
+    count(at ? before : 0, at);
+    return at;
+}
+
+void __wrap_free(void *at) {
+    held -= at ? malloc_usable_size(at) : 0;
+    __real_free(at);
+}
+
+static char text[ROOM], file[ROOM], report[ROOM], words[ROOM];
+static uint8_t bytes[ROOM];
+static size_t lengths[20000];
+
+/* Writes `times` pieces behind what stands there. */
+static char *repeat(char *at, const char *piece, size_t times) {
+    for (; times > 0; times--)
+        at = stpcpy(at, piece);
+    return at;
+}
+
+static void answer(const char *command, const char *option) {
+    char *at = stpcpy(words, command) + 1;
+    size_t count = 2, needed = 0;
+    if (option)
+        at = stpcpy(at, option) + 1, count++;
+    at = stpcpy(at, text) + 1;
+    msat_answer(count, words, (size_t)(at - words), file, strlen(file), report, sizeof report, &needed);
+}
+
+/* Each call with the text and the file. */
+static void ask_all(void) {
+    static const char *const commands[] = {"script", "check", "satisfy", "policy", "plan", "audit", "decode"};
+    for (size_t i = 0; i < sizeof commands / sizeof commands[0]; i++)
+        answer(commands[i], NULL);
+    answer("satisfy", "--malleable");
+    answer("satisfy", "--consensus");
+    size_t needed = 0, count = 0, length = strlen(text);
+    uint64_t weight = 0;
+    struct msat_facts facts = {0};
+    struct msat_reason reason = {0};
+    for (int consensus = 0; consensus < 2; consensus++) {
+        if (msat_script(consensus, text, length, bytes, sizeof bytes, &needed, &reason) == MSAT_DONE) {
+            size_t size = needed, told = 0;
+            char *at = stpcpy(words, "decode") + 1;
+            for (size_t i = 0; i < size; i++)
+                at += sprintf(at, "%02x", bytes[i]);
+            msat_answer(2, words, (size_t)(at + 1 - words), NULL, 0, report, sizeof report, &told);
+        }
+        msat_check(consensus, text, length, &facts, &reason);
+        msat_policy(text, length, report, sizeof report, &needed, &weight, &reason);
+        msat_least_weight(consensus, text, length, file, strlen(file), &weight, &reason);
+        for (int malleable = 0; malleable < 2; malleable++)
+            msat_witness(malleable, consensus, text, length, file, strlen(file), bytes, sizeof bytes, &needed, lengths, 20000, &count, &reason);
+    }
+    size_t told = 0;
+    msat_answer(1, "run", 4, file, strlen(file), report, sizeof report, &told);
+}
+
+static const char KEY[] = "020101010101010101010101010101010101010101010101010101010101010101";
+
+static void write_file(int which) {
+    char *at = file;
+    *at = 0;
+    switch (which) {
+    case 0: at = stpcpy(at, "{}"); break;
+    case 1: /* as many values as there is room for */
+        at = stpcpy(at, "{\"a\":[0");
+        at = repeat(at, ",0", (1048576 - 10) / 2);
+        stpcpy(at, "]}");
+        break;
+    case 2: /* as many empty lists */
+        at = stpcpy(at, "{\"a\":[[]");
+        at = repeat(at, ",[]", (1048576 - 12) / 3);
+        stpcpy(at, "]}");
+        break;
+    case 3: /* as many members */
+        at = stpcpy(at, "{\"\":0");
+        for (int i = 0; at - file < 1048500; i++)
+            at += sprintf(at, ",\"%x\":0", i);
+        stpcpy(at, "}");
+        break;
+    case 4: /* as deep as may be */
+        at = repeat(at, "[", 127);
+        at = repeat(at, "]", 127);
+        break;
+    case 5: /* many members in small objects */
+        at = stpcpy(at, "{\"a\":[0");
+        at = repeat(at, ",{\"\":0}", (1048576 - 10) / 7);
+        stpcpy(at, "]}");
+        break;
+    case 6: /* the most of what may be held */
+        at = stpcpy(at, "{\"format\":2,\"signatures\":[");
+        for (int i = 0; i < 256; i++) {
+            at += sprintf(at, "%s{\"key\":\"02%064x\",\"sig\":\"", i ? "," : "", i);
+            at = repeat(at, "aa", 73);
+            at = stpcpy(at, "\"}");
+        }
+        at = stpcpy(at, "],\"preimages\":[");
+        for (int i = 0; i < 256; i++)
+            at += sprintf(at, "%s\"%064x\"", i ? "," : "", i);
+        stpcpy(at, "]}");
+        break;
+    }
+}
+
+static void write_text(int which) {
+    char *at = text;
+    *at = 0;
+    switch (which) {
+    case 0: stpcpy(at, "1"); break;
+    case 1: /* the longest */
+        memset(at, '0', 65536), at[65536] = 0;
+        break;
+    case 2: /* the deepest runs of letters */
+        at = repeat(at, "n", 250);
+        stpcpy(stpcpy(stpcpy(at, ":pk("), KEY), ")");
+        break;
+    case 3: /* the deepest fragments, satisfied and not */
+        at = repeat(at, "or_i(0,", 100);
+        at = stpcpy(stpcpy(stpcpy(at, "pk("), KEY), ")");
+        repeat(at, ")", 100);
+        break;
+    case 4:
+        at = repeat(at, "and_v(v:1,", 120);
+        at = stpcpy(stpcpy(stpcpy(at, "pk("), KEY), ")");
+        repeat(at, ")", 120);
+        break;
+    case 5:
+        at = repeat(at, "andor(0,1,", 254);
+        at = stpcpy(at, "1");
+        repeat(at, ")", 254);
+        break;
+    case 6: /* as many keys as the limits allow */
+        at = stpcpy(at, "thresh(1,pk(");
+        at += sprintf(at, "02%064x)", 1);
+        for (int i = 2; i < 90; i++)
+            at += sprintf(at, ",s:pk(02%064x)", i);
+        stpcpy(at, ")");
+        break;
+    case 7: /* by consensus more */
+        at = stpcpy(at, "thresh(50,pkh(");
+        at += sprintf(at, "02%064x)", 1);
+        for (int i = 2; i < 60; i++)
+            at += sprintf(at, ",a:pkh(02%064x)", i);
+        stpcpy(at, ")");
+        break;
+    case 8: /* many nodes */
+        at = stpcpy(at, "or_i(");
+        at = repeat(at, "or_i(0,", 252);
+        at = stpcpy(at, "0");
+        at = repeat(at, ")", 252);
+        stpcpy(at, ",1)");
+        break;
+    case 9: /* a wide threshold of what weighs nothing */
+        at = stpcpy(at, "thresh(1,0");
+        at = repeat(at, ",a:0", 16000);
+        stpcpy(at, ")");
+        break;
+    }
+}
+
+static void *ask(void *given) {
+    (void)given;
+    for (int i = 0; i < 10; i++)
+        for (int j = 0; j < 7; j++) {
+            write_text(i), write_file(j);
+            ask_all();
+        }
+    return NULL;
+}
+
+int main(int argc, char **argv) {
+    if (argc != 3)
+        return 2;
+    uint8_t *stack = mmap(NULL, STACK, PROT_READ | PROT_WRITE, MAP_PRIVATE | MAP_ANONYMOUS | MAP_STACK, -1, 0);
+    if (stack == MAP_FAILED)
+        return 2;
+    memset(stack, 0xa5, STACK);
+    pthread_attr_t attributes;
+    pthread_t thread;
+    pthread_attr_init(&attributes);
+    if (pthread_attr_setstack(&attributes, stack, STACK) != 0 || pthread_create(&thread, &attributes, ask, NULL) != 0)
+        return 2;
+    pthread_join(thread, NULL);
+    size_t untouched = 0;
+    while (untouched < STACK && stack[untouched] == 0xa5)
+        untouched++;
+    printf("heap: a call takes at most %zu bytes of stack and %zu of heap\n", (size_t)STACK - untouched, most);
+    return STACK - untouched > strtoull(argv[1], NULL, 10) || most > strtoull(argv[2], NULL, 10);
+}

@@ -1,0 +1,235 @@
+#!/usr/bin/env python3
+"""Tries the Python module msat.psbt, and the library below it: each row of examples/psbt/ by the library's call, byte for byte; what the
+classes say of the folders there; signatures that are good and that aren't; and that bad ones are left out before anything is decided.
+Without libsecp256k1 the last two are passed over by a line that says so. Ends with 1 where anything differs.
+"""
+import base64
+import copy
+import doctest
+import hashlib
+import importlib.machinery
+import importlib.util
+import os
+import pickle
+import sys
+from pathlib import Path
+
+TOP = Path(__file__).resolve().parents[2]
+os.chdir(TOP)
+sys.path.insert(0, str(TOP / "python"))
+sys.dont_write_bytecode = True
+
+from msat import psbt  # noqa: E402
+
+loader = importlib.machinery.SourceFileLoader("rows", ".ci/psbt")
+rows = importlib.util.module_from_spec(importlib.util.spec_from_loader("rows", loader))
+loader.exec_module(rows)
+faults = []
+
+
+def fault(text):
+    faults.append(f"msat.psbt: {text}")
+
+
+def try_rows():
+    """The library's call gives what the program has to."""
+    rows.rows_of(rows.ROWS / "pieces")
+    count = 0
+    for place in [*sorted(rows.ROWS.glob("*/")), *sorted(rows.ROWS.glob("*.rows"))]:
+        for row in [rows.row_of(place)] if place.is_dir() else rows.rows_of(place):
+            if row.sources:
+                count += 1
+                faults.extend(row.faults(lambda words, source: psbt._library_answer([word.encode() for word in words], source)))
+    return count
+
+
+def try_classes():
+    """What the classes say of each folder is its report."""
+    for folder in sorted(rows.ROWS.glob("*/")):
+        row = rows.row_of(folder)
+        if len(row.words[0]) == 1:
+            for source in (row.sources[0], row.sources[0].decode("latin-1")):
+                if isinstance(source, bytes) or source.isascii():
+                    try_call(row, row.words[0][0], source)
+
+
+def in_kind(source, report):
+    return report if isinstance(source, bytes) else report.decode().rstrip("\n")
+
+
+def try_call(row, word, source):
+    """A call of the module against a row: what it gives, or what it raises."""
+    report = row.report.decode("latin-1")
+    try:
+        if word == "finalize":
+            said = psbt.finalize(source, verify=False) == in_kind(source, row.report)
+        elif word == "extract":
+            digits = psbt.extract(source)
+            said = (digits.hex() if isinstance(digits, bytes) else digits) + "\n" == report
+        elif word == "inspect":
+            told = psbt.inspect(source)
+            said = told.is_settled == (row.status == 0) and lines_of(told) == report
+        else:
+            said = hash_lines_of(psbt.hashes(source)) == report
+    except psbt.PsbtRefused as refused:
+        where = "" if refused.place is None else f" at {refused.place}"
+        said = row.status == 3 and f"refused psbt {refused.name}{where}\n" == report
+        try_copies(refused)
+    except psbt.NotFinal as refused:
+        said = row.status == 4 and f"not final {refused.input}\n" == report
+        try_copies(refused)
+    if not said:
+        fault(f"{row.name}: {word} says something else of {type(source).__name__}")
+
+
+def try_copies(one):
+    for other in (copy.copy(one), copy.deepcopy(one), pickle.loads(pickle.dumps(one))):
+        if type(other) is not type(one) or vars(other) != vars(one) or str(other) != str(one):
+            fault(f"a copy of {one!r} is {other!r}")
+
+
+def digits(part):
+    return part.hex() or "-"
+
+
+def lines_of(told):
+    """The report that an inspection was read from."""
+    lines = [
+        f"psbt inputs {len(told.inputs)} outputs {len(told.outputs)} version {told.version} locktime {told.locktime} txid {told.txid}",
+        *(f"output {number} {output.amount} {digits(output.script)}" for number, output in enumerate(told.outputs)),
+        "fee " + " ".join(map(str, filter(lambda part: part is not None, (told.fee.satoshis, told.fee.kind)))),
+    ]
+    for it in told.inputs:
+        lines.append(f"input {it.number} {it.state}" + (f" {it.reason}" if it.reason else ""))
+        lines.append(f"outpoint {it.txid} {it.index} sequence {it.sequence}")
+        kind = "proved" if it.is_proved else "claimed"
+        lines.append("amount unknown" if it.amount is None else f"amount {it.amount} {kind}")
+        lines += ["unchecked"] if it.state == "Final" else []
+        lines += [f"signature {key.hex()} {kind}" for key, kind in it.signatures]
+        lines += [f"text {it.text}"] if it.text else []
+        lines += [f"policy {it.policy}"] if it.policy else []
+        lines += [] if it.weight is None else [f"weight {it.weight}"]
+        lines += [f"ask {key.hex()}" for key in it.asked]
+        lines += [] if it.most is None else [f"weight at most {it.most}"]
+        lines += ["no plan"] if it.is_vain else []
+    return "".join(line + "\n" for line in lines)
+
+
+def hash_lines_of(told):
+    """The report that hashes were read from."""
+    lines = []
+    for it in told:
+        lines.append(f"input {it.number} {it.state}")
+        if it.type is not None:
+            front = "sign 1" if it.type == 1 else f"sign-other {it.type}"
+            lines.append(f"{front} {digits(it.hash or b'')}")
+        lines += [f"check {check.key.hex()} {check.sig.hex()} {digits(check.hash or b'')}" for check in it.checks]
+    return "".join(line + "\n" for line in lines)
+
+
+# Signatures, by Python's own arithmetic: with the nonce 1 their point is the generator, so r is its x coordinate.
+
+ORDER = 0xFFFFFFFFFFFFFFFFFFFFFFFFFFFFFFFEBAAEDCE6AF48A03BBFD25E8CD0364141
+# The public keys of the private keys 1, 2 and 3.
+KEYS = [
+    bytes.fromhex("0279be667ef9dcbbac55a06295ce870b07029bfcdb2dce28d959f2815b16f81798"),
+    bytes.fromhex("02c6047f9441ed7d6d3045406e95c07cd85c778e4b8cef3ca7abac09b95c709ee5"),
+    bytes.fromhex("02f9308a019258c31049344f85f89d5229b531c845836f99b08601f113bce036f9"),
+]
+POINT = int.from_bytes(KEYS[0][1:], "big")
+
+
+def signature(secret, digest, is_high=False):
+    """In DER, without the byte of its type, with a low S or a high one."""
+    s = (int.from_bytes(digest, "big") + secret * POINT) % ORDER
+    return der(POINT, max(s, ORDER - s) if is_high else min(s, ORDER - s))
+
+
+def der(*numbers):
+    parts = b"".join(b"\2" + bytes([len(it)]) + it for it in (n.to_bytes(n.bit_length() // 8 + 1, "big") for n in numbers))
+    return b"\x30" + bytes([len(parts)]) + parts
+
+
+def try_signatures():
+    digest = hashlib.sha256(b"a PSBT").digest()
+    for secret, key in enumerate(KEYS, 1):
+        good = signature(secret, digest)
+        if not psbt.is_signature_of(key, good, digest):
+            fault(f"a good signature of the private key {secret} isn't")
+        if psbt.is_signature_of(key, signature(secret, digest, is_high=True), digest):
+            fault("a signature with a high s is good")
+        if psbt.is_signature_of(key, good, hashlib.sha256(digest).digest()) or psbt.is_signature_of(KEYS[secret % 3], good, digest):
+            fault("a signature of another hash or of another key is good")
+        for place in range(len(good)):
+            if psbt.is_signature_of(key, good[:place] + bytes([good[place] ^ 1]) + good[place + 1 :], digest):
+                fault(f"a signature with another byte {place} is good")
+    if psbt.is_signature_of(b"\2" + 32 * b"\0", good, digest):
+        fault("a key that isn't on the curve has signed")
+
+
+def pair(key, value):
+    return rows.sized(key) + rows.sized(value)
+
+
+def signed_psbt(signatures, inputs=2):
+    """A PSBT of inputs of two of the three keys; only the last one has these pairs of keys and signatures."""
+    script = b"\x52" + b"".join(map(rows.sized, KEYS)) + b"\x53\xae"
+    spent = (100_000).to_bytes(8, "little") + rows.sized(b"\0\x20" + hashlib.sha256(script).digest())
+    unsigned = b"\2\0\0\0" + bytes([inputs]) + b"".join(bytes(31) + bytes([i]) + bytes(9) for i in range(inputs)) + bytes(5)
+    utxo = pair(b"\1", spent) + pair(b"\5", script)
+    pairs = b"".join(pair(b"\2" + key, sig) for key, sig in signatures)
+    return b"psbt\xff" + pair(b"\0", unsigned) + b"\0" + (inputs - 1) * (utxo + b"\0") + utxo + pairs + b"\0"
+
+
+def try_leaving_out():
+    """Of three signatures, of which one is bad and the shortest, the two good ones are taken."""
+    digest = psbt.hashes(signed_psbt([]))[-1].hash
+    good = [(key, signature(secret, digest) + b"\1") for secret, key in enumerate(KEYS, 1)]
+    high = signature(2, digest, is_high=True) + b"\1"
+    for bad in (der(1, 1) + b"\1", high, good[2][1], signature(2, digest) + b"\2", signature(2, digest) + b"\4"):
+        whole = signed_psbt([good[0], (KEYS[1], bad), good[2]])
+        wanted = psbt.finalize(signed_psbt([good[0], good[2]]), verify=False)
+        if [is_good for _, is_good in psbt.verify(whole)] != [True, False, True]:
+            fault(f"verify says {psbt.verify(whole)}")
+        if psbt.finalize(whole) != wanted:
+            fault(f"finalize doesn't leave out {bad.hex()}")
+        text = base64.b64encode(whole).decode()
+        spaced = "\n".join(text[i : i + 64] for i in range(0, len(text), 64)) + "\n"
+        if psbt.finalize(spaced) != base64.b64encode(wanted).decode() or psbt.finalize(spaced.encode()) != base64.b64encode(wanted) + b"\n":
+            fault("finalize of base64 gives something else")
+    told = psbt.inspect(psbt.finalize(signed_psbt(good)))
+    if [it.state for it in told.inputs] != ["Unsatisfied", "Final"]:
+        fault(f"finalize of good signatures gives {told}")
+    unchecked = psbt.finalize(signed_psbt([good[0], (KEYS[1], der(1, 1) + b"\1"), good[2]]), verify=False)
+    if der(1, 1) + b"\1" not in unchecked:
+        fault("without verify the shortest signatures aren't taken")
+    if psbt.finalize(signed_psbt([(KEYS[1], high)])) != signed_psbt([]):
+        fault("an input that stays open keeps a bad signature")
+
+
+def try_edges():
+    for given in (5, None, ["psbt"]):
+        try:
+            psbt.inspect(given)
+            fault(f"a PSBT {given!r} is taken")
+        except TypeError:
+            pass
+    if psbt.inspect(bytearray(signed_psbt([]))) != psbt.inspect(memoryview(signed_psbt([]))):
+        fault("a bytearray is another PSBT")
+    try_copies(psbt.NoCurve("libsecp256k1 isn't there"))
+
+
+count = try_rows()
+try_classes()
+try_edges()
+try:
+    try_signatures()
+    try_leaving_out()
+except psbt.NoCurve as missing:
+    print(f"{missing}: signatures aren't tried")
+failed = doctest.testmod(psbt, optionflags=doctest.IGNORE_EXCEPTION_DETAIL).failed
+if failed:
+    fault(f"{failed} examples of docstrings fail")
+print("\n".join(faults), end="\n" if faults else "")
+print(f"msat.psbt: {count} rows tried, {len(faults)} faults")
+sys.exit(bool(faults))

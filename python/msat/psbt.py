@@ -1,0 +1,481 @@
+"""PSBTs (BIP 174, version 0) whose inputs spend P2WSH outputs of sane miniscripts: finalized, inspected, extracted, and what their
+signatures sign.
+
+A PSBT is bytes, or a str of base64, and what comes out is of the same kind. What is asked is answered by the proved library, as the
+program msat-psbt answers it; what is Python here, the reading of reports into classes, the check of signatures and the leaving out of
+those that aren't good, is tested and not proved. Signatures are checked by libsecp256k1, which is looked for when one is checked.
+"""
+
+import base64
+import ctypes
+import ctypes.util
+from dataclasses import dataclass
+from typing import Iterator, NoReturn, Optional, TypeVar, Union
+
+from . import _library
+from .errors import MsatError, Refused
+
+__all__ = [
+    "Check", "Fee", "Hashes", "Input", "Inspection", "NoCurve", "NotFinal", "Output", "PsbtRefused", "answer", "extract", "finalize",
+    "hashes", "inspect", "is_signature_of", "verify",
+]  # fmt: skip
+
+Psbt = Union[str, bytes]
+P = TypeVar("P", str, bytes)
+
+
+class PsbtRefused(Refused):
+    """The PSBT is refused: `name` is the reason, and `place` the byte of the PSBT, from 0, where it has one."""
+
+
+class NotFinal(MsatError):
+    """An input isn't Final, so there is no network transaction yet: `input` is the number of the first one, from 0."""
+
+    def __init__(self, report: str, input: int):
+        super().__init__(report)
+        self.input = input
+
+    def __reduce__(self) -> tuple:
+        """Copies and pickles are made of what it was made of."""
+        return type(self), (self.report, self.input)
+
+
+class NoCurve(MsatError):
+    """libsecp256k1 isn't there, so no signature can be checked."""
+
+
+@dataclass(frozen=True)
+class Output:
+    """An output: its amount in satoshis, and the Script that guards it."""
+
+    amount: int
+    script: bytes
+
+
+@dataclass(frozen=True)
+class Fee:
+    """What the inputs spend beyond the outputs. `kind` is `proved` or `claimed`, with the fee in satoshis, `negative` where the outputs
+    are more, or `unknown`. It is proved where a previous transaction proves each amount."""
+
+    kind: str
+    satoshis: Optional[int] = None
+
+
+@dataclass(frozen=True)
+class Input:
+    """An input as `inspect` tells it, from its number on: `state` is its first word, and `reason` why a miniscript isn't sane. What isn't
+    told of its state is None or empty.
+
+    `asked` are the keys to ask for a signature, and `most` what the satisfaction then weighs at most; `weight` is what that of a Ready
+    input weighs. `is_vain` says that no signatures would be enough: a preimage is missing, or a lock doesn't hold."""
+
+    number: int
+    state: str
+    reason: Optional[str]
+    txid: str
+    index: int
+    sequence: int
+    amount: Optional[int]
+    is_proved: bool
+    signatures: tuple[tuple[bytes, int], ...] = ()
+    text: Optional[str] = None
+    policy: Optional[str] = None
+    weight: Optional[int] = None
+    asked: tuple[bytes, ...] = ()
+    most: Optional[int] = None
+    is_vain: bool = False
+
+
+@dataclass(frozen=True)
+class Inspection:
+    """What a transaction does with the money, and of each input what it is, what it demands, and what is missing. `is_settled` says
+    whether all inputs are Final or Ready."""
+
+    version: int
+    locktime: int
+    txid: str
+    outputs: tuple[Output, ...]
+    fee: Fee
+    inputs: tuple[Input, ...]
+    is_settled: bool
+
+
+@dataclass(frozen=True)
+class Check:
+    """A signature of an input, by its number: its key, the signature with the byte of its hash type behind, and the hash that it has to
+    sign by that byte; None where it is no hash type."""
+
+    input: int
+    key: bytes
+    sig: bytes
+    hash: Optional[bytes]
+
+    def is_good(self) -> bool:
+        """Whether the key has signed the hash. Raises NoCurve where libsecp256k1 isn't there."""
+        return self.hash is not None and is_signature_of(self.key, self.sig[:-1], self.hash)
+
+
+@dataclass(frozen=True)
+class Hashes:
+    """What an input's signatures sign: `type` is the hash type that is asked, and `hash` what a signature of it signs, None where it is no
+    hash type; both are None where the input's state says that no miniscript is known to be sane. Only type 1 (ALL) keeps others from
+    changing the transaction."""
+
+    number: int
+    state: str
+    type: Optional[int]
+    hash: Optional[bytes]
+    checks: tuple[Check, ...]
+
+
+def answer(word: str, psbt: Psbt) -> tuple[int, bytes]:
+    """The exit status and the report of the program msat-psbt for this word, where its standard input holds the PSBT."""
+    return _library_answer([word.encode(errors="surrogatepass")], source_bytes(psbt))
+
+
+def source_bytes(psbt: Psbt) -> bytes:
+    """The bytes of a PSBT that is given as bytes, or as base64. A str with another character is refused as the library refuses it.
+
+    >>> source_bytes(" cHNidP8= "), source_bytes("\\u20ac")
+    (b' cHNidP8= ', b'\\xe2\\x82\\xac')
+    >>> source_bytes(5)
+    Traceback (most recent call last):
+    TypeError: a PSBT is bytes or a str of base64, and no int
+    """
+    if isinstance(psbt, str):
+        return psbt.encode(errors="surrogatepass")
+    if isinstance(psbt, (bytes, bytearray, memoryview)):
+        return bytes(psbt)
+    raise TypeError(f"a PSBT is bytes or a str of base64, and no {type(psbt).__name__}")
+
+
+def finalize(psbt: P, verify: bool = True) -> P:
+    """The PSBT with each input that is Ready made final, in the form in which it came. Which inputs stay open, `inspect` tells.
+
+    Signatures that aren't good are left out of it before anything is decided, so that none of them is chosen where good ones are
+    enough; without `verify` no signature is looked at, a bad one may be chosen, and what isn't needed is cleared: keep the PSBT until
+    the transaction is accepted. Raises NoCurve where there are signatures, and libsecp256k1 isn't there to tell.
+
+    >>> finalize("cHNidP8BAAoCAAAAAAAAAAAAAA==")
+    'cHNidP8BAAoCAAAAAAAAAAAAAA=='
+    """
+    source = source_bytes(psbt)
+    if verify:
+        source = _without(source, {(check.input, check.key) for check in checks(source) if not check.is_good()})
+    return _of_kind(psbt, _answered("finalize", source, (0, 4))[1])
+
+
+def extract(psbt: P) -> P:
+    """The network transaction of a PSBT whose inputs are all Final: its bytes, or its digits where the PSBT is a str. Nothing is checked
+    of inputs that were Final when they came. Raises NotFinal where one isn't Final."""
+    digits = _answered("extract", psbt, (0,))[1]
+    return _of_kind(psbt, digits if isinstance(psbt, str) else bytes.fromhex(digits.decode()))
+
+
+def _of_kind(psbt: P, made: bytes) -> P:
+    """What is made of a PSBT: a str where that is one. A report of base64 or of digits is one line."""
+    given: Psbt = made.decode().rstrip("\n") if isinstance(psbt, str) else made
+    return given  # type: ignore[return-value]
+
+
+def inspect(psbt: Psbt) -> Inspection:
+    """What the transaction does with the money, and of each input what it is, what it demands, and what is missing."""
+    status, report = _answered("inspect", psbt, (0, 4))
+    head, *inputs = _by_input(report.decode())
+    told = head[0].split()
+    count = int(told[4])
+    return Inspection(
+        version=int(told[6]),
+        locktime=int(told[8]),
+        txid=told[10],
+        outputs=tuple(_output(line) for line in head[1 : 1 + count]),
+        fee=_fee(head[1 + count]),
+        inputs=tuple(_input(lines) for lines in inputs),
+        is_settled=status == 0,
+    )
+
+
+def hashes(psbt: Psbt) -> tuple[Hashes, ...]:
+    """What the signatures of each input sign."""
+    _, report = _answered("hashes", psbt, (0,))
+    _, *inputs = _by_input(report.decode())
+    return tuple(_hashes(lines) for lines in inputs)
+
+
+def checks(psbt: Psbt) -> Iterator[Check]:
+    """The signatures of all inputs that `hashes` tells, each with what it has to sign."""
+    return (check for told in hashes(psbt) for check in told.checks)
+
+
+def verify(psbt: Psbt) -> tuple[tuple[Check, bool], ...]:
+    """The signatures of all inputs that `hashes` tells, each with whether it is good. Raises NoCurve where libsecp256k1 isn't there."""
+    return tuple((check, check.is_good()) for check in checks(psbt))
+
+
+# ---- signatures
+
+
+def is_signature_of(key: bytes, sig: bytes, hash: bytes) -> bool:
+    """Whether a key has signed a hash: the signature is in strict DER (BIP 66), without the byte of a hash type, its s is low (BIP 146), and
+    libsecp256k1 finds it good. Raises NoCurve where that isn't there."""
+    return is_strict_der(sig) and _Curve.found().has_signed(key, sig, hash)
+
+
+def is_strict_der(sig: bytes) -> bool:
+    """Whether a signature without the byte of its hash type is in strict DER (BIP 66).
+
+    >>> [is_strict_der(bytes.fromhex(sig)) for sig in ("3006020101020101", "300702010102020001", "30060201ff020101", "3006020101020101aa")]
+    [True, False, False, False]
+    """
+    if not 8 <= len(sig) <= 72 or sig[0] != 0x30 or sig[1] != len(sig) - 2:
+        return False
+    first = sig[3]
+    if 5 + first >= len(sig) or len(sig) != 6 + first + sig[5 + first]:
+        return False
+    return _is_der_number(sig[2 : 4 + first]) and _is_der_number(sig[4 + first :])
+
+
+def _is_der_number(number: bytes) -> bool:
+    """Whether a number has its shortest form, and isn't negative: 02, its length, and its bytes."""
+    kind, _, *digits = number
+    if kind != 0x02 or not digits or digits[0] >= 0x80:
+        return False
+    return digits[0] != 0 or (len(digits) > 1 and digits[1] >= 0x80)
+
+
+class _Curve:
+    """libsecp256k1."""
+
+    known: "Optional[_Curve]" = None
+
+    def __init__(self, place: str):
+        self.library = ctypes.CDLL(place)
+        pointer, size = ctypes.c_void_p, ctypes.c_size_t
+        calls = {
+            "secp256k1_context_create": (pointer, [ctypes.c_uint]),
+            "secp256k1_ec_pubkey_parse": (ctypes.c_int, [pointer, pointer, ctypes.c_char_p, size]),
+            "secp256k1_ecdsa_signature_parse_der": (ctypes.c_int, [pointer, pointer, ctypes.c_char_p, size]),
+            "secp256k1_ecdsa_signature_normalize": (ctypes.c_int, [pointer, pointer, pointer]),
+            "secp256k1_ecdsa_verify": (ctypes.c_int, [pointer, pointer, ctypes.c_char_p, pointer]),
+        }
+        for name, (result, taken) in calls.items():
+            call = getattr(self.library, name)
+            call.restype, call.argtypes = result, taken
+        self.context = self.library.secp256k1_context_create(_FOR_CHECKS)
+
+    @classmethod
+    def found(cls) -> "_Curve":
+        """The library, once it is found; NoCurve where it isn't there."""
+        if cls.known is None:
+            place = ctypes.util.find_library("secp256k1")
+            if place is None:
+                raise NoCurve("msat: libsecp256k1 isn't there, so no signature can be checked: Debian's package is libsecp256k1-1")
+            cls.known = cls(place)
+        return cls.known
+
+    def has_signed(self, key: bytes, sig: bytes, hash: bytes) -> bool:
+        """Whether a key has signed a hash of 32 bytes, by a signature in DER whose s is low."""
+        point, numbers = ctypes.create_string_buffer(64), ctypes.create_string_buffer(64)
+        library, context = self.library, self.context
+        return (
+            len(hash) == 32
+            and library.secp256k1_ec_pubkey_parse(context, point, key, len(key)) == 1
+            and library.secp256k1_ecdsa_signature_parse_der(context, numbers, sig, len(sig)) == 1
+            and library.secp256k1_ecdsa_signature_normalize(context, None, numbers) == 0
+            and library.secp256k1_ecdsa_verify(context, numbers, hash, point) == 1
+        )
+
+
+# SECP256K1_CONTEXT_VERIFY, which newer versions take for SECP256K1_CONTEXT_NONE.
+_FOR_CHECKS = 0x0101
+
+
+# ---- a PSBT without some of its signatures. The library has read it before, so it is whole and in form.
+
+_MAGIC = b"psbt\xff"
+
+
+def _without(source: bytes, signatures: set[tuple[int, bytes]]) -> bytes:
+    """The PSBT, in the form in which it came, without these signatures: by the number of the input, and the key."""
+    if not signatures:
+        return source
+    if source.startswith(_MAGIC):
+        return b"".join(_kept(source, signatures))
+    return base64.b64encode(b"".join(_kept(base64.b64decode(source), signatures)))
+
+
+def _kept(psbt: bytes, left_out: set[tuple[int, bytes]]) -> Iterator[bytes]:
+    """The pieces of a PSBT that stay."""
+    at, inputs = len(_MAGIC), 0
+    for _, end, key, value in _pairs(psbt, at):
+        at = end
+        if key == b"\0":
+            inputs, _ = _size(psbt, value + 4)
+    yield psbt[: at + 1]
+    at += 1
+    for number in range(inputs):
+        for start, end, key, _ in _pairs(psbt, at):
+            at = end
+            if key[:1] != b"\2" or (number, key[1:]) not in left_out:
+                yield psbt[start:end]
+        yield b"\0"
+        at += 1
+    yield psbt[at:]
+
+
+def _pairs(psbt: bytes, at: int) -> Iterator[tuple[int, int, bytes, int]]:
+    """The pairs of the map that begins here: where each begins and ends, its key, and where its value begins."""
+    while psbt[at] != 0:
+        start = at
+        length, at = _size(psbt, at)
+        key = psbt[at : at + length]
+        length, value = _size(psbt, at + length)
+        at = value + length
+        yield start, at, key, value
+
+
+def _size(psbt: bytes, at: int) -> tuple[int, int]:
+    """The CompactSize that stands here, and where it ends.
+
+    >>> _size(bytes([253, 1, 2]), 0), _size(bytes([7]), 0)
+    ((513, 3), (7, 1))
+    """
+    width = {253: 2, 254: 4, 255: 8}.get(psbt[at], 0)
+    return (int.from_bytes(psbt[at + 1 : at + 1 + width], "little"), at + 1 + width) if width else (psbt[at], at + 1)
+
+
+# ---- the library's answers
+
+
+def _library_answer(words: list[bytes], source: bytes, room: int = 65536) -> tuple[int, bytes]:
+    """The code and the whole report of a call of msat_psbt_answer. Codes 7 and 11 come without a report."""
+    joined = b"".join(word + b"\0" for word in words)
+    needed = ctypes.c_size_t(0)
+    room = max(room, 2 * len(source))
+    while True:
+        report = (ctypes.c_uint8 * room)()
+        code = _call()(len(words), joined, len(joined), source, len(source), report, room, ctypes.byref(needed))
+        if code in (_library.NO_MEMORY, _library.UNREADABLE):
+            return code, b""
+        if needed.value <= room:
+            return code, bytes(memoryview(report)[: needed.value])
+        room = needed.value
+
+
+def _call() -> "ctypes._NamedFuncPointer":
+    """The library's call."""
+    return _library._library.msat_psbt_answer
+
+
+def _answered(word: str, psbt: Psbt, wanted: tuple[int, ...]) -> tuple[int, bytes]:
+    """The status, one of those that are wanted, and the report; otherwise the refusal is raised."""
+    code, report = answer(word, psbt)
+    if code not in wanted:
+        _refuse(code, report.decode())
+    return code, report
+
+
+def _refuse(code: int, text: str) -> NoReturn:
+    """Raises the refusal of a report with this status."""
+    words = text.split()
+    if code == 3:
+        raise PsbtRefused(text, words[2], place=int(words[4]) if "at" in words else None)
+    if code == 4:
+        raise NotFinal(text, int(words[2]))
+    if code == 7:
+        raise MemoryError("msat: memory was wanting")
+    raise MsatError(text)
+
+
+# ---- the lines of reports
+
+
+def _by_input(report: str) -> list[list[str]]:
+    """The lines before the first input, and those of each input."""
+    parts: list[list[str]] = [[]]
+    for line in report.splitlines():
+        if line.startswith("input "):
+            parts.append([])
+        parts[-1].append(line)
+    return parts
+
+
+def _bytes(digits: str) -> bytes:
+    return b"" if digits == "-" else bytes.fromhex(digits)
+
+
+def _output(line: str) -> Output:
+    """An output, of its line.
+
+    >>> _output("output 0 90000 51"), _output("output 1 0 -")
+    (Output(amount=90000, script=b'Q'), Output(amount=0, script=b''))
+    """
+    _, _, amount, script = line.split()
+    return Output(int(amount), _bytes(script))
+
+
+def _fee(line: str) -> Fee:
+    """The fee, of its line.
+
+    >>> _fee("fee 10000 claimed"), _fee("fee unknown")
+    (Fee(kind='claimed', satoshis=10000), Fee(kind='unknown', satoshis=None))
+    """
+    words = line.split()[1:]
+    return Fee(words[-1], int(words[0]) if len(words) == 2 else None)
+
+
+def _amount(line: str) -> tuple[Optional[int], bool]:
+    """An amount, and whether it is proved, of its line.
+
+    >>> _amount("amount 5 proved"), _amount("amount unknown")
+    ((5, True), (None, False))
+    """
+    words = line.split()[1:]
+    return (int(words[0]), words[1] == "proved") if len(words) == 2 else (None, False)
+
+
+def _input(lines: list[str]) -> Input:
+    """An input, of its lines in `inspect`."""
+    _, number, state, *reason = lines[0].split()
+    _, txid, index, _, sequence = lines[1].split()
+    amount, is_proved = _amount(lines[2])
+    told: dict[str, list[str]] = {}
+    for line in lines[3:]:
+        name, _, value = line.partition(" ")
+        told.setdefault(name, []).append(value)
+    weights = [value.rsplit(" ", 1) for value in told.get("weight", [])]
+    return Input(
+        number=int(number),
+        state=state,
+        reason=" ".join(reason) or None,
+        txid=txid,
+        index=int(index),
+        sequence=int(sequence),
+        amount=amount,
+        is_proved=is_proved,
+        signatures=tuple(_signature(value) for value in told.get("signature", [])),
+        text=told.get("text", [None])[0],
+        policy=told.get("policy", [None])[0],
+        weight=next((int(words[0]) for words in weights if len(words) == 1), None),
+        asked=tuple(bytes.fromhex(key) for key in told.get("ask", [])),
+        most=next((int(words[1]) for words in weights if len(words) == 2), None),
+        is_vain="no" in told,
+    )
+
+
+def _signature(value: str) -> tuple[bytes, int]:
+    key, kind = value.split()
+    return bytes.fromhex(key), int(kind)
+
+
+def _hashes(lines: list[str]) -> Hashes:
+    """What an input's signatures sign, of its lines in `hashes`."""
+    _, number, *state = lines[0].split()
+    kind, hash, checks = None, None, []
+    for line in lines[1:]:
+        name, *words = line.split()
+        if name == "check":
+            checks.append(Check(int(number), bytes.fromhex(words[0]), bytes.fromhex(words[1]), _bytes(words[2]) or None))
+        else:
+            kind, hash = int(words[0]), _bytes(words[1]) or None
+    return Hashes(int(number), " ".join(state), kind, hash, tuple(checks))

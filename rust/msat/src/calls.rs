@@ -1,0 +1,314 @@
+//! The calls, each over buffers of its own.
+
+use crate::error::Error;
+use crate::names;
+use crate::{Assets, Base, Facts, Rules};
+use core::ffi::{c_char, c_void};
+use msat_sys::{MSAT_DONE, MSAT_NO_MEMORY, MSAT_UNREADABLE, msat_facts, msat_reason};
+
+/// The version of the library that is loaded: major, minor and patch.
+pub fn version() -> (u32, u32, u32) {
+    let number = msat_sys::msat_version();
+    (number / 1_000_000, number / 1_000 % 1_000, number % 1_000)
+}
+
+/// The exit status and the report of the program for these words, where its standard input holds `source`.
+pub fn answer(words: &[&str], source: &[u8]) -> Result<(u32, String), Error> {
+    let (code, report) = answered(msat_sys::msat_answer, words, source)?;
+    Ok((code, String::from_utf8_lossy(&report).into_owned()))
+}
+
+/// The exit status and the report of `msat-psbt` for these words, `finalize`, `inspect`, `extract` or `hashes`, where its standard input holds
+/// a PSBT, as bytes or as base64. What `finalize` reports is that PSBT, in the same form, with its inputs made final.
+pub fn psbt_answer(words: &[&str], source: &[u8]) -> Result<(u32, Vec<u8>), Error> {
+    answered(msat_sys::msat_psbt_answer, words, source)
+}
+
+type Answer = unsafe extern "C" fn(usize, *const c_char, usize, *const c_void, usize, *mut c_char, usize, *mut usize) -> u32;
+
+/// The answer of one of the two calls that take words.
+fn answered(call: Answer, words: &[&str], source: &[u8]) -> Result<(u32, Vec<u8>), Error> {
+    if words.iter().any(|word| word.contains('\0')) {
+        return Err(Error::Unreadable);
+    }
+    let joined: Vec<u8> = words.iter().flat_map(|word| word.bytes().chain([0])).collect();
+    let mut report = vec![0; 4096];
+    loop {
+        let mut needed = 0;
+        // SAFETY: each pointer and length is that of a slice, which is written, aligned and borrowed for the call; what is written
+        // is borrowed for that alone. It is so in each call below.
+        let code = unsafe {
+            call(
+                words.len(),
+                joined.as_ptr().cast(),
+                joined.len(),
+                source.as_ptr().cast(),
+                source.len(),
+                report.as_mut_ptr().cast(),
+                report.len(),
+                &mut needed,
+            )
+        };
+        if code == MSAT_NO_MEMORY || code == MSAT_UNREADABLE {
+            return Err(names::error(code, &msat_reason::default()));
+        }
+        if needed <= report.len() {
+            report.truncate(needed);
+            return Ok((code, report));
+        }
+        report.resize(needed, 0);
+    }
+}
+
+/// The Script of a valid text.
+pub fn script(text: &str, rules: Rules) -> Result<Vec<u8>, Error> {
+    let mut script = vec![0; 4096];
+    loop {
+        let (mut needed, mut reason) = (0, msat_reason::default());
+        // SAFETY: as in `answer`.
+        let code = unsafe {
+            msat_sys::msat_script(
+                rules == Rules::Consensus,
+                text.as_ptr().cast(),
+                text.len(),
+                script.as_mut_ptr(),
+                script.len(),
+                &mut needed,
+                &mut reason,
+            )
+        };
+        if code != MSAT_DONE {
+            return Err(names::error(code, &reason));
+        }
+        if needed <= script.len() {
+            script.truncate(needed);
+            return Ok(script);
+        }
+        script.resize(needed, 0);
+    }
+}
+
+/// What is known of a sane text.
+pub fn check(text: &str, rules: Rules) -> Result<Facts, Error> {
+    let (mut facts, mut reason) = (msat_facts::default(), msat_reason::default());
+    // SAFETY: as in `answer`.
+    let code =
+        unsafe { msat_sys::msat_check(rules == Rules::Consensus, text.as_ptr().cast(), text.len(), &mut facts, &mut reason) };
+    if code != MSAT_DONE {
+        return Err(names::error(code, &reason));
+    }
+    let letters = [
+        ('z', facts.z),
+        ('o', facts.o),
+        ('n', facts.n),
+        ('d', facts.d),
+        ('u', facts.u),
+        ('s', facts.s),
+        ('f', facts.f),
+        ('e', facts.e),
+    ];
+    Ok(Facts {
+        size: facts.size,
+        ops: facts.ops,
+        items: facts.items,
+        weight: facts.weight,
+        height: facts.height,
+        base: [Base::B, Base::V, Base::K, Base::W][facts.base as usize % 4],
+        properties: letters.iter().filter(|it| it.1).map(|it| it.0).collect(),
+    })
+}
+
+/// The least weight of a canonical satisfaction of a valid text by an asset file: for each item 1 and its length, the Script aside.
+pub fn least_weight(text: &str, file: &[u8], rules: Rules) -> Result<u64, Error> {
+    let (mut weight, mut reason) = (0, msat_reason::default());
+    // SAFETY: as in `answer`.
+    let code = unsafe {
+        msat_sys::msat_least_weight(
+            rules == Rules::Consensus,
+            text.as_ptr().cast(),
+            text.len(),
+            file.as_ptr().cast(),
+            file.len(),
+            &mut weight,
+            &mut reason,
+        )
+    };
+    if code == MSAT_DONE { Ok(weight) } else { Err(names::error(code, &reason)) }
+}
+
+/// What a text demands that is sane by the limits of policy: its printed policy, and the least number of keys that have to sign
+/// where every hash lock and timelock is met, or none where no signatures are enough.
+pub fn policy(text: &str) -> Result<(String, Option<u64>), Error> {
+    let mut printed = vec![0; 4096];
+    loop {
+        let (mut needed, mut keys, mut reason) = (0, 0, msat_reason::default());
+        // SAFETY: as in `answer`.
+        let code = unsafe {
+            msat_sys::msat_policy(
+                text.as_ptr().cast(),
+                text.len(),
+                printed.as_mut_ptr().cast(),
+                printed.len(),
+                &mut needed,
+                &mut keys,
+                &mut reason,
+            )
+        };
+        if code != MSAT_DONE {
+            return Err(names::error(code, &reason));
+        }
+        if needed <= printed.len() {
+            printed.truncate(needed);
+            return Ok((String::from_utf8_lossy(&printed).into_owned(), (keys != u64::MAX).then_some(keys)));
+        }
+        printed.resize(needed, 0);
+    }
+}
+
+/// The text, valid by the limits of policy, that a Script is read back as. The keys are those that its hashes of keys may be of.
+pub fn decode(script: &[u8], keys: &[[u8; 33]]) -> Result<String, Error> {
+    let keys = keys.as_flattened();
+    let mut text = vec![0; 4096];
+    loop {
+        let mut needed = 0;
+        // SAFETY: as in `answer`.
+        let code = unsafe {
+            msat_sys::msat_decode(
+                script.as_ptr(),
+                script.len(),
+                keys.as_ptr(),
+                keys.len(),
+                text.as_mut_ptr().cast(),
+                text.len(),
+                &mut needed,
+            )
+        };
+        if code != MSAT_DONE {
+            return Err(names::error(code, &msat_reason::default()));
+        }
+        if needed <= text.len() {
+            text.truncate(needed);
+            return Ok(String::from_utf8_lossy(&text).into_owned());
+        }
+        text.resize(needed, 0);
+    }
+}
+
+/// The items of the witness of the satisfaction of a sane text by an asset file that nobody can change without a signature that it
+/// doesn't show, another preimage or another key with the same hash: the stack, bottom first, and the Script as the last one.
+pub fn witness(text: &str, file: &[u8], rules: Rules) -> Result<Vec<Vec<u8>>, Error> {
+    by_file(false, text, file, rules)
+}
+
+/// Those of the lightest canonical satisfaction of a valid text, which others may be able to change.
+pub fn witness_malleable(text: &str, file: &[u8], rules: Rules) -> Result<Vec<Vec<u8>>, Error> {
+    by_file(true, text, file, rules)
+}
+
+/// As `witness`, of assets that are held, without a file.
+pub fn satisfy(text: &str, held: &Assets, rules: Rules) -> Result<Vec<Vec<u8>>, Error> {
+    by_assets(false, text, held, rules)
+}
+
+/// As `witness_malleable`, of assets that are held, without a file.
+pub fn satisfy_malleable(text: &str, held: &Assets, rules: Rules) -> Result<Vec<Vec<u8>>, Error> {
+    by_assets(true, text, held, rules)
+}
+
+fn by_file(malleable: bool, text: &str, file: &[u8], rules: Rules) -> Result<Vec<Vec<u8>>, Error> {
+    Items::of(|items| {
+        // SAFETY: as in `answer`.
+        unsafe {
+            msat_sys::msat_witness(
+                malleable,
+                rules == Rules::Consensus,
+                text.as_ptr().cast(),
+                text.len(),
+                file.as_ptr().cast(),
+                file.len(),
+                items.bytes.as_mut_ptr(),
+                items.bytes.len(),
+                &mut items.needed,
+                items.lengths.as_mut_ptr(),
+                items.lengths.len(),
+                &mut items.count,
+                &mut items.reason,
+            )
+        }
+    })
+}
+
+fn by_assets(malleable: bool, text: &str, held: &Assets, rules: Rules) -> Result<Vec<Vec<u8>>, Error> {
+    let keys: Vec<u8> = held.signatures.iter().flat_map(|it| it.key).collect();
+    let signatures: Vec<u8> = held.signatures.iter().flat_map(|it| it.bytes.iter().copied()).collect();
+    let lengths: Vec<usize> = held.signatures.iter().map(|it| it.bytes.len()).collect();
+    let preimages = held.preimages.as_flattened();
+    Items::of(|items| {
+        // SAFETY: as in `answer`.
+        unsafe {
+            msat_sys::msat_satisfy(
+                malleable,
+                rules == Rules::Consensus,
+                text.as_ptr().cast(),
+                text.len(),
+                held.version,
+                held.sequence,
+                held.locktime,
+                keys.as_ptr(),
+                keys.len(),
+                signatures.as_ptr(),
+                signatures.len(),
+                lengths.as_ptr(),
+                lengths.len(),
+                preimages.as_ptr(),
+                preimages.len(),
+                items.bytes.as_mut_ptr(),
+                items.bytes.len(),
+                &mut items.needed,
+                items.lengths.as_mut_ptr(),
+                items.lengths.len(),
+                &mut items.count,
+                &mut items.reason,
+            )
+        }
+    })
+}
+
+/// The buffers of a call that gives items.
+struct Items {
+    bytes: Vec<u8>,
+    needed: usize,
+    lengths: Vec<usize>,
+    count: usize,
+    reason: msat_reason,
+}
+
+impl Items {
+    /// The items that a call gives, which is made again where there was too little room.
+    fn of(call: impl Fn(&mut Items) -> u32) -> Result<Vec<Vec<u8>>, Error> {
+        let mut items =
+            Items { bytes: vec![0; 8192], needed: 0, lengths: vec![0; 128], count: 0, reason: msat_reason::default() };
+        loop {
+            let code = call(&mut items);
+            if code != MSAT_DONE {
+                return Err(names::error(code, &items.reason));
+            }
+            if items.needed <= items.bytes.len() && items.count <= items.lengths.len() {
+                return Ok(items.parts());
+            }
+            items.bytes.resize(items.needed.max(items.bytes.len()), 0);
+            items.lengths.resize(items.count.max(items.lengths.len()), 0);
+        }
+    }
+
+    fn parts(&self) -> Vec<Vec<u8>> {
+        let mut rest = self.bytes.as_slice();
+        let mut parts = Vec::with_capacity(self.count);
+        for length in &self.lengths[..self.count] {
+            let (part, others) = rest.split_at(*length);
+            parts.push(part.to_vec());
+            rest = others;
+        }
+        parts
+    }
+}

@@ -1,0 +1,199 @@
+//! Why a call gives no result.
+
+use crate::names;
+use std::fmt;
+
+/// Why a call gives no result.
+#[derive(Clone, Debug, PartialEq, Eq, Hash)]
+#[non_exhaustive]
+pub enum Error {
+    /// The text is refused.
+    Text(TextRefusal),
+    /// The asset file is refused, or the assets for what a file with the same would be.
+    File(FileRefusal),
+    /// There is no canonical satisfaction with what is held.
+    NoSatisfaction,
+    /// No miniscript that is valid by the limits of policy, with the keys named, has the Script.
+    NoReading,
+    /// A key isn't a compressed one.
+    Usage,
+    /// A word of `answer` holds a NUL.
+    Unreadable,
+    /// Memory was wanting.
+    Memory,
+    /// A code that this version doesn't know.
+    Other(u32),
+}
+
+/// Why a text is refused.
+#[derive(Clone, Debug, PartialEq, Eq, Hash)]
+#[non_exhaustive]
+pub enum TextRefusal {
+    /// It isn't read, at this byte where the fault has a place.
+    Fault(TextFault, Option<u32>),
+    /// The first reason against its tree.
+    Unfit(Unfit),
+}
+
+/// Why a text isn't read.
+#[derive(Clone, Copy, Debug, PartialEq, Eq, Hash)]
+#[non_exhaustive]
+pub enum TextFault {
+    TooLong,
+    Syntax,
+    TooDeep,
+}
+
+/// Why a tree isn't valid, or isn't sane. Places are bytes of the text.
+#[derive(Clone, Copy, Debug, PartialEq, Eq, Hash)]
+#[non_exhaustive]
+pub enum Unfit {
+    Rule { rule: Rule, place: u32 },
+    TopNotB,
+    Size(u64),
+    Ops(u64),
+    Items(u64),
+    Malleable { rule: Rule, place: u32 },
+    NoSignature,
+    MixedLocks { place: u32 },
+    RepeatedKey { place: u32 },
+}
+
+/// Why a file is refused, and which member and element of it, where the refusal names one.
+#[derive(Clone, Copy, Debug, PartialEq, Eq, Hash)]
+pub struct FileRefusal {
+    pub fault: FileFault,
+    pub member: Option<Member>,
+    pub element: Option<u32>,
+}
+
+/// Why a file is refused.
+#[derive(Clone, Copy, Debug, PartialEq, Eq, Hash)]
+#[non_exhaustive]
+pub enum FileFault {
+    TooLong,
+    NotJson,
+    Shape,
+    Number,
+    Hex,
+    KeyForm,
+    SigLength,
+    PreimageLength,
+    TooMany,
+    RepeatedKey,
+}
+
+/// A member of a file.
+#[derive(Clone, Copy, Debug, PartialEq, Eq, Hash)]
+#[non_exhaustive]
+pub enum Member {
+    File,
+    Version,
+    Sequence,
+    Locktime,
+    Signatures,
+    Preimages,
+    Script,
+    Witness,
+    Format,
+}
+
+/// A requirement of BIP 379's tables of types. docs/FORMATS.md says what each asks for.
+#[derive(Clone, Copy, Debug, PartialEq, Eq, Hash)]
+#[non_exhaustive]
+pub enum Rule {
+    OlderRange,
+    AfterRange,
+    AndOrX,
+    AndOrYZ,
+    AndVX,
+    AndVY,
+    AndBX,
+    AndBY,
+    OrBX,
+    OrBZ,
+    OrCX,
+    OrCZ,
+    OrDX,
+    OrDZ,
+    OrIXZ,
+    ThreshRange,
+    ThreshFirst,
+    ThreshOther,
+    MultiRange,
+    WrapA,
+    WrapS,
+    WrapC,
+    WrapD,
+    WrapV,
+    WrapJ,
+    WrapN,
+    AndOrE,
+    AndOrS,
+    OrBE,
+    OrBS,
+    OrCE,
+    OrCS,
+    OrDE,
+    OrDS,
+    OrIS,
+    ThreshE,
+    ThreshS,
+}
+
+impl fmt::Display for Error {
+    /// As the report of the program says it.
+    fn fmt(&self, f: &mut fmt::Formatter<'_>) -> fmt::Result {
+        match self {
+            Error::Text(refusal) => write!(f, "refused text {refusal}"),
+            Error::File(refusal) => write!(f, "refused file {refusal}"),
+            Error::NoSatisfaction => f.write_str("no satisfaction"),
+            Error::NoReading => f.write_str("no reading"),
+            Error::Usage => f.write_str("refused usage"),
+            Error::Unreadable => f.write_str("a word holds a NUL"),
+            Error::Memory => f.write_str("memory was wanting"),
+            Error::Other(code) => write!(f, "the library answers {code}"),
+        }
+    }
+}
+
+impl std::error::Error for Error {}
+
+impl fmt::Display for TextRefusal {
+    fn fmt(&self, f: &mut fmt::Formatter<'_>) -> fmt::Result {
+        match self {
+            TextRefusal::Fault(fault, None) => write!(f, "{fault:?}"),
+            TextRefusal::Fault(fault, Some(place)) => write!(f, "{fault:?} at {place}"),
+            TextRefusal::Unfit(unfit) => unfit.fmt(f),
+        }
+    }
+}
+
+impl fmt::Display for Unfit {
+    fn fmt(&self, f: &mut fmt::Formatter<'_>) -> fmt::Result {
+        match self {
+            Unfit::Rule { rule, place } => write!(f, "Rule {rule:?} at {place}"),
+            Unfit::TopNotB => f.write_str("TopNotB"),
+            Unfit::Size(n) => write!(f, "Size {n}"),
+            Unfit::Ops(n) => write!(f, "Ops {n}"),
+            Unfit::Items(n) => write!(f, "Items {n}"),
+            Unfit::Malleable { rule, place } => write!(f, "Malleable {rule:?} at {place}"),
+            Unfit::NoSignature => f.write_str("NoSignature"),
+            Unfit::MixedLocks { place } => write!(f, "MixedLocks at {place}"),
+            Unfit::RepeatedKey { place } => write!(f, "RepeatedKey at {place}"),
+        }
+    }
+}
+
+impl fmt::Display for FileRefusal {
+    fn fmt(&self, f: &mut fmt::Formatter<'_>) -> fmt::Result {
+        write!(f, "{:?}", self.fault)?;
+        if let Some(member) = self.member {
+            write!(f, " {}", names::of_member(member))?;
+        }
+        match self.element {
+            Some(element) => write!(f, " {element}"),
+            None => Ok(()),
+        }
+    }
+}

@@ -1,0 +1,86 @@
+//! A Miniscript satisfier for P2WSH outputs, over its proved library.
+//!
+//! Each call is one call of the library, which is proved to answer what msat's definitions say. What is Rust here, the buffers
+//! and the enums, is tested and not proved. No state is kept, so threads may call at once.
+//!
+//! ```
+//! use msat::{Assets, Rules, Signature};
+//!
+//! let key = [2; 33];
+//! let text = format!("pk({})", "02".repeat(33));
+//! assert_eq!(msat::script(&text, Rules::Policy)?.len(), 35);
+//! let held = Assets { signatures: vec![Signature { key, bytes: vec![0xaa; 71] }], ..Assets::default() };
+//! let items = msat::satisfy(&text, &held, Rules::Policy)?;
+//! assert_eq!(items.iter().map(Vec::len).collect::<Vec<_>>(), [71, 35]);
+//! # Ok::<(), msat::Error>(())
+//! ```
+
+mod calls;
+mod error;
+mod names;
+
+pub use calls::{
+    answer, check, decode, least_weight, policy, psbt_answer, satisfy, satisfy_malleable, script, version, witness, witness_malleable,
+};
+pub use error::{Error, FileFault, FileRefusal, Member, Rule, TextFault, TextRefusal, Unfit};
+
+/// By which limits a text is held.
+#[derive(Clone, Copy, Debug, Default, PartialEq, Eq, Hash)]
+pub enum Rules {
+    /// Those of policy, within which nodes relay a spend.
+    #[default]
+    Policy,
+    /// Those of consensus alone.
+    Consensus,
+}
+
+/// A base type of BIP 379.
+#[derive(Clone, Copy, Debug, PartialEq, Eq, Hash)]
+pub enum Base {
+    B,
+    V,
+    K,
+    W,
+}
+
+/// What is known of a sane text: its limits, the greatest numbers over all canonical satisfactions; its height, the most elements
+/// that both stacks hold together in the run of one; its base type, and the properties of both of its types that hold.
+#[derive(Clone, Debug, PartialEq, Eq, Hash)]
+#[non_exhaustive]
+pub struct Facts {
+    pub size: u64,
+    pub ops: u64,
+    pub items: u64,
+    pub weight: u64,
+    pub height: u64,
+    pub base: Base,
+    /// Of the letters z, o, n, d, u, s, f and e those that hold, in this order.
+    pub properties: String,
+}
+
+/// A signature as it stands in a witness, in DER with the byte of its hash type, and its compressed key.
+#[derive(Clone, Debug, PartialEq, Eq, Hash)]
+pub struct Signature {
+    pub key: [u8; 33],
+    pub bytes: Vec<u8>,
+}
+
+/// What a wallet holds for a spend. Of several signatures of a key the shortest is taken, of several shortest the first.
+#[derive(Clone, Debug, PartialEq, Eq, Hash)]
+pub struct Assets {
+    /// The version of the transaction.
+    pub version: u32,
+    /// The sequence number of the input.
+    pub sequence: u32,
+    /// The locktime of the transaction.
+    pub locktime: u32,
+    pub signatures: Vec<Signature>,
+    pub preimages: Vec<[u8; 32]>,
+}
+
+impl Default for Assets {
+    /// No signature and no preimage, and what an asset file without its numbers has: no timelock holds.
+    fn default() -> Assets {
+        Assets { version: 2, sequence: 0xffff_fffe, locktime: 0, signatures: Vec::new(), preimages: Vec::new() }
+    }
+}

@@ -1,0 +1,122 @@
+//! What the numbers of `struct msat_reason` stand for: kinds from 1, rules and members from 0, in the order of the header.
+
+use crate::error::{Error, FileFault, FileRefusal, Member, Rule, TextFault, TextRefusal, Unfit};
+use msat_sys::{
+    MSAT_FILE_REFUSED, MSAT_NO_MEMORY, MSAT_NO_READING, MSAT_NO_SATISFACTION, MSAT_TEXT_REFUSED, MSAT_UNREADABLE, MSAT_USAGE,
+    msat_reason,
+};
+
+/// The rules in the order of their numbers.
+pub(crate) const RULES: [Rule; 37] = [
+    Rule::OlderRange,
+    Rule::AfterRange,
+    Rule::AndOrX,
+    Rule::AndOrYZ,
+    Rule::AndVX,
+    Rule::AndVY,
+    Rule::AndBX,
+    Rule::AndBY,
+    Rule::OrBX,
+    Rule::OrBZ,
+    Rule::OrCX,
+    Rule::OrCZ,
+    Rule::OrDX,
+    Rule::OrDZ,
+    Rule::OrIXZ,
+    Rule::ThreshRange,
+    Rule::ThreshFirst,
+    Rule::ThreshOther,
+    Rule::MultiRange,
+    Rule::WrapA,
+    Rule::WrapS,
+    Rule::WrapC,
+    Rule::WrapD,
+    Rule::WrapV,
+    Rule::WrapJ,
+    Rule::WrapN,
+    Rule::AndOrE,
+    Rule::AndOrS,
+    Rule::OrBE,
+    Rule::OrBS,
+    Rule::OrCE,
+    Rule::OrCS,
+    Rule::OrDE,
+    Rule::OrDS,
+    Rule::OrIS,
+    Rule::ThreshE,
+    Rule::ThreshS,
+];
+
+/// The members with their names, in the order of their numbers.
+const MEMBERS: [(Member, &str); 9] = [
+    (Member::File, "file"),
+    (Member::Version, "version"),
+    (Member::Sequence, "sequence"),
+    (Member::Locktime, "locktime"),
+    (Member::Signatures, "signatures"),
+    (Member::Preimages, "preimages"),
+    (Member::Script, "script"),
+    (Member::Witness, "witness"),
+    (Member::Format, "format"),
+];
+
+pub(crate) fn of_member(member: Member) -> &'static str {
+    MEMBERS.iter().find(|it| it.0 == member).map_or("", |it| it.1)
+}
+
+/// The refusal of a code that isn't `MSAT_DONE`.
+pub(crate) fn error(code: u32, reason: &msat_reason) -> Error {
+    let told = match code {
+        MSAT_TEXT_REFUSED => text(reason).map(Error::Text),
+        MSAT_FILE_REFUSED => file(reason).map(Error::File),
+        MSAT_NO_SATISFACTION => Some(Error::NoSatisfaction),
+        MSAT_NO_READING => Some(Error::NoReading),
+        MSAT_USAGE => Some(Error::Usage),
+        MSAT_NO_MEMORY => Some(Error::Memory),
+        MSAT_UNREADABLE => Some(Error::Unreadable),
+        _ => None,
+    };
+    told.unwrap_or(Error::Other(code))
+}
+
+fn text(reason: &msat_reason) -> Option<TextRefusal> {
+    let place = reason.place;
+    let rule = || RULES.get(usize::try_from(reason.rule).ok()?).copied();
+    Some(match reason.kind {
+        1 => TextRefusal::Fault(TextFault::TooLong, None),
+        2 => TextRefusal::Fault(TextFault::Syntax, Some(place)),
+        3 => TextRefusal::Fault(TextFault::TooDeep, Some(place)),
+        4 => TextRefusal::Unfit(Unfit::Rule { rule: rule()?, place }),
+        5 => TextRefusal::Unfit(Unfit::TopNotB),
+        6 => TextRefusal::Unfit(Unfit::Size(reason.number)),
+        7 => TextRefusal::Unfit(Unfit::Ops(reason.number)),
+        8 => TextRefusal::Unfit(Unfit::Items(reason.number)),
+        9 => TextRefusal::Unfit(Unfit::Malleable { rule: rule()?, place }),
+        10 => TextRefusal::Unfit(Unfit::NoSignature),
+        11 => TextRefusal::Unfit(Unfit::MixedLocks { place }),
+        12 => TextRefusal::Unfit(Unfit::RepeatedKey { place }),
+        _ => return None,
+    })
+}
+
+fn file(reason: &msat_reason) -> Option<FileRefusal> {
+    let member = || Some(MEMBERS.get(usize::try_from(reason.rule).ok()?)?.0);
+    let (fault, has_member, has_element) = match reason.kind {
+        13 => (FileFault::TooLong, false, false),
+        14 => (FileFault::NotJson, false, false),
+        15 => (FileFault::Shape, true, false),
+        16 => (FileFault::Number, true, false),
+        17 => (FileFault::Hex, true, true),
+        18 => (FileFault::KeyForm, false, true),
+        19 => (FileFault::SigLength, false, true),
+        20 => (FileFault::PreimageLength, false, true),
+        21 => (FileFault::TooMany, true, false),
+        22 => (FileFault::RepeatedKey, false, true),
+        _ => return None,
+    };
+    Some(FileRefusal {
+        fault,
+        member: if has_member { Some(member()?) } else { None },
+        element: has_element.then_some(reason.place),
+    })
+}
