@@ -1,0 +1,135 @@
+"""An explanation or a refusal as a document of JSON, which schema/explain.json describes."""
+
+from typing import Union
+
+from . import words
+from .explanation import Explanation, Group, Held, Opening, Priced
+from .lines import Line
+from .locks import Locks, said, said_fields
+from .refusals import Refusal
+from .report import marked
+from .tree import Node
+
+
+def document(found: Union[Explanation, Refusal]) -> dict:
+    return _refusal(found) if isinstance(found, Refusal) else _explanation(found)
+
+
+def _refusal(found: Refusal) -> dict:
+    line, column = marked(found.shown, found.place) if found.place is not None else (None, None)
+    return {
+        "refusal": {
+            "report": found.report, "status": found.status, "place": found.place, "line": line, "column": column,
+            "rule": found.sentence, "advice": found.advice,
+        }
+    }  # fmt: skip
+
+
+def _explanation(found: Explanation) -> dict:
+    given, checked, is_real = found.given, found.checked, not found.given.standins
+    document_ = {
+        "text": given.text,
+        "form": checked.text,
+        "notes": list(given.done),
+        "standins": list(given.standins),
+        "names": {it: given.name_of(it) for it in (*found.keys, *(value for _, value in found.hashes))},
+        "keys": list(found.keys),
+        "hashes": [{"function": function, "value": value} for function, value in found.hashes],
+        "type": checked.type,
+        "tree": _node(found.root, found),
+        "lines": [_line(it, found) for it in found.lines],
+        "script": checked.script.hex() if is_real else None,
+        "program": checked.program.hex() if is_real else None,
+        "addresses": found.addresses,
+        "limits": {
+            "by": "consensus" if found.consensus else "policy",
+            **{it.name: {"number": it.number, "allowed": it.allowed} for it in found.limits},
+        },
+        "spending": _spending(found) if found.spending else None,
+    }
+    if found.held:
+        document_["held"] = _held(found.held, found)
+    return document_
+
+
+def _node(node: Node, found: Explanation) -> dict:
+    return {
+        "name": node.name + ":" * node.is_letter,
+        "place": node.place,
+        "label": words.node_of(node, found),
+        "type": node.kind,
+        "arguments": list(node.arguments),
+        "children": [_node(it, found) for it in node.children],
+    }
+
+
+def _line(line: Line, found: Explanation) -> dict:
+    is_real = not found.given.standins
+    return {
+        "at": line.at,
+        "bytes": line.code.hex() if is_real or len(line.code) < 20 else None,
+        "opcode": words.line_of(line, found),
+        "place": line.node.place,
+        "node": words.writer_of(line, found),
+    }
+
+
+def _locks(locks: Locks) -> dict:
+    return {"sequence": locks.older, "locktime": locks.after, "when": said(locks), "set": said_fields(locks)}
+
+
+def _way(it: Priced) -> dict:
+    return {
+        "keys": list(it.way.keys),
+        "preimages": [{"function": atom.kind, "value": atom.value} for atom in it.way.hashes],
+        "locks": _locks(it.way.locks),
+        "items": it.items,
+        "weight": it.weight,
+        "witness": it.witness,
+    }
+
+
+def _group(it: Group) -> dict:
+    return {"keys": list(it.keys), "ways": [_way(way) for way in it.ways]}
+
+
+def _opening(it: Opening) -> dict:
+    return {"locks": _locks(it.locks), "ways": it.count, "shown": list(it.shown), "keys": it.keys}
+
+
+def _spending(found: Explanation) -> dict:
+    it = found.spending
+    return {
+        "policy": it.policy,
+        "named": found.said_policy(),
+        "keys": it.keys,
+        "ways": [_way(way) for way in it.shown],
+        "count": it.count,
+        "counted": it.is_all,
+        "openings": [_opening(opening) for opening in it.openings],
+        "alone": [_group(group) for group in it.alone],
+        "together": [_group(group) for group in it.together],
+        "pairs": it.pairs,
+        "idle": it.idle,
+    }
+
+
+def _held(held: Held, found: Explanation) -> dict:
+    missing = [
+        {
+            "keys": list(it.keys),
+            "preimages": [{"function": atom.kind, "value": atom.value} for atom in it.hashes],
+            "locks": _locks(it.locks),
+        }
+        for it in held.missing
+    ]
+    spend = held.spend and {
+        "items": [{"data": it.data.hex(), "name": it.name} for it in held.spend.items],
+        "witness": held.spend.witness.hex(),
+        "weight": held.spend.replay.weight,
+        "ops": held.spend.replay.ops,
+        "peak": held.spend.replay.peak,
+        "checks": list(held.spend.checks),
+        "run": [{"place": it.node.place, "node": words.node_of(it.node, found), "satisfied": it.satisfied} for it in held.spend.parts],
+    }
+    return {"missing": missing, "spend": spend}

@@ -1,0 +1,207 @@
+"""What an asset file makes possible: the witness that `satisfy` writes with each item named, how its run goes, and what is missing
+on each way."""
+
+import json
+from dataclasses import dataclass
+from typing import Callable, Iterator, Optional
+
+import msat
+
+from . import hashes
+from .demand import Atom
+from .locks import COUNT, NO_SEQUENCE, SECONDS, TIMES, Locks, older_bits
+from .tree import Node
+from .ways import Way
+
+Naming = Callable[[str], str]
+
+
+@dataclass(frozen=True)
+class Holding:
+    """What a file holds: the keys with a signature, the preimages, and the transaction's three numbers."""
+
+    keys: frozenset[str]
+    preimages: tuple[bytes, ...]
+    version: int
+    sequence: int
+    locktime: int
+
+    def has(self, atom: Atom) -> bool:
+        """Whether there is a signature of a key, or the preimage of a hash value."""
+        if atom.kind == "key":
+            return atom.value in self.keys
+        return any(hashes.FUNCTIONS[atom.kind](it).hex() == atom.value for it in self.preimages)
+
+    def meets(self, locks: Locks) -> tuple[bool, bool]:
+        """Whether the transaction waits for both locks of a way."""
+        older = locks.older is None or (
+            self.version >= 2
+            and self.sequence < 1 << 31
+            and self.sequence & SECONDS == locks.older & SECONDS
+            and self.sequence & COUNT >= older_bits(locks.older) & COUNT
+        )
+        after = locks.after is None or (
+            self.sequence != 0xFFFFFFFF
+            and (self.locktime < TIMES) == (locks.after < TIMES)
+            and self.locktime >= locks.after
+        )
+        return older, after
+
+
+def holding(file: bytes) -> Holding:
+    """What a file holds that the library has read."""
+    said = json.loads(file)
+    return Holding(
+        frozenset(it["key"].lower() for it in said.get("signatures", [])),
+        tuple(bytes.fromhex(it) for it in said.get("preimages", [])),
+        said.get("version", 2),
+        said.get("sequence", NO_SEQUENCE),
+        said.get("locktime", 0),
+    )
+
+
+@dataclass(frozen=True)
+class Missing:
+    """What a way lacks: keys, hash values, and locks that the transaction doesn't wait for."""
+
+    keys: tuple[str, ...]
+    hashes: tuple[Atom, ...]
+    locks: Locks
+
+    def is_nothing(self) -> bool:
+        return not self.keys and not self.hashes and self.locks.is_none()
+
+
+def missing(way: Way, held: Holding) -> Missing:
+    older, after = held.meets(way.locks)
+    return Missing(
+        tuple(it for it in way.keys if it not in held.keys),
+        tuple(it for it in way.hashes if not held.has(it)),
+        Locks(None if older else way.locks.older, None if after else way.locks.after),
+    )
+
+
+@dataclass(frozen=True)
+class Item:
+    """An item of a witness, and what it is."""
+
+    data: bytes
+    name: str
+
+
+@dataclass(frozen=True)
+class Part:
+    """A node that takes part in a run: whether it is satisfied."""
+
+    node: Node
+    satisfied: bool
+
+
+@dataclass(frozen=True)
+class Spend:
+    """The witness that `satisfy` writes: its items, what the interpreter counted, which nodes take part, children first, and the
+    keys whose signatures were found good, in order."""
+
+    items: tuple[Item, ...]
+    witness: bytes
+    replay: msat.Replay
+    parts: tuple[Part, ...]
+    checks: tuple[str, ...]
+
+
+def spend(text: str, root: Node, file: bytes, consensus: bool, name_of: Naming) -> Optional[Spend]:
+    """How the file spends a sane text; None where it can't. `name_of` names a key or a hash value."""
+    try:
+        found = msat.satisfy(text, file, consensus=consensus)
+    except msat.NoSatisfaction:
+        return None
+    said = json.loads(file)
+    run = {name: said[name] for name in ("version", "sequence", "locktime", "signatures") if name in said}
+    run.update(script=found.script.hex(), witness=[it.hex() for it in found.items])
+    checks = msat.run(json.dumps(run)).checks
+    steps: tuple[msat.Step, ...] = ()
+    if not consensus:
+        steps = msat.audit(text, json.dumps(run)).steps
+    signers = {sig: name_of(key.hex()) for key, sig in reversed(checks)}
+    names = _Names(steps, signers, found.items, name_of).all(root)
+    places = {node.place: node for node in reversed(list(root.walk()))}
+    return Spend(
+        tuple(Item(*it) for it in zip(found.items, names)),
+        found.witness,
+        found.replay,
+        tuple(Part(places[it.place], it.satisfied) for it in _once(steps)),
+        tuple(key.hex() for key, _ in checks),
+    )
+
+
+def _once(steps: tuple[msat.Step, ...]) -> Iterator[msat.Step]:
+    """The steps without those that another one of the same place follows: a name such as `pk` stands for two nodes."""
+    for step, after in zip(steps, (*steps[1:], None)):
+        if after is None or after.place != step.place:
+            yield step
+
+
+class _Names:
+    """The names of a witness's items, by the rows of BIP 379's table that an audit has found. It is read from its end: a node stands
+    behind its children there."""
+
+    def __init__(self, steps: tuple[msat.Step, ...], signers: dict[bytes, str], items: tuple[bytes, ...], name_of: Naming):
+        self.left, self.signers, self.items, self.name_of = list(steps), signers, items, name_of
+
+    def all(self, root: Node) -> list[str]:
+        """The names of all items; plain ones where the audit doesn't fit, as for a text that only consensus takes."""
+        try:
+            names = self.of(root)
+        except IndexError:
+            names = []
+        if len(names) != len(self.items):
+            names = ["empty" if not it else "" for it in self.items]
+        return [name + self.signed(name, it) for name, it in zip(names, self.items)]
+
+    def signed(self, name: str, item: bytes) -> str:
+        return f"{': ' if name else ''}signature of {self.signers[item]}" if item in self.signers and not name.startswith("sig") else ""
+
+    def next_is(self, place: int) -> bool:
+        return bool(self.left) and self.left[-1].place == place
+
+    def of(self, node: Node) -> list[str]:
+        """The names of a node's items, bottom first."""
+        satisfied = self.left.pop().satisfied
+        if node.name in ("pk", "pkh"):
+            self.left.pop()
+        if not node.children:
+            return self.leaf(node, satisfied)
+        # The 0 or 1 that and_n, t, l and u stand for beside their children: before the child, but with l, where it is the first one.
+        constant = self.next_is(node.place)
+        if constant and node.name != "l":
+            self.left.pop()
+        taken = [(at, self.of(child)) for at, child in reversed(list(enumerate(node.children))) if self.next_is(child.place)]
+        if self.next_is(node.place):
+            self.left.pop()
+        return sum((names for _, names in taken), []) + self.choice(node, [at for at, _ in taken], satisfied)
+
+    def choice(self, node: Node, taken: list[int], satisfied: bool) -> list[str]:
+        """The item that a node has of its own, above those of its children."""
+        form = node.name + ":" * node.is_letter
+        if form == "or_i":
+            return [f"{('1', 'empty')[taken[0]]}: the {('first', 'second')[taken[0]]} branch of or_i"]
+        if form in ("l:", "u:"):
+            first = bool(taken) == (form == "u:")
+            return ["1: the first branch of or_i" if first else "empty: the second branch of or_i"]
+        if form == "d:":
+            return ["1: d takes its child" if satisfied else "empty: d leaves its child out"]
+        return ["empty: j leaves its child out"] if form == "j:" and not satisfied else []
+
+    def leaf(self, node: Node, satisfied: bool) -> list[str]:
+        """The items of a node without children."""
+        if node.name in ("pk", "pk_k", "pkh", "pk_h"):
+            key = self.name_of(node.arguments[0])
+            names = [f"signature of {key}" if satisfied else f"empty: no signature of {key}"]
+            return names + [f"the key {key}, whose hash the Script has"] * (node.name in ("pkh", "pk_h"))
+        if node.name == "multi":
+            count = int(node.arguments[0])
+            return ["empty: what CHECKMULTISIG takes besides"] + ["" if satisfied else "empty: no signature"] * count
+        if node.name in hashes.LENGTHS:
+            value = self.name_of(node.arguments[0])
+            return [f"preimage of {value}" if satisfied else f"32 bytes that aren't the preimage of {value}"]
+        return []

@@ -1,0 +1,167 @@
+"""What the parts of an explanation are called: one wording for the text, the page and the file of JSON."""
+
+from typing import Iterator, Optional
+
+from . import hashes
+from .explanation import Explanation, Limit, Priced
+from .held import Missing
+from .lines import Line, number
+from .locks import SECONDS, said, said_after, said_fields, said_older
+from .tree import Node
+from .ways import Way
+
+STANDINS = (
+    "Stand-ins, since no digits were given, are used for {names}. Sizes, weights and ways are the same with any digits; "
+    "there is no address, since nobody could spend what is paid to it."
+)
+
+
+def count(number_: int, one: str, many: str = "") -> str:
+    """A number with its noun.
+
+    >>> count(1, "way"), count(2000, "way"), count(2, "key", "keys that sign")
+    ('1 way', '2,000 ways', '2 keys that sign')
+    """
+    return f"{number_:,} {one if number_ == 1 else many or one + 's'}"
+
+
+def listed(names: list[str], last: str = "and") -> str:
+    """Names in a row.
+
+    >>> listed(["a"]), listed(["a", "b", "c"])
+    ('a', 'a, b and c')
+    """
+    return names[0] if len(names) == 1 else f"{', '.join(names[:-1])} {last} {names[-1]}" if names else ""
+
+
+def node_of(node: Node, shown: Explanation) -> str:
+    """A node with its keys, hash values and numbers, and without its children.
+
+    The children's place is told by dots: `and_v(..)`, `v:`.
+    """
+    if node.is_letter:
+        return node.name + ":"
+    name_of = shown.given.name_of
+    if node.name in ("older", "after", "thresh"):
+        arguments = list(node.arguments)
+    elif node.name == "multi":
+        arguments = node.arguments[:1] + [name_of(it) for it in node.arguments[1:]]
+    else:
+        arguments = [name_of(it) for it in node.arguments]
+    if node.children:
+        arguments.append("..")
+    return node.name + (f"({', '.join(arguments)})" if arguments else "")
+
+
+def word_of(chain: list[Node], shown: Explanation) -> str:
+    """A fragment with the letters before it, as `sln:older(9)`."""
+    letters = "".join(it.name for it in chain[:-1])
+    return (letters + ":" if letters else "") + node_of(chain[-1], shown)
+
+
+def kinds_of(chain: list[Node]) -> str:
+    """Their types: that of a letter stands before that of what it wraps."""
+    return " < ".join(it.kind for it in chain)
+
+
+def note_of(node: Node) -> str:
+    """What a timelock waits for."""
+    if node.name == "older":
+        bits = int(node.arguments[0]) & (SECONDS | 0xFFFF)
+        return f"{said_older(bits)} after the output confirms"
+    return f"from {said_after(int(node.arguments[0]))} on" if node.name == "after" else ""
+
+
+def line_of(line: Line, shown: Explanation) -> str:
+    """An instruction of a Script, with names for what it pushes."""
+    if line.pushed is None:
+        return line.name
+    node, name_of = line.node, shown.given.name_of
+    if node.name in ("pk", "pk_k"):
+        return f"<{name_of(node.arguments[0])}>"
+    if node.name == "multi" and len(line.pushed) == 33:
+        return f"<{name_of(line.pushed.hex())}>"
+    if node.name in ("pkh", "pk_h"):
+        return f"<HASH160 of {name_of(node.arguments[0])}>"
+    if node.name in hashes.LENGTHS and len(line.pushed) > 2:
+        return f"<{name_of(node.arguments[0])}>"
+    return str(number(line.pushed))
+
+
+def writer_of(line: Line, shown: Explanation) -> str:
+    """The node that wrote an instruction."""
+    return node_of(line.node, shown) + (", VERIFY by v:" if line.by_v else "")
+
+
+def way_of(way: Way, shown: Explanation, with_locks: bool = True) -> str:
+    """Who and what a way takes.
+
+    The locks stand behind it: `alice and bob, from height 5 on`.
+    """
+    names = [shown.given.name_of(it) for it in way.keys] + [f"the preimage of {shown.given.name_of(it.value)}" for it in way.hashes]
+    locks = f", {said(way.locks)}" if with_locks and not way.locks.is_none() else ""
+    return (listed(names) or "no signature") + locks
+
+
+def missing_of(missing: Missing, shown: Explanation) -> str:
+    """What a way lacks with a file."""
+    if missing.is_nothing():
+        return "nothing: open now"
+    name_of = shown.given.name_of
+    parts = [f"the signature of {name_of(it)}" for it in missing.keys] + [f"the preimage of {name_of(it.value)}" for it in missing.hashes]
+    return listed(parts + ([] if missing.locks.is_none() else [said_fields(missing.locks)]))
+
+
+def allowed_of(limit: Limit) -> str:
+    """A limit against what is allowed."""
+    return f"{limit.number:,}" if limit.allowed is None else f"{limit.number:,} of {limit.allowed:,}"
+
+
+def keys_of(least: Optional[int]) -> str:
+    """How many keys have to sign at least."""
+    return "no signatures are enough" if least is None else f"at least {count(least, 'key has', 'keys have')} to sign"
+
+
+def digits_of(value: str, shown: Explanation) -> str:
+    """The digits of a key or a hash value, with a name that is cut short elsewhere."""
+    name = shown.given.names.get(value, "")
+    digits = "a stand-in" if shown.given.is_standin(value) else value
+    return digits if name in ("", shown.given.name_of(value)) else f"{digits}: {name}"
+
+
+def more_of(shown: Explanation) -> str:
+    """How many ways there are besides those that are shown."""
+    spending = shown.spending
+    more = spending.count - len(spending.shown)
+    least = "" if spending.is_all else "at least "
+    return f"and {least}{more:,} more" if more or least else ""
+
+
+def times_of(ways: tuple[Priced, ...], shown: Explanation) -> str:
+    """When some keys are enough, and with which preimages."""
+    parts = []
+    for it in ways[:8]:
+        names = [f"the preimage of {shown.given.name_of(atom.value)}" for atom in it.way.hashes]
+        parts.append(said(it.way.locks) + (f" with {listed(names)}" if names else ""))
+    return "; ".join(parts + ([f"and {len(ways) - 8} more"] if len(ways) > 8 else []))
+
+
+def together_rows(shown: Explanation) -> list[tuple[str, str]]:
+    """What each two keys can do beyond each of them alone."""
+    return [(listed([shown.given.name_of(it) for it in group.keys]), times_of(group.ways, shown)) for group in shown.spending.together]
+
+
+def alone_rows(shown: Explanation) -> list[tuple[str, str]]:
+    """What each key can do alone, and in one row those that can do nothing."""
+    groups = shown.spending.alone
+    rows = [(shown.given.name_of(group.keys[0]), times_of(group.ways, shown)) for group in groups if group.ways]
+    idle = [shown.given.name_of(group.keys[0]) for group in groups if not group.ways]
+    return rows + ([(listed(idle), "nothing, at any time")] if idle else [])
+
+
+def notes(shown: Explanation) -> Iterator[str]:
+    """What has to be known of the text: what was done to it, and whose digits are stand-ins."""
+    for done in shown.given.done:
+        yield done + "."
+    if shown.given.standins:
+        yield STANDINS.format(names=listed(list(shown.given.standins)))
