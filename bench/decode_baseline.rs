@@ -153,7 +153,7 @@ impl<'s> Reader<'s> {
                 Some(two(Two::OrI, first, last))
             } else {
                 self.expect(0x64)?;
-                Some(Tree::AndOr(Box::new(self.single()?), Box::new(first), Box::new(last)))
+                Some(Tree::AndOr(Box::new(self.single()?), Box::new(last), Box::new(first)))
             };
         }
         if self.is_next(0x63) {

@@ -1,5 +1,5 @@
 #!/bin/sh
-# Lets each allocation, each read and each write of the proved program fail in turn, over the examples of every command, and over further
+# Lets each allocation, each read and each write of the proved programs fail in turn, over the examples of every command, and over further
 # cases of `check`, `run` and `gen`. A failed allocation has to give status 7 and a failed read status 5, with nothing written; a failed write status 6,
 # with just those bytes of the answer that the writes before it took. Where the last call of a kind is granted too, the answer is whole; so
 # it may be where a failed allocation is made good: an arena that is refused a piece asks for one of half the size, and a list that is made
@@ -7,8 +7,8 @@
 # For this a small library in C stands before the program's `malloc`, `realloc`, `read` and `write`: it counts their calls from the
 # start of the program, fails one of them, and gives 16 bytes a read and takes 10 bytes a write. Then the same by means of the shell
 # alone: a full and a closed standard output, and a directory and nothing as standard input. Prints a table, and ends with 1 where a run
-# says anything else, or where the program can't be built or run. Wants cc and glibc, and builds `msat` where it isn't built; keeps
-# nothing. Usage: bench/fail_faults.sh
+# says anything else, or where a program can't be built or run. Wants cc and glibc, and builds `msat` and `msat-psbt` where they aren't
+# built; keeps nothing. Usage: bench/fail_faults.sh
 top=$(cd "$(dirname "$0")/.." && pwd)
 work=$(mktemp -d) || exit 1
 trap 'rm -rf "$work"' EXIT
@@ -266,4 +266,18 @@ while read -r status_of_run line; do
     all_reads=$((all_reads + reads)) all_writes=$((all_writes + writes))
 done <"$work/runs"
 echo "| \`run\`, $files files | 0, 3 or 8 | $all_allocations | $all_made_good | $all_reads | $all_writes |"
+
+# The other program, over the cases of PSBTs.
+printf cHNidP8BAAoCAAAAAAAAAAAAAA== >"$work/psbt"
+"$top/msat-psbt" hashes <"$work/psbt" || stop "msat-psbt isn't built"
+program=$top/crates/msat_psbt/out/msat_psbt
+for folder in "$top"/examples/psbt/*/; do
+    words=$(cat "$folder/words")
+    row "\`msat-psbt $words\`, $(basename "$folder")" "$(cat "$folder/status")" "$folder/source" "$words"
+    if ! cmp -s "$work/whole" "$folder/report"; then
+        echo "$name: another report than the example's"
+        wrong=$((wrong + 1))
+    fi
+done
+row '`msat-psbt` without words' 1 /dev/null
 [ "$wrong" -eq 0 ] || stop "$wrong runs say something else"

@@ -1,13 +1,21 @@
 #!/bin/sh
 # Fuzzes the proved program with libFuzzer, which follows its coverage: words, texts, asset files, run files, plan files, Scripts and keys, from the
-# cases of examples/, generated texts, and the words of bench/fuzz/msat.dict. bench/fuzz/harness.c says what stops it. For this the product
+# cases of examples/, generated texts, and the words of bench/fuzz/msat.dict; or of msat-psbt, PSBTs from the cases of examples/psbt/ and
+# bench/fuzz/psbt.dict. bench/fuzz/harness.c and bench/fuzz/psbt.c say what stops it. For this the product
 # is compiled once more, from what was proved, with a counter at each branch: the kit's rt calls the kit's compiler with one word more.
 # Ends with a table of the commands and statuses, and with 1 where an input crashed, took over a second, or broke what the harness asks; that
 # input is kept in bench/fuzz/found/. Wants clang with libFuzzer (Debian's clang and libclang-rt-14-dev), objcopy, Python and rt.
-# Usage: bench/fuzz.sh [EXECUTIONS [PROCESSES]]
+# Usage: bench/fuzz.sh [msat-psbt] [EXECUTIONS [PROCESSES]]
 . "$(dirname "$0")/lib.sh"
 wants clang objcopy python3 rt
 product
+own=msat harness=harness words=msat tried='script 1' longest=6000
+if [ "${1:-}" = msat-psbt ]; then
+    shift
+    name=fuzz_psbt own=msat_psbt harness=psbt words=psbt tried=hashes longest=20000
+    printf cHNidP8BAAoCAAAAAAAAAAAAAA== >"$work/empty"
+    "$top/msat-psbt" hashes <"$work/empty" || stop "msat-psbt isn't built"
+fi
 executions=${1:-10000000} processes=${2:-$(nproc)}
 kit=$(dirname "$(rt doc)")
 
@@ -25,32 +33,40 @@ CLANG
 chmod +x "$work/kit/toolchain/bin/clang"
 
 # What comes of it can't be linked as a program, since it has counters and no fuzzer. The product is put back.
-out=$top/crates/msat/out
+out=$top/crates/$own/out
 mkdir "$work/product"
 trap 'mv "$work"/product/* "$out"; rm -rf "$work"' EXIT
-mv "$out/msat" "$out/msat.o" "$work/product" || stop "the product can't be set aside"
+mv "$out/$own" "$out/$own.o" "$work/product" || stop "the product can't be set aside"
 # `rt ci` leaves no stamp.
-[ ! -e "$out/msat.stamp" ] || mv "$out/msat.stamp" "$work/product"
-(cd "$top/crates/msat" && "$work/kit/bin/rt" run -- script 1) >"$work/log" 2>&1
-[ -s "$out/msat.o" ] || { cat "$work/log" >&2 && stop "the program isn't compiled with counters"; }
-objcopy --redefine-sym main=msat_main "$out/msat.o" "$work/msat.o" || stop "the program has no main"
+[ ! -e "$out/$own.stamp" ] || mv "$out/$own.stamp" "$work/product"
+[ -e "$work/empty" ] || : >"$work/empty"
+# shellcheck disable=SC2086
+(cd "$top/crates/$own" && "$work/kit/bin/rt" run -- $tried) <"$work/empty" >"$work/log" 2>&1
+[ -s "$out/$own.o" ] || { cat "$work/log" >&2 && stop "the program isn't compiled with counters"; }
+objcopy --redefine-sym main=msat_main "$out/$own.o" "$work/msat.o" || stop "the program has no main"
 mv "$work"/product/* "$out"
 trap 'rm -rf "$work"' EXIT
-clang -O2 -Wall -Wextra -fsanitize=fuzzer -Wl,--wrap=read,--wrap=write -o "$work/fuzzer" "$top/bench/fuzz/harness.c" "$work/msat.o" \
+clang -O2 -Wall -Wextra -fsanitize=fuzzer -Wl,--wrap=read,--wrap=write -o "$work/fuzzer" "$top/bench/fuzz/$harness.c" "$work/msat.o" \
     "$kit/c/libos_c.a" "$kit/c/liblibc_c.a" || stop "the fuzzer isn't built"
 
-# What it begins with: the cases of examples/, and texts by the types of BIP 379 with each command.
+# What it begins with: the cases of examples/, and texts by the types of BIP 379 with each command; or PSBTs with each command.
 mkdir "$work/seeds" "$work/corpus"
-python3 - "$top" "$work/seeds" <<'PYTHON' || stop "there are no seeds"
+python3 - "$top" "$work/seeds" $own <<'PYTHON' || stop "there are no seeds"
 import pathlib, sys
 
-top, seeds = map(pathlib.Path, sys.argv[1:])
+top, seeds = map(pathlib.Path, sys.argv[1:3])
+if sys.argv[3] == "msat_psbt":
+    made = {case.read_bytes() for case in (top / "examples/psbt").glob("*/source")}
+    for number, source in enumerate(sorted(made)):
+        for letter in "fieh":
+            (seeds / f"{number:04}{letter}").write_bytes(letter.encode() + source)
+    sys.exit(print(f"{4 * len(made)} seeds"))
 sys.path.insert(0, str(top / "bench"))
 from texts import Texts
 
 made = []
 for case in sorted((top / "examples").iterdir()):
-    if case.is_dir():
+    if (case / "words").exists():
         words = (case / "words").read_text().split()
         words += [(case / "text").read_text().strip()] if (case / "text").exists() else []
         source = next((path.read_text() for path in (case / "assets.json", case / "run.json", case / "plan.json") if path.exists()), "")
@@ -73,7 +89,7 @@ PYTHON
 from=$(date +%s)
 for process in $(seq "$processes"); do
     (cd "$work" && mkdir "found$process" && FUZZ_COUNTS=$work/counts$process ./fuzzer -runs=$((executions / processes)) -seed="$process" -timeout=1 \
-        -rss_limit_mb=1024 -max_len=6000 -reload=1 -use_value_profile=1 -dict="$top/bench/fuzz/msat.dict" -artifact_prefix="$work/found$process/" \
+        -rss_limit_mb=1024 -max_len=$longest -reload=1 -use_value_profile=1 -dict="$top/bench/fuzz/$words.dict" -artifact_prefix="$work/found$process/" \
         -print_final_stats=1 corpus seeds >"log$process" 2>&1; echo $? >"status$process") &
 done
 wait

@@ -1,0 +1,106 @@
+/* Runs the proved program msat-psbt on one input of libFuzzer, in this process. The input is a letter for the command and the bytes of standard
+ * input, a PSBT as bytes or as base64.
+ *
+ * It stops, as a crash, where
+ * - the status isn't the one that the report has, or is 5, 6, 7 or 11: no read, write or allocation fails here;
+ * - anything is written to standard error;
+ * - one command refuses the PSBT, and another one doesn't, or at another place;
+ * - `finalize` writes a PSBT that is refused, has another transaction, has an input that is Ready, or changes when it is finalized again; or
+ *   another one than it was given, where no input is Ready;
+ * - the statuses of `finalize`, `inspect` and `extract` don't fit what `inspect` says of the states;
+ * - `extract` of a PSBT that `finalize` has made final gives no transaction.
+ * libFuzzer itself stops where a call takes over a second, or crashes. The file that FUZZ_COUNTS names has in the end a line for each
+ * command and status: how many inputs had it, and how many of these were tried by further calls.
+ */
+#include "run.h"
+
+static char program[] = "msat-psbt";
+static const char *const commands[] = {"finalize", "inspect", "extract", "hashes", "others"};
+enum { FINALIZE, INSPECT, EXTRACT, HASHES, OTHERS, COMMANDS };
+static unsigned long answers[COMMANDS][STATUSES], tried[COMMANDS][STATUSES];
+static struct bytes first, inspected, again, psbt, id, other_id;
+
+static int ask(int which, const struct bytes *of, struct bytes *to) {
+    char *words[] = {program, (char *)commands[which], NULL};
+    return call(words, 2, of->at, of->length, to);
+}
+
+static int is_same(const struct bytes *x, const struct bytes *y) {
+    return x->length == y->length && (!x->length || !memcmp(x->at, y->at, x->length));
+}
+
+/* How many inputs of an inspection have a state that begins so. */
+static int inputs_in(const struct bytes *report, const char *state) {
+    int found = 0;
+    for (const char *at = report->at; at && *at; at = strchr(at, '\n'), at = at ? at + 1 : at) {
+        int end = 0;
+        if (sscanf(at, "input %*u %n", &end) == 0 && end > 0 && begins(at + end, state)) found++;
+    }
+    return found;
+}
+
+/* The status that a report of this command has, where it says it: that of a PSBT that was written is told by its states. */
+static void expect(int which, int status, const struct bytes *report) {
+    if (begins(report->at, "refused psbt ")) {
+        if (status != 3) fail("a refusal has another status");
+    } else if (which == OTHERS) {
+        if (status != 1 || strcmp(report->at, "refused usage\n")) fail("words without a form are answered");
+    } else if (which == EXTRACT && begins(report->at, "not final ")) {
+        if (status != 4) fail("no transaction, and another status");
+    } else if ((which == HASHES || which == EXTRACT) ? status != 0 : status != 0 && status != 4) {
+        fail("a status that the command hasn't");
+    }
+}
+
+static void finalized(int settled, int ready) {
+    if (settled != (inputs_in(&inspected, "") == inputs_in(&inspected, "Final") + ready)) fail("the status isn't that of the states");
+    if (ask(FINALIZE, &first, &again) != (settled ? 0 : 4) || !is_same(&first, &again)) fail("finalizing again changes something");
+    if (!ready && psbt.length >= 5 && !memcmp(psbt.at, "psbt\xff", 5) && !is_same(&first, &psbt)) fail("no input is Ready, and something changes");
+    line(&inspected, "psbt", &id);
+    int all = inputs_in(&inspected, ""), final = inputs_in(&inspected, "Final");
+    if (ask(INSPECT, &first, &again) != (settled ? 0 : 4)) fail("what was written is inspected with another status");
+    if (!line(&again, "psbt", &other_id) || strcmp(id.at, other_id.at)) fail("what was written has another transaction");
+    if (inputs_in(&again, "Ready") || inputs_in(&again, "") != all || inputs_in(&again, "Final") != final + ready) fail("what was written has other states");
+    if (ask(EXTRACT, &first, &again) != (settled && all ? 0 : 4)) fail("what was made final isn't extracted, or what isn't is");
+}
+
+static void try_all(int which, int status) {
+    int by_inspect = ask(INSPECT, &psbt, &inspected);
+    if ((by_inspect == 3) != (status == 3)) fail("one command refuses the PSBT, and another one doesn't");
+    if (status == 3) {
+        if (!is_same(&first, &inspected)) fail("the PSBT is refused for another reason");
+        return;
+    }
+    int ready = inputs_in(&inspected, "Ready"), final = inputs_in(&inspected, "Final"), all = inputs_in(&inspected, "");
+    if ((by_inspect == 0) != (ready + final == all)) fail("an inspection has another status than its states");
+    if (which == FINALIZE) finalized(status == 0, ready);
+    if (which == EXTRACT && (status == 0) != (all && final == all)) fail("a transaction, or none, against the states");
+    if (which == HASHES && (inputs_in(&first, "") != all || inputs_in(&first, "Ready") != ready)) fail("the hashes have other states");
+    tried[which][status]++;
+}
+
+static void write_counts(void) {
+    const char *path = getenv("FUZZ_COUNTS");
+    FILE *to = path ? fopen(path, "w") : NULL;
+    if (!to) return;
+    for (int i = 0; i < COMMANDS; i++)
+        for (int status = 0; status < STATUSES; status++)
+            if (answers[i][status]) fprintf(to, "%s\t%d\t%lu\t%lu\n", commands[i], status, answers[i][status], tried[i][status]);
+    fclose(to);
+}
+
+int LLVMFuzzerTestOneInput(const uint8_t *data, size_t size) {
+    static int is_first = 1;
+    if (is_first) is_first = 0, atexit(write_counts);
+    const char *letters = "fieh";
+    const char *letter = size && data[0] ? strchr(letters, data[0]) : NULL;
+    int which = letter ? (int)(letter - letters) : OTHERS;
+    psbt.length = 0;
+    if (size) add(&psbt, data + 1, size - 1);
+    else add(&psbt, "", 0);
+    int status = ask(which, &psbt, &first);
+    expect(which, status, &first);
+    answers[which][status]++;
+    if (which != OTHERS) try_all(which, status);
+    return 0;
+}

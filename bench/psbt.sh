@@ -1,0 +1,40 @@
+#!/bin/sh
+# How `msat-psbt finalize` grows with the inputs of a PSBT: instructions for 1,000 and 2,000 inputs of 2-of-3, with and without derivations and with
+# previous transactions, of the product and of the plain program that does the same; what both write is compared byte for byte. Ends
+# with 1 where it takes more than 1.5 times the instructions of the plain one, start left out, or more than 2.1 times as many for
+# twice the inputs.
+. "$(dirname "$0")/lib.sh"
+wants valgrind rustc python3
+program=$top/crates/msat_psbt/out/msat_psbt
+printf 'cHNidP8BAAoCAAAAAAAAAAAAAA==' | "$top/msat-psbt" hashes || stop "msat-psbt isn't built"
+plain psbt_baseline
+input=$work/psbt
+
+# A row for a shape with so many inputs, where both programs write the same.
+measure() {
+    shape=$1 size=$2
+    "$top/bench/psbt_sources" "$shape" "$size" >"$input" || stop "$shape $size: no PSBT"
+    "$program" finalize <"$input" >"$work/proved.out" || stop "$shape $size: msat-psbt has another status than 0: $(head -c 200 "$work/proved.out")"
+    "$plain" <"$input" >"$work/plain.out" || stop "$shape $size: the plain program has another status than 0"
+    cmp "$work/proved.out" "$work/plain.out" >&2 || stop "$shape $size: the outputs differ"
+    count "$program" finalize
+    proved=$counted
+    count "$plain"
+    row finalize "$shape" "$size" "$(wc -c <"$input")" "$proved" "$counted"
+}
+
+columns command shape size bytes proved plain
+measure two_of_three 0
+for shape in two_of_three bare previous; do
+    measure "$shape" 1000
+    measure "$shape" 2000
+done
+finish
+awk '
+    NR == 1 { next }
+    $3 == 0 { start = $5; plain_start = $6; next }
+    { proved = $5 - start; plain = $6 - plain_start; times = proved / plain; printf "%s %d: %.2f times the plain program", $2, $3, times; over = over || times > 1.5 }
+    $3 == 1000 { half = proved }
+    $3 == 2000 { printf ", %.2f times those of half the inputs", proved / half; over = over || proved / half > 2.1 }
+    { print "" }
+    END { exit over }' "$work/rows" || stop "over a bar"
