@@ -11,13 +11,30 @@ use Rattle.def_script.proofs.Sizing.{size_is_read_back}
 use Rattle.def_psbt.specs.declared.PsbtFault.TheVariants.{RepeatedKey, KeyForm}
 use Rattle.def_psbt.specs.Laws.{IsSoundMap}
 use Rattle.def_psbt.specs.Listed.{Form, is_typed, stands, form_fault, shape_fault, pair_fault}
-use Rattle.def_psbt.specs.Map.{Pair, Map, type_of, data_of, data_read, pair_text, map_text}
+use Rattle.def_psbt.specs.Map.{Pair, Map, type_of, type_read, data_of, data_read, pair_text, map_text}
 use Rattle.def_psbt.specs.Part.{first_bytes, first_size, size_part, first_string}
 use Rattle.ms_psbt.specs.Pairs.{first_pair, parts_in, pairs_in}
 use Rattle.ms_psbt.specs.Scaffolding.Pairs.{IsSpelled, IsMapText}
 
 some_is : {A : Type 0} (x y : A) → Some x ≡ Some y → x ≡ y
 some_is x y e = cc
+
+-- the type of a key is the size at its front
+pub type_before : (key : Bytes) (size : ℕ) (rest : Bytes) → first_size key ≡ Some (size, rest) → size ≡ type_of key
+unfolding first_size
+type_before key size rest e = go (read_size key) e
+  where
+    go : (reading : SizeReading) → size_part key reading ≡ Some (size, rest) → size ≡ type_read reading
+    go (Ok read) e = ap (λ (p : ℕ × Bytes). p.0) (sym (some_is (read.0, drop read.1 key) (size, rest) e))
+    go (Err fault) e = absurd cc
+
+pub no_type : (key : Bytes) → first_size key ≡ None → 0 ≡ type_of key
+unfolding first_size
+no_type key e = go (read_size key) e
+  where
+    go : (reading : SizeReading) → size_part key reading ≡ None → 0 ≡ type_read reading
+    go (Ok read) e = absurd cc
+    go (Err fault) e = refl
 
 -- the data of a key are the bytes behind its type
 pub data_behind : (key : Bytes) (size : ℕ) (rest : Bytes) → first_size key ≡ Some (size, rest) → rest ≡ data_of key

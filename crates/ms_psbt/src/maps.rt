@@ -66,7 +66,7 @@ fn walk(alloc: Global, kind: MapKind, psbt: &[u8], from: usize) -> Result<Walked
     ensures up { IfOk result (λ walked. IsStrictlyIncreasing walked.places.items) }
     ensures within { IfOk result (λ walked. IfOk walked.outcome (λ end. end ≤ length psbt.now)) }
 {
-    let mut places = Vec::new(alloc);
+    let mut places = Vec::with_capacity(alloc, 8)?;
     let mut at = from;
     loop {
         match next_step(alloc, kind, psbt, at)? {

@@ -52,9 +52,9 @@ impl<'a> PairRef<'a> {
     pub fn key_type(&self) -> u64
         ensures { result ≡ type_of self.now.key }
     {
-        match read_size(self.key, 0) {
-            Ok((type_number, _)) => type_number,
-            Err(_) => 0,
+        match first_size(self.key) {
+            Some((type_number, _)) => type_number,
+            None => 0,
         }
     }
 
@@ -78,9 +78,22 @@ fn fault_of(fault: SizeFault) -> PsbtFault
     }
 }
 
-/// The size at a place, and the place behind it.
-#[tactic(auto, unfolding(def_psbt::specs::Reading::size_at))]
+/// The size at a place, and the place behind it. Nearly all sizes are of one byte.
+#[tactic(auto, unfolding(def_psbt::specs::Reading::size_at, def_script::specs::Sizes::read_size))]
 pub fn size_at(psbt: &[u8], at: usize) -> Result<(u64, usize), Refusal>
+    requires { at ≤ length psbt.now }
+    ensures reading { result ≡ the_size_at psbt.now at }
+    ensures within { IfOk result (λ read. read.1 ≤ length psbt.now) }
+    ensures later { IfOk result (λ read. at < read.1) }
+{
+    match &psbt[at..] {
+        [size @ 0..=0xfc, ..] => Ok((*size as u64, at + 1)),
+        _ => wide_size_at(psbt, at),
+    }
+}
+
+#[tactic(auto, unfolding(def_psbt::specs::Reading::size_at))]
+fn wide_size_at(psbt: &[u8], at: usize) -> Result<(u64, usize), Refusal>
     requires { at ≤ length psbt.now }
     ensures reading { result ≡ the_size_at psbt.now at }
     ensures within { IfOk result (λ read. read.1 ≤ length psbt.now) }

@@ -19,9 +19,19 @@ pub fn first_bytes(count: u64, bytes: &[u8]) -> Option<(&[u8], &[u8])>
     }
 }
 
-/// A CompactSize, and the bytes behind it.
-#[tactic(auto, unfolding(def_psbt::specs::Part::first_size))]
+/// A CompactSize, and the bytes behind it. Nearly all are of one byte.
+#[tactic(auto, unfolding(def_psbt::specs::Part::first_size, def_script::specs::Sizes::read_size))]
 pub fn first_size(bytes: &[u8]) -> Option<(u64, &[u8])>
+    ensures { IsPart (λ part. (part.0, part.1.now)) result (the_first_size bytes.now) }
+{
+    match bytes {
+        [size @ 0..=0xfc, rest @ ..] => Some((*size as u64, rest)),
+        _ => first_wide_size(bytes),
+    }
+}
+
+#[tactic(auto, unfolding(def_psbt::specs::Part::first_size))]
+fn first_wide_size(bytes: &[u8]) -> Option<(u64, &[u8])>
     ensures { IsPart (λ part. (part.0, part.1.now)) result (the_first_size bytes.now) }
 {
     match read_size(bytes, 0) {

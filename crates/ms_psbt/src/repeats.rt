@@ -1,7 +1,9 @@
 //! Keys that stand twice, found by a sort of their places.
 
 ghost use Rattle.std.specs.Prelude.{◌≡◌, ◌+◌, ◌<◌, ◌≤◌, length, []};
+ghost use Rattle.std.specs.Cmp.Lexicographic.{slice_cmp};
 ghost use Rattle.std.specs.List.Sorted.{IsStrictlyIncreasing};
+ghost use Rattle.std.specs.Ordering.{nat_cmp};
 ghost use Rattle.ms_psbt.specs.Scaffolding.Repeats.{key_at as the_key_at, rank_cmp, rank_of, repeat_in, LeastOf, least_of as the_least_of};
 
 use crate::pairs::string_at;
@@ -53,7 +55,29 @@ fn compare(keys: Keys, bytes: &[u8], first: u32, second: u32) -> Ordering
 {
     let key = key_at(keys, bytes, first);
     let other = key_at(keys, bytes, second);
-    key.cmp(other).then(first.cmp(&second))
+    compare_keys(key, other).then(first.cmp(&second))
+}
+
+/// The order of keys by their bytes. Most differ in their first four, which are compared here, without a call.
+fn compare_keys(key: &[u8], other: &[u8]) -> Ordering
+    ensures { result ≡ slice_cmp nat_cmp key.now other.now }
+{
+    let ([a, b, c, d, ..], [e, f, g, h, ..]) = (key, other) else {
+        return key.cmp(other);
+    };
+    if a != e {
+        return a.cmp(e);
+    }
+    if b != f {
+        return b.cmp(f);
+    }
+    if c != g {
+        return c.cmp(g);
+    }
+    if d != h {
+        return d.cmp(h);
+    }
+    key.cmp(other)
 }
 
 /// The first place whose key stands at an earlier one too.

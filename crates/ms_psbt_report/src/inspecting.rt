@@ -2,6 +2,8 @@
 ghost use Rattle.std.specs.Prelude.{◌≡◌, ℕ, ◌+◌, ◌*◌, ◌<◌, ◌≤◌, ◌^◌, ◌&&◌, ◌||◌, ◌++◌, [], ◌∷◌, if◌then◌else◌, List, length, take, All, IfOk, IfSome, OnOk};
 ghost use Rattle.def_spend.specs.States.{is_final, is_ready};
 ghost use Rattle.def_spend.specs.Reading.{Input as TheInput, AreInputs};
+ghost use Rattle.def_psbt_answer.specs.Fee.{paid as the_paid, fee_line_by};
+ghost use Rattle.def_psbt_answer.specs.Lines.{psbt_line, output_lines};
 ghost use Rattle.def_psbt_answer.specs.Reply.{settled_status};
 ghost use Rattle.def_psbt_answer.specs.Report.{inspect_report};
 ghost use Rattle.ms_input.specs.Seen.{input_seen};
@@ -49,20 +51,28 @@ pub fn inspect<'p>(alloc: Global, psbt: &'p Psbt<'p>) -> Result<Inspection, Allo
 {
     let transaction = unsigned_transaction(psbt);
     let told = tell_inputs(alloc, psbt, &transaction)?;
-    let mut report = Vec::new(alloc);
-    push_transaction(&mut report, &transaction)?;
-    let paid = push_outputs(&mut report, &transaction)?;
-    push_fee_line(
-        &mut report,
-        told.spent.satoshis,
-        paid,
-        told.spent.are_proved,
-    )?;
-    report.extend_from_slice(&told.lines)?;
     Ok(Inspection {
         status: status_of(told.are_settled),
-        report,
+        report: with_money(told.lines, told.spent, &transaction)?,
     })
+}
+
+/// The lines of inputs that spend this, behind those that say what the transaction does with the money. These come last and are
+/// put in front where they lie, so that no second report stands in memory.
+fn with_money(
+    lines: Vec<u8>,
+    spent: Spent,
+    transaction: &TransactionRef<'_>,
+) -> Result<Vec<u8>, AllocError>
+    ensures { IfOk result (λ report. report.items ≡ psbt_line transaction.now ++ output_lines 0 transaction.now.outputs ++ fee_line_by spent.satoshis (the_paid transaction.now.outputs) spent.are_proved ++ lines.items) }
+{
+    let mut report = lines;
+    let size = report.len();
+    push_transaction(&mut report, transaction)?;
+    let paid = push_outputs(&mut report, transaction)?;
+    push_fee_line(&mut report, spent.satoshis, paid, spent.are_proved)?;
+    report.rotate_left(size);
+    Ok(report)
 }
 
 /// The status of a reply to inputs.

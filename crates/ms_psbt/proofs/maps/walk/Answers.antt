@@ -37,7 +37,7 @@ loop-places-preserved c =
 pub loop-places-init : goal.loop-places-init
 loop-places-init c = (
   c.requires.from,
-  subst (λ places. Before places c.args.from) (sym c.new-places.ensures.items) (none_before c.args.from),
-  subst (λ places. WalksOn (forms_of c.args.kind) c.args.psbt.now c.args.from places (walk_from (forms_of c.args.kind) c.args.psbt.now (suc (length c.args.psbt.now)) c.args.from)) (sym c.new-places.ensures.items)
+  subst (λ places. Before places c.args.from) (sym c.in_ok-places.ensures.items) (none_before c.args.from),
+  subst (λ places. WalksOn (forms_of c.args.kind) c.args.psbt.now c.args.from places (walk_from (forms_of c.args.kind) c.args.psbt.now (suc (length c.args.psbt.now)) c.args.from)) (sym c.in_ok-places.ensures.items)
       (walk_starts (forms_of c.args.kind) c.args.psbt.now c.args.from),
 )
