@@ -94,7 +94,7 @@ enum {
 uint32_t msat_psbt_answer(size_t count, const char *words, size_t words_len, const void *source, size_t source_len, char *report,
                           size_t report_len, size_t *needed);
 
-/* Why a text or an asset file is refused, as plain numbers. What isn't named at its kind is 0. */
+/* Why a text, a file, or arrays in its place are refused, as plain numbers. What isn't named at its kind is 0. */
 struct msat_reason {
     uint32_t kind;   /* one of the kinds below, or 0 where there is none */
     uint32_t rule;   /* the requirement that is false, one of MSAT_RULE_..; of a file its member, one of MSAT_MEMBER_.. */
@@ -116,17 +116,18 @@ enum {
     MSAT_NO_SIGNATURE,
     MSAT_MIXED_LOCKS,  /* place */
     MSAT_REPEATED_KEY, /* place */
-    /* of an asset file */
+    /* of an asset file, or of arrays in its place or in that of a plan file or a run file */
     MSAT_FILE_TOO_LONG,
     MSAT_NOT_JSON,
     MSAT_SHAPE,             /* rule: the member */
     MSAT_NUMBER,            /* rule: the member */
     MSAT_HEX,               /* rule: the member; place */
-    MSAT_KEY_FORM,          /* place, in the signatures, as the next */
-    MSAT_SIG_LENGTH,        /* place */
+    MSAT_KEY_FORM,          /* place, in the signatures or the keys of a plan */
+    MSAT_SIG_LENGTH,        /* place, in the signatures */
     MSAT_PREIMAGE_LENGTH,   /* place, in the preimages */
     MSAT_TOO_MANY,          /* rule: the member */
-    MSAT_FILE_REPEATED_KEY  /* place, in the signatures */
+    MSAT_FILE_REPEATED_KEY, /* place, in the signatures or the keys of a plan */
+    MSAT_LENGTH             /* place, in the keys of a plan */
 };
 /* The requirements of BIP 379's tables of types, as `rule` numbers them; docs/FORMATS.md (msat(5)) says what each asks for. */
 enum {
@@ -180,7 +181,8 @@ enum {
     MSAT_MEMBER_PREIMAGES,
     MSAT_MEMBER_SCRIPT,
     MSAT_MEMBER_WITNESS,
-    MSAT_MEMBER_FORMAT
+    MSAT_MEMBER_FORMAT,
+    MSAT_MEMBER_KEYS
 };
 
 /* What is known of a sane text. */
@@ -191,14 +193,57 @@ struct msat_facts {
     bool z, o, n, d, u, s, f, e;       /* the properties of both types */
 };
 
+/* What a run comes to: its counts where it is accepted, or its fault and place where it is refused; the others are 0. */
+struct msat_outcome {
+    uint32_t ops;   /* the opcodes above hex 60, with the keys of executed multisignatures */
+    uint32_t peak;  /* the most elements that both stacks held together */
+    uint32_t fault; /* one of the faults below, or 0 where the run is accepted */
+    uint32_t place; /* the instruction that met it, from 0; the number of instructions for a fault of the end */
+};
+/* docs/FORMATS.md (msat(5)) says what each fault is. */
+enum {
+    MSAT_RUN_SCRIPT_SIZE = 1,
+    MSAT_RUN_ELEMENT_SIZE,
+    MSAT_RUN_TRUNCATED,
+    MSAT_RUN_NON_MINIMAL_PUSH,
+    MSAT_RUN_UNSUPPORTED,
+    MSAT_RUN_OP_COUNT,
+    MSAT_RUN_STACK_UNDERFLOW,
+    MSAT_RUN_ALT_UNDERFLOW,
+    MSAT_RUN_UNBALANCED,
+    MSAT_RUN_MINIMAL_IF,
+    MSAT_RUN_VERIFY,
+    MSAT_RUN_NUMBER_FORM,
+    MSAT_RUN_NEGATIVE_LOCK,
+    MSAT_RUN_UNMET_LOCK,
+    MSAT_RUN_KEY_FORM,
+    MSAT_RUN_NULL_FAIL,
+    MSAT_RUN_NULL_DUMMY,
+    MSAT_RUN_KEY_COUNT,
+    MSAT_RUN_SIG_COUNT,
+    MSAT_RUN_STACK_SIZE,
+    MSAT_RUN_CLEAN_STACK,
+    MSAT_RUN_EVAL_FALSE,
+    MSAT_RUN_WRONG_SCRIPT /* of msat_audit alone, before any run: the script isn't that of the text */
+};
+
+/* How a node of a text takes part in a satisfaction. */
+struct msat_step {
+    uint32_t place; /* the byte of the text where the node's name or letter stands, from 0 */
+    bool sat;       /* it is satisfied, and else dissatisfied */
+    bool extra;     /* by a row of BIP 379's table that isn't canonical */
+};
+
 /* The functions below are asked by a text and give numbers and bytes, without a report. `consensus` holds the text to the
  * limits of consensus, and not to those of policy. Each answers
  *
  *   MSAT_DONE              what was asked for was given;
  *   MSAT_TEXT_REFUSED      and `*reason` says why: a text that isn't valid for msat_script, msat_least_weight, and msat_witness and
- *                          msat_satisfy with `malleable`; one that isn't sane for msat_check, msat_policy, and these two without it;
+ *                          msat_satisfy with `malleable`, and msat_audit; one that isn't sane for msat_check, msat_policy, msat_plan, and
+ *                          those two without it;
  *   MSAT_FILE_REFUSED      and `*reason` says why, where there is a file, or arrays in its place;
- *   MSAT_NO_SATISFACTION   where there is one, and no canonical satisfaction with what it holds;
+ *   MSAT_NO_SATISFACTION   where there is one, and no canonical satisfaction with what it holds, or no plan;
+ *   MSAT_NOT_ACCEPTED      of msat_audit alone: the stack isn't accepted;
  *   MSAT_UNREADABLE        exactly where the text isn't UTF-8;
  *   MSAT_NO_MEMORY         in place of any other code but MSAT_UNREADABLE.
  */
@@ -260,6 +305,76 @@ uint32_t msat_policy(const char *text, size_t text_len, char *policy, size_t pol
                      struct msat_reason *reason);
 #define MSAT_NEVER UINT64_MAX
 
+/* Which keys to ask for a signature for a text that is sane by the limits of policy, and what its satisfaction weighs at most then,
+ * before anyone signs.
+ *
+ * version, sequence, locktime   as in msat_satisfy, and so are the preimages
+ * keys                          compressed keys of 33 bytes, one after the other: those that can sign
+ * signature_lengths             how many bytes the signature of each is estimated to have at most, with the byte of its hash type:
+ *                               1 to 73
+ * asked                         room for the keys to ask, of 33 bytes each, one after the other, in the order of the nodes and, in
+ *                               a `multi`, of its positions. The beginning is written as far as there is room.
+ * needed                        how many bytes these have. `keys_len` bytes are room enough.
+ * weight                        in bytes: for each item 1 and its length, the Script aside, where the signatures of these keys have
+ *                               the estimated lengths
+ *
+ * Signatures of the keys to ask are enough, of whatever lengths and whoever else signs; where none is longer than estimated msat_satisfy
+ * gives a satisfaction of at most this weight, and without one of them those of the others make none. MSAT_NO_SATISFACTION comes where
+ * the signatures of all keys aren't enough. Arrays are refused as a plan file with the same is, with MSAT_FILE_REFUSED: by MSAT_SHAPE of
+ * MSAT_MEMBER_KEYS where there aren't 33 bytes of keys for each length; by MSAT_SHAPE of MSAT_MEMBER_PREIMAGES where these aren't 32
+ * bytes each; by MSAT_TOO_MANY over 256 of either; and then by MSAT_KEY_FORM, MSAT_LENGTH or MSAT_FILE_REPEATED_KEY, of which the first
+ * that applies anywhere is told, at its first place.
+ */
+uint32_t msat_plan(const char *text, size_t text_len, uint32_t version, uint32_t sequence, uint32_t locktime, const uint8_t *keys,
+                   size_t keys_len, const size_t *signature_lengths, size_t signature_count, const uint8_t *preimages,
+                   size_t preimages_len, uint8_t *asked, size_t asked_len, size_t *needed, uint64_t *weight,
+                   struct msat_reason *reason);
+
+/* The run of a script on a stack, by the interpreter.
+ *
+ * version, sequence, locktime   as in msat_satisfy
+ * script                        the script
+ * items                         the items of the stack, bottom first, one after the other, without the script
+ * item_lengths                  how many bytes each has
+ * keys, signatures              the signatures that are good, one after the other, and the key of each, of 33 bytes. No signature is
+ *                               computed: one is good exactly where it stands here with its key.
+ * signature_lengths             how many bytes each has
+ * bytes, needed                 room for the pairs that an accepted run found good, in order, each key before its signature, one
+ *                               after the other, as far as there is room, and how many bytes all have
+ * lengths, count                room for their lengths, as far as there is room, and how many these are, two for each pair. A run finds
+ *                               at most 201 pairs good.
+ * outcome                       what the run comes to
+ *
+ * The answer is MSAT_DONE where the run is accepted; MSAT_SCRIPT_REFUSED where it is refused, and then `*needed` and `*count` are 0;
+ * MSAT_FILE_REFUSED where the arrays are, and `*reason` says why: by MSAT_SHAPE of MSAT_MEMBER_SIGNATURES where there aren't 33 bytes of
+ * keys for each length, or the lengths don't add up to `signatures_len`; by MSAT_SHAPE of MSAT_MEMBER_WITNESS where those of the items
+ * don't add up; by MSAT_TOO_MANY of MSAT_MEMBER_SIGNATURES over 256 of these; or by that of MSAT_MEMBER_WITNESS over 2000 items; or
+ * MSAT_NO_MEMORY in place of any of these.
+ */
+uint32_t msat_run(uint32_t version, uint32_t sequence, uint32_t locktime, const uint8_t *script, size_t script_len, const uint8_t *items,
+                  size_t items_len, const size_t *item_lengths, size_t item_count, const uint8_t *keys, size_t keys_len,
+                  const uint8_t *signatures, size_t signatures_len, const size_t *signature_lengths, size_t signature_count,
+                  uint8_t *bytes, size_t bytes_len, size_t *needed, size_t *lengths, size_t lengths_len, size_t *count,
+                  struct msat_outcome *outcome, struct msat_reason *reason);
+
+/* Whether a stack is accepted for a text that is valid by the limits of policy, and by which rows of BIP 379's table it satisfies the
+ * text. The script has to be that of the text; it and the arrays are as in msat_run, and refused as there.
+ *
+ * steps       room for the steps of a stack that is accepted, children before their node, left to right. The first ones are written
+ *             as far as there is room: `steps_len` is how many fit, not how many bytes that is.
+ * count       how many steps there are
+ * canonical   whether the stack is accepted and no step is by another row than a canonical one. It doesn't say that nobody can change
+ *             the stack.
+ * outcome     what the run of the stack comes to, or MSAT_RUN_WRONG_SCRIPT
+ *
+ * Where the stack isn't accepted, the answer is MSAT_NOT_ACCEPTED, `*count` is 0 and `*canonical` false.
+ */
+uint32_t msat_audit(const char *text, size_t text_len, uint32_t version, uint32_t sequence, uint32_t locktime, const uint8_t *script,
+                    size_t script_len, const uint8_t *items, size_t items_len, const size_t *item_lengths, size_t item_count,
+                    const uint8_t *keys, size_t keys_len, const uint8_t *signatures, size_t signatures_len,
+                    const size_t *signature_lengths, size_t signature_count, struct msat_step *steps, size_t steps_len, size_t *count,
+                    bool *canonical, struct msat_outcome *outcome, struct msat_reason *reason);
+
 /* The text, valid by the limits of policy, that a Script is read back as: its beginning is written to `text`, and `*needed` is its
  * whole length. `keys` are compressed keys of 33 bytes, one after the other: those that the Script's hashes of keys may be of.
  * The answer is MSAT_DONE; MSAT_NO_READING where no such text has this Script; MSAT_USAGE where the keys are none; or MSAT_NO_MEMORY.
@@ -278,7 +393,7 @@ static inline const char *msat_fault_name(uint32_t kind) {
     static const char *const names[] = {
         "TooLong", "Syntax", "TooDeep", "Rule", "TopNotB", "Size", "Ops", "Items", "Malleable", "NoSignature", "MixedLocks",
         "RepeatedKey", "TooLong", "NotJson", "Shape", "Number", "Hex", "KeyForm", "SigLength", "PreimageLength", "TooMany",
-        "RepeatedKey"};
+        "RepeatedKey", "Length"};
     return kind >= 1 && kind - 1 < sizeof names / sizeof names[0] ? names[kind - 1] : NULL;
 }
 
@@ -295,8 +410,17 @@ static inline const char *msat_rule_name(uint32_t rule) {
 /* of a file's member, as "signatures"; the whole is "file" */
 static inline const char *msat_member_name(uint32_t member) {
     static const char *const names[] = {
-        "file", "version", "sequence", "locktime", "signatures", "preimages", "script", "witness", "format"};
+        "file", "version", "sequence", "locktime", "signatures", "preimages", "script", "witness", "format", "keys"};
     return member < sizeof names / sizeof names[0] ? names[member] : NULL;
+}
+
+/* of the fault of a run, as "CleanStack", or "WrongScript" */
+static inline const char *msat_run_fault_name(uint32_t fault) {
+    static const char *const names[] = {
+        "ScriptSize", "ElementSize", "Truncated", "NonMinimalPush", "Unsupported", "OpCount", "StackUnderflow", "AltUnderflow",
+        "Unbalanced", "MinimalIf", "Verify", "NumberForm", "NegativeLock", "UnmetLock", "KeyForm", "NullFail", "NullDummy",
+        "KeyCount", "SigCount", "StackSize", "CleanStack", "EvalFalse", "WrongScript"};
+    return fault >= 1 && fault - 1 < sizeof names / sizeof names[0] ? names[fault - 1] : NULL;
 }
 
 #if defined MSAT_ASSERT && !defined NDEBUG
@@ -423,6 +547,91 @@ static inline uint32_t msat_satisfy_asserted(bool malleable, bool consensus, con
                         count, reason);
 }
 
+/* An array of lengths is there and aligned, and has no more of them than memory could hold. */
+#define MSAT_ARE_LENGTHS(at, count) \
+    (MSAT_IS_BUFFER(at, count) && msat_address(at) % sizeof *(at) == 0 && (count) <= SIZE_MAX / sizeof *(at))
+
+static inline uint32_t msat_plan_asserted(const char *text, size_t text_len, uint32_t version, uint32_t sequence, uint32_t locktime,
+                                          const uint8_t *keys, size_t keys_len, const size_t *signature_lengths,
+                                          size_t signature_count, const uint8_t *preimages, size_t preimages_len, uint8_t *asked,
+                                          size_t asked_len, size_t *needed, uint64_t *weight, struct msat_reason *reason) {
+    size_t given = signature_count * sizeof *signature_lengths;
+    const uint8_t *signatures = NULL;
+    size_t signatures_len = 0;
+    assert(MSAT_IS_BUFFER(text, text_len) && MSAT_IS_BUFFER(keys, keys_len) && MSAT_ARE_LENGTHS(signature_lengths, signature_count));
+    assert(MSAT_IS_BUFFER(preimages, preimages_len) && MSAT_IS_BUFFER(asked, asked_len));
+    assert(MSAT_IS_VALUE(needed) && MSAT_IS_VALUE(weight) && MSAT_IS_VALUE(reason));
+    assert(MSAT_IS_OUT(asked, asked_len) && MSAT_IS_OUT(needed, sizeof *needed) && MSAT_IS_OUT(weight, sizeof *weight));
+    assert(MSAT_IS_OUT(reason, sizeof *reason));
+    assert(MSAT_IS_APART(asked, asked_len, needed, sizeof *needed, weight, sizeof *weight));
+    assert(MSAT_IS_APART(reason, sizeof *reason, needed, sizeof *needed, weight, sizeof *weight));
+    assert(MSAT_ARE_APART(asked, asked_len, reason, sizeof *reason) && MSAT_ARE_APART(needed, sizeof *needed, weight, sizeof *weight));
+    return msat_plan(text, text_len, version, sequence, locktime, keys, keys_len, signature_lengths, signature_count, preimages,
+                     preimages_len, asked, asked_len, needed, weight, reason);
+}
+
+/* What msat_run and msat_audit write at `at` overlaps nothing that they read. */
+#define MSAT_IS_RUN_OUT(at, len) \
+    (MSAT_IS_APART(at, len, script, script_len, items, items_len) && MSAT_IS_APART(at, len, keys, keys_len, signatures, signatures_len) && \
+     MSAT_IS_APART(at, len, item_lengths, item_count * sizeof *item_lengths, signature_lengths, signature_count * sizeof *signature_lengths))
+
+static inline uint32_t msat_run_asserted(uint32_t version, uint32_t sequence, uint32_t locktime, const uint8_t *script,
+                                         size_t script_len, const uint8_t *items, size_t items_len, const size_t *item_lengths,
+                                         size_t item_count, const uint8_t *keys, size_t keys_len, const uint8_t *signatures,
+                                         size_t signatures_len, const size_t *signature_lengths, size_t signature_count,
+                                         uint8_t *bytes, size_t bytes_len, size_t *needed, size_t *lengths, size_t lengths_len,
+                                         size_t *count, struct msat_outcome *outcome, struct msat_reason *reason) {
+    size_t told = lengths_len * sizeof *lengths;
+    assert(MSAT_IS_BUFFER(script, script_len) && MSAT_IS_BUFFER(items, items_len) && MSAT_ARE_LENGTHS(item_lengths, item_count));
+    assert(MSAT_IS_BUFFER(keys, keys_len) && MSAT_IS_BUFFER(signatures, signatures_len));
+    assert(MSAT_ARE_LENGTHS(signature_lengths, signature_count));
+    assert(MSAT_IS_BUFFER(bytes, bytes_len) && MSAT_ARE_LENGTHS(lengths, lengths_len));
+    assert(MSAT_IS_VALUE(needed) && MSAT_IS_VALUE(count) && MSAT_IS_VALUE(reason));
+    assert(outcome != NULL && msat_address(outcome) % sizeof outcome->ops == 0);
+    assert(MSAT_IS_RUN_OUT(bytes, bytes_len) && MSAT_IS_RUN_OUT(lengths, told) && MSAT_IS_RUN_OUT(needed, sizeof *needed));
+    assert(MSAT_IS_RUN_OUT(count, sizeof *count) && MSAT_IS_RUN_OUT(outcome, sizeof *outcome) && MSAT_IS_RUN_OUT(reason, sizeof *reason));
+    assert(MSAT_IS_APART(bytes, bytes_len, lengths, told, reason, sizeof *reason));
+    assert(MSAT_IS_APART(bytes, bytes_len, needed, sizeof *needed, count, sizeof *count));
+    assert(MSAT_IS_APART(lengths, told, needed, sizeof *needed, count, sizeof *count));
+    assert(MSAT_IS_APART(reason, sizeof *reason, needed, sizeof *needed, count, sizeof *count));
+    assert(MSAT_IS_APART(outcome, sizeof *outcome, needed, sizeof *needed, count, sizeof *count));
+    assert(MSAT_IS_APART(outcome, sizeof *outcome, bytes, bytes_len, lengths, told));
+    assert(MSAT_ARE_APART(needed, sizeof *needed, count, sizeof *count) && MSAT_ARE_APART(reason, sizeof *reason, lengths, told));
+    assert(MSAT_ARE_APART(outcome, sizeof *outcome, reason, sizeof *reason));
+    return msat_run(version, sequence, locktime, script, script_len, items, items_len, item_lengths, item_count, keys, keys_len,
+                    signatures, signatures_len, signature_lengths, signature_count, bytes, bytes_len, needed, lengths, lengths_len,
+                    count, outcome, reason);
+}
+
+static inline uint32_t msat_audit_asserted(const char *text, size_t text_len, uint32_t version, uint32_t sequence, uint32_t locktime,
+                                           const uint8_t *script, size_t script_len, const uint8_t *items, size_t items_len,
+                                           const size_t *item_lengths, size_t item_count, const uint8_t *keys, size_t keys_len,
+                                           const uint8_t *signatures, size_t signatures_len, const size_t *signature_lengths,
+                                           size_t signature_count, struct msat_step *steps, size_t steps_len, size_t *count,
+                                           bool *canonical, struct msat_outcome *outcome, struct msat_reason *reason) {
+    size_t told = steps_len * sizeof *steps;
+    assert(MSAT_IS_BUFFER(text, text_len) && MSAT_IS_BUFFER(script, script_len) && MSAT_IS_BUFFER(items, items_len));
+    assert(MSAT_ARE_LENGTHS(item_lengths, item_count) && MSAT_IS_BUFFER(keys, keys_len) && MSAT_IS_BUFFER(signatures, signatures_len));
+    assert(MSAT_ARE_LENGTHS(signature_lengths, signature_count));
+    assert(MSAT_IS_BUFFER(steps, steps_len) && steps_len <= SIZE_MAX / sizeof *steps);
+    assert(msat_address(steps) % sizeof steps->place == 0 && canonical != NULL);
+    assert(outcome != NULL && msat_address(outcome) % sizeof outcome->ops == 0);
+    assert(MSAT_IS_VALUE(count) && MSAT_IS_VALUE(reason));
+    assert(MSAT_IS_RUN_OUT(steps, told) && MSAT_IS_RUN_OUT(count, sizeof *count) && MSAT_IS_RUN_OUT(canonical, sizeof *canonical));
+    assert(MSAT_IS_RUN_OUT(outcome, sizeof *outcome) && MSAT_IS_RUN_OUT(reason, sizeof *reason));
+    assert(MSAT_IS_APART(text, text_len, steps, told, count, sizeof *count));
+    assert(MSAT_IS_APART(text, text_len, outcome, sizeof *outcome, reason, sizeof *reason));
+    assert(MSAT_IS_APART(canonical, sizeof *canonical, text, text_len, steps, told));
+    assert(MSAT_IS_APART(canonical, sizeof *canonical, count, sizeof *count, reason, sizeof *reason));
+    assert(MSAT_IS_APART(outcome, sizeof *outcome, steps, told, count, sizeof *count));
+    assert(MSAT_IS_APART(outcome, sizeof *outcome, canonical, sizeof *canonical, reason, sizeof *reason));
+    assert(MSAT_IS_APART(steps, told, count, sizeof *count, reason, sizeof *reason));
+    assert(MSAT_ARE_APART(count, sizeof *count, reason, sizeof *reason));
+    return msat_audit(text, text_len, version, sequence, locktime, script, script_len, items, items_len, item_lengths, item_count, keys,
+                      keys_len, signatures, signatures_len, signature_lengths, signature_count, steps, steps_len, count, canonical,
+                      outcome, reason);
+}
+
 static inline uint32_t msat_policy_asserted(const char *text, size_t text_len, char *policy, size_t policy_len, size_t *needed,
                                             uint64_t *keys, struct msat_reason *reason) {
     assert(MSAT_IS_BUFFER(text, text_len) && MSAT_IS_BUFFER(policy, policy_len));
@@ -454,6 +663,9 @@ static inline uint32_t msat_decode_asserted(const uint8_t *script, size_t script
 #define msat_least_weight(...) msat_least_weight_asserted(__VA_ARGS__)
 #define msat_witness(...) msat_witness_asserted(__VA_ARGS__)
 #define msat_satisfy(...) msat_satisfy_asserted(__VA_ARGS__)
+#define msat_plan(...) msat_plan_asserted(__VA_ARGS__)
+#define msat_run(...) msat_run_asserted(__VA_ARGS__)
+#define msat_audit(...) msat_audit_asserted(__VA_ARGS__)
 #define msat_policy(...) msat_policy_asserted(__VA_ARGS__)
 #define msat_decode(...) msat_decode_asserted(__VA_ARGS__)
 #endif

@@ -14,6 +14,10 @@ use Rattle.def_files.specs.Refusals.{Refusal, unless, unless_any, MOST_SIGNATURE
 use Rattle.ms_assets.specs.Parts.{first_refused, repeats}
 use Rattle.ms_arrays.specs.Pieces.{KEY_SIZE, PREIMAGE_SIZE, pairs_at, preimages_in}
 
+-- the values of the locks, as three numbers
+abbrev pub locks_of : (version sequence locktime : ℕ) → Locks
+locks_of version sequence locktime = record { version = version; sequence = sequence; locktime = locktime }
+
 -- the refusals of signatures with their keys: a key's form, a signature's length, a pair that stands twice
 abbrev pub pair_refusals : Pairs → List Refusal
 pair_refusals pairs =

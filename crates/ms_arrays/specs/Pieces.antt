@@ -16,6 +16,16 @@ pairs_at [] keys signatures = []
 pairs_at (size ∷ sizes) keys signatures =
     (take KEY_SIZE keys, take size signatures) ∷ pairs_at sizes (drop KEY_SIZE keys) (drop size signatures)
 
+-- keys of 33 bytes, each with the number at its place
+abbrev pub entries_at : (numbers : List ℕ) → (keys : Bytes) → List (Bytes × ℕ)
+entries_at [] keys = []
+entries_at (number ∷ numbers) keys = (take KEY_SIZE keys, number) ∷ entries_at numbers (drop KEY_SIZE keys)
+
+-- items of these lengths
+abbrev pub items_at : (lengths : List ℕ) → Bytes → List Bytes
+items_at [] bytes = []
+items_at (size ∷ sizes) bytes = take size bytes ∷ items_at sizes (drop size bytes)
+
 -- so many preimages of 32 bytes
 abbrev pub preimages_at : (count : ℕ) → Bytes → List Bytes
 preimages_at zero bytes = []

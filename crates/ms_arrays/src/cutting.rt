@@ -1,9 +1,10 @@
 //! Cutting arrays into the byte strings that lie in them.
 ghost use Rattle.std.specs.Prelude.{◌≡◌, ◌==◌, ◌*◌, ◌/◌, ◌++◌, length, sum, IfOk, OnOk, [], ◌∷◌};
-ghost use Rattle.ms_arrays.specs.Pieces.{KEY_SIZE as THE_KEY_SIZE, PREIMAGE_SIZE as THE_PREIMAGE_SIZE, pairs_at, preimages_in};
+ghost use Rattle.ms_arrays.specs.Pieces.{KEY_SIZE as THE_KEY_SIZE, PREIMAGE_SIZE as THE_PREIMAGE_SIZE, pairs_at, items_at, preimages_in};
 
 use ms_assets::Assets;
 use ms_oracle::Pairs;
+use ms_script::Stack;
 use std::alloc::{AllocError, Global};
 
 /// How many bytes a key has.
@@ -48,6 +49,21 @@ pub fn read_pairs(
         signatures_left = others;
     }
     Ok(pairs)
+}
+
+/// The items of these lengths, first one first. Refuses for want of memory alone.
+pub fn read_items(alloc: Global, bytes: &[u8], lengths: &[usize]) -> Result<Stack, AllocError>
+    requires { sum lengths.now ≡ length bytes.now }
+    ensures { IfOk result (λ stack. stack ≡ items_at lengths.now bytes.now) }
+{
+    let mut stack = Stack::new(alloc);
+    let mut rest = bytes;
+    for length in lengths {
+        let (item, others) = rest.split_at(*length);
+        stack.push(item)?;
+        rest = others;
+    }
+    Ok(stack)
 }
 
 /// Adds the preimages. Refuses for want of memory alone.

@@ -5,3 +5,5 @@ pub mod FactLemmas
 pub mod ItemLemmas
 pub mod PolicyLemmas
 pub mod ReadingLemmas
+pub mod AuditLemmas
+pub mod AskedLemmas

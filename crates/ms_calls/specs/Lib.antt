@@ -8,4 +8,7 @@ pub mod TextReply
 pub mod Stops
 pub mod Version
 pub mod Readings
+pub mod Asked
+pub mod Ran
+pub mod Audited
 pub mod Demanded

@@ -1,4 +1,5 @@
--- Refusals as plain numbers: kinds are numbered from 1 on, rules and members from 0, in the order of their definitions.
+-- Refusals as plain numbers: kinds are numbered from 1 on, rules and members from 0, in the order of their definitions. The
+-- length and the keys of what a plan is made by come last.
 use Rattle.std.specs.Prelude.{ℕ, List, slice_index}
 use Rattle.def_text.specs.declared.TextFault.{TextFault}
 use Rattle.def_text.specs.declared.TextFault.TheVariants as text_fault
@@ -10,6 +11,10 @@ use Rattle.def_files.specs.declared.Member.{Member}
 use Rattle.def_files.specs.declared.Member.TheVariants as member
 use Rattle.def_files.specs.declared.AssetFault.{AssetFault}
 use Rattle.def_files.specs.declared.AssetFault.TheVariants as file_fault
+use Rattle.def_plan.specs.declared.PlanMember.{PlanMember}
+use Rattle.def_plan.specs.declared.PlanMember.TheVariants as plan_member
+use Rattle.def_plan.specs.declared.PlanFault.{PlanFault}
+use Rattle.def_plan.specs.declared.PlanFault.TheVariants as plan_fault
 use Rattle.ms_calls.specs.declared.reason.Reason.{Reason}
 
 abbrev pub reason : (kind rule place number : ℕ) → Reason
@@ -103,3 +108,24 @@ code_of_file (file_fault.PreimageLength i) = reason 20 0 i 0
 code_of_file (file_fault.TooMany m) = reason 21 (code_of_member m) 0 0
 code_of_file (file_fault.RepeatedKey i) = reason 22 0 i 0
 code_of_file file_fault.Memory = no_reason
+
+-- of what a plan is made by, whose other members are those of an asset file
+abbrev pub code_of_plan_member : PlanMember → ℕ
+code_of_plan_member plan_member.Whole = 0
+code_of_plan_member plan_member.Version = 1
+code_of_plan_member plan_member.Sequence = 2
+code_of_plan_member plan_member.Locktime = 3
+code_of_plan_member plan_member.Preimages = 5
+code_of_plan_member plan_member.Keys = 9
+
+abbrev pub code_of_plan_file : PlanFault → Reason
+code_of_plan_file plan_fault.NotJson = reason 14 0 0 0
+code_of_plan_file (plan_fault.Shape m) = reason 15 (code_of_plan_member m) 0 0
+code_of_plan_file (plan_fault.Number m) = reason 16 (code_of_plan_member m) 0 0
+code_of_plan_file (plan_fault.Hex m i) = reason 17 (code_of_plan_member m) i 0
+code_of_plan_file (plan_fault.KeyForm i) = reason 18 0 i 0
+code_of_plan_file (plan_fault.PreimageLength i) = reason 20 0 i 0
+code_of_plan_file (plan_fault.TooMany m) = reason 21 (code_of_plan_member m) 0 0
+code_of_plan_file (plan_fault.RepeatedKey i) = reason 22 0 i 0
+code_of_plan_file (plan_fault.Length i) = reason 23 0 i 0
+code_of_plan_file plan_fault.Memory = no_reason

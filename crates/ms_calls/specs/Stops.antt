@@ -10,8 +10,13 @@ use Rattle.ms_calls.specs.declared.stopping.Stop.{Stop}
 use Rattle.ms_calls.specs.declared.stopping.Stop.TheVariants as stop
 use Rattle.def_files.specs.declared.AssetFault.{AssetFault}
 use Rattle.def_files.specs.declared.AssetFault.TheVariants as file_fault
-use Rattle.ms_calls.specs.Reasons.{code_of_fault, code_of_reason, code_of_file}
-use Rattle.ms_calls.specs.TextReply.{TextReply, told, text_refused, file_refused, no_satisfaction}
+use Rattle.def_plan.specs.declared.PlanFault.{PlanFault}
+use Rattle.def_plan.specs.declared.PlanFault.TheVariants as plan_fault
+use Rattle.ms_calls.specs.Reasons.{code_of_fault, code_of_reason, code_of_file, code_of_plan_file}
+use Rattle.def_files.specs.RunFile.{RunFile}
+use Rattle.ms_assets.specs.declared.run_file.RunFile.{RunFile as ReadFile}
+use Rattle.ms_replies.specs.Choices.{file_seen}
+use Rattle.ms_calls.specs.TextReply.{TextReply, told, text_refused, file_refused, no_satisfaction, with_file}
 
 -- a step found what is given, unless memory was wanting
 abbrev pub Finds : {A : Type 0} → TextReply A → Result A Stop → Type 0
@@ -26,6 +31,11 @@ Finds given (Err stop.Memory) = ⊤
 abbrev pub FindsOf : {A : Type 0} → (text : Bytes) → (Reading → TextReply A) → Result A Stop → Type 0
 FindsOf text given (Err stop.Unreadable) = ¬ IsUtf8 text
 FindsOf text given result = IsUtf8 text × ((reading : Reading) → HasReading text reading → Finds (given reading) result)
+
+-- a step found the run that arrays give
+abbrev pub FindsRun : (held : Result RunFile AssetFault) → Result ReadFile Stop → Type 0
+FindsRun held (Ok file) = held ≡ Ok (file_seen file)
+FindsRun held (Err s) = Finds (with_file {A = RunFile} code_of_file told held) (Err s)
 
 -- the code of a stop, and the reason that stands after it
 abbrev pub stopped : Stop → (before : Reason) → ℕ × Reason
@@ -71,3 +81,16 @@ file_refusal (file_fault.PreimageLength i) = stop.FileRefused (code_of_file (fil
 file_refusal (file_fault.TooMany m) = stop.FileRefused (code_of_file (file_fault.TooMany m))
 file_refusal (file_fault.RepeatedKey i) = stop.FileRefused (code_of_file (file_fault.RepeatedKey i))
 file_refusal file_fault.Memory = stop.Memory
+
+-- the stop of what a plan is made by, where it is refused
+abbrev pub plan_file_refusal : PlanFault → Stop
+plan_file_refusal plan_fault.NotJson = stop.FileRefused (code_of_plan_file plan_fault.NotJson)
+plan_file_refusal (plan_fault.Shape m) = stop.FileRefused (code_of_plan_file (plan_fault.Shape m))
+plan_file_refusal (plan_fault.Number m) = stop.FileRefused (code_of_plan_file (plan_fault.Number m))
+plan_file_refusal (plan_fault.Hex m i) = stop.FileRefused (code_of_plan_file (plan_fault.Hex m i))
+plan_file_refusal (plan_fault.KeyForm i) = stop.FileRefused (code_of_plan_file (plan_fault.KeyForm i))
+plan_file_refusal (plan_fault.Length i) = stop.FileRefused (code_of_plan_file (plan_fault.Length i))
+plan_file_refusal (plan_fault.PreimageLength i) = stop.FileRefused (code_of_plan_file (plan_fault.PreimageLength i))
+plan_file_refusal (plan_fault.TooMany m) = stop.FileRefused (code_of_plan_file (plan_fault.TooMany m))
+plan_file_refusal (plan_fault.RepeatedKey i) = stop.FileRefused (code_of_plan_file (plan_fault.RepeatedKey i))
+plan_file_refusal plan_fault.Memory = stop.Memory

@@ -17,6 +17,7 @@ use Rattle.def_answer.specs.Reply.{MOST_FILE}
 use Rattle.ms_words.specs.declared.words.Choice.{Choice}
 use Rattle.ms_words.specs.declared.words.Choice.TheVariants as choice
 use Rattle.ms_replies.specs.Choices.{chosen_by, reason_by}
+use Rattle.ms_arrays.specs.ArrayAssets.{locks_of, assets_of_arrays}
 use Rattle.ms_calls.specs.declared.reason.Reason.{Reason}
 use Rattle.ms_calls.specs.declared.facts.Facts.{Facts}
 use Rattle.ms_calls.specs.Buffers.{written_over}
@@ -61,15 +62,15 @@ value_after before (text_refused reason) = before
 value_after before (file_refused reason) = before
 value_after before no_satisfaction = before
 
--- bytes, over the beginning of a buffer where they are told, and how many they are
-abbrev pub buffer_after : (before : Bytes) → TextReply Bytes → Bytes
-buffer_after before (told bytes) = written_over before bytes
+-- bytes or the like, over the beginning of a buffer where they are told, and how many they are
+abbrev pub buffer_after : {A : Type 0} → (before : List A) → TextReply (List A) → List A
+buffer_after before (told items) = written_over before items
 buffer_after before (text_refused reason) = before
 buffer_after before (file_refused reason) = before
 buffer_after before no_satisfaction = before
 
-abbrev pub needed_after : (before : ℕ) → TextReply Bytes → ℕ
-needed_after before (told bytes) = length bytes
+abbrev pub needed_after : {A : Type 0} → (before : ℕ) → TextReply (List A) → ℕ
+needed_after before (told items) = length items
 needed_after before (text_refused reason) = before
 needed_after before (file_refused reason) = before
 needed_after before no_satisfaction = before
@@ -95,6 +96,11 @@ unless_unfit (Some unfit) offsets next = text_refused (code_of_reason offsets un
 abbrev pub text_given : {A : Type 0} → (first_reason : Tree → Option Unfit) → (next : Tree → TextReply A) → Reading → TextReply A
 text_given first_reason next (read tree offsets) = unless_unfit (first_reason tree) offsets (next tree)
 text_given first_reason next (refused fault) = text_refused (code_of_fault fault)
+
+-- the refusal of a file, or of arrays in its place, or else what comes next
+abbrev pub with_file : {A B E : Type 0} → (code : E → Reason) → (next : B → TextReply A) → Result B E → TextReply A
+with_file code next (Ok file) = next file
+with_file code next (Err fault) = file_refused (code fault)
 
 -- the refusal of an asset file, or else what comes next
 abbrev pub with_assets : {A : Type 0} → (next : Assets → TextReply A) → Result Assets AssetFault → TextReply A
@@ -145,6 +151,13 @@ held_given choice held tree = with_assets (λ assets. where_one (option_map (wit
 
 abbrev pub satisfied_given : Choice → (held : Result Assets AssetFault) → Reading → TextReply Joined
 satisfied_given choice held = text_given (reason_by choice) (held_given (chosen_by choice) held)
+
+-- by three numbers and arrays
+abbrev pub satisfied_by : (malleable consensus : Bool) → (version sequence locktime : ℕ) → (keys signatures : Bytes) →
+    (lengths : List ℕ) → (preimages : Bytes) → Reading → TextReply Joined
+satisfied_by malleable consensus version sequence locktime keys signatures lengths preimages =
+    satisfied_given (choice_for malleable consensus)
+    (assets_of_arrays (locks_of version sequence locktime) keys signatures lengths preimages)
 
 -- their bytes and their lengths
 abbrev pub bytes_given : TextReply Joined → TextReply Bytes

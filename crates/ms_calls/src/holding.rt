@@ -3,8 +3,7 @@ ghost use Rattle.std.specs.Prelude.{◌≡◌, ◌⊎◌, ◌↔◌, None, IsUtf
 ghost use Rattle.def_tree.specs.Range.{IsInRange};
 ghost use Rattle.ms_tree.specs.Shape.{shape};
 ghost use Rattle.ms_replies.specs.Choices.{chosen_by, reason_by};
-ghost use Rattle.ms_arrays.specs.ArrayAssets.{assets_of_arrays};
-ghost use Rattle.ms_calls.specs.TextReply.{HoldsOfReply, told, with_assets, code_given, reason_after, buffer_after, needed_after, choice_for as the_choice_for, unless_unfit, held_given, satisfied_given, bytes_given, lengths_given};
+ghost use Rattle.ms_calls.specs.TextReply.{HoldsOfReply, told, with_assets, code_given, reason_after, buffer_after, needed_after, unless_unfit, held_given, satisfied_given, satisfied_by, bytes_given, lengths_given};
 ghost use Rattle.ms_calls.specs.Stops.{Finds, FindsOf};
 
 use crate::copying::{write_lengths, write_over};
@@ -49,12 +48,12 @@ pub fn satisfy(
     count: &mut usize,
     reason: &mut Reason,
 ) -> u32
-    ensures code { HoldsOfReply text.now result (satisfied_given (the_choice_for malleable consensus) (assets_of_arrays (record { version = version; sequence = sequence; locktime = locktime }) keys.now signatures.now signature_lengths.now preimages.now)) (λ given. result ≡ code_given given) }
-    ensures bytes { HoldsOfReply text.now result (satisfied_given (the_choice_for malleable consensus) (assets_of_arrays (record { version = version; sequence = sequence; locktime = locktime }) keys.now signatures.now signature_lengths.now preimages.now)) (λ given. bytes.new ≡ buffer_after bytes.old (bytes_given given)) }
-    ensures needed { HoldsOfReply text.now result (satisfied_given (the_choice_for malleable consensus) (assets_of_arrays (record { version = version; sequence = sequence; locktime = locktime }) keys.now signatures.now signature_lengths.now preimages.now)) (λ given. needed.new ≡ needed_after needed.old (bytes_given given)) }
-    ensures lengths { HoldsOfReply text.now result (satisfied_given (the_choice_for malleable consensus) (assets_of_arrays (record { version = version; sequence = sequence; locktime = locktime }) keys.now signatures.now signature_lengths.now preimages.now)) (λ given. lengths.new ≡ buffer_after lengths.old (lengths_given given)) }
-    ensures count { HoldsOfReply text.now result (satisfied_given (the_choice_for malleable consensus) (assets_of_arrays (record { version = version; sequence = sequence; locktime = locktime }) keys.now signatures.now signature_lengths.now preimages.now)) (λ given. count.new ≡ needed_after count.old (lengths_given given)) }
-    ensures reason { HoldsOfReply text.now result (satisfied_given (the_choice_for malleable consensus) (assets_of_arrays (record { version = version; sequence = sequence; locktime = locktime }) keys.now signatures.now signature_lengths.now preimages.now)) (λ given. reason.new ≡ reason_after reason.old given) }
+    ensures code { HoldsOfReply text.now result (satisfied_by malleable consensus version sequence locktime keys.now signatures.now signature_lengths.now preimages.now) (λ given. result ≡ code_given given) }
+    ensures bytes { HoldsOfReply text.now result (satisfied_by malleable consensus version sequence locktime keys.now signatures.now signature_lengths.now preimages.now) (λ given. bytes.new ≡ buffer_after bytes.old (bytes_given given)) }
+    ensures needed { HoldsOfReply text.now result (satisfied_by malleable consensus version sequence locktime keys.now signatures.now signature_lengths.now preimages.now) (λ given. needed.new ≡ needed_after needed.old (bytes_given given)) }
+    ensures lengths { HoldsOfReply text.now result (satisfied_by malleable consensus version sequence locktime keys.now signatures.now signature_lengths.now preimages.now) (λ given. lengths.new ≡ buffer_after lengths.old (lengths_given given)) }
+    ensures count { HoldsOfReply text.now result (satisfied_by malleable consensus version sequence locktime keys.now signatures.now signature_lengths.now preimages.now) (λ given. count.new ≡ needed_after count.old (lengths_given given)) }
+    ensures reason { HoldsOfReply text.now result (satisfied_by malleable consensus version sequence locktime keys.now signatures.now signature_lengths.now preimages.now) (λ given. reason.new ≡ reason_after reason.old given) }
     ensures unreadable { result ≡ 11 ↔ (¬ IsUtf8 text.now) }
     ensures kept { (result ≡ 11) ⊎ (result ≡ 7) → bytes.new ≡ bytes.old }
     ensures kept_needed { (result ≡ 11) ⊎ (result ≡ 7) → needed.new ≡ needed.old }

@@ -1,7 +1,9 @@
-//! The items of a witness, as they lie in two buffers.
-ghost use Rattle.std.specs.Prelude.{◌≡◌, IfOk};
+//! The items of a witness, or of pairs, as they lie in two buffers.
+ghost use Rattle.std.specs.Prelude.{◌≡◌, [], IfOk};
 ghost use Rattle.ms_calls.specs.Items.{joined};
+ghost use Rattle.ms_calls.specs.Ran.{pair_items};
 
+use ms_oracle::SigPair;
 use ms_script::Stack;
 use std::alloc::{AllocError, Global};
 use std::marker::Model;
@@ -32,6 +34,31 @@ impl Items {
             let item = stack.item(i);
             bytes.extend_from_slice(item)?;
             lengths.push(item.len())?;
+        }
+        Ok(Items { bytes, lengths })
+    }
+
+    /// No items. Takes no memory.
+    pub fn none(alloc: Global) -> Items
+        ensures { result ≡ joined [] }
+    {
+        Items {
+            bytes: Vec::new(alloc),
+            lengths: Vec::new(alloc),
+        }
+    }
+
+    /// The items of pairs: each key, and its signature after it. Refuses for want of memory alone.
+    pub fn of_pairs(alloc: Global, pairs: &[SigPair]) -> Result<Items, AllocError>
+        ensures { IfOk result (λ items. items ≡ joined (pair_items pairs.now)) }
+    {
+        let mut bytes = Vec::new(alloc);
+        let mut lengths = Vec::new(alloc);
+        for pair in pairs {
+            bytes.extend_from_slice(pair.key())?;
+            bytes.extend_from_slice(pair.sig())?;
+            lengths.push(pair.key().len())?;
+            lengths.push(pair.sig().len())?;
         }
         Ok(Items { bytes, lengths })
     }

@@ -2,27 +2,35 @@
 #![tactic(auto)]
 
 pub use answering::{NO_MEMORY, UNREADABLE, answer};
+pub use auditing::audit;
 pub use copying::{write_lengths, write_over};
 pub use facts::Facts;
 pub use holding::satisfy;
 pub use memory::{ByteSink, ByteSource};
+pub use outcome::{PlacedStep, RunOutcome};
+pub use planning::plan;
 pub use policies::policy;
 pub use readings::decode;
 pub use reason::Reason;
+pub use running::run;
 pub use satisfying::{least_weight, witness};
 pub use texts::{check, script};
 pub use versions::version;
 pub use words::{NoWords, read_words};
 
 mod answering;
+mod auditing;
 mod copying;
 mod facts;
 mod holding;
 mod items;
 mod memory;
+mod outcome;
+mod planning;
 mod policies;
 mod readings;
 mod reason;
+mod running;
 mod satisfying;
 mod stopping;
 mod texts;

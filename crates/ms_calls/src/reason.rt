@@ -2,9 +2,10 @@
 ghost use Rattle.std.specs.Prelude.{◌≡◌};
 ghost use Rattle.ms_tree.specs.Shape.{shape};
 ghost use Rattle.ms_sane.specs.Place.{IsOfTree};
-ghost use Rattle.ms_calls.specs.Reasons.{code_of_rule as the_code_of_rule, code_of_fault as the_code_of_fault, code_of_reason as the_code_of_reason, code_of_member as the_code_of_member, code_of_file as the_code_of_file, file_too_long};
+ghost use Rattle.ms_calls.specs.Reasons.{code_of_rule as the_code_of_rule, code_of_fault as the_code_of_fault, code_of_reason as the_code_of_reason, code_of_member as the_code_of_member, code_of_file as the_code_of_file, code_of_plan_member as the_code_of_plan_member, code_of_plan_file as the_code_of_plan_file, file_too_long};
 
 use ms_assets::{AssetFault, Member};
+use ms_plan::{PlanFault, PlanMember};
 use ms_sane::Unfit;
 use ms_text::{TextFault, TextTree};
 use ms_types::Rule;
@@ -13,7 +14,7 @@ use ms_types::Rule;
 #[repr(C)]
 #[derive(Clone, Copy, Debug, PartialEq, Eq)]
 pub struct Reason {
-    /// Which refusal it is: 1 to 12 of a text, 13 to 22 of an asset file, 0 where there is none.
+    /// Which refusal it is: 1 to 12 of a text, 13 to 23 of a file or of arrays in its place, 0 where there is none.
     pub kind: u32,
     /// The number of the requirement that is false, or of the file's member, where the refusal names one.
     pub rule: u32,
@@ -110,6 +111,37 @@ pub fn code_of_file(fault: AssetFault) -> Reason
         AssetFault::TooMany(member) => Reason::at(21, code_of_member(member), 0),
         AssetFault::RepeatedKey(place) => Reason::at(22, 0, place),
         AssetFault::Memory => Reason::of_kind(0),
+    }
+}
+
+/// The refusal of what a plan is made by.
+pub fn code_of_plan_file(fault: PlanFault) -> Reason
+    ensures { result ≡ the_code_of_plan_file fault }
+{
+    match fault {
+        PlanFault::NotJson => Reason::of_kind(14),
+        PlanFault::Shape(member) => Reason::at(15, code_of_plan_member(member), 0),
+        PlanFault::Number(member) => Reason::at(16, code_of_plan_member(member), 0),
+        PlanFault::Hex(member, place) => Reason::at(17, code_of_plan_member(member), place),
+        PlanFault::KeyForm(place) => Reason::at(18, 0, place),
+        PlanFault::PreimageLength(place) => Reason::at(20, 0, place),
+        PlanFault::TooMany(member) => Reason::at(21, code_of_plan_member(member), 0),
+        PlanFault::RepeatedKey(place) => Reason::at(22, 0, place),
+        PlanFault::Length(place) => Reason::at(23, 0, place),
+        PlanFault::Memory => Reason::of_kind(0),
+    }
+}
+
+fn code_of_plan_member(member: PlanMember) -> u32
+    ensures { result ≡ the_code_of_plan_member member }
+{
+    match member {
+        PlanMember::Whole => 0,
+        PlanMember::Version => 1,
+        PlanMember::Sequence => 2,
+        PlanMember::Locktime => 3,
+        PlanMember::Preimages => 5,
+        PlanMember::Keys => 9,
     }
 }
 

@@ -9,15 +9,19 @@ ghost use Rattle.def_answer.specs.Status.{code_of};
 ghost use Rattle.def_psbt_answer.specs.Answer.{Answer as PsbtAnswer};
 ghost use Rattle.def_psbt_answer.specs.declared.status.Status.{Status as PsbtStatus};
 ghost use Rattle.def_psbt_answer.specs.Status.{code_of as psbt_code_of};
-ghost use Rattle.ms_arrays.specs.ArrayAssets.{assets_of_arrays};
+ghost use Rattle.ms_arrays.specs.ArrayRun.{run_arrays};
+ghost use Rattle.ms_calls.specs.Asked.{plan_by, asked_keys, asked_weight};
+ghost use Rattle.ms_calls.specs.Audited.{audit_by, audit_code, audited_outcome, audited_canonical, audited_steps};
 ghost use Rattle.ms_calls.specs.Buffers.{written_over};
 ghost use Rattle.ms_calls.specs.Demanded.{policy_given, printed_given, keys_given};
+ghost use Rattle.ms_calls.specs.Ran.{HoldsOfRun, ran_by, run_code, ran_outcome, ran_checks};
 ghost use Rattle.ms_calls.specs.Readings.{are_keys, keys_in, TellsDecoded, HasNoReading};
-ghost use Rattle.ms_calls.specs.TextReply.{HoldsOfReply, code_given, reason_after, value_after, buffer_after, needed_after, bytes_given, lengths_given, rules_for, choice_for, script_given, facts_given, weight_given, witness_given, satisfied_given};
+ghost use Rattle.ms_calls.specs.TextReply.{HoldsOfReply, code_given, reason_after, value_after, buffer_after, needed_after, bytes_given, lengths_given, rules_for, choice_for, script_given, facts_given, weight_given, witness_given, satisfied_by};
 ghost use Rattle.ms_calls.specs.Version.{number_of, MAJOR, MINOR, PATCH};
 ghost use Rattle.ms_calls.specs.Words.{AreWords, AreNoWords};
 
-use ms_calls::{Facts, Reason};
+use ms_arrays::RunArrays;
+use ms_calls::{Facts, PlacedStep, Reason, RunOutcome};
 use std::alloc::Global;
 
 /// The version of the library, as one number: a million for each major one, a thousand for each minor one, and the patch.
@@ -183,12 +187,12 @@ pub extern "C" fn msat_satisfy(
     count: &mut usize,
     reason: &mut Reason,
 ) -> u32
-    ensures code { HoldsOfReply text.now result (satisfied_given (choice_for malleable consensus) (assets_of_arrays (record { version = version; sequence = sequence; locktime = locktime }) keys.now signatures.now signature_lengths.now preimages.now)) (λ given. result ≡ code_given given) }
-    ensures bytes { HoldsOfReply text.now result (satisfied_given (choice_for malleable consensus) (assets_of_arrays (record { version = version; sequence = sequence; locktime = locktime }) keys.now signatures.now signature_lengths.now preimages.now)) (λ given. bytes.new ≡ buffer_after bytes.old (bytes_given given)) }
-    ensures needed { HoldsOfReply text.now result (satisfied_given (choice_for malleable consensus) (assets_of_arrays (record { version = version; sequence = sequence; locktime = locktime }) keys.now signatures.now signature_lengths.now preimages.now)) (λ given. needed.new ≡ needed_after needed.old (bytes_given given)) }
-    ensures lengths { HoldsOfReply text.now result (satisfied_given (choice_for malleable consensus) (assets_of_arrays (record { version = version; sequence = sequence; locktime = locktime }) keys.now signatures.now signature_lengths.now preimages.now)) (λ given. lengths.new ≡ buffer_after lengths.old (lengths_given given)) }
-    ensures count { HoldsOfReply text.now result (satisfied_given (choice_for malleable consensus) (assets_of_arrays (record { version = version; sequence = sequence; locktime = locktime }) keys.now signatures.now signature_lengths.now preimages.now)) (λ given. count.new ≡ needed_after count.old (lengths_given given)) }
-    ensures reason { HoldsOfReply text.now result (satisfied_given (choice_for malleable consensus) (assets_of_arrays (record { version = version; sequence = sequence; locktime = locktime }) keys.now signatures.now signature_lengths.now preimages.now)) (λ given. reason.new ≡ reason_after reason.old given) }
+    ensures code { HoldsOfReply text.now result (satisfied_by malleable consensus version sequence locktime keys.now signatures.now signature_lengths.now preimages.now) (λ given. result ≡ code_given given) }
+    ensures bytes { HoldsOfReply text.now result (satisfied_by malleable consensus version sequence locktime keys.now signatures.now signature_lengths.now preimages.now) (λ given. bytes.new ≡ buffer_after bytes.old (bytes_given given)) }
+    ensures needed { HoldsOfReply text.now result (satisfied_by malleable consensus version sequence locktime keys.now signatures.now signature_lengths.now preimages.now) (λ given. needed.new ≡ needed_after needed.old (bytes_given given)) }
+    ensures lengths { HoldsOfReply text.now result (satisfied_by malleable consensus version sequence locktime keys.now signatures.now signature_lengths.now preimages.now) (λ given. lengths.new ≡ buffer_after lengths.old (lengths_given given)) }
+    ensures count { HoldsOfReply text.now result (satisfied_by malleable consensus version sequence locktime keys.now signatures.now signature_lengths.now preimages.now) (λ given. count.new ≡ needed_after count.old (lengths_given given)) }
+    ensures reason { HoldsOfReply text.now result (satisfied_by malleable consensus version sequence locktime keys.now signatures.now signature_lengths.now preimages.now) (λ given. reason.new ≡ reason_after reason.old given) }
     ensures unreadable { result ≡ 11 ↔ (¬ IsUtf8 text.now) }
     ensures kept { (result ≡ 11) ⊎ (result ≡ 7) → bytes.new ≡ bytes.old }
     ensures kept_needed { (result ≡ 11) ⊎ (result ≡ 7) → needed.new ≡ needed.old }
@@ -258,4 +262,142 @@ pub extern "C" fn msat_policy(
     ensures kept_reason { (result ≡ 11) ⊎ (result ≡ 7) → reason.new ≡ reason.old }
 {
     ms_calls::policy(alloc, text, printed, needed, keys, reason)
+}
+
+/// Which keys to ask for a signature for a text that is sane by the limits of policy, and what its satisfaction weighs at most then,
+/// by what lies in arrays.
+#[unsafe(no_mangle)]
+pub extern "C" fn msat_plan(
+    alloc: Global,
+    text: &[u8],
+    version: u32,
+    sequence: u32,
+    locktime: u32,
+    keys: &[u8],
+    signature_lengths: &[usize],
+    preimages: &[u8],
+    asked: &mut [u8],
+    needed: &mut usize,
+    weight: &mut u64,
+    reason: &mut Reason,
+) -> u32
+    ensures code { HoldsOfReply text.now result (plan_by version sequence locktime keys.now signature_lengths.now preimages.now) (λ given. result ≡ code_given given) }
+    ensures asked { HoldsOfReply text.now result (plan_by version sequence locktime keys.now signature_lengths.now preimages.now) (λ given. asked.new ≡ buffer_after asked.old (asked_keys given)) }
+    ensures needed { HoldsOfReply text.now result (plan_by version sequence locktime keys.now signature_lengths.now preimages.now) (λ given. needed.new ≡ needed_after needed.old (asked_keys given)) }
+    ensures weight { HoldsOfReply text.now result (plan_by version sequence locktime keys.now signature_lengths.now preimages.now) (λ given. weight.new ≡ value_after weight.old (asked_weight given)) }
+    ensures reason { HoldsOfReply text.now result (plan_by version sequence locktime keys.now signature_lengths.now preimages.now) (λ given. reason.new ≡ reason_after reason.old given) }
+    ensures unreadable { result ≡ 11 ↔ (¬ IsUtf8 text.now) }
+    ensures kept { (result ≡ 11) ⊎ (result ≡ 7) → asked.new ≡ asked.old }
+    ensures kept_needed { (result ≡ 11) ⊎ (result ≡ 7) → needed.new ≡ needed.old }
+    ensures kept_weight { (result ≡ 11) ⊎ (result ≡ 7) → weight.new ≡ weight.old }
+    ensures kept_reason { (result ≡ 11) ⊎ (result ≡ 7) → reason.new ≡ reason.old }
+{
+    ms_calls::plan(
+        alloc,
+        text,
+        version,
+        sequence,
+        locktime,
+        keys,
+        signature_lengths,
+        preimages,
+        asked,
+        needed,
+        weight,
+        reason,
+    )
+}
+
+/// The run of a script on a stack, by what lies in arrays: its counts and the good pairs that it passed, or its fault.
+#[unsafe(no_mangle)]
+pub extern "C" fn msat_run(
+    alloc: Global,
+    version: u32,
+    sequence: u32,
+    locktime: u32,
+    script: &[u8],
+    items: &[u8],
+    item_lengths: &[usize],
+    keys: &[u8],
+    signatures: &[u8],
+    signature_lengths: &[usize],
+    bytes: &mut [u8],
+    needed: &mut usize,
+    lengths: &mut [usize],
+    count: &mut usize,
+    outcome: &mut RunOutcome,
+    reason: &mut Reason,
+) -> u32
+    ensures code { HoldsOfRun result (ran_by version sequence locktime (run_arrays script.now items.now item_lengths.now keys.now signatures.now signature_lengths.now)) (λ given. result ≡ run_code given) }
+    ensures bytes { HoldsOfRun result (ran_by version sequence locktime (run_arrays script.now items.now item_lengths.now keys.now signatures.now signature_lengths.now)) (λ given. bytes.new ≡ buffer_after bytes.old (bytes_given (ran_checks given))) }
+    ensures needed { HoldsOfRun result (ran_by version sequence locktime (run_arrays script.now items.now item_lengths.now keys.now signatures.now signature_lengths.now)) (λ given. needed.new ≡ needed_after needed.old (bytes_given (ran_checks given))) }
+    ensures lengths { HoldsOfRun result (ran_by version sequence locktime (run_arrays script.now items.now item_lengths.now keys.now signatures.now signature_lengths.now)) (λ given. lengths.new ≡ buffer_after lengths.old (lengths_given (ran_checks given))) }
+    ensures count { HoldsOfRun result (ran_by version sequence locktime (run_arrays script.now items.now item_lengths.now keys.now signatures.now signature_lengths.now)) (λ given. count.new ≡ needed_after count.old (lengths_given (ran_checks given))) }
+    ensures outcome { HoldsOfRun result (ran_by version sequence locktime (run_arrays script.now items.now item_lengths.now keys.now signatures.now signature_lengths.now)) (λ given. outcome.new ≡ value_after outcome.old (ran_outcome given)) }
+    ensures reason { HoldsOfRun result (ran_by version sequence locktime (run_arrays script.now items.now item_lengths.now keys.now signatures.now signature_lengths.now)) (λ given. reason.new ≡ reason_after reason.old given) }
+    ensures kept { result ≡ 7 → bytes.new ≡ bytes.old }
+    ensures kept_needed { result ≡ 7 → needed.new ≡ needed.old }
+    ensures kept_lengths { result ≡ 7 → lengths.new ≡ lengths.old }
+    ensures kept_count { result ≡ 7 → count.new ≡ count.old }
+    ensures kept_outcome { result ≡ 7 → outcome.new ≡ outcome.old }
+    ensures kept_reason { result ≡ 7 → reason.new ≡ reason.old }
+{
+    let arrays = RunArrays {
+        script,
+        items,
+        item_lengths,
+        keys,
+        signatures,
+        signature_lengths,
+    };
+    ms_calls::run(
+        alloc, version, sequence, locktime, &arrays, bytes, needed, lengths, count, outcome, reason,
+    )
+}
+
+/// Whether a stack is accepted for a text that is valid by the limits of policy, and by which rows it satisfies the text, by what
+/// lies in arrays.
+#[unsafe(no_mangle)]
+pub extern "C" fn msat_audit(
+    alloc: Global,
+    text: &[u8],
+    version: u32,
+    sequence: u32,
+    locktime: u32,
+    script: &[u8],
+    items: &[u8],
+    item_lengths: &[usize],
+    keys: &[u8],
+    signatures: &[u8],
+    signature_lengths: &[usize],
+    steps: &mut [PlacedStep],
+    count: &mut usize,
+    canonical: &mut bool,
+    outcome: &mut RunOutcome,
+    reason: &mut Reason,
+) -> u32
+    ensures code { HoldsOfReply text.now result (audit_by version sequence locktime (run_arrays script.now items.now item_lengths.now keys.now signatures.now signature_lengths.now)) (λ given. result ≡ audit_code given) }
+    ensures steps { HoldsOfReply text.now result (audit_by version sequence locktime (run_arrays script.now items.now item_lengths.now keys.now signatures.now signature_lengths.now)) (λ given. steps.new ≡ buffer_after steps.old (audited_steps given)) }
+    ensures count { HoldsOfReply text.now result (audit_by version sequence locktime (run_arrays script.now items.now item_lengths.now keys.now signatures.now signature_lengths.now)) (λ given. count.new ≡ needed_after count.old (audited_steps given)) }
+    ensures canonical { HoldsOfReply text.now result (audit_by version sequence locktime (run_arrays script.now items.now item_lengths.now keys.now signatures.now signature_lengths.now)) (λ given. canonical.new ≡ value_after canonical.old (audited_canonical given)) }
+    ensures outcome { HoldsOfReply text.now result (audit_by version sequence locktime (run_arrays script.now items.now item_lengths.now keys.now signatures.now signature_lengths.now)) (λ given. outcome.new ≡ value_after outcome.old (audited_outcome given)) }
+    ensures reason { HoldsOfReply text.now result (audit_by version sequence locktime (run_arrays script.now items.now item_lengths.now keys.now signatures.now signature_lengths.now)) (λ given. reason.new ≡ reason_after reason.old given) }
+    ensures unreadable { result ≡ 11 ↔ (¬ IsUtf8 text.now) }
+    ensures kept { (result ≡ 11) ⊎ (result ≡ 7) → steps.new ≡ steps.old }
+    ensures kept_count { (result ≡ 11) ⊎ (result ≡ 7) → count.new ≡ count.old }
+    ensures kept_canonical { (result ≡ 11) ⊎ (result ≡ 7) → canonical.new ≡ canonical.old }
+    ensures kept_outcome { (result ≡ 11) ⊎ (result ≡ 7) → outcome.new ≡ outcome.old }
+    ensures kept_reason { (result ≡ 11) ⊎ (result ≡ 7) → reason.new ≡ reason.old }
+{
+    let arrays = RunArrays {
+        script,
+        items,
+        item_lengths,
+        keys,
+        signatures,
+        signature_lengths,
+    };
+    ms_calls::audit(
+        alloc, text, version, sequence, locktime, &arrays, steps, count, canonical, outcome, reason,
+    )
 }

@@ -1,6 +1,8 @@
 //! Tests of the calls that other languages make.
+use ms_arrays::RunArrays;
 use ms_calls::{
-    Facts, Reason, answer, check, decode, least_weight, policy, satisfy, script, witness,
+    Facts, PlacedStep, Reason, RunOutcome, answer, audit, check, decode, least_weight, plan,
+    policy, run, satisfy, script, witness,
 };
 use std::alloc::Global;
 use std::process::Abort;
@@ -247,5 +249,215 @@ fn assets_in_arrays_satisfy(rt: HostRuntime) -> Result<(), Fail> {
     assert_eq!(rt; (needed, count), (40, 2));
     assert_eq!(rt; &lengths, &[0, 40, 99]);
     assert_eq!(rt; &bytes, b"\x63\x21");
+    Ok(())
+}
+
+/// A key that isn't on the curve, as bytes and in a text.
+const KEY: &[u8] =
+    b"\x02\x01\x01\x01\x01\x01\x01\x01\x01\x01\x01\x01\x01\x01\x01\x01\x01\x01\x01\x01\x01\x01\x01\x01\x01\x01\x01\x01\x01\x01\x01\x01\x01";
+
+const TEXT_OF_KEY: &[u8] =
+    b"pk(020101010101010101010101010101010101010101010101010101010101010101)";
+
+#[test]
+fn a_plan_has_its_keys(rt: HostRuntime) -> Result<(), Fail> {
+    let mut asked = [b'-'; 2];
+    let mut needed = 99;
+    let mut weight = 99;
+    let mut reason = NO_REASON;
+    let code = plan(
+        rt.alloc(),
+        TEXT_OF_KEY,
+        2,
+        0,
+        0,
+        KEY,
+        &[72],
+        &[],
+        &mut asked,
+        &mut needed,
+        &mut weight,
+        &mut reason,
+    );
+    assert_eq!(rt; (code, needed, weight), (0, 33, 73));
+    assert_eq!(rt; &asked, b"\x02\x01");
+    Ok(())
+}
+
+#[test]
+fn a_plan_of_a_long_signature_is_refused(rt: HostRuntime) -> Result<(), Fail> {
+    let mut asked = [b'-'; 2];
+    let mut needed = 99;
+    let mut weight = 99;
+    let mut reason = NO_REASON;
+    let code = plan(
+        rt.alloc(),
+        TEXT_OF_KEY,
+        2,
+        0,
+        0,
+        KEY,
+        &[74],
+        &[],
+        &mut asked,
+        &mut needed,
+        &mut weight,
+        &mut reason,
+    );
+    assert_eq!(rt; (code, needed, weight), (3, 99, 99));
+    assert_eq!(rt; (reason.kind, reason.place), (23, 0));
+    Ok(())
+}
+
+const NO_OUTCOME: RunOutcome = RunOutcome {
+    ops: 99,
+    peak: 99,
+    fault: 99,
+    place: 99,
+};
+
+/// A script, and a stack of one item where there is a length for it, without a signature.
+fn arrays_of<'a>(script: &'a [u8], items: &'a [u8], item_lengths: &'a [usize]) -> RunArrays<'a> {
+    RunArrays {
+        script,
+        items,
+        item_lengths,
+        keys: &[],
+        signatures: &[],
+        signature_lengths: &[],
+    }
+}
+
+#[test]
+fn a_run_has_its_checks(rt: HostRuntime) -> Result<(), Fail> {
+    let script =
+        b"\x21\x02\x01\x01\x01\x01\x01\x01\x01\x01\x01\x01\x01\x01\x01\x01\x01\x01\x01\x01\x01\x01\x01\x01\x01\x01\x01\x01\x01\x01\x01\x01\x01\x01\xac";
+    let arrays = RunArrays {
+        script,
+        items: b"\x30\x44",
+        item_lengths: &[2],
+        keys: KEY,
+        signatures: b"\x30\x44",
+        signature_lengths: &[2],
+    };
+    let mut bytes = [b'-'; 36];
+    let mut lengths = [99; 3];
+    let mut needed = 99;
+    let mut count = 99;
+    let mut outcome = NO_OUTCOME;
+    let mut reason = NO_REASON;
+    let code = run(
+        rt.alloc(),
+        2,
+        0,
+        0,
+        &arrays,
+        &mut bytes,
+        &mut needed,
+        &mut lengths,
+        &mut count,
+        &mut outcome,
+        &mut reason,
+    );
+    assert_eq!(rt; (code, needed, count), (0, 35, 2));
+    assert_eq!(rt; (outcome.ops, outcome.peak, outcome.fault), (1, 2, 0));
+    assert_eq!(rt; &lengths, &[33, 2, 99]);
+    assert_eq!(rt; &bytes[..2], b"\x02\x01".as_slice());
+    assert_eq!(rt; &bytes[32..], b"\x01\x30\x44-".as_slice());
+    Ok(())
+}
+
+#[test]
+fn a_refused_run_has_its_fault(rt: HostRuntime) -> Result<(), Fail> {
+    let mut needed = 99;
+    let mut count = 99;
+    let mut outcome = NO_OUTCOME;
+    let mut reason = NO_REASON;
+    let code = run(
+        rt.alloc(),
+        2,
+        0,
+        0,
+        &arrays_of(b"\x51", b"\x00", &[1]),
+        &mut [],
+        &mut needed,
+        &mut [],
+        &mut count,
+        &mut outcome,
+        &mut reason,
+    );
+    assert_eq!(rt; (code, needed, count), (8, 0, 0));
+    assert_eq!(rt; (outcome.ops, outcome.peak), (0, 0));
+    assert_eq!(rt; (outcome.fault, outcome.place), (21, 1));
+    Ok(())
+}
+
+const NO_STEP: PlacedStep = PlacedStep {
+    place: 99,
+    sat: false,
+    extra: true,
+};
+
+/// Compares the code, the fault and its place, the number of steps and whether they are canonical, and the first step of an audit
+/// of `older(9)`.
+fn is_audited(
+    rt: &impl Abort,
+    alloc: Global,
+    sequence: u32,
+    script: &[u8],
+    told: (u32, (u32, u32), (usize, bool)),
+    step: PlacedStep,
+) {
+    let mut steps = [NO_STEP; 2];
+    let mut count = 99;
+    let mut canonical = false;
+    let mut outcome = NO_OUTCOME;
+    let mut reason = NO_REASON;
+    let code = audit(
+        alloc,
+        b"older(9)",
+        2,
+        sequence,
+        0,
+        &arrays_of(script, &[], &[]),
+        &mut steps,
+        &mut count,
+        &mut canonical,
+        &mut outcome,
+        &mut reason,
+    );
+    assert_eq!(rt;
+        (code, (outcome.fault, outcome.place), (count, canonical)),
+        told
+    );
+    assert_eq!(rt; steps[0], step);
+    assert_eq!(rt; steps[1], NO_STEP);
+}
+
+#[test]
+fn an_audit_has_its_steps(rt: HostRuntime) -> Result<(), Fail> {
+    let alloc = rt.alloc();
+    let step = PlacedStep {
+        place: 0,
+        sat: true,
+        extra: false,
+    };
+    is_audited(&rt, alloc, 9, b"\x59\xb2", (0, (0, 0), (1, true)), step);
+    is_audited(
+        &rt,
+        alloc,
+        8,
+        b"\x59\xb2",
+        (9, (14, 1), (0, false)),
+        NO_STEP,
+    );
+    is_audited(
+        &rt,
+        alloc,
+        9,
+        b"\x58\xb2",
+        (9, (23, 0), (0, false)),
+        NO_STEP,
+    );
     Ok(())
 }
