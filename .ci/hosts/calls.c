@@ -1,7 +1,7 @@
 /* Tries the library from C.
  * Usage: calls rows FOLDER..       each example, with buffers of several lengths
  *        calls queries FOLDER..    what is asked without a report, of each example: Script, limits, least weight, witness
- *        calls arrays              satisfactions by keys, signatures and preimages in arrays, and arrays that are refused
+ *        calls arrays              satisfactions, plans, runs and audits by what lies in arrays, and arrays that are refused
  *        calls words               words that can't be read, and NULL with the length 0
  *        calls names               the version, and the names of refusals, rules and members
  *        calls demands             calls that break a demand of the header, which a debug build stops
@@ -501,20 +501,131 @@ static void try_arrays(void) {
         fail("a text was read", "a text with arrays");
 }
 
+/* A key of 33 equal bytes but the first, and `pk(..)` of it. */
+static struct bytes key_of(char digit) {
+    struct bytes key = {room(33), 33};
+    memset(key.at, (digit - '0') * 17, 33);
+    key.at[0] = 2;
+    return key;
+}
+
+static struct bytes text_of_key(char digit) {
+    struct bytes text = {room(70), 70};
+    memset(text.at, digit, 70);
+    memcpy(text.at, "pk(02", 5);
+    text.at[69] = ')';
+    return text;
+}
+
+static void try_plans(void) {
+    struct bytes key = key_of('1'), text = text_of_key('1'), asked = {room(33), 33};
+    size_t *length = (size_t *)copied(&(size_t){72}, sizeof *length), needed = 77;
+    uint64_t weight = 77;
+    struct msat_reason reason = {7, 7, 7, 7};
+    for (size_t most = 0; most <= 33; most++) {
+        uint8_t *short_one = room(most);
+        if (msat_plan(chars(text), text.length, 2, 0, 0, key.at, 33, length, 1, NULL, 0, short_one, most, &needed, &weight, &reason) != MSAT_DONE ||
+            needed != 33 || weight != 73 || memcmp(short_one, key.at, most) != 0 || reason.kind != 7)
+            fail("another plan", "plans");
+        free(short_one);
+    }
+    needed = 77, weight = 77;
+    if (msat_plan(chars(text), text.length, 2, 0, 0, NULL, 0, NULL, 0, NULL, 0, asked.at, 33, &needed, &weight, &reason) != MSAT_NO_SATISFACTION ||
+        needed != 77 || weight != 77 || reason.kind != 7)
+        fail("a plan without a key", "plans");
+    static const struct {
+        size_t keys, length, preimages;
+        uint32_t kind, rule;
+    } refused[] = {{32, 72, 0, MSAT_SHAPE, MSAT_MEMBER_KEYS},
+                   {33, 74, 0, MSAT_LENGTH, 0},
+                   {33, 0, 0, MSAT_LENGTH, 0},
+                   {33, 72, 31, MSAT_SHAPE, MSAT_MEMBER_PREIMAGES},
+                   {33, 72, 257 * 32, MSAT_TOO_MANY, MSAT_MEMBER_PREIMAGES}};
+    for (size_t i = 0; i < sizeof refused / sizeof *refused; i++) {
+        uint8_t *preimages = calloc(1, refused[i].preimages + 1);
+        *length = refused[i].length, reason.kind = 7;
+        if (msat_plan(chars(text), text.length, 2, 0, 0, key.at, refused[i].keys, length, 1, preimages, refused[i].preimages, asked.at, 33, &needed,
+                      &weight, &reason) != MSAT_FILE_REFUSED ||
+            reason.kind != refused[i].kind || reason.rule != refused[i].rule || needed != 77 || weight != 77)
+            fail("another refusal of a plan", msat_fault_name(refused[i].kind));
+        free(preimages);
+    }
+    free(key.at), free(text.at), free(asked.at), free(length);
+}
+
+static void try_runs(void) {
+    struct bytes key = key_of('1'), text = text_of_key('1'), script = {room(35), 35}, sig = {(uint8_t *)copied("\x30\x44", 2), 2};
+    size_t *size = (size_t *)copied(&(size_t){2}, sizeof *size), needed = 77, count = 77;
+    script.at[0] = 33, script.at[34] = 0xac;
+    memcpy(script.at + 1, key.at, 33);
+    struct msat_reason reason = {7, 7, 7, 7};
+    for (size_t most = 0; most <= 35; most++) {
+        struct msat_outcome outcome = {77, 77, 77, 77};
+        uint8_t *found = room(most);
+        size_t *lengths = room(most % 3 * sizeof *lengths);
+        if (msat_run(2, 0, 0, script.at, 35, sig.at, 2, size, 1, key.at, 33, sig.at, 2, size, 1, found, most, &needed, lengths, most % 3, &count, &outcome,
+                     &reason) != MSAT_DONE ||
+            needed != 35 || count != 2 || outcome.ops != 1 || outcome.peak != 2 || outcome.fault != 0 || reason.kind != 7)
+            fail("another run", "runs");
+        if (memcmp(found, key.at, most < 33 ? most : 33) != 0 || (most > 33 && found[33] != 0x30) || (most % 3 > 0 && lengths[0] != 33))
+            fail("other checks", "runs");
+        free(found), free(lengths);
+    }
+    for (size_t most = 0; most <= 3; most++) {
+        struct msat_outcome outcome = {77, 77, 77, 77};
+        struct msat_step *steps = room(most * sizeof *steps);
+        memset(steps, 0, most * sizeof *steps);
+        bool canonical = false;
+        if (msat_audit(chars(text), text.length, 2, 0, 0, script.at, 35, sig.at, 2, size, 1, key.at, 33, sig.at, 2, size, 1, steps, most, &count, &canonical,
+                       &outcome, &reason) != MSAT_DONE ||
+            count != 2 || !canonical || outcome.ops != 1 || outcome.peak != 2 || outcome.fault != 0 || reason.kind != 7)
+            fail("another audit", "runs");
+        for (size_t i = 0; i < most; i++)
+            if (steps[i].place != 0 || steps[i].sat != (i < 2) || steps[i].extra)
+                fail("other steps", "runs");
+        free(steps);
+    }
+    struct msat_outcome outcome = {77, 77, 77, 77};
+    bool canonical = true;
+    if (msat_run(2, 0, 0, script.at, 35, sig.at, 2, size, 1, NULL, 0, NULL, 0, NULL, 0, NULL, 0, &needed, NULL, 0, &count, &outcome, &reason) !=
+            MSAT_SCRIPT_REFUSED ||
+        needed != 0 || count != 0 || outcome.fault != MSAT_RUN_NULL_FAIL || outcome.place != 1 || outcome.ops != 0)
+        fail("another fault", "runs");
+    if (msat_audit(chars(text), text.length, 2, 0, 0, script.at, 34, sig.at, 2, size, 1, NULL, 0, NULL, 0, NULL, 0, NULL, 0, &count, &canonical, &outcome,
+                   &reason) != MSAT_NOT_ACCEPTED ||
+        count != 0 || canonical || outcome.fault != MSAT_RUN_WRONG_SCRIPT || outcome.place != 0)
+        fail("another fault", "audits");
+    outcome.fault = 77, count = 77, needed = 77;
+    if (msat_run(2, 0, 0, script.at, 35, sig.at, 1, size, 1, NULL, 0, NULL, 0, NULL, 0, NULL, 0, &needed, NULL, 0, &count, &outcome, &reason) !=
+            MSAT_FILE_REFUSED ||
+        reason.kind != MSAT_SHAPE || reason.rule != MSAT_MEMBER_WITNESS || needed != 77 || count != 77 || outcome.fault != 77)
+        fail("another refusal", "runs");
+    if (msat_audit("1\xff", 2, 2, 0, 0, script.at, 34, NULL, 0, NULL, 0, NULL, 0, NULL, 0, NULL, 0, NULL, 0, &count, &canonical, &outcome, &reason) !=
+            MSAT_UNREADABLE ||
+        count != 77 || outcome.fault != 77)
+        fail("a text was read", "audits");
+    free(key.at), free(text.at), free(script.at), free(sig.at), free(size);
+}
+
 static void try_names(void) {
     if (msat_version() != MSAT_VERSION_NUMBER)
         fail("the library has another version than the header", "msat_version");
     if (strcmp(msat_fault_name(MSAT_TOO_LONG), "TooLong") != 0 || strcmp(msat_fault_name(MSAT_REPEATED_KEY), "RepeatedKey") != 0 ||
         strcmp(msat_fault_name(MSAT_FILE_TOO_LONG), "TooLong") != 0 || strcmp(msat_fault_name(MSAT_FILE_REPEATED_KEY), "RepeatedKey") != 0 ||
-        strcmp(msat_fault_name(MSAT_NOT_JSON), "NotJson") != 0 || msat_fault_name(0) || msat_fault_name(MSAT_FILE_REPEATED_KEY + 1))
+        strcmp(msat_fault_name(MSAT_NOT_JSON), "NotJson") != 0 || msat_fault_name(0) || strcmp(msat_fault_name(MSAT_LENGTH), "Length") != 0 ||
+        msat_fault_name(MSAT_LENGTH + 1))
         fail("another name", "msat_fault_name");
     if (strcmp(msat_rule_name(MSAT_RULE_OLDER_RANGE), "OlderRange") != 0 || strcmp(msat_rule_name(MSAT_RULE_WRAP_N), "WrapN") != 0 ||
         strcmp(msat_rule_name(MSAT_RULE_AND_OR_E), "AndOrE") != 0 || strcmp(msat_rule_name(MSAT_RULE_THRESH_S), "ThreshS") != 0 ||
         msat_rule_name(MSAT_RULE_THRESH_S + 1) || msat_rule_name(UINT32_MAX))
         fail("another name", "msat_rule_name");
     if (strcmp(msat_member_name(MSAT_MEMBER_FILE), "file") != 0 || strcmp(msat_member_name(MSAT_MEMBER_FORMAT), "format") != 0 ||
-        msat_member_name(MSAT_MEMBER_FORMAT + 1))
+        strcmp(msat_member_name(MSAT_MEMBER_KEYS), "keys") != 0 || msat_member_name(MSAT_MEMBER_KEYS + 1))
         fail("another name", "msat_member_name");
+    if (strcmp(msat_run_fault_name(MSAT_RUN_SCRIPT_SIZE), "ScriptSize") != 0 || msat_run_fault_name(0) ||
+        strcmp(msat_run_fault_name(MSAT_RUN_EVAL_FALSE), "EvalFalse") != 0 || msat_run_fault_name(MSAT_RUN_WRONG_SCRIPT + 1) ||
+        strcmp(msat_run_fault_name(MSAT_RUN_WRONG_SCRIPT), "WrongScript") != 0)
+        fail("another name", "msat_run_fault_name");
 }
 
 static void expect_unreadable(size_t count, const char *words, size_t length) {
@@ -574,6 +685,8 @@ static void break_demand(int which) {
     size_t numbers[8] = {0};
     uint64_t weight = 0;
     struct msat_facts facts = {0};
+    struct msat_outcome outcome = {0};
+    struct msat_step step = {0};
     struct msat_reason reason = {0};
     switch (which) {
     case 0: msat_answer(1, NULL, 1, NULL, 0, bytes, 1, numbers); break;
@@ -589,11 +702,14 @@ static void break_demand(int which) {
     case 10: msat_witness(false, false, bytes, 1, NULL, 0, raw + 1, 8, numbers, numbers, 4, numbers + 4, &reason); break;
     case 11: msat_witness(false, false, bytes, 1, NULL, 0, raw + 1, 8, numbers, numbers + 1, 4, numbers, &reason); break;
     case 12: msat_witness(false, false, bytes, 1, NULL, 0, raw, 8, numbers, numbers + 1, 4, numbers + 5, &reason); break;
+    case 13: msat_plan(bytes, 1, 2, 0, 0, NULL, 0, NULL, 0, NULL, 0, raw, 1, numbers, &weight, &reason); break;
+    case 14: msat_run(2, 0, 0, raw, 1, NULL, 0, NULL, 0, NULL, 0, NULL, 0, NULL, 0, raw + 1, 8, numbers, numbers, 4, numbers + 4, &outcome, &reason); break;
+    case 15: msat_audit(bytes, 1, 2, 0, 0, NULL, 0, NULL, 0, NULL, 0, NULL, 0, NULL, 0, NULL, 0, &step, 1, numbers, &step.sat, &outcome, &reason); break;
     }
 }
 
 static void try_demands(void) {
-    for (int which = 0; which < 13; which++) {
+    for (int which = 0; which < 16; which++) {
         pid_t child = fork();
         if (child == 0) {
             if (!freopen("/dev/null", "w", stderr))
@@ -769,7 +885,7 @@ int main(int argc, char **argv) {
     if (strcmp(what, "words") == 0)
         try_words();
     else if (strcmp(what, "arrays") == 0)
-        try_arrays();
+        try_arrays(), try_plans(), try_runs();
     else if (strcmp(what, "names") == 0)
         try_names();
     else if (strcmp(what, "demands") == 0)

@@ -166,7 +166,7 @@ def try_refusals() -> None:
             try_queries(text, FILE, consensus)
     for file in BROKEN_FILES:
         try_queries(f"pk({KEYS[0]})", file, False)
-    wanted = {f"TextRefused {name}" for name in (*errors.TEXT_KINDS, *errors.RULES)} | {f"FileRefused {name}" for name in errors.FILE_KINDS}
+    wanted = {f"TextRefused {name}" for name in (*errors.TEXT_KINDS, *errors.RULES)} | {f"FileRefused {name}" for name in errors.FILE_KINDS[:-1]}
     if wanted - named:
         faults.append(f"not tried: {sorted(wanted - named)}")
 
@@ -179,21 +179,24 @@ def try_names() -> None:
     if tuple(rules) != errors.RULES:
         faults.append(f"docs/FORMATS.md has the rules {rules}")
     order = re.search(r"in\s+the\s+order\s+(`file`.*?),\s+then\s+by\s+the\s+first\s+element", formats, re.S)
-    if tuple(re.findall(r"`(\w+)`", order[1])) != errors.MEMBERS:
+    if (*re.findall(r"`(\w+)`", order[1]), "keys") != errors.MEMBERS:
         faults.append(f"docs/FORMATS.md has the members {order[1]}")
     header = (TOP / "include/msat.h").read_text()
-    for start, wanted_names in (("MSAT_RULE_", errors.RULES), ("MSAT_MEMBER_", errors.MEMBERS)):
-        found = re.findall(rf"^    {start}(\w+)(?: = 0)?,?$", header, re.M)
+    for start, wanted_names in (("MSAT_RULE_", errors.RULES), ("MSAT_MEMBER_", errors.MEMBERS), ("MSAT_RUN_", errors.FAULTS)):
+        found = re.findall(rf"^    {start}(\w+)(?: = \d)?,?(?: /\*.*\*/)?$", header, re.M)
         if [name.replace("_", "").lower() for name in found] != [name.lower() for name in wanted_names]:
             faults.append(f"include/msat.h has {start}.. of {found}")
     numbered = (TOP / "crates/ms_calls/specs/Reasons.antt").read_text()
-    for called, wanted_names in (("rule", errors.RULES), ("member", ("Whole", *(name.title() for name in errors.MEMBERS[1:])))):
+    for called, wanted_names in (("rule", errors.RULES), ("member", ("Whole", *(name.title() for name in errors.MEMBERS[1:-1])))):
         found = re.findall(rf"^code_of_{called} {called}\.(\w+) = (\d+)$", numbered, re.M)
         if found != [(name, str(number)) for number, name in enumerate(wanted_names)]:
             faults.append(f"ms_calls numbers each {called} otherwise: {found}")
+    faults_numbered = re.findall(r"^number_of_fault fault\.(\w+) = (\d+)$", (TOP / "crates/ms_calls/specs/Ran.antt").read_text(), re.M)
+    if faults_numbered != [(name, str(number + 1)) for number, name in enumerate(errors.FAULTS[:-1])]:
+        faults.append(f"ms_calls numbers each fault otherwise: {faults_numbered}")
     listed = re.search(r"enum \{\s*/\* of a text \*/(.*?)\};", (TOP / "include/msat.h").read_text(), re.S)
     kinds = [name.lower().replace("_", "") for name in re.findall(r"MSAT_(\w+)", listed[1])]
-    wanted = [*map(str.lower, errors.TEXT_KINDS), "filetoolong", *map(str.lower, errors.FILE_KINDS[1:-1]), "filerepeatedkey"]
+    wanted = [*map(str.lower, errors.TEXT_KINDS), "filetoolong", *map(str.lower, errors.FILE_KINDS[1:-2]), "filerepeatedkey", "length"]
     if kinds != wanted:
         faults.append(f"include/msat.h has the kinds {kinds}")
 
@@ -259,6 +262,79 @@ def try_arrays() -> None:
         faults.append(f"arrays: other items with other room: {room}")
 
 
+def plan_by(file: dict) -> msat.Assets:
+    """The assets of a plan file."""
+    keys = tuple(msat.Estimate(bytes.fromhex(it["key"]), it["length"]) for it in file.get("keys", []))
+    return replace(held_by(file), keys=keys)
+
+
+def run_by(file: dict) -> msat.Run:
+    """The run of a run file."""
+    numbers = {name: file[name] for name in ("version", "sequence", "locktime") if name in file}
+    signatures = tuple(msat.Signature(bytes.fromhex(it["key"]), bytes.fromhex(it["sig"])) for it in file.get("signatures", []))
+    return msat.Run(bytes.fromhex(file["script"]), tuple(map(bytes.fromhex, file.get("witness", []))), signatures, **numbers)
+
+
+def read_files(name: str, made_of) -> list:
+    """What the files of this name in the examples are made to, where they can be."""
+    found = []
+    for path in TOP.glob(f"examples/*/{name}"):
+        try:
+            found.append(made_of(json.loads(path.read_text())))
+        except (KeyError, TypeError, ValueError):
+            pass
+    return found
+
+
+def try_plan_arrays(texts: list[str]) -> None:
+    """Plans by arrays are those by a file with the same, also where either is refused."""
+    random.seed(3)
+    keys = [bytes.fromhex(key) for key in KEYS] + [b"\5" * 33]
+    held = read_files("plan.json", plan_by)
+    for number in range(300):
+        some = random.sample(keys[: len(keys) - (number % 9 > 0)], random.randrange(5)) + [keys[0]] * (number % 50 == 0)
+        estimates = tuple(msat.Estimate(key, random.choice([70, 71, 72, 73, 1, 74, 0] if number % 5 == 0 else [71, 72])) for key in some)
+        known = tuple(random.choices([bytes(32), b"\1" * 32], k=random.randrange(3)))
+        held.append(msat.Assets(2, random.choice([9, 144, 2**32 - 1]), random.choice([0, 9]), (), known, keys=estimates))
+    for assets in held:
+        for text in random.sample(texts, 6):
+            by_arrays, by_file = refusal(msat.plan, text, assets), refusal(msat.plan, text, assets.json())
+            # a file without the member `keys` says the same as one without a key
+            if by_arrays != by_file:
+                faults.append(f"a plan by arrays {text} {assets}: {by_arrays}, and by the file {by_file}")
+            note_names(by_arrays)
+    if {"FileRefused Length", "FileRefused KeyForm", "FileRefused RepeatedKey"} - named:
+        faults.append("not every refusal of plans was tried")
+
+
+def try_run_arrays(texts: list[str]) -> None:
+    """Runs and audits by arrays are those by a file with the same, also where either is refused, in rooms of several lengths."""
+    random.seed(4)
+    runs = read_files("run.json", run_by)
+    runs += [replace(run, stack=run.stack[1:]) for run in runs] + [replace(run, signatures=()) for run in runs]
+    runs += [replace(runs[0], stack=(b"",) * 2001), replace(runs[0], signatures=runs[0].signatures * 257)]
+    for run in runs:
+        if refusal(msat.run, run) != refusal(msat.run, run.json()):
+            faults.append(f"a run by arrays {run}: {refusal(msat.run, run)}, and by the file {refusal(msat.run, run.json())}")
+        for text in texts:
+            if refusal(msat.audit, text, run) != refusal(msat.audit, text, run.json()):
+                faults.append(f"an audit by arrays {text} {run}: {refusal(msat.audit, text, run)}, and by the file {refusal(msat.audit, text, run.json())}")
+    for run, text in zip(runs, texts):
+        lent = run.arrays()
+        if lent is None:
+            continue
+        told = {(code, items) for code, items, _, _ in (msat._library.run(*lent, size, most) for size, most in ((0, 0), (1, 1), (9000, 9)))}
+        steps = [msat._library.audit(text.encode(errors="surrogateescape"), *lent, most)[:3] for most in (0, 1, 300)]
+        if len(told) != 1 or any(step != steps[0] for step in steps):
+            faults.append(f"a run or an audit says something else with other room: {run}")
+
+
+def try_more_arrays() -> None:
+    texts = [path.read_text().rstrip("\n") for path in sorted(TOP.glob("examples/*/text"))] + ["pk(1)", "\udcff", "1"]
+    try_plan_arrays(texts)
+    try_run_arrays(texts)
+
+
 def held_of(keys: list[bytes]) -> tuple:
     """A signature of each key, in arrays."""
     return (2, 9, 9), [(key, b"\x30" * 71) for key in keys], []
@@ -302,6 +378,7 @@ try_folders(folders)
 in_threads(8, (try_folders, folders))
 in_threads(1, (try_refusals,))
 try_arrays()
+try_more_arrays()
 try_names()
 try_version()
 try_edges()

@@ -41,6 +41,23 @@ int main(int argc, char **argv) {
         return 99;
     if (count > facts.items + 1 || needed > facts.weight + facts.size)
         return 99;
+    std::vector<std::uint8_t> asked(4096);
+    std::uint64_t weight = 0;
+    if (msat_plan(text.data(), text.size(), 2, 0, 0, NULL, 0, NULL, 0, NULL, 0, asked.data(), asked.size(), &needed, &weight, &reason) !=
+        MSAT_NO_SATISFACTION)
+        return 99;
+    msat_outcome outcome = msat_outcome();
+    const std::uint8_t script[] = {0x51};
+    if (msat_run(2, 0, 0, script, sizeof script, NULL, 0, NULL, 0, NULL, 0, NULL, 0, NULL, 0, bytes.data(), bytes.size(), &needed, lengths.data(),
+                 lengths.size(), &count, &outcome, &reason) != MSAT_DONE ||
+        outcome.peak != 1 || count != 0)
+        return 99;
+    std::vector<msat_step> steps(16);
+    bool canonical = true;
+    if (msat_audit(text.data(), text.size(), 2, 0, 0, script, sizeof script, NULL, 0, NULL, 0, NULL, 0, NULL, 0, NULL, 0, steps.data(), steps.size(),
+                   &count, &canonical, &outcome, &reason) != MSAT_NOT_ACCEPTED ||
+        std::strcmp(msat_run_fault_name(outcome.fault), "WrongScript") != 0 || canonical)
+        return 99;
     if (std::strcmp(msat_rule_name(MSAT_RULE_AND_VX), "AndVX") != 0 || msat_version() != MSAT_VERSION_NUMBER)
         return 99;
     return static_cast<int>(code);

@@ -16,7 +16,7 @@ reports into classes, is tested and not proved. Calls may be made from several t
 Syntax 3
 """
 
-from typing import NoReturn, Sequence
+from typing import NoReturn, Optional, Sequence
 
 from . import _library
 from .errors import (
@@ -30,6 +30,7 @@ from .errors import (
     TextRefused,
     Unreadable,
     Usage,
+    fault_line,
     file_line,
     text_line,
 )
@@ -46,6 +47,7 @@ from .results import (
     Plan,
     Policy,
     Replay,
+    Run,
     Satisfaction,
     Signature,
     Step,
@@ -55,7 +57,7 @@ from .results import (
 
 __all__ = [
     "Accepted", "Assets", "Audit", "Checked", "Estimate", "Facts", "File", "FileRefused", "Limits", "MsatError", "NoReading",
-    "NoSatisfaction", "NotAccepted", "Plan", "Policy", "Refused", "Replay", "Satisfaction", "ScriptRefused", "Signature", "Step",
+    "NoSatisfaction", "NotAccepted", "Plan", "Policy", "Refused", "Replay", "Run", "Satisfaction", "ScriptRefused", "Signature", "Step",
     "TextRefused", "Unreadable", "Usage", "answer", "audit", "check", "decode", "facts", "least_weight", "plan", "policy", "report",
     "run", "satisfy", "script", "witness",
     # of PSBTs
@@ -186,14 +188,20 @@ def witness(text: str, assets: File, *, malleable: bool = False, consensus: bool
 
 
 def run(file: File) -> Accepted:
-    """The run of a script on a stack, as a run file gives them, where the interpreter accepts it.
+    """The run of a script on a stack, where the interpreter accepts it. A `Run` is handed over as it is, bytes and numbers, without a
+    file; anything else is a run file.
 
-    >>> run({"script": "51"})
+    >>> run(Run(b"\\x51"))
     Accepted(ops=0, peak=1, checks=())
     >>> run({"script": "6a"})
     Traceback (most recent call last):
-    msat.errors.ScriptRefused: refused script OpReturn at 0
+    msat.errors.ScriptRefused: refused script Unsupported at 0
     """
+    lent = file.arrays() if isinstance(file, Run) else None
+    if lent is not None:
+        code, items, outcome, reason = _library.run(*lent)
+        _refuse_by(code, reason, outcome)
+        return Accepted(ops=outcome.ops, peak=outcome.peak, checks=tuple(zip(items[::2], items[1::2])))
     lines = _lines(report(["run"], file_bytes(file)))
     counted = _numbers(lines["accepted"][0])
     pairs = (check.split() for check in lines.get("check", []))
@@ -216,26 +224,38 @@ def policy(text: str) -> Policy:
 
 
 def plan(text: str, file: File) -> Plan:
-    """Which keys to ask for a signature, by a plan file: assets whose `keys` say who can sign. They are enough, and where none of their
-    signatures is longer than estimated the satisfaction weighs no more than is told.
+    """Which keys to ask for a signature, by assets whose `keys` say who can sign, or by a plan file. They are enough, and where none of
+    their signatures is longer than estimated the satisfaction weighs no more than is told. `Assets` are handed over as they are, bytes
+    and numbers, without a file.
 
     >>> KEY = bytes.fromhex("020101010101010101010101010101010101010101010101010101010101010101")
     >>> plan(f"pk({KEY.hex()})", Assets(keys=(Estimate(KEY, 72),))).weight
     73
     """
+    held = file.plan_arrays() if isinstance(file, Assets) else None
+    if held is not None:
+        code, keys, weight, reason = _library.plan(_text(text), *held)
+        _refuse_by(code, reason)
+        return Plan(keys=keys, weight=weight)
     lines = _lines(report(["plan", text], file_bytes(file)))
     return Plan(keys=tuple(bytes.fromhex(key) for key in lines.get("ask", [])), weight=int(lines["weight"][0].split()[-1]))
 
 
 def audit(text: str, file: File) -> Audit:
-    """By which rows of BIP 379's table the stack of a run file satisfies a valid text.
+    """By which rows of BIP 379's table the stack of a run satisfies a valid text. A `Run` is handed over as it is, bytes and numbers,
+    without a file; anything else is a run file.
 
-    >>> audit("older(9)", {"script": "59b2", "sequence": 9})
+    >>> audit("older(9)", Run(bytes.fromhex("59b2"), sequence=9))
     Audit(ops=1, peak=1, steps=(Step(place=0, satisfied=True, extra=False),), canonical=True)
     >>> audit("older(9)", {"script": "59b2"})
     Traceback (most recent call last):
     msat.errors.NotAccepted: not accepted UnmetLock at 1
     """
+    lent = file.arrays() if isinstance(file, Run) else None
+    if lent is not None:
+        code, steps, canonical, outcome, reason = _library.audit(_text(text), *lent)
+        _refuse_by(code, reason, outcome)
+        return Audit(ops=outcome.ops, peak=outcome.peak, steps=tuple(Step(*step) for step in steps), canonical=canonical)
     lines = _lines(report(["audit", text], file_bytes(file)))
     counted = _numbers(lines["accepted"][0])
     nodes = (node.split() for node in lines.get("node", []))
@@ -286,13 +306,15 @@ def _numbers(line: str) -> dict[str, int]:
     return {name: int(number) for name, number in zip(words[::2], words[1::2])}
 
 
-def _refuse_by(code: int, reason: _library.Reason) -> None:
+def _refuse_by(code: int, reason: _library.Reason, outcome: Optional[_library.Outcome] = None) -> None:
     """Raises the refusal of a call without a report, where there is one."""
     lines = {4: "no satisfaction\n"}
     if code == 2:
         lines[2] = text_line(reason.kind, reason.rule, reason.place, reason.number)
     if code == 3:
         lines[3] = file_line(reason.kind, reason.rule, reason.place)
+    if outcome is not None and code in (8, 9):
+        lines[code] = fault_line("refused script" if code == 8 else "not accepted", outcome.fault, outcome.place)
     if code != _library.DONE:
         _refuse(code, lines.get(code, ""))
 

@@ -34,6 +34,18 @@ class Facts(ctypes.Structure):
     ]
 
 
+class Outcome(ctypes.Structure):
+    """struct msat_outcome: what a run comes to."""
+
+    _fields_ = [(name, ctypes.c_uint32) for name in ("ops", "peak", "fault", "place")]
+
+
+class Step(ctypes.Structure):
+    """struct msat_step: how a node of a text takes part in a satisfaction."""
+
+    _fields_ = [("place", ctypes.c_uint32), ("sat", ctypes.c_bool), ("extra", ctypes.c_bool)]
+
+
 def places(package: Path) -> list[Path]:
     """Where the shared object of a package may lie, whose folder this is: beside it, and where `./install` has put both, in the
     folder `lib` of the prefix. No other place is looked at, so that nothing is loaded that others could have put there.
@@ -62,6 +74,8 @@ _BYTES = [ctypes.POINTER(ctypes.c_uint8), ctypes.c_size_t]
 _SIZES = [ctypes.POINTER(ctypes.c_size_t), ctypes.c_size_t]
 _SIZE = ctypes.POINTER(ctypes.c_size_t)
 _REASON = ctypes.POINTER(Reason)
+_OUTCOME = ctypes.POINTER(Outcome)
+_RUN = [*3 * [ctypes.c_uint32], *_READ, *_READ, *_SIZES, *_READ, *_READ, *_SIZES]  # the locks, the script, the stack, the good pairs
 _CALLS: dict[str, list] = {
     "msat_version": [],
     "msat_answer": [ctypes.c_size_t, *_READ, *_READ, *_BYTES, _SIZE],
@@ -71,6 +85,13 @@ _CALLS: dict[str, list] = {
     "msat_least_weight": [ctypes.c_bool, *_READ, *_READ, ctypes.POINTER(ctypes.c_uint64), _REASON],
     "msat_satisfy": [
         ctypes.c_bool, ctypes.c_bool, *_READ, *3 * [ctypes.c_uint32], *_READ, *_READ, *_SIZES, *_READ, *_BYTES, _SIZE, *_SIZES, _SIZE, _REASON,
+    ],  # fmt: skip
+    "msat_plan": [
+        *_READ, *3 * [ctypes.c_uint32], *_READ, *_SIZES, *_READ, *_BYTES, _SIZE, ctypes.POINTER(ctypes.c_uint64), _REASON,
+    ],  # fmt: skip
+    "msat_run": [*_RUN, *_BYTES, _SIZE, *_SIZES, _SIZE, _OUTCOME, _REASON],
+    "msat_audit": [
+        *_READ, *_RUN, ctypes.POINTER(Step), ctypes.c_size_t, _SIZE, ctypes.POINTER(ctypes.c_bool), _OUTCOME, _REASON,
     ],  # fmt: skip
     "msat_policy": [*_READ, *_BYTES, _SIZE, ctypes.POINTER(ctypes.c_uint64), _REASON],
     "msat_decode": [*_READ, *_READ, *_BYTES, _SIZE],
@@ -157,6 +178,60 @@ def satisfy(
     sizes, known = (ctypes.c_size_t * len(pairs))(*(len(sig) for _, sig in pairs)), b"".join(preimages)
     held = (text, len(text), *locks, keys, len(keys), signatures, len(signatures), sizes, len(pairs), known, len(known))
     return _items(room, most, lambda *out: _library.msat_satisfy(malleable, consensus, *held, *out))
+
+
+def plan(
+    text: bytes, locks: tuple[int, int, int], keys: Sequence[tuple[bytes, int]], preimages: Sequence[bytes]
+) -> tuple[int, tuple[bytes, ...], int, Reason]:
+    """The code, the keys to ask, the weight and the reason of a call of msat_plan, of keys with the lengths of their signatures."""
+    joined, known = b"".join(key for key, _ in keys), b"".join(preimages)
+    sizes = (ctypes.c_size_t * len(keys))(*(length for _, length in keys))
+    needed, weight, reason, asked = ctypes.c_size_t(0), ctypes.c_uint64(0), Reason(), (ctypes.c_uint8 * len(joined))()
+    code = _library.msat_plan(
+        text, len(text), *locks, joined, len(joined), sizes, len(keys), known, len(known), asked, len(joined), ctypes.byref(needed),
+        ctypes.byref(weight), ctypes.byref(reason),
+    )  # fmt: skip
+    found = bytes(memoryview(asked)[: needed.value])
+    return code, _parts(found, [33] * (len(found) // 33)), weight.value, reason
+
+
+def run(
+    locks: tuple[int, int, int], script: bytes, stack: Sequence[bytes], pairs: Sequence[tuple[bytes, bytes]], room: int = 8192, most: int = 128
+) -> tuple[int, tuple[bytes, ...], Outcome, Reason]:  # fmt: skip
+    """The code, the good keys and signatures in turn, the outcome and the reason of a call of msat_run."""
+    outcome, lent = Outcome(), _run(locks, script, stack, pairs)
+
+    def call(*out: object) -> int:
+        return _library.msat_run(*lent, *out[:-1], ctypes.byref(outcome), out[-1])
+
+    code, items, reason = _items(room, most, call)
+    return code, items, outcome, reason
+
+
+def audit(
+    text: bytes, locks: tuple[int, int, int], script: bytes, stack: Sequence[bytes], pairs: Sequence[tuple[bytes, bytes]], most: int = 256
+) -> tuple[int, list[tuple[int, bool, bool]], bool, Outcome, Reason]:  # fmt: skip
+    """The code, the steps, whether they are canonical, the outcome and the reason of a call of msat_audit."""
+    lent = _run(locks, script, stack, pairs)
+    count, canonical, outcome, reason = ctypes.c_size_t(0), ctypes.c_bool(False), Outcome(), Reason()
+    while True:
+        steps = (Step * most)()
+        code = _library.msat_audit(
+            text, len(text), *lent, steps, most, ctypes.byref(count), ctypes.byref(canonical), ctypes.byref(outcome), ctypes.byref(reason)
+        )  # fmt: skip
+        if count.value <= most:
+            return code, [(step.place, step.sat, step.extra) for step in steps[: count.value]], canonical.value, outcome, reason
+        most = count.value
+
+
+def _run(locks: tuple[int, int, int], script: bytes, stack: Sequence[bytes], pairs: Sequence[tuple[bytes, bytes]]) -> tuple:
+    """What msat_run and msat_audit are given of a run."""
+    items, keys, signatures = b"".join(stack), b"".join(key for key, _ in pairs), b"".join(sig for _, sig in pairs)
+    lengths = (ctypes.c_size_t * len(stack))(*map(len, stack))
+    sizes = (ctypes.c_size_t * len(pairs))(*(len(sig) for _, sig in pairs))
+    return (
+        *locks, script, len(script), items, len(items), lengths, len(stack), keys, len(keys), signatures, len(signatures), sizes, len(pairs),
+    )  # fmt: skip
 
 
 def policy(text: bytes, room: int = 4096) -> tuple[int, str, int, Reason]:

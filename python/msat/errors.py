@@ -68,13 +68,14 @@ class NoReading(MsatError):
     """No valid miniscript has this Script, or a key isn't among those that were named."""
 
 
-# The kinds of struct msat_reason, from 1 on: of a text, and then of an asset file.
+# The kinds of struct msat_reason, from 1 on: of a text, and then of a file.
 TEXT_KINDS = (
     "TooLong", "Syntax", "TooDeep", "Rule", "TopNotB", "Size", "Ops", "Items", "Malleable", "NoSignature", "MixedLocks",
     "RepeatedKey",
 )  # fmt: skip
 FILE_KINDS = (
     "TooLong", "NotJson", "Shape", "Number", "Hex", "KeyForm", "SigLength", "PreimageLength", "TooMany", "RepeatedKey",
+    "Length",
 )  # fmt: skip
 # Rules and members, from 0 on, in the order of docs/FORMATS.md.
 RULES = (
@@ -82,7 +83,13 @@ RULES = (
     "OrDZ", "OrIXZ", "ThreshRange", "ThreshFirst", "ThreshOther", "MultiRange", "WrapA", "WrapS", "WrapC", "WrapD", "WrapV",
     "WrapJ", "WrapN", "AndOrE", "AndOrS", "OrBE", "OrBS", "OrCE", "OrCS", "OrDE", "OrDS", "OrIS", "ThreshE", "ThreshS",
 )  # fmt: skip
-MEMBERS = ("file", "version", "sequence", "locktime", "signatures", "preimages", "script", "witness", "format")
+MEMBERS = ("file", "version", "sequence", "locktime", "signatures", "preimages", "script", "witness", "format", "keys")
+# The faults of a run, from 1 on, and the one of an audit alone.
+FAULTS = (
+    "ScriptSize", "ElementSize", "Truncated", "NonMinimalPush", "Unsupported", "OpCount", "StackUnderflow", "AltUnderflow", "Unbalanced",
+    "MinimalIf", "Verify", "NumberForm", "NegativeLock", "UnmetLock", "KeyForm", "NullFail", "NullDummy", "KeyCount", "SigCount",
+    "StackSize", "CleanStack", "EvalFalse", "WrongScript",
+)  # fmt: skip
 
 
 def text_line(kind: int, rule: int, place: int, number: int) -> str:
@@ -99,12 +106,22 @@ def text_line(kind: int, rule: int, place: int, number: int) -> str:
 
 
 def file_line(kind: int, member: int, place: int) -> str:
-    """The report of an asset file's refusal, of its numbers.
+    """The report of a file's refusal, of its numbers.
 
     >>> file_line(17, 4, 1)
     'refused file Hex signatures 1\\n'
     """
     name = FILE_KINDS[kind - 1 - len(TEXT_KINDS)]
     subject = f" {MEMBERS[member]}" if name in ("Shape", "Number", "Hex", "TooMany") else ""
-    where = f" {place}" if name in ("Hex", "KeyForm", "SigLength", "PreimageLength", "RepeatedKey") else ""
+    where = f" {place}" if name in ("Hex", "KeyForm", "SigLength", "PreimageLength", "RepeatedKey", "Length") else ""
     return f"refused file {name}{subject}{where}\n"
+
+
+def fault_line(start: str, fault: int, place: int) -> str:
+    """The report of a run that is refused or not accepted, of its numbers.
+
+    >>> fault_line("refused script", 21, 1)
+    'refused script CleanStack at 1\\n'
+    """
+    name = FAULTS[fault - 1]
+    return f"{start} {name}\n" if name == "WrongScript" else f"{start} {name} at {place}\n"

@@ -156,6 +156,20 @@ class Assets:
             return None
         return locks, [(it.key, it.sig) for it in self.signatures], tuple(self.preimages)
 
+    def plan_arrays(self) -> Optional[tuple[tuple[int, int, int], list[tuple[bytes, int]], tuple[bytes, ...]]]:
+        """The numbers of the locks, the keys with the lengths of their signatures, and the preimages, as the library takes them in arrays;
+        None where they are given as a file.
+
+        >>> Assets(keys=(Estimate(33 * b"\\2", 72),)).plan_arrays()[1][0][1]
+        72
+        """
+        locks = (self.version, self.sequence, self.locktime)
+        fit = all(len(it.key) == 33 and 0 <= it.length < 2**32 for it in self.keys) and all(len(it) == 32 for it in self.preimages)
+        few = len(self.keys) <= 256 and len(self.preimages) <= 256
+        if not fit or not few or not all(0 <= number < 2**32 for number in locks):
+            return None
+        return locks, [(it.key, it.length) for it in self.keys], tuple(self.preimages)
+
     def json(self) -> bytes:
         """The asset file, in format 2 where a key has several signatures, or with `keys` the plan file.
 
@@ -177,7 +191,47 @@ class Assets:
         return json.dumps(file).encode()
 
 
-File = Union[Assets, dict, str, bytes]
+@dataclass(frozen=True)
+class Run:
+    """A script, the stack that it runs on, bottom first and without the script, and the signatures that are good.
+
+    >>> Run(b"\\x51").json()
+    b'{"version": 2, "sequence": 4294967294, "locktime": 0, "script": "51", "witness": [], "signatures": []}'
+    """
+
+    script: bytes
+    stack: tuple[bytes, ...] = ()
+    signatures: tuple[Signature, ...] = ()
+    version: int = 2
+    sequence: int = 4294967294
+    locktime: int = 0
+
+    def arrays(self) -> Optional[tuple[tuple[int, int, int], bytes, tuple[bytes, ...], list[tuple[bytes, bytes]]]]:
+        """The numbers of the locks, the script, the stack and the good pairs, as the library takes them in arrays; None where they don't
+        lie there piece by piece, and are given as a file.
+
+        >>> Run(b"\\x51", signatures=(Signature(b"\\2", b"\\0"),)).arrays() is None
+        True
+        """
+        locks = (self.version, self.sequence, self.locktime)
+        if not all(len(it.key) == 33 for it in self.signatures) or not all(0 <= number < 2**32 for number in locks):
+            return None
+        return locks, self.script, tuple(self.stack), [(it.key, it.sig) for it in self.signatures]
+
+    def json(self) -> bytes:
+        """The run file."""
+        file = {
+            "version": self.version,
+            "sequence": self.sequence,
+            "locktime": self.locktime,
+            "script": self.script.hex(),
+            "witness": [item.hex() for item in self.stack],
+            "signatures": [{"key": it.key.hex(), "sig": it.sig.hex()} for it in self.signatures],
+        }
+        return json.dumps(file).encode()
+
+
+File = Union[Assets, Run, dict, str, bytes]
 
 
 def file_bytes(file: File) -> bytes:
@@ -185,9 +239,9 @@ def file_bytes(file: File) -> bytes:
 
     >>> file_bytes(5)
     Traceback (most recent call last):
-    TypeError: a file is Assets, a dict, a str or bytes, and no int
+    TypeError: a file is Assets, a Run, a dict, a str or bytes, and no int
     """
-    if isinstance(file, Assets):
+    if isinstance(file, (Assets, Run)):
         return file.json()
     if isinstance(file, dict):
         return json.dumps(file).encode()
@@ -195,7 +249,7 @@ def file_bytes(file: File) -> bytes:
         return spelled(file)
     if isinstance(file, (bytes, bytearray, memoryview)):
         return bytes(file)
-    raise TypeError(f"a file is Assets, a dict, a str or bytes, and no {type(file).__name__}")
+    raise TypeError(f"a file is Assets, a Run, a dict, a str or bytes, and no {type(file).__name__}")
 
 
 def spelled(word: str) -> bytes:

@@ -51,6 +51,25 @@ pub struct msat_facts {
     pub e: bool,
 }
 
+/// What a run comes to: its counts where it is accepted, or its fault and place where it is refused; the others are 0.
+#[repr(C)]
+#[derive(Clone, Copy, Debug, Default, PartialEq, Eq, Hash)]
+pub struct msat_outcome {
+    pub ops: u32,
+    pub peak: u32,
+    pub fault: u32,
+    pub place: u32,
+}
+
+/// How a node of a text takes part in a satisfaction.
+#[repr(C)]
+#[derive(Clone, Copy, Debug, Default, PartialEq, Eq, Hash)]
+pub struct msat_step {
+    pub place: u32,
+    pub sat: bool,
+    pub extra: bool,
+}
+
 unsafe extern "C" {
     pub safe fn msat_version() -> u32;
 
@@ -138,6 +157,77 @@ unsafe extern "C" {
         text: *mut c_char,
         text_len: usize,
         needed: *mut usize,
+    ) -> u32;
+
+    pub fn msat_plan(
+        text: *const c_char,
+        text_len: usize,
+        version: u32,
+        sequence: u32,
+        locktime: u32,
+        keys: *const u8,
+        keys_len: usize,
+        signature_lengths: *const usize,
+        signature_count: usize,
+        preimages: *const u8,
+        preimages_len: usize,
+        asked: *mut u8,
+        asked_len: usize,
+        needed: *mut usize,
+        weight: *mut u64,
+        reason: *mut msat_reason,
+    ) -> u32;
+
+    pub fn msat_run(
+        version: u32,
+        sequence: u32,
+        locktime: u32,
+        script: *const u8,
+        script_len: usize,
+        items: *const u8,
+        items_len: usize,
+        item_lengths: *const usize,
+        item_count: usize,
+        keys: *const u8,
+        keys_len: usize,
+        signatures: *const u8,
+        signatures_len: usize,
+        signature_lengths: *const usize,
+        signature_count: usize,
+        bytes: *mut u8,
+        bytes_len: usize,
+        needed: *mut usize,
+        lengths: *mut usize,
+        lengths_len: usize,
+        count: *mut usize,
+        outcome: *mut msat_outcome,
+        reason: *mut msat_reason,
+    ) -> u32;
+
+    pub fn msat_audit(
+        text: *const c_char,
+        text_len: usize,
+        version: u32,
+        sequence: u32,
+        locktime: u32,
+        script: *const u8,
+        script_len: usize,
+        items: *const u8,
+        items_len: usize,
+        item_lengths: *const usize,
+        item_count: usize,
+        keys: *const u8,
+        keys_len: usize,
+        signatures: *const u8,
+        signatures_len: usize,
+        signature_lengths: *const usize,
+        signature_count: usize,
+        steps: *mut msat_step,
+        steps_len: usize,
+        count: *mut usize,
+        canonical: *mut bool,
+        outcome: *mut msat_outcome,
+        reason: *mut msat_reason,
     ) -> u32;
 
     pub fn msat_satisfy(

@@ -2,9 +2,9 @@
 
 use crate::error::Error;
 use crate::names;
-use crate::{Assets, Base, Facts, Rules};
+use crate::{Accepted, Assets, Audit, Base, Facts, Known, Plan, Rules, Run, Signature, Step};
 use core::ffi::{c_char, c_void};
-use msat_sys::{MSAT_DONE, MSAT_NO_MEMORY, MSAT_UNREADABLE, msat_facts, msat_reason};
+use msat_sys::{MSAT_DONE, MSAT_NO_MEMORY, MSAT_UNREADABLE, msat_facts, msat_outcome, msat_reason, msat_step};
 
 /// The version of the library that is loaded: major, minor and patch.
 pub fn version() -> (u32, u32, u32) {
@@ -215,6 +215,158 @@ pub fn satisfy_malleable(text: &str, held: &Assets, rules: Rules) -> Result<Vec<
     by_assets(true, text, held, rules)
 }
 
+/// Which keys to ask for a signature for a text that is sane by the limits of policy, and what its satisfaction weighs at most then.
+pub fn plan(text: &str, known: &Known) -> Result<Plan, Error> {
+    let keys: Vec<u8> = known.keys.iter().flat_map(|it| it.key).collect();
+    let lengths: Vec<usize> = known.keys.iter().map(|it| it.length).collect();
+    let preimages = known.preimages.as_flattened();
+    let mut asked = vec![0; keys.len()];
+    let (mut needed, mut weight, mut reason) = (0, 0, msat_reason::default());
+    // SAFETY: as in `answer`.
+    let code = unsafe {
+        msat_sys::msat_plan(
+            text.as_ptr().cast(),
+            text.len(),
+            known.version,
+            known.sequence,
+            known.locktime,
+            keys.as_ptr(),
+            keys.len(),
+            lengths.as_ptr(),
+            lengths.len(),
+            preimages.as_ptr(),
+            preimages.len(),
+            asked.as_mut_ptr(),
+            asked.len(),
+            &mut needed,
+            &mut weight,
+            &mut reason,
+        )
+    };
+    if code != MSAT_DONE {
+        return Err(names::error(code, &reason));
+    }
+    // No key is asked that isn't among those that can sign.
+    asked.truncate(needed);
+    let (keys, _) = asked.as_chunks::<33>();
+    Ok(Plan { keys: keys.to_vec(), weight })
+}
+
+/// The run of a script on a stack, where the interpreter accepts it.
+pub fn run(run: &Run) -> Result<Accepted, Error> {
+    let lent = Lent::of(run);
+    let mut outcome = msat_outcome::default();
+    let mut items = Items::empty();
+    loop {
+        // SAFETY: as in `answer`.
+        let code = unsafe {
+            msat_sys::msat_run(
+                run.version,
+                run.sequence,
+                run.locktime,
+                run.script.as_ptr(),
+                run.script.len(),
+                lent.items.as_ptr(),
+                lent.items.len(),
+                lent.item_lengths.as_ptr(),
+                lent.item_lengths.len(),
+                lent.keys.as_ptr(),
+                lent.keys.len(),
+                lent.signatures.as_ptr(),
+                lent.signatures.len(),
+                lent.signature_lengths.as_ptr(),
+                lent.signature_lengths.len(),
+                items.bytes.as_mut_ptr(),
+                items.bytes.len(),
+                &mut items.needed,
+                items.lengths.as_mut_ptr(),
+                items.lengths.len(),
+                &mut items.count,
+                &mut outcome,
+                &mut items.reason,
+            )
+        };
+        if code != MSAT_DONE {
+            return Err(names::run_error(code, &outcome, &items.reason));
+        }
+        if items.had_room() {
+            let parts = items.parts();
+            let checks = parts
+                .chunks_exact(2)
+                .filter_map(|it| Some(Signature { key: it[0].as_slice().try_into().ok()?, bytes: it[1].clone() }));
+            return Ok(Accepted { ops: outcome.ops, peak: outcome.peak, checks: checks.collect() });
+        }
+    }
+}
+
+/// By which rows of BIP 379's table the stack of a run satisfies a text that is valid by the limits of policy, whose Script is that of
+/// the run.
+pub fn audit(text: &str, run: &Run) -> Result<Audit, Error> {
+    let lent = Lent::of(run);
+    let mut steps = vec![msat_step::default(); 256];
+    let (mut outcome, mut reason) = (msat_outcome::default(), msat_reason::default());
+    let (mut count, mut canonical) = (0, false);
+    loop {
+        // SAFETY: as in `answer`.
+        let code = unsafe {
+            msat_sys::msat_audit(
+                text.as_ptr().cast(),
+                text.len(),
+                run.version,
+                run.sequence,
+                run.locktime,
+                run.script.as_ptr(),
+                run.script.len(),
+                lent.items.as_ptr(),
+                lent.items.len(),
+                lent.item_lengths.as_ptr(),
+                lent.item_lengths.len(),
+                lent.keys.as_ptr(),
+                lent.keys.len(),
+                lent.signatures.as_ptr(),
+                lent.signatures.len(),
+                lent.signature_lengths.as_ptr(),
+                lent.signature_lengths.len(),
+                steps.as_mut_ptr(),
+                steps.len(),
+                &mut count,
+                &mut canonical,
+                &mut outcome,
+                &mut reason,
+            )
+        };
+        if code != MSAT_DONE {
+            return Err(names::run_error(code, &outcome, &reason));
+        }
+        if count <= steps.len() {
+            let steps = steps[..count].iter().map(|it| Step { place: it.place, satisfied: it.sat, extra: it.extra });
+            return Ok(Audit { ops: outcome.ops, peak: outcome.peak, steps: steps.collect(), canonical });
+        }
+        steps.resize(count, msat_step::default());
+    }
+}
+
+/// The arrays of a run.
+struct Lent {
+    items: Vec<u8>,
+    item_lengths: Vec<usize>,
+    keys: Vec<u8>,
+    signatures: Vec<u8>,
+    signature_lengths: Vec<usize>,
+}
+
+impl Lent {
+    fn of(run: &Run) -> Lent {
+        Lent {
+            items: run.stack.concat(),
+            item_lengths: run.stack.iter().map(Vec::len).collect(),
+            keys: run.signatures.iter().flat_map(|it| it.key).collect(),
+            signatures: run.signatures.iter().flat_map(|it| it.bytes.iter().copied()).collect(),
+            signature_lengths: run.signatures.iter().map(|it| it.bytes.len()).collect(),
+        }
+    }
+}
+
 fn by_file(malleable: bool, text: &str, file: &[u8], rules: Rules) -> Result<Vec<Vec<u8>>, Error> {
     Items::of(|items| {
         // SAFETY: as in `answer`.
@@ -286,19 +438,28 @@ struct Items {
 impl Items {
     /// The items that a call gives, which is made again where there was too little room.
     fn of(call: impl Fn(&mut Items) -> u32) -> Result<Vec<Vec<u8>>, Error> {
-        let mut items =
-            Items { bytes: vec![0; 8192], needed: 0, lengths: vec![0; 128], count: 0, reason: msat_reason::default() };
+        let mut items = Items::empty();
         loop {
             let code = call(&mut items);
             if code != MSAT_DONE {
                 return Err(names::error(code, &items.reason));
             }
-            if items.needed <= items.bytes.len() && items.count <= items.lengths.len() {
+            if items.had_room() {
                 return Ok(items.parts());
             }
-            items.bytes.resize(items.needed.max(items.bytes.len()), 0);
-            items.lengths.resize(items.count.max(items.lengths.len()), 0);
         }
+    }
+
+    fn empty() -> Items {
+        Items { bytes: vec![0; 8192], needed: 0, lengths: vec![0; 128], count: 0, reason: msat_reason::default() }
+    }
+
+    /// Whether there was room enough for a call. Where there wasn't, there is now.
+    fn had_room(&mut self) -> bool {
+        let had = self.needed <= self.bytes.len() && self.count <= self.lengths.len();
+        self.bytes.resize(self.needed.max(self.bytes.len()), 0);
+        self.lengths.resize(self.count.max(self.lengths.len()), 0);
+        had
     }
 
     fn parts(&self) -> Vec<Vec<u8>> {

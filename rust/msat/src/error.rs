@@ -9,10 +9,14 @@ use std::fmt;
 pub enum Error {
     /// The text is refused.
     Text(TextRefusal),
-    /// The asset file is refused, or the assets for what a file with the same would be.
+    /// The file is refused, or the assets, what is known or the run for what a file with the same would be.
     File(FileRefusal),
-    /// There is no canonical satisfaction with what is held.
+    /// There is no canonical satisfaction with what is held, or no plan.
     NoSatisfaction,
+    /// The interpreter refuses a script.
+    Script(RunRefusal),
+    /// A stack isn't accepted for a text.
+    NotAccepted(RunRefusal),
     /// No miniscript that is valid by the limits of policy, with the keys named, has the Script.
     NoReading,
     /// A key isn't a compressed one.
@@ -81,6 +85,43 @@ pub enum FileFault {
     PreimageLength,
     TooMany,
     RepeatedKey,
+    Length,
+}
+
+/// The fault of a run, and the instruction that met it, from 0; the number of instructions for a fault of the end.
+#[derive(Clone, Copy, Debug, PartialEq, Eq, Hash)]
+pub struct RunRefusal {
+    pub fault: RunFault,
+    pub place: u32,
+}
+
+/// Why a run is refused. docs/FORMATS.md says what each is; `WrongScript` is of an audit alone, whose script isn't that of the text.
+#[derive(Clone, Copy, Debug, PartialEq, Eq, Hash)]
+#[non_exhaustive]
+pub enum RunFault {
+    ScriptSize,
+    ElementSize,
+    Truncated,
+    NonMinimalPush,
+    Unsupported,
+    OpCount,
+    StackUnderflow,
+    AltUnderflow,
+    Unbalanced,
+    MinimalIf,
+    Verify,
+    NumberForm,
+    NegativeLock,
+    UnmetLock,
+    KeyForm,
+    NullFail,
+    NullDummy,
+    KeyCount,
+    SigCount,
+    StackSize,
+    CleanStack,
+    EvalFalse,
+    WrongScript,
 }
 
 /// A member of a file.
@@ -96,6 +137,7 @@ pub enum Member {
     Script,
     Witness,
     Format,
+    Keys,
 }
 
 /// A requirement of BIP 379's tables of types. docs/FORMATS.md says what each asks for.
@@ -148,6 +190,8 @@ impl fmt::Display for Error {
             Error::Text(refusal) => write!(f, "refused text {refusal}"),
             Error::File(refusal) => write!(f, "refused file {refusal}"),
             Error::NoSatisfaction => f.write_str("no satisfaction"),
+            Error::Script(refusal) => write!(f, "refused script {refusal}"),
+            Error::NotAccepted(refusal) => write!(f, "not accepted {refusal}"),
             Error::NoReading => f.write_str("no reading"),
             Error::Usage => f.write_str("refused usage"),
             Error::Unreadable => f.write_str("a word holds a NUL"),
@@ -181,6 +225,15 @@ impl fmt::Display for Unfit {
             Unfit::NoSignature => f.write_str("NoSignature"),
             Unfit::MixedLocks { place } => write!(f, "MixedLocks at {place}"),
             Unfit::RepeatedKey { place } => write!(f, "RepeatedKey at {place}"),
+        }
+    }
+}
+
+impl fmt::Display for RunRefusal {
+    fn fmt(&self, f: &mut fmt::Formatter<'_>) -> fmt::Result {
+        match self.fault {
+            RunFault::WrongScript => f.write_str("WrongScript"),
+            fault => write!(f, "{fault:?} at {}", self.place),
         }
     }
 }

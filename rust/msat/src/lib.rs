@@ -20,9 +20,10 @@ mod error;
 mod names;
 
 pub use calls::{
-    answer, check, decode, least_weight, policy, psbt_answer, satisfy, satisfy_malleable, script, version, witness, witness_malleable,
+    answer, audit, check, decode, least_weight, plan, policy, psbt_answer, run, satisfy, satisfy_malleable, script, version,
+    witness, witness_malleable,
 };
-pub use error::{Error, FileFault, FileRefusal, Member, Rule, TextFault, TextRefusal, Unfit};
+pub use error::{Error, FileFault, FileRefusal, Member, Rule, RunFault, RunRefusal, TextFault, TextRefusal, Unfit};
 
 /// By which limits a text is held.
 #[derive(Clone, Copy, Debug, Default, PartialEq, Eq, Hash)]
@@ -83,4 +84,91 @@ impl Default for Assets {
     fn default() -> Assets {
         Assets { version: 2, sequence: 0xffff_fffe, locktime: 0, signatures: Vec::new(), preimages: Vec::new() }
     }
+}
+
+/// A key that can sign, and how many bytes its signature is estimated to have at most, with the byte of its hash type.
+#[derive(Clone, Copy, Debug, PartialEq, Eq, Hash)]
+pub struct Estimate {
+    pub key: [u8; 33],
+    pub length: usize,
+}
+
+/// What a plan is made by, before anyone signs.
+#[derive(Clone, Debug, PartialEq, Eq, Hash)]
+pub struct Known {
+    /// The version of the transaction.
+    pub version: u32,
+    /// The sequence number of the input.
+    pub sequence: u32,
+    /// The locktime of the transaction.
+    pub locktime: u32,
+    /// The keys that can sign, each once.
+    pub keys: Vec<Estimate>,
+    pub preimages: Vec<[u8; 32]>,
+}
+
+impl Default for Known {
+    /// No key and no preimage, and what a plan file without its numbers has: no timelock holds.
+    fn default() -> Known {
+        Known { version: 2, sequence: 0xffff_fffe, locktime: 0, keys: Vec::new(), preimages: Vec::new() }
+    }
+}
+
+/// The keys to ask for a signature, in the order of the nodes and, in a `multi`, of its positions; and what the satisfaction weighs
+/// at most then, where none of theirs is longer than estimated.
+#[derive(Clone, Debug, PartialEq, Eq, Hash)]
+pub struct Plan {
+    pub keys: Vec<[u8; 33]>,
+    pub weight: u64,
+}
+
+/// A script, and what it runs on.
+#[derive(Clone, Debug, PartialEq, Eq, Hash)]
+pub struct Run {
+    /// The version of the transaction.
+    pub version: u32,
+    /// The sequence number of the input.
+    pub sequence: u32,
+    /// The locktime of the transaction.
+    pub locktime: u32,
+    pub script: Vec<u8>,
+    /// The stack, bottom first, without the script.
+    pub stack: Vec<Vec<u8>>,
+    /// The signatures that are good.
+    pub signatures: Vec<Signature>,
+}
+
+impl Default for Run {
+    /// An empty script and stack, no good signature, and what a run file without its numbers has: no timelock holds.
+    fn default() -> Run {
+        Run { version: 2, sequence: 0xffff_fffe, locktime: 0, script: Vec::new(), stack: Vec::new(), signatures: Vec::new() }
+    }
+}
+
+/// A run that is accepted: its opcodes, the most elements that the stacks held, and the good signatures that it passed, in order.
+#[derive(Clone, Debug, PartialEq, Eq, Hash)]
+pub struct Accepted {
+    pub ops: u32,
+    pub peak: u32,
+    pub checks: Vec<Signature>,
+}
+
+/// A node that takes part in a satisfaction.
+#[derive(Clone, Copy, Debug, PartialEq, Eq, Hash)]
+pub struct Step {
+    /// The byte of the text where its name or letter stands.
+    pub place: u32,
+    /// Whether it is satisfied, or else dissatisfied.
+    pub satisfied: bool,
+    /// Whether the row of BIP 379's table isn't canonical.
+    pub extra: bool,
+}
+
+/// How a stack that is accepted satisfies a text: what its run counted, by which rows, children first, and whether all are canonical.
+#[derive(Clone, Debug, PartialEq, Eq, Hash)]
+pub struct Audit {
+    pub ops: u32,
+    pub peak: u32,
+    pub steps: Vec<Step>,
+    pub canonical: bool,
 }

@@ -1,9 +1,9 @@
 //! What the numbers of `struct msat_reason` stand for: kinds from 1, rules and members from 0, in the order of the header.
 
-use crate::error::{Error, FileFault, FileRefusal, Member, Rule, TextFault, TextRefusal, Unfit};
+use crate::error::{Error, FileFault, FileRefusal, Member, Rule, RunFault, RunRefusal, TextFault, TextRefusal, Unfit};
 use msat_sys::{
-    MSAT_FILE_REFUSED, MSAT_NO_MEMORY, MSAT_NO_READING, MSAT_NO_SATISFACTION, MSAT_TEXT_REFUSED, MSAT_UNREADABLE, MSAT_USAGE,
-    msat_reason,
+    MSAT_FILE_REFUSED, MSAT_NO_MEMORY, MSAT_NO_READING, MSAT_NO_SATISFACTION, MSAT_NOT_ACCEPTED, MSAT_SCRIPT_REFUSED,
+    MSAT_TEXT_REFUSED, MSAT_UNREADABLE, MSAT_USAGE, msat_outcome, msat_reason,
 };
 
 /// The rules in the order of their numbers.
@@ -47,8 +47,35 @@ pub(crate) const RULES: [Rule; 37] = [
     Rule::ThreshS,
 ];
 
+/// The faults of a run in the order of their numbers, from 1 on.
+const FAULTS: [RunFault; 23] = [
+    RunFault::ScriptSize,
+    RunFault::ElementSize,
+    RunFault::Truncated,
+    RunFault::NonMinimalPush,
+    RunFault::Unsupported,
+    RunFault::OpCount,
+    RunFault::StackUnderflow,
+    RunFault::AltUnderflow,
+    RunFault::Unbalanced,
+    RunFault::MinimalIf,
+    RunFault::Verify,
+    RunFault::NumberForm,
+    RunFault::NegativeLock,
+    RunFault::UnmetLock,
+    RunFault::KeyForm,
+    RunFault::NullFail,
+    RunFault::NullDummy,
+    RunFault::KeyCount,
+    RunFault::SigCount,
+    RunFault::StackSize,
+    RunFault::CleanStack,
+    RunFault::EvalFalse,
+    RunFault::WrongScript,
+];
+
 /// The members with their names, in the order of their numbers.
-const MEMBERS: [(Member, &str); 9] = [
+const MEMBERS: [(Member, &str); 10] = [
     (Member::File, "file"),
     (Member::Version, "version"),
     (Member::Sequence, "sequence"),
@@ -58,6 +85,7 @@ const MEMBERS: [(Member, &str); 9] = [
     (Member::Script, "script"),
     (Member::Witness, "witness"),
     (Member::Format, "format"),
+    (Member::Keys, "keys"),
 ];
 
 pub(crate) fn of_member(member: Member) -> &'static str {
@@ -77,6 +105,19 @@ pub(crate) fn error(code: u32, reason: &msat_reason) -> Error {
         _ => None,
     };
     told.unwrap_or(Error::Other(code))
+}
+
+/// The refusal of a run's code that isn't `MSAT_DONE`.
+pub(crate) fn run_error(code: u32, outcome: &msat_outcome, reason: &msat_reason) -> Error {
+    let refusal = || {
+        let fault = FAULTS.get(usize::try_from(outcome.fault).ok()?.checked_sub(1)?).copied()?;
+        Some(RunRefusal { fault, place: outcome.place })
+    };
+    match (code, refusal()) {
+        (MSAT_SCRIPT_REFUSED, Some(refusal)) => Error::Script(refusal),
+        (MSAT_NOT_ACCEPTED, Some(refusal)) => Error::NotAccepted(refusal),
+        _ => error(code, reason),
+    }
 }
 
 fn text(reason: &msat_reason) -> Option<TextRefusal> {
@@ -112,6 +153,7 @@ fn file(reason: &msat_reason) -> Option<FileRefusal> {
         20 => (FileFault::PreimageLength, false, true),
         21 => (FileFault::TooMany, true, false),
         22 => (FileFault::RepeatedKey, false, true),
+        23 => (FileFault::Length, false, true),
         _ => return None,
     };
     Some(FileRefusal {

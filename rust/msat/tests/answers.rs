@@ -1,6 +1,9 @@
 //! The calls against the reports of the examples, whose folder `MSAT_EXAMPLES` names, and against one another.
 
-use msat::{Assets, Error, FileFault, FileRefusal, Member, Rule, Rules, Signature, TextFault, TextRefusal, Unfit};
+use msat::{
+    Assets, Error, Estimate, FileFault, FileRefusal, Known, Member, Rule, Rules, Run, RunFault, RunRefusal, Signature, Step,
+    TextFault, TextRefusal, Unfit,
+};
 use std::env;
 use std::fs;
 use std::path::PathBuf;
@@ -212,4 +215,43 @@ fn versions_agree() {
     assert_eq!(msat::version(), (1, 0, 0));
     assert_eq!(env!("CARGO_PKG_VERSION"), "1.0.0");
     assert_eq!(msat_sys::MSAT_VERSION_NUMBER, msat_sys::msat_version());
+}
+
+#[test]
+fn plans_ask_for_the_shortest_signatures() {
+    let other = [3; 33];
+    let text = format!("multi(2,{},{},{})", hex(&KEY), "02".to_owned() + &"01".repeat(32), hex(&other));
+    let mut middle = [1; 33];
+    middle[0] = 2;
+    let keys =
+        vec![Estimate { key: other, length: 70 }, Estimate { key: middle, length: 72 }, Estimate { key: KEY, length: 71 }];
+    let known = Known { keys, ..Known::default() };
+    let plan = msat::plan(&text, &known).expect("a plan");
+    // The empty item, and two signatures with the byte of their length.
+    assert_eq!((plan.keys, plan.weight), (vec![KEY, other], 1 + 72 + 71));
+    let one = Known { keys: known.keys[..1].to_vec(), ..Known::default() };
+    assert_eq!(msat::plan(&text, &one), Err(Error::NoSatisfaction));
+    let long = Known { keys: vec![Estimate { key: KEY, length: 74 }], ..Known::default() };
+    let refused = FileRefusal { fault: FileFault::Length, member: None, element: Some(0) };
+    assert_eq!(msat::plan(&text, &long), Err(Error::File(refused)));
+    assert_eq!(Error::File(refused).to_string(), "refused file Length 0");
+}
+
+#[test]
+fn runs_have_their_outcome() {
+    let signatures = vec![Signature { key: KEY, bytes: vec![0x30; 71] }];
+    let script = msat::script(&text_of_key(), Rules::Policy).expect("a Script");
+    let run = Run { script, stack: vec![vec![0x30; 71]], signatures: signatures.clone(), ..Run::default() };
+    let accepted = msat::run(&run).expect("a run");
+    assert_eq!((accepted.ops, accepted.peak, accepted.checks), (1, 2, signatures));
+    let unsigned = Run { signatures: Vec::new(), ..run.clone() };
+    let fault = Error::Script(RunRefusal { fault: RunFault::NullFail, place: 1 });
+    assert_eq!(fault.to_string(), "refused script NullFail at 1");
+    assert_eq!(msat::run(&unsigned), Err(fault));
+    let audit = msat::audit(&text_of_key(), &run).expect("an audit");
+    let step = Step { place: 0, satisfied: true, extra: false };
+    assert_eq!((audit.ops, audit.peak, audit.steps, audit.canonical), (1, 2, vec![step, step], true));
+    let wrong = Error::NotAccepted(RunRefusal { fault: RunFault::WrongScript, place: 0 });
+    assert_eq!(wrong.to_string(), "not accepted WrongScript");
+    assert_eq!(msat::audit("older(9)", &run), Err(wrong));
 }
