@@ -1,23 +1,31 @@
 #!/bin/sh
-# Fuzzes the proved program with libFuzzer, which follows its coverage: words, texts, asset files, run files, plan files, Scripts and keys, from the
-# cases of examples/, generated texts, and the words of bench/fuzz/msat.dict; or of msat-psbt, PSBTs from the cases of examples/psbt/ and
-# bench/fuzz/psbt.dict. bench/fuzz/harness.c and bench/fuzz/psbt.c say what stops it. For this the product
-# is compiled once more, from what was proved, with a counter at each branch: the kit's rt calls the kit's compiler with one word more.
-# Ends with a table of the commands and statuses, and with 1 where an input crashed, took over a second, or broke what the harness asks; that
-# input is kept in bench/fuzz/found/. Wants clang with libFuzzer (Debian's clang and libclang-rt-14-dev), objcopy, Python and rt.
+# Fuzzes the proved library with libFuzzer, which follows its coverage, and the proved program beside it: msat_answer and msat by words, texts,
+# asset files, run files, plan files, Scripts and keys; or msat_psbt_answer and msat-psbt by PSBTs. It begins with the inputs in
+# bench/fuzz/seeds/, the cases of examples/, generated texts, and the words of bench/fuzz/msat.dict, or psbt.dict. bench/fuzz/harness.c and
+# bench/fuzz/psbt.c say what stops it. For this the archive is compiled once more, from what was proved, with a counter at each branch: by the
+# kit's compiler with one word more (.ci/archive).
+#
+# The executions are made in slices, of which each one is written down at its end: in bench/results/fuzz_runs.tsv with the sum of the
+# archive that was fuzzed, and by commands and statuses in bench/results/fuzz.tsv, or fuzz_psbt.tsv. So a run that is broken off loses a slice
+# at most, and the next one goes on from that count, with other random numbers. After 1,000,000 executions and more the least set of inputs that
+# covers the same branches is put into bench/fuzz/seeds/.
+#
+# Ends with 1 where an input crashed, took over a second (or FUZZ_TIMEOUT seconds, on a busy machine), or broke what the harness asks; that
+# input is kept in bench/fuzz/found/. Wants clang with libFuzzer (Debian's clang and libclang-rt-14-dev), objcopy, Python and rt, and the
+# library and the programs to be built (.ci/run).
 # Usage: bench/fuzz.sh [msat-psbt] [EXECUTIONS [PROCESSES]]
 . "$(dirname "$0")/lib.sh"
-wants clang objcopy python3 rt
-product
-own=msat harness=harness words=msat tried='script 1' longest=6000
+wants clang objcopy python3 rt tar gzip
+own=msat harness=harness words=msat longest=6000
 if [ "${1:-}" = msat-psbt ]; then
     shift
-    name=fuzz_psbt own=msat_psbt harness=psbt words=psbt tried=hashes longest=20000
-    printf cHNidP8BAAoCAAAAAAAAAAAAAA== >"$work/empty"
-    "$top/msat-psbt" hashes <"$work/empty" || stop "msat-psbt isn't built"
+    name=fuzz_psbt own=msat_psbt harness=psbt words=psbt longest=20000
 fi
 executions=${1:-10000000} processes=${2:-$(nproc)}
+slice=${FUZZ_SLICE:-1000000} most=${FUZZ_TIMEOUT:-1}
 kit=$(dirname "$(rt doc)")
+results=$top/bench/results
+mkdir -p "$results" "$top/bench/fuzz/seeds"
 
 # The kit with another compiler.
 mkdir -p "$work/kit/bin" "$work/kit/toolchain/bin" || stop "no room"
@@ -31,26 +39,33 @@ cat >"$work/kit/toolchain/bin/clang" <<CLANG
 exec "$kit/toolchain/bin/clang" "\$@" -fsanitize-coverage=inline-8bit-counters,pc-table,trace-cmp
 CLANG
 chmod +x "$work/kit/toolchain/bin/clang"
-
-# What comes of it can't be linked as a program, since it has counters and no fuzzer. The product is put back.
-out=$top/crates/$own/out
-mkdir "$work/product"
-trap 'mv "$work"/product/* "$out"; rm -rf "$work"' EXIT
-mv "$out/$own" "$out/$own.o" "$work/product" || stop "the product can't be set aside"
-# `rt ci` leaves no stamp.
-[ ! -e "$out/$own.stamp" ] || mv "$out/$own.stamp" "$work/product"
-[ -e "$work/empty" ] || : >"$work/empty"
+# It is kept for the next call, as long as the archive is the same.
+archive=$top/crates/msat_c/out/libmsat_c.a
+[ -s "$archive" ] || stop "the library isn't built: .ci/archive"
+counted=$top/crates/msat_c/out/counted-$(sha256sum <"$archive" | cut -c 1-16).a
+if [ ! -s "$counted" ]; then
+    "$top/.ci/archive" "$work/kit" "$work/counted.a" >"$work/log" 2>&1 || { cat "$work/log" >&2 && stop "the archive isn't compiled with counters"; }
+    rm -f "$top"/crates/msat_c/out/counted-*.a
+    mv "$work/counted.a" "$counted"
+fi
+# The program is as it was proved and built, without counters.
+program=
+if [ -s "$top/crates/$own/out/$own.o" ]; then
+    objcopy --redefine-sym main=program_main "$top/crates/$own/out/$own.o" "$work/whole.o" &&
+        objcopy --keep-global-symbol=program_main "$work/whole.o" "$work/program.o" || stop "the program has no main"
+    program=$work/program.o
+    sum=$(cat "$top/crates/$own/out/$own.o" "$archive" | sha256sum | cut -c 1-16)
+else
+    echo "there is no crates/$own/out/$own.o, so the library is tried alone"
+    sum=$(sha256sum <"$archive" | cut -c 1-16)
+fi
 # shellcheck disable=SC2086
-(cd "$top/crates/$own" && "$work/kit/bin/rt" run -- $tried) <"$work/empty" >"$work/log" 2>&1
-[ -s "$out/$own.o" ] || { cat "$work/log" >&2 && stop "the program isn't compiled with counters"; }
-objcopy --redefine-sym main=msat_main "$out/$own.o" "$work/msat.o" || stop "the program has no main"
-mv "$work"/product/* "$out"
-trap 'rm -rf "$work"' EXIT
-clang -O2 -Wall -Wextra -fsanitize=fuzzer -Wl,--wrap=read,--wrap=write -o "$work/fuzzer" "$top/bench/fuzz/$harness.c" "$work/msat.o" \
+clang -O2 -Wall -Wextra -fsanitize=fuzzer -Wl,--wrap=read,--wrap=write -o "$work/fuzzer" "$top/bench/fuzz/$harness.c" $program "$counted" \
     "$kit/c/libos_c.a" "$kit/c/liblibc_c.a" || stop "the fuzzer isn't built"
 
-# What it begins with: the cases of examples/, and texts by the types of BIP 379 with each command; or PSBTs with each command.
-mkdir "$work/seeds" "$work/corpus"
+# What it begins with: what earlier runs kept, the cases of examples/, and texts by the types of BIP 379 with each command; or PSBTs with each command.
+mkdir "$work/seeds" "$work/corpus" "$work/kept"
+[ ! -e "$top/bench/fuzz/seeds/$own.tar.gz" ] || tar -xzf "$top/bench/fuzz/seeds/$own.tar.gz" -C "$work/kept" || stop "the seeds can't be unpacked"
 python3 - "$top" "$work/seeds" $own <<'PYTHON' || stop "there are no seeds"
 import pathlib, sys
 
@@ -84,16 +99,70 @@ for number, (words, source) in enumerate(made):
     (seeds / f"{number:04}").write_text("\t".join(words) + "\n" + source)
 print(f"{len(made)} seeds")
 PYTHON
+echo "$(find "$work/kept" -type f | wc -l) inputs kept by earlier runs"
 
-# Each process has its share of the executions, its own seed, and what the others found.
-from=$(date +%s)
+# Writes a slice down: a process's line, and its inputs by commands and statuses. Prints how many executions there are in all.
+cat >"$work/note" <<'PYTHON'
+import fcntl, pathlib, re, sys
+
+results, name, program, built, log, counts, seed, seconds = sys.argv[1:9]
+results = pathlib.Path(results)
+said = pathlib.Path(log).read_text(errors="replace")
+executions = int((re.findall(r"stat::number_of_executed_units: *(\d+)", said) or [0])[-1])
+covered = max(map(int, re.findall(r"cov: (\d+)", said)), default=0)
+with open(results / "fuzz_runs.tsv", "a+") as runs:
+    fcntl.flock(runs, fcntl.LOCK_EX)
+    runs.seek(0)
+    lines = runs.read().splitlines()
+    if not lines:
+        lines = ["program\tsum\tseed\texecutions\tseconds\tbranches"]
+        runs.write(lines[0] + "\n")
+    lines.append(f"{program}\t{built}\t{seed}\t{executions}\t{seconds}\t{covered}")
+    runs.write(lines[-1] + "\n")
+    runs.flush()
+    same = [line.split("\t") for line in lines if line.split("\t")[:2] == [program, built]]
+    head, table = f"# {program} {built}", {}
+    path = results / f"{name}.tsv"
+    old = path.read_text().splitlines() if path.exists() else []
+    rows = [line.split("\t") for line in old[2:]] if old and old[0] == head and len(same) > 1 else []
+    if pathlib.Path(counts).exists():
+        rows += [line.split("\t") for line in pathlib.Path(counts).read_text().splitlines()]
+    for command, status, inputs, again in rows:
+        one = table.setdefault((command, int(status)), [0, 0])
+        one[0] += int(inputs)
+        one[1] += int(again)
+    lines = [head, "command\tstatus\tinputs\tagain"]
+    lines += [f"{command}\t{status}\t{inputs}\t{again}" for (command, status), (inputs, again) in sorted(table.items())]
+    path.write_text("\n".join(lines) + "\n")
+whole = [int(line[3]) for line in same]
+print(f"{program} {built}: {executions} executions in {seconds} s, {executions / max(1, int(seconds)):.0f} a second; {sum(whole)} in {len(whole)} slices", flush=True)
+PYTHON
+
+# Each process has its share of the executions, in slices, each with a seed of its own, and what the others found.
+begun=$(date +%s)
+past=$(grep -c "^$own	$sum	" "$results/fuzz_runs.tsv" 2>/dev/null)
+past=${past:-0}
 for process in $(seq "$processes"); do
-    (cd "$work" && mkdir "found$process" && FUZZ_COUNTS=$work/counts$process ./fuzzer -runs=$((executions / processes)) -seed="$process" -timeout=1 \
-        -rss_limit_mb=1024 -max_len=$longest -reload=1 -use_value_profile=1 -dict="$top/bench/fuzz/$words.dict" -artifact_prefix="$work/found$process/" \
-        -print_final_stats=1 corpus seeds >"log$process" 2>&1; echo $? >"status$process") &
+    (
+        cd "$work" && mkdir "found$process" && echo 0 >"status$process"
+        left=$((executions / processes)) number=0
+        while [ "$left" -gt 0 ]; do
+            runs=$slice
+            [ "$runs" -le "$left" ] || runs=$left
+            number=$((number + 1)) from=$(date +%s)
+            seed=$((1 + past + process + 1000 * number))
+            rm -f "counts$process"
+            FUZZ_COUNTS=$work/counts$process ./fuzzer -runs="$runs" -seed=$seed -timeout="$most" -rss_limit_mb=1024 -max_len=$longest -reload=1 \
+                -use_value_profile=1 -dict="$top/bench/fuzz/$words.dict" -artifact_prefix="$work/found$process/" -print_final_stats=1 \
+                corpus seeds kept >"log$process" 2>&1
+            status=$?
+            python3 "$work/note" "$results" "$name" $own "$sum" "log$process" "counts$process" $seed $(($(date +%s) - from))
+            [ $status -eq 0 ] || { echo $status >"status$process" && break; }
+            left=$((left - runs))
+        done
+    ) &
 done
 wait
-seconds=$(($(date +%s) - from))
 failed=
 for process in $(seq "$processes"); do
     [ "$(cat "$work/status$process")" = 0 ] && continue
@@ -102,12 +171,15 @@ for process in $(seq "$processes"); do
     mkdir -p "$top/bench/fuzz/found" && cp "$work/found$process"/* "$top/bench/fuzz/found/"
 done
 [ -z "$failed" ] || stop "an input was found; it is in bench/fuzz/found"
-columns command status inputs again
-cat "$work"/counts[0-9]* | sort | awk -F '\t' '
-    { answers[$1 FS $2] += $3; again[$1 FS $2] += $4 }
-    END { for (name in answers) print name FS answers[name] FS again[name] }' | sort -t "$(printf '\t')" -k 1,1 -k 2,2n | while read -r command status inputs again; do
-    row "$command" "$status" "$inputs" "$again"
-done
-finish
-echo "$(grep -h 'stat::number_of_executed_units' "$work"/log[0-9]* | awk '{ sum += $2 } END { print sum }') executions by $processes processes in $seconds s," \
-    "$(find "$work/corpus" -type f | wc -l) inputs kept; branches covered: $(grep -ho 'cov: [0-9]*' "$work"/log[0-9]* | awk '{ if ($2 > most) most = $2 } END { print most }')"
+cat "$results/$name.tsv"
+echo "$processes processes, $(($(date +%s) - begun)) s, $(find "$work/corpus" -type f | wc -l) inputs kept; branches covered: $(grep -ho 'cov: [0-9]*' "$work"/log[0-9]* | awk '{ if ($2 > most) most = $2 } END { print most }')"
+[ "$executions" -ge 1000000 ] || exit 0
+
+# The least set that covers the same, in one file whose bytes come of it alone.
+mkdir "$work/least"
+(cd "$work" && ./fuzzer -set_cover_merge=1 -timeout=10 -rss_limit_mb=1024 -max_len=$longest least kept corpus seeds >merge.log 2>&1) || stop "the inputs can't be merged: $(tail -n 1 "$work/merge.log")"
+seeds=$top/bench/fuzz/seeds/$own.tar.gz
+tar --sort=name --owner=0 --group=0 --numeric-owner --mode=644 --mtime=@0 -C "$work/least" -cf "$work/least.tar" . && gzip -9nc "$work/least.tar" >"$work/least.tar.gz" || stop "the seeds can't be packed"
+[ "$(wc -c <"$work/least.tar.gz")" -le 1048576 ] || stop "the seeds take more than 1 MiB: $(wc -c <"$work/least.tar.gz") bytes"
+mv "$work/least.tar.gz" "$seeds"
+echo "$(find "$work/least" -type f | wc -l) inputs, $(wc -c <"$seeds") bytes, in bench/fuzz/seeds/$own.tar.gz: $(grep -o '[0-9]* new features added; [0-9]* new coverage edges' "$work/merge.log" | tail -n 1)"

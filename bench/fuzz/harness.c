@@ -1,9 +1,10 @@
-/* Runs the proved program on one input of libFuzzer, in this process: its `main` is called as `msat_main`, and standard input, output and
- * error are those of the input. The input is the words with a tab between them, a line feed, and the bytes of standard input.
+/* Puts one input of libFuzzer to msat_answer and to the program msat, in this process. The input is the words with a tab between them, a line
+ * feed, and the bytes of standard input.
  *
  * It stops, as a crash, where
+ * - the program has another answer than msat_answer, or writes anything to standard error, or reads another file;
+ * - a byte behind the room for the report is written;
  * - the status isn't the one that the report's first line has, or is 5, 6 or 7: no read, write or allocation fails here;
- * - anything is written to standard error;
  * - `check TEXT` prints a text whose `check` has another report, or `decode` one whose Script is another: a text is read back as
  *   it was printed, but where it is one of those at the limit of depth, whose printed form is too deep;
  * - `script TEXT` prints a Script that `decode` reads as a text with another Script;
@@ -13,7 +14,9 @@
  * libFuzzer itself stops where a call takes over a second, or crashes. The file that FUZZ_COUNTS names has in the end a line for each
  * command and status: how many inputs had it, and how many of these were tried by a second call.
  */
+#define ANSWER msat_answer
 #include "run.h"
+#include <stdint.h>
 
 static void add_text(struct bytes *to, const char *text) { add(to, text, strlen(text)); }
 
@@ -186,6 +189,7 @@ int LLVMFuzzerTestOneInput(const uint8_t *data, size_t size) {
     size_t length = (size_t)(copy + size - input);
 
     int status = call(words, count, input, length, &first);
+    compare_with_program(words, count, input, length, status, &first);
     if (status != status_of(&first)) fail("the status isn't that of the report");
     int which = 0;
     while (which < COMMANDS - 1 && (count < 2 || strcmp(words[1], commands[which]))) which++;

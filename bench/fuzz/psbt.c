@@ -1,9 +1,10 @@
-/* Runs the proved program msat-psbt on one input of libFuzzer, in this process. The input is a letter for the command and the bytes of standard
- * input, a PSBT as bytes or as base64.
+/* Puts one input of libFuzzer to msat_psbt_answer and to the program msat-psbt, in this process. The input is a letter for the command and the
+ * bytes of standard input, a PSBT as bytes or as base64.
  *
  * It stops, as a crash, where
+ * - the program has another answer than msat_psbt_answer, or writes anything to standard error, or reads another file;
+ * - a byte behind the room for the report is written;
  * - the status isn't the one that the report has, or is 5, 6, 7 or 11: no read, write or allocation fails here;
- * - anything is written to standard error;
  * - one command refuses the PSBT, and another one doesn't, or at another place;
  * - `finalize` writes a PSBT that is refused, has another transaction, has an input that is Ready, or changes when it is finalized again; or
  *   another one than it was given, where no input is Ready;
@@ -12,7 +13,9 @@
  * libFuzzer itself stops where a call takes over a second, or crashes. The file that FUZZ_COUNTS names has in the end a line for each
  * command and status: how many inputs had it, and how many of these were tried by further calls.
  */
+#define ANSWER msat_psbt_answer
 #include "run.h"
+#include <stdint.h>
 
 static char program[] = "msat-psbt";
 static const char *const commands[] = {"finalize", "inspect", "extract", "hashes", "others"};
@@ -99,6 +102,8 @@ int LLVMFuzzerTestOneInput(const uint8_t *data, size_t size) {
     if (size) add(&psbt, data + 1, size - 1);
     else add(&psbt, "", 0);
     int status = ask(which, &psbt, &first);
+    char *words[] = {program, (char *)commands[which], NULL};
+    compare_with_program(words, 2, psbt.at, psbt.length, status, &first);
     expect(which, status, &first);
     answers[which][status]++;
     if (which != OTHERS) try_all(which, status);
