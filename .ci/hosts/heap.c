@@ -90,6 +90,63 @@ static void ask_all(void) {
     msat_answer(1, "run", 4, file, strlen(file), report, sizeof report, &told);
 }
 
+/* What may be held at most, in arrays, and a stack of as many items, each of as many bytes, as a run takes. */
+enum { HELD = 256, KEY_SIZE = 33, SIGNATURE = 73, PREIMAGE = 32, ITEMS = 2000, ITEM = 520 };
+static uint8_t keys[HELD * KEY_SIZE], signatures[HELD * SIGNATURE], preimages[HELD * PREIMAGE], items[ITEMS * ITEM], script[ROOM], asked[sizeof keys];
+static size_t signature_lengths[HELD], item_lengths[ITEMS];
+static struct msat_step steps[ROOM / sizeof(struct msat_step)];
+
+static void fill_arrays(void) {
+    for (int i = 0; i < HELD; i++) {
+        keys[i * KEY_SIZE] = 2, keys[i * KEY_SIZE + KEY_SIZE - 1] = (uint8_t)i;
+        memset(signatures + i * SIGNATURE, 0xaa, SIGNATURE), signature_lengths[i] = SIGNATURE;
+        preimages[i * PREIMAGE + PREIMAGE - 1] = (uint8_t)i;
+    }
+    for (int i = 0; i < ITEMS; i++)
+        item_lengths[i] = ITEM;
+}
+
+/* A run of a script on these items, and the audit of it for the text. */
+static void run_and_audit(size_t script_len, const uint8_t *given, const size_t *given_lengths, size_t given_count) {
+    struct msat_outcome outcome = {0};
+    struct msat_reason reason = {0};
+    size_t needed = 0, count = 0, given_len = 0;
+    bool canonical = false;
+    for (size_t i = 0; i < given_count; i++)
+        given_len += given_lengths[i];
+    msat_run(2, 0xfffffffe, 0, script, script_len, given, given_len, given_lengths, given_count, keys, sizeof keys, signatures, sizeof signatures,
+             signature_lengths, HELD, (uint8_t *)report, sizeof report, &needed, lengths, 20000, &count, &outcome, &reason);
+    msat_audit(text, strlen(text), 2, 0xfffffffe, 0, script, script_len, given, given_len, given_lengths, given_count, keys, sizeof keys,
+               signatures, sizeof signatures, signature_lengths, HELD, steps, sizeof steps / sizeof steps[0], &count, &canonical, &outcome,
+               &reason);
+}
+
+/* Each call with the text and the arrays. */
+static void ask_arrays(void) {
+    size_t needed = 0, count = 0, script_len = 0, length = strlen(text);
+    uint64_t weight = 0;
+    struct msat_reason reason = {0};
+    msat_plan(text, length, 2, 0xfffffffe, 0, keys, sizeof keys, signature_lengths, HELD, preimages, sizeof preimages, asked, sizeof asked,
+              &needed, &weight, &reason);
+    for (int consensus = 0; consensus < 2; consensus++)
+        for (int malleable = 0; malleable < 2; malleable++) {
+            if (msat_script(consensus, text, length, script, sizeof script, &script_len, &reason) != MSAT_DONE)
+                continue;
+            if (msat_satisfy(malleable, consensus, text, length, 2, 0xfffffffe, 0, keys, sizeof keys, signatures, sizeof signatures,
+                             signature_lengths, HELD, preimages, sizeof preimages, bytes, sizeof bytes, &needed, lengths, 20000, &count,
+                             &reason) == MSAT_DONE) {
+                size_t given_lengths[128], given_count = count - 1;
+                if (given_count <= 128) {
+                    memcpy(given_lengths, lengths, given_count * sizeof *lengths);
+                    run_and_audit(script_len, bytes, given_lengths, given_count);
+                }
+            }
+            run_and_audit(script_len, items, item_lengths, ITEMS);
+        }
+    size_t told = 0;
+    msat_decode(script, script_len, keys, sizeof keys, report, sizeof report, &told);
+}
+
 static const char KEY[] = "020101010101010101010101010101010101010101010101010101010101010101";
 
 static void write_file(int which) {
@@ -190,15 +247,30 @@ static void write_text(int which) {
         at = repeat(at, ",a:0", 16000);
         stpcpy(at, ")");
         break;
+    case 10: /* sane ones of many keys */
+        at = stpcpy(at, "thresh(40,pk(");
+        at += sprintf(at, "02%064x)", 1);
+        for (int i = 2; i < 61; i++)
+            at += sprintf(at, ",s:pk(02%064x)", i);
+        stpcpy(at, ")");
+        break;
+    case 11:
+        at = stpcpy(at, "multi(10");
+        for (int i = 1; i < 21; i++)
+            at += sprintf(at, ",02%064x", i);
+        stpcpy(at, ")");
+        break;
     }
 }
 
 static void *ask(void *given) {
     (void)given;
-    for (int i = 0; i < 10; i++)
+    for (int i = 0; i < 12; i++)
         for (int j = 0; j < 7; j++) {
             write_text(i), write_file(j);
             ask_all();
+            if (j == 0)
+                ask_arrays();
         }
     return NULL;
 }
@@ -210,6 +282,7 @@ int main(int argc, char **argv) {
     if (stack == MAP_FAILED)
         return 2;
     memset(stack, 0xa5, STACK);
+    fill_arrays();
     pthread_attr_t attributes;
     pthread_t thread;
     pthread_attr_init(&attributes);
