@@ -1,7 +1,7 @@
 //! The compression function of RIPEMD-160 (Dobbertin, Bosselaers and Preneel, 1996, appendix A): two
 //! lines of five rounds of 16 steps, over a block of sixteen words.
 
-ghost use Rattle.std.specs.Prelude.{◌≡◌, ℕ, ◌+◌, ◌-◌, ◌*◌, ◌/◌, ◌<◌, List, slice_index};
+ghost use Rattle.std.specs.Prelude.{◌≡◌, ℕ, ◌+◌, ◌-◌, ◌/◌, ◌<◌, ◌≤◌, List, slice_index};
 ghost use Rattle.def_hash.specs.Ripemd.{step_function, step, left_step, right_step, left_line, right_line, combined, compress};
 
 use crate::state::State;
@@ -148,18 +148,27 @@ fn right_step(w: &[u32; 16], j: usize, v: State) -> State
     )
 }
 
-// The 16 steps of a round of the left line.
+// The eight steps of the left line from step `from` on: few enough for the compiler to write them out.
 #[inline(always)]
-fn left_round(w: &[u32; 16], round: usize, mut v: State) -> State
-    requires { round < 5 }
-    ensures { (h : List ℕ) → v ≡ left_line w.now h (16 * round)
-        → result ≡ left_line w.now h (16 * (round + 1)) }
+fn left_eight(w: &[u32; 16], from: usize, mut v: State) -> State
+    requires { from ≤ 72 }
+    ensures { (h : List ℕ) → v ≡ left_line w.now h from → result ≡ left_line w.now h (from + 8) }
 {
-    'steps: for j in 16 * round..16 * (round + 1) {
+    'steps: for j in from..from + 8 {
         let next = left_step(w, j, v);
         v = next;
     }
     v
+}
+
+// The 16 steps of a round of the left line, the first of which is step `from`.
+#[inline(always)]
+fn left_round(w: &[u32; 16], from: usize, v: State) -> State
+    requires { from ≤ 64 }
+    ensures { (h : List ℕ) → v ≡ left_line w.now h from → result ≡ left_line w.now h (from + 16) }
+{
+    let half = left_eight(w, from, v);
+    left_eight(w, from + 8, half)
 }
 
 // The variables of the left line after its 80 steps, from the hash value `h`. The rounds are written
@@ -168,24 +177,33 @@ fn left_line(w: &[u32; 16], h: State) -> State
     ensures { result ≡ left_line w.now h 80 }
 {
     let v = left_round(w, 0, h);
-    let v = left_round(w, 1, v);
-    let v = left_round(w, 2, v);
-    let v = left_round(w, 3, v);
-    left_round(w, 4, v)
+    let v = left_round(w, 16, v);
+    let v = left_round(w, 32, v);
+    let v = left_round(w, 48, v);
+    left_round(w, 64, v)
 }
 
-// The 16 steps of a round of the right line.
+// The eight steps of the right line from step `from` on: few enough for the compiler to write them out.
 #[inline(always)]
-fn right_round(w: &[u32; 16], round: usize, mut v: State) -> State
-    requires { round < 5 }
-    ensures { (h : List ℕ) → v ≡ right_line w.now h (16 * round)
-        → result ≡ right_line w.now h (16 * (round + 1)) }
+fn right_eight(w: &[u32; 16], from: usize, mut v: State) -> State
+    requires { from ≤ 72 }
+    ensures { (h : List ℕ) → v ≡ right_line w.now h from → result ≡ right_line w.now h (from + 8) }
 {
-    'steps: for j in 16 * round..16 * (round + 1) {
+    'steps: for j in from..from + 8 {
         let next = right_step(w, j, v);
         v = next;
     }
     v
+}
+
+// The 16 steps of a round of the right line, the first of which is step `from`.
+#[inline(always)]
+fn right_round(w: &[u32; 16], from: usize, v: State) -> State
+    requires { from ≤ 64 }
+    ensures { (h : List ℕ) → v ≡ right_line w.now h from → result ≡ right_line w.now h (from + 16) }
+{
+    let half = right_eight(w, from, v);
+    right_eight(w, from + 8, half)
 }
 
 // The same of the right line.
@@ -193,10 +211,10 @@ fn right_line(w: &[u32; 16], h: State) -> State
     ensures { result ≡ right_line w.now h 80 }
 {
     let v = right_round(w, 0, h);
-    let v = right_round(w, 1, v);
-    let v = right_round(w, 2, v);
-    let v = right_round(w, 3, v);
-    right_round(w, 4, v)
+    let v = right_round(w, 16, v);
+    let v = right_round(w, 32, v);
+    let v = right_round(w, 48, v);
+    right_round(w, 64, v)
 }
 
 /// The hash value after a block with the words `w`.

@@ -1,15 +1,8 @@
-use Rattle.std.proofs.Common.{◌≡◌, ◌+◌, ◌*◌, arith, ap, sym, ◌∙◌}
-use Rattle.def_hash.specs.Ripemd.{right_step, right_line}
-use Rattle.ms_hash.proofs.Blocks.{right_line_next}
+use Rattle.std.proofs.Common.{◌≡◌, ◌+◌, arith, ap, ◌∙◌}
+use Rattle.def_hash.specs.Ripemd.{right_line}
 use Rattle.ms_hash.proofs.rounds.right_round.Goals as goal
-
-pub steps-init : goal.steps-init
-steps-init c = λ h held. held
-
-pub steps-preserved : goal.steps-preserved
-steps-preserved c = λ h held. c.right_step-next.ensures ∙ ap (right_step c.args.w.now c.steps.j) (c.steps.invariant h held) ∙ sym (right_line_next c.args.w.now h c.steps.j)
 
 pub returns : goal.returns
 returns c = λ h held.
-    let done : c.steps.j ≡ 16 * (c.args.round + 1) = omega arith in
-    c.steps.invariant h held ∙ ap (right_line c.args.w.now h) done
+    let whole : c.args.from + 8 + 8 ≡ c.args.from + 16 = omega arith in
+    c.right_eight.ensures h (c.right_eight-half.ensures h held) ∙ ap (right_line c.args.w.now h) whole

@@ -1,7 +1,0 @@
-use Rattle.std.proofs.Common.{◌≡◌, ℕ, ◌*◌, List}
-use Rattle.def_hash.specs.Ripemd.{left_line}
-use Rattle.ms_hash.proofs.rounds.left_round.Given as goal
-
--- the variables after the steps so far
-abbrev pub invariant-steps : goal.invariant-steps
-invariant-steps l = (h : List ℕ) → l.fn.v ≡ left_line l.w h (16 * l.round) → l.v ≡ left_line l.w h l.j

@@ -1,7 +1,0 @@
-use Rattle.std.proofs.Common.{◌≡◌, ℕ, ◌*◌, List}
-use Rattle.def_hash.specs.Ripemd.{right_line}
-use Rattle.ms_hash.proofs.rounds.right_round.Given as goal
-
--- the variables after the steps so far
-abbrev pub invariant-steps : goal.invariant-steps
-invariant-steps l = (h : List ℕ) → l.fn.v ≡ right_line l.w h (16 * l.round) → l.v ≡ right_line l.w h l.j
