@@ -1,5 +1,6 @@
 -- Laws of heights.
 use Rattle.std.specs.Prelude.{◌≡◌, ℕ, ◌+◌, ◌≤◌}
+use Rattle.def_script.specs.Limits.{MAX_OPS_PER_SCRIPT}
 use Rattle.def_tree.specs.Tree.{Tree}
 use Rattle.def_types.specs.declared.Base.TheVariants.{B}
 use Rattle.def_types.specs.Typed.{type_of, IsTyped}
@@ -41,4 +42,4 @@ HeightIsWithin = (tree : Tree) → IsTyped tree → (h : ℕ) → IsHeight tree 
 -- so within the 201 ops of consensus the height stays far below the 1,000 elements that both stacks may hold
 abbrev pub HeightIsLow : Type 0
 HeightIsLow =
-    (tree : Tree) → IsTyped tree → (type_of tree).base ≡ B → (limits_of tree).ops ≤ 201 → (h : ℕ) → IsHeight tree h → h ≤ 426
+    (tree : Tree) → IsTyped tree → (type_of tree).base ≡ B → (limits_of tree).ops ≤ MAX_OPS_PER_SCRIPT → (h : ℕ) → IsHeight tree h → h ≤ 426

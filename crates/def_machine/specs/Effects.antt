@@ -9,7 +9,7 @@ use Rattle.def_script.specs.Bytes.{Bytes}
 use Rattle.def_script.specs.Numbers.{number_bytes}
 use Rattle.def_script.specs.Decode.{num_decode, truth, is_nonzero}
 use Rattle.def_machine.specs.declared.ScriptFault.TheVariants as fault
-use Rattle.def_machine.specs.Limits.{MAX_NUMBER_SIZE, MAX_LOCK_SIZE}
+use Rattle.def_script.specs.Limits.{MAX_NUMBER_SIZE, MAX_LOCK_SIZE}
 use Rattle.def_machine.specs.Faults.{OrFault, ◌>>=◌}
 use Rattle.def_machine.specs.Stacks.{Stack, Pairs, member, is_empty, bool_bytes}
 use Rattle.def_script.specs.Key.{is_key}

@@ -1,5 +1,4 @@
 pub mod Locks
-pub mod Limits
 pub mod Faults
 pub mod Stacks
 pub mod Program

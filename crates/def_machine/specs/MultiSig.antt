@@ -5,7 +5,7 @@ use Rattle.std.specs.List.{list_all}
 use Rattle.def_script.specs.Bytes.{Bytes}
 use Rattle.def_machine.specs.declared.ScriptFault.{ScriptFault}
 use Rattle.def_machine.specs.declared.ScriptFault.TheVariants as fault
-use Rattle.def_machine.specs.Limits.{MAX_OPS_PER_SCRIPT, MAX_PUBKEYS_PER_MULTISIG}
+use Rattle.def_script.specs.Limits.{MAX_OPS_PER_SCRIPT, MAX_PUBKEYS_PER_MULTISIG}
 use Rattle.def_machine.specs.Faults.{OrFault, ◌>>=◌}
 use Rattle.def_machine.specs.Stacks.{Stack, Pairs, member, is_empty, bool_bytes}
 use Rattle.def_script.specs.Key.{is_key}

@@ -8,8 +8,7 @@ use Rattle.def_script.specs.Item.{Item}
 use Rattle.def_script.specs.Items.{items}
 use Rattle.def_machine.specs.declared.ScriptFault.{ScriptFault}
 use Rattle.def_machine.specs.declared.ScriptFault.TheVariants as fault
-use Rattle.def_machine.specs.Limits.{MAX_SCRIPT_SIZE}
-use Rattle.def_script.specs.Spell.{MAX_SCRIPT_ELEMENT_SIZE}
+use Rattle.def_script.specs.Limits.{MAX_SCRIPT_ELEMENT_SIZE, MAX_SCRIPT_SIZE}
 use Rattle.def_machine.specs.Faults.{OrFault, ◌>>=◌}
 use Rattle.def_machine.specs.Stacks.{Stack, Pairs}
 use Rattle.def_machine.specs.Machine.{Given, State, step}

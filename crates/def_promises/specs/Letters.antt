@@ -5,7 +5,7 @@ use Rattle.std.specs.Prelude.{◌≡◌, ℕ, ◌≤◌, ◌⊎◌, IsTrue, fals
 use Rattle.def_hash.specs.declared.HashKind.{HashKind}
 use Rattle.def_script.specs.Bytes.{Bytes, IsBytes}
 use Rattle.def_machine.specs.declared.Locks.{Locks}
-use Rattle.def_script.specs.Spell.{MAX_SCRIPT_ELEMENT_SIZE}
+use Rattle.def_script.specs.Limits.{MAX_SCRIPT_ELEMENT_SIZE}
 use Rattle.def_machine.specs.Stacks.{Stack, is_empty}
 use Rattle.def_machine.specs.Machine.{Given, State, is_live}
 use Rattle.def_tree.specs.Tree.{Tree, hash}

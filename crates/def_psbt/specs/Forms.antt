@@ -4,6 +4,7 @@ use Rattle.std.specs.List.{list_any, list_all}
 use Rattle.std.specs.Str.{bytes_eq}
 use Rattle.def_script.specs.Bytes.{Bytes}
 use Rattle.def_script.specs.Key.{is_key}
+use Rattle.def_script.specs.Signature.{MAX_SIGNATURE_SIZE}
 use Rattle.def_psbt.specs.Transaction.{Transaction, TransactionInput, TransactionOutput, outpoint_text}
 use Rattle.def_psbt.specs.Part.{Part, ◌>>=◌, first_bytes, whole}
 use Rattle.def_psbt.specs.TransactionReading.{first_output, first_witness}
@@ -41,7 +42,7 @@ is_der_sequence bytes = false
 
 -- a signature in strict DER, 9 to 73 bytes with that of its hash type
 unfoldable pub is_signature : Bytes → Bool
-is_signature bytes = nat_le 9 (length bytes) && nat_le (length bytes) 73 && is_der_sequence bytes
+is_signature bytes = nat_le 9 (length bytes) && nat_le (length bytes) MAX_SIGNATURE_SIZE && is_der_sequence bytes
 
 -- some bytes that stand twice in a list
 abbrev pub stands_twice : List Bytes → Bool

@@ -17,7 +17,8 @@ use Rattle.def_sane.specs.declared.Unfit.{Unfit}
 use Rattle.def_sane.specs.Most.{limits_of}
 use Rattle.def_sane.specs.Locks.{mix}
 use Rattle.def_sane.specs.Keys.{keys, AreDistinct, repeated_key}
-use Rattle.def_sane.specs.Unfit.{size_limit, are_too_many, MOST_SIZE, MOST_OPS, MOST_ITEMS, broken_rule, wrong_top, malleable, no_signature, mixed_locks, repeated, first_reason, IsValidUnder, IsSaneUnder, IsValid, IsSane}
+use Rattle.def_script.specs.Limits.{MAX_OPS_PER_SCRIPT}
+use Rattle.def_sane.specs.Unfit.{size_limit, are_too_many, MOST_SIZE, MOST_ITEMS, broken_rule, wrong_top, malleable, no_signature, mixed_locks, repeated, first_reason, IsValidUnder, IsSaneUnder, IsValid, IsSane}
 use Rattle.def_sane.specs.Laws.{AreFewItems, ValidMeans, SaneMeans, ValidUnderConsensus, SaneUnderConsensus}
 use Rattle.def_sane.proofs.FirstRepeat.{none_is_repeated}
 
@@ -83,7 +84,7 @@ wrong_top-b ty e = rw e
 pub valid_means_under : ValidMeans
 valid_means_under rules tree = (forth, back)
   where
-    forth : IsValidUnder rules tree → IsTyped tree × ((type_of tree).base ≡ B) × ((limits_of tree).size ≤ size_limit rules) × ((limits_of tree).ops ≤ MOST_OPS) × AreFewItems rules (limits_of tree).items
+    forth : IsValidUnder rules tree → IsTyped tree × ((type_of tree).base ≡ B) × ((limits_of tree).size ≤ size_limit rules) × ((limits_of tree).ops ≤ MAX_OPS_PER_SCRIPT) × AreFewItems rules (limits_of tree).items
     forth valid =
         let one = no_reason _ _ valid in
         let two = no_reason _ _ one.1 in
@@ -96,22 +97,22 @@ valid_means_under rules tree = (forth, back)
           known.0,
           subst (λ (ty : Ty). ty.base ≡ B) known.1 base,
           within_bound (size_limit rules) _ _ three.0,
-          within_bound MOST_OPS _ _ four.0,
+          within_bound MAX_OPS_PER_SCRIPT _ _ four.0,
           items_within rules _ _ five.0,
         )
 
-    back : IsTyped tree × ((type_of tree).base ≡ B) × ((limits_of tree).size ≤ size_limit rules) × ((limits_of tree).ops ≤ MOST_OPS) × AreFewItems rules (limits_of tree).items → IsValidUnder rules tree
+    back : IsTyped tree × ((type_of tree).base ≡ B) × ((limits_of tree).size ≤ size_limit rules) × ((limits_of tree).ops ≤ MAX_OPS_PER_SCRIPT) × AreFewItems rules (limits_of tree).items → IsValidUnder rules tree
     back h =
         let typed : corr tree ≡ Ok (type_of tree) = (corr_is_typed tree (type_of tree)).1 (h.0, refl) in
         none_first _ _ (ap broken_rule typed)
         (none_first _ _ (ap wrong_top typed ∙ wrong_top-b (type_of tree) h.1)
         (none_first _ _ (bound_within (size_limit rules) _ _ h.2)
-        (none_first _ _ (bound_within MOST_OPS _ _ h.3)
+        (none_first _ _ (bound_within MAX_OPS_PER_SCRIPT _ _ h.3)
         (none_first _ _ (within_items rules _ _ h.4) refl))))
 
 -- of policy
 pub valid_means : (tree : Tree) →
-    IsValid tree ↔ (IsTyped tree × ((type_of tree).base ≡ B) × ((limits_of tree).size ≤ MOST_SIZE) × ((limits_of tree).ops ≤ MOST_OPS) × ((limits_of tree).items ≤ MOST_ITEMS))
+    IsValid tree ↔ (IsTyped tree × ((type_of tree).base ≡ B) × ((limits_of tree).size ≤ MOST_SIZE) × ((limits_of tree).ops ≤ MAX_OPS_PER_SCRIPT) × ((limits_of tree).items ≤ MOST_ITEMS))
 valid_means = valid_means_under Policy
 
 -- properties, and a top with s

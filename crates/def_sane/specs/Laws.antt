@@ -10,7 +10,8 @@ use Rattle.def_sane.specs.Limits.{AreLimits}
 use Rattle.def_sane.specs.Most.{limits_of}
 use Rattle.def_sane.specs.Locks.{Mixes, mix}
 use Rattle.def_sane.specs.Keys.{keys, Repeats, AreDistinct, repeated_key}
-use Rattle.def_sane.specs.Unfit.{size_limit, MOST_OPS, MOST_ITEMS, IsValidUnder, IsSaneUnder}
+use Rattle.def_script.specs.Limits.{MAX_OPS_PER_SCRIPT}
+use Rattle.def_sane.specs.Unfit.{size_limit, MOST_ITEMS, IsValidUnder, IsSaneUnder}
 
 -- the computed limits are limits
 abbrev pub LimitsAreComputed : Type 0
@@ -51,7 +52,7 @@ ValidMeans =
     (rules : Rules) (tree : Tree) →
     IsValidUnder rules tree ↔
     (IsTyped tree × ((type_of tree).base ≡ B) × ((limits_of tree).size ≤ size_limit rules) ×
-    ((limits_of tree).ops ≤ MOST_OPS) × AreFewItems rules (limits_of tree).items)
+    ((limits_of tree).ops ≤ MAX_OPS_PER_SCRIPT) × AreFewItems rules (limits_of tree).items)
 
 -- a sane tree is valid, not malleable and signed, and has no mixed locks and no repeated key
 abbrev pub SaneMeans : Type 0

@@ -1,6 +1,7 @@
 -- Valid and sane miniscripts (BIP 379, with the limits of P2WSH), and the reasons against them in the
 -- order in which they are tested. Where no rules are named, those of policy are meant.
 use Rattle.std.specs.Prelude.{◌≡◌, ℕ, nat_lt, Bool, false, List, [], ◌∷◌, Option, Some, None, Result, Ok, Err, if◌then◌else◌}
+use Rattle.def_script.specs.Limits.{MAX_SCRIPT_SIZE, MAX_OPS_PER_SCRIPT}
 use Rattle.def_tree.specs.Tree.{Tree}
 use Rattle.def_types.specs.declared.Ty.{Ty}
 use Rattle.def_types.specs.declared.Mall.{Mall}
@@ -19,21 +20,14 @@ use Rattle.def_sane.specs.Most.{limits_of}
 use Rattle.def_sane.specs.Locks.{mix}
 use Rattle.def_sane.specs.Keys.{repeated_key}
 
--- the most bytes of a Script that is relayed (Bitcoin Core, MAX_STANDARD_P2WSH_SCRIPT_SIZE), and of one that
--- runs (MAX_SCRIPT_SIZE)
+-- the most bytes of a Script that is relayed (Bitcoin Core, MAX_STANDARD_P2WSH_SCRIPT_SIZE)
 abbrev pub MOST_SIZE : ℕ
 MOST_SIZE = 3600
 
-abbrev pub CONSENSUS_SIZE : ℕ
-CONSENSUS_SIZE = 10000
-
+-- and of one by either rules: what runs may have more than what is relayed
 abbrev pub size_limit : Rules → ℕ
 size_limit Policy = MOST_SIZE
-size_limit Consensus = CONSENSUS_SIZE
-
--- the most opcodes of a Script (MAX_OPS_PER_SCRIPT)
-abbrev pub MOST_OPS : ℕ
-MOST_OPS = 201
+size_limit Consensus = MAX_SCRIPT_SIZE
 
 -- the most stack items that are relayed (MAX_STANDARD_P2WSH_STACK_ITEMS); consensus has no such limit
 abbrev pub MOST_ITEMS : ℕ
@@ -58,7 +52,7 @@ abbrev pub too_large : Rules → Limits → Option Unfit
 too_large rules limits = if nat_lt (size_limit rules) limits.size then Some (unfit.Size limits.size) else None
 
 abbrev pub too_many_ops : Limits → Option Unfit
-too_many_ops limits = if nat_lt MOST_OPS limits.ops then Some (unfit.Ops limits.ops) else None
+too_many_ops limits = if nat_lt MAX_OPS_PER_SCRIPT limits.ops then Some (unfit.Ops limits.ops) else None
 
 abbrev pub too_many_items : Rules → Limits → Option Unfit
 too_many_items rules limits = if are_too_many rules limits.items then Some (unfit.Items limits.items) else None

@@ -1,6 +1,7 @@
 pub mod Bytes
 pub mod Key
 pub mod Signature
+pub mod Limits
 pub mod Instruction
 pub mod Numbers
 pub mod Spell

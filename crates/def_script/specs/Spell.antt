@@ -7,6 +7,7 @@ use Rattle.def_script.specs.declared.Op.{Op}
 use Rattle.def_script.specs.declared.Op.TheVariants as op
 use Rattle.def_script.specs.Bytes.{Bytes}
 use Rattle.def_script.specs.Instruction.{Instruction, push, code}
+use Rattle.def_script.specs.Limits.{MAX_SCRIPT_ELEMENT_SIZE}
 
 -- the byte that stands for an opcode
 abbrev pub opcode_byte : Op → ℕ
@@ -60,10 +61,7 @@ shortest_push [] = 0x00 ∷ []
 shortest_push (b ∷ []) = byte_push b
 shortest_push (b ∷ c ∷ bytes) = sized_push (b ∷ c ∷ bytes)
 
--- the bytes of an element, of which more can't be pushed (Bitcoin Core, script/script.h)
-abbrev pub MAX_SCRIPT_ELEMENT_SIZE : ℕ
-MAX_SCRIPT_ELEMENT_SIZE = 520
-
+-- an instruction that pushes no element of more bytes than one can have
 abbrev pub IsShort : Instruction → Type 0
 IsShort (push bytes) = length bytes ≤ MAX_SCRIPT_ELEMENT_SIZE
 IsShort (code op) = ⊤

@@ -7,6 +7,7 @@ use Rattle.def_tree.specs.declared.Two.{Two}
 use Rattle.def_tree.specs.declared.Two.TheVariants as two_kind
 use Rattle.def_tree.specs.declared.Wrapper.{Wrapper}
 use Rattle.def_tree.specs.declared.Wrapper.TheVariants as wrapper
+use Rattle.def_script.specs.Limits.{MAX_PUBKEYS_PER_MULTISIG}
 use Rattle.def_tree.specs.Tree.{Tree, Key}
 use Rattle.def_types.specs.declared.Base.{Base}
 use Rattle.def_types.specs.declared.Base.TheVariants.{B, V, K, W}
@@ -227,11 +228,11 @@ thresh_row k xs = record {
   gives = record { base = B; z = all_z xs; o = all_z_but_one xs; n = false; d = true; u = true };
 }
 
--- k is 1 to the number of keys, which is at most 20
+-- k is 1 to the number of keys, of which there are at most MAX_PUBKEYS_PER_MULTISIG
 unfoldable pub multi_row : (k : ℕ) → (keys : List Key) → Row Ty
 multi_row k keys = record {
   needs =
-      need rule.MultiRange (nat_le 1 k && nat_le k (length keys) && nat_le (length keys) 20) ∷ [];
+      need rule.MultiRange (nat_le 1 k && nat_le k (length keys) && nat_le (length keys) MAX_PUBKEYS_PER_MULTISIG) ∷ [];
   gives = record { base = B; z = false; o = false; n = true; d = true; u = true };
 }
 

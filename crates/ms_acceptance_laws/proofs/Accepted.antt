@@ -7,7 +7,7 @@ use Rattle.std.proofs.lemmas.List.Elements.{All-head, All-tail, All-weaker}
 use Rattle.def_script.specs.Bytes.{Bytes}
 use Rattle.def_script.specs.Signature.{MAX_SIGNATURE_SIZE}
 use Rattle.def_script.specs.Decode.{truth}
-use Rattle.def_script.specs.Spell.{MAX_SCRIPT_ELEMENT_SIZE}
+use Rattle.def_script.specs.Limits.{MAX_SCRIPT_ELEMENT_SIZE}
 use Rattle.def_machine.specs.Stacks.{Stack, Pairs}
 use Rattle.def_machine.specs.Machine.{Given, State}
 use Rattle.def_machine.specs.declared.ScriptFault.{ScriptFault}

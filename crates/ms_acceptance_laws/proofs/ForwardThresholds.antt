@@ -5,7 +5,7 @@ use Rattle.std.proofs.lemmas.Slice.Eq.{bytes_eq-Decides}
 use Rattle.def_script.specs.Bytes.{Bytes}
 use Rattle.def_script.specs.Numbers.{natural_bytes}
 use Rattle.def_script.specs.Decode.{num_decode}
-use Rattle.def_machine.specs.Limits.{MAX_NUMBER_SIZE}
+use Rattle.def_script.specs.Limits.{MAX_NUMBER_SIZE}
 use Rattle.def_machine.specs.Faults.{◌>>=◌}
 use Rattle.def_machine.specs.Stacks.{Stack, bool_bytes}
 use Rattle.def_machine.specs.Effects.{add, equal}

@@ -6,7 +6,7 @@ use Rattle.def_script.specs.Spell.{IsShort}
 use Rattle.def_script.specs.Laws.{item_of}
 use Rattle.def_machine.specs.declared.ScriptFault.{ScriptFault}
 use Rattle.def_machine.specs.Faults.{OrFault}
-use Rattle.def_machine.specs.Limits.{MAX_OPS_PER_SCRIPT, MAX_STACK_SIZE}
+use Rattle.def_script.specs.Limits.{MAX_OPS_PER_SCRIPT, MAX_STACK_SIZE}
 use Rattle.def_machine.specs.Stacks.{Pairs}
 use Rattle.def_machine.specs.Machine.{Given, State, step, height}
 use Rattle.def_machine.specs.Run.{Outcome, accepted, refused, leads, steps}

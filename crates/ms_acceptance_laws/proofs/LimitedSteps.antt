@@ -8,7 +8,7 @@ use Rattle.def_script.specs.Laws.{item_of}
 use Rattle.def_machine.specs.declared.ScriptFault.{ScriptFault}
 use Rattle.def_machine.specs.declared.ScriptFault.TheVariants as fault
 use Rattle.def_machine.specs.Faults.{OrFault, ◌>>=◌}
-use Rattle.def_machine.specs.Limits.{MAX_PUBKEYS_PER_MULTISIG, MAX_OPS_PER_SCRIPT, MAX_STACK_SIZE}
+use Rattle.def_script.specs.Limits.{MAX_PUBKEYS_PER_MULTISIG, MAX_OPS_PER_SCRIPT, MAX_STACK_SIZE}
 use Rattle.def_machine.specs.Stacks.{Stack, Pairs, bool_bytes}
 use Rattle.def_machine.specs.Effects.{verify}
 use Rattle.def_machine.specs.MultiSig.{count, within_op_limit, some_off, one_off, tries, verdict, null_dummy, check_multi_sig}

@@ -6,7 +6,7 @@ use Rattle.def_script.specs.Decode.{truth}
 use Rattle.def_machine.specs.declared.ScriptFault.{ScriptFault}
 use Rattle.def_machine.specs.declared.ScriptFault.TheVariants as fault
 use Rattle.def_machine.specs.Faults.{OrFault, ◌>>=◌}
-use Rattle.def_machine.specs.Limits.{MAX_PUBKEYS_PER_MULTISIG}
+use Rattle.def_script.specs.Limits.{MAX_PUBKEYS_PER_MULTISIG}
 use Rattle.def_machine.specs.Stacks.{Stack, Pairs, is_empty, member, bool_bytes}
 use Rattle.def_script.specs.Key.{is_key}
 use Rattle.def_machine.specs.Effects.{verify, condition, if_dup, dup, swap, size, equal, operand, non_negative, one_number, two_numbers, zero_not_equal, add, bool_and, bool_or, hash, check_sig, lock}

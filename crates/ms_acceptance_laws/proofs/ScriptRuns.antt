@@ -6,12 +6,11 @@ use Rattle.std.proofs.lemmas.List.Elements.{All-head, All-tail}
 use Rattle.def_script.specs.Bytes.{Bytes}
 use Rattle.def_script.specs.Decode.{truth}
 use Rattle.def_script.specs.Instruction.{opcode_count}
-use Rattle.def_script.specs.Spell.{MAX_SCRIPT_ELEMENT_SIZE}
 use Rattle.def_script.specs.Laws.{item_of}
 use Rattle.def_script.proofs.Reading.{all_short-spell}
 use Rattle.def_machine.specs.declared.ScriptFault.TheVariants as fault
 use Rattle.def_machine.specs.Faults.{OrFault}
-use Rattle.def_machine.specs.Limits.{MAX_SCRIPT_SIZE, MAX_OPS_PER_SCRIPT, MAX_STACK_SIZE}
+use Rattle.def_script.specs.Limits.{MAX_SCRIPT_ELEMENT_SIZE, MAX_SCRIPT_SIZE, MAX_OPS_PER_SCRIPT, MAX_STACK_SIZE}
 use Rattle.def_machine.specs.Stacks.{Stack, Pairs}
 use Rattle.def_machine.specs.Machine.{Given, State, is_live}
 use Rattle.def_machine.specs.Run.{Outcome, accepted, leads, start, steps, is_clean, finish, ended, run}

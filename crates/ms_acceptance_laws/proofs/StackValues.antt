@@ -7,7 +7,7 @@ use Rattle.def_script.specs.Bytes.{Bytes}
 use Rattle.def_script.specs.Numbers.{natural_bytes, signed_bytes}
 use Rattle.def_script.specs.Decode.{num_decode, truth, is_nonzero}
 use Rattle.def_script.proofs.Decoding.{number_is_read_back, nonzero_is_true}
-use Rattle.def_machine.specs.Limits.{MAX_NUMBER_SIZE, MAX_LOCK_SIZE}
+use Rattle.def_script.specs.Limits.{MAX_NUMBER_SIZE, MAX_LOCK_SIZE}
 use Rattle.def_machine.specs.Stacks.{Stack, bool_bytes}
 use Rattle.def_machine.specs.Effects.{verify, equal, operand, one_number, two_numbers, zero_not_equal, add, bool_and, bool_or}
 

@@ -5,7 +5,7 @@ use Rattle.def_hash.specs.Hash.{hash160}
 use Rattle.def_script.specs.Bytes.{Bytes}
 use Rattle.def_script.specs.Numbers.{natural_bytes}
 use Rattle.def_machine.specs.declared.ScriptFault.TheVariants as fault
-use Rattle.def_machine.specs.Limits.{MAX_PUBKEYS_PER_MULTISIG}
+use Rattle.def_script.specs.Limits.{MAX_PUBKEYS_PER_MULTISIG}
 use Rattle.def_machine.specs.Locks.{after_holds, older_holds}
 use Rattle.def_machine.specs.Faults.{OrFault, ◌>>=◌}
 use Rattle.def_machine.specs.Stacks.{Stack, Pairs, bool_bytes}

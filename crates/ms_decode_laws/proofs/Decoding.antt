@@ -28,7 +28,8 @@ use Rattle.def_sane.specs.Most.{most_sat, number_of, limits_of}
 use Rattle.def_sane.specs.Locks.{mix}
 use Rattle.def_sane.specs.Keys as held
 use Rattle.def_sane.specs.Keys.{AreDistinct}
-use Rattle.def_sane.specs.Unfit.{MOST_SIZE, MOST_OPS, MOST_ITEMS, IsValid, IsSane}
+use Rattle.def_script.specs.Limits.{MAX_OPS_PER_SCRIPT}
+use Rattle.def_sane.specs.Unfit.{MOST_SIZE, MOST_ITEMS, IsValid, IsSane}
 use Rattle.def_sane.proofs.Meanings.{valid_means, sane_means}
 use Rattle.def_decode.specs.Nested.{RightNested, EachHashed, EachHashedOf}
 use Rattle.def_decode.specs.Decoded.{first_with, IsReading, IsDecoded}
@@ -180,7 +181,7 @@ nest_is_decoded keys script t all h =
     let e : emit n ≡ emit t = same_emit t n (i.order []) in
     let l : limits_of n ≡ limits_of t = same_limits t n e i.sat in
     let size : (limits_of n).size ≤ MOST_SIZE = subst (λ (m : Limits). m.size ≤ MOST_SIZE) (sym l) v.2 in
-    let count : (limits_of n).ops ≤ MOST_OPS = subst (λ (m : Limits). m.ops ≤ MOST_OPS) (sym l) v.3 in
+    let count : (limits_of n).ops ≤ MAX_OPS_PER_SCRIPT = subst (λ (m : Limits). m.ops ≤ MAX_OPS_PER_SCRIPT) (sym l) v.3 in
     let stack : (limits_of n).items ≤ MOST_ITEMS = subst (λ (m : Limits). m.items ≤ MOST_ITEMS) (sym l) v.4 in
     let base : (type_of n).base ≡ B = ap (λ (ty : Ty). ty.base) i.type ∙ v.1 in
     let listed : EachHashed (λ k. Contains keys k) n = each_map P (λ k. Contains keys k) (λ k f. found_in Key (λ key. bytes_eq (hash160 key) (hash160 k)) keys k f) n i.hashed in
@@ -259,7 +260,7 @@ count-back (push bytes ∷ l) is = let e = count-back l (push bytes ∷ is) in o
 count-back (code op ∷ l) is = let e = count-back l (code op ∷ is) in omega (arith, e)
 
 -- such a tree is neither too deep nor too large
-deep_within : (t : Tree) → IsTyped t → RightNested t → opcode_count (emit t) ≤ MOST_OPS → depth t ≤ MOST_DEPTH
+deep_within : (t : Tree) → IsTyped t → RightNested t → opcode_count (emit t) ≤ MAX_OPS_PER_SCRIPT → depth t ≤ MOST_DEPTH
 deep_within t h n o =
     let a = (low t h n).four in
     let b = ops-onto t h n [] in
@@ -279,7 +280,7 @@ large_within t s =
 decoded_is_read : (keys : List Key) (script : Bytes) (t : Tree) → IsDecoded keys script t → read (first_with keys) (reverse (emit t)) ≡ Some t
 decoded_is_read keys script t h =
     let v = (valid_means t).0 h.reading.valid in
-    let o : opcode_count (emit t) ≤ MOST_OPS = let k = v.3 in omega (arith, k) in
+    let o : opcode_count (emit t) ≤ MAX_OPS_PER_SCRIPT = let k = v.3 in omega (arith, k) in
     let f : Fit (first_with keys) t = record {
       typed = v.0;
       nested = h.nested;

@@ -1,5 +1,6 @@
 -- What a run answers.
 use Rattle.std.specs.Prelude.{◌≡◌, ◌≤◌, ℕ, max, length, Result, Ok, Err}
+use Rattle.def_script.specs.Limits.{MAX_OPS_PER_SCRIPT, MAX_STACK_SIZE}
 use Rattle.def_machine.specs.declared.Locks.{Locks}
 use Rattle.def_machine.specs.Stacks.{Pairs}
 use Rattle.def_machine.specs.Machine.{Given}
@@ -19,7 +20,7 @@ Answers (Ok report) outcome = outcome ≡ accepted report.ops report.peak report
 Answers (Err (Refused fault place)) outcome = outcome ≡ refused fault place
 Answers (Err Memory) outcome = Unit {0}
 
--- a report has at most as many checks as opcodes, at most 201 opcodes, and a peak of at most the
--- greater of 1,000 and the number of elements given
+-- a report has at most as many checks as opcodes, at most MAX_OPS_PER_SCRIPT opcodes, and a peak of at most
+-- the greater of MAX_STACK_SIZE and the number of elements given
 abbrev pub IsSmallReport : (given : ℕ) → RunReport → Type 0
-IsSmallReport given report = (length report.checks ≤ report.ops) × (report.ops ≤ 201) × (report.peak ≤ max 1000 given)
+IsSmallReport given report = (length report.checks ≤ report.ops) × (report.ops ≤ MAX_OPS_PER_SCRIPT) × (report.peak ≤ max MAX_STACK_SIZE given)

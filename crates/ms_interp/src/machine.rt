@@ -24,7 +24,7 @@ use crate::timelocks::{cltv, csv};
 use def_machine::{Locks, ScriptFault};
 use ms_hash::HashKind;
 use ms_oracle::{Pairs, SigCheck};
-use ms_script::{InstrRef, Op, num_encode};
+use ms_script::{InstrRef, MAX_SCRIPT_ELEMENT_SIZE, MAX_STACK_SIZE, Op, num_encode};
 use std::alloc::Global;
 
 /// The machine: its stacks, its open branches, and what a report tells.
@@ -213,7 +213,7 @@ impl Machine {
         ensures value { Leaves result self.new (the_carry_push bytes.now minimal self.old) }
         ensures branches { self.new.branches ≡ self.old.branches }
     {
-        if bytes.len() > 520 {
+        if bytes.len() > MAX_SCRIPT_ELEMENT_SIZE {
             return Err(Stop::Fault(ScriptFault::ElementSize));
         }
         if !self.branches.all_taken() {
@@ -255,7 +255,7 @@ impl Machine {
         ensures branches { self.new.branches ≡ self.old.branches }
     {
         let height = self.main.len().saturating_add(self.alt.len());
-        if height > 1000 {
+        if height > MAX_STACK_SIZE {
             return Err(Stop::Fault(ScriptFault::StackSize));
         }
         self.peak = self.peak.max(height as u32);

@@ -12,7 +12,7 @@ use crate::pile::Pile;
 use crate::stop::Stop;
 use def_machine::ScriptFault;
 use ms_oracle::{Pairs, SigCheck};
-use ms_script::{Blob, is_key};
+use ms_script::{Blob, MAX_OPS_PER_SCRIPT, MAX_PUBKEYS_PER_MULTISIG, is_key};
 use std::alloc::{AllocError, Global};
 
 /// A number of opcodes with some more, within the limit.
@@ -21,7 +21,7 @@ pub fn more_ops(ops: u32, more: u32) -> Result<u32, ScriptFault>
     ensures { result ≡ within_op_limit (ops + more) }
 {
     let total = ops.saturating_add(more);
-    if total > 201 {
+    if total > MAX_OPS_PER_SCRIPT {
         return Err(ScriptFault::OpCount);
     }
     Ok(total)
@@ -156,7 +156,7 @@ pub fn check_multi_sig<F: Fn(&[u8], &[u8]) -> bool>(
     ensures { Leaves result (main.new, ops.new, checks.new) (the_check_multi_sig (table_of sigs.now) main.old ops.old checks.old) }
 {
     let alloc = main.allocator();
-    let n = count(main, 20, ScriptFault::KeyCount)?;
+    let n = count(main, MAX_PUBKEYS_PER_MULTISIG, ScriptFault::KeyCount)?;
     *ops = more_ops(*ops, n as u32)?;
     let keys = some_off(main, n)?;
     let m = count(main, n, ScriptFault::SigCount)?;

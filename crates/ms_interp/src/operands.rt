@@ -1,5 +1,6 @@
 //! What opcodes take from the stack: numbers, counts and conditions.
 ghost use Rattle.std.specs.Prelude.{◌≡◌, ℕ, ◌≤◌, IfOk};
+ghost use Rattle.def_script.specs.Limits.{MAX_PUBKEYS_PER_MULTISIG};
 ghost use Rattle.def_machine.specs.Effects.{operand as the_operand, one_number as the_one_number, two_numbers as the_two_numbers, condition as the_condition};
 ghost use Rattle.def_machine.specs.MultiSig.{count as the_count};
 ghost use Rattle.ms_interp.specs.Scaffolding.Stops.{GivesFault, HasRoom};
@@ -62,7 +63,7 @@ pub fn two_numbers(main: &mut Pile) -> Result<Operands, ScriptFault>
 /// Takes a count from 0 to `most`, or refuses with the given fault.
 #[tactic(auto, unfolding(def_machine::specs::MultiSig::count))]
 pub fn count(main: &mut Pile, most: usize, fault: ScriptFault) -> Result<usize, ScriptFault>
-    requires { most ≤ 20 }
+    requires { most ≤ MAX_PUBKEYS_PER_MULTISIG }
     ensures value { GivesFault result (λ n. (n, main.new)) (the_count most fault main.old) }
     ensures within { IfOk result (λ n. n ≤ most) }
 {

@@ -3,6 +3,7 @@ ghost use Rattle.std.specs.Prelude.{◌≡◌, ℕ, ◌≤◌, nat_le, length, r
 ghost use Rattle.std.specs.List.{list_all};
 ghost use Rattle.def_script.specs.Bytes.{Bytes};
 ghost use Rattle.def_script.specs.Items.{items};
+ghost use Rattle.def_script.specs.Limits.{MAX_SCRIPT_ELEMENT_SIZE as max_script_element_size, MAX_SCRIPT_SIZE as max_script_size};
 ghost use Rattle.def_machine.specs.Machine.{fault_of as the_fault_of};
 ghost use Rattle.def_machine.specs.Run.{run as the_run};
 ghost use Rattle.ms_oracle.specs.Sound.{table_of, IsSound};
@@ -16,7 +17,7 @@ use crate::report::{RunReport, RunStop};
 use crate::stop::Stop;
 use def_machine::{Locks, ScriptFault};
 use ms_oracle::SigCheck;
-use ms_script::{InstrFault, Stack, next_instr, truth};
+use ms_script::{InstrFault, MAX_SCRIPT_ELEMENT_SIZE, MAX_SCRIPT_SIZE, Stack, next_instr, truth};
 use std::alloc::{AllocError, Global};
 
 /// Runs a Script on a stack, with the limits of Bitcoin Core's `EvalScript` and the rules of
@@ -45,7 +46,7 @@ pub fn run<F: Fn(&[u8], &[u8]) -> bool>(
     ensures outcome { Answers result (the_run (given_by (table_of sigs.now) locks.now) script.now stack.now) }
     ensures small { IfOk result (IsSmallReport (length stack.now)) }
 {
-    if script.len() > 10_000 {
+    if script.len() > MAX_SCRIPT_SIZE {
         return Err(RunStop::Refused(ScriptFault::ScriptSize, 0));
     }
     if !all_fit(stack) {
@@ -59,10 +60,10 @@ pub fn run<F: Fn(&[u8], &[u8]) -> bool>(
 
 /// Whether each item has at most 520 bytes.
 fn all_fit(stack: &Stack) -> bool
-    ensures { result ≡ list_all (λ (x : Bytes). nat_le (length x) 520) stack.now }
+    ensures { result ≡ list_all (λ (x : Bytes). nat_le (length x) max_script_element_size) stack.now }
 {
     for i in 0..stack.len() {
-        if stack.item(i).len() > 520 {
+        if stack.item(i).len() > MAX_SCRIPT_ELEMENT_SIZE {
             return false;
         }
     }
@@ -88,7 +89,7 @@ fn steps<F: Fn(&[u8], &[u8]) -> bool>(
     sigs: &SigCheck<'_, F>,
 ) -> Result<RunReport, RunStop>
     requires sound { IsSound F.Fn sigs.now }
-    requires short { length script.now ≤ 10000 }
+    requires short { length script.now ≤ max_script_size }
     requires closed { machine.branches.depth ≡ 0 }
     ensures { Answers result (the_steps (given_by (table_of sigs.now) locks.now) (items script.now) 0 machine) }
 {

@@ -2,6 +2,7 @@
 ghost use Rattle.std.specs.Prelude.{◌≡◌, ◌≤◌, length};
 ghost use Rattle.std.specs.String.{string_bytes};
 ghost use Rattle.def_tree.specs.Range.{IsInRange};
+ghost use Rattle.def_files.specs.RunFile.{MOST_ELEMENTS};
 ghost use Rattle.def_sane.specs.Unfit.{IsValid};
 ghost use Rattle.def_answer.specs.Laws.{walked, steps_found};
 ghost use Rattle.def_answer.specs.Reply.{reply, MOST_FILE, audited_reply, witness_reply, audit_reply};
@@ -38,7 +39,7 @@ pub fn audit_answer(alloc: Global, text: &TextTree<'_>, bytes: &[u8]) -> Result<
 fn witness_answer(alloc: Global, text: &TextTree<'_>, file: &RunFile) -> Result<Answer, AllocError>
     requires in_range { IsInRange (shape text.now.tree) }
     requires valid { IsValid (shape text.now.tree) }
-    requires few { length file.now.stack ≤ 2000 }
+    requires few { length file.now.stack ≤ MOST_ELEMENTS }
     ensures { RepliesWith result (witness_reply text.now.offsets.items (steps_found (shape text.now.tree) (file_seen file.now)) (shape text.now.tree) (file_seen file.now)) }
 {
     let script = script_bytes(alloc, text.tree())?;
@@ -53,7 +54,7 @@ fn witness_answer(alloc: Global, text: &TextTree<'_>, file: &RunFile) -> Result<
 fn audited_answer(alloc: Global, text: &TextTree<'_>, file: &RunFile) -> Result<Answer, AllocError>
     requires in_range { IsInRange (shape text.now.tree) }
     requires valid { IsValid (shape text.now.tree) }
-    requires few { length file.now.stack ≤ 2000 }
+    requires few { length file.now.stack ≤ MOST_ELEMENTS }
     ensures { RepliesWith result (audited_reply text.now.offsets.items (steps_found (shape text.now.tree) (file_seen file.now)) (outcome_for (shape text.now.tree) (file_seen file.now))) }
 {
     let pairs = file.pairs.as_slice();

@@ -1,5 +1,6 @@
 //! What is answered to a run file.
 ghost use Rattle.std.specs.Prelude.{◌≤◌, length};
+ghost use Rattle.def_files.specs.RunFile.{MOST_ELEMENTS};
 ghost use Rattle.def_answer.specs.Reply.{MOST_FILE, outcome_reply, run_reply};
 ghost use Rattle.ms_replies.specs.Choices.{file_seen, outcome_of};
 ghost use Rattle.ms_replies.specs.Answering.{RepliesWith};
@@ -26,7 +27,7 @@ pub fn run_answer(alloc: Global, bytes: &[u8]) -> Result<Answer, AllocError>
 
 /// The answer to a run file that was read: what its run came to.
 fn outcome_answer(alloc: Global, file: &RunFile) -> Result<Answer, AllocError>
-    requires { length file.now.stack ≤ 2000 }
+    requires { length file.now.stack ≤ MOST_ELEMENTS }
     ensures { RepliesWith result (outcome_reply (outcome_of (file_seen file.now))) }
 {
     let pairs = file.pairs.as_slice();

@@ -1,6 +1,6 @@
 -- What the interpreter asks of the Script of a miniscript, whatever policy asks besides.
 use Rattle.std.proofs.Common.{◌≡◌, ◌+◌, ◌≤◌, length, arith}
-use Rattle.def_machine.specs.Limits.{MAX_SCRIPT_SIZE, MAX_OPS_PER_SCRIPT}
+use Rattle.def_script.specs.Limits.{MAX_SCRIPT_SIZE, MAX_OPS_PER_SCRIPT}
 use Rattle.def_tree.specs.Tree.{Tree}
 use Rattle.def_types.specs.declared.Base.TheVariants.{B}
 use Rattle.def_types.specs.Typed.{type_of, IsTyped}

@@ -4,6 +4,7 @@ ghost use Rattle.std.specs.Prelude.{◌≡◌, ℕ, ◌≤◌, ◌++◌, length,
 ghost use Rattle.def_script.specs.Spell.{opcode_byte as the_opcode_byte, shortest_push, IsShort, spell_one, spell};
 ghost use Rattle.def_script.specs.Items.{items};
 ghost use Rattle.def_script.specs.Laws.{item_of};
+ghost use Rattle.def_script.specs.Limits.{MAX_SCRIPT_ELEMENT_SIZE};
 ghost use Rattle.ms_script.specs.Views.{instruction_of};
 
 use crate::blob::Blob;
@@ -51,7 +52,7 @@ fn encode_one(bytes: &mut Vec<u8>, instr: &Instr) -> Result<(), AllocError>
 
 /// Adds the shortest push of `pushed`.
 fn encode_push(bytes: &mut Vec<u8>, pushed: &[u8]) -> Result<(), AllocError>
-    requires { length pushed.now ≤ 520 }
+    requires { length pushed.now ≤ MAX_SCRIPT_ELEMENT_SIZE }
     ensures { OnOk result (bytes.new.items ≡ bytes.old.items ++ shortest_push pushed.now) }
 {
     match push_form(pushed) {

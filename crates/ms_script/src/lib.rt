@@ -5,6 +5,10 @@ pub use blob::Blob;
 pub use def_script::{InstrFault, NumFault, Op, SizeFault};
 pub use encoding::{encode, opcode_byte};
 pub use key::is_key;
+pub use limits::{
+    MAX_OPS_PER_SCRIPT, MAX_PUBKEYS_PER_MULTISIG, MAX_SCRIPT_ELEMENT_SIZE, MAX_SCRIPT_SIZE,
+    MAX_STACK_SIZE,
+};
 pub use numbers::{NumBytes, num_decode, num_encode, truth};
 pub use pushes::{PushForm, push_byte, push_form, push_length};
 pub use reading::{InstrRef, next_instr};
@@ -16,6 +20,7 @@ pub use stack::Stack;
 mod blob;
 mod encoding;
 mod key;
+mod limits;
 mod numbers;
 mod opcodes;
 mod pushes;

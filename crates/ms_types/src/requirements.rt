@@ -10,6 +10,7 @@ ghost use Rattle.ms_types.specs.Rows.{leaf_row};
 
 use crate::children::Children;
 use def_types::{Base, Rule, Ty};
+use ms_script::MAX_PUBKEYS_PER_MULTISIG;
 use ms_tree::{Leaf, Two, Wrapper, fragment_rows};
 
 /// Refuses by a rule unless it holds.
@@ -182,7 +183,7 @@ pub fn require_thresh(k: u64, children: Children) -> Result<(), Rule>
 }
 
 /// The greatest number of keys of a `multi`.
-const MOST_KEYS: u64 = 20;
+const MOST_KEYS: u64 = MAX_PUBKEYS_PER_MULTISIG as u64;
 
 macro_rules! multi_arm {
     (

@@ -8,8 +8,7 @@ use Rattle.def_script.specs.Bytes.{Bytes}
 use Rattle.def_script.specs.Item.{Item}
 use Rattle.def_script.specs.Item as item
 use Rattle.def_machine.specs.declared.ScriptFault.TheVariants as fault
-use Rattle.def_machine.specs.Limits.{MAX_STACK_SIZE}
-use Rattle.def_script.specs.Spell.{MAX_SCRIPT_ELEMENT_SIZE}
+use Rattle.def_script.specs.Limits.{MAX_SCRIPT_ELEMENT_SIZE, MAX_STACK_SIZE}
 use Rattle.def_machine.specs.Locks.{after_holds, older_holds}
 use Rattle.def_machine.specs.Faults.{OrFault, ◌>>=◌}
 use Rattle.def_machine.specs.Stacks.{Stack, Pairs}

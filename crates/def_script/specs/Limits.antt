@@ -9,6 +9,10 @@ MAX_SCRIPT_SIZE = 10000
 abbrev pub MAX_OPS_PER_SCRIPT : ℕ
 MAX_OPS_PER_SCRIPT = 201
 
+-- the bytes of an element, of which more can't be pushed
+abbrev pub MAX_SCRIPT_ELEMENT_SIZE : ℕ
+MAX_SCRIPT_ELEMENT_SIZE = 520
+
 -- the elements on both stacks together
 abbrev pub MAX_STACK_SIZE : ℕ
 MAX_STACK_SIZE = 1000
