@@ -1,14 +1,14 @@
 -- What the order of signatures finds is the shortest signature of a key, of several shortest the first; and one more
 -- signature keeps the order where it is put behind all that come before it.
-use Rattle.std.proofs.Common.{◌≡◌, ℕ, zero, suc, ◌+◌, ◌-◌, ◌<◌, ◌≤◌, ◌⊎◌, inl, inr, ⊎_elim, ◌||◌, Bool, true, false, nat_lt, if◌then◌else◌, is_some, List, [], ◌∷◌, ◌++◌, length, length-append, map, filter, get_or, Option, Some, None, option_map, Result, Ok, Err, is_ok, is_err, Bor, All, Contains, refl, sym, ◌∙◌, ap, subst, arith, zero-add, add-zero}
+use Rattle.std.proofs.Common.{◌≡◌, ℕ, zero, suc, ◌+◌, ◌-◌, ◌<◌, ◌≤◌, ◌⊎◌, inl, inr, ⊎_elim, ◌||◌, Bool, true, false, nat_lt, if◌then◌else◌, is_some, List, [], ◌∷◌, ◌++◌, length, length-append, map, filter, get_or, take, Option, Some, None, option_map, Result, Ok, Err, is_ok, is_err, Bor, All, Contains, refl, sym, ◌∙◌, ap, subst, arith, zero-add, add-zero}
 use Rattle.std.proofs.Math.Seq.{get_or-append_seam}
 use Rattle.std.proofs.lemmas.Bool.{cases_lt, ltb-true}
 use Rattle.std.proofs.lemmas.Bool.Decides.{nat_tests}
 use Rattle.std.proofs.lemmas.Cmp.{nat_list_cmp_total, nat_cmp_total, on_total, then_total, tied_itself, ranked}
-use Rattle.std.proofs.lemmas.List.{get_or_append_left}
+use Rattle.std.proofs.lemmas.List.{get_or_append_left, take_more}
 use Rattle.std.proofs.lemmas.List.Edits.{length-insert, get_or-insert_below, get_or-insert_at, get_or-insert_above}
 use Rattle.std.proofs.lemmas.List.FromFn.{get_or-range_with_len, length-range_with_len}
-use Rattle.std.proofs.lemmas.List.Sorted.{ranks_by, sorted_far, All-permutation, Contains-permutation, IsPermutation-refl, IsPermutation-trans, IsPermutation-cons, IsPermutation-to_front, IsPermutation-insert}
+use Rattle.std.proofs.lemmas.List.Sorted.{ranks_by, sorted_far, All-permutation, Contains-permutation, IsPermutation-trans, IsPermutation-cons, IsPermutation-to_front, IsPermutation-insert}
 use Rattle.std.proofs.lemmas.Map.Text.{is_eq-slice_cmp}
 use Rattle.std.proofs.lemmas.Slice.Eq.{bytes_eq-Decides}
 use Rattle.std.specs.Cmp.{IsTotalOrder, IsStrictWeakOrder}
@@ -24,7 +24,7 @@ use Rattle.def_machine.specs.Stacks.{Pairs}
 use Rattle.def_assets.specs.Assets.{sigs_with, shorter, shortest}
 use Rattle.ms_assets.proofs.SamePairs.{bytes_eq-symm}
 use Rattle.ms_oracle.specs.Places.{pair_at}
-use Rattle.ms_assets.specs.Scaffolding.Order.{Rank, rank_cmp, rank_of, is_before, IsOrder, sig_under}
+use Rattle.ms_assets.specs.Scaffolding.Order.{Rank, rank_cmp, rank_of, is_before, IsOrder, sig_under, shortest_with}
 
 pub rank_cmp-total : IsTotalOrder rank_cmp
 rank_cmp-total =
@@ -35,9 +35,6 @@ weak table = ranks_by rank_cmp-total (rank_of table)
 
 ranks_weak : IsStrictWeakOrder (λ (a b : Rank). is_lt (rank_cmp a b))
 ranks_weak = ranks_by rank_cmp-total (λ (r : Rank). r)
-
-pub no_order : IsOrder [] []
-no_order = record { whole = IsPermutation-refl []; sorted = λ k d low high. absurd (omega arith) }
 
 -- ---- places before a rank stand first
 
@@ -145,6 +142,60 @@ shortest_none table key none = go (shortest (sigs_with table key)) (shortest_fou
     go : (o : Option Bytes) → FoundAt table key o → o ≡ None
     go None h = refl
     go (Some sig) h = absurd (none h.0 h.1 h.2)
+
+-- ---- one more signature behind the others
+
+shorter_twice : (first second third : Bytes) → shorter first (Some (shorter second (Some third))) ≡ shorter (shorter first (Some second)) (Some third)
+shorter_twice first second third =
+    go (nat_lt (length second) (length first)) (nat_lt (length third) (length second)) (nat_lt (length third) (length first)) refl refl refl
+  where
+    go : (a b c : Bool) → nat_lt (length second) (length first) ≡ a → nat_lt (length third) (length second) ≡ b → nat_lt (length third) (length first) ≡ c
+        → shorter first (Some (if b then third else second)) ≡ shorter (if a then second else first) (Some third)
+    go true true true e f g = rw (f, g) refl
+    go true true false e f g = absurd (grind (arith, nat_tests))
+    go true false c e f g = rw (e, f) refl
+    go false true c e f g = refl
+    go false false true e f g = absurd (grind (arith, nat_tests))
+    go false false false e f g = rw (e, g) refl
+
+with_shorter : (first : Bytes) (o : Option Bytes) (sig : Bytes) → shorter first (Some (shortest_with o sig)) ≡ shortest_with (Some (shorter first o)) sig
+with_shorter first None sig = refl
+with_shorter first (Some second) sig = shorter_twice first second sig
+
+-- the signature of one more pair, where it has the key
+abbrev pub also : Bool → Option Bytes → (sig : Bytes) → Option Bytes
+also b o sig = if b then Some (shortest_with o sig) else o
+
+pub shortest_more : (table : Pairs) (pair : Bytes × Bytes) (key : Bytes)
+    → shortest (sigs_with (table ++ pair ∷ []) key) ≡ also (bytes_eq pair.0 key) (shortest (sigs_with table key)) pair.1
+shortest_more [] pair key = go (bytes_eq pair.0 key)
+  where
+    go : (b : Bool) → shortest (map (λ (p : Bytes × Bytes). p.1) (if b then pair ∷ [] else [])) ≡ also b None pair.1
+    go true = refl
+    go false = refl
+shortest_more (first ∷ table) pair key = go (bytes_eq first.0 key) (shortest_more table pair key)
+  where
+    all : Bool → Pairs → List Bytes
+    all b pairs = map (λ (p : Bytes × Bytes). p.1) (if b then first ∷ filter (λ p. bytes_eq p.0 key) pairs else filter (λ p. bytes_eq p.0 key) pairs)
+
+    put : (b : Bool) (o : Option Bytes) → Some (shorter first.1 (also b o pair.1)) ≡ also b (Some (shorter first.1 o)) pair.1
+    put true o = ap Some (with_shorter first.1 o pair.1)
+    put false o = refl
+
+    go : (b : Bool) → shortest (sigs_with (table ++ pair ∷ []) key) ≡ also (bytes_eq pair.0 key) (shortest (sigs_with table key)) pair.1
+        → shortest (all b (table ++ pair ∷ [])) ≡ also (bytes_eq pair.0 key) (shortest (all b table)) pair.1
+    go true rest = ap (λ o. Some (shorter first.1 o)) rest ∙ put (bytes_eq pair.0 key) (shortest (sigs_with table key))
+    go false rest = rest
+
+-- what is found among one more pair of a table
+pub walked : (table : Pairs) (i : ℕ) (pair : Bytes × Bytes) (key : Bytes) (former latter : Option Bytes) (has : Bool) → i < length table → pair ≡ get_or table i pair
+    → former ≡ shortest (sigs_with (take i table) key) → has ≡ bytes_eq pair.0 key → latter ≡ also has former pair.1 → latter ≡ shortest (sigs_with (take (i + 1) table) key)
+walked table i pair key former latter has inside is before same now =
+    now
+    ∙ ap (λ b. also b former pair.1) same
+    ∙ ap (λ o. also (bytes_eq pair.0 key) o pair.1) before
+    ∙ sym (shortest_more (take i table) pair key)
+    ∙ ap (λ pairs. shortest (sigs_with pairs key)) (ap (λ p. take i table ++ p ∷ []) is ∙ sym (take_more table i pair inside))
 
 -- ---- what stands behind all that come before a key
 

@@ -2,11 +2,9 @@
 use Rattle.std.specs.Prelude.{◌≡◌}
 use Rattle.def_script.specs.Bytes.{Bytes}
 use Rattle.def_hash.specs.Hash.{digest_of}
-use Rattle.def_hash.specs.declared.HashKind.TheVariants as kind
+use Rattle.ms_hash.specs.declared.value.HashVal.{HashVal}
+use Rattle.ms_hash.specs.Value.{kind_of, bytes_of}
 
--- byte strings are the digests of a preimage by the four functions
-pub record AreDigests (preimage sha256 hash256 ripemd160 hash160 : Bytes) : Type 0 where
-  pub of_sha256 : sha256 ≡ digest_of kind.Sha256 preimage
-  pub of_hash256 : hash256 ≡ digest_of kind.Hash256 preimage
-  pub of_ripemd160 : ripemd160 ≡ digest_of kind.Ripemd160 preimage
-  pub of_hash160 : hash160 ≡ digest_of kind.Hash160 preimage
+-- a hash value is a preimage's
+abbrev pub HashesTo : (preimage : Bytes) → HashVal → Type 0
+HashesTo preimage value = bytes_of value ≡ digest_of (kind_of value) preimage

@@ -225,7 +225,7 @@ impl Assets {
     }
 
     /// The shortest signature of a key, of several shortest the one that was added first, or `None` exactly where the key
-    /// has none. It is found by halves. Takes no memory.
+    /// has none. It is found by a walk over up to 16 signatures, and by halves among more. Takes no memory.
     pub fn sig_of(&self, key: &Key) -> Option<&[u8]>
         ensures { option_map (λ sig. sig.now) result ≡ the_sig_of self.now key.now }
     {
@@ -267,7 +267,7 @@ fn first_hashing_to<'a>(preimages: &'a [Preimage], value: &HashVal) -> Option<&'
     ensures { option_map (λ preimage. preimage.now) result ≡ find (λ preimage. bytes_eq (digest_of (kind_of value.now) preimage) (bytes_of value.now)) preimages.entry.now }
 {
     for preimage in preimages {
-        if preimage.digest(value.kind()) == value.as_bytes() {
+        if preimage.hashes_to(value) {
             return Some(preimage.as_bytes());
         }
     }

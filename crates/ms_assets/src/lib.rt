@@ -22,4 +22,6 @@ mod members;
 mod preimage;
 mod run_file;
 mod signatures;
+#[cfg(test)]
+mod tests;
 mod texts;

@@ -3,7 +3,7 @@
 ghost use Rattle.std.specs.Prelude.{◌≡◌, ◌^◌, ◌≤◌, length, is_some, Some, IfOk};
 ghost use Rattle.serde_json.specs.View.{view};
 ghost use Rattle.def_files.specs.Json.{spelled as the_spelled};
-ghost use Rattle.def_files.specs.RunFile.{script_text as the_script_text, run_refusals, run_in as the_run_in, run_of};
+ghost use Rattle.def_files.specs.RunFile.{MOST_ELEMENTS as the_most_elements, script_text as the_script_text, run_refusals, run_in as the_run_in, run_of};
 ghost use Rattle.def_files.specs.Refusals.{unless, unless_any};
 ghost use Rattle.ms_assets.specs.Parts.{Reads, ReadsOrMemory, IsOrMemory};
 ghost use Rattle.ms_assets.specs.Runs.{run_seen, count_refusals};
@@ -45,7 +45,7 @@ pub struct RunFile {
 pub fn read_run(alloc: Global, bytes: &[u8]) -> Result<RunFile, AssetFault>
     requires { length bytes.now ≤ 2 ^ 31 }
     ensures run { IsOrMemory (run_of bytes.now) (run_seen result) }
-    ensures few { IfOk result (λ file. length file.stack ≤ 2000) }
+    ensures few { IfOk result (λ file. length file.stack ≤ the_most_elements) }
 {
     let file = read_json(alloc, bytes, AssetFault::NotJson, AssetFault::Memory)?;
     run_in(alloc, &file)
@@ -54,7 +54,7 @@ pub fn read_run(alloc: Global, bytes: &[u8]) -> Result<RunFile, AssetFault>
 /// What stands in a run file.
 fn run_in(alloc: Global, file: &Value) -> Result<RunFile, AssetFault>
     ensures run { IsOrMemory (unless_any (run_refusals (view file.now)) (the_run_in (view file.now))) (run_seen result) }
-    ensures few { IfOk result (λ file. length file.stack ≤ 2000) }
+    ensures few { IfOk result (λ file. length file.stack ≤ the_most_elements) }
 {
     if !file.is_object() {
         return Err(AssetFault::Shape(Member::Whole));
@@ -107,7 +107,7 @@ fn run_of_parts(
     pairs: Pairs,
 ) -> Result<RunFile, AssetFault>
     ensures run { run_seen result ≡ unless_any (count_refusals pairs stack) (record { script = script; stack = stack; locks = locks; pairs = pairs }) }
-    ensures few { IfOk result (λ file. length file.stack ≤ 2000) }
+    ensures few { IfOk result (λ file. length file.stack ≤ the_most_elements) }
 {
     if pairs.as_slice().len() > MOST_SIGNATURES {
         return Err(AssetFault::TooMany(Member::Signatures));

@@ -7,7 +7,7 @@ ghost use Rattle.def_spend.specs.Reading.{has_byte as the_has_byte, has_item as 
 ghost use Rattle.def_spend.specs.States.{has_other_type as the_has_other_type, is_sighash_wrong as the_is_sighash_wrong};
 ghost use Rattle.def_psbt.specs.Map.{type_of, data_of};
 ghost use Rattle.def_script.specs.Bytes.{Bytes};
-ghost use Rattle.ms_fields.specs.Adding.{added, first_of as the_first_of};
+ghost use Rattle.ms_fields.specs.Adding.{added, with_key, first_of as the_first_of};
 ghost use Rattle.ms_fields.specs.Held.{held_in, Adds};
 
 use crate::hash_types::{hash_type_of, last_byte};
@@ -21,6 +21,9 @@ use std::marker::Model;
 
 /// How many signatures, and how many preimages, are taken.
 const MOST_HELD: usize = 256;
+
+/// For how many keys there is room from the first on: those of the signatures and the derivations of a small script.
+const FEW_KEYS: usize = 8;
 
 /// What an input's map holds that counts for spending it. Nothing is copied but keys.
 #[derive(Debug, Drop)]
@@ -100,7 +103,7 @@ impl<'a> Fields<'a> {
         ensures { OnOk result (self.new ≡ added Kind.Signature self.old «data».entry.now sig.entry.now) }
     {
         if let Some(key) = Key::from_bytes(data) {
-            self.keys.push(key)?;
+            self.push_key(key)?;
             self.pairs.push(SignedRef::new(key, sig))?;
         }
         Ok(())
@@ -111,8 +114,19 @@ impl<'a> Fields<'a> {
         ensures { OnOk result (self.new ≡ added Kind.Derivation self.old «data».entry.now []) }
     {
         if let Some(key) = Key::from_bytes(data) {
-            self.keys.push(key)?;
+            self.push_key(key)?;
         }
+        Ok(())
+    }
+
+    // Adds a key behind the others.
+    fn push_key(&mut self, key: Key) -> Result<(), AllocError>
+        ensures { OnOk result (self.new ≡ with_key self.old key) }
+    {
+        if self.keys.is_empty() {
+            self.keys.reserve(FEW_KEYS)?;
+        }
+        self.keys.push(key)?;
         Ok(())
     }
 

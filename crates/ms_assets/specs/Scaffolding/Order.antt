@@ -1,6 +1,6 @@
 -- The order of held signatures in which the shortest of a key is found by halves. No public clause cites it, so it need
 -- not be believed.
-use Rattle.std.specs.Prelude.{◌≡◌, ℕ, List, length, Bool, true, false, if◌then◌else◌, Option, Some, None}
+use Rattle.std.specs.Prelude.{◌≡◌, ◌<◌, ℕ, List, length, Bool, true, false, if◌then◌else◌, Option, Some, None}
 use Rattle.std.specs.Cmp.Lexicographic.{slice_cmp}
 use Rattle.std.specs.List.{range_with_len}
 use Rattle.std.specs.List.Sorted.{IsPartitionPoint, IsPermutation, IsSortedByKey}
@@ -9,6 +9,7 @@ use Rattle.std.specs.Str.{bytes_eq}
 use Rattle.std.specs.declared.cmp.Ordering.{Ordering}
 use Rattle.def_script.specs.Bytes.{Bytes}
 use Rattle.def_machine.specs.Stacks.{Pairs}
+use Rattle.def_assets.specs.Assets.{shorter}
 use Rattle.ms_oracle.specs.Places.{pair_at}
 
 -- what tells where a signature stands in the order: its key, its length and its place in the table
@@ -38,6 +39,19 @@ SplitsAt table rank order = IsPartitionPoint (λ place. is_before table rank pla
 pub record IsOrder (table : Pairs) (order : List ℕ) : Type 0 where
   pub whole : IsPermutation (range_with_len 0 (length table)) order
   pub sorted : IsSortedByKey (rank_of table) rank_cmp order
+
+-- up to how many pairs no order is kept
+abbrev pub FEW : ℕ
+FEW = 16
+
+-- where they are many, all places of a table, in the order of their ranks
+abbrev pub IsOrderOfMany : Pairs → (order : List ℕ) → Type 0
+IsOrderOfMany table order = FEW < length table → IsOrder table order
+
+-- the shortest signature with one more behind the others
+abbrev pub shortest_with : Option Bytes → (sig : Bytes) → Bytes
+shortest_with None sig = sig
+shortest_with (Some former) sig = shorter former (Some sig)
 
 -- the signature at a place, where its key is this one
 abbrev pub sig_under : Pairs → ℕ → (key : Bytes) → Option Bytes
