@@ -6,3 +6,4 @@ pub mod Tried
 pub mod Signed
 pub mod Reading
 pub mod Dups
+pub mod Compared

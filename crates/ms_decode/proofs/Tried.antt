@@ -9,6 +9,8 @@ use Rattle.def_tree.specs.Tree.{Tree, Key}
 use Rattle.def_tree.specs.Range.{IsKey, IsWritable}
 use Rattle.def_emit.specs.Emit.{emit}
 use Rattle.def_emit.proofs.Short.{items-script_of}
+use Rattle.def_sane.specs.declared.Unfit.{Unfit}
+use Rattle.def_sane.specs.Unfit.{first_unfit_valid}
 use Rattle.def_decode.specs.Alike.{IsLikeEach}
 use Rattle.def_decode.specs.Decoded.{first_with, IsReading, IsDecoded}
 use Rattle.ms_decode_laws.specs.Scaffolding.Reader.{read}
@@ -58,3 +60,7 @@ tried_none keys script t m not v h =
     let same : d.tree ≡ t = cc in
     let r : IsReading keys script t = subst (IsReading keys script) same d.decoded.reading in
     not (r.valid, r.same)
+
+-- nor is one that is unfit the Script's
+pub tried_unfit : (script : Bytes) (t : Tree) (unfit : Unfit) → first_unfit_valid t ≡ Some unfit → IsScriptOf t script → ⊥
+tried_unfit script t unfit e s = let both : None ≡ Some unfit = sym s.0 ∙ e in cc

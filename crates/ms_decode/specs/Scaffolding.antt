@@ -9,3 +9,4 @@ pub mod Keys
 pub mod Leaves
 pub mod Decoding
 pub mod Dups
+pub mod Spelled

@@ -43,7 +43,8 @@ static NUMBERS: [[u8; 1]; 17] = [
 pub fn read_codes<'s>(alloc: Global, script: &'s [u8]) -> Result<Option<Vec<Code<'s>>>, AllocError>
     ensures { IfOk result (λ o. MatchOption o (HasNoCodes script.now) (λ codes. AreCodes script.now codes.items)) }
 {
-    let mut codes = Vec::new(alloc);
+    // A push of a key or of a hash takes more than 16 bytes, and few other instructions stand between them.
+    let mut codes = Vec::with_capacity(alloc, 8 + script.len() / 16)?;
     let mut from = 0;
     while from < script.len() {
         let Some((code, next)) = code_at(script, from) else {

@@ -48,7 +48,7 @@ pub fn hash_keys(alloc: Global, keys: &[Key]) -> Result<Vec<Hashed>, AllocError>
     ensures keys { IfOk result (λ hashed. keys_of hashed.items ≡ keys.now) }
     ensures are_keys { IfOk result (λ hashed. All IsKey (keys_of hashed.items)) }
 {
-    let mut hashed = Vec::new(alloc);
+    let mut hashed = Vec::with_capacity(alloc, keys.len())?;
     for key in keys {
         hashed.push(Hashed {
             key: *key,

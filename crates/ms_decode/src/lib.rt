@@ -1,7 +1,7 @@
 //! Reading a Script back as a miniscript, from its last instruction to its first.
 #![tactic(auto)]
 
-pub use decoding::decode;
+pub use decoding::{Decoded, decode, decode_known};
 
 mod arguments;
 mod begin;
@@ -19,5 +19,6 @@ mod part;
 mod read;
 mod settle;
 mod signers;
+mod spelled;
 mod step;
 mod want;

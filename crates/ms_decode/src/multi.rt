@@ -11,28 +11,30 @@ use crate::settle::settle;
 use crate::signers::Signers;
 use crate::want::Want;
 use bumpalo::Bump;
+use ms_script::MAX_PUBKEYS_PER_MULTISIG;
 use std::alloc::{AllocError, Global};
 
-/// The most keys of a `multi` (Bitcoin Core: `MAX_PUBKEYS_PER_MULTISIG`).
-const MOST_KEYS: u64 = 20;
+/// The most keys of a `multi`.
+const MOST_KEYS: u64 = MAX_PUBKEYS_PER_MULTISIG as u64;
 
 /// The number of keys.
-pub fn key_count<'a, 's>(alloc: Global, code: Code<'s>) -> Option<Want<'a, 's>>
-    ensures { (fs : List AFrame) → state_of result fs ≡ count_step (frames_of fs) (instruction_of code.entry) }
+pub fn key_count<'a, 's>(alloc: Global, code: Code<'s>) -> Result<Option<Want<'a, 's>>, AllocError>
+    ensures { IfOk result (λ o. (fs : List AFrame) → state_of o fs ≡ count_step (frames_of fs) (instruction_of code.entry)) }
 {
     let Code::Push(bytes) = code else {
-        return None;
+        return Ok(None);
     };
     let Some(count) = numeral(bytes) else {
-        return None;
+        return Ok(None);
     };
     if count.value < 1 {
-        return None;
+        return Ok(None);
     }
     if count.value > MOST_KEYS {
-        return None;
+        return Ok(None);
     }
-    Some(Want::Keys(Signers::none(alloc, count.value)))
+    let signers = Signers::none(alloc, count.value)?;
+    Ok(Some(Want::Keys(signers)))
 }
 
 /// A further key, or the number of signatures.

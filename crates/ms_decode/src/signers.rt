@@ -25,17 +25,15 @@ pub struct Signers {
 impl Signers {
     ghost use Rattle.ms_decode.specs.Scaffolding.Parts.{tree_of};
 
-    /// No key yet, of so many.
-    pub fn none(alloc: Global, count: u64) -> Signers
+    /// No key yet, of so many, and room for all of them.
+    pub fn none(alloc: Global, count: u64) -> Result<Signers, AllocError>
         requires some { 1 ≤ count }
         requires few { count ≤ 20 }
-        ensures left { result.left ≡ count }
-        ensures keys { result.keys.items ≡ [] }
+        ensures left { IfOk result (λ s. s.left ≡ count) }
+        ensures keys { IfOk result (λ s. s.keys.items ≡ []) }
     {
-        Signers {
-            left: count,
-            keys: Vec::new(alloc),
-        }
+        let keys = Vec::with_capacity(alloc, count as usize)?;
+        Ok(Signers { left: count, keys })
     }
 
     /// With one more, which stands before them.

@@ -41,7 +41,7 @@ pub fn step<'a, 's>(
         Want::Sized(x) => Ok(sized(x, code)),
         Want::Measured(x) => measured(arena, x, frames, code),
         Want::Next(k, children) => next_child(arena, k, children, frames, code),
-        Want::Count => Ok(key_count(alloc, code)),
+        Want::Count => key_count(alloc, code),
         Want::Keys(signers) => further_key(arena, signers, frames, code),
         Want::IfSeen(x) => before_if(arena, x, frames, code),
         Want::NotIfSeen(x) => before_not_if(arena, x, frames, code),

@@ -1,9 +1,10 @@
 //! What is found of an input whose witness script is known.
 
-ghost use Rattle.std.specs.Prelude.{◌≡◌, ◌≤◌, ◌^◌, Some, None, IfOk, IfSome, option_map};
+ghost use Rattle.std.specs.Prelude.{◌≡◌, ◌*◌, ◌≤◌, ◌^◌, Some, None, IfOk, IfSome, option_map, vec_len};
 ghost use Rattle.def_script.specs.Witness.{weight};
 ghost use Rattle.def_tree.specs.Range.{IsInRange};
-ghost use Rattle.def_sane.specs.Unfit.{IsSane};
+ghost use Rattle.def_tree.specs.Size.{measure};
+ghost use Rattle.def_sane.specs.Unfit.{IsKnownValid, IsSane};
 ghost use Rattle.def_spend.specs.Input.{Spend};
 ghost use Rattle.def_spend.specs.Reading.{IsReadAs};
 ghost use Rattle.def_spend.specs.States.{tree_state, held_state};
@@ -13,11 +14,11 @@ ghost use Rattle.ms_tree.specs.Shape.{shape};
 use bumpalo::Bump;
 use def_spend::State;
 use ms_assets::Assets;
-use ms_decode::decode;
+use ms_decode::{Decoded, decode_known};
 use ms_fields::Fields;
 use ms_nonmal::strict;
 use ms_oracle::Locks;
-use ms_sane::{Work, check_sane};
+use ms_sane::{Rules, check_sane_of_valid};
 use ms_script::Stack;
 use ms_tree::Tree;
 use std::alloc::{AllocError, Global};
@@ -74,7 +75,7 @@ pub fn settle<'a>(
     ensures stack { IfOk result (λ s. (spend : Spend) → IsOf spend fields.now locks → s.stack ≡ chosen_in s.state (input_of spend (option_map shape s.tree))) }
     ensures light { IfOk result (λ s. IfSome s.stack (λ stack. weight stack ≤ 2 ^ 40)) }
 {
-    let Some(tree) = decode(alloc, arena, script, fields.keys())? else {
+    let Some(decoded) = decode_known(alloc, arena, script, fields.keys())? else {
         return Ok(Settled {
             tree: None,
             state: State::NoReading,
@@ -82,7 +83,8 @@ pub fn settle<'a>(
             stack: None,
         });
     };
-    let held = tree_state_of(alloc, &tree, fields, locks)?;
+    let tree = decoded.tree;
+    let held = tree_state_of(alloc, decoded, fields, locks)?;
     Ok(Settled {
         tree: Some(tree),
         state: held.state,
@@ -91,22 +93,28 @@ pub fn settle<'a>(
     })
 }
 
-/// The state of an input with this miniscript.
+/// The state of an input with this miniscript, of which so much is known.
 fn tree_state_of(
     alloc: Global,
-    tree: &Tree<'_>,
+    decoded: Decoded<'_>,
     fields: &Fields<'_>,
     locks: Locks,
 ) -> Result<Held, AllocError>
-    requires { IsInRange (shape tree.now) }
-    ensures state { IfOk result (λ h. (spend : Spend) → IsOf spend fields.now locks → h.state ≡ tree_state (Some (shape tree.now)) spend) }
+    requires in_range { IsInRange (shape decoded.tree) }
+    requires valid { IsKnownValid (shape decoded.tree) decoded.valid }
+    requires room { 4 * measure (shape decoded.tree) ≤ vec_len decoded.work.slots }
+    ensures state { IfOk result (λ h. (spend : Spend) → IsOf spend fields.now locks → h.state ≡ tree_state (Some (shape decoded.entry.tree)) spend) }
     ensures assets { IfOk result (λ h. (spend : Spend) → IsOf spend fields.now locks → h.assets ≡ assets_in h.state spend) }
-    ensures stack { IfOk result (λ h. (spend : Spend) → IsOf spend fields.now locks → h.stack ≡ chosen_in h.state (input_of spend (Some (shape tree.now)))) }
+    ensures stack { IfOk result (λ h. (spend : Spend) → IsOf spend fields.now locks → h.stack ≡ chosen_in h.state (input_of spend (Some (shape decoded.entry.tree)))) }
     ensures light { IfOk result (λ h. IfSome h.stack (λ stack. weight stack ≤ 2 ^ 40)) }
 {
-    let mut work = Work::new(alloc, tree)?;
-    match check_sane(tree, &mut work) {
-        Ok(_) => sane_state(alloc, tree, fields, locks),
+    let Decoded {
+        tree,
+        valid,
+        mut work,
+    } = decoded;
+    match check_sane_of_valid(valid, &tree, Rules::Policy, &mut work) {
+        Ok(_) => sane_state(alloc, &tree, fields, locks),
         Err(unfit) => Ok(Held::of(State::Unfit(unfit))),
     }
 }

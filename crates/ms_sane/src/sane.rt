@@ -2,7 +2,7 @@
 ghost use Rattle.std.specs.Prelude.{◌≡◌, ◌*◌, ◌≤◌, Some, IfOk, IfErr, vec_len};
 ghost use Rattle.def_tree.specs.Range.{IsInRange};
 ghost use Rattle.def_tree.specs.Size.{measure};
-ghost use Rattle.def_sane.specs.Unfit.{first_unfit, first_unfit_under, IsKnownSane, IsKnownSaneUnder};
+ghost use Rattle.def_sane.specs.Unfit.{first_unfit, first_unfit_under, IsKnownSane, IsKnownSaneUnder, IsKnownValidUnder};
 ghost use Rattle.ms_tree.specs.Shape.{shape};
 ghost use Rattle.ms_sane.specs.Place.{IsOfTree};
 ghost use Rattle.ms_sane.specs.Short.{IsShortOf};
@@ -11,7 +11,7 @@ use crate::keys::repeated_key;
 use crate::mixing::mix;
 use crate::valid::{Short, check_short, check_valid_of};
 use crate::work::Work;
-use def_sane::{Rules, Sane, Unfit};
+use def_sane::{Rules, Sane, Unfit, Valid};
 use ms_tree::Tree;
 use ms_types::mall;
 
@@ -60,6 +60,24 @@ pub fn check_sane_of(
     ensures room { vec_len work.new.slots ≡ vec_len work.old.slots }
 {
     let valid = check_valid_of(short, tree, rules, work)?;
+    check_sane_of_valid(valid, tree, rules, work)
+}
+
+/// The same of a tree that is valid, of which this is known: neither its type nor its limits are found again.
+pub fn check_sane_of_valid(
+    valid: Valid,
+    tree: &Tree<'_>,
+    rules: Rules,
+    work: &mut Work,
+) -> Result<Sane, Unfit>
+    requires valid { IsKnownValidUnder rules (shape tree.now) valid }
+    requires in_range { IsInRange (shape tree.now) }
+    requires room { 4 * measure (shape tree.now) ≤ vec_len work.old.slots }
+    ensures sane { IfOk result (λ sane. IsKnownSaneUnder rules (shape tree.now) sane) }
+    ensures unfit { IfErr result (λ unfit. first_unfit_under rules (shape tree.now) ≡ Some unfit) }
+    ensures place { IfErr result (λ unfit. IsOfTree (shape tree.now) unfit) }
+    ensures room { vec_len work.new.slots ≡ vec_len work.old.slots }
+{
     let mall = match mall(tree) {
         Ok(mall) => mall,
         Err(at) => return Err(Unfit::Malleable(at)),

@@ -11,17 +11,12 @@ use crate::resources::limits_from;
 use crate::work::Work;
 use def_sane::{Rules, Unfit, Valid};
 use ms_emit::{Extent, script_extent};
+use ms_script::{MAX_OPS_PER_SCRIPT, MAX_SCRIPT_SIZE};
 use ms_tree::Tree;
 use ms_types::{Base, Ty, corr};
 
 /// The most bytes of a Script that is relayed (Bitcoin Core, `MAX_STANDARD_P2WSH_SCRIPT_SIZE`).
 const MOST_SIZE: u64 = 3_600;
-
-/// The most bytes of a Script that runs (Bitcoin Core, `MAX_SCRIPT_SIZE`).
-const CONSENSUS_SIZE: u64 = 10_000;
-
-/// The most opcodes of a Script (Bitcoin Core, `MAX_OPS_PER_SCRIPT`).
-const MOST_OPS: u64 = 201;
 
 /// The most items of a witness that is relayed, without the Script (Bitcoin Core, `MAX_STANDARD_P2WSH_STACK_ITEMS`).
 const MOST_ITEMS: u64 = 100;
@@ -32,7 +27,7 @@ fn size_limit(rules: Rules) -> u64
 {
     match rules {
         Rules::Policy => MOST_SIZE,
-        Rules::Consensus => CONSENSUS_SIZE,
+        Rules::Consensus => MAX_SCRIPT_SIZE as u64,
     }
 }
 
@@ -126,7 +121,7 @@ pub fn check_valid_of(
     ensures room { vec_len work.new.slots ≡ vec_len work.old.slots }
 {
     let limits = limits_from(short.extent, tree, work);
-    if limits.ops > MOST_OPS {
+    if limits.ops > MAX_OPS_PER_SCRIPT as u64 {
         return Err(Unfit::Ops(limits.ops));
     }
     if are_too_many(limits.items, rules) {

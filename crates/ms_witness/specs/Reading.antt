@@ -4,13 +4,14 @@ use Rattle.std.specs.Prelude.{ℕ, zero, suc, ◌+◌, ◌-◌, ◌≤◌, nat_l
 use Rattle.def_script.specs.declared.SizeFault.{SizeFault}
 use Rattle.def_script.specs.declared.SizeFault.TheVariants as size
 use Rattle.def_script.specs.Bytes.{Bytes}
+use Rattle.def_script.specs.Limits.{MAX_SCRIPT_SIZE}
 use Rattle.def_script.specs.Sizes.{SizeReading, read_size}
 use Rattle.ms_witness.specs.declared.fault.WitnessFault.{WitnessFault}
 use Rattle.ms_witness.specs.declared.fault.WitnessFault.TheVariants.{Truncated, NonMinimalSize, Empty, TooLong, Trailing}
 
 -- the greatest number of items, and the greatest length of an item
 abbrev pub MOST_WITNESS : ℕ
-MOST_WITNESS = 10000
+MOST_WITNESS = MAX_SCRIPT_SIZE
 
 -- a witness within these limits: the stack, and the Script, which is one more item
 pub record FitsWitness (stack : List Bytes) (script : Bytes) : Type 0 where

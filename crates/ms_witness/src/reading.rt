@@ -7,11 +7,11 @@ ghost use Rattle.ms_witness.specs.Reading.{FitsWitness, first_size as the_first_
 ghost use Rattle.ms_witness.specs.Answering.{ReadsAs, Gives};
 
 use crate::fault::WitnessFault;
-use ms_script::{Blob, Stack, read_size};
+use ms_script::{Blob, MAX_SCRIPT_SIZE, Stack, read_size};
 use std::alloc::Global;
 
 /// The greatest number of items, and the greatest length of an item.
-const MOST_WITNESS: u64 = 10_000;
+const MOST_WITNESS: u64 = MAX_SCRIPT_SIZE as u64;
 
 /// Reads the witness of a P2WSH input (BIP 141): the stack, bottom first, and the Script, which is the last item.
 ///

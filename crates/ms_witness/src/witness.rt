@@ -1,6 +1,6 @@
 //! Writing a witness as bytes.
 
-ghost use Rattle.std.specs.Prelude.{◌≡◌, ◌++◌, IfOk, OnOk};
+ghost use Rattle.std.specs.Prelude.{◌≡◌, ◌≤◌, ◌++◌, length, IfOk, OnOk};
 ghost use Rattle.def_script.specs.Sizes.{size_bytes};
 ghost use Rattle.def_script.specs.Witness.{sized, witness_text};
 ghost use Rattle.ms_witness.specs.Reading.{FitsWitness};
@@ -17,13 +17,28 @@ pub fn witness_bytes(alloc: Global, stack: &Stack, script: &[u8]) -> Result<Blob
     requires { FitsWitness stack.now script.now }
     ensures { IfOk result (λ bytes. bytes ≡ witness_text stack.now script.now) }
 {
-    let mut bytes = Vec::new(alloc);
+    let mut bytes = Vec::with_capacity(alloc, room(stack, script))?;
     push_size(&mut bytes, stack.len() + 1)?;
     for i in 0..stack.len() {
         push_item(&mut bytes, stack.item(i))?;
     }
     push_item(&mut bytes, script)?;
     Ok(Blob::from_vec(bytes))
+}
+
+/// The most bytes of a size of a witness here.
+const SIZE_WIDTH: usize = 3;
+
+/// Room for the bytes of a witness.
+fn room(stack: &Stack, script: &[u8]) -> usize
+    requires { FitsWitness stack.now script.now }
+    ensures { length (witness_text stack.now script.now) ≤ result }
+{
+    let mut room = 2 * SIZE_WIDTH + script.len();
+    for i in 0..stack.len() {
+        room += SIZE_WIDTH + stack.item(i).len();
+    }
+    room
 }
 
 /// Adds an item after its length.
