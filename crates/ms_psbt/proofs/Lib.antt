@@ -1,4 +1,5 @@
 mod Holding
+mod Marking
 pub mod Pairing
 mod Places
 mod Placing

@@ -1,6 +1,6 @@
 -- The least neighbour whose key is the same, in the order of keys and places, is the first place whose key stands earlier too.
 use Rattle.std.proofs.Common.{◌≡◌, ℕ, zero, suc, ◌+◌, ◌-◌, ◌<◌, ◌≤◌, ◌⊎◌, inl, inr, ⊎_elim, ◌||◌, Bool, true, false, cond, nat_le, List, [], ◌∷◌, ◌++◌, length, map, take, get_or, Option, Some, None, refl, sym, ◌∙◌, ap, subst, arith, append_assoc}
-use Rattle.std.proofs.lemmas.List.{append-nil, get_or_default}
+use Rattle.std.proofs.lemmas.List.{append-nil, get_or_default, get_or-map, length-map}
 use Rattle.std.proofs.lemmas.Map.Keys.{IsDistinct-from_apart, IsDistinct-IsPermutation, apart_from_distinct}
 use lib.Dec.{eqb}
 use Rattle.std.proofs.lemmas.Bool.{cases_lt, cases_Bool, leb-true, leb-false, eqb-false, eqb-true, ne_eqb}
@@ -19,7 +19,8 @@ use Rattle.std.specs.declared.cmp.Ordering.{Ordering}
 use Rattle.std.specs.declared.cmp.Ordering.TheVariants.{Less, Equal, Greater}
 use Rattle.def_script.specs.Bytes.{Bytes}
 use Rattle.ms_psbt.specs.declared.repeats.Keys.{Keys}
-use Rattle.ms_psbt.specs.Scaffolding.Repeats.{key_at, rank_cmp, rank_of, repeat_in, IsLeast, LeastOf, least_of}
+use Rattle.ms_psbt.specs.declared.repeats.Marked.{Marked}
+use Rattle.ms_psbt.specs.Scaffolding.Repeats.{key_at, mark_of, AreMarked, places_of, rank_cmp, rank_of, repeat_in, IsLeast, LeastOf, least_of}
 
 -- ---- neighbours, one after the other
 
@@ -84,6 +85,39 @@ module _ (keys : Keys) (bytes : Bytes) (order : List ℕ) where
   least_end i n o below top (inl same) h = subst (λ (k : ℕ). LeastOf keys bytes order k o) same h
   least_end i n None below top (inr none) h = λ k inside e. absurd (let no = none.0 in omega arith)
   least_end i n (Some least) below top (inr none) h = absurd (let inside = h.inside in let one = none.1 in omega arith)
+
+-- ---- neighbours among places with their marks
+
+module _ (keys : Keys) (bytes : Bytes) (order : List Marked) (i : ℕ) (low : 1 ≤ i) (high : i < length order) (d : Marked) where
+  abbrev these : List ℕ
+  these = places_of order
+
+  abbrev key_of : ℕ → Bytes
+  key_of k = key_at keys bytes (get_or order k d).place
+
+  place_is : (k : ℕ) → k < length order → get_or these k 0 ≡ (get_or order k d).place
+  place_is k inside = get_or-map (λ (m : Marked). m.place) order k d 0 inside
+
+  back : (i - 1) + 1 ≡ i
+  back = omega arith
+
+  key_before : key_at keys bytes (get_or these (i - 1) 0) ≡ key_of (i - 1)
+  key_before = ap (key_at keys bytes) (place_is (i - 1) (omega arith))
+
+  key_here : key_at keys bytes (get_or these ((i - 1) + 1) 0) ≡ key_of i
+  key_here = ap (λ k. key_at keys bytes (get_or these k 0)) back ∙ ap (key_at keys bytes) (place_is i high)
+
+  pub marked_same : (o : Option ℕ) → bytes_eq (key_of (i - 1)) (key_of i) ≡ true → LeastOf keys bytes these i o
+      → LeastOf keys bytes these (i + 1) (Some (least_of o (get_or order i d).place))
+  marked_same o e h =
+      subst (λ place. LeastOf keys bytes these (i + 1) (Some (least_of o place))) (place_is i high)
+      (least_same keys bytes these i o low h (key_before ∙ (bytes_eq-Decides (key_of (i - 1)) (key_of i)).0 e ∙ sym key_here))
+
+  pub marked_other : (o : Option ℕ) → bytes_eq (key_of (i - 1)) (key_of i) ≡ false → LeastOf keys bytes these i o → LeastOf keys bytes these (i + 1) o
+  marked_other o e h =
+      least_other keys bytes these i o low h (λ same.
+      let yes = (bytes_eq-Decides (key_of (i - 1)) (key_of i)).1 (sym key_before ∙ same ∙ key_here) in
+      cc)
 
 -- ---- the first place whose key stands earlier, by numbers
 
@@ -172,26 +206,61 @@ at_seen keys bytes key (place ∷ places) (suc i) (suc j) below inside e =
 -- ---- both come to the same
 
 rank_cmp-total : IsTotalOrder rank_cmp
-rank_cmp-total = then_total (on_total (λ (r : Bytes × ℕ). r.0) nat_list_cmp_total) (on_total (λ (r : Bytes × ℕ). r.1) nat_cmp_total)
+rank_cmp-total =
+    then_total (on_total (λ (r : ℕ × (Bytes × ℕ)). r.0) nat_cmp_total)
+    (then_total (on_total (λ (r : ℕ × (Bytes × ℕ)). r.1.0) nat_list_cmp_total) (on_total (λ (r : ℕ × (Bytes × ℕ)). r.1.1) nat_cmp_total))
 
-pub weak : (keys : Keys) (bytes : Bytes) → IsStrictWeakOrder (λ a b. is_lt (rank_cmp (rank_of keys bytes a) (rank_of keys bytes b)))
+pub weak : (keys : Keys) (bytes : Bytes) → IsStrictWeakOrder (λ (a b : Marked). is_lt (rank_cmp (rank_of keys bytes a) (rank_of keys bytes b)))
 weak keys bytes = ranks_by rank_cmp-total (rank_of keys bytes)
+
+-- the rank of a place with this key
+abbrev rank_with : (key : Bytes) (place : ℕ) → ℕ × (Bytes × ℕ)
+rank_with key place = (mark_of key, (key, place))
+
+abbrev rank_at : Keys → (bytes : Bytes) → (place : ℕ) → ℕ × (Bytes × ℕ)
+rank_at keys bytes place = rank_with (key_at keys bytes place) place
+
+weak_at : (keys : Keys) (bytes : Bytes) → IsStrictWeakOrder (λ (a b : ℕ). is_lt (rank_cmp (rank_at keys bytes a) (rank_at keys bytes b)))
+weak_at keys bytes = ranks_by rank_cmp-total (rank_at keys bytes)
+
+-- places with the marks of their keys are in the order of places alone
+pub sorted_places : (keys : Keys) (bytes : Bytes) (order : List Marked) → AreMarked keys bytes order → IsSortedByKey (rank_of keys bytes) rank_cmp order
+    → IsSortedByKey (rank_at keys bytes) rank_cmp (places_of order)
+sorted_places keys bytes order all sorted k d low inside =
+    let long : length (places_of order) ≡ length order = length-map order (λ (m : Marked). m.place) in
+    let first = rank_is k (omega (arith, long)) in
+    let second = rank_is (k + 1) (omega (arith, long)) in
+    ap (λ r. is_lt (rank_cmp r (rank_at keys bytes (get_or (places_of order) k d)))) second
+    ∙ ap (λ r. is_lt (rank_cmp (rank_of keys bytes (get_or order (k + 1) none)) r)) first
+    ∙ sorted k none low (omega (arith, long))
+  where
+    none : Marked
+    none = record { mark = 0; place = 0 }
+
+    rank_is : (i : ℕ) → i < length order → rank_at keys bytes (get_or (places_of order) i d) ≡ rank_of keys bytes (get_or order i none)
+    rank_is i within =
+        ap (rank_at keys bytes) (get_or-map (λ (m : Marked). m.place) order i none d within)
+        ∙ ap (λ (mark : ℕ). (mark, (key_at keys bytes (get_or order i none).place, (get_or order i none).place))) (sym (all i none within))
 
 not_less : (m n : ℕ) (o : Ordering) → MatchOrdering o (m < n) (m ≡ n) (n < m) → is_lt o ≡ false → n ≤ m
 not_less m n Less h g = absurd (let no = g in cc)
 not_less m n Equal h g = omega (arith, h)
 not_less m n Greater h g = omega (arith, h)
 
--- of two with one key that which isn't before the other has no lesser place
-no_earlier : (first second : Bytes) (m n : ℕ) → first ≡ second → is_lt (rank_cmp (first, m) (second, n)) ≡ false → n ≤ m
-no_earlier first second m n e h =
+tied : (first second : Bytes) (places : Ordering) → first ≡ second
+    → ordering_then (nat_cmp (mark_of first) (mark_of second)) (ordering_then (slice_cmp nat_cmp first second) places) ≡ places
+tied first second places e =
+    let marks : nat_cmp (mark_of first) (mark_of second) ≡ Equal = ap (λ k. nat_cmp (mark_of first) (mark_of k)) (sym e) ∙ tied_itself nat_cmp_total (mark_of first) in
     let one : slice_cmp nat_cmp first second ≡ Equal = ap (slice_cmp nat_cmp first) (sym e) ∙ tied_itself nat_list_cmp_total first in
-    not_less m n (nat_cmp m n) (ranked m n (nat_cmp m n) refl) (rw one at h)
+    rw (marks, one) refl
 
-earlier : (first second : Bytes) (m n : ℕ) → first ≡ second → m < n → is_lt (rank_cmp (first, m) (second, n)) ≡ true
-earlier first second m n e below =
-    let one : slice_cmp nat_cmp first second ≡ Equal = ap (slice_cmp nat_cmp first) (sym e) ∙ tied_itself nat_list_cmp_total first in
-    rw one (go (nat_cmp m n) (ranked m n (nat_cmp m n) refl))
+-- of two with one key that which isn't before the other has no lesser place
+no_earlier : (first second : Bytes) (m n : ℕ) → first ≡ second → is_lt (rank_cmp (rank_with first m) (rank_with second n)) ≡ false → n ≤ m
+no_earlier first second m n e h =
+    not_less m n (nat_cmp m n) (ranked m n (nat_cmp m n) refl) (ap is_lt (sym (tied first second (nat_cmp m n) e)) ∙ h)
+
+earlier : (first second : Bytes) (m n : ℕ) → first ≡ second → m < n → is_lt (rank_cmp (rank_with first m) (rank_with second n)) ≡ true
+earlier first second m n e below = ap is_lt (tied first second (nat_cmp m n) e) ∙ go (nat_cmp m n) (ranked m n (nat_cmp m n) refl)
   where
     go : (o : Ordering) → MatchOrdering o (m < n) (m ≡ n) (n < m) → is_lt o ≡ true
     go Less h = refl
@@ -204,10 +273,18 @@ both_ways Less back e places places' f g = absurd (let no = f in cc)
 both_ways Equal back e places places' f g = refl
 both_ways Greater back e places places' f g = absurd (let no = rw e at g in cc)
 
+-- the same behind marks
+marked_both_ways : (first second : Ordering) → second ≡ ordering_reverse first → (there back : Ordering) → back ≡ ordering_reverse there → (places places' : Ordering)
+    → is_lt (ordering_then first (ordering_then there places)) ≡ false → is_lt (ordering_then second (ordering_then back places')) ≡ false → is_eq there ≡ true
+marked_both_ways Less second marks there back e places places' f g = absurd (let no = f in cc)
+marked_both_ways Equal second marks there back e places places' f g = both_ways there back e places places' f (rw marks at g)
+marked_both_ways Greater second marks there back e places places' f g = absurd (let no = rw marks at g in cc)
+
 -- what stands between two with one key has it too
-between : (key other : Bytes) (m n p : ℕ) → is_lt (rank_cmp (other, m) (key, n)) ≡ false → is_lt (rank_cmp (key, p) (other, m)) ≡ false → other ≡ key
+between : (key other : Bytes) (m n p : ℕ) → is_lt (rank_cmp (rank_with other m) (rank_with key n)) ≡ false → is_lt (rank_cmp (rank_with key p) (rank_with other m)) ≡ false → other ≡ key
 between key other m n p f g =
-    let eq = both_ways (slice_cmp nat_cmp other key) (slice_cmp nat_cmp key other) (nat_list_cmp_total.antisymm key other) (nat_cmp m n) (nat_cmp p m) f g in
+    let eq = marked_both_ways (nat_cmp (mark_of other) (mark_of key)) (nat_cmp (mark_of key) (mark_of other)) (nat_cmp_total.antisymm (mark_of key) (mark_of other))
+    (slice_cmp nat_cmp other key) (slice_cmp nat_cmp key other) (nat_list_cmp_total.antisymm key other) (nat_cmp m n) (nat_cmp p m) f g in
     (bytes_eq-Decides other key).0 (sym (is_eq-slice_cmp other key) ∙ eq)
 
 eqb-flips : (m n : ℕ) → eqb m n ≡ eqb n m
@@ -219,7 +296,7 @@ distinct_from_up : (places : List ℕ) → IsStrictlyIncreasing places → IsDis
 distinct_from_up places up = IsDistinct-from_apart eqb places (λ i j d below inside. let less = AllPairs-from_increasing places up i j d below inside in ne_eqb _ _ (λ e. omega arith))
 
 module _ (keys : Keys) (bytes : Bytes) (places order : List ℕ) (up : IsStrictlyIncreasing places) (moved : IsPermutation places order)
-    (sorted : IsSortedByKey (rank_of keys bytes) rank_cmp order) where
+    (sorted : IsSortedByKey (rank_at keys bytes) rank_cmp order) where
   abbrev key : ℕ → Bytes
   key place = key_at keys bytes place
 
@@ -266,18 +343,18 @@ module _ (keys : Keys) (bytes : Bytes) (places order : List ℕ) (up : IsStrictl
       let first = in_order i (omega arith) in
       let second = in_order j inside in
       let less : get_or places i 0 < get_or places j 0 = AllPairs-from_increasing places up i j 0 below inside in
-      let before : first.0 < second.0 = ⊎_elim (λ l. l) (λ l. absurd (let no = sorted_far _ (weak keys bytes) order sorted second.0 first.0 0 l first.1 in
-      let yes : is_lt (rank_cmp (key (get_or order first.0 0), get_or order first.0 0) (key (get_or order second.0 0), get_or order second.0 0)) ≡ true =
+      let before : first.0 < second.0 = ⊎_elim (λ l. l) (λ l. absurd (let no = sorted_far _ (weak_at keys bytes) order sorted second.0 first.0 0 l first.1 in
+      let yes : is_lt (rank_cmp (rank_at keys bytes (get_or order first.0 0)) (rank_at keys bytes (get_or order second.0 0))) ≡ true =
       earlier _ _ _ _ (ap key first.2 ∙ sym e ∙ ap key (sym second.2)) (subst (λ m. m < get_or order second.0 0) (sym first.2) (subst (λ m. get_or places i 0 < m) (sym second.2) less)) in
       cc)) (cases_lt first.0 second.0) in
       let last : (second.0 - 1) + 1 ≡ second.0 = omega arith in
       let m = second.0 - 1 in
-      let after_first = sorted_far _ (weak keys bytes) order sorted first.0 m 0 (omega arith) (omega (arith, second.1)) in
-      let before_second = sorted_far _ (weak keys bytes) order sorted m second.0 0 (omega arith) second.1 in
+      let after_first = sorted_far _ (weak_at keys bytes) order sorted first.0 m 0 (omega arith) (omega (arith, second.1)) in
+      let before_second = sorted_far _ (weak_at keys bytes) order sorted m second.0 0 (omega arith) second.1 in
       let key_first : key (get_or order first.0 0) ≡ key (get_or order second.0 0) = ap key first.2 ∙ sym e ∙ ap key (sym second.2) in
       let has : key (get_or order m 0) ≡ key (get_or order second.0 0) =
       between (key (get_or order second.0 0)) (key (get_or order m 0)) (get_or order m 0) (get_or order first.0 0) (get_or order second.0 0)
-      (subst (λ (x : Bytes). is_lt (rank_cmp (key (get_or order m 0), get_or order m 0) (x, get_or order first.0 0)) ≡ false) key_first after_first) before_second in
+      (subst (λ (x : Bytes). is_lt (rank_cmp (rank_with (key (get_or order m 0)) (get_or order m 0)) (rank_with x (get_or order first.0 0))) ≡ false) key_first after_first) before_second in
       (m, omega (arith, second.1), has ∙ ap (λ k. key (get_or order k 0)) (sym last), ap (λ k. get_or order k 0) last ∙ second.2)
 
   pub least_is_first : (o : Option ℕ) → LeastOf keys bytes order (length order) o → o ≡ repeat_in keys bytes [] places

@@ -9,7 +9,8 @@ use Rattle.def_psbt.specs.declared.Refusal.{Refusal}
 use Rattle.def_psbt.specs.Listed.{Form}
 use Rattle.ms_psbt.specs.declared.maps.Step.{Step}
 use Rattle.ms_psbt.specs.declared.maps.Step.TheVariants as step
-use Rattle.ms_psbt.specs.Scaffolding.Walks.{step_at, Walk, ended, walk_step, walk_from}
+use Rattle.ms_psbt.specs.declared.repeats.Marked.{Marked}
+use Rattle.ms_psbt.specs.Scaffolding.Walks.{step_at, Walk, ended, walk_step, walk_from, walk_of}
 
 -- places before another one, in ascending order
 pub record Before (places : List ℕ) (at : ℕ) : Type 0 where
@@ -61,9 +62,6 @@ unfolding walk_from
 next_walk forms psbt at zero s e more inside = absurd (omega arith)
 next_walk forms psbt at (suc r) s e more inside = (r, refl, ap (λ s. walk_step at s (walk_from forms psbt r)) e)
 
-abbrev pub walk_of : List ℕ → Result ℕ Refusal → Walk
-walk_of places outcome = record { places = places; outcome = outcome }
-
 same_walk : (total : Walk) (places : List ℕ) (outcome : Result ℕ Refusal) → places ≡ total.places → outcome ≡ total.outcome → walk_of places outcome ≡ total
 same_walk total places outcome e f = ap (λ xs. walk_of xs outcome) e ∙ ap (walk_of total.places) f
 
@@ -74,14 +72,14 @@ module _ (forms : ℕ → Form) (psbt : Bytes) (at : ℕ) (places : List ℕ) (t
       let w : walk_from forms psbt on.room at ≡ ended outcome = next.2 ∙ is (walk_from forms psbt next.0) in
       same_walk total places outcome (sym (append-nil places) ∙ ap (λ w. places ++ w.places) (sym w) ∙ on.rest) (ap (λ w. w.outcome) (sym w) ∙ on.outcome)
 
-  pub walk_fault : (refusal : Refusal) → step_at forms psbt at ≡ step.Fault refusal → walk_of (places ++ at ∷ []) (Err refusal) ≡ total
-  walk_fault refusal e =
-      let next = next_walk forms psbt at on.room (step.Fault refusal) e on.more inside in
+  pub walk_fault : (place : Marked) (refusal : Refusal) → step_at forms psbt at ≡ step.Fault place refusal → walk_of (places ++ at ∷ []) (Err refusal) ≡ total
+  walk_fault place refusal e =
+      let next = next_walk forms psbt at on.room (step.Fault place refusal) e on.more inside in
       same_walk total (places ++ at ∷ []) (Err refusal) (ap (λ (w : Walk). places ++ w.places) (sym next.2) ∙ on.rest) (ap (λ (w : Walk). w.outcome) (sym next.2) ∙ on.outcome)
 
-  pub walk_pair : (end : ℕ) → step_at forms psbt at ≡ step.Pair end → at < end → WalksOn forms psbt end (places ++ at ∷ []) total
-  walk_pair end e later =
-      let next = next_walk forms psbt at on.room (step.Pair end) e on.more inside in
+  pub walk_pair : (place : Marked) (end : ℕ) → step_at forms psbt at ≡ step.Pair place end → at < end → WalksOn forms psbt end (places ++ at ∷ []) total
+  walk_pair place end e later =
+      let next = next_walk forms psbt at on.room (step.Pair place end) e on.more inside in
       let enough = on.more in
       record {
         room = next.0;

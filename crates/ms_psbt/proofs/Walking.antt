@@ -1,5 +1,5 @@
 -- A walk over the pairs of a map, and the first key that stands twice, come to what the map gives.
-use Rattle.std.proofs.Common.{◌≡◌, ℕ, zero, suc, ◌+◌, ◌-◌, ◌<◌, ◌≤◌, ◌==◌, ◌||◌, Bool, true, false, cond, List, [], ◌∷◌, ◌++◌, length, map, Option, Some, None, Result, Ok, Err, refl, sym, ap, ◌∙◌, append_assoc, arith}
+use Rattle.std.proofs.Common.{◌≡◌, ℕ, zero, suc, ◌+◌, ◌-◌, ◌<◌, ◌≤◌, ◌==◌, ◌||◌, Bool, true, false, cond, List, [], ◌∷◌, ◌++◌, length, map, Option, Some, None, Result, Ok, Err, refl, sym, ap, subst, ◌∙◌, append_assoc, arith}
 use Rattle.std.proofs.lemmas.List.{append-nil}
 use Rattle.std.specs.List.{list_any}
 use Rattle.std.specs.Str.{bytes_eq}
@@ -11,14 +11,15 @@ use Rattle.def_psbt.specs.declared.Refusal.TheVariants.{At}
 use Rattle.def_psbt.specs.Map.{Pair, Map}
 use Rattle.def_psbt.specs.Listed.{Form, stands, shape_fault, pair_fault}
 use Rattle.def_psbt.specs.Reading.{◌>>=◌, Read, size_at, string_at, pair_at, tested, sound_pair_at, pairs_at, map_at, maps_at}
+use Rattle.ms_psbt.specs.declared.maps.Step.{Step}
 use Rattle.ms_psbt.specs.declared.maps.Step.TheVariants as step
+use Rattle.ms_psbt.specs.declared.repeats.Marked.{Marked}
 use Rattle.ms_psbt.specs.declared.repeats.Keys.TheVariants as keys
 use Rattle.ms_psbt.specs.declared.stop.ReadStop.{ReadStop}
 use Rattle.ms_psbt.specs.declared.stop.ReadStop.TheVariants as stop
 use Rattle.ms_psbt.specs.Seen.{ReadsOr}
-use Rattle.ms_psbt.specs.Scaffolding.Repeats.{key_at, key_read, repeat_in}
-use Rattle.ms_psbt.specs.Scaffolding.Walks.{after_test, after_pair, after_size, Walk, ended, behind, walk_step, walk_from, repeated_or, end_of, starts_from}
-use Rattle.ms_psbt.proofs.Walked.{walk_of}
+use Rattle.ms_psbt.specs.Scaffolding.Repeats.{key_at, key_read, marked, repeat_in}
+use Rattle.ms_psbt.specs.Scaffolding.Walks.{step_at, after_test, after_pair, after_size, Walk, ended, behind, walk_step, walk_from, walk_of, repeated_or, end_of, starts_from}
 
 abbrev done : {A : Type 0} → A → Result A Refusal
 done x = Ok x
@@ -41,6 +42,40 @@ key_of_pair psbt at read e = go (string_at psbt at) e
     go : (key : Read Bytes) → (key >>= λ key. string_at psbt key.1 >>= λ value. Ok (record { key = key.0; value = value.0 }, value.1)) ≡ Ok read → key_read key ≡ read.0.key
     go (Ok key) e = last key.0 (string_at psbt key.1) e
     go (Err refusal) e = absurd cc
+
+-- a pair that is read whole is marked by its key
+abbrev IsStepMarked : (psbt : Bytes) → (at : ℕ) → Step → Type 0
+IsStepMarked psbt at (step.End end) = Unit {0}
+IsStepMarked psbt at (step.Cut refusal) = Unit {0}
+IsStepMarked psbt at (step.Fault place refusal) = place ≡ marked (key_at keys.Pairs psbt at) at
+IsStepMarked psbt at (step.Pair place end) = place ≡ marked (key_at keys.Pairs psbt at) at
+
+step_marked : (forms : ℕ → Form) (psbt : Bytes) (at : ℕ) → IsStepMarked psbt at (step_at forms psbt at)
+step_marked forms psbt at = sized (size_at psbt at)
+  where
+    tested_with : (o : Option PsbtFault) (read : Pair × ℕ) → pair_at psbt at ≡ Ok read → IsStepMarked psbt at (after_test o read.0.key at read.1)
+    tested_with (Some fault) read e = ap (λ key. marked key at) (sym (key_of_pair psbt at read e))
+    tested_with None read e = ap (λ key. marked key at) (sym (key_of_pair psbt at read e))
+
+    paired : (read : Read Pair) → pair_at psbt at ≡ read → IsStepMarked psbt at (after_pair forms at read)
+    paired (Ok read) e = tested_with (shape_fault forms read.0) read e
+    paired (Err refusal) e = tt
+
+    sized : (size : Read ℕ) → IsStepMarked psbt at (after_size forms psbt at size)
+    sized (Ok size) = go (size.0 == 0)
+      where
+        go : (b : Bool) → IsStepMarked psbt at (cond b (step.End size.1) (after_pair forms at (pair_at psbt at)))
+        go true = tt
+        go false = paired (pair_at psbt at) refl
+    sized (Err refusal) = tt
+
+pub fault_marked : (forms : ℕ → Form) (psbt : Bytes) (at : ℕ) (place : Marked) (refusal : Refusal) → step_at forms psbt at ≡ step.Fault place refusal
+    → place ≡ marked (key_at keys.Pairs psbt at) at
+fault_marked forms psbt at place refusal e = subst (IsStepMarked psbt at) e (step_marked forms psbt at)
+
+pub pair_marked : (forms : ℕ → Form) (psbt : Bytes) (at : ℕ) (place : Marked) (end : ℕ) → step_at forms psbt at ≡ step.Pair place end
+    → place ≡ marked (key_at keys.Pairs psbt at) at
+pair_marked forms psbt at place end e = subst (IsStepMarked psbt at) e (step_marked forms psbt at)
 
 abbrev keys_of : Map → List Bytes
 keys_of before = map (λ (pair : Pair). pair.key) before
@@ -97,7 +132,7 @@ module _ (forms : ℕ → Form) (psbt : Bytes) where
       fault : (read : Pair × ℕ) → pair_at psbt at ≡ Ok read → ((before : Map) (at : ℕ) → end_of (pairs_at forms psbt room before at) ≡ comes_to psbt (keys_of before) (walk_from forms psbt room at))
           → (o : Option PsbtFault) → shape_fault forms read.0 ≡ o
           → end_of (tested (cond (stands read.0.key before) (Some RepeatedKey) o) at read >>= λ pair. pairs_at forms psbt room (before ++ pair.0 ∷ []) pair.1 >>= λ pairs. Ok (pair.0 ∷ pairs.0, pairs.1))
-          ≡ comes_to psbt (keys_of before) (walk_step at (after_test o at read.1) (walk_from forms psbt room))
+          ≡ comes_to psbt (keys_of before) (walk_step at (after_test o read.0.key at read.1) (walk_from forms psbt room))
       fault read is again (Some why) shape =
           go (stands read.0.key before) refl ∙ sym (comes_behind psbt (keys_of before) at (ended (Err (At why at))))
         where

@@ -5,11 +5,12 @@ ghost use Rattle.std.specs.List.Sorted.{IsStrictlyIncreasing};
 ghost use Rattle.def_psbt.specs.Reading.{map_at, maps_at};
 ghost use Rattle.ms_psbt.specs.Scaffolding.Kinds.{forms_of};
 ghost use Rattle.ms_psbt.specs.Seen.{ReadsOr};
-ghost use Rattle.ms_psbt.specs.Scaffolding.Walks.{step_at, walk_from, end_of, starts_from, walk_seen, IsStepWithin};
+ghost use Rattle.ms_psbt.specs.Scaffolding.Repeats.{AreMarked, places_of};
+ghost use Rattle.ms_psbt.specs.Scaffolding.Walks.{step_at, walk_from, walk_of, end_of, starts_from, IsStepWithin};
 
 use crate::listed::{MapKind, shape_fault};
 use crate::pairs::{pair_at, size_at};
-use crate::repeats::{Keys, first_repeat};
+use crate::repeats::{Keys, Marked, first_repeat};
 use crate::stop::ReadStop;
 use def_psbt::{PsbtFault, Refusal};
 use std::alloc::{AllocError, Global};
@@ -18,10 +19,10 @@ use std::alloc::{AllocError, Global};
 enum Step {
     /// The map has ended before this place.
     End(usize),
-    /// A pair that was read whole, with nothing wrong by its form, ends before this place.
-    Pair(usize),
-    /// A pair that was read whole has a fault.
-    Fault(Refusal),
+    /// A pair that was read whole, with nothing wrong by its form, stands at the one place and ends before the other.
+    Pair(Marked, usize),
+    /// A pair that was read whole, at this place, has a fault.
+    Fault(Marked, Refusal),
     /// No pair was read whole.
     Cut(Refusal),
 }
@@ -43,54 +44,41 @@ fn next_step(alloc: Global, kind: MapKind, psbt: &[u8], at: usize) -> Result<Ste
         Ok(read) => read,
         Err(refusal) => return Ok(Step::Cut(refusal)),
     };
+    let place = Marked::new(pair.key(), at);
     match shape_fault(alloc, kind, &pair)? {
-        Some(fault) => Ok(Step::Fault(Refusal::At(fault, at))),
-        None => Ok(Step::Pair(next)),
+        Some(fault) => Ok(Step::Fault(place, Refusal::At(fault, at))),
+        None => Ok(Step::Pair(place, next)),
     }
 }
 
-/// What a walk over the pairs of a map finds, keys that stand twice left aside.
-#[derive(Drop)]
-struct Walked {
-    /// The places of the pairs that were read whole.
-    places: Vec<u32>,
-    /// The place behind the map, or the first refusal.
-    outcome: Result<usize, Refusal>,
-}
-
-/// Walks over the pairs from a place on, to the end of their map.
-fn walk(alloc: Global, kind: MapKind, psbt: &[u8], from: usize) -> Result<Walked, AllocError>
+/// Walks over the pairs from a place on, to the end of their map, and puts the places of those that were read whole in the place
+/// of what the list held. The outcome is the place behind the map, or the first refusal, keys that stand twice left aside.
+fn walk(
+    alloc: Global,
+    kind: MapKind,
+    psbt: &[u8],
+    from: usize,
+    places: &mut Vec<Marked>,
+) -> Result<Result<usize, Refusal>, AllocError>
     requires from { from ≤ length psbt.now }
     requires room { length psbt.now < 2 ^ 32 }
-    ensures walk { IfOk result (λ walked. walk_seen walked ≡ walk_from (forms_of kind) psbt.now (suc (length psbt.now)) from) }
-    ensures up { IfOk result (λ walked. IsStrictlyIncreasing walked.places.items) }
-    ensures within { IfOk result (λ walked. IfOk walked.outcome (λ end. end ≤ length psbt.now)) }
+    ensures walk { IfOk result (λ outcome. walk_of (places_of places.new.items) outcome ≡ walk_from (forms_of kind) psbt.now (suc (length psbt.now)) from) }
+    ensures up { IfOk result (λ outcome. IsStrictlyIncreasing (places_of places.new.items)) }
+    ensures marks { IfOk result (λ outcome. AreMarked Keys.Pairs psbt.now places.new.items) }
+    ensures within { IfOk result (λ outcome. IfOk outcome (λ end. end ≤ length psbt.now)) }
 {
-    let mut places = Vec::with_capacity(alloc, 8)?;
+    places.clear();
     let mut at = from;
     loop {
         match next_step(alloc, kind, psbt, at)? {
-            Step::End(next) => {
-                return Ok(Walked {
-                    places,
-                    outcome: Ok(next),
-                });
+            Step::End(next) => return Ok(Ok(next)),
+            Step::Cut(refusal) => return Ok(Err(refusal)),
+            Step::Fault(place, refusal) => {
+                places.push(place)?;
+                return Ok(Err(refusal));
             }
-            Step::Cut(refusal) => {
-                return Ok(Walked {
-                    places,
-                    outcome: Err(refusal),
-                });
-            }
-            Step::Fault(refusal) => {
-                places.push(at as u32)?;
-                return Ok(Walked {
-                    places,
-                    outcome: Err(refusal),
-                });
-            }
-            Step::Pair(next) => {
-                places.push(at as u32)?;
+            Step::Pair(place, next) => {
+                places.push(place)?;
                 at = next;
             }
         }
@@ -98,17 +86,23 @@ fn walk(alloc: Global, kind: MapKind, psbt: &[u8], from: usize) -> Result<Walked
 }
 
 /// The place behind the map that begins at a place, or its first refusal. It demands that the place lies within the bytes, or
-/// right behind them, and that there are less than 2^32 of them.
-pub fn map_end(alloc: Global, kind: MapKind, psbt: &[u8], at: usize) -> Result<usize, ReadStop>
+/// right behind them, and that there are less than 2^32 of them. The list is lent for the places of the map's pairs.
+pub fn map_end(
+    alloc: Global,
+    kind: MapKind,
+    psbt: &[u8],
+    at: usize,
+    places: &mut Vec<Marked>,
+) -> Result<usize, ReadStop>
     requires at { at ≤ length psbt.now }
     requires room { length psbt.now < 2 ^ 32 }
     ensures reading { ReadsOr (λ end. end) result (end_of (map_at (forms_of kind) psbt.now at)) }
     ensures within { IfOk result (λ end. end ≤ length psbt.now) }
 {
-    let mut walked = walk(alloc, kind, psbt, at)?;
-    match first_repeat(Keys::Pairs, psbt, &mut walked.places) {
+    let outcome = walk(alloc, kind, psbt, at, places)?;
+    match first_repeat(Keys::Pairs, psbt, places) {
         Some(place) => Err(ReadStop::Refused(Refusal::At(PsbtFault::RepeatedKey, place as usize))),
-        None => Ok(walked.outcome?),
+        None => Ok(outcome?),
     }
 }
 
@@ -127,10 +121,11 @@ pub fn maps_end(
     ensures starts { IfOk result (λ end. starts.new.items ≡ starts.old.items ++ starts_from (forms_of kind) psbt.now count from) }
     ensures within { IfOk result (λ end. end ≤ length psbt.now) }
 {
+    let mut places = Vec::new(alloc);
     let mut at = from;
     for _ in 0..count {
         starts.push(at as u32)?;
-        at = map_end(alloc, kind, psbt, at)?;
+        at = map_end(alloc, kind, psbt, at, &mut places)?;
     }
     Ok(at)
 }

@@ -170,7 +170,7 @@ pub fn read_psbt(alloc: Global, bytes: &[u8]) -> Result<Psbt<'_>, ReadStop>
     ensures sound { IfOk result (λ psbt. IsSound psbt) }
     ensures text { IfOk result (λ psbt. bytes.now ≡ psbt_text psbt.global psbt.inputs psbt.outputs) }
 {
-    let after = map_end(alloc, MapKind::Global, bytes, 5)?;
+    let after = map_end(alloc, MapKind::Global, bytes, 5, &mut Vec::new(alloc))?;
     let Some((transaction, counts)) = global_transaction(bytes) else {
         let end = after.saturating_sub(1);
         return Err(ReadStop::Refused(Refusal::At(PsbtFault::NoTransaction, end)));

@@ -1,10 +1,9 @@
 //! Keys that stand twice, found by a sort of their places.
 
-ghost use Rattle.std.specs.Prelude.{◌≡◌, ◌+◌, ◌<◌, ◌≤◌, length, []};
-ghost use Rattle.std.specs.Cmp.Lexicographic.{slice_cmp};
+ghost use Rattle.std.specs.Prelude.{◌≡◌, ◌+◌, ◌^◌, ◌<◌, ◌≤◌, length, []};
 ghost use Rattle.std.specs.List.Sorted.{IsStrictlyIncreasing};
-ghost use Rattle.std.specs.Ordering.{nat_cmp};
-ghost use Rattle.ms_psbt.specs.Scaffolding.Repeats.{key_at as the_key_at, rank_cmp, rank_of, repeat_in, LeastOf, least_of as the_least_of};
+ghost use Rattle.std.specs.Str.{bytes_eq};
+ghost use Rattle.ms_psbt.specs.Scaffolding.Repeats.{key_at as the_key_at, first_four as the_first_four, mark_of as the_mark_of, marked as the_marked, IsMarked, AreMarked, places_of, rank_cmp, rank_of, repeat_in, LeastOf, least_of as the_least_of};
 
 use crate::pairs::string_at;
 use std::cmp::Ordering;
@@ -16,6 +15,57 @@ pub enum Keys {
     Pairs,
     /// Outpoints, of 36 bytes.
     Outpoints,
+}
+
+/// A place, and the mark of the key there.
+#[derive(Clone, Copy)]
+pub struct Marked {
+    mark: u32,
+    place: u32,
+}
+
+impl Marked {
+    /// A place with this key.
+    pub fn new(key: &[u8], place: usize) -> Marked
+        requires { place < 2 ^ 32 }
+        ensures { result ≡ the_marked key.now place }
+    {
+        Marked {
+            mark: mark_of(key),
+            place: place as u32,
+        }
+    }
+}
+
+/// The sum of the first four bytes of a key and of its last four, as numbers of 32 bits. Keys with other marks differ; keys that
+/// begin alike, or end alike, and differ, have other marks as a rule.
+#[tactic(auto, unfolding(crate::specs::Scaffolding::Repeats::mark_of))]
+fn mark_of(key: &[u8]) -> u32
+    ensures { result ≡ the_mark_of key.now }
+{
+    let end = &key[key.len().saturating_sub(4)..];
+    first_four(key).wrapping_add(first_four(end))
+}
+
+/// The first four bytes as a number, the first one highest; zeros stand for those that aren't there.
+fn first_four(bytes: &[u8]) -> u32
+    ensures { result ≡ the_first_four bytes.now }
+{
+    match *bytes {
+        [a, b, c, d, ..] => u32::from_be_bytes([a, b, c, d]),
+        [a, b, c] => u32::from_be_bytes([a, b, c, 0]),
+        [a, b] => u32::from_be_bytes([a, b, 0, 0]),
+        [a] => u32::from_be_bytes([a, 0, 0, 0]),
+        [] => 0,
+    }
+}
+
+/// The place of the outpoint that begins there.
+pub fn marked_outpoint(bytes: &[u8], place: usize) -> Marked
+    requires { place < 2 ^ 32 }
+    ensures { result ≡ the_marked (the_key_at Keys.Outpoints bytes.now place) place }
+{
+    Marked::new(outpoint_at(bytes, place), place)
 }
 
 /// The key at a place; none at a place where there is none.
@@ -50,47 +100,31 @@ fn outpoint_at(bytes: &[u8], place: usize) -> &[u8]
     if rest.len() < 36 { rest } else { &rest[..36] }
 }
 
-fn compare(keys: Keys, bytes: &[u8], first: u32, second: u32) -> Ordering
+/// The order of places by the marks of their keys, then by the keys, which are looked up only where the marks are the same.
+fn compare(keys: Keys, bytes: &[u8], first: Marked, second: Marked) -> Ordering
     ensures { result ≡ rank_cmp (rank_of keys bytes.now first) (rank_of keys bytes.now second) }
 {
-    let key = key_at(keys, bytes, first);
-    let other = key_at(keys, bytes, second);
-    compare_keys(key, other).then(first.cmp(&second))
+    if first.mark != second.mark {
+        return first.mark.cmp(&second.mark);
+    }
+    let key = key_at(keys, bytes, first.place);
+    let other = key_at(keys, bytes, second.place);
+    key.cmp(other).then(first.place.cmp(&second.place))
 }
 
-/// The order of keys by their bytes. Most differ in their first four, which are compared here, without a call.
-fn compare_keys(key: &[u8], other: &[u8]) -> Ordering
-    ensures { result ≡ slice_cmp nat_cmp key.now other.now }
-{
-    let ([a, b, c, d, ..], [e, f, g, h, ..]) = (key, other) else {
-        return key.cmp(other);
-    };
-    if a != e {
-        return a.cmp(e);
-    }
-    if b != f {
-        return b.cmp(f);
-    }
-    if c != g {
-        return c.cmp(g);
-    }
-    if d != h {
-        return d.cmp(h);
-    }
-    key.cmp(other)
-}
-
-/// The first place whose key stands at an earlier one too.
-pub fn first_repeat(keys: Keys, bytes: &[u8], places: &mut Vec<u32>) -> Option<u32>
-    requires { IsStrictlyIncreasing places.old.items }
-    ensures { result ≡ repeat_in keys bytes.now [] places.old.items }
+/// The first place whose key stands at an earlier one too. Each place has to have the mark of its key.
+pub fn first_repeat(keys: Keys, bytes: &[u8], places: &mut Vec<Marked>) -> Option<u32>
+    requires up { IsStrictlyIncreasing (places_of places.old.items) }
+    requires marks { AreMarked keys bytes.now places.old.items }
+    ensures { result ≡ repeat_in keys bytes.now [] (places_of places.old.items) }
 {
     places.sort_unstable_by(|first, second| compare(keys, bytes, *first, *second));
     least_repeat(keys, bytes, places)
 }
 
-fn least_repeat(keys: Keys, bytes: &[u8], order: &[u32]) -> Option<u32>
-    ensures { LeastOf keys bytes.now order.now (length order.now) result }
+fn least_repeat(keys: Keys, bytes: &[u8], order: &[Marked]) -> Option<u32>
+    requires { AreMarked keys bytes.now order.now }
+    ensures { LeastOf keys bytes.now (places_of order.now) (length order.now) result }
 {
     let mut least = None;
     for i in 1..order.len() {
@@ -100,17 +134,33 @@ fn least_repeat(keys: Keys, bytes: &[u8], order: &[u32]) -> Option<u32>
 }
 
 /// The least place with that at `i`, where the key there is that of the place before it in the order.
-fn least_with(keys: Keys, bytes: &[u8], order: &[u32], i: usize, least: Option<u32>) -> Option<u32>
+fn least_with(
+    keys: Keys,
+    bytes: &[u8],
+    order: &[Marked],
+    i: usize,
+    least: Option<u32>,
+) -> Option<u32>
     requires low { 1 ≤ i }
     requires high { i < length order.now }
-    ensures { LeastOf keys bytes.now order.now i least → LeastOf keys bytes.now order.now (i + 1) result }
+    requires marks { AreMarked keys bytes.now order.now }
+    ensures { LeastOf keys bytes.now (places_of order.now) i least → LeastOf keys bytes.now (places_of order.now) (i + 1) result }
 {
-    let same = key_at(keys, bytes, order[i - 1]) == key_at(keys, bytes, order[i]);
-    if same {
-        Some(least_of(least, order[i]))
+    if have_same_key(keys, bytes, order[i - 1], order[i]) {
+        Some(least_of(least, order[i].place))
     } else {
         least
     }
+}
+
+/// Whether two places have the same key. Keys are looked up only where their marks are the same.
+fn have_same_key(keys: Keys, bytes: &[u8], first: Marked, second: Marked) -> bool
+    requires first { IsMarked keys bytes.now first }
+    requires second { IsMarked keys bytes.now second }
+    ensures { result ≡ bytes_eq (the_key_at keys bytes.now first.place) (the_key_at keys bytes.now second.place) }
+{
+    first.mark == second.mark
+        && key_at(keys, bytes, first.place) == key_at(keys, bytes, second.place)
 }
 
 fn least_of(least: Option<u32>, place: u32) -> u32

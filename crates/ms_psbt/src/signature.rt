@@ -5,6 +5,7 @@ ghost use Rattle.def_psbt.specs.Forms.{is_der_number as the_is_der_number, first
 ghost use Rattle.ms_psbt.specs.Seen.{IsPart, rest_of};
 
 use crate::parts::first_bytes;
+use ms_script::MAX_SIGNATURE_SIZE;
 
 fn is_der_number(bytes: &[u8]) -> bool
     ensures { result ≡ the_is_der_number bytes.now }
@@ -61,5 +62,5 @@ fn is_der_sequence(bytes: &[u8]) -> bool
 pub fn is_signature(bytes: &[u8]) -> bool
     ensures { result ≡ the_is_signature bytes.now }
 {
-    bytes.len() >= 9 && bytes.len() <= 73 && is_der_sequence(bytes)
+    bytes.len() >= 9 && bytes.len() <= MAX_SIGNATURE_SIZE && is_der_sequence(bytes)
 }

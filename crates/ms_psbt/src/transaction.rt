@@ -1,15 +1,16 @@
 //! Transactions, which are tested and not copied.
 
-ghost use Rattle.std.specs.Prelude.{◌≡◌, ◌^◌, ◌<◌, ◌≤◌, length, is_some, option_map, IfOk};
+ghost use Rattle.std.specs.Prelude.{◌≡◌, ◌^◌, ◌<◌, ◌≤◌, length, is_some, option_map, IfOk, IfSome};
 ghost use Rattle.def_psbt.specs.Part.{first_bytes as the_first_bytes, first_string as the_first_string};
 ghost use Rattle.def_psbt.specs.TransactionReading.{transaction_of, witnessed_transaction_of, network_transaction_of};
 ghost use Rattle.def_psbt.specs.Forms.{is_unsigned as the_is_unsigned, output_of, witness_of};
 ghost use Rattle.ms_psbt.specs.Seen.{IsPart, rest_of};
 ghost use Rattle.ms_psbt.specs.Scaffolding.Skips.{skip_of, skips, list_skip, witness_skip, sides_skip, counts_read, witnessed_skip, input_skip, output_skip, is_all as the_is_all, counts_of};
+ghost use Rattle.ms_psbt.specs.Scaffolding.Repeats.{AreMarked, places_of};
 ghost use Rattle.ms_psbt.specs.Scaffolding.Outpoints.{Places, empties, is_empty_input as the_is_empty_input};
 
 use crate::parts::{first_bytes, first_size, first_string};
-use crate::repeats::{Keys, first_repeat};
+use crate::repeats::{Keys, Marked, first_repeat, marked_outpoint};
 use ms_script::read_size;
 use std::alloc::{AllocError, Global};
 
@@ -198,17 +199,18 @@ fn empty_inputs(
     bytes: &[u8],
     count: u64,
     from: usize,
-) -> Result<Option<Vec<u32>>, AllocError>
+) -> Result<Option<Vec<Marked>>, AllocError>
     requires from { from ≤ length bytes.now }
     requires room { length bytes.now < 2 ^ 32 }
-    ensures { IfOk result (λ places. option_map (λ v. v.items) places ≡ empties bytes.now count from) }
+    ensures places { IfOk result (λ places. option_map (λ v. places_of v.items) places ≡ empties bytes.now count from) }
+    ensures marks { IfOk result (λ places. IfSome places (λ v. AreMarked Keys.Outpoints bytes.now v.items)) }
 {
     let mut places = Vec::new(alloc);
     let mut at = from;
     for _ in 0..count {
         let is_empty = is_empty_input(bytes, at);
         if is_empty {
-            places.push(at as u32)?;
+            places.push(marked_outpoint(bytes, at))?;
             at += 41;
         } else {
             return Ok(None);
@@ -227,9 +229,10 @@ fn is_empty_input(bytes: &[u8], at: usize) -> bool
 }
 
 /// The places of the outpoints of a transaction whose inputs have empty scriptSigs; none where one hasn't.
-fn outpoint_places(alloc: Global, bytes: &[u8]) -> Result<Option<Vec<u32>>, AllocError>
+fn outpoint_places(alloc: Global, bytes: &[u8]) -> Result<Option<Vec<Marked>>, AllocError>
     requires { length bytes.now < 2 ^ 32 }
-    ensures { IfOk result (λ places. Places bytes.now (transaction_of bytes.now) (option_map (λ v. v.items) places)) }
+    ensures places { IfOk result (λ places. Places bytes.now (transaction_of bytes.now) (option_map (λ v. places_of v.items) places)) }
+    ensures marks { IfOk result (λ places. IfSome places (λ v. AreMarked Keys.Outpoints bytes.now v.items)) }
 {
     if bytes.len() < 4 {
         return Ok(None);
@@ -245,9 +248,10 @@ fn input_places(
     bytes: &[u8],
     count: u64,
     from: usize,
-) -> Result<Option<Vec<u32>>, AllocError>
+) -> Result<Option<Vec<Marked>>, AllocError>
     requires room { length bytes.now < 2 ^ 32 }
-    ensures { IfOk result (λ places. from ≤ length bytes.now → option_map (λ v. v.items) places ≡ empties bytes.now count from) }
+    ensures places { IfOk result (λ places. from ≤ length bytes.now → option_map (λ v. places_of v.items) places ≡ empties bytes.now count from) }
+    ensures marks { IfOk result (λ places. IfSome places (λ v. AreMarked Keys.Outpoints bytes.now v.items)) }
 {
     if from > bytes.len() {
         return Ok(None);

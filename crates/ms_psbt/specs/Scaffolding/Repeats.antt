@@ -1,7 +1,8 @@
 -- Keys that stand twice, by their places. No public clause cites it, so it need not be believed.
-use Rattle.std.specs.Prelude.{◌≡◌, ℕ, ◌+◌, ◌<◌, ◌≤◌, nat_le, List, [], ◌∷◌, ◌++◌, take, drop, slice_index, if◌then◌else◌, Option, Some, None, Ok, Err}
+use Rattle.std.specs.Prelude.{◌≡◌, ℕ, ◌+◌, ◌-◌, ◌%◌, ◌^◌, ◌<◌, ◌≤◌, nat_le, List, [], ◌∷◌, ◌++◌, length, take, drop, map, slice_index, if◌then◌else◌, Option, Some, None, Ok, Err}
 use Rattle.std.specs.Cmp.Lexicographic.{slice_cmp}
-use Rattle.std.specs.List.{list_any}
+use Rattle.std.specs.Int.{w32, from_be_bytes}
+use Rattle.std.specs.List.{All, list_any}
 use Rattle.std.specs.Ordering.{nat_cmp, ordering_then}
 use Rattle.std.specs.Str.{bytes_eq}
 use Rattle.std.specs.declared.cmp.Ordering.{Ordering}
@@ -9,6 +10,7 @@ use Rattle.def_script.specs.Bytes.{Bytes}
 use Rattle.def_psbt.specs.Reading.{Read, string_at}
 use Rattle.ms_psbt.specs.declared.repeats.Keys.{Keys}
 use Rattle.ms_psbt.specs.declared.repeats.Keys.TheVariants as keys
+use Rattle.ms_psbt.specs.declared.repeats.Marked.{Marked}
 
 abbrev pub key_read : Read Bytes → Bytes
 key_read (Ok read) = read.0
@@ -19,12 +21,38 @@ abbrev pub key_at : Keys → (bytes : Bytes) → (place : ℕ) → Bytes
 key_at keys.Pairs bytes place = key_read (string_at bytes place)
 key_at keys.Outpoints bytes place = take 36 (drop place bytes)
 
--- a key, and its place
-abbrev pub rank_cmp : (first second : Bytes × ℕ) → Ordering
-rank_cmp first second = ordering_then (slice_cmp nat_cmp first.0 second.0) (nat_cmp first.1 second.1)
+-- the first four bytes as a number, with zeros for those that aren't there
+abbrev pub first_four : Bytes → ℕ
+first_four [] = 0
+first_four (a ∷ []) = from_be_bytes w32 (a ∷ 0 ∷ 0 ∷ 0 ∷ [])
+first_four (a ∷ b ∷ []) = from_be_bytes w32 (a ∷ b ∷ 0 ∷ 0 ∷ [])
+first_four (a ∷ b ∷ c ∷ []) = from_be_bytes w32 (a ∷ b ∷ c ∷ 0 ∷ [])
+first_four (a ∷ b ∷ c ∷ d ∷ rest) = from_be_bytes w32 (a ∷ b ∷ c ∷ d ∷ [])
 
-abbrev pub rank_of : Keys → (bytes : Bytes) → (place : ℕ) → Bytes × ℕ
-rank_of keys bytes place = (key_at keys bytes place, place)
+-- the sum of the first four bytes of a key and of its last four, as a number of 32 bits
+unfoldable pub mark_of : Bytes → ℕ
+mark_of key = (first_four key + first_four (drop (length key - 4) key)) % 2 ^ 32
+
+abbrev pub marked : (key : Bytes) → (place : ℕ) → Marked
+marked key place = record { mark = mark_of key; place = place }
+
+-- the mark at a place is that of its key
+abbrev pub IsMarked : Keys → (bytes : Bytes) → Marked → Type 0
+IsMarked keys bytes place = place.mark ≡ mark_of (key_at keys bytes place.place)
+
+abbrev pub AreMarked : Keys → (bytes : Bytes) → List Marked → Type 0
+AreMarked keys bytes = All (IsMarked keys bytes)
+
+-- places without their marks
+abbrev pub places_of : List Marked → List ℕ
+places_of = map (λ (place : Marked). place.place)
+
+-- a mark, its key, and its place
+abbrev pub rank_cmp : (first second : ℕ × (Bytes × ℕ)) → Ordering
+rank_cmp first second = ordering_then (nat_cmp first.0 second.0) (ordering_then (slice_cmp nat_cmp first.1.0 second.1.0) (nat_cmp first.1.1 second.1.1))
+
+abbrev pub rank_of : Keys → (bytes : Bytes) → Marked → ℕ × (Bytes × ℕ)
+rank_of keys bytes place = (place.mark, (key_at keys bytes place.place, place.place))
 
 -- the first of some places whose key is one of some, or that of an earlier one
 unfoldable pub repeat_in : Keys → (bytes : Bytes) → (before : List Bytes) → (places : List ℕ) → Option ℕ

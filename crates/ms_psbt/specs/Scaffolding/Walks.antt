@@ -9,16 +9,16 @@ use Rattle.def_psbt.specs.Map.{Pair, Map}
 use Rattle.def_psbt.specs.Listed.{Form, shape_fault}
 use Rattle.def_psbt.specs.Reading.{Read, size_at, pair_at, map_at}
 use Rattle.ms_psbt.specs.declared.maps.Step.{Step}
-use Rattle.ms_psbt.specs.declared.maps.Walked.{Walked}
 use Rattle.ms_psbt.specs.declared.maps.Step.TheVariants as step
+use Rattle.ms_psbt.specs.Scaffolding.Repeats.{marked}
 
 -- what follows a pair that was read whole
-abbrev pub after_test : Option PsbtFault → (at next : ℕ) → Step
-after_test (Some fault) at next = step.Fault (At fault at)
-after_test None at next = step.Pair next
+abbrev pub after_test : Option PsbtFault → (key : Bytes) → (at next : ℕ) → Step
+after_test (Some fault) key at next = step.Fault (marked key at) (At fault at)
+after_test None key at next = step.Pair (marked key at) next
 
 abbrev pub after_pair : (forms : ℕ → Form) → (at : ℕ) → Read Pair → Step
-after_pair forms at (Ok read) = after_test (shape_fault forms read.0) at read.1
+after_pair forms at (Ok read) = after_test (shape_fault forms read.0) read.0.key at read.1
 after_pair forms at (Err refusal) = step.Cut refusal
 
 abbrev pub after_size : (forms : ℕ → Form) → (psbt : Bytes) → (at : ℕ) → Read ℕ → Step
@@ -43,8 +43,8 @@ behind place walk = record { places = place ∷ walk.places; outcome = walk.outc
 abbrev pub walk_step : (at : ℕ) → Step → (next : ℕ → Walk) → Walk
 walk_step at (step.End end) next = ended (Ok end)
 walk_step at (step.Cut refusal) next = ended (Err refusal)
-walk_step at (step.Fault refusal) next = behind at (ended (Err refusal))
-walk_step at (step.Pair end) next = behind at (next end)
+walk_step at (step.Fault place refusal) next = behind at (ended (Err refusal))
+walk_step at (step.Pair place end) next = behind at (next end)
 
 unfoldable pub walk_from : (forms : ℕ → Form) → (psbt : Bytes) → (room at : ℕ) → Walk
 walk_from forms psbt zero at = ended (Err (At Truncated at))
@@ -63,13 +63,13 @@ end_of (Err refusal) = Err refusal
 -- a pair at a place ends behind it and within the bytes, and so does the end of a map
 abbrev pub IsStepWithin : (at size : ℕ) → Step → Type 0
 IsStepWithin at size (step.End end) = (at < end) × (end ≤ size)
-IsStepWithin at size (step.Pair end) = (at < end) × (end ≤ size)
-IsStepWithin at size (step.Fault refusal) = Unit {0}
+IsStepWithin at size (step.Pair place end) = (at < end) × (end ≤ size)
+IsStepWithin at size (step.Fault place refusal) = Unit {0}
 IsStepWithin at size (step.Cut refusal) = Unit {0}
 
--- a walk as a call gives it
-abbrev pub walk_seen : Walked → Walk
-walk_seen walked = record { places = walked.places.items; outcome = walked.outcome }
+-- a walk of these places with this outcome
+abbrev pub walk_of : (places : List ℕ) → Result ℕ Refusal → Walk
+walk_of places outcome = record { places = places; outcome = outcome }
 
 abbrev pub starts_behind : Read Map → (next : ℕ → List ℕ) → List ℕ
 starts_behind (Ok read) next = next read.1
