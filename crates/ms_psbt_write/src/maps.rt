@@ -1,12 +1,12 @@
 //! Maps of inputs, as they are and made final.
 
-ghost use Rattle.std.specs.Prelude.{◌≡◌, ◌++◌, not, filter, OnOk};
+ghost use Rattle.std.specs.Prelude.{◌≡◌, ◌++◌, [], ◌∷◌, not, filter, OnOk, MatchOption};
 ghost use Rattle.std.specs.List.{flat_map};
 ghost use Rattle.def_psbt.specs.Map.{pair_text, map_text};
 ghost use Rattle.def_spend.specs.Finalized.{is_cleared as the_is_cleared, is_kept, final_map};
 
 use crate::pieces::push_pair;
-use ms_psbt::Pairs;
+use ms_psbt::{PairRef, Pairs};
 use std::alloc::AllocError;
 
 /// Whether the pairs of a type are cleared once the input is final: what only signers want, and what was final before.
@@ -20,12 +20,23 @@ fn is_cleared(type_number: u64) -> bool
 fn push_kept(out: &mut Vec<u8>, map: Pairs<'_>) -> Result<(), AllocError>
     ensures { OnOk result (out.new.items ≡ out.old.items ++ flat_map pair_text (filter is_kept map.entry)) }
 {
-    for pair in map {
+    let mut left = map;
+    while let Some((pair, text)) = next_pair(&mut left) {
         if !is_cleared(pair.key_type()) {
-            push_pair(out, pair.key(), pair.value())?;
+            out.extend_from_slice(text)?;
         }
     }
     Ok(())
+}
+
+/// The first pair of what is left of a map, which is passed, and its bytes; none where the map ends.
+fn next_pair<'a>(left: &mut Pairs<'a>) -> Option<(PairRef<'a>, &'a [u8])>
+    ensures { MatchOption result (left.old ≡ []) (λ next. (left.old ≡ next.0 ∷ left.new) × (next.1.now ≡ pair_text next.0)) }
+{
+    let text = left.bytes();
+    let pair = left.next()?;
+    let size = text.len() - left.bytes().len();
+    Some((pair, &text[..size]))
 }
 
 /// Adds a map as it is. Refuses for want of memory alone.

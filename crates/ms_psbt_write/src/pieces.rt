@@ -9,10 +9,15 @@ use ms_psbt::PairRef;
 use ms_script::compact_size;
 use std::alloc::AllocError;
 
-/// Adds the shortest spelling of a size.
+/// Adds the shortest spelling of a size. Most are a byte, which is added without a call.
+#[tactic(auto, unfolding(def_script::specs::Sizes::size_bytes))]
 pub fn push_size(out: &mut Vec<u8>, size: u64) -> Result<(), AllocError>
     ensures { OnOk result (out.new.items ≡ out.old.items ++ size_bytes size) }
 {
+    if size < 0xfd {
+        out.push(size as u8)?;
+        return Ok(());
+    }
     out.extend_from_slice(compact_size(size).as_slice())?;
     Ok(())
 }
