@@ -10,5 +10,3 @@ pub use signing::shared_hashes;
 mod gathering;
 mod input;
 mod signing;
-#[cfg(test)]
-mod tests;

@@ -14,7 +14,5 @@ mod open;
 mod spent;
 mod states;
 mod table;
-#[cfg(test)]
-mod tests;
 mod transactions;
 mod trees;

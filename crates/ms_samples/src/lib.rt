@@ -1,4 +1,4 @@
-//! Keys, signatures, preimages and digests for tests, and texts in which capital letters stand for them.
+//! Keys and signatures for tests, and texts in which capital letters stand for keys and hash values.
 #![tactic(auto)]
 
 use std::alloc::{AllocError, Global};
@@ -28,53 +28,32 @@ pub const SIG_B: [u8; 72] = [0xbb; 72];
 /// A signature of the third key.
 pub const SIG_C: [u8; 70] = [0xcc; 70];
 
-/// The digits that a capital letter stands for: `A`, `B` and `C` for the keys, `D` for another key, and `E` for that in capital
-/// digits; `P`, `Q` and `R` for the signatures of the first three; `H`, `I`, `J` and `T` for preimages, which are 32 bytes 11,
-/// 22, 33 and 00; `X`, `Y`, `Z` and `O` for their SHA-256; and `W` for the HASH160 of the key `B`.
+/// The digits that a capital letter stands for: `A`, `B` and `C` for the keys; `H` for 32 bytes 11; and `X`, `Y` and `Z` for the
+/// SHA-256 of 32 bytes 11, 22 and 33.
 pub fn digits_of(letter: char) -> Option<&'static str> {
     let digits = match letter {
         'A' => "020101010101010101010101010101010101010101010101010101010101010101",
         'B' => "0279be667ef9dcbbac55a06295ce870b07029bfcdb2dce28d959f2815b16f81798",
         'C' => "030303030303030303030303030303030303030303030303030303030303030303",
-        'D' => "03abababababababababababababababababababababababababababababababab",
-        'E' => "03ABABABABABABABABABABABABABABABABABABABABABABABABABABABABABABABAB",
-        'P' =>
-            "aaaaaaaaaaaaaaaaaaaaaaaaaaaaaaaaaaaaaaaaaaaaaaaaaaaaaaaaaaaaaaaaaaaaaaaaaaaaaaaaaaaaaaaaaaaaaaaaaaaaaaaaaaaaaaaaaaaaaaaaaaaaaaaaaaaaaaaaaaaaaa",
-        'Q' =>
-            "bbbbbbbbbbbbbbbbbbbbbbbbbbbbbbbbbbbbbbbbbbbbbbbbbbbbbbbbbbbbbbbbbbbbbbbbbbbbbbbbbbbbbbbbbbbbbbbbbbbbbbbbbbbbbbbbbbbbbbbbbbbbbbbbbbbbbbbbbbbbbbbb",
-        'R' =>
-            "cccccccccccccccccccccccccccccccccccccccccccccccccccccccccccccccccccccccccccccccccccccccccccccccccccccccccccccccccccccccccccccccccccccccccccc",
         'H' => "1111111111111111111111111111111111111111111111111111111111111111",
-        'I' => "2222222222222222222222222222222222222222222222222222222222222222",
-        'J' => "3333333333333333333333333333333333333333333333333333333333333333",
-        'T' => "0000000000000000000000000000000000000000000000000000000000000000",
         // By Python's hashlib over OpenSSL.
         'X' => "02d449a31fbb267c8f352e9968a79e3e5fc95c1bbeaa502fd6454ebde5a4bedc",
         'Y' => "9f72ea0cf49536e3c66c787f705186df9a4378083753ae9536d65b3ad7fcddc4",
         'Z' => "deb0e38ced1e41de6f92e70e80c418d2d356afaaa99e26f5939dbc7d3ef4772a",
-        'O' => "66687aadf862bd776c8fc18b8e9f8e20089714856ee233b3902a591d0d5f2925",
-        // As published.
-        'W' => "751e76e8199196d454941c45d1b3a323f1433bd6",
         _ => return None,
     };
     Some(digits)
 }
 
-/// Adds a text in which capital letters stand for digits. Refuses for want of memory alone.
-pub fn push_filled(text: &mut String, form: &str) -> Result<(), AllocError> {
+/// A text in which capital letters stand for digits. Refuses for want of memory alone.
+pub fn filled(alloc: Global, form: &str) -> Result<String, AllocError> {
+    let mut text = String::new(alloc);
     for letter in form.chars() {
         match digits_of(letter) {
             Some(digits) => text.push_str(digits)?,
             None => text.push(letter)?,
         }
     }
-    Ok(())
-}
-
-/// A text in which capital letters stand for digits. Refuses for want of memory alone.
-pub fn filled(alloc: Global, form: &str) -> Result<String, AllocError> {
-    let mut text = String::new(alloc);
-    push_filled(&mut text, form)?;
     Ok(text)
 }
 

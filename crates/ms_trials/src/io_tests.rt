@@ -1,4 +1,5 @@
-//! Tests: worked reads and writes, and the adapters over a reader and a writer whose call fails.
+//! Tests of reads and writes in pieces, and of those that fail, over memory and over std. Whole files and reports that go through
+//! std are rows of `examples/`.
 
 ghost use Rattle.std.specs.Prelude.{◌≤◌, ◌^◌, IfOk};
 
@@ -7,30 +8,6 @@ use std::alloc::{AllocError, Global};
 use std::io::{self, Cursor, ErrorKind, Read, Write};
 use std::process::Abort;
 use std::test::Fail;
-
-#[test]
-fn reads_through_std(rt: HostRuntime) -> Result<(), Fail> {
-    let mut source = StdSource::new(Cursor::new(b"abcde"));
-    let mut buf = [0; 3];
-    assert_eq!(rt; source.read(&mut buf), Ok(3));
-    assert_eq!(rt; buf, *b"abc");
-    assert_eq!(rt; source.read(&mut buf), Ok(2));
-    assert_eq!(rt; buf, *b"dec");
-    assert_eq!(rt; source.read(&mut buf), Ok(0));
-    assert_eq!(rt; source.faults, 0);
-    Ok(())
-}
-
-#[test]
-fn writes_through_std(rt: HostRuntime) -> Result<(), Fail> {
-    let mut sink = StdSink::new(Vec::new(rt.alloc()));
-    assert_eq!(rt; put_all(&mut sink, b"abc"), Ok(()));
-    assert_eq!(rt; put_all(&mut sink, b""), Ok(()));
-    assert_eq!(rt; put_all(&mut sink, b"de"), Ok(()));
-    assert_eq!(rt; sink.writer.as_slice(), b"abcde".as_slice());
-    assert_eq!(rt; sink.faults, 0);
-    Ok(())
-}
 
 #[test]
 fn a_full_writer_is_a_fault(rt: HostRuntime) -> Result<(), Fail> {
@@ -258,51 +235,5 @@ fn reads_to_the_end(rt: HostRuntime) -> Result<(), Fail> {
             Err(why) => assert_eq!(rt; stop, Some(why)),
         }
     }
-    Ok(())
-}
-
-#[test]
-fn one_byte_over_the_limit_is_too_long(rt: HostRuntime) -> Result<(), Fail> {
-    let mut bytes = Vec::new(rt.alloc());
-    for _ in 0..1_048_576 {
-        bytes.push(0x20)?;
-    }
-    let mut source = SureSource::new(Vec::from_slice(rt.alloc(), &bytes)?);
-    let read = read_all(rt.alloc(), &mut source, 1_048_576);
-    assert_eq!(rt; read.map(|bytes| bytes.len()), Ok(1_048_576));
-    bytes.push(0x20)?;
-    let mut source = SureSource::new(bytes);
-    let read = read_all(rt.alloc(), &mut source, 1_048_576);
-    assert_eq!(rt; read.map(|bytes| bytes.len()), Err(ReadStop::TooLong));
-    Ok(())
-}
-
-// So many bytes, each of which has its own value among those beside it.
-fn counted(alloc: Global, count: usize) -> Result<Vec<u8>, AllocError> {
-    let mut bytes = Vec::new(alloc);
-    for place in 0..count {
-        bytes.push((place % 251) as u8)?;
-    }
-    Ok(bytes)
-}
-
-#[test]
-fn many_bytes_go_through_std(rt: HostRuntime) -> Result<(), Fail> {
-    // one chunk of reading, sixteen of them, one byte less and one more
-    for count in [4_096, 65_535, 65_536, 65_537] {
-        let bytes = counted(rt.alloc(), count)?;
-        let mut source = StdSource::new(Cursor::new(bytes.as_slice()));
-        let read = read_all(rt.alloc(), &mut source, 65_537);
-        assert!(rt; read.is_ok_and(|read| read.as_slice() == bytes.as_slice()));
-        assert_eq!(rt; source.faults, 0);
-        let mut sink = StdSink::new(Vec::new(rt.alloc()));
-        assert_eq!(rt; put_all(&mut sink, &bytes), Ok(()));
-        assert!(rt; sink.writer.as_slice() == bytes.as_slice());
-        assert_eq!(rt; sink.faults, 0);
-    }
-    let bytes = counted(rt.alloc(), 65_536)?;
-    let mut source = StdSource::new(Cursor::new(bytes.as_slice()));
-    let read = read_all(rt.alloc(), &mut source, 65_535);
-    assert_eq!(rt; read.map(|read| read.len()), Err(ReadStop::TooLong));
     Ok(())
 }

@@ -7,6 +7,4 @@ pub use program::msat_psbt;
 
 mod answer;
 mod program;
-#[cfg(test)]
-mod tests;
 mod words;
