@@ -17,8 +17,7 @@ use Rattle.def_machine.specs.declared.ScriptFault.{ScriptFault}
 use Rattle.def_machine.specs.declared.ScriptFault.TheVariants as fault
 use Rattle.def_machine.specs.Effects.{verify, condition, to_alt_stack, from_alt_stack, if_dup, dup, swap, size, equal, zero_not_equal, add, bool_and, bool_or, hash, check_sig, lock}
 use Rattle.def_machine.specs.Faults.{OrFault, ◌>>=◌}
-use Rattle.def_machine.specs.Limits.{MAX_PUBKEYS_PER_MULTISIG, MAX_STACK_SIZE}
-use Rattle.def_script.specs.Spell.{MAX_SCRIPT_ELEMENT_SIZE}
+use Rattle.def_script.specs.Limits.{MAX_SCRIPT_ELEMENT_SIZE, MAX_PUBKEYS_PER_MULTISIG, MAX_STACK_SIZE}
 use Rattle.def_machine.specs.Locks.{after_holds, older_holds}
 use Rattle.def_machine.specs.Machine.{Given, State, on_main, on_both, on_checks, on_multi, on_branches, opened, open_branch, turned, closed, act, only_if, is_branching, is_live, count_op, pushed, carry_out, height, settle, step}
 use Rattle.def_machine.specs.MultiSig.{is_good, one_try, tries, count, some_off, one_off, within_op_limit, verdict, null_dummy, check_multi_sig}
