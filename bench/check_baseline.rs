@@ -1,4 +1,4 @@
-//! What `msat check TEXT` does, by plain Rust over boxed trees, to be measured beside the proved program. Refusals aren't told apart, and
+//! What `msat check TEXT` does, by plain Rust over trees in one room, to be measured beside the proved program. Refusals aren't told apart, and
 //! the type has none of the letters of malleability.
 //! Usage: check_baseline TEXT. The exit status is 0, or 2 where `refused` is printed.
 
@@ -7,6 +7,8 @@
 mod hash_baseline;
 
 use hash_baseline::{ripemd160, ripemd_block_by_rounds, sha256};
+use std::cell::Cell;
+use std::mem::MaybeUninit;
 use std::ops::{Add, Sub};
 use std::process::exit;
 
@@ -38,11 +40,28 @@ pub enum Tree {
     Older(u64),
     After(u64),
     Hash(HashKind, Vec<u8>),
-    AndOr(Box<Tree>, Box<Tree>, Box<Tree>),
-    Two(Two, Box<Tree>, Box<Tree>),
+    AndOr(Node, Node, Node),
+    Two(Two, Node, Node),
     Thresh(u64, Vec<Tree>),
     Multi(u64, Vec<Key>),
-    Wrap(u8, Box<Tree>),
+    Wrap(u8, Node),
+}
+
+/// A tree in the room that is never given back, since the program ends with its answer.
+pub type Node = &'static Tree;
+
+/// Puts a tree into the room, which grows by blocks.
+pub fn node(tree: Tree) -> Node {
+    thread_local! {
+        static ROOM: Cell<&'static mut [MaybeUninit<Tree>]> = const { Cell::new(&mut []) };
+    }
+    let mut room = ROOM.take();
+    if room.is_empty() {
+        room = Box::leak(Box::<[Tree]>::new_uninit_slice(256));
+    }
+    let (place, rest) = room.split_first_mut().expect("a block");
+    ROOM.set(rest);
+    place.write(tree)
 }
 
 // Reading.
@@ -101,8 +120,8 @@ impl<'t> Reader<'t> {
         let tree = match name {
             b"pk_k" => Tree::PkK(self.key()?),
             b"pk_h" => Tree::PkH(self.key()?),
-            b"pk" => Tree::Wrap(b'c', Box::new(Tree::PkK(self.key()?))),
-            b"pkh" => Tree::Wrap(b'c', Box::new(Tree::PkH(self.key()?))),
+            b"pk" => Tree::Wrap(b'c', node(Tree::PkK(self.key()?))),
+            b"pkh" => Tree::Wrap(b'c', node(Tree::PkH(self.key()?))),
             b"older" => Tree::Older(self.number()?),
             b"after" => Tree::After(self.number()?),
             b"sha256" => self.hash(HashKind::Sha256, 32)?,
@@ -117,12 +136,12 @@ impl<'t> Reader<'t> {
             b"or_i" => self.two(Two::OrI, depth)?,
             b"and_n" => {
                 let (x, y) = self.pair(depth)?;
-                Tree::AndOr(x, y, Box::new(Tree::Zero))
+                Tree::AndOr(x, y, node(Tree::Zero))
             }
             b"andor" => {
                 let (x, y) = self.pair(depth)?;
                 self.expect(b',')?;
-                Tree::AndOr(x, y, Box::new(self.expression(depth)?))
+                Tree::AndOr(x, y, node(self.expression(depth)?))
             }
             b"thresh" => Tree::Thresh(self.number()?, self.list(|reader| reader.expression(depth))?),
             b"multi" => Tree::Multi(self.number()?, self.list(|reader| reader.key())?),
@@ -132,10 +151,10 @@ impl<'t> Reader<'t> {
         Some(tree)
     }
 
-    fn pair(&mut self, depth: usize) -> Option<(Box<Tree>, Box<Tree>)> {
+    fn pair(&mut self, depth: usize) -> Option<(Node, Node)> {
         let x = self.expression(depth)?;
         self.expect(b',')?;
-        Some((Box::new(x), Box::new(self.expression(depth)?)))
+        Some((node(x), node(self.expression(depth)?)))
     }
 
     fn two(&mut self, kind: Two, depth: usize) -> Option<Tree> {
@@ -160,7 +179,7 @@ impl<'t> Reader<'t> {
     }
 
     fn key(&mut self) -> Option<Key> {
-        let key: Key = decoded(self.word())?.try_into().ok()?;
+        let key: Key = decoded_array(self.word())?;
         (key[0] == 2 || key[0] == 3).then_some(key)
     }
 
@@ -171,33 +190,59 @@ impl<'t> Reader<'t> {
 }
 
 fn wrapped(letter: u8, x: Tree) -> Option<Tree> {
-    let x = Box::new(x);
+    let x = node(x);
     Some(match letter {
         b'a' | b's' | b'c' | b'd' | b'v' | b'j' | b'n' => Tree::Wrap(letter, x),
-        b't' => Tree::Two(Two::AndV, x, Box::new(Tree::One)),
-        b'l' => Tree::Two(Two::OrI, Box::new(Tree::Zero), x),
-        b'u' => Tree::Two(Two::OrI, x, Box::new(Tree::Zero)),
+        b't' => Tree::Two(Two::AndV, x, node(Tree::One)),
+        b'l' => Tree::Two(Two::OrI, node(Tree::Zero), x),
+        b'u' => Tree::Two(Two::OrI, x, node(Tree::Zero)),
         _ => return None,
     })
 }
 
-pub fn decoded(digits: &[u8]) -> Option<Vec<u8>> {
-    let value = |digit: u8| char::from(digit).to_digit(16);
-    let (pairs, rest) = digits.as_chunks::<2>();
-    if !rest.is_empty() {
-        return None;
+/// What each digit is worth, and 255 for what is no digit.
+const DIGITS: [u8; 256] = {
+    let mut values = [255; 256];
+    let mut i = 0;
+    while i < 16 {
+        values[b"0123456789abcdef"[i] as usize] = i as u8;
+        values[b"0123456789ABCDEF"[i] as usize] = i as u8;
+        i += 1;
     }
-    pairs.iter().map(|[high, low]| Some((value(*high)? * 16 + value(*low)?) as u8)).collect()
+    values
+};
+
+fn byte(&[high, low]: &[u8; 2]) -> Option<u8> {
+    let (high, low) = (DIGITS[high as usize], DIGITS[low as usize]);
+    (high | low < 16).then_some(high << 4 | low)
+}
+
+pub fn decoded(digits: &[u8]) -> Option<Vec<u8>> {
+    let (pairs, rest) = digits.as_chunks::<2>();
+    rest.is_empty().then_some(())?;
+    let mut bytes = Vec::with_capacity(pairs.len());
+    for pair in pairs {
+        bytes.push(byte(pair)?);
+    }
+    Some(bytes)
+}
+
+pub fn decoded_array<const N: usize>(digits: &[u8]) -> Option<[u8; N]> {
+    let (pairs, rest) = digits.as_chunks::<2>();
+    (rest.is_empty() && pairs.len() == N).then_some(())?;
+    let mut bytes = [0; N];
+    for (place, pair) in bytes.iter_mut().zip(pairs) {
+        *place = byte(pair)?;
+    }
+    Some(bytes)
 }
 
 // Printing.
 
 pub fn put_digits(out: &mut String, bytes: &[u8]) {
     const DIGITS: &[u8; 16] = b"0123456789abcdef";
-    for byte in bytes {
-        out.push(DIGITS[(byte >> 4) as usize].into());
-        out.push(DIGITS[(byte & 15) as usize].into());
-    }
+    out.reserve(2 * bytes.len());
+    out.extend(bytes.iter().flat_map(|byte| [DIGITS[(byte >> 4) as usize] as char, DIGITS[(byte & 15) as usize] as char]));
 }
 
 pub fn put_of(out: &mut String, name: &str, bytes: &[u8]) {

@@ -1,4 +1,4 @@
-//! What `msat decode HEX KEY..` does, by plain Rust over boxed trees, to be measured beside the proved program. It reads the Script by
+//! What `msat decode HEX KEY..` does, by plain Rust over trees in one room, to be measured beside the proved program. It reads the Script by
 //! recursion, from its last instruction to its first.
 //! Usage: decode_baseline HEX KEY... The exit status is 0, or 10 where `no reading` is printed.
 
@@ -9,7 +9,7 @@ mod check_baseline;
 #[path = "hash_baseline.rs"]
 mod hash_baseline;
 
-use check_baseline::{HashKind, Key, Tree, Two, decoded, put_tree, valid_tree};
+use check_baseline::{HashKind, Key, Tree, Two, decoded, node, put_tree, valid_tree};
 use hash_baseline::{ripemd160, ripemd_block_by_rounds, sha256};
 use std::collections::HashMap;
 use std::process::exit;
@@ -65,11 +65,11 @@ fn key_of(bytes: &[u8]) -> Option<Key> {
 }
 
 fn wrap(letter: u8, x: Tree) -> Tree {
-    Tree::Wrap(letter, Box::new(x))
+    Tree::Wrap(letter, node(x))
 }
 
 fn two(kind: Two, x: Tree, y: Tree) -> Tree {
-    Tree::Two(kind, Box::new(x), Box::new(y))
+    Tree::Two(kind, node(x), node(y))
 }
 
 /// The items that are left, the last of which comes next, and the listed keys by their HASH160.
@@ -153,7 +153,7 @@ impl<'s> Reader<'s> {
                 Some(two(Two::OrI, first, last))
             } else {
                 self.expect(0x64)?;
-                Some(Tree::AndOr(Box::new(self.single()?), Box::new(last), Box::new(first)))
+                Some(Tree::AndOr(node(self.single()?), node(last), node(first)))
             };
         }
         if self.is_next(0x63) {

@@ -1,9 +1,11 @@
 #!/bin/sh
 # What `msat plan TEXT` costs beside `msat satisfy TEXT`, each with a file of 256 keys: instructions at four sizes of each shape, up to the
-# greatest that is sane. The keys of the text stand last in both files. What both print is compared: the weight is the same.
+# greatest that is sane. The keys of the text stand last in both files. What both print is compared: the weight is the same. Beside them stands the
+# plan by the plain program, which prints the same bytes.
 . "$(dirname "$0")/lib.sh"
-wants valgrind python3
+wants valgrind python3 rustc cmp
 product
+plain satisfy_baseline
 
 # The file of a text for one of the commands: 256 keys, those of the text last, with signatures of 72 bytes.
 file_of() {
@@ -21,16 +23,21 @@ measure() {
     planned=$("$program" plan "$2" <"$work/plan.json" | sed -n 's/^weight at most //p')
     satisfied=$("$program" satisfy "$2" <"$work/assets.json" | sed -n 's/^replay .* weight \([0-9]*\) .*/\1/p')
     [ -n "$planned" ] && [ "$planned" = "$satisfied" ] || stop "$1 $3: the weights are $planned and $satisfied"
+    "$program" plan "$2" <"$work/plan.json" >"$work/proved.out"
+    "$plain" plan "$2" <"$work/plan.json" >"$work/plain.out" || stop "$1 $3: the plain program has no plan"
+    cmp "$work/proved.out" "$work/plain.out" >&2 || stop "$1 $3: the outputs differ"
     input=$work/plan.json
     count "$program" plan "$2"
     planned=$counted
+    count "$plain" plan "$2"
+    by_plain=$counted
     input=$work/assets.json
     count "$program" satisfy "$2"
-    row plan "$1" "$3" ${#2} "$planned" "$counted"
+    row plan "$1" "$3" ${#2} "$planned" "$counted" "$by_plain"
     input=/dev/null
 }
 
-columns command shape size bytes plan satisfy
+columns command shape size bytes plan satisfy plain
 while read -r shape sizes; do
     for size in $sizes; do
         measure "$shape" "$(text_of "$shape" "$size")" "$size"

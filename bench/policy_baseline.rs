@@ -1,4 +1,4 @@
-//! What `msat policy TEXT` does, by plain Rust over boxed trees, to be measured beside the proved program. Refusals aren't told apart.
+//! What `msat policy TEXT` does, by plain Rust over trees in one room, to be measured beside the proved program. Refusals aren't told apart.
 //! Usage: policy_baseline TEXT. The exit status is 0, or 2 where `refused` is printed.
 
 #[allow(dead_code)]
@@ -24,20 +24,20 @@ enum Policy {
 use Policy::{Always, All, Any, Never, Thresh};
 
 /// A tree's policy, made simple.
-fn policy_of(tree: Tree) -> Policy {
+fn policy_of(tree: &Tree) -> Policy {
     match tree {
         Tree::Zero => Never,
         Tree::One => Always,
-        Tree::PkK(key) | Tree::PkH(key) => Policy::Key(key),
-        Tree::Older(n) => Policy::Older(n),
-        Tree::After(n) => Policy::After(n),
-        Tree::Hash(kind, value) => Policy::Hash(kind, value),
-        Tree::AndOr(x, y, z) => any(vec![all(vec![policy_of(*x), policy_of(*y)]), policy_of(*z)]),
-        Tree::Two(Two::AndV | Two::AndB, x, z) => all(vec![policy_of(*x), policy_of(*z)]),
-        Tree::Two(_, x, z) => any(vec![policy_of(*x), policy_of(*z)]),
-        Tree::Thresh(k, children) => threshold(k, children.into_iter().map(policy_of).collect()),
-        Tree::Multi(k, keys) => threshold(k, keys.into_iter().map(Policy::Key).collect()),
-        Tree::Wrap(_, x) => policy_of(*x),
+        Tree::PkK(key) | Tree::PkH(key) => Policy::Key(*key),
+        Tree::Older(n) => Policy::Older(*n),
+        Tree::After(n) => Policy::After(*n),
+        Tree::Hash(kind, value) => Policy::Hash(*kind, value.clone()),
+        Tree::AndOr(x, y, z) => any(vec![all(vec![policy_of(x), policy_of(y)]), policy_of(z)]),
+        Tree::Two(Two::AndV | Two::AndB, x, z) => all(vec![policy_of(x), policy_of(z)]),
+        Tree::Two(_, x, z) => any(vec![policy_of(x), policy_of(z)]),
+        Tree::Thresh(k, children) => threshold(*k, children.iter().map(policy_of).collect()),
+        Tree::Multi(k, keys) => threshold(*k, keys.iter().copied().map(Policy::Key).collect()),
+        Tree::Wrap(_, x) => policy_of(x),
     }
 }
 
@@ -139,7 +139,7 @@ fn main() {
         println!("refused");
         exit(2);
     };
-    let policy = policy_of(valid.tree);
+    let policy = policy_of(&valid.tree);
     let mut out = String::from("policy ");
     put_policy(&mut out, &policy);
     match least_keys(&policy) {

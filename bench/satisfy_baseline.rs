@@ -1,7 +1,7 @@
-//! What `msat check`, `msat satisfy` and `msat run` do, by plain Rust over boxed trees, to be measured beside the proved program. Refusals
+//! What `msat check`, `msat satisfy`, `msat plan` and `msat run` do, by plain Rust over trees in one room, to be measured beside the proved program. Refusals
 //! aren't told apart.
-//! Usage: satisfy_baseline check [--consensus] TEXT; satisfy_baseline [--malleable] TEXT, with an asset file on standard input; satisfy_baseline run, with a
-//! run file. The exit status is 0, 2 where `refused` is printed, 4 where there is no satisfaction, or 8 where the run is refused.
+//! Usage: satisfy_baseline check [--consensus] TEXT; satisfy_baseline [--malleable] TEXT, with an asset file on standard input;
+//! satisfy_baseline plan TEXT, with a plan file; satisfy_baseline run, with a run file. The exit status is 0, 2 where `refused` is printed, 4 where there is no satisfaction, or 8 where the run is refused.
 //! Usage: satisfy_baseline fragments, with an asset file on standard input. Prints a hash fragment for each of its preimages, of the four
 //! functions in turn.
 
@@ -15,10 +15,11 @@ mod hash_baseline;
 #[path = "interp_baseline.rs"]
 mod interp_baseline;
 
-use check_baseline::{HashKind, Key, Tree, Two, Valid, decoded, put_digits, valid, valid_by_consensus};
+use check_baseline::{HashKind, Key, Tree, Two, Valid, decoded, decoded_array, put_digits, valid, valid_by_consensus};
 use hash_baseline::{ripemd160, ripemd_block_by_rounds, sha256};
 use interp_baseline::{Locks, run};
-use std::collections::{HashMap, HashSet};
+use std::cell::OnceCell;
+use std::collections::HashMap;
 use std::io::{Read, stdin};
 use std::process::exit;
 
@@ -136,21 +137,29 @@ fn kinds_of(tree: &Tree) -> Option<Kinds> {
     }
 }
 
-/// Whether no key of the tree has been seen, here or earlier in it.
-fn has_new_keys<'t>(tree: &'t Tree, seen: &mut HashSet<&'t Key>) -> bool {
+/// Appends the keys of a tree.
+fn keys_of(tree: &Tree, keys: &mut Vec<Key>) {
     match tree {
-        Tree::PkK(key) | Tree::PkH(key) => seen.insert(key),
-        Tree::Multi(_, keys) => keys.iter().all(|key| seen.insert(key)),
-        Tree::AndOr(x, y, z) => has_new_keys(x, seen) && has_new_keys(y, seen) && has_new_keys(z, seen),
-        Tree::Two(_, x, z) => has_new_keys(x, seen) && has_new_keys(z, seen),
-        Tree::Thresh(_, children) => children.iter().all(|child| has_new_keys(child, seen)),
-        Tree::Wrap(_, x) => has_new_keys(x, seen),
-        _ => true,
+        Tree::PkK(key) | Tree::PkH(key) => keys.push(*key),
+        Tree::Multi(_, all) => keys.extend_from_slice(all),
+        Tree::AndOr(x, y, z) => [x, y, z].iter().for_each(|part| keys_of(part, keys)),
+        Tree::Two(_, x, z) => [x, z].iter().for_each(|part| keys_of(part, keys)),
+        Tree::Thresh(_, children) => children.iter().for_each(|child| keys_of(child, keys)),
+        Tree::Wrap(_, x) => keys_of(x, keys),
+        _ => {}
     }
 }
 
+/// Whether no key stands twice.
+fn has_new_keys(tree: &Tree) -> bool {
+    let mut keys = Vec::new();
+    keys_of(tree, &mut keys);
+    keys.sort_unstable();
+    keys.windows(2).all(|pair| pair[0] != pair[1])
+}
+
 pub fn is_sane(tree: &Tree) -> bool {
-    mall_of(tree).is_some_and(|top| top.s) && kinds_of(tree).is_some() && has_new_keys(tree, &mut HashSet::new())
+    mall_of(tree).is_some_and(|top| top.s) && kinds_of(tree).is_some() && has_new_keys(tree)
 }
 
 // The height of the stacks.
@@ -391,52 +400,73 @@ impl Json<'_> {
     }
 }
 
-/// What a wallet holds: a preimage under each of its four hash values, by the function's place in `HashKind`.
+/// What a wallet holds. The preimages are hashed by a function when it is first asked for, and not before.
 struct Assets {
     locks: Locks,
-    signatures: HashMap<Key, Vec<u8>>,
-    preimages: [HashMap<Vec<u8>, [u8; 32]>; 4],
+    /// By the keys.
+    signatures: Vec<(Key, Vec<u8>)>,
+    preimages: Vec<[u8; 32]>,
+    /// SHA-256 of each preimage, with which HASH256 and HASH160 begin too.
+    once: OnceCell<Vec<[u8; 32]>>,
+    /// The preimages under their hash values, by the function's place in `HashKind`.
+    by_hash: [OnceCell<HashMap<Digest, [u8; 32]>>; 4],
 }
 
+/// A hash value, with zeros behind one of 20 bytes.
+type Digest = [u8; 32];
+
 impl Assets {
-    /// With room for so many signatures and preimages.
-    fn new(locks: Locks, signatures: usize, preimages: usize) -> Assets {
-        Assets {
-            locks,
-            signatures: HashMap::with_capacity(signatures),
-            preimages: [(); 4].map(|()| HashMap::with_capacity(preimages)),
-        }
-    }
-
-    fn add_signature(&mut self, key: &str, signature: &str) -> Option<()> {
-        let key: Key = decoded(key.as_bytes())?.try_into().ok()?;
-        let signature = decoded(signature.as_bytes())?;
-        let fits = (key[0] == 2 || key[0] == 3) && (1..=73).contains(&signature.len());
-        (fits && self.signatures.insert(key, signature).is_none()).then_some(())
-    }
-
-    /// The first of two with the same hash value is kept.
-    fn add_preimage(&mut self, preimage: [u8; 32]) {
-        for (known, digest) in self.preimages.iter_mut().zip(digests(&preimage)) {
-            known.entry(digest).or_insert(preimage);
-        }
+    /// None where a key stands twice.
+    fn new(locks: Locks, mut signatures: Vec<(Key, Vec<u8>)>, preimages: Vec<[u8; 32]>) -> Option<Assets> {
+        signatures.sort_unstable_by(|first, second| first.0.cmp(&second.0));
+        let is_new = signatures.windows(2).all(|pair| pair[0].0 != pair[1].0);
+        is_new.then(|| Assets { locks, signatures, preimages, once: OnceCell::new(), by_hash: Default::default() })
     }
 
     fn signature(&self, key: &Key) -> Option<&[u8]> {
-        self.signatures.get(key).map(Vec::as_slice)
+        let place = self.signatures.binary_search_by(|pair| pair.0.cmp(key)).ok()?;
+        Some(&self.signatures[place].1)
     }
 
     fn preimage(&self, kind: HashKind, value: &[u8]) -> Option<&[u8]> {
-        self.preimages[kind as usize].get(value).map(|preimage| preimage.as_slice())
+        let known = self.by_hash[kind as usize].get_or_init(|| self.hashed(kind));
+        known.get(&widened(value)).map(|preimage| preimage.as_slice())
+    }
+
+    /// The first of two with the same hash value is kept.
+    fn hashed(&self, kind: HashKind) -> HashMap<Digest, [u8; 32]> {
+        let once = || self.once.get_or_init(|| self.preimages.iter().map(|preimage| sha256(preimage)).collect());
+        let digests: Vec<Digest> = match kind {
+            HashKind::Sha256 => once().clone(),
+            HashKind::Hash256 => once().iter().map(|digest| sha256(digest)).collect(),
+            HashKind::Ripemd160 => self.preimages.iter().map(|preimage| ripemd(preimage)).collect(),
+            HashKind::Hash160 => once().iter().map(|digest| ripemd(digest)).collect(),
+        };
+        let mut known = HashMap::with_capacity(digests.len());
+        for (digest, preimage) in digests.into_iter().zip(&self.preimages) {
+            known.entry(digest).or_insert(*preimage);
+        }
+        known
     }
 }
 
-/// By the four functions, in the order of `HashKind`.
-fn digests(message: &[u8]) -> [Vec<u8>; 4] {
-    let once = sha256(message);
-    let twice = sha256(&once);
-    let ripemd = |message: &[u8]| ripemd160(message, ripemd_block_by_rounds).to_vec();
-    [once.to_vec(), twice.to_vec(), ripemd(message), ripemd(&once)]
+fn digest(kind: HashKind, message: &[u8]) -> Digest {
+    match kind {
+        HashKind::Sha256 => sha256(message),
+        HashKind::Hash256 => sha256(&sha256(message)),
+        HashKind::Ripemd160 => ripemd(message),
+        HashKind::Hash160 => ripemd(&sha256(message)),
+    }
+}
+
+fn widened(value: &[u8]) -> Digest {
+    let mut digest = [0; 32];
+    digest[..value.len()].copy_from_slice(value);
+    digest
+}
+
+fn ripemd(message: &[u8]) -> Digest {
+    widened(&ripemd160(message, ripemd_block_by_rounds))
 }
 
 /// None where the file is refused, here and in what follows.
@@ -460,15 +490,19 @@ fn locks_of(file: &Value) -> Option<Locks> {
 
 fn assets_of(file: &[u8]) -> Option<Assets> {
     let file = object_of(file)?;
-    let (signatures, preimages) = (list(&file, "signatures", 256)?, list(&file, "preimages", 256)?);
-    let mut assets = Assets::new(locks_of(&file)?, signatures.len(), preimages.len());
-    for signature in signatures {
-        assets.add_signature(signature.member("key")?.text()?, signature.member("sig")?.text()?)?;
-    }
-    for preimage in preimages {
-        assets.add_preimage(decoded(preimage.text()?.as_bytes())?.try_into().ok()?);
-    }
-    Some(assets)
+    let signatures = list(&file, "signatures", 256)?.iter().map(signature_of).collect::<Option<Vec<_>>>()?;
+    Assets::new(locks_of(&file)?, signatures, preimages_of(&file)?)
+}
+
+fn preimages_of(file: &Value) -> Option<Vec<[u8; 32]>> {
+    list(file, "preimages", 256)?.iter().map(|text| decoded_array(text.text()?.as_bytes())).collect()
+}
+
+fn signature_of(pair: &Value) -> Option<(Key, Vec<u8>)> {
+    let key: Key = decoded_array(pair.member("key")?.text()?.as_bytes())?;
+    let signature = decoded(pair.member("sig")?.text()?.as_bytes())?;
+    let fits = (key[0] == 2 || key[0] == 3) && (1..=73).contains(&signature.len());
+    fits.then_some((key, signature))
 }
 
 fn number(file: &Value, name: &str, default: u32) -> Option<u32> {
@@ -533,8 +567,8 @@ impl Plan {
 struct Choice<'a> {
     assets: &'a Assets,
     is_strict: bool,
-    /// The hash values of 32 zero bytes.
-    of_zeros: [Vec<u8>; 4],
+    /// The hash values of 32 zero bytes that were asked for.
+    of_zeros: [OnceCell<Digest>; 4],
 }
 
 impl<'a> Choice<'a> {
@@ -547,7 +581,8 @@ impl<'a> Choice<'a> {
             Tree::Older(n) => Plan::leaf(NOTHING.filter(|_| self.assets.locks.hold_older(*n)), None),
             Tree::After(n) => Plan::leaf(NOTHING.filter(|_| self.assets.locks.hold_after(*n)), None),
             Tree::Hash(kind, value) => {
-                let is_of_zeros = self.of_zeros[*kind as usize] == *value;
+                let of_zeros = self.of_zeros[*kind as usize].get_or_init(|| digest(*kind, &[0; 32]));
+                let is_of_zeros = *of_zeros == widened(value);
                 let sat = self.assets.preimage(*kind, value).and_then(|preimage| item(preimage.len()));
                 Plan::leaf(sat, item(32).filter(|_| !is_of_zeros))
             }
@@ -784,7 +819,7 @@ fn satisfy(text: &str, is_strict: bool) -> Option<Option<String>> {
         return None;
     }
     let assets = assets_of(&file())?;
-    let choice = Choice { assets: &assets, is_strict, of_zeros: digests(&[0; 32]) };
+    let choice = Choice { assets: &assets, is_strict, of_zeros: Default::default() };
     let plan = choice.plan(&valid.tree);
     if plan.sat.is_none() {
         return Some(None);
@@ -792,6 +827,74 @@ fn satisfy(text: &str, is_strict: bool) -> Option<Option<String>> {
     let mut stack = Vec::new();
     choice.put(&valid.tree, &plan, true, &mut stack);
     Some(Some(report(&valid, &assets, &stack).expect("an accepted run")))
+}
+
+/// The signatures of a plan file: bytes of the lengths that are estimated. None where the file is refused.
+fn estimated(file: &[u8]) -> Option<Assets> {
+    let file = object_of(file)?;
+    let pair = |pair: &Value| {
+        let key: Key = decoded_array(pair.member("key")?.text()?.as_bytes())?;
+        let length = number(pair, "length", 0).filter(|length| (1..=73).contains(length))?;
+        matches!(key[0], 2 | 3).then(|| (key, vec![0; length as usize]))
+    };
+    let signatures = list(&file, "keys", 256)?.iter().map(pair).collect::<Option<_>>()?;
+    Assets::new(locks_of(&file)?, signatures, preimages_of(&file)?)
+}
+
+/// None where the text or the file is refused; Some(None) where there is no satisfaction.
+fn plan(text: &str) -> Option<Option<String>> {
+    let valid = valid(text)?;
+    if !is_sane(&valid.tree) {
+        return None;
+    }
+    let assets = estimated(&file())?;
+    let choice = Choice { assets: &assets, is_strict: true, of_zeros: Default::default() };
+    let plan = choice.plan(&valid.tree);
+    let Some(sat) = plan.sat else {
+        return Some(None);
+    };
+    let mut keys = Vec::new();
+    asked(&valid.tree, &plan, true, &mut keys);
+    let mut out = String::new();
+    for key in keys {
+        out.push_str("ask ");
+        put_digits(&mut out, key);
+        out.push('\n');
+    }
+    out.push_str(&format!("weight at most {}\n", sat.weight));
+    Some(Some(out))
+}
+
+/// Adds the keys that sign, in the order of the nodes.
+fn asked<'t>(tree: &'t Tree, plan: &Plan, is_sat: bool, keys: &mut Vec<&'t Key>) {
+    match (tree, plan.parts.as_slice()) {
+        (Tree::PkK(key) | Tree::PkH(key), _) if is_sat => keys.push(key),
+        (Tree::AndOr(x, y, z), [of_x, of_y, of_z]) => {
+            let is_first = is_sat && !plan.sat_is_second;
+            asked(x, of_x, is_first, keys);
+            if is_first {
+                asked(y, of_y, true, keys);
+            } else {
+                asked(z, of_z, is_sat, keys);
+            }
+        }
+        (Tree::Two(kind, x, z), [of_x, of_z]) => {
+            let is_both = matches!(kind, Two::AndV | Two::AndB);
+            let is_second = if is_sat { plan.sat_is_second } else { plan.dsat_is_second };
+            asked(x, of_x, is_sat && (is_both || !is_second), keys);
+            asked(z, of_z, is_sat && (is_both || is_second), keys);
+        }
+        (Tree::Thresh(_, children), plans) => {
+            for ((child, of_child), chosen) in children.iter().zip(plans).zip(&plan.chosen) {
+                asked(child, of_child, is_sat && *chosen, keys);
+            }
+        }
+        (Tree::Multi(_, own), _) if is_sat => {
+            keys.extend(own.iter().zip(&plan.chosen).filter(|(_, chosen)| **chosen).map(|(key, _)| key));
+        }
+        (Tree::Wrap(letter, x), _) if is_sat || !matches!(letter, b'd' | b'j') => asked(x, plan, is_sat, keys),
+        _ => {}
+    }
 }
 
 /// The report of a run file's run. None where the file is refused; Some(None) where the run is.
@@ -824,11 +927,16 @@ fn fragments() -> Option<String> {
     let file = Json { bytes: &file(), at: 0 }.value()?;
     let mut out = String::new();
     for (i, preimage) in list(&file, "preimages", 256)?.iter().enumerate() {
-        let name = ["sha256", "hash256", "ripemd160", "hash160"][i % 4];
-        let value = &digests(&decoded(preimage.text()?.as_bytes())?)[i % 4];
+        let preimage = decoded(preimage.text()?.as_bytes())?;
+        let (name, kind, length) = match i % 4 {
+            0 => ("sha256", HashKind::Sha256, 32),
+            1 => ("hash256", HashKind::Hash256, 32),
+            2 => ("ripemd160", HashKind::Ripemd160, 20),
+            _ => ("hash160", HashKind::Hash160, 20),
+        };
         out.push_str(name);
         out.push('(');
-        put_digits(&mut out, value);
+        put_digits(&mut out, &digest(kind, &preimage)[..length]);
         out.push_str(")\n");
     }
     Some(out)
@@ -842,6 +950,7 @@ fn main() {
         ["run"] => run_file(&file()),
         ["check", text] => check(text, false).map(Some),
         ["check", "--consensus", text] => check(text, true).map(Some),
+        ["plan", text] => plan(text),
         ["--malleable", text] => satisfy(text, false),
         [text] => satisfy(text, true),
         _ => panic!("a text"),
