@@ -49,9 +49,14 @@ fn push_item(bytes: &mut Vec<u8>, item: &[u8]) -> Result<(), AllocError>
     bytes.extend_from_slice(item)
 }
 
-/// Adds the shortest spelling of a size.
+/// Adds the shortest spelling of a size. Most are a byte, which is added without a call.
+#[tactic(auto, unfolding(def_script::specs::Sizes::size_bytes))]
 fn push_size(bytes: &mut Vec<u8>, size: usize) -> Result<(), AllocError>
     ensures { OnOk result (bytes.new.items ≡ bytes.old.items ++ size_bytes size) }
 {
+    if size < 0xfd {
+        bytes.push(size as u8)?;
+        return Ok(());
+    }
     bytes.extend_from_slice(compact_size(size as u64).as_slice())
 }
