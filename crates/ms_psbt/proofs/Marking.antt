@@ -1,11 +1,11 @@
 -- Lists of places with the marks of their keys, which grow.
-use Rattle.std.proofs.Common.{◌≡◌, ℕ, List, [], ◌∷◌, ◌++◌, sym, ap, subst, ◌∙◌}
+use Rattle.std.proofs.Common.{◌≡◌, ℕ, zero, suc, ◌<◌, List, [], ◌∷◌, ◌++◌, length, map, get_or, refl, sym, ap, subst, ◌∙◌, arith}
 use Rattle.std.proofs.lemmas.List.{map-append}
 use Rattle.std.proofs.lemmas.List.Elements.{All-push}
 use Rattle.def_script.specs.Bytes.{Bytes}
 use Rattle.ms_psbt.specs.declared.repeats.Keys.{Keys}
 use Rattle.ms_psbt.specs.declared.repeats.Marked.{Marked}
-use Rattle.ms_psbt.specs.Scaffolding.Repeats.{key_at, mark_of, marked, IsMarked, AreMarked, places_of}
+use Rattle.ms_psbt.specs.Scaffolding.Repeats.{key_at, mark_of, hash_of, marked, hashed, IsMarkedBy, AreMarked, AreMarkedBy, places_of}
 
 pub places_more : (items new : List Marked) (place : Marked) (key : Bytes) (at : ℕ) → new ≡ items ++ place ∷ [] → place ≡ marked key at → places_of new ≡ places_of items ++ at ∷ []
 places_more items new place key at pushed is =
@@ -15,4 +15,19 @@ pub marks_more : (keys : Keys) (bytes : Bytes) (items new : List Marked) (place 
     → AreMarked keys bytes items → AreMarked keys bytes new
 marks_more keys bytes items new place at pushed is all =
     subst (AreMarked keys bytes) (sym pushed)
-    (All-push (IsMarked keys bytes) items place all (ap (λ (m : Marked). m.mark) is ∙ ap (λ (m : Marked). mark_of (key_at keys bytes m.place)) (sym is)))
+    (All-push (IsMarkedBy mark_of keys bytes) items place all (ap (λ (m : Marked). m.mark) is ∙ ap (λ (m : Marked). mark_of (key_at keys bytes m.place)) (sym is)))
+
+-- ---- places with the hashes of their keys
+
+pub hashed_places : (keys : Keys) (bytes : Bytes) (places : List Marked) → places_of (map (hashed keys bytes) places) ≡ places_of places
+hashed_places keys bytes [] = refl
+hashed_places keys bytes (place ∷ places) = ap (λ (rest : List ℕ). place.place ∷ rest) (hashed_places keys bytes places)
+
+pub hashed_marks : (keys : Keys) (bytes : Bytes) (places : List Marked) → AreMarkedBy hash_of keys bytes (map (hashed keys bytes) places)
+hashed_marks keys bytes [] = λ i d inside. absurd (omega arith)
+hashed_marks keys bytes (place ∷ places) = λ i d inside. go (hashed_marks keys bytes places) i d inside
+  where
+    go : AreMarkedBy hash_of keys bytes (map (hashed keys bytes) places) → (i : ℕ) (d : Marked) → i < suc (length (map (hashed keys bytes) places))
+        → IsMarkedBy hash_of keys bytes (get_or (map (hashed keys bytes) (place ∷ places)) i d)
+    go rest zero d inside = refl
+    go rest (suc i) d inside = rest i d (omega arith)

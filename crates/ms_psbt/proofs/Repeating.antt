@@ -20,7 +20,7 @@ use Rattle.std.specs.declared.cmp.Ordering.TheVariants.{Less, Equal, Greater}
 use Rattle.def_script.specs.Bytes.{Bytes}
 use Rattle.ms_psbt.specs.declared.repeats.Keys.{Keys}
 use Rattle.ms_psbt.specs.declared.repeats.Marked.{Marked}
-use Rattle.ms_psbt.specs.Scaffolding.Repeats.{key_at, mark_of, AreMarked, places_of, rank_cmp, rank_of, repeat_in, IsLeast, LeastOf, least_of}
+use Rattle.ms_psbt.specs.Scaffolding.Repeats.{key_at, AreMarkedBy, places_of, rank_cmp, rank_of, repeat_in, IsLeast, LeastOf, least_of}
 
 -- ---- neighbours, one after the other
 
@@ -214,53 +214,53 @@ pub weak : (keys : Keys) (bytes : Bytes) → IsStrictWeakOrder (λ (a b : Marked
 weak keys bytes = ranks_by rank_cmp-total (rank_of keys bytes)
 
 -- the rank of a place with this key
-abbrev rank_with : (key : Bytes) (place : ℕ) → ℕ × (Bytes × ℕ)
-rank_with key place = (mark_of key, (key, place))
+abbrev rank_with : (mark : Bytes → ℕ) (key : Bytes) (place : ℕ) → ℕ × (Bytes × ℕ)
+rank_with mark key place = (mark key, (key, place))
 
-abbrev rank_at : Keys → (bytes : Bytes) → (place : ℕ) → ℕ × (Bytes × ℕ)
-rank_at keys bytes place = rank_with (key_at keys bytes place) place
+abbrev rank_at : (mark : Bytes → ℕ) → Keys → (bytes : Bytes) → (place : ℕ) → ℕ × (Bytes × ℕ)
+rank_at mark keys bytes place = rank_with mark (key_at keys bytes place) place
 
-weak_at : (keys : Keys) (bytes : Bytes) → IsStrictWeakOrder (λ (a b : ℕ). is_lt (rank_cmp (rank_at keys bytes a) (rank_at keys bytes b)))
-weak_at keys bytes = ranks_by rank_cmp-total (rank_at keys bytes)
+weak_at : (mark : Bytes → ℕ) (keys : Keys) (bytes : Bytes) → IsStrictWeakOrder (λ (a b : ℕ). is_lt (rank_cmp (rank_at mark keys bytes a) (rank_at mark keys bytes b)))
+weak_at mark keys bytes = ranks_by rank_cmp-total (rank_at mark keys bytes)
 
 -- places with the marks of their keys are in the order of places alone
-pub sorted_places : (keys : Keys) (bytes : Bytes) (order : List Marked) → AreMarked keys bytes order → IsSortedByKey (rank_of keys bytes) rank_cmp order
-    → IsSortedByKey (rank_at keys bytes) rank_cmp (places_of order)
-sorted_places keys bytes order all sorted k d low inside =
+pub sorted_places : (mark : Bytes → ℕ) (keys : Keys) (bytes : Bytes) (order : List Marked) → AreMarkedBy mark keys bytes order → IsSortedByKey (rank_of keys bytes) rank_cmp order
+    → IsSortedByKey (rank_at mark keys bytes) rank_cmp (places_of order)
+sorted_places mark keys bytes order all sorted k d low inside =
     let long : length (places_of order) ≡ length order = length-map order (λ (m : Marked). m.place) in
     let first = rank_is k (omega (arith, long)) in
     let second = rank_is (k + 1) (omega (arith, long)) in
-    ap (λ r. is_lt (rank_cmp r (rank_at keys bytes (get_or (places_of order) k d)))) second
+    ap (λ r. is_lt (rank_cmp r (rank_at mark keys bytes (get_or (places_of order) k d)))) second
     ∙ ap (λ r. is_lt (rank_cmp (rank_of keys bytes (get_or order (k + 1) none)) r)) first
     ∙ sorted k none low (omega (arith, long))
   where
     none : Marked
     none = record { mark = 0; place = 0 }
 
-    rank_is : (i : ℕ) → i < length order → rank_at keys bytes (get_or (places_of order) i d) ≡ rank_of keys bytes (get_or order i none)
+    rank_is : (i : ℕ) → i < length order → rank_at mark keys bytes (get_or (places_of order) i d) ≡ rank_of keys bytes (get_or order i none)
     rank_is i within =
-        ap (rank_at keys bytes) (get_or-map (λ (m : Marked). m.place) order i none d within)
-        ∙ ap (λ (mark : ℕ). (mark, (key_at keys bytes (get_or order i none).place, (get_or order i none).place))) (sym (all i none within))
+        ap (rank_at mark keys bytes) (get_or-map (λ (m : Marked). m.place) order i none d within)
+        ∙ ap (λ (m : ℕ). (m, (key_at keys bytes (get_or order i none).place, (get_or order i none).place))) (sym (all i none within))
 
 not_less : (m n : ℕ) (o : Ordering) → MatchOrdering o (m < n) (m ≡ n) (n < m) → is_lt o ≡ false → n ≤ m
 not_less m n Less h g = absurd (let no = g in cc)
 not_less m n Equal h g = omega (arith, h)
 not_less m n Greater h g = omega (arith, h)
 
-tied : (first second : Bytes) (places : Ordering) → first ≡ second
-    → ordering_then (nat_cmp (mark_of first) (mark_of second)) (ordering_then (slice_cmp nat_cmp first second) places) ≡ places
-tied first second places e =
-    let marks : nat_cmp (mark_of first) (mark_of second) ≡ Equal = ap (λ k. nat_cmp (mark_of first) (mark_of k)) (sym e) ∙ tied_itself nat_cmp_total (mark_of first) in
+tied : (mark : Bytes → ℕ) (first second : Bytes) (places : Ordering) → first ≡ second
+    → ordering_then (nat_cmp (mark first) (mark second)) (ordering_then (slice_cmp nat_cmp first second) places) ≡ places
+tied mark first second places e =
+    let marks : nat_cmp (mark first) (mark second) ≡ Equal = ap (λ k. nat_cmp (mark first) (mark k)) (sym e) ∙ tied_itself nat_cmp_total (mark first) in
     let one : slice_cmp nat_cmp first second ≡ Equal = ap (slice_cmp nat_cmp first) (sym e) ∙ tied_itself nat_list_cmp_total first in
     rw (marks, one) refl
 
 -- of two with one key that which isn't before the other has no lesser place
-no_earlier : (first second : Bytes) (m n : ℕ) → first ≡ second → is_lt (rank_cmp (rank_with first m) (rank_with second n)) ≡ false → n ≤ m
-no_earlier first second m n e h =
-    not_less m n (nat_cmp m n) (ranked m n (nat_cmp m n) refl) (ap is_lt (sym (tied first second (nat_cmp m n) e)) ∙ h)
+no_earlier : (mark : Bytes → ℕ) (first second : Bytes) (m n : ℕ) → first ≡ second → is_lt (rank_cmp (rank_with mark first m) (rank_with mark second n)) ≡ false → n ≤ m
+no_earlier mark first second m n e h =
+    not_less m n (nat_cmp m n) (ranked m n (nat_cmp m n) refl) (ap is_lt (sym (tied mark first second (nat_cmp m n) e)) ∙ h)
 
-earlier : (first second : Bytes) (m n : ℕ) → first ≡ second → m < n → is_lt (rank_cmp (rank_with first m) (rank_with second n)) ≡ true
-earlier first second m n e below = ap is_lt (tied first second (nat_cmp m n) e) ∙ go (nat_cmp m n) (ranked m n (nat_cmp m n) refl)
+earlier : (mark : Bytes → ℕ) (first second : Bytes) (m n : ℕ) → first ≡ second → m < n → is_lt (rank_cmp (rank_with mark first m) (rank_with mark second n)) ≡ true
+earlier mark first second m n e below = ap is_lt (tied mark first second (nat_cmp m n) e) ∙ go (nat_cmp m n) (ranked m n (nat_cmp m n) refl)
   where
     go : (o : Ordering) → MatchOrdering o (m < n) (m ≡ n) (n < m) → is_lt o ≡ true
     go Less h = refl
@@ -281,9 +281,9 @@ marked_both_ways Equal second marks there back e places places' f g = both_ways 
 marked_both_ways Greater second marks there back e places places' f g = absurd (let no = rw marks at g in cc)
 
 -- what stands between two with one key has it too
-between : (key other : Bytes) (m n p : ℕ) → is_lt (rank_cmp (rank_with other m) (rank_with key n)) ≡ false → is_lt (rank_cmp (rank_with key p) (rank_with other m)) ≡ false → other ≡ key
-between key other m n p f g =
-    let eq = marked_both_ways (nat_cmp (mark_of other) (mark_of key)) (nat_cmp (mark_of key) (mark_of other)) (nat_cmp_total.antisymm (mark_of key) (mark_of other))
+between : (mark : Bytes → ℕ) (key other : Bytes) (m n p : ℕ) → is_lt (rank_cmp (rank_with mark other m) (rank_with mark key n)) ≡ false → is_lt (rank_cmp (rank_with mark key p) (rank_with mark other m)) ≡ false → other ≡ key
+between mark key other m n p f g =
+    let eq = marked_both_ways (nat_cmp (mark other) (mark key)) (nat_cmp (mark key) (mark other)) (nat_cmp_total.antisymm (mark key) (mark other))
     (slice_cmp nat_cmp other key) (slice_cmp nat_cmp key other) (nat_list_cmp_total.antisymm key other) (nat_cmp m n) (nat_cmp p m) f g in
     (bytes_eq-Decides other key).0 (sym (is_eq-slice_cmp other key) ∙ eq)
 
@@ -295,8 +295,8 @@ eqb-flips m n =
 distinct_from_up : (places : List ℕ) → IsStrictlyIncreasing places → IsDistinct eqb places
 distinct_from_up places up = IsDistinct-from_apart eqb places (λ i j d below inside. let less = AllPairs-from_increasing places up i j d below inside in ne_eqb _ _ (λ e. omega arith))
 
-module _ (keys : Keys) (bytes : Bytes) (places order : List ℕ) (up : IsStrictlyIncreasing places) (moved : IsPermutation places order)
-    (sorted : IsSortedByKey (rank_at keys bytes) rank_cmp order) where
+module _ (mark : Bytes → ℕ) (keys : Keys) (bytes : Bytes) (places order : List ℕ) (up : IsStrictlyIncreasing places) (moved : IsPermutation places order)
+    (sorted : IsSortedByKey (rank_at mark keys bytes) rank_cmp order) where
   abbrev key : ℕ → Bytes
   key place = key_at keys bytes place
 
@@ -321,7 +321,7 @@ module _ (keys : Keys) (bytes : Bytes) (places order : List ℕ) (up : IsStrictl
       let second = in_places (k + 1) inside in
       let first_is : get_or places first.0 0 ≡ get_or order k 0 = get_or_default places first.0 0 (get_or order k 0) first.1 ∙ first.2 in
       let second_is : get_or places second.0 0 ≡ get_or order (k + 1) 0 = get_or_default places second.0 0 (get_or order (k + 1) 0) second.1 ∙ second.2 in
-      let not_after : get_or order k 0 ≤ get_or order (k + 1) 0 = no_earlier _ _ (get_or order (k + 1) 0) (get_or order k 0) (sym e) (sorted k 0 (omega arith) inside) in
+      let not_after : get_or order k 0 ≤ get_or order (k + 1) 0 = no_earlier mark _ _ (get_or order (k + 1) 0) (get_or order k 0) (sym e) (sorted k 0 (omega arith) inside) in
       let differ = apart k (k + 1) (omega arith) inside in
       let below : first.0 < second.0 = ⊎_elim (λ l. l) (λ l. absurd (not_up first.0 second.0 l first.1 first_is second_is not_after differ)) (cases_lt first.0 second.0) in (
         second.0,
@@ -343,18 +343,18 @@ module _ (keys : Keys) (bytes : Bytes) (places order : List ℕ) (up : IsStrictl
       let first = in_order i (omega arith) in
       let second = in_order j inside in
       let less : get_or places i 0 < get_or places j 0 = AllPairs-from_increasing places up i j 0 below inside in
-      let before : first.0 < second.0 = ⊎_elim (λ l. l) (λ l. absurd (let no = sorted_far _ (weak_at keys bytes) order sorted second.0 first.0 0 l first.1 in
-      let yes : is_lt (rank_cmp (rank_at keys bytes (get_or order first.0 0)) (rank_at keys bytes (get_or order second.0 0))) ≡ true =
-      earlier _ _ _ _ (ap key first.2 ∙ sym e ∙ ap key (sym second.2)) (subst (λ m. m < get_or order second.0 0) (sym first.2) (subst (λ m. get_or places i 0 < m) (sym second.2) less)) in
+      let before : first.0 < second.0 = ⊎_elim (λ l. l) (λ l. absurd (let no = sorted_far _ (weak_at mark keys bytes) order sorted second.0 first.0 0 l first.1 in
+      let yes : is_lt (rank_cmp (rank_at mark keys bytes (get_or order first.0 0)) (rank_at mark keys bytes (get_or order second.0 0))) ≡ true =
+      earlier mark _ _ _ _ (ap key first.2 ∙ sym e ∙ ap key (sym second.2)) (subst (λ m. m < get_or order second.0 0) (sym first.2) (subst (λ m. get_or places i 0 < m) (sym second.2) less)) in
       cc)) (cases_lt first.0 second.0) in
       let last : (second.0 - 1) + 1 ≡ second.0 = omega arith in
       let m = second.0 - 1 in
-      let after_first = sorted_far _ (weak_at keys bytes) order sorted first.0 m 0 (omega arith) (omega (arith, second.1)) in
-      let before_second = sorted_far _ (weak_at keys bytes) order sorted m second.0 0 (omega arith) second.1 in
+      let after_first = sorted_far _ (weak_at mark keys bytes) order sorted first.0 m 0 (omega arith) (omega (arith, second.1)) in
+      let before_second = sorted_far _ (weak_at mark keys bytes) order sorted m second.0 0 (omega arith) second.1 in
       let key_first : key (get_or order first.0 0) ≡ key (get_or order second.0 0) = ap key first.2 ∙ sym e ∙ ap key (sym second.2) in
       let has : key (get_or order m 0) ≡ key (get_or order second.0 0) =
-      between (key (get_or order second.0 0)) (key (get_or order m 0)) (get_or order m 0) (get_or order first.0 0) (get_or order second.0 0)
-      (subst (λ (x : Bytes). is_lt (rank_cmp (rank_with (key (get_or order m 0)) (get_or order m 0)) (rank_with x (get_or order first.0 0))) ≡ false) key_first after_first) before_second in
+      between mark (key (get_or order second.0 0)) (key (get_or order m 0)) (get_or order m 0) (get_or order first.0 0) (get_or order second.0 0)
+      (subst (λ (x : Bytes). is_lt (rank_cmp (rank_with mark (key (get_or order m 0)) (get_or order m 0)) (rank_with mark x (get_or order first.0 0))) ≡ false) key_first after_first) before_second in
       (m, omega (arith, second.1), has ∙ ap (λ k. key (get_or order k 0)) (sym last), ap (λ k. get_or order k 0) last ∙ second.2)
 
   pub least_is_first : (o : Option ℕ) → LeastOf keys bytes order (length order) o → o ≡ repeat_in keys bytes [] places

@@ -1,12 +1,16 @@
 //! Keys that stand twice, found by a sort of their places.
 
-ghost use Rattle.std.specs.Prelude.{◌≡◌, ◌+◌, ◌^◌, ◌<◌, ◌≤◌, length, []};
+ghost use Rattle.std.specs.Prelude.{◌≡◌, ◌+◌, ◌^◌, ◌<◌, ◌≤◌, length, [], map};
 ghost use Rattle.std.specs.List.Sorted.{IsStrictlyIncreasing};
 ghost use Rattle.std.specs.Str.{bytes_eq};
-ghost use Rattle.ms_psbt.specs.Scaffolding.Repeats.{key_at as the_key_at, first_four as the_first_four, mark_of as the_mark_of, marked as the_marked, IsMarked, AreMarked, places_of, rank_cmp, rank_of, repeat_in, LeastOf, least_of as the_least_of};
+ghost use Rattle.ms_psbt.specs.Scaffolding.Repeats.{key_at as the_key_at, first_four as the_first_four, mark_of as the_mark_of, hash_of as the_hash_of, marked as the_marked, hashed as the_hashed, AreMarked, HaveMarks, places_of, rank_cmp, rank_of, repeat_in, LeastOf, least_of as the_least_of};
 
 use crate::pairs::string_at;
 use std::cmp::Ordering;
+use std::hash::{DefaultHasher, Hasher};
+
+/// So many places lie near the processor with their keys, which are looked up quickly then, whatever their marks are.
+const AT_HAND: usize = 4096;
 
 /// What stands at places.
 #[derive(Clone, Copy)]
@@ -113,17 +117,48 @@ fn compare(keys: Keys, bytes: &[u8], first: Marked, second: Marked) -> Ordering
 }
 
 /// The first place whose key stands at an earlier one too. Each place has to have the mark of its key.
-pub fn first_repeat(keys: Keys, bytes: &[u8], places: &mut Vec<Marked>) -> Option<u32>
-    requires up { IsStrictlyIncreasing (places_of places.old.items) }
-    requires marks { AreMarked keys bytes.now places.old.items }
-    ensures { result ≡ repeat_in keys bytes.now [] (places_of places.old.items) }
+pub fn first_repeat(keys: Keys, bytes: &[u8], places: &mut [Marked]) -> Option<u32>
+    requires up { IsStrictlyIncreasing (places_of places.old) }
+    requires marks { AreMarked keys bytes.now places.old }
+    ensures { result ≡ repeat_in keys bytes.now [] (places_of places.old) }
 {
+    mark_many(keys, bytes, places);
     places.sort_unstable_by(|first, second| compare(keys, bytes, *first, *second));
     least_repeat(keys, bytes, places)
 }
 
+/// Gives the places the hashes of their keys for marks where they are many. Keys with one mark are easily made, and each comparison
+/// of two of them looks both up; another key with the hash of one takes some 2^32 trials.
+fn mark_many(keys: Keys, bytes: &[u8], places: &mut [Marked])
+    requires { AreMarked keys bytes.now places.old }
+    ensures same { places_of places.new ≡ places_of places.old }
+    ensures marks { HaveMarks keys bytes.now places.new }
+{
+    if places.len() > AT_HAND {
+        mark_by_hash(keys, bytes, places);
+    }
+}
+
+fn mark_by_hash(keys: Keys, bytes: &[u8], places: &mut [Marked])
+    ensures { places.new ≡ map (the_hashed keys bytes.now) places.old }
+{
+    for place in places.iter_mut() {
+        place.mark = hash_of(key_at(keys, bytes, place.place));
+    }
+}
+
+/// SipHash-1-3 of a key, cut to 32 bits.
+#[tactic(auto, unfolding(crate::specs::Scaffolding::Repeats::hash_of))]
+fn hash_of(key: &[u8]) -> u32
+    ensures { result ≡ the_hash_of key.now }
+{
+    let mut hasher = DefaultHasher::new();
+    hasher.write(key);
+    (hasher.finish() % (1 << 32)) as u32
+}
+
 fn least_repeat(keys: Keys, bytes: &[u8], order: &[Marked]) -> Option<u32>
-    requires { AreMarked keys bytes.now order.now }
+    requires { HaveMarks keys bytes.now order.now }
     ensures { LeastOf keys bytes.now (places_of order.now) (length order.now) result }
 {
     let mut least = None;
@@ -143,7 +178,7 @@ fn least_with(
 ) -> Option<u32>
     requires low { 1 ≤ i }
     requires high { i < length order.now }
-    requires marks { AreMarked keys bytes.now order.now }
+    requires marks { HaveMarks keys bytes.now order.now }
     ensures { LeastOf keys bytes.now (places_of order.now) i least → LeastOf keys bytes.now (places_of order.now) (i + 1) result }
 {
     if have_same_key(keys, bytes, order[i - 1], order[i]) {
@@ -155,8 +190,7 @@ fn least_with(
 
 /// Whether two places have the same key. Keys are looked up only where their marks are the same.
 fn have_same_key(keys: Keys, bytes: &[u8], first: Marked, second: Marked) -> bool
-    requires first { IsMarked keys bytes.now first }
-    requires second { IsMarked keys bytes.now second }
+    requires { the_key_at keys bytes.now first.place ≡ the_key_at keys bytes.now second.place → first.mark ≡ second.mark }
     ensures { result ≡ bytes_eq (the_key_at keys bytes.now first.place) (the_key_at keys bytes.now second.place) }
 {
     first.mark == second.mark

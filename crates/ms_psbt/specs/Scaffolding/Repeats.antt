@@ -1,6 +1,7 @@
 -- Keys that stand twice, by their places. No public clause cites it, so it need not be believed.
 use Rattle.std.specs.Prelude.{◌≡◌, ℕ, ◌+◌, ◌-◌, ◌%◌, ◌^◌, ◌<◌, ◌≤◌, nat_le, List, [], ◌∷◌, ◌++◌, length, take, drop, map, slice_index, if◌then◌else◌, Option, Some, None, Ok, Err}
 use Rattle.std.specs.Cmp.Lexicographic.{slice_cmp}
+use Rattle.std.specs.Hash.DefaultHasher as sip
 use Rattle.std.specs.Int.{w32, from_be_bytes}
 use Rattle.std.specs.List.{All, list_any}
 use Rattle.std.specs.Ordering.{nat_cmp, ordering_then}
@@ -33,15 +34,30 @@ first_four (a ∷ b ∷ c ∷ d ∷ rest) = from_be_bytes w32 (a ∷ b ∷ c ∷
 unfoldable pub mark_of : Bytes → ℕ
 mark_of key = (first_four key + first_four (drop (length key - 4) key)) % 2 ^ 32
 
+-- SipHash-1-3 of a key, cut to 32 bits
+unfoldable pub hash_of : Bytes → ℕ
+hash_of key = sip.finish (sip.write sip.initial key) % 2 ^ 32
+
 abbrev pub marked : (key : Bytes) → (place : ℕ) → Marked
 marked key place = record { mark = mark_of key; place = place }
 
--- the mark at a place is that of its key
-abbrev pub IsMarked : Keys → (bytes : Bytes) → Marked → Type 0
-IsMarked keys bytes place = place.mark ≡ mark_of (key_at keys bytes place.place)
+-- a place with the hash of its key for its mark
+abbrev pub hashed : Keys → (bytes : Bytes) → Marked → Marked
+hashed keys bytes place = record place { mark = hash_of (key_at keys bytes place.place) }
+
+-- the mark at a place is what its key gives
+abbrev pub IsMarkedBy : (mark : Bytes → ℕ) → Keys → (bytes : Bytes) → Marked → Type 0
+IsMarkedBy mark keys bytes place = place.mark ≡ mark (key_at keys bytes place.place)
+
+abbrev pub AreMarkedBy : (mark : Bytes → ℕ) → Keys → (bytes : Bytes) → List Marked → Type 0
+AreMarkedBy mark keys bytes = All (IsMarkedBy mark keys bytes)
 
 abbrev pub AreMarked : Keys → (bytes : Bytes) → List Marked → Type 0
-AreMarked keys bytes = All (IsMarked keys bytes)
+AreMarked = AreMarkedBy mark_of
+
+-- by some way of marking, the same for all
+abbrev pub HaveMarks : Keys → (bytes : Bytes) → List Marked → Type 0
+HaveMarks keys bytes places = (mark : Bytes → ℕ) × AreMarkedBy mark keys bytes places
 
 -- places without their marks
 abbrev pub places_of : List Marked → List ℕ

@@ -1,7 +1,12 @@
-use Rattle.std.proofs.Common.{Some, sym, subst, ◌+◌, ◌∙◌}
+use Rattle.std.proofs.Common.{Some, sym, subst, ap, ◌+◌, ◌-◌, ◌∙◌, arith}
 use Rattle.ms_psbt.specs.Scaffolding.Repeats.{places_of, LeastOf}
 use Rattle.ms_psbt.proofs.Repeating.{marked_same, marked_other}
 use Rattle.ms_psbt.proofs.repeats.least_with.Goals as goal
+
+pub have_same_key-requires : goal.have_same_key-requires
+have_same_key-requires c = λ same.
+    let marks = c.requires.marks in
+    marks.1 (c.args.i - 1) _ (omega (arith, c.requires.low, c.requires.high)) ∙ ap marks.0 same ∙ sym (marks.1 c.args.i _ c.requires.high)
 
 pub returns-then-have_same_key : goal.returns-then-have_same_key
 returns-then-have_same_key c = λ h.
