@@ -1,5 +1,6 @@
 //! A run, in arrays.
 ghost use Rattle.std.specs.Prelude.{◌≡◌, ◌≤◌, length, sum, IfOk, OnOk};
+ghost use Rattle.def_files.specs.RunFile.{MOST_ELEMENTS as the_most_elements};
 ghost use Rattle.ms_assets.specs.Parts.{first, IsOrMemory, Reads};
 ghost use Rattle.ms_assets.specs.Runs.{run_seen};
 ghost use Rattle.ms_arrays.specs.ArrayRun.{run_shape_refusals, run_of_arrays};
@@ -52,7 +53,7 @@ impl<'a> RunArrays<'a> {
     /// any form, and signatures any length. Want of memory, `Memory`, may come in place of no refusal.
     pub fn run_file(&self, alloc: Global, locks: Locks) -> Result<RunFile, AssetFault>
         ensures run { IsOrMemory (run_of_arrays locks self.now) (run_seen result) }
-        ensures few { IfOk result (λ file. length file.stack ≤ 2000) }
+        ensures few { IfOk result (λ file. length file.stack ≤ the_most_elements) }
     {
         self.check()?;
         match self.read(alloc, locks) {
@@ -89,7 +90,7 @@ impl<'a> RunArrays<'a> {
     fn read(&self, alloc: Global, locks: Locks) -> Result<RunFile, AllocError>
         requires { first (run_shape_refusals self.now) ≡ None }
         ensures run { IfOk result (λ file. run_seen (Ok file) ≡ run_of_arrays locks self.now) }
-        ensures few { IfOk result (λ file. length file.stack ≤ 2000) }
+        ensures few { IfOk result (λ file. length file.stack ≤ the_most_elements) }
     {
         let script = Blob::from_slice(alloc, self.script)?;
         let stack = read_items(alloc, self.items, self.item_lengths)?;

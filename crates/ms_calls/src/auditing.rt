@@ -5,6 +5,7 @@ ghost use Rattle.def_tree.specs.Range.{IsInRange};
 ghost use Rattle.def_tree.specs.Size.{nodes};
 ghost use Rattle.def_sane.specs.Unfit.{IsValid, first_unfit_valid};
 ghost use Rattle.def_audit.specs.declared.Step.{Step as TheStep};
+ghost use Rattle.def_files.specs.RunFile.{MOST_ELEMENTS};
 ghost use Rattle.def_answer.specs.Laws.{steps_found};
 ghost use Rattle.def_machine.specs.Run.{accepted};
 ghost use Rattle.ms_tree.specs.Shape.{shape};
@@ -157,7 +158,7 @@ fn audited_of_tree(
 fn audited_of_file(alloc: Global, text: &TextTree<'_>, file: &RunFile) -> Result<Audited, Stop>
     requires range { IsInRange (shape text.now.tree) }
     requires valid { IsValid (shape text.now.tree) }
-    requires few { length file.now.stack ≤ 2000 }
+    requires few { length file.now.stack ≤ MOST_ELEMENTS }
     ensures { Finds (told (audited_file text.now.offsets.items (shape text.now.tree) (file_seen file.now))) result }
 {
     let Ok(script) = script_bytes(alloc, text.tree()) else {
@@ -173,7 +174,7 @@ fn audited_of_file(alloc: Global, text: &TextTree<'_>, file: &RunFile) -> Result
 fn audited_of_stack(alloc: Global, text: &TextTree<'_>, file: &RunFile) -> Result<Audited, Stop>
     requires range { IsInRange (shape text.now.tree) }
     requires valid { IsValid (shape text.now.tree) }
-    requires few { length file.now.stack ≤ 2000 }
+    requires few { length file.now.stack ≤ MOST_ELEMENTS }
     ensures { Finds (told (the_audited text.now.offsets.items (steps_found (shape text.now.tree) (file_seen file.now)) (outcome_for (shape text.now.tree) (file_seen file.now)))) result }
 {
     let pairs = file.pairs.as_slice();

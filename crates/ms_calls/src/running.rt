@@ -1,5 +1,6 @@
 //! The run of a script on a stack, by what lies in arrays, without a run file.
 ghost use Rattle.std.specs.Prelude.{◌≡◌, ◌≤◌, length, IfOk};
+ghost use Rattle.def_files.specs.RunFile.{MOST_ELEMENTS};
 ghost use Rattle.def_machine.specs.Run.{accepted};
 ghost use Rattle.ms_replies.specs.Choices.{file_seen, outcome_of};
 ghost use Rattle.ms_arrays.specs.ArrayRun.{run_of_arrays};
@@ -109,7 +110,7 @@ fn ran_in(alloc: Global, locks: Locks, arrays: &RunArrays<'_>) -> Result<Ran, St
 /// The run that arrays give, before it is made.
 pub fn run_in(alloc: Global, locks: Locks, arrays: &RunArrays<'_>) -> Result<RunFile, Stop>
     ensures run { FindsRun (run_of_arrays locks arrays.now) result }
-    ensures few { IfOk result (λ file. length file.stack ≤ 2000) }
+    ensures few { IfOk result (λ file. length file.stack ≤ MOST_ELEMENTS) }
 {
     match arrays.run_file(alloc, locks) {
         Ok(file) => Ok(file),
@@ -119,7 +120,7 @@ pub fn run_in(alloc: Global, locks: Locks, arrays: &RunArrays<'_>) -> Result<Run
 
 /// What a run comes to.
 fn ran_of_file(alloc: Global, file: &RunFile) -> Result<Ran, Stop>
-    requires { length file.now.stack ≤ 2000 }
+    requires { length file.now.stack ≤ MOST_ELEMENTS }
     ensures { Finds (told (the_ran (outcome_of (file_seen file.now)))) result }
 {
     let pairs = file.pairs.as_slice();

@@ -1,5 +1,6 @@
 //! The keys of a `multi`, which are read from the last one on.
 ghost use Rattle.std.specs.Prelude.{◌≡◌, ◌+◌, ◌-◌, ◌<◌, ◌≤◌, ◌∷◌, [], length, reverse, All, IfOk};
+ghost use Rattle.def_script.specs.Limits.{MAX_PUBKEYS_PER_MULTISIG};
 ghost use Rattle.def_tree.specs.Range.{IsKey};
 ghost use Rattle.def_tree.specs.Tree as tree;
 ghost use Rattle.ms_decode.specs.Scaffolding.InRange.{AreKeys-prop};
@@ -18,7 +19,7 @@ pub struct Signers {
     /// The keys, in the order in which they were read: the last one first.
     pub keys: Vec<Key>,
     ghost some: { 1 ≤ left + length keys.items },
-    ghost few: { left + length keys.items ≤ 20 },
+    ghost few: { left + length keys.items ≤ MAX_PUBKEYS_PER_MULTISIG },
     ghost are_keys: { All IsKey keys.items } by { AreKeys-prop keys.items },
 }
 
@@ -28,7 +29,7 @@ impl Signers {
     /// No key yet, of so many, and room for all of them.
     pub fn none(alloc: Global, count: u64) -> Result<Signers, AllocError>
         requires some { 1 ≤ count }
-        requires few { count ≤ 20 }
+        requires few { count ≤ MAX_PUBKEYS_PER_MULTISIG }
         ensures left { IfOk result (λ s. s.left ≡ count) }
         ensures keys { IfOk result (λ s. s.keys.items ≡ []) }
     {
