@@ -5,6 +5,10 @@
 # bench/fuzz/psbt.c say what stops it. For this the archive is compiled once more, from what was proved, with a counter at each branch: by the
 # kit's compiler with one word more (.ci/archive).
 #
+# The first process traces comparisons, so that their operands are tried, and prefers inputs with rare branches; it hands what it finds to the
+# others, which do without either and make three times as many executions. libFuzzer's profile of compared values isn't kept: with it a tenth of the
+# executions is made in the same time, and fewer branches are covered.
+#
 # The executions are made in slices, of which each one is written down at its end: in bench/results/fuzz_runs.tsv with the sum of the
 # archive that was fuzzed, and by commands and statuses in bench/results/fuzz.tsv, or fuzz_psbt.tsv. So a run that is broken off loses a slice
 # at most, and the next one goes on from that count, with other random numbers. After 1,000,000 executions and more the least set of inputs that
@@ -15,7 +19,7 @@
 # library and the programs to be built (.ci/run).
 # Usage: bench/fuzz.sh [msat-psbt] [EXECUTIONS [PROCESSES]]
 . "$(dirname "$0")/lib.sh"
-wants clang objcopy python3 rt tar gzip
+wants clang objcopy python3 rt tar gzip flock
 own=msat harness=harness words=msat longest=6000
 if [ "${1:-}" = msat-psbt ]; then
     shift
@@ -27,7 +31,7 @@ kit=$(dirname "$(rt doc)")
 results=$top/bench/results
 mkdir -p "$results" "$top/bench/fuzz/seeds"
 
-# The kit with another compiler.
+# The kit with another compiler, of which $COUNTED tells what it adds to the code.
 mkdir -p "$work/kit/bin" "$work/kit/toolchain/bin" || stop "no room"
 for part in "$kit"/* "$kit"/bin/* "$kit"/toolchain/* "$kit"/toolchain/bin/*; do
     [ -e "$work/kit/${part#"$kit"/}" ] || ln -s "$part" "$work/kit/${part#"$kit"/}"
@@ -36,18 +40,20 @@ rm "$work/kit/bin/rt" "$work/kit/bin/rtlib.py" "$work/kit/toolchain/bin/clang"
 cp "$kit/bin/rt" "$kit/bin/rtlib.py" "$work/kit/bin"
 cat >"$work/kit/toolchain/bin/clang" <<CLANG
 #!/bin/sh
-exec "$kit/toolchain/bin/clang" "\$@" -fsanitize-coverage=inline-8bit-counters,pc-table,trace-cmp
+exec "$kit/toolchain/bin/clang" "\$@" "-fsanitize-coverage=\$COUNTED"
 CLANG
 chmod +x "$work/kit/toolchain/bin/clang"
-# It is kept for the next call, as long as the archive is the same.
 archive=$top/crates/msat_c/out/libmsat_c.a
 [ -s "$archive" ] || stop "the library isn't built: .ci/archive"
-counted=$top/crates/msat_c/out/counted-$(sha256sum <"$archive" | cut -c 1-16).a
-if [ ! -s "$counted" ]; then
-    "$top/.ci/archive" "$work/kit" "$work/counted.a" >"$work/log" 2>&1 || { cat "$work/log" >&2 && stop "the archive isn't compiled with counters"; }
-    rm -f "$top"/crates/msat_c/out/counted-*.a
+# Sets `counted` to the archive with a counter at each branch, and where that is asked for with its comparisons told. It is kept for the
+# next call, as long as the archive is the same.
+counted() {
+    counted=$top/crates/msat_c/out/$1-$(sha256sum <"$archive" | cut -c 1-16).a
+    [ ! -s "$counted" ] || return 0
+    COUNTED=$2 "$top/.ci/archive" "$work/kit" "$work/counted.a" >"$work/log" 2>&1 || { cat "$work/log" >&2 && stop "the archive isn't compiled with counters"; }
+    rm -f "$top/crates/msat_c/out/$1"-*.a
     mv "$work/counted.a" "$counted"
-fi
+}
 # The program is as it was proved and built, without counters.
 program=
 if [ -s "$top/crates/$own/out/$own.o" ]; then
@@ -59,9 +65,15 @@ else
     echo "there is no crates/$own/out/$own.o, so the library is tried alone"
     sum=$(sha256sum <"$archive" | cut -c 1-16)
 fi
-# shellcheck disable=SC2086
-clang -O2 -Wall -Wextra -fsanitize=fuzzer -Wl,--wrap=read,--wrap=write -o "$work/fuzzer" "$top/bench/fuzz/$harness.c" $program "$counted" \
-    "$kit/c/libos_c.a" "$kit/c/liblibc_c.a" || stop "the fuzzer isn't built"
+for kind in traced counted; do
+    case $kind in
+    traced) counted traced inline-8bit-counters,pc-table,trace-cmp ;;
+    *) counted counted inline-8bit-counters,pc-table ;;
+    esac
+    # shellcheck disable=SC2086
+    clang -O2 -Wall -Wextra -fsanitize=fuzzer -Wl,--wrap=read,--wrap=write -o "$work/$kind" "$top/bench/fuzz/$harness.c" $program "$counted" \
+        "$kit/c/libos_c.a" "$kit/c/liblibc_c.a" || stop "the fuzzer isn't built"
+done
 
 # What it begins with: what earlier runs kept, the cases of examples/, and texts by the types of BIP 379 with each command; or PSBTs with each command.
 mkdir "$work/seeds" "$work/corpus" "$work/kept"
@@ -138,27 +150,36 @@ whole = [int(line[3]) for line in same]
 print(f"{program} {built}: {executions} executions in {seconds} s, {executions / max(1, int(seconds)):.0f} a second; {sum(whole)} in {len(whole)} slices", flush=True)
 PYTHON
 
-# Each process has its share of the executions, in slices, each with a seed of its own, and what the others found.
+# Each process takes one slice of the executions after the other, each with a seed of its own, and what the others found.
+echo 0 >"$work/taken"
+# Sets `runs` to the executions of the next slice.
+take() {
+    exec 9>"$work/lock"
+    flock 9
+    runs=$((executions - $(cat "$work/taken")))
+    [ "$runs" -le "$slice" ] || runs=$slice
+    echo $(($(cat "$work/taken") + runs)) >"$work/taken"
+    exec 9>&-
+}
 begun=$(date +%s)
 past=$(grep -c "^$own	$sum	" "$results/fuzz_runs.tsv" 2>/dev/null)
 past=${past:-0}
 for process in $(seq "$processes"); do
     (
         cd "$work" && mkdir "found$process" && echo 0 >"status$process"
-        left=$((executions / processes)) number=0
-        while [ "$left" -gt 0 ]; do
-            runs=$slice
-            [ "$runs" -le "$left" ] || runs=$left
+        fuzzer=counted entropic=0
+        [ "$process" -gt 1 ] || fuzzer=traced entropic=1
+        number=0
+        while take && [ "$runs" -gt 0 ]; do
             number=$((number + 1)) from=$(date +%s)
             seed=$((1 + past + process + 1000 * number))
             rm -f "counts$process"
-            FUZZ_COUNTS=$work/counts$process ./fuzzer -runs="$runs" -seed=$seed -timeout="$most" -rss_limit_mb=1024 -max_len=$longest -reload=1 \
-                -use_value_profile=1 -dict="$top/bench/fuzz/$words.dict" -artifact_prefix="$work/found$process/" -print_final_stats=1 \
+            FUZZ_COUNTS=$work/counts$process ./$fuzzer -entropic=$entropic -runs="$runs" -seed=$seed -timeout="$most" -rss_limit_mb=1024 -max_len=$longest -reload=1 \
+                -use_value_profile=0 -dict="$top/bench/fuzz/$words.dict" -artifact_prefix="$work/found$process/" -print_final_stats=1 \
                 corpus seeds kept >"log$process" 2>&1
             status=$?
             python3 "$work/note" "$results" "$name" $own "$sum" "log$process" "counts$process" $seed $(($(date +%s) - from))
             [ $status -eq 0 ] || { echo $status >"status$process" && break; }
-            left=$((left - runs))
         done
     ) &
 done
@@ -177,7 +198,7 @@ echo "$processes processes, $(($(date +%s) - begun)) s, $(find "$work/corpus" -t
 
 # The least set that covers the same, in one file whose bytes come of it alone.
 mkdir "$work/least"
-(cd "$work" && ./fuzzer -set_cover_merge=1 -timeout=10 -rss_limit_mb=1024 -max_len=$longest least kept corpus seeds >merge.log 2>&1) || stop "the inputs can't be merged: $(tail -n 1 "$work/merge.log")"
+(cd "$work" && ./counted -set_cover_merge=1 -timeout=10 -rss_limit_mb=1024 -max_len=$longest least kept corpus seeds >merge.log 2>&1) || stop "the inputs can't be merged: $(tail -n 1 "$work/merge.log")"
 seeds=$top/bench/fuzz/seeds/$own.tar.gz
 tar --sort=name --owner=0 --group=0 --numeric-owner --mode=644 --mtime=@0 -C "$work/least" -cf "$work/least.tar" . && gzip -9nc "$work/least.tar" >"$work/least.tar.gz" || stop "the seeds can't be packed"
 [ "$(wc -c <"$work/least.tar.gz")" -le 1048576 ] || stop "the seeds take more than 1 MiB: $(wc -c <"$work/least.tar.gz") bytes"

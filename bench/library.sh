@@ -43,7 +43,7 @@ call = {"answer": msat.satisfy, "witness": msat.witness}[kind]
 for _ in range(int(count)):
     call(text, assets)
 PYTHON
-gcc -O2 -DNDEBUG "$work/calls.c" -I"$work/prefix/include" -L"$work/prefix/lib" -lmsat -o "$work/calls" || stop "calls.c isn't built"
+gcc -O2 -DNDEBUG "$work/calls.c" -I"$work/prefix/include" -L"$work/prefix/lib" -Wl,-rpath,"$work/prefix/lib" -lmsat -o "$work/calls" || stop "calls.c isn't built"
 
 # Sets `each` to the instructions of a call.
 call() {
@@ -60,6 +60,10 @@ columns shape bytes program answer witness python_satisfy python_witness
 measure() {
     input=$work/assets
     "$product" satisfy "$text" <"$input" >"$work/report" || stop "$1: there is no satisfaction"
+    for kind in answer witness; do
+        "$work/calls" $kind 1 "$text" "$input" || stop "$1: a call from C doesn't end with 0"
+        $python "$work/calls.py" $kind 1 "$text" "$input" || stop "$1: a call from Python doesn't end with 0"
+    done
     count "$product" satisfy "$text"
     whole=$counted
     call "$work/calls" answer "$text" "$input" && by_answer=$each
