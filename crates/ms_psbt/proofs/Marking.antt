@@ -1,7 +1,8 @@
 -- Lists of places with the marks of their keys, which grow.
-use Rattle.std.proofs.Common.{◌≡◌, ℕ, zero, suc, ◌<◌, List, [], ◌∷◌, ◌++◌, length, map, get_or, refl, sym, ap, subst, ◌∙◌, arith}
+use Rattle.std.proofs.Common.{◌≡◌, ℕ, List, [], ◌∷◌, ◌++◌, map, refl, sym, ap, subst, ◌∙◌}
 use Rattle.std.proofs.lemmas.List.{map-append}
-use Rattle.std.proofs.lemmas.List.Elements.{All-push}
+use Rattle.std.proofs.lemmas.List.Elements.{All-push, All-map}
+use Rattle.std.proofs.lemmas.Simd.{map-map}
 use Rattle.def_script.specs.Bytes.{Bytes}
 use Rattle.ms_psbt.specs.declared.repeats.Keys.{Keys}
 use Rattle.ms_psbt.specs.declared.repeats.Marked.{Marked}
@@ -20,14 +21,7 @@ marks_more keys bytes items new place at pushed is all =
 -- ---- places with the hashes of their keys
 
 pub hashed_places : (keys : Keys) (bytes : Bytes) (places : List Marked) → places_of (map (hashed keys bytes) places) ≡ places_of places
-hashed_places keys bytes [] = refl
-hashed_places keys bytes (place ∷ places) = ap (λ (rest : List ℕ). place.place ∷ rest) (hashed_places keys bytes places)
+hashed_places keys bytes places = map-map (λ (m : Marked). m.place) (hashed keys bytes) places
 
 pub hashed_marks : (keys : Keys) (bytes : Bytes) (places : List Marked) → AreMarkedBy hash_of keys bytes (map (hashed keys bytes) places)
-hashed_marks keys bytes [] = λ i d inside. absurd (omega arith)
-hashed_marks keys bytes (place ∷ places) = λ i d inside. go (hashed_marks keys bytes places) i d inside
-  where
-    go : AreMarkedBy hash_of keys bytes (map (hashed keys bytes) places) → (i : ℕ) (d : Marked) → i < suc (length (map (hashed keys bytes) places))
-        → IsMarkedBy hash_of keys bytes (get_or (map (hashed keys bytes) (place ∷ places)) i d)
-    go rest zero d inside = refl
-    go rest (suc i) d inside = rest i d (omega arith)
+hashed_marks keys bytes places = All-map (IsMarkedBy hash_of keys bytes) (hashed keys bytes) places (λ i d inside. refl)
