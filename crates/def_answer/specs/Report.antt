@@ -23,7 +23,7 @@ use Rattle.def_policy.specs.Simple.{simple}
 use Rattle.def_policy.specs.Print.{printed as printed_policy}
 use Rattle.def_plan.specs.Plan.{Plan}
 use Rattle.def_answer.specs.Names.{base_letter}
-use Rattle.def_answer.specs.LeastKeys.{least_keys}
+use Rattle.def_policy.specs.LeastKeys.{least_keys}
 use Rattle.def_answer.specs.Lines.{line, script_line, program_line, limits_line_under, script_refused_line, offset_of}
 
 -- ---- script

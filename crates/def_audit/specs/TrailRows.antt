@@ -8,10 +8,11 @@ use Rattle.def_tree.specs.declared.Two.TheVariants as kind
 use Rattle.def_tree.specs.declared.Wrapper.TheVariants as wrapper
 use Rattle.def_tree.specs.Size.{nodes, nodes_of}
 use Rattle.def_tree.specs.Tree.{Tree, Trees, just_0, just_1, pk_k, pk_h, older, after, hash, and_or, two, thresh, multi, wrap, none, more}
+use Rattle.def_table.specs.Table.{just_0_row, just_1_row}
 use Rattle.def_satisfaction.specs.StackSet.{StackSet, Nothing, Is}
 use Rattle.def_satisfaction.specs.Setting.{Setting, any}
 use Rattle.def_satisfaction.specs.Satisfaction.{full}
-use Rattle.def_satisfaction.specs.Rows.{Row, EMPTY, ONE, ZEROS, HasTop, just_0_row, just_1_row, pk_k_row, pk_h_row, older_row, after_row, hash_row, multi_row}
+use Rattle.def_satisfaction.specs.Rows.{Row, EMPTY, ONE, ZEROS, HasTop, stacks, pk_k_row, pk_h_row, older_row, after_row, hash_row, multi_row}
 use Rattle.def_audit.specs.TrailSet.{TrailSet, Never, Bare, Both, Either, Where, Canonical, Extra}
 
 pub record TrailRow : Type 1 where
@@ -131,8 +132,8 @@ module _ (given : Given) where
 
   abbrev mutual
     pub trails : (first : ℕ) → Tree → TrailRow
-    trails first just_0 = bare_row first just_0_row
-    trails first just_1 = bare_row first just_1_row
+    trails first just_0 = bare_row first (just_0_row (stacks setting))
+    trails first just_1 = bare_row first (just_1_row (stacks setting))
     trails first (pk_k key) = bare_row first (pk_k_row setting key)
     trails first (pk_h key) = pk_h_trails first key (pk_h_row setting key)
     trails first (older n) = bare_row first (older_row setting n)

@@ -1,6 +1,7 @@
 pub mod Sets
 pub mod Least
 pub mod Lightest
+pub mod Chosen
 pub mod Cheapest
 pub mod Strict
 pub mod Tight

@@ -1,9 +1,8 @@
 -- Examples of nesting, and of Scripts that several miniscripts have.
 use Rattle.std.specs.Prelude.{◌≡◌, [], ◌∷◌, Some, None}
 use Rattle.def_hash.specs.Hex.{from_hex}
-use Rattle.def_tree.specs.declared.Two.TheVariants as two_kind
 use Rattle.def_tree.specs.declared.Wrapper.TheVariants as wrapper
-use Rattle.def_tree.specs.Tree.{Tree, just_1, pk_k, older, two, thresh, wrap}
+use Rattle.def_tree.specs.Tree.{Tree, just_1, pk_k, older, thresh, wrap}
 use Rattle.def_types.specs.Samples.{KEY_A, KEY_B, KEY_C, pk, a, s, n, v, and_v, and_b, or_d, or_i, trees}
 use Rattle.def_types.specs.Typed.{type_of}
 use Rattle.def_emit.specs.Emit.{script_of}

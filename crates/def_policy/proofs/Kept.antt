@@ -1,11 +1,11 @@
 -- A simple policy is left as it is.
-use Rattle.std.proofs.Common.{◌≡◌, ℕ, zero, suc, ◌-◌, ◌<◌, ◌≤◌, ◌==◌, nat_lt, true, false, not, ◌||◌, List, [], ◌∷◌, ◌++◌, length, filter, flat_map, refl, sym, ◌∙◌, ap, subst, arith, if◌then◌else◌}
+use Rattle.std.proofs.Common.{◌≡◌, ℕ, ◌-◌, ◌<◌, ◌≤◌, ◌==◌, nat_lt, false, not, ◌||◌, List, ◌∷◌, length, filter, flat_map, refl, sym, ◌∙◌, ap, arith}
 use Rattle.std.specs.List.{list_any}
 use Rattle.std.proofs.lemmas.Bool.Decides.{nat_tests}
 use Rattle.def_policy.specs.declared.Join.TheVariants as join
 use Rattle.def_policy.specs.Policy.{Policy, Policies, never, always, key, older, after, hash, all, any, thresh, none, more, list_of, policies_of}
 use Rattle.def_policy.specs.Simple.{is_decisive, opened, gathered, joined, is_always, is_never, chosen, threshold, simple, simple_each}
-use Rattle.def_policy.specs.Laws.{count, IsPart, AreParts, ArePartsOfAll, ArePartsOfAny, IsSimple, SimpleIsKept, SimpleOnce}
+use Rattle.def_policy.specs.Laws.{count, IsPart, AreParts, ArePartsOfAll, ArePartsOfAny, SimpleIsKept, SimpleOnce}
 use Rattle.def_policy.proofs.Forms.{simple_is_simple}
 
 -- a list and back

@@ -3,3 +3,4 @@ pub mod Truths
 pub mod Forms
 pub mod Sizes
 pub mod Kept
+pub mod LeastKeys

@@ -4,7 +4,6 @@ use Rattle.hex.specs.Hex.{encode_lower}
 use Rattle.def_hash.specs.declared.HashKind.TheVariants.{Sha256, Ripemd160}
 use Rattle.def_machine.specs.Samples.{key_a, key_b, key_c}
 use Rattle.def_tree.specs.Tree as tree
-use Rattle.def_tree.specs.Tree.{Tree}
 use Rattle.def_types.specs.Samples.{pk, and_v, and_b, or_b, or_c, or_d, or_i}
 use Rattle.def_satisfaction.specs.Samples.{hash_1, hash_2, hash_3, pair_a, pair_b, pair_c, with_sequence, key_or_late_key, keys_or_lock, hashes_or_keys}
 use Rattle.def_policy.specs.Policy.{Policy, never, always, key, older, after, hash, all, any, thresh, policies_of}

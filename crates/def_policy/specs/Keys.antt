@@ -28,18 +28,18 @@ abbrev pub HasDistinctKeys : Policy → Type 0
 HasDistinctKeys policy = IsDistinct bytes_eq (keys policy)
 
 -- the policy is true where these keys sign and every hash and lock is met
-abbrev pub Suffices : Policy → List Key → Type 0
-Suffices policy signers = IsTrue (is_true (with_keys signers) policy)
+abbrev pub KeysSuffice : Policy → List Key → Type 0
+KeysSuffice policy signers = IsTrue (is_true (with_keys signers) policy)
 
 -- so many keys suffice: a set of them does, and no smaller one
-pub record IsLeast (policy : Policy) (n : ℕ) : Type 0 where
+pub record IsLeastNumber (policy : Policy) (n : ℕ) : Type 0 where
   pub signers : List Key
   pub distinct : IsDistinct bytes_eq signers
   pub size : length signers ≡ n
-  pub suffices : Suffices policy signers
-  pub least : (others : List Key) → Suffices policy others → n ≤ length others
+  pub suffices : KeysSuffice policy signers
+  pub least : (others : List Key) → KeysSuffice policy others → n ≤ length others
 
 -- the least number of keys that suffice, or none exactly where no keys do
 abbrev pub AreLeastKeys : Policy → Option ℕ → Type 0
-AreLeastKeys policy (Some n) = IsLeast policy n
-AreLeastKeys policy None = (signers : List Key) → ¬ Suffices policy signers
+AreLeastKeys policy (Some n) = IsLeastNumber policy n
+AreLeastKeys policy None = (signers : List Key) → ¬ KeysSuffice policy signers

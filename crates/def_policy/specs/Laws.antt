@@ -1,5 +1,5 @@
 -- What the definitions imply.
-use Rattle.std.specs.Prelude.{◌≡◌, ℕ, ◌*◌, ◌<◌, ◌≤◌, ◌↔◌, IsTrue, List, length, Some, ⊤}
+use Rattle.std.specs.Prelude.{◌≡◌, ℕ, ◌*◌, ◌<◌, ◌≤◌, ◌↔◌, IsTrue, List, length, Option, Some, ⊤}
 use Rattle.def_script.specs.Bytes.{Bytes}
 use Rattle.def_tree.specs.Tree.{Tree}
 use Rattle.def_tree.specs.Range.{IsWritable}
@@ -12,6 +12,7 @@ use Rattle.def_policy.specs.Plain.{plain}
 use Rattle.def_policy.specs.Simple.{simple}
 use Rattle.def_policy.specs.Truth.{Facts, is_true, facts_of}
 use Rattle.def_policy.specs.Keys.{AreLeastKeys}
+use Rattle.def_policy.specs.LeastKeys.{least_keys}
 use Rattle.def_policy.specs.Size.{size, depth}
 
 -- making a policy simple doesn't change when it is true
@@ -100,3 +101,13 @@ WantsKey policy = (n : ℕ) → AreLeastKeys policy (Some n) → 1 ≤ n
 -- that of every sane miniscript does
 abbrev pub SaneWantsKey : Type 0
 SaneWantsKey = (tree : Tree) → IsWritable tree → IsSane tree → WantsKey (simple (plain tree))
+
+-- ---- how many keys have to sign
+
+-- what the smallest set says is the least number of keys
+abbrev pub LeastKeysAreLeast : Type 0
+LeastKeysAreLeast = (policy : Policy) → AreLeastKeys policy (least_keys policy)
+
+-- and there is one such number alone
+abbrev pub OneLeast : Type 0
+OneLeast = (policy : Policy) (n m : Option ℕ) → AreLeastKeys policy n → AreLeastKeys policy m → n ≡ m

@@ -4,6 +4,7 @@ pub mod Simple
 pub mod Truth
 pub mod Size
 pub mod Keys
+pub mod LeastKeys
 pub mod Print
 pub mod Examples
 pub mod Laws

@@ -1,12 +1,11 @@
 -- What is read was written so, and has nothing wrong.
-use Rattle.std.proofs.Common.{◌≡◌, ℕ, zero, suc, ◌+◌, ◌-◌, ◌^◌, ◌<◌, ◌≤◌, ◌==◌, nat_lt, Bool, true, false, cond, List, [], ◌∷◌, ◌++◌, length, length-append, take, drop, get_or, Option, Some, None, inl, inr, ⊎_elim, Result, Ok, Err, refl, sym, ap, subst, ◌∙◌, append_assoc, arith}
-use Rattle.std.proofs.lemmas.Bool.{cases_Bool, ltb-false, eqb-true}
-use Rattle.std.proofs.lemmas.List.{length-drop, length-take-le, drop-drop, take-append-drop, get_or-drop, append-nil, nil_from_length, drop_all}
+use Rattle.std.proofs.Common.{◌≡◌, ℕ, zero, suc, ◌+◌, ◌-◌, ◌^◌, ◌<◌, ◌≤◌, ◌==◌, nat_lt, Bool, true, false, cond, List, [], ◌∷◌, ◌++◌, length, take, drop, Option, Some, None, Result, Ok, Err, refl, sym, ap, subst, ◌∙◌, append_assoc, arith}
+use Rattle.std.proofs.lemmas.Bool.{ltb-false, eqb-true}
+use Rattle.std.proofs.lemmas.List.{length-drop, length-take-le, drop-drop, take-append-drop, get_or-drop, append-nil, drop_all}
 use Rattle.std.proofs.lemmas.List.Concat.{flat_map-cons}
 use Rattle.std.proofs.lemmas.List.Elements.{All-from_recursion}
 use Rattle.std.proofs.lemmas.Slice.Eq.{bytes_eq-Decides}
 use Rattle.std.specs.List.{flat_map, AllByRecursion}
-use Rattle.def_script.specs.declared.SizeFault.{SizeFault}
 use Rattle.def_script.specs.Bytes.{Bytes, IsBytes}
 use Rattle.def_script.specs.Sizes.{SizeReading, size_bytes, read_size}
 use Rattle.def_script.specs.Witness.{sized}
@@ -18,9 +17,8 @@ use Rattle.def_psbt.specs.declared.Refusal.TheVariants.{At}
 use Rattle.def_psbt.specs.Transaction.{Transaction}
 use Rattle.def_psbt.specs.Map.{Pair, Map, Psbt, pair_text, map_text, magic, psbt_text}
 use Rattle.def_psbt.specs.Listed.{Form, global_form, input_form, output_form, pair_fault}
-use Rattle.def_psbt.specs.Reading.{◌>>=◌, Read, placed, size_at, bytes_at, string_at, pair_at, tested, sound_pair_at, pairs_at, map_at, maps_at, transaction_in, transaction_or, ended, read_psbt}
-use Rattle.def_psbt.specs.Source.{MAX_SOURCE_SIZE, has_magic}
-use Rattle.def_psbt.specs.Laws.{IsSoundPair, IsSoundMap, IsSound, ReadIsWritten}
+use Rattle.def_psbt.specs.Reading.{◌>>=◌, placed, size_at, bytes_at, string_at, pair_at, tested, sound_pair_at, pairs_at, map_at, maps_at, transaction_in, transaction_or, ended, read_psbt}
+use Rattle.def_psbt.specs.Laws.{IsSoundMap, IsSound, ReadIsWritten}
 
 bind_ok : {A B : Type 0} (r : Result A Refusal) (f : A → Result B Refusal) (y : B) → (r >>= f) ≡ Ok y → (x : A) × (r ≡ Ok x) × (f x ≡ Ok y)
 bind_ok (Ok x) f y e = (x, refl, e)

@@ -1,20 +1,19 @@
 -- What was written is read back.
-use Rattle.std.proofs.Common.{◌≡◌, ℕ, zero, suc, ◌+◌, ◌-◌, ◌^◌, ◌<◌, ◌≤◌, ◌==◌, nat_lt, Bool, true, false, cond, List, [], ◌∷◌, ◌++◌, length, length-append, take, drop, Option, Some, None, inl, inr, Result, Ok, Err, refl, sym, ap, subst, ◌∙◌, append_assoc, arith}
+use Rattle.std.proofs.Common.{◌≡◌, ℕ, zero, suc, ◌+◌, ◌-◌, ◌^◌, ◌<◌, ◌≤◌, ◌==◌, nat_lt, Bool, true, false, cond, List, [], ◌∷◌, ◌++◌, length, length-append, drop, Some, None, inl, inr, Ok, refl, sym, ap, subst, ◌∙◌, append_assoc, arith}
 use Rattle.std.proofs.lemmas.Bool.{cases_Bool, le-ltb, ne_eqb}
 use Rattle.std.proofs.lemmas.List.{take_at, drop_at, length-drop, drop-drop, append-nil}
 use Rattle.std.proofs.lemmas.List.Concat.{flat_map-cons}
 use Rattle.std.proofs.lemmas.List.Elements.{recursion_from_All}
 use Rattle.std.specs.List.{flat_map, AllByRecursion}
 use Rattle.def_script.specs.Bytes.{Bytes}
-use Rattle.def_script.specs.Sizes.{SizeReading, size_bytes, read_size}
+use Rattle.def_script.specs.Sizes.{size_bytes, read_size}
 use Rattle.def_script.specs.Witness.{sized}
 use Rattle.def_script.proofs.Sizing.{size_is_read_back}
 use Rattle.def_psbt.specs.declared.PsbtFault.TheVariants.{RepeatedKey, KeyForm}
-use Rattle.def_psbt.specs.Transaction.{Transaction}
-use Rattle.def_psbt.specs.Map.{Pair, Map, Psbt, type_of, pair_text, map_text, magic, psbt_text}
+use Rattle.def_psbt.specs.Map.{Pair, Map, type_of, pair_text, map_text, magic, psbt_text}
 use Rattle.def_psbt.specs.Listed.{Form, is_typed, stands, form_fault, global_form, input_form, output_form, shape_fault, pair_fault}
-use Rattle.def_psbt.specs.Reading.{◌>>=◌, Read, size_at, bytes_at, string_at, pair_at, tested, sound_pair_at, pairs_at, map_at, maps_at, transaction_in, read_psbt}
-use Rattle.def_psbt.specs.Laws.{IsSoundPair, IsSoundMap, IsSound, WrittenIsReadBack}
+use Rattle.def_psbt.specs.Reading.{Read, size_at, bytes_at, string_at, pair_at, sound_pair_at, pairs_at, map_at, maps_at, read_psbt}
+use Rattle.def_psbt.specs.Laws.{IsSoundMap, WrittenIsReadBack}
 
 -- what stands at a place, to the end
 pub record Here (psbt : Bytes) (at : ℕ) (tail : Bytes) : Type 0 where

@@ -1,7 +1,6 @@
 -- What the definitions imply: what was written is read back, and what is read was written so.
-use Rattle.std.specs.Prelude.{◌≡◌, ℕ, ◌^◌, ◌<◌, ◌≤◌, ⊤, true, List, [], ◌∷◌, ◌++◌, length, All, Option, Some, None, Ok}
+use Rattle.std.specs.Prelude.{◌≡◌, ℕ, ◌^◌, ◌<◌, ◌≤◌, ⊤, true, [], ◌∷◌, ◌++◌, length, All, Some, None, Ok}
 use Rattle.def_script.specs.Bytes.{Bytes, IsBytes}
-use Rattle.def_psbt.specs.Transaction.{Transaction}
 use Rattle.def_psbt.specs.Map.{Pair, Map, Psbt, psbt_text}
 use Rattle.def_psbt.specs.Listed.{Form, global_form, input_form, output_form, pair_fault}
 use Rattle.def_psbt.specs.Reading.{transaction_in, read_psbt}

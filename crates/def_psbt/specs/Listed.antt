@@ -1,5 +1,5 @@
 -- The types that are listed, and what is wrong with a pair of a map (BIP 174, "Specification").
-use Rattle.std.specs.Prelude.{ℕ, ◌==◌, not, nat_le, Bool, true, false, length, if◌then◌else◌, is_some, Option, Some, None, Ok, Err}
+use Rattle.std.specs.Prelude.{ℕ, ◌==◌, nat_le, Bool, true, false, length, if◌then◌else◌, is_some, Option, Some, None, Ok, Err}
 use Rattle.std.specs.List.{list_any}
 use Rattle.std.specs.Int.{w32, from_le_bytes}
 use Rattle.std.specs.Str.{bytes_eq}

@@ -6,6 +6,4 @@ pub mod Fee
 pub mod Report
 pub mod Reply
 pub mod Answer
-pub mod Laws
 pub mod Samples
-pub mod Rows

@@ -1,9 +1,6 @@
 //! Definitions of what `msat-psbt` answers: its words, its statuses, and each line of its reports.
 #![tactic(auto)]
 
-pub mod examples;
-pub mod laws;
-
 pub use status::Status;
 pub use words::{Command, Form};
 

@@ -1,11 +1,10 @@
 -- Formal satisfactions (BIP 379, resource limits, over the rows of its satisfaction table): the
 -- canonical ones as if each signature were at hand with 73 bytes, each preimage were at hand, each lock
 -- held, and each hash could be dissatisfied by 32 bytes.
-use Rattle.std.specs.Prelude.{◌≡◌, ℕ, zero, suc, ◌+◌, ◌*◌, ◌⊎◌, length}
+use Rattle.std.specs.Prelude.{◌≡◌, ℕ, zero, suc, ◌+◌, ◌*◌, ◌⊎◌, List, [], ◌∷◌, length}
 use Rattle.def_script.specs.Signature.{MAX_SIGNATURE_SIZE}
-use Rattle.def_tree.specs.declared.Two.TheVariants as kind
-use Rattle.def_tree.specs.declared.Wrapper.TheVariants as wrapper
-use Rattle.def_tree.specs.Tree.{Tree, Trees, just_0, just_1, pk_k, pk_h, older, after, hash, and_or, two, thresh, multi, wrap, none, more}
+use Rattle.def_tree.specs.Tree.{Tree, Trees}
+use Rattle.def_table.specs.Table.{Row, Table, row_of, rows_of}
 
 -- what a satisfaction or dissatisfaction takes: stack items, their weight (for each item 1 and its
 -- length), and keys of the `multi` fragments that are executed
@@ -58,61 +57,52 @@ Both P Q t = (a : Takes) × (b : Takes) × P a × Q b × (t ≡ plus a b)
 abbrev pub Either : (Takes → Type 0) → (Takes → Type 0) → Takes → Type 0
 Either P Q t = P t ⊎ Q t
 
+-- the children of a threshold, so many satisfied and the others dissatisfied
+abbrev pub Parts : List (Row (Takes → Type 0) (Takes → Type 0)) → (satisfied : ℕ) → Takes → Type 0
+Parts [] zero = Is nothing
+Parts [] (suc k) = Never
+Parts (x ∷ xs) zero = Both (Parts xs zero) x.dsat
+Parts (x ∷ xs) (suc k) = Either (Both (Parts xs k) x.sat) (Both (Parts xs (suc k)) x.dsat)
+
+-- the table of what canonical satisfactions and dissatisfactions take
+abbrev pub formal : Table (Takes → Type 0) (Takes → Type 0)
+formal = record {
+  no_dsat = Never;
+  no_sat = Never;
+  nothing_dsat = Is nothing;
+  nothing_sat = Is nothing;
+  empty_dsat = Is empty;
+  one_dsat = Is one;
+  empty = Is empty;
+  one = Is one;
+  both_dsat = Both;
+  either_dsat = Either;
+  both = Both;
+  either = Either;
+  still = λ P. P;
+  extra = λ P. Never;
+  beside_dsat = λ P Q. P;
+  beside = λ P Q. P;
+  topped = λ P. P;
+  pk_k_row = λ key. record { dsat = Is empty; sat = Is (item MAX_SIGNATURE_SIZE) };
+  pk_h_row = λ key. record { dsat = Is (plus empty (item (length key))); sat = Is (plus (item MAX_SIGNATURE_SIZE) (item (length key))) };
+  older_row = λ n. record { dsat = Never; sat = Is nothing };
+  after_row = λ n. record { dsat = Never; sat = Is nothing };
+  hash_row = λ kind value. record { dsat = Is (item PREIMAGE); sat = Is (item PREIMAGE) };
+  multi_row = λ k keys. record {
+    dsat = Is (plus (same_items (k + 1) 0) (tried (length keys)));
+    sat = Is (plus (plus empty (same_items k MAX_SIGNATURE_SIZE)) (tried (length keys)));
+  };
+  thresh_row = λ k children rows. record { dsat = Parts rows 0; sat = Parts rows k };
+}
+
 -- `FormalSat x t`: x has a formal satisfaction that takes t. `FormalDsat` says it of dissatisfactions, and
 -- `FormalParts xs k` of the children of a threshold, k of them satisfied and the others dissatisfied
-abbrev mutual
-  pub FormalSat : Tree → Takes → Type 0
-  FormalSat just_0 = Never
-  FormalSat just_1 = Is nothing
-  FormalSat (pk_k key) = Is (item MAX_SIGNATURE_SIZE)
-  FormalSat (pk_h key) = Is (plus (item MAX_SIGNATURE_SIZE) (item (length key)))
-  FormalSat (older n) = Is nothing
-  FormalSat (after n) = Is nothing
-  FormalSat (hash kind value) = Is (item PREIMAGE)
-  FormalSat (and_or x y z) = Either (Both (FormalSat y) (FormalSat x)) (Both (FormalSat z) (FormalDsat x))
-  FormalSat (two kind.AndV x y) = Both (FormalSat y) (FormalSat x)
-  FormalSat (two kind.AndB x y) = Both (FormalSat y) (FormalSat x)
-  FormalSat (two kind.OrB x z) = Either (Both (FormalDsat z) (FormalSat x)) (Both (FormalSat z) (FormalDsat x))
-  FormalSat (two kind.OrC x z) = Either (FormalSat x) (Both (FormalSat z) (FormalDsat x))
-  FormalSat (two kind.OrD x z) = Either (FormalSat x) (Both (FormalSat z) (FormalDsat x))
-  FormalSat (two kind.OrI x z) = Either (Both (FormalSat x) (Is one)) (Both (FormalSat z) (Is empty))
-  FormalSat (thresh k xs) = FormalParts xs k
-  FormalSat (multi k keys) = Is (plus (plus empty (same_items k MAX_SIGNATURE_SIZE)) (tried (length keys)))
-  FormalSat (wrap wrapper.A x) = FormalSat x
-  FormalSat (wrap wrapper.S x) = FormalSat x
-  FormalSat (wrap wrapper.C x) = FormalSat x
-  FormalSat (wrap wrapper.D x) = Both (FormalSat x) (Is one)
-  FormalSat (wrap wrapper.V x) = FormalSat x
-  FormalSat (wrap wrapper.J x) = FormalSat x
-  FormalSat (wrap wrapper.N x) = FormalSat x
+abbrev pub FormalSat : Tree → Takes → Type 0
+FormalSat tree = (row_of formal tree).sat
 
-  pub FormalDsat : Tree → Takes → Type 0
-  FormalDsat just_0 = Is nothing
-  FormalDsat just_1 = Never
-  FormalDsat (pk_k key) = Is empty
-  FormalDsat (pk_h key) = Is (plus empty (item (length key)))
-  FormalDsat (older n) = Never
-  FormalDsat (after n) = Never
-  FormalDsat (hash kind value) = Is (item PREIMAGE)
-  FormalDsat (and_or x y z) = Both (FormalDsat z) (FormalDsat x)
-  FormalDsat (two kind.AndV x y) = Never
-  FormalDsat (two kind.AndB x y) = Both (FormalDsat y) (FormalDsat x)
-  FormalDsat (two kind.OrB x z) = Both (FormalDsat z) (FormalDsat x)
-  FormalDsat (two kind.OrC x z) = Never
-  FormalDsat (two kind.OrD x z) = Both (FormalDsat z) (FormalDsat x)
-  FormalDsat (two kind.OrI x z) = Either (Both (FormalDsat x) (Is one)) (Both (FormalDsat z) (Is empty))
-  FormalDsat (thresh k xs) = FormalParts xs 0
-  FormalDsat (multi k keys) = Is (plus (same_items (k + 1) 0) (tried (length keys)))
-  FormalDsat (wrap wrapper.A x) = FormalDsat x
-  FormalDsat (wrap wrapper.S x) = FormalDsat x
-  FormalDsat (wrap wrapper.C x) = FormalDsat x
-  FormalDsat (wrap wrapper.D x) = Is empty
-  FormalDsat (wrap wrapper.V x) = Never
-  FormalDsat (wrap wrapper.J x) = Is empty
-  FormalDsat (wrap wrapper.N x) = FormalDsat x
+abbrev pub FormalDsat : Tree → Takes → Type 0
+FormalDsat tree = (row_of formal tree).dsat
 
-  pub FormalParts : Trees → (satisfied : ℕ) → Takes → Type 0
-  FormalParts none zero = Is nothing
-  FormalParts none (suc k) = Never
-  FormalParts (more x xs) zero = Both (FormalParts xs zero) (FormalDsat x)
-  FormalParts (more x xs) (suc k) = Either (Both (FormalParts xs k) (FormalSat x)) (Both (FormalParts xs (suc k)) (FormalDsat x))
+abbrev pub FormalParts : Trees → (satisfied : ℕ) → Takes → Type 0
+FormalParts xs = Parts (rows_of formal xs)

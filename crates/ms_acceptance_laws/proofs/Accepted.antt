@@ -38,7 +38,7 @@ use Rattle.def_satisfaction.proofs.Canonical.{held}
 use Rattle.def_satisfaction.proofs.Wider.{IsWider, row_within}
 use Rattle.def_choice.specs.NonMalleable.{IsAccepted, given_with}
 use Rattle.def_promises.specs.Acceptance.{IsAcceptedWithin, CanonicalIsAccepted, InversionHolds}
-use Rattle.def_promises.specs.Courses.{HasCourse, CanonicalHasCourse, HasAll, IsRun, EachFormalIsRun, HeightIsReached}
+use Rattle.def_promises.specs.Courses.{CanonicalHasCourse, HasAll, IsRun, EachFormalIsRun, HeightIsReached}
 use Rattle.def_promises.specs.Limited.{StopsAtLimit}
 use Rattle.def_satisfaction.proofs.EqualParts.{first_same, rest_same}
 use Rattle.ms_acceptance_laws.proofs.TreeEffects.{den}

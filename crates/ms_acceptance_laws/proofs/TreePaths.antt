@@ -1,5 +1,5 @@
 -- The run of each canonical row of the satisfaction table keeps within the course of a formal one with as many items.
-use Rattle.std.proofs.Common.{◌≡◌, ◌≢◌, ℕ, zero, suc, ◌+◌, Bool, true, false, IsTrue, List, [], ◌∷◌, ◌++◌, length, map, replicate, Option, Some, None, refl, sym, ◌∙◌, ap, subst, inl, inr, arith}
+use Rattle.std.proofs.Common.{◌≡◌, ◌≢◌, ℕ, ◌+◌, Bool, true, false, IsTrue, List, [], ◌∷◌, ◌++◌, length, map, replicate, Option, Some, None, refl, sym, ◌∙◌, ap, subst, inl, inr, arith}
 use Rattle.std.proofs.lemmas.List.{length-append, length-replicate, nil_from_length}
 use Rattle.def_hash.specs.Hash.{hash160}
 use Rattle.def_script.specs.declared.Op.TheVariants as op
@@ -22,7 +22,7 @@ use Rattle.def_satisfaction.specs.Setting.{Setting}
 use Rattle.def_satisfaction.specs.Rows.{EMPTY, ONE, ZEROS, row, parts}
 use Rattle.def_height.specs.declared.Highest.{Highest}
 use Rattle.def_height.specs.Course.{up, down, Course, rise}
-use Rattle.def_height.specs.Formal.{Way, Is, Then, Followed, FormalSat, FormalDsat, FormalParts}
+use Rattle.def_height.specs.Formal.{Way, Is, FormalSat, FormalDsat, FormalParts}
 use Rattle.def_height.specs.Highest.{highest_sat, highest_dsat, highest_parts}
 use Rattle.def_height.proofs.Courses.{ups, downs, IsHighest}
 use Rattle.def_height.proofs.Heights.{left, rise_multi, fit_children, sat_highest, dsat_highest, first_highest}

@@ -1,5 +1,5 @@
 -- The assets of arrays, or why they are refused: for what an asset file of format 2 with the same signatures and preimages is.
-use Rattle.std.specs.Prelude.{ℕ, ◌==◌, ◌*◌, ◌/◌, ◌&&◌, nat_le, List, [], ◌∷◌, ◌++◌, length, sum, Result}
+use Rattle.std.specs.Prelude.{ℕ, ◌==◌, ◌*◌, ◌/◌, nat_le, List, [], ◌∷◌, ◌++◌, length, sum, Result}
 use Rattle.def_script.specs.Bytes.{Bytes}
 use Rattle.def_script.specs.Key.{is_key}
 use Rattle.def_machine.specs.declared.Locks.{Locks}

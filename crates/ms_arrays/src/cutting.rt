@@ -1,5 +1,5 @@
 //! Cutting arrays into the byte strings that lie in them.
-ghost use Rattle.std.specs.Prelude.{◌≡◌, ◌==◌, ◌*◌, ◌/◌, ◌++◌, length, sum, IfOk, OnOk, [], ◌∷◌};
+ghost use Rattle.std.specs.Prelude.{◌≡◌, ◌==◌, ◌*◌, ◌++◌, length, sum, IfOk, OnOk, [], ◌∷◌};
 ghost use Rattle.ms_arrays.specs.Pieces.{KEY_SIZE as THE_KEY_SIZE, PREIMAGE_SIZE as THE_PREIMAGE_SIZE, pairs_at, items_at, preimages_in};
 
 use ms_assets::Assets;

@@ -1,5 +1,5 @@
 //! A run, in arrays.
-ghost use Rattle.std.specs.Prelude.{◌≡◌, ◌≤◌, length, sum, IfOk, OnOk};
+ghost use Rattle.std.specs.Prelude.{◌≡◌, ◌≤◌, length, IfOk};
 ghost use Rattle.def_files.specs.RunFile.{MOST_ELEMENTS as the_most_elements};
 ghost use Rattle.ms_assets.specs.Parts.{first, IsOrMemory, Reads};
 ghost use Rattle.ms_assets.specs.Runs.{run_seen};

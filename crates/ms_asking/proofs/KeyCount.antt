@@ -1,5 +1,5 @@
 -- A sane miniscript has at most 256 keys: each takes 20 bytes of its Script at least.
-use Rattle.std.proofs.Common.{◌≡◌, ℕ, ◌+◌, ◌*◌, ◌≤◌, List, [], ◌∷◌, ◌++◌, length, map, All, Some, None, Option, refl, sym, ap, ◌∙◌, arith, length-append}
+use Rattle.std.proofs.Common.{◌≡◌, ℕ, ◌+◌, ◌*◌, ◌≤◌, List, [], ◌∷◌, ◌++◌, length, map, All, Some, None, Option, refl, ap, arith, length-append}
 use Rattle.std.proofs.lemmas.List.Elements.{All-head, All-tail}
 use Rattle.def_hash.specs.declared.HashKind.TheVariants as hash_kind
 use Rattle.def_hash.proofs.Lengths.{digest_has_its_length}
@@ -13,9 +13,8 @@ use Rattle.def_tree.specs.declared.Two.TheVariants as kind
 use Rattle.def_tree.specs.declared.Wrapper.TheVariants as wrapper
 use Rattle.def_tree.specs.Tree.{Key, Tree, Trees, just_0, just_1, pk_k, pk_h, older, after, hash, and_or, two, thresh, multi, wrap, none, more}
 use Rattle.def_tree.specs.Range.{IsKey, IsWritable, AreWritable}
-use Rattle.def_emit.specs.Emit.{emit, emit_sum, emit_added, script_of}
+use Rattle.def_emit.specs.Emit.{emit, emit_sum, emit_added}
 use Rattle.def_sane.specs.Keys.{keys, keys_of_all}
-use Rattle.def_sane.specs.Most.{limits_of}
 use Rattle.def_sane.specs.Unfit.{IsSane}
 use Rattle.def_sane.proofs.Greatest.{limits_are_computed}
 use Rattle.def_sane.proofs.Meanings.{sane_means, valid_means}

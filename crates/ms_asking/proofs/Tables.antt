@@ -1,5 +1,5 @@
 -- The lengths of the signatures of a sane tree's keys are a table that a plan can be made by.
-use Rattle.std.proofs.Common.{◌≡◌, ℕ, suc, ◌+◌, ◌≤◌, ◌<◌, Bool, true, false, slice_index_or, List, [], ◌∷◌, ◌++◌, length, map, All, Contains, Some, None, Option, inl, inr, refl, sym, ap, subst, ◌∙◌, arith}
+use Rattle.std.proofs.Common.{◌≡◌, ℕ, suc, ◌≤◌, false, slice_index_or, List, [], ◌∷◌, ◌++◌, length, map, All, Contains, Some, None, Option, inl, inr, refl, sym, ap, subst, arith}
 use Rattle.std.specs.List.{IsDistinct, AllByRecursion}
 use Rattle.std.specs.Str.{bytes_eq}
 use Rattle.std.proofs.lemmas.Bool.{cases_Bool}
@@ -15,7 +15,7 @@ use Rattle.def_assets.proofs.Shortest.{found_is_held}
 use Rattle.def_sane.specs.Keys.{keys, keys_of_all, AreDistinct}
 use Rattle.def_sane.specs.Unfit.{IsSane}
 use Rattle.def_sane.proofs.Meanings.{sane_means}
-use Rattle.def_plan.specs.Lengths.{Lengths, AreLengths}
+use Rattle.def_plan.specs.Lengths.{AreLengths}
 use Rattle.def_spend.specs.Asking.{length_by, lengths_of}
 use Rattle.ms_asking.specs.Scaffolding.Lengths.{entry_of}
 use Rattle.ms_asking.proofs.KeyCount.{few_keys}

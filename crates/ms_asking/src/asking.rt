@@ -45,8 +45,7 @@ fn plan_with(alloc: Global, tree: &Tree<'_>, assets: &Assets) -> Result<Option<P
     requires sane { IsSane (shape tree.now) }
     ensures { IfOk result (λ found. found ≡ the_plan_with (shape tree.now) assets.now) }
 {
-    // Its clauses tell what assets always are.
-    let _locks = assets.locks();
+    assets.are_assets();
     let table = lengths_of(alloc, tree, assets)?;
     let others = assets.without_signatures(alloc)?;
     let lengths = table.as_slice();

@@ -1,10 +1,9 @@
 //! The lengths of the signatures of a tree's keys.
 
-ghost use Rattle.std.specs.Prelude.{◌≡◌, ◌≤◌, ◌++◌, map, IfOk, OnOk, All};
+ghost use Rattle.std.specs.Prelude.{◌≡◌, ◌++◌, map, IfOk, OnOk, All};
 ghost use Rattle.def_tree.specs.Range.{IsInRange};
-ghost use Rattle.def_assets.specs.Assets.{sig_of};
 ghost use Rattle.def_sane.specs.Keys.{keys as the_keys, keys_of_all};
-ghost use Rattle.def_spend.specs.Asking.{length_by, lengths_of as the_lengths_of};
+ghost use Rattle.def_spend.specs.Asking.{lengths_of as the_lengths_of};
 ghost use Rattle.ms_asking.specs.Scaffolding.Lengths.{entry_of as the_entry_of};
 ghost use Rattle.ms_tree.specs.Shape.{shape, shapes, leaf_shape};
 
@@ -90,8 +89,7 @@ fn push_own(own: &[Key], assets: &Assets, entries: &mut Vec<KeyLen>) -> Result<(
 fn entry_of(assets: &Assets, key: Key) -> KeyLen
     ensures { result ≡ the_entry_of assets.now key }
 {
-    // Its clauses tell what assets always are.
-    let _locks = assets.locks();
+    assets.are_assets();
     let length = match assets.sig_of(&key) {
         Some(sig) => sig.len() as u8,
         None => MAX_SIGNATURE_SIZE as u8,

@@ -1,5 +1,5 @@
 //! Assets: signatures with their keys, preimages, and the values of the locks.
-ghost use Rattle.std.specs.Prelude.{◌≡◌, ◌⊎◌, ◌^◌, ◌<◌, ◌≤◌, List, [], ◌∷◌, ◌++◌, find, option_map, Ok, Err, IfOk, OnOk, OnErr};
+ghost use Rattle.std.specs.Prelude.{◌≡◌, ◌⊎◌, ◌^◌, ◌<◌, ◌≤◌, [], ◌∷◌, ◌++◌, find, option_map, Ok, Err, IfOk, OnOk, OnErr};
 ghost use Rattle.std.specs.Str.{bytes_eq};
 ghost use Rattle.def_hash.specs.Hash.{digest_of};
 ghost use Rattle.def_machine.specs.Locks.{after_holds, older_holds};
@@ -56,7 +56,7 @@ impl<T: Drop> From<AllocFailed<T>> for AddStop {
 }
 
 /// What a wallet holds for a spend: the values of the locks, signatures with their keys, and preimages.
-/// Contracts see it as the definition's assets, of which `locks` says what they always are.
+/// Contracts see it as the definition's assets, of which `are_assets` says what they always are.
 #[derive(Debug, Drop)]
 pub struct Assets {
     locks: Locks,
@@ -214,6 +214,14 @@ impl Assets {
         ensures few { AreFewAssets self.now }
     {
         self.locks
+    }
+
+    /// What assets always are, for contracts to go on from: no signature is held twice with one key, and all is few and has
+    /// its form, as `locks` says too. Does nothing.
+    pub fn are_assets(&self)
+        ensures { AreFewAssets self.now }
+    {
+        let _ = &self.locks;
     }
 
     /// The signatures with their keys, in the order in which they were added or stand in the file. Takes no

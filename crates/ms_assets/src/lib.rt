@@ -13,6 +13,7 @@ pub use members::{
 };
 pub use preimage::Preimage;
 pub use run_file::{RunFile, read_run};
+pub use signatures::is_same_key;
 pub use texts::{spelled_at, strings_of};
 
 mod asset_file;

@@ -1,6 +1,6 @@
 //! The members of a file, but for their hexadecimal digits.
 
-ghost use Rattle.std.specs.Prelude.{◌≡◌, ◌⊎◌, ◌^◌, ◌<◌, List, [], ◌∷◌, length, map, is_some, None, Some, option_map, IfOk, IfErr, MatchResult};
+ghost use Rattle.std.specs.Prelude.{◌≡◌, ◌⊎◌, ◌^◌, ◌<◌, length, map, None, Some, option_map, IfOk, IfErr, MatchResult};
 ghost use Rattle.std.specs.List.{list_all};
 ghost use Rattle.serde_json.specs.Find.{get};
 ghost use Rattle.serde_json.specs.View.{view};

@@ -1,5 +1,5 @@
 //! Signatures with their keys, and the order in which the shortest of a key is found.
-ghost use Rattle.std.specs.Prelude.{◌≡◌, ◌-◌, ◌≤◌, List, [], ◌∷◌, ◌++◌, length, slice_index, option_map, IfOk, OnOk, OnErr};
+ghost use Rattle.std.specs.Prelude.{◌≡◌, ◌≤◌, length, [], ◌∷◌, ◌++◌, option_map, IfOk, OnOk, OnErr};
 ghost use Rattle.std.specs.List.{list_any};
 ghost use Rattle.std.specs.Str.{bytes_eq};
 ghost use Rattle.def_assets.specs.Assets.{sigs_with, shortest as the_shortest};
@@ -154,22 +154,18 @@ fn shortest_by_walk<'a>(table: &'a [SigPair], key: &[u8]) -> Option<&'a [u8]>
     found
 }
 
-/// Whether a pair has this key. Few keys of one table end in the same byte, so that one is compared first.
+/// Whether a pair has this key.
 fn has_key(pair: &SigPair, key: &[u8]) -> bool
     ensures { result ≡ bytes_eq pair.now.0 key.now }
 {
-    let held = pair.key();
-    last_byte(held) == last_byte(key) && held == key
+    is_same_key(pair.key(), key)
 }
 
-/// The last byte of a key; 0 of no byte.
-fn last_byte(key: &[u8]) -> u8
-    ensures { result ≡ slice_index key.now (length key.now - 1) }
+/// Whether two keys are the same. Few keys of a file end in the same byte, so that one is compared first.
+pub fn is_same_key(first: &[u8], second: &[u8]) -> bool
+    ensures { result ≡ bytes_eq first.now second.now }
 {
-    match key.last() {
-        Some(byte) => *byte,
-        None => 0,
-    }
+    first.last() == second.last() && first == second
 }
 
 /// The former signature, unless there is none or the latter is shorter.

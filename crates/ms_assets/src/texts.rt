@@ -1,6 +1,6 @@
 //! The texts of a file that spell bytes by hexadecimal digits.
 
-ghost use Rattle.std.specs.Prelude.{◌≡◌, ◌^◌, ◌<◌, List, [], ◌∷◌, ◌++◌, length, map, Some, option_map, IsTrue, IfOk};
+ghost use Rattle.std.specs.Prelude.{◌≡◌, ◌^◌, ◌<◌, [], ◌∷◌, ◌++◌, length, map, Some, option_map, IsTrue, IfOk};
 ghost use Rattle.serde_json.specs.View.{view};
 ghost use Rattle.def_files.specs.Json.{spelled as the_spelled, text_at as the_text_at};
 ghost use Rattle.def_files.specs.Parts.{is_hex, is_hex_pair, key_of, sig_of, bytes_of};

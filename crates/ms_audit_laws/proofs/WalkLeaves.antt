@@ -17,7 +17,7 @@ use Rattle.def_tree.specs.Tree.{Key}
 use Rattle.def_satisfaction.specs.StackSet.{StackSet, Never, Nothing, If}
 use Rattle.def_satisfaction.specs.Setting.{any}
 use Rattle.def_satisfaction.specs.Satisfaction.{full}
-use Rattle.def_satisfaction.specs.Rows.{EMPTY, ZEROS, IsNoPreimageOf, AreSignatures, just_0_row, just_1_row, pk_k_row, pk_h_row, hash_row, multi_row}
+use Rattle.def_satisfaction.specs.Rows.{EMPTY, ZEROS, IsNoPreimageOf, AreSignatures, Row, pk_k_row, pk_h_row, hash_row, multi_row}
 use Rattle.def_audit.specs.declared.Step.{Step}
 use Rattle.def_audit.specs.TrailRows.{TrailRow, WithTop, bare_row, pk_h_trails, hash_trails}
 use Rattle.def_satisfaction.proofs.EqualParts.{first_same}
@@ -39,24 +39,31 @@ leaf_done : (node : ℕ) (sat extra : Bool) (before steps : List Step) (rest : S
 leaf_done node sat extra before steps rest v e b s =
     ap (λ v. with_step node v [] rest) e ∙ same_steps node sat extra [] steps rest (s ∙ ap (λ w. w ++ own node sat extra ∷ []) b)
 
-pub just_0_walk : (node : ℕ) → IsWalk (bare_row node just_0_row) (with_step node (Some (false, false)) [])
+-- the rows of `0` and `1`
+abbrev pub none_row : Row
+none_row = record { dsat = Nothing; sat = Never }
+
+abbrev pub all_row : Row
+all_row = record { dsat = Never; sat = Nothing }
+
+pub just_0_walk : (node : ℕ) → IsWalk (bare_row node none_row) (with_step node (Some (false, false)) [])
 just_0_walk node = record { sound = sound; complete = complete }
   where
-    sound : (stack : Stack) (f : Found) → with_step node (Some (false, false)) [] stack ≡ Some f → Taken (bare_row node just_0_row) stack f
-    sound stack f e = leaf_sound (bare_row node just_0_row) node (Some (false, false)) stack [] stack f refl ([], (refl, refl), refl) e
+    sound : (stack : Stack) (f : Found) → with_step node (Some (false, false)) [] stack ≡ Some f → Taken (bare_row node none_row) stack f
+    sound stack f e = leaf_sound (bare_row node none_row) node (Some (false, false)) stack [] stack f refl ([], (refl, refl), refl) e
 
-    complete : (sat : Bool) (taken : Stack) (steps : List Step) (rest : Stack) → side (bare_row node just_0_row) sat taken steps → with_step node (Some (false, false)) [] (taken ++ rest) ≡ Some (record { sat = sat; steps = steps; rest = rest })
+    complete : (sat : Bool) (taken : Stack) (steps : List Step) (rest : Stack) → side (bare_row node none_row) sat taken steps → with_step node (Some (false, false)) [] (taken ++ rest) ≡ Some (record { sat = sat; steps = steps; rest = rest })
     complete true taken steps rest h = absurd h.1.0
     complete false taken steps rest h =
         ap (λ w. with_step node (Some (false, false)) [] (w ++ rest)) h.1.0 ∙ leaf_done node false false h.0 steps rest (Some (false, false)) refl h.1.1 h.2
 
-pub just_1_walk : (node : ℕ) → IsWalk (bare_row node just_1_row) (with_step node (Some (true, false)) [])
+pub just_1_walk : (node : ℕ) → IsWalk (bare_row node all_row) (with_step node (Some (true, false)) [])
 just_1_walk node = record { sound = sound; complete = complete }
   where
-    sound : (stack : Stack) (f : Found) → with_step node (Some (true, false)) [] stack ≡ Some f → Taken (bare_row node just_1_row) stack f
-    sound stack f e = leaf_sound (bare_row node just_1_row) node (Some (true, false)) stack [] stack f refl ([], (refl, refl), refl) e
+    sound : (stack : Stack) (f : Found) → with_step node (Some (true, false)) [] stack ≡ Some f → Taken (bare_row node all_row) stack f
+    sound stack f e = leaf_sound (bare_row node all_row) node (Some (true, false)) stack [] stack f refl ([], (refl, refl), refl) e
 
-    complete : (sat : Bool) (taken : Stack) (steps : List Step) (rest : Stack) → side (bare_row node just_1_row) sat taken steps → with_step node (Some (true, false)) [] (taken ++ rest) ≡ Some (record { sat = sat; steps = steps; rest = rest })
+    complete : (sat : Bool) (taken : Stack) (steps : List Step) (rest : Stack) → side (bare_row node all_row) sat taken steps → with_step node (Some (true, false)) [] (taken ++ rest) ≡ Some (record { sat = sat; steps = steps; rest = rest })
     complete false taken steps rest h = absurd h.1.0
     complete true taken steps rest h =
         ap (λ w. with_step node (Some (true, false)) [] (w ++ rest)) h.1.0 ∙ leaf_done node true false h.0 steps rest (Some (true, false)) refl h.1.1 h.2

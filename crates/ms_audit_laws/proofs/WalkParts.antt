@@ -8,14 +8,14 @@ use Rattle.std.proofs.lemmas.Slice.Eq.{bytes_eq-Decides}
 use Rattle.def_script.specs.Bytes.{Bytes}
 use Rattle.def_machine.specs.Stacks.{Stack, is_empty}
 use Rattle.def_satisfaction.specs.StackSet.{Is}
-use Rattle.def_satisfaction.specs.Rows.{EMPTY, ONE, HasTop, just_0_row}
+use Rattle.def_satisfaction.specs.Rows.{EMPTY, ONE, HasTop}
 use Rattle.def_audit.specs.declared.Step.{Step}
 use Rattle.def_audit.specs.TrailSet.{TrailSet, Bare, Both, Then}
 use Rattle.def_audit.specs.TrailRows.{TrailRow, bare_row, TrailsOfNone, TrailsOf, and_or_trails, and_v_trails, and_b_trails, or_b_trails, or_c_trails, or_d_trails, or_i_trails, thresh_trails, wrap_d_trails, wrap_v_trails, wrap_j_trails, wrap_trails}
 use Rattle.def_satisfaction.proofs.EqualParts.{first_same}
 use Rattle.ms_audit_laws.specs.Walk.{Found, Walker, ends, with_step, forced, walk_child, passed, next, Counted, count_behind, count_on, count_child, selected, by_selector, unless_empty, count_verdict, walk_thresh, after_and_or, after_and_v, after_and_b, after_or_b, after_or_c, after_or_d}
 use Rattle.ms_audit_laws.proofs.Walks.{side, Taken, IsWalk, some_is, is_found, none_found, own, Allows, Follows, Split, ends_follow, goes_follow, child_is_walk, same_steps, ends_split, goes_split}
-use Rattle.ms_audit_laws.proofs.WalkLeaves.{is_nothing, just_0_walk}
+use Rattle.ms_audit_laws.proofs.WalkLeaves.{is_nothing, none_row, just_0_walk}
 
 -- `a`, `s`, `c` and `n`
 pub wrap_walk : (node : ℕ) (x : TrailRow) (w : Walker) → IsWalk x w → IsWalk (wrap_trails node x) (walk_child node w passed)
@@ -212,18 +212,18 @@ or_i_walk node x z wx wz i k =
 -- `d`
 pub wrap_d_walk : (node : ℕ) (x : TrailRow) (w : Walker) → IsWalk x w → IsWalk (wrap_d_trails node x) (by_selector (walk_child node w (λ sat. ends (forced sat))) (with_step node (Some (false, false)) []))
 wrap_d_walk node x w i =
-    selector_walk (wrap_d_trails node x) (wrap_v_trails node x) (bare_row node just_0_row) (walk_child node w (λ sat. ends (forced sat))) (with_step node (Some (false, false)) []) (wrap_v_walk node x w i) (just_0_walk node) one empty parts
+    selector_walk (wrap_d_trails node x) (wrap_v_trails node x) (bare_row node none_row) (walk_child node w (λ sat. ends (forced sat))) (with_step node (Some (false, false)) []) (wrap_v_walk node x w i) (just_0_walk node) one empty parts
   where
     one : (sat : Bool) (taken : Stack) (steps : List Step) → side (wrap_v_trails node x) sat taken steps → side (wrap_d_trails node x) sat (ONE ∷ taken) steps
     one true taken steps h = (h.0, on_selector ONE x.sat taken h.0 h.1, h.2)
     one false taken steps h = absurd h
 
-    empty : (sat : Bool) (taken : Stack) (steps : List Step) → side (bare_row node just_0_row) sat taken steps → side (wrap_d_trails node x) sat (EMPTY ∷ taken) steps
+    empty : (sat : Bool) (taken : Stack) (steps : List Step) → side (bare_row node none_row) sat taken steps → side (wrap_d_trails node x) sat (EMPTY ∷ taken) steps
     empty true taken steps h = absurd h.1.0
     empty false taken steps h = (h.0, (ap (λ w. EMPTY ∷ w) h.1.0, h.1.1), h.2)
 
     parts : (sat : Bool) (taken : Stack) (steps : List Step) → side (wrap_d_trails node x) sat taken steps →
-        ((below : Stack) × (taken ≡ ONE ∷ below) × side (wrap_v_trails node x) sat below steps) ⊎ ((below : Stack) × (taken ≡ EMPTY ∷ below) × side (bare_row node just_0_row) sat below steps)
+        ((below : Stack) × (taken ≡ ONE ∷ below) × side (wrap_v_trails node x) sat below steps) ⊎ ((below : Stack) × (taken ≡ EMPTY ∷ below) × side (bare_row node none_row) sat below steps)
     parts true taken steps h = inl (below_selector node true ONE x.sat taken steps h.0 h.1 h.2)
     parts false taken steps h = inr ([], h.1.0, (h.0, (refl, h.1.1), h.2))
 

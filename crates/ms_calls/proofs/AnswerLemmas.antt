@@ -5,10 +5,10 @@ use Rattle.def_script.specs.Bytes.{Bytes}
 use Rattle.def_answer.specs.declared.status.Status.{Status}
 use Rattle.def_answer.specs.declared.status.Status.TheVariants as status
 use Rattle.def_answer.specs.Answer.{Answer}
-use Rattle.def_answer.specs.Laws.{IsAnswered}
+use Rattle.ms_answer_laws.specs.Laws.{IsAnswered}
 use Rattle.def_answer.specs.Status.{code_of}
-use Rattle.def_answer.proofs.Early.{answers_have_status}
-use Rattle.def_answer.proofs.Unique.{one_answer}
+use Rattle.ms_answer_laws.proofs.Early.{answers_have_status}
+use Rattle.ms_answer_laws.proofs.Unique.{one_answer}
 use Rattle.msat_cli.specs.Ends.{call, Ends}
 use Rattle.ms_calls.specs.Words.{AreWords}
 use Rattle.ms_calls.proofs.WordLemmas.{one_list}

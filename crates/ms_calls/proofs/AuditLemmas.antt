@@ -12,7 +12,7 @@ use Rattle.def_sane.proofs.Meanings.{valid_under_consensus}
 use Rattle.def_files.specs.RunFile.{RunFile}
 use Rattle.def_audit.specs.declared.Step.{Step}
 use Rattle.def_audit.specs.Derives.{Derives}
-use Rattle.def_answer.specs.Laws.{steps_found}
+use Rattle.ms_answer_laws.specs.Laws.{steps_found}
 use Rattle.def_answer.specs.Reply.{given_by}
 use Rattle.ms_audit_laws.proofs.WalkTrees.{walk_is_trail}
 use Rattle.ms_replies.specs.Choices.{outcome_for}

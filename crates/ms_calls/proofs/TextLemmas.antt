@@ -8,7 +8,7 @@ use Rattle.def_text.specs.declared.TextFault.{TextFault}
 use Rattle.def_text.specs.Refusal.{TextReads}
 use Rattle.def_sane.specs.declared.Unfit.{Unfit}
 use Rattle.def_answer.specs.Reading.{Reading, read, refused, HasReading}
-use Rattle.def_answer.proofs.Unique.{one_reading}
+use Rattle.ms_answer_laws.proofs.Unique.{one_reading}
 use Rattle.ms_calls.specs.declared.stopping.Stop.{Stop}
 use Rattle.ms_calls.specs.declared.stopping.Stop.TheVariants as stop
 use Rattle.ms_calls.specs.Reasons.{code_of_fault, code_of_reason}

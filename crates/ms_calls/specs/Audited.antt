@@ -2,7 +2,6 @@
 use Rattle.std.specs.Prelude.{ℕ, not, Bool, false, if◌then◌else◌, List, [], map, Result, slice_index}
 use Rattle.std.specs.List.{list_any}
 use Rattle.std.specs.Str.{bytes_eq}
-use Rattle.def_script.specs.Bytes.{Bytes}
 use Rattle.def_machine.specs.Run.{Outcome, accepted, refused}
 use Rattle.def_tree.specs.Tree.{Tree}
 use Rattle.def_emit.specs.Emit.{script_of}
@@ -10,7 +9,7 @@ use Rattle.def_sane.specs.Unfit.{first_unfit_valid}
 use Rattle.def_files.specs.declared.AssetFault.{AssetFault}
 use Rattle.def_files.specs.RunFile.{RunFile}
 use Rattle.def_audit.specs.declared.Step.{Step}
-use Rattle.def_answer.specs.Laws.{steps_found}
+use Rattle.ms_answer_laws.specs.Laws.{steps_found}
 use Rattle.def_answer.specs.Reading.{Reading, read, refused as not_read}
 use Rattle.ms_replies.specs.Choices.{outcome_for}
 use Rattle.ms_arrays.specs.ArrayAssets.{locks_of}

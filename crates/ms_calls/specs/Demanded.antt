@@ -4,7 +4,7 @@ use Rattle.def_script.specs.Bytes.{Bytes}
 use Rattle.def_tree.specs.Tree.{Tree}
 use Rattle.def_policy.specs.Print.{printed}
 use Rattle.def_sane.specs.Unfit.{first_unfit}
-use Rattle.def_answer.specs.LeastKeys.{least_keys}
+use Rattle.def_policy.specs.LeastKeys.{least_keys}
 use Rattle.def_answer.specs.Reading.{Reading}
 use Rattle.def_answer.specs.Report.{policy_of}
 use Rattle.ms_calls.specs.TextReply.{TextReply, told, text_refused, file_refused, no_satisfaction, text_given}

@@ -6,7 +6,7 @@ ghost use Rattle.def_tree.specs.Size.{nodes};
 ghost use Rattle.def_sane.specs.Unfit.{IsValid, first_unfit_valid};
 ghost use Rattle.def_audit.specs.declared.Step.{Step as TheStep};
 ghost use Rattle.def_files.specs.RunFile.{MOST_ELEMENTS};
-ghost use Rattle.def_answer.specs.Laws.{steps_found};
+ghost use Rattle.ms_answer_laws.specs.Laws.{steps_found};
 ghost use Rattle.def_machine.specs.Run.{accepted};
 ghost use Rattle.ms_tree.specs.Shape.{shape};
 ghost use Rattle.ms_replies.specs.Choices.{file_seen, outcome_for};

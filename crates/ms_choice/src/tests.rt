@@ -1,6 +1,6 @@
 //! Tests of the choice: its numbers, and which children are taken.
 ghost use Rattle.std.specs.Prelude.{◌≤◌, length};
-ghost use Rattle.ms_choice.specs.Numbers.{IsLightEach, IsLightChild, IsLight, IsLightOption};
+ghost use Rattle.ms_choice.specs.Numbers.{IsLightEach, IsLight, IsLightOption};
 ghost use Rattle.ms_choice.specs.Tally.{MOST_CHILDREN};
 
 use crate::*;

@@ -1,7 +1,6 @@
 //! The translation of each fragment to instructions (BIP 379), and the bytes of the whole Script.
-ghost use Rattle.std.specs.Prelude.{◌≡◌, ◌<◌, ◌++◌, [], ◌∷◌, ℕ, length, map, IfOk, OnOk, All};
-ghost use Rattle.def_emit.specs.Emit.{push_number as the_number, script_of, emit as the_emit, emit_sum as the_sum, emit_added as the_added};
-ghost use Rattle.def_script.specs.Instruction.{push};
+ghost use Rattle.std.specs.Prelude.{◌≡◌, ◌<◌, ◌++◌, [], ◌∷◌, length, IfOk, OnOk, All};
+ghost use Rattle.def_emit.specs.Emit.{push_number as the_number, script_of, emit as the_emit, emit_added as the_added};
 ghost use Rattle.def_script.specs.Spell.{IsShort};
 ghost use Rattle.def_tree.specs.Range.{MOST_MEASURE, TEN_DIGITS, IsInRange};
 ghost use Rattle.def_tree.specs.Tree as tree;

@@ -1,6 +1,6 @@
 //! The fields of an input's map.
 
-ghost use Rattle.std.specs.Prelude.{◌≡◌, ◌||◌, nat_lt, [], ◌∷◌, ◌++◌, length, slice_index, OnOk, IfOk, Option, option_map, map};
+ghost use Rattle.std.specs.Prelude.{◌≡◌, ◌||◌, nat_lt, [], ◌∷◌, ◌++◌, length, slice_index, OnOk, IfOk, option_map, map};
 ghost use Rattle.std.specs.Int.{w32, from_le_bytes};
 ghost use Rattle.def_spend.specs.Fields.{asked};
 ghost use Rattle.def_spend.specs.Reading.{has_byte as the_has_byte, has_item as the_has_item};

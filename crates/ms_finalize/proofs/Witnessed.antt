@@ -10,7 +10,7 @@ use Rattle.def_assets.specs.Assets.{Assets}
 use Rattle.def_files.specs.Laws.{AreFewAssets}
 use Rattle.def_machine.specs.Program.{program_of}
 use Rattle.def_sane.specs.declared.Rules.TheVariants.{Policy, Consensus}
-use Rattle.def_sane.specs.Unfit.{IsSane, IsSaneUnder, IsValidUnder}
+use Rattle.def_sane.specs.Unfit.{IsSane, IsSaneUnder}
 use Rattle.def_sane.proofs.Meanings.{sane_means_under, sane_under_consensus}
 use Rattle.def_satisfaction.specs.Satisfaction.{Sat}
 use Rattle.def_choice.specs.Strict.{strict}

@@ -140,8 +140,7 @@ fn sane_state(
         return Ok(Held::of(State::TooMany));
     }
     let assets = fields.assets(alloc, locks)?;
-    // Its clauses tell what assets always are.
-    let _locks = assets.locks();
+    assets.are_assets();
     let stack = strict(alloc, tree, &assets)?;
     let state = match stack {
         Some(_) => State::Ready,

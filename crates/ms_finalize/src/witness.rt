@@ -36,7 +36,6 @@ pub fn final_witness(
     ensures accepted { IfOk result (λ witness. IsReplayed assets.now script.now witness) }
     ensures unchangeable { Unchangeable (shape tree.now) assets.now stack.now }
 {
-    // Its clauses tell what assets always are.
-    let _locks = assets.locks();
+    assets.are_assets();
     witness_bytes(alloc, stack, script)
 }

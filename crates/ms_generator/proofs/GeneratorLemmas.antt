@@ -12,7 +12,6 @@ use Rattle.def_script.specs.Bytes.{Bytes}
 use Rattle.def_tree.specs.Range.{IsKey, IsInRange}
 use Rattle.def_tree.specs.Tree.{Tree}
 use Rattle.def_text.specs.declared.TextFault.{TextFault}
-use Rattle.def_text.specs.declared.TextFault.TheVariants as fault
 use Rattle.def_text.specs.Refusal.{TextReads, TextRefusal}
 use Rattle.def_text.proofs.Complete.{one_tree}
 use Rattle.def_text.proofs.OneAnswer.{none_beside_tree}
@@ -30,10 +29,10 @@ use Rattle.def_answer.specs.Generated.{threshold_of, generated_key, generated_si
 use Rattle.def_answer.specs.Answer.{gen_report}
 use Rattle.def_answer.specs.Lines.{limits_line}
 use Rattle.def_answer.specs.Report.{outcome_with, strict_line, cheapest_line, children_line}
-use Rattle.def_answer.proofs.GeneratedRead.{generated_is_read}
-use Rattle.def_answer.proofs.GeneratedHeld.{generated_are_assets}
-use Rattle.def_answer.proofs.GeneratedSane.{generated_is_sane}
-use Rattle.def_answer.proofs.GeneratedChosen.{generated_is_satisfied}
+use Rattle.ms_answer_laws.proofs.GeneratedRead.{generated_is_read}
+use Rattle.ms_answer_laws.proofs.GeneratedHeld.{generated_are_assets}
+use Rattle.ms_answer_laws.proofs.GeneratedSane.{generated_is_sane}
+use Rattle.ms_answer_laws.proofs.GeneratedChosen.{generated_is_satisfied}
 use Rattle.ms_assets.specs.Adding.{sig_stop, Answers}
 use Rattle.ms_assets.specs.declared.assets.AddStop.{AddStop}
 use Rattle.def_script.specs.Witness.{weight}

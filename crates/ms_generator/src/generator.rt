@@ -232,7 +232,7 @@ fn strict_line(alloc: Global, tree: &Tree<'_>, assets: &Assets) -> Result<String
     requires found { IsSome (the_strict (shape tree.now) assets.now) }
     ensures { IfOk result (λ line. string_bytes line ≡ the_strict_line (strict_items (shape tree.now) assets.now) (outcome_with (shape tree.now) assets.now (strict_items (shape tree.now) assets.now))) }
 {
-    let _locks = assets.locks();
+    assets.are_assets();
     let Some(stack) = strict(alloc, tree, assets)? else {
         unreachable!()
     };
@@ -248,7 +248,7 @@ fn cheapest_line(alloc: Global, tree: &Tree<'_>, assets: &Assets) -> Result<Stri
     requires found { IsSome (the_cheapest (shape tree.now) assets.now) }
     ensures { IfOk result (λ line. string_bytes line ≡ the_cheapest_line (cheapest_items (shape tree.now) assets.now)) }
 {
-    let _locks = assets.locks();
+    assets.are_assets();
     let Some(stack) = cheapest(alloc, tree, assets)? else {
         unreachable!()
     };

@@ -1,7 +1,7 @@
 //! SHA-256, the functions made of it, and the one that a name asks for.
 
 ghost use Rattle.std.specs.Prelude.{◌≡◌};
-ghost use Rattle.def_hash.specs.Hash.{sha256, ripemd160, hash160, hash256, digest_of};
+ghost use Rattle.def_hash.specs.Hash.{sha256, hash160, hash256, digest_of};
 ghost use Rattle.ms_hash.specs.Value.{kind_of, bytes_of};
 
 use crate::{HashKind, HashVal, ripemd160};

@@ -1,7 +1,7 @@
 //! The compression function of RIPEMD-160 (Dobbertin, Bosselaers and Preneel, 1996, appendix A): two
 //! lines of five rounds of 16 steps, over a block of sixteen words.
 
-ghost use Rattle.std.specs.Prelude.{◌≡◌, ℕ, ◌+◌, ◌-◌, ◌/◌, ◌<◌, ◌≤◌, List, slice_index};
+ghost use Rattle.std.specs.Prelude.{◌≡◌, ℕ, ◌+◌, ◌<◌, ◌≤◌, List};
 ghost use Rattle.def_hash.specs.Ripemd.{step_function, step, left_step, right_step, left_line, right_line, combined, compress};
 
 use crate::state::State;

@@ -1,6 +1,6 @@
 //! The five words over which RIPEMD-160 works.
 
-ghost use Rattle.std.specs.Prelude.{◌≡◌, ℕ, List, [], ◌∷◌, slice_index};
+ghost use Rattle.std.specs.Prelude.{ℕ, List, [], ◌∷◌, slice_index};
 
 use std::marker::Model;
 

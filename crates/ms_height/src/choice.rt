@@ -1,9 +1,9 @@
 //! The greatest choice of so many among the children of a threshold, from the last child to the first.
-ghost use Rattle.std.specs.Prelude.{◌≡◌, ℕ, ◌+◌, ◌-◌, ◌<◌, ◌≤◌, ◌^◌, [], ◌∷◌, List, Some, None, length};
+ghost use Rattle.std.specs.Prelude.{◌≡◌, ℕ, ◌+◌, ◌-◌, ◌<◌, ◌≤◌, ◌^◌, [], List, Some, None, length};
 ghost use Rattle.def_tree.specs.Range.{MOST_MEASURE};
 ghost use Rattle.ms_height.specs.declared.highest.Heights as found;
 ghost use Rattle.ms_choice.specs.declared.slot.Slot as slot;
-ghost use Rattle.ms_height.specs.Scaffolding.Chosen.{free, free_by, stuck_by};
+ghost use Rattle.ms_height.specs.Scaffolding.Chosen.{stuck_by};
 ghost use Rattle.ms_height.specs.Scaffolding.Choice.{IsChoice, IsOfSome, IsBehind, AddsFixed, AddsFree, AddsChild, items_of, reach};
 ghost use Rattle.ms_height.specs.Scaffolding.Kept.{ItemsBelow};
 ghost use Rattle.ms_height.specs.Scaffolding.Low.{IsLowHighest, IsLowHeights};

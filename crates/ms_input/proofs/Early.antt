@@ -1,5 +1,5 @@
 -- The states of inputs of which no witness script is read, and the witness script of others.
-use Rattle.std.proofs.Common.{◌≡◌, Bool, true, false, ◌||◌, Option, Some, None, Result, Ok, Err, if◌then◌else◌, refl, sym, ap, subst, ◌∙◌}
+use Rattle.std.proofs.Common.{◌≡◌, Bool, true, false, Option, Some, None, Result, Ok, Err, if◌then◌else◌, refl}
 use Rattle.std.specs.Prelude.{⊤}
 use Rattle.std.specs.Str.{bytes_eq}
 use Rattle.def_script.specs.Bytes.{Bytes}
@@ -11,7 +11,7 @@ use Rattle.def_spend.specs.Fields.{WITNESS_SCRIPT, field}
 use Rattle.def_spend.specs.Utxo.{Utxo, utxo_of}
 use Rattle.def_spend.specs.Utxo as utxo
 use Rattle.def_spend.specs.Input.{Spend}
-use Rattle.def_spend.specs.Reading.{Input, has_final, is_program, script_for, script_of_output, script_of_utxo, witness_script}
+use Rattle.def_spend.specs.Reading.{has_final, is_program, script_for, script_of_output, script_of_utxo, witness_script}
 
 -- a state of which this isn't told
 abbrev pub IsEarly : State → Type 0

@@ -22,7 +22,7 @@ use Rattle.def_promises.specs.Promises.{Unchangeable}
 use Rattle.def_spend.specs.Fields.{signatures_in, asked_type}
 use Rattle.def_spend.specs.States.{is_sighash_wrong, are_too_many, choice_state, held_state, unless_unfit, tree_state, state_by, state_of, is_ready, choice_of, stack_of}
 use Rattle.def_spend.specs.Utxo.{utxo_of, amount_of}
-use Rattle.ms_fields.specs.Held.{Held, held_in}
+use Rattle.ms_fields.specs.Held.{Held}
 use Rattle.ms_finalize.specs.Settled.{IsOf, input_of, assets_in, chosen_in}
 use Rattle.ms_tree.specs.declared.tree.Tree.{Tree as CodeTree}
 use Rattle.ms_tree.specs.Shape.{shape}

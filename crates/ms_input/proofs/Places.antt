@@ -1,5 +1,5 @@
 -- Where an input stands in a PSBT.
-use Rattle.std.proofs.Common.{◌≡◌, ℕ, zero, suc, ◌+◌, List, [], ◌∷◌, slice_get, Some, Option, refl, sym, ap, ◌∙◌, arith}
+use Rattle.std.proofs.Common.{◌≡◌, ℕ, zero, suc, ◌+◌, List, [], ◌∷◌, slice_get, Some, Option, sym, ap, ◌∙◌, arith}
 use Rattle.std.specs.Option.{unwrap_or}
 use Rattle.def_machine.specs.declared.Locks.{Locks}
 use Rattle.def_psbt.specs.Transaction.{TransactionInput, Transaction}

@@ -2,7 +2,6 @@
 use Rattle.std.specs.Prelude.{ℕ, [], slice_get, unwrap_or, Option}
 use Rattle.std.specs.Option.{option_map}
 use Rattle.std.specs.Coded.{Coded}
-use denote.Ref.{NamedLft}
 use mir.Syntax.{static}
 use Rattle.def_psbt.specs.Map.{Psbt}
 use Rattle.def_spend.specs.Input.{Spend, spends_of}

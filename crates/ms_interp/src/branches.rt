@@ -1,5 +1,5 @@
 //! The open branches of IF and NOTIF, as two numbers.
-ghost use Rattle.std.specs.Prelude.{◌≡◌, ◌==◌, ◌+◌, ◌<◌, ◌≤◌, Ok};
+ghost use Rattle.std.specs.Prelude.{◌≡◌, ◌==◌, ◌<◌, ◌≤◌};
 ghost use Rattle.ms_interp.specs.Scaffolding.Stops.{IsResult};
 ghost use Rattle.ms_interp.specs.Scaffolding.Branches.{all_taken, with_branch, turned, closed};
 

@@ -1,5 +1,4 @@
 //! What the opcodes do to the stacks, but for CHECKMULTISIG and the timelocks.
-ghost use Rattle.std.specs.Prelude.{◌≡◌, ℕ};
 ghost use Rattle.def_machine.specs.Effects.{verify as the_verify, to_alt_stack as the_to_alt_stack, from_alt_stack as the_from_alt_stack, if_dup as the_if_dup, dup as the_dup, swap as the_swap, size as the_size, equal as the_equal, zero_not_equal as the_zero_not_equal, add as the_add, bool_and as the_bool_and, bool_or as the_bool_or, hash as the_hash, check_sig as the_check_sig};
 ghost use Rattle.ms_oracle.specs.Sound.{table_of, IsSound};
 ghost use Rattle.ms_interp.specs.Scaffolding.Stops.{Leaves};

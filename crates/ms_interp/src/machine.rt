@@ -1,6 +1,5 @@
 //! The machine, and one step of it.
-ghost use Rattle.std.specs.Prelude.{◌≡◌, ℕ, ◌+◌, ◌<◌, ◌≤◌, length, [], None};
-ghost use Rattle.def_script.specs.Item as item;
+ghost use Rattle.std.specs.Prelude.{◌≡◌, ◌+◌, ◌<◌, ◌≤◌, length, [], None};
 ghost use Rattle.def_machine.specs.Effects.{verify as the_verify, equal as the_equal, check_sig as the_check_sig};
 ghost use Rattle.def_machine.specs.Machine.{is_branching as the_is_branching};
 ghost use Rattle.def_machine.specs.MultiSig.{check_multi_sig as the_check_multi_sig};

@@ -1,5 +1,5 @@
 //! CHECKMULTISIG, and the count of opcodes with its keys.
-ghost use Rattle.std.specs.Prelude.{◌≡◌, ℕ, ◌+◌, [], ◌++◌, ◌<◌, length, slice_index_or, OnOk};
+ghost use Rattle.std.specs.Prelude.{◌≡◌, ◌+◌, [], ◌++◌, ◌<◌, length, slice_index_or, OnOk};
 ghost use Rattle.std.specs.List.{list_all};
 ghost use Rattle.def_machine.specs.Stacks.{is_empty};
 ghost use Rattle.def_machine.specs.MultiSig.{within_op_limit, is_good as the_is_good, some_off as the_some_off, tries as the_tries, verdict as the_verdict, check_multi_sig as the_check_multi_sig};

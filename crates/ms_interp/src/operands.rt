@@ -1,5 +1,5 @@
 //! What opcodes take from the stack: numbers, counts and conditions.
-ghost use Rattle.std.specs.Prelude.{◌≡◌, ℕ, ◌≤◌, IfOk};
+ghost use Rattle.std.specs.Prelude.{◌≡◌, ◌≤◌, IfOk};
 ghost use Rattle.def_script.specs.Limits.{MAX_PUBKEYS_PER_MULTISIG};
 ghost use Rattle.def_machine.specs.Effects.{operand as the_operand, one_number as the_one_number, two_numbers as the_two_numbers, condition as the_condition};
 ghost use Rattle.def_machine.specs.MultiSig.{count as the_count};

@@ -1,5 +1,5 @@
 //! A stack of the machine.
-ghost use Rattle.std.specs.Prelude.{◌≡◌, [], ◌∷◌, length, reverse, OnOk, IfOk, MatchOption};
+ghost use Rattle.std.specs.Prelude.{◌≡◌, [], ◌∷◌, length, reverse, OnOk, MatchOption};
 ghost use Rattle.def_machine.specs.Stacks.{bool_bytes};
 
 use ms_script::Blob;

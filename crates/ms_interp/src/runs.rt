@@ -1,5 +1,5 @@
 //! A run: the tests at its start, its instructions in order, and the tests at its end.
-ghost use Rattle.std.specs.Prelude.{◌≡◌, ℕ, ◌≤◌, nat_le, length, reverse, IfOk};
+ghost use Rattle.std.specs.Prelude.{◌≡◌, ◌≤◌, nat_le, length, reverse, IfOk};
 ghost use Rattle.std.specs.List.{list_all};
 ghost use Rattle.def_script.specs.Bytes.{Bytes};
 ghost use Rattle.def_script.specs.Items.{items};

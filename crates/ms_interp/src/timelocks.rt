@@ -1,5 +1,4 @@
 //! The opcodes that read a timelock.
-ghost use Rattle.std.specs.Prelude.{ℕ};
 ghost use Rattle.def_machine.specs.Locks.{after_holds, older_holds};
 ghost use Rattle.def_machine.specs.Effects.{lock};
 ghost use Rattle.ms_interp.specs.Scaffolding.Stops.{Leaves};

@@ -37,7 +37,6 @@ pub fn strict(alloc: Global, tree: &Tree<'_>, assets: &Assets) -> Result<Option<
     ensures tight { (stack : List Bytes) → Sat (shape tree.now) assets.now stack → NonMalleable (shape tree.now) assets.now stack ↔ Tight (shape tree.now) assets.now stack }
     ensures tight_unchangeable { (stack : List Bytes) → Tight (shape tree.now) assets.now stack → Unchangeable (shape tree.now) assets.now stack }
 {
-    // Its clauses tell what assets always are.
-    let _locks = assets.locks();
+    assets.are_assets();
     satisfaction(alloc, Rule::Strict, tree, assets)
 }

@@ -46,8 +46,7 @@ pub fn plan<F: Fn(&Key) -> Option<u8>>(
     ensures in_order { IfOk result (λ found. (plan : Planned) → found ≡ Some plan → AsksInOrder (shape tree.now) plan) }
     ensures lengths { IfOk result (λ found. LengthsDecide (shape tree.now) assets.now (the_table estimate.now) found) }
 {
-    // Its clauses tell what assets always are.
-    let _locks = assets.locks();
+    assets.are_assets();
     let lengths = estimate.answers(alloc)?;
     plan_of_table(alloc, tree, assets, lengths.as_slice())
 }
@@ -64,8 +63,7 @@ fn plan_of_table(
     requires lengths { AreLengths table.now }
     ensures { IfOk result (λ found. found ≡ plan_of (shape tree.now) assets.now table.now) }
 {
-    // Its clauses tell what assets always are.
-    let _locks = assets.locks();
+    assets.are_assets();
     let first = with_marks(alloc, assets, Marks::Rising, table)?;
     let second = with_marks(alloc, assets, Marks::Falling, table)?;
     plan_by(alloc, tree, &first, &second)
@@ -99,8 +97,7 @@ fn plan_by(
     requires marked { (assets : Held) × (table : Lengths) × AreMarked assets table first.now second.now }
     ensures { IfOk result (λ found. (assets : Held) (table : Lengths) → AreMarked assets table first.now second.now → found ≡ plan_of (shape tree.now) assets table) }
 {
-    // Its clauses tell what assets always are.
-    let _locks = first.locks();
+    first.are_assets();
     let Some(stack) = satisfaction(alloc, Rule::Strict, tree, first)? else {
         return Ok(None);
     };

@@ -1,6 +1,6 @@
 //! Signatures of estimated lengths that are told from all other items of a stack: a satisfaction with one kind of marks
 //! and one with the other differ in their signatures alone, since only the lengths of signatures decide the choice.
-ghost use Rattle.std.specs.Prelude.{◌≡◌, ◌+◌, ◌≤◌, ◌<◌, ◌++◌, [], ◌∷◌, length, filter, replicate, IfOk, OnOk, All};
+ghost use Rattle.std.specs.Prelude.{◌≡◌, ◌≤◌, ◌++◌, [], ◌∷◌, length, filter, replicate, IfOk, OnOk, All};
 ghost use Rattle.std.specs.List.{list_any};
 ghost use Rattle.std.specs.Str.{bytes_eq};
 ghost use Rattle.def_script.specs.Signature.{MAX_SIGNATURE_SIZE as the_max_signature_size};

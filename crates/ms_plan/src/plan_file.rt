@@ -16,8 +16,8 @@ ghost use Rattle.ms_plan.specs.Scaffolding.Reading.{seen, file_with, parts_seen,
 use crate::lengths::{KeyLen, KeyLens, MOST_KEYS};
 use def_plan::{PlanFault, PlanMember};
 use ms_assets::{
-    Assets, ListFault, Member, Preimage, few, list_at, number_of, preimages_of, read_json,
-    read_locks, spelled_at, strings_of, text_at, text_list,
+    Assets, ListFault, Member, Preimage, few, is_same_key, list_at, number_of, preimages_of,
+    read_json, read_locks, spelled_at, strings_of, text_at, text_list,
 };
 use ms_oracle::Locks;
 use ms_script::{Blob, Stack, is_signature_size};
@@ -338,11 +338,4 @@ fn holds_key_of(table: &[KeyLen], wanted: &KeyLen) -> bool
         }
     }
     false
-}
-
-/// Whether two keys are the same. Few keys of a file end in the same byte, so that one is compared first.
-fn is_same_key(first: &[u8], second: &[u8]) -> bool
-    ensures { result ≡ bytes_eq first.now second.now }
-{
-    first.last() == second.last() && first == second
 }

@@ -1,24 +1,22 @@
 -- A policy whose miniscript has the letter s is false where no key signs.
-use Rattle.std.proofs.Common.{◌≡◌, ℕ, zero, suc, ◌+◌, ◌<◌, ◌≤◌, nat_le, Bool, true, false, ◌&&◌, ◌||◌, List, [], ◌∷◌, length, map, refl, sym, ◌∙◌, ap, subst, inl, inr, arith, if◌then◌else◌}
+use Rattle.std.proofs.Common.{◌≡◌, ℕ, ◌+◌, ◌<◌, ◌≤◌, nat_le, Bool, true, false, ◌&&◌, ◌||◌, List, [], ◌∷◌, length, map, refl, sym, ◌∙◌, ap, subst, inl, inr, arith, if◌then◌else◌}
 use Rattle.std.proofs.lemmas.Bool.{or_cases, cases_Bool, ltb-true, false≢true, and_parts}
 use Rattle.std.proofs.lemmas.Bool.Decides.{nat_tests}
 use Rattle.def_tree.specs.declared.Two.TheVariants as kind
 use Rattle.def_tree.specs.declared.Wrapper.TheVariants as wrapper
 use Rattle.def_tree.specs.Tree.{Tree, Trees, Key, just_0, just_1, pk_k, pk_h, older, after, hash, and_or, two, thresh, multi, wrap, none, more}
-use Rattle.def_tree.specs.Range.{IsWritable}
 use Rattle.def_types.specs.declared.Base.TheVariants.{B, V, K, W}
 use Rattle.def_types.specs.Malleable.{count_not_s}
 use Rattle.def_types.specs.Typed.{type_of, IsTyped, AreTyped, mall_of, malls_of}
 use Rattle.def_types.proofs.Rows.{corr_rows, mall_rows}
 use Rattle.def_types.proofs.Facts.{typed-and_or, typed-or_i, typed-multi, typed-wrap_c}
-use Rattle.def_sane.specs.Unfit.{IsSane}
 use Rattle.def_sane.proofs.Meanings.{valid_means, sane_means}
 use Rattle.def_policy.specs.Policy as policy
 use Rattle.def_policy.specs.Policy.{policies_of}
 use Rattle.def_policy.specs.Plain.{plain, plain_each}
 use Rattle.def_policy.specs.Simple.{simple}
 use Rattle.def_policy.specs.Truth.{Facts, how_many, is_true, truths, with_keys}
-use Rattle.def_policy.specs.Keys.{Suffices}
+use Rattle.def_policy.specs.Keys.{KeysSuffice}
 use Rattle.def_policy.specs.Laws.{SaneWantsKey}
 use Rattle.def_policy.proofs.Truths.{simple_keeps_truth}
 
@@ -149,7 +147,7 @@ module _ (facts : Facts) (unsigned : (key : Key) → facts.signs key ≡ false) 
 pub sane_wants_key : SaneWantsKey
 sane_wants_key tree writable sane n least = go least.signers refl
   where
-    none_suffices : Suffices (simple (plain tree)) [] → ⊥
+    none_suffices : KeysSuffice (simple (plain tree)) [] → ⊥
     none_suffices e =
         let m = (sane_means tree).0 sane in
         let v = (valid_means tree).0 m.0 in
@@ -157,5 +155,5 @@ sane_wants_key tree writable sane n least = go least.signers refl
         false≢true (sym no ∙ sym (simple_keeps_truth (with_keys []) (plain tree)) ∙ e)
 
     go : (signers : List Key) → least.signers ≡ signers → 1 ≤ n
-    go [] e = absurd (none_suffices (subst (Suffices (simple (plain tree))) e least.suffices))
+    go [] e = absurd (none_suffices (subst (KeysSuffice (simple (plain tree))) e least.suffices))
     go (key ∷ signers) e = let s = least.size in let l = ap length e in omega (arith, s, l)

@@ -1,8 +1,7 @@
 -- The locks of one transaction are enough for the policy of a sane miniscript.
 use Rattle.std.proofs.Common.{◌≡◌, ℕ, zero, suc, ◌+◌, ◌<◌, ◌≤◌, nat_le, cond, Bool, true, false, not, ◌&&◌, ◌||◌, ◌⊎◌, List, [], ◌∷◌, ◌++◌, map, Option, Some, None, refl, sym, ◌∙◌, ap, inl, inr, arith, lit<, ◌^◌, if◌then◌else◌}
-use Rattle.std.specs.Bool.{⊤}
 use Rattle.std.specs.List.{list_any, position_from}
-use Rattle.std.proofs.lemmas.Bool.{false≢true, cases_Bool, or_cases, or_parts, or_left, or_right, and_parts, and_from, leb-true, le-leb}
+use Rattle.std.proofs.lemmas.Bool.{false≢true, cases_Bool, or_parts, or_right, leb-true, le-leb}
 use Rattle.std.proofs.lemmas.Bool.Decides.{nat_tests}
 use Rattle.std.proofs.lemmas.Option.{none-some}
 use Rattle.std.proofs.lemmas.List.Folds.{list_any-append}
@@ -14,12 +13,11 @@ use Rattle.def_tree.specs.Tree.{Tree, Trees, Key, just_0, just_1, pk_k, pk_h, ol
 use Rattle.def_tree.specs.Nodes.{all_nodes, nodes_of_all}
 use Rattle.def_types.specs.Typed.{IsTyped, AreTyped}
 use Rattle.def_types.proofs.Facts.{typed-after}
-use Rattle.def_sane.specs.Locks.{Kinds, kinds, kinds_of_all, kinds_of_each, conflict, some_conflict, mixes, mix, is_relative_time, is_absolute_time}
+use Rattle.def_sane.specs.Locks.{kinds, kinds_of_all, kinds_of_each, conflict, some_conflict, mixes, is_relative_time, is_absolute_time}
 use Rattle.def_sane.proofs.Meanings.{valid_means, sane_means}
 use Rattle.def_policy.specs.Policy as policy
 use Rattle.def_policy.specs.Policy.{policies_of}
 use Rattle.def_policy.specs.Plain.{plain, plain_each}
-use Rattle.def_policy.specs.Simple.{simple}
 use Rattle.def_policy.specs.Truth.{Facts, how_many, is_true, truths, with_keys}
 use Rattle.def_policy.proofs.Truths.{simple_keeps_truth}
 use Rattle.ms_policy_laws.specs.Locks.{with_locks, OneTransactionMeets}

@@ -54,10 +54,10 @@ module _ (assets : Assets) (are : AreAssets assets) where
         says_or_b assets _ _ (row s x) (row s z)
         (says x k.0 safe.0) (says z k.1 safe.1) (free_dsat s x k.0 safe.0 e.0) (free_dsat s z k.1 safe.1 e.1)
     says (two kind.OrC x z) k safe =
-        says_or_d _ _ (row s x) (row s z) (says x k.0 safe.0) (says z k.1 safe.1) (free_dsat s x k.0 safe.0 safe.2.0)
+        says_or_d assets _ _ (row s x) (row s z) (says x k.0 safe.0) (says z k.1 safe.1) (free_dsat s x k.0 safe.0 safe.2.0)
     says (two kind.OrD x z) k safe =
-        says_or_d _ _ (row s x) (row s z) (says x k.0 safe.0) (says z k.1 safe.1) (free_dsat s x k.0 safe.0 safe.2.0)
-    says (two kind.OrI x z) k safe = says_or_i _ _ (row s x) (row s z) (says x k.0 safe.0) (says z k.1 safe.1)
+        says_or_d assets _ _ (row s x) (row s z) (says x k.0 safe.0) (says z k.1 safe.1) (free_dsat s x k.0 safe.0 safe.2.0)
+    says (two kind.OrI x z) k safe = says_or_i assets _ _ (row s x) (row s z) (says x k.0 safe.0) (says z k.1 safe.1)
     says (thresh n xs) k safe = record {
       to = λ e. so_many xs k.2 safe.0 safe.1.0 n (leb-true _ _ e);
       from = λ w. le-leb _ _ (at_most xs k.2 safe.0 n w.0 w.1);

@@ -1,5 +1,5 @@
 -- The locks of one transaction under which the policy of a sane miniscript is true.
-use Rattle.std.specs.Prelude.{ℕ, ◌^◌, ◌<◌, ◌≤◌, IsTrue, List}
+use Rattle.std.specs.Prelude.{◌^◌, ◌<◌, IsTrue, List}
 use Rattle.def_machine.specs.declared.Locks.{Locks}
 use Rattle.def_machine.specs.Locks.{older_holds, after_holds}
 use Rattle.def_tree.specs.Tree.{Tree, Key}
@@ -9,7 +9,7 @@ use Rattle.def_policy.specs.Policy.{Policy}
 use Rattle.def_policy.specs.Plain.{plain}
 use Rattle.def_policy.specs.Simple.{simple}
 use Rattle.def_policy.specs.Truth.{Facts, is_true, with_keys}
-use Rattle.def_policy.specs.Keys.{Suffices}
+use Rattle.def_policy.specs.Keys.{KeysSuffice}
 
 -- these keys sign, every hash is met, and the locks are those of a transaction
 abbrev pub with_locks : List Key → Locks → Facts
@@ -27,5 +27,5 @@ pub record IsMetByOne (policy : Policy) (signers : List Key) : Type 0 where
 -- together are of two kinds
 abbrev pub OneTransactionMeets : Type 0
 OneTransactionMeets =
-    (tree : Tree) (signers : List Key) → IsWritable tree → IsSane tree → Suffices (simple (plain tree)) signers →
+    (tree : Tree) (signers : List Key) → IsWritable tree → IsSane tree → KeysSuffice (simple (plain tree)) signers →
     IsMetByOne (simple (plain tree)) signers

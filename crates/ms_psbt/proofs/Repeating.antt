@@ -20,7 +20,7 @@ use Rattle.std.specs.declared.cmp.Ordering.TheVariants.{Less, Equal, Greater}
 use Rattle.def_script.specs.Bytes.{Bytes}
 use Rattle.ms_psbt.specs.declared.repeats.Keys.{Keys}
 use Rattle.ms_psbt.specs.declared.repeats.Marked.{Marked}
-use Rattle.ms_psbt.specs.Scaffolding.Repeats.{key_at, AreMarkedBy, places_of, rank_cmp, rank_of, repeat_in, IsLeast, LeastOf, least_of}
+use Rattle.ms_psbt.specs.Scaffolding.Repeats.{key_at, AreMarkedBy, places_of, rank_cmp, rank_of, repeat_in, IsLeastRepeat, LeastOf, least_of}
 
 -- ---- neighbours, one after the other
 
@@ -48,7 +48,7 @@ module _ (keys : Keys) (bytes : Bytes) (order : List ℕ) where
       at : (i - 1) + 1 ≡ i
       at = omega arith
 
-      go : (b : Bool) → nat_le least (get_or order i 0) ≡ b → IsLeast keys bytes order (i + 1) (cond b least (get_or order i 0))
+      go : (b : Bool) → nat_le least (get_or order i 0) ≡ b → IsLeastRepeat keys bytes order (i + 1) (cond b least (get_or order i 0))
       go true e =
           let below : least ≤ get_or order i 0 = leb-true least (get_or order i 0) e in
           record {

@@ -1,7 +1,6 @@
 //! What is wrong with a pair by its form.
 
-ghost use Rattle.std.specs.Prelude.{◌≡◌, ◌^◌, ◌<◌, length, nat_lt, IfOk};
-ghost use Rattle.def_psbt.specs.Map.{Pair};
+ghost use Rattle.std.specs.Prelude.{◌≡◌, ◌^◌, ◌<◌, length, IfOk};
 ghost use Rattle.def_psbt.specs.Listed.{version_fault as the_version_fault, global_form, input_form, preimage, shape_fault as the_shape_fault};
 ghost use Rattle.ms_psbt.specs.Scaffolding.Kinds.{forms_of, passing, fault_by};
 

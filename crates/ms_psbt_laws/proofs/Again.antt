@@ -28,9 +28,9 @@ use Rattle.def_psbt_answer.specs.declared.words.Form.{Form}
 use Rattle.def_psbt_answer.specs.Report.{in_form, finalize_report}
 use Rattle.def_psbt_answer.specs.Reply.{reply, is_settled, settled_status, form_of, command_reply}
 use Rattle.def_psbt_answer.specs.Answer.{RepliesToPsbt, RepliesToSource, RepliesToWords}
-use Rattle.def_psbt_answer.proofs.Answered.{HasKeys, inputs_found, are_inputs}
-use Rattle.def_psbt_answer.proofs.Unique.{one_reading}
-use Rattle.def_psbt_answer.proofs.Written.{leaves_others, none_is_ready, written_again}
+use Rattle.ms_psbt_answer_laws.proofs.Answered.{HasKeys, inputs_found, are_inputs}
+use Rattle.ms_psbt_answer_laws.proofs.Unique.{one_reading}
+use Rattle.ms_psbt_answer_laws.proofs.Written.{leaves_others, none_is_ready, written_again}
 use Rattle.ms_given_laws.specs.Given.{EachIsSound}
 use Rattle.ms_given_laws.proofs.Held.{keys_are}
 use Rattle.ms_given_laws.proofs.Wholes.{HasPlace, places}

@@ -11,7 +11,7 @@ use Rattle.def_spend.specs.Reading.{Input, HasReading}
 use Rattle.def_spend.specs.States.{state_of}
 use Rattle.def_spend.specs.Finalized.{witness_of, written_map}
 use Rattle.def_psbt_answer.specs.Report.{input_report, input_hashes}
-use Rattle.def_psbt_answer.proofs.Unique.{one_reading}
+use Rattle.ms_psbt_answer_laws.proofs.Unique.{one_reading}
 use Rattle.ms_psbt_laws.specs.Alone.{MapDecidesAlone}
 
 -- the input of a number, where the transaction and the maps have it

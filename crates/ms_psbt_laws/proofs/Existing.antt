@@ -9,7 +9,7 @@ use Rattle.def_psbt_answer.specs.Words.{command_of}
 use Rattle.def_psbt_answer.specs.declared.words.Form.{Form}
 use Rattle.def_psbt_answer.specs.Reply.{Reply, usage_reply, refusal_reply, form_of, command_reply}
 use Rattle.def_psbt_answer.specs.Answer.{RepliesToSource, RepliesToWords}
-use Rattle.def_psbt_answer.proofs.Answered.{inputs_found, are_inputs}
+use Rattle.ms_psbt_answer_laws.proofs.Answered.{inputs_found, are_inputs}
 use Rattle.ms_given_laws.specs.Given.{EachHasKeys}
 use Rattle.ms_psbt_laws.specs.Existence.{EachHasAnswer, EachIsRead}
 

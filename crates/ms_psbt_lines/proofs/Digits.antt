@@ -1,6 +1,6 @@
 -- Bytes as digits, one after the other.
-use Rattle.std.proofs.Common.{◌≡◌, ℕ, ◌+◌, ◌-◌, ◌<◌, ◌≤◌, ◌++◌, [], ◌∷◌, length, get_or, drop, reverse, append_assoc, append-nil, sym, subst, ◌∙◌}
-use Rattle.std.proofs.lemmas.List.{drop_more, drop_all, get_or-reverse}
+use Rattle.std.proofs.Common.{◌≡◌, ℕ, ◌+◌, ◌<◌, ◌≤◌, ◌++◌, [], ◌∷◌, length, get_or, drop, append_assoc, append-nil, sym, subst, ◌∙◌}
+use Rattle.std.proofs.lemmas.List.{drop_more, drop_all}
 use Rattle.hex.specs.Hex.{encode_with, encode_lower}
 use Rattle.def_script.specs.Bytes.{Bytes}
 

@@ -10,7 +10,7 @@ use Rattle.def_psbt_answer.specs.declared.words.Command.{Command}
 use Rattle.def_psbt_answer.specs.declared.words.Form.{Form}
 use Rattle.def_psbt_answer.specs.Answer.{RepliesToSource}
 use Rattle.def_psbt_answer.specs.Reply.{Reply, command_reply}
-use Rattle.def_psbt_answer.proofs.Answered.{inputs_found, are_inputs}
+use Rattle.ms_psbt_answer_laws.proofs.Answered.{inputs_found, are_inputs}
 use Rattle.ms_given_laws.specs.Given.{EachHasKeys}
 
 pub given_psbt : (source bytes : Bytes) (psbt : Psbt) → psbt_bytes source ≡ Ok bytes → read_psbt bytes ≡ Ok psbt → psbt_of source ≡ Ok psbt

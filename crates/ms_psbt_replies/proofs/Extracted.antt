@@ -1,5 +1,5 @@
 -- What is extracted, by the first input that isn't Final.
-use Rattle.std.proofs.Common.{◌≡◌, ℕ, ◌<◌, ◌≤◌, List, [], ◌∷◌, length, Option, Some, None, refl, ap, arith}
+use Rattle.std.proofs.Common.{◌≡◌, ℕ, ◌<◌, List, [], ◌∷◌, length, Option, Some, None, refl, ap, arith}
 use Rattle.std.specs.Option.{option_map}
 use Rattle.def_psbt.specs.Map.{Psbt}
 use Rattle.def_spend.specs.Reading.{Input, AreInputs}

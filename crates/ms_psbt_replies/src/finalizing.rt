@@ -1,10 +1,10 @@
 //! `finalize`: the PSBT with each input that is Ready made final.
-ghost use Rattle.std.specs.Prelude.{◌≡◌, ◌&&◌, ◌+◌, ◌<◌, ◌++◌, [], ◌∷◌, if◌then◌else◌, List, All, Some, length, slice_get, take, IfOk, OnOk};
+ghost use Rattle.std.specs.Prelude.{◌≡◌, ◌+◌, ◌<◌, ◌++◌, if◌then◌else◌, List, All, Some, length, slice_get, take, IfOk, OnOk};
 ghost use Rattle.def_psbt.specs.Map.{map_text};
 ghost use Rattle.def_spend.specs.Finalized.{written_map};
 ghost use Rattle.def_spend.specs.Reading.{Input as TheInput, AreInputs};
 ghost use Rattle.def_psbt_answer.specs.Report.{finalize_report};
-ghost use Rattle.def_psbt_answer.specs.Reply.{reply, is_settled as the_is_settled, settled_status};
+ghost use Rattle.def_psbt_answer.specs.Reply.{reply, settled_status};
 ghost use Rattle.ms_input.specs.Seen.{input_seen};
 ghost use Rattle.ms_transaction.specs.Unsigned.{IsUnsigned};
 ghost use Rattle.ms_psbt_replies.specs.Scaffolding.Written.{IsWritten};

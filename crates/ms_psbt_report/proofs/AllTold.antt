@@ -1,11 +1,10 @@
 -- What inputs tell, one more at the end.
-use Rattle.std.proofs.Common.{◌≡◌, ℕ, ◌&&◌, Bool, List, [], ◌∷◌, ◌++◌, map, Option, sym, ap, ◌∙◌}
+use Rattle.std.proofs.Common.{◌≡◌, ℕ, ◌&&◌, Bool, List, [], ◌∷◌, ◌++◌, Option, sym, ap, ◌∙◌}
 use Rattle.std.specs.List.{flat_map, list_all}
 use Rattle.std.proofs.lemmas.List.{flat_map_more, map_push}
 use Rattle.std.proofs.lemmas.List.Folds.{list_all-append}
 use Rattle.std.proofs.Math.Bool.{and-true}
 use Rattle.def_script.specs.Bytes.{Bytes}
-use Rattle.def_spend.specs.Amount.{Amount}
 use Rattle.def_spend.specs.Reading.{Input}
 use Rattle.def_psbt_answer.specs.Fee.{total, is_proved}
 use Rattle.def_psbt_answer.specs.Report.{amount_in, input_report}

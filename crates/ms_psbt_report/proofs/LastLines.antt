@@ -1,5 +1,5 @@
 -- What is told at the end of an input's lines: nothing but of a Ready and of an Unsatisfied one.
-use Rattle.std.proofs.Common.{◌≡◌, List, [], refl, sym, subst, ◌∙◌}
+use Rattle.std.proofs.Common.{◌≡◌, List, [], refl}
 use Rattle.def_script.specs.Bytes.{Bytes}
 use Rattle.def_tree.specs.Tree.{Tree}
 use Rattle.def_spend.specs.declared.State.{State}

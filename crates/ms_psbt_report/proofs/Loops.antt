@@ -1,5 +1,5 @@
 -- Loops over the inputs of a PSBT.
-use Rattle.std.proofs.Common.{◌≡◌, ℕ, ◌+◌, ◌≤◌, ◌<◌, ◌++◌, Bool, true, false, not, List, [], ◌∷◌, take, drop, length, find, get_or, slice_get, Option, Some, None, refl, sym, ap, subst, ◌∙◌, arith}
+use Rattle.std.proofs.Common.{◌≡◌, ℕ, ◌+◌, ◌≤◌, ◌<◌, ◌++◌, Bool, true, false, List, [], ◌∷◌, take, drop, length, get_or, slice_get, Some, None, refl, sym, ap, subst, ◌∙◌, arith}
 use Rattle.std.specs.List.{flat_map}
 use Rattle.std.specs.Option.{option_map}
 use Rattle.std.proofs.lemmas.List.{flat_map_more, take_all, drop_all}
@@ -11,7 +11,7 @@ use Rattle.def_spend.specs.Reading.{Input, HasReading, AreInputs, has_final}
 use Rattle.def_spend.specs.States.{state_of, is_final}
 use Rattle.def_psbt_answer.specs.Reply.{first_open}
 use Rattle.def_psbt_answer.specs.Report.{input_hashes}
-use Rattle.def_psbt_answer.proofs.Unique.{input_at}
+use Rattle.ms_psbt_answer_laws.proofs.Unique.{input_at}
 use Rattle.ms_psbt_report.specs.declared.inspecting.Told.{Told}
 use Rattle.ms_psbt_report.specs.Scaffolding.Told.{AreTold}
 use Rattle.ms_psbt_report.proofs.Lists.{take_with, drop_with}

@@ -1,9 +1,8 @@
 //! What `inspect` and `hashes` print of an input.
-ghost use Rattle.std.specs.Prelude.{◌≡◌, ◌++◌, [], slice_get, if◌then◌else◌, flat_map, OnOk};
+ghost use Rattle.std.specs.Prelude.{◌≡◌, ◌++◌, slice_get, flat_map, OnOk};
 ghost use Rattle.def_spend.specs.Fields.{last_byte as the_last_byte};
 ghost use Rattle.def_spend.specs.Hashes.{hash_by};
 ghost use Rattle.def_spend.specs.Input.{Spend};
-ghost use Rattle.def_spend.specs.States.{state_of};
 ghost use Rattle.def_psbt_answer.specs.Lines.{check_line, outpoint_line};
 ghost use Rattle.def_psbt_answer.specs.Report.{input_report, open_lines, input_hashes, hash_lines};
 ghost use Rattle.ms_input.specs.Seen.{input_seen};

@@ -1,5 +1,5 @@
 //! The first input that isn't Final.
-ghost use Rattle.std.specs.Prelude.{◌≡◌, ◌||◌, ◌<◌, List, Some, length, slice_get, option_map, IfOk};
+ghost use Rattle.std.specs.Prelude.{◌≡◌, ◌<◌, List, Some, length, slice_get, option_map, IfOk};
 ghost use Rattle.def_psbt.specs.Map.{Map};
 ghost use Rattle.def_spend.specs.Reading.{Input as TheInput, AreInputs, has_final};
 ghost use Rattle.def_psbt_answer.specs.Reply.{first_open as the_first_open};

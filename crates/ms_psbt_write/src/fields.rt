@@ -1,6 +1,6 @@
 //! The final fields of an input's map.
 
-ghost use Rattle.std.specs.Prelude.{◌≡◌, [], ◌∷◌, option_map, unwrap_or};
+ghost use Rattle.std.specs.Prelude.{◌≡◌, [], option_map, unwrap_or};
 ghost use Rattle.def_spend.specs.Fields.{FINAL_SCRIPTSIG, field as the_field};
 ghost use Rattle.def_spend.specs.Finalized.{final_witness as the_final_witness};
 ghost use Rattle.def_spend.specs.Reading.{has_item as the_has_item};

@@ -1,6 +1,6 @@
 //! Maps of inputs, as they are and made final.
 
-ghost use Rattle.std.specs.Prelude.{◌≡◌, ◌++◌, [], ◌∷◌, not, filter, OnOk, MatchOption};
+ghost use Rattle.std.specs.Prelude.{◌≡◌, ◌++◌, [], ◌∷◌, filter, OnOk, MatchOption};
 ghost use Rattle.std.specs.List.{flat_map};
 ghost use Rattle.def_psbt.specs.Map.{pair_text, map_text};
 ghost use Rattle.def_spend.specs.Finalized.{is_cleared as the_is_cleared, is_kept, final_map};

@@ -1,11 +1,9 @@
 //! The network transaction of a PSBT (BIP 144).
 
-ghost use Rattle.std.specs.Prelude.{◌≡◌, ◌+◌, ◌*◌, ◌<◌, ◌++◌, [], ◌∷◌, length, map, replicate, IfOk, OnOk, All};
-ghost use Rattle.std.specs.Int.{w32, to_le_bytes};
+ghost use Rattle.std.specs.Prelude.{◌≡◌, ◌+◌, ◌*◌, ◌++◌, length, map, replicate, IfOk, OnOk, All};
 ghost use Rattle.std.specs.List.{flat_map, list_any};
 ghost use Rattle.hex.specs.Hex.{encode_lower};
 ghost use Rattle.def_answer.specs.Lines.{line};
-ghost use Rattle.def_psbt.specs.Map.{Map};
 ghost use Rattle.def_psbt.specs.Transaction.{input_text, inputs_text, outputs_text, transaction_text};
 ghost use Rattle.def_spend.specs.Fields.{FINAL_SCRIPTWITNESS, field};
 ghost use Rattle.def_spend.specs.Finalized.{final_inputs, final_transaction, final_witness as the_final_witness, witnessed_text, network_text};

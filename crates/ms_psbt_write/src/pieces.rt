@@ -5,7 +5,6 @@ ghost use Rattle.def_psbt.specs.Map.{pair_text};
 ghost use Rattle.def_script.specs.Sizes.{size_bytes};
 ghost use Rattle.def_script.specs.Witness.{sized};
 
-use ms_psbt::PairRef;
 use ms_script::compact_size;
 use std::alloc::AllocError;
 

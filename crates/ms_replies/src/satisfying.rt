@@ -105,7 +105,7 @@ fn satisfy_report(
     requires canonical { Sat (shape tree.now) assets.now stack.now }
     ensures { (rules : Rules) → limits.now ≡ tree_limits_line rules (shape tree.now) → IfOk result (λ report. string_bytes report ≡ the_satisfy_report rules (shape tree.now) assets.now stack.now) }
 {
-    let _locks = assets.locks();
+    assets.are_assets();
     let pairs = assets.pairs();
     let index = PairIndex::new(alloc, pairs)?;
     let sigs = SigCheck::new(pairs, |key: &[u8], sig: &[u8]| index.holds(key, sig));

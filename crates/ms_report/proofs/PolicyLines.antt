@@ -6,10 +6,10 @@ use Rattle.def_tree.specs.Tree.{Tree}
 use Rattle.def_policy.specs.Policy.{Policy}
 use Rattle.def_policy.specs.Keys.{AreLeastKeys}
 use Rattle.def_policy.specs.Print.{printed}
-use Rattle.def_answer.specs.LeastKeys.{least_keys}
+use Rattle.def_policy.specs.LeastKeys.{least_keys}
 use Rattle.def_answer.specs.Lines.{line}
 use Rattle.def_answer.specs.Report.{policy_of, number_or_none, policy_report}
-use Rattle.def_answer.proofs.LeastKeys.{least_keys_are_least, one_least}
+use Rattle.def_policy.proofs.LeastKeys.{least_keys_are_least, one_least}
 
 -- the lines of a policy, one after the other
 pub policy_lines_of : (tree : Tree) (shape : Policy) (least : Option ℕ) (text number none first all : Bytes) → shape ≡ policy_of tree

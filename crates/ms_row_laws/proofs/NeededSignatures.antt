@@ -19,7 +19,8 @@ use Rattle.def_types.proofs.Facts.{typed-and_or, typed-or_i, typed-multi, typed-
 use Rattle.def_sane.specs.Keys.{keys, keys_of_all}
 use Rattle.def_satisfaction.specs.StackSet.{StackSet}
 use Rattle.def_satisfaction.specs.Setting.{Setting, Mode, any, only, CountsAsKey}
-use Rattle.def_satisfaction.specs.Rows.{Row, Signature, AreSignatures, PartsOf, pk_k_row, pk_h_row, and_or_row, and_v_row, and_b_row, or_b_row, or_c_row, or_d_row, or_i_row, thresh_row, multi_row, wrap_d_row, wrap_v_row, wrap_j_row, row, parts}
+use Rattle.def_table.specs.Table.{and_or_row, and_v_row, and_b_row, or_b_row, or_c_row, or_d_row, or_i_row, wrap_d_row, wrap_v_row, wrap_j_row}
+use Rattle.def_satisfaction.specs.Rows.{Row, Signature, AreSignatures, PartsOf, pk_k_row, pk_h_row, thresh_row, multi_row, row, parts, stacks}
 use Rattle.std.proofs.Common.{◌≡◌, Bool, true, false, ◌&&◌, not, List, [], reverse, refl, sym, ◌∙◌, ap}
 use Rattle.std.proofs.lemmas.Bool.{false≢true}
 use Rattle.def_machine.specs.Stacks.{is_empty}
@@ -71,29 +72,29 @@ pk_h_needs s key h = record {
   dsat = λ e. absurd (false≢true e);
 }
 
-and_or_needs : (s : Setting) (mx my mz : Mall) (x y z : Row) → Needs mx x → Needs my y → Needs mz z → Needs (mall.and_or_row mx my mz).gives (and_or_row s x y z)
+and_or_needs : (s : Setting) (mx my mz : Mall) (x y z : Row) → Needs mx x → Needs my y → Needs mz z → Needs (mall.and_or_row mx my mz).gives (and_or_row (stacks s) x y z)
 unfolding mall_rows
 and_or_needs s mx my mz x y z i j k = record {
   sat = λ e w r. sat (and_parts mz.s (mx.s || my.s) e) w r;
   dsat = λ e w r. dsat (and_parts mz.f (mx.s || my.f) e) w r;
 }
   where
-    sat : (mz.s ≡ true) × ((mx.s || my.s) ≡ true) → IsEmpty (and_or_row s x y z).sat
+    sat : (mz.s ≡ true) × ((mx.s || my.s) ≡ true) → IsEmpty (and_or_row (stacks s) x y z).sat
     sat e w (inl r) = elim (or_cases mx.s my.s e.1) [ inl a ↦ i.sat a r.1 r.3 | inr a ↦ j.sat a r.0 r.2 ]
     sat e w (inr r) = k.sat e.0 r.0 r.2
 
-    dsat : (mz.f ≡ true) × ((mx.s || my.f) ≡ true) → IsEmpty (and_or_row s x y z).dsat
+    dsat : (mz.f ≡ true) × ((mx.s || my.f) ≡ true) → IsEmpty (and_or_row (stacks s) x y z).dsat
     dsat e w (inl r) = k.dsat e.0 r.0 r.2
     dsat e w (inr (fact, r)) = elim (or_cases mx.s my.f e.1) [ inl a ↦ i.sat a r.1 r.3 | inr a ↦ j.dsat a r.0 r.2 ]
 
-and_v_needs : (s : Setting) (mx my : Mall) (x y : Row) → Needs mx x → Needs my y → Needs (mall.and_v_row mx my).gives (and_v_row s x y)
+and_v_needs : (s : Setting) (mx my : Mall) (x y : Row) → Needs mx x → Needs my y → Needs (mall.and_v_row mx my).gives (and_v_row (stacks s) x y)
 unfolding mall_rows
 and_v_needs s mx my x y i j = record {
   sat = λ e w r. elim (or_cases mx.s my.s e) [ inl a ↦ i.sat a r.1 r.3 | inr a ↦ j.sat a r.0 r.2 ];
   dsat = λ e w r. elim (or_cases mx.s my.f e) [ inl a ↦ i.sat a r.1.1 r.1.3 | inr a ↦ j.dsat a r.1.0 r.1.2 ];
 }
 
-and_b_needs : (s : Setting) (mx my : Mall) (x y : Row) → Needs mx x → Needs my y → Needs (mall.and_b_row mx my).gives (and_b_row s x y)
+and_b_needs : (s : Setting) (mx my : Mall) (x y : Row) → Needs mx x → Needs my y → Needs (mall.and_b_row mx my).gives (and_b_row (stacks s) x y)
 unfolding mall_rows
 and_b_needs s mx my x y i j = record {
   sat = λ e w r. elim (or_cases mx.s my.s e) [ inl a ↦ i.sat a r.1 r.3 | inr a ↦ j.sat a r.0 r.2 ];
@@ -103,58 +104,58 @@ and_b_needs s mx my x y i j = record {
   ];
 }
   where
-    neither : (mx.f ≡ true) × (my.f ≡ true) → IsEmpty (and_b_row s x y).dsat
+    neither : (mx.f ≡ true) × (my.f ≡ true) → IsEmpty (and_b_row (stacks s) x y).dsat
     neither e w (inl r) = i.dsat e.0 r.1 r.3
     neither e w (inr (fact, inl r)) = i.dsat e.0 r.1 r.3
     neither e w (inr (fact, inr r)) = j.dsat e.1 r.0 r.2
 
-    of_x : (mx.s ≡ true) × (mx.f ≡ true) → IsEmpty (and_b_row s x y).dsat
+    of_x : (mx.s ≡ true) × (mx.f ≡ true) → IsEmpty (and_b_row (stacks s) x y).dsat
     of_x e w (inl r) = i.dsat e.1 r.1 r.3
     of_x e w (inr (fact, inl r)) = i.dsat e.1 r.1 r.3
     of_x e w (inr (fact, inr r)) = i.sat e.0 r.1 r.3
 
-    of_y : (my.s ≡ true) × (my.f ≡ true) → IsEmpty (and_b_row s x y).dsat
+    of_y : (my.s ≡ true) × (my.f ≡ true) → IsEmpty (and_b_row (stacks s) x y).dsat
     of_y e w (inl r) = j.dsat e.1 r.0 r.2
     of_y e w (inr (fact, inl r)) = j.sat e.0 r.0 r.2
     of_y e w (inr (fact, inr r)) = j.dsat e.1 r.0 r.2
 
-or_b_needs : (s : Setting) (mx mz : Mall) (x z : Row) → Needs mx x → Needs mz z → Needs (mall.or_b_row mx mz).gives (or_b_row s x z)
+or_b_needs : (s : Setting) (mx mz : Mall) (x z : Row) → Needs mx x → Needs mz z → Needs (mall.or_b_row mx mz).gives (or_b_row (stacks s) x z)
 unfolding mall_rows
 or_b_needs s mx mz x z i k = record { sat = λ e w r. sat (and_parts mx.s mz.s e) w r; dsat = λ e. absurd (false≢true e) }
   where
-    sat : (mx.s ≡ true) × (mz.s ≡ true) → IsEmpty (or_b_row s x z).sat
+    sat : (mx.s ≡ true) × (mz.s ≡ true) → IsEmpty (or_b_row (stacks s) x z).sat
     sat e w (inl r) = i.sat e.0 r.1 r.3
     sat e w (inr (inl r)) = k.sat e.1 r.0 r.2
     sat e w (inr (inr r)) = i.sat e.0 r.1.1 r.1.3
 
-or_c_needs : (mx mz : Mall) (x z : Row) → Needs mx x → Needs mz z → Needs (mall.or_c_row mx mz).gives (or_c_row x z)
+or_c_needs : (s : Setting) (mx mz : Mall) (x z : Row) → Needs mx x → Needs mz z → Needs (mall.or_c_row mx mz).gives (or_c_row (stacks s) x z)
 unfolding mall_rows
-or_c_needs mx mz x z i k = record { sat = λ e w r. sat (and_parts mx.s mz.s e) w r; dsat = λ e w r. r }
+or_c_needs s mx mz x z i k = record { sat = λ e w r. sat (and_parts mx.s mz.s e) w r; dsat = λ e w r. r }
   where
-    sat : (mx.s ≡ true) × (mz.s ≡ true) → IsEmpty (or_c_row x z).sat
+    sat : (mx.s ≡ true) × (mz.s ≡ true) → IsEmpty (or_c_row (stacks s) x z).sat
     sat e w (inl r) = i.sat e.0 w r
     sat e w (inr r) = k.sat e.1 r.0 r.2
 
-or_d_needs : (mx mz : Mall) (x z : Row) → Needs mx x → Needs mz z → Needs (mall.or_d_row mx mz).gives (or_d_row x z)
+or_d_needs : (s : Setting) (mx mz : Mall) (x z : Row) → Needs mx x → Needs mz z → Needs (mall.or_d_row mx mz).gives (or_d_row (stacks s) x z)
 unfolding mall_rows
-or_d_needs mx mz x z i k = record { sat = λ e w r. sat (and_parts mx.s mz.s e) w r; dsat = λ e w r. k.dsat e r.0 r.2 }
+or_d_needs s mx mz x z i k = record { sat = λ e w r. sat (and_parts mx.s mz.s e) w r; dsat = λ e w r. k.dsat e r.0 r.2 }
   where
-    sat : (mx.s ≡ true) × (mz.s ≡ true) → IsEmpty (or_d_row x z).sat
+    sat : (mx.s ≡ true) × (mz.s ≡ true) → IsEmpty (or_d_row (stacks s) x z).sat
     sat e w (inl r) = i.sat e.0 w r
     sat e w (inr r) = k.sat e.1 r.0 r.2
 
-or_i_needs : (mx mz : Mall) (x z : Row) → Needs mx x → Needs mz z → Needs (mall.or_i_row mx mz).gives (or_i_row x z)
+or_i_needs : (s : Setting) (mx mz : Mall) (x z : Row) → Needs mx x → Needs mz z → Needs (mall.or_i_row mx mz).gives (or_i_row (stacks s) x z)
 unfolding mall_rows
-or_i_needs mx mz x z i k = record {
+or_i_needs s mx mz x z i k = record {
   sat = λ e w r. sat (and_parts mx.s mz.s e) w r;
   dsat = λ e w r. dsat (and_parts mx.f mz.f e) w r;
 }
   where
-    sat : (mx.s ≡ true) × (mz.s ≡ true) → IsEmpty (or_i_row x z).sat
+    sat : (mx.s ≡ true) × (mz.s ≡ true) → IsEmpty (or_i_row (stacks s) x z).sat
     sat e w (inl r) = i.sat e.0 r.0 r.2
     sat e w (inr r) = k.sat e.1 r.0 r.2
 
-    dsat : (mx.f ≡ true) × (mz.f ≡ true) → IsEmpty (or_i_row x z).dsat
+    dsat : (mx.f ≡ true) × (mz.f ≡ true) → IsEmpty (or_i_row (stacks s) x z).dsat
     dsat e w (inl r) = i.dsat e.0 r.0 r.2
     dsat e w (inr r) = k.dsat e.1 r.0 r.2
 
@@ -196,15 +197,15 @@ multi_needs s k keys some h = record {
   dsat = λ e. absurd (false≢true e);
 }
 
-wrap_d_needs : (m : Mall) (x : Row) → Needs m x → Needs (mall.wrap_d_row m).gives (wrap_d_row x)
+wrap_d_needs : (s : Setting) (m : Mall) (x : Row) → Needs m x → Needs (mall.wrap_d_row m).gives (wrap_d_row (stacks s) x)
 unfolding mall_rows
-wrap_d_needs m x i = record { sat = λ e w r. i.sat e r.0 r.2; dsat = λ e. absurd (false≢true e) }
+wrap_d_needs s m x i = record { sat = λ e w r. i.sat e r.0 r.2; dsat = λ e. absurd (false≢true e) }
 
-wrap_v_needs : (m : Mall) (x : Row) → Needs m x → Needs (mall.wrap_v_row m).gives (wrap_v_row x)
+wrap_v_needs : (s : Setting) (m : Mall) (x : Row) → Needs m x → Needs (mall.wrap_v_row m).gives (wrap_v_row (stacks s) x)
 unfolding mall_rows
-wrap_v_needs m x i = record { sat = i.sat; dsat = λ e w r. r }
+wrap_v_needs s m x i = record { sat = i.sat; dsat = λ e w r. r }
 
-wrap_j_needs : (s : Setting) (m : Mall) (x : Row) → Needs m x → Needs (mall.wrap_j_row m).gives (wrap_j_row s x)
+wrap_j_needs : (s : Setting) (m : Mall) (x : Row) → Needs m x → Needs (mall.wrap_j_row m).gives (wrap_j_row (stacks s) x)
 unfolding mall_rows
 wrap_j_needs s m x i = record { sat = i.sat; dsat = λ e. absurd (false≢true e) }
 
@@ -279,21 +280,21 @@ mutual
       or_b_needs s (mall_of x) (mall_of y) (row s x) (row s y)
       (needs s x typed.0 (none_left s (keys x) (keys y) h)) (needs s y typed.1 (none_right s (keys x) (keys y) h))
   needs s (two kind.OrC x y) typed h =
-      or_c_needs (mall_of x) (mall_of y) (row s x) (row s y)
+      or_c_needs s (mall_of x) (mall_of y) (row s x) (row s y)
       (needs s x typed.0 (none_left s (keys x) (keys y) h)) (needs s y typed.1 (none_right s (keys x) (keys y) h))
   needs s (two kind.OrD x y) typed h =
-      or_d_needs (mall_of x) (mall_of y) (row s x) (row s y)
+      or_d_needs s (mall_of x) (mall_of y) (row s x) (row s y)
       (needs s x typed.0 (none_left s (keys x) (keys y) h)) (needs s y typed.1 (none_right s (keys x) (keys y) h))
   needs s (two kind.OrI x y) typed h =
-      or_i_needs (mall_of x) (mall_of y) (row s x) (row s y)
+      or_i_needs s (mall_of x) (mall_of y) (row s x) (row s y)
       (needs s x typed.0 (none_left s (keys x) (keys y) h)) (needs s y typed.1 (none_right s (keys x) (keys y) h))
   needs s (thresh k xs) typed h = thresh_needs s k (malls_of xs) (parts s xs) (few_satisfied s xs typed.0 h)
   needs s (multi k own) typed h = multi_needs s k own (typed-multi k own typed).0 h
   needs s (wrap wrapper.A x) typed h = needs s x typed.0 h
   needs s (wrap wrapper.S x) typed h = needs s x typed.0 h
   needs s (wrap wrapper.C x) typed h = needs_c s x typed (needs s x typed.0 h)
-  needs s (wrap wrapper.D x) typed h = wrap_d_needs (mall_of x) (row s x) (needs s x typed.0 h)
-  needs s (wrap wrapper.V x) typed h = wrap_v_needs (mall_of x) (row s x) (needs s x typed.0 h)
+  needs s (wrap wrapper.D x) typed h = wrap_d_needs s (mall_of x) (row s x) (needs s x typed.0 h)
+  needs s (wrap wrapper.V x) typed h = wrap_v_needs s (mall_of x) (row s x) (needs s x typed.0 h)
   needs s (wrap wrapper.J x) typed h = wrap_j_needs s (mall_of x) (row s x) (needs s x typed.0 h)
   needs s (wrap wrapper.N x) typed h = needs s x typed.0 h
 

@@ -14,7 +14,8 @@ use Rattle.def_types.proofs.Rows.{corr_rows}
 use Rattle.def_types.proofs.Facts.{all_true, typed-wrap_d}
 use Rattle.def_satisfaction.specs.StackSet.{StackSet, Is, Both}
 use Rattle.def_satisfaction.specs.Setting.{Setting}
-use Rattle.def_satisfaction.specs.Rows.{Row, EMPTY, ONE, Signature, PartsOf, hash_row, and_or_row, and_v_row, and_b_row, or_b_row, or_c_row, or_d_row, or_i_row, thresh_row, wrap_d_row, wrap_v_row, wrap_j_row, row, parts}
+use Rattle.def_table.specs.Table.{and_or_row, and_v_row, and_b_row, or_b_row, or_c_row, or_d_row, or_i_row, wrap_d_row, wrap_v_row, wrap_j_row}
+use Rattle.def_satisfaction.specs.Rows.{Row, EMPTY, ONE, Signature, PartsOf, hash_row, thresh_row, row, parts, stacks}
 
 -- every stack of the set has so many items
 abbrev pub Takes : ℕ → StackSet → Type 0
@@ -30,83 +31,83 @@ both_takes a b P Q p q w r = ap length r.4 ∙ (let l = length-append r.1 r.0 in
 is_takes : (item : Bytes) → Takes 1 (Is item)
 is_takes item w r = ap length r
 
-and_or_takes : (s : Setting) (a b : ℕ) (x y z : Row) → TakesRow a x → TakesRow b y → TakesRow b z → TakesRow (b + a) (and_or_row s x y z)
+and_or_takes : (s : Setting) (a b : ℕ) (x y z : Row) → TakesRow a x → TakesRow b y → TakesRow b z → TakesRow (b + a) (and_or_row (stacks s) x y z)
 and_or_takes s a b x y z i j k = record {
   dsat = λ w r. dsat w r;
   sat = λ w r. sat w r;
 }
   where
-    dsat : Takes (b + a) (and_or_row s x y z).dsat
+    dsat : Takes (b + a) (and_or_row (stacks s) x y z).dsat
     dsat w (inl r) = both_takes a b z.dsat x.dsat k.dsat i.dsat w r
     dsat w (inr r) = both_takes a b y.dsat x.sat j.dsat i.sat w r.1
 
-    sat : Takes (b + a) (and_or_row s x y z).sat
+    sat : Takes (b + a) (and_or_row (stacks s) x y z).sat
     sat w (inl r) = both_takes a b y.sat x.sat j.sat i.sat w r
     sat w (inr r) = both_takes a b z.sat x.dsat k.sat i.dsat w r
 
-and_v_takes : (s : Setting) (a b : ℕ) (x y : Row) → TakesRow a x → TakesRow b y → TakesRow (b + a) (and_v_row s x y)
+and_v_takes : (s : Setting) (a b : ℕ) (x y : Row) → TakesRow a x → TakesRow b y → TakesRow (b + a) (and_v_row (stacks s) x y)
 and_v_takes s a b x y i j = record {
   dsat = λ w r. both_takes a b y.dsat x.sat j.dsat i.sat w r.1;
   sat = both_takes a b y.sat x.sat j.sat i.sat;
 }
 
-and_b_takes : (s : Setting) (a b : ℕ) (x y : Row) → TakesRow a x → TakesRow b y → TakesRow (b + a) (and_b_row s x y)
+and_b_takes : (s : Setting) (a b : ℕ) (x y : Row) → TakesRow a x → TakesRow b y → TakesRow (b + a) (and_b_row (stacks s) x y)
 and_b_takes s a b x y i j = record {
   dsat = λ w r. dsat w r;
   sat = both_takes a b y.sat x.sat j.sat i.sat;
 }
   where
-    dsat : Takes (b + a) (and_b_row s x y).dsat
+    dsat : Takes (b + a) (and_b_row (stacks s) x y).dsat
     dsat w (inl r) = both_takes a b y.dsat x.dsat j.dsat i.dsat w r
     dsat w (inr (fact, inl r)) = both_takes a b y.sat x.dsat j.sat i.dsat w r
     dsat w (inr (fact, inr r)) = both_takes a b y.dsat x.sat j.dsat i.sat w r
 
-or_b_takes : (s : Setting) (a b : ℕ) (x z : Row) → TakesRow a x → TakesRow b z → TakesRow (b + a) (or_b_row s x z)
+or_b_takes : (s : Setting) (a b : ℕ) (x z : Row) → TakesRow a x → TakesRow b z → TakesRow (b + a) (or_b_row (stacks s) x z)
 or_b_takes s a b x z i k = record {
   dsat = both_takes a b z.dsat x.dsat k.dsat i.dsat;
   sat = λ w r. sat w r;
 }
   where
-    sat : Takes (b + a) (or_b_row s x z).sat
+    sat : Takes (b + a) (or_b_row (stacks s) x z).sat
     sat w (inl r) = both_takes a b z.dsat x.sat k.dsat i.sat w r
     sat w (inr (inl r)) = both_takes a b z.sat x.dsat k.sat i.dsat w r
     sat w (inr (inr r)) = both_takes a b z.sat x.sat k.sat i.sat w r.1
 
-or_c_takes : (a : ℕ) (x z : Row) → TakesRow a x → TakesRow 0 z → TakesRow a (or_c_row x z)
-or_c_takes a x z i k = record { dsat = λ w r. absurd r; sat = λ w r. sat w r }
+or_c_takes : (s : Setting) (a : ℕ) (x z : Row) → TakesRow a x → TakesRow 0 z → TakesRow a (or_c_row (stacks s) x z)
+or_c_takes s a x z i k = record { dsat = λ w r. absurd r; sat = λ w r. sat w r }
   where
-    sat : Takes a (or_c_row x z).sat
+    sat : Takes a (or_c_row (stacks s) x z).sat
     sat w (inl r) = i.sat w r
     sat w (inr r) = let e = both_takes a 0 z.sat x.dsat k.sat i.dsat w r in omega arith
 
-or_d_takes : (a : ℕ) (x z : Row) → TakesRow a x → TakesRow 0 z → TakesRow a (or_d_row x z)
-or_d_takes a x z i k = record { dsat = λ w r. (let e = both_takes a 0 z.dsat x.dsat k.dsat i.dsat w r in omega arith); sat = λ w r. sat w r }
+or_d_takes : (s : Setting) (a : ℕ) (x z : Row) → TakesRow a x → TakesRow 0 z → TakesRow a (or_d_row (stacks s) x z)
+or_d_takes s a x z i k = record { dsat = λ w r. (let e = both_takes a 0 z.dsat x.dsat k.dsat i.dsat w r in omega arith); sat = λ w r. sat w r }
   where
-    sat : Takes a (or_d_row x z).sat
+    sat : Takes a (or_d_row (stacks s) x z).sat
     sat w (inl r) = i.sat w r
     sat w (inr r) = let e = both_takes a 0 z.sat x.dsat k.sat i.dsat w r in omega arith
 
-or_i_takes : (x z : Row) → TakesRow 0 x → TakesRow 0 z → TakesRow 1 (or_i_row x z)
-or_i_takes x z i k = record { dsat = λ w r. dsat w r; sat = λ w r. sat w r }
+or_i_takes : (s : Setting) (x z : Row) → TakesRow 0 x → TakesRow 0 z → TakesRow 1 (or_i_row (stacks s) x z)
+or_i_takes s x z i k = record { dsat = λ w r. dsat w r; sat = λ w r. sat w r }
   where
-    dsat : Takes 1 (or_i_row x z).dsat
+    dsat : Takes 1 (or_i_row (stacks s) x z).dsat
     dsat w (inl r) = both_takes 1 0 x.dsat (Is ONE) i.dsat (is_takes ONE) w r
     dsat w (inr r) = both_takes 1 0 z.dsat (Is EMPTY) k.dsat (is_takes EMPTY) w r
 
-    sat : Takes 1 (or_i_row x z).sat
+    sat : Takes 1 (or_i_row (stacks s) x z).sat
     sat w (inl r) = both_takes 1 0 x.sat (Is ONE) i.sat (is_takes ONE) w r
     sat w (inr r) = both_takes 1 0 z.sat (Is EMPTY) k.sat (is_takes EMPTY) w r
 
-wrap_d_takes : (x : Row) → TakesRow 0 x → TakesRow 1 (wrap_d_row x)
-wrap_d_takes x i = record { dsat = is_takes EMPTY; sat = both_takes 1 0 x.sat (Is ONE) i.sat (is_takes ONE) }
+wrap_d_takes : (s : Setting) (x : Row) → TakesRow 0 x → TakesRow 1 (wrap_d_row (stacks s) x)
+wrap_d_takes s x i = record { dsat = is_takes EMPTY; sat = both_takes 1 0 x.sat (Is ONE) i.sat (is_takes ONE) }
 
-wrap_v_takes : (k : ℕ) (x : Row) → TakesRow k x → TakesRow k (wrap_v_row x)
-wrap_v_takes k x i = record { dsat = λ w r. absurd r; sat = i.sat }
+wrap_v_takes : (s : Setting) (k : ℕ) (x : Row) → TakesRow k x → TakesRow k (wrap_v_row (stacks s) x)
+wrap_v_takes s k x i = record { dsat = λ w r. absurd r; sat = i.sat }
 
-wrap_j_takes : (s : Setting) (x : Row) → TakesRow 1 x → TakesRow 1 (wrap_j_row s x)
+wrap_j_takes : (s : Setting) (x : Row) → TakesRow 1 x → TakesRow 1 (wrap_j_row (stacks s) x)
 wrap_j_takes s x i = record { dsat = λ w r. dsat w r; sat = i.sat }
   where
-    dsat : Takes 1 (wrap_j_row s x).dsat
+    dsat : Takes 1 (wrap_j_row (stacks s) x).dsat
     dsat w (inl r) = is_takes EMPTY w r
     dsat w (inr r) = i.dsat w r.1.1
 
@@ -150,10 +151,10 @@ mutual
       or_b_takes s 0 0 (row s x) (row s y) (takes_none s x p.0) (takes_none s y p.1)
   takes_none s (two kind.OrC x y) e =
       let p = and_parts (type_of x).z (type_of y).z e in
-      or_c_takes 0 (row s x) (row s y) (takes_none s x p.0) (takes_none s y p.1)
+      or_c_takes s 0 (row s x) (row s y) (takes_none s x p.0) (takes_none s y p.1)
   takes_none s (two kind.OrD x y) e =
       let p = and_parts (type_of x).z (type_of y).z e in
-      or_d_takes 0 (row s x) (row s y) (takes_none s x p.0) (takes_none s y p.1)
+      or_d_takes s 0 (row s x) (row s y) (takes_none s x p.0) (takes_none s y p.1)
   takes_none s (two kind.OrI x y) e = absurd (false≢true e)
   takes_none s (thresh k xs) e = thresh_takes s 0 k (parts s xs) (parts_take_none s xs e)
   takes_none s (multi k keys) e = absurd (false≢true e)
@@ -161,7 +162,7 @@ mutual
   takes_none s (wrap wrapper.S x) e = absurd (false≢true e)
   takes_none s (wrap wrapper.C x) e = absurd (false≢true e)
   takes_none s (wrap wrapper.D x) e = absurd (false≢true e)
-  takes_none s (wrap wrapper.V x) e = wrap_v_takes 0 (row s x) (takes_none s x e)
+  takes_none s (wrap wrapper.V x) e = wrap_v_takes s 0 (row s x) (takes_none s x e)
   takes_none s (wrap wrapper.J x) e = absurd (false≢true e)
   takes_none s (wrap wrapper.N x) e = takes_none s x e
 
@@ -222,20 +223,20 @@ mutual
       ]
   takes_one s (two kind.OrC x y) typed e =
       let p = and_parts (type_of x).o (type_of y).z e in
-      or_c_takes 1 (row s x) (row s y) (takes_one s x typed.0 p.0) (takes_none s y p.1)
+      or_c_takes s 1 (row s x) (row s y) (takes_one s x typed.0 p.0) (takes_none s y p.1)
   takes_one s (two kind.OrD x y) typed e =
       let p = and_parts (type_of x).o (type_of y).z e in
-      or_d_takes 1 (row s x) (row s y) (takes_one s x typed.0 p.0) (takes_none s y p.1)
+      or_d_takes s 1 (row s x) (row s y) (takes_one s x typed.0 p.0) (takes_none s y p.1)
   takes_one s (two kind.OrI x y) typed e =
       let p = and_parts (type_of x).z (type_of y).z e in
-      or_i_takes (row s x) (row s y) (takes_none s x p.0) (takes_none s y p.1)
+      or_i_takes s (row s x) (row s y) (takes_none s x p.0) (takes_none s y p.1)
   takes_one s (thresh k xs) typed e = thresh_takes s 1 k (parts s xs) (parts_take_one s xs typed.0 e)
   takes_one s (multi k keys) typed e = absurd (false≢true e)
   takes_one s (wrap wrapper.A x) typed e = absurd (false≢true e)
   takes_one s (wrap wrapper.S x) typed e = absurd (false≢true e)
   takes_one s (wrap wrapper.C x) typed e = takes_one s x typed.0 e
-  takes_one s (wrap wrapper.D x) typed e = wrap_d_takes (row s x) (takes_none s x (typed-wrap_d x typed).2)
-  takes_one s (wrap wrapper.V x) typed e = wrap_v_takes 1 (row s x) (takes_one s x typed.0 e)
+  takes_one s (wrap wrapper.D x) typed e = wrap_d_takes s (row s x) (takes_none s x (typed-wrap_d x typed).2)
+  takes_one s (wrap wrapper.V x) typed e = wrap_v_takes s 1 (row s x) (takes_one s x typed.0 e)
   takes_one s (wrap wrapper.J x) typed e = wrap_j_takes s (row s x) (takes_one s x typed.0 e)
   takes_one s (wrap wrapper.N x) typed e = takes_one s x typed.0 e
 

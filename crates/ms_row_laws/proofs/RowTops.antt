@@ -15,7 +15,8 @@ use Rattle.def_types.proofs.Rows.{corr_rows}
 use Rattle.def_types.proofs.Facts.{typed-multi, typed-wrap_j}
 use Rattle.def_satisfaction.specs.StackSet.{StackSet, Is, Both}
 use Rattle.def_satisfaction.specs.Setting.{Setting}
-use Rattle.def_satisfaction.specs.Rows.{Row, EMPTY, ONE, HasTop, Signature, AreSignatures, pk_h_row, hash_row, multi_row, wrap_d_row, wrap_j_row, row}
+use Rattle.def_table.specs.Table.{wrap_d_row, wrap_j_row}
+use Rattle.def_satisfaction.specs.Rows.{Row, EMPTY, ONE, HasTop, Signature, AreSignatures, pk_h_row, hash_row, multi_row, row, stacks}
 use Rattle.ms_row_laws.proofs.RowLengths.{Takes, takes_none}
 
 pub record TopRow (r : Row) : Type 0 where
@@ -95,15 +96,15 @@ multi_top s k keys some = record {
     empties zero w long e = absurd (omega arith)
     empties (suc n) w long e = let l = ap length e in omega arith
 
-wrap_j_top : (s : Setting) (x : Row) → TopRow x → TopRow (wrap_j_row s x)
+wrap_j_top : (s : Setting) (x : Row) → TopRow x → TopRow (wrap_j_row (stacks s) x)
 wrap_j_top s x i = record { dsat = λ w r. dsat w r; sat = i.sat }
   where
-    dsat : (w : Stack) → (wrap_j_row s x).dsat w → 1 ≤ length w
+    dsat : (w : Stack) → (wrap_j_row (stacks s) x).dsat w → 1 ≤ length w
     dsat w (inl r) = is_long EMPTY w r
     dsat w (inr r) = top_length w r.1.0
 
-wrap_d_top : (x : Row) → TopRow (wrap_d_row x)
-wrap_d_top x = record { dsat = is_long EMPTY; sat = both_top x.sat (Is ONE) (λ v e. top_item v ONE e refl) }
+wrap_d_top : (s : Setting) (x : Row) → TopRow (wrap_d_row (stacks s) x)
+wrap_d_top s x = record { dsat = is_long EMPTY; sat = both_top x.sat (Is ONE) (λ v e. top_item v ONE e refl) }
 
 -- n, nonzero
 pub takes_item : (s : Setting) (t : Tree) → IsTyped t → (type_of t).n ≡ true → TopRow (row s t)
@@ -163,7 +164,7 @@ takes_item s (multi k keys) typed e = multi_top s k keys (typed-multi k keys typ
 takes_item s (wrap wrapper.A x) typed e = absurd (false≢true e)
 takes_item s (wrap wrapper.S x) typed e = absurd (false≢true e)
 takes_item s (wrap wrapper.C x) typed e = takes_item s x typed.0 e
-takes_item s (wrap wrapper.D x) typed e = wrap_d_top (row s x)
+takes_item s (wrap wrapper.D x) typed e = wrap_d_top s (row s x)
 takes_item s (wrap wrapper.V x) typed e = let i = takes_item s x typed.0 e in record { dsat = λ w r. absurd r; sat = i.sat }
 takes_item s (wrap wrapper.J x) typed e = wrap_j_top s (row s x) (takes_item s x typed.0 (typed-wrap_j x typed).2)
 takes_item s (wrap wrapper.N x) typed e = takes_item s x typed.0 e

@@ -15,7 +15,8 @@ use Rattle.def_types.proofs.Rows.{mall_rows}
 use Rattle.def_sane.specs.Keys.{keys, keys_of_all}
 use Rattle.def_satisfaction.specs.StackSet.{StackSet, Both}
 use Rattle.def_satisfaction.specs.Setting.{Setting, CountsAsKey}
-use Rattle.def_satisfaction.specs.Rows.{Row, EMPTY, ONE, or_i_row, row, parts}
+use Rattle.def_table.specs.Table.{or_i_row}
+use Rattle.def_satisfaction.specs.Rows.{Row, EMPTY, ONE, row, parts, stacks}
 use Rattle.def_choice.specs.Tight.{HasOne}
 use Rattle.ms_row_laws.proofs.NeededSignatures.{NoKeys, IsEmpty, none_left, none_right, counts_itself, needs, few_satisfied}
 
@@ -126,13 +127,13 @@ free_dsat s t k safe e = (the_dsat t, is_dsat s t k safe e)
 both_are : (w above below a b : Stack) → w ≡ above ++ below → above ≡ a → below ≡ b → w ≡ a ++ b
 both_are w above below a b e i j = e ∙ ap (λ v. v ++ below) i ∙ ap (λ v. a ++ v) j
 
-or_i_first : (x z : Row) (a w : Stack) → IsEmpty z.dsat → ((v : Stack) → x.dsat v → v ≡ a) → (or_i_row x z).dsat w → w ≡ ONE ∷ a
-or_i_first x z a w empty only (inl r) = both_are w r.1 r.0 (ONE ∷ []) a r.4 r.3 (only r.0 r.2)
-or_i_first x z a w empty only (inr r) = absurd (empty r.0 r.2)
+or_i_first : (s : Setting) (x z : Row) (a w : Stack) → IsEmpty z.dsat → ((v : Stack) → x.dsat v → v ≡ a) → (or_i_row (stacks s) x z).dsat w → w ≡ ONE ∷ a
+or_i_first s x z a w empty only (inl r) = both_are w r.1 r.0 (ONE ∷ []) a r.4 r.3 (only r.0 r.2)
+or_i_first s x z a w empty only (inr r) = absurd (empty r.0 r.2)
 
-or_i_second : (x z : Row) (a w : Stack) → IsEmpty x.dsat → ((v : Stack) → z.dsat v → v ≡ a) → (or_i_row x z).dsat w → w ≡ EMPTY ∷ a
-or_i_second x z a w empty only (inl r) = absurd (empty r.0 r.2)
-or_i_second x z a w empty only (inr r) = both_are w r.1 r.0 (EMPTY ∷ []) a r.4 r.3 (only r.0 r.2)
+or_i_second : (s : Setting) (x z : Row) (a w : Stack) → IsEmpty x.dsat → ((v : Stack) → z.dsat v → v ≡ a) → (or_i_row (stacks s) x z).dsat w → w ≡ EMPTY ∷ a
+or_i_second s x z a w empty only (inl r) = absurd (empty r.0 r.2)
+or_i_second s x z a w empty only (inr r) = both_are w r.1 r.0 (EMPTY ∷ []) a r.4 r.3 (only r.0 r.2)
 
 none_not_s : (ms : List Mall) → all_s ms ≡ true → count_not_s ms ≡ 0
 none_not_s [] e = refl
@@ -200,11 +201,11 @@ module _ (s : Setting) (own : OwnKeys s) where
           | inl a ↦
               let p = and_parts (mall_of x).e (mall_of z).f a in
               let k = needs s z typed.1 h_z in
-              rw a (or_i_first (row s x) (row s z) _ w (k.dsat p.1) (only_dsat x typed.0 safe.0 h_x p.0) r)
+              rw a (or_i_first s (row s x) (row s z) _ w (k.dsat p.1) (only_dsat x typed.0 safe.0 h_x p.0) r)
           | inr b ↦
               let p = and_parts (mall_of z).e (mall_of x).f (or_second _ _ b e) in
               let i = needs s x typed.0 h_x in
-              rw b (or_i_second (row s x) (row s z) _ w (i.dsat p.1) (only_dsat z typed.1 safe.1 h_z p.0) r)
+              rw b (or_i_second s (row s x) (row s z) _ w (i.dsat p.1) (only_dsat z typed.1 safe.1 h_z p.0) r)
         ]
     only_dsat (thresh k xs) typed safe h e w (inl r) = only_none xs typed.0 safe.0 h safe.1.0 w r
     only_dsat (thresh k xs) typed safe h e w (inr (fact, (n, some, other, r))) =

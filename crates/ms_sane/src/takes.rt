@@ -1,5 +1,5 @@
 //! What satisfactions and dissatisfactions take at most.
-ghost use Rattle.std.specs.Prelude.{◌≡◌, ℕ, ◌+◌, ◌<◌, ◌≤◌, ◌^◌};
+ghost use Rattle.std.specs.Prelude.{◌≡◌, ◌+◌, ◌<◌, ◌^◌};
 ghost use Rattle.def_sane.specs.Formal as formal;
 ghost use Rattle.def_sane.specs.Most as most;
 ghost use Rattle.std.specs.Option.{option_map};

@@ -1,5 +1,5 @@
 //! Whether a miniscript is valid, and the first reason against one that isn't.
-ghost use Rattle.std.specs.Prelude.{◌≡◌, ◌<◌, ◌*◌, ◌≤◌, Some, IfOk, IfErr, vec_len};
+ghost use Rattle.std.specs.Prelude.{◌≡◌, ◌*◌, ◌≤◌, Some, IfOk, IfErr, vec_len};
 ghost use Rattle.def_tree.specs.Range.{IsInRange};
 ghost use Rattle.def_tree.specs.Size.{measure};
 ghost use Rattle.def_sane.specs.Unfit.{first_unfit_under, first_unfit_valid, first_unfit_valid_under, IsKnownValid, IsKnownValidUnder, size_limit as the_size_limit, are_too_many as the_too_many};

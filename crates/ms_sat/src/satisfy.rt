@@ -1,5 +1,5 @@
 //! The satisfaction that a rule chooses.
-ghost use Rattle.std.specs.Prelude.{◌≡◌, ℕ, ◌↔◌, ◌<◌, ◌≤◌, ◌++◌, ◌+◌, List, length, replicate, All, if◌then◌else◌, reverse, Some, None, OnOk, IfOk};
+ghost use Rattle.std.specs.Prelude.{◌≡◌, ◌↔◌, ◌≤◌, List, length, replicate, All, reverse, Some, None, OnOk, IfOk};
 ghost use Rattle.std.specs.Option.{option_map};
 ghost use Rattle.def_script.specs.Bytes.{Bytes};
 ghost use Rattle.def_tree.specs.Range.{MOST_MEASURE, IsInRange};
@@ -8,26 +8,22 @@ ghost use Rattle.def_tree.specs.Tree as tree;
 ghost use Rattle.def_tree.specs.Nodes.{nodes_of_all};
 ghost use Rattle.def_sane.specs.declared.Rules.TheVariants.{Consensus};
 ghost use Rattle.def_sane.specs.Unfit.{IsValidUnder};
-ghost use Rattle.def_assets.specs.Assets.{AreAssets, Assets as Held, sig_of, known};
+ghost use Rattle.def_assets.specs.Assets.{AreAssets, sig_of, known};
 ghost use Rattle.def_satisfaction.specs.Rows.{EMPTY};
 ghost use Rattle.def_satisfaction.specs.Satisfaction.{Sat};
 ghost use Rattle.def_choice.specs.Least.{item};
 ghost use Rattle.def_choice.specs.Lightest.{IsLightest};
-ghost use Rattle.def_choice.specs.Cheapest.{cheapest as the_cheapest, cheapest_of, dissatisfaction, all_dissatisfied, stack_of};
+ghost use Rattle.def_choice.specs.Cheapest.{cheapest as the_cheapest, cheapest_of, dissatisfaction, all_dissatisfied};
 ghost use Rattle.def_promises.specs.Acceptance.{Inversion};
 ghost use Rattle.def_promises.specs.Letters.{Letters};
 ghost use Rattle.ms_tree.specs.Shape.{shape, shapes, leaf_shape};
 ghost use Rattle.ms_hash.specs.Value.{kind_of, bytes_of};
 ghost use Rattle.ms_sat.specs.declared.rule.Rule.{Rule as By};
-ghost use Rattle.ms_sat.specs.Scaffolding.Costs.{costs_of};
-ghost use Rattle.ms_sat.specs.Scaffolding.Choice.{chosen};
-ghost use Rattle.ms_choice.specs.Marks.{set_by};
-ghost use Rattle.ms_sat.specs.Scaffolding.Children.{children_of_keys, lengths_of_keys};
 ghost use Rattle.ms_sat.specs.Scaffolding.Pushed.{IsPushed};
 ghost use Rattle.ms_sat.specs.Scaffolding.Pushing.{PushesChoice, PushesMulti, PushesSignatures};
-ghost use Rattle.ms_sat.specs.Rule.{stack_by, children_by};
-ghost use Rattle.ms_sat.specs.Scaffolding.Table.{AreEntries, IsFound};
-ghost use Rattle.ms_sat.specs.Scaffolding.Way.{tree_of, stack_of_part, stack_of_way, IsSeen, IsSeenPart, IsSeenWay, HasTable, HaveTables, AreSeen, sat_of, dsat_of};
+ghost use Rattle.ms_sat.specs.Rule.{stack_by};
+ghost use Rattle.ms_sat.specs.Scaffolding.Table.{AreEntries};
+ghost use Rattle.ms_sat.specs.Scaffolding.Way.{tree_of, stack_of_part, stack_of_way, IsSeen, IsSeenPart, IsSeenWay, AreSeen, sat_of, dsat_of};
 
 use crate::rule::Rule;
 use crate::table::{Entry, weigh_nodes};
@@ -63,8 +59,7 @@ pub fn cheapest(
     ensures inversion { Inversion (shape tree.now) }
     ensures letters { Letters (shape tree.now) }
 {
-    // Its clauses tell what assets always are.
-    let _locks = assets.locks();
+    assets.are_assets();
     satisfaction(alloc, Rule::Cheapest, tree, assets)
 }
 
@@ -80,8 +75,7 @@ pub fn satisfaction(
     requires valid { IsValidUnder Consensus (shape tree.now) }
     ensures { IfOk result (λ found. found ≡ option_map reverse (stack_by rule assets.now (shape tree.now))) }
 {
-    // Its clauses tell what assets always are.
-    let _locks = assets.locks();
+    assets.are_assets();
     let mut work = Work::new(alloc, tree)?;
     let mut table = Vec::new(alloc);
     let weighed = weigh_nodes(tree, rule, assets, &mut work.slots, &mut table)?;
@@ -301,8 +295,7 @@ fn push_multi(
     requires { length keys.now ≤ MOST_MEASURE }
     ensures { OnOk result (PushesMulti assets.now keys.now choice.now stack.old stack.new) }
 {
-    // Its clauses tell what assets always are.
-    let _locks = assets.locks();
+    assets.are_assets();
     match choice {
         Some(choice) => {
             stack.push(&[])?;

@@ -1,5 +1,5 @@
 //! What is weighed of a tree: of each of its nodes once, and kept in a table in the order of their numbers.
-ghost use Rattle.std.specs.Prelude.{◌≡◌, ◌+◌, ◌≤◌, ◌<◌, ◌++◌, [], ◌∷◌, List, length, All, is_some, true, false, if◌then◌else◌, Some, None, IfOk, OnOk};
+ghost use Rattle.std.specs.Prelude.{◌≡◌, ◌+◌, ◌≤◌, ◌<◌, ◌++◌, [], List, length, All, if◌then◌else◌, None, IfOk, OnOk};
 ghost use Rattle.def_tree.specs.Range.{MOST_MEASURE, IsInRange};
 ghost use Rattle.def_tree.specs.Size.{measure_of};
 ghost use Rattle.def_tree.specs.Tree as tree;
@@ -7,24 +7,21 @@ ghost use Rattle.def_tree.specs.Tree.{Tree as Model};
 ghost use Rattle.def_types.specs.Typed.{IsTyped};
 ghost use Rattle.def_assets.specs.Assets.{AreAssets, Assets as Held};
 ghost use Rattle.def_tree.specs.Nodes.{all_nodes, nodes_of_all};
-ghost use Rattle.def_choice.specs.Cheapest.{dissatisfaction};
 ghost use Rattle.ms_tree.specs.Shape.{shape, shapes, trees_of, leaf_shape};
 ghost use Rattle.ms_sat.specs.declared.rule.Rule.{Rule as By};
 ghost use Rattle.ms_sat.specs.Scaffolding.Costs.{weight_of as stack_weight, sum_of};
 ghost use Rattle.ms_choice.specs.Numbers.{IsLight, IsLightOption};
 ghost use Rattle.ms_sat.specs.Scaffolding.Children.{IsReady};
-ghost use Rattle.ms_choice.specs.Tally.{Fits, Tells};
 ghost use Rattle.ms_sat.specs.Rule.{has_key};
 ghost use Rattle.ms_choice.specs.declared.slot.Slot.{Slot};
 ghost use Rattle.ms_sat.specs.Scaffolding.Table.{IsWeighed, AreEntries, Weighs, Adds, below};
-ghost use Rattle.ms_sat.specs.Scaffolding.Way.{HaveTables, AreSeen, sat_of, dsat_of, is_free};
+ghost use Rattle.ms_sat.specs.Scaffolding.Way.{AreSeen, sat_of, dsat_of, is_free};
 ghost use Rattle.ms_sat.specs.Scaffolding.Count.{IsBounded, AreFew, AreTold, CountsIn};
 
 use crate::rule::Rule;
 use crate::way::{
-    Price, Seen, Ways, dissatisfactions_of_and_or, dissatisfactions_of_two,
-    dissatisfactions_of_wrap, satisfactions_of_and_or, satisfactions_of_two, satisfactions_of_wrap,
-    see_last, see_two,
+    Seen, Ways, dissatisfactions_of_and_or, dissatisfactions_of_two, dissatisfactions_of_wrap,
+    satisfactions_of_and_or, satisfactions_of_two, satisfactions_of_wrap, see_last, see_two,
 };
 use crate::weigh::{of_leaf, of_multi, weight_of_choice};
 use ms_assets::Assets;

@@ -48,8 +48,7 @@ pub fn costs(tree: &Tree<'_>, assets: &Assets, work: &mut Work) -> Costs
     ensures least_dsat { IsLeastWeight (Dsat (shape tree.now) assets.now) result.dsat }
     ensures room { vec_len work.new.slots ≡ vec_len work.old.slots }
 {
-    // Its clauses tell what assets always are.
-    let _locks = assets.locks();
+    assets.are_assets();
     weigh(tree, assets, &mut work.slots)
 }
 

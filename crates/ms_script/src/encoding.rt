@@ -1,6 +1,6 @@
 //! The bytes of a Script, in its shortest spelling.
 
-ghost use Rattle.std.specs.Prelude.{◌≡◌, ℕ, ◌≤◌, ◌++◌, length, IfOk, OnOk, All, map};
+ghost use Rattle.std.specs.Prelude.{◌≡◌, ◌≤◌, ◌++◌, length, IfOk, OnOk, All, map};
 ghost use Rattle.def_script.specs.Spell.{opcode_byte as the_opcode_byte, shortest_push, IsShort, spell_one, spell};
 ghost use Rattle.def_script.specs.Items.{items};
 ghost use Rattle.def_script.specs.Laws.{item_of};

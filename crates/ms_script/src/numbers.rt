@@ -1,8 +1,8 @@
 //! Script numbers and truth values: their spelling and their reading.
 
-ghost use Rattle.std.specs.Prelude.{◌≡◌, ℕ, ◌+◌, ◌*◌, ◌%◌, ◌^◌, ◌<◌, ◌≤◌, nat_abs, pos, neg_ℤ, ◌≤ℤ◌, IfOk, List, length, take, ◌++◌, ◌∷◌, [], if◌then◌else◌, Ok};
+ghost use Rattle.std.specs.Prelude.{◌≡◌, ℕ, ◌+◌, ◌^◌, ◌<◌, ◌≤◌, nat_abs, pos, neg_ℤ, ◌≤ℤ◌, IfOk, List, length, take, Ok};
 ghost use Rattle.def_script.specs.Numbers.{sign_bit, signed_bytes as the_signed_bytes, number_bytes};
-ghost use Rattle.def_script.specs.Decode.{magnitude as the_magnitude, is_negative as the_is_negative, is_minimal as the_is_minimal, number, num_decode as the_num_decode, truth as the_truth};
+ghost use Rattle.def_script.specs.Decode.{magnitude as the_magnitude, is_negative as the_is_negative, is_minimal as the_is_minimal, num_decode as the_num_decode, truth as the_truth};
 
 use def_script::NumFault;
 use std::marker::Model;

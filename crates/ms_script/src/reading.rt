@@ -1,6 +1,6 @@
 //! Reading the instructions of a Script from its bytes.
 
-ghost use Rattle.std.specs.Prelude.{◌≡◌, ℕ, ◌<◌, ◌≤◌, length, drop, false, IfOk};
+ghost use Rattle.std.specs.Prelude.{◌≡◌, ◌<◌, ◌≤◌, length, drop, false, IfOk};
 ghost use Rattle.def_script.specs.Items.{read_push as the_read_push, read_number_or_op as the_read_number_or_op, first_item};
 ghost use Rattle.def_script.specs.Items.{op_of_byte as the_op_of_byte};
 ghost use Rattle.ms_script.specs.Reads.{next_item, seen, taken, IsItems, IsSmallNext, IsSmallNumber, begins_with_number, gives_number, takes_number, is_number_byte};

@@ -1,6 +1,6 @@
 //! Scripts under construction.
 
-ghost use Rattle.std.specs.Prelude.{◌≡◌, ℕ, List, [], ◌∷◌, ◌++◌, false, IsTrue, MatchOption, OnOk, OnErr};
+ghost use Rattle.std.specs.Prelude.{◌≡◌, List, [], ◌∷◌, ◌++◌, false, IsTrue, MatchOption, OnOk, OnErr};
 ghost use Rattle.def_script.specs.Instruction.{Instruction, push, code};
 ghost use Rattle.def_script.specs.Verify.{verify_form as the_verify_form, verified, verified_last};
 ghost use Rattle.ms_script.specs.Views.{instruction_of, instructions_of};

@@ -1,6 +1,6 @@
 //! Stacks of byte strings, bottom first.
 
-ghost use Rattle.std.specs.Prelude.{◌≡◌, ℕ, ◌^◌, ◌<◌, ◌≤◌, List, [], ◌∷◌, ◌++◌, length, slice_index_or, OnOk, OnErr};
+ghost use Rattle.std.specs.Prelude.{◌≡◌, ◌^◌, ◌<◌, ◌≤◌, List, [], ◌∷◌, ◌++◌, length, slice_index_or, OnOk, OnErr};
 ghost use Rattle.def_script.specs.Witness.{weight as the_weight};
 
 use crate::blob::Blob;

@@ -19,7 +19,8 @@ use Rattle.def_assets.specs.Assets.{Assets, known}
 use Rattle.def_sane.specs.Keys.{keys, keys_of_all}
 use Rattle.def_satisfaction.specs.StackSet.{StackSet, Is, Both, Either}
 use Rattle.def_satisfaction.specs.Setting.{Setting, only, CountsAsPreimage, CountsAsKey}
-use Rattle.def_satisfaction.specs.Rows.{Row, EMPTY, ONE, PartsOf, AreSignatures, pk_h_row, or_b_row, row, parts}
+use Rattle.def_table.specs.Table.{or_b_row}
+use Rattle.def_satisfaction.specs.Rows.{Row, EMPTY, ONE, PartsOf, AreSignatures, pk_h_row, row, parts, stacks}
 use Rattle.def_satisfaction.specs.Satisfaction.{canonical, full, given_of}
 use Rattle.def_choice.specs.Tight.{HasOne}
 use Rattle.def_choice.proofs.Weights.{contains-reverse}
@@ -49,7 +50,7 @@ either_gives : (P P' Q Q' : StackSet) → Gives P P' → Gives Q Q' → (w : Sta
 either_gives P P' Q Q' p q w (inl r) = let one = p w r in (one.0, inl one.1)
 either_gives P P' Q Q' p q w (inr r) = let one = q w r in (one.0, inr one.1)
 
-or_b_gives : (s t : Setting) (x z x' z' : Row) → Gives x.sat x'.sat → Gives z.sat z'.sat → HasOne x'.dsat → HasOne z'.dsat → Gives (or_b_row s x z).sat (or_b_row t x' z').sat
+or_b_gives : (s t : Setting) (x z x' z' : Row) → Gives x.sat x'.sat → Gives z.sat z'.sat → HasOne x'.dsat → HasOne z'.dsat → Gives (or_b_row (stacks s) x z).sat (or_b_row (stacks t) x' z').sat
 or_b_gives s t x z x' z' i k x_dsat z_dsat w (inl r) = let one = one_both z'.dsat x'.sat z_dsat (i r.1 r.3) in (one.0, inl one.1)
 or_b_gives s t x z x' z' i k x_dsat z_dsat w (inr (inl r)) = let one = one_both z'.sat x'.dsat (k r.0 r.2) x_dsat in (one.0, inr (inl one.1))
 or_b_gives s t x z x' z' i k x_dsat z_dsat w (inr (inr (fact, r))) = let one = one_both z'.dsat x'.sat z_dsat (i r.1 r.3) in (one.0, inl one.1)

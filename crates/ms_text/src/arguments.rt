@@ -1,5 +1,5 @@
 //! Arguments that are one word, and lists of keys.
-ghost use Rattle.std.specs.Prelude.{◌≡◌, ℕ, ◌+◌, ◌*◌, ◌<◌, ◌≤◌, true, length, take, drop, List, All, IfOk, IfSome};
+ghost use Rattle.std.specs.Prelude.{◌≡◌, ℕ, ◌+◌, ◌<◌, ◌≤◌, true, length, take, drop, List, All, IfOk, IfSome};
 ghost use Rattle.std.specs.Option.{option_map};
 ghost use Rattle.def_tree.specs.Range.{IsKey, IsWritable, TEN_DIGITS};
 ghost use Rattle.def_text.specs.Scaffolding.Reader.{State, leaf_of as spelled_by};

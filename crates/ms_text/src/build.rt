@@ -1,5 +1,5 @@
 //! What is written while a text is read: nodes, and their offsets.
-ghost use Rattle.std.specs.Prelude.{◌≡◌, ℕ, ◌+◌, ◌<◌, ◌^◌, [], ◌∷◌, ◌++◌, IfOk, IfErr, OnOk};
+ghost use Rattle.std.specs.Prelude.{◌≡◌, ◌<◌, ◌^◌, [], ◌∷◌, ◌++◌, IfOk, IfErr, OnOk};
 ghost use Rattle.def_tree.specs.Range.{IsInRange, IsWritable};
 ghost use Rattle.def_tree.specs.Tree as model;
 ghost use Rattle.def_text.specs.Letter.{letter_tree};

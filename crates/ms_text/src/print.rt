@@ -1,9 +1,9 @@
 //! The printed form of a tree (BIP 379): no sugar, all wrapper letters before one colon, digits in lower case.
-ghost use Rattle.std.specs.Prelude.{◌≡◌, ℕ, ◌++◌, [], ◌∷◌, codes, decimal, true, false, Bool, List, All, IfOk, OnOk, OnErr, if◌then◌else◌};
+ghost use Rattle.std.specs.Prelude.{◌≡◌, ℕ, ◌++◌, [], ◌∷◌, codes, decimal, List, All, IfOk, OnOk, OnErr};
 ghost use Rattle.std.specs.String.{string_bytes};
 ghost use Rattle.hex.specs.Hex.{encode_lower};
 ghost use Rattle.def_text.specs.Letter.{wrapper_byte};
-ghost use Rattle.def_text.specs.Print.{printed, printed_behind, printed_keys, printed_children};
+ghost use Rattle.def_text.specs.Print.{printed, printed_behind};
 ghost use Rattle.def_text.specs.Spells.{SpellsText};
 ghost use Rattle.def_text.specs.Token.{tokens};
 ghost use Rattle.def_text.specs.Word.{hash_name, two_name};

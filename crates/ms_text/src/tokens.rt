@@ -1,7 +1,6 @@
 //! Tokens of a text, one at a place.
-ghost use Rattle.std.specs.Prelude.{◌≡◌, ℕ, ◌+◌, ◌-◌, ◌≤◌, true, false, length, take, drop, IfOk};
+ghost use Rattle.std.specs.Prelude.{◌≡◌, ◌+◌, ◌-◌, ◌≤◌, true, false, length, take, drop, IfOk};
 ghost use Rattle.std.specs.List.{list_all};
-ghost use Rattle.def_script.specs.Bytes.{Bytes};
 ghost use Rattle.def_text.specs.Scaffolding.Reader.{State};
 ghost use Rattle.def_text.specs.Token.{is_word_byte as is_word_code};
 ghost use Rattle.ms_text.specs.Scaffolding.Marks.{starts_word, begins_with, mark_code, mark_read, separator_read};

@@ -1,5 +1,5 @@
 //! What a word spells (BIP 379): a number, a key or a hash value.
-ghost use Rattle.std.specs.Prelude.{◌≡◌, ◌<◌, ◌≤◌, length, IfSome, MatchOption};
+ghost use Rattle.std.specs.Prelude.{◌≡◌, ◌<◌, ◌≤◌, length, IfSome};
 ghost use Rattle.std.specs.Option.{option_map};
 ghost use Rattle.def_hash.specs.Hash.{digest_length};
 ghost use Rattle.def_tree.specs.Range.{IsDigest, IsKey, TEN_DIGITS};

@@ -1,7 +1,6 @@
 //! Outputs, one after the other.
 
-ghost use Rattle.std.specs.Prelude.{◌≡◌, List, [], length};
-ghost use Rattle.std.specs.List.{flat_map};
+ghost use Rattle.std.specs.Prelude.{◌≡◌, List};
 ghost use Rattle.def_psbt.specs.Forms.{output_of};
 ghost use Rattle.def_psbt.specs.Transaction.{TransactionOutput, output_text};
 ghost use Rattle.def_psbt.specs.TransactionReading.{first_output as the_first_output};

@@ -1,7 +1,6 @@
 //! Transactions, with or without witnesses.
 
-ghost use Rattle.std.specs.Prelude.{◌≡◌, ◌<◌, length, All, Some, IsTrue, slice_get, slice_index};
-ghost use Rattle.std.specs.Int.{w32, to_le_bytes};
+ghost use Rattle.std.specs.Prelude.{◌≡◌, ◌<◌, length, All, Some, IsTrue, slice_get};
 ghost use Rattle.std.specs.List.{flat_map};
 ghost use Rattle.def_psbt.specs.Forms.{is_unsigned};
 ghost use Rattle.def_psbt.specs.Transaction.{Transaction, input_text, output_text, id_of};

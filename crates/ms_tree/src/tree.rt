@@ -1,5 +1,4 @@
 //! Trees, and what is seen of one at its root.
-ghost use Rattle.std.specs.Prelude.{◌≡◌};
 ghost use Rattle.def_tree.specs.Range.{IsInRange};
 
 use crate::key::Key;

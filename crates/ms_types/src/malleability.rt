@@ -4,7 +4,7 @@
 ghost use Rattle.std.specs.Prelude.{◌≡◌, ◌<◌, IfErr};
 ghost use Rattle.def_tree.specs.Range.{IsInRange};
 ghost use Rattle.def_tree.specs.Size.{nodes};
-ghost use Rattle.def_types.specs.Malleable.{malleability, mall as the_mall, two_row, wrap_row};
+ghost use Rattle.def_types.specs.Malleable.{malleability, mall as the_mall, two_row};
 ghost use Rattle.ms_tree.specs.Shape.{shape};
 ghost use Rattle.ms_types.specs.Checked.{requirements};
 ghost use Rattle.ms_types.specs.Scaffolding.Signed.{signed};

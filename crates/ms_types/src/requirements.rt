@@ -1,6 +1,6 @@
 //! What fragments require of their children's correctness types (BIP 379, type system, correctness), by the
 //! table of fragments.
-ghost use Rattle.std.specs.Prelude.{◌≡◌, ◌&&◌, ℕ, List, length};
+ghost use Rattle.std.specs.Prelude.{◌≡◌, ◌&&◌, List, length};
 ghost use Rattle.def_tree.specs.Tree.{Key};
 ghost use Rattle.def_types.specs.declared.Ty.{Ty as the_ty};
 ghost use Rattle.def_types.specs.Corr.{correctness, is_b, is_w, are_same as the_are_same, and_or_row, two_row, thresh_row, multi_row, wrap_row};

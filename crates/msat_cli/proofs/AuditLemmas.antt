@@ -15,7 +15,7 @@ use Rattle.def_sane.proofs.Meanings.{valid_under_consensus}
 use Rattle.def_files.specs.RunFile.{RunFile, run_of}
 use Rattle.def_audit.specs.declared.Step.{Step}
 use Rattle.def_answer.specs.Answer.{AreSteps, Replies, RepliesToWords, Answer}
-use Rattle.def_answer.specs.Laws.{walked}
+use Rattle.ms_answer_laws.specs.Laws.{walked}
 use Rattle.def_answer.specs.Lines.{file_line, wrong_script_line, not_accepted_line}
 use Rattle.def_answer.specs.Reading.{read}
 use Rattle.def_answer.specs.Reply.{Reply, reply, unless_unfit, with_file, MOST_FILE, given_by, audited_reply, witness_reply, audit_reply}
@@ -24,10 +24,10 @@ use Rattle.def_answer.specs.Words.{IsForm}
 use Rattle.def_answer.specs.Words as words
 use Rattle.def_answer.specs.declared.status.Status.{Status}
 use Rattle.def_answer.specs.declared.status.Status.TheVariants as status
-use Rattle.def_answer.proofs.AuditSteps.{walked_are_steps}
-use Rattle.def_answer.proofs.Early.{not_accepted_is_of_audit}
-use Rattle.def_answer.proofs.Sources.{passed_audit}
-use Rattle.def_answer.proofs.Unique.{one_form}
+use Rattle.ms_answer_laws.proofs.AuditSteps.{walked_are_steps}
+use Rattle.ms_answer_laws.proofs.Early.{not_accepted_is_of_audit}
+use Rattle.ms_answer_laws.proofs.Sources.{passed_audit}
+use Rattle.ms_answer_laws.proofs.Unique.{one_form}
 use Rattle.ms_audit_laws.proofs.WalkTrees.{trail_is_unique}
 use Rattle.ms_words.specs.Commands.{HaveUtf8}
 use Rattle.msat_cli.specs.Ends.{Call, HasAnswer, Ends, EndsAs}

@@ -10,9 +10,9 @@ use Rattle.def_answer.specs.Reply.{Reply, reply}
 use Rattle.def_answer.specs.Report.{decode_report}
 use Rattle.def_answer.specs.Sources.{NeedsSource, ReadsSource}
 use Rattle.def_answer.specs.Words.{decode, IsForm}
-use Rattle.def_answer.proofs.Early.{no_reading_is_of_decode}
-use Rattle.def_answer.proofs.SpelledKeys.{are_keys}
-use Rattle.def_answer.proofs.Unique.{one_form}
+use Rattle.ms_answer_laws.proofs.Early.{no_reading_is_of_decode}
+use Rattle.ms_answer_laws.proofs.SpelledKeys.{are_keys}
+use Rattle.ms_answer_laws.proofs.Unique.{one_form}
 use Rattle.ms_words.specs.Commands.{HaveUtf8}
 use Rattle.msat_cli.specs.Ends.{Call, HasAnswer, Ends}
 use Rattle.msat_cli.specs.Decodings.{PrintsTree, PrintsNone, ReadsBack, ShowsReading}

@@ -10,14 +10,14 @@ use Rattle.ms_io.specs.Faults.{Rose}
 use Rattle.def_answer.specs.declared.status.Status.{Status}
 use Rattle.def_answer.specs.declared.status.Status.TheVariants as status
 use Rattle.def_answer.specs.Answer.{Replies, RepliesToWords, Answer}
-use Rattle.def_answer.specs.Laws.{IsAnswered}
+use Rattle.ms_answer_laws.specs.Laws.{IsAnswered}
 use Rattle.def_answer.specs.Reply.{Reply, reply, MOST_FILE}
 use Rattle.def_answer.specs.Sources.{NeedsSource, ReadsSource, IsOfSource}
 use Rattle.def_answer.specs.Words.{Command, script, check, satisfy, satisfy_malleable, run, gen, policy, plan, audit, decode, HasNoForm}
-use Rattle.def_answer.proofs.Answered.{OnText}
-use Rattle.def_answer.proofs.Early.{answers_have_status}
-use Rattle.def_answer.proofs.Sources.{answer_without_source, status_without_source, long_file}
-use Rattle.def_answer.proofs.Unique.{one_form, one_reply}
+use Rattle.ms_answer_laws.proofs.Answered.{OnText}
+use Rattle.ms_answer_laws.proofs.Early.{answers_have_status}
+use Rattle.ms_answer_laws.proofs.Sources.{answer_without_source, status_without_source, long_file}
+use Rattle.ms_answer_laws.proofs.Unique.{one_form, one_reply}
 use Rattle.ms_report.specs.declared.answer.Answer.{Answer as Made}
 use Rattle.msat_cli.specs.declared.answer.Stop.{Stop}
 use Rattle.msat_cli.specs.declared.answer.Stop.TheVariants as stop

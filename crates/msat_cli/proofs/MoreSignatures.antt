@@ -1,6 +1,6 @@
 -- A run that is accepted is accepted with the same counts where more signatures are good: a signature that isn't empty is
 -- good, or refuses the run, and the tries of CHECKMULTISIG end no later.
-use Rattle.std.proofs.Common.{◌≡◌, inl, inr, ℕ, suc, ◌+◌, ◌≤◌, ◌&&◌, ◌||◌, nat_lt, Bool, true, false, not, List, [], ◌∷◌, ◌++◌, length, max, reverse, if◌then◌else◌, Some, None, Ok, Err, refl, sym, ◌∙◌, ap, subst, IsTrue, arith, append_assoc, length-append, le-ltb}
+use Rattle.std.proofs.Common.{◌≡◌, inl, inr, ℕ, ◌+◌, ◌≤◌, ◌||◌, nat_lt, Bool, true, false, not, List, [], ◌∷◌, ◌++◌, length, max, reverse, if◌then◌else◌, Some, None, Ok, Err, refl, sym, ◌∙◌, ap, subst, IsTrue, arith, append_assoc, length-append, le-ltb}
 use Rattle.std.specs.Prelude.{Option}
 use Rattle.std.specs.List.{list_all}
 use Rattle.std.proofs.lemmas.Bool.{cases_Bool, false≢true, ltb-false, and_parts}

@@ -20,8 +20,8 @@ use Rattle.def_answer.specs.Report.{plan_report}
 use Rattle.def_answer.specs.Words as words
 use Rattle.def_answer.specs.declared.status.Status.{Status}
 use Rattle.def_answer.specs.declared.status.Status.TheVariants as status
-use Rattle.def_answer.proofs.Sources.{passed_text}
-use Rattle.def_answer.proofs.Unique.{one_form}
+use Rattle.ms_answer_laws.proofs.Sources.{passed_text}
+use Rattle.ms_answer_laws.proofs.Unique.{one_form}
 use Rattle.ms_words.specs.Commands.{HaveUtf8}
 use Rattle.msat_cli.specs.Ends.{Call, HasAnswer, Ends, EndsAs}
 use Rattle.msat_cli.specs.Plans.{AsksPlan, PrintsPlan, ShowsPlan}

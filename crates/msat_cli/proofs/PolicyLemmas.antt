@@ -11,14 +11,14 @@ use Rattle.def_policy.proofs.Forms.{simple_is_simple}
 use Rattle.ms_policy_laws.proofs.NeedsKey.{sane_wants_key}
 use Rattle.ms_policy_laws.proofs.Satisfied.{policy_of_sane}
 use Rattle.def_answer.specs.Answer.{policy_reply, Answer}
-use Rattle.def_answer.specs.LeastKeys.{least_keys}
+use Rattle.def_policy.specs.LeastKeys.{least_keys}
 use Rattle.def_answer.specs.Reading.{read}
 use Rattle.def_answer.specs.Reply.{Reply, reply, unless_unfit}
 use Rattle.def_answer.specs.Report.{policy_of, policy_report}
 use Rattle.def_answer.specs.Words.{policy}
 use Rattle.def_answer.specs.declared.status.Status.TheVariants as status
-use Rattle.def_answer.proofs.LeastKeys.{least_keys_are_least}
-use Rattle.def_answer.proofs.Unique.{one_form}
+use Rattle.def_policy.proofs.LeastKeys.{least_keys_are_least}
+use Rattle.ms_answer_laws.proofs.Unique.{one_form}
 use Rattle.def_answer.specs.Sources.{ReadsSource, NeedsSource}
 use Rattle.ms_words.specs.Commands.{HaveUtf8}
 use Rattle.msat_cli.specs.Ends.{Call, Ends}

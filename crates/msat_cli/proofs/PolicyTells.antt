@@ -21,8 +21,8 @@ use Rattle.def_answer.specs.Reading.{read}
 use Rattle.def_answer.specs.Reply.{Reply, reply, unless_unfit, MOST_FILE, chosen_reply, satisfy_reply}
 use Rattle.def_answer.specs.Report.{satisfy_report}
 use Rattle.def_answer.specs.Words.{satisfy, IsForm}
-use Rattle.def_answer.proofs.Sources.{passed_text}
-use Rattle.def_answer.proofs.Unique.{one_form}
+use Rattle.ms_answer_laws.proofs.Sources.{passed_text}
+use Rattle.ms_answer_laws.proofs.Unique.{one_form}
 use Rattle.msat_cli.specs.Policies.{TellsSatisfied}
 use Rattle.msat_cli.proofs.SatisfactionLemmas.{read_reply}
 

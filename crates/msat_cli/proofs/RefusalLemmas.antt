@@ -16,7 +16,7 @@ use Rattle.def_answer.specs.Reply.{Reply, reply, unless_unfit, satisfy_reply}
 use Rattle.def_answer.specs.Sources.{NeedsSource, ReadsSource}
 use Rattle.def_answer.specs.Words.{IsForm}
 use Rattle.def_answer.specs.declared.status.Status.TheVariants as status
-use Rattle.def_answer.proofs.Unique.{one_form}
+use Rattle.ms_answer_laws.proofs.Unique.{one_form}
 use Rattle.ms_words.specs.declared.words.Choice.{Choice}
 use Rattle.ms_words.specs.declared.words.Choice.TheVariants as choice
 use Rattle.ms_words.specs.declared.words.TextCommand.TheVariants as kind

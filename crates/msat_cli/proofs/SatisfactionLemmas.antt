@@ -45,8 +45,8 @@ use Rattle.def_answer.specs.Reply.{Reply, reply, unless_unfit, with_file, MOST_F
 use Rattle.def_answer.specs.Report.{item_line, tree_limits_line, witness_line, satisfy_report, outcome_with, replay_line}
 use Rattle.def_answer.specs.declared.status.Status.{Status}
 use Rattle.def_answer.specs.declared.status.Status.TheVariants as status
-use Rattle.def_answer.proofs.Sources.{passed_text}
-use Rattle.def_answer.proofs.Unique.{one_form}
+use Rattle.ms_answer_laws.proofs.Sources.{passed_text}
+use Rattle.ms_answer_laws.proofs.Unique.{one_form}
 use Rattle.ms_replay.proofs.Accepted.{Satisfies, is_within, fits_witness}
 use Rattle.ms_witness.specs.Replaying.{ran}
 use Rattle.ms_witness.proofs.Witnesses.{witness_is_replayed}

@@ -18,11 +18,11 @@ use Rattle.ms_io.specs.Faults.{Rose}
 use Rattle.def_answer.specs.Answer.{Replies}
 use Rattle.def_answer.specs.Reading.{read, refused}
 use Rattle.def_answer.specs.Reply.{Reply, reply, unless_unfit}
-use Rattle.def_answer.specs.Laws.{walked}
+use Rattle.ms_answer_laws.specs.Laws.{walked}
 use Rattle.def_answer.specs.Words.{Command, IsForm}
 use Rattle.def_answer.specs.declared.status.Status.TheVariants as status
-use Rattle.def_answer.proofs.AuditSteps.{walked_are_steps}
-use Rattle.def_answer.proofs.Unique.{one_form}
+use Rattle.ms_answer_laws.proofs.AuditSteps.{walked_are_steps}
+use Rattle.ms_answer_laws.proofs.Unique.{one_form}
 use Rattle.ms_report.specs.declared.answer.Answer.{Answer}
 use Rattle.msat_cli.specs.declared.answer.Stop.{Stop}
 use Rattle.msat_cli.specs.declared.answer.Stop.TheVariants as stop

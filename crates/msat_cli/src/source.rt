@@ -2,7 +2,7 @@
 ghost use Rattle.std.specs.Prelude.{◌≡◌, ◌≤◌, None, length, IfOk, IfErr};
 ghost use Rattle.def_tree.specs.Range.{IsInRange};
 ghost use Rattle.def_sane.specs.Unfit.{IsSane, IsValid};
-ghost use Rattle.def_answer.specs.Laws.{walked};
+ghost use Rattle.ms_answer_laws.specs.Laws.{walked};
 ghost use Rattle.def_answer.specs.Reply.{MOST_FILE as most_file, satisfy_reply, run_reply, plan_reply, audit_reply};
 ghost use Rattle.def_answer.specs.Report.{tree_limits_line};
 ghost use Rattle.ms_tree.specs.Shape.{shape};

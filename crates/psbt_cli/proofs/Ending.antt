@@ -18,14 +18,14 @@ use Rattle.def_psbt_answer.specs.declared.words.Command.{Command}
 use Rattle.def_psbt_answer.specs.declared.words.Command.TheVariants as command
 use Rattle.def_psbt_answer.specs.declared.words.Form.{Form}
 use Rattle.def_psbt_answer.specs.Words.{command_of}
-use Rattle.def_psbt_answer.specs.Reply.{Reply, reply, refusal_reply, form_of, is_settled, settled_status, first_open, extract_by, extract_reply, command_reply}
+use Rattle.def_psbt_answer.specs.Reply.{Reply, reply, refusal_reply, form_of, is_settled, first_open, extract_by, extract_reply, command_reply}
 use Rattle.def_psbt_answer.specs.Answer.{RepliesToSource, RepliesToWords, Answer}
-use Rattle.def_psbt_answer.proofs.Unique.{one_answer}
+use Rattle.ms_psbt_answer_laws.proofs.Unique.{one_answer}
 use Rattle.ms_psbt_replies.specs.declared.reply.Reply.{Reply as Made}
 use Rattle.psbt_cli.specs.declared.answer.Stop.{Stop}
 use Rattle.psbt_cli.specs.declared.answer.Stop.TheVariants as stop
 use Rattle.psbt_cli.specs.Ends.{Call, HasAnswer, Ends, IsFault, EndsAsUsage, EndsAsAnswered, TellsShortSource, IsReadFor}
-use Rattle.psbt_cli.specs.Scaffolding.Steps.{AnswersCommand, AnswersWords, Ended, EndsCommand, EndsWords, Writes, WritesResult}
+use Rattle.psbt_cli.specs.Scaffolding.Steps.{AnswersCommand, AnswersWords, EndsCommand, EndsWords, Writes, WritesResult}
 
 -- ---- the steps
 

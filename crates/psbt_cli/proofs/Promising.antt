@@ -1,15 +1,14 @@
 -- From what a call of `msat-psbt` writes to what is promised of it.
-use Rattle.std.proofs.Common.{◌≡◌, ℕ, ◌≤◌, List, [], ◌∷◌, length, map, Option, Some, None, inl, inr, sym, ◌∙◌, ap, subst, arith}
+use Rattle.std.proofs.Common.{◌≡◌, ℕ, ◌≤◌, List, [], ◌∷◌, length, Option, Some, None, inl, inr, sym, ◌∙◌, ap, subst, arith}
 use Rattle.hex.specs.Hex.{encode_lower}
 use Rattle.def_script.specs.Bytes.{Bytes}
 use Rattle.def_psbt.specs.Transaction.{TransactionInput, Transaction}
 use Rattle.def_psbt.specs.Map.{Map, Psbt}
 use Rattle.def_psbt.specs.Source.{MAX_SOURCE_SIZE}
 use Rattle.def_spend.specs.Input.{Spend, spends_from}
-use Rattle.def_spend.specs.Reading.{Input, AreInputs}
+use Rattle.def_spend.specs.Reading.{Input}
 use Rattle.def_spend.specs.Finalized.{network_text}
 use Rattle.def_answer.specs.Lines.{line}
-use Rattle.def_psbt_answer.specs.declared.status.Status.{Status}
 use Rattle.def_psbt_answer.specs.declared.status.Status.TheVariants as status
 use Rattle.def_psbt_answer.specs.Report.{finalize_report}
 use Rattle.def_psbt_answer.specs.Reply.{Reply, reply, form_of, first_open, extract_by, extract_reply, command_reply}

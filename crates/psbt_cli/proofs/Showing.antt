@@ -1,7 +1,6 @@
 -- From how a call ends to what it writes.
-use Rattle.std.proofs.Common.{◌≡◌, ◌⊎◌, Some, None, Ok, Err, inl, inr, refl, sym, ◌∙◌, ap, subst, List}
+use Rattle.std.proofs.Common.{◌≡◌, Some, Ok, inl, inr, ◌∙◌, ap, subst, List}
 use Rattle.std.specs.Prelude.{Option, Result}
-use Rattle.std.specs.Io.KnownBytes.{Appends}
 use Rattle.def_script.specs.Bytes.{Bytes}
 use Rattle.def_psbt.specs.declared.Refusal.{Refusal}
 use Rattle.def_psbt.specs.Map.{Psbt}
@@ -14,9 +13,9 @@ use Rattle.def_psbt_answer.specs.declared.words.Command.TheVariants as command
 use Rattle.def_psbt_answer.specs.Words.{command_of}
 use Rattle.def_psbt_answer.specs.Reply.{Reply, reply, refusal_reply, form_of, command_reply}
 use Rattle.def_psbt_answer.specs.Answer.{RepliesToSource, RepliesToWords, Answer}
-use Rattle.def_psbt_answer.proofs.Unique.{one_inputs}
-use Rattle.psbt_cli.specs.Ends.{Call, Ends, IsFault}
-use Rattle.psbt_cli.specs.Shown.{IsCalled, IsAsked, WritesSuch, Shows, ShowsFinalized, ShowsInspected, ShowsExtracted, ShowsHashes, RefusesSource}
+use Rattle.ms_psbt_answer_laws.proofs.Unique.{one_inputs}
+use Rattle.psbt_cli.specs.Ends.{Call, Ends}
+use Rattle.psbt_cli.specs.Shown.{IsCalled, IsAsked, WritesSuch, ShowsFinalized, ShowsInspected, ShowsExtracted, ShowsHashes, RefusesSource}
 use Rattle.psbt_cli.proofs.Ending.{told_answer, as_fault}
 
 -- the answer to what was told

@@ -1,5 +1,5 @@
 -- What is promised of what a call of `msat-psbt` writes.
-use Rattle.std.specs.Prelude.{◌≡◌, ◌↔◌, ℕ, ◌≤◌, false, List, All, length, Option, None, Some}
+use Rattle.std.specs.Prelude.{◌≡◌, ◌↔◌, ◌≤◌, false, List, All, length, Some}
 use Rattle.hex.specs.Hex.{encode_lower}
 use Rattle.def_script.specs.Bytes.{Bytes}
 use Rattle.def_script.specs.Witness.{weight}

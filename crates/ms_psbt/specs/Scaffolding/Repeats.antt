@@ -78,7 +78,7 @@ repeat_in keys bytes before (place ∷ places) =
     else repeat_in keys bytes (before ++ key_at keys bytes place ∷ []) places
 
 -- of neighbours among the first places of an order whose keys are the same, the least latter one
-pub record IsLeast (keys : Keys) (bytes : Bytes) (order : List ℕ) (high least : ℕ) : Type 0 where
+pub record IsLeastRepeat (keys : Keys) (bytes : Bytes) (order : List ℕ) (high least : ℕ) : Type 0 where
   pub place : ℕ
   pub inside : place + 1 < high
   pub same : key_at keys bytes (slice_index order place) ≡ key_at keys bytes (slice_index order (place + 1))
@@ -86,7 +86,7 @@ pub record IsLeast (keys : Keys) (bytes : Bytes) (order : List ℕ) (high least 
   pub bound : (k : ℕ) → k + 1 < high → key_at keys bytes (slice_index order k) ≡ key_at keys bytes (slice_index order (k + 1)) → least ≤ slice_index order (k + 1)
 
 abbrev pub LeastOf : Keys → (bytes : Bytes) → (order : List ℕ) → (high : ℕ) → Option ℕ → Type 0
-LeastOf keys bytes order high (Some least) = IsLeast keys bytes order high least
+LeastOf keys bytes order high (Some least) = IsLeastRepeat keys bytes order high least
 LeastOf keys bytes order high None = (k : ℕ) → k + 1 < high → key_at keys bytes (slice_index order k) ≡ key_at keys bytes (slice_index order (k + 1)) → ⊥
 
 abbrev pub least_of : Option ℕ → ℕ → ℕ

@@ -1,5 +1,5 @@
 -- Sums of amounts, one more at the end. No public clause cites it, so it need not be believed.
-use Rattle.std.specs.Prelude.{ℕ, ◌+◌, Option, Some, None}
+use Rattle.std.specs.Prelude.{ℕ, ◌+◌, Option, None}
 use Rattle.std.specs.Option.{option_map}
 use Rattle.def_spend.specs.Amount.{Amount, unknown, proved, claimed}
 

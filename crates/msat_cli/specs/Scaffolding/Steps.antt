@@ -13,7 +13,7 @@ use Rattle.ms_io.specs.Moves.{AppendsPrefix}
 use Rattle.def_answer.specs.declared.status.Status.{Status}
 use Rattle.def_answer.specs.declared.status.Status.TheVariants as status
 use Rattle.def_answer.specs.Answer.{script_reply, check_reply, policy_reply, Replies}
-use Rattle.def_answer.specs.Laws.{walked}
+use Rattle.ms_answer_laws.specs.Laws.{walked}
 use Rattle.def_answer.specs.Lines.{usage_line, text_line, file_too_long_line}
 use Rattle.def_answer.specs.Reply.{Reply, reply, usage_reply, unless_unfit, MOST_FILE, satisfy_reply, plan_reply, audit_reply}
 use Rattle.def_answer.specs.Sources.{NeedsSource, ReadsSource}

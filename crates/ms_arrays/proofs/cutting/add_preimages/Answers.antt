@@ -1,4 +1,4 @@
-use Rattle.std.proofs.Common.{rules, ◌≡◌, ◌/◌, ◌++◌, [], ◌∷◌, length, sym, ◌∙◌, ap, append_assoc, arith}
+use Rattle.std.proofs.Common.{rules, ◌/◌, length, arith}
 use Rattle.std.proofs.lemmas.Grind.{common_steps}
 use Rattle.ms_arrays.specs.Pieces.{PREIMAGE_SIZE}
 use Rattle.ms_arrays.proofs.Steps.{preimages_step}

@@ -1,6 +1,3 @@
-use Rattle.std.proofs.Common.{◌≤◌, length, sym, subst}
-use Rattle.std.specs.Prelude.{None}
-use Rattle.def_plan.specs.Lengths.{AreLengths}
 use Rattle.ms_arrays.proofs.Usable.{are_lengths}
 use Rattle.ms_arrays.proofs.planning.file_of.Goals as goal
 

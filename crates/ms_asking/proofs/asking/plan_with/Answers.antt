@@ -8,4 +8,4 @@ use Rattle.ms_asking.proofs.asking.plan_with.Goals as goal
 pub new-estimate-requires-clause-lengths : goal.new-estimate-requires-clause-lengths
 new-estimate-requires-clause-lengths c =
     let same : c.as_slice-lengths.result.now ≡ lengths_of (shape c.args.tree.now) c.args.assets.now = search rules in
-    subst AreLengths (sym same) (are_lengths (shape c.args.tree.now) c.args.assets.now c.requires.in_range.writable c.requires.sane c.locks-locks.ensures.few.held)
+    subst AreLengths (sym same) (are_lengths (shape c.args.tree.now) c.args.assets.now c.requires.in_range.writable c.requires.sane c.are_assets.ensures.held)

@@ -4,5 +4,5 @@ use Rattle.ms_asking.proofs.lengths.entry_of.Goals as goal
 
 pub overflow_cast-length : goal.overflow_cast-length
 overflow_cast-length c =
-    let few = (found_length c.args.assets.now c.args.key c.in-Some.sig.now c.locks-locks.ensures.few.held (sym c.in-Some.ensures)).few in
+    let few = (found_length c.args.assets.now c.args.key c.in-Some.sig.now c.are_assets.ensures.held (sym c.in-Some.ensures)).few in
     omega (arith, few)

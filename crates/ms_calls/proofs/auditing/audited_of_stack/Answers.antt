@@ -1,8 +1,6 @@
-use Rattle.std.proofs.Common.{◌≡◌, ◌<◌, true, List, All, ◌∙◌, sym, ap, subst}
+use Rattle.std.proofs.Common.{◌≡◌, true, ◌∙◌, ap, subst}
 use Rattle.def_machine.specs.Run.{accepted, run}
-use Rattle.def_tree.specs.Size.{nodes}
 use Rattle.def_emit.specs.Emit.{script_of}
-use Rattle.def_audit.specs.declared.Step.{Step}
 use Rattle.def_audit.specs.Derives.{Derives}
 use Rattle.def_audit.proofs.StepNodes.{steps_are_of_tree}
 use Rattle.ms_interp.specs.Answering.{given_by}

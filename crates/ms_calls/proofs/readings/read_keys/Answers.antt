@@ -1,5 +1,4 @@
-use Rattle.std.proofs.Common.{rules, ◌/◌, length, sym, ◌∙◌, ap, arith}
-use Rattle.std.specs.Prelude.{is_some}
+use Rattle.std.proofs.Common.{◌/◌, length, sym, arith}
 use Rattle.std.proofs.lemmas.Grind.{common_steps}
 use Rattle.ms_arrays.specs.Pieces.{KEY_SIZE}
 use Rattle.ms_calls.proofs.ReadingLemmas.{keys_step, no_key, one_key}

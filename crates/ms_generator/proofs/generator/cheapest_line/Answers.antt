@@ -10,7 +10,7 @@ use Rattle.ms_generator.proofs.generator.cheapest_line.Goals as goal
 
 pub weight-weight-requires : goal.weight-weight-requires
 weight-weight-requires c =
-    light (shape c.args.tree.now) c.args.assets.now c.in-Some.stack c.requires.in_range c.requires.valid c.locks-locks.ensures.few.held
+    light (shape c.args.tree.now) c.args.assets.now c.in-Some.stack c.requires.in_range c.requires.valid c.are_assets.ensures.held
     (c.in_ok-stack.ensures.lightest.is c.in-Some.stack c.in-Some.is)
 
 pub returns : goal.returns

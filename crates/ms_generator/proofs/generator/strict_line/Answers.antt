@@ -11,8 +11,8 @@ use Rattle.ms_generator.proofs.generator.strict_line.Goals as goal
 pub weight-weight-requires : goal.weight-weight-requires
 weight-weight-requires c =
     light (shape c.args.tree.now) c.args.assets.now c.in-Some.stack c.requires.in_range (sane_is_valid (shape c.args.tree.now) c.requires.sane)
-    c.locks-locks.ensures.few.held
-    (strict_sat (shape c.args.tree.now) c.args.assets.now _ c.in-Some.stack c.requires.in_range c.locks-locks.ensures.few.held c.in_ok-stack.ensures.choice c.in-Some.is)
+    c.are_assets.ensures.held
+    (strict_sat (shape c.args.tree.now) c.args.assets.now _ c.in-Some.stack c.requires.in_range c.are_assets.ensures.held c.in_ok-stack.ensures.choice c.in-Some.is)
 
 pub returns : goal.returns
 returns c =

@@ -26,8 +26,8 @@ differing-requires c =
 pub weight-weight-requires : goal.weight-weight-requires
 weight-weight-requires c =
     light_stack (shape c.args.tree.now) c.args.first.now c.in-Some.stack c.requires.in_range.writable
-    (valid_under_consensus Policy (shape c.args.tree.now) ((sane_means (shape c.args.tree.now)).0 c.requires.sane).0) c.locks-locks.ensures.few.held
-    (strict_is_canonical (shape c.args.tree.now) c.args.first.now c.in-Some.stack c.requires.in_range.writable c.locks-locks.ensures.few.held (sym c.in_ok-stack.ensures ∙ c.in-Some.is))
+    (valid_under_consensus Policy (shape c.args.tree.now) ((sane_means (shape c.args.tree.now)).0 c.requires.sane).0) c.are_assets.ensures.held
+    (strict_is_canonical (shape c.args.tree.now) c.args.first.now c.in-Some.stack c.requires.in_range.writable c.are_assets.ensures.held (sym c.in_ok-stack.ensures ∙ c.in-Some.is))
 
 pub returns : goal.returns
 returns c assets table marked =

@@ -1,9 +1,8 @@
-use Rattle.std.proofs.Common.{◌≡◌, List, Ok, sym, subst, ◌∙◌, ap, arith}
+use Rattle.std.proofs.Common.{◌≡◌, Ok, sym, ◌∙◌, ap, arith}
 use Rattle.std.proofs.lemmas.Result.{IfOk-weaker}
 use Rattle.def_script.specs.Bytes.{IsBytes}
 use Rattle.def_psbt.specs.Reading.{read_psbt}
 use Rattle.def_psbt.specs.Source.{psbt_of}
-use Rattle.def_spend.specs.Reading.{Input, AreInputs}
 use Rattle.def_psbt_answer.specs.Answer.{RepliesToSource}
 use Rattle.def_psbt_answer.specs.Reply.{reply, form_of, command_reply}
 use Rattle.ms_psbt.specs.Sources.{bytes_of}

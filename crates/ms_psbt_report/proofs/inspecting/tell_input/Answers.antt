@@ -1,4 +1,4 @@
-use Rattle.std.proofs.Common.{◌*◌, List, take}
+use Rattle.std.proofs.Common.{◌*◌, take}
 use Rattle.std.proofs.lemmas.Result.{on_ok_weaker}
 use Rattle.ms_input.specs.Seen.{input_seen}
 use Rattle.ms_psbt_report.proofs.InputLines.{most_more}

@@ -1,4 +1,4 @@
-use Rattle.std.proofs.Common.{◌≡◌, ◌*◌, ◌≤◌, List, take}
+use Rattle.std.proofs.Common.{◌*◌, ◌≤◌, List, take}
 use Rattle.std.specs.Prelude.{IfSome}
 use Rattle.def_spend.specs.Reading.{Input, AreInputs}
 use Rattle.ms_psbt_report.specs.Scaffolding.Told.{AreTold}

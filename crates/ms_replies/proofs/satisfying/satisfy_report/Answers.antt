@@ -9,7 +9,7 @@ use Rattle.ms_replies.proofs.satisfying.satisfy_report.Goals as goal
 
 pub satisfaction_report-requires : goal.satisfaction_report-requires
 satisfaction_report-requires c =
-    light_stack (shape c.args.tree.now) c.args.assets.now c.args.stack.now c.requires.in_range.writable c.requires.valid c.locks-locks.ensures.few.held c.requires.canonical
+    light_stack (shape c.args.tree.now) c.args.assets.now c.args.stack.now c.requires.in_range.writable c.requires.valid c.are_assets.ensures.held c.requires.canonical
 
 pub returns : goal.returns
 returns c rules limits =

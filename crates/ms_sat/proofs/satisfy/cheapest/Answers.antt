@@ -14,7 +14,7 @@ returns-clause-lightest c =
     let t = shape c.args.tree.now in
     let assets = c.args.assets.now in
     IfOk-weaker c.satisfaction.result _ (λ found. IsLightest (Sat t assets) found)
-    (λ found is. subst (IsLightest (Sat t assets)) (sym is) (cheapest_is_lightest t assets c.requires.in_range.writable c.locks-locks.ensures.few.held)) c.satisfaction.ensures
+    (λ found is. subst (IsLightest (Sat t assets)) (sym is) (cheapest_is_lightest t assets c.requires.in_range.writable c.are_assets.ensures.held)) c.satisfaction.ensures
 
 pub returns-clause-none : goal.returns-clause-none
 returns-clause-none c =
@@ -22,7 +22,7 @@ returns-clause-none c =
     let assets = c.args.assets.now in
     IfOk-weaker c.satisfaction.result _ _
     (λ found is. none_lightest (Sat t assets) found
-    (subst (IsLightest (Sat t assets)) (sym is) (cheapest_is_lightest t assets c.requires.in_range.writable c.locks-locks.ensures.few.held))) c.satisfaction.ensures
+    (subst (IsLightest (Sat t assets)) (sym is) (cheapest_is_lightest t assets c.requires.in_range.writable c.are_assets.ensures.held))) c.satisfaction.ensures
 
 pub returns-clause-inversion : goal.returns-clause-inversion
 returns-clause-inversion c = inversion_of (shape c.args.tree.now) c.requires.in_range.writable c.requires.valid

@@ -7,6 +7,6 @@ pub weigh_nodes-requires : goal.weigh_nodes-requires
 weigh_nodes-requires c = record {
   in_range = c.requires.in_range;
   typed = typed_valid (shape c.args.tree.now) c.requires.valid;
-  are = c.locks-locks.ensures.few.held;
+  are = c.are_assets.ensures.held;
   room = omega (arith, c.deref_mut.ensures.len, c.in_ok-work.ensures);
 }

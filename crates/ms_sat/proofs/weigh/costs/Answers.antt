@@ -11,7 +11,7 @@ pub weigh-requires : goal.weigh-requires
 weigh-requires c = record {
   in_range = c.requires.in_range;
   typed = typed_valid (shape c.args.tree.now) c.requires.valid;
-  are = c.locks-locks.ensures.few.held;
+  are = c.are_assets.ensures.held;
   room = omega (arith, c.deref_mut.ensures.len, c.requires.room);
 }
 
@@ -27,7 +27,7 @@ returns-clause-least_sat c =
     let assets = c.args.assets.now in
     least_weight (Sat t assets) (cheapest t assets) c.weigh.result.sat
     (c.weigh.ensures.sat ∙ sym (weight_of-reverse (cheapest_of assets t)))
-    (cheapest_is_lightest t assets c.requires.in_range.writable c.locks-locks.ensures.few.held)
+    (cheapest_is_lightest t assets c.requires.in_range.writable c.are_assets.ensures.held)
 
 pub returns-clause-least_dsat : goal.returns-clause-least_dsat
 returns-clause-least_dsat c =

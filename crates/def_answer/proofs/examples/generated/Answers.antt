@@ -1,8 +1,0 @@
-use Rattle.def_answer.proofs.examples.generated.Goals as goal
-use Rattle.def_answer.proofs.GenRows.{gen_one, gen_four}
-
-pub returns-clause-gen_one : goal.returns-clause-gen_one
-returns-clause-gen_one c = gen_one
-
-pub returns-clause-gen_four : goal.returns-clause-gen_four
-returns-clause-gen_four c = gen_four

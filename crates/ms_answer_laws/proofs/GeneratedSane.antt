@@ -1,0 +1,190 @@
+-- The generated trees are sane.
+use Rattle.std.proofs.Common.{◌≡◌, ℕ, zero, suc, ◌+◌, ◌%◌, ◌≤◌, Bool, true, false, ◌&&◌, ◌==◌, nat_le, nat_lt, is_none, if◌then◌else◌, List, [], ◌∷◌, Option, Some, None, Result, Ok, Err, length, refl, arith}
+use Rattle.std.specs.Prelude.{⊤}
+use Rattle.std.proofs.lemmas.Bool.{leb-true, le-ltb, and_parts}
+use Rattle.def_tree.specs.declared.Wrapper.TheVariants.{S}
+use Rattle.def_tree.specs.Tree.{Tree, Trees, wrap, none, more}
+use Rattle.def_tree.specs.Range.{count}
+use Rattle.def_types.specs.declared.Ty.{Ty}
+use Rattle.def_types.specs.declared.Mall.{Mall}
+use Rattle.def_types.specs.declared.rule.RuleAt.{RuleAt}
+use Rattle.def_types.specs.Corr.{is_b, corr}
+use Rattle.def_types.specs.Malleable.{mall}
+use Rattle.def_emit.specs.Emit.{emit, script_of}
+use Rattle.def_sane.specs.Formal.{Takes}
+use Rattle.def_script.specs.Instruction.{opcode_count}
+use Rattle.def_sane.specs.Locks.{mix}
+use Rattle.def_sane.specs.Keys.{repeated_key}
+use Rattle.def_sane.specs.Most.{both, either, most_sat, most_dsat, most_parts, number_of, limits_of}
+use Rattle.def_sane.specs.declared.Rules.TheVariants.{Policy}
+use Rattle.def_sane.specs.declared.Unfit.{Unfit}
+use Rattle.def_sane.specs.declared.Unfit.TheVariants as unfit
+use Rattle.def_sane.specs.Unfit.{broken_rule, wrong_top, too_large, too_many_ops, too_many_items, malleable, no_signature, mixed_locks, repeated, first_reason, first_unfit_valid, IsSane}
+use Rattle.def_answer.specs.Generated.{threshold_of, pk_child, hash_child, child, generated_children, generated_tree}
+use Rattle.ms_answer_laws.specs.Laws.{GeneratedIsSane}
+use Rattle.ms_answer_laws.proofs.Computing.{answers_on_literals}
+use Rattle.ms_answer_laws.proofs.UpTo.{UpTo, holds_at}
+
+-- ---- what each child takes
+
+-- one item, and no key of a `multi`
+abbrev TakesSome : (items : ℕ) → Option Takes → Type 0
+TakesSome items None = ⊤
+TakesSome items (Some t) = (t.items ≡ items) × (t.keys ≡ 0)
+
+record IsSmall (x : Tree) : Type 0 where
+  sat : TakesSome 1 (most_sat x)
+  dsat : TakesSome 1 (most_dsat x)
+
+child_is_small : (i : ℕ) → IsSmall (child i)
+child_is_small i = go (i == 0) (i % 3 == 0)
+  where
+    go : (a b : Bool) → IsSmall (if a then pk_child i else if b then hash_child i else wrap S (pk_child i))
+    go true b = record { sat = (refl, refl); dsat = (refl, refl) }
+    go false true = record { sat = (refl, refl); dsat = (refl, refl) }
+    go false false = record { sat = (refl, refl); dsat = (refl, refl) }
+
+abbrev AreSmall : Trees → Type 0
+AreSmall none = ⊤
+AreSmall (more x xs) = IsSmall x × AreSmall xs
+
+children_are_small : (n i : ℕ) → AreSmall (generated_children n i)
+children_are_small zero i = tt
+children_are_small (suc n) i = (child_is_small i, children_are_small n (i + 1))
+
+both_take : (m k : ℕ) (a b : Option Takes) → TakesSome m a → TakesSome k b → TakesSome (m + k) (both a b)
+both_take m k None b h l = tt
+both_take m k (Some a) None h l = tt
+both_take m k (Some a) (Some b) h l =
+    let left = h in let right = l in (omega (arith, left.0, right.0), omega (arith, left.1, right.1))
+
+either_takes : (m : ℕ) (a b : Option Takes) → TakesSome m a → TakesSome m b → TakesSome m (either a b)
+either_takes m None b h l = l
+either_takes m (Some a) None h l = h
+either_takes m (Some a) (Some b) h l =
+    let left = h in let right = l in (omega (arith, left.0, right.0), omega (arith, left.1, right.1))
+
+parts_take : (xs : Trees) (k : ℕ) → AreSmall xs → TakesSome (count xs) (most_parts xs k)
+parts_take none zero h = (refl, refl)
+parts_take none (suc k) h = tt
+parts_take (more x xs) zero h = both_take (count xs) 1 (most_parts xs zero) (most_dsat x) (parts_take xs zero h.1) h.0.dsat
+parts_take (more x xs) (suc k) h =
+    either_takes (count xs + 1) (both (most_parts xs k) (most_sat x)) (both (most_parts xs (suc k)) (most_dsat x))
+    (both_take (count xs) 1 (most_parts xs k) (most_sat x) (parts_take xs k h.1) h.0.sat)
+    (both_take (count xs) 1 (most_parts xs (suc k)) (most_dsat x) (parts_take xs (suc k) h.1) h.0.dsat)
+
+counted_children : (n i : ℕ) → count (generated_children n i) ≡ n
+counted_children zero i = refl
+counted_children (suc n) i = let rest = counted_children n (i + 1) in omega (arith, rest)
+
+-- ---- what is tested of a tree, its satisfactions aside
+
+abbrev type_fits : Result Ty RuleAt → Bool
+type_fits (Ok ty) = is_b ty.base
+type_fits (Err at) = false
+
+abbrev mall_fits : Result Mall RuleAt → Bool
+mall_fits (Ok m) = m.s
+mall_fits (Err at) = false
+
+abbrev fits : Tree → Bool
+fits tree =
+    type_fits (corr tree) && (mall_fits (mall tree) && (is_none (mix tree) && (is_none (repeated_key tree)
+    && (nat_le (length (script_of tree)) 3600 && nat_le (opcode_count (emit tree)) 201))))
+
+abbrev IsFit : ℕ → Type 0
+IsFit n = fits (generated_tree n) ≡ true
+
+fit_10 : UpTo IsFit 10
+unfolding answers_on_literals
+fit_10 = ((((((((((tt, refl), refl), refl), refl), refl), refl), refl), refl), refl), refl)
+
+fit_20 : UpTo IsFit 20
+unfolding answers_on_literals
+fit_20 = ((((((((((fit_10, refl), refl), refl), refl), refl), refl), refl), refl), refl), refl)
+
+fit_30 : UpTo IsFit 30
+unfolding answers_on_literals
+fit_30 = ((((((((((fit_20, refl), refl), refl), refl), refl), refl), refl), refl), refl), refl)
+
+-- ---- no reason stands against it
+
+abbrev AreNone : List (Option Unfit) → Type 0
+AreNone [] = ⊤
+AreNone (r ∷ rs) = (r ≡ None) × AreNone rs
+
+none_first : (rs : List (Option Unfit)) → AreNone rs → first_reason rs ≡ None
+none_first [] h = refl
+none_first (None ∷ rs) h = none_first rs h.1
+none_first (Some r ∷ rs) h = cc h.0
+
+no_broken_rule : (r : Result Ty RuleAt) → type_fits r ≡ true → (broken_rule r ≡ None) × (wrong_top r ≡ None)
+no_broken_rule (Ok ty) e = (refl, go (is_b ty.base) e)
+  where
+    go : (b : Bool) → b ≡ true → (if b then None else Some unfit.TopNotB) ≡ None
+    go true e = refl
+    go false e = cc e
+no_broken_rule (Err at) e = cc e
+
+not_malleable : (r : Result Mall RuleAt) → mall_fits r ≡ true → (malleable r ≡ None) × (no_signature r ≡ None)
+not_malleable (Ok m) e = (refl, go m.s e)
+  where
+    go : (b : Bool) → b ≡ true → (if b then None else Some unfit.NoSignature) ≡ None
+    go true e = refl
+    go false e = cc e
+not_malleable (Err at) e = cc e
+
+not_mixed : (o : Option ℕ) → is_none o ≡ true → mixed_locks o ≡ None
+not_mixed None e = refl
+not_mixed (Some node) e = cc e
+
+not_repeated : (o : Option ℕ) → is_none o ≡ true → repeated o ≡ None
+not_repeated None e = refl
+not_repeated (Some node) e = cc e
+
+within : (most n : ℕ) (r : Unfit) → n ≤ most → (if nat_lt most n then Some r else None) ≡ None
+within most n r h = rw (le-ltb most n h) refl
+
+few_items : (m : ℕ) (o : Option Takes) → TakesSome m o → m ≤ 100 → (number_of (λ t. t.items) o ≤ 100)
+    × (number_of (λ t. t.keys) o ≡ 0)
+few_items m None h few = (omega arith, refl)
+few_items m (Some t) h few = let takes = h in (omega (arith, takes.0), takes.1)
+
+sane_tree : (tree : Tree) (m : ℕ) → fits tree ≡ true → TakesSome m (most_sat tree) → m ≤ 100 → IsSane tree
+sane_tree tree m e takes few =
+    let p1 = and_parts (type_fits (corr tree)) _ e in
+    let p2 = and_parts (mall_fits (mall tree)) _ p1.1 in
+    let p3 = and_parts (is_none (mix tree)) _ p2.1 in
+    let p4 = and_parts (is_none (repeated_key tree)) _ p3.1 in
+    let p5 = and_parts (nat_le (length (script_of tree)) 3600) _ p4.1 in
+    let typed = no_broken_rule (corr tree) p1.0 in
+    let signed = not_malleable (mall tree) p2.0 in
+    let items = few_items m (most_sat tree) takes few in
+    let size : (limits_of tree).size ≤ 3600 = leb-true (length (script_of tree)) 3600 p5.0 in
+    let codes : opcode_count (emit tree) ≤ 201 = leb-true (opcode_count (emit tree)) 201 p5.1 in
+    let ops : (limits_of tree).ops ≤ 201 = let keys = items.1 in omega (arith, codes, keys) in
+    let valid = none_first
+    (broken_rule (corr tree) ∷ wrong_top (corr tree) ∷ too_large Policy (limits_of tree) ∷ too_many_ops (limits_of tree)
+    ∷ too_many_items Policy (limits_of tree) ∷ []) (
+      typed.0,
+      (
+        typed.1,
+        (
+          within 3600 (limits_of tree).size (unfit.Size (limits_of tree).size) size,
+          (
+            within 201 (limits_of tree).ops (unfit.Ops (limits_of tree).ops) ops,
+            (within 100 (limits_of tree).items (unfit.Items (limits_of tree).items) items.0, tt),
+          ),
+        ),
+      ),
+    ) in
+    none_first
+    (first_unfit_valid tree ∷ malleable (mall tree) ∷ no_signature (mall tree) ∷ mixed_locks (mix tree)
+    ∷ repeated (repeated_key tree) ∷ [])
+    (valid, (signed.0, (signed.1, (not_mixed (mix tree) p3.0, (not_repeated (repeated_key tree) p4.0, tt)))))
+
+pub generated_is_sane : GeneratedIsSane
+generated_is_sane n some few =
+    let same = counted_children n 0 in
+    sane_tree (generated_tree n) (count (generated_children n 0)) (holds_at IsFit 30 n fit_30 some few)
+    (parts_take (generated_children n 0) (threshold_of n) (children_are_small n 0)) (omega (arith, same))

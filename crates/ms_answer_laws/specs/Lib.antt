@@ -1,0 +1,11 @@
+pub mod Laws
+pub mod TextExamples
+pub mod PolicyExamples
+pub mod DecodeExamples
+pub mod PlanExamples
+pub mod SatisfyExamples
+pub mod RunExamples
+pub mod AuditExamples
+pub mod GenExamples
+pub mod SourceExamples
+pub mod ConsensusExamples

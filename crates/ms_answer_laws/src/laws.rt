@@ -1,0 +1,58 @@
+//! What the definitions imply.
+
+ghost use Rattle.ms_answer_laws.specs.Laws.{
+  OneForm,
+  FormOrNone,
+  OneAnswer,
+  SomeAnswer,
+  AnswersHaveStatus,
+  NoReadingIsOfDecode,
+  NotAcceptedIsOfAudit,
+  WalkedAreSteps,
+  AnswerWithoutSource,
+  StatusWithoutSource,
+  StatusWithSource,
+  LongAssetFile,
+  LongRunFile,
+  LongPlanFile,
+  LongAuditFile,
+  GeneratedIsRead,
+  GeneratedIsSane,
+  GeneratedAreAssets,
+  GeneratedIsSatisfied,
+};
+
+/// Words have one form or none, and words that are texts have exactly one answer.
+pub fn answers()
+    ensures one_form { OneForm }
+    ensures form_or_none { FormOrNone }
+    ensures one_answer { OneAnswer }
+    ensures some_answer { SomeAnswer }
+    ensures status { AnswersHaveStatus }
+    ensures no_reading { NoReadingIsOfDecode }
+    ensures not_accepted { NotAcceptedIsOfAudit }
+{}
+
+/// Which answers need the source, and what comes of a long one.
+pub fn sources()
+    ensures without { AnswerWithoutSource }
+    ensures status_without { StatusWithoutSource }
+    ensures status_with { StatusWithSource }
+    ensures long_asset_file { LongAssetFile }
+    ensures long_run_file { LongRunFile }
+    ensures long_plan_file { LongPlanFile }
+    ensures long_audit_file { LongAuditFile }
+{}
+
+/// What a walk finds are the steps of an audit.
+pub fn audits()
+    ensures walked { WalkedAreSteps }
+{}
+
+/// What is generated: a text that is read as the tree, a sane tree, and assets that satisfy it.
+pub fn generator()
+    ensures read { GeneratedIsRead }
+    ensures sane { GeneratedIsSane }
+    ensures assets { GeneratedAreAssets }
+    ensures satisfied { GeneratedIsSatisfied }
+{}

@@ -1,0 +1,113 @@
+-- The answer, computed: each witness script is read by the reader of Scripts.
+use Rattle.std.proofs.Common.{◌≡◌, zero, suc, ◌<◌, ◌&&◌, nat_lt, Bool, true, List, [], ◌∷◌, map, All, Option, Some, None, Result, Ok, Err, refl, sym, ap, arith}
+use Rattle.std.specs.Bool.{Decides}
+use Rattle.std.specs.List.{list_all}
+use Rattle.std.proofs.lemmas.Bool.Decides.{Decides-and, Decides-like, Decides-ltb, Decides-by_and}
+use Rattle.def_script.specs.Bytes.{Bytes, IsBytes}
+use Rattle.def_script.specs.Key.{is_key}
+use Rattle.def_tree.specs.Tree.{Key, Tree}
+use Rattle.def_tree.specs.Range.{IsKey}
+use Rattle.def_psbt.specs.declared.Refusal.{Refusal}
+use Rattle.def_psbt.specs.Map.{Psbt}
+use Rattle.def_psbt.specs.Source.{psbt_of}
+use Rattle.def_spend.specs.declared.State.{State}
+use Rattle.def_spend.specs.Fields.{keys_in}
+use Rattle.def_spend.specs.Input.{Spend, spends_of}
+use Rattle.def_spend.specs.Reading.{Input, witness_script, ReadsAs, HasReading, AreInputs}
+use Rattle.ms_answer_laws.proofs.Decided.{decided, decided_is, decided_not}
+use Rattle.def_psbt_answer.specs.declared.status.Status.{Status}
+use Rattle.def_psbt_answer.specs.declared.words.Command.{Command}
+use Rattle.def_psbt_answer.specs.Words.{command_of}
+use Rattle.def_psbt_answer.specs.declared.words.Form.{Form}
+use Rattle.def_psbt_answer.specs.Reply.{Reply, reply, usage_reply, refusal_reply, form_of, command_reply}
+use Rattle.def_psbt_answer.specs.Answer.{RepliesToSource, RepliesToWords, Answer}
+
+-- ---- the inputs of a PSBT
+
+-- the tree that a witness script is read as
+abbrev pub tree_found : (keys : List Key) → Result Bytes State → Option Tree
+tree_found keys (Ok script) = decided keys script
+tree_found keys (Err state) = None
+
+reads_found : (keys : List Key) (script : Result Bytes State) → All IsKey keys → ReadsAs keys script (tree_found keys script)
+reads_found keys (Err state) all = refl
+reads_found keys (Ok script) all = go (decided keys script) refl
+  where
+    go : (o : Option Tree) → decided keys script ≡ o → ReadsAs keys (Ok script) o
+    go (Some tree) e = decided_is keys script tree all e
+    go None e = λ tree. decided_not keys script tree all e
+
+abbrev pub input_found : Spend → Input
+input_found spend = record { spend = spend; tree = tree_found (keys_in spend.fields) (witness_script spend) }
+
+abbrev pub inputs_found : Psbt → List Input
+inputs_found psbt = map input_found (spends_of psbt)
+
+abbrev pub HasKeys : Spend → Type 0
+HasKeys spend = All IsKey (keys_in spend.fields)
+
+spends_stay : (spends : List Spend) → map (λ input. input.spend) (map input_found spends) ≡ spends
+spends_stay [] = refl
+spends_stay (spend ∷ spends) = ap (λ rest. spend ∷ rest) (spends_stay spends)
+
+all_read : (spends : List Spend) → All HasKeys spends → All HasReading (map input_found spends)
+all_read [] h k d lt = absurd (omega (arith, lt))
+all_read (spend ∷ spends) h zero d lt = reads_found (keys_in spend.fields) (witness_script spend) (h 0 spend (omega arith))
+all_read (spend ∷ spends) h (suc k) d lt = all_read spends (λ i e below. h (suc i) e (omega arith)) k d (omega arith)
+
+pub are_inputs : (psbt : Psbt) → All HasKeys (spends_of psbt) → AreInputs psbt (inputs_found psbt)
+are_inputs psbt h = record { spends = spends_stay (spends_of psbt); read = all_read (spends_of psbt) h }
+
+-- ---- the answer
+
+abbrev pub source_reply : Command → Form → Result Psbt Refusal → Reply
+source_reply command form (Ok psbt) = command_reply command form psbt (inputs_found psbt)
+source_reply command form (Err refusal) = refusal_reply refusal
+
+abbrev pub words_reply : Option Command → (source : Bytes) → Reply
+words_reply (Some command) source = source_reply command (form_of source) (psbt_of source)
+words_reply None source = usage_reply
+
+-- ---- keys of literals
+
+bytes_tell : (xs : Bytes) → Decides (list_all (λ b. nat_lt b 256) xs) (IsBytes xs)
+bytes_tell [] = (λ e i. omega arith, λ h. refl)
+bytes_tell (x ∷ xs) = Decides-like _ to (λ h. (h 0, λ i. h (suc i))) (Decides-and (nat_lt x 256) _ (Decides-ltb x 256) (bytes_tell xs))
+  where
+    to : (x < 256) × IsBytes xs → IsBytes (x ∷ xs)
+    to h zero = h.0
+    to h (suc i) = h.1 i
+
+abbrev pub is_key_bytes : Bytes → Bool
+is_key_bytes key = is_key key && list_all (λ b. nat_lt b 256) key
+
+key_tells : (key : Key) → Decides (is_key_bytes key) (IsKey key)
+key_tells key = Decides-like _ (λ h. record { form = h.0; bytes = h.1 }) (λ h. (h.form, h.bytes)) (Decides-and (is_key key) _ (λ e. e, λ e. e) (bytes_tell key))
+
+keys_tell : (keys : List Key) → Decides (list_all is_key_bytes keys) (All IsKey keys)
+keys_tell keys = Decides-by_and is_key_bytes IsKey (list_all is_key_bytes) key_tells refl (λ x xs. refl) keys
+
+abbrev pub has_keys : Spend → Bool
+has_keys spend = list_all is_key_bytes (keys_in spend.fields)
+
+spends_tell : (spends : List Spend) → Decides (list_all has_keys spends) (All HasKeys spends)
+spends_tell spends = Decides-by_and has_keys HasKeys (list_all has_keys) (λ spend. keys_tell (keys_in spend.fields)) refl (λ x xs. refl) spends
+
+abbrev pub source_has_keys : Result Psbt Refusal → Bool
+source_has_keys (Ok psbt) = list_all has_keys (spends_of psbt)
+source_has_keys (Err refusal) = true
+
+replies : (command : Option Command) (source : Bytes) (r : Reply) → source_has_keys (psbt_of source) ≡ true → words_reply command source ≡ r
+    → RepliesToWords command source r
+replies None source r keys e = sym e
+replies (Some command) source r keys e = go (psbt_of source) keys e
+  where
+    go : (o : Result Psbt Refusal) → source_has_keys o ≡ true → source_reply command (form_of source) o ≡ r
+        → RepliesToSource command (form_of source) o r
+    go (Ok psbt) keys e = (inputs_found psbt, are_inputs psbt ((spends_tell (spends_of psbt)).0 keys), sym e)
+    go (Err refusal) keys e = sym e
+
+-- the answer to words and a source whose keys consist of bytes
+pub answered : {words : List Bytes} {source : Bytes} {status : Status} {report : Bytes}
+    → source_has_keys (psbt_of source) ≡ true → words_reply (command_of words) source ≡ reply status report → Answer words source status report
+answered {words} {source} {status} {report} keys e = record { replies = replies (command_of words) source (reply status report) keys e }

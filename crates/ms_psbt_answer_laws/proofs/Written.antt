@@ -1,0 +1,198 @@
+-- What is written of inputs, and of those that were written.
+use Rattle.std.proofs.Common.{◌≡◌, ℕ, zero, suc, ◌+◌, ◌^◌, ◌==◌, nat_lt, Bool, true, false, not, ◌&&◌, ◌||◌, cond, List, [], ◌∷◌, ◌++◌, map, filter, find, All, length, Some, Err, if◌then◌else◌, refl, sym, ◌∙◌, ap, subst, arith}
+use Rattle.std.specs.Option.{option_map}
+use Rattle.std.specs.Int.{w16, w32, w64, to_le_bytes}
+use Rattle.std.specs.Str.{bytes_eq}
+use Rattle.std.proofs.lemmas.Bool.{eqb-true}
+use Rattle.std.proofs.lemmas.List.{append-nil}
+use Rattle.def_script.specs.Bytes.{Bytes}
+use Rattle.def_script.specs.Sizes.{size_bytes, read_size}
+use Rattle.def_script.specs.Witness.{witness_text}
+use Rattle.def_psbt.specs.Transaction.{TransactionInput, Transaction}
+use Rattle.def_psbt.specs.Map.{Pair, Map, Psbt, type_of}
+use Rattle.def_spend.specs.declared.State.TheVariants as state
+use Rattle.def_spend.specs.Fields.{FINAL_SCRIPTWITNESS, FINAL_SCRIPTSIG, has_type, field}
+use Rattle.def_spend.specs.Utxo.{utxo_of}
+use Rattle.def_spend.specs.Input.{Spend, spends_from}
+use Rattle.def_spend.specs.Reading.{Input, has_byte, has_item, has_final, script_of_utxo, HasReading, AreInputs}
+use Rattle.def_spend.specs.States.{state_by, state_of, is_ready}
+use Rattle.def_spend.specs.Finalized.{is_cleared, is_kept, witness_pair, final_map, witness_of, written_map, finalized}
+use Rattle.ms_psbt_answer_laws.specs.Laws.{LeavesOthers, KeepsPairs, NoneIsReady, WrittenAgain}
+use Rattle.ms_psbt_answer_laws.proofs.Unique.{one_reading}
+
+-- ---- the final map
+
+pub leaves_others : LeavesOthers
+leaves_others input e = ap (λ b. if b then final_map input.spend.fields (witness_of input) else input.spend.fields) e
+
+filter-append : (test : Pair → Bool) (xs ys : Map) → filter test (xs ++ ys) ≡ filter test xs ++ filter test ys
+filter-append test [] ys = refl
+filter-append test (x ∷ xs) ys = go (test x) (filter-append test xs ys)
+  where
+    go : (b : Bool) → filter test (xs ++ ys) ≡ filter test xs ++ filter test ys
+        → cond b (x ∷ filter test (xs ++ ys)) (filter test (xs ++ ys)) ≡ cond b (x ∷ filter test xs) (filter test xs) ++ filter test ys
+    go true rest = ap (λ l. x ∷ l) rest
+    go false rest = rest
+
+filter-filter : (test : Pair → Bool) (xs : Map) → filter test (filter test xs) ≡ filter test xs
+filter-filter test [] = refl
+filter-filter test (x ∷ xs) = go (test x) refl (filter-filter test xs)
+  where
+    go : (b : Bool) → test x ≡ b → filter test (filter test xs) ≡ filter test xs
+        → filter test (cond b (x ∷ filter test xs) (filter test xs)) ≡ cond b (x ∷ filter test xs) (filter test xs)
+    go true e rest = ap (λ b. cond b (x ∷ filter test (filter test xs)) (filter test (filter test xs))) e ∙ ap (λ l. x ∷ l) rest
+    go false e rest = rest
+
+kept_of_final : (fields : Map) (witness : Bytes) → filter is_kept (final_map fields witness) ≡ filter is_kept fields
+unfolding read_size
+kept_of_final fields witness =
+    filter-append is_kept (filter is_kept fields) (witness_pair witness ∷ [])
+    ∙ append-nil (filter is_kept (filter is_kept fields))
+    ∙ filter-filter is_kept fields
+
+pub keeps_pairs : KeepsPairs
+keeps_pairs input = go (is_ready (state_of input))
+  where
+    go : (b : Bool) → filter is_kept (if b then final_map input.spend.fields (witness_of input) else input.spend.fields) ≡ filter is_kept input.spend.fields
+    go true = kept_of_final input.spend.fields (witness_of input)
+    go false = refl
+
+-- no pair that is kept is a final witness
+kept_other : (type : ℕ) → not (is_cleared type) ≡ true → (type == FINAL_SCRIPTWITNESS) ≡ false
+kept_other type kept = go (type == FINAL_SCRIPTWITNESS) refl
+  where
+    go : (b : Bool) → (type == FINAL_SCRIPTWITNESS) ≡ b → b ≡ false
+    go false e = refl
+    go true e = let no : false ≡ true = subst (λ t. not (is_cleared t) ≡ true) (eqb-true type FINAL_SCRIPTWITNESS e) kept in cc
+
+find_final : (fields : Map) (witness : Bytes) → find (has_type FINAL_SCRIPTWITNESS) (final_map fields witness) ≡ Some (witness_pair witness)
+unfolding read_size
+find_final [] witness = refl
+find_final (x ∷ xs) witness = go (is_kept x) refl (find_final xs witness)
+  where
+    go : (b : Bool) → is_kept x ≡ b → find (has_type FINAL_SCRIPTWITNESS) (final_map xs witness) ≡ Some (witness_pair witness)
+        → find (has_type FINAL_SCRIPTWITNESS) (cond b (x ∷ filter is_kept xs) (filter is_kept xs) ++ witness_pair witness ∷ []) ≡ Some (witness_pair witness)
+    go false e rest = rest
+    go true e rest =
+        ap (λ b. cond b (Some x) (find (has_type FINAL_SCRIPTWITNESS) (filter is_kept xs ++ witness_pair witness ∷ []))) (kept_other (type_of x.key) e)
+        ∙ rest
+
+suc_not_zero : (n : ℕ) → (suc n == 0) ≡ false
+suc_not_zero n = go (suc n == 0) refl
+  where
+    go : (b : Bool) → (suc n == 0) ≡ b → b ≡ false
+    go false e = refl
+    go true e = absurd (omega (arith, eqb-true (suc n) 0 e))
+
+-- a witness with an item
+first_not_zero : (n : ℕ) (rest : Bytes) → bytes_eq (size_bytes (suc n) ++ rest) (0x00 ∷ []) ≡ false
+unfolding size_bytes
+first_not_zero n rest = go (nat_lt (suc n) 0xfd) (nat_lt (suc n) (2 ^ 16)) (nat_lt (suc n) (2 ^ 32))
+  where
+    go : (a b c : Bool) → bytes_eq ((if a then suc n ∷ []
+        else if b then 0xfd ∷ to_le_bytes w16 (suc n)
+        else if c then 0xfe ∷ to_le_bytes w32 (suc n)
+        else 0xff ∷ to_le_bytes w64 (suc n)) ++ rest) (0x00 ∷ []) ≡ false
+    go true b c = ap (λ e. e && bytes_eq rest []) (suc_not_zero n)
+    go false true c = refl
+    go false false true = refl
+    go false false false = refl
+
+has_witness : (stack : List Bytes) (script : Bytes) → bytes_eq (witness_text stack script) (0x00 ∷ []) ≡ false
+has_witness [] script = first_not_zero 0 _
+has_witness (item ∷ stack) script = first_not_zero (length (stack ++ script ∷ [])) _
+
+final_is_final : (input : Input) → has_final (final_map input.spend.fields (witness_of input)) ≡ true
+final_is_final input =
+    let fields = final_map input.spend.fields (witness_of input) in
+    let found = ap (option_map (λ (pair : Pair). pair.value)) (find_final input.spend.fields (witness_of input)) in
+    let item = ap has_item found ∙ ap not (has_witness _ _) in
+    ap (λ b. has_byte (field FINAL_SCRIPTSIG fields) || b) item ∙ or_true (has_byte (field FINAL_SCRIPTSIG fields))
+  where
+    or_true : (b : Bool) → (b || true) ≡ true
+    or_true true = refl
+    or_true false = refl
+
+-- ---- inputs that were written
+
+-- the same input with another map
+abbrev pub with_fields : Spend → Map → Spend
+with_fields spend fields = record spend { fields = fields }
+
+abbrev pub Stays : Input → Input → Type 0
+Stays input again = (is_ready (state_of again) ≡ false) × (written_map again ≡ written_map input)
+
+final_stays : (input again : Input) → again.spend ≡ with_fields input.spend (written_map input) → is_ready (state_of input) ≡ true → Stays input again
+final_stays input again same ready =
+    let written = ap (λ b. if b then final_map input.spend.fields (witness_of input) else input.spend.fields) ready in
+    let fields = ap (λ spend. spend.fields) same ∙ written in
+    let final = ap has_final fields ∙ final_is_final input in
+    let none = ap (λ b. state_by (if b then Err state.Final else script_of_utxo (utxo_of again.spend.input.outpoint again.spend.fields) again.spend.fields) again.tree again.spend) final in
+    let closed = ap is_ready none in
+    (closed, leaves_others again closed ∙ ap (λ spend. spend.fields) same)
+
+other_stays : (input again : Input) → HasReading input → HasReading again → again.spend ≡ with_fields input.spend (written_map input)
+    → is_ready (state_of input) ≡ false → Stays input again
+other_stays input again h k same closed =
+    let spend = same ∙ ap (with_fields input.spend) (leaves_others input closed) in
+    let one = one_reading again input k h spend in
+    (ap (λ x. is_ready (state_of x)) one ∙ closed, ap written_map one)
+
+stays : (input again : Input) → HasReading input → HasReading again → again.spend ≡ with_fields input.spend (written_map input) → Stays input again
+stays input again h k same = go (is_ready (state_of input)) refl
+  where
+    go : (b : Bool) → is_ready (state_of input) ≡ b → Stays input again
+    go true e = final_stays input again same e
+    go false e = other_stays input again h k same e
+
+-- each input that was written, beside what it was
+abbrev pub EachStays : List Input → List Input → Type 0
+EachStays [] [] = Unit {0}
+EachStays [] (y ∷ ys) = ⊥
+EachStays (x ∷ xs) [] = ⊥
+EachStays (x ∷ xs) (y ∷ ys) = Stays x y × EachStays xs ys
+
+each_stays : (transaction : Transaction) (number : ℕ) (ins : List TransactionInput) (maps : List Map) (xs ys : List Input)
+    → map (λ input. input.spend) xs ≡ spends_from transaction number ins maps
+    → map (λ input. input.spend) ys ≡ spends_from transaction number ins (map written_map xs)
+    → All HasReading xs → All HasReading ys → EachStays xs ys
+each_stays transaction number [] maps [] [] e f h k = tt
+each_stays transaction number [] maps (x ∷ xs) ys e f h k = cc
+each_stays transaction number [] maps [] (y ∷ ys) e f h k = cc
+each_stays transaction number (i ∷ ins) [] [] [] e f h k = tt
+each_stays transaction number (i ∷ ins) [] [] (y ∷ ys) e f h k = cc
+each_stays transaction number (i ∷ ins) [] (x ∷ xs) ys e f h k = cc
+each_stays transaction number (i ∷ ins) (m ∷ maps) [] ys e f h k = cc
+each_stays transaction number (i ∷ ins) (m ∷ maps) (x ∷ xs) [] e f h k = cc
+each_stays transaction number (i ∷ ins) (m ∷ maps) (x ∷ xs) (y ∷ ys) e f h k =
+    let here : x.spend ≡ record { transaction = transaction; number = number; input = i; fields = m } = cc in
+    let there : y.spend ≡ record { transaction = transaction; number = number; input = i; fields = written_map x } = cc in
+    let rest : map (λ input. input.spend) xs ≡ spends_from transaction (number + 1) ins maps = cc in
+    let behind : map (λ input. input.spend) ys ≡ spends_from transaction (number + 1) ins (map written_map xs) = cc in
+    let same = there ∙ ap (λ spend. with_fields spend (written_map x)) (sym here) in (
+      stays x y (h 0 x (omega arith)) (k 0 y (omega arith)) same,
+      each_stays transaction (number + 1) ins maps xs ys rest behind (λ n d lt. h (suc n) d (omega arith)) (λ n d lt. k (suc n) d (omega arith)),
+    )
+
+none_ready : (xs ys : List Input) → EachStays xs ys → All (λ input. is_ready (state_of input) ≡ false) ys
+none_ready [] [] h k d lt = absurd (omega (arith, lt))
+none_ready [] (y ∷ ys) h k d lt = absurd h
+none_ready (x ∷ xs) [] h k d lt = absurd h
+none_ready (x ∷ xs) (y ∷ ys) h zero d lt = h.0.0
+none_ready (x ∷ xs) (y ∷ ys) h (suc k) d lt = none_ready xs ys h.1 k d (omega arith)
+
+same_maps : (xs ys : List Input) → EachStays xs ys → map written_map ys ≡ map written_map xs
+same_maps [] [] h = refl
+same_maps [] (y ∷ ys) h = absurd h
+same_maps (x ∷ xs) [] h = absurd h
+same_maps (x ∷ xs) (y ∷ ys) h = ap (λ m. m ∷ map written_map ys) h.0.1 ∙ ap (λ ms. written_map x ∷ ms) (same_maps xs ys h.1)
+
+each_of : (psbt : Psbt) (inputs again : List Input) → AreInputs psbt inputs → AreInputs (finalized psbt inputs) again → EachStays inputs again
+each_of psbt inputs again h k =
+    each_stays psbt.transaction 0 psbt.transaction.inputs psbt.inputs inputs again h.spends k.spends h.read k.read
+
+pub none_is_ready : NoneIsReady
+none_is_ready psbt inputs again h k = none_ready inputs again (each_of psbt inputs again h k)
+
+pub written_again : WrittenAgain
+written_again psbt inputs again h k = same_maps inputs again (each_of psbt inputs again h k)
