@@ -13,8 +13,8 @@ use Rattle.def_types.specs.Typed.{type_of, mall_of}
 use Rattle.def_emit.specs.Emit.{script_of}
 use Rattle.def_assets.specs.Assets.{Assets}
 use Rattle.def_sane.specs.declared.Rules.{Rules}
-use Rattle.def_sane.specs.Most.{limits_of}
-use Rattle.def_height.specs.Highest.{height_of}
+use Rattle.def_sane.specs.Limits.{limits_of}
+use Rattle.def_height.specs.Height.{height_of}
 use Rattle.def_satisfaction.specs.Satisfaction.{given_of}
 use Rattle.def_audit.specs.declared.Step.{Step}
 use Rattle.def_policy.specs.Policy.{Policy}

@@ -6,7 +6,7 @@ use Rattle.def_tree.specs.Tree.{Key, Tree}
 use Rattle.def_types.specs.declared.Mall.{Mall}
 use Rattle.def_types.specs.Malleable.{mall}
 use Rattle.def_types.specs.Typed.{type_of}
-use Rattle.def_sane.specs.Most.{limits_of}
+use Rattle.def_sane.specs.Limits.{limits_of}
 use Rattle.def_sane.specs.Locks.{mix}
 use Rattle.def_sane.specs.Keys as tree_keys
 use Rattle.def_sane.specs.Unfit.{IsSane}

@@ -12,10 +12,10 @@ use Rattle.def_types.proofs.Facts.{typed-and_or, typed-and_v, typed-and_b, typed
 use Rattle.def_emit.specs.Emit.{emit, emit_sum, emit_added}
 use Rattle.def_sane.specs.Formal.{Takes, one, empty}
 use Rattle.def_script.specs.Instruction.{opcode_count}
-use Rattle.def_sane.specs.Most as most
-use Rattle.def_sane.specs.Most.{most_sat, most_dsat, most_parts, number_of}
+use Rattle.def_sane.specs.Scaffolding.Most as most
+use Rattle.def_sane.specs.Scaffolding.Most.{most_sat, most_dsat, most_parts, number_of}
 use Rattle.def_height.specs.declared.Highest.{Highest}
-use Rattle.def_height.specs.Highest.{only, both, either, at_least, highest_sat, highest_dsat, highest_parts, height_of_option}
+use Rattle.def_height.specs.Scaffolding.Highest.{only, both, either, at_least, highest_sat, highest_dsat, highest_parts, height_of_option}
 use Rattle.def_height.specs.Laws.{ItemsAreWithinOps, HeightIsWithin, HeightIsLow}
 use Rattle.def_height.proofs.Heights.{AreFit, fit_children}
 use Rattle.def_height.proofs.Found.{height_is_unique}

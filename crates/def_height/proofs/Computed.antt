@@ -8,8 +8,7 @@ use Rattle.def_sane.specs.Examples.{key_chain_of_three, two_of_three, hashes_or_
 use Rattle.def_types.specs.Typed.{type_of}
 use Rattle.def_types.proofs.Rows.{corr_rows}
 use Rattle.def_types.proofs.Typing.{corr_is_typed}
-use Rattle.def_height.specs.Height.{IsHeight}
-use Rattle.def_height.specs.Highest.{height_of}
+use Rattle.def_height.specs.Height.{IsHeight, height_of}
 use Rattle.def_height.specs.Examples.{key_or_key_hash, key_and_lock, key_or_two_hashes, KeyHeight, ChainHeight, KeysHeight, KeyHashHeight, LockHeight, ThresholdHeight, EitherHeight, LockedThresholdHeight, HashThresholdHeight, TwoHashesHeight, ManyKeysHeight, MostOpsHeight, LargestHeight, ZeroHeight}
 use Rattle.def_height.proofs.Found.{height_is_computed}
 

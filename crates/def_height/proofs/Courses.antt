@@ -5,7 +5,7 @@ use Rattle.def_height.specs.Course.{up, down, Course, rise}
 use Rattle.def_height.specs.Formal.{Way, then, Never, Is, Either, Then, Followed}
 use Rattle.def_height.specs.Height.{peak}
 use Rattle.def_height.specs.declared.Highest.{Highest}
-use Rattle.def_height.specs.Highest.{only, both, either, at_least}
+use Rattle.def_height.specs.Scaffolding.Highest.{only, both, either, at_least}
 
 -- all steps up, and all steps down
 abbrev pub ups : Course → ℕ

@@ -11,7 +11,7 @@ use Rattle.def_types.proofs.Facts.{typed-and_or, typed-and_v, typed-and_b, typed
 use Rattle.def_height.specs.Course.{up, down, Course, rise}
 use Rattle.def_height.specs.Formal.{Way, Is, FormalSat, FormalDsat, FormalParts}
 use Rattle.def_height.specs.declared.Highest.{Highest}
-use Rattle.def_height.specs.Highest.{only, highest_sat, highest_dsat, highest_parts}
+use Rattle.def_height.specs.Scaffolding.Highest.{only, highest_sat, highest_dsat, highest_parts}
 use Rattle.def_height.proofs.Courses.{ups, downs, IsHighest, is_highest, never_highest, then_highest, begun_highest, either_highest, at_least_highest, followed_highest, led_highest}
 
 -- how many elements a fragment of a type leaves of those that it found, its items counted

@@ -5,11 +5,10 @@ use Rattle.def_tree.specs.Tree.{Tree}
 use Rattle.def_types.specs.declared.Base.TheVariants.{B}
 use Rattle.def_types.specs.Typed.{type_of, IsTyped}
 use Rattle.def_sane.specs.Formal as sane
-use Rattle.def_sane.specs.Most.{limits_of}
+use Rattle.def_sane.specs.Limits.{limits_of}
 use Rattle.def_height.specs.Course.{Course, IsRise, rise}
 use Rattle.def_height.specs.Formal.{Way, FormalSat}
-use Rattle.def_height.specs.Height.{IsHeight}
-use Rattle.def_height.specs.Highest.{height_of}
+use Rattle.def_height.specs.Height.{IsHeight, height_of}
 
 -- the computed rise is the greatest running total
 abbrev pub RiseIsGreatest : Type 0

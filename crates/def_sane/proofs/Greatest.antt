@@ -4,9 +4,9 @@ use Rattle.def_tree.specs.Tree.{Tree}
 use Rattle.def_emit.specs.Emit.{emit}
 use Rattle.def_sane.specs.declared.Limits.{Limits}
 use Rattle.def_sane.specs.Formal.{Takes, plus, FormalSat}
-use Rattle.def_sane.specs.Limits.{IsGreatest}
+use Rattle.def_sane.specs.Limits.{IsGreatest, limits_of}
 use Rattle.def_script.specs.Instruction.{opcode_count}
-use Rattle.def_sane.specs.Most.{greater, most_sat, number_of, limits_of}
+use Rattle.def_sane.specs.Scaffolding.Most.{greater, most_sat, number_of}
 use Rattle.def_sane.specs.Laws.{LimitsAreComputed, LimitsAreUnique}
 use Rattle.def_sane.proofs.MostOf.{IsMost, sat-most}
 
@@ -38,7 +38,7 @@ limits_are_computed tree = record {
 }
 
 -- two greatest numbers are one
-one_greatest : (P : Takes → Type 0) (number : Takes → ℕ) (m n : ℕ) → IsGreatest P number m → IsGreatest P number n → m ≡ n
+pub one_greatest : {A : Type 0} → (P : A → Type 0) (number : A → ℕ) (m n : ℕ) → IsGreatest P number m → IsGreatest P number n → m ≡ n
 one_greatest P number m n (inl a) (inl b) =
     let i : number a.0 ≤ n = b.3 a.0 a.1 in let j : number b.0 ≤ m = a.3 b.0 b.1 in
     let k : number a.0 ≡ m = a.2 in let l : number b.0 ≡ n = b.2 in omega arith

@@ -1,5 +1,5 @@
 -- What it means that none of the reasons applies.
-use Rattle.std.proofs.Common.{◌≡◌, ◌↔◌, ℕ, ◌≤◌, Bool, true, false, nat_lt, List, ◌∷◌, Option, Some, None, Result, Ok, Err, IsTrue, refl, ◌∙◌, ap, subst, if◌then◌else◌, arith}
+use Rattle.std.proofs.Common.{◌≡◌, ◌↔◌, ℕ, ◌≤◌, Bool, true, false, nat_lt, List, ◌∷◌, Option, Some, None, Result, Ok, Err, IsTrue, refl, sym, ◌∙◌, ap, subst, if◌then◌else◌, arith}
 use Rattle.std.proofs.lemmas.Bool.{ltb-false, le-ltb}
 use Rattle.def_tree.specs.Tree.{Tree}
 use Rattle.def_types.specs.declared.Base.{Base}
@@ -14,13 +14,14 @@ use Rattle.def_types.proofs.Typing.{corr_is_typed, mall_is_non_malleable}
 use Rattle.def_sane.specs.declared.Rules.{Rules}
 use Rattle.def_sane.specs.declared.Rules.TheVariants.{Policy, Consensus}
 use Rattle.def_sane.specs.declared.Unfit.{Unfit}
-use Rattle.def_sane.specs.Most.{limits_of}
+use Rattle.def_sane.specs.Limits.{limits_of}
 use Rattle.def_sane.specs.Locks.{mix}
 use Rattle.def_sane.specs.Keys.{keys, AreDistinct, repeated_key}
 use Rattle.def_script.specs.Limits.{MAX_OPS_PER_SCRIPT}
-use Rattle.def_sane.specs.Unfit.{size_limit, are_too_many, MOST_SIZE, MOST_ITEMS, broken_rule, wrong_top, malleable, no_signature, mixed_locks, repeated, first_reason, IsValidUnder, IsSaneUnder, IsValid, IsSane}
-use Rattle.def_sane.specs.Laws.{AreFewItems, ValidMeans, SaneMeans, ValidUnderConsensus, SaneUnderConsensus}
+use Rattle.def_sane.specs.Unfit.{size_limit, are_too_many, MOST_SIZE, MOST_ITEMS, broken_rule, wrong_top, malleable, no_signature, mixed_locks, repeated, first_reason, IsValidUnder, IsSaneUnder, IsValid, IsSane, first_unfit_valid_by}
+use Rattle.def_sane.specs.Laws.{AreFewItems, IsValidWithin, ReasonsAreByLimits, ValidMeans, SaneMeans, ValidUnderConsensus, SaneUnderConsensus}
 use Rattle.def_sane.proofs.FirstRepeat.{none_is_repeated}
+use Rattle.def_sane.proofs.Greatest.{limits_are_unique}
 
 -- a list without a reason, first by first
 no_reason : (o : Option Unfit) (rest : List (Option Unfit)) → first_reason (o ∷ rest) ≡ None → (o ≡ None) × (first_reason rest ≡ None)
@@ -81,10 +82,10 @@ b_from_none ty e = b_from_test ty.base (go (is_b ty.base) e)
 wrong_top-b : (ty : Ty) → ty.base ≡ B → wrong_top (Ok ty) ≡ None
 wrong_top-b ty e = rw e
 
-pub valid_means_under : ValidMeans
+pub valid_means_under : (rules : Rules) (tree : Tree) → IsValidUnder rules tree ↔ IsValidWithin rules tree (limits_of tree)
 valid_means_under rules tree = (forth, back)
   where
-    forth : IsValidUnder rules tree → IsTyped tree × ((type_of tree).base ≡ B) × ((limits_of tree).size ≤ size_limit rules) × ((limits_of tree).ops ≤ MAX_OPS_PER_SCRIPT) × AreFewItems rules (limits_of tree).items
+    forth : IsValidUnder rules tree → IsValidWithin rules tree (limits_of tree)
     forth valid =
         let one = no_reason _ _ valid in
         let two = no_reason _ _ one.1 in
@@ -101,7 +102,7 @@ valid_means_under rules tree = (forth, back)
           items_within rules _ _ five.0,
         )
 
-    back : IsTyped tree × ((type_of tree).base ≡ B) × ((limits_of tree).size ≤ size_limit rules) × ((limits_of tree).ops ≤ MAX_OPS_PER_SCRIPT) × AreFewItems rules (limits_of tree).items → IsValidUnder rules tree
+    back : IsValidWithin rules tree (limits_of tree) → IsValidUnder rules tree
     back h =
         let typed : corr tree ≡ Ok (type_of tree) = (corr_is_typed tree (type_of tree)).1 (h.0, refl) in
         none_first _ _ (ap broken_rule typed)
@@ -109,6 +110,14 @@ valid_means_under rules tree = (forth, back)
         (none_first _ _ (bound_within (size_limit rules) _ _ h.2)
         (none_first _ _ (bound_within MAX_OPS_PER_SCRIPT _ _ h.3)
         (none_first _ _ (within_items rules _ _ h.4) refl))))
+
+-- whatever limits a tree has are those that are computed
+pub valid_means_within : ValidMeans
+valid_means_within rules tree limits are =
+    subst (λ l. IsValidUnder rules tree ↔ IsValidWithin rules tree l) (sym (limits_are_unique tree limits are)) (valid_means_under rules tree)
+
+pub reasons_are_by_limits : ReasonsAreByLimits
+reasons_are_by_limits rules tree limits are = ap (first_unfit_valid_by rules tree) (sym (limits_are_unique tree limits are))
 
 -- of policy
 pub valid_means : (tree : Tree) →

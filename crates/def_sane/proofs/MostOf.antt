@@ -6,7 +6,7 @@ use Rattle.def_tree.specs.declared.Wrapper.TheVariants as wrapper
 use Rattle.def_tree.specs.Tree.{Tree, Trees, just_0, just_1, pk_k, pk_h, older, after, hash, and_or, two, thresh, multi, wrap, none, more}
 use Rattle.def_sane.specs.Formal.{Takes, nothing, item, same_items, tried, plus, PREIMAGE, empty, one, Never, Is, Both, Either, FormalSat, FormalDsat, FormalParts}
 use Rattle.def_script.specs.Signature.{MAX_SIGNATURE_SIZE}
-use Rattle.def_sane.specs.Most.{greater, both, either, most_sat, most_dsat, most_parts}
+use Rattle.def_sane.specs.Scaffolding.Most.{greater, both, either, most_sat, most_dsat, most_parts}
 
 module _ (number : Takes → ℕ) (of_plus : (a b : Takes) → number (plus a b) ≡ number a + number b) (of_greater : (a b : Takes) → number (greater a b) ≡ max (number a) (number b)) where
   -- m is the most of P: none where P has none

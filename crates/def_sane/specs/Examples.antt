@@ -2,7 +2,7 @@
 use Rattle.std.specs.Prelude.{◌≡◌, ℕ, [], ◌∷◌}
 use Rattle.def_tree.specs.Tree.{Tree, just_0, just_1, older, thresh, multi}
 use Rattle.def_types.specs.Samples.{KEY_A, KEY_B, KEY_C, hash_value, pk, pkh, sha256, a, s, v, j, l, n, and_v, or_d, or_i, trees}
-use Rattle.def_sane.specs.Most.{limits_of}
+use Rattle.def_sane.specs.Limits.{limits_of}
 
 -- the tree has these limits
 abbrev pub HasLimits : Tree → (size ops items weight : ℕ) → Type 0

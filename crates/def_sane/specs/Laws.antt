@@ -6,12 +6,11 @@ use Rattle.def_types.specs.Typed.{type_of, IsTyped, mall_of, IsMallTyped}
 use Rattle.def_sane.specs.declared.Limits.{Limits}
 use Rattle.def_sane.specs.declared.Rules.{Rules}
 use Rattle.def_sane.specs.declared.Rules.TheVariants.{Policy, Consensus}
-use Rattle.def_sane.specs.Limits.{AreLimits}
-use Rattle.def_sane.specs.Most.{limits_of}
+use Rattle.def_sane.specs.Limits.{AreLimits, limits_of}
 use Rattle.def_sane.specs.Locks.{Mixes, mix}
 use Rattle.def_sane.specs.Keys.{keys, Repeats, AreDistinct, repeated_key}
 use Rattle.def_script.specs.Limits.{MAX_OPS_PER_SCRIPT}
-use Rattle.def_sane.specs.Unfit.{size_limit, MOST_ITEMS, IsValidUnder, IsSaneUnder}
+use Rattle.def_sane.specs.Unfit.{size_limit, MOST_ITEMS, first_unfit_valid_by, first_unfit_valid_under, IsValidUnder, IsSaneUnder}
 
 -- the computed limits are limits
 abbrev pub LimitsAreComputed : Type 0
@@ -46,13 +45,23 @@ abbrev pub AreFewItems : Rules → (items : ℕ) → Type 0
 AreFewItems Policy items = items ≤ MOST_ITEMS
 AreFewItems Consensus items = ⊤
 
--- a valid tree is of type B, and within the limits
+-- the reasons against a tree are those by its limits, of which it has no others
+abbrev pub ReasonsAreByLimits : Type 0
+ReasonsAreByLimits =
+    (rules : Rules) (tree : Tree) (limits : Limits) →
+    AreLimits tree limits → first_unfit_valid_under rules tree ≡ first_unfit_valid_by rules tree limits
+
+-- valid is a tree of type B within these limits
+abbrev pub IsValidWithin : Rules → Tree → Limits → Type 0
+IsValidWithin rules tree limits =
+    IsTyped tree × ((type_of tree).base ≡ B) × (limits.size ≤ size_limit rules) ×
+    (limits.ops ≤ MAX_OPS_PER_SCRIPT) × AreFewItems rules limits.items
+
+-- that is what it means to be valid
 abbrev pub ValidMeans : Type 0
 ValidMeans =
-    (rules : Rules) (tree : Tree) →
-    IsValidUnder rules tree ↔
-    (IsTyped tree × ((type_of tree).base ≡ B) × ((limits_of tree).size ≤ size_limit rules) ×
-    ((limits_of tree).ops ≤ MAX_OPS_PER_SCRIPT) × AreFewItems rules (limits_of tree).items)
+    (rules : Rules) (tree : Tree) (limits : Limits) →
+    AreLimits tree limits → IsValidUnder rules tree ↔ IsValidWithin rules tree limits
 
 -- a sane tree is valid, not malleable and signed, and has no mixed locks and no repeated key
 abbrev pub SaneMeans : Type 0

@@ -1,6 +1,5 @@
 pub mod Formal
 pub mod Limits
-pub mod Most
 pub mod Laws
 pub mod Locks
 pub mod Keys
@@ -10,3 +9,4 @@ pub mod FirstNodes
 pub mod Refusals
 pub mod Allowed
 pub mod Scripts
+pub mod Scaffolding

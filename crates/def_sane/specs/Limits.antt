@@ -4,13 +4,14 @@ use Rattle.def_script.specs.Instruction.{opcode_count}
 use Rattle.def_tree.specs.Tree.{Tree}
 use Rattle.def_emit.specs.Emit.{emit, script_of}
 use Rattle.def_sane.specs.declared.Limits.{Limits}
-use Rattle.def_sane.specs.Formal.{Takes, FormalSat}
+use Rattle.def_sane.specs.Formal.{FormalSat}
+use Rattle.def_sane.specs.Scaffolding.Most.{most_sat, number_of}
 
 -- n is the greatest of a number over all of P, or 0 where P has none
-abbrev pub IsGreatest : (P : Takes → Type 0) → (number : Takes → ℕ) → (n : ℕ) → Type 0
-IsGreatest P number n =
-    ((t : Takes) × P t × (number t ≡ n) × ((u : Takes) → P u → number u ≤ n)) ⊎
-    (((u : Takes) → P u → ⊥) × (n ≡ 0))
+abbrev pub IsGreatest : {A : Type 0} → (P : A → Type 0) → (number : A → ℕ) → (n : ℕ) → Type 0
+IsGreatest {A = A} P number n =
+    ((t : A) × P t × (number t ≡ n) × ((u : A) → P u → number u ≤ n)) ⊎
+    (((u : A) → P u → ⊥) × (n ≡ 0))
 
 -- these are the limits of the tree. Of the formal satisfactions each number is the greatest by itself
 pub record AreLimits (tree : Tree) (limits : Limits) : Type 0 where
@@ -18,3 +19,12 @@ pub record AreLimits (tree : Tree) (limits : Limits) : Type 0 where
   pub ops : (keys : ℕ) × IsGreatest (FormalSat tree) (λ t. t.keys) keys × (limits.ops ≡ opcode_count (emit tree) + keys)
   pub items : IsGreatest (FormalSat tree) (λ t. t.items) limits.items
   pub weight : IsGreatest (FormalSat tree) (λ t. t.weight) limits.weight
+
+-- the limits of the tree: the only ones of which that is said, by the laws `limits`. How they are computed is scaffolding
+abbrev pub limits_of : Tree → Limits
+limits_of tree = record {
+  size = length (script_of tree);
+  ops = opcode_count (emit tree) + number_of (λ t. t.keys) (most_sat tree);
+  items = number_of (λ t. t.items) (most_sat tree);
+  weight = number_of (λ t. t.weight) (most_sat tree);
+}

@@ -15,8 +15,7 @@ use Rattle.def_sane.specs.declared.Unfit.{Unfit}
 use Rattle.def_sane.specs.declared.Unfit.TheVariants as unfit
 use Rattle.def_sane.specs.declared.Valid.{Valid}
 use Rattle.def_sane.specs.declared.Sane.{Sane}
-use Rattle.def_sane.specs.Limits.{AreLimits}
-use Rattle.def_sane.specs.Most.{limits_of}
+use Rattle.def_sane.specs.Limits.{AreLimits, limits_of}
 use Rattle.def_sane.specs.Locks.{mix}
 use Rattle.def_sane.specs.Keys.{repeated_key}
 
@@ -83,13 +82,15 @@ first_reason [] = None
 first_reason (None ∷ rest) = first_reason rest
 first_reason (Some reason ∷ rest) = Some reason
 
--- the first reason of 1 to 5
-abbrev pub first_unfit_valid_under : Rules → Tree → Option Unfit
-first_unfit_valid_under rules tree =
-    let limits = limits_of tree in
+-- the first reason of 1 to 5 against a tree with these limits
+abbrev pub first_unfit_valid_by : Rules → Tree → Limits → Option Unfit
+first_unfit_valid_by rules tree limits =
     first_reason (
     broken_rule (corr tree) ∷ wrong_top (corr tree) ∷
     too_large rules limits ∷ too_many_ops limits ∷ too_many_items rules limits ∷ [])
+
+abbrev pub first_unfit_valid_under : Rules → Tree → Option Unfit
+first_unfit_valid_under rules tree = first_unfit_valid_by rules tree (limits_of tree)
 
 abbrev pub first_unfit_valid : Tree → Option Unfit
 first_unfit_valid tree = first_unfit_valid_under Policy tree

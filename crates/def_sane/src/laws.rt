@@ -6,6 +6,7 @@ ghost use Rattle.def_sane.specs.Laws.{
   MixIsFirst,
   RepeatedIsFirst,
   NoneIsRepeated,
+  ReasonsAreByLimits,
   ValidMeans,
   SaneMeans,
   ValidUnderConsensus,
@@ -27,6 +28,7 @@ pub fn nodes()
 
 /// What it means that no reason stands against a miniscript.
 pub fn reasons()
+    ensures by_limits { ReasonsAreByLimits }
     ensures valid { ValidMeans }
     ensures sane { SaneMeans }
 {}

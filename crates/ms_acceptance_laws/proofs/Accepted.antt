@@ -19,16 +19,14 @@ use Rattle.def_types.specs.Typed.{type_of}
 use Rattle.def_emit.specs.Emit.{emit, script_of}
 use Rattle.def_assets.specs.Assets.{Assets, AreAssets, known}
 use Rattle.def_sane.specs.declared.Limits.{Limits}
-use Rattle.def_sane.specs.Limits.{AreLimits}
+use Rattle.def_sane.specs.Limits.{AreLimits, limits_of}
 use Rattle.def_script.specs.Instruction.{opcode_count}
 use Rattle.def_sane.specs.declared.Rules.TheVariants.{Consensus}
 use Rattle.def_sane.specs.Unfit.{IsValidUnder}
-use Rattle.def_sane.specs.Most.{limits_of}
 use Rattle.def_sane.proofs.Greatest.{limits_are_unique, limits_are_computed}
 use Rattle.def_height.specs.Formal.{Way, FormalSat}
-use Rattle.def_height.specs.Height.{IsHeight, peak}
+use Rattle.def_height.specs.Height.{IsHeight, peak, height_of}
 use Rattle.def_height.specs.Height as height_of_way
-use Rattle.def_height.specs.Highest.{height_of}
 use Rattle.def_height.proofs.Found.{height_is_computed}
 use Rattle.def_height.proofs.Bounds.{height_is_low}
 use Rattle.def_satisfaction.specs.Setting.{Setting, any, only}

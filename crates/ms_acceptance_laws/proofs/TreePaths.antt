@@ -23,7 +23,7 @@ use Rattle.def_satisfaction.specs.Rows.{EMPTY, ONE, ZEROS, row, parts}
 use Rattle.def_height.specs.declared.Highest.{Highest}
 use Rattle.def_height.specs.Course.{up, down, Course, rise}
 use Rattle.def_height.specs.Formal.{Way, Is, FormalSat, FormalDsat, FormalParts}
-use Rattle.def_height.specs.Highest.{highest_sat, highest_dsat, highest_parts}
+use Rattle.def_height.specs.Scaffolding.Highest.{highest_sat, highest_dsat, highest_parts}
 use Rattle.def_height.proofs.Courses.{ups, downs, IsHighest}
 use Rattle.def_height.proofs.Heights.{left, rise_multi, fit_children, sat_highest, dsat_highest, first_highest}
 use Rattle.ms_acceptance_laws.proofs.RowWays.{SatWay, DsatWay, PartsWay, sat_formal, dsat_formal, parts_formal}

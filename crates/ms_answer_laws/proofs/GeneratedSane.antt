@@ -15,7 +15,8 @@ use Rattle.def_sane.specs.Formal.{Takes}
 use Rattle.def_script.specs.Instruction.{opcode_count}
 use Rattle.def_sane.specs.Locks.{mix}
 use Rattle.def_sane.specs.Keys.{repeated_key}
-use Rattle.def_sane.specs.Most.{both, either, most_sat, most_dsat, most_parts, number_of, limits_of}
+use Rattle.def_sane.specs.Limits.{limits_of}
+use Rattle.def_sane.specs.Scaffolding.Most.{both, either, most_sat, most_dsat, most_parts, number_of}
 use Rattle.def_sane.specs.declared.Rules.TheVariants.{Policy}
 use Rattle.def_sane.specs.declared.Unfit.{Unfit}
 use Rattle.def_sane.specs.declared.Unfit.TheVariants as unfit

@@ -7,8 +7,8 @@ use Rattle.def_types.specs.declared.Ty.{Ty}
 use Rattle.def_types.specs.declared.Mall.{Mall}
 use Rattle.def_types.specs.Typed.{type_of, mall_of}
 use Rattle.def_sane.specs.declared.Limits.{Limits}
-use Rattle.def_sane.specs.Most.{limits_of}
-use Rattle.def_height.specs.Highest.{height_of}
+use Rattle.def_sane.specs.Limits.{limits_of}
+use Rattle.def_height.specs.Height.{height_of}
 use Rattle.ms_calls.specs.declared.facts.Facts.{Facts}
 
 -- base types are numbered in the order B, V, K, W

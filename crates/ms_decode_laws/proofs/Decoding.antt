@@ -24,7 +24,8 @@ use Rattle.def_types.proofs.Typing.{mall_is_non_malleable}
 use Rattle.def_emit.specs.Emit.{emit, script_of}
 use Rattle.def_emit.proofs.Short.{items-script_of}
 use Rattle.def_sane.specs.declared.Limits.{Limits}
-use Rattle.def_sane.specs.Most.{most_sat, number_of, limits_of}
+use Rattle.def_sane.specs.Limits.{limits_of}
+use Rattle.def_sane.specs.Scaffolding.Most.{most_sat, number_of}
 use Rattle.def_sane.specs.Locks.{mix}
 use Rattle.def_sane.specs.Keys as held
 use Rattle.def_sane.specs.Keys.{AreDistinct}

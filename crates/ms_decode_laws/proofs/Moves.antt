@@ -13,7 +13,7 @@ use Rattle.def_types.specs.Corr.{is_b, is_v, is_k, two_row, wrap_row}
 use Rattle.def_types.specs.Typed.{type_of, IsTyped}
 use Rattle.def_types.proofs.Rows.{corr_rows}
 use Rattle.def_sane.specs.Formal.{Takes}
-use Rattle.def_sane.specs.Most.{both, most_sat, most_dsat}
+use Rattle.def_sane.specs.Scaffolding.Most.{both, most_sat, most_dsat}
 use Rattle.def_decode.specs.Nested.{is_and_v, RightNested, EachHashed}
 use Rattle.ms_decode_laws.proofs.Onto.{onto}
 

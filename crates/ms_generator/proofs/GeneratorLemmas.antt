@@ -17,7 +17,7 @@ use Rattle.def_text.proofs.Complete.{one_tree}
 use Rattle.def_text.proofs.OneAnswer.{none_beside_tree}
 use Rattle.def_assets.specs.Assets.{Assets, AreAssets}
 use Rattle.def_files.specs.AssetFile.{is_signature}
-use Rattle.def_sane.specs.Most.{limits_of}
+use Rattle.def_sane.specs.Limits.{limits_of}
 use Rattle.def_sane.specs.declared.Rules.TheVariants.{Policy, Consensus}
 use Rattle.def_sane.specs.Unfit.{IsSane, IsSaneUnder, IsValidUnder}
 use Rattle.def_sane.proofs.Meanings.{sane_means_under, sane_under_consensus}

@@ -9,7 +9,7 @@ use Rattle.def_tree.specs.Size.{measure, measure_of}
 use Rattle.def_types.specs.Typed.{IsTyped, AreTyped}
 use Rattle.def_types.proofs.Facts.{typed-multi}
 use Rattle.def_height.specs.declared.Highest.{Highest}
-use Rattle.def_height.specs.Highest.{only, both, either, at_least, highest_sat, highest_dsat, highest_parts}
+use Rattle.def_height.specs.Scaffolding.Highest.{only, both, either, at_least, highest_sat, highest_dsat, highest_parts}
 use Rattle.ms_height.specs.declared.highest.Heights.{Heights}
 use Rattle.ms_height.specs.Scaffolding.Low.{IsLow, IsLowHeights}
 use Rattle.ms_height.specs.Scaffolding.Kept.{ItemsBelow, IsFitting}

@@ -4,7 +4,7 @@ use Rattle.def_tree.specs.Tree.{Trees, none, more}
 use Rattle.def_tree.specs.Range.{IsInRange}
 use Rattle.def_tree.specs.Size.{measure, measure_of}
 use Rattle.def_types.specs.Typed.{IsTyped}
-use Rattle.def_height.specs.Highest.{counted, highest_sat, highest_dsat, highest_parts}
+use Rattle.def_height.specs.Scaffolding.Highest.{counted, highest_sat, highest_dsat, highest_parts}
 use Rattle.ms_tree.specs.declared.tree.Tree.{Tree}
 use Rattle.ms_tree.specs.Shape.{shape, shapes}
 use Rattle.ms_height.specs.declared.highest.Heights.{Heights}

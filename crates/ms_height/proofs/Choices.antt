@@ -2,7 +2,7 @@
 use Rattle.std.proofs.Common.{◌≡◌, ℕ, zero, suc, ◌+◌, ◌-◌, min, max, ◌<◌, ◌≤◌, ◌⊎◌, List, [], ◌∷◌, Option, Some, None, length, refl, sym, ◌∙◌, ap, inl, inr, arith}
 use Rattle.std.proofs.lemmas.Bool.{cases_lt}
 use Rattle.def_height.specs.declared.Highest.{Highest}
-use Rattle.def_height.specs.Highest.{only, both, either}
+use Rattle.def_height.specs.Scaffolding.Highest.{only, both, either}
 use Rattle.ms_height.specs.declared.highest.Heights.{Heights}
 use Rattle.ms_height.specs.Scaffolding.Chosen.{fewer, with_child, bounded, stuck_by, free_by, base_by, more_sat, more_dsat, stuck, free, base, top, more_sats, more_dsats}
 use Rattle.ms_height.specs.Scaffolding.Choice.{items_of, reach}

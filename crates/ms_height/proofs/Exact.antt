@@ -1,7 +1,7 @@
 -- With exactly so many children satisfied: as many free ones as are wanted beside the forced ones.
 use Rattle.std.proofs.Common.{◌≡◌, ℕ, zero, suc, ◌+◌, ◌<◌, ◌⊎◌, inl, inr, List, [], ◌∷◌, Option, Some, None, refl, ◌∙◌, ap, arith}
 use Rattle.def_height.specs.declared.Highest.{Highest}
-use Rattle.def_height.specs.Highest.{both, either, counted}
+use Rattle.def_height.specs.Scaffolding.Highest.{both, either, counted}
 use Rattle.ms_height.specs.declared.highest.Heights.{Heights}
 use Rattle.ms_height.specs.Scaffolding.Chosen.{chosen, with_child, bounded, forced_by, stuck_by, free_by, forced, stuck, free}
 use Rattle.ms_height.proofs.Choices.{none_either}

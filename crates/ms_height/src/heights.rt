@@ -4,7 +4,7 @@ ghost use Rattle.def_tree.specs.Range.{MOST_MEASURE, IsInRange};
 ghost use Rattle.def_tree.specs.Size.{measure_of};
 ghost use Rattle.def_tree.specs.Tree as tree;
 ghost use Rattle.def_types.specs.Typed.{IsTyped};
-ghost use Rattle.def_height.specs.Highest.{highest_sat, highest_dsat};
+ghost use Rattle.def_height.specs.Scaffolding.Highest.{highest_sat, highest_dsat};
 ghost use Rattle.ms_tree.specs.Shape.{shape, shapes, leaf_shape};
 ghost use Rattle.ms_height.specs.Scaffolding.Kept.{heights_in, heights_of};
 ghost use Rattle.ms_height.specs.Scaffolding.Low.{IsLowHeights};

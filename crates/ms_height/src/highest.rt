@@ -1,6 +1,6 @@
 //! Greatest items and heights, put together.
 ghost use Rattle.std.specs.Prelude.{◌≡◌, ◌<◌, ◌^◌};
-ghost use Rattle.def_height.specs.Highest as model;
+ghost use Rattle.def_height.specs.Scaffolding.Highest as model;
 ghost use Rattle.ms_height.specs.Scaffolding.Low.{IsLow};
 
 use def_height::Highest;

@@ -4,7 +4,7 @@ ghost use Rattle.def_tree.specs.Range.{IsInRange};
 ghost use Rattle.def_tree.specs.Size.{measure};
 ghost use Rattle.def_types.specs.Corr.{corr};
 ghost use Rattle.def_height.specs.Height.{IsHeight};
-ghost use Rattle.def_height.specs.Highest.{height_of_option, highest_sat};
+ghost use Rattle.def_height.specs.Scaffolding.Highest.{height_of_option, highest_sat};
 ghost use Rattle.ms_tree.specs.Shape.{shape};
 
 use crate::heights::heights;

@@ -8,9 +8,8 @@ use Rattle.def_types.specs.Corr.{corr}
 use Rattle.def_types.specs.Typed.{type_of, IsTyped, mall_of}
 use Rattle.def_types.proofs.Typing.{corr_is_typed, mall_is_non_malleable}
 use Rattle.def_sane.specs.declared.Limits.{Limits}
-use Rattle.def_sane.specs.Limits.{AreLimits}
+use Rattle.def_sane.specs.Limits.{AreLimits, limits_of}
 use Rattle.def_sane.specs.declared.Sane.{Sane}
-use Rattle.def_sane.specs.Most.{limits_of}
 use Rattle.def_sane.specs.declared.Rules.{Rules}
 use Rattle.def_sane.specs.declared.Rules.TheVariants.{Policy, Consensus}
 use Rattle.def_sane.specs.Unfit.{IsKnownSaneUnder}

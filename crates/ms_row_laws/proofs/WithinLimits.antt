@@ -12,13 +12,12 @@ use Rattle.def_tree.specs.Range.{IsWritable, AreWritable}
 use Rattle.def_emit.specs.Emit.{emit}
 use Rattle.def_assets.specs.Assets.{Assets, AreAssets}
 use Rattle.def_sane.specs.declared.Limits.{Limits}
-use Rattle.def_sane.specs.Limits.{IsGreatest, AreLimits}
+use Rattle.def_sane.specs.Limits.{IsGreatest, AreLimits, limits_of}
 use Rattle.def_script.specs.Instruction.{opcode_count}
 use Rattle.def_sane.specs.declared.Rules.TheVariants.{Consensus}
 use Rattle.def_sane.specs.Unfit.{IsValidUnder}
 use Rattle.def_sane.specs.Formal.{Takes, FormalSat, FormalDsat, FormalParts}
 use Rattle.def_sane.proofs.Meanings.{valid_means_under}
-use Rattle.def_sane.specs.Most.{limits_of}
 use Rattle.def_sane.proofs.Greatest.{limits_are_unique, limits_are_computed}
 use Rattle.def_height.proofs.Bounds.{items_are_within_ops}
 use Rattle.def_script.specs.Witness.{weight}

@@ -10,7 +10,7 @@ use Rattle.def_tree.specs.Size.{measure, measure_of}
 use Rattle.def_types.specs.Corr.{multi_row}
 use Rattle.def_types.specs.Typed.{IsTyped, AreTyped}
 use Rattle.def_sane.specs.Formal.{Takes, one, empty}
-use Rattle.def_sane.specs.Most.{both, either, most_sat, most_dsat, most_parts}
+use Rattle.def_sane.specs.Scaffolding.Most.{both, either, most_sat, most_dsat, most_parts}
 use Rattle.ms_sane.specs.declared.takes.Most as rust
 use Rattle.ms_sane.specs.declared.takes.Takes as rust_takes
 use Rattle.ms_sane.specs.Scaffolding.Takes.{taken, IsLightOption, IsLightMost}

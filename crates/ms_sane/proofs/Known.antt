@@ -8,8 +8,7 @@ use Rattle.def_types.specs.Typed.{type_of}
 use Rattle.def_types.proofs.Typing.{corr_is_typed}
 use Rattle.def_sane.specs.declared.Limits.{Limits}
 use Rattle.def_sane.specs.declared.Rules.{Rules}
-use Rattle.def_sane.specs.Limits.{AreLimits}
-use Rattle.def_sane.specs.Most.{limits_of}
+use Rattle.def_sane.specs.Limits.{AreLimits, limits_of}
 use Rattle.def_sane.specs.Laws.{AreFewItems}
 use Rattle.def_script.specs.Limits.{MAX_OPS_PER_SCRIPT}
 use Rattle.def_sane.specs.Unfit.{size_limit, are_too_many, IsKnownValidUnder}

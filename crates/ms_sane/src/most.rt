@@ -4,7 +4,7 @@ ghost use Rattle.def_tree.specs.Range.{MOST_MEASURE, IsInRange};
 ghost use Rattle.def_tree.specs.Size.{measure_of};
 ghost use Rattle.def_tree.specs.Tree as tree;
 ghost use Rattle.def_types.specs.Typed.{IsTyped};
-ghost use Rattle.def_sane.specs.Most.{most_sat, most_dsat};
+ghost use Rattle.def_sane.specs.Scaffolding.Most.{most_sat, most_dsat};
 ghost use Rattle.ms_tree.specs.Shape.{shape, shapes, leaf_shape};
 ghost use Rattle.ms_sane.specs.Scaffolding.Takes.{taken, IsLightMost};
 ghost use Rattle.ms_sane.specs.Scaffolding.Most.{IsReady};

@@ -3,8 +3,8 @@ ghost use Rattle.std.specs.Prelude.{◌≡◌, ◌*◌, ◌≤◌, IsOk, vec_len
 ghost use Rattle.def_tree.specs.Range.{IsInRange};
 ghost use Rattle.def_tree.specs.Size.{measure};
 ghost use Rattle.def_types.specs.Corr.{corr};
-ghost use Rattle.def_sane.specs.Limits.{AreLimits};
-ghost use Rattle.def_sane.specs.Most.{number_of, most_sat, limits_of};
+ghost use Rattle.def_sane.specs.Limits.{AreLimits, limits_of};
+ghost use Rattle.def_sane.specs.Scaffolding.Most.{number_of, most_sat};
 ghost use Rattle.ms_tree.specs.Shape.{shape};
 ghost use Rattle.ms_sane.specs.Scaffolding.Takes.{IsLight};
 ghost use Rattle.ms_sane.specs.Short.{IsExtent};

@@ -10,7 +10,7 @@ use Rattle.def_tree.specs.Tree.{Tree}
 use Rattle.def_tree.specs.Range.{IsWritable}
 use Rattle.def_assets.specs.Assets.{Assets, known}
 use Rattle.def_sane.specs.Keys.{keys}
-use Rattle.def_sane.specs.Most.{limits_of}
+use Rattle.def_sane.specs.Limits.{limits_of}
 use Rattle.def_sane.specs.declared.Rules.TheVariants.{Consensus}
 use Rattle.def_sane.proofs.Meanings.{valid_means_under, sane_means_under}
 use Rattle.def_sane.proofs.Greatest.{limits_are_computed}

@@ -9,7 +9,7 @@ use Rattle.def_tree.specs.Range.{IsWritable}
 use Rattle.def_assets.specs.Assets.{Assets, AreAssets}
 use Rattle.def_emit.specs.Emit.{emit}
 use Rattle.def_script.specs.Instruction.{opcode_count}
-use Rattle.def_sane.specs.Most.{limits_of}
+use Rattle.def_sane.specs.Limits.{limits_of}
 use Rattle.def_sane.specs.declared.Rules.TheVariants.{Consensus}
 use Rattle.def_sane.specs.Unfit.{IsSaneUnder}
 use Rattle.def_sane.proofs.Greatest.{limits_are_computed}

@@ -17,13 +17,13 @@ use Rattle.def_files.specs.AssetFile.{assets_of}
 use Rattle.def_files.specs.Laws.{AreFewAssets}
 use Rattle.def_files.proofs.Given.{asset_file_gives_assets}
 use Rattle.def_sane.specs.declared.Unfit.{Unfit}
-use Rattle.def_sane.specs.Most.{limits_of}
+use Rattle.def_sane.specs.Limits.{limits_of}
 use Rattle.def_sane.specs.declared.Rules.{Rules}
 use Rattle.def_sane.specs.declared.Rules.TheVariants.{Consensus}
 use Rattle.def_sane.specs.Unfit.{first_unfit_under, first_unfit_valid_under, IsValidUnder, IsSaneUnder}
 use Rattle.def_sane.proofs.Greatest.{limits_are_computed}
 use Rattle.def_sane.proofs.Meanings.{valid_means_under, sane_means_under, valid_under_consensus, sane_under_consensus}
-use Rattle.def_height.specs.Highest.{height_of}
+use Rattle.def_height.specs.Height.{height_of}
 use Rattle.def_height.proofs.Found.{height_is_computed}
 use Rattle.def_script.specs.Witness.{weight}
 use Rattle.def_satisfaction.specs.Satisfaction.{given_of, Sat, Holds}

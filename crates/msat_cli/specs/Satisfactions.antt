@@ -18,10 +18,8 @@ use Rattle.def_sane.specs.declared.Rules.{Rules}
 use Rattle.def_sane.specs.declared.Unfit.{Unfit}
 use Rattle.def_assets.specs.Assets.{Assets}
 use Rattle.def_files.specs.AssetFile.{assets_of}
-use Rattle.def_sane.specs.Limits.{AreLimits}
-use Rattle.def_sane.specs.Most.{limits_of}
-use Rattle.def_height.specs.Height.{IsHeight}
-use Rattle.def_height.specs.Highest.{height_of}
+use Rattle.def_sane.specs.Limits.{AreLimits, limits_of}
+use Rattle.def_height.specs.Height.{IsHeight, height_of}
 use Rattle.def_satisfaction.specs.Satisfaction.{given_of, Sat, Holds}
 use Rattle.def_choice.specs.NonMalleable.{IsAccepted, Fresh, NonMalleable, given_with}
 use Rattle.def_choice.specs.Tight.{Tight}

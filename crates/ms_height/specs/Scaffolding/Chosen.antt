@@ -1,7 +1,7 @@
 -- The children of a threshold, by how many of them may be satisfied and how many dissatisfied.
 use Rattle.std.specs.Prelude.{ℕ, zero, suc, ◌+◌, ◌-◌, min, max, List, [], ◌∷◌, Option, Some, None}
 use Rattle.def_height.specs.declared.Highest.{Highest}
-use Rattle.def_height.specs.Highest.{only, both, either, counted, no_children}
+use Rattle.def_height.specs.Scaffolding.Highest.{only, both, either, counted, no_children}
 use Rattle.ms_height.specs.declared.highest.Heights.{Heights}
 
 -- so many of the children are satisfied and the others dissatisfied

@@ -3,7 +3,7 @@ use Rattle.std.specs.Prelude.{ℕ, zero, suc, ◌<◌, ⊤, List, [], ◌∷◌,
 use Rattle.std.specs.Int.RustNames.{unsigned_abs}
 use Rattle.def_tree.specs.Tree.{Trees, none, more}
 use Rattle.def_height.specs.declared.Highest.{Highest}
-use Rattle.def_height.specs.Highest.{highest_sat, highest_dsat}
+use Rattle.def_height.specs.Scaffolding.Highest.{highest_sat, highest_dsat}
 use Rattle.ms_choice.specs.declared.slot.Slot.{Slot}
 use Rattle.ms_height.specs.declared.highest.Heights.{Heights}
 

@@ -4,7 +4,7 @@ use Rattle.def_tree.specs.Tree as model
 use Rattle.def_tree.specs.Range.{IsInRange}
 use Rattle.def_tree.specs.Size.{measure}
 use Rattle.def_types.specs.Typed.{IsTyped}
-use Rattle.def_sane.specs.Most.{most_sat, most_dsat}
+use Rattle.def_sane.specs.Scaffolding.Most.{most_sat, most_dsat}
 use Rattle.ms_tree.specs.declared.tree.Tree.{Tree}
 use Rattle.ms_tree.specs.Shape.{shape}
 use Rattle.ms_choice.specs.declared.children.Number.{Number}

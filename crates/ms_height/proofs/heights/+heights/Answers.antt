@@ -2,7 +2,7 @@ use Rattle.std.proofs.Common.{◌<◌, ◌∙◌, ap, subst, sym, arith, length}
 use Rattle.def_tree.specs.Tree as model
 use Rattle.def_tree.specs.Size.{nodes}
 use Rattle.def_types.proofs.Facts.{typed-multi}
-use Rattle.def_height.specs.Highest.{at_least, highest_sat, highest_dsat}
+use Rattle.def_height.specs.Scaffolding.Highest.{at_least, highest_sat, highest_dsat}
 use Rattle.ms_tree.specs.Shape.{shape, shapes}
 use Rattle.ms_tree.proofs.Parts.{nodes_at, in_range_at}
 use Rattle.ms_sane.proofs.Children.{typed_at, typed_children}

@@ -1,6 +1,6 @@
 use Rattle.std.proofs.Common.{◌≡◌, ◌-◌, ◌<◌, suc, length, drop, ◌∙◌, ap, subst, sym, List, ℕ, arith}
 use Rattle.std.proofs.lemmas.List.{drop_all}
-use Rattle.def_height.specs.Highest.{only}
+use Rattle.def_height.specs.Scaffolding.Highest.{only}
 use Rattle.ms_height.specs.declared.highest.Heights.{Heights}
 use Rattle.ms_height.specs.Scaffolding.Choice.{IsChoice}
 use Rattle.ms_height.specs.Scaffolding.Kept.{ItemsBelow, IsFitting, heights_in}

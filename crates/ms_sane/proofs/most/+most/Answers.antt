@@ -2,7 +2,7 @@ use Rattle.std.proofs.Common.{◌≡◌, ◌-◌, ◌∙◌, ap, subst, sym, ari
 use Rattle.std.proofs.lemmas.List.{take_all}
 use Rattle.def_tree.specs.Tree as model
 use Rattle.def_tree.specs.Size.{nodes}
-use Rattle.def_sane.specs.Most.{most_sat, most_dsat}
+use Rattle.def_sane.specs.Scaffolding.Most.{most_sat, most_dsat}
 use Rattle.ms_tree.specs.Shape.{shape}
 use Rattle.ms_tree.proofs.Parts.{nodes_at, in_range_at}
 use Rattle.ms_sane.specs.Scaffolding.Most.{IsReady, children_in}

@@ -1,5 +1,5 @@
 use Rattle.std.proofs.Common.{◌≡◌, ◌+◌, max, ◌∙◌, ap, arith}
-use Rattle.def_height.specs.Highest.{only}
+use Rattle.def_height.specs.Scaffolding.Highest.{only}
 use Rattle.ms_height.specs.Scaffolding.Choice.{items_of}
 use Rattle.ms_height.specs.Scaffolding.Chosen.{more_sats, more_dsats}
 use Rattle.ms_height.proofs.Choices.{fixed_child, length_sats, length_dsats}

@@ -1,5 +1,5 @@
 use Rattle.std.proofs.Common.{◌≡◌, ℕ, ◌+◌, max, ◌∷◌, ◌∙◌, ap, subst, arith}
-use Rattle.def_height.specs.Highest.{only}
+use Rattle.def_height.specs.Scaffolding.Highest.{only}
 use Rattle.ms_height.specs.Scaffolding.Choice.{items_of, reach}
 use Rattle.ms_height.specs.Scaffolding.Chosen.{more_sats, more_dsats}
 use Rattle.ms_height.specs.Scaffolding.Tops.{IsTop}

@@ -1,4 +1,4 @@
--- The height of a miniscript, computed. That this is its height is a law.
+-- The most items and elements of formal satisfactions, computed.
 use Rattle.std.specs.Prelude.{ℕ, zero, suc, ◌+◌, max, Option, Some, None, length}
 use Rattle.def_tree.specs.declared.Two.TheVariants as kind
 use Rattle.def_tree.specs.declared.Wrapper.TheVariants as wrapper
@@ -94,7 +94,3 @@ abbrev mutual
 abbrev pub height_of_option : Option Highest → ℕ
 height_of_option None = 0
 height_of_option (Some a) = a.height
-
--- the height of a tree that has a correctness type
-abbrev pub height_of : Tree → ℕ
-height_of tree = height_of_option (highest_sat tree)
