@@ -15,3 +15,5 @@ pub mod Rules
 pub mod Counts
 pub mod Rows
 pub mod StrictBounds
+mod SeenRows
+mod Weighed
