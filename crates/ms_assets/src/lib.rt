@@ -23,6 +23,4 @@ mod members;
 mod preimage;
 mod run_file;
 mod signatures;
-#[cfg(test)]
-mod tests;
 mod texts;

@@ -10,5 +10,3 @@ mod fields;
 mod hash_types;
 mod kind;
 mod signed;
-#[cfg(test)]
-mod tests;

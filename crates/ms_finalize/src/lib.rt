@@ -6,6 +6,4 @@ pub use settled::{Settled, settle};
 pub use witness::final_witness;
 
 mod settled;
-#[cfg(test)]
-mod tests;
 mod witness;

@@ -22,6 +22,4 @@ mod repeats;
 mod signature;
 mod source;
 mod stop;
-#[cfg(test)]
-mod tests;
 mod transaction;

@@ -18,8 +18,6 @@ mod inputs;
 mod names;
 mod pieces;
 mod refusals;
-#[cfg(test)]
-mod tests;
 mod transactions;
 mod trees;
 mod weights;

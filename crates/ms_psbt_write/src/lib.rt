@@ -14,5 +14,3 @@ mod maps;
 mod network;
 mod pieces;
 mod psbt_text;
-#[cfg(test)]
-mod tests;

@@ -6,5 +6,3 @@ pub use shared::SharedHashes;
 
 mod pieces;
 mod shared;
-#[cfg(test)]
-mod tests;

@@ -1,4 +1,5 @@
 mod AddedLemmas
+pub mod SeenLemmas
 pub mod WordLemmas
 pub mod NameLemmas
 pub mod PlaceLemmas

@@ -123,7 +123,7 @@ module _ (w : Bytes) (name : ℕ) (x y : Tree) (fs : List Frame) (os : List ℕ)
 
 -- ---- how large a tree is with a letter before it
 
-some_depth : (x : Tree) → 1 ≤ depth x
+pub some_depth : (x : Tree) → 1 ≤ depth x
 some_depth just_0 = omega arith
 some_depth just_1 = omega arith
 some_depth (pk_k key) = omega arith

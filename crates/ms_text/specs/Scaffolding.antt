@@ -7,4 +7,5 @@ pub mod Leaves
 pub mod Room
 pub mod Runs
 pub mod Bare
+pub mod Seen
 pub mod Forms

@@ -83,10 +83,22 @@ pub fn named_leaf<'a>(
 {
     let x = new_leaf(arena, value)?;
     match name {
-        LeafName::Pk | LeafName::Pkh => Ok(wrap(arena, Wrapper::C, x)?),
+        LeafName::Pk | LeafName::Pkh => new_wrap(arena, Wrapper::C, x),
         LeafName::PkK | LeafName::PkH | LeafName::Older | LeafName::After | LeafName::Hash(_) => {
             Ok(x)
         }
+    }
+}
+
+/// Adds the offsets of the nodes that a letter puts behind its expression.
+fn add_letter_offsets(offsets: &mut Vec<u32>, letter: Letter, at: usize) -> Result<(), TextFault>
+    requires { at < 2 ^ 32 }
+    ensures added { OnOk result (offsets.new.items ≡ offsets.old.items ++ offsets_behind (letter_of letter) at) }
+    ensures memory { IfErr result (λ e. e ≡ TextFault.Memory) }
+{
+    match letter {
+        Letter::Wrapper(_) | Letter::L => add_offset(offsets, at),
+        Letter::T | Letter::U => add_twice(offsets, at),
     }
 }
 
@@ -106,23 +118,21 @@ impl<'a> Reader<'a, '_> {
         ensures added { OnOk result (offsets.new.items ≡ offsets.old.items ++ offsets_behind (letter_of letter) at) }
         ensures memory { IfErr result (λ e. e ≡ TextFault.Memory) }
     {
+        add_letter_offsets(offsets, letter, at)?;
+        self.new_lettered(letter, x)
+    }
+
+    /// The tree of an expression with a letter before it.
+    fn new_lettered(&self, letter: Letter, x: Tree<'a>) -> Result<Tree<'a>, TextFault>
+        requires { HasRoom (shape x) }
+        ensures tree { IfOk result (λ t. shape t ≡ letter_tree (letter_of letter) (shape x.entry)) }
+        ensures memory { IfErr result (λ e. e ≡ TextFault.Memory) }
+    {
         match letter {
-            Letter::Wrapper(wrapper) => {
-                add_offset(offsets, at)?;
-                Ok(wrap(self.arena, wrapper, x)?)
-            }
-            Letter::T => {
-                add_twice(offsets, at)?;
-                Ok(two(self.arena, Two::AndV, x, self.one())?)
-            }
-            Letter::L => {
-                add_offset(offsets, at)?;
-                Ok(two(self.arena, Two::OrI, self.zero(), x)?)
-            }
-            Letter::U => {
-                add_twice(offsets, at)?;
-                Ok(two(self.arena, Two::OrI, x, self.zero())?)
-            }
+            Letter::Wrapper(wrapper) => new_wrap(self.arena, wrapper, x),
+            Letter::T => new_two(self.arena, Two::AndV, x, self.one()),
+            Letter::L => new_two(self.arena, Two::OrI, self.zero(), x),
+            Letter::U => new_two(self.arena, Two::OrI, x, self.zero()),
         }
     }
 
@@ -133,10 +143,37 @@ impl<'a> Reader<'a, '_> {
         ensures memory { IfErr result (λ e. e ≡ TextFault.Memory) }
     {
         match pair {
-            Pair::Two(kind) => Ok(two(self.arena, kind, x, y)?),
-            Pair::AndN => Ok(and_or(self.arena, x, y, self.zero())?),
+            Pair::Two(kind) => new_two(self.arena, kind, x, y),
+            Pair::AndN => new_and_or(self.arena, x, y, self.zero()),
         }
     }
+}
+
+/// The tree of a wrapper.
+fn new_wrap<'a>(
+    arena: &'a Bump<Global>,
+    wrapper: Wrapper,
+    x: Tree<'a>,
+) -> Result<Tree<'a>, TextFault>
+    requires { IsInRange (model.wrap wrapper (shape x)) }
+    ensures tree { IfOk result (λ t. shape t ≡ model.wrap wrapper (shape x.entry)) }
+    ensures memory { IfErr result (λ e. e ≡ TextFault.Memory) }
+{
+    Ok(wrap(arena, wrapper, x)?)
+}
+
+/// The tree of a fragment of two children of this kind.
+fn new_two<'a>(
+    arena: &'a Bump<Global>,
+    kind: Two,
+    x: Tree<'a>,
+    y: Tree<'a>,
+) -> Result<Tree<'a>, TextFault>
+    requires { IsInRange (model.two kind (shape x) (shape y)) }
+    ensures tree { IfOk result (λ t. shape t ≡ model.two kind (shape x.entry) (shape y.entry)) }
+    ensures memory { IfErr result (λ e. e ≡ TextFault.Memory) }
+{
+    Ok(two(arena, kind, x, y)?)
 }
 
 /// The tree `andor(x,y,z)`.

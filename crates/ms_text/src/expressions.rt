@@ -1,12 +1,14 @@
 //! The reading of expressions: one method for each group of forms. The depth counts the names and letters that enclose a
 //! place.
 ghost use Rattle.std.specs.Prelude.{◌≡◌, ◌+◌, ◌<◌, ◌≤◌, true, length, is_some, IfOk};
+ghost use Rattle.def_tree.specs.Range.{IsInRange};
+ghost use Rattle.def_tree.specs.Tree as model;
 ghost use Rattle.def_text.specs.Refusal.{MOST_WRITTEN_DEPTH};
 ghost use Rattle.def_text.specs.Scaffolding.Reader as machine;
-ghost use Rattle.ms_text.specs.Scaffolding.Forms.{ReadsWanted, ReadsForm, ReadsLetters, ReadsBehind, ReadsChildren};
+ghost use Rattle.ms_text.specs.Scaffolding.Forms.{ReadsWanted, ReadsForm, ReadsLetters, ReadsBehind, ReadsChildren, ReadsClosed};
 ghost use Rattle.ms_text.specs.Scaffolding.Names.{pair_of};
 ghost use Rattle.ms_text.specs.Scaffolding.Place.{IsPlace};
-ghost use Rattle.ms_text.specs.Scaffolding.Room.{IsPart, AreParts};
+ghost use Rattle.ms_text.specs.Scaffolding.Room.{IsPart, AreParts, HaveRoom};
 ghost use Rattle.ms_tree.specs.Shape.{shape, shapes};
 
 use crate::arguments::number_at;
@@ -149,8 +151,28 @@ impl<'a> Reader<'a, '_> {
         let x = self.child(Mark::Open, at, depth + 1, offsets)?;
         let y = self.child(Mark::Comma, x.end, depth + 1, offsets)?;
         let z = self.child(Mark::Comma, y.end, depth + 1, offsets)?;
+        self.closed_and_or(name, x.tree, y.tree, z, offsets)
+    }
+
+    /// The `)` that has to stand behind the children of an `andor`, of which `z` is the last, and its tree.
+    fn closed_and_or(
+        &self,
+        name: usize,
+        x: Tree<'a>,
+        y: Tree<'a>,
+        z: Part<'a>,
+        offsets: &mut Vec<u32>,
+    ) -> Result<Part<'a>, TextFault>
+        requires place { IsPlace self.now.text.now z.end }
+        requires before { name < z.end }
+        requires range { IsInRange (model.and_or (shape x) (shape y) (shape z.tree)) }
+        ensures tree { IfOk result (λ r. shape r.tree ≡ model.and_or (shape x.entry) (shape y.entry) (shape z.entry.tree)) }
+        ensures end { IfOk result (λ r. r.end ≡ z.entry.end + 1) }
+        ensures place { IfOk result (λ r. IsPlace self.now.text.now r.end) }
+        ensures reads { ReadsClosed (machine.ended (shape z.entry.tree)) (machine.andor_third (shape x.entry) (shape y.entry) name) offsets.old.items offsets.new.items self.now.text.now z.entry.end result }
+    {
         let end = behind_mark(self.text, z.end, Mark::Close)?;
-        let tree = new_and_or(self.arena, x.tree, y.tree, z.tree)?;
+        let tree = new_and_or(self.arena, x, y, z.tree)?;
         add_offset(offsets, name)?;
         Ok(Part { tree, end })
     }
@@ -173,8 +195,28 @@ impl<'a> Reader<'a, '_> {
     {
         let x = self.child(Mark::Open, at, depth + 1, offsets)?;
         let y = self.child(Mark::Comma, x.end, depth + 1, offsets)?;
+        self.closed_pair(pair, name, x.tree, y, offsets)
+    }
+
+    /// The `)` that has to stand behind the children of a fragment of two, of which `y` is the last, and its tree.
+    fn closed_pair(
+        &self,
+        pair: Pair,
+        name: usize,
+        x: Tree<'a>,
+        y: Part<'a>,
+        offsets: &mut Vec<u32>,
+    ) -> Result<Part<'a>, TextFault>
+        requires place { IsPlace self.now.text.now y.end }
+        requires before { name < y.end }
+        requires room { HaveRoom (shape x) (shape y.tree) }
+        ensures tree { IfOk result (λ r. shape r.tree ≡ machine.pair_tree (pair_of pair) (shape x.entry) (shape y.entry.tree)) }
+        ensures end { IfOk result (λ r. r.end ≡ y.entry.end + 1) }
+        ensures place { IfOk result (λ r. IsPlace self.now.text.now r.end) }
+        ensures reads { ReadsClosed (machine.ended (shape y.entry.tree)) (machine.pair_second (pair_of pair) (shape x.entry) name) offsets.old.items offsets.new.items self.now.text.now y.entry.end result }
+    {
         let end = behind_mark(self.text, y.end, Mark::Close)?;
-        let tree = self.new_pair(pair, x.tree, y.tree)?;
+        let tree = self.new_pair(pair, x, y.tree)?;
         add_pair_offsets(offsets, pair, name)?;
         Ok(Part { tree, end })
     }

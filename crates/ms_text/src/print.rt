@@ -10,6 +10,7 @@ ghost use Rattle.def_text.specs.Word.{hash_name, two_name};
 ghost use Rattle.def_tree.specs.Range.{IsInRange};
 ghost use Rattle.def_tree.specs.Tree as model;
 ghost use Rattle.ms_text.specs.Added.{AddsFront};
+ghost use Rattle.ms_text.specs.Scaffolding.Seen.{is_lettered};
 ghost use Rattle.ms_tree.specs.Shape.{shape, shapes, leaf_shape};
 
 use def_tree::{HashKind, Two, Wrapper};
@@ -71,7 +72,8 @@ pub fn copy_out(alloc: Global, tree: &Tree<'_>) -> Result<Vec<u8>, AllocError>
     Ok(print_text(alloc, tree)?.into_bytes())
 }
 
-/// Adds a tree's text. `colon` is the colon of the letters before it, or nothing where none stand there.
+/// Adds a tree's text. `colon` is the colon of the letters before it, or nothing where none stand there; a letter has none
+/// before it.
 #[cycle(print)]
 fn print_tree(
     alloc: Global,
@@ -82,32 +84,60 @@ fn print_tree(
     requires { IsInRange (shape tree.now) }
     ensures { OnOk result (string_bytes out.new ≡ string_bytes out.old ++ printed_behind colon.now (shape tree.now)) }
 {
+    if !is_wrap(tree) {
+        out.push_str(colon)?;
+    }
+    print_bare(alloc, out, tree)
+}
+
+/// Whether a tree is a wrapper on another one.
+#[tactic(auto, using(crate::proofs::SeenLemmas::leaf_is_bare))]
+fn is_wrap(tree: &Tree<'_>) -> bool
+    requires { IsInRange (shape tree.now) }
+    ensures { result ≡ is_lettered (shape tree.now) }
+{
+    match tree.view() {
+        View::Wrap(..) => true,
+        View::Leaf(_) | View::AndOr(..) | View::Two(..) | View::Thresh(..) | View::Multi(..) =>
+            false,
+    }
+}
+
+/// Adds a tree's text, with no colon before it.
+#[cycle(print)]
+fn print_bare(alloc: Global, out: &mut String, tree: &Tree<'_>) -> Result<(), AllocError>
+    requires { IsInRange (shape tree.now) }
+    ensures { OnOk result (string_bytes out.new ≡ string_bytes out.old ++ printed (shape tree.now)) }
+{
     match tree.view() {
         View::Wrap(wrapper, x) => {
             out.push_str(wrapper_letter(wrapper))?;
             print_tree(alloc, out, x, ":")
         }
-        View::Leaf(leaf) => {
-            out.push_str(colon)?;
-            print_leaf(alloc, out, leaf)
-        }
-        View::AndOr(x, y, z) => {
-            out.push_str(colon)?;
-            print_and_or(alloc, out, x, y, z)
-        }
-        View::Two(kind, x, y) => {
-            out.push_str(colon)?;
-            print_two(alloc, out, kind, x, y)
-        }
-        View::Thresh(k, children) => {
-            out.push_str(colon)?;
-            print_thresh(alloc, out, k, children)
-        }
-        View::Multi(k, keys) => {
-            out.push_str(colon)?;
-            print_multi(alloc, out, k, keys)
-        }
+        View::Leaf(leaf) => print_leaf(alloc, out, leaf),
+        View::AndOr(x, y, z) => print_and_or(alloc, out, x, y, z),
+        View::Two(kind, x, y) => print_two(alloc, out, kind, x, y),
+        View::Thresh(k, children) => print_thresh(alloc, out, k, children),
+        View::Multi(k, keys) => print_multi(alloc, out, k, keys),
     }
+}
+
+/// Adds a name and the `(` behind it.
+fn open_call(out: &mut String, name: &str) -> Result<(), AllocError>
+    ensures { OnOk result (string_bytes out.new ≡ string_bytes out.old ++ (name.now ++ codes "(")) }
+{
+    out.push_str(name)?;
+    out.push_str("(")
+}
+
+/// Adds a comma and a tree's text.
+#[cycle(print)]
+fn print_further(alloc: Global, out: &mut String, tree: &Tree<'_>) -> Result<(), AllocError>
+    requires { IsInRange (shape tree.now) }
+    ensures { OnOk result (string_bytes out.new ≡ string_bytes out.old ++ (codes "," ++ printed (shape tree.now))) }
+{
+    out.push_str(",")?;
+    print_tree(alloc, out, tree, "")
 }
 
 #[cycle(print)]
@@ -123,13 +153,10 @@ fn print_and_or(
     requires z { IsInRange (shape z.now) }
     ensures { OnOk result (string_bytes out.new ≡ string_bytes out.old ++ printed (model.and_or (shape x.now) (shape y.now) (shape z.now))) }
 {
-    out.push_str(fragment_rows!(name_of!(AndOr)))?;
-    out.push_str("(")?;
+    open_call(out, fragment_rows!(name_of!(AndOr)))?;
     print_tree(alloc, out, x, "")?;
-    out.push_str(",")?;
-    print_tree(alloc, out, y, "")?;
-    out.push_str(",")?;
-    print_tree(alloc, out, z, "")?;
+    print_further(alloc, out, y)?;
+    print_further(alloc, out, z)?;
     out.push_str(")")
 }
 
@@ -145,11 +172,9 @@ fn print_two(
     requires y { IsInRange (shape y.now) }
     ensures { OnOk result (string_bytes out.new ≡ string_bytes out.old ++ printed (model.two kind (shape x.now) (shape y.now))) }
 {
-    out.push_str(name_of_two(kind))?;
-    out.push_str("(")?;
+    open_call(out, name_of_two(kind))?;
     print_tree(alloc, out, x, "")?;
-    out.push_str(",")?;
-    print_tree(alloc, out, y, "")?;
+    print_further(alloc, out, y)?;
     out.push_str(")")
 }
 
@@ -163,12 +188,10 @@ fn print_thresh(
     requires { All (λ x. IsInRange (shape x)) children.now }
     ensures { OnOk result (string_bytes out.new ≡ string_bytes out.old ++ printed (model.thresh k (shapes children.now))) }
 {
-    out.push_str(fragment_rows!(name_of!(Thresh)))?;
-    out.push_str("(")?;
+    open_call(out, fragment_rows!(name_of!(Thresh)))?;
     print_number(alloc, out, k)?;
     for x in children {
-        out.push_str(",")?;
-        print_tree(alloc, out, x, "")?;
+        print_further(alloc, out, x)?;
     }
     out.push_str(")")
 }
@@ -176,8 +199,7 @@ fn print_thresh(
 fn print_multi(alloc: Global, out: &mut String, k: u64, keys: &[Key]) -> Result<(), AllocError>
     ensures { OnOk result (string_bytes out.new ≡ string_bytes out.old ++ printed (model.multi k keys.now)) }
 {
-    out.push_str(fragment_rows!(name_of!(Multi)))?;
-    out.push_str("(")?;
+    open_call(out, fragment_rows!(name_of!(Multi)))?;
     print_number(alloc, out, k)?;
     for key in keys {
         out.push_str(",")?;

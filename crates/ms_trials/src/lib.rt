@@ -4,6 +4,8 @@
 #![tactic(auto)]
 
 #[cfg(test)]
+mod assets_tests;
+#[cfg(test)]
 mod audit_tests;
 #[cfg(test)]
 mod height_tests;

@@ -6,7 +6,7 @@ use Rattle.def_tree.specs.Tree as tree
 use Rattle.def_text.specs.declared.TextFault.{TextFault}
 use Rattle.def_text.specs.Letter.{Letter}
 use Rattle.def_text.specs.Token.{Token}
-use Rattle.def_text.specs.Scaffolding.Reader.{Want, expression, colon_next, thresh_comma, multi_comma, ended, Frame, State, letters_of, run_frames, run_offsets, begin_form, leaf_of as spelled_by, Outcome, outcome}
+use Rattle.def_text.specs.Scaffolding.Reader.{Want, expression, colon_next, leaf_open, thresh_comma, multi_comma, ended, Frame, State, letters_of, run_frames, run_offsets, begin_form, leaf_of as spelled_by, Outcome, outcome}
 use Rattle.ms_tree.specs.declared.tree.Tree.{Tree}
 use Rattle.ms_tree.specs.declared.tree.Leaf.{Leaf}
 use Rattle.ms_tree.specs.Shape.{shape, shapes}
@@ -54,6 +54,10 @@ abbrev pub ReadsBehind : Mark → (depth : ℕ) → (old new : List ℕ) → Byt
 ReadsBehind mark depth old new text at result =
     (s : State) (fs : List Frame) → Takes (mark_read mark) s (λ u. (expression, fs, old)) → length fs ≡ depth → ReadsTree s fs new text at result
 
+-- the `)` of a form is read behind its last child, for which this frame waited, behind any others
+abbrev pub ReadsClosed : Want → Frame → (old new : List ℕ) → Bytes → (at : ℕ) → Result Part TextFault → Type 0
+ReadsClosed want frame old new text at result = (fs : List Frame) → ReadsTree (want, frame ∷ fs, old) fs new text at result
+
 -- the children of a `thresh` are read, behind its number
 abbrev pub ReadsChildren : (depth : ℕ) → (old new : List ℕ) → Bytes → (at : ℕ) → Result Children TextFault → Type 0
 ReadsChildren depth old new text at result =
@@ -66,6 +70,12 @@ abbrev pub ReadsLeaf : LeafName → Bytes → (at : ℕ) → Result (Spelled Lea
 ReadsLeaf name text at result =
     (s : State) (next : tree.Tree → State) → Takes (word_read (spelled_by (leaf_of name))) s next
     → Answers (machine_from s text at) result (λ r. machine_from (next (leaf_tree name r.value)) text r.end)
+
+-- the same in parentheses, from the name on
+abbrev pub ReadsMarkedLeaf : LeafName → Bytes → (at : ℕ) → Result (Spelled Leaf) TextFault → Type 0
+ReadsMarkedLeaf name text at result =
+    (fs : List Frame) (os : List ℕ)
+    → Answers (machine_from (leaf_open (leaf_of name), fs, os) text at) result (λ r. machine_from (ended (leaf_tree name r.value), fs, os) text r.end)
 
 -- the keys of a `multi` are read, behind its number
 abbrev pub ReadsKeys : Bytes → (at : ℕ) → Result Keys TextFault → Type 0

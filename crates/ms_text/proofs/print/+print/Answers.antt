@@ -6,8 +6,8 @@ use Rattle.ms_tree.specs.Shape.{shape}
 use Rattle.ms_tree.proofs.Parts.{measure-child}
 use Rattle.ms_text.proofs.print.+print.Goals as goal
 
-pub print_thresh-print_tree-requires : goal.print_thresh-print_tree-requires
-print_thresh-print_tree-requires t c =
+pub print_thresh-print_further-requires : goal.print_thresh-print_further-requires
+print_thresh-print_further-requires t c =
     let within : c.loop-x.x-index < length c.args.children.now = omega arith in
     let P : Tree → Type 0 = λ x. IsInRange (shape x) in (
       omega (arith, ap (λ x. measure (shape x)) c.x-item.is, measure-child c.args.children.now c.loop-x.x-index c.x-item.result within),

@@ -1,20 +1,20 @@
 use Rattle.std.proofs.Common.{rules, ◌≡◌, ◌+◌, [], ◌∷◌, ◌++◌, ap, subst, sym, ◌∙◌, arith}
 use Rattle.std.proofs.lemmas.Result.{err_from_is_err_and}
-use Rattle.def_tree.specs.Tree.{and_or, thresh, more, none}
+use Rattle.def_tree.specs.Tree.{thresh, more, none}
 use Rattle.def_text.specs.Scaffolding.Reader as machine
 use Rattle.ms_tree.specs.Shape.{shape, shapes}
 use Rattle.ms_text.specs.declared.tokens.Separator.TheVariants as separator
 use Rattle.ms_text.specs.Scaffolding.Names.{form_of, pair_of, HeadIs, IsLetters}
 use Rattle.ms_text.specs.Scaffolding.Place.{machine_from}
 use Rattle.ms_text.proofs.AnswerLemmas.{refused, along, answers_along}
-use Rattle.ms_text.proofs.PartLemmas.{part_at, one_more, joined_count, joined_measure, joined_depth, joined_writable}
+use Rattle.ms_text.proofs.PartLemmas.{part_at, part_with, and_or_part, pair_part, one_more, joined_count, joined_measure, joined_depth, joined_writable}
 use Rattle.ms_text.proofs.ExpressionLemmas.{name_begins, run_too_deep, run_begins}
 use Rattle.ms_text.proofs.NameLemmas.{letters_are_long}
 use Rattle.def_tree.specs.Range.{MOST_DEPTH}
 use Rattle.ms_text.specs.Scaffolding.Room.{AreParts}
 use Rattle.ms_text.specs.Scaffolding.Place.{rest}
 use Rattle.ms_text.proofs.RunLemmas.{run_offsets_are, run_is_long}
-use Rattle.ms_text.proofs.StateLemmas.{child_next, takes_colon_next, takes_andor_open, takes_andor_first, takes_andor_second, takes_andor_third, takes_pair_open, takes_pair_first, takes_pair_second, takes_thresh_open, takes_thresh_number, takes_thresh_comma, takes_thresh_child}
+use Rattle.ms_text.proofs.StateLemmas.{child_next, takes_colon_next, takes_andor_open, takes_andor_first, takes_andor_second, takes_pair_open, takes_pair_first, takes_thresh_open, takes_thresh_number, takes_thresh_comma, takes_thresh_child}
 use Rattle.ms_text.proofs.reader.Reader.+reader.Goals as goal
 
 pub pair_form-returns-in_err-x-clause-reads : goal.pair_form-returns-in_err-x-clause-reads
@@ -30,20 +30,19 @@ pair_form-returns-in_err-y-clause-reads t c = λ fs l.
     (c.in_ok-x.ensures.reads (machine.pair_open (pair_of c.args.pair) c.args.name, fs, c.args.offsets.now.items) (machine.pair_first (pair_of c.args.pair) c.args.name ∷ fs) (takes_pair_open (pair_of c.args.pair) c.args.name fs c.args.offsets.now.items) (omega (arith, l)))
     (c.in_err-y.ensures.reads (machine.ended (shape c.in_ok-x.x.tree), machine.pair_first (pair_of c.args.pair) c.args.name ∷ fs, c.child.new.offsets.items) (machine.pair_second (pair_of c.args.pair) (shape c.in_ok-x.x.tree) c.args.name ∷ fs) (takes_pair_first (pair_of c.args.pair) (shape c.in_ok-x.x.tree) c.args.name fs c.child.new.offsets.items) (omega (arith, l))))
 
-pub pair_form-returns-in_err-end-clause-reads : goal.pair_form-returns-in_err-end-clause-reads
-pair_form-returns-in_err-end-clause-reads t c = λ fs l.
-    let p = err_from_is_err_and c.from_residual-in_err-end.result c.from_residual-in_err-end.ensures.1 in
-    refused _ _ _ _ _ p.1 p.2 (along _ _ _
-    (c.in_ok-x.ensures.reads (machine.pair_open (pair_of c.args.pair) c.args.name, fs, c.args.offsets.now.items) (machine.pair_first (pair_of c.args.pair) c.args.name ∷ fs) (takes_pair_open (pair_of c.args.pair) c.args.name fs c.args.offsets.now.items) (omega (arith, l))
-    ∙ c.in_ok-y.ensures.reads (machine.ended (shape c.in_ok-x.x.tree), machine.pair_first (pair_of c.args.pair) c.args.name ∷ fs, c.child.new.offsets.items) (machine.pair_second (pair_of c.args.pair) (shape c.in_ok-x.x.tree) c.args.name ∷ fs) (takes_pair_first (pair_of c.args.pair) (shape c.in_ok-x.x.tree) c.args.name fs c.child.new.offsets.items) (omega (arith, l)))
-    (c.in_err-end.ensures.reads (machine.ended (shape c.in_ok-y.y.tree), machine.pair_second (pair_of c.args.pair) (shape c.in_ok-x.x.tree) c.args.name ∷ fs, c.child-2.new.offsets.items) (machine.ended (machine.pair_tree (pair_of c.args.pair) (shape c.in_ok-x.x.tree) (shape c.in_ok-y.y.tree)), fs, c.child-2.new.offsets.items ++ machine.pair_offsets (pair_of c.args.pair) c.args.name) (takes_pair_second (pair_of c.args.pair) (shape c.in_ok-x.x.tree) (shape c.in_ok-y.y.tree) c.args.name fs c.child-2.new.offsets.items)))
-
 pub pair_form-returns-clause-reads : goal.pair_form-returns-clause-reads
 pair_form-returns-clause-reads t c = λ fs l.
-    rw (c.in_ok-tree.ensures.tree, c.in_ok-add_pair_offsets.ensures.added)
+    answers_along _ _ _ _
     (c.in_ok-x.ensures.reads (machine.pair_open (pair_of c.args.pair) c.args.name, fs, c.args.offsets.now.items) (machine.pair_first (pair_of c.args.pair) c.args.name ∷ fs) (takes_pair_open (pair_of c.args.pair) c.args.name fs c.args.offsets.now.items) (omega (arith, l))
-    ∙ c.in_ok-y.ensures.reads (machine.ended (shape c.in_ok-x.x.tree), machine.pair_first (pair_of c.args.pair) c.args.name ∷ fs, c.child.new.offsets.items) (machine.pair_second (pair_of c.args.pair) (shape c.in_ok-x.x.tree) c.args.name ∷ fs) (takes_pair_first (pair_of c.args.pair) (shape c.in_ok-x.x.tree) c.args.name fs c.child.new.offsets.items) (omega (arith, l))
-    ∙ c.in_ok-end.ensures.reads (machine.ended (shape c.in_ok-y.y.tree), machine.pair_second (pair_of c.args.pair) (shape c.in_ok-x.x.tree) c.args.name ∷ fs, c.child-2.new.offsets.items) (machine.ended (machine.pair_tree (pair_of c.args.pair) (shape c.in_ok-x.x.tree) (shape c.in_ok-y.y.tree)), fs, c.child-2.new.offsets.items ++ machine.pair_offsets (pair_of c.args.pair) c.args.name) (takes_pair_second (pair_of c.args.pair) (shape c.in_ok-x.x.tree) (shape c.in_ok-y.y.tree) c.args.name fs c.child-2.new.offsets.items))
+    ∙ c.in_ok-y.ensures.reads (machine.ended (shape c.in_ok-x.x.tree), machine.pair_first (pair_of c.args.pair) c.args.name ∷ fs, c.child.new.offsets.items) (machine.pair_second (pair_of c.args.pair) (shape c.in_ok-x.x.tree) c.args.name ∷ fs) (takes_pair_first (pair_of c.args.pair) (shape c.in_ok-x.x.tree) c.args.name fs c.child.new.offsets.items) (omega (arith, l)))
+    (c.closed_pair.ensures.reads fs)
+
+pub pair_form-returns-clause-part : goal.pair_form-returns-clause-part
+pair_form-returns-clause-part t c =
+    part_with c.args.self.now.text.now c.args.name c.args.depth c.closed_pair.result _ _ _ c.closed_pair.ensures.tree c.closed_pair.ensures.end c.closed_pair.ensures.place
+    (λ p is ends place.
+    pair_part c.args.self.now.text.now c.args.name c.args.at c.in_ok-x.x.end c.in_ok-y.y.end c.args.depth p.end (pair_of c.args.pair) (shape c.in_ok-x.x.tree) (shape c.in_ok-y.y.tree) (shape p.tree)
+    is ends place c.requires.before c.in_ok-x.ensures.part c.in_ok-y.ensures.part)
 
 pub and_or_form-returns-in_err-x-clause-reads : goal.and_or_form-returns-in_err-x-clause-reads
 and_or_form-returns-in_err-x-clause-reads t c = λ fs l.
@@ -66,22 +65,20 @@ and_or_form-returns-in_err-z-clause-reads t c = λ fs l.
     ∙ c.in_ok-y.ensures.reads (machine.ended (shape c.in_ok-x.x.tree), machine.andor_first c.args.name ∷ fs, c.child.new.offsets.items) (machine.andor_second (shape c.in_ok-x.x.tree) c.args.name ∷ fs) (takes_andor_first (shape c.in_ok-x.x.tree) c.args.name fs c.child.new.offsets.items) (omega (arith, l)))
     (c.in_err-z.ensures.reads (machine.ended (shape c.in_ok-y.y.tree), machine.andor_second (shape c.in_ok-x.x.tree) c.args.name ∷ fs, c.child-2.new.offsets.items) (machine.andor_third (shape c.in_ok-x.x.tree) (shape c.in_ok-y.y.tree) c.args.name ∷ fs) (takes_andor_second (shape c.in_ok-x.x.tree) (shape c.in_ok-y.y.tree) c.args.name fs c.child-2.new.offsets.items) (omega (arith, l))))
 
-pub and_or_form-returns-in_err-end-clause-reads : goal.and_or_form-returns-in_err-end-clause-reads
-and_or_form-returns-in_err-end-clause-reads t c = λ fs l.
-    let p = err_from_is_err_and c.from_residual-in_err-end.result c.from_residual-in_err-end.ensures.1 in
-    refused _ _ _ _ _ p.1 p.2 (along _ _ _
+pub and_or_form-returns-clause-reads : goal.and_or_form-returns-clause-reads
+and_or_form-returns-clause-reads t c = λ fs l.
+    answers_along _ _ _ _
     (c.in_ok-x.ensures.reads (machine.andor_open c.args.name, fs, c.args.offsets.now.items) (machine.andor_first c.args.name ∷ fs) (takes_andor_open c.args.name fs c.args.offsets.now.items) (omega (arith, l))
     ∙ c.in_ok-y.ensures.reads (machine.ended (shape c.in_ok-x.x.tree), machine.andor_first c.args.name ∷ fs, c.child.new.offsets.items) (machine.andor_second (shape c.in_ok-x.x.tree) c.args.name ∷ fs) (takes_andor_first (shape c.in_ok-x.x.tree) c.args.name fs c.child.new.offsets.items) (omega (arith, l))
     ∙ c.in_ok-z.ensures.reads (machine.ended (shape c.in_ok-y.y.tree), machine.andor_second (shape c.in_ok-x.x.tree) c.args.name ∷ fs, c.child-2.new.offsets.items) (machine.andor_third (shape c.in_ok-x.x.tree) (shape c.in_ok-y.y.tree) c.args.name ∷ fs) (takes_andor_second (shape c.in_ok-x.x.tree) (shape c.in_ok-y.y.tree) c.args.name fs c.child-2.new.offsets.items) (omega (arith, l)))
-    (c.in_err-end.ensures.reads (machine.ended (shape c.in_ok-z.z.tree), machine.andor_third (shape c.in_ok-x.x.tree) (shape c.in_ok-y.y.tree) c.args.name ∷ fs, c.child-3.new.offsets.items) (machine.ended (and_or (shape c.in_ok-x.x.tree) (shape c.in_ok-y.y.tree) (shape c.in_ok-z.z.tree)), fs, c.child-3.new.offsets.items ++ c.args.name ∷ []) (takes_andor_third (shape c.in_ok-x.x.tree) (shape c.in_ok-y.y.tree) (shape c.in_ok-z.z.tree) c.args.name fs c.child-3.new.offsets.items)))
+    (c.closed_and_or.ensures.reads fs)
 
-pub and_or_form-returns-clause-reads : goal.and_or_form-returns-clause-reads
-and_or_form-returns-clause-reads t c = λ fs l.
-    rw (c.in_ok-tree.ensures.tree, c.in_ok-add_offset.ensures.added)
-    (c.in_ok-x.ensures.reads (machine.andor_open c.args.name, fs, c.args.offsets.now.items) (machine.andor_first c.args.name ∷ fs) (takes_andor_open c.args.name fs c.args.offsets.now.items) (omega (arith, l))
-    ∙ c.in_ok-y.ensures.reads (machine.ended (shape c.in_ok-x.x.tree), machine.andor_first c.args.name ∷ fs, c.child.new.offsets.items) (machine.andor_second (shape c.in_ok-x.x.tree) c.args.name ∷ fs) (takes_andor_first (shape c.in_ok-x.x.tree) c.args.name fs c.child.new.offsets.items) (omega (arith, l))
-    ∙ c.in_ok-z.ensures.reads (machine.ended (shape c.in_ok-y.y.tree), machine.andor_second (shape c.in_ok-x.x.tree) c.args.name ∷ fs, c.child-2.new.offsets.items) (machine.andor_third (shape c.in_ok-x.x.tree) (shape c.in_ok-y.y.tree) c.args.name ∷ fs) (takes_andor_second (shape c.in_ok-x.x.tree) (shape c.in_ok-y.y.tree) c.args.name fs c.child-2.new.offsets.items) (omega (arith, l))
-    ∙ c.in_ok-end.ensures.reads (machine.ended (shape c.in_ok-z.z.tree), machine.andor_third (shape c.in_ok-x.x.tree) (shape c.in_ok-y.y.tree) c.args.name ∷ fs, c.child-3.new.offsets.items) (machine.ended (and_or (shape c.in_ok-x.x.tree) (shape c.in_ok-y.y.tree) (shape c.in_ok-z.z.tree)), fs, c.child-3.new.offsets.items ++ c.args.name ∷ []) (takes_andor_third (shape c.in_ok-x.x.tree) (shape c.in_ok-y.y.tree) (shape c.in_ok-z.z.tree) c.args.name fs c.child-3.new.offsets.items))
+pub and_or_form-returns-clause-part : goal.and_or_form-returns-clause-part
+and_or_form-returns-clause-part t c =
+    part_with c.args.self.now.text.now c.args.name c.args.depth c.closed_and_or.result _ _ _ c.closed_and_or.ensures.tree c.closed_and_or.ensures.end c.closed_and_or.ensures.place
+    (λ p is ends place.
+    and_or_part c.args.self.now.text.now c.args.name c.args.at c.in_ok-x.x.end c.in_ok-y.y.end c.in_ok-z.z.end c.args.depth p.end (shape c.in_ok-x.x.tree) (shape c.in_ok-y.y.tree) (shape c.in_ok-z.z.tree) (shape p.tree)
+    is ends place c.requires.before c.in_ok-x.ensures.part c.in_ok-y.ensures.part c.in_ok-z.ensures.part)
 
 pub child-returns-in_err-at-clause-reads : goal.child-returns-in_err-at-clause-reads
 child-returns-in_err-at-clause-reads t c = λ s fs takes l.

@@ -1,42 +1,24 @@
-use Rattle.std.proofs.Common.{◌++◌, ◌∙◌}
+use Rattle.std.proofs.Common.{◌++◌}
 use Rattle.std.proofs.lemmas.Result.{err_from_is_err_and}
-use Rattle.def_text.specs.Scaffolding.Reader.{leaf_open, leaf_word, leaf_close, ended, leaf_offsets}
-use Rattle.ms_text.specs.Scaffolding.Leaves.{leaf_tree}
+use Rattle.def_text.specs.Scaffolding.Reader.{leaf_offsets}
+use Rattle.ms_tree.specs.Shape.{shape}
 use Rattle.ms_text.specs.Scaffolding.Names.{leaf_of}
-use Rattle.ms_text.proofs.AnswerLemmas.{refused, along}
-use Rattle.ms_text.proofs.StateLemmas.{takes_leaf_open, takes_leaf_word, takes_leaf_close}
+use Rattle.ms_text.proofs.AnswerLemmas.{refused}
+use Rattle.ms_text.proofs.PartLemmas.{leaf_part}
 use Rattle.ms_text.proofs.reader.Reader.leaf_form.Goals as goal
-
-pub returns-in_err-at-clause-reads : goal.returns-in_err-at-clause-reads
-returns-in_err-at-clause-reads c = λ fs.
-    let os = c.args.offsets.now.items ++ leaf_offsets (leaf_of c.args.leaf) c.args.name in
-    let p = err_from_is_err_and c.from_residual.result c.from_residual.ensures.1 in
-    refused _ _ _ _ _ p.1 p.2
-    (c.in_err-at.ensures.reads (leaf_open (leaf_of c.args.leaf), fs, os) (leaf_word (leaf_of c.args.leaf), fs, os) (takes_leaf_open (leaf_of c.args.leaf) fs os))
 
 pub returns-in_err-argument-clause-reads : goal.returns-in_err-argument-clause-reads
 returns-in_err-argument-clause-reads c = λ fs.
     let os = c.args.offsets.now.items ++ leaf_offsets (leaf_of c.args.leaf) c.args.name in
-    let p = err_from_is_err_and c.from_residual-in_err-argument.result c.from_residual-in_err-argument.ensures.1 in
-    refused _ _ _ _ _ p.1 p.2 (along _ _ _
-    (c.in_ok-at.ensures.reads (leaf_open (leaf_of c.args.leaf), fs, os) (leaf_word (leaf_of c.args.leaf), fs, os) (takes_leaf_open (leaf_of c.args.leaf) fs os))
-    (c.in_err-argument.ensures.reads (leaf_word (leaf_of c.args.leaf), fs, os) (λ x. (leaf_close x, fs, os)) (takes_leaf_word (leaf_of c.args.leaf) fs os)))
+    let p = err_from_is_err_and c.from_residual.result c.from_residual.ensures.1 in
+    refused _ _ _ _ _ p.1 p.2 (c.in_err-argument.ensures.reads fs os)
 
-pub returns-in_err-end-clause-reads : goal.returns-in_err-end-clause-reads
-returns-in_err-end-clause-reads c = λ fs.
-    let os = c.args.offsets.now.items ++ leaf_offsets (leaf_of c.args.leaf) c.args.name in
-    let x = leaf_tree c.args.leaf c.in_ok-argument.argument.value in
-    let p = err_from_is_err_and c.from_residual-in_err-end.result c.from_residual-in_err-end.ensures.1 in
-    refused _ _ _ _ _ p.1 p.2 (along _ _ _
-    (c.in_ok-at.ensures.reads (leaf_open (leaf_of c.args.leaf), fs, os) (leaf_word (leaf_of c.args.leaf), fs, os) (takes_leaf_open (leaf_of c.args.leaf) fs os)
-    ∙ c.in_ok-argument.ensures.reads (leaf_word (leaf_of c.args.leaf), fs, os) (λ y. (leaf_close y, fs, os)) (takes_leaf_word (leaf_of c.args.leaf) fs os))
-    (c.in_err-end.ensures.reads (leaf_close x, fs, os) (ended x, fs, os) (takes_leaf_close x fs os)))
+pub returns-clause-part : goal.returns-clause-part
+returns-clause-part c =
+    leaf_part c.args.self.now.text.now c.args.name c.args.at c.in_ok-argument.argument.end c.args.leaf c.in_ok-argument.argument.value (shape c.in_ok-tree.tree)
+    c.in_ok-tree.ensures.tree c.requires.before c.in_ok-argument.ensures.after c.in_ok-argument.ensures.place c.in_ok-argument.ensures.writable
 
 pub returns-clause-reads : goal.returns-clause-reads
 returns-clause-reads c = λ fs.
-    let os = c.args.offsets.now.items ++ leaf_offsets (leaf_of c.args.leaf) c.args.name in
-    let x = leaf_tree c.args.leaf c.in_ok-argument.argument.value in
     rw (c.in_ok-tree.ensures.tree, c.in_ok-add_leaf_offsets.ensures.added)
-    (c.in_ok-at.ensures.reads (leaf_open (leaf_of c.args.leaf), fs, os) (leaf_word (leaf_of c.args.leaf), fs, os) (takes_leaf_open (leaf_of c.args.leaf) fs os)
-    ∙ c.in_ok-argument.ensures.reads (leaf_word (leaf_of c.args.leaf), fs, os) (λ y. (leaf_close y, fs, os)) (takes_leaf_word (leaf_of c.args.leaf) fs os)
-    ∙ c.in_ok-end.ensures.reads (leaf_close x, fs, os) (ended x, fs, os) (takes_leaf_close x fs os))
+    (c.in_ok-argument.ensures.reads fs (c.args.offsets.now.items ++ leaf_offsets (leaf_of c.args.leaf) c.args.name))
