@@ -1,5 +1,5 @@
 -- The answer of a call whose source and sink lie in memory.
-use Rattle.std.proofs.Common.{◌≡◌, ◌≢◌, ◌⊎◌, ℕ, List, [], ◌++◌, Some, inl, inr, sym, ap, subst, ◌∙◌, arith}
+use Rattle.std.proofs.Common.{◌≡◌, ◌≢◌, ◌⊎◌, ℕ, List, [], Some, inl, inr, subst, arith}
 use Rattle.std.specs.Prelude.{Option}
 use Rattle.def_script.specs.Bytes.{Bytes}
 use Rattle.def_answer.specs.declared.status.Status.{Status}
@@ -9,9 +9,10 @@ use Rattle.ms_answer_laws.specs.Laws.{IsAnswered}
 use Rattle.def_answer.specs.Status.{code_of}
 use Rattle.ms_answer_laws.proofs.Early.{answers_have_status}
 use Rattle.ms_answer_laws.proofs.Unique.{one_answer}
-use Rattle.msat_cli.specs.Ends.{call, Ends}
-use Rattle.ms_calls.specs.Words.{AreWords}
-use Rattle.ms_calls.proofs.WordLemmas.{one_list}
+use Rattle.ms_io.specs.Endings.{call}
+use Rattle.msat_cli.specs.Ends.{Ends}
+use Rattle.ms_calls.specs.Words.{AreWords, HoldsOfAnswer}
+use Rattle.ms_calls.proofs.BufferLemmas.{holds_of_answer, answer_written, other_code}
 
 -- a call that neither failed nor wanted memory wrote the answer
 pub wrote_answer : (words : List Bytes) (held source sunk report : Bytes) (s : Status) (left : Option Bytes) (b n k m : ℕ) → held ≡ source → sunk ≡ []
@@ -19,28 +20,15 @@ pub wrote_answer : (words : List Bytes) (held source sunk report : Bytes) (s : S
     → Ends (call words (record { old = Some held; new = left; before = b; now = n }) (record { old = Some sunk; new = Some report; before = k; now = m }) s)
     → Answer words source s report
 wrote_answer words held source sunk report s left b n k m same none memory read write (inl w) =
-    subst (λ r. Answer words source s r) (sym (w.2 ∙ ap (λ l. l ++ w.0) none)) (subst (λ h. Answer words h s w.0) (sym w.1.1 ∙ same) w.1.2)
+    answer_written Answer words held source sunk report s left b n k m same none w
 wrote_answer words held source sunk report s left b n k m same none memory read write (inr (inl w)) = absurd (write w.0)
 wrote_answer words held source sunk report s left b n k m same none memory read write (inr (inr (inl w))) = absurd (read w.0)
 wrote_answer words held source sunk report s left b n k m same none memory read write (inr (inr (inr w))) = absurd (memory w.0)
 
--- the answers of words that are the same bytes are the same
-pub same_answer : (count : ℕ) (bytes source : Bytes) (words others : List Bytes) (s t : Status) (p q : Bytes) → AreWords count bytes words → AreWords count bytes others
-    → Answer words source s p → Answer others source t q → (s ≡ t) × (p ≡ q)
-same_answer count bytes source words others s t p q a b h k =
-    one_answer words source s t p q a.utf8 h (subst (λ l. Answer l source t q) (one_list count bytes others words b a) k)
-
-pub same_status : (count : ℕ) (bytes source : Bytes) (words others : List Bytes) (s t : Status) (p q : Bytes) → AreWords count bytes words → AreWords count bytes others
-    → Answer words source s p → Answer others source t q → s ≡ t
-same_status count bytes source words others s t p q a b h k = (same_answer count bytes source words others s t p q a b h k).0
-
-pub same_report : (count : ℕ) (bytes source : Bytes) (words others : List Bytes) (s t : Status) (p q : Bytes) → AreWords count bytes words → AreWords count bytes others
-    → Answer words source s p → Answer others source t q → p ≡ q
-same_report count bytes source words others s t p q a b h k = (same_answer count bytes source words others s t p q a b h k).1
-
-other_code : (n : ℕ) → n ≢ 11 → n ≢ 7 → (n ≡ 11) ⊎ (n ≡ 7) → ⊥
-other_code n not_11 not_7 (inl e) = not_11 e
-other_code n not_11 not_7 (inr e) = not_7 e
+-- what holds of the answer to words that bytes are holds of each answer to words that they are
+pub holds_of_answers : (count : ℕ) (bytes source : Bytes) (words : List Bytes) (s : Status) (p : Bytes) (code : ℕ) (IsSo : Status → Bytes → Type 0)
+    → AreWords count bytes words → Answer words source s p → IsSo s p → HoldsOfAnswer Answer count bytes source code IsSo
+holds_of_answers = holds_of_answer Answer one_answer
 
 no_stop : (s : Status) → IsAnswered s → (code_of s ≡ 11) ⊎ (code_of s ≡ 7) → ⊥
 no_stop status.Done a e = other_code 0 (omega arith) (omega arith) e

@@ -7,3 +7,4 @@ pub mod PolicyLemmas
 pub mod ReadingLemmas
 pub mod AuditLemmas
 pub mod AskedLemmas
+pub mod BufferLemmas

@@ -1,5 +1,5 @@
 -- Which keys to ask for a signature, as plain bytes and a number.
-use Rattle.std.specs.Prelude.{ℕ, List, Result, option_map}
+use Rattle.std.specs.Prelude.{ℕ, Result, option_map}
 use Rattle.std.specs.List.{flat_map}
 use Rattle.def_script.specs.Bytes.{Bytes}
 use Rattle.def_tree.specs.Tree.{Key, Tree}
@@ -8,8 +8,6 @@ use Rattle.def_plan.specs.declared.PlanFault.{PlanFault}
 use Rattle.def_plan.specs.Plan.{Plan, plan_of}
 use Rattle.def_plan.specs.PlanFile.{PlanFile}
 use Rattle.def_answer.specs.Reading.{Reading}
-use Rattle.ms_arrays.specs.ArrayAssets.{locks_of}
-use Rattle.ms_arrays.specs.ArrayPlan.{plan_of_arrays}
 use Rattle.ms_calls.specs.Reasons.{code_of_plan_file}
 use Rattle.ms_calls.specs.TextReply.{TextReply, told, text_refused, file_refused, no_satisfaction, text_given, with_file, where_one}
 
@@ -30,13 +28,9 @@ asked_by_file tree file = where_one (option_map asked (plan_of tree file.assets 
 abbrev pub asked_given : (held : Result PlanFile PlanFault) → Tree → TextReply Asked
 asked_given held tree = with_file code_of_plan_file (asked_by_file tree) held
 
+-- of a text
 abbrev pub plan_given : (held : Result PlanFile PlanFault) → Reading → TextReply Asked
 plan_given held = text_given first_unfit (asked_given held)
-
--- by three numbers and arrays
-abbrev pub plan_by : (version sequence locktime : ℕ) → (keys : Bytes) → (lengths : List ℕ) → (preimages : Bytes) → Reading → TextReply Asked
-plan_by version sequence locktime keys lengths preimages =
-    plan_given (plan_of_arrays (locks_of version sequence locktime) keys lengths preimages)
 
 -- its keys, and its weight
 abbrev pub asked_keys : TextReply Asked → TextReply Bytes

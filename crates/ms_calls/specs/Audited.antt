@@ -2,6 +2,7 @@
 use Rattle.std.specs.Prelude.{ℕ, not, Bool, false, if◌then◌else◌, List, [], map, Result, slice_index}
 use Rattle.std.specs.List.{list_any}
 use Rattle.std.specs.Str.{bytes_eq}
+use Rattle.def_machine.specs.declared.Locks.{Locks}
 use Rattle.def_machine.specs.Run.{Outcome, accepted, refused}
 use Rattle.def_tree.specs.Tree.{Tree}
 use Rattle.def_emit.specs.Emit.{script_of}
@@ -12,13 +13,12 @@ use Rattle.def_audit.specs.declared.Step.{Step}
 use Rattle.ms_answer_laws.specs.Laws.{steps_found}
 use Rattle.def_answer.specs.Reading.{Reading, read, refused as not_read}
 use Rattle.ms_replies.specs.Choices.{outcome_for}
-use Rattle.ms_arrays.specs.ArrayAssets.{locks_of}
 use Rattle.ms_arrays.specs.ArrayRun.{RunArrays, run_of_arrays}
 use Rattle.ms_calls.specs.declared.outcome.RunOutcome.{RunOutcome}
 use Rattle.ms_calls.specs.declared.outcome.PlacedStep.{PlacedStep}
 use Rattle.ms_calls.specs.Ran.{counted, faulty, numbers_of, code_without}
 use Rattle.ms_calls.specs.Reasons.{code_of_fault, code_of_file}
-use Rattle.ms_calls.specs.TextReply.{TextReply, told, text_refused, file_refused, no_satisfaction, unless_unfit, with_file}
+use Rattle.ms_calls.specs.TextReply.{TextReply, told, text_refused, file_refused, no_satisfaction, value_after, unless_unfit, with_file}
 
 pub record Audited : Type 0 where
   pub outcome : RunOutcome
@@ -48,10 +48,14 @@ audited offsets steps (refused fault place) = not_accepted (numbers_of (refused 
 abbrev pub WRONG_SCRIPT : ℕ
 WRONG_SCRIPT = 23
 
+-- of a stack whose script is the tree's
+abbrev pub stack_audited : (offsets : List ℕ) → Tree → RunFile → Audited
+stack_audited offsets tree file = audited offsets (steps_found tree file) (outcome_for tree file)
+
 -- of a file, whose script has to be the tree's
 abbrev pub audited_file : (offsets : List ℕ) → Tree → RunFile → Audited
 audited_file offsets tree file =
-    if bytes_eq file.script (script_of tree) then audited offsets (steps_found tree file) (outcome_for tree file)
+    if bytes_eq file.script (script_of tree) then stack_audited offsets tree file
     else not_accepted (faulty WRONG_SCRIPT 0)
 
 abbrev pub audited_given : (offsets : List ℕ) → (held : Result RunFile AssetFault) → Tree → TextReply Audited
@@ -62,9 +66,9 @@ abbrev pub audit_given : (held : Result RunFile AssetFault) → Reading → Text
 audit_given held (read tree offsets) = unless_unfit (first_unfit_valid tree) offsets (audited_given offsets held tree)
 audit_given held (not_read fault) = text_refused (code_of_fault fault)
 
--- by three numbers and arrays
-abbrev pub audit_by : (version sequence locktime : ℕ) → RunArrays → Reading → TextReply Audited
-audit_by version sequence locktime arrays = audit_given (run_of_arrays (locks_of version sequence locktime) arrays)
+-- by the values of the locks and arrays
+abbrev pub audit_by : Locks → RunArrays → Reading → TextReply Audited
+audit_by locks arrays = audit_given (run_of_arrays locks arrays)
 
 -- ---- what stands after the call
 
@@ -92,3 +96,7 @@ audited_steps (told found) = told found.steps
 audited_steps (text_refused reason) = text_refused reason
 audited_steps (file_refused reason) = file_refused reason
 audited_steps no_satisfaction = no_satisfaction
+
+-- whether all rows are canonical, in place of what stood there before
+abbrev pub canonical_after : (before : Bool) → TextReply Audited → Bool
+canonical_after before given = value_after before (audited_canonical given)

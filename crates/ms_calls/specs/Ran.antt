@@ -1,6 +1,7 @@
 -- What a run comes to, as plain bytes and numbers.
 use Rattle.std.specs.Prelude.{◌≢◌, ℕ, zero, suc, List, [], ◌∷◌, Result}
 use Rattle.def_script.specs.Bytes.{Bytes}
+use Rattle.def_machine.specs.declared.Locks.{Locks}
 use Rattle.def_machine.specs.declared.ScriptFault.{ScriptFault}
 use Rattle.def_machine.specs.declared.ScriptFault.TheVariants as fault
 use Rattle.def_machine.specs.Stacks.{Pairs}
@@ -8,7 +9,6 @@ use Rattle.def_machine.specs.Run.{Outcome, accepted, refused}
 use Rattle.def_files.specs.declared.AssetFault.{AssetFault}
 use Rattle.def_files.specs.RunFile.{RunFile}
 use Rattle.ms_replies.specs.Choices.{outcome_of}
-use Rattle.ms_arrays.specs.ArrayAssets.{locks_of}
 use Rattle.ms_arrays.specs.ArrayRun.{RunArrays, run_of_arrays}
 use Rattle.ms_calls.specs.declared.outcome.RunOutcome.{RunOutcome}
 use Rattle.ms_calls.specs.Items.{Joined, joined}
@@ -72,9 +72,9 @@ ran outcome = record { outcome = numbers_of outcome; checks = joined (pair_items
 abbrev pub ran_given : (held : Result RunFile AssetFault) → TextReply Ran
 ran_given held = with_file code_of_file (λ file. told (ran (outcome_of file))) held
 
--- by three numbers and arrays
-abbrev pub ran_by : (version sequence locktime : ℕ) → RunArrays → TextReply Ran
-ran_by version sequence locktime arrays = ran_given (run_of_arrays (locks_of version sequence locktime) arrays)
+-- by the values of the locks and arrays
+abbrev pub ran_by : Locks → RunArrays → TextReply Ran
+ran_by locks arrays = ran_given (run_of_arrays locks arrays)
 
 -- ---- what stands after the call
 

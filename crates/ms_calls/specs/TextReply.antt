@@ -17,7 +17,6 @@ use Rattle.def_answer.specs.Reply.{MOST_FILE}
 use Rattle.ms_words.specs.declared.words.Choice.{Choice}
 use Rattle.ms_words.specs.declared.words.Choice.TheVariants as choice
 use Rattle.ms_replies.specs.Choices.{chosen_by, reason_by}
-use Rattle.ms_arrays.specs.ArrayAssets.{locks_of, assets_of_arrays}
 use Rattle.ms_calls.specs.declared.reason.Reason.{Reason}
 use Rattle.ms_calls.specs.declared.facts.Facts.{Facts}
 use Rattle.ms_calls.specs.Buffers.{written_over}
@@ -152,12 +151,12 @@ held_given choice held tree = with_assets (λ assets. where_one (option_map (wit
 abbrev pub satisfied_given : Choice → (held : Result Assets AssetFault) → Reading → TextReply Joined
 satisfied_given choice held = text_given (reason_by choice) (held_given (chosen_by choice) held)
 
--- by three numbers and arrays
-abbrev pub satisfied_by : (malleable consensus : Bool) → (version sequence locktime : ℕ) → (keys signatures : Bytes) →
-    (lengths : List ℕ) → (preimages : Bytes) → Reading → TextReply Joined
-satisfied_by malleable consensus version sequence locktime keys signatures lengths preimages =
-    satisfied_given (choice_for malleable consensus)
-    (assets_of_arrays (locks_of version sequence locktime) keys signatures lengths preimages)
+-- by what a wallet holds, and by an asset file, as the two words say how to choose
+abbrev pub satisfied_by : (malleable consensus : Bool) → (held : Result Assets AssetFault) → Reading → TextReply Joined
+satisfied_by malleable consensus = satisfied_given (choice_for malleable consensus)
+
+abbrev pub witness_by : (malleable consensus : Bool) → (file : Bytes) → Reading → TextReply Joined
+witness_by malleable consensus = witness_given (choice_for malleable consensus)
 
 -- their bytes and their lengths
 abbrev pub bytes_given : TextReply Joined → TextReply Bytes
@@ -171,3 +170,17 @@ lengths_given (told items) = told items.lengths
 lengths_given (text_refused reason) = text_refused reason
 lengths_given (file_refused reason) = file_refused reason
 lengths_given no_satisfaction = no_satisfaction
+
+-- what stands in the places of a call for items: their bytes and their lengths over the beginnings of two buffers, and how many
+-- bytes and how many items there are
+abbrev pub bytes_after : (before : Bytes) → TextReply Joined → Bytes
+bytes_after before given = buffer_after before (bytes_given given)
+
+abbrev pub bytes_needed_after : (before : ℕ) → TextReply Joined → ℕ
+bytes_needed_after before given = needed_after before (bytes_given given)
+
+abbrev pub lengths_after : (before : List ℕ) → TextReply Joined → List ℕ
+lengths_after before given = buffer_after before (lengths_given given)
+
+abbrev pub items_count_after : (before : ℕ) → TextReply Joined → ℕ
+items_count_after before given = needed_after before (lengths_given given)

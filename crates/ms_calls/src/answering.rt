@@ -1,10 +1,9 @@
 //! The program's top call over buffers.
-ghost use Rattle.std.specs.Prelude.{◌≡◌, ◌≢◌, ◌⊎◌, List, length, IfOk};
-ghost use Rattle.def_script.specs.Bytes.{Bytes};
+ghost use Rattle.std.specs.Prelude.{◌≡◌, ◌⊎◌, length, IfOk};
 ghost use Rattle.def_answer.specs.Answer.{Answer};
 ghost use Rattle.def_answer.specs.Status.{code_of};
 ghost use Rattle.ms_calls.specs.Buffers.{written_over};
-ghost use Rattle.ms_calls.specs.Words.{AreWords, AreNoWords};
+ghost use Rattle.ms_calls.specs.Words.{HoldsOfAnswer, AreNoWords};
 
 use crate::copying::write_over;
 use crate::memory::{ByteSink, ByteSource};
@@ -43,9 +42,9 @@ pub fn answer(
     needed: &mut usize,
 ) -> u32
     // The answer is that of the words and the source.
-    ensures status { (list : List Bytes) (s : Status) (r : Bytes) → AreWords count words.now list → Answer list source.now s r → result ≢ 7 → result ≡ code_of s }
-    ensures written { (list : List Bytes) (s : Status) (r : Bytes) → AreWords count words.now list → Answer list source.now s r → result ≢ 7 → report.new ≡ written_over report.old r }
-    ensures needed { (list : List Bytes) (s : Status) (r : Bytes) → AreWords count words.now list → Answer list source.now s r → result ≢ 7 → needed.new ≡ length r }
+    ensures status { HoldsOfAnswer Answer count words.now source.now result (λ s r. result ≡ code_of s) }
+    ensures written { HoldsOfAnswer Answer count words.now source.now result (λ s r. report.new ≡ written_over report.old r) }
+    ensures needed { HoldsOfAnswer Answer count words.now source.now result (λ s r. needed.new ≡ length r) }
     // Where there are no words there is no answer.
     ensures unreadable { AreNoWords count words.now → (result ≡ 11) ⊎ (result ≡ 7) }
     ensures kept { (result ≡ 11) ⊎ (result ≡ 7) → report.new ≡ report.old }

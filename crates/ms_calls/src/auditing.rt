@@ -1,19 +1,20 @@
 //! The audit of a stack for a text, by what lies in arrays, without a run file.
 ghost use Rattle.std.specs.Prelude.{◌≡◌, ◌⊎◌, ◌↔◌, ◌<◌, ◌≤◌, All, length, map, IsUtf8, IfOk};
 ghost use Rattle.std.specs.List.{list_any};
+ghost use Rattle.def_answer.specs.Reading.{read as the_read};
 ghost use Rattle.def_tree.specs.Range.{IsInRange};
 ghost use Rattle.def_tree.specs.Size.{nodes};
-ghost use Rattle.def_sane.specs.Unfit.{IsValid, first_unfit_valid};
+ghost use Rattle.def_sane.specs.Unfit.{IsValid};
 ghost use Rattle.def_audit.specs.declared.Step.{Step as TheStep};
 ghost use Rattle.def_files.specs.RunFile.{MOST_ELEMENTS};
-ghost use Rattle.ms_answer_laws.specs.Laws.{steps_found};
 ghost use Rattle.def_machine.specs.Run.{accepted};
 ghost use Rattle.ms_tree.specs.Shape.{shape};
-ghost use Rattle.ms_replies.specs.Choices.{file_seen, outcome_for};
+ghost use Rattle.ms_replies.specs.Choices.{file_seen};
 ghost use Rattle.ms_arrays.specs.ArrayRun.{run_of_arrays};
-ghost use Rattle.ms_calls.specs.Audited.{placed, audited as the_audited, audited_file, audited_given, not_accepted as the_not_accepted, audit_given, audit_by, audit_code, audited_outcome, audited_canonical, audited_steps};
+ghost use Rattle.ms_calls.specs.Audited.{placed, audited as the_audited, stack_audited, audited_file, audited_given, not_accepted as the_not_accepted};
+ghost use Rattle.ms_calls.specs.Audited.{audit_given, audit_by, audit_code, audited_outcome, audited_steps, canonical_after};
 ghost use Rattle.ms_calls.specs.Stops.{Finds, FindsOf};
-ghost use Rattle.ms_calls.specs.TextReply.{HoldsOfReply, told, reason_after, value_after, buffer_after, needed_after, unless_unfit};
+ghost use Rattle.ms_calls.specs.TextReply.{HoldsOfReply, told, reason_after, value_after, buffer_after, needed_after};
 
 use crate::copying::write_steps;
 use crate::outcome::{PlacedStep, RunOutcome};
@@ -67,9 +68,7 @@ impl Model for Audited {
 pub fn audit(
     alloc: Global,
     text: &[u8],
-    version: u32,
-    sequence: u32,
-    locktime: u32,
+    locks: Locks,
     arrays: &RunArrays<'_>,
     steps: &mut [PlacedStep],
     count: &mut usize,
@@ -77,12 +76,12 @@ pub fn audit(
     outcome: &mut RunOutcome,
     reason: &mut Reason,
 ) -> u32
-    ensures code { HoldsOfReply text.now result (audit_by version sequence locktime arrays.now) (λ given. result ≡ audit_code given) }
-    ensures steps { HoldsOfReply text.now result (audit_by version sequence locktime arrays.now) (λ given. steps.new ≡ buffer_after steps.old (audited_steps given)) }
-    ensures count { HoldsOfReply text.now result (audit_by version sequence locktime arrays.now) (λ given. count.new ≡ needed_after count.old (audited_steps given)) }
-    ensures canonical { HoldsOfReply text.now result (audit_by version sequence locktime arrays.now) (λ given. canonical.new ≡ value_after canonical.old (audited_canonical given)) }
-    ensures outcome { HoldsOfReply text.now result (audit_by version sequence locktime arrays.now) (λ given. outcome.new ≡ value_after outcome.old (audited_outcome given)) }
-    ensures reason { HoldsOfReply text.now result (audit_by version sequence locktime arrays.now) (λ given. reason.new ≡ reason_after reason.old given) }
+    ensures code { HoldsOfReply text.now result (audit_by locks arrays.now) (λ given. result ≡ audit_code given) }
+    ensures steps { HoldsOfReply text.now result (audit_by locks arrays.now) (λ given. steps.new ≡ buffer_after steps.old (audited_steps given)) }
+    ensures count { HoldsOfReply text.now result (audit_by locks arrays.now) (λ given. count.new ≡ needed_after count.old (audited_steps given)) }
+    ensures canonical { HoldsOfReply text.now result (audit_by locks arrays.now) (λ given. canonical.new ≡ canonical_after canonical.old given) }
+    ensures outcome { HoldsOfReply text.now result (audit_by locks arrays.now) (λ given. outcome.new ≡ value_after outcome.old (audited_outcome given)) }
+    ensures reason { HoldsOfReply text.now result (audit_by locks arrays.now) (λ given. reason.new ≡ reason_after reason.old given) }
     ensures unreadable { result ≡ 11 ↔ (¬ IsUtf8 text.now) }
     ensures kept { (result ≡ 11) ⊎ (result ≡ 7) → steps.new ≡ steps.old }
     ensures kept_count { (result ≡ 11) ⊎ (result ≡ 7) → count.new ≡ count.old }
@@ -90,11 +89,6 @@ pub fn audit(
     ensures kept_outcome { (result ≡ 11) ⊎ (result ≡ 7) → outcome.new ≡ outcome.old }
     ensures kept_reason { (result ≡ 11) ⊎ (result ≡ 7) → reason.new ≡ reason.old }
 {
-    let locks = Locks {
-        version,
-        sequence,
-        locktime,
-    };
     match audited_in(alloc, text, locks, arrays) {
         Ok(found) => {
             *count = found.steps.len();
@@ -131,7 +125,7 @@ fn audited_of_text(
     arrays: &RunArrays<'_>,
 ) -> Result<Audited, Stop>
     requires { IsInRange (shape text.now.tree) }
-    ensures { Finds (unless_unfit (first_unfit_valid (shape text.now.tree)) text.now.offsets.items (audited_given text.now.offsets.items (run_of_arrays locks arrays.now) (shape text.now.tree))) result }
+    ensures { Finds (audit_by locks arrays.now (the_read (shape text.now.tree) text.now.offsets.items)) result }
 {
     let _passing = fit(alloc, text, Demand::Valid(Rules::Policy))?;
     audited_of_tree(alloc, text, locks, arrays)
@@ -175,7 +169,7 @@ fn audited_of_stack(alloc: Global, text: &TextTree<'_>, file: &RunFile) -> Resul
     requires range { IsInRange (shape text.now.tree) }
     requires valid { IsValid (shape text.now.tree) }
     requires few { length file.now.stack ≤ MOST_ELEMENTS }
-    ensures { Finds (told (the_audited text.now.offsets.items (steps_found (shape text.now.tree) (file_seen file.now)) (outcome_for (shape text.now.tree) (file_seen file.now)))) result }
+    ensures { Finds (told (stack_audited text.now.offsets.items (shape text.now.tree) (file_seen file.now))) result }
 {
     let pairs = file.pairs.as_slice();
     let Ok(index) = PairIndex::new(alloc, pairs) else {

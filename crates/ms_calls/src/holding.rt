@@ -1,12 +1,13 @@
 //! The satisfaction of a text by what a wallet holds in arrays, without an asset file.
 ghost use Rattle.std.specs.Prelude.{◌≡◌, ◌⊎◌, ◌↔◌, None, IsUtf8};
 ghost use Rattle.def_tree.specs.Range.{IsInRange};
+ghost use Rattle.def_answer.specs.Reading.{read as the_read};
 ghost use Rattle.ms_tree.specs.Shape.{shape};
 ghost use Rattle.ms_replies.specs.Choices.{chosen_by, reason_by};
-ghost use Rattle.ms_calls.specs.TextReply.{HoldsOfReply, told, with_assets, code_given, reason_after, buffer_after, needed_after, unless_unfit, held_given, satisfied_given, satisfied_by, bytes_given, lengths_given};
+ghost use Rattle.ms_calls.specs.TextReply.{HoldsOfReply, told, with_assets, held_given, satisfied_given, satisfied_by};
+ghost use Rattle.ms_calls.specs.TextReply.{code_given, reason_after, bytes_after, bytes_needed_after, lengths_after, items_count_after};
 ghost use Rattle.ms_calls.specs.Stops.{Finds, FindsOf};
 
-use crate::copying::{write_lengths, write_over};
 use crate::items::Items;
 use crate::reason::Reason;
 use crate::satisfying::{choice_for, file_refusal, items_of};
@@ -15,17 +16,14 @@ use crate::texts::{fit, read};
 use bumpalo::Bump;
 use ms_arrays::Arrays;
 use ms_assets::Assets;
-use ms_oracle::Locks;
 use ms_replies::{demand_of, satisfaction};
 use ms_text::TextTree;
 use ms_tree::Tree;
 use ms_words::{Choice, TextCommand};
 use std::alloc::Global;
 
-/// The items of the witness of a satisfaction of a text, as `witness` gives them, by what is held in arrays: the transaction's
-/// version, the input's sequence number and the transaction's locktime; keys of 33 bytes, one after the other, and at each place
-/// a signature of the key there, one after the other, with their lengths; and preimages of 32 bytes, one after the other. A key
-/// may stand there with several signatures, and the shortest is taken.
+/// The items of the witness of a satisfaction of a text, as `witness` gives them, by what is held in arrays. A key may stand there
+/// with several signatures, and the shortest is taken.
 ///
 /// The answer is 0; 2 where the text is refused and 3 where the arrays are, for the reason for which an asset file of format 2
 /// is; 4 where there is no satisfaction; 7 where memory was wanting; and 11 where the text isn't UTF-8. What an answer doesn't
@@ -35,25 +33,19 @@ pub fn satisfy(
     malleable: bool,
     consensus: bool,
     text: &[u8],
-    version: u32,
-    sequence: u32,
-    locktime: u32,
-    keys: &[u8],
-    signatures: &[u8],
-    signature_lengths: &[usize],
-    preimages: &[u8],
+    arrays: &Arrays<'_>,
     bytes: &mut [u8],
     needed: &mut usize,
     lengths: &mut [usize],
     count: &mut usize,
     reason: &mut Reason,
 ) -> u32
-    ensures code { HoldsOfReply text.now result (satisfied_by malleable consensus version sequence locktime keys.now signatures.now signature_lengths.now preimages.now) (λ given. result ≡ code_given given) }
-    ensures bytes { HoldsOfReply text.now result (satisfied_by malleable consensus version sequence locktime keys.now signatures.now signature_lengths.now preimages.now) (λ given. bytes.new ≡ buffer_after bytes.old (bytes_given given)) }
-    ensures needed { HoldsOfReply text.now result (satisfied_by malleable consensus version sequence locktime keys.now signatures.now signature_lengths.now preimages.now) (λ given. needed.new ≡ needed_after needed.old (bytes_given given)) }
-    ensures lengths { HoldsOfReply text.now result (satisfied_by malleable consensus version sequence locktime keys.now signatures.now signature_lengths.now preimages.now) (λ given. lengths.new ≡ buffer_after lengths.old (lengths_given given)) }
-    ensures count { HoldsOfReply text.now result (satisfied_by malleable consensus version sequence locktime keys.now signatures.now signature_lengths.now preimages.now) (λ given. count.new ≡ needed_after count.old (lengths_given given)) }
-    ensures reason { HoldsOfReply text.now result (satisfied_by malleable consensus version sequence locktime keys.now signatures.now signature_lengths.now preimages.now) (λ given. reason.new ≡ reason_after reason.old given) }
+    ensures code { HoldsOfReply text.now result (satisfied_by malleable consensus arrays.now) (λ given. result ≡ code_given given) }
+    ensures bytes { HoldsOfReply text.now result (satisfied_by malleable consensus arrays.now) (λ given. bytes.new ≡ bytes_after bytes.old given) }
+    ensures needed { HoldsOfReply text.now result (satisfied_by malleable consensus arrays.now) (λ given. needed.new ≡ bytes_needed_after needed.old given) }
+    ensures lengths { HoldsOfReply text.now result (satisfied_by malleable consensus arrays.now) (λ given. lengths.new ≡ lengths_after lengths.old given) }
+    ensures count { HoldsOfReply text.now result (satisfied_by malleable consensus arrays.now) (λ given. count.new ≡ items_count_after count.old given) }
+    ensures reason { HoldsOfReply text.now result (satisfied_by malleable consensus arrays.now) (λ given. reason.new ≡ reason_after reason.old given) }
     ensures unreadable { result ≡ 11 ↔ (¬ IsUtf8 text.now) }
     ensures kept { (result ≡ 11) ⊎ (result ≡ 7) → bytes.new ≡ bytes.old }
     ensures kept_needed { (result ≡ 11) ⊎ (result ≡ 7) → needed.new ≡ needed.old }
@@ -61,18 +53,9 @@ pub fn satisfy(
     ensures kept_count { (result ≡ 11) ⊎ (result ≡ 7) → count.new ≡ count.old }
     ensures kept_reason { (result ≡ 11) ⊎ (result ≡ 7) → reason.new ≡ reason.old }
 {
-    let locks = Locks {
-        version,
-        sequence,
-        locktime,
-    };
-    let arrays = Arrays::new(locks, keys, signatures, signature_lengths, preimages);
-    match satisfied_in(alloc, choice_for(malleable, consensus), text, &arrays) {
+    match satisfied_in(alloc, choice_for(malleable, consensus), text, arrays) {
         Ok(items) => {
-            *needed = items.bytes().len();
-            let _bytes = write_over(items.bytes(), bytes);
-            *count = items.lengths().len();
-            let _lengths = write_lengths(items.lengths(), lengths);
+            items.write(bytes, needed, lengths, count);
             DONE
         }
         Err(stop) => stop.tell(reason),
@@ -103,7 +86,7 @@ fn satisfied_of_text(
     arrays: &Arrays<'_>,
 ) -> Result<Items, Stop>
     requires { IsInRange (shape text.now.tree) }
-    ensures { Finds (unless_unfit (reason_by choice (shape text.now.tree)) text.now.offsets.items (held_given (chosen_by choice) arrays.now (shape text.now.tree))) result }
+    ensures { Finds (satisfied_given choice arrays.now (the_read (shape text.now.tree) text.now.offsets.items)) result }
 {
     let _passing = fit(alloc, text, demand_of(TextCommand::Satisfy(choice)))?;
     satisfied_of_tree(alloc, choice, text.tree(), arrays)

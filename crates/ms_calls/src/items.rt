@@ -1,8 +1,10 @@
 //! The items of a witness, or of pairs, as they lie in two buffers.
-ghost use Rattle.std.specs.Prelude.{◌≡◌, [], IfOk};
+ghost use Rattle.std.specs.Prelude.{◌≡◌, [], length, IfOk};
+ghost use Rattle.ms_calls.specs.Buffers.{written_over};
 ghost use Rattle.ms_calls.specs.Items.{joined};
 ghost use Rattle.ms_calls.specs.Ran.{pair_items};
 
+use crate::copying::{write_lengths, write_over};
 use ms_oracle::SigPair;
 use ms_script::Stack;
 use std::alloc::{AllocError, Global};
@@ -63,17 +65,23 @@ impl Items {
         Ok(Items { bytes, lengths })
     }
 
-    /// The bytes of all items.
-    pub fn bytes(&self) -> &[u8]
-        ensures { result.now ≡ self.now.bytes }
+    /// Writes as much of the bytes and of the lengths as there is room for over the beginnings of two buffers, and how many bytes
+    /// and how many items there are.
+    pub fn write(
+        &self,
+        bytes: &mut [u8],
+        needed: &mut usize,
+        lengths: &mut [usize],
+        count: &mut usize,
+    )
+        ensures bytes { bytes.new ≡ written_over bytes.old self.now.bytes }
+        ensures needed { needed.new ≡ length self.now.bytes }
+        ensures lengths { lengths.new ≡ written_over lengths.old self.now.lengths }
+        ensures count { count.new ≡ length self.now.lengths }
     {
-        self.bytes.as_slice()
-    }
-
-    /// How many bytes each item has.
-    pub fn lengths(&self) -> &[usize]
-        ensures { result.now ≡ self.now.lengths }
-    {
-        self.lengths.as_slice()
+        *needed = self.bytes.len();
+        let _bytes = write_over(&self.bytes, bytes);
+        *count = self.lengths.len();
+        let _lengths = write_lengths(&self.lengths, lengths);
     }
 }

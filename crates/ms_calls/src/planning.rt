@@ -1,12 +1,13 @@
 //! Which keys to ask for a signature, by what a wallet knows in arrays, without a plan file.
 ghost use Rattle.std.specs.Prelude.{◌≡◌, ◌⊎◌, ◌↔◌, ℕ, List, [], flat_map, IsUtf8, IfOk};
 ghost use Rattle.def_tree.specs.Range.{IsInRange};
-ghost use Rattle.def_sane.specs.Unfit.{IsSane, first_unfit};
+ghost use Rattle.def_answer.specs.Reading.{read as the_read};
+ghost use Rattle.def_sane.specs.Unfit.{IsSane};
 ghost use Rattle.def_plan.specs.Lengths.{AreLengths};
 ghost use Rattle.ms_tree.specs.Shape.{shape};
-ghost use Rattle.ms_calls.specs.Asked.{asked as the_asked, asked_by_file, asked_given, asked_keys, asked_weight, plan_given, plan_by};
+ghost use Rattle.ms_calls.specs.Asked.{asked as the_asked, asked_by_file, asked_given, asked_keys, asked_weight, plan_given};
 ghost use Rattle.ms_calls.specs.Stops.{Finds, FindsOf, plan_file_refusal as the_plan_file_refusal};
-ghost use Rattle.ms_calls.specs.TextReply.{HoldsOfReply, code_given, reason_after, value_after, buffer_after, needed_after, told, unless_unfit};
+ghost use Rattle.ms_calls.specs.TextReply.{HoldsOfReply, code_given, reason_after, value_after, buffer_after, needed_after, told};
 
 use crate::copying::write_over;
 use crate::reason::{Reason, code_of_plan_file};
@@ -14,7 +15,6 @@ use crate::stopping::{DONE, Stop};
 use crate::texts::{fit, read};
 use bumpalo::Bump;
 use ms_arrays::PlanArrays;
-use ms_oracle::Locks;
 use ms_plan::{Estimate, Plan, PlanFault, PlanFile, length_in};
 use ms_replies::Demand;
 use ms_sane::Rules;
@@ -41,9 +41,7 @@ impl Model for Asked {
 }
 
 /// Which keys to ask for a signature for a text that is sane by the limits of policy, and what its satisfaction weighs at most then
-/// where no signature is longer than estimated, without the Script. What is known lies in arrays: the transaction's version, the
-/// input's sequence number and the transaction's locktime; keys that can sign, of 33 bytes, one after the other, with how many bytes
-/// the signature of each is estimated to have; and preimages of 32 bytes, one after the other.
+/// where no signature is longer than estimated, without the Script. What is known lies in arrays.
 ///
 /// The keys to ask lie one after the other, in the order of the nodes and, in a `multi`, of its positions: as much of them as there
 /// is room for is written over the beginning of `asked`, and `needed` is how many bytes all of them have. The answer is 0; 2 where
@@ -52,35 +50,24 @@ impl Model for Asked {
 pub fn plan(
     alloc: Global,
     text: &[u8],
-    version: u32,
-    sequence: u32,
-    locktime: u32,
-    keys: &[u8],
-    signature_lengths: &[usize],
-    preimages: &[u8],
+    arrays: &PlanArrays<'_>,
     asked: &mut [u8],
     needed: &mut usize,
     weight: &mut u64,
     reason: &mut Reason,
 ) -> u32
-    ensures code { HoldsOfReply text.now result (plan_by version sequence locktime keys.now signature_lengths.now preimages.now) (λ given. result ≡ code_given given) }
-    ensures asked { HoldsOfReply text.now result (plan_by version sequence locktime keys.now signature_lengths.now preimages.now) (λ given. asked.new ≡ buffer_after asked.old (asked_keys given)) }
-    ensures needed { HoldsOfReply text.now result (plan_by version sequence locktime keys.now signature_lengths.now preimages.now) (λ given. needed.new ≡ needed_after needed.old (asked_keys given)) }
-    ensures weight { HoldsOfReply text.now result (plan_by version sequence locktime keys.now signature_lengths.now preimages.now) (λ given. weight.new ≡ value_after weight.old (asked_weight given)) }
-    ensures reason { HoldsOfReply text.now result (plan_by version sequence locktime keys.now signature_lengths.now preimages.now) (λ given. reason.new ≡ reason_after reason.old given) }
+    ensures code { HoldsOfReply text.now result (plan_given arrays.now) (λ given. result ≡ code_given given) }
+    ensures asked { HoldsOfReply text.now result (plan_given arrays.now) (λ given. asked.new ≡ buffer_after asked.old (asked_keys given)) }
+    ensures needed { HoldsOfReply text.now result (plan_given arrays.now) (λ given. needed.new ≡ needed_after needed.old (asked_keys given)) }
+    ensures weight { HoldsOfReply text.now result (plan_given arrays.now) (λ given. weight.new ≡ value_after weight.old (asked_weight given)) }
+    ensures reason { HoldsOfReply text.now result (plan_given arrays.now) (λ given. reason.new ≡ reason_after reason.old given) }
     ensures unreadable { result ≡ 11 ↔ (¬ IsUtf8 text.now) }
     ensures kept { (result ≡ 11) ⊎ (result ≡ 7) → asked.new ≡ asked.old }
     ensures kept_needed { (result ≡ 11) ⊎ (result ≡ 7) → needed.new ≡ needed.old }
     ensures kept_weight { (result ≡ 11) ⊎ (result ≡ 7) → weight.new ≡ weight.old }
     ensures kept_reason { (result ≡ 11) ⊎ (result ≡ 7) → reason.new ≡ reason.old }
 {
-    let locks = Locks {
-        version,
-        sequence,
-        locktime,
-    };
-    let arrays = PlanArrays::new(locks, keys, signature_lengths, preimages);
-    match asked_in(alloc, text, &arrays) {
+    match asked_in(alloc, text, arrays) {
         Ok(found) => {
             *needed = found.keys.len();
             let _count = write_over(&found.keys, asked);
@@ -105,7 +92,7 @@ fn asked_in(alloc: Global, text: &[u8], arrays: &PlanArrays<'_>) -> Result<Asked
 /// The plan of a text that was read.
 fn asked_of_text(alloc: Global, text: &TextTree<'_>, arrays: &PlanArrays<'_>) -> Result<Asked, Stop>
     requires { IsInRange (shape text.now.tree) }
-    ensures { Finds (unless_unfit (first_unfit (shape text.now.tree)) text.now.offsets.items (asked_given arrays.now (shape text.now.tree))) result }
+    ensures { Finds (plan_given arrays.now (the_read (shape text.now.tree) text.now.offsets.items)) result }
 {
     let _passing = fit(alloc, text, Demand::Sane(Rules::Policy))?;
     asked_of_tree(alloc, text.tree(), arrays)

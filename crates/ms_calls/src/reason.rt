@@ -2,7 +2,9 @@
 ghost use Rattle.std.specs.Prelude.{◌≡◌};
 ghost use Rattle.ms_tree.specs.Shape.{shape};
 ghost use Rattle.ms_sane.specs.Place.{IsOfTree};
-ghost use Rattle.ms_calls.specs.Reasons.{code_of_rule as the_code_of_rule, code_of_fault as the_code_of_fault, code_of_reason as the_code_of_reason, code_of_member as the_code_of_member, code_of_file as the_code_of_file, code_of_plan_member as the_code_of_plan_member, code_of_plan_file as the_code_of_plan_file, file_too_long};
+ghost use Rattle.ms_calls.specs.Reasons.{code_of_rule as the_code_of_rule, code_of_fault as the_code_of_fault, code_of_reason as the_code_of_reason};
+ghost use Rattle.ms_calls.specs.Reasons.{code_of_member as the_code_of_member, code_of_file as the_code_of_file, file_too_long};
+ghost use Rattle.ms_calls.specs.Reasons.{code_of_plan_member as the_code_of_plan_member, code_of_plan_file as the_code_of_plan_file};
 
 use ms_assets::{AssetFault, Member};
 use ms_plan::{PlanFault, PlanMember};

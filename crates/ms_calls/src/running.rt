@@ -6,9 +6,8 @@ ghost use Rattle.ms_replies.specs.Choices.{file_seen, outcome_of};
 ghost use Rattle.ms_arrays.specs.ArrayRun.{run_of_arrays};
 ghost use Rattle.ms_calls.specs.Ran.{ran as the_ran, ran_given, ran_by, HoldsOfRun, run_code, ran_outcome, ran_checks};
 ghost use Rattle.ms_calls.specs.Stops.{Finds, FindsRun};
-ghost use Rattle.ms_calls.specs.TextReply.{told, reason_after, value_after, buffer_after, needed_after, bytes_given, lengths_given};
+ghost use Rattle.ms_calls.specs.TextReply.{told, reason_after, value_after, bytes_after, bytes_needed_after, lengths_after, items_count_after};
 
-use crate::copying::{write_lengths, write_over};
 use crate::items::Items;
 use crate::outcome::RunOutcome;
 use crate::reason::Reason;
@@ -41,10 +40,9 @@ impl Model for Ran {
     ghost view = { λ r. record { outcome = r.outcome; checks = r.checks } };
 }
 
-/// The run of a script on a stack, by what lies in arrays: the script; the transaction's version, the input's sequence number and
-/// the transaction's locktime; the items of the stack, bottom first and one after the other, with their lengths; and keys of 33
-/// bytes, one after the other, with at each place a signature of the key there, one after the other, with their lengths, which are
-/// those that are good.
+/// The run of a script on a stack, by the values of the locks and what lies in arrays: the script; the items of the stack, bottom
+/// first and one after the other, with their lengths; and keys of 33 bytes, one after the other, with at each place a signature of
+/// the key there, one after the other, with their lengths, which are those that are good.
 ///
 /// `outcome` is what the run comes to. The good pairs that an accepted run passed lie one after the other, each key before its
 /// signature: as much of them as there is room for is written over the beginning of `bytes`, and `needed` is how many bytes all of
@@ -54,9 +52,7 @@ impl Model for Ran {
 /// answer doesn't speak of is as it was.
 pub fn run(
     alloc: Global,
-    version: u32,
-    sequence: u32,
-    locktime: u32,
+    locks: Locks,
     arrays: &RunArrays<'_>,
     bytes: &mut [u8],
     needed: &mut usize,
@@ -65,13 +61,13 @@ pub fn run(
     outcome: &mut RunOutcome,
     reason: &mut Reason,
 ) -> u32
-    ensures code { HoldsOfRun result (ran_by version sequence locktime arrays.now) (λ given. result ≡ run_code given) }
-    ensures bytes { HoldsOfRun result (ran_by version sequence locktime arrays.now) (λ given. bytes.new ≡ buffer_after bytes.old (bytes_given (ran_checks given))) }
-    ensures needed { HoldsOfRun result (ran_by version sequence locktime arrays.now) (λ given. needed.new ≡ needed_after needed.old (bytes_given (ran_checks given))) }
-    ensures lengths { HoldsOfRun result (ran_by version sequence locktime arrays.now) (λ given. lengths.new ≡ buffer_after lengths.old (lengths_given (ran_checks given))) }
-    ensures count { HoldsOfRun result (ran_by version sequence locktime arrays.now) (λ given. count.new ≡ needed_after count.old (lengths_given (ran_checks given))) }
-    ensures outcome { HoldsOfRun result (ran_by version sequence locktime arrays.now) (λ given. outcome.new ≡ value_after outcome.old (ran_outcome given)) }
-    ensures reason { HoldsOfRun result (ran_by version sequence locktime arrays.now) (λ given. reason.new ≡ reason_after reason.old given) }
+    ensures code { HoldsOfRun result (ran_by locks arrays.now) (λ given. result ≡ run_code given) }
+    ensures bytes { HoldsOfRun result (ran_by locks arrays.now) (λ given. bytes.new ≡ bytes_after bytes.old (ran_checks given)) }
+    ensures needed { HoldsOfRun result (ran_by locks arrays.now) (λ given. needed.new ≡ bytes_needed_after needed.old (ran_checks given)) }
+    ensures lengths { HoldsOfRun result (ran_by locks arrays.now) (λ given. lengths.new ≡ lengths_after lengths.old (ran_checks given)) }
+    ensures count { HoldsOfRun result (ran_by locks arrays.now) (λ given. count.new ≡ items_count_after count.old (ran_checks given)) }
+    ensures outcome { HoldsOfRun result (ran_by locks arrays.now) (λ given. outcome.new ≡ value_after outcome.old (ran_outcome given)) }
+    ensures reason { HoldsOfRun result (ran_by locks arrays.now) (λ given. reason.new ≡ reason_after reason.old given) }
     ensures kept { result ≡ 7 → bytes.new ≡ bytes.old }
     ensures kept_needed { result ≡ 7 → needed.new ≡ needed.old }
     ensures kept_lengths { result ≡ 7 → lengths.new ≡ lengths.old }
@@ -79,17 +75,9 @@ pub fn run(
     ensures kept_outcome { result ≡ 7 → outcome.new ≡ outcome.old }
     ensures kept_reason { result ≡ 7 → reason.new ≡ reason.old }
 {
-    let locks = Locks {
-        version,
-        sequence,
-        locktime,
-    };
     match ran_in(alloc, locks, arrays) {
         Ok(found) => {
-            *needed = found.checks.bytes().len();
-            let _bytes = write_over(found.checks.bytes(), bytes);
-            *count = found.checks.lengths().len();
-            let _lengths = write_lengths(found.checks.lengths(), lengths);
+            found.checks.write(bytes, needed, lengths, count);
             *outcome = found.outcome;
             found.outcome.code(SCRIPT_REFUSED)
         }

@@ -1,15 +1,17 @@
 //! Satisfactions of a text by an asset file: the least weight of one, and the items of the witness of the one that is chosen.
 ghost use Rattle.std.specs.Prelude.{◌≡◌, ◌⊎◌, ◌↔◌, ◌*◌, ◌≤◌, None, vec_len, IsUtf8, MatchResult, IfOk, option_map};
+ghost use Rattle.def_answer.specs.Reading.{read as the_read};
 ghost use Rattle.def_tree.specs.Range.{IsInRange};
 ghost use Rattle.def_tree.specs.Size.{measure};
 ghost use Rattle.def_sane.specs.declared.Rules.TheVariants.{Consensus};
-ghost use Rattle.def_sane.specs.Unfit.{IsValidUnder, first_unfit_valid_under};
+ghost use Rattle.def_sane.specs.Unfit.{IsValidUnder};
 ghost use Rattle.ms_tree.specs.Shape.{shape};
 ghost use Rattle.ms_replies.specs.Choices.{chosen_by, reason_by};
-ghost use Rattle.ms_calls.specs.TextReply.{HoldsOfReply, told, code_given, reason_after, value_after, buffer_after, needed_after, rules_for as the_rules_for, choice_for as the_choice_for, unless_unfit, file_given, where_one, weight_given, witness_given, least_weight_given, witness_items, chosen_given, bytes_given, lengths_given};
+ghost use Rattle.ms_calls.specs.TextReply.{HoldsOfReply, told, rules_for as the_rules_for, choice_for as the_choice_for, file_given, where_one};
+ghost use Rattle.ms_calls.specs.TextReply.{weight_given, witness_given, witness_by, least_weight_given, witness_items, chosen_given};
+ghost use Rattle.ms_calls.specs.TextReply.{code_given, reason_after, value_after, bytes_after, bytes_needed_after, lengths_after, items_count_after};
 ghost use Rattle.ms_calls.specs.Stops.{Finds, FindsOf, file_refusal as the_file_refusal};
 
-use crate::copying::{write_lengths, write_over};
 use crate::items::Items;
 use crate::reason::{Reason, code_of_file};
 use crate::stopping::{DONE, Stop};
@@ -77,12 +79,12 @@ pub fn witness(
     count: &mut usize,
     reason: &mut Reason,
 ) -> u32
-    ensures code { HoldsOfReply text.now result (witness_given (the_choice_for malleable consensus) file.now) (λ given. result ≡ code_given given) }
-    ensures bytes { HoldsOfReply text.now result (witness_given (the_choice_for malleable consensus) file.now) (λ given. bytes.new ≡ buffer_after bytes.old (bytes_given given)) }
-    ensures needed { HoldsOfReply text.now result (witness_given (the_choice_for malleable consensus) file.now) (λ given. needed.new ≡ needed_after needed.old (bytes_given given)) }
-    ensures lengths { HoldsOfReply text.now result (witness_given (the_choice_for malleable consensus) file.now) (λ given. lengths.new ≡ buffer_after lengths.old (lengths_given given)) }
-    ensures count { HoldsOfReply text.now result (witness_given (the_choice_for malleable consensus) file.now) (λ given. count.new ≡ needed_after count.old (lengths_given given)) }
-    ensures reason { HoldsOfReply text.now result (witness_given (the_choice_for malleable consensus) file.now) (λ given. reason.new ≡ reason_after reason.old given) }
+    ensures code { HoldsOfReply text.now result (witness_by malleable consensus file.now) (λ given. result ≡ code_given given) }
+    ensures bytes { HoldsOfReply text.now result (witness_by malleable consensus file.now) (λ given. bytes.new ≡ bytes_after bytes.old given) }
+    ensures needed { HoldsOfReply text.now result (witness_by malleable consensus file.now) (λ given. needed.new ≡ bytes_needed_after needed.old given) }
+    ensures lengths { HoldsOfReply text.now result (witness_by malleable consensus file.now) (λ given. lengths.new ≡ lengths_after lengths.old given) }
+    ensures count { HoldsOfReply text.now result (witness_by malleable consensus file.now) (λ given. count.new ≡ items_count_after count.old given) }
+    ensures reason { HoldsOfReply text.now result (witness_by malleable consensus file.now) (λ given. reason.new ≡ reason_after reason.old given) }
     ensures unreadable { result ≡ 11 ↔ (¬ IsUtf8 text.now) }
     ensures kept { (result ≡ 11) ⊎ (result ≡ 7) → bytes.new ≡ bytes.old }
     ensures kept_needed { (result ≡ 11) ⊎ (result ≡ 7) → needed.new ≡ needed.old }
@@ -92,10 +94,7 @@ pub fn witness(
 {
     match witness_in(alloc, choice_for(malleable, consensus), text, file) {
         Ok(items) => {
-            *needed = items.bytes().len();
-            let _bytes = write_over(items.bytes(), bytes);
-            *count = items.lengths().len();
-            let _lengths = write_lengths(items.lengths(), lengths);
+            items.write(bytes, needed, lengths, count);
             DONE
         }
         Err(stop) => stop.tell(reason),
@@ -121,7 +120,7 @@ fn weight_of_text(
     file: &[u8],
 ) -> Result<u64, Stop>
     requires { IsInRange (shape text.now.tree) }
-    ensures { Finds (unless_unfit (first_unfit_valid_under rules (shape text.now.tree)) text.now.offsets.items (least_weight_given file.now (shape text.now.tree))) result }
+    ensures { Finds (weight_given rules file.now (the_read (shape text.now.tree) text.now.offsets.items)) result }
 {
     let mut passing = fit(alloc, text, Demand::Valid(rules))?;
     weight_of_tree(alloc, text.tree(), file, &mut passing.work)
@@ -205,7 +204,7 @@ fn witness_of_text(
     file: &[u8],
 ) -> Result<Items, Stop>
     requires { IsInRange (shape text.now.tree) }
-    ensures { Finds (unless_unfit (reason_by choice (shape text.now.tree)) text.now.offsets.items (chosen_given (chosen_by choice) file.now (shape text.now.tree))) result }
+    ensures { Finds (witness_given choice file.now (the_read (shape text.now.tree) text.now.offsets.items)) result }
 {
     let _passing = fit(alloc, text, demand_of(TextCommand::Satisfy(choice)))?;
     witness_of_tree(alloc, choice, text.tree(), file)

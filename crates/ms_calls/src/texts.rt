@@ -8,7 +8,8 @@ ghost use Rattle.def_sane.specs.Unfit.{first_unfit_under, first_unfit_valid_unde
 ghost use Rattle.ms_tree.specs.Shape.{shape};
 ghost use Rattle.ms_replies.specs.Fits.{reason_for, IsKnown};
 ghost use Rattle.ms_calls.specs.Facts.{facts_of};
-ghost use Rattle.ms_calls.specs.TextReply.{HoldsOfReply, told, code_given, reason_after, value_after, buffer_after, needed_after, rules_for as the_rules_for, unless_unfit, script_given, facts_given};
+ghost use Rattle.ms_calls.specs.TextReply.{HoldsOfReply, told, rules_for as the_rules_for, unless_unfit, script_given, facts_given};
+ghost use Rattle.ms_calls.specs.TextReply.{code_given, reason_after, value_after, buffer_after, needed_after};
 ghost use Rattle.ms_calls.specs.Stops.{Finds, FindsOf, StopsReading, StopsFitting, refusal as the_refusal};
 
 use crate::copying::write_over;

@@ -3,3 +3,4 @@ pub mod Calls
 pub mod Moves
 pub mod Memory
 pub mod Sides
+pub mod Endings

@@ -1,12 +1,14 @@
 //! Sinks: what every one of them promises, and writing all of some bytes to one.
 
-ghost use Rattle.std.specs.Prelude.{ℕ, ◌<◌, List, [], length, IfOk, OnOk, OnErr, MatchResult};
+ghost use Rattle.std.specs.Prelude.{ℕ, ◌<◌, ◌≤◌, List, [], length, IfOk, OnOk, OnErr, MatchResult};
 ghost use Rattle.std.specs.declared.option.Option.{Option};
 ghost use Rattle.std.specs.Io.{WritesAtMost};
 ghost use Rattle.std.specs.Io.KnownBytes.{Appends, WriteAppends};
 ghost use Rattle.ms_io.specs.Faults.{HasCause};
 ghost use Rattle.ms_io.specs.Calls.{Offers, OffersUntilFault};
 ghost use Rattle.ms_io.specs.Moves.{AppendsPrefix};
+ghost use Rattle.ms_io.specs.Endings.{Writes};
+ghost use Rattle.ms_io.specs.Sides.{side};
 
 /// A write that failed. The sink's count of faults rose in that call, or stood at its last value.
 #[derive(Clone, Copy, Debug, PartialEq, Eq)]
@@ -54,4 +56,15 @@ pub fn put_all<K: Sink>(sink: &mut K, bytes: &[u8]) -> Result<(), SinkFailed>
         rest = &rest[count..];
     }
     Ok(())
+}
+
+/// Writes all of a report. The answer is its status, or the one of a fault where a write fails.
+pub fn put_report<K: Sink, S: Copy>(sink: &mut K, report: &[u8], status: S, fault: S) -> S
+    ensures end { Writes fault status report.now (side K.written K.faults sink.old sink.new) result }
+    ensures faults_later { K.faults sink.old ≤ K.faults sink.new }
+{
+    match put_all(sink, report) {
+        Ok(()) => status,
+        Err(SinkFailed) => fault,
+    }
 }

@@ -6,7 +6,6 @@ use Rattle.def_tree.specs.declared.Wrapper.{Wrapper}
 use Rattle.def_tree.specs.declared.Wrapper.TheVariants as wrapper
 use Rattle.def_tree.specs.Tree as model
 use Rattle.def_table.specs.Table.{Row, Table, and_or_row, row_of}
-use Rattle.ms_rows.specs.declared.ways.Ways.{Ways}
 use Rattle.ms_rows.specs.declared.ways.Row as rust
 use Rattle.ms_rows.specs.Written.{table, known, two_row, wrap_row, IsRow}
 use Rattle.ms_rows.specs.Reading.{Reader, ways_in}

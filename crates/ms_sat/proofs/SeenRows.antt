@@ -1,5 +1,5 @@
 -- The ways of a row are those of its fragment, by each rule.
-use Rattle.std.proofs.Common.{◌≡◌, ℕ, ◌<◌, ◌+◌, Bool, true, false, [], ◌∷◌, Option, Some, None, is_some, refl, sym, ◌∙◌, ap, subst, arith, nat_lt, if◌then◌else◌}
+use Rattle.std.proofs.Common.{◌≡◌, ℕ, ◌<◌, Bool, true, false, [], ◌∷◌, Option, Some, None, is_some, refl, sym, ◌∙◌, ap, subst, arith, nat_lt, if◌then◌else◌}
 use Rattle.std.specs.Prelude.{◌||◌}
 use Rattle.def_machine.specs.Stacks.{Stack}
 use Rattle.def_script.specs.Witness.{weight}
@@ -10,7 +10,7 @@ use Rattle.def_tree.specs.declared.Wrapper.TheVariants as wrapper
 use Rattle.def_tree.specs.Tree as model
 use Rattle.def_tree.specs.Size.{nodes}
 use Rattle.def_table.specs.Table.{Row, and_or_row}
-use Rattle.def_assets.specs.Assets.{Assets, unsigned}
+use Rattle.def_assets.specs.Assets.{Assets}
 use Rattle.def_choice.specs.Least.{both, least}
 use Rattle.def_choice.specs.Cheapest.{cheapest_of, dissatisfaction}
 use Rattle.def_choice.specs.Strict.{strict_of}

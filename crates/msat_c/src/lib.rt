@@ -1,27 +1,29 @@
 //! The static library for C, with one export for each call of `ms_calls` and of `ms_psbt_calls`. `include/msat.h` declares them.
 #![tactic(auto)]
 
-ghost use Rattle.std.specs.Prelude.{◌≡◌, ◌≢◌, ◌⊎◌, ◌↔◌, true, false, List, length, IsUtf8};
-ghost use Rattle.def_script.specs.Bytes.{Bytes};
+ghost use Rattle.std.specs.Prelude.{◌≡◌, ◌≢◌, ◌⊎◌, ◌↔◌, true, false, length, IsUtf8};
 ghost use Rattle.def_answer.specs.Answer.{Answer};
-ghost use Rattle.def_answer.specs.declared.status.Status.{Status};
 ghost use Rattle.def_answer.specs.Status.{code_of};
 ghost use Rattle.def_psbt_answer.specs.Answer.{Answer as PsbtAnswer};
-ghost use Rattle.def_psbt_answer.specs.declared.status.Status.{Status as PsbtStatus};
 ghost use Rattle.def_psbt_answer.specs.Status.{code_of as psbt_code_of};
+ghost use Rattle.ms_arrays.specs.ArrayAssets.{locks_of, assets_of_arrays};
+ghost use Rattle.ms_arrays.specs.ArrayPlan.{plan_of_arrays};
 ghost use Rattle.ms_arrays.specs.ArrayRun.{run_arrays};
-ghost use Rattle.ms_calls.specs.Asked.{plan_by, asked_keys, asked_weight};
-ghost use Rattle.ms_calls.specs.Audited.{audit_by, audit_code, audited_outcome, audited_canonical, audited_steps};
+ghost use Rattle.ms_calls.specs.Asked.{plan_given, asked_keys, asked_weight};
+ghost use Rattle.ms_calls.specs.Audited.{audit_by, audit_code, audited_outcome, audited_steps, canonical_after};
 ghost use Rattle.ms_calls.specs.Buffers.{written_over};
 ghost use Rattle.ms_calls.specs.Demanded.{policy_given, printed_given, keys_given};
 ghost use Rattle.ms_calls.specs.Ran.{HoldsOfRun, ran_by, run_code, ran_outcome, ran_checks};
 ghost use Rattle.ms_calls.specs.Readings.{are_keys, keys_in, TellsDecoded, HasNoReading};
-ghost use Rattle.ms_calls.specs.TextReply.{HoldsOfReply, code_given, reason_after, value_after, buffer_after, needed_after, bytes_given, lengths_given, rules_for, choice_for, script_given, facts_given, weight_given, witness_given, satisfied_by};
+ghost use Rattle.ms_calls.specs.TextReply.{HoldsOfReply, rules_for, script_given, facts_given, weight_given, witness_by, satisfied_by};
+ghost use Rattle.ms_calls.specs.TextReply.{code_given, reason_after, value_after, buffer_after, needed_after};
+ghost use Rattle.ms_calls.specs.TextReply.{bytes_after, bytes_needed_after, lengths_after, items_count_after};
 ghost use Rattle.ms_calls.specs.Version.{number_of, MAJOR, MINOR, PATCH};
-ghost use Rattle.ms_calls.specs.Words.{AreWords, AreNoWords};
+ghost use Rattle.ms_calls.specs.Words.{HoldsOfAnswer, AreNoWords};
 
-use ms_arrays::RunArrays;
+use ms_arrays::{Arrays, PlanArrays, RunArrays};
 use ms_calls::{Facts, PlacedStep, Reason, RunOutcome};
+use ms_oracle::Locks;
 use std::alloc::Global;
 
 /// The version of the library, as one number: a million for each major one, a thousand for each minor one, and the patch.
@@ -42,9 +44,9 @@ pub extern "C" fn msat_answer(
     report: &mut [u8],
     needed: &mut usize,
 ) -> u32
-    ensures status { (list : List Bytes) (s : Status) (r : Bytes) → AreWords count words.now list → Answer list source.now s r → result ≢ 7 → result ≡ code_of s }
-    ensures written { (list : List Bytes) (s : Status) (r : Bytes) → AreWords count words.now list → Answer list source.now s r → result ≢ 7 → report.new ≡ written_over report.old r }
-    ensures needed { (list : List Bytes) (s : Status) (r : Bytes) → AreWords count words.now list → Answer list source.now s r → result ≢ 7 → needed.new ≡ length r }
+    ensures status { HoldsOfAnswer Answer count words.now source.now result (λ s r. result ≡ code_of s) }
+    ensures written { HoldsOfAnswer Answer count words.now source.now result (λ s r. report.new ≡ written_over report.old r) }
+    ensures needed { HoldsOfAnswer Answer count words.now source.now result (λ s r. needed.new ≡ length r) }
     ensures unreadable { AreNoWords count words.now → (result ≡ 11) ⊎ (result ≡ 7) }
     ensures kept { (result ≡ 11) ⊎ (result ≡ 7) → report.new ≡ report.old }
     ensures kept_needed { (result ≡ 11) ⊎ (result ≡ 7) → needed.new ≡ needed.old }
@@ -62,9 +64,9 @@ pub extern "C" fn msat_psbt_answer(
     report: &mut [u8],
     needed: &mut usize,
 ) -> u32
-    ensures status { (list : List Bytes) (s : PsbtStatus) (r : Bytes) → AreWords count words.now list → PsbtAnswer list source.now s r → result ≢ 7 → result ≡ psbt_code_of s }
-    ensures written { (list : List Bytes) (s : PsbtStatus) (r : Bytes) → AreWords count words.now list → PsbtAnswer list source.now s r → result ≢ 7 → report.new ≡ written_over report.old r }
-    ensures needed { (list : List Bytes) (s : PsbtStatus) (r : Bytes) → AreWords count words.now list → PsbtAnswer list source.now s r → result ≢ 7 → needed.new ≡ length r }
+    ensures status { HoldsOfAnswer PsbtAnswer count words.now source.now result (λ s r. result ≡ psbt_code_of s) }
+    ensures written { HoldsOfAnswer PsbtAnswer count words.now source.now result (λ s r. report.new ≡ written_over report.old r) }
+    ensures needed { HoldsOfAnswer PsbtAnswer count words.now source.now result (λ s r. needed.new ≡ length r) }
     ensures unreadable { AreNoWords count words.now → (result ≡ 11) ⊎ (result ≡ 7) }
     ensures kept { (result ≡ 11) ⊎ (result ≡ 7) → report.new ≡ report.old }
     ensures kept_needed { (result ≡ 11) ⊎ (result ≡ 7) → needed.new ≡ needed.old }
@@ -148,12 +150,12 @@ pub extern "C" fn msat_witness(
     count: &mut usize,
     reason: &mut Reason,
 ) -> u32
-    ensures code { HoldsOfReply text.now result (witness_given (choice_for malleable consensus) file.now) (λ given. result ≡ code_given given) }
-    ensures bytes { HoldsOfReply text.now result (witness_given (choice_for malleable consensus) file.now) (λ given. bytes.new ≡ buffer_after bytes.old (bytes_given given)) }
-    ensures needed { HoldsOfReply text.now result (witness_given (choice_for malleable consensus) file.now) (λ given. needed.new ≡ needed_after needed.old (bytes_given given)) }
-    ensures lengths { HoldsOfReply text.now result (witness_given (choice_for malleable consensus) file.now) (λ given. lengths.new ≡ buffer_after lengths.old (lengths_given given)) }
-    ensures count { HoldsOfReply text.now result (witness_given (choice_for malleable consensus) file.now) (λ given. count.new ≡ needed_after count.old (lengths_given given)) }
-    ensures reason { HoldsOfReply text.now result (witness_given (choice_for malleable consensus) file.now) (λ given. reason.new ≡ reason_after reason.old given) }
+    ensures code { HoldsOfReply text.now result (witness_by malleable consensus file.now) (λ given. result ≡ code_given given) }
+    ensures bytes { HoldsOfReply text.now result (witness_by malleable consensus file.now) (λ given. bytes.new ≡ bytes_after bytes.old given) }
+    ensures needed { HoldsOfReply text.now result (witness_by malleable consensus file.now) (λ given. needed.new ≡ bytes_needed_after needed.old given) }
+    ensures lengths { HoldsOfReply text.now result (witness_by malleable consensus file.now) (λ given. lengths.new ≡ lengths_after lengths.old given) }
+    ensures count { HoldsOfReply text.now result (witness_by malleable consensus file.now) (λ given. count.new ≡ items_count_after count.old given) }
+    ensures reason { HoldsOfReply text.now result (witness_by malleable consensus file.now) (λ given. reason.new ≡ reason_after reason.old given) }
     ensures unreadable { result ≡ 11 ↔ (¬ IsUtf8 text.now) }
     ensures kept { (result ≡ 11) ⊎ (result ≡ 7) → bytes.new ≡ bytes.old }
     ensures kept_needed { (result ≡ 11) ⊎ (result ≡ 7) → needed.new ≡ needed.old }
@@ -187,12 +189,24 @@ pub extern "C" fn msat_satisfy(
     count: &mut usize,
     reason: &mut Reason,
 ) -> u32
-    ensures code { HoldsOfReply text.now result (satisfied_by malleable consensus version sequence locktime keys.now signatures.now signature_lengths.now preimages.now) (λ given. result ≡ code_given given) }
-    ensures bytes { HoldsOfReply text.now result (satisfied_by malleable consensus version sequence locktime keys.now signatures.now signature_lengths.now preimages.now) (λ given. bytes.new ≡ buffer_after bytes.old (bytes_given given)) }
-    ensures needed { HoldsOfReply text.now result (satisfied_by malleable consensus version sequence locktime keys.now signatures.now signature_lengths.now preimages.now) (λ given. needed.new ≡ needed_after needed.old (bytes_given given)) }
-    ensures lengths { HoldsOfReply text.now result (satisfied_by malleable consensus version sequence locktime keys.now signatures.now signature_lengths.now preimages.now) (λ given. lengths.new ≡ buffer_after lengths.old (lengths_given given)) }
-    ensures count { HoldsOfReply text.now result (satisfied_by malleable consensus version sequence locktime keys.now signatures.now signature_lengths.now preimages.now) (λ given. count.new ≡ needed_after count.old (lengths_given given)) }
-    ensures reason { HoldsOfReply text.now result (satisfied_by malleable consensus version sequence locktime keys.now signatures.now signature_lengths.now preimages.now) (λ given. reason.new ≡ reason_after reason.old given) }
+    ensures code { HoldsOfReply text.now result
+        (satisfied_by malleable consensus (assets_of_arrays (locks_of version sequence locktime) keys.now signatures.now signature_lengths.now preimages.now))
+        (λ given. result ≡ code_given given) }
+    ensures bytes { HoldsOfReply text.now result
+        (satisfied_by malleable consensus (assets_of_arrays (locks_of version sequence locktime) keys.now signatures.now signature_lengths.now preimages.now))
+        (λ given. bytes.new ≡ bytes_after bytes.old given) }
+    ensures needed { HoldsOfReply text.now result
+        (satisfied_by malleable consensus (assets_of_arrays (locks_of version sequence locktime) keys.now signatures.now signature_lengths.now preimages.now))
+        (λ given. needed.new ≡ bytes_needed_after needed.old given) }
+    ensures lengths { HoldsOfReply text.now result
+        (satisfied_by malleable consensus (assets_of_arrays (locks_of version sequence locktime) keys.now signatures.now signature_lengths.now preimages.now))
+        (λ given. lengths.new ≡ lengths_after lengths.old given) }
+    ensures count { HoldsOfReply text.now result
+        (satisfied_by malleable consensus (assets_of_arrays (locks_of version sequence locktime) keys.now signatures.now signature_lengths.now preimages.now))
+        (λ given. count.new ≡ items_count_after count.old given) }
+    ensures reason { HoldsOfReply text.now result
+        (satisfied_by malleable consensus (assets_of_arrays (locks_of version sequence locktime) keys.now signatures.now signature_lengths.now preimages.now))
+        (λ given. reason.new ≡ reason_after reason.old given) }
     ensures unreadable { result ≡ 11 ↔ (¬ IsUtf8 text.now) }
     ensures kept { (result ≡ 11) ⊎ (result ≡ 7) → bytes.new ≡ bytes.old }
     ensures kept_needed { (result ≡ 11) ⊎ (result ≡ 7) → needed.new ≡ needed.old }
@@ -200,23 +214,10 @@ pub extern "C" fn msat_satisfy(
     ensures kept_count { (result ≡ 11) ⊎ (result ≡ 7) → count.new ≡ count.old }
     ensures kept_reason { (result ≡ 11) ⊎ (result ≡ 7) → reason.new ≡ reason.old }
 {
+    let locks = locks(version, sequence, locktime);
+    let arrays = Arrays::new(locks, keys, signatures, signature_lengths, preimages);
     ms_calls::satisfy(
-        alloc,
-        malleable,
-        consensus,
-        text,
-        version,
-        sequence,
-        locktime,
-        keys,
-        signatures,
-        signature_lengths,
-        preimages,
-        bytes,
-        needed,
-        lengths,
-        count,
-        reason,
+        alloc, malleable, consensus, text, &arrays, bytes, needed, lengths, count, reason,
     )
 }
 
@@ -281,31 +282,30 @@ pub extern "C" fn msat_plan(
     weight: &mut u64,
     reason: &mut Reason,
 ) -> u32
-    ensures code { HoldsOfReply text.now result (plan_by version sequence locktime keys.now signature_lengths.now preimages.now) (λ given. result ≡ code_given given) }
-    ensures asked { HoldsOfReply text.now result (plan_by version sequence locktime keys.now signature_lengths.now preimages.now) (λ given. asked.new ≡ buffer_after asked.old (asked_keys given)) }
-    ensures needed { HoldsOfReply text.now result (plan_by version sequence locktime keys.now signature_lengths.now preimages.now) (λ given. needed.new ≡ needed_after needed.old (asked_keys given)) }
-    ensures weight { HoldsOfReply text.now result (plan_by version sequence locktime keys.now signature_lengths.now preimages.now) (λ given. weight.new ≡ value_after weight.old (asked_weight given)) }
-    ensures reason { HoldsOfReply text.now result (plan_by version sequence locktime keys.now signature_lengths.now preimages.now) (λ given. reason.new ≡ reason_after reason.old given) }
+    ensures code { HoldsOfReply text.now result
+        (plan_given (plan_of_arrays (locks_of version sequence locktime) keys.now signature_lengths.now preimages.now))
+        (λ given. result ≡ code_given given) }
+    ensures asked { HoldsOfReply text.now result
+        (plan_given (plan_of_arrays (locks_of version sequence locktime) keys.now signature_lengths.now preimages.now))
+        (λ given. asked.new ≡ buffer_after asked.old (asked_keys given)) }
+    ensures needed { HoldsOfReply text.now result
+        (plan_given (plan_of_arrays (locks_of version sequence locktime) keys.now signature_lengths.now preimages.now))
+        (λ given. needed.new ≡ needed_after needed.old (asked_keys given)) }
+    ensures weight { HoldsOfReply text.now result
+        (plan_given (plan_of_arrays (locks_of version sequence locktime) keys.now signature_lengths.now preimages.now))
+        (λ given. weight.new ≡ value_after weight.old (asked_weight given)) }
+    ensures reason { HoldsOfReply text.now result
+        (plan_given (plan_of_arrays (locks_of version sequence locktime) keys.now signature_lengths.now preimages.now))
+        (λ given. reason.new ≡ reason_after reason.old given) }
     ensures unreadable { result ≡ 11 ↔ (¬ IsUtf8 text.now) }
     ensures kept { (result ≡ 11) ⊎ (result ≡ 7) → asked.new ≡ asked.old }
     ensures kept_needed { (result ≡ 11) ⊎ (result ≡ 7) → needed.new ≡ needed.old }
     ensures kept_weight { (result ≡ 11) ⊎ (result ≡ 7) → weight.new ≡ weight.old }
     ensures kept_reason { (result ≡ 11) ⊎ (result ≡ 7) → reason.new ≡ reason.old }
 {
-    ms_calls::plan(
-        alloc,
-        text,
-        version,
-        sequence,
-        locktime,
-        keys,
-        signature_lengths,
-        preimages,
-        asked,
-        needed,
-        weight,
-        reason,
-    )
+    let locks = locks(version, sequence, locktime);
+    let arrays = PlanArrays::new(locks, keys, signature_lengths, preimages);
+    ms_calls::plan(alloc, text, &arrays, asked, needed, weight, reason)
 }
 
 /// The run of a script on a stack, by what lies in arrays: its counts and the good pairs that it passed, or its fault.
@@ -328,13 +328,27 @@ pub extern "C" fn msat_run(
     outcome: &mut RunOutcome,
     reason: &mut Reason,
 ) -> u32
-    ensures code { HoldsOfRun result (ran_by version sequence locktime (run_arrays script.now items.now item_lengths.now keys.now signatures.now signature_lengths.now)) (λ given. result ≡ run_code given) }
-    ensures bytes { HoldsOfRun result (ran_by version sequence locktime (run_arrays script.now items.now item_lengths.now keys.now signatures.now signature_lengths.now)) (λ given. bytes.new ≡ buffer_after bytes.old (bytes_given (ran_checks given))) }
-    ensures needed { HoldsOfRun result (ran_by version sequence locktime (run_arrays script.now items.now item_lengths.now keys.now signatures.now signature_lengths.now)) (λ given. needed.new ≡ needed_after needed.old (bytes_given (ran_checks given))) }
-    ensures lengths { HoldsOfRun result (ran_by version sequence locktime (run_arrays script.now items.now item_lengths.now keys.now signatures.now signature_lengths.now)) (λ given. lengths.new ≡ buffer_after lengths.old (lengths_given (ran_checks given))) }
-    ensures count { HoldsOfRun result (ran_by version sequence locktime (run_arrays script.now items.now item_lengths.now keys.now signatures.now signature_lengths.now)) (λ given. count.new ≡ needed_after count.old (lengths_given (ran_checks given))) }
-    ensures outcome { HoldsOfRun result (ran_by version sequence locktime (run_arrays script.now items.now item_lengths.now keys.now signatures.now signature_lengths.now)) (λ given. outcome.new ≡ value_after outcome.old (ran_outcome given)) }
-    ensures reason { HoldsOfRun result (ran_by version sequence locktime (run_arrays script.now items.now item_lengths.now keys.now signatures.now signature_lengths.now)) (λ given. reason.new ≡ reason_after reason.old given) }
+    ensures code { HoldsOfRun result
+        (ran_by (locks_of version sequence locktime) (run_arrays script.now items.now item_lengths.now keys.now signatures.now signature_lengths.now))
+        (λ given. result ≡ run_code given) }
+    ensures bytes { HoldsOfRun result
+        (ran_by (locks_of version sequence locktime) (run_arrays script.now items.now item_lengths.now keys.now signatures.now signature_lengths.now))
+        (λ given. bytes.new ≡ bytes_after bytes.old (ran_checks given)) }
+    ensures needed { HoldsOfRun result
+        (ran_by (locks_of version sequence locktime) (run_arrays script.now items.now item_lengths.now keys.now signatures.now signature_lengths.now))
+        (λ given. needed.new ≡ bytes_needed_after needed.old (ran_checks given)) }
+    ensures lengths { HoldsOfRun result
+        (ran_by (locks_of version sequence locktime) (run_arrays script.now items.now item_lengths.now keys.now signatures.now signature_lengths.now))
+        (λ given. lengths.new ≡ lengths_after lengths.old (ran_checks given)) }
+    ensures count { HoldsOfRun result
+        (ran_by (locks_of version sequence locktime) (run_arrays script.now items.now item_lengths.now keys.now signatures.now signature_lengths.now))
+        (λ given. count.new ≡ items_count_after count.old (ran_checks given)) }
+    ensures outcome { HoldsOfRun result
+        (ran_by (locks_of version sequence locktime) (run_arrays script.now items.now item_lengths.now keys.now signatures.now signature_lengths.now))
+        (λ given. outcome.new ≡ value_after outcome.old (ran_outcome given)) }
+    ensures reason { HoldsOfRun result
+        (ran_by (locks_of version sequence locktime) (run_arrays script.now items.now item_lengths.now keys.now signatures.now signature_lengths.now))
+        (λ given. reason.new ≡ reason_after reason.old given) }
     ensures kept { result ≡ 7 → bytes.new ≡ bytes.old }
     ensures kept_needed { result ≡ 7 → needed.new ≡ needed.old }
     ensures kept_lengths { result ≡ 7 → lengths.new ≡ lengths.old }
@@ -342,6 +356,7 @@ pub extern "C" fn msat_run(
     ensures kept_outcome { result ≡ 7 → outcome.new ≡ outcome.old }
     ensures kept_reason { result ≡ 7 → reason.new ≡ reason.old }
 {
+    let locks = locks(version, sequence, locktime);
     let arrays = RunArrays {
         script,
         items,
@@ -351,7 +366,7 @@ pub extern "C" fn msat_run(
         signature_lengths,
     };
     ms_calls::run(
-        alloc, version, sequence, locktime, &arrays, bytes, needed, lengths, count, outcome, reason,
+        alloc, locks, &arrays, bytes, needed, lengths, count, outcome, reason,
     )
 }
 
@@ -376,12 +391,24 @@ pub extern "C" fn msat_audit(
     outcome: &mut RunOutcome,
     reason: &mut Reason,
 ) -> u32
-    ensures code { HoldsOfReply text.now result (audit_by version sequence locktime (run_arrays script.now items.now item_lengths.now keys.now signatures.now signature_lengths.now)) (λ given. result ≡ audit_code given) }
-    ensures steps { HoldsOfReply text.now result (audit_by version sequence locktime (run_arrays script.now items.now item_lengths.now keys.now signatures.now signature_lengths.now)) (λ given. steps.new ≡ buffer_after steps.old (audited_steps given)) }
-    ensures count { HoldsOfReply text.now result (audit_by version sequence locktime (run_arrays script.now items.now item_lengths.now keys.now signatures.now signature_lengths.now)) (λ given. count.new ≡ needed_after count.old (audited_steps given)) }
-    ensures canonical { HoldsOfReply text.now result (audit_by version sequence locktime (run_arrays script.now items.now item_lengths.now keys.now signatures.now signature_lengths.now)) (λ given. canonical.new ≡ value_after canonical.old (audited_canonical given)) }
-    ensures outcome { HoldsOfReply text.now result (audit_by version sequence locktime (run_arrays script.now items.now item_lengths.now keys.now signatures.now signature_lengths.now)) (λ given. outcome.new ≡ value_after outcome.old (audited_outcome given)) }
-    ensures reason { HoldsOfReply text.now result (audit_by version sequence locktime (run_arrays script.now items.now item_lengths.now keys.now signatures.now signature_lengths.now)) (λ given. reason.new ≡ reason_after reason.old given) }
+    ensures code { HoldsOfReply text.now result
+        (audit_by (locks_of version sequence locktime) (run_arrays script.now items.now item_lengths.now keys.now signatures.now signature_lengths.now))
+        (λ given. result ≡ audit_code given) }
+    ensures steps { HoldsOfReply text.now result
+        (audit_by (locks_of version sequence locktime) (run_arrays script.now items.now item_lengths.now keys.now signatures.now signature_lengths.now))
+        (λ given. steps.new ≡ buffer_after steps.old (audited_steps given)) }
+    ensures count { HoldsOfReply text.now result
+        (audit_by (locks_of version sequence locktime) (run_arrays script.now items.now item_lengths.now keys.now signatures.now signature_lengths.now))
+        (λ given. count.new ≡ needed_after count.old (audited_steps given)) }
+    ensures canonical { HoldsOfReply text.now result
+        (audit_by (locks_of version sequence locktime) (run_arrays script.now items.now item_lengths.now keys.now signatures.now signature_lengths.now))
+        (λ given. canonical.new ≡ canonical_after canonical.old given) }
+    ensures outcome { HoldsOfReply text.now result
+        (audit_by (locks_of version sequence locktime) (run_arrays script.now items.now item_lengths.now keys.now signatures.now signature_lengths.now))
+        (λ given. outcome.new ≡ value_after outcome.old (audited_outcome given)) }
+    ensures reason { HoldsOfReply text.now result
+        (audit_by (locks_of version sequence locktime) (run_arrays script.now items.now item_lengths.now keys.now signatures.now signature_lengths.now))
+        (λ given. reason.new ≡ reason_after reason.old given) }
     ensures unreadable { result ≡ 11 ↔ (¬ IsUtf8 text.now) }
     ensures kept { (result ≡ 11) ⊎ (result ≡ 7) → steps.new ≡ steps.old }
     ensures kept_count { (result ≡ 11) ⊎ (result ≡ 7) → count.new ≡ count.old }
@@ -389,6 +416,7 @@ pub extern "C" fn msat_audit(
     ensures kept_outcome { (result ≡ 11) ⊎ (result ≡ 7) → outcome.new ≡ outcome.old }
     ensures kept_reason { (result ≡ 11) ⊎ (result ≡ 7) → reason.new ≡ reason.old }
 {
+    let locks = locks(version, sequence, locktime);
     let arrays = RunArrays {
         script,
         items,
@@ -398,6 +426,17 @@ pub extern "C" fn msat_audit(
         signature_lengths,
     };
     ms_calls::audit(
-        alloc, text, version, sequence, locktime, &arrays, steps, count, canonical, outcome, reason,
+        alloc, text, locks, &arrays, steps, count, canonical, outcome, reason,
     )
+}
+
+/// The values of the locks: the transaction's version, the input's sequence number and the transaction's locktime.
+fn locks(version: u32, sequence: u32, locktime: u32) -> Locks
+    ensures { result ≡ locks_of version sequence locktime }
+{
+    Locks {
+        version,
+        sequence,
+        locktime,
+    }
 }

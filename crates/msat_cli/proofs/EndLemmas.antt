@@ -6,6 +6,7 @@ use Rattle.std.specs.Str.{IsUtf8}
 use Rattle.std.specs.String.{string_bytes}
 use Rattle.std.specs.Io.KnownBytes.{IsAtEnd}
 use Rattle.def_script.specs.Bytes.{Bytes}
+use Rattle.ms_io.specs.Endings.{Writes}
 use Rattle.ms_io.specs.Faults.{Rose}
 use Rattle.def_answer.specs.declared.status.Status.{Status}
 use Rattle.def_answer.specs.declared.status.Status.TheVariants as status
@@ -23,7 +24,7 @@ use Rattle.msat_cli.specs.declared.answer.Stop.{Stop}
 use Rattle.msat_cli.specs.declared.answer.Stop.TheVariants as stop
 use Rattle.ms_io.specs.Sides.{Side, AreTold, Held}
 use Rattle.ms_words.specs.Commands.{HasUtf8, HaveUtf8}
-use Rattle.msat_cli.specs.Scaffolding.Steps.{AnswersWords, Ended, Writes, WritesResult}
+use Rattle.msat_cli.specs.Scaffolding.Steps.{AnswersWords, Ended, WritesResult}
 use Rattle.msat_cli.specs.Ends.{Call, HasAnswer, Ends, TakesMemory, IsFault, EndsAsUsage, EndsAsAnswered, TellsShortFile, IsReadFor}
 
 -- ---- the answer
@@ -53,7 +54,7 @@ abbrev pub WrittenOf : Call → Result Made Stop → Type 0
 WrittenOf call answer = WritesResult answer call.sink call.status
 
 written : (call : Call) (answer : Status) (report : Bytes) → AnswersWords call.words call.source (reply answer report)
-    → Writes answer report call.sink call.status → Ends call
+    → Writes status.WriteFault answer report call.sink call.status → Ends call
 written call answer report a (inl w) =
     inl (report, subst (λ s. HasAnswer call.words call.source s report) (sym w.0) (has_answer call.words call.source answer report a), w.1)
 written call answer report a (inr w) =
@@ -195,7 +196,7 @@ read_answer words source r utf8 reads (inr (command, form, inr late)) =
     (λ over. long_file command late.bytes r (on_text command (utf8 command form)) late.needed over late.replies)
 
 read_written : (call : Call) (answer : Status) (report : Bytes) → HaveUtf8 call.words → ReadsSource call.words
-    → AnswersWords call.words call.source (reply answer report) → Writes answer report call.sink call.status → IsReadFor call.status call.source
+    → AnswersWords call.words call.source (reply answer report) → Writes status.WriteFault answer report call.sink call.status → IsReadFor call.status call.source
 read_written call answer report utf8 reads a (inl w) =
     subst (λ s. IsReadFor s call.source) (sym w.0) (read_answer call.words call.source (reply answer report) utf8 reads a)
 read_written call answer report utf8 reads a (inr w) = subst (λ s. IsReadFor s call.source) (sym w.0) tt

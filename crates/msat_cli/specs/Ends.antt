@@ -1,46 +1,27 @@
 -- How a call of `msat` ends.
 use Rattle.std.specs.Prelude.{◌≡◌, ◌⊎◌, ◌≤◌, ⊤, List, length, Option, None, Some}
-use Rattle.std.specs.Io.KnownBytes.{Appends, IsAtEnd, Keeps}
+use Rattle.std.specs.Io.KnownBytes.{IsAtEnd, Keeps}
 use Rattle.def_script.specs.Bytes.{Bytes}
 use Rattle.def_text.specs.Refusal.{MOST_BYTES}
 use Rattle.ms_io.specs.Faults.{Rose}
-use Rattle.ms_io.specs.Moves.{AppendsPrefix}
+use Rattle.ms_io.specs.Endings.{CallWith, HasAnswerOf, WritesAnswerOf, WritesPrefixOf}
 use Rattle.def_answer.specs.declared.status.Status.{Status}
 use Rattle.def_answer.specs.declared.status.Status.TheVariants as status
 use Rattle.def_answer.specs.Answer.{Answer}
 use Rattle.def_answer.specs.Reply.{MOST_FILE}
 use Rattle.def_answer.specs.Sources.{ReadsSource}
 use Rattle.def_answer.specs.Words.{Command, script, check, satisfy, satisfy_malleable, run, gen, policy, plan, audit, decode, IsForm, HasNoForm}
-use Rattle.ms_io.specs.Sides.{Side, AreTold}
+use Rattle.ms_io.specs.Sides.{Side}
 
 -- the words of a call, what it did to the source and to the sink, and its status
-pub record Call : Type 0 where
-  pub words : List Bytes
-  pub source : Side
-  pub sink : Side
-  pub status : Status
-
-abbrev pub call : (words : List Bytes) → (source sink : Side) → Status → Call
-call words source sink status = record { words = words; source = source; sink = sink; status = status }
+abbrev pub Call : Type 0
+Call = CallWith Status
 
 -- ---- how it ends
 
 -- the answer to the words and to the bytes that the source held
 abbrev pub HasAnswer : (words : List Bytes) → (source : Side) → Status → (report : Bytes) → Type 0
-HasAnswer words source status report = (bytes : Bytes) × AreTold source.old bytes × Answer words bytes status report
-
--- the answer's report was written whole
-abbrev pub WritesAnswer : Call → Type 0
-WritesAnswer call =
-    (report : Bytes) × HasAnswer call.words call.source call.status report
-    × Appends call.sink.old call.sink.new report
-
--- the sink failed, and its count of faults rose: a prefix of the answer's report was written
-abbrev pub WritesPrefix : Call → Type 0
-WritesPrefix call =
-    (call.status ≡ status.WriteFault) × Rose call.sink.before call.sink.now
-    × ((answer : Status) × (report : Bytes) × HasAnswer call.words call.source answer report
-    × AppendsPrefix call.sink.old call.sink.new report)
+HasAnswer = HasAnswerOf Answer
 
 -- the source failed, and its count of faults rose: nothing was written, and the words are such that read it
 abbrev pub FailsToRead : Call → Type 0
@@ -70,8 +51,9 @@ abbrev pub WantsMemory : Call → Type 0
 WantsMemory call =
     (call.status ≡ status.Memory) × Keeps call.sink.old call.sink.new × TakesMemory call.words
 
+-- with the answer's report written whole, with a prefix of it where the sink failed, or without one
 abbrev pub Ends : Call → Type 0
-Ends call = WritesAnswer call ⊎ (WritesPrefix call ⊎ (FailsToRead call ⊎ WantsMemory call))
+Ends call = WritesAnswerOf Answer call ⊎ (WritesPrefixOf Answer status.WriteFault call ⊎ (FailsToRead call ⊎ WantsMemory call))
 
 -- ---- which status comes
 

@@ -1,20 +1,23 @@
 //! The top call: the answer to words and a source, written to a sink.
 ghost use Rattle.std.specs.Prelude.{◌≡◌, ◌≤◌};
 ghost use Rattle.def_answer.specs.Sources.{ReadsSource, IsOfSource};
+ghost use Rattle.ms_io.specs.Endings.{call, Writes};
 ghost use Rattle.ms_io.specs.Faults.{Rose};
 ghost use Rattle.ms_io.specs.Sides.{side, ReadsFront, IsUnread};
-ghost use Rattle.msat_cli.specs.Scaffolding.Steps.{Writes, WritesResult};
-ghost use Rattle.msat_cli.specs.Ends.{call, Ends, EndsAsUsage, EndsAsAnswered, IsReadFor};
+ghost use Rattle.msat_cli.specs.Scaffolding.Steps.{WritesResult};
+ghost use Rattle.msat_cli.specs.Ends.{Ends, EndsAsUsage, EndsAsAnswered, IsReadFor};
 ghost use Rattle.msat_cli.specs.Audits.{ShowsAudit};
 ghost use Rattle.msat_cli.specs.Decodings.{ShowsReading};
 ghost use Rattle.msat_cli.specs.Plans.{ShowsPlan};
 ghost use Rattle.msat_cli.specs.Policies.{ShowsPolicy};
-ghost use Rattle.msat_cli.specs.Satisfactions.{FindsWhereOneExists, ShowsCanonical, ShowsWitness, ShowsAccepted, ShowsNonMalleable, FindsNothingToAccept, RefusesOtherTexts, ShowsLightest, ShowsTight, TellsUnchanged, ShowsLightestUnchanged};
+ghost use Rattle.msat_cli.specs.Satisfactions.{FindsWhereOneExists, ShowsCanonical, ShowsWitness, ShowsAccepted, ShowsNonMalleable};
+ghost use Rattle.msat_cli.specs.Satisfactions.{FindsNothingToAccept, RefusesOtherTexts, ShowsTight, TellsUnchanged, ShowsLightestUnchanged};
+ghost use Rattle.msat_cli.specs.Satisfactions.{ShowsLightest};
 
 use crate::answer::{Stop, answer_words};
 use bumpalo::Bump;
 use def_answer::Status;
-use ms_io::{Sink, Source, put_all};
+use ms_io::{Sink, Source, put_report};
 use ms_report::Answer;
 use ms_words::Word;
 use std::alloc::Global;
@@ -25,7 +28,7 @@ const TEXT_TOO_LONG: &[u8] = b"refused text TooLong\n";
 
 const FILE_TOO_LONG: &[u8] = b"refused file TooLong\n";
 
-/// Answers the words of a command line: makes the report, writes it to the sink by one call of `put_all`, and gives
+/// Answers the words of a command line: makes the report, writes it to the sink by one call of `put_report`, and gives
 /// the status. The words are `script TEXT`, `check TEXT`, `satisfy TEXT`, `satisfy --malleable TEXT`, each of them also with
 /// `--consensus` before TEXT, and `run`, `gen N`, `policy TEXT`, `plan TEXT`, `audit TEXT` and `decode HEX KEY..`. The source is
 /// read only for `run`, and for `satisfy`, `plan` and `audit` where the text was neither refused nor unfit.
@@ -111,11 +114,8 @@ fn write_answer<K: Sink>(sink: &mut K, answer: Result<Answer, Stop>) -> Status
 
 /// Writes a report with this status.
 fn write<K: Sink>(sink: &mut K, status: Status, report: &[u8]) -> Status
-    ensures end { Writes status report.now (side K.written K.faults sink.old sink.new) result }
+    ensures end { Writes Status.WriteFault status report.now (side K.written K.faults sink.old sink.new) result }
     ensures faults_later { K.faults sink.old ≤ K.faults sink.new }
 {
-    match put_all(sink, report) {
-        Ok(()) => status,
-        Err(_) => Status::WriteFault,
-    }
+    put_report(sink, report, status, Status::WriteFault)
 }

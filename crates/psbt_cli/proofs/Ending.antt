@@ -5,6 +5,7 @@ use Rattle.std.specs.Prelude.{Option, Result, ⊤}
 use Rattle.std.specs.List.{list_all}
 use Rattle.std.specs.Io.KnownBytes.{IsAtEnd}
 use Rattle.def_script.specs.Bytes.{Bytes}
+use Rattle.ms_io.specs.Endings.{Writes}
 use Rattle.ms_io.specs.Faults.{Rose}
 use Rattle.ms_io.specs.Sides.{Side, AreTold, Held}
 use Rattle.def_psbt.specs.declared.Refusal.{Refusal}
@@ -25,7 +26,7 @@ use Rattle.ms_psbt_replies.specs.declared.reply.Reply.{Reply as Made}
 use Rattle.psbt_cli.specs.declared.answer.Stop.{Stop}
 use Rattle.psbt_cli.specs.declared.answer.Stop.TheVariants as stop
 use Rattle.psbt_cli.specs.Ends.{Call, HasAnswer, Ends, IsFault, EndsAsUsage, EndsAsAnswered, TellsShortSource, IsReadFor}
-use Rattle.psbt_cli.specs.Scaffolding.Steps.{AnswersCommand, AnswersWords, EndsCommand, EndsWords, Writes, WritesResult}
+use Rattle.psbt_cli.specs.Scaffolding.Steps.{AnswersCommand, AnswersWords, EndsCommand, EndsWords, WritesResult}
 
 -- ---- the steps
 
@@ -80,7 +81,7 @@ has_answer words source answer report (inr (command, is, h)) =
 -- ---- how the call ends
 
 written : (call : Call) (answer : Status) (report : Bytes) → AnswersWords call.words call.source (reply answer report)
-    → Writes answer report call.sink call.status → Ends call
+    → Writes status.WriteFault answer report call.sink call.status → Ends call
 written call answer report a (inl w) =
     inl (report, subst (λ s. HasAnswer call.words call.source s report) (sym w.0) (has_answer call.words call.source answer report a), w.1)
 written call answer report a (inr w) =
@@ -216,7 +217,7 @@ read_answer words source r names (inl usage) = absurd (names usage.0)
 read_answer words source r names (inr (command, is, h)) = read_for command source r h
 
 read_written : (call : Call) (answer : Status) (report : Bytes) → command_of call.words ≢ None
-    → AnswersWords call.words call.source (reply answer report) → Writes answer report call.sink call.status → IsReadFor call.status call.source
+    → AnswersWords call.words call.source (reply answer report) → Writes status.WriteFault answer report call.sink call.status → IsReadFor call.status call.source
 read_written call answer report names a (inl w) =
     subst (λ s. IsReadFor s call.source) (sym w.0) (read_answer call.words call.source (reply answer report) names a)
 read_written call answer report names a (inr w) = subst (λ s. IsReadFor s call.source) (sym w.0) tt

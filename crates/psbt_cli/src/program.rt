@@ -2,16 +2,17 @@
 
 ghost use Rattle.std.specs.Prelude.{◌≡◌, ◌≢◌, ◌≤◌, None};
 ghost use Rattle.def_psbt_answer.specs.Words.{command_of};
+ghost use Rattle.ms_io.specs.Endings.{call, Writes};
 ghost use Rattle.ms_io.specs.Faults.{Rose};
 ghost use Rattle.ms_io.specs.Sides.{side, ReadsFront, IsUnread};
-ghost use Rattle.psbt_cli.specs.Ends.{call, Ends, EndsAsUsage, EndsAsAnswered, IsReadFor};
+ghost use Rattle.psbt_cli.specs.Ends.{Ends, EndsAsUsage, EndsAsAnswered, IsReadFor};
 ghost use Rattle.psbt_cli.specs.Shown.{ShowsFinalized, ShowsInspected, ShowsExtracted, ShowsHashes, RefusesSource};
 ghost use Rattle.psbt_cli.specs.Promises.{LosesNothing, ShowsWitnesses, TellsLacking, ExtractsTransaction};
-ghost use Rattle.psbt_cli.specs.Scaffolding.Steps.{Writes, WritesResult};
+ghost use Rattle.psbt_cli.specs.Scaffolding.Steps.{WritesResult};
 
 use crate::answer::{Stop, answer_words};
 use def_psbt_answer::Status;
-use ms_io::{Sink, Source, put_all};
+use ms_io::{Sink, Source, put_report};
 use ms_psbt_laws::laws::{network, written};
 use ms_psbt_replies::Reply;
 use ms_spend_laws::laws::{ready, tried, unsatisfied};
@@ -22,7 +23,7 @@ const USAGE: &[u8] = b"refused usage\n";
 
 const TOO_LONG: &[u8] = b"refused psbt TooLong\n";
 
-/// Answers the words of a command line: makes the report, writes it to the sink by one call of `put_all`, and gives the status.
+/// Answers the words of a command line: makes the report, writes it to the sink by one call of `put_report`, and gives the status.
 /// The words are one of `finalize`, `inspect`, `extract` and `hashes`, and the source holds a PSBT, as its bytes or as base64
 /// (BIP 174, version 0). The source is read only for these words.
 pub fn msat_psbt<S: Source, K: Sink>(
@@ -91,11 +92,8 @@ fn write_reply<K: Sink>(sink: &mut K, reply: Result<Reply, Stop>) -> Status
 
 /// Writes a report with this status.
 fn write<K: Sink>(sink: &mut K, status: Status, report: &[u8]) -> Status
-    ensures end { Writes status report.now (side K.written K.faults sink.old sink.new) result }
+    ensures end { Writes Status.WriteFault status report.now (side K.written K.faults sink.old sink.new) result }
     ensures faults_later { K.faults sink.old ≤ K.faults sink.new }
 {
-    match put_all(sink, report) {
-        Ok(()) => status,
-        Err(_) => Status::WriteFault,
-    }
+    put_report(sink, report, status, Status::WriteFault)
 }

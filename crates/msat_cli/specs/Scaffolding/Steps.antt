@@ -1,6 +1,5 @@
 -- The steps on the way to an answer: the reasons against a tree, and what a step answers.
 use Rattle.std.specs.Prelude.{◌≡◌, ◌≢◌, ℕ, ◌<◌, length, List, ⊤, Option, None, Result, Ok, Err, ◌⊎◌}
-use Rattle.std.specs.Io.KnownBytes.{Appends, Keeps}
 use Rattle.std.specs.String.{string_bytes}
 use Rattle.def_script.specs.Bytes.{Bytes}
 use Rattle.def_tree.specs.Tree.{Tree}
@@ -9,7 +8,7 @@ use Rattle.def_text.specs.declared.TextFault.TheVariants as text_fault
 use Rattle.def_sane.specs.declared.Unfit.{Unfit}
 use Rattle.def_sane.specs.Unfit.{first_unfit, first_unfit_valid}
 use Rattle.ms_io.specs.Faults.{Rose}
-use Rattle.ms_io.specs.Moves.{AppendsPrefix}
+use Rattle.ms_io.specs.Endings.{Writes, WritesNothing}
 use Rattle.def_answer.specs.declared.status.Status.{Status}
 use Rattle.def_answer.specs.declared.status.Status.TheVariants as status
 use Rattle.def_answer.specs.Answer.{script_reply, check_reply, policy_reply, Replies}
@@ -150,21 +149,11 @@ AsMade (Err e) result = result ≡ Err stop.Memory
 
 -- ---- how a report is written
 
--- whole, or up to a fault of the sink, which was counted
-abbrev pub Writes : Status → (report : Bytes) → (sink : Side) → Status → Type 0
-Writes answer report sink result =
-    ((result ≡ answer) × Appends sink.old sink.new report)
-    ⊎ ((result ≡ status.WriteFault) × AppendsPrefix sink.old sink.new report × Rose sink.before sink.now)
-
--- nothing is written
-abbrev pub WritesNothing : Status → (sink : Side) → Status → Type 0
-WritesNothing wanted sink result = (result ≡ wanted) × Keeps sink.old sink.new
-
 -- what is written of an answer, and with which status
 abbrev pub WritesResult : Result Answer Stop → (sink : Side) → Status → Type 0
-WritesResult (Ok answer) = Writes answer.status (string_bytes answer.report)
-WritesResult (Err stop.Usage) = Writes status.Usage usage_line
-WritesResult (Err stop.TextTooLong) = Writes status.TextRefused (text_line text_fault.TooLong)
-WritesResult (Err stop.FileTooLong) = Writes status.FileRefused file_too_long_line
+WritesResult (Ok answer) = Writes status.WriteFault answer.status (string_bytes answer.report)
+WritesResult (Err stop.Usage) = Writes status.WriteFault status.Usage usage_line
+WritesResult (Err stop.TextTooLong) = Writes status.WriteFault status.TextRefused (text_line text_fault.TooLong)
+WritesResult (Err stop.FileTooLong) = Writes status.WriteFault status.FileRefused file_too_long_line
 WritesResult (Err stop.ReadFault) = WritesNothing status.ReadFault
 WritesResult (Err stop.Memory) = WritesNothing status.Memory

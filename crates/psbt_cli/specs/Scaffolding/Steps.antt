@@ -1,9 +1,8 @@
 -- The steps on the way to an answer. No public clause cites it, so it need not be believed.
 use Rattle.std.specs.Prelude.{◌≡◌, ◌≢◌, ◌⊎◌, ⊤, List, None, Some, Result, Ok, Err}
-use Rattle.std.specs.Io.KnownBytes.{Appends, Keeps}
 use Rattle.def_script.specs.Bytes.{Bytes}
 use Rattle.ms_io.specs.Faults.{Rose}
-use Rattle.ms_io.specs.Moves.{AppendsPrefix}
+use Rattle.ms_io.specs.Endings.{Writes, WritesNothing}
 use Rattle.ms_io.specs.Sides.{Side, Held}
 use Rattle.def_psbt.specs.declared.Refusal.TheVariants.{TooLong}
 use Rattle.def_psbt.specs.Source.{MAX_SOURCE_SIZE, psbt_of}
@@ -52,20 +51,10 @@ abbrev pub EndsWords : (words : List Bytes) → (source : Side) → Result Made 
 EndsWords words source =
     Ended (AnswersWords words source) (Rose source.before source.now × (command_of words ≢ None)) (command_of words ≢ None)
 
--- how a report is written: whole, or up to a fault of the sink, which was counted
-abbrev pub Writes : Status → (report : Bytes) → (sink : Side) → Status → Type 0
-Writes answer report sink result =
-    ((result ≡ answer) × Appends sink.old sink.new report)
-    ⊎ ((result ≡ status.WriteFault) × AppendsPrefix sink.old sink.new report × Rose sink.before sink.now)
-
--- nothing is written
-abbrev pub WritesNothing : Status → (sink : Side) → Status → Type 0
-WritesNothing wanted sink result = (result ≡ wanted) × Keeps sink.old sink.new
-
 -- what is written of a reply, and with which status
 abbrev pub WritesResult : Result Made Stop → (sink : Side) → Status → Type 0
-WritesResult (Ok made) = Writes made.status (made.report.items)
-WritesResult (Err stop.Usage) = Writes status.Usage usage_line
-WritesResult (Err stop.TooLong) = Writes status.Refused (refusal_line TooLong)
+WritesResult (Ok made) = Writes status.WriteFault made.status (made.report.items)
+WritesResult (Err stop.Usage) = Writes status.WriteFault status.Usage usage_line
+WritesResult (Err stop.TooLong) = Writes status.WriteFault status.Refused (refusal_line TooLong)
 WritesResult (Err stop.ReadFault) = WritesNothing status.ReadFault
 WritesResult (Err stop.Memory) = WritesNothing status.Memory
