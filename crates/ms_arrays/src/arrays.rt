@@ -7,17 +7,11 @@ ghost use Rattle.ms_arrays.specs.ArrayAssets.{shape_refusals, assets_of_arrays};
 
 use crate::checking::check_pairs;
 use crate::cutting::{KEY_SIZE, PREIMAGE_SIZE, add_preimages, add_up_to, read_pairs};
-use ms_assets::{AssetFault, Assets, Member};
+use ms_assets::{AssetFault, Assets, MOST_PREIMAGES, MOST_SIGNATURES, Member};
 use ms_oracle::{Locks, Pairs, SigPair};
 use ms_tree::Key;
 use std::alloc::{AllocError, Global};
 use std::marker::Model;
-
-/// How many signatures assets hold at most.
-const MOST_SIGNATURES: usize = 256;
-
-/// How many preimages assets hold at most.
-const MOST_PREIMAGES: usize = 256;
 
 /// What a wallet holds, in arrays that were lent: the values of the locks; keys of 33 bytes one after the other, and signatures
 /// one after the other, at each place one of the key there, with their lengths; and preimages of 32 bytes one after the other.

@@ -7,17 +7,11 @@ ghost use Rattle.ms_arrays.specs.ArrayPlan.{plan_shape_refusals, entry_refusals,
 
 use crate::cutting::{KEY_SIZE, PREIMAGE_SIZE, add_preimages};
 use crate::entries::{Entry, check_entries, read_entries, table_of};
-use ms_assets::Assets;
+use ms_assets::{Assets, MOST_PREIMAGES};
 use ms_oracle::Locks;
-use ms_plan::{PlanFault, PlanFile, PlanMember};
+use ms_plan::{MOST_KEYS, PlanFault, PlanFile, PlanMember};
 use std::alloc::{AllocError, Global};
 use std::marker::Model;
-
-/// How many keys a plan is made by at most.
-const MOST_KEYS: usize = 256;
-
-/// How many preimages a plan is made by at most.
-const MOST_PREIMAGES: usize = 256;
 
 /// What a plan is made by, in arrays that were lent: the values of the locks; keys that can sign, of 33 bytes, one after the
 /// other, with how many bytes the signature of each is estimated to have; and preimages of 32 bytes, one after the other.

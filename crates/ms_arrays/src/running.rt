@@ -6,17 +6,11 @@ ghost use Rattle.ms_assets.specs.Runs.{run_seen};
 ghost use Rattle.ms_arrays.specs.ArrayRun.{run_shape_refusals, run_of_arrays};
 
 use crate::cutting::{KEY_SIZE, add_up_to, read_items, read_pairs};
-use ms_assets::{AssetFault, Member, RunFile};
+use ms_assets::{AssetFault, MOST_ELEMENTS, MOST_SIGNATURES, Member, RunFile};
 use ms_oracle::Locks;
 use ms_script::Blob;
 use std::alloc::{AllocError, Global};
 use std::marker::Model;
-
-/// How many signatures a run has at most.
-const MOST_SIGNATURES: usize = 256;
-
-/// How many elements the stack of a run has at most.
-const MOST_ELEMENTS: usize = 2000;
 
 /// A script, and the arrays of its run, which were lent: the items of the stack, bottom first and one after the other, with their
 /// lengths; and keys of 33 bytes, one after the other, with at each place a signature of the key there, one after the other, with

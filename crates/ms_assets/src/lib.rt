@@ -5,14 +5,14 @@
 #![tactic(auto)]
 
 pub use asset_file::{preimages_of, read_assets};
-pub use assets::{AddStop, Assets};
+pub use assets::{AddStop, Assets, MOST_PREIMAGES, MOST_SIGNATURES};
 pub use def_files::{AssetFault, Member};
 pub use list_fault::ListFault;
 pub use members::{
     few, list_at, member_name, number_of, read_json, read_locks, text_at, text_list,
 };
 pub use preimage::Preimage;
-pub use run_file::{RunFile, read_run};
+pub use run_file::{MOST_ELEMENTS, RunFile, read_run};
 pub use signatures::is_same_key;
 pub use texts::{spelled_at, strings_of};
 

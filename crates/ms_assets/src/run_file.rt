@@ -18,7 +18,7 @@ use serde_json::Value;
 use std::alloc::Global;
 
 /// How many elements the stack of a run file has.
-const MOST_ELEMENTS: usize = 2000;
+pub const MOST_ELEMENTS: usize = 2000;
 
 /// A script, the stack that it runs on, the values of the locks, and the signatures that are good.
 #[derive(Debug, Drop)]

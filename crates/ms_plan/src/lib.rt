@@ -4,7 +4,7 @@
 pub use asking::plan;
 pub use def_plan::{PlanFault, PlanMember};
 pub use estimate::Estimate;
-pub use lengths::{KeyLen, KeyLens, Keys, are_lengths, length_in};
+pub use lengths::{KeyLen, KeyLens, Keys, MOST_KEYS, are_lengths, length_in};
 pub use plan_file::{PlanFile, read_plan};
 pub use planned::Plan;
 

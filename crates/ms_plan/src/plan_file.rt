@@ -16,8 +16,8 @@ ghost use Rattle.ms_plan.specs.Scaffolding.Reading.{seen, file_with, parts_seen,
 use crate::lengths::{KeyLen, KeyLens, MOST_KEYS};
 use def_plan::{PlanFault, PlanMember};
 use ms_assets::{
-    Assets, ListFault, Member, Preimage, few, is_same_key, list_at, number_of, preimages_of,
-    read_json, read_locks, spelled_at, strings_of, text_at, text_list,
+    Assets, ListFault, MOST_PREIMAGES, Member, Preimage, few, is_same_key, list_at, number_of,
+    preimages_of, read_json, read_locks, spelled_at, strings_of, text_at, text_list,
 };
 use ms_oracle::Locks;
 use ms_script::{Blob, Stack, is_signature_size};
@@ -25,9 +25,6 @@ use ms_tree::Key;
 use serde_json::Value;
 use std::alloc::{AllocError, Global};
 use std::marker::Model;
-
-/// How many preimages a plan file has at most.
-const MOST_PREIMAGES: usize = 256;
 
 /// What a plan is made by. Contracts see the definition's plan file.
 #[derive(Debug, Drop)]
