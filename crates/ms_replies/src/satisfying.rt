@@ -8,7 +8,8 @@ ghost use Rattle.def_sane.specs.Unfit.{IsValidUnder};
 ghost use Rattle.def_satisfaction.specs.Satisfaction.{Sat};
 ghost use Rattle.ms_tree.specs.Shape.{shape};
 ghost use Rattle.def_answer.specs.Reply.{MOST_FILE, chosen_reply, satisfy_reply};
-ghost use Rattle.def_answer.specs.Report.{tree_limits_line, satisfy_report as the_satisfy_report};
+ghost use Rattle.def_answer.specs.Report.{satisfy_report as the_satisfy_report};
+ghost use Rattle.ms_report.specs.Bounds.{bounds_of};
 ghost use Rattle.ms_replies.specs.Choices.{chosen_by, rules_by, reason_by};
 ghost use Rattle.ms_replies.specs.Answering.{RepliesWith};
 
@@ -18,7 +19,7 @@ use ms_assets::{Assets, read_assets};
 use ms_nonmal::strict;
 use ms_oracle::{PairIndex, SigCheck};
 use ms_replay::carry;
-use ms_report::{Answer, satisfaction_report};
+use ms_report::{Answer, Bounds, satisfaction_report};
 use ms_sat::cheapest;
 use ms_script::Stack;
 use ms_tree::Tree;
@@ -26,23 +27,23 @@ use ms_words::Choice;
 use std::alloc::{AllocError, Global};
 
 /// The answer to an asset file of these bytes for a tree, as `satisfy` gives it: the file's refusal, or the
-/// satisfaction, or that there is none. It demands that there is no reason against the tree, that `limits` is the
-/// line of its limits, and that the file isn't too long. `AllocError` comes only where memory is wanting.
+/// satisfaction, or that there is none. It demands that there is no reason against the tree, that `bounds` is what
+/// is told of its limits, and that the file isn't too long. `AllocError` comes only where memory is wanting.
 pub fn assets_answer(
     alloc: Global,
     choice: Choice,
     tree: &Tree<'_>,
-    limits: &str,
+    bounds: Bounds,
     bytes: &[u8],
 ) -> Result<Answer, AllocError>
     requires in_range { IsInRange (shape tree.now) }
     requires fit { reason_by choice (shape tree.now) ≡ None }
-    requires limits { limits.now ≡ tree_limits_line (rules_by choice) (shape tree.now) }
+    requires bounds { bounds ≡ bounds_of (rules_by choice) (shape tree.now) }
     requires short { length bytes.now ≤ MOST_FILE }
     ensures { RepliesWith result (satisfy_reply (rules_by choice) (chosen_by choice) bytes.now (shape tree.now)) }
 {
     match read_assets(alloc, bytes) {
-        Ok(assets) => chosen_answer(alloc, choice, tree, limits, &assets),
+        Ok(assets) => chosen_answer(alloc, choice, tree, bounds, &assets),
         Err(fault) => file_answer(alloc, fault),
     }
 }
@@ -52,18 +53,18 @@ fn chosen_answer(
     alloc: Global,
     choice: Choice,
     tree: &Tree<'_>,
-    limits: &str,
+    bounds: Bounds,
     assets: &Assets,
 ) -> Result<Answer, AllocError>
     requires in_range { IsInRange (shape tree.now) }
     requires fit { reason_by choice (shape tree.now) ≡ None }
-    requires limits { limits.now ≡ tree_limits_line (rules_by choice) (shape tree.now) }
+    requires bounds { bounds ≡ bounds_of (rules_by choice) (shape tree.now) }
     ensures { RepliesWith result (chosen_reply (rules_by choice) (shape tree.now) assets.now (chosen_by choice (shape tree.now) assets.now)) }
 {
     match satisfaction(alloc, choice, tree, assets)? {
         Some(stack) => Ok(Answer {
             status: Status::Done,
-            report: satisfy_report(alloc, tree, limits, assets, &stack)?,
+            report: satisfy_report(alloc, tree, bounds, assets, &stack)?,
         }),
         None => Ok(Answer {
             status: Status::NoSatisfaction,
@@ -96,14 +97,14 @@ pub fn satisfaction(
 fn satisfy_report(
     alloc: Global,
     tree: &Tree<'_>,
-    limits: &str,
+    bounds: Bounds,
     assets: &Assets,
     stack: &Stack,
 ) -> Result<String, AllocError>
     requires in_range { IsInRange (shape tree.now) }
     requires valid { IsValidUnder Consensus (shape tree.now) }
     requires canonical { Sat (shape tree.now) assets.now stack.now }
-    ensures { (rules : Rules) → limits.now ≡ tree_limits_line rules (shape tree.now) → IfOk result (λ report. string_bytes report ≡ the_satisfy_report rules (shape tree.now) assets.now stack.now) }
+    ensures { (rules : Rules) → bounds ≡ bounds_of rules (shape tree.now) → IfOk result (λ report. string_bytes report ≡ the_satisfy_report rules (shape tree.now) assets.now stack.now) }
 {
     assets.are_assets();
     let pairs = assets.pairs();
@@ -112,7 +113,7 @@ fn satisfy_report(
     let carried = carry(alloc, tree, stack, assets, &sigs)?;
     satisfaction_report(
         alloc,
-        limits,
+        bounds,
         carried.script.as_slice(),
         stack,
         carried.witness.as_slice(),

@@ -1,4 +1,5 @@
 mod TreeLines
+pub mod ToldBounds
 mod ItemLines
 mod PlanLines
 mod PolicyLines

@@ -1,24 +1,15 @@
 -- The lines of a tree that passed.
-use Rattle.std.proofs.Common.{◌≡◌, ℕ, ◌++◌, [], Result, Ok, Err, IsOk, codes, refl, sym, ap, subst, ◌∙◌}
+use Rattle.std.proofs.Common.{◌≡◌, ◌++◌, [], codes, refl}
 use Rattle.def_script.specs.Bytes.{Bytes}
 use Rattle.def_tree.specs.Tree.{Tree}
-use Rattle.def_types.specs.declared.Ty.{Ty}
-use Rattle.def_types.specs.declared.rule.RuleAt.{RuleAt}
-use Rattle.def_types.specs.Corr.{corr}
-use Rattle.def_types.specs.Typed.{type_of, IsTyped, mall_of}
+use Rattle.def_types.specs.Typed.{type_of, mall_of}
 use Rattle.def_types.proofs.Typing.{corr_is_typed, mall_is_non_malleable}
-use Rattle.def_sane.specs.declared.Limits.{Limits}
-use Rattle.def_sane.specs.Limits.{AreLimits, limits_of}
 use Rattle.def_sane.specs.declared.Sane.{Sane}
 use Rattle.def_sane.specs.declared.Rules.{Rules}
-use Rattle.def_sane.specs.declared.Rules.TheVariants.{Policy, Consensus}
 use Rattle.def_sane.specs.Unfit.{IsKnownSaneUnder}
-use Rattle.def_sane.proofs.Greatest.{limits_are_unique}
-use Rattle.def_height.specs.Height.{IsHeight}
-use Rattle.def_height.proofs.Found.{height_is_unique}
 use Rattle.def_text.specs.Print.{printed}
 use Rattle.def_emit.specs.Emit.{script_of}
-use Rattle.def_answer.specs.Lines.{line, script_line, program_line, limits_line, limits_line_under}
+use Rattle.def_answer.specs.Lines.{line, script_line, program_line}
 use Rattle.def_answer.specs.Report.{type_letters, tree_limits_line, check_report}
 
 known_type : (rules : Rules) (t : Tree) (sane : Sane) → IsKnownSaneUnder rules t sane → sane.ty ≡ type_of t
@@ -37,20 +28,3 @@ sane_lines rules t sane text letters script limits none first second third all k
     let is_type = known_type rules t sane known in
     let is_mall = known_mall rules t sane known in
     rw (e4, e3, e2, e1, e0, is_text, is_letters, is_script, is_limits, is_type, is_mall) (refl {a = check_report rules t})
-
--- the line of the limits, by policy and by consensus
-pub policy_line : (rules : Rules) (tree : Tree) (limits : Limits) (text : Bytes) → rules ≡ Policy → AreLimits tree limits → text ≡ limits_line limits
-    → text ≡ tree_limits_line rules tree
-policy_line rules tree limits text is are e =
-    subst (λ r. text ≡ tree_limits_line r tree) (sym is) (e ∙ ap limits_line (limits_are_unique tree limits are))
-
-pub consensus_line : (rules : Rules) (tree : Tree) (limits : Limits) (height : ℕ) (text : Bytes) → rules ≡ Consensus → IsOk (corr tree) → AreLimits tree limits
-    → IsHeight tree height → text ≡ limits_line_under Consensus limits height → text ≡ tree_limits_line rules tree
-consensus_line rules tree limits height text is typed are high e =
-    let has = height_is_unique tree (typed_by (corr tree) refl typed) height high in
-    subst (λ r. text ≡ tree_limits_line r tree) (sym is)
-    (e ∙ ap (λ (l : Limits). limits_line_under Consensus l height) (limits_are_unique tree limits are) ∙ ap (limits_line_under Consensus (limits_of tree)) has)
-  where
-    typed_by : (r : Result Ty RuleAt) → corr tree ≡ r → IsOk r → IsTyped tree
-    typed_by (Ok ty) e ok = ((corr_is_typed tree ty).0 e).0
-    typed_by (Err at) e ok = cc ok

@@ -4,7 +4,7 @@
 pub use answer::Answer;
 pub use audits::audit_report;
 pub use files::{file_line, plan_file_line};
-pub use limits::{limits_line, tree_limits_line};
+pub use limits::{Bounds, bounds_line, bounds_of, limits_line};
 pub use names::rule_name;
 pub use plans::plan_report;
 pub use policies::policy_report;

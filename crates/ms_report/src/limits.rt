@@ -1,4 +1,4 @@
-//! The lines of a tree's limits.
+//! The limits of a tree, and the lines of them.
 ghost use Rattle.std.specs.Prelude.{◌≡◌, ◌*◌, ◌≤◌, IfOk, IsOk, vec_len};
 ghost use Rattle.std.specs.String.{string_bytes};
 ghost use Rattle.def_tree.specs.Range.{IsInRange};
@@ -8,32 +8,50 @@ ghost use Rattle.def_tree.specs.Size.{measure};
 ghost use Rattle.def_types.specs.Corr.{corr};
 ghost use Rattle.ms_tree.specs.Shape.{shape};
 ghost use Rattle.def_answer.specs.Lines.{limits_line as the_limits_line, limits_line_under};
-ghost use Rattle.def_answer.specs.Report.{tree_limits_line as the_tree_limits_line};
+ghost use Rattle.ms_report.specs.Bounds.{bounds_of as the_bounds_of, bounds_line as the_bounds_line};
 
 use ms_height::height;
 use ms_sane::{Limits, Rules, Work};
 use ms_tree::Tree;
 use std::alloc::{AllocError, Global};
 
-/// The line of a tree's limits, which tells by the rules of consensus its height too: nothing else bounds the items
-/// there. It demands that the limits are the tree's, and lends `work` to the height, four slots for each unit of the
-/// tree's measure. `AllocError` comes only where memory is wanting.
-pub fn tree_limits_line(
-    alloc: Global,
-    rules: Rules,
-    tree: &Tree<'_>,
-    limits: Limits,
-    work: &mut Work,
-) -> Result<String, AllocError>
+/// What is told of the limits of a tree.
+#[derive(Clone, Copy, Debug, PartialEq, Eq)]
+pub struct Bounds {
+    /// The limits.
+    pub limits: Limits,
+    /// The height, where nothing else bounds the items: by the rules of consensus.
+    pub height: Option<u64>,
+}
+
+/// What is told of the limits of a tree by these rules. It demands that the limits are the tree's, and lends `work` to the
+/// height, four slots for each unit of the tree's measure. Takes no memory.
+pub fn bounds_of(rules: Rules, tree: &Tree<'_>, limits: Limits, work: &mut Work) -> Bounds
     requires range { IsInRange (shape tree.now) }
     requires typed { IsOk (corr (shape tree.now)) }
     requires limits { AreLimits (shape tree.now) limits }
     requires room { 4 * measure (shape tree.now) ≤ vec_len work.old.slots }
-    ensures { IfOk result (λ text. string_bytes text ≡ the_tree_limits_line rules (shape tree.now)) }
+    ensures { result ≡ the_bounds_of rules (shape tree.now) }
 {
     match rules {
-        Rules::Policy => limits_line(alloc, limits),
-        Rules::Consensus => height_line(alloc, limits, height(tree, work)),
+        Rules::Policy => Bounds {
+            limits,
+            height: None,
+        },
+        Rules::Consensus => Bounds {
+            limits,
+            height: Some(height(tree, work)),
+        },
+    }
+}
+
+/// The line of what is told of a tree's limits. `AllocError` comes only where memory is wanting.
+pub fn bounds_line(alloc: Global, bounds: Bounds) -> Result<String, AllocError>
+    ensures { IfOk result (λ text. string_bytes text ≡ the_bounds_line bounds) }
+{
+    match bounds.height {
+        None => limits_line(alloc, bounds.limits),
+        Some(height) => height_line(alloc, bounds.limits, height),
     }
 }
 

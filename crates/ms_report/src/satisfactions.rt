@@ -3,32 +3,34 @@ ghost use Rattle.std.specs.Prelude.{◌≡◌, ◌≤◌, ◌^◌, ◌++◌, fla
 ghost use Rattle.std.specs.String.{string_bytes};
 ghost use Rattle.def_machine.specs.Run.{accepted};
 ghost use Rattle.def_answer.specs.Report.{item_line, replay_line as the_replay_line};
+ghost use Rattle.ms_report.specs.Bounds.{bounds_line as the_bounds_line};
 ghost use Rattle.ms_report.specs.Satisfactions.{satisfaction_lines};
 ghost use Rattle.def_script.specs.Witness.{weight as the_weight};
 
+use crate::limits::{Bounds, bounds_line};
 use crate::lines::{push_line, push_output};
 use ms_interp::RunReport;
 use ms_script::Stack;
 use std::alloc::{AllocError, Global};
 
 /// The Script, its program, the limits, the satisfaction, its witness, and what the replay of the witness counted: what
-/// `satisfy` prints. `limits` is the line of the tree's limits. It demands that the stack weighs at most 2^40, as each
-/// satisfaction does. `AllocError` comes only where memory is wanting.
+/// `satisfy` prints. It demands that the stack weighs at most 2^40, as each satisfaction does. `AllocError` comes only
+/// where memory is wanting.
 #[tactic(auto, unfolding(crate::specs::Satisfactions::satisfaction_lines))]
 pub fn satisfaction_report(
     alloc: Global,
-    limits: &str,
+    bounds: Bounds,
     script: &[u8],
     stack: &Stack,
     witness: &[u8],
     run: &RunReport,
 ) -> Result<String, AllocError>
     requires { the_weight stack.now ≤ 2 ^ 40 }
-    ensures { IfOk result (λ report. string_bytes report ≡ satisfaction_lines limits.now script.now stack.now witness.now (accepted run.now.ops run.now.peak run.now.checks)) }
+    ensures { IfOk result (λ report. string_bytes report ≡ satisfaction_lines (the_bounds_line bounds) script.now stack.now witness.now (accepted run.now.ops run.now.peak run.now.checks)) }
 {
     let mut report = String::new(alloc);
     push_output(alloc, &mut report, script)?;
-    report.push_str(limits)?;
+    report.push_str(&bounds_line(alloc, bounds)?)?;
     push_items(alloc, &mut report, stack)?;
     push_line(&mut report, "witness ", &hex::encode(alloc, witness)?)?;
     report.push_str(&replay_line(alloc, stack, run)?)?;

@@ -7,7 +7,7 @@ ghost use Rattle.def_tree.specs.Size.{measure};
 ghost use Rattle.ms_tree.specs.Shape.{shape};
 ghost use Rattle.def_answer.specs.Report.{script_report as the_script_report, check_report as the_check_report, decode_report as the_decode_report, type_letters as the_type_letters, letter};
 
-use crate::limits::tree_limits_line;
+use crate::limits::{bounds_line, bounds_of};
 use crate::lines::{push_line, push_output};
 use crate::names::base_letter;
 use ms_emit::script_bytes;
@@ -53,7 +53,8 @@ pub fn check_report(
         &type_letters(alloc, sane.ty, sane.mall)?,
     )?;
     push_output(alloc, &mut report, script_bytes(alloc, tree)?.as_slice())?;
-    report.push_str(&tree_limits_line(alloc, rules, tree, sane.limits, work)?)?;
+    let bounds = bounds_of(rules, tree, sane.limits, work);
+    report.push_str(&bounds_line(alloc, bounds)?)?;
     Ok(report)
 }
 

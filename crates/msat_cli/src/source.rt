@@ -4,7 +4,7 @@ ghost use Rattle.def_tree.specs.Range.{IsInRange};
 ghost use Rattle.def_sane.specs.Unfit.{IsSane, IsValid};
 ghost use Rattle.ms_answer_laws.specs.Laws.{walked};
 ghost use Rattle.def_answer.specs.Reply.{MOST_FILE as most_file, satisfy_reply, run_reply, plan_reply, audit_reply};
-ghost use Rattle.def_answer.specs.Report.{tree_limits_line};
+ghost use Rattle.ms_report.specs.Bounds.{bounds_of};
 ghost use Rattle.ms_tree.specs.Shape.{shape};
 ghost use Rattle.ms_replies.specs.Choices.{chosen_by, rules_by, reason_by};
 ghost use Rattle.ms_io.specs.Sides.{side, ReadsFront, Held};
@@ -13,7 +13,7 @@ ghost use Rattle.msat_cli.specs.Scaffolding.Steps.{StopsReading, EndsFile};
 use crate::answer::{Stop, or_memory};
 use ms_io::{ReadStop, Source, read_all};
 use ms_replies::{assets_answer, audit_answer, plan_answer, run_answer};
-use ms_report::Answer;
+use ms_report::{Answer, Bounds};
 use ms_text::TextTree;
 use ms_tree::Tree;
 use ms_words::Choice;
@@ -23,25 +23,23 @@ use std::alloc::Global;
 pub const MOST_FILE: usize = 1_048_576;
 
 /// Answers with the satisfaction of a tree by the assets of the file that the source holds. There is no reason
-/// against the tree, and `limits` is the line of its limits.
+/// against the tree, and `bounds` is what is told of its limits.
 pub fn answer_satisfaction<S: Source>(
     alloc: Global,
     choice: Choice,
     tree: &Tree<'_>,
-    limits: &str,
+    bounds: Bounds,
     source: &mut S,
 ) -> Result<Answer, Stop>
     requires in_range { IsInRange (shape tree.now) }
     requires fit { reason_by choice (shape tree.now) ≡ None }
-    requires limits { limits.now ≡ tree_limits_line (rules_by choice) (shape tree.now) }
+    requires bounds { bounds ≡ bounds_of (rules_by choice) (shape tree.now) }
     ensures answer { EndsFile (λ bytes. satisfy_reply (rules_by choice) (chosen_by choice) bytes (shape tree.now)) (side S.left S.faults source.old source.new) result }
     ensures later { S.faults source.old ≤ S.faults source.new }
     ensures front { ReadsFront (S.left source.old) (S.left source.new) }
 {
-    match read_file(alloc, source) {
-        Ok(bytes) => or_memory(assets_answer(alloc, choice, tree, limits, &bytes)),
-        Err(stop) => Err(stop),
-    }
+    let bytes = read_file(alloc, source)?;
+    or_memory(assets_answer(alloc, choice, tree, bounds, &bytes))
 }
 
 /// Answers which keys to ask for a signature for a tree, by the plan file that the source holds. The tree is sane.
@@ -56,10 +54,8 @@ pub fn answer_plan<S: Source>(
     ensures later { S.faults source.old ≤ S.faults source.new }
     ensures front { ReadsFront (S.left source.old) (S.left source.new) }
 {
-    match read_file(alloc, source) {
-        Ok(bytes) => or_memory(plan_answer(alloc, tree, &bytes)),
-        Err(stop) => Err(stop),
-    }
+    let bytes = read_file(alloc, source)?;
+    or_memory(plan_answer(alloc, tree, &bytes))
 }
 
 /// Answers how the stack of the run file that the source holds satisfies the tree of a text, which is valid.
@@ -74,10 +70,8 @@ pub fn answer_audit<S: Source>(
     ensures later { S.faults source.old ≤ S.faults source.new }
     ensures front { ReadsFront (S.left source.old) (S.left source.new) }
 {
-    match read_file(alloc, source) {
-        Ok(bytes) => or_memory(audit_answer(alloc, text, &bytes)),
-        Err(stop) => Err(stop),
-    }
+    let bytes = read_file(alloc, source)?;
+    or_memory(audit_answer(alloc, text, &bytes))
 }
 
 /// Answers the run of the file that the source holds.
@@ -86,10 +80,8 @@ pub fn answer_run<S: Source>(alloc: Global, source: &mut S) -> Result<Answer, St
     ensures later { S.faults source.old ≤ S.faults source.new }
     ensures front { ReadsFront (S.left source.old) (S.left source.new) }
 {
-    match read_file(alloc, source) {
-        Ok(bytes) => or_memory(run_answer(alloc, &bytes)),
-        Err(stop) => Err(stop),
-    }
+    let bytes = read_file(alloc, source)?;
+    or_memory(run_answer(alloc, &bytes))
 }
 
 /// Reads the file that the source holds.

@@ -23,7 +23,7 @@ use def_text::TextFault;
 use ms_io::Source;
 use ms_replies::{Demand, Fit, Known, Misfit, demand_of, fit_tree};
 use ms_report::{
-    Answer, check_report, policy_report, script_report, text_line, tree_limits_line, unfit_line,
+    Answer, bounds_of, check_report, policy_report, script_report, text_line, unfit_line,
 };
 use ms_sane::{Rules, Unfit};
 use ms_text::{TextTree, read_text};
@@ -143,11 +143,9 @@ fn answer_satisfy<S: Source>(
     ensures later { S.faults source.old ≤ S.faults source.new }
     ensures front { ReadsFront (S.left source.old) (S.left source.new) }
 {
-    let (rules, limits) = (rules_of(choice), fit.known.limits());
-    match tree_limits_line(alloc, rules, tree, limits, &mut fit.work) {
-        Ok(line) => answer_satisfaction(alloc, choice, tree, &line, source),
-        Err(AllocError) => Err(Stop::Memory),
-    }
+    let limits = fit.known.limits();
+    let bounds = bounds_of(rules_of(choice), tree, limits, &mut fit.work);
+    answer_satisfaction(alloc, choice, tree, bounds, source)
 }
 
 /// The rules by which the text of a satisfaction has to be sane or valid.

@@ -1,0 +1,48 @@
+-- What is told of the limits of a tree is unique, and its line is that of the tree.
+use Rattle.std.proofs.Common.{◌≡◌, ℕ, Result, Ok, Err, IsOk, Some, None, refl, sym, ap, subst, ◌∙◌}
+use Rattle.def_tree.specs.Tree.{Tree}
+use Rattle.def_types.specs.declared.Ty.{Ty}
+use Rattle.def_types.specs.declared.rule.RuleAt.{RuleAt}
+use Rattle.def_types.specs.Corr.{corr}
+use Rattle.def_types.specs.Typed.{IsTyped}
+use Rattle.def_types.proofs.Typing.{corr_is_typed}
+use Rattle.def_sane.specs.declared.Limits.{Limits}
+use Rattle.def_sane.specs.Limits.{AreLimits, limits_of}
+use Rattle.def_sane.specs.declared.Rules.{Rules}
+use Rattle.def_sane.specs.declared.Rules.TheVariants.{Policy, Consensus}
+use Rattle.def_sane.proofs.Greatest.{limits_are_unique}
+use Rattle.def_height.specs.Height.{IsHeight}
+use Rattle.def_height.proofs.Found.{height_is_unique}
+use Rattle.def_answer.specs.Report.{tree_limits_line}
+use Rattle.ms_report.specs.declared.limits.Bounds.{Bounds}
+use Rattle.ms_report.specs.Bounds.{bounds_of, bounds_line}
+
+-- what is told by policy and by consensus
+abbrev policy_bounds : (limits : Limits) → Bounds
+policy_bounds limits = record { limits = limits; height = None }
+
+abbrev consensus_bounds : (limits : Limits) (height : ℕ) → Bounds
+consensus_bounds limits height = record { limits = limits; height = Some height }
+
+pub told_by_policy : (rules : Rules) (tree : Tree) (limits : Limits) → rules ≡ Policy → AreLimits tree limits → policy_bounds limits ≡ bounds_of rules tree
+told_by_policy rules tree limits is are =
+    subst (λ r. policy_bounds limits ≡ bounds_of r tree) (sym is) (ap policy_bounds (limits_are_unique tree limits are))
+
+pub told_by_consensus : (rules : Rules) (tree : Tree) (limits : Limits) (height : ℕ) → rules ≡ Consensus → IsOk (corr tree) → AreLimits tree limits
+    → IsHeight tree height → consensus_bounds limits height ≡ bounds_of rules tree
+told_by_consensus rules tree limits height is typed are high =
+    let has = height_is_unique tree (typed_by (corr tree) refl typed) height high in
+    subst (λ r. consensus_bounds limits height ≡ bounds_of r tree) (sym is)
+    (ap (λ l. consensus_bounds l height) (limits_are_unique tree limits are) ∙ ap (consensus_bounds (limits_of tree)) has)
+  where
+    typed_by : (r : Result Ty RuleAt) → corr tree ≡ r → IsOk r → IsTyped tree
+    typed_by (Ok ty) e ok = ((corr_is_typed tree ty).0 e).0
+    typed_by (Err at) e ok = cc ok
+
+-- the line of a tree's limits
+line_of : (rules : Rules) (tree : Tree) → bounds_line (bounds_of rules tree) ≡ tree_limits_line rules tree
+line_of Policy tree = refl
+line_of Consensus tree = refl
+
+pub told_bounds : (rules : Rules) (tree : Tree) (bounds : Bounds) → bounds ≡ bounds_of rules tree → bounds_line bounds ≡ tree_limits_line rules tree
+told_bounds rules tree bounds is = ap bounds_line is ∙ line_of rules tree
