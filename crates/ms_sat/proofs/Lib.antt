@@ -15,5 +15,3 @@ pub mod Rules
 pub mod Counts
 pub mod Rows
 pub mod StrictBounds
-mod SeenRows
-mod Weighed

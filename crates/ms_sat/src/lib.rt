@@ -2,7 +2,6 @@
 #![tactic(auto)]
 
 mod cost;
-mod row;
 mod rule;
 mod satisfy;
 mod table;

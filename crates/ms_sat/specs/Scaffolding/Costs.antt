@@ -5,7 +5,6 @@ use Rattle.def_machine.specs.Stacks.{Stack}
 use Rattle.def_script.specs.Witness.{weight}
 use Rattle.def_choice.specs.Cheapest.{Child}
 use Rattle.ms_choice.specs.declared.children.Costs.{Costs}
-use Rattle.ms_rows.specs.Reading.{Reader}
 
 -- the weight of both together
 abbrev pub sum_of : (below above : Option ℕ) → Option ℕ
@@ -29,16 +28,3 @@ costs_of_child child = record { sat = weight_of child.sat; dsat = weight_of chil
 
 abbrev pub costs_of : List Child → List Costs
 costs_of = map costs_of_child
-
--- what ways weigh, where the children weigh so much
-abbrev pub weights : Reader Costs (Option ℕ)
-weights = record {
-  sat = λ c. c.sat;
-  dsat = λ c. c.dsat;
-  one = Some 2;
-  empty = Some 1;
-  nothing = Some 0;
-  never = None;
-  both = sum_of;
-  either = lesser;
-}
