@@ -8,7 +8,7 @@ use Rattle.def_script.specs.Bytes.{Bytes}
 use Rattle.def_machine.specs.Stacks.{Stack, Pairs}
 use Rattle.def_tree.specs.declared.Two.TheVariants as kind
 use Rattle.def_tree.specs.declared.Wrapper.TheVariants as wrapper
-use Rattle.def_tree.specs.Tree.{Tree, Trees, Key, just_0, just_1, pk_k, pk_h, older, after, hash, and_or, two, thresh, multi, wrap, none, more}
+use Rattle.def_tree.specs.Tree.{Tree, Trees, Key, just_0, just_1, pk_k, pk_h, and_or, two, thresh, multi, wrap, none, more}
 use Rattle.def_tree.specs.Range.{count}
 use Rattle.def_assets.specs.Assets.{Assets, sig_of}
 use Rattle.def_script.specs.Witness.{weight}
@@ -233,8 +233,8 @@ module _ (assets : Assets) (pairs : Pairs) where
     Alike t = (taken assets t ≡ taken there t) × Same (taken assets t) (strict_of assets t) (strict_of there t)
 
     -- below, and on top
-    under : (x : Tree) (d : Option Stack) → Alike x → Same (taken assets x) (both d (strict_of assets x)) (both d (strict_of there x))
-    under x d h = same_both (taken assets x) [] (taken assets x) d (strict_of assets x) d (strict_of there x) (union-above (taken assets x)) (same_plain d) h.1
+    under : (x : Tree) (d : Option Stack) → Alike x → Same (taken assets x ++ []) (both d (strict_of assets x)) (both d (strict_of there x))
+    under x d h = same_both _ [] (taken assets x) d (strict_of assets x) d (strict_of there x) (union-append (taken assets x) []) (same_plain d) h.1
 
     over : (x : Tree) (d : Option Stack) → Alike x → Same (taken assets x) (both (strict_of assets x) d) (both (strict_of there x) d)
     over x d h = same_both (taken assets x) (taken assets x) [] (strict_of assets x) d (strict_of there x) d (union-below (taken assets x)) h.1 (same_plain d)
@@ -264,9 +264,6 @@ module _ (assets : Assets) (pairs : Pairs) where
         same_both (key ∷ []) (key ∷ []) [] (item (sig_of assets key)) (Some (key ∷ [])) (item (sig_of there key)) (Some (key ∷ []))
             (union-below (key ∷ [])) (same_item key) (same_plain (Some (key ∷ []))),
       )
-      same_strict (older n) = (refl, same_plain _)
-      same_strict (after n) = (refl, same_plain _)
-      same_strict (hash kind value) = (refl, same_plain _)
       same_strict (and_or x y z) =
           one_taken (taken assets x ++ taken assets y) (taken assets z) (taken there x ++ taken there y) (taken there z)
           (both (free assets y) (free assets x)) (both (free assets z) (dissatisfaction x))
@@ -276,29 +273,23 @@ module _ (assets : Assets) (pairs : Pairs) where
       same_strict (two kind.AndV x y) = (both_taken x y (same_strict x) (same_strict y), together x y (same_strict x) (same_strict y))
       same_strict (two kind.AndB x y) = (both_taken x y (same_strict x) (same_strict y), together x y (same_strict x) (same_strict y))
       same_strict (two kind.OrB x z) =
-          one_taken (taken assets x) (taken assets z) (taken there x) (taken there z)
+          one_taken (taken assets x ++ []) (taken assets z) (taken there x ++ []) (taken there z)
           (both (dissatisfaction z) (free assets x)) (both (free assets z) (dissatisfaction x))
           (both (dissatisfaction z) (strict_of assets x)) (both (strict_of assets z) (dissatisfaction x))
           (both (dissatisfaction z) (strict_of there x)) (both (strict_of there z) (dissatisfaction x))
-          (same_strict x).0 (same_strict z).0 (under x (dissatisfaction z) (same_strict x)) (over z (dissatisfaction x) (same_strict z))
-      same_strict (two kind.OrC x z) =
-          one_taken (taken assets x) (taken assets z) (taken there x) (taken there z)
-          (free assets x) (both (free assets z) (dissatisfaction x))
-          (strict_of assets x) (both (strict_of assets z) (dissatisfaction x))
-          (strict_of there x) (both (strict_of there z) (dissatisfaction x))
-          (same_strict x).0 (same_strict z).0 (same_strict x).1 (over z (dissatisfaction x) (same_strict z))
-      same_strict (two kind.OrD x z) =
-          one_taken (taken assets x) (taken assets z) (taken there x) (taken there z)
-          (free assets x) (both (free assets z) (dissatisfaction x))
-          (strict_of assets x) (both (strict_of assets z) (dissatisfaction x))
-          (strict_of there x) (both (strict_of there z) (dissatisfaction x))
-          (same_strict x).0 (same_strict z).0 (same_strict x).1 (over z (dissatisfaction x) (same_strict z))
+          (ap (λ l. l ++ []) (same_strict x).0) (same_strict z).0 (under x (dissatisfaction z) (same_strict x)) (over z (dissatisfaction x) (same_strict z))
       same_strict (two kind.OrI x z) =
           one_taken (taken assets x) (taken assets z) (taken there x) (taken there z)
           (both (free assets x) (Some (ONE ∷ []))) (both (free assets z) (Some (EMPTY ∷ [])))
           (both (strict_of assets x) (Some (ONE ∷ []))) (both (strict_of assets z) (Some (EMPTY ∷ [])))
           (both (strict_of there x) (Some (ONE ∷ []))) (both (strict_of there z) (Some (EMPTY ∷ [])))
           (same_strict x).0 (same_strict z).0 (over x (Some (ONE ∷ [])) (same_strict x)) (over z (Some (EMPTY ∷ [])) (same_strict z))
+      same_strict (two which x z) =
+          one_taken (taken assets x) (taken assets z) (taken there x) (taken there z)
+          (free assets x) (both (free assets z) (dissatisfaction x))
+          (strict_of assets x) (both (strict_of assets z) (dissatisfaction x))
+          (strict_of there x) (both (strict_of there z) (dissatisfaction x))
+          (same_strict x).0 (same_strict z).0 (same_strict x).1 (over z (dissatisfaction x) (same_strict z))
       same_strict (thresh k xs) =
           let listed = filter (has_all (free_children assets xs)) (sets (count xs) k) in
           let s = same_sets (taken_of_children assets xs) (stack_of (strict_children assets xs)) (stack_of (strict_children there xs)) (λ set. (same_children xs set).1) listed in
@@ -313,13 +304,9 @@ module _ (assets : Assets) (pairs : Pairs) where
             same_both _ [] (keys_of_set own (signers_taken assets k own)) (Some (EMPTY ∷ [])) (signatures assets k own) (Some (EMPTY ∷ [])) (signatures there k own)
                 (union-above (keys_of_set own (signers_taken assets k own))) (same_plain (Some (EMPTY ∷ []))) s.1,
           )
-      same_strict (wrap wrapper.A x) = same_strict x
-      same_strict (wrap wrapper.S x) = same_strict x
-      same_strict (wrap wrapper.C x) = same_strict x
       same_strict (wrap wrapper.D x) = ((same_strict x).0, over x (Some (ONE ∷ [])) (same_strict x))
-      same_strict (wrap wrapper.V x) = same_strict x
-      same_strict (wrap wrapper.J x) = same_strict x
-      same_strict (wrap wrapper.N x) = same_strict x
+      same_strict (wrap letter x) = same_strict x
+      same_strict tree = (refl, same_plain _)
 
       same_children : (xs : Trees) (set : List Bool) → (taken_of_children assets xs set ≡ taken_of_children there xs set) ×
           Same (taken_of_children assets xs set) (stack_of (strict_children assets xs) set) (stack_of (strict_children there xs) set)

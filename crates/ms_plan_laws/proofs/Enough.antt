@@ -10,7 +10,7 @@ use Rattle.def_machine.specs.Stacks.{Stack, Pairs}
 use Rattle.def_machine.specs.MultiSig.{is_good}
 use Rattle.def_tree.specs.declared.Two.TheVariants as kind
 use Rattle.def_tree.specs.declared.Wrapper.TheVariants as wrapper
-use Rattle.def_tree.specs.Tree.{Tree, Trees, Key, just_0, just_1, pk_k, pk_h, older, after, hash, and_or, two, thresh, multi, wrap, none, more}
+use Rattle.def_tree.specs.Tree.{Tree, Trees, Key, pk_k, pk_h, and_or, two, thresh, multi, wrap, none, more}
 use Rattle.def_tree.specs.Range.{IsWritable, AreWritable, count}
 use Rattle.def_assets.specs.Assets.{Assets, AreAssets, sig_of}
 use Rattle.def_script.specs.Witness.{weight}
@@ -33,8 +33,7 @@ use Rattle.def_choice.proofs.TightFree.{tight_free, free_dsat}
 use Rattle.def_plan.specs.Taken.{takes_former, children_taken, signers_taken, keys_of_set, taken, taken_of_children}
 use Rattle.def_choice.proofs.StrictTight.{free_best, free_dsat_best, below_free, always}
 use Rattle.def_choice.proofs.Keys.{without_last}
-use Rattle.ms_plan_laws.proofs.Options.{first_taken, both_joined, item_is}
-use Rattle.ms_plan_laws.proofs.Sets.{each-filter, ones, IsSet, sets_are, set_is_taken}
+use Rattle.ms_plan_laws.proofs.Sets.{first_taken, both_joined, item_is, each-filter, ones, IsSet, sets_are, set_is_taken}
 use Rattle.ms_plan_laws.proofs.Moved.{with_pairs}
 
 -- the last key's signature behind the others'
@@ -160,15 +159,10 @@ module _ (Light : Type 0) where
 
     mutual
       pub taken_enough : (t : Tree) → IsWritable t → Signed (taken assets t) → Enough (strict_of assets t) (TightSat there t)
-      taken_enough just_0 w h = one_enough _ _ (sat_best assets are just_0 w).is
-      taken_enough just_1 w h = one_enough _ _ (sat_best assets are just_1 w).is
       taken_enough (pk_k key) w h = item_enough key h
       taken_enough (pk_h key) w h = λ v e.
           let x = both_enough _ _ _ _ (item_enough key h) (is_enough key) v e in
           (x.0, (key, w.form, refl, refl, x.1), x.2)
-      taken_enough (older n) w h = one_enough _ _ (sat_best assets are (older n) w).is
-      taken_enough (after n) w h = one_enough _ _ (sat_best assets are (after n) w).is
-      taken_enough (hash kind value) w h = one_enough _ _ (sat_best assets are (hash kind value) w).is
       taken_enough (and_or x y z) w h =
           first_enough _ _ _ _ _ _ _ _
           (best_both _ _ _ _ (free_best assets are y w.1) (free_best assets are x w.0))
@@ -188,24 +182,8 @@ module _ (Light : Type 0) where
           (best_both _ _ _ _ (free_best assets are z w.1) (free_dsat_best assets are x w.0))
           (below_free _ _ _ _ (always _ _ (free_dsat there z)) (tight_free there x))
           (below_free _ _ _ _ (tight_free there z) (always _ _ (free_dsat there x)))
-          (λ e. both_enough _ _ _ _ (dsat_enough z w.1) (taken_enough x w.0 (if_former _ (taken assets x) (taken assets z) h e)))
-          (λ e. both_enough _ _ _ _ (taken_enough z w.1 (if_latter _ (taken assets x) (taken assets z) h e)) (dsat_enough x w.0))
-      taken_enough (two kind.OrC x z) w h =
-          first_enough _ _ _ _ _ _ _ _
-          (free_best assets are x w.0)
-          (best_both _ _ _ _ (free_best assets are z w.1) (free_dsat_best assets are x w.0))
-          (tight_free there x)
-          (below_free _ _ _ _ (tight_free there z) (always _ _ (free_dsat there x)))
-          (λ e. taken_enough x w.0 (if_former _ (taken assets x) (taken assets z) h e))
-          (λ e. both_enough _ _ _ _ (taken_enough z w.1 (if_latter _ (taken assets x) (taken assets z) h e)) (dsat_enough x w.0))
-      taken_enough (two kind.OrD x z) w h =
-          first_enough _ _ _ _ _ _ _ _
-          (free_best assets are x w.0)
-          (best_both _ _ _ _ (free_best assets are z w.1) (free_dsat_best assets are x w.0))
-          (tight_free there x)
-          (below_free _ _ _ _ (tight_free there z) (always _ _ (free_dsat there x)))
-          (λ e. taken_enough x w.0 (if_former _ (taken assets x) (taken assets z) h e))
-          (λ e. both_enough _ _ _ _ (taken_enough z w.1 (if_latter _ (taken assets x) (taken assets z) h e)) (dsat_enough x w.0))
+          (λ e. both_enough _ _ _ _ (dsat_enough z w.1) (taken_enough x w.0 (left (taken assets x) [] (if_former _ (taken assets x ++ []) (taken assets z) h e))))
+          (λ e. both_enough _ _ _ _ (taken_enough z w.1 (if_latter _ (taken assets x ++ []) (taken assets z) h e)) (dsat_enough x w.0))
       taken_enough (two kind.OrI x z) w h =
           first_enough _ _ _ _ _ _ _ _
           (best_both _ _ _ _ (free_best assets are x w.0) (is_best ONE))
@@ -214,6 +192,14 @@ module _ (Light : Type 0) where
           (below_free _ _ _ _ (tight_free there z) (always _ _ (same _)))
           (λ e. both_enough _ _ _ _ (taken_enough x w.0 (if_former _ (taken assets x) (taken assets z) h e)) (is_enough ONE))
           (λ e. both_enough _ _ _ _ (taken_enough z w.1 (if_latter _ (taken assets x) (taken assets z) h e)) (is_enough EMPTY))
+      taken_enough (two which x z) w h =
+          first_enough _ _ _ _ _ _ _ _
+          (free_best assets are x w.0)
+          (best_both _ _ _ _ (free_best assets are z w.1) (free_dsat_best assets are x w.0))
+          (tight_free there x)
+          (below_free _ _ _ _ (tight_free there z) (always _ _ (free_dsat there x)))
+          (λ e. taken_enough x w.0 (if_former _ (taken assets x) (taken assets z) h e))
+          (λ e. both_enough _ _ _ _ (taken_enough z w.1 (if_latter _ (taken assets x) (taken assets z) h e)) (dsat_enough x w.0))
       taken_enough (thresh k xs) w h = λ v e.
           let t = set_is_taken (λ set. IsSet (count xs) k set × (has_all (free_children assets xs) set ≡ true)) (stack_of (strict_children assets xs)) _
           (each-filter (IsSet (count xs) k) (has_all (free_children assets xs)) (sets (count xs) k) (sets_are (count xs) k)) v e in
@@ -229,13 +215,9 @@ module _ (Light : Type 0) where
             (EMPTY ∷ [], y.0, refl, (y.2 ∙ t.0.1, y.1), refl),
             λ light. let a = y.3 light in omega (arith, f, a, weight-append j.above (EMPTY ∷ []), weight-append y.0 (EMPTY ∷ [])),
           )
-      taken_enough (wrap wrapper.A x) w h = taken_enough x w h
-      taken_enough (wrap wrapper.S x) w h = taken_enough x w h
-      taken_enough (wrap wrapper.C x) w h = taken_enough x w h
       taken_enough (wrap wrapper.D x) w h = both_enough _ _ _ _ (taken_enough x w h) (is_enough ONE)
-      taken_enough (wrap wrapper.V x) w h = taken_enough x w h
-      taken_enough (wrap wrapper.J x) w h = taken_enough x w h
-      taken_enough (wrap wrapper.N x) w h = taken_enough x w h
+      taken_enough (wrap letter x) w h = taken_enough x w h
+      taken_enough tree w h = one_enough _ _ (sat_best assets are tree w).is
 
       children_enough : (xs : Trees) → AreWritable xs → (set : List Bool) → has_all (free_children assets xs) set ≡ true → Signed (taken_of_children assets xs set) →
           Enough (stack_of (strict_children assets xs) set) (TightParts there xs (ones set))

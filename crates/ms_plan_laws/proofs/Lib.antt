@@ -1,4 +1,3 @@
-pub mod Options
 pub mod Sets
 pub mod Moved
 pub mod Enough

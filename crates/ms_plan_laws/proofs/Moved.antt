@@ -7,7 +7,7 @@ use Rattle.def_machine.specs.Stacks.{Stack, Pairs}
 use Rattle.def_machine.specs.MultiSig.{is_good}
 use Rattle.def_tree.specs.declared.Two.TheVariants as kind
 use Rattle.def_tree.specs.declared.Wrapper.TheVariants as wrapper
-use Rattle.def_tree.specs.Tree.{Tree, Trees, Key, just_0, just_1, pk_k, pk_h, older, after, hash, and_or, two, thresh, multi, wrap, none, more}
+use Rattle.def_tree.specs.Tree.{Tree, Trees, Key, pk_k, pk_h, and_or, two, thresh, multi, wrap, none, more}
 use Rattle.def_assets.specs.Assets.{Assets}
 use Rattle.def_script.specs.Witness.{weight}
 use Rattle.def_satisfaction.specs.StackSet.{StackSet, Both}
@@ -66,7 +66,8 @@ module _ (Light : Type 0) where
       (same_beside _ _ (λ v g. (g.0, d v g.1))) w h in
       (x.0, inr x.1, x.2)
 
-module _ (assets : Assets) (pairs : Pairs) (Light : Type 0) (moved : (key sig : Bytes) → is_good assets.pairs key sig ≡ true → (g : Bytes) × (is_good pairs key g ≡ true) × (Light → length g ≤ length sig)) where
+module _ (assets : Assets) (pairs : Pairs) (Light : Type 0) (moved : (key sig : Bytes) → is_good assets.pairs key sig ≡ true → (g : Bytes)
+    × (is_good pairs key g ≡ true) × (Light → length g ≤ length sig)) where
   abbrev there : Assets
   there = with_pairs assets pairs
 
@@ -96,16 +97,11 @@ module _ (assets : Assets) (pairs : Pairs) (Light : Type 0) (moved : (key sig : 
 
   mutual
     pub tight_moved : (t : Tree) → Beside Light (TightSat assets t) (TightSat there t)
-    tight_moved just_0 = same_beside Light _ _ (same _)
-    tight_moved just_1 = same_beside Light _ _ (same _)
     tight_moved (pk_k key) = signature_moved key
     tight_moved (pk_h key) =
         λ w h.
         let x = both_beside Light _ _ _ _ (signature_moved h.0) (same_beside Light _ _ (same _)) w h.4 in
         (x.0, (h.0, h.1, h.2, h.3, x.1), x.2)
-    tight_moved (older n) = same_beside Light _ _ (same _)
-    tight_moved (after n) = same_beside Light _ _ (same _)
-    tight_moved (hash kind value) = same_beside Light _ _ (same _)
     tight_moved (and_or x y z) =
         first_beside Light _ _ _ _ _ _
         (both_beside Light _ _ _ _ (tight_moved y) (tight_moved x))
@@ -120,24 +116,18 @@ module _ (assets : Assets) (pairs : Pairs) (Light : Type 0) (moved : (key sig : 
         (both_beside Light _ _ _ _ (tight_moved z) (same_beside Light _ _ (dsat_moved x)))
         (below_free _ _ _ _ (always _ _ (free_dsat there z)) (tight_free there x))
         (below_free _ _ _ _ (tight_free there z) (always _ _ (free_dsat there x)))
-    tight_moved (two kind.OrC x z) =
-        first_beside Light _ _ _ _ _ _
-        (tight_moved x)
-        (both_beside Light _ _ _ _ (tight_moved z) (same_beside Light _ _ (dsat_moved x)))
-        (tight_free there x)
-        (below_free _ _ _ _ (tight_free there z) (always _ _ (free_dsat there x)))
-    tight_moved (two kind.OrD x z) =
-        first_beside Light _ _ _ _ _ _
-        (tight_moved x)
-        (both_beside Light _ _ _ _ (tight_moved z) (same_beside Light _ _ (dsat_moved x)))
-        (tight_free there x)
-        (below_free _ _ _ _ (tight_free there z) (always _ _ (free_dsat there x)))
     tight_moved (two kind.OrI x z) =
         first_beside Light _ _ _ _ _ _
         (both_beside Light _ _ _ _ (tight_moved x) (same_beside Light _ _ (same _)))
         (both_beside Light _ _ _ _ (tight_moved z) (same_beside Light _ _ (same _)))
         (below_free _ _ _ _ (tight_free there x) (always _ _ (same _)))
         (below_free _ _ _ _ (tight_free there z) (always _ _ (same _)))
+    tight_moved (two which x z) =
+        first_beside Light _ _ _ _ _ _
+        (tight_moved x)
+        (both_beside Light _ _ _ _ (tight_moved z) (same_beside Light _ _ (dsat_moved x)))
+        (tight_free there x)
+        (below_free _ _ _ _ (tight_free there z) (always _ _ (free_dsat there x)))
     tight_moved (thresh k xs) = parts_moved xs k
     tight_moved (multi k keys) =
         λ w h.
@@ -149,13 +139,9 @@ module _ (assets : Assets) (pairs : Pairs) (Light : Type 0) (moved : (key sig : 
               let a = y.3 light in
               omega (arith, f, a, weight-append h.1 h.0, weight-append y.0 h.0),
         )
-    tight_moved (wrap wrapper.A x) = tight_moved x
-    tight_moved (wrap wrapper.S x) = tight_moved x
-    tight_moved (wrap wrapper.C x) = tight_moved x
     tight_moved (wrap wrapper.D x) = both_beside Light _ _ _ _ (tight_moved x) (same_beside Light _ _ (same _))
-    tight_moved (wrap wrapper.V x) = tight_moved x
-    tight_moved (wrap wrapper.J x) = tight_moved x
-    tight_moved (wrap wrapper.N x) = tight_moved x
+    tight_moved (wrap letter x) = tight_moved x
+    tight_moved tree = same_beside Light _ _ (same _)
 
     parts_moved : (xs : Trees) (n : ℕ) → Beside Light (TightParts assets xs n) (TightParts there xs n)
     parts_moved none n = same_beside Light _ _ (same _)

@@ -2,7 +2,8 @@
 use Rattle.std.proofs.Common.{◌≡◌, Bool, true, false, List, [], ◌∷◌, ◌++◌, Contains, refl, sym, subst, ◌∙◌, ◌⊎◌, inl, inr, if◌then◌else◌}
 use Rattle.std.proofs.lemmas.List.Elements.{Contains-append_cases, Contains-push_cases}
 use Rattle.def_tree.specs.declared.Two.TheVariants as kind
-use Rattle.def_tree.specs.Tree.{Tree, Trees, Key, just_0, just_1, pk_k, pk_h, older, after, hash, and_or, two, thresh, multi, wrap, none, more}
+use Rattle.def_tree.specs.declared.Wrapper.TheVariants as wrapper
+use Rattle.def_tree.specs.Tree.{Tree, Trees, Key, pk_k, pk_h, and_or, two, thresh, multi, wrap, none, more}
 use Rattle.def_assets.specs.Assets.{Assets}
 use Rattle.def_sane.specs.Keys.{keys, keys_of_all, AreDistinct}
 use Rattle.ms_row_laws.proofs.KeyLists.{first_in, later_in, no_element}
@@ -39,13 +40,8 @@ set_part (key ∷ own) (false ∷ set) = part_right (keys_of_set own set) (key �
 module _ (assets : Assets) where
   mutual
     pub taken_part : (t : Tree) → IsPartOf (taken assets t) (keys t)
-    taken_part just_0 = tt
-    taken_part just_1 = tt
     taken_part (pk_k key) = inl (refl, tt)
     taken_part (pk_h key) = inl (refl, tt)
-    taken_part (older n) = tt
-    taken_part (after n) = tt
-    taken_part (hash kind value) = tt
     taken_part (and_or x y z) =
         if_part _ _ _ _
         (part_left (taken assets x ++ taken assets y) (keys x ++ keys y) (keys z)
@@ -53,13 +49,13 @@ module _ (assets : Assets) where
         (part_right (taken assets z) (keys x ++ keys y) (keys z) (taken_part z))
     taken_part (two kind.AndV x y) = part_both (taken assets x) (keys x) (taken assets y) (keys y) (taken_part x) (taken_part y)
     taken_part (two kind.AndB x y) = part_both (taken assets x) (keys x) (taken assets y) (keys y) (taken_part x) (taken_part y)
-    taken_part (two kind.OrB x z) = if_part _ _ _ _ (part_left (taken assets x) (keys x) (keys z) (taken_part x)) (part_right (taken assets z) (keys x) (keys z) (taken_part z))
-    taken_part (two kind.OrC x z) = if_part _ _ _ _ (part_left (taken assets x) (keys x) (keys z) (taken_part x)) (part_right (taken assets z) (keys x) (keys z) (taken_part z))
-    taken_part (two kind.OrD x z) = if_part _ _ _ _ (part_left (taken assets x) (keys x) (keys z) (taken_part x)) (part_right (taken assets z) (keys x) (keys z) (taken_part z))
-    taken_part (two kind.OrI x z) = if_part _ _ _ _ (part_left (taken assets x) (keys x) (keys z) (taken_part x)) (part_right (taken assets z) (keys x) (keys z) (taken_part z))
+    taken_part (two kind.OrB x z) = if_part _ _ _ _ (part_both (taken assets x) (keys x) [] (keys z) (taken_part x) tt) (part_right (taken assets z) (keys x) (keys z) (taken_part z))
+    taken_part (two which x z) = if_part _ _ _ _ (part_left (taken assets x) (keys x) (keys z) (taken_part x)) (part_right (taken assets z) (keys x) (keys z) (taken_part z))
     taken_part (thresh k xs) = children_part xs (children_taken assets k xs)
     taken_part (multi k own) = set_part own (signers_taken assets k own)
-    taken_part (wrap wrapper x) = taken_part x
+    taken_part (wrap wrapper.D x) = taken_part x
+    taken_part (wrap letter x) = taken_part x
+    taken_part tree = tt
 
     pub children_part : (xs : Trees) (set : List Bool) → IsPartOf (taken_of_children assets xs set) (keys_of_all xs)
     children_part none set = tt

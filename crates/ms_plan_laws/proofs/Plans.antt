@@ -107,7 +107,8 @@ plan_same tree assets pairs lengths =
         rw (e, l) refl
 
 -- two estimates
-pub estimates_alike : (assets : Assets) (table : Lengths) → AreLengths table → (one other : Assets) → IsEstimate assets table one → IsEstimate assets table other → (tree : Tree) → plan_with tree one ≡ plan_with tree other
+pub estimates_alike : (assets : Assets) (table : Lengths) → AreLengths table → (one other : Assets) → IsEstimate assets table one
+    → IsEstimate assets table other → (tree : Tree) → plan_with tree one ≡ plan_with tree other
 estimates_alike assets table lengths one other h k tree =
     let e = like_with one other (like_both assets one other h.like k.like) in
     plan_same tree one other.pairs (λ key. sym (length_is assets table lengths one h key) ∙ length_is assets table lengths other k key ∙ ap (λ a. option_map length (sig_of a key)) e)

@@ -3,6 +3,7 @@ use Rattle.std.proofs.Common.{◌≡◌, ℕ, suc, ◌≤◌, Bool, true, false,
 use Rattle.std.specs.Str.{bytes_eq}
 use Rattle.std.proofs.lemmas.Bool.{false≢true, or_cases, cases_Bool}
 use Rattle.std.proofs.lemmas.Option.{none-some}
+use Rattle.std.proofs.lemmas.List.{append-nil}
 use Rattle.std.proofs.lemmas.List.Elements.{Contains-append_left, Contains-append_right, Contains-append_cases}
 use Rattle.std.proofs.lemmas.Slice.Eq.{bytes_eq-Decides}
 use Rattle.def_script.specs.Bytes.{Bytes}
@@ -10,7 +11,7 @@ use Rattle.def_machine.specs.Stacks.{Stack, Pairs}
 use Rattle.def_machine.specs.MultiSig.{is_good}
 use Rattle.def_tree.specs.declared.Two.TheVariants as kind
 use Rattle.def_tree.specs.declared.Wrapper.TheVariants as wrapper
-use Rattle.def_tree.specs.Tree.{Tree, Trees, Key, just_0, just_1, pk_k, pk_h, older, after, hash, and_or, two, thresh, multi, wrap, none, more}
+use Rattle.def_tree.specs.Tree.{Tree, Trees, Key, pk_k, pk_h, and_or, two, thresh, multi, wrap, none, more}
 use Rattle.def_tree.specs.Range.{count}
 use Rattle.def_types.specs.Typed.{mall_of}
 use Rattle.def_types.proofs.Rows.{mall_rows}
@@ -37,8 +38,7 @@ use Rattle.std.proofs.lemmas.Bool.{and_parts}
 use Rattle.def_plan.specs.Taken.{takes_former, children_taken, signers_taken, keys_of_set, taken, taken_of_children}
 use Rattle.def_choice.proofs.Weights.{reverse-cons}
 use Rattle.def_choice.proofs.StrictTight.{free_best, free_dsat_best}
-use Rattle.ms_plan_laws.proofs.Options.{first_taken, both_joined}
-use Rattle.ms_plan_laws.proofs.Sets.{each-filter, ones, IsSet, sets_are, set_is_taken}
+use Rattle.ms_plan_laws.proofs.Sets.{first_taken, both_joined, each-filter, ones, IsSet, sets_are, set_is_taken}
 use Rattle.ms_plan_laws.proofs.Moved.{with_pairs}
 use Rattle.ms_plan_laws.proofs.Enough.{not_wanted, wanted_or_not, not_free}
 use Rattle.ms_plan_laws.proofs.Order.{taken_in, children_in, first_or_other, in_part, set_part}
@@ -226,7 +226,8 @@ module _ (assets : Assets) (are : AreAssets assets) (pairs : Pairs) where
       at_least true n = omega (arith, n)
       at_least false n = n
 
-      one_more : (b : Bool) → Contains (if b then key ∷ keys_of_set own set else keys_of_set own set) key → (sig : Bytes) → is_good pairs key sig ≡ true → {m : ℕ} → m ≤ ones (without k own set) → length sigs ≡ suc m →
+      one_more : (b : Bool) → Contains (if b then key ∷ keys_of_set own set else keys_of_set own set) key → (sig : Bytes) → is_good pairs key sig ≡ true
+          → {m : ℕ} → m ≤ ones (without k own set) → length sigs ≡ suc m →
           length sigs ≤ ones ((b && not (bytes_eq key k)) ∷ without k own set)
       one_more false i sig good n e = absurd (d.0 (in_part (keys_of_set own set) own (set_part own set) key i))
       one_more true i sig good n e =
@@ -235,33 +236,15 @@ module _ (assets : Assets) (are : AreAssets assets) (pairs : Pairs) where
             | inr other ↦ rw other (omega (arith, n, e))
           ]
 
-  -- `or_c` and `or_d`
-  or_empty : (x z : Tree) → Fits x → Fits z → Disjoint (keys x) (keys z) → (mall_of x).e ≡ true → ((mall_of x).s || (mall_of z).s) ≡ true → (w : Stack) →
-      free_first (free assets x) (both (free assets z) (dissatisfaction x)) (strict_of assets x) (both (strict_of assets z) (dissatisfaction x)) ≡ Some w →
-      OnOption (takes_former (free assets x) (both (free assets z) (dissatisfaction x)) (strict_of assets x) (both (strict_of assets z) (dissatisfaction x)))
-      (taken assets x) (taken assets z) (keys x ++ keys z) →
-      ((v : Stack) → strict_of assets x ≡ Some v → OnlySign (taken assets x) (keys x) → Missing (taken assets x) → IsEmpty (Sats x)) →
-      ((v : Stack) → strict_of assets z ≡ Some v → OnlySign (taken assets z) (keys z) → Missing (taken assets z) → IsEmpty (Sats z)) →
-      IsEmpty (Either (Sats x) (Both (Sats z) (signed_row there x).dsat))
-  or_empty x z f g apart e s w h on of_x of_z =
-      let ff = free_best assets are x f.writable in
-      let gg = best_both _ _ _ _ (free_best assets are z g.writable) (free_dsat_best assets are x f.writable) in
-      elim (option_taken _ _ (free assets x) (both (free assets z) (dissatisfaction x)) (strict_of assets x) (both (strict_of assets z) (dissatisfaction x)) ff gg w h) [
-        | inl h ↦ (
-            let o = if_former _ (taken assets x) (taken assets z) (keys x ++ keys z) on h.0 in
-            λ v r. elim r [
-              | inl a ↦ of_x w h.1 (sub_left x z (taken assets x) o.0) o.1 v a
-              | inr a ↦ (
-                  let free_z = freed z g (no_latter x z apart o.0) a.0 a.2 in
-                  clash x z f g s (h.2 (one_both _ _ free_z (bare_dsat x f e))) free_z)
-            ])
-        | inr h ↦ (
-            let o = if_latter _ (taken assets x) (taken assets z) (keys x ++ keys z) on h.0 in
-            let j = both_joined _ _ w h.1 in
-            λ v r. elim r [
-              | inl a ↦ h.2 (freed x f (no_former x z apart o.0) v a)
-              | inr a ↦ of_z j.below j.left (sub_right x z (taken assets z) o.0) o.1 a.0 a.2
-            ])
+  -- the option that is taken lacks a signature, and the other one isn't satisfied
+  options_empty : (F G P Q : StackSet) (f g a b : Option Stack) (former latter own : List Key) (w : Stack) → IsLightest F f → IsLightest G g →
+      free_first f g a b ≡ Some w → OnOption (takes_former f g a b) former latter own →
+      (a ≡ Some w → OnlySign former own → Missing former → IsEmpty P) → (OnlySign former own → (HasOne G → HasOne F) → IsEmpty Q) →
+      (b ≡ Some w → OnlySign latter own → Missing latter → IsEmpty Q) → (OnlySign latter own → (HasOne F → ⊥) → IsEmpty P) → IsEmpty (Either P Q)
+  options_empty F G P Q f g a b former latter own w ff gg e on of_first no_second of_second no_first =
+      elim (option_taken F G f g a b ff gg w e) [
+        | inl h ↦ (let o = if_former _ former latter own on h.0 in λ v r. elim r [ inl p ↦ of_first h.1 o.0 o.1 v p | inr q ↦ no_second o.0 h.2 v q ])
+        | inr h ↦ (let o = if_latter _ former latter own on h.0 in λ v r. elim r [ inl p ↦ no_first o.0 h.2 v p | inr q ↦ of_second h.1 o.0 o.1 v q ])
       ]
 
   -- the children of a threshold: no more are satisfied than are chosen
@@ -316,8 +299,6 @@ module _ (assets : Assets) (are : AreAssets assets) (pairs : Pairs) where
     unfolding mall_rows
 
     pub vain : (t : Tree) → Fits t → (w : Stack) → strict_of assets t ≡ Some w → OnlySign (taken assets t) (keys t) → Missing (taken assets t) → IsEmpty (Sats t)
-    vain just_0 f w e only missing = absurd (no_element missing.0 missing.1)
-    vain just_1 f w e only missing = absurd (no_element missing.0 missing.1)
     vain (pk_k key) f w e only missing =
         λ v h. elim (first_or_other key [] missing.0 missing.1) [
           | inl same ↦ false≢true (sym (missing.2 h.0) ∙ subst (λ k. is_good pairs k h.0 ≡ true) (sym same) h.1)
@@ -328,57 +309,38 @@ module _ (assets : Assets) (are : AreAssets assets) (pairs : Pairs) where
           | inl same ↦ false≢true (sym (missing.2 s.0) ∙ subst (λ k. is_good pairs k s.0 ≡ true) (h.3 ∙ sym same) s.1)
           | inr i ↦ no_element missing.0 i
         ]
-    vain (older n) f w e only missing = absurd (no_element missing.0 missing.1)
-    vain (after n) f w e only missing = absurd (no_element missing.0 missing.1)
-    vain (hash kind value) f w e only missing = absurd (no_element missing.0 missing.1)
     vain (and_or x y z) f w e only missing =
         let t = fit_and_or x y z f in
-        let safe = f.safe in
-        let ff = best_both _ _ _ _ (free_best assets are y t.1.writable) (free_best assets are x t.0.writable) in
-        let gg = best_both _ _ _ _ (free_best assets are z t.2.writable) (free_dsat_best assets are x t.0.writable) in
-        elim (option_taken _ _
+        let xy = taken assets x ++ taken assets y in
+        let own = keys (and_or x y z) in
+        let left = Contains-append_left (keys x ++ keys y) (keys z) in
+        let right = Contains-append_right (keys x ++ keys y) (keys z) in
+        options_empty _ _ _ _
         (both (free assets y) (free assets x)) (both (free assets z) (dissatisfaction x)) (both (strict_of assets y) (strict_of assets x)) (both (strict_of assets z) (dissatisfaction x))
-        ff gg w e) [
-          | inl h ↦ (
-              let o = if_former _ (taken assets x ++ taken assets y) (taken assets z) (keys (and_or x y z)) (only, missing) h.0 in
-              let j = both_joined _ _ w h.1 in
-              let xy = taken assets x ++ taken assets y in
-              let bare_z = none_of xy (keys (and_or x y z)) (keys z) (Contains-append_right (keys x ++ keys y) (keys z))
-              (λ key i l. t.4 key (elim (Contains-append_cases (taken assets x) (taken assets y) key l) [
-                | inl k ↦ Contains-append_left (keys x) (keys y) key (taken_in assets x key k)
-                | inr k ↦ Contains-append_right (keys x) (keys y) key (taken_in assets y key k)
-              ]) i) o.0 in
-              λ v r. elim r [
-                | inl two_sats ↦ both_empty x y t.3
-                    (only_of xy (keys (and_or x y z)) xy (keys x ++ keys y) (Contains-append_left (keys x ++ keys y) (keys z)) (λ key i l. l) o.0) o.1
-                    (vain x t.0 j.above j.right) (vain y t.1 j.below j.left) v two_sats
-                | inr other ↦ (
-                    let free_z = freed z t.2 bare_z other.0 other.2 in
-                    let first = h.2 (one_both _ _ free_z (bare_dsat x t.0 safe.3.0)) in
-                    elim (or_cases ((mall_of x).s || (mall_of y).s) (mall_of z).s safe.3.1.0) [
-                      | inl s ↦ elim (or_cases (mall_of x).s (mall_of y).s s) [
-                        | inl a ↦ signs assets x t.0.typed a first.1.1 first.1.3
-                        | inr a ↦ signs assets y t.1.typed a first.1.0 first.1.2
-                      ]
-                      | inr s ↦ signs assets z t.2.typed s free_z.0 free_z.1
-                    ])
-              ])
-          | inr h ↦ (
-              let o = if_latter _ (taken assets x ++ taken assets y) (taken assets z) (keys (and_or x y z)) (only, missing) h.0 in
-              let j = both_joined _ _ w h.1 in
-              let apart : (key : Key) → Contains (keys x ++ keys y) key → Contains (taken assets z) key → ⊥ = λ key i l. t.4 key i (taken_in assets z key l) in
-              let bare = none_of (taken assets z) (keys (and_or x y z)) (keys x ++ keys y) (Contains-append_left (keys x ++ keys y) (keys z)) apart o.0 in
-              λ v r. elim r [
-                | inl two_sats ↦
-                    h.2
-                    (one_both _ _ (freed y t.1 (λ key sig i. bare key sig (Contains-append_right (keys x) (keys y) key i)) two_sats.0 two_sats.2)
-                    (freed x t.0 (λ key sig i. bare key sig (Contains-append_left (keys x) (keys y) key i)) two_sats.1 two_sats.3))
-                | inr other ↦
-                    vain z t.2 j.below j.left
-                    (only_of (taken assets z) (keys (and_or x y z)) (taken assets z) (keys z) (Contains-append_right (keys x ++ keys y) (keys z)) (λ key i l. l) o.0) o.1
-                    other.0 other.2
-              ])
-        ]
+        xy (taken assets z) own w
+        (best_both _ _ _ _ (free_best assets are y t.1.writable) (free_best assets are x t.0.writable))
+        (best_both _ _ _ _ (free_best assets are z t.2.writable) (free_dsat_best assets are x t.0.writable)) e (only, missing)
+        (λ i signs_xy lacks. let j = both_joined _ _ w i in
+        both_empty x y t.3 (only_of xy own xy (keys x ++ keys y) left (λ key k l. l) signs_xy) lacks (vain x t.0 j.above j.right) (vain y t.1 j.below j.left))
+        (λ signs_xy freer v r.
+        let bare_z = none_of xy own (keys z) right
+        (λ key i l. t.4 key (elim (Contains-append_cases (taken assets x) (taken assets y) key l) [
+          | inl k ↦ Contains-append_left (keys x) (keys y) key (taken_in assets x key k)
+          | inr k ↦ Contains-append_right (keys x) (keys y) key (taken_in assets y key k)
+        ]) i) signs_xy in
+        let free_z = freed z t.2 bare_z r.0 r.2 in
+        let first = freer (one_both _ _ free_z (bare_dsat x t.0 f.safe.3.0)) in
+        elim (or_cases ((mall_of x).s || (mall_of y).s) (mall_of z).s f.safe.3.1.0) [
+          | inl s ↦ clash x y t.0 t.1 s (first.1.1, first.1.3) (first.1.0, first.1.2)
+          | inr s ↦ signs assets z t.2.typed s free_z.0 free_z.1
+        ])
+        (λ i signs_z lacks v r. let j = both_joined _ _ w i in
+        vain z t.2 j.below j.left (only_of (taken assets z) own (taken assets z) (keys z) right (λ key k l. l) signs_z) lacks r.0 r.2)
+        (λ signs_z unfree v r.
+        let bare = none_of (taken assets z) own (keys x ++ keys y) left (λ key i l. t.4 key i (taken_in assets z key l)) signs_z in
+        unfree
+        (one_both _ _ (freed y t.1 (λ key sig i. bare key sig (Contains-append_right (keys x) (keys y) key i)) r.0 r.2)
+        (freed x t.0 (λ key sig i. bare key sig (Contains-append_left (keys x) (keys y) key i)) r.1 r.3)))
     vain (two kind.AndV x y) f w e only missing =
         let t = fit_two kind.AndV x y f in
         let j = both_joined _ _ w e in
@@ -389,76 +351,49 @@ module _ (assets : Assets) (are : AreAssets assets) (pairs : Pairs) where
         both_empty x y t.2 only missing (vain x t.0 j.above j.right) (vain y t.1 j.below j.left)
     vain (two kind.OrB x z) f w e only missing =
         let t = fit_two kind.OrB x z f in
-        let safe = f.safe in
-        let es = and_parts (mall_of x).e (mall_of z).e safe.2.0 in
-        let ff = best_both _ _ _ _ (free_dsat_best assets are z t.1.writable) (free_best assets are x t.0.writable) in
-        let gg = best_both _ _ _ _ (free_best assets are z t.1.writable) (free_dsat_best assets are x t.0.writable) in
-        elim (option_taken _ _
+        let es = and_parts (mall_of x).e (mall_of z).e f.safe.2.0 in
+        let own = keys x ++ keys z in
+        let alone : OnlySign (taken assets x ++ []) own → OnlySign (taken assets x) own = subst (λ ks. OnlySign ks own) (append-nil (taken assets x)) in
+        let neither = options_empty _ _ (Both (signed_row there z).dsat (Sats x)) (Both (Sats z) (signed_row there x).dsat)
         (both (dissatisfaction z) (free assets x)) (both (free assets z) (dissatisfaction x)) (both (dissatisfaction z) (strict_of assets x)) (both (strict_of assets z) (dissatisfaction x))
-        ff gg w e) [
-          | inl h ↦ (
-              let o = if_former _ (taken assets x) (taken assets z) (keys x ++ keys z) (only, missing) h.0 in
-              let j = both_joined _ _ w h.1 in
-              λ v r. elim r [
-                | inl a ↦ vain x t.0 j.above j.right (sub_left x z (taken assets x) o.0) o.1 a.1 a.3
-                | inr b ↦ elim b [
-                  | inl a ↦ (
-                      let free_z = freed z t.1 (no_latter x z t.2 o.0) a.0 a.2 in
-                      let first = h.2 (one_both _ _ free_z (bare_dsat x t.0 es.0)) in
-                      clash x z t.0 t.1 safe.2.1.0 (first.1.1, first.1.3) free_z)
-                  | inr c ↦ false≢true c.0
-                ]
-              ])
-          | inr h ↦ (
-              let o = if_latter _ (taken assets x) (taken assets z) (keys x ++ keys z) (only, missing) h.0 in
-              let j = both_joined _ _ w h.1 in
-              λ v r. elim r [
-                | inl a ↦ h.2 (one_both _ _ (bare_dsat z t.1 es.1) (freed x t.0 (no_former x z t.2 o.0) a.1 a.3))
-                | inr b ↦ elim b [
-                  | inl a ↦ vain z t.1 j.below j.left (sub_right x z (taken assets z) o.0) o.1 a.0 a.2
-                  | inr c ↦ false≢true c.0
-                ]
-              ])
-        ]
-    vain (two kind.OrC x z) f w e only missing =
-        let t = fit_two kind.OrC x z f in
-        let safe = f.safe in
-        or_empty x z t.0 t.1 t.2 safe.2.0 safe.2.1.0 w e (only, missing) (vain x t.0) (vain z t.1)
-    vain (two kind.OrD x z) f w e only missing =
-        let t = fit_two kind.OrD x z f in
-        let safe = f.safe in
-        or_empty x z t.0 t.1 t.2 safe.2.0 safe.2.1.0 w e (only, missing) (vain x t.0) (vain z t.1)
+        (taken assets x ++ []) (taken assets z) own w
+        (best_both _ _ _ _ (free_dsat_best assets are z t.1.writable) (free_best assets are x t.0.writable))
+        (best_both _ _ _ _ (free_best assets are z t.1.writable) (free_dsat_best assets are x t.0.writable)) e (only, missing)
+        (λ i signs_x lacks v r. let j = both_joined _ _ w i in
+        vain x t.0 j.above j.right (sub_left x z (taken assets x) (alone signs_x)) (subst Missing (append-nil (taken assets x)) lacks) r.1 r.3)
+        (λ signs_x freer v r.
+        let free_z = freed z t.1 (no_latter x z t.2 (alone signs_x)) r.0 r.2 in
+        let first = freer (one_both _ _ free_z (bare_dsat x t.0 es.0)) in
+        clash x z t.0 t.1 f.safe.2.1.0 (first.1.1, first.1.3) free_z)
+        (λ i signs_z lacks v r. let j = both_joined _ _ w i in vain z t.1 j.below j.left (sub_right x z (taken assets z) signs_z) lacks r.0 r.2)
+        (λ signs_z unfree v r. unfree (one_both _ _ (bare_dsat z t.1 es.1) (freed x t.0 (no_former x z t.2 signs_z) r.1 r.3))) in
+        λ v r. elim r [ inl a ↦ neither v (inl a) | inr b ↦ elim b [ inl a ↦ neither v (inr a) | inr c ↦ false≢true c.0 ] ]
     vain (two kind.OrI x z) f w e only missing =
         let t = fit_two kind.OrI x z f in
-        let safe = f.safe in
-        let ff = best_both _ _ _ _ (free_best assets are x t.0.writable) (is_best ONE) in
-        let gg = best_both _ _ _ _ (free_best assets are z t.1.writable) (is_best EMPTY) in
-        elim (option_taken _ _
+        options_empty _ _ _ _
         (both (free assets x) (Some (ONE ∷ []))) (both (free assets z) (Some (EMPTY ∷ []))) (both (strict_of assets x) (Some (ONE ∷ []))) (both (strict_of assets z) (Some (EMPTY ∷ [])))
-        ff gg w e) [
-          | inl h ↦ (
-              let o = if_former _ (taken assets x) (taken assets z) (keys x ++ keys z) (only, missing) h.0 in
-              let j = both_joined _ _ w h.1 in
-              λ v r. elim r [
-                | inl a ↦ vain x t.0 j.below j.left (sub_left x z (taken assets x) o.0) o.1 a.0 a.2
-                | inr a ↦ (
-                    let free_z = freed z t.1 (no_latter x z t.2 o.0) a.0 a.2 in
-                    let first = h.2 (one_both _ (Is EMPTY) free_z (EMPTY ∷ [], refl)) in
-                    clash x z t.0 t.1 safe.2.0 (first.1.0, first.1.2) free_z)
-              ])
-          | inr h ↦ (
-              let o = if_latter _ (taken assets x) (taken assets z) (keys x ++ keys z) (only, missing) h.0 in
-              let j = both_joined _ _ w h.1 in
-              λ v r. elim r [
-                | inl a ↦ h.2 (one_both _ (Is ONE) (freed x t.0 (no_former x z t.2 o.0) a.0 a.2) (ONE ∷ [], refl))
-                | inr a ↦ vain z t.1 j.below j.left (sub_right x z (taken assets z) o.0) o.1 a.0 a.2
-              ])
-        ]
+        (taken assets x) (taken assets z) (keys x ++ keys z) w
+        (best_both _ _ _ _ (free_best assets are x t.0.writable) (is_best ONE)) (best_both _ _ _ _ (free_best assets are z t.1.writable) (is_best EMPTY)) e (only, missing)
+        (λ i signs_x lacks v r. let j = both_joined _ _ w i in vain x t.0 j.below j.left (sub_left x z (taken assets x) signs_x) lacks r.0 r.2)
+        (λ signs_x freer v r.
+        let free_z = freed z t.1 (no_latter x z t.2 signs_x) r.0 r.2 in
+        let first = freer (one_both _ (Is EMPTY) free_z (EMPTY ∷ [], refl)) in
+        clash x z t.0 t.1 f.safe.2.0 (first.1.0, first.1.2) free_z)
+        (λ i signs_z lacks v r. let j = both_joined _ _ w i in vain z t.1 j.below j.left (sub_right x z (taken assets z) signs_z) lacks r.0 r.2)
+        (λ signs_z unfree v r. unfree (one_both _ (Is ONE) (freed x t.0 (no_former x z t.2 signs_z) r.0 r.2) (ONE ∷ [], refl)))
+    vain (two which x z) f w e only missing =
+        let t = fit_two which x z f in
+        options_empty _ _ _ _
+        (free assets x) (both (free assets z) (dissatisfaction x)) (strict_of assets x) (both (strict_of assets z) (dissatisfaction x))
+        (taken assets x) (taken assets z) (keys x ++ keys z) w
+        (free_best assets are x t.0.writable) (best_both _ _ _ _ (free_best assets are z t.1.writable) (free_dsat_best assets are x t.0.writable)) e (only, missing)
+        (λ i signs_x lacks. vain x t.0 w i (sub_left x z (taken assets x) signs_x) lacks)
+        (λ signs_x freer v r. let free_z = freed z t.1 (no_latter x z t.2 signs_x) r.0 r.2 in
+        clash x z t.0 t.1 f.safe.2.1.0 (freer (one_both _ _ free_z (bare_dsat x t.0 f.safe.2.0))) free_z)
+        (λ i signs_z lacks v r. let j = both_joined _ _ w i in vain z t.1 j.below j.left (sub_right x z (taken assets z) signs_z) lacks r.0 r.2)
+        (λ signs_z unfree v r. unfree (freed x t.0 (no_former x z t.2 signs_z) v r))
     vain (thresh k xs) f w e only missing =
-        let all = f.writable in
-        let typed = f.typed in
-        let safe = f.safe in
-        let fits : AllFit xs = record { writable = all.2; typed = typed.0; safe = safe.0; distinct = f.distinct } in
+        let fits : AllFit xs = record { writable = f.writable.2; typed = f.typed.0; safe = f.safe.0; distinct = f.distinct } in
         let t = set_is_taken (λ set. IsSet (count xs) k set × (has_all (free_children assets xs) set ≡ true)) (stack_of (strict_children assets xs)) _
         (each-filter (IsSet (count xs) k) (has_all (free_children assets xs)) (sets (count xs) k) (sets_are (count xs) k)) w e in
         λ v h.
@@ -474,15 +409,11 @@ module _ (assets : Assets) (are : AreAssets assets) (pairs : Pairs) where
         let c = t.0.1 in
         let d = h.3.0 in
         absurd (omega (arith, n, m, c, d))
-    vain (wrap wrapper.A x) f w e only missing = vain x (fit_wrap wrapper.A x f) w e only missing
-    vain (wrap wrapper.S x) f w e only missing = vain x (fit_wrap wrapper.S x f) w e only missing
-    vain (wrap wrapper.C x) f w e only missing = vain x (fit_wrap wrapper.C x f) w e only missing
     vain (wrap wrapper.D x) f w e only missing =
         let j = both_joined _ _ w e in
         λ v h. vain x (fit_wrap wrapper.D x f) j.below j.left only missing h.0 h.2
-    vain (wrap wrapper.V x) f w e only missing = vain x (fit_wrap wrapper.V x f) w e only missing
-    vain (wrap wrapper.J x) f w e only missing = vain x (fit_wrap wrapper.J x f) w e only missing
-    vain (wrap wrapper.N x) f w e only missing = vain x (fit_wrap wrapper.N x f) w e only missing
+    vain (wrap letter x) f w e only missing = vain x (fit_wrap letter x f) w e only missing
+    vain tree f w e only missing = absurd (no_element missing.0 missing.1)
 
     fewer_parts : (xs : Trees) → AllFit xs → (set : List Bool) → (w : Stack) → stack_of (strict_children assets xs) set ≡ Some w → has_all (free_children assets xs) set ≡ true →
         OnlySign (taken_of_children assets xs set) (keys_of_all xs) → Missing (taken_of_children assets xs set) →
