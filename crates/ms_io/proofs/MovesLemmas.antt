@@ -6,10 +6,12 @@ use Rattle.std.proofs.KnownBytes.{Appends-trans, Appends-kept, Consumes-trans}
 use Rattle.std.specs.declared.option.Option.{Option}
 use Rattle.std.specs.Io.KnownBytes.{Appends, Consumes, Keeps}
 use Rattle.ms_io.specs.Calls.{Offers, one_call, Gives, one_read}
-use Rattle.ms_io.specs.Moves.{AppendsPrefix, WritesSoFar, GivesWithin, GivesOver}
+use Rattle.ms_io.specs.Moves.{AppendsPrefix, GivesWithin, GivesOver}
+use Rattle.ms_io.specs.Scaffolding.Writing.{WritesSoFar}
 
 -- one more piece was taken
-pub writes_more : (old now new : Option (List ℕ)) (bytes rest : List ℕ) (n : ℕ) → WritesSoFar old now bytes rest → Appends now new (take n rest) → WritesSoFar old new bytes (take (length rest - n) (drop n rest))
+pub writes_more : (old now new : Option (List ℕ)) (bytes rest : List ℕ) (n : ℕ) → WritesSoFar old now bytes rest → Appends now new (take n rest)
+    → WritesSoFar old new bytes (take (length rest - n) (drop n rest))
 writes_more old now new bytes rest n so_far taken = record {
   done = so_far.done ++ take n rest;
   whole =
@@ -19,7 +21,8 @@ writes_more old now new bytes rest n so_far taken = record {
 }
 
 -- one more piece was taken by a call that was offered all that was left
-pub offers_more : {Sink : Type 0} (takes : Sink → List ℕ → ℕ → Sink → Type 0) (old now next : Sink) (bytes rest : List ℕ) (n : ℕ) → Offers takes old bytes now rest → 0 < length rest → takes now rest n next
+pub offers_more : {Sink : Type 0} (takes : Sink → List ℕ → ℕ → Sink → Type 0) (old now next : Sink) (bytes rest : List ℕ) (n : ℕ)
+    → Offers takes old bytes now rest → 0 < length rest → takes now rest n next
     → Offers takes old bytes next (take (length rest - n) (drop n rest))
 offers_more takes old now next bytes rest n offered left taken =
     subst (Offers takes old bytes next) (sym (take_rest rest n)) (one_call now next rest n offered left taken)
@@ -56,7 +59,8 @@ pub consumes_more : (old now new : Option (List ℕ)) (done more items : List �
 consumes_more old now new done more items before then e = subst (Consumes old new) (sym e) (Consumes-trans old now new done more before then)
 
 -- one more piece was given by a call
-pub gives_more : {Source : Type 0} (gives : Source → ℕ → List ℕ → Source → Type 0) (old now next : Source) (bytes buffer items : List ℕ) (room n : ℕ) → Gives gives old now bytes → 0 < n → n ≤ length buffer
+pub gives_more : {Source : Type 0} (gives : Source → ℕ → List ℕ → Source → Type 0) (old now next : Source) (bytes buffer items : List ℕ) (room n : ℕ)
+    → Gives gives old now bytes → 0 < n → n ≤ length buffer
     → gives now room (take n buffer) next → items ≡ bytes ++ take n buffer → Gives gives old next items
 gives_more gives old now next bytes buffer items room n given more short last e =
     subst (Gives gives old next) (sym e) (one_read now next bytes (take n buffer) room given (omega (arith, more, short, length-take n buffer)) last)

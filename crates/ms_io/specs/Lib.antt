@@ -4,3 +4,4 @@ pub mod Moves
 pub mod Memory
 pub mod Sides
 pub mod Endings
+pub mod Scaffolding

@@ -1,5 +1,5 @@
 -- What moves of bytes leave behind.
-use Rattle.std.specs.Prelude.{◌≡◌, ℕ, ◌<◌, ◌≤◌, List, ◌++◌, length, take}
+use Rattle.std.specs.Prelude.{ℕ, ◌<◌, ◌≤◌, List, length, take}
 use Rattle.std.specs.declared.option.Option.{Option}
 use Rattle.std.specs.Io.KnownBytes.{Appends, Consumes, IsAtEnd}
 
@@ -8,12 +8,6 @@ pub record AppendsPrefix (old new : Option (List ℕ)) (bytes : List ℕ) : Type
   pub count : ℕ
   pub at_most : count ≤ length bytes
   pub appended : Appends old new (take count bytes)
-
--- part way through writing bytes: a front of them, `done`, was written, and `rest` is left
-pub record WritesSoFar (old new : Option (List ℕ)) (bytes rest : List ℕ) : Type 0 where
-  pub done : List ℕ
-  pub whole : bytes ≡ done ++ rest
-  pub appended : Appends old new done
 
 -- known bytes were given whole, to their end
 pub record GivesAll (old new : Option (List ℕ)) (bytes : List ℕ) : Type 0 where

@@ -83,13 +83,16 @@ module _ (tree : Tree) (assets : Assets) (table : Lengths) (lengths : AreLengths
         part_filter (signs First (differing (reverse w) (reverse v))) (taken First tree) (keys tree) (taken_part First tree) (fits_of tree writable sane).distinct
         (λ k own i.
         let m = h.full k i in
-        passes k m.0 m.3 (differs (reverse w) (reverse v) m.0 m.1 (have_reversed w v m.0 m.1 h.size m.2) (other_mark table k m.0 m.1 are.lengths.some are.lengths.few (first_mark assets table lengths marks.Rising k m.0 m.3) (first_mark assets table lengths marks.Falling k m.1 m.4))))
+        passes k m.0 m.3 (differs (reverse w) (reverse v) m.0 m.1 (have_reversed w v m.0 m.1 h.size m.2)
+        (other_mark table k m.0 m.1 are.lengths.some are.lengths.few (first_mark assets table lengths marks.Rising k m.0 m.3)
+        (first_mark assets table lengths marks.Falling k m.1 m.4))))
         (λ k own t. back k (sig_of First k) refl t)
       where
         h : Marks First Second.pairs (taken First tree) w v
         h = stacks_alike w v e f
 
-        passes : (k : Key) (a : Bytes) → sig_of First k ≡ Some a → list_any (λ item. bytes_eq item a) (differing (reverse w) (reverse v)) ≡ true → signs First (differing (reverse w) (reverse v)) k ≡ true
+        passes : (k : Key) (a : Bytes) → sig_of First k ≡ Some a → list_any (λ item. bytes_eq item a) (differing (reverse w) (reverse v)) ≡ true
+            → signs First (differing (reverse w) (reverse v)) k ≡ true
         passes k a s t = ap (has_item (differing (reverse w) (reverse v))) s ∙ t
 
         back : (k : Key) (o : Option Bytes) → sig_of First k ≡ o → has_item (differing (reverse w) (reverse v)) o ≡ true → Contains (taken First tree) k
@@ -98,7 +101,8 @@ module _ (tree : Tree) (assets : Assets) (table : Lengths) (lengths : AreLengths
             let r = which_differs (reverse w) (reverse v) a t in
             elim (h.sound a r.0 (turned_have w v a r.0 h.size r.1)) [
               | inl same ↦ absurd (r.2 same)
-              | inr p ↦ subst (Contains (taken First tree)) (own_mark table p.0 k a are.lengths.some (first_mark assets table lengths marks.Rising p.0 a p.2) (first_mark assets table lengths marks.Rising k a s)) p.1
+              | inr p ↦ subst (Contains (taken First tree)) (own_mark table p.0 k a are.lengths.some (first_mark assets table lengths marks.Rising p.0 a p.2)
+                  (first_mark assets table lengths marks.Rising k a s)) p.1
             ]
 
     some_is_plan : (stack other : List Bytes) (asked : List Key) (heavy : ℕ) → strict tree First ≡ Some stack → strict tree Second ≡ Some other →

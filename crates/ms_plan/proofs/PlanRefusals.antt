@@ -87,17 +87,20 @@ pub keys_end : (file : Data) (list : List Data) (why : PlanFault) (result : Resu
     → list ≡ key_elements file → (why ≡ fault.Memory) ⊎ (first_refused is_hex_key (fault.Hex member.Keys) list ≡ Some why) → result ≡ Err why → IsOr fault.Memory (value_of file) result
 keys_end file list why result shapes numbers same (inl memory) e = inr (e ∙ ap Err memory)
 keys_end file list why result shapes numbers same (inr some) e =
-    inl (e ∙ after_numbers file (Err why) shapes numbers (stops (no_hex_key file) (drop 7 (plan_refusals file)) (plan_in file) why (hex_first is_hex_key (fault.Hex member.Keys) (key_elements file) list (Some why) same some)))
+    inl (e ∙ after_numbers file (Err why) shapes numbers (stops (no_hex_key file) (drop 7 (plan_refusals file)) (plan_in file) why
+    (hex_first is_hex_key (fault.Hex member.Keys) (key_elements file) list (Some why) same some)))
 
 -- the digits of a preimage are
 pub preimages_end : (file : Data) (keys preimages : List Data) (why : PlanFault) (result : Result PlanFile PlanFault) → HasShapes file → no_number file ≡ None
     → keys ≡ key_elements file → first_refused is_hex_key (fault.Hex member.Keys) keys ≡ None
-    → preimages ≡ elements file_member.Preimages file → (why ≡ fault.Memory) ⊎ (first_refused is_hex (fault.Hex member.Preimages) preimages ≡ Some why) → result ≡ Err why → IsOr fault.Memory (value_of file) result
+    → preimages ≡ elements file_member.Preimages file → (why ≡ fault.Memory) ⊎ (first_refused is_hex (fault.Hex member.Preimages) preimages ≡ Some why)
+    → result ≡ Err why → IsOr fault.Memory (value_of file) result
 preimages_end file keys preimages why result shapes numbers same none same' (inl memory) e = inr (e ∙ ap Err memory)
 preimages_end file keys preimages why result shapes numbers same none same' (inr some) e =
     inl (e ∙ after_numbers file (Err why) shapes numbers
     (after (no_hex_key file) (drop 7 (plan_refusals file)) (plan_in file) (Err why) (hex_first is_hex_key (fault.Hex member.Keys) (key_elements file) keys None same none)
-    (stops (no_hex_preimage file) (drop 8 (plan_refusals file)) (plan_in file) why (hex_first is_hex (fault.Hex member.Preimages) (elements file_member.Preimages file) preimages (Some why) same' some))))
+    (stops (no_hex_preimage file) (drop 8 (plan_refusals file)) (plan_in file) why
+    (hex_first is_hex (fault.Hex member.Preimages) (elements file_member.Preimages file) preimages (Some why) same' some))))
 
 -- ---- the refusals that speak of keys with their lengths, and of preimages
 

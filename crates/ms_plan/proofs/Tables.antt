@@ -11,7 +11,7 @@ use Rattle.std.proofs.lemmas.Slice.Eq.{bytes_eq-Decides}
 use Rattle.def_tree.specs.Range.{IsKey}
 use Rattle.def_tree.specs.Tree.{Key}
 use Rattle.def_plan.specs.Lengths.{Lengths, AreLengths, MOST_KEYS, length_of}
-use Rattle.ms_plan.specs.Estimates.{CanStandBefore}
+use Rattle.ms_plan.specs.Scaffolding.Entries.{CanStandBefore}
 
 -- but for their number
 pub record AreEntries (table : Lengths) : Type 0 where

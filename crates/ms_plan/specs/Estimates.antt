@@ -1,18 +1,10 @@
 -- What a stored estimate answers. Contracts see an estimate as its table and its closure.
-use Rattle.std.specs.Prelude.{◌≡◌, ℕ, ◌≤◌, Option, None}
+use Rattle.std.specs.Prelude.{◌≡◌, ℕ, Option}
 use Rattle.std.specs.Borrow.{Bor}
 use Rattle.std.specs.Fn.{Shared}
-use Rattle.def_script.specs.Signature.{MAX_SIGNATURE_SIZE}
 use Rattle.def_tree.specs.Tree.{Key}
 use Rattle.def_tree.specs.Range.{IsKey}
 use Rattle.def_plan.specs.Lengths.{Lengths, AreLengths, length_of}
-
--- an entry has a key and a length of a signature, and its key isn't that of a later one
-pub record CanStandBefore (entry : Key × ℕ) (later : Lengths) : Type 0 where
-  pub key : IsKey entry.0
-  pub some : 1 ≤ entry.1
-  pub short : entry.1 ≤ MAX_SIGNATURE_SIZE
-  pub once : length_of later entry.0 ≡ None
 
 -- a closure may be asked for each key, and answers its length in the table, or none without an entry
 abbrev pub AnswersFor : {F : Type 0} → Shared F (Bor Key × Unit {0}) (Option ℕ) → Lengths → F → Type 0

@@ -2,3 +2,4 @@
 pub mod Marks
 pub mod Marked
 pub mod Reading
+pub mod Entries

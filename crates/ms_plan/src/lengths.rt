@@ -1,7 +1,7 @@
 //! Keys, and the lengths that their signatures are estimated to have.
 ghost use Rattle.std.specs.Prelude.{◌≡◌, ◌↔◌, IsTrue};
 ghost use Rattle.def_plan.specs.Lengths.{AreLengths, length_of};
-ghost use Rattle.ms_plan.specs.Estimates.{CanStandBefore};
+ghost use Rattle.ms_plan.specs.Scaffolding.Entries.{CanStandBefore};
 
 use ms_script::is_signature_size;
 use ms_tree::Key;

@@ -1,6 +1,6 @@
 use Rattle.std.proofs.Common.{◌≤◌, length}
 use Rattle.ms_io.specs.Calls.{Offers}
-use Rattle.ms_io.specs.Moves.{WritesSoFar}
+use Rattle.ms_io.specs.Scaffolding.Writing.{WritesSoFar}
 use Rattle.ms_io.proofs.sink.put_all.Given as goal
 
 abbrev pub invariant-loop-rest : goal.invariant-loop-rest

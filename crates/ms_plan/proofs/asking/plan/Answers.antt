@@ -9,54 +9,62 @@ pub returns-clause-none : goal.returns-clause-none
 returns-clause-none g c =
     IfOk-weaker c.plan_of_table.result _ _
     (λ found is. made_none (shape c.args.tree.now) c.args.assets.now (table_of c.args.estimate.now) found
-    (made (shape c.args.tree.now) c.args.assets.now (table_of c.args.estimate.now) _ found c.requires.in_range.writable c.requires.sane c.are_assets.ensures.held c.requires.sound.0 (c.as_slice.ensures ∙ c.in_ok-lengths.ensures) is))
+    (made (shape c.args.tree.now) c.args.assets.now (table_of c.args.estimate.now) _ found c.requires.in_range.writable c.requires.sane
+    c.are_assets.ensures.held c.requires.sound.0 (c.as_slice.ensures ∙ c.in_ok-lengths.ensures) is))
     c.plan_of_table.ensures
 
 pub returns-clause-lengths : goal.returns-clause-lengths
 returns-clause-lengths g c =
     IfOk-weaker c.plan_of_table.result _ _
     (λ found is. made_lengths (shape c.args.tree.now) c.args.assets.now (table_of c.args.estimate.now) found
-    (made (shape c.args.tree.now) c.args.assets.now (table_of c.args.estimate.now) _ found c.requires.in_range.writable c.requires.sane c.are_assets.ensures.held c.requires.sound.0 (c.as_slice.ensures ∙ c.in_ok-lengths.ensures) is))
+    (made (shape c.args.tree.now) c.args.assets.now (table_of c.args.estimate.now) _ found c.requires.in_range.writable c.requires.sane
+    c.are_assets.ensures.held c.requires.sound.0 (c.as_slice.ensures ∙ c.in_ok-lengths.ensures) is))
     c.plan_of_table.ensures
 
 pub returns-clause-suffices : goal.returns-clause-suffices
 returns-clause-suffices g c =
     IfOk-weaker c.plan_of_table.result _ _
     (λ found is. made_suffices (shape c.args.tree.now) c.args.assets.now (table_of c.args.estimate.now) found
-    (made (shape c.args.tree.now) c.args.assets.now (table_of c.args.estimate.now) _ found c.requires.in_range.writable c.requires.sane c.are_assets.ensures.held c.requires.sound.0 (c.as_slice.ensures ∙ c.in_ok-lengths.ensures) is))
+    (made (shape c.args.tree.now) c.args.assets.now (table_of c.args.estimate.now) _ found c.requires.in_range.writable c.requires.sane
+    c.are_assets.ensures.held c.requires.sound.0 (c.as_slice.ensures ∙ c.in_ok-lengths.ensures) is))
     c.plan_of_table.ensures
 
 pub returns-clause-weight : goal.returns-clause-weight
 returns-clause-weight g c =
     IfOk-weaker c.plan_of_table.result _ _
     (λ found is. made_weight (shape c.args.tree.now) c.args.assets.now (table_of c.args.estimate.now) found
-    (made (shape c.args.tree.now) c.args.assets.now (table_of c.args.estimate.now) _ found c.requires.in_range.writable c.requires.sane c.are_assets.ensures.held c.requires.sound.0 (c.as_slice.ensures ∙ c.in_ok-lengths.ensures) is))
+    (made (shape c.args.tree.now) c.args.assets.now (table_of c.args.estimate.now) _ found c.requires.in_range.writable c.requires.sane
+    c.are_assets.ensures.held c.requires.sound.0 (c.as_slice.ensures ∙ c.in_ok-lengths.ensures) is))
     c.plan_of_table.ensures
 
 pub returns-clause-least : goal.returns-clause-least
 returns-clause-least g c =
     IfOk-weaker c.plan_of_table.result _ _
     (λ found is. made_least (shape c.args.tree.now) c.args.assets.now (table_of c.args.estimate.now) found
-    (made (shape c.args.tree.now) c.args.assets.now (table_of c.args.estimate.now) _ found c.requires.in_range.writable c.requires.sane c.are_assets.ensures.held c.requires.sound.0 (c.as_slice.ensures ∙ c.in_ok-lengths.ensures) is))
+    (made (shape c.args.tree.now) c.args.assets.now (table_of c.args.estimate.now) _ found c.requires.in_range.writable c.requires.sane
+    c.are_assets.ensures.held c.requires.sound.0 (c.as_slice.ensures ∙ c.in_ok-lengths.ensures) is))
     c.plan_of_table.ensures
 
 pub returns-clause-listed : goal.returns-clause-listed
 returns-clause-listed g c =
     IfOk-weaker c.plan_of_table.result _ _
     (λ found is. made_listed (shape c.args.tree.now) c.args.assets.now (table_of c.args.estimate.now) found
-    (made (shape c.args.tree.now) c.args.assets.now (table_of c.args.estimate.now) _ found c.requires.in_range.writable c.requires.sane c.are_assets.ensures.held c.requires.sound.0 (c.as_slice.ensures ∙ c.in_ok-lengths.ensures) is))
+    (made (shape c.args.tree.now) c.args.assets.now (table_of c.args.estimate.now) _ found c.requires.in_range.writable c.requires.sane
+    c.are_assets.ensures.held c.requires.sound.0 (c.as_slice.ensures ∙ c.in_ok-lengths.ensures) is))
     c.plan_of_table.ensures
 
 pub returns-clause-none_in_vain : goal.returns-clause-none_in_vain
 returns-clause-none_in_vain g c =
     IfOk-weaker c.plan_of_table.result _ _
     (λ found is. made_none_in_vain (shape c.args.tree.now) c.args.assets.now (table_of c.args.estimate.now) found
-    (made (shape c.args.tree.now) c.args.assets.now (table_of c.args.estimate.now) _ found c.requires.in_range.writable c.requires.sane c.are_assets.ensures.held c.requires.sound.0 (c.as_slice.ensures ∙ c.in_ok-lengths.ensures) is))
+    (made (shape c.args.tree.now) c.args.assets.now (table_of c.args.estimate.now) _ found c.requires.in_range.writable c.requires.sane
+    c.are_assets.ensures.held c.requires.sound.0 (c.as_slice.ensures ∙ c.in_ok-lengths.ensures) is))
     c.plan_of_table.ensures
 
 pub returns-clause-in_order : goal.returns-clause-in_order
 returns-clause-in_order g c =
     IfOk-weaker c.plan_of_table.result _ _
     (λ found is. made_in_order (shape c.args.tree.now) c.args.assets.now (table_of c.args.estimate.now) found
-    (made (shape c.args.tree.now) c.args.assets.now (table_of c.args.estimate.now) _ found c.requires.in_range.writable c.requires.sane c.are_assets.ensures.held c.requires.sound.0 (c.as_slice.ensures ∙ c.in_ok-lengths.ensures) is))
+    (made (shape c.args.tree.now) c.args.assets.now (table_of c.args.estimate.now) _ found c.requires.in_range.writable c.requires.sane
+    c.are_assets.ensures.held c.requires.sound.0 (c.as_slice.ensures ∙ c.in_ok-lengths.ensures) is))
     c.plan_of_table.ensures

@@ -1,7 +1,7 @@
 use Rattle.std.proofs.Common.{◌+◌, subst, sym, refl}
 use Rattle.std.proofs.lemmas.Bool.{false≢true}
 use Rattle.std.proofs.lemmas.List.{drop_all}
-use Rattle.ms_plan.specs.Estimates.{CanStandBefore}
+use Rattle.ms_plan.specs.Scaffolding.Entries.{CanStandBefore}
 use Rattle.ms_plan.proofs.Tables.{no_entries, few_entries, entry_at, entry_stands, entries_left, entries_of, to_the_end}
 use Rattle.ms_plan.proofs.lengths.are_lengths.Goals as goal
 
