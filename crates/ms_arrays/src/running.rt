@@ -36,7 +36,14 @@ impl<'a> Model for RunArrays<'a> {
 
     ghost Value = { Lent };
 
-    ghost view = { λ a. record { script = a.script.now; items = a.items.now; item_lengths = a.item_lengths.now; keys = a.keys.now; signatures = a.signatures.now; signature_lengths = a.signature_lengths.now } };
+    ghost view = { λ a. record {
+      script = a.script.now;
+      items = a.items.now;
+      item_lengths = a.item_lengths.now;
+      keys = a.keys.now;
+      signatures = a.signatures.now;
+      signature_lengths = a.signature_lengths.now;
+    } };
 }
 
 impl<'a> RunArrays<'a> {

@@ -36,7 +36,8 @@ after_shapes file answer shapes e =
     (after (no_list_of is_pair member.Signatures file) (drop 2 (asset_refusals file)) (assets_in file) answer shapes.signatures
     (after (no_list_of is_text member.Preimages file) (drop 3 (asset_refusals file)) (assets_in file) answer shapes.preimages e))
 
-after_locks : (file : Data) (answer : Result Assets AssetFault) → HasShapes file → first (no_version file ∷ no_sequence file ∷ no_locktime file ∷ []) ≡ None → answer ≡ left_of 6 file → answer ≡ value_of file
+after_locks : (file : Data) (answer : Result Assets AssetFault) → HasShapes file → first (no_version file ∷ no_sequence file ∷ no_locktime file ∷ []) ≡ None
+    → answer ≡ left_of 6 file → answer ≡ value_of file
 after_locks file answer shapes locks e =
     after_shapes file answer shapes (after_three (no_version file) (no_sequence file) (no_locktime file) (drop 6 (asset_refusals file)) (assets_in file) answer locks e)
 
@@ -64,7 +65,8 @@ format_stops file why shapes locks some =
 pairs_stop : (file : Data) (list : List Data) (why : AssetFault) → HasNumbers file
     → list ≡ elements member.Signatures file → first_refused is_hex_pair (fault.Hex member.Signatures) list ≡ Some why → Err why ≡ value_of file
 pairs_stop file list why has same some =
-    after_numbers file (Err why) has (stops (no_hex is_hex_pair member.Signatures file) (drop 8 (asset_refusals file)) (assets_in file) why (no_hex_first is_hex_pair member.Signatures file list (Some why) same some))
+    after_numbers file (Err why) has (stops (no_hex is_hex_pair member.Signatures file) (drop 8 (asset_refusals file)) (assets_in file) why
+    (no_hex_first is_hex_pair member.Signatures file list (Some why) same some))
 
 -- the digits of a preimage are refused
 strings_stop : (file : Data) (signatures preimages : List Data) (why : AssetFault) → HasNumbers file
@@ -83,7 +85,8 @@ pairs_end file list why result has same (inr some) e = inl (e ∙ pairs_stop fil
 
 pub strings_end : (file : Data) (signatures preimages : List Data) (why : AssetFault) (result : Result Assets AssetFault) → HasNumbers file
     → signatures ≡ elements member.Signatures file → first_refused is_hex_pair (fault.Hex member.Signatures) signatures ≡ None
-    → preimages ≡ elements member.Preimages file → (why ≡ fault.Memory) ⊎ (first_refused is_hex (fault.Hex member.Preimages) preimages ≡ Some why) → result ≡ Err why → IsOrMemory (value_of file) result
+    → preimages ≡ elements member.Preimages file → (why ≡ fault.Memory) ⊎ (first_refused is_hex (fault.Hex member.Preimages) preimages ≡ Some why) → result
+    ≡ Err why → IsOrMemory (value_of file) result
 strings_end file signatures preimages why result has same none same' (inl memory) e = inr (e ∙ ap Err memory)
 strings_end file signatures preimages why result has same none same' (inr some) e = inl (e ∙ strings_stop file signatures preimages why has same none same' some)
 
@@ -118,10 +121,17 @@ last_same file =
     let values = value_refusals (format_in file) (pairs file) (strings member.Preimages file) in
     ap (λ r. r ∷ drop 1 values) (keys_same signatures)
     ∙ ap (λ r. unless_each is_key fault.KeyForm (map key_of signatures) ∷ r ∷ drop 2 values) (sigs_same signatures)
-    ∙ ap (λ r. unless_each is_key fault.KeyForm (map key_of signatures) ∷ unless_each is_signature fault.SigLength (map sig_of signatures) ∷ r ∷ drop 3 values) (sym (each_first is_preimage fault.PreimageLength (strings member.Preimages file)))
-    ∙ ap (λ n. unless_each is_key fault.KeyForm (map key_of signatures) ∷ unless_each is_signature fault.SigLength (map sig_of signatures) ∷ unless_each is_preimage fault.PreimageLength (strings member.Preimages file) ∷ unless (nat_le n MOST_SIGNATURES) (fault.TooMany member.Signatures) ∷ drop 4 values) (length-map signatures pair_of)
-    ∙ ap (λ n. unless_each is_key fault.KeyForm (map key_of signatures) ∷ unless_each is_signature fault.SigLength (map sig_of signatures) ∷ unless_each is_preimage fault.PreimageLength (strings member.Preimages file) ∷ too_many MOST_SIGNATURES member.Signatures file ∷ unless (nat_le n MOST_PREIMAGES) (fault.TooMany member.Preimages) ∷ drop 5 values) (length-map preimages bytes_of)
-    ∙ ap (λ r. unless_each is_key fault.KeyForm (map key_of signatures) ∷ unless_each is_signature fault.SigLength (map sig_of signatures) ∷ unless_each is_preimage fault.PreimageLength (strings member.Preimages file) ∷ too_many MOST_SIGNATURES member.Signatures file ∷ too_many MOST_PREIMAGES member.Preimages file ∷ r ∷ []) (repeats_same (format_in file) (pairs file))
+    ∙ ap (λ r. unless_each is_key fault.KeyForm (map key_of signatures) ∷ unless_each is_signature fault.SigLength (map sig_of signatures) ∷ r ∷ drop 3 values)
+    (sym (each_first is_preimage fault.PreimageLength (strings member.Preimages file)))
+    ∙ ap (λ n. unless_each is_key fault.KeyForm (map key_of signatures) ∷ unless_each is_signature fault.SigLength (map sig_of signatures)
+    ∷ unless_each is_preimage fault.PreimageLength (strings member.Preimages file) ∷ unless (nat_le n MOST_SIGNATURES) (fault.TooMany member.Signatures)
+    ∷ drop 4 values) (length-map signatures pair_of)
+    ∙ ap (λ n. unless_each is_key fault.KeyForm (map key_of signatures) ∷ unless_each is_signature fault.SigLength (map sig_of signatures)
+    ∷ unless_each is_preimage fault.PreimageLength (strings member.Preimages file) ∷ too_many MOST_SIGNATURES member.Signatures file
+    ∷ unless (nat_le n MOST_PREIMAGES) (fault.TooMany member.Preimages) ∷ drop 5 values) (length-map preimages bytes_of)
+    ∙ ap (λ r. unless_each is_key fault.KeyForm (map key_of signatures) ∷ unless_each is_signature fault.SigLength (map sig_of signatures)
+    ∷ unless_each is_preimage fault.PreimageLength (strings member.Preimages file) ∷ too_many MOST_SIGNATURES member.Signatures file
+    ∷ too_many MOST_PREIMAGES member.Preimages file ∷ r ∷ []) (repeats_same (format_in file) (pairs file))
 
 -- what was read of a file that has its shapes, numbers and digits
 pub record HasRead (file : Data) (form : Format) (found : Locks) (read : Pairs) (texts : List Bytes) : Type 0 where
@@ -142,7 +152,8 @@ value_same file form found read texts has =
     after_numbers file answer has.numbers
     (after (no_hex is_hex_pair member.Signatures file) (drop 8 (asset_refusals file)) (assets_in file) answer has.signatures
     (after (no_hex is_hex member.Preimages file) (drop 9 (asset_refusals file)) (assets_in file) answer has.preimages
-    (ap (λ o. P (unwrap_or o formats.One) found read texts) has.format ∙ ap (λ l. P (format_in file) l read texts) has.locks ∙ ap (λ p. P (format_in file) (locks file) p texts) has.pairs ∙ ap (λ t. P (format_in file) (locks file) (pairs file) t) has.strings
+    (ap (λ o. P (unwrap_or o formats.One) found read texts) has.format ∙ ap (λ l. P (format_in file) l read texts) has.locks
+    ∙ ap (λ p. P (format_in file) (locks file) p texts) has.pairs ∙ ap (λ t. P (format_in file) (locks file) (pairs file) t) has.strings
     ∙ ap (λ rs. unless_any rs (assets_in file)) (last_same file))))
 
 pub read_done : (file : Data) (form : Format) (found : Locks) (read : Pairs) (texts : List Bytes) (result : Result Assets AssetFault) → HasRead file form found read texts

@@ -24,7 +24,8 @@ elements_of_items [] = refl
 elements_of_items (d ∷ ds) = ap (λ xs. d ∷ xs) (elements_of_items ds)
 
 -- the elements of a member that is a list
-pub elements_seen : (found : Option Data) (d : Data) (values : List Value) (seen : List Value) → Some d ≡ found → Some (items_view values) ≡ as_array d → seen ≡ values → Some (map view seen) ≡ elements_or_empty found
+pub elements_seen : (found : Option Data) (d : Data) (values : List Value) (seen : List Value) → Some d ≡ found → Some (items_view values) ≡ as_array d → seen
+    ≡ values → Some (map view seen) ≡ elements_or_empty found
 elements_seen found d values seen is_found is_array same =
     let known : elements_or_empty (Some d) ≡ Some (map view values) = ap (option_map elements_of) (sym is_array) ∙ ap Some (elements_of_items (map view values)) in
     ap (λ vs. Some (map view vs)) same ∙ sym known ∙ ap elements_or_empty is_found

@@ -248,7 +248,8 @@ first_of key = record { key = key; size = 0; place = 0 }
 all_inside : (table : Pairs) (order : List ℕ) → IsOrder table order → All (λ place. place < length table) order
 all_inside table order is =
     All-permutation (λ place. place < length table) (range_with_len 0 (length table)) order is.whole
-    (λ k d h. let at = get_or-range_with_len 0 (length table) k d (let same = length-range_with_len 0 (length table) in omega arith) in let same = length-range_with_len 0 (length table) in omega arith)
+    (λ k d h. let at = get_or-range_with_len 0 (length table) k d (let same = length-range_with_len 0 (length table) in omega arith)
+    in let same = length-range_with_len 0 (length table) in omega arith)
 
 module _ (table : Pairs) (order : List ℕ) (is : IsOrder table order) (key : Bytes) (at : ℕ)
     (split : IsPartitionPoint (λ other. is_before table (first_of key) other ≡ true) (λ other. is_before table (first_of key) other ≡ false) order at) where
@@ -389,16 +390,20 @@ module _ (table : Pairs) (order : List ℕ) (is : IsOrder table order) (key sig 
 
         go : (k + 1 < at) ⊎ (at ≤ k + 1) → (k < at) ⊎ (at ≤ k) → goal (get_or (insert order at (length table)) (k + 1) d) (get_or (insert order at (length table)) k d)
         go (inl low) other =
-            both (get_or-insert_below order at (length table) d (k + 1) low inside) (get_or-insert_below order at (length table) d k (omega (arith, low)) inside) (both_old k d (omega (arith, low, inside)))
+            both (get_or-insert_below order at (length table) d (k + 1) low inside)
+            (get_or-insert_below order at (length table) d k (omega (arith, low)) inside) (both_old k d (omega (arith, low, inside)))
         go (inr high) (inl low) =
             let e : k + 1 ≡ at = omega (arith, high, low) in
-            both (ap (λ i. get_or (insert order at (length table)) i d) e ∙ get_or-insert_at order at (length table) d inside) (get_or-insert_below order at (length table) d k low inside) (new_after k d low)
+            both (ap (λ i. get_or (insert order at (length table)) i d) e ∙ get_or-insert_at order at (length table) d inside)
+            (get_or-insert_below order at (length table) d k low inside) (new_after k d low)
         go (inr high) (inr above) = last (cases_lt at k)
           where
             last : (at < k) ⊎ (k ≤ at) → goal (get_or (insert order at (length table)) (k + 1) d) (get_or (insert order at (length table)) k d)
             last (inr same) =
                 let e : k ≡ at = omega (arith, same, above) in
-                both (get_or-insert_above order at (length table) d k above inside) (ap (λ i. get_or (insert order at (length table)) i d) e ∙ get_or-insert_at order at (length table) d inside) (new_before k d above (omega (arith, h)))
+                both (get_or-insert_above order at (length table) d k above inside)
+                (ap (λ i. get_or (insert order at (length table)) i d) e ∙ get_or-insert_at order at (length table) d inside)
+                (new_before k d above (omega (arith, h)))
             last (inl beyond) =
                 let e : k ≡ (k - 1) + 1 = omega (arith, beyond) in
                 both (get_or-insert_above order at (length table) d k above inside ∙ ap (λ i. get_or order i d) e)

@@ -21,7 +21,8 @@ pub stops : {A E : Type 0} (r : Option E) (rest : List (Option E)) (value : A) (
 stops r rest value why some = sym (ap (λ o. unless_any (o ∷ rest) value) some)
 
 -- nothing is refused by the first three of refusals, or one of them applies
-pub after_three : {A E : Type 0} (r s t : Option E) (rest : List (Option E)) (value : A) (answer : Result A E) → first (r ∷ s ∷ t ∷ []) ≡ None → answer ≡ unless_any rest value → answer ≡ unless_any (r ∷ s ∷ t ∷ rest) value
+pub after_three : {A E : Type 0} (r s t : Option E) (rest : List (Option E)) (value : A) (answer : Result A E) → first (r ∷ s ∷ t ∷ []) ≡ None → answer
+    ≡ unless_any rest value → answer ≡ unless_any (r ∷ s ∷ t ∷ rest) value
 after_three None None None rest value answer none e = e
 after_three None None (Some t) rest value answer none e = absurd (let no = none in cc)
 after_three None (Some s) t rest value answer none e = absurd (let no = none in cc)
@@ -46,7 +47,8 @@ pub first_refused-map : {A B E : Type 0} (holds : B → Bool) (fault : ℕ → E
 first_refused-map holds fault f xs = ap (option_map fault) (position_from-map (λ x. not (holds x)) f 0 xs)
 
 -- the digits of a list's elements
-pub no_hex_first : (right : Data → Bool) (m : Member) (file : Data) (list : List Data) (answer : Refusal) → list ≡ elements m file → first_refused right (fault.Hex m) list ≡ answer → no_hex right m file ≡ answer
+pub no_hex_first : (right : Data → Bool) (m : Member) (file : Data) (list : List Data) (answer : Refusal) → list ≡ elements m file
+    → first_refused right (fault.Hex m) list ≡ answer → no_hex right m file ≡ answer
 no_hex_first right m file list answer same e = each_first right (fault.Hex m) (elements m file) ∙ ap (first_refused right (fault.Hex m)) (sym same) ∙ e
 
 -- an object
@@ -68,6 +70,7 @@ pub at_none : {A E : Type 0} (holds : A → Bool) (fault : ℕ → E) (xs : List
 at_none holds fault xs e = place_none fault (position_from (λ x. not (holds x)) 0 xs) e
 
 -- the one at a place is
-pub at_some : {A E : Type 0} (holds : A → Bool) (fault : ℕ → E) (xs : List A) (i : ℕ) → (list_fault.At i ≡ list_fault.Memory) ⊎ (first_refused holds list_fault.At xs ≡ Some (list_fault.At i)) → first_refused holds fault xs ≡ Some (fault i)
+pub at_some : {A E : Type 0} (holds : A → Bool) (fault : ℕ → E) (xs : List A) (i : ℕ) → (list_fault.At i ≡ list_fault.Memory)
+    ⊎ (first_refused holds list_fault.At xs ≡ Some (list_fault.At i)) → first_refused holds fault xs ≡ Some (fault i)
 at_some holds fault xs i (inl e) = let no = e in cc
 at_some holds fault xs i (inr e) = place_some fault i (position_from (λ x. not (holds x)) 0 xs) e

@@ -76,10 +76,12 @@ key_inside {B} i pairs h = let same = length-map pairs (λ (pair : Bytes × B). 
 key_at : {B : Type 0} (i : ℕ) (pairs : List (Bytes × B)) (pair : Bytes × B) → i < length pairs → pair ≡ get_or pairs i pair → pair.0 ≡ get_or (keys pairs) i pair.0
 key_at {B} i pairs pair h e = sym (get_or-map (λ (pair : Bytes × B). pair.0) pairs i pair pair.0 h ∙ ap (λ (p : Bytes × B). p.0) (sym e))
 
-pub repeats_here : {B : Type 0} (i : ℕ) (pairs : List (Bytes × B)) (pair : Bytes × B) → i < length pairs → pair ≡ get_or pairs i pair → list_any (λ p. bytes_eq pair.0 p.0) (take i pairs) ≡ true → repeat_from i pairs ≡ Some i
+pub repeats_here : {B : Type 0} (i : ℕ) (pairs : List (Bytes × B)) (pair : Bytes × B) → i < length pairs → pair ≡ get_or pairs i pair
+    → list_any (λ p. bytes_eq pair.0 p.0) (take i pairs) ≡ true → repeat_from i pairs ≡ Some i
 repeats_here i pairs pair h e held = same_here bytes_eq i (keys pairs) pair.0 (key_inside i pairs h) (key_at i pairs pair h e) (any_before pair.0 i pairs ∙ held)
 
-pub repeats_later : {B : Type 0} (i : ℕ) (pairs : List (Bytes × B)) (pair : Bytes × B) → i < length pairs → pair ≡ get_or pairs i pair → list_any (λ p. bytes_eq pair.0 p.0) (take i pairs) ≡ false → repeat_from (i + 1) pairs ≡ repeat_from i pairs
+pub repeats_later : {B : Type 0} (i : ℕ) (pairs : List (Bytes × B)) (pair : Bytes × B) → i < length pairs → pair ≡ get_or pairs i pair
+    → list_any (λ p. bytes_eq pair.0 p.0) (take i pairs) ≡ false → repeat_from (i + 1) pairs ≡ repeat_from i pairs
 repeats_later i pairs pair h e held = same_later bytes_eq i (keys pairs) pair.0 (key_inside i pairs h) (key_at i pairs pair h e) (any_before pair.0 i pairs ∙ held)
 
 -- past the end no key is left

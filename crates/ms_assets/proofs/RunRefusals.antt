@@ -56,7 +56,8 @@ after_pairs : (file : Data) (answer : Result RunFile AssetFault) → HasNumbers 
 after_pairs file answer has signatures e =
     after_numbers file answer has (after (no_hex is_hex_pair member.Signatures file) (drop 8 (run_refusals file)) (run_in file) answer signatures e)
 
-after_script : (file : Data) (answer : Result RunFile AssetFault) → HasNumbers file → no_hex is_hex_pair member.Signatures file ≡ None → no_digits (script_text file) ≡ None → answer ≡ left_of 9 file → answer ≡ value_of file
+after_script : (file : Data) (answer : Result RunFile AssetFault) → HasNumbers file → no_hex is_hex_pair member.Signatures file ≡ None
+    → no_digits (script_text file) ≡ None → answer ≡ left_of 9 file → answer ≡ value_of file
 after_script file answer has signatures script e =
     after_pairs file answer has signatures (after (no_digits (script_text file)) (drop 9 (run_refusals file)) (run_in file) answer script e)
 
@@ -72,7 +73,8 @@ pub pairs_end : (file : Data) (list : List Data) (why : AssetFault) (result : Re
     → (why ≡ fault.Memory) ⊎ (first_refused is_hex_pair (fault.Hex member.Signatures) list ≡ Some why) → result ≡ Err why → IsOrMemory (value_of file) result
 pairs_end file list why result has same (inl memory) e = inr (e ∙ ap Err memory)
 pairs_end file list why result has same (inr some) e =
-    inl (e ∙ after_numbers file (Err why) has (stops (no_hex is_hex_pair member.Signatures file) (drop 8 (run_refusals file)) (run_in file) why (no_hex_first is_hex_pair member.Signatures file list (Some why) same some)))
+    inl (e ∙ after_numbers file (Err why) has (stops (no_hex is_hex_pair member.Signatures file) (drop 8 (run_refusals file)) (run_in file) why
+    (no_hex_first is_hex_pair member.Signatures file list (Some why) same some)))
 
 pub digits_end : (file : Data) (text : Option Bytes) (why : AssetFault) (result : Result RunFile AssetFault) → HasNumbers file → no_hex is_hex_pair member.Signatures file ≡ None
     → text ≡ script_text file → (why ≡ fault.Memory) ⊎ (no_digits text ≡ Some why) → result ≡ Err why → IsOrMemory (value_of file) result
@@ -80,11 +82,14 @@ digits_end file text why result has signatures same (inl memory) e = inr (e ∙ 
 digits_end file text why result has signatures same (inr some) e =
     inl (e ∙ after_pairs file (Err why) has signatures (stops (no_digits (script_text file)) (drop 9 (run_refusals file)) (run_in file) why (ap no_digits (sym same) ∙ some)))
 
-pub strings_end : (file : Data) (list : List Data) (why : AssetFault) (result : Result RunFile AssetFault) → HasNumbers file → no_hex is_hex_pair member.Signatures file ≡ None → no_digits (script_text file) ≡ None
+pub strings_end : (file : Data) (list : List Data) (why : AssetFault) (result : Result RunFile AssetFault) → HasNumbers file
+    → no_hex is_hex_pair member.Signatures file ≡ None → no_digits (script_text file) ≡ None
     → list ≡ elements member.Witness file → (why ≡ fault.Memory) ⊎ (first_refused is_hex (fault.Hex member.Witness) list ≡ Some why) → result ≡ Err why → IsOrMemory (value_of file) result
 strings_end file list why result has signatures script same (inl memory) e = inr (e ∙ ap Err memory)
 strings_end file list why result has signatures script same (inr some) e =
-    inl (e ∙ after_script file (Err why) has signatures script (stops (no_hex is_hex member.Witness file) (drop 10 (run_refusals file)) (run_in file) why (no_hex_first is_hex member.Witness file list (Some why) same some)))
+    inl (e ∙ after_script file (Err why) has signatures script
+    (stops (no_hex is_hex member.Witness file) (drop 10 (run_refusals file)) (run_in file) why
+    (no_hex_first is_hex member.Witness file list (Some why) same some)))
 
 -- ---- what was read
 
@@ -100,7 +105,8 @@ pub record HasRead (file : Data) (code : Bytes) (texts : List Bytes) (found : Lo
 
 counts_same : (file : Data) → count_refusals (pairs file) (strings member.Witness file) ≡ drop 10 (run_refusals file)
 counts_same file =
-    ap (λ n. unless (nat_le n MOST_SIGNATURES) (fault.TooMany member.Signatures) ∷ drop 1 (count_refusals (pairs file) (strings member.Witness file))) (length-map (elements member.Signatures file) (λ e. (key_of e, sig_of e)))
+    ap (λ n. unless (nat_le n MOST_SIGNATURES) (fault.TooMany member.Signatures) ∷ drop 1 (count_refusals (pairs file) (strings member.Witness file)))
+    (length-map (elements member.Signatures file) (λ e. (key_of e, sig_of e)))
     ∙ ap (λ n. too_many MOST_SIGNATURES member.Signatures file ∷ unless (nat_le n MOST_ELEMENTS) (fault.TooMany member.Witness) ∷ []) (length-map (elements member.Witness file) bytes_of)
 
 -- then the numbers of elements tell
@@ -111,5 +117,6 @@ read_done file script stack found read has =
     let answer = P script stack found read in
     after_script file answer has.numbers has.signatures has.digits
     (after (no_hex is_hex member.Witness file) (drop 10 (run_refusals file)) (run_in file) answer has.witness
-    (ap (λ o. P (unwrap_or o []) stack found read) has.script ∙ ap (λ s. P (run_in file).script s found read) has.stack ∙ ap (λ l. P (run_in file).script (strings member.Witness file) l read) has.locks
+    (ap (λ o. P (unwrap_or o []) stack found read) has.script ∙ ap (λ s. P (run_in file).script s found read) has.stack
+    ∙ ap (λ l. P (run_in file).script (strings member.Witness file) l read) has.locks
     ∙ ap (λ p. P (run_in file).script (strings member.Witness file) (locks file) p) has.pairs ∙ ap (λ rs. unless_any rs (run_in file)) (counts_same file)))

@@ -1,24 +1,22 @@
 //! Asset files.
 
-ghost use Rattle.std.specs.Prelude.{◌≡◌, ◌^◌, ◌<◌, ◌≤◌, length};
-ghost use Rattle.std.specs.List.{list_any};
+ghost use Rattle.std.specs.Prelude.{◌^◌, ◌<◌, ◌≤◌, length};
 ghost use Rattle.serde_json.specs.View.{view};
-ghost use Rattle.def_script.specs.Key.{is_key as the_is_key};
-ghost use Rattle.def_files.specs.AssetFile.{is_signature, is_preimage, asset_refusals, assets_in as the_assets_in, assets_of};
-ghost use Rattle.def_files.specs.Parts.{same_under};
+ghost use Rattle.def_files.specs.AssetFile.{is_preimage, asset_refusals, assets_in as the_assets_in, assets_of};
 ghost use Rattle.def_files.specs.Refusals.{unless_any};
 ghost use Rattle.ms_assets.specs.Scaffolding.Seen.{parts_seen};
-ghost use Rattle.ms_assets.specs.Parts.{first_refused, Reads, ReadsOr, ReadsOrMemory, IsOrMemory, repeats, value_refusals};
+ghost use Rattle.ms_assets.specs.Parts.{first_refused, ReadsOr, ReadsOrMemory, IsOrMemory, value_refusals};
 
 use crate::assets::{Assets, MOST_PREIMAGES, MOST_SIGNATURES};
+use crate::checking::{check_keys, check_repeats, check_signatures};
 use crate::list_fault::ListFault;
 use crate::members::{pair_list, read_format, read_json, read_locks, text_list};
 use crate::preimage::Preimage;
 use crate::signatures::Signatures;
 use crate::texts::{read_pairs, read_strings};
 use def_files::{AssetFault, Format, Member};
-use ms_oracle::{Locks, Pairs, SigPair};
-use ms_script::{Stack, is_key, is_signature_size};
+use ms_oracle::{Locks, Pairs};
+use ms_script::Stack;
 use serde_json::Value;
 use std::alloc::Global;
 
@@ -90,7 +88,7 @@ fn check_parts(
     ensures { IsOrMemory (unless_any (value_refusals format pairs strings.now) (record { locks = locks; pairs = pairs; preimages = strings.now })) (parts_seen result) }
 {
     check_keys(pairs.as_slice())?;
-    check_sigs(pairs.as_slice())?;
+    check_signatures(pairs.as_slice())?;
     let preimages = read_preimages(alloc, strings)?;
     if pairs.as_slice().len() > MOST_SIGNATURES {
         return Err(AssetFault::TooMany(Member::Signatures));
@@ -105,36 +103,6 @@ fn check_parts(
         pairs,
         preimages,
     })
-}
-
-/// Refuses the first key that hasn't its form.
-fn check_keys(pairs: &[SigPair]) -> Result<(), AssetFault>
-    requires { length pairs.now < 2 ^ 32 }
-    ensures { Reads (first_refused (λ pair. the_is_key pair.0) AssetFault.KeyForm pairs.now) (λ unit. unit) tt result }
-{
-    let mut place = 0;
-    for pair in pairs {
-        if !is_key(pair.key()) {
-            return Err(AssetFault::KeyForm(place));
-        }
-        place += 1;
-    }
-    Ok(())
-}
-
-/// Refuses the first signature that hasn't its length.
-fn check_sigs(pairs: &[SigPair]) -> Result<(), AssetFault>
-    requires { length pairs.now < 2 ^ 32 }
-    ensures { Reads (first_refused (λ pair. is_signature pair.1) AssetFault.SigLength pairs.now) (λ unit. unit) tt result }
-{
-    let mut place = 0;
-    for pair in pairs {
-        if !is_signature_size(pair.sig().len()) {
-            return Err(AssetFault::SigLength(place));
-        }
-        place += 1;
-    }
-    Ok(())
 }
 
 /// The preimages, or the refusal of the first that hasn't 32 bytes.
@@ -162,39 +130,4 @@ pub fn preimages_of(alloc: Global, strings: &Stack) -> Result<Vec<Preimage>, Lis
         preimages.push(Preimage::new(bytes))?;
     }
     Ok(preimages)
-}
-
-/// Refuses the first pair that is the same as an earlier one.
-fn check_repeats(format: Format, pairs: &[SigPair]) -> Result<(), AssetFault>
-    requires { length pairs.now < 2 ^ 32 }
-    ensures { Reads (repeats format AssetFault.RepeatedKey pairs.now) (λ unit. unit) tt result }
-{
-    for i in 0..pairs.len() {
-        if holds_same(format, &pairs[..i], &pairs[i]) {
-            return Err(AssetFault::RepeatedKey(i as u32));
-        }
-    }
-    Ok(())
-}
-
-/// Whether a pair is the same as one of a table.
-fn holds_same(format: Format, table: &[SigPair], pair: &SigPair) -> bool
-    ensures { result ≡ list_any (same_under format pair.now) table.now }
-{
-    for other in table {
-        if is_same(format, pair, other) {
-            return true;
-        }
-    }
-    false
-}
-
-/// Whether two pairs are the same: in format 1 those of one key, in format 2 those of one key and one signature.
-fn is_same(format: Format, these: &SigPair, those: &SigPair) -> bool
-    ensures { result ≡ same_under format these.now those.now }
-{
-    match format {
-        Format::One => these.key() == those.key(),
-        Format::Two => these.key() == those.key() && these.sig() == those.sig(),
-    }
 }

@@ -6,6 +6,7 @@
 
 pub use asset_file::{preimages_of, read_assets};
 pub use assets::{AddStop, Assets, MOST_PREIMAGES, MOST_SIGNATURES};
+pub use checking::{check_keys, check_repeats, check_signatures};
 pub use def_files::{AssetFault, Member};
 pub use list_fault::ListFault;
 pub use members::{
@@ -18,6 +19,7 @@ pub use texts::{spelled_at, strings_of};
 
 mod asset_file;
 mod assets;
+mod checking;
 mod list_fault;
 mod members;
 mod preimage;

@@ -6,9 +6,10 @@ ghost use Rattle.ms_calls.specs.Buffers.{written_over};
 ghost use Rattle.ms_calls.specs.Words.{HoldsOfAnswer, AreNoWords};
 
 use crate::copying::write_over;
-use crate::memory::{ByteSink, ByteSource};
+use crate::memory::ByteSink;
 use crate::words::{NoWords, read_words};
 use def_answer::Status;
+use ms_io::ByteSource;
 use msat_cli::{Word, msat};
 use std::alloc::{AllocError, Global};
 

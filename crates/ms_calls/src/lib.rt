@@ -6,7 +6,7 @@ pub use auditing::audit;
 pub use copying::{write_lengths, write_over};
 pub use facts::Facts;
 pub use holding::satisfy;
-pub use memory::{ByteSink, ByteSource};
+pub use memory::ByteSink;
 pub use outcome::{PlacedStep, RunOutcome};
 pub use planning::plan;
 pub use policies::policy;

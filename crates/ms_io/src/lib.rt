@@ -9,7 +9,7 @@ pub use memory_source::MemSource;
 pub use sink::{Sink, SinkFailed, put_all, put_report};
 pub use source::{ReadStop, Source, SourceFailed, read_all};
 pub use standard::{StdSink, StdSource};
-pub use sure::{NullSink, SureSource};
+pub use sure::{ByteSource, NullSink};
 
 mod memory;
 mod memory_source;

@@ -1,6 +1,6 @@
 //! A source and a sink that never fail.
 
-ghost use Rattle.std.specs.Prelude.{◌≡◌, ℕ, ◌<◌, ◌≤◌, min, List, length, take, drop, None, Some, Ok, IfOk, MatchResult};
+ghost use Rattle.std.specs.Prelude.{◌≡◌, ℕ, ◌<◌, min, List, length, take, drop, None, Some, Ok, IfOk, MatchResult};
 ghost use Rattle.std.specs.Io.{ReadsAtMost, WritesAtMost};
 ghost use Rattle.std.specs.Io.KnownBytes.{ReadConsumes, WriteAppends};
 ghost use Rattle.ms_io.specs.Faults.{HasCause};
@@ -9,31 +9,28 @@ use crate::sink::{Sink, SinkFailed};
 use crate::source::{Source, SourceFailed};
 use std::marker::Model;
 
-/// A source over memory that never fails. Contracts see it as the bytes that are left.
+/// A source of bytes that were lent, which never fails. Contracts see it as the bytes that are left.
 #[derive(Drop)]
-pub struct SureSource {
-    bytes: Vec<u8>,
-    at: usize,
+pub struct ByteSource<'a> {
+    rest: &'a [u8],
 }
 
-impl Model for SureSource {
+impl<'a> Model for ByteSource<'a> {
     ghost Value = { List ℕ };
 
-    ghost view = { λ s. drop s.at s.bytes.items };
-
-    ghost invariant = { λ s. s.at ≤ length s.bytes.items };
+    ghost view = { λ s. s.rest.now };
 }
 
-impl SureSource {
-    /// A source of `bytes`, first one first. Takes no memory.
-    pub fn new(bytes: Vec<u8>) -> SureSource
-        ensures { result ≡ bytes.items }
+impl<'a> ByteSource<'a> {
+    /// A source of these bytes, first one first. Takes no memory.
+    pub fn new(bytes: &'a [u8]) -> ByteSource<'a>
+        ensures { result ≡ bytes.now }
     {
-        SureSource { bytes, at: 0 }
+        ByteSource { rest: bytes }
     }
 }
 
-impl Source for SureSource {
+impl<'a> Source for ByteSource<'a> {
     ghost left = { λ s. Some s };
 
     ghost faults = { λ _. 0 };
@@ -50,9 +47,8 @@ impl Source for SureSource {
         ensures call { MatchResult result (λ n. (take n buf.new ≡ take (length buf.old) self.old) × (self.new ≡ drop (length buf.old) self.old)) (λ _. ⊥) }
         ensures count { result ≡ Ok (min (length buf.old) (length self.old)) }
     {
-        let rest = &self.bytes[self.at..];
-        let count = copy_front(rest, buf);
-        self.at += count;
+        let count = copy_front(self.rest, buf);
+        self.rest = &self.rest[count..];
         Ok(count)
     }
 }

@@ -6,7 +6,8 @@ ghost use Rattle.ms_calls.specs.Buffers.{written_over};
 ghost use Rattle.ms_calls.specs.Words.{HoldsOfAnswer, AreNoWords};
 
 use def_psbt_answer::Status;
-use ms_calls::{ByteSink, ByteSource, NO_MEMORY, NoWords, UNREADABLE, read_words, write_over};
+use ms_calls::{ByteSink, NO_MEMORY, NoWords, UNREADABLE, read_words, write_over};
+use ms_io::ByteSource;
 use psbt_cli::{Word, msat_psbt};
 use std::alloc::{AllocError, Global};
 

@@ -131,8 +131,8 @@ fn a_writer_that_fails_is_a_fault(rt: HostRuntime) -> Result<(), Fail> {
 }
 
 #[test]
-fn a_sure_source_gives_all(rt: HostRuntime) -> Result<(), Fail> {
-    let mut source = SureSource::new(Vec::from_slice(rt.alloc(), b"abcde")?);
+fn a_byte_source_gives_all(rt: HostRuntime) -> Result<(), Fail> {
+    let mut source = ByteSource::new(b"abcde");
     let mut buf = [0; 4];
     assert_eq!(rt; source.read(&mut buf), Ok(4));
     assert_eq!(rt; buf, *b"abcd");

@@ -8,7 +8,7 @@ ghost use Rattle.ms_io.specs.Sides.{ReadsFront};
 
 use crate::program::msat;
 use def_answer::Status;
-use ms_io::{NullSink, SureSource};
+use ms_io::{ByteSource, NullSink};
 use ms_words::Word;
 use std::alloc::Global;
 
@@ -17,7 +17,7 @@ use std::alloc::Global;
 pub fn msat_without_faults(
     alloc: Global,
     words: &[Word],
-    source: &mut SureSource,
+    source: &mut ByteSource<'_>,
     sink: &mut NullSink,
 ) -> Status
     ensures usage { HasNoForm words.now → result ≡ Status.Usage }

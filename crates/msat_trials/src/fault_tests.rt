@@ -1,7 +1,7 @@
 //! Tests of `msat` where a read or a write fails.
 
 use crate::asking::{failing_sink, failing_source, words_of};
-use ms_io::{MemSink, MemSource, NullSink, SureSource};
+use ms_io::{ByteSource, MemSink, MemSource, NullSink};
 use msat_cli::{Status, msat, msat_without_faults};
 use std::alloc::Global;
 use std::test::Fail;
@@ -80,7 +80,7 @@ fn a_fault_of_the_sink_leaves_a_prefix(rt: HostRuntime) -> Result<(), Fail> {
 #[test]
 fn nothing_fails_over_memory(rt: HostRuntime) -> Result<(), Fail> {
     let words = words_of(rt.alloc(), "script older(9)")?;
-    let mut source = SureSource::new(Vec::new(rt.alloc()));
+    let mut source = ByteSource::new(&[]);
     let status = msat_without_faults(rt.alloc(), &words, &mut source, &mut NullSink::new());
     assert_eq!(rt; status.code(), 0);
     Ok(())

@@ -6,7 +6,8 @@ use Rattle.ms_arrays.proofs.entries.check_repeated.Goals as goal
 pub returns-then-holds_key_of : goal.returns-then-holds_key_of
 returns-then-holds_key_of c =
     let held = sym c.holds_key_of.ensures ∙ c.if-holds_key_of.true in
-    repeated_from fault.RepeatedKey c.args.entries.now ∙ ap (option_map fault.RepeatedKey) (sym c.loop-i.invariant ∙ repeats_here c.loop-i.i c.args.entries.now c.index-entries-i.result c.loop-i-test.true c.index-entries-i.is held)
+    repeated_from fault.RepeatedKey c.args.entries.now ∙ ap (option_map fault.RepeatedKey)
+    (sym c.loop-i.invariant ∙ repeats_here c.loop-i.i c.args.entries.now c.index-entries-i.result c.loop-i-test.true c.index-entries-i.is held)
 
 pub loop-i-preserved : goal.loop-i-preserved
 loop-i-preserved c =
@@ -14,4 +15,8 @@ loop-i-preserved c =
     repeats_later c.loop-i.i c.args.entries.now c.index-entries-i.result c.loop-i-test.true c.index-entries-i.is held ∙ c.loop-i.invariant
 
 pub returns : goal.returns
-returns c = (repeated_from fault.RepeatedKey c.args.entries.now ∙ ap (option_map fault.RepeatedKey) (sym c.loop-i.invariant ∙ repeats_none c.loop-i.i c.args.entries.now (omega (arith, c.loop-i-test.false))), refl)
+returns c = (
+  repeated_from fault.RepeatedKey c.args.entries.now
+      ∙ ap (option_map fault.RepeatedKey) (sym c.loop-i.invariant ∙ repeats_none c.loop-i.i c.args.entries.now (omega (arith, c.loop-i-test.false))),
+  refl,
+)

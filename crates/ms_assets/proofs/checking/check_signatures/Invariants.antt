@@ -1,7 +1,7 @@
 use Rattle.std.proofs.Common.{◌≡◌, not, drop}
 use Rattle.std.specs.List.{position_from}
 use Rattle.def_files.specs.AssetFile.{is_signature}
-use Rattle.ms_assets.proofs.asset_file.check_sigs.Given as goal
+use Rattle.ms_assets.proofs.checking.check_signatures.Given as goal
 
 abbrev pub invariant-loop-pair : goal.invariant-loop-pair
 invariant-loop-pair l = record {

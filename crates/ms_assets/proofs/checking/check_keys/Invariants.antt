@@ -1,7 +1,7 @@
 use Rattle.std.proofs.Common.{◌≡◌, not, drop}
 use Rattle.std.specs.List.{position_from}
 use Rattle.def_script.specs.Key.{is_key}
-use Rattle.ms_assets.proofs.asset_file.check_keys.Given as goal
+use Rattle.ms_assets.proofs.checking.check_keys.Given as goal
 
 abbrev pub invariant-loop-pair : goal.invariant-loop-pair
 invariant-loop-pair l = record {
