@@ -115,6 +115,7 @@ fn satisfy_report(
         alloc,
         bounds,
         carried.script.as_slice(),
+        &carried.program,
         stack,
         carried.witness.as_slice(),
         &carried.report,

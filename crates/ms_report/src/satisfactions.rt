@@ -1,6 +1,7 @@
 //! What is printed of a satisfaction.
 ghost use Rattle.std.specs.Prelude.{◌≡◌, ◌≤◌, ◌^◌, ◌++◌, flat_map, IfOk, OnOk};
 ghost use Rattle.std.specs.String.{string_bytes};
+ghost use Rattle.def_machine.specs.Program.{program_of};
 ghost use Rattle.def_machine.specs.Run.{accepted};
 ghost use Rattle.def_answer.specs.Report.{item_line, replay_line as the_replay_line};
 ghost use Rattle.ms_report.specs.Bounds.{bounds_line as the_bounds_line};
@@ -14,22 +15,24 @@ use ms_script::Stack;
 use std::alloc::{AllocError, Global};
 
 /// The Script, its program, the limits, the satisfaction, its witness, and what the replay of the witness counted: what
-/// `satisfy` prints. It demands that the stack weighs at most 2^40, as each satisfaction does. `AllocError` comes only
-/// where memory is wanting.
+/// `satisfy` prints. It demands that `program` is the Script's, and that the stack weighs at most 2^40, as each satisfaction
+/// does. `AllocError` comes only where memory is wanting.
 #[tactic(auto, unfolding(crate::specs::Satisfactions::satisfaction_lines))]
 pub fn satisfaction_report(
     alloc: Global,
     bounds: Bounds,
     script: &[u8],
+    program: &[u8; 34],
     stack: &Stack,
     witness: &[u8],
     run: &RunReport,
 ) -> Result<String, AllocError>
-    requires { the_weight stack.now ≤ 2 ^ 40 }
+    requires program { program.now ≡ program_of script.now }
+    requires light { the_weight stack.now ≤ 2 ^ 40 }
     ensures { IfOk result (λ report. string_bytes report ≡ satisfaction_lines (the_bounds_line bounds) script.now stack.now witness.now (accepted run.now.ops run.now.peak run.now.checks)) }
 {
     let mut report = String::new(alloc);
-    push_output(alloc, &mut report, script)?;
+    push_output(alloc, &mut report, script, program)?;
     report.push_str(&bounds_line(alloc, bounds)?)?;
     push_items(alloc, &mut report, stack)?;
     push_line(&mut report, "witness ", &hex::encode(alloc, witness)?)?;

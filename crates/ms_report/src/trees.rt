@@ -15,6 +15,7 @@ use ms_sane::{Rules, Sane, Work};
 use ms_text::print_text;
 use ms_tree::Tree;
 use ms_types::{Mall, Ty};
+use ms_witness::program_of;
 use std::alloc::{AllocError, Global};
 
 /// The Script of a tree (BIP 379) in lower-case digits: what `script` prints. `AllocError` comes only where memory is
@@ -52,7 +53,9 @@ pub fn check_report(
         "type ",
         &type_letters(alloc, sane.ty, sane.mall)?,
     )?;
-    push_output(alloc, &mut report, script_bytes(alloc, tree)?.as_slice())?;
+    let script = script_bytes(alloc, tree)?;
+    let program = program_of(script.as_slice());
+    push_output(alloc, &mut report, script.as_slice(), &program)?;
     let bounds = bounds_of(rules, tree, sane.limits, work);
     report.push_str(&bounds_line(alloc, bounds)?)?;
     Ok(report)

@@ -7,8 +7,8 @@ use Rattle.ms_row_laws.proofs.WithinLimits.{light_stack}
 use Rattle.ms_replies.proofs.SatisfiedLines.{satisfied_lines}
 use Rattle.ms_replies.proofs.satisfying.satisfy_report.Goals as goal
 
-pub satisfaction_report-requires : goal.satisfaction_report-requires
-satisfaction_report-requires c =
+pub satisfaction_report-requires-clause-light : goal.satisfaction_report-requires-clause-light
+satisfaction_report-requires-clause-light c =
     light_stack (shape c.args.tree.now) c.args.assets.now c.args.stack.now c.requires.in_range.writable c.requires.valid c.are_assets.ensures.held c.requires.canonical
 
 pub returns : goal.returns
