@@ -1,13 +1,13 @@
 //! `finalize`: the PSBT with each input that is Ready made final.
-ghost use Rattle.std.specs.Prelude.{◌≡◌, ◌+◌, ◌<◌, ◌++◌, if◌then◌else◌, List, All, Some, length, slice_get, take, IfOk, OnOk};
+ghost use Rattle.std.specs.Prelude.{◌≡◌, ◌<◌, ◌++◌, if◌then◌else◌, List, All, Some, length, slice_get, IfOk, OnOk};
 ghost use Rattle.def_psbt.specs.Map.{map_text};
 ghost use Rattle.def_spend.specs.Finalized.{written_map};
 ghost use Rattle.def_spend.specs.Reading.{Input as TheInput, AreInputs};
-ghost use Rattle.def_psbt_answer.specs.Report.{finalize_report};
-ghost use Rattle.def_psbt_answer.specs.Reply.{reply, settled_status};
+ghost use Rattle.def_psbt_answer.specs.declared.words.Command.TheVariants.{Finalize};
+ghost use Rattle.def_psbt_answer.specs.Reply.{reply, command_reply};
 ghost use Rattle.ms_input.specs.Seen.{input_seen};
 ghost use Rattle.ms_transaction.specs.Unsigned.{IsUnsigned};
-ghost use Rattle.ms_psbt_replies.specs.Scaffolding.Written.{IsWritten};
+ghost use Rattle.ms_psbt_replies.specs.Scaffolding.Written.{IsWritten, WritesNext};
 
 use crate::reply::Reply;
 use bumpalo::Bump;
@@ -31,7 +31,7 @@ pub struct Written {
 /// The PSBT with each input that is Ready made final, in a form. Nothing else of it is touched.
 #[tactic(auto, unfolding(def_psbt_answer::specs::Report::finalize_report))]
 pub fn finalize<'p>(alloc: Global, form: Form, psbt: &'p Psbt<'p>) -> Result<Reply, AllocError>
-    ensures { IfOk result (λ made. (inputs : List TheInput) → AreInputs psbt.entry.now inputs → reply made.status made.report.items ≡ reply (settled_status inputs) (finalize_report form psbt.entry.now inputs)) }
+    ensures { IfOk result (λ made. (inputs : List TheInput) → AreInputs psbt.entry.now inputs → reply made.status made.report.items ≡ command_reply Finalize form psbt.entry.now inputs) }
 {
     let mut written = write_inputs(alloc, psbt)?;
     finish_psbt(&mut written.text, psbt)?;
@@ -67,7 +67,7 @@ fn write_input<'p>(
     requires transaction { transaction.now ≡ psbt.now.transaction }
     requires unsigned { All IsUnsigned transaction.now.inputs }
     requires number { number < length psbt.now.inputs }
-    ensures { (inputs : List TheInput) → AreInputs psbt.entry.now inputs → IsWritten psbt.entry.now (take number inputs) written.old → OnOk result (IsWritten psbt.entry.now (take (number + 1) inputs) written.new) }
+    ensures { (inputs : List TheInput) → AreInputs psbt.entry.now inputs → WritesNext psbt.entry.now inputs number written.old written.new result }
 {
     let arena = Bump::new(alloc);
     let input = Input::read(alloc, &arena, psbt, transaction, number)?;

@@ -2,3 +2,4 @@
 pub mod Sums
 pub mod Told
 pub mod Tables
+pub mod Lines

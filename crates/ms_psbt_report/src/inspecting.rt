@@ -2,12 +2,11 @@
 ghost use Rattle.std.specs.Prelude.{◌≡◌, ℕ, ◌+◌, ◌*◌, ◌<◌, ◌≤◌, ◌^◌, ◌&&◌, ◌||◌, ◌++◌, [], ◌∷◌, if◌then◌else◌, List, length, take, All, IfOk, IfSome, OnOk};
 ghost use Rattle.def_spend.specs.States.{is_final, is_ready};
 ghost use Rattle.def_spend.specs.Reading.{Input as TheInput, AreInputs};
-ghost use Rattle.def_psbt_answer.specs.Fee.{paid as the_paid, fee_line_by};
-ghost use Rattle.def_psbt_answer.specs.Lines.{psbt_line, output_lines};
 ghost use Rattle.def_psbt_answer.specs.Reply.{settled_status};
 ghost use Rattle.def_psbt_answer.specs.Report.{inspect_report};
 ghost use Rattle.ms_input.specs.Seen.{input_seen};
 ghost use Rattle.ms_transaction.specs.Unsigned.{IsUnsigned};
+ghost use Rattle.ms_psbt_report.specs.Scaffolding.Lines.{money_lines};
 ghost use Rattle.ms_psbt_report.specs.Scaffolding.Told.{AreTold};
 
 use crate::inputs::push_input_report;
@@ -64,7 +63,7 @@ fn with_money(
     spent: Spent,
     transaction: &TransactionRef<'_>,
 ) -> Result<Vec<u8>, AllocError>
-    ensures { IfOk result (λ report. report.items ≡ psbt_line transaction.now ++ output_lines 0 transaction.now.outputs ++ fee_line_by spent.satoshis (the_paid transaction.now.outputs) spent.are_proved ++ lines.items) }
+    ensures { IfOk result (λ report. report.items ≡ money_lines transaction.now spent.satoshis spent.are_proved ++ lines.items) }
 {
     let mut report = lines;
     let size = report.len();

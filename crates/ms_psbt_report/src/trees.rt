@@ -1,17 +1,14 @@
 //! What `inspect` prints of an input's miniscript: as far as its state goes, and what is lacking.
-ghost use Rattle.std.specs.Prelude.{◌≡◌, ◌++◌, [], Some, if◌then◌else◌, flat_map, IsTrue, OnOk};
+ghost use Rattle.std.specs.Prelude.{◌≡◌, ◌++◌, Some, flat_map, IsTrue, OnOk};
 ghost use Rattle.def_script.specs.Witness.{weight};
 ghost use Rattle.def_tree.specs.Range.{IsInRange};
 ghost use Rattle.def_tree.specs.Tree.{Tree as TheTree};
-ghost use Rattle.def_policy.specs.Print.{printed as printed_policy};
 ghost use Rattle.def_sane.specs.Unfit.{IsSane};
-ghost use Rattle.def_spend.specs.Input.{assets_of};
-ghost use Rattle.def_spend.specs.Asking.{plan_with};
-ghost use Rattle.def_spend.specs.States.{state_of, stack_of, is_read as the_is_read, is_sane as the_is_sane};
-ghost use Rattle.def_answer.specs.Report.{decode_report, policy_of, ask_line, weight_line as most_weight_line};
-ghost use Rattle.def_psbt_answer.specs.Lines.{policy_line, weight_line};
-ghost use Rattle.def_psbt_answer.specs.Report.{tree_lines, last_lines, plan_lines};
+ghost use Rattle.def_spend.specs.States.{state_of, stack_of, is_sane as the_is_sane};
+ghost use Rattle.def_answer.specs.Report.{ask_line, weight_line as most_weight_line};
+ghost use Rattle.def_psbt_answer.specs.Lines.{weight_line};
 ghost use Rattle.ms_input.specs.Seen.{input_seen};
+ghost use Rattle.ms_psbt_report.specs.Scaffolding.Lines.{lines_of_tree, told_tree, last_lines_of, lines_of_plan};
 ghost use Rattle.ms_tree.specs.Shape.{shape};
 
 use crate::states::{is_read, is_sane};
@@ -29,7 +26,7 @@ pub fn push_tree_lines(
     report: &mut Vec<u8>,
     input: &Input<'_, '_>,
 ) -> Result<(), AllocError>
-    ensures { OnOk result (report.new.items ≡ report.old.items ++ tree_lines (state_of (input_seen input.now)) (input_seen input.now).tree input.now.spend (stack_of (input_seen input.now))) }
+    ensures { OnOk result (report.new.items ≡ report.old.items ++ lines_of_tree (input_seen input.now) input.now.spend) }
 {
     let Some(tree) = input.tree() else {
         return Ok(());
@@ -47,7 +44,7 @@ fn push_told_tree(
 ) -> Result<(), AllocError>
     requires range { IsInRange (shape tree.now) }
     requires sane { IsTrue (the_is_sane state) → IsSane (shape tree.now) }
-    ensures { OnOk result (report.new.items ≡ report.old.items ++ ((if the_is_read state then decode_report (shape tree.now) else []) ++ (if the_is_sane state then policy_line (printed_policy (policy_of (shape tree.now))) else []))) }
+    ensures { OnOk result (report.new.items ≡ report.old.items ++ told_tree state (shape tree.now)) }
 {
     if is_read(state) {
         push_tree_line(alloc, report, tree)?;
@@ -65,7 +62,7 @@ fn push_last_lines(
     report: &mut Vec<u8>,
     input: &Input<'_, '_>,
 ) -> Result<(), AllocError>
-    ensures { (tree : TheTree) → (input_seen input.now).tree ≡ Some tree → OnOk result (report.new.items ≡ report.old.items ++ last_lines (state_of (input_seen input.now)) tree input.now.spend (stack_of (input_seen input.now))) }
+    ensures { (tree : TheTree) → (input_seen input.now).tree ≡ Some tree → OnOk result (report.new.items ≡ report.old.items ++ last_lines_of (input_seen input.now) input.now.spend tree) }
 {
     match input.state() {
         State::Ready => push_weight(report, input),
@@ -88,7 +85,7 @@ fn push_weight(report: &mut Vec<u8>, input: &Input<'_, '_>) -> Result<(), AllocE
 /// Adds the plan of an input that is Unsatisfied, or that it has none.
 fn push_plan(alloc: Global, report: &mut Vec<u8>, input: &Input<'_, '_>) -> Result<(), AllocError>
     requires { state_of (input_seen input.now) ≡ State.Unsatisfied }
-    ensures { (tree : TheTree) → (input_seen input.now).tree ≡ Some tree → OnOk result (report.new.items ≡ report.old.items ++ plan_lines (assets_of input.now.spend) (plan_with tree (assets_of input.now.spend))) }
+    ensures { (tree : TheTree) → (input_seen input.now).tree ≡ Some tree → OnOk result (report.new.items ≡ report.old.items ++ lines_of_plan input.now.spend tree) }
 {
     match input.plan(alloc)? {
         Some(plan) => push_asked(report, plan.keys.as_slice(), plan.weight),
