@@ -86,7 +86,15 @@ held-with_pair fields key value =
     ap (λ x. record (held_in all) { previous = x }) (field-with_pair NON_WITNESS_UTXO fields key value)
     ∙ ap (λ x. record (held_in all) { previous = now.previous; output = x }) (field-with_pair WITNESS_UTXO fields key value)
     ∙ ap (λ x. record (held_in all) { previous = now.previous; output = now.output; asked = x }) (field-with_pair SIGHASH_TYPE fields key value)
-    ∙ ap (λ x. record now { script = x; final_script_sig = field FINAL_SCRIPTSIG all; final_witness = field FINAL_SCRIPTWITNESS all; pairs = signatures_in all; keys = keys_in all; preimages = preimages_in all })
+    ∙ ap (λ x. record now {
+      script = x;
+      final_script_sig = field FINAL_SCRIPTSIG all;
+      final_witness = field FINAL_SCRIPTWITNESS all;
+      pairs =
+          signatures_in all;
+      keys = keys_in all;
+      preimages = preimages_in all;
+    })
     (field-with_pair WITNESS_SCRIPT fields key value)
     ∙ ap (λ x. record now { final_script_sig = x; final_witness = field FINAL_SCRIPTWITNESS all; pairs = signatures_in all; keys = keys_in all; preimages = preimages_in all })
     (field-with_pair FINAL_SCRIPTSIG fields key value)

@@ -45,7 +45,17 @@ impl<'a> Model for Fields<'a> {
 
     ghost Value = { Held };
 
-    ghost view = { λ f. record { previous = option_map (λ b. b.now) f.previous; output = option_map (λ b. b.now) f.output; asked = option_map (λ b. b.now) f.asked; script = option_map (λ b. b.now) f.script; final_script_sig = option_map (λ b. b.now) f.final_script_sig; final_witness = option_map (λ b. b.now) f.final_witness; pairs = f.pairs.items; keys = f.keys.items; preimages = map (λ b. b.now) f.preimages.items } };
+    ghost view = { λ f. record {
+      previous = option_map (λ b. b.now) f.previous;
+      output = option_map (λ b. b.now) f.output;
+      asked = option_map (λ b. b.now) f.asked;
+      script = option_map (λ b. b.now) f.script;
+      final_script_sig = option_map (λ b. b.now) f.final_script_sig;
+      final_witness = option_map (λ b. b.now) f.final_witness;
+      pairs = f.pairs.items;
+      keys = f.keys.items;
+      preimages = map (λ b. b.now) f.preimages.items;
+    } };
 }
 
 impl<'a> Fields<'a> {

@@ -230,7 +230,8 @@ fn strict_line(alloc: Global, tree: &Tree<'_>, assets: &Assets) -> Result<String
     requires in_range { IsInRange (shape tree.now) }
     requires sane { IsSaneUnder Consensus (shape tree.now) }
     requires found { IsSome (the_strict (shape tree.now) assets.now) }
-    ensures { IfOk result (λ line. string_bytes line ≡ the_strict_line (strict_items (shape tree.now) assets.now) (outcome_with (shape tree.now) assets.now (strict_items (shape tree.now) assets.now))) }
+    ensures { IfOk result (λ line. string_bytes line ≡
+        the_strict_line (strict_items (shape tree.now) assets.now) (outcome_with (shape tree.now) assets.now (strict_items (shape tree.now) assets.now))) }
 {
     assets.are_assets();
     let Some(stack) = strict(alloc, tree, assets)? else {

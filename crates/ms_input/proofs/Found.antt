@@ -259,7 +259,8 @@ pub unchanged : {amount : Amount} {told : State} {some_assets : Option Assets} {
 unchanged {amount} {told} {some_assets} {some_stack} input tree assets stack found ready is assets_is stack_is h other is_other =
     let same : tree ≡ other = same_some input.tree tree other is is_other in
     let held : assets ≡ assets_of input.spend = same_assets some_assets assets (assets_of input.spend) assets_is (held_assets input found (subst IsLate (sym ready) tt)) in
-    let chosen : stack ≡ stack_of input = same_stack some_stack stack (stack_of input) stack_is (stack_told input found ∙ ap (λ (x : State). if is_ready x then Some (stack_of input) else None) ready) in
+    let chosen : stack ≡ stack_of input = same_stack some_stack stack (stack_of input) stack_is
+    (stack_told input found ∙ ap (λ (x : State). if is_ready x then Some (stack_of input) else None) ready) in
     subst (λ (t : Tree). Unchangeable t (assets_of input.spend) (stack_of input)) same
     (subst (λ (a : Assets). Unchangeable tree a (stack_of input)) held
     (subst (λ (x : List Bytes). Unchangeable tree assets x) chosen h))

@@ -139,7 +139,8 @@ text_is type transaction number signed input output script amount h =
     let sequences = ap (λ l. if type.anyone_can_pay then NO_HASH else l) (sequences_are type.outputs transaction) in
     let outputs = output_is type.outputs transaction number output h.output_bytes in
     let front = to_le_bytes w32 transaction.version ++ signed_prevouts type transaction ++ sequences_from type (shared_of transaction) ++ take 36 input in
-    ap (λ l. l ++ to_le_bytes w64 amount ++ take 4 (drop 37 input) ++ outputs_from type.outputs (shared_of transaction) output ++ to_le_bytes w32 transaction.lock_time ++ to_le_bytes w32 (number_of type))
+    ap (λ l. l ++ to_le_bytes w64 amount ++ take 4 (drop 37 input) ++ outputs_from type.outputs (shared_of transaction) output
+    ++ to_le_bytes w32 transaction.lock_time ++ to_le_bytes w32 (number_of type))
     (append_assoc front (size_bytes (length script)) script)
     ∙ ap (λ l. text_with type transaction l (take 36 input) (take 4 (drop 37 input)) (outputs_from type.outputs (shared_of transaction) output) script amount) sequences
     ∙ ap (λ l. text_with type transaction (signed_sequences type transaction) l (take 4 (drop 37 input)) (outputs_from type.outputs (shared_of transaction) output) script amount) outpoint

@@ -64,7 +64,8 @@ impl SharedHashes {
         amount: u64,
     ) -> [u8; 32]
         requires { length input.now ≡ 41 }
-        ensures { (transaction : Transaction) (number : ℕ) (signed : TransactionInput) → self.now ≡ shared_of transaction → AreSigned transaction number signed input.now output.entry → result ≡ the_signature_hash hash_type transaction number signed script.now amount }
+        ensures { (transaction : Transaction) (number : ℕ) (signed : TransactionInput) → self.now ≡ shared_of transaction
+            → AreSigned transaction number signed input.now output.entry → result ≡ the_signature_hash hash_type transaction number signed script.now amount }
     {
         self.hash_text(hash_type, input, output, script, amount)
     }

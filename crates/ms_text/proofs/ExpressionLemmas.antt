@@ -1,7 +1,7 @@
 -- What the machine makes of the word at which an expression begins.
 use Rattle.std.proofs.Common.{◌≡◌, ℕ, ◌+◌, ◌<◌, ◌≤◌, Bool, true, false, List, [], ◌∷◌, length, nat_lt, refl, ap, ◌∙◌, arith}
 use Rattle.def_script.specs.Bytes.{Bytes}
-use Rattle.def_text.specs.Token.{Token, word, opening, closing, comma, colon, other, end, offset}
+use Rattle.def_text.specs.Token.{Token, word, offset}
 use Rattle.def_text.specs.Letter.{Letter}
 use Rattle.def_text.specs.Refusal.{MOST_WRITTEN_DEPTH}
 use Rattle.def_text.specs.Scaffolding.Reader.{Frame, Form, Head, named, run, head_of, expression, colon_next, begin, begin_form, run_frames, run_offsets, is_deep_head, syntax_outcome, deep_outcome, next_outcome, outcome}
@@ -9,12 +9,7 @@ use Rattle.ms_text.specs.Scaffolding.Place.{machine_from, machine_behind, is_wor
 
 other_token : (fs : List Frame) (os : List ℕ) (t : Token) (ts : List Token) → is_word t ≡ false → outcome (expression, fs, os) (t ∷ ts) ≡ syntax_outcome (offset t)
 other_token fs os (word a w) ts h = absurd (cc)
-other_token fs os (opening a) ts h = refl
-other_token fs os (closing a) ts h = refl
-other_token fs os (comma a) ts h = refl
-other_token fs os (colon a) ts h = refl
-other_token fs os (other a) ts h = refl
-other_token fs os (end a) ts h = refl
+other_token fs os t ts h = refl
 
 above : (n : ℕ) → 256 < n → nat_lt MOST_WRITTEN_DEPTH n ≡ true
 above n h = grind arith

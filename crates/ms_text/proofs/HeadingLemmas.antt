@@ -3,26 +3,16 @@ use Rattle.std.proofs.Common.{◌≡◌, ℕ, zero, suc, ◌+◌, ◌-◌, ◌<�
 use Rattle.std.specs.Option.{option_map}
 use Rattle.std.proofs.lemmas.List.{drop_all, get_or-drop, get_or-take}
 use Rattle.def_script.specs.Bytes.{Bytes}
-use Rattle.def_text.specs.Letter.{Letter, letter_of_wrapper, letter_t, letter_l, letter_u, letter_byte}
+use Rattle.def_text.specs.Letter.{Letter, letter_byte}
 use Rattle.def_text.specs.Token.{is_word_byte}
 use Rattle.def_text.specs.Scaffolding.Reader.{LETTERS, first_letter, letters_of}
-use Rattle.def_tree.specs.declared.Wrapper.TheVariants.{A, S, C, D, V, J, N}
 use Rattle.ms_text.specs.Scaffolding.Marks.{starts_word}
 use Rattle.ms_text.specs.Scaffolding.Names.{starts_letter}
 use Rattle.ms_text.proofs.PlaceLemmas.{starts_at}
 use Rattle.ms_text.proofs.RunLemmas.{letter_is, letter_at, part_letters}
 
 letter_byte_in_word : (l : Letter) → is_word_byte (letter_byte l) ≡ true
-letter_byte_in_word (letter_of_wrapper A) = refl
-letter_byte_in_word (letter_of_wrapper S) = refl
-letter_byte_in_word (letter_of_wrapper C) = refl
-letter_byte_in_word (letter_of_wrapper D) = refl
-letter_byte_in_word (letter_of_wrapper V) = refl
-letter_byte_in_word (letter_of_wrapper J) = refl
-letter_byte_in_word (letter_of_wrapper N) = refl
-letter_byte_in_word letter_t = refl
-letter_byte_in_word letter_l = refl
-letter_byte_in_word letter_u = refl
+letter_byte_in_word l = grind arith
 
 -- the letter at a place
 at_letter : (text : Bytes) (at : ℕ) → starts_letter (drop at text) ≡ true → (at < length text) × (l : Letter) × (first_letter (get_or text at 0) LETTERS ≡ Some l)

@@ -12,7 +12,7 @@ use Rattle.hex.specs.declared.error.FromHexError.{FromHexError}
 use Rattle.hex.proofs.HexLemmas.{decode_of-ok}
 use Rattle.def_script.specs.Bytes.{Bytes}
 use Rattle.def_tree.specs.Tree.{Key, Tree}
-use Rattle.def_text.specs.Token.{Token, word, opening, closing, comma, colon, other, end, is_word_byte}
+use Rattle.def_text.specs.Token.{Token, word, is_word_byte}
 use Rattle.def_text.specs.Word.{key_of}
 use Rattle.def_script.specs.Key.{is_key}
 use Rattle.def_text.specs.Scaffolding.Reader.{State, leaf_of as spelled_by, syntax_outcome}
@@ -151,17 +151,11 @@ takes_map : {A B : Type 0} (value : Bytes → Option A) (f : A → B) (s : State
 takes_map {A = A} value f s next t = record { shallow = t.shallow; steps = λ token. t.steps token ∙ mapped token }
   where
     twice : (o : Option A) → option_map next (option_map f o) ≡ option_map (λ x. next (f x)) o
-    twice None = refl
-    twice (Some x) = refl
+    twice o = grind arith
 
     mapped : (token : Token) → option_map next (word_read (λ w. option_map f (value w)) token) ≡ option_map (λ x. next (f x)) (word_read value token)
     mapped (word a w) = twice (value w)
-    mapped (opening a) = refl
-    mapped (closing a) = refl
-    mapped (comma a) = refl
-    mapped (colon a) = refl
-    mapped (other a) = refl
-    mapped (end a) = refl
+    mapped token = refl
 
 pub takes_of_key : (n : LeafName) (s : State) (next : Tree → State) → takes_key n ≡ true → Takes (word_read (spelled_by (leaf_of n))) s next →
     Takes (word_read key_of) s (λ key. next (leaf_tree n (leaf_of_key n key)))
@@ -169,6 +163,4 @@ takes_of_key name.PkK s next h t = takes_map key_of _ s next t
 takes_of_key name.PkH s next h t = takes_map key_of _ s next t
 takes_of_key name.Pk s next h t = takes_map key_of _ s next t
 takes_of_key name.Pkh s next h t = takes_map key_of _ s next t
-takes_of_key name.Older s next h t = absurd (cc)
-takes_of_key name.After s next h t = absurd (cc)
-takes_of_key (name.Hash kind) s next h t = absurd (cc)
+takes_of_key n s next h t = absurd (cc)

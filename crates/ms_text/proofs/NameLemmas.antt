@@ -9,7 +9,7 @@ use Rattle.def_tree.specs.declared.Wrapper.TheVariants.{C}
 use Rattle.def_tree.specs.Tree.{pk_k, pk_h, hash, wrap}
 use Rattle.def_text.specs.Word.{number_of, key_of, hash_of}
 use Rattle.def_hash.specs.declared.HashKind.{HashKind}
-use Rattle.def_hash.specs.declared.HashKind.TheVariants.{Sha256, Hash256, Ripemd160, Hash160}
+use Rattle.def_hash.specs.declared.HashKind.TheVariants.{Sha256}
 use Rattle.def_text.specs.Scaffolding.Reader.{Leaf, leaf_pk_k, leaf_pk_h, leaf_pk, leaf_pkh, leaf_older, leaf_after, leaf_hash, leaf_of, FORMS, first_named, letters_of, head_from}
 use Rattle.def_text.proofs.Words.{word_is}
 use Rattle.ms_text.specs.Scaffolding.Names.{IsLetters}
@@ -34,9 +34,7 @@ no_empty_key = refl
 no_empty_hash : (kind : HashKind) → hash_of kind [] ≡ None
 unfolding hex_on_literals
 no_empty_hash Sha256 = refl
-no_empty_hash Hash256 = refl
-no_empty_hash Ripemd160 = refl
-no_empty_hash Hash160 = refl
+no_empty_hash kind = refl
 
 pub no_empty_leaf : (leaf : Leaf) → leaf_of leaf [] ≡ None
 no_empty_leaf leaf_pk_k = ap (option_map pk_k) no_empty_key

@@ -52,21 +52,11 @@ joined_writable (model.more y ys) x h k = (h.0, joined_writable ys x h.1 k)
 
 leaf_measure : (v : Leaf) → measure (leaf_shape v) ≡ 1
 leaf_measure leaf.Zero = refl
-leaf_measure leaf.One = refl
-leaf_measure (leaf.PkK key) = refl
-leaf_measure (leaf.PkH key) = refl
-leaf_measure (leaf.Older n) = refl
-leaf_measure (leaf.After n) = refl
-leaf_measure (leaf.Hash value) = refl
+leaf_measure v = refl
 
 leaf_depth : (v : Leaf) → depth (leaf_shape v) ≡ 1
 leaf_depth leaf.Zero = refl
-leaf_depth leaf.One = refl
-leaf_depth (leaf.PkK key) = refl
-leaf_depth (leaf.PkH key) = refl
-leaf_depth (leaf.Older n) = refl
-leaf_depth (leaf.After n) = refl
-leaf_depth (leaf.Hash value) = refl
+leaf_depth v = refl
 
 -- it is its leaf, or a wrapper on it
 record IsSmall (x y : model.Tree) : Type 0 where
@@ -80,11 +70,7 @@ same_small x = record { measure = omega arith; depth = omega arith; writable = �
 leaf_small : (n : LeafName) (v : Leaf) → IsSmall (leaf_shape v) (leaf_tree n v)
 leaf_small name.Pk v = record { measure = omega arith; depth = omega arith; writable = λ h. h }
 leaf_small name.Pkh v = record { measure = omega arith; depth = omega arith; writable = λ h. h }
-leaf_small name.PkK v = same_small (leaf_shape v)
-leaf_small name.PkH v = same_small (leaf_shape v)
-leaf_small name.Older v = same_small (leaf_shape v)
-leaf_small name.After v = same_small (leaf_shape v)
-leaf_small (name.Hash kind) v = same_small (leaf_shape v)
+leaf_small n v = same_small (leaf_shape v)
 
 pub leaf_part : (text : Bytes) (from at end : ℕ) (n : LeafName) (v : Leaf) (t : model.Tree) → t ≡ leaf_tree n v
     → from < at → at + 2 ≤ end → IsPlace text end → IsWritable (leaf_shape v)

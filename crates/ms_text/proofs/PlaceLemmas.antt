@@ -52,14 +52,8 @@ data First (at b : ℕ) (ts : List Token) : Type 0 where
   first_other : byte_before at b ts ≡ other at ∷ ts → is_word_byte b ≡ false → First at b ts
 
 word_first : (at b : ℕ) (ts us : List Token) → us ≡ word_before at b ts → (w : Bytes) × (later : List Token) × (us ≡ word at w ∷ later)
-word_first at b [] us e = (b ∷ [], [], e)
 word_first at b (word n w ∷ ts) us e = (b ∷ w, ts, e)
-word_first at b (opening n ∷ ts) us e = (b ∷ [], opening n ∷ ts, e)
-word_first at b (closing n ∷ ts) us e = (b ∷ [], closing n ∷ ts, e)
-word_first at b (comma n ∷ ts) us e = (b ∷ [], comma n ∷ ts, e)
-word_first at b (colon n ∷ ts) us e = (b ∷ [], colon n ∷ ts, e)
-word_first at b (other n ∷ ts) us e = (b ∷ [], other n ∷ ts, e)
-word_first at b (end n ∷ ts) us e = (b ∷ [], end n ∷ ts, e)
+word_first at b ts us e = (b ∷ [], ts, e)
 
 first_by : (at b : ℕ) (ts : List Token) (c d e f g : Bool) → is_word_byte b ≡ c → (b == byte "(") ≡ d → (b == byte ")") ≡ e → (b == byte ",") ≡ f →
     (b == byte ":") ≡ g → goes_on b ≡ false → First at b ts
@@ -91,9 +85,7 @@ mark_here text at m h e = rest_cons text at h ∙ (ap (λ b. byte_before at b (r
   where
     marked : (m : Mark) → byte_before at (mark_code m) (rest text (at + 1)) ≡ mark_token m at ∷ rest text (at + 1)
     marked mark.Open = refl
-    marked mark.Close = refl
-    marked mark.Comma = refl
-    marked mark.Colon = refl
+    marked m = refl
 
 -- the tokens begin with one that isn't read
 pub record Elsewhere {A : Type 0} (read : Token → Option A) (ts : List Token) (at : ℕ) : Type 0 where
@@ -128,33 +120,16 @@ by_place read text at false p e inside outside =
 
 other_mark : (m n : Mark) (at b : ℕ) → b ≢ mark_code m → b ≡ mark_code n → mark_read m (mark_token n at) ≡ None
 other_mark mark.Open mark.Open at b differs is = absurd (differs is)
-other_mark mark.Open mark.Close at b differs is = refl
-other_mark mark.Open mark.Comma at b differs is = refl
-other_mark mark.Open mark.Colon at b differs is = refl
-other_mark mark.Close mark.Open at b differs is = refl
 other_mark mark.Close mark.Close at b differs is = absurd (differs is)
-other_mark mark.Close mark.Comma at b differs is = refl
-other_mark mark.Close mark.Colon at b differs is = refl
-other_mark mark.Comma mark.Open at b differs is = refl
-other_mark mark.Comma mark.Close at b differs is = refl
 other_mark mark.Comma mark.Comma at b differs is = absurd (differs is)
-other_mark mark.Comma mark.Colon at b differs is = refl
-other_mark mark.Colon mark.Open at b differs is = refl
-other_mark mark.Colon mark.Close at b differs is = refl
-other_mark mark.Colon mark.Comma at b differs is = refl
 other_mark mark.Colon mark.Colon at b differs is = absurd (differs is)
+other_mark m n at b differs is = refl
 
 no_word_read : (m : Mark) (at : ℕ) (w : Bytes) → mark_read m (word at w) ≡ None
-no_word_read mark.Open at w = refl
-no_word_read mark.Close at w = refl
-no_word_read mark.Comma at w = refl
-no_word_read mark.Colon at w = refl
+no_word_read m at w = grind arith
 
 no_other_read : (m : Mark) (at : ℕ) → (mark_read m (other at) ≡ None) × (mark_read m (end at) ≡ None)
-no_other_read mark.Open at = (refl, refl)
-no_other_read mark.Close at = (refl, refl)
-no_other_read mark.Comma at = (refl, refl)
-no_other_read mark.Colon at = (refl, refl)
+no_other_read m at = (grind arith, grind arith)
 
 pub mark_elsewhere : (text : Bytes) (at : ℕ) (m : Mark) → IsPlace text at → (at < length text → get_or text at 0 ≢ mark_code m) → Elsewhere (mark_read m) (rest text at) at
 mark_elsewhere text at m p differs =
@@ -169,7 +144,8 @@ other_separator mark.Close at b f g is = absurd (g is)
 other_separator mark.Comma at b f g is = absurd (f is)
 other_separator mark.Colon at b f g is = refl
 
-pub separator_elsewhere : (text : Bytes) (at : ℕ) → IsPlace text at → (at < length text → get_or text at 0 ≢ 44) → (at < length text → get_or text at 0 ≢ 41) → Elsewhere separator_read (rest text at) at
+pub separator_elsewhere : (text : Bytes) (at : ℕ) → IsPlace text at → (at < length text → get_or text at 0 ≢ 44) → (at < length text → get_or text at 0 ≢ 41)
+    → Elsewhere separator_read (rest text at) at
 separator_elsewhere text at p f g =
     by_place separator_read text at (nat_lt at (length text)) p refl
     (λ h. by_first separator_read at (get_or text at 0) (rest text (at + 1)) (λ w _. refl) (λ n. other_separator n at (get_or text at 0) (f h) (g h)) refl
@@ -177,10 +153,7 @@ separator_elsewhere text at p f g =
     refl
 
 mark_same : (m : Mark) (at : ℕ) → mark_read m (mark_token m at) ≡ Some tt
-mark_same mark.Open at = refl
-mark_same mark.Close at = refl
-mark_same mark.Comma at = refl
-mark_same mark.Colon at = refl
+mark_same m at = grind arith
 
 pub mark_goes : (text : Bytes) (at : ℕ) (m : Mark) (s n : State) → at < length text → get_or text at 0 ≡ mark_code m → Takes (mark_read m) s (λ u. n) →
     machine_from s text at ≡ machine_from n text (at + 1)
@@ -195,10 +168,7 @@ pub close_goes : (text : Bytes) (at : ℕ) (s : State) (next : Separator → Sta
 close_goes text at s next h e t = goes separator_read s next (closing at) (rest text at) (rest text (at + 1)) separator.Close t (mark_here text at mark.Close h e) refl
 
 mark_is_ascii : (m : Mark) → mark_code m < 128
-mark_is_ascii mark.Open = omega arith
-mark_is_ascii mark.Close = omega arith
-mark_is_ascii mark.Comma = omega arith
-mark_is_ascii mark.Colon = omega arith
+mark_is_ascii m = grind arith
 
 -- the place behind an ASCII character
 pub place_behind : (text : Bytes) (at : ℕ) → IsPlace text at → at < length text → get_or text at 0 < 128 → IsPlace text (at + 1)
@@ -255,13 +225,7 @@ all_more (x ∷ xs) (suc k) l all here =
     rw (first, all_more xs k (omega arith) others here) refl
 
 same_word : (t : Token) → is_word t ≡ cut.is_word t
-same_word (word a w) = refl
-same_word (opening a) = refl
-same_word (closing a) = refl
-same_word (comma a) = refl
-same_word (colon a) = refl
-same_word (other a) = refl
-same_word (end a) = refl
+same_word t = grind arith
 
 -- bytes of a word are one token
 one_word : (w r : Bytes) (at n : ℕ) → n ≡ at + length w → list_all is_word_byte w ≡ true → 0 < length w → cut.starts_word (tokens_from n r) ≡ false →
@@ -277,10 +241,7 @@ one_word (b ∷ c ∷ w) r at n e all some none =
     ∙ ap (word_before at b) (one_word (c ∷ w) r (at + 1) n (omega (arith, e)) others (omega arith) none)
 
 no_word_mark : (m : Mark) (at : ℕ) → (is_word (mark_token m at) ≡ false) × (offset (mark_token m at) ≡ at)
-no_word_mark mark.Open at = (refl, refl)
-no_word_mark mark.Close at = (refl, refl)
-no_word_mark mark.Comma at = (refl, refl)
-no_word_mark mark.Colon at = (refl, refl)
+no_word_mark m at = (grind arith, grind arith)
 
 no_word_by : (at b : ℕ) (ts : List Token) → is_word_byte b ≡ false → First at b ts → NoWord (byte_before at b ts) at
 no_word_by at b ts f (first_word h w later is) = let clash : true ≡ false = sym h ∙ f in absurd (cc)
@@ -341,12 +302,7 @@ word_place_more text n p here = let (l, b) = starts_at text n here in place_behi
 
 no_word_value : {A : Type 0} (value : Bytes → Option A) (t : Token) → is_word t ≡ false → word_read value t ≡ None
 no_word_value value (word a w) h = absurd (cc)
-no_word_value value (opening a) h = refl
-no_word_value value (closing a) h = refl
-no_word_value value (comma a) h = refl
-no_word_value value (colon a) h = refl
-no_word_value value (other a) h = refl
-no_word_value value (end a) h = refl
+no_word_value value t h = refl
 
 pub word_goes : {A : Type 0} (value : Bytes → Option A) (text : Bytes) (at : ℕ) (w : Bytes) (s : State) (next : A → State) (v : A) → value [] ≡ None → FirstWord text at w →
     value w ≡ Some v → Takes (word_read value) s next → machine_from s text at ≡ machine_from (next v) text (at + length w)
@@ -367,10 +323,7 @@ word_some value (b ∷ w) v empty e = omega arith
 
 -- what stands before the end of a text isn't the end
 end_mark : (m : Mark) (at : ℕ) → end_read (mark_token m at) ≡ None
-end_mark mark.Open at = refl
-end_mark mark.Close at = refl
-end_mark mark.Comma at = refl
-end_mark mark.Colon at = refl
+end_mark m at = grind arith
 
 pub not_the_end : (text : Bytes) (at : ℕ) → IsPlace text at → at < length text → Elsewhere end_read (rest text at) at
 not_the_end text at p h =

@@ -4,7 +4,7 @@ use Rattle.std.specs.Option.{option_map, option_and_then}
 use Rattle.std.specs.Prelude.{if◌then◌else◌}
 use Rattle.std.specs.Str.{byte}
 use Rattle.std.proofs.lemmas.List.{take_all, length-take}
-use Rattle.def_tree.specs.Tree.{Tree, just_0, just_1, pk_k, pk_h, older, after, hash, and_or, two, thresh, multi, wrap}
+use Rattle.def_tree.specs.Tree.{Tree, just_0}
 use Rattle.def_tree.specs.Size.{measure, depth}
 use Rattle.def_tree.specs.Range.{IsWritable}
 use Rattle.def_text.specs.Token.{Token}
@@ -125,17 +125,7 @@ module _ (w : Bytes) (name : ℕ) (x y : Tree) (fs : List Frame) (os : List ℕ)
 
 pub some_depth : (x : Tree) → 1 ≤ depth x
 some_depth just_0 = omega arith
-some_depth just_1 = omega arith
-some_depth (pk_k key) = omega arith
-some_depth (pk_h key) = omega arith
-some_depth (older n) = omega arith
-some_depth (after n) = omega arith
-some_depth (hash kind value) = omega arith
-some_depth (and_or x y z) = omega arith
-some_depth (two kind x y) = omega arith
-some_depth (thresh k xs) = omega arith
-some_depth (multi k keys) = omega arith
-some_depth (wrap wrapper x) = omega arith
+some_depth x = omega arith
 
 larger_by : (l : Letter) (x : Tree) → IsWritable x → (measure (letter_tree l x) ≤ measure x + 2) × (depth (letter_tree l x) ≤ depth x + 1) × IsWritable (letter_tree l x)
 larger_by (letter_of_wrapper wrapper) x h = (omega arith, omega arith, h)

@@ -7,9 +7,4 @@ use Rattle.ms_text.specs.Scaffolding.Seen.{is_lettered}
 
 pub leaf_is_bare : (v : Leaf) → is_lettered (leaf_shape v) ≡ false
 leaf_is_bare leaf.Zero = refl
-leaf_is_bare leaf.One = refl
-leaf_is_bare (leaf.PkK key) = refl
-leaf_is_bare (leaf.PkH key) = refl
-leaf_is_bare (leaf.Older n) = refl
-leaf_is_bare (leaf.After n) = refl
-leaf_is_bare (leaf.Hash value) = refl
+leaf_is_bare v = refl

@@ -19,31 +19,11 @@ is_within want = true
 
 quiet_word : (want : Want) (w : Bytes) (fs : List Frame) → is_within want ≡ true → is_deep_word want w fs ≡ false
 quiet_word expression w fs h = absurd (cc)
-quiet_word colon_next w fs h = refl
-quiet_word (leaf_open leaf) w fs h = refl
-quiet_word (leaf_word leaf) w fs h = refl
-quiet_word (leaf_close x) w fs h = refl
-quiet_word (andor_open a) w fs h = refl
-quiet_word (pair_open pair a) w fs h = refl
-quiet_word (thresh_open a) w fs h = refl
-quiet_word (thresh_number a) w fs h = refl
-quiet_word (thresh_comma k a) w fs h = refl
-quiet_word multi_open w fs h = refl
-quiet_word multi_number w fs h = refl
-quiet_word (multi_comma k) w fs h = refl
-quiet_word (multi_key k keys) w fs h = refl
-quiet_word (multi_next k keys) w fs h = refl
-quiet_word (ended x) w fs h = refl
-quiet_word (finished x) w fs h = refl
+quiet_word want w fs h = refl
 
 quiet : (want : Want) (fs : List Frame) (os : List ℕ) → is_within want ≡ true → (t : Token) → is_deep (want, fs, os) t ≡ false
 quiet want fs os h (word a w) = quiet_word want w fs h
-quiet want fs os h (opening a) = refl
-quiet want fs os h (closing a) = refl
-quiet want fs os h (comma a) = refl
-quiet want fs os h (colon a) = refl
-quiet want fs os h (other a) = refl
-quiet want fs os h (end a) = refl
+quiet want fs os h t = refl
 
 -- a state takes what is read alone, where it goes on so at each kind of token
 takes : {A : Type 0} (read : Token → Option A) (want : Want) (fs : List Frame) (os : List ℕ) (next : A → State) → is_within want ≡ true
@@ -97,16 +77,19 @@ takes_andor_first x a fs os = takes _ (ended x) (andor_first a ∷ fs) os _ refl
 pub takes_andor_second : (y x : model.Tree) (a : ℕ) (fs : List Frame) (os : List ℕ) → Takes (mark_read mark.Comma) (ended x, andor_second y a ∷ fs, os) (λ u. (expression, andor_third y x a ∷ fs, os))
 takes_andor_second y x a fs os = takes _ (ended x) (andor_second y a ∷ fs) os _ refl (λ a w. refl) (λ a. refl) (λ a. refl) (λ a. refl) (λ a. refl) (λ a. refl) (λ a. refl)
 
-pub takes_andor_third : (y z x : model.Tree) (a : ℕ) (fs : List Frame) (os : List ℕ) → Takes (mark_read mark.Close) (ended x, andor_third y z a ∷ fs, os) (λ u. (ended (model.and_or y z x), fs, os ++ a ∷ []))
+pub takes_andor_third : (y z x : model.Tree) (a : ℕ) (fs : List Frame) (os : List ℕ)
+    → Takes (mark_read mark.Close) (ended x, andor_third y z a ∷ fs, os) (λ u. (ended (model.and_or y z x), fs, os ++ a ∷ []))
 takes_andor_third y z x a fs os = takes _ (ended x) (andor_third y z a ∷ fs) os _ refl (λ a w. refl) (λ a. refl) (λ a. refl) (λ a. refl) (λ a. refl) (λ a. refl) (λ a. refl)
 
 pub takes_pair_open : (pair : Pair) (a : ℕ) (fs : List Frame) (os : List ℕ) → Takes (mark_read mark.Open) (pair_open pair a, fs, os) (λ u. (expression, pair_first pair a ∷ fs, os))
 takes_pair_open pair a fs os = takes _ (pair_open pair a) fs os _ refl (λ a w. refl) (λ a. refl) (λ a. refl) (λ a. refl) (λ a. refl) (λ a. refl) (λ a. refl)
 
-pub takes_pair_first : (pair : Pair) (x : model.Tree) (a : ℕ) (fs : List Frame) (os : List ℕ) → Takes (mark_read mark.Comma) (ended x, pair_first pair a ∷ fs, os) (λ u. (expression, pair_second pair x a ∷ fs, os))
+pub takes_pair_first : (pair : Pair) (x : model.Tree) (a : ℕ) (fs : List Frame) (os : List ℕ)
+    → Takes (mark_read mark.Comma) (ended x, pair_first pair a ∷ fs, os) (λ u. (expression, pair_second pair x a ∷ fs, os))
 takes_pair_first pair x a fs os = takes _ (ended x) (pair_first pair a ∷ fs) os _ refl (λ a w. refl) (λ a. refl) (λ a. refl) (λ a. refl) (λ a. refl) (λ a. refl) (λ a. refl)
 
-pub takes_pair_second : (pair : Pair) (y x : model.Tree) (a : ℕ) (fs : List Frame) (os : List ℕ) → Takes (mark_read mark.Close) (ended x, pair_second pair y a ∷ fs, os) (λ u. (ended (pair_tree pair y x), fs, os ++ pair_offsets pair a))
+pub takes_pair_second : (pair : Pair) (y x : model.Tree) (a : ℕ) (fs : List Frame) (os : List ℕ)
+    → Takes (mark_read mark.Close) (ended x, pair_second pair y a ∷ fs, os) (λ u. (ended (pair_tree pair y x), fs, os ++ pair_offsets pair a))
 takes_pair_second pair y x a fs os = takes _ (ended x) (pair_second pair y a ∷ fs) os _ refl (λ a w. refl) (λ a. refl) (λ a. refl) (λ a. refl) (λ a. refl) (λ a. refl) (λ a. refl)
 
 pub takes_thresh_open : (a : ℕ) (fs : List Frame) (os : List ℕ) → Takes (mark_read mark.Open) (thresh_open a, fs, os) (λ u. (thresh_number a, fs, os))
@@ -118,7 +101,8 @@ takes_thresh_number a fs os = takes _ (thresh_number a) fs os _ refl (λ a w. re
 pub takes_thresh_comma : (k a : ℕ) (fs : List Frame) (os : List ℕ) → Takes (mark_read mark.Comma) (thresh_comma k a, fs, os) (λ u. (expression, thresh_child k model.none a ∷ fs, os))
 takes_thresh_comma k a fs os = takes _ (thresh_comma k a) fs os _ refl (λ a w. refl) (λ a. refl) (λ a. refl) (λ a. refl) (λ a. refl) (λ a. refl) (λ a. refl)
 
-pub takes_thresh_child : (k : ℕ) (xs : model.Trees) (x : model.Tree) (a : ℕ) (fs : List Frame) (os : List ℕ) → Takes separator_read (ended x, thresh_child k xs a ∷ fs, os) (child_next k (joined xs (model.more x model.none)) a fs os)
+pub takes_thresh_child : (k : ℕ) (xs : model.Trees) (x : model.Tree) (a : ℕ) (fs : List Frame) (os : List ℕ)
+    → Takes separator_read (ended x, thresh_child k xs a ∷ fs, os) (child_next k (joined xs (model.more x model.none)) a fs os)
 takes_thresh_child k xs x a fs os = takes _ (ended x) (thresh_child k xs a ∷ fs) os _ refl (λ a w. refl) (λ a. refl) (λ a. refl) (λ a. refl) (λ a. refl) (λ a. refl) (λ a. refl)
 
 pub takes_multi_open : (fs : List Frame) (os : List ℕ) → Takes (mark_read mark.Open) (multi_open, fs, os) (λ u. (multi_number, fs, os))

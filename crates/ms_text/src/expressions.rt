@@ -169,7 +169,8 @@ impl<'a> Reader<'a, '_> {
         ensures tree { IfOk result (λ r. shape r.tree ≡ model.and_or (shape x.entry) (shape y.entry) (shape z.entry.tree)) }
         ensures end { IfOk result (λ r. r.end ≡ z.entry.end + 1) }
         ensures place { IfOk result (λ r. IsPlace self.now.text.now r.end) }
-        ensures reads { ReadsClosed (machine.ended (shape z.entry.tree)) (machine.andor_third (shape x.entry) (shape y.entry) name) offsets.old.items offsets.new.items self.now.text.now z.entry.end result }
+        ensures reads { ReadsClosed (machine.ended (shape z.entry.tree)) (machine.andor_third (shape x.entry) (shape y.entry) name)
+            offsets.old.items offsets.new.items self.now.text.now z.entry.end result }
     {
         let end = behind_mark(self.text, z.end, Mark::Close)?;
         let tree = new_and_or(self.arena, x, y, z.tree)?;
@@ -213,7 +214,8 @@ impl<'a> Reader<'a, '_> {
         ensures tree { IfOk result (λ r. shape r.tree ≡ machine.pair_tree (pair_of pair) (shape x.entry) (shape y.entry.tree)) }
         ensures end { IfOk result (λ r. r.end ≡ y.entry.end + 1) }
         ensures place { IfOk result (λ r. IsPlace self.now.text.now r.end) }
-        ensures reads { ReadsClosed (machine.ended (shape y.entry.tree)) (machine.pair_second (pair_of pair) (shape x.entry) name) offsets.old.items offsets.new.items self.now.text.now y.entry.end result }
+        ensures reads { ReadsClosed (machine.ended (shape y.entry.tree)) (machine.pair_second (pair_of pair) (shape x.entry) name)
+            offsets.old.items offsets.new.items self.now.text.now y.entry.end result }
     {
         let end = behind_mark(self.text, y.end, Mark::Close)?;
         let tree = self.new_pair(pair, x, y.tree)?;

@@ -37,6 +37,7 @@ pub record IsFound (spend : Spend) (amount : Amount) (tree : Option Tree) (state
   pub stack_is : stack ≡ chosen_in state (input_of spend tree)
   pub light : IfSome stack (λ items. weight items ≤ 2 ^ 40)
 
-pub record IsRead (psbt : Psbt) (number : ℕ) (input : TransactionInput) (held : Held) (amount : Amount) (tree : Option Tree) (state : State) (assets : Option Assets) (stack : Option (List Bytes)) : Type 0 where
+pub record IsRead (psbt : Psbt) (number : ℕ) (input : TransactionInput) (held : Held) (amount : Amount) (tree : Option Tree) (state : State)
+    (assets : Option Assets) (stack : Option (List Bytes)) : Type 0 where
   pub at : IsAt psbt number (spend_at psbt number) input held
   pub found : IsFound (spend_at psbt number) amount tree state assets stack

@@ -21,20 +21,30 @@ pub pair_form-returns-in_err-x-clause-reads : goal.pair_form-returns-in_err-x-cl
 pair_form-returns-in_err-x-clause-reads t c = λ fs l.
     let p = err_from_is_err_and c.from_residual.result c.from_residual.ensures.1 in
     refused _ _ _ _ _ p.1 p.2
-    (c.in_err-x.ensures.reads (machine.pair_open (pair_of c.args.pair) c.args.name, fs, c.args.offsets.now.items) (machine.pair_first (pair_of c.args.pair) c.args.name ∷ fs) (takes_pair_open (pair_of c.args.pair) c.args.name fs c.args.offsets.now.items) (omega (arith, l)))
+    (c.in_err-x.ensures.reads (machine.pair_open (pair_of c.args.pair) c.args.name, fs, c.args.offsets.now.items)
+    (machine.pair_first (pair_of c.args.pair) c.args.name ∷ fs) (takes_pair_open (pair_of c.args.pair) c.args.name fs c.args.offsets.now.items)
+    (omega (arith, l)))
 
 pub pair_form-returns-in_err-y-clause-reads : goal.pair_form-returns-in_err-y-clause-reads
 pair_form-returns-in_err-y-clause-reads t c = λ fs l.
     let p = err_from_is_err_and c.from_residual-in_err-y.result c.from_residual-in_err-y.ensures.1 in
     refused _ _ _ _ _ p.1 p.2 (along _ _ _
-    (c.in_ok-x.ensures.reads (machine.pair_open (pair_of c.args.pair) c.args.name, fs, c.args.offsets.now.items) (machine.pair_first (pair_of c.args.pair) c.args.name ∷ fs) (takes_pair_open (pair_of c.args.pair) c.args.name fs c.args.offsets.now.items) (omega (arith, l)))
-    (c.in_err-y.ensures.reads (machine.ended (shape c.in_ok-x.x.tree), machine.pair_first (pair_of c.args.pair) c.args.name ∷ fs, c.child.new.offsets.items) (machine.pair_second (pair_of c.args.pair) (shape c.in_ok-x.x.tree) c.args.name ∷ fs) (takes_pair_first (pair_of c.args.pair) (shape c.in_ok-x.x.tree) c.args.name fs c.child.new.offsets.items) (omega (arith, l))))
+    (c.in_ok-x.ensures.reads (machine.pair_open (pair_of c.args.pair) c.args.name, fs, c.args.offsets.now.items)
+    (machine.pair_first (pair_of c.args.pair) c.args.name ∷ fs) (takes_pair_open (pair_of c.args.pair) c.args.name fs c.args.offsets.now.items)
+    (omega (arith, l)))
+    (c.in_err-y.ensures.reads (machine.ended (shape c.in_ok-x.x.tree), machine.pair_first (pair_of c.args.pair) c.args.name ∷ fs, c.child.new.offsets.items)
+    (machine.pair_second (pair_of c.args.pair) (shape c.in_ok-x.x.tree) c.args.name ∷ fs)
+    (takes_pair_first (pair_of c.args.pair) (shape c.in_ok-x.x.tree) c.args.name fs c.child.new.offsets.items) (omega (arith, l))))
 
 pub pair_form-returns-clause-reads : goal.pair_form-returns-clause-reads
 pair_form-returns-clause-reads t c = λ fs l.
     answers_along _ _ _ _
-    (c.in_ok-x.ensures.reads (machine.pair_open (pair_of c.args.pair) c.args.name, fs, c.args.offsets.now.items) (machine.pair_first (pair_of c.args.pair) c.args.name ∷ fs) (takes_pair_open (pair_of c.args.pair) c.args.name fs c.args.offsets.now.items) (omega (arith, l))
-    ∙ c.in_ok-y.ensures.reads (machine.ended (shape c.in_ok-x.x.tree), machine.pair_first (pair_of c.args.pair) c.args.name ∷ fs, c.child.new.offsets.items) (machine.pair_second (pair_of c.args.pair) (shape c.in_ok-x.x.tree) c.args.name ∷ fs) (takes_pair_first (pair_of c.args.pair) (shape c.in_ok-x.x.tree) c.args.name fs c.child.new.offsets.items) (omega (arith, l)))
+    (c.in_ok-x.ensures.reads (machine.pair_open (pair_of c.args.pair) c.args.name, fs, c.args.offsets.now.items)
+    (machine.pair_first (pair_of c.args.pair) c.args.name ∷ fs) (takes_pair_open (pair_of c.args.pair) c.args.name fs c.args.offsets.now.items)
+    (omega (arith, l))
+    ∙ c.in_ok-y.ensures.reads (machine.ended (shape c.in_ok-x.x.tree), machine.pair_first (pair_of c.args.pair) c.args.name ∷ fs, c.child.new.offsets.items)
+    (machine.pair_second (pair_of c.args.pair) (shape c.in_ok-x.x.tree) c.args.name ∷ fs)
+    (takes_pair_first (pair_of c.args.pair) (shape c.in_ok-x.x.tree) c.args.name fs c.child.new.offsets.items) (omega (arith, l)))
     (c.closed_pair.ensures.reads fs)
 
 pub pair_form-returns-clause-part : goal.pair_form-returns-clause-part
@@ -48,36 +58,59 @@ pub and_or_form-returns-in_err-x-clause-reads : goal.and_or_form-returns-in_err-
 and_or_form-returns-in_err-x-clause-reads t c = λ fs l.
     let p = err_from_is_err_and c.from_residual.result c.from_residual.ensures.1 in
     refused _ _ _ _ _ p.1 p.2
-    (c.in_err-x.ensures.reads (machine.andor_open c.args.name, fs, c.args.offsets.now.items) (machine.andor_first c.args.name ∷ fs) (takes_andor_open c.args.name fs c.args.offsets.now.items) (omega (arith, l)))
+    (c.in_err-x.ensures.reads (machine.andor_open c.args.name, fs, c.args.offsets.now.items) (machine.andor_first c.args.name ∷ fs)
+    (takes_andor_open c.args.name fs c.args.offsets.now.items) (omega (arith, l)))
 
 pub and_or_form-returns-in_err-y-clause-reads : goal.and_or_form-returns-in_err-y-clause-reads
 and_or_form-returns-in_err-y-clause-reads t c = λ fs l.
     let p = err_from_is_err_and c.from_residual-in_err-y.result c.from_residual-in_err-y.ensures.1 in
     refused _ _ _ _ _ p.1 p.2 (along _ _ _
-    (c.in_ok-x.ensures.reads (machine.andor_open c.args.name, fs, c.args.offsets.now.items) (machine.andor_first c.args.name ∷ fs) (takes_andor_open c.args.name fs c.args.offsets.now.items) (omega (arith, l)))
-    (c.in_err-y.ensures.reads (machine.ended (shape c.in_ok-x.x.tree), machine.andor_first c.args.name ∷ fs, c.child.new.offsets.items) (machine.andor_second (shape c.in_ok-x.x.tree) c.args.name ∷ fs) (takes_andor_first (shape c.in_ok-x.x.tree) c.args.name fs c.child.new.offsets.items) (omega (arith, l))))
+    (c.in_ok-x.ensures.reads (machine.andor_open c.args.name, fs, c.args.offsets.now.items) (machine.andor_first c.args.name ∷ fs)
+    (takes_andor_open c.args.name fs c.args.offsets.now.items) (omega (arith, l)))
+    (c.in_err-y.ensures.reads (machine.ended (shape c.in_ok-x.x.tree), machine.andor_first c.args.name ∷ fs, c.child.new.offsets.items)
+    (machine.andor_second (shape c.in_ok-x.x.tree) c.args.name ∷ fs) (takes_andor_first (shape c.in_ok-x.x.tree) c.args.name fs c.child.new.offsets.items)
+    (omega (arith, l))))
 
 pub and_or_form-returns-in_err-z-clause-reads : goal.and_or_form-returns-in_err-z-clause-reads
 and_or_form-returns-in_err-z-clause-reads t c = λ fs l.
     let p = err_from_is_err_and c.from_residual-in_err-z.result c.from_residual-in_err-z.ensures.1 in
     refused _ _ _ _ _ p.1 p.2 (along _ _ _
-    (c.in_ok-x.ensures.reads (machine.andor_open c.args.name, fs, c.args.offsets.now.items) (machine.andor_first c.args.name ∷ fs) (takes_andor_open c.args.name fs c.args.offsets.now.items) (omega (arith, l))
-    ∙ c.in_ok-y.ensures.reads (machine.ended (shape c.in_ok-x.x.tree), machine.andor_first c.args.name ∷ fs, c.child.new.offsets.items) (machine.andor_second (shape c.in_ok-x.x.tree) c.args.name ∷ fs) (takes_andor_first (shape c.in_ok-x.x.tree) c.args.name fs c.child.new.offsets.items) (omega (arith, l)))
-    (c.in_err-z.ensures.reads (machine.ended (shape c.in_ok-y.y.tree), machine.andor_second (shape c.in_ok-x.x.tree) c.args.name ∷ fs, c.child-2.new.offsets.items) (machine.andor_third (shape c.in_ok-x.x.tree) (shape c.in_ok-y.y.tree) c.args.name ∷ fs) (takes_andor_second (shape c.in_ok-x.x.tree) (shape c.in_ok-y.y.tree) c.args.name fs c.child-2.new.offsets.items) (omega (arith, l))))
+    (c.in_ok-x.ensures.reads (machine.andor_open c.args.name, fs, c.args.offsets.now.items) (machine.andor_first c.args.name ∷ fs)
+    (takes_andor_open c.args.name fs c.args.offsets.now.items) (omega (arith, l))
+    ∙ c.in_ok-y.ensures.reads (machine.ended (shape c.in_ok-x.x.tree), machine.andor_first c.args.name ∷ fs, c.child.new.offsets.items)
+    (machine.andor_second (shape c.in_ok-x.x.tree) c.args.name ∷ fs) (takes_andor_first (shape c.in_ok-x.x.tree) c.args.name fs c.child.new.offsets.items)
+    (omega (arith, l)))
+    (c.in_err-z.ensures.reads (
+      machine.ended (shape c.in_ok-y.y.tree),
+      machine.andor_second (shape c.in_ok-x.x.tree) c.args.name
+          ∷ fs,
+      c.child-2.new.offsets.items,
+    ) (machine.andor_third (shape c.in_ok-x.x.tree) (shape c.in_ok-y.y.tree) c.args.name ∷ fs)
+    (takes_andor_second (shape c.in_ok-x.x.tree) (shape c.in_ok-y.y.tree) c.args.name fs c.child-2.new.offsets.items) (omega (arith, l))))
 
 pub and_or_form-returns-clause-reads : goal.and_or_form-returns-clause-reads
 and_or_form-returns-clause-reads t c = λ fs l.
     answers_along _ _ _ _
-    (c.in_ok-x.ensures.reads (machine.andor_open c.args.name, fs, c.args.offsets.now.items) (machine.andor_first c.args.name ∷ fs) (takes_andor_open c.args.name fs c.args.offsets.now.items) (omega (arith, l))
-    ∙ c.in_ok-y.ensures.reads (machine.ended (shape c.in_ok-x.x.tree), machine.andor_first c.args.name ∷ fs, c.child.new.offsets.items) (machine.andor_second (shape c.in_ok-x.x.tree) c.args.name ∷ fs) (takes_andor_first (shape c.in_ok-x.x.tree) c.args.name fs c.child.new.offsets.items) (omega (arith, l))
-    ∙ c.in_ok-z.ensures.reads (machine.ended (shape c.in_ok-y.y.tree), machine.andor_second (shape c.in_ok-x.x.tree) c.args.name ∷ fs, c.child-2.new.offsets.items) (machine.andor_third (shape c.in_ok-x.x.tree) (shape c.in_ok-y.y.tree) c.args.name ∷ fs) (takes_andor_second (shape c.in_ok-x.x.tree) (shape c.in_ok-y.y.tree) c.args.name fs c.child-2.new.offsets.items) (omega (arith, l)))
+    (c.in_ok-x.ensures.reads (machine.andor_open c.args.name, fs, c.args.offsets.now.items) (machine.andor_first c.args.name ∷ fs)
+    (takes_andor_open c.args.name fs c.args.offsets.now.items) (omega (arith, l))
+    ∙ c.in_ok-y.ensures.reads (machine.ended (shape c.in_ok-x.x.tree), machine.andor_first c.args.name ∷ fs, c.child.new.offsets.items)
+    (machine.andor_second (shape c.in_ok-x.x.tree) c.args.name ∷ fs) (takes_andor_first (shape c.in_ok-x.x.tree) c.args.name fs c.child.new.offsets.items)
+    (omega (arith, l))
+    ∙ c.in_ok-z.ensures.reads (
+      machine.ended (shape c.in_ok-y.y.tree),
+      machine.andor_second (shape c.in_ok-x.x.tree) c.args.name
+          ∷ fs,
+      c.child-2.new.offsets.items,
+    ) (machine.andor_third (shape c.in_ok-x.x.tree) (shape c.in_ok-y.y.tree) c.args.name ∷ fs)
+    (takes_andor_second (shape c.in_ok-x.x.tree) (shape c.in_ok-y.y.tree) c.args.name fs c.child-2.new.offsets.items) (omega (arith, l)))
     (c.closed_and_or.ensures.reads fs)
 
 pub and_or_form-returns-clause-part : goal.and_or_form-returns-clause-part
 and_or_form-returns-clause-part t c =
     part_with c.args.self.now.text.now c.args.name c.args.depth c.closed_and_or.result _ _ _ c.closed_and_or.ensures.tree c.closed_and_or.ensures.end c.closed_and_or.ensures.place
     (λ p is ends place.
-    and_or_part c.args.self.now.text.now c.args.name c.args.at c.in_ok-x.x.end c.in_ok-y.y.end c.in_ok-z.z.end c.args.depth p.end (shape c.in_ok-x.x.tree) (shape c.in_ok-y.y.tree) (shape c.in_ok-z.z.tree) (shape p.tree)
+    and_or_part c.args.self.now.text.now c.args.name c.args.at c.in_ok-x.x.end c.in_ok-y.y.end c.in_ok-z.z.end c.args.depth p.end (shape c.in_ok-x.x.tree)
+    (shape c.in_ok-y.y.tree) (shape c.in_ok-z.z.tree) (shape p.tree)
     is ends place c.requires.before c.in_ok-x.ensures.part c.in_ok-y.ensures.part c.in_ok-z.ensures.part)
 
 pub child-returns-in_err-at-clause-reads : goal.child-returns-in_err-at-clause-reads
@@ -94,28 +127,35 @@ pub thresh_form-returns-in_err-at-clause-reads : goal.thresh_form-returns-in_err
 thresh_form-returns-in_err-at-clause-reads t c = λ fs l.
     let p = err_from_is_err_and c.from_residual.result c.from_residual.ensures.1 in
     refused _ _ _ _ _ p.1 p.2
-    (c.in_err-at.ensures.reads (machine.thresh_open c.args.name, fs, c.args.offsets.now.items) (machine.thresh_number c.args.name, fs, c.args.offsets.now.items) (takes_thresh_open c.args.name fs c.args.offsets.now.items))
+    (c.in_err-at.ensures.reads (machine.thresh_open c.args.name, fs, c.args.offsets.now.items)
+    (machine.thresh_number c.args.name, fs, c.args.offsets.now.items) (takes_thresh_open c.args.name fs c.args.offsets.now.items))
 
 pub thresh_form-returns-in_err-k-clause-reads : goal.thresh_form-returns-in_err-k-clause-reads
 thresh_form-returns-in_err-k-clause-reads t c = λ fs l.
     let p = err_from_is_err_and c.from_residual-in_err-k.result c.from_residual-in_err-k.ensures.1 in
     refused _ _ _ _ _ p.1 p.2 (along _ _ _
-    (c.in_ok-at.ensures.reads (machine.thresh_open c.args.name, fs, c.args.offsets.now.items) (machine.thresh_number c.args.name, fs, c.args.offsets.now.items) (takes_thresh_open c.args.name fs c.args.offsets.now.items))
-    (c.in_err-k.ensures.reads (machine.thresh_number c.args.name, fs, c.args.offsets.now.items) (λ k. (machine.thresh_comma k c.args.name, fs, c.args.offsets.now.items)) (takes_thresh_number c.args.name fs c.args.offsets.now.items)))
+    (c.in_ok-at.ensures.reads (machine.thresh_open c.args.name, fs, c.args.offsets.now.items) (machine.thresh_number c.args.name, fs, c.args.offsets.now.items)
+    (takes_thresh_open c.args.name fs c.args.offsets.now.items))
+    (c.in_err-k.ensures.reads (machine.thresh_number c.args.name, fs, c.args.offsets.now.items)
+    (λ k. (machine.thresh_comma k c.args.name, fs, c.args.offsets.now.items)) (takes_thresh_number c.args.name fs c.args.offsets.now.items)))
 
 pub thresh_form-returns-in_err-read-clause-reads : goal.thresh_form-returns-in_err-read-clause-reads
 thresh_form-returns-in_err-read-clause-reads t c = λ fs l.
     let p = err_from_is_err_and c.from_residual-in_err-read.result c.from_residual-in_err-read.ensures.1 in
     refused _ _ _ _ _ p.1 p.2 (along _ _ _
-    (c.in_ok-at.ensures.reads (machine.thresh_open c.args.name, fs, c.args.offsets.now.items) (machine.thresh_number c.args.name, fs, c.args.offsets.now.items) (takes_thresh_open c.args.name fs c.args.offsets.now.items)
-    ∙ c.in_ok-k.ensures.reads (machine.thresh_number c.args.name, fs, c.args.offsets.now.items) (λ k. (machine.thresh_comma k c.args.name, fs, c.args.offsets.now.items)) (takes_thresh_number c.args.name fs c.args.offsets.now.items))
+    (c.in_ok-at.ensures.reads (machine.thresh_open c.args.name, fs, c.args.offsets.now.items) (machine.thresh_number c.args.name, fs, c.args.offsets.now.items)
+    (takes_thresh_open c.args.name fs c.args.offsets.now.items)
+    ∙ c.in_ok-k.ensures.reads (machine.thresh_number c.args.name, fs, c.args.offsets.now.items)
+    (λ k. (machine.thresh_comma k c.args.name, fs, c.args.offsets.now.items)) (takes_thresh_number c.args.name fs c.args.offsets.now.items))
     (c.in_err-read.ensures.reads c.in_ok-k.k.value c.args.name fs (omega arith)))
 
 pub thresh_form-returns-clause-reads : goal.thresh_form-returns-clause-reads
 thresh_form-returns-clause-reads t c = λ fs l.
     rw (c.in_ok-tree.ensures.tree, c.in_ok-add_offset.ensures.added)
-    (c.in_ok-at.ensures.reads (machine.thresh_open c.args.name, fs, c.args.offsets.now.items) (machine.thresh_number c.args.name, fs, c.args.offsets.now.items) (takes_thresh_open c.args.name fs c.args.offsets.now.items)
-    ∙ c.in_ok-k.ensures.reads (machine.thresh_number c.args.name, fs, c.args.offsets.now.items) (λ k. (machine.thresh_comma k c.args.name, fs, c.args.offsets.now.items)) (takes_thresh_number c.args.name fs c.args.offsets.now.items)
+    (c.in_ok-at.ensures.reads (machine.thresh_open c.args.name, fs, c.args.offsets.now.items) (machine.thresh_number c.args.name, fs, c.args.offsets.now.items)
+    (takes_thresh_open c.args.name fs c.args.offsets.now.items)
+    ∙ c.in_ok-k.ensures.reads (machine.thresh_number c.args.name, fs, c.args.offsets.now.items)
+    (λ k. (machine.thresh_comma k c.args.name, fs, c.args.offsets.now.items)) (takes_thresh_number c.args.name fs c.args.offsets.now.items)
     ∙ c.in_ok-read.ensures.reads c.in_ok-k.k.value c.args.name fs (omega arith))
 
 pub fragment-returns-in-Leaf-clause-part : goal.fragment-returns-in-Leaf-clause-part
@@ -132,7 +172,9 @@ expression-returns-then-word-depth-clause-reads t c = λ fs l.
 
 pub expression-returns-else-depth-eq-MOST_LEVELS-clause-reads : goal.expression-returns-else-depth-eq-MOST_LEVELS-clause-reads
 expression-returns-else-depth-eq-MOST_LEVELS-clause-reads t c = λ fs l.
-    answers_along _ _ _ _ (name_begins c.args.self.now.text.now c.args.at c.heading_at-head.result.word.now fs c.args.offsets.now.items c.heading_at-head.ensures.first (form_of c.in-Name.form) c.args.depth (subst (λ h. HeadIs h c.heading_at-head.result.word.now) c.in-Name.is c.heading_at-head.ensures.head) l (omega arith))
+    answers_along _ _ _ _ (name_begins c.args.self.now.text.now c.args.at c.heading_at-head.result.word.now fs c.args.offsets.now.items
+    c.heading_at-head.ensures.first (form_of c.in-Name.form) c.args.depth
+    (subst (λ h. HeadIs h c.heading_at-head.result.word.now) c.in-Name.is c.heading_at-head.ensures.head) l (omega arith))
     (c.fragment.ensures.reads fs l)
 
 pub expression-returns-else-word-depth-clause-reads : goal.expression-returns-else-word-depth-clause-reads
@@ -162,7 +204,8 @@ pub child_list-returns-in_err-at-clause-reads : goal.child_list-returns-in_err-a
 child_list-returns-in_err-at-clause-reads t c = λ k name fs l.
     let p = err_from_is_err_and c.from_residual.result c.from_residual.ensures.1 in
     refused _ _ _ _ _ p.1 p.2
-    (c.in_err-at.ensures.reads (machine.thresh_comma k name, fs, c.args.offsets.now.items) (machine.expression, machine.thresh_child k none name ∷ fs, c.args.offsets.now.items) (takes_thresh_comma k name fs c.args.offsets.now.items))
+    (c.in_err-at.ensures.reads (machine.thresh_comma k name, fs, c.args.offsets.now.items)
+    (machine.expression, machine.thresh_child k none name ∷ fs, c.args.offsets.now.items) (takes_thresh_comma k name fs c.args.offsets.now.items))
 
 pub child_list-loop-trees-init : goal.child_list-loop-trees-init
 child_list-loop-trees-init t c = record {
@@ -172,7 +215,8 @@ child_list-loop-trees-init t c = record {
   depth = rw c.new-trees.ensures.items (omega (arith, c.requires.depth));
   writable = rw c.new-trees.ensures.items tt;
   reads = λ k name fs l.
-      rw c.new-trees.ensures.items (c.in_ok-at.ensures.reads (machine.thresh_comma k name, fs, c.args.offsets.now.items) (machine.expression, machine.thresh_child k none name ∷ fs, c.args.offsets.now.items) (takes_thresh_comma k name fs c.args.offsets.now.items));
+      rw c.new-trees.ensures.items (c.in_ok-at.ensures.reads (machine.thresh_comma k name, fs, c.args.offsets.now.items)
+      (machine.expression, machine.thresh_child k none name ∷ fs, c.args.offsets.now.items) (takes_thresh_comma k name fs c.args.offsets.now.items));
 }
 
 pub child_list-returns-in_err-x-clause-reads : goal.child_list-returns-in_err-x-clause-reads
@@ -188,11 +232,19 @@ child_list-returns-in_err-found-clause-reads t c = λ k name fs l.
     refused _ _ _ _ _ p.1 p.2 (along _ _ _
     (c.loop-trees.invariant.reads k name fs l
     ∙ c.in_ok-x.ensures.reads (machine.thresh_child k (shapes c.loop-trees.trees.items) name ∷ fs) (omega (arith, l)))
-    (c.in_err-found.ensures.reads (machine.ended (shape c.in_ok-x.x.tree), machine.thresh_child k (shapes c.loop-trees.trees.items) name ∷ fs, c.expression.new.offsets.items) (child_next k (machine.joined (shapes c.loop-trees.trees.items) (more (shape c.in_ok-x.x.tree) none)) name fs c.expression.new.offsets.items) (takes_thresh_child k (shapes c.loop-trees.trees.items) (shape c.in_ok-x.x.tree) name fs c.expression.new.offsets.items)))
+    (c.in_err-found.ensures.reads (
+      machine.ended (shape c.in_ok-x.x.tree),
+      machine.thresh_child k (shapes c.loop-trees.trees.items) name
+          ∷ fs,
+      c.expression.new.offsets.items,
+    ) (child_next k (machine.joined (shapes c.loop-trees.trees.items)
+    (more (shape c.in_ok-x.x.tree) none)) name fs c.expression.new.offsets.items)
+    (takes_thresh_child k (shapes c.loop-trees.trees.items) (shape c.in_ok-x.x.tree) name fs c.expression.new.offsets.items)))
 
 pub child_list-returns-then-eq-clause-parts : goal.child_list-returns-then-eq-clause-parts
 child_list-returns-then-eq-clause-parts t c =
-    let same : shapes c.add_child.new.children.items ≡ machine.joined (shapes c.loop-trees.trees.items) (more (shape c.in_ok-x.x.tree) none) = ap shapes c.in_ok-add_child.ensures.added ∙ one_more c.loop-trees.trees.items c.in_ok-x.x.tree in
+    let same : shapes c.add_child.new.children.items ≡ machine.joined (shapes c.loop-trees.trees.items) (more (shape c.in_ok-x.x.tree) none) =
+    ap shapes c.in_ok-add_child.ensures.added ∙ one_more c.loop-trees.trees.items c.in_ok-x.x.tree in
     subst (λ ts. AreParts c.args.self.now.text.now (c.args.at + 1) c.args.depth ts (c.in_ok-x.x.end + 1)) (sym same) (record {
       after = omega (arith, c.loop-trees.invariant.after, c.in_ok-x.ensures.part.after);
       place = c.in_ok-found.ensures.place;
@@ -204,17 +256,27 @@ child_list-returns-then-eq-clause-parts t c =
 
 pub child_list-returns-then-eq-clause-reads : goal.child_list-returns-then-eq-clause-reads
 child_list-returns-then-eq-clause-reads t c = λ k name fs l.
-    let same : shapes c.add_child.new.children.items ≡ machine.joined (shapes c.loop-trees.trees.items) (more (shape c.in_ok-x.x.tree) none) = ap shapes c.in_ok-add_child.ensures.added ∙ one_more c.loop-trees.trees.items c.in_ok-x.x.tree in
+    let same : shapes c.add_child.new.children.items ≡ machine.joined (shapes c.loop-trees.trees.items) (more (shape c.in_ok-x.x.tree) none) =
+    ap shapes c.in_ok-add_child.ensures.added ∙ one_more c.loop-trees.trees.items c.in_ok-x.x.tree in
     let last : c.in_ok-found.found ≡ separator.Close = search rules in
     c.loop-trees.invariant.reads k name fs l
     ∙ c.in_ok-x.ensures.reads (machine.thresh_child k (shapes c.loop-trees.trees.items) name ∷ fs) (omega (arith, l))
-    ∙ c.in_ok-found.ensures.reads (machine.ended (shape c.in_ok-x.x.tree), machine.thresh_child k (shapes c.loop-trees.trees.items) name ∷ fs, c.expression.new.offsets.items) (child_next k (machine.joined (shapes c.loop-trees.trees.items) (more (shape c.in_ok-x.x.tree) none)) name fs c.expression.new.offsets.items) (takes_thresh_child k (shapes c.loop-trees.trees.items) (shape c.in_ok-x.x.tree) name fs c.expression.new.offsets.items)
-    ∙ ap (λ f. machine_from (child_next k (machine.joined (shapes c.loop-trees.trees.items) (more (shape c.in_ok-x.x.tree) none)) name fs c.expression.new.offsets.items f) c.args.self.now.text.now (c.in_ok-x.x.end + 1)) last
+    ∙ c.in_ok-found.ensures.reads (
+      machine.ended (shape c.in_ok-x.x.tree),
+      machine.thresh_child k (shapes c.loop-trees.trees.items) name
+          ∷ fs,
+      c.expression.new.offsets.items,
+    ) (child_next k (machine.joined (shapes c.loop-trees.trees.items)
+    (more (shape c.in_ok-x.x.tree) none)) name fs c.expression.new.offsets.items)
+    (takes_thresh_child k (shapes c.loop-trees.trees.items) (shape c.in_ok-x.x.tree) name fs c.expression.new.offsets.items)
+    ∙ ap (λ f. machine_from (child_next k (machine.joined (shapes c.loop-trees.trees.items)
+    (more (shape c.in_ok-x.x.tree) none)) name fs c.expression.new.offsets.items f) c.args.self.now.text.now (c.in_ok-x.x.end + 1)) last
     ∙ ap (λ ts. machine_from (machine.ended (thresh k ts), fs, c.expression.new.offsets.items ++ name ∷ []) c.args.self.now.text.now (c.in_ok-x.x.end + 1)) (sym same)
 
 pub child_list-loop-trees-preserved : goal.child_list-loop-trees-preserved
 child_list-loop-trees-preserved t c =
-    let same : shapes c.add_child.new.children.items ≡ machine.joined (shapes c.loop-trees.trees.items) (more (shape c.in_ok-x.x.tree) none) = ap shapes c.in_ok-add_child.ensures.added ∙ one_more c.loop-trees.trees.items c.in_ok-x.x.tree in
+    let same : shapes c.add_child.new.children.items ≡ machine.joined (shapes c.loop-trees.trees.items) (more (shape c.in_ok-x.x.tree) none) =
+    ap shapes c.in_ok-add_child.ensures.added ∙ one_more c.loop-trees.trees.items c.in_ok-x.x.tree in
     let another : c.in_ok-found.found ≡ separator.Comma = search rules in
     record {
       place = c.in_ok-found.ensures.place;
@@ -225,7 +287,15 @@ child_list-loop-trees-preserved t c =
       reads = λ k name fs l.
           c.loop-trees.invariant.reads k name fs l
           ∙ c.in_ok-x.ensures.reads (machine.thresh_child k (shapes c.loop-trees.trees.items) name ∷ fs) (omega (arith, l))
-          ∙ c.in_ok-found.ensures.reads (machine.ended (shape c.in_ok-x.x.tree), machine.thresh_child k (shapes c.loop-trees.trees.items) name ∷ fs, c.expression.new.offsets.items) (child_next k (machine.joined (shapes c.loop-trees.trees.items) (more (shape c.in_ok-x.x.tree) none)) name fs c.expression.new.offsets.items) (takes_thresh_child k (shapes c.loop-trees.trees.items) (shape c.in_ok-x.x.tree) name fs c.expression.new.offsets.items)
-          ∙ ap (λ f. machine_from (child_next k (machine.joined (shapes c.loop-trees.trees.items) (more (shape c.in_ok-x.x.tree) none)) name fs c.expression.new.offsets.items f) c.args.self.now.text.now (c.in_ok-x.x.end + 1)) another
+          ∙ c.in_ok-found.ensures.reads (
+            machine.ended (shape c.in_ok-x.x.tree),
+            machine.thresh_child k (shapes c.loop-trees.trees.items) name
+                ∷ fs,
+            c.expression.new.offsets.items,
+          ) (child_next k
+          (machine.joined (shapes c.loop-trees.trees.items) (more (shape c.in_ok-x.x.tree) none)) name fs c.expression.new.offsets.items)
+          (takes_thresh_child k (shapes c.loop-trees.trees.items) (shape c.in_ok-x.x.tree) name fs c.expression.new.offsets.items)
+          ∙ ap (λ f. machine_from (child_next k (machine.joined (shapes c.loop-trees.trees.items)
+          (more (shape c.in_ok-x.x.tree) none)) name fs c.expression.new.offsets.items f) c.args.self.now.text.now (c.in_ok-x.x.end + 1)) another
           ∙ ap (λ ts. machine_from (machine.expression, machine.thresh_child k ts name ∷ fs, c.expression.new.offsets.items) c.args.self.now.text.now (c.in_ok-x.x.end + 1)) (sym same);
     }

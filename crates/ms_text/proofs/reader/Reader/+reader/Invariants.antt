@@ -39,7 +39,8 @@ invariant-child_list-loop-trees l = record {
   depth : depth_of (shapes l.trees.items) + l.depth ≤ MOST_DEPTH;
   writable : AreWritable (shapes l.trees.items);
   reads : (k name : ℕ) (fs : List Frame) → length fs + 1 ≡ l.depth →
-      machine_from (thresh_comma k name, fs, l.fn.offsets.items) l.self.text.now l.fn.at ≡ machine_from (expression, thresh_child k (shapes l.trees.items) name ∷ fs, l.offsets.items) l.self.text.now l.at;
+      machine_from (thresh_comma k name, fs, l.fn.offsets.items) l.self.text.now l.fn.at
+      ≡ machine_from (expression, thresh_child k (shapes l.trees.items) name ∷ fs, l.offsets.items) l.self.text.now l.at;
 }
 
 abbrev pub decreases-child_list-loop-trees : goal.decreases-child_list-loop-trees

@@ -18,10 +18,12 @@ unreachable-requires c = no_other_byte c.args.run.now (c.loop-left.left - 1) c.r
 pub loop-left-preserved : goal.loop-left-preserved
 loop-left-preserved c = record {
   within = omega arith;
-  larger = one_larger (length c.args.run.now - c.loop-left.left) (length c.args.run.now - (c.loop-left.left - 1)) (letter_of c.in-Some.letter) (shape c.args.x) (shape c.loop-left.tree) (shape c.in_ok-tree.tree) (omega arith)
+  larger = one_larger (length c.args.run.now - c.loop-left.left) (length c.args.run.now - (c.loop-left.left - 1)) (letter_of c.in-Some.letter) (shape c.args.x)
+      (shape c.loop-left.tree) (shape c.in_ok-tree.tree) (omega arith)
       c.loop-left.invariant.larger c.in_ok-tree.ensures.tree;
   reads = λ ls fs ts h.
       c.loop-left.invariant.reads ls fs ts h
-      ∙ run_goes c.args.run.now c.args.name (shape c.loop-left.tree) (shape c.in_ok-tree.tree) fs c.loop-left.offsets.items ls ts c.loop-left.left (c.loop-left.left - 1) (letter_of c.in-Some.letter) c.with_letter.new.offsets.items h
+      ∙ run_goes c.args.run.now c.args.name (shape c.loop-left.tree) (shape c.in_ok-tree.tree) fs c.loop-left.offsets.items ls ts c.loop-left.left
+      (c.loop-left.left - 1) (letter_of c.in-Some.letter) c.with_letter.new.offsets.items h
       (omega arith) (omega arith) (ap (option_map letter_of) (sym c.in-Some.is) ∙ c.letter_named.ensures) c.in_ok-tree.ensures.tree c.in_ok-tree.ensures.added;
 }
