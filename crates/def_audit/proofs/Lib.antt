@@ -1,3 +1,2 @@
 pub mod Erased
-pub mod Computed
 pub mod StepNodes

@@ -51,7 +51,8 @@ best_both P Q (Some a) (Some b) p q = record {
 }
 
 -- the lighter of two
-chosen : (test : Bool) (v w : Stack) → (test ≡ true → weight w ≤ weight v) → (test ≡ false → weight v ≤ weight w) → (z : Stack) × ((if test then Some w else Some v) ≡ Some z) × (weight z ≤ weight v) × (weight z ≤ weight w)
+chosen : (test : Bool) (v w : Stack) → (test ≡ true → weight w ≤ weight v) → (test ≡ false → weight v ≤ weight w) → (z : Stack)
+    × ((if test then Some w else Some v) ≡ Some z) × (weight z ≤ weight v) × (weight z ≤ weight w)
 chosen true v w if_true if_false = (w, refl, if_true refl, omega arith)
 chosen false v w if_true if_false = (v, refl, omega arith, if_false refl)
 

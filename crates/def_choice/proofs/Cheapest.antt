@@ -26,29 +26,23 @@ module _ (assets : Assets) where
   mutual
     pub dsat_best : (tree : Tree) → IsWritable tree → IsLightest (row (canonical assets) tree).dsat (dissatisfaction tree)
     dsat_best just_0 w = nothing_best
-    dsat_best just_1 w = never_best
     dsat_best (pk_k key) w = is_best EMPTY
     dsat_best (pk_h key) w = pk_h_dsat_best assets key w
-    dsat_best (older n) w = never_best
-    dsat_best (after n) w = never_best
     dsat_best (hash kind value) w = hash_dsat_best assets kind value
     dsat_best (and_or x y z) w = canonical_best assets _ _ _ (best_both _ _ _ _ (dsat_best z w.2) (dsat_best x w.0))
     dsat_best (two kind.AndV x y) w = no_canonical_best assets _
     dsat_best (two kind.AndB x y) w = canonical_best assets _ _ _ (best_both _ _ _ _ (dsat_best y w.1) (dsat_best x w.0))
-    dsat_best (two kind.OrB x z) w = best_both _ _ _ _ (dsat_best z w.1) (dsat_best x w.0)
     dsat_best (two kind.OrC x z) w = never_best
-    dsat_best (two kind.OrD x z) w = best_both _ _ _ _ (dsat_best z w.1) (dsat_best x w.0)
     dsat_best (two kind.OrI x z) w =
         best_two _ _ _ _ (best_both _ _ _ _ (dsat_best x w.0) (is_best ONE)) (best_both _ _ _ _ (dsat_best z w.1) (is_best EMPTY))
+    dsat_best (two which x z) w = best_both _ _ _ _ (dsat_best z w.1) (dsat_best x w.0)
     dsat_best (thresh k xs) w = canonical_best assets _ _ _ (all_best xs w.2)
     dsat_best (multi k keys) w = one_best _ (replicate (k + 1) EMPTY) refl (λ v h. h)
-    dsat_best (wrap wrapper.A x) w = dsat_best x w
-    dsat_best (wrap wrapper.S x) w = dsat_best x w
-    dsat_best (wrap wrapper.C x) w = dsat_best x w
     dsat_best (wrap wrapper.D x) w = is_best EMPTY
     dsat_best (wrap wrapper.V x) w = never_best
     dsat_best (wrap wrapper.J x) w = canonical_best assets _ _ _ (is_best EMPTY)
-    dsat_best (wrap wrapper.N x) w = dsat_best x w
+    dsat_best (wrap letter x) w = dsat_best x w
+    dsat_best tree w = never_best
 
     all_best : (xs : Trees) → AreWritable xs → IsLightest (parts (canonical assets) xs 0) (all_dissatisfied xs)
     all_best none w = one_best (PartsOfNone 0) [] (refl, refl) (λ v h. h.1)
@@ -71,8 +65,6 @@ module _ (assets : Assets) (are : AreAssets assets) where
         best_two _ _ _ _
         (best_both _ _ _ _ (sat_best y w.1) (sat_best x w.0))
         (best_both _ _ _ _ (sat_best z w.2) (dsat_best assets x w.0))
-    sat_best (two kind.AndV x y) w = best_both _ _ _ _ (sat_best y w.1) (sat_best x w.0)
-    sat_best (two kind.AndB x y) w = best_both _ _ _ _ (sat_best y w.1) (sat_best x w.0)
     sat_best (two kind.OrB x z) w =
         best_two _ _ _ _
         (best_both _ _ _ _ (dsat_best assets z w.1) (sat_best x w.0))
@@ -81,15 +73,11 @@ module _ (assets : Assets) (are : AreAssets assets) where
     sat_best (two kind.OrD x z) w = best_two _ _ _ _ (sat_best x w.0) (best_both _ _ _ _ (sat_best z w.1) (dsat_best assets x w.0))
     sat_best (two kind.OrI x z) w =
         best_two _ _ _ _ (best_both _ _ _ _ (sat_best x w.0) (is_best ONE)) (best_both _ _ _ _ (sat_best z w.1) (is_best EMPTY))
+    sat_best (two which x y) w = best_both _ _ _ _ (sat_best y w.1) (sat_best x w.0)
     sat_best (thresh k xs) w = parts_best xs w.2 k
     sat_best (multi k keys) w = best_both (Is EMPTY) _ _ _ (is_best EMPTY) (keys_best assets are keys k)
-    sat_best (wrap wrapper.A x) w = sat_best x w
-    sat_best (wrap wrapper.S x) w = sat_best x w
-    sat_best (wrap wrapper.C x) w = sat_best x w
     sat_best (wrap wrapper.D x) w = best_both _ _ _ _ (sat_best x w) (is_best ONE)
-    sat_best (wrap wrapper.V x) w = sat_best x w
-    sat_best (wrap wrapper.J x) w = sat_best x w
-    sat_best (wrap wrapper.N x) w = sat_best x w
+    sat_best (wrap letter x) w = sat_best x w
 
     parts_best : (xs : Trees) → AreWritable xs → (k : ℕ) →
         IsLightest (parts (canonical assets) xs k) (least (map (stack_of (cheapest_children assets xs)) (sets (count xs) k)))

@@ -55,26 +55,22 @@ last_or_not table keys key [] h = inl h
 last_or_not table [] key (sig ∷ []) (inl h) = inr (record { rest = []; sig = sig; good = h.0; before = tt; whole = refl })
 last_or_not table [] key (sig ∷ g ∷ sigs) (inl h) = absurd h.1
 last_or_not table [] key (sig ∷ sigs) (inr h) = absurd h
-last_or_not table (k ∷ keys) key (sig ∷ sigs) (inl h) = go (last_or_not table keys key sigs h.1)
-  where
-    go : AreSignatures table keys sigs ⊎ LastSigned table keys key sigs → AreSignatures table (k ∷ keys) (sig ∷ sigs) ⊎ LastSigned table (k ∷ keys) key (sig ∷ sigs)
-    go (inl i) = inl (inl (h.0, i))
-    go (inr l) = inr (record { rest = sig ∷ l.rest; sig = l.sig; good = l.good; before = inl (h.0, l.before); whole = ap (λ v. sig ∷ v) l.whole })
-last_or_not table (k ∷ keys) key (sig ∷ sigs) (inr h) = go (last_or_not table keys key (sig ∷ sigs) h)
-  where
-    go : AreSignatures table keys (sig ∷ sigs) ⊎ LastSigned table keys key (sig ∷ sigs) → AreSignatures table (k ∷ keys) (sig ∷ sigs) ⊎ LastSigned table (k ∷ keys) key (sig ∷ sigs)
-    go (inl i) = inl (inr i)
-    go (inr l) = inr (record { rest = l.rest; sig = l.sig; good = l.good; before = passed table k keys l.rest l.before; whole = l.whole })
+last_or_not table (k ∷ keys) key (sig ∷ sigs) (inl h) =
+    elim (last_or_not table keys key sigs h.1) [
+      | inl i ↦ inl (inl (h.0, i))
+      | inr l ↦ inr (record { rest = sig ∷ l.rest; sig = l.sig; good = l.good; before = inl (h.0, l.before); whole = ap (λ v. sig ∷ v) l.whole })
+    ]
+last_or_not table (k ∷ keys) key (sig ∷ sigs) (inr h) =
+    elim (last_or_not table keys key (sig ∷ sigs) h) [
+      | inl i ↦ inl (inr i)
+      | inr l ↦ inr (record { rest = l.rest; sig = l.sig; good = l.good; before = passed table k keys l.rest l.before; whole = l.whole })
+    ]
 
 with_last : (table : Pairs) (keys : List Key) (key : Key) (sigs : Stack) (sig : Bytes) → IsTrue (is_good table key sig) → AreSignatures table keys sigs →
     AreSignatures table (keys ++ key ∷ []) (sigs ++ sig ∷ [])
 with_last table [] key [] sig good h = inl (good, tt)
 with_last table [] key (g ∷ sigs) sig good h = absurd h
-with_last table (k ∷ keys) key [] sig good h = inr (with_last table keys key [] sig good (none table keys))
-  where
-    none : (table : Pairs) (keys : List Key) → AreSignatures table keys []
-    none table [] = tt
-    none table (k ∷ keys) = tt
+with_last table (k ∷ keys) key [] sig good h = inr (with_last table keys key [] sig good tt)
 with_last table (k ∷ keys) key (g ∷ sigs) sig good (inl h) = inl (h.0, with_last table keys key sigs sig good h.1)
 with_last table (k ∷ keys) key (g ∷ sigs) sig good (inr h) = inr (with_last table keys key (g ∷ sigs) sig good h)
 
@@ -120,13 +116,13 @@ module _ (assets : Assets) (are : AreAssets assets) where
   more_to k key keys w (inr h) = (h.0, rw (turned key keys) (without_last assets.pairs (reverse keys) key w h.1))
 
   more_from : (k : ℕ) (key : Key) (keys : List Key) (w : Stack) → S (suc k) (key ∷ keys) w → Either (Both (Signature (canonical assets) key) (S k keys)) (S (suc k) keys) w
-  more_from k key keys w h = go (last_or_not assets.pairs (reverse keys) key w (subst (λ ks. AreSignatures assets.pairs ks w) (turned key keys) h.1))
-    where
-      go : AreSignatures assets.pairs (reverse keys) w ⊎ LastSigned assets.pairs (reverse keys) key w → Either (Both (Signature (canonical assets) key) (S k keys)) (S (suc k) keys) w
-      go (inl i) = inr (h.0, i)
-      go (inr l) =
-          let long : length w ≡ length (l.rest ++ l.sig ∷ []) = ap length l.whole in
-          inl (l.sig ∷ [], l.rest, (l.sig, l.good, refl), (omega (arith, h.0, long, length-append l.rest (l.sig ∷ [])), l.before), l.whole)
+  more_from k key keys w h =
+      elim (last_or_not assets.pairs (reverse keys) key w (subst (λ ks. AreSignatures assets.pairs ks w) (turned key keys) h.1)) [
+        | inl i ↦ inr (h.0, i)
+        | inr l ↦
+            let long : length w ≡ length (l.rest ++ l.sig ∷ []) = ap length l.whole in
+            inl (l.sig ∷ [], l.rest, (l.sig, l.good, refl), (omega (arith, h.0, long, length-append l.rest (l.sig ∷ [])), l.before), l.whole)
+      ]
 
   pub keys_best : (keys : List Key) (k : ℕ) → IsLightest (S k keys) (signatures assets k keys)
   keys_best [] zero = one_best (S zero []) [] (refl, tt) (λ v h. empty_is v h.0)

@@ -1,4 +1,3 @@
-pub mod Computed
 pub mod Weights
 pub mod Best
 pub mod Counted
@@ -9,6 +8,3 @@ pub mod TightFree
 pub mod StrictTight
 pub mod Listed
 pub mod Chosen
-pub mod Ties
-pub mod SeveralSignatures
-pub mod TightComputed

@@ -9,7 +9,7 @@ use Rattle.def_script.specs.Bytes.{Bytes}
 use Rattle.def_machine.specs.Stacks.{Stack}
 use Rattle.def_tree.specs.declared.Two.TheVariants as kind
 use Rattle.def_tree.specs.declared.Wrapper.TheVariants as wrapper
-use Rattle.def_tree.specs.Tree.{Tree, Trees, just_0, just_1, pk_k, pk_h, older, after, hash, and_or, two, thresh, multi, wrap, none, more}
+use Rattle.def_tree.specs.Tree.{Tree, Trees, and_or, two, thresh, wrap, none, more}
 use Rattle.def_tree.specs.Range.{IsWritable, AreWritable, count}
 use Rattle.def_assets.specs.Assets.{Assets, AreAssets, unsigned}
 use Rattle.def_script.specs.Witness.{weight}
@@ -67,15 +67,15 @@ free_first_tight : (F G P Q : StackSet) (f g o p : Option Stack) → IsLightest 
     (HasOne F → Within P F) → (HasOne G → Within Q G) → Gives (FreeFirst F G P Q) (free_first f g o p)
 free_first_tight F G P Q (Some v) g o p ff gg oo pp of pg w h = inl (oo w h, λ one. of (v, ff.is v refl) w (oo w h))
 free_first_tight F G P Q None (Some v) o p ff gg oo pp of pg w h = inr (pp w h, λ one. pg (v, gg.is v refl) w (pp w h))
-free_first_tight F G P Q None None o p ff gg oo pp of pg w h = go (gives_lighter P Q o (lighter p None) oo (λ v k. pp v (sym (lighter-none p) ∙ k)) w h)
+free_first_tight F G P Q None None o p ff gg oo pp of pg w h =
+    elim (gives_lighter P Q o (lighter p None) oo (λ v k. pp v (sym (lighter-none p) ∙ k)) w h) [
+      | inl i ↦ inl (i, λ one. absurd (never one))
+      | inr i ↦ inr (i, λ one. absurd (never one))
+    ]
   where
     never : HasOne (Either F G) → ⊥
     never (v, inl i) = let k = ff.lightest v i in none-some k.0 k.1
     never (v, inr i) = let k = gg.lightest v i in none-some k.0 k.1
-
-    go : Either P Q w → FreeFirst F G P Q w
-    go (inl i) = inl (i, λ one. absurd (never one))
-    go (inr i) = inr (i, λ one. absurd (never one))
 
 -- the sets with every wanted position: those with the first one, and, unless it is wanted, those without it
 filter-map : {A B : Type 0} (test : B → Bool) (g : A → B) (xs : List A) → filter test (map g xs) ≡ map g (filter (λ x. test (g x)) xs)
@@ -176,13 +176,6 @@ module _ (assets : Assets) (are : AreAssets assets) where
 
   mutual
     pub strict_tight : (tree : Tree) → IsWritable tree → Gives (TightSat assets tree) (strict_of assets tree)
-    strict_tight just_0 w = leaf just_0 w
-    strict_tight just_1 w = leaf just_1 w
-    strict_tight (pk_k key) w = leaf (pk_k key) w
-    strict_tight (pk_h key) w = leaf (pk_h key) w
-    strict_tight (older n) w = leaf (older n) w
-    strict_tight (after n) w = leaf (after n) w
-    strict_tight (hash kind value) w = leaf (hash kind value) w
     strict_tight (and_or x y z) w =
         free_first_tight _ _ _ _ _ _ _ _
         (best_both _ _ _ _ (free_best y w.1) (free_best x w.0))
@@ -201,22 +194,6 @@ module _ (assets : Assets) (are : AreAssets assets) where
         (gives_both _ _ _ _ (strict_tight z w.1) (dissatisfied x w.0))
         (below_free _ _ _ _ (always _ _ (free_dsat assets z)) (tight_free assets x))
         (below_free _ _ _ _ (tight_free assets z) (always _ _ (free_dsat assets x)))
-    strict_tight (two kind.OrC x z) w =
-        free_first_tight _ _ _ _ _ _ _ _
-        (free_best x w.0)
-        (best_both _ _ _ _ (free_best z w.1) (free_dsat_best x w.0))
-        (strict_tight x w.0)
-        (gives_both _ _ _ _ (strict_tight z w.1) (dissatisfied x w.0))
-        (tight_free assets x)
-        (below_free _ _ _ _ (tight_free assets z) (always _ _ (free_dsat assets x)))
-    strict_tight (two kind.OrD x z) w =
-        free_first_tight _ _ _ _ _ _ _ _
-        (free_best x w.0)
-        (best_both _ _ _ _ (free_best z w.1) (free_dsat_best x w.0))
-        (strict_tight x w.0)
-        (gives_both _ _ _ _ (strict_tight z w.1) (dissatisfied x w.0))
-        (tight_free assets x)
-        (below_free _ _ _ _ (tight_free assets z) (always _ _ (free_dsat assets x)))
     strict_tight (two kind.OrI x z) w =
         free_first_tight _ _ _ _ _ _ _ _
         (best_both _ _ _ _ (free_best x w.0) (is_best ONE))
@@ -225,15 +202,18 @@ module _ (assets : Assets) (are : AreAssets assets) where
         (gives_both _ _ _ _ (strict_tight z w.1) (gives_is EMPTY))
         (below_free _ _ _ _ (tight_free assets x) (always _ _ (same _)))
         (below_free _ _ _ _ (tight_free assets z) (always _ _ (same _)))
+    strict_tight (two which x z) w =
+        free_first_tight _ _ _ _ _ _ _ _
+        (free_best x w.0)
+        (best_both _ _ _ _ (free_best z w.1) (free_dsat_best x w.0))
+        (strict_tight x w.0)
+        (gives_both _ _ _ _ (strict_tight z w.1) (dissatisfied x w.0))
+        (tight_free assets x)
+        (below_free _ _ _ _ (tight_free assets z) (always _ _ (free_dsat assets x)))
     strict_tight (thresh k xs) w = strict_parts xs w.2 k
-    strict_tight (multi k keys) w = leaf (multi k keys) w
-    strict_tight (wrap wrapper.A x) w = strict_tight x w
-    strict_tight (wrap wrapper.S x) w = strict_tight x w
-    strict_tight (wrap wrapper.C x) w = strict_tight x w
     strict_tight (wrap wrapper.D x) w = gives_both _ _ _ _ (strict_tight x w) (gives_is ONE)
-    strict_tight (wrap wrapper.V x) w = strict_tight x w
-    strict_tight (wrap wrapper.J x) w = strict_tight x w
-    strict_tight (wrap wrapper.N x) w = strict_tight x w
+    strict_tight (wrap letter x) w = strict_tight x w
+    strict_tight tree w = leaf tree w
 
     strict_parts : (xs : Trees) → AreWritable xs → (k : ℕ) →
         Gives (TightParts assets xs k) (choice (strict_children assets xs) (free_children assets xs) (count xs) k)

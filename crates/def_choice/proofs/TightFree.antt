@@ -1,13 +1,13 @@
 -- Tight satisfactions are canonical; and where a satisfaction without a signature exists, every tight one is
 -- such a one.
-use Rattle.std.proofs.Common.{◌≡◌, ℕ, ◌≤◌, Bool, true, false, ◌&&◌, not, List, [], ◌∷◌, length, reverse, refl, ap, inl, inr, arith}
+use Rattle.std.proofs.Common.{◌≡◌, ℕ, ◌≤◌, true, List, [], ◌∷◌, length, reverse, refl, ap, inl, inr, arith}
 use Rattle.std.proofs.lemmas.Bool.{false≢true}
 use Rattle.def_script.specs.Bytes.{Bytes}
-use Rattle.def_machine.specs.Stacks.{Stack, is_empty}
+use Rattle.def_machine.specs.Stacks.{Stack}
 use Rattle.def_machine.specs.MultiSig.{is_good}
 use Rattle.def_tree.specs.declared.Two.TheVariants as kind
 use Rattle.def_tree.specs.declared.Wrapper.TheVariants as wrapper
-use Rattle.def_tree.specs.Tree.{Tree, Trees, Key, just_0, just_1, pk_k, pk_h, older, after, hash, and_or, two, thresh, multi, wrap, none, more}
+use Rattle.def_tree.specs.Tree.{Tree, Trees, Key, pk_k, pk_h, and_or, two, thresh, multi, wrap, none, more}
 use Rattle.def_assets.specs.Assets.{Assets, unsigned}
 use Rattle.def_satisfaction.specs.StackSet.{StackSet, Both, Either}
 use Rattle.def_satisfaction.specs.Rows.{AreSignatures, NotCanonical, Row, PartsOf, PartsOfNone, parts}
@@ -31,17 +31,8 @@ third P Q R stack (inr h) = inr (inl h)
 module _ (assets : Assets) where
   mutual
     pub tight_within : (tree : Tree) → Within (TightSat assets tree) (signed_row assets tree).sat
-    tight_within just_0 = same _
-    tight_within just_1 = same _
-    tight_within (pk_k key) = same _
-    tight_within (pk_h key) = same _
-    tight_within (older n) = same _
-    tight_within (after n) = same _
-    tight_within (hash kind value) = same _
     tight_within (and_or x y z) =
         any_option _ _ _ _ _ _ (both_within _ _ _ _ (tight_within y) (tight_within x)) (both_within _ _ _ _ (tight_within z) (same _))
-    tight_within (two kind.AndV x y) = both_within _ _ _ _ (tight_within y) (tight_within x)
-    tight_within (two kind.AndB x y) = both_within _ _ _ _ (tight_within y) (tight_within x)
     tight_within (two kind.OrB x z) =
         then _ _ _
         (any_option _ _ _ _ _ _ (both_within _ _ _ _ (same _) (tight_within x)) (both_within _ _ _ _ (tight_within z) (same _)))
@@ -50,15 +41,11 @@ module _ (assets : Assets) where
     tight_within (two kind.OrD x z) = any_option _ _ _ _ _ _ (tight_within x) (both_within _ _ _ _ (tight_within z) (same _))
     tight_within (two kind.OrI x z) =
         any_option _ _ _ _ _ _ (both_within _ _ _ _ (tight_within x) (same _)) (both_within _ _ _ _ (tight_within z) (same _))
+    tight_within (two which x y) = both_within _ _ _ _ (tight_within y) (tight_within x)
     tight_within (thresh k xs) = tight_parts_within xs k
-    tight_within (multi k keys) = same _
-    tight_within (wrap wrapper.A x) = tight_within x
-    tight_within (wrap wrapper.S x) = tight_within x
-    tight_within (wrap wrapper.C x) = tight_within x
     tight_within (wrap wrapper.D x) = both_within _ _ _ _ (tight_within x) (same _)
-    tight_within (wrap wrapper.V x) = tight_within x
-    tight_within (wrap wrapper.J x) = tight_within x
-    tight_within (wrap wrapper.N x) = tight_within x
+    tight_within (wrap letter x) = tight_within x
+    tight_within tree = same _
 
     pub tight_parts_within : (xs : Trees) (n : ℕ) → Within (TightParts assets xs n) (parts (canonical assets) xs n)
     tight_parts_within none n = same _
@@ -73,11 +60,8 @@ module _ (assets : Assets) where
 
 -- no signature is good under no table
 bare_good : (key sig : Bytes) → is_good [] key sig ≡ true → ⊥
-bare_good key sig h = go (not (is_empty sig)) h
-  where
-    go : (b : Bool) → (b && false) ≡ true → ⊥
-    go true e = false≢true e
-    go false e = false≢true e
+bare_good key [] h = false≢true h
+bare_good key (b ∷ sig) h = false≢true h
 
 bare_signatures : (keys : List Key) (sigs : Stack) → AreSignatures [] keys sigs → sigs ≡ []
 bare_signatures keys [] h = refl
@@ -136,31 +120,20 @@ more_covers free child P T dsat covers m n v w (inr (below, above, p, q, i)) (in
 module _ (assets : Assets) where
   mutual
     pub tight_free : (tree : Tree) → HasOne (free_row assets tree).sat → Within (TightSat assets tree) (free_row assets tree).sat
-    tight_free just_0 one = same _
-    tight_free just_1 one = same _
     tight_free (pk_k key) one = absurd (bare_good key one.1.0 one.1.1)
     tight_free (pk_h key) one = let s = one.1.4.2 in absurd (bare_good one.1.0 s.0 s.1)
-    tight_free (older n) one = same _
-    tight_free (after n) one = same _
-    tight_free (hash kind value) one = same _
     tight_free (and_or x y z) one = free_option _ _ _ _ one
-    tight_free (two kind.AndV x y) one =
-        both_within _ _ _ _ (tight_free y (has_below _ _ one)) (tight_free x (has_above _ _ one))
-    tight_free (two kind.AndB x y) one =
-        both_within _ _ _ _ (tight_free y (has_below _ _ one)) (tight_free x (has_above _ _ one))
     tight_free (two kind.OrB x z) one = then _ _ _ (free_option _ _ _ _ (not_third _ _ _ (unsigned assets) one)) (third _ _ _)
     tight_free (two kind.OrC x z) one = free_option _ _ _ _ one
     tight_free (two kind.OrD x z) one = free_option _ _ _ _ one
     tight_free (two kind.OrI x z) one = free_option _ _ _ _ one
+    tight_free (two which x y) one =
+        both_within _ _ _ _ (tight_free y (has_below _ _ one)) (tight_free x (has_above _ _ one))
     tight_free (thresh k xs) one = λ stack h. (tight_count xs k k one.0 stack one.1 h).1 refl
     tight_free (multi k keys) one = free_multi assets k keys one
-    tight_free (wrap wrapper.A x) one = tight_free x one
-    tight_free (wrap wrapper.S x) one = tight_free x one
-    tight_free (wrap wrapper.C x) one = tight_free x one
     tight_free (wrap wrapper.D x) one = both_within _ _ _ _ (tight_free x (has_below _ _ one)) (same _)
-    tight_free (wrap wrapper.V x) one = tight_free x one
-    tight_free (wrap wrapper.J x) one = tight_free x one
-    tight_free (wrap wrapper.N x) one = tight_free x one
+    tight_free (wrap letter x) one = tight_free x one
+    tight_free tree one = same _
 
     -- a tight choice satisfies as many children as any choice without signatures
     tight_count : (xs : Trees) → Covers (parts (canonical (unsigned assets)) xs) (TightParts assets xs)

@@ -42,9 +42,11 @@ unfolding corr_rows
 moved_types = (refl, refl, refl, refl, refl)
 
 pub first_of_two : FirstOfTwo
-unfolding decode_pairs sha256 sha_words sha_schedule sha_rounds sha_compress sha_hash_after sha_digest_bytes ripemd160 ripemd_words ripemd_step left_line right_line combined ripemd_compress ripemd_hash_after ripemd_digest_bytes hash160
+unfolding decode_pairs sha256 sha_words sha_schedule sha_rounds sha_compress sha_hash_after sha_digest_bytes ripemd160 ripemd_words ripemd_step left_line
+    right_line combined ripemd_compress ripemd_hash_after ripemd_digest_bytes hash160
 first_of_two = refl
 
 pub not_listed : NotListed
-unfolding decode_pairs sha256 sha_words sha_schedule sha_rounds sha_compress sha_hash_after sha_digest_bytes ripemd160 ripemd_words ripemd_step left_line right_line combined ripemd_compress ripemd_hash_after ripemd_digest_bytes hash160
+unfolding decode_pairs sha256 sha_words sha_schedule sha_rounds sha_compress sha_hash_after sha_digest_bytes ripemd160 ripemd_words ripemd_step left_line
+    right_line combined ripemd_compress ripemd_hash_after ripemd_digest_bytes hash160
 not_listed = refl

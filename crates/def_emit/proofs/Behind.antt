@@ -6,7 +6,7 @@ use Rattle.def_script.specs.Verify.{verify_form, verified_op, verified}
 use Rattle.def_script.proofs.VerifyLemmas.{verified-append}
 use Rattle.def_tree.specs.declared.Two.TheVariants as kind
 use Rattle.def_tree.specs.declared.Wrapper.TheVariants as wrapper
-use Rattle.def_tree.specs.Tree.{Tree, Trees, just_0, just_1, pk_k, pk_h, older, after, hash, and_or, two, thresh, multi, wrap, none, more}
+use Rattle.def_tree.specs.Tree.{Tree, Trees, and_or, two, thresh, wrap, none, more}
 use Rattle.def_emit.specs.Emit.{emit, emit_sum}
 
 -- these instructions have a first one
@@ -32,32 +32,20 @@ first_of_verified x (y ∷ ys) = here _ _
 
 mutual
   pub has_first : (t : Tree) → HasFirst (emit t)
-  has_first just_0 = here _ _
-  has_first just_1 = here _ _
-  has_first (pk_k key) = here _ _
-  has_first (pk_h key) = here _ _
-  has_first (older n) = here _ _
-  has_first (after n) = here _ _
-  has_first (hash kind value) = here _ _
   has_first (and_or x y z) = before _ _ (before _ _ (before _ _ (has_first x)))
   has_first (two kind.AndV x y) = before _ _ (has_first x)
   has_first (two kind.AndB x y) = before _ _ (before _ _ (has_first x))
   has_first (two kind.OrB x y) = before _ _ (before _ _ (has_first x))
   has_first (two kind.OrC x y) = before _ _ (before _ _ (has_first x))
   has_first (two kind.OrD x y) = before _ _ (before _ _ (has_first x))
-  has_first (two kind.OrI x y) = here _ _
   has_first (thresh k xs) = first_of_sum xs _ _
-  has_first (multi k keys) = here _ _
-  has_first (wrap wrapper.A x) = here _ _
-  has_first (wrap wrapper.S x) = here _ _
   has_first (wrap wrapper.C x) = before _ _ (has_first x)
-  has_first (wrap wrapper.D x) = here _ _
   has_first (wrap wrapper.V x) =
       let h = has_first x in
       let P : List Instruction → Type 0 = λ l. HasFirst (verified l) in
       subst P (sym h.whole) (first_of_verified h.first h.rest)
-  has_first (wrap wrapper.J x) = here _ _
   has_first (wrap wrapper.N x) = before _ _ (has_first x)
+  has_first other = here _ _
 
   first_of_sum : (xs : Trees) (last : Instruction) (rest : List Instruction) → HasFirst (emit_sum xs ++ last ∷ rest)
   first_of_sum none last rest = here _ _

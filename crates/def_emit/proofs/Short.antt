@@ -54,9 +54,7 @@ counted n rest = pushed (natural_bytes n) rest (length-natural_bytes n)
 
 digest : (kind : HashKind) (value : List ℕ) → length value ≡ digest_length kind → length value ≤ 520
 digest hash_kind.Sha256 value is = omega (arith, is)
-digest hash_kind.Hash256 value is = omega (arith, is)
-digest hash_kind.Ripemd160 value is = omega (arith, is)
-digest hash_kind.Hash160 value is = omega (arith, is)
+digest other value is = omega (arith, is)
 
 keys : (ks : List Key) → All IsKey ks → AllShort (map push ks)
 keys ks all = record { all = All-map IsShort push ks (λ k d below. let long = key_length (slice_index_or ks k d) (all k d below).form in omega (arith, long)) }

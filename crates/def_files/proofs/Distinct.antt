@@ -1,5 +1,5 @@
 -- Where no element of a list is the same as an earlier one, its elements are distinct.
-use Rattle.std.proofs.Common.{◌≡◌, ℕ, ◌+◌, Bool, true, false, not, ◌&&◌, ◌||◌, List, [], ◌∷◌, ◌++◌, None, refl, sym, ◌∙◌, ap, length, take, append_assoc}
+use Rattle.std.proofs.Common.{◌≡◌, ℕ, ◌+◌, Bool, true, false, not, ◌&&◌, ◌||◌, List, [], ◌∷◌, ◌++◌, None, refl, sym, ◌∙◌, ap, length, take, append_assoc, arith}
 use Rattle.std.proofs.lemmas.Bool.{and_parts}
 use Rattle.std.specs.List.{list_all, list_any, enumerate_from, IsDistinct, AllByRecursion}
 use Rattle.std.specs.Str.{bytes_eq}
@@ -21,12 +21,10 @@ abbrev pub is_new : {A : Type 0} → (A → A → Bool) → List A → (ℕ × A
 is_new same xs entry = not (list_any (same entry.1) (take entry.0 xs))
 
 neither : (a b : Bool) → (a || b) ≡ false → (a ≡ false) × (b ≡ false)
-neither true b e = cc e
-neither false b e = (refl, e)
+neither a b e = (grind arith, grind arith)
 
 not_true : (b : Bool) → not b ≡ true → b ≡ false
-not_true true e = cc e
-not_true false e = refl
+not_true b e = grind arith
 
 module _ {A : Type 0} (same : A → A → Bool) (symm : (x y : A) → same x y ≡ same y x) where
   -- an element differs from those before

@@ -1,5 +1,5 @@
 -- Which refusals don't come.
-use Rattle.std.proofs.Common.{◌≢◌, ℕ, nat_le, is_some, unwrap_or, Bool, map, length, refl}
+use Rattle.std.proofs.Common.{◌≢◌, ℕ, Option, nat_le, is_some, unwrap_or, Bool, map, length, refl}
 use Rattle.std.specs.List.{enumerate_from}
 use Rattle.serde_json.specs.Data.{Data}
 use Rattle.def_script.specs.Key.{is_key}
@@ -10,7 +10,7 @@ use Rattle.def_files.specs.declared.AssetFault.{AssetFault}
 use Rattle.def_files.specs.declared.AssetFault.TheVariants as fault
 use Rattle.def_files.specs.Json.{reading, is_object, is_list_of, spelled}
 use Rattle.def_files.specs.Parts.{version, sequence, locktime, format, same_under, list, elements, strings, is_text, is_hex, is_pair, is_hex_pair, key_of, sig_of, pairs}
-use Rattle.def_files.specs.Refusals.{no_object, no_list_of, no_version, no_sequence, no_locktime, no_format, no_hex, too_many}
+use Rattle.def_files.specs.Refusals.{unless, no_object, no_list_of, no_hex, too_many}
 use Rattle.def_files.specs.AssetFile.{assets_of, asset_refusals, assets_in, is_signature, is_preimage}
 use Rattle.def_files.specs.RunFile.{run_of, script_text, run_refusals, run_in}
 use Rattle.def_files.specs.Laws.{AssetsWantNoMemory, IsRunFault, RunFaults}
@@ -31,17 +31,9 @@ list_tells : (P : AssetFault → Type 0) (right : Data → Bool) (m : Member) (f
     Tells P (no_list_of right m file)
 list_tells P right m file h = unless_tells P (is_list_of right (list m file)) (fault.Shape m) (h.shape m)
 
-version_tells : (P : AssetFault → Type 0) (file : Data) → IsBroad P → Tells P (no_version file)
-version_tells P file h = unless_tells P (is_some (version file)) (fault.Number member.Version) (h.number member.Version)
-
-sequence_tells : (P : AssetFault → Type 0) (file : Data) → IsBroad P → Tells P (no_sequence file)
-sequence_tells P file h = unless_tells P (is_some (sequence file)) (fault.Number member.Sequence) (h.number member.Sequence)
-
-locktime_tells : (P : AssetFault → Type 0) (file : Data) → IsBroad P → Tells P (no_locktime file)
-locktime_tells P file h = unless_tells P (is_some (locktime file)) (fault.Number member.Locktime) (h.number member.Locktime)
-
-format_tells : (P : AssetFault → Type 0) (file : Data) → IsBroad P → Tells P (no_format file)
-format_tells P file h = unless_tells P (is_some (format file)) (fault.Number member.Format) (h.number member.Format)
+number_tells : {A : Type 0} (P : AssetFault → Type 0) (number : Option A) (m : Member) → IsBroad P →
+    Tells P (unless (is_some number) (fault.Number m))
+number_tells P number m h = unless_tells P (is_some number) (fault.Number m) (h.number m)
 
 hex_tells : (P : AssetFault → Type 0) (right : Data → Bool) (m : Member) (file : Data) → IsBroad P → Tells P (no_hex right m file)
 hex_tells P right m file h = each_tells P right (fault.Hex m) (elements m file) (h.hex m)
@@ -59,48 +51,23 @@ asset_faults file =
     let P = IsNotMemory in
     let h : IsBroad P = record { shape = λ m q. cc q; number = λ m q. cc q; hex = λ m i q. cc q; many = λ m q. cc q } in
     let signatures = elements member.Signatures file in
-    let same = same_under (unwrap_or (format file) one) in (
+    let same = same_under (unwrap_or (format file) one) in
+    assumption (
       object_tells P file h,
-      (
-        list_tells P is_pair member.Signatures file h,
-        (
-          list_tells P is_text member.Preimages file h,
-          (
-            version_tells P file h,
-            (
-              sequence_tells P file h,
-              (
-                locktime_tells P file h,
-                (
-                  format_tells P file h,
-                  (
-                    hex_tells P is_hex_pair member.Signatures file h,
-                    (
-                      hex_tells P is_hex member.Preimages file h,
-                      (
-                        each_tells P is_key fault.KeyForm (map key_of signatures) (λ i q. cc q),
-                        (
-                          each_tells P is_signature fault.SigLength (map sig_of signatures) (λ i q. cc q),
-                          (
-                            each_tells P is_preimage fault.PreimageLength (strings member.Preimages file) (λ i q. cc q),
-                            (
-                              many_tells P 256 member.Signatures file h,
-                              (
-                                many_tells P 256 member.Preimages file h,
-                                (each_tells P (is_new same (pairs file)) fault.RepeatedKey (enumerate_from 0 (pairs file)) (λ i q. cc q), tt),
-                              ),
-                            ),
-                          ),
-                        ),
-                      ),
-                    ),
-                  ),
-                ),
-              ),
-            ),
-          ),
-        ),
-      ),
+      list_tells P is_pair member.Signatures file h,
+      list_tells P is_text member.Preimages file h,
+      number_tells P (version file) member.Version h,
+      number_tells P (sequence file) member.Sequence h,
+      number_tells P (locktime file) member.Locktime h,
+      number_tells P (format file) member.Format h,
+      hex_tells P is_hex_pair member.Signatures file h,
+      hex_tells P is_hex member.Preimages file h,
+      each_tells P is_key fault.KeyForm (map key_of signatures) (λ i q. cc q),
+      each_tells P is_signature fault.SigLength (map sig_of signatures) (λ i q. cc q),
+      each_tells P is_preimage fault.PreimageLength (strings member.Preimages file) (λ i q. cc q),
+      many_tells P 256 member.Signatures file h,
+      many_tells P 256 member.Preimages file h,
+      each_tells P (is_new same (pairs file)) fault.RepeatedKey (enumerate_from 0 (pairs file)) (λ i q. cc q),
     )
 
 pub assets_want_no_memory : AssetsWantNoMemory
@@ -113,36 +80,20 @@ assets_want_no_memory bytes e =
 run_faults_tell : (file : Data) → AllTell IsRunFault (run_refusals file)
 run_faults_tell file =
     let P = IsRunFault in
-    let h : IsBroad P = record { shape = λ m. tt; number = λ m. tt; hex = λ m i. tt; many = λ m. tt } in (
+    let h : IsBroad P = record { shape = λ m. tt; number = λ m. tt; hex = λ m i. tt; many = λ m. tt } in
+    assumption (
       object_tells P file h,
-      (
-        list_tells P is_pair member.Signatures file h,
-        (
-          unless_tells P (is_some (script_text file)) (fault.Shape member.Script) tt,
-          (
-            list_tells P is_text member.Witness file h,
-            (
-              version_tells P file h,
-              (
-                sequence_tells P file h,
-                (
-                  locktime_tells P file h,
-                  (
-                    hex_tells P is_hex_pair member.Signatures file h,
-                    (
-                      unless_tells P (is_some (spelled (script_text file))) (fault.Hex member.Script 0) tt,
-                      (
-                        hex_tells P is_hex member.Witness file h,
-                        (many_tells P 256 member.Signatures file h, (many_tells P 2000 member.Witness file h, tt)),
-                      ),
-                    ),
-                  ),
-                ),
-              ),
-            ),
-          ),
-        ),
-      ),
+      list_tells P is_pair member.Signatures file h,
+      unless_tells P (is_some (script_text file)) (fault.Shape member.Script) tt,
+      list_tells P is_text member.Witness file h,
+      number_tells P (version file) member.Version h,
+      number_tells P (sequence file) member.Sequence h,
+      number_tells P (locktime file) member.Locktime h,
+      hex_tells P is_hex_pair member.Signatures file h,
+      unless_tells P (is_some (spelled (script_text file))) (fault.Hex member.Script 0) tt,
+      hex_tells P is_hex member.Witness file h,
+      many_tells P 256 member.Signatures file h,
+      many_tells P 2000 member.Witness file h,
     )
 
 pub run_faults : RunFaults

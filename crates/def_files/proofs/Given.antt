@@ -39,7 +39,8 @@ assets_fit file assets e =
     let preimages = elements member.Preimages file in
     let keys = all_mapped key_of is_key IsKey signatures key_fits (each_held is_key fault.KeyForm (map key_of signatures) rest.0) (λ x. spelled-IsBytes (key_text x)) in
     let sigs = all_mapped sig_of is_signature IsSignature signatures signature_fits (each_held is_signature fault.SigLength (map sig_of signatures) rest.1.0) (λ x. spelled-IsBytes (sig_text x)) in
-    let strings = all_mapped bytes_of is_preimage IsPreimage preimages preimage_fits (each_held is_preimage fault.PreimageLength (map bytes_of preimages) rest.1.1.0) (λ x. spelled-IsBytes (as_str x)) in
+    let strings = all_mapped bytes_of is_preimage IsPreimage preimages preimage_fits
+    (each_held is_preimage fault.PreimageLength (map bytes_of preimages) rest.1.1.0) (λ x. spelled-IsBytes (as_str x)) in
     let distinct = distinct_pairs fault.RepeatedKey (unwrap_or (format file) one) (pairs file) rest.1.1.1.1.1.0 in
     subst AreFewAssets same (record {
       held = record {

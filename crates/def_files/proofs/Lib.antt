@@ -1,5 +1,4 @@
 pub mod OnLiterals
-pub mod Computed
 pub mod Passing
 pub mod Strings
 pub mod Distinct

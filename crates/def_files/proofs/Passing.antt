@@ -1,5 +1,5 @@
 -- What it means that no refusal of a list applies.
-use Rattle.std.proofs.Common.{◌≡◌, ℕ, ◌+◌, Bool, true, false, not, ◌&&◌, if◌then◌else◌, List, [], ◌∷◌, Option, Some, None, Result, Ok, Err, refl, sym, ◌∙◌, subst}
+use Rattle.std.proofs.Common.{◌≡◌, ℕ, ◌+◌, Bool, true, false, not, List, [], ◌∷◌, Option, Some, None, Result, Ok, Err, refl, sym, ◌∙◌, subst, arith}
 use Rattle.std.specs.Prelude.{⊤, position, option_map}
 use Rattle.std.specs.List.{list_all, position_from}
 use Rattle.std.proofs.lemmas.Iterator.Adapters.{position_from-zero}
@@ -19,22 +19,15 @@ none_applies (None ∷ rs) v w e = let rest = none_applies rs v w e in ((refl, r
 none_applies (Some fault ∷ rs) v w e = cc e
 
 pub held : {E : Type 0} (b : Bool) (fault : E) → unless b fault ≡ None → b ≡ true
-held true fault e = refl
-held false fault e = cc e
+held b fault e = grind arith
 
 all_from : {A : Type 0} (holds : A → Bool) (i : ℕ) (xs : List A) → position_from (λ x. not (holds x)) i xs ≡ None →
     list_all holds xs ≡ true
 all_from holds i [] e = refl
-all_from holds i (x ∷ xs) e = go (holds x) refl (all_from holds (i + 1) xs) e
-  where
-    go : (b : Bool) → holds x ≡ b → (position_from (λ x. not (holds x)) (i + 1) xs ≡ None → list_all holds xs ≡ true)
-        → (if not b then Some i else position_from (λ x. not (holds x)) (i + 1) xs) ≡ None → (b && list_all holds xs) ≡ true
-    go true q rest e = rest e
-    go false q rest e = cc e
+all_from holds i (x ∷ xs) e = grind (arith, all_from holds (i + 1) xs)
 
 not_mapped : {E : Type 0} (fault : ℕ → E) (found : Option ℕ) → option_map fault found ≡ None → found ≡ None
-not_mapped fault None e = refl
-not_mapped fault (Some i) e = cc e
+not_mapped fault found e = grind arith
 
 pub each_held : {A E : Type 0} (holds : A → Bool) (fault : ℕ → E) (xs : List A) → unless_each holds fault xs ≡ None →
     list_all holds xs ≡ true

@@ -31,5 +31,6 @@ unfolding first_words schedule sha_rounds sha_compress sha_hash_after sha_digest
 double_sha_of_hello = refl
 
 pub key_hash_of_generator : KeyHashOfGenerator
-unfolding first_words schedule sha_rounds sha_compress sha_hash_after sha_digest_bytes sha256 block_words step left_line right_line combined compress hash_after digest_bytes ripemd160 hash160 decode_pairs
+unfolding first_words schedule sha_rounds sha_compress sha_hash_after sha_digest_bytes sha256 block_words step left_line right_line combined compress
+    hash_after digest_bytes ripemd160 hash160 decode_pairs
 key_hash_of_generator = refl

@@ -3,7 +3,7 @@ use Rattle.std.proofs.Common.{◌≡◌, ℕ, zero, suc, ◌+◌, ◌≤◌, Opt
 use Rattle.std.specs.Prelude.{⊤}
 use Rattle.def_tree.specs.declared.Two.TheVariants as kind
 use Rattle.def_tree.specs.declared.Wrapper.TheVariants as wrapper
-use Rattle.def_tree.specs.Tree.{Tree, Trees, just_0, just_1, pk_k, pk_h, older, after, hash, and_or, two, thresh, multi, wrap, none, more}
+use Rattle.def_tree.specs.Tree.{Tree, Trees, just_0, just_1, older, after, and_or, two, thresh, multi, wrap, none, more}
 use Rattle.def_types.specs.declared.Base.{Base}
 use Rattle.def_types.specs.declared.Base.TheVariants.{B, V, K, W}
 use Rattle.def_types.specs.Typed.{type_of, IsTyped, AreTyped}
@@ -41,7 +41,8 @@ weaker h h' f f' (Some m) None i j b = b
 weaker h h' f f' (Some m) (Some t) i j b = record { same = b.same; high = omega (arith, b.high, i); few = omega (arith, b.few, j) }
 
 -- one and then the other
-bounded_both : (l h h' f f' high few : ℕ) (o o' : Option Highest) (p p' : Option Takes) → h ≤ high → l + h' ≤ high → f + f' ≤ few → Bounded h f o p → Bounded h' f' o' p' → Bounded high few (both l o o') (most.both p' p)
+bounded_both : (l h h' f f' high few : ℕ) (o o' : Option Highest) (p p' : Option Takes) → h ≤ high → l + h' ≤ high → f + f' ≤ few → Bounded h f o p
+    → Bounded h' f' o' p' → Bounded high few (both l o o') (most.both p' p)
 bounded_both l h h' f f' high few None o' None None i j k a b = tt
 bounded_both l h h' f f' high few None o' None (Some t) i j k a b = tt
 bounded_both l h h' f f' high few None o' (Some t) p' i j k a b = absurd a
@@ -82,7 +83,8 @@ bounded_begun h h' f f' (Some m) None i j k b = b
 bounded_begun h h' f f' (Some m) (Some t) i j k b = record { same = omega (arith, b.same); high = omega (arith, b.high, i, j); few = omega (arith, b.few, k) }
 
 -- behind an item
-bounded_taken : (l height h h' f f' : ℕ) (t : Takes) (o : Option Highest) (p : Option Takes) → t.items ≡ 1 → height ≤ 1 + h' → l + h ≤ h' → 1 + f ≤ f' → Bounded h f o p → Bounded h' f' (both l (only 1 height) o) (most.both p (Some t))
+bounded_taken : (l height h h' f f' : ℕ) (t : Takes) (o : Option Highest) (p : Option Takes) → t.items ≡ 1 → height ≤ 1 + h' → l + h ≤ h' → 1 + f ≤ f'
+    → Bounded h f o p → Bounded h' f' (both l (only 1 height) o) (most.both p (Some t))
 bounded_taken l height h h' f f' t None None one i j k b = tt
 bounded_taken l height h h' f f' t None (Some u) one i j k b = absurd b
 bounded_taken l height h h' f f' t (Some m) None one i j k b = absurd b
@@ -106,12 +108,6 @@ mutual
 
   sat_bounded : (t : Tree) → IsTyped t → Bounded (ops t + 21) (ops t + more_at t) (highest_sat t) (most_sat t)
   sat_bounded just_0 h = tt
-  sat_bounded just_1 h = record { same = refl; high = omega arith; few = omega arith }
-  sat_bounded (pk_k key) h = record { same = refl; high = omega arith; few = omega arith }
-  sat_bounded (pk_h key) h = record { same = refl; high = omega arith; few = omega arith }
-  sat_bounded (older n) h = record { same = refl; high = omega arith; few = omega arith }
-  sat_bounded (after n) h = record { same = refl; high = omega arith; few = omega arith }
-  sat_bounded (hash kind value) h = record { same = refl; high = omega arith; few = omega arith }
   sat_bounded (and_or x y z) h =
       let f = typed-and_or x y z h in
       let at = none_more x B f.3 in let same : more_at y ≡ more_at z = ap more_of f.6 in
@@ -168,27 +164,22 @@ mutual
       bounded_begun _ _ _ _ _ _ (omega (arith, ops_j x)) (omega arith) (omega (arith, ops_j x, at)) (sat_bounded x f.0)
   sat_bounded (wrap wrapper.N x) h =
       let f = typed-wrap_n x h in let at = none_more x B f.1 in weaker _ _ _ _ _ _ (omega (arith, ops_n x)) (omega (arith, ops_n x, at)) (sat_bounded x f.0)
+  sat_bounded tree h = record { same = refl; high = omega arith; few = omega arith }
 
   dsat_bounded : (t : Tree) → IsTyped t → Bounded (ops t + 21) (ops t + more_at t) (highest_dsat t) (most_dsat t)
-  dsat_bounded just_0 h = record { same = refl; high = omega arith; few = omega arith }
   dsat_bounded just_1 h = tt
-  dsat_bounded (pk_k key) h = record { same = refl; high = omega arith; few = omega arith }
-  dsat_bounded (pk_h key) h = record { same = refl; high = omega arith; few = omega arith }
   dsat_bounded (older n) h = tt
   dsat_bounded (after n) h = tt
-  dsat_bounded (hash kind value) h = record { same = refl; high = omega arith; few = omega arith }
   dsat_bounded (and_or x y z) h =
       let f = typed-and_or x y z h in
       let at = none_more x B f.3 in let same : more_at y ≡ more_at z = ap more_of f.6 in
       bounded_both 0 _ _ _ _ _ _ _ _ _ _ (omega (arith, ops_and_or x y z)) (omega (arith, ops_and_or x y z)) (omega (arith, ops_and_or x y z, at, same)) (dsat_bounded x f.0) (dsat_bounded z f.2)
-  dsat_bounded (two kind.AndV x y) h = tt
   dsat_bounded (two kind.AndB x y) h =
       let f = typed-and_b x y h in let at = none_more x B f.2 in let at_y = none_more y W f.3 in
       bounded_both 1 _ _ _ _ _ _ _ _ _ _ (omega (arith, ops_and_b x y)) (omega (arith, ops_and_b x y)) (omega (arith, ops_and_b x y, at, at_y)) (dsat_bounded x f.0) (dsat_bounded y f.1)
   dsat_bounded (two kind.OrB x z) h =
       let f = typed-or_b x z h in let at = none_more x B f.2 in let at_z = none_more z W f.4 in
       bounded_both 1 _ _ _ _ _ _ _ _ _ _ (omega (arith, ops_or_b x z)) (omega (arith, ops_or_b x z)) (omega (arith, ops_or_b x z, at, at_z)) (dsat_bounded x f.0) (dsat_bounded z f.1)
-  dsat_bounded (two kind.OrC x z) h = tt
   dsat_bounded (two kind.OrD x z) h =
       let f = typed-or_d x z h in let at = none_more x B f.2 in let at_z = none_more z B f.5 in
       bounded_both 0 _ _ _ _ _ _ _ _ _ _ (omega (arith, ops_or_d x z)) (omega (arith, ops_or_d x z)) (omega (arith, ops_or_d x z, at, at_z)) (dsat_bounded x f.0) (dsat_bounded z f.1)
@@ -197,6 +188,7 @@ mutual
       bounded_either _ _ _ _ _ _
       (bounded_taken 0 1 _ _ _ _ one _ _ refl (omega arith) (omega (arith, ops_or_i x z)) (omega (arith, ops_or_i x z)) (dsat_bounded x f.0))
       (bounded_taken 0 1 _ _ _ _ empty _ _ refl (omega arith) (omega (arith, ops_or_i x z)) (omega (arith, ops_or_i x z, same)) (dsat_bounded z f.1))
+  dsat_bounded (two which x y) h = tt
   dsat_bounded (thresh k none) h = absurd (typed-thresh_none k h)
   dsat_bounded (thresh k (more x xs)) h =
       weaker _ _ _ _ _ _ (omega (arith, ops_thresh k (more x xs))) (omega (arith, ops_thresh k (more x xs)))
@@ -215,6 +207,7 @@ mutual
   dsat_bounded (wrap wrapper.J x) h = record { same = refl; high = omega arith; few = omega (arith, ops_j x) }
   dsat_bounded (wrap wrapper.N x) h =
       let f = typed-wrap_n x h in let at = none_more x B f.1 in weaker _ _ _ _ _ _ (omega (arith, ops_n x)) (omega (arith, ops_n x, at)) (dsat_bounded x f.0)
+  dsat_bounded tree h = record { same = refl; high = omega arith; few = omega arith }
 
   first_bounded : (xs : Trees) (k : ℕ) → AreFit xs → Bounded (opcode_count (emit_sum xs) + 21) (opcode_count (emit_sum xs)) (highest_parts 1 xs k) (most_parts xs k)
   first_bounded none k fit = absurd fit
@@ -237,7 +230,8 @@ mutual
       let at = none_more x W fit.0 in
       bounded_either _ _ _ _ _ _
       (bounded_both 0 _ _ _ _ _ _ _ _ _ _ (omega (arith, ops_added x xs)) (omega (arith, ops_added x xs)) (omega (arith, ops_added x xs, at)) (sat_bounded x hs.0) (others_bounded xs k hs.1 fit.3))
-      (bounded_both 0 _ _ _ _ _ _ _ _ _ _ (omega (arith, ops_added x xs)) (omega (arith, ops_added x xs)) (omega (arith, ops_added x xs, at)) (dsat_bounded x hs.0) (others_bounded xs (suc k) hs.1 fit.3))
+      (bounded_both 0 _ _ _ _ _ _ _ _ _ _ (omega (arith, ops_added x xs)) (omega (arith, ops_added x xs)) (omega (arith, ops_added x xs, at))
+      (dsat_bounded x hs.0) (others_bounded xs (suc k) hs.1 fit.3))
 
 -- of a tree
 few_items : (high few : ℕ) (o : Option Highest) (p : Option Takes) → Bounded high few o p → number_of (λ t. t.items) p ≤ few + number_of (λ t. t.keys) p

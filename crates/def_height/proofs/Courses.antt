@@ -149,7 +149,8 @@ peak_followed left w course leaves = omega (arith, leaves, rise_append w.course 
 peak_ends : (left : ℕ) (w : Way) → w.items + ups w.course ≡ left + downs w.course → left ≤ peak w
 peak_ends left w leaves = omega (arith, leaves, rise_ends w.course)
 
-pub at_least_highest : (l left : ℕ) (P : Way → Type 0) (course : Course) (o : Option Highest) → l + ups course ≡ left + downs course → IsHighest l P o → IsHighest left (Followed P course) (at_least (l + rise course) o)
+pub at_least_highest : (l left : ℕ) (P : Way → Type 0) (course : Course) (o : Option Highest) → l + ups course ≡ left + downs course → IsHighest l P o
+    → IsHighest left (Followed P course) (at_least (l + rise course) o)
 at_least_highest l left P course None ends x = λ w h. x h.0 h.2
 at_least_highest l left P course (Some a) ends x =
     let steps : Way = record { items = 0; course = course } in
@@ -183,7 +184,8 @@ same_highest left P a n le x = record {
   low = λ w is. omega (arith, x.low w is, le);
 }
 
-pub followed_highest : (l left : ℕ) (P : Way → Type 0) (course : Course) (o : Option Highest) → rise course ≡ 0 → l + ups course ≡ left + downs course → IsHighest l P o → IsHighest left (Followed P course) o
+pub followed_highest : (l left : ℕ) (P : Way → Type 0) (course : Course) (o : Option Highest) → rise course ≡ 0 → l + ups course ≡ left + downs course
+    → IsHighest l P o → IsHighest left (Followed P course) o
 followed_highest l left P course None flat ends x = at_least_highest l left P course None ends x
 followed_highest l left P course (Some a) flat ends x =
     same_highest left (Followed P course) a (l + rise course)
@@ -191,7 +193,8 @@ followed_highest l left P course (Some a) flat ends x =
     (at_least_highest l left P course (Some a) ends x)
 
 -- before a way, an item and some steps
-pub begun_highest : (l m left : ℕ) (items : ℕ) (course : Course) (height : ℕ) (P : Way → Type 0) (o : Option Highest) → left ≡ l + m → items + ups course ≡ l + downs course → items + rise course ≡ height → IsHighest m P o → IsHighest left (Then (Is items course) P) (both l (only items height) o)
+pub begun_highest : (l m left : ℕ) (items : ℕ) (course : Course) (height : ℕ) (P : Way → Type 0) (o : Option Highest) → left ≡ l + m → items + ups course
+    ≡ l + downs course → items + rise course ≡ height → IsHighest m P o → IsHighest left (Then (Is items course) P) (both l (only items height) o)
 begun_highest l m left items course height P o sum leaves high x = then_highest l m left (Is items course) P (only items height) o sum (is_highest l items course height leaves high) x
 
 -- before a way, a step that changes nothing

@@ -2,7 +2,7 @@
 use Rattle.std.proofs.Common.{◌≡◌, ℕ, zero, suc, ◌+◌, [], ◌∷◌, length, refl, sym, ap, ◌∙◌, inl, inr, arith}
 use Rattle.def_tree.specs.declared.Two.TheVariants as kind
 use Rattle.def_tree.specs.declared.Wrapper.TheVariants as wrapper
-use Rattle.def_tree.specs.Tree.{Tree, Trees, just_0, just_1, pk_k, pk_h, older, after, hash, and_or, two, thresh, multi, wrap, none, more}
+use Rattle.def_tree.specs.Tree.{Tree, Trees, just_0, pk_k, pk_h, hash, and_or, two, thresh, multi, wrap, none, more}
 use Rattle.def_sane.specs.Formal as sane
 use Rattle.def_script.specs.Signature.{MAX_SIGNATURE_SIZE}
 use Rattle.def_sane.specs.Formal.{Takes, nothing, item, same_items, tried, plus, PREIMAGE, empty, one}
@@ -70,53 +70,43 @@ alike_led course x = record {
 mutual
   sat_alike : (t : Tree) → AreAlike (FormalSat t) (sane.FormalSat t)
   sat_alike just_0 = alike_never
-  sat_alike just_1 = alike_is _ _ nothing refl
   sat_alike (pk_k key) = alike_is _ _ (item MAX_SIGNATURE_SIZE) refl
   sat_alike (pk_h key) = alike_is _ _ (plus (item MAX_SIGNATURE_SIZE) (item (length key))) refl
-  sat_alike (older n) = alike_is _ _ nothing refl
-  sat_alike (after n) = alike_is _ _ nothing refl
   sat_alike (hash kind value) = alike_is _ _ (item PREIMAGE) refl
   sat_alike (and_or x y z) = alike_either (alike_then (alike_followed _ (sat_alike x)) (sat_alike y)) (alike_then (alike_followed _ (dsat_alike x)) (sat_alike z))
   sat_alike (two kind.AndV x y) = alike_then (sat_alike x) (sat_alike y)
   sat_alike (two kind.AndB x y) = alike_followed _ (alike_then (sat_alike x) (sat_alike y))
   sat_alike (two kind.OrB x z) = alike_either (alike_followed _ (alike_then (sat_alike x) (dsat_alike z))) (alike_followed _ (alike_then (dsat_alike x) (sat_alike z)))
-  sat_alike (two kind.OrC x z) = alike_either (alike_followed _ (sat_alike x)) (alike_then (alike_followed _ (dsat_alike x)) (sat_alike z))
-  sat_alike (two kind.OrD x z) = alike_either (alike_followed _ (sat_alike x)) (alike_then (alike_followed _ (dsat_alike x)) (sat_alike z))
   sat_alike (two kind.OrI x z) = alike_either (alike_then (alike_is _ _ one refl) (sat_alike x)) (alike_then (alike_is _ _ empty refl) (sat_alike z))
+  sat_alike (two which x z) = alike_either (alike_followed _ (sat_alike x)) (alike_then (alike_followed _ (dsat_alike x)) (sat_alike z))
   sat_alike (thresh k xs) = alike_followed _ (parts_alike [] xs k)
   sat_alike (multi k keys) = alike_is _ _ (plus (plus empty (same_items k MAX_SIGNATURE_SIZE)) (tried (length keys))) (omega arith)
   sat_alike (wrap wrapper.A x) = alike_led _ (alike_followed _ (sat_alike x))
   sat_alike (wrap wrapper.S x) = alike_led _ (sat_alike x)
-  sat_alike (wrap wrapper.C x) = alike_followed _ (sat_alike x)
   sat_alike (wrap wrapper.D x) = alike_then (alike_is _ _ one refl) (sat_alike x)
-  sat_alike (wrap wrapper.V x) = alike_followed _ (sat_alike x)
   sat_alike (wrap wrapper.J x) = alike_led _ (sat_alike x)
-  sat_alike (wrap wrapper.N x) = alike_followed _ (sat_alike x)
+  sat_alike (wrap letter x) = alike_followed _ (sat_alike x)
+  sat_alike tree = alike_is _ _ nothing refl
 
   dsat_alike : (t : Tree) → AreAlike (FormalDsat t) (sane.FormalDsat t)
   dsat_alike just_0 = alike_is _ _ nothing refl
-  dsat_alike just_1 = alike_never
   dsat_alike (pk_k key) = alike_is _ _ empty refl
   dsat_alike (pk_h key) = alike_is _ _ (plus empty (item (length key))) refl
-  dsat_alike (older n) = alike_never
-  dsat_alike (after n) = alike_never
   dsat_alike (hash kind value) = alike_is _ _ (item PREIMAGE) refl
   dsat_alike (and_or x y z) = alike_then (alike_followed _ (dsat_alike x)) (dsat_alike z)
-  dsat_alike (two kind.AndV x y) = alike_never
   dsat_alike (two kind.AndB x y) = alike_followed _ (alike_then (dsat_alike x) (dsat_alike y))
   dsat_alike (two kind.OrB x z) = alike_followed _ (alike_then (dsat_alike x) (dsat_alike z))
-  dsat_alike (two kind.OrC x z) = alike_never
   dsat_alike (two kind.OrD x z) = alike_then (alike_followed _ (dsat_alike x)) (dsat_alike z)
   dsat_alike (two kind.OrI x z) = alike_either (alike_then (alike_is _ _ one refl) (dsat_alike x)) (alike_then (alike_is _ _ empty refl) (dsat_alike z))
   dsat_alike (thresh k xs) = alike_followed _ (parts_alike [] xs 0)
   dsat_alike (multi k keys) = alike_is _ _ (plus (same_items (k + 1) 0) (tried (length keys))) (omega arith)
   dsat_alike (wrap wrapper.A x) = alike_led _ (alike_followed _ (dsat_alike x))
   dsat_alike (wrap wrapper.S x) = alike_led _ (dsat_alike x)
-  dsat_alike (wrap wrapper.C x) = alike_followed _ (dsat_alike x)
   dsat_alike (wrap wrapper.D x) = alike_is _ _ empty refl
   dsat_alike (wrap wrapper.V x) = alike_never
   dsat_alike (wrap wrapper.J x) = alike_is _ _ empty refl
-  dsat_alike (wrap wrapper.N x) = alike_followed _ (dsat_alike x)
+  dsat_alike (wrap letter x) = alike_followed _ (dsat_alike x)
+  dsat_alike tree = alike_never
 
   parts_alike : (first : Course) (xs : Trees) (k : ℕ) → AreAlike (FormalParts first xs k) (sane.FormalParts xs k)
   parts_alike first none zero = alike_is _ _ nothing refl

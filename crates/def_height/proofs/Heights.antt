@@ -2,7 +2,7 @@
 use Rattle.std.proofs.Common.{◌≡◌, ℕ, zero, suc, ◌+◌, [], ◌∷◌, ◌++◌, replicate, Option, length, refl, sym, ◌∙◌, ap, subst, arith}
 use Rattle.def_tree.specs.declared.Two.TheVariants as kind
 use Rattle.def_tree.specs.declared.Wrapper.TheVariants as wrapper
-use Rattle.def_tree.specs.Tree.{Tree, Trees, just_0, just_1, pk_k, pk_h, older, after, hash, and_or, two, thresh, multi, wrap, none, more}
+use Rattle.def_tree.specs.Tree.{Tree, Trees, just_0, just_1, pk_k, pk_h, hash, and_or, two, thresh, multi, wrap, none, more}
 use Rattle.def_types.specs.declared.Base.{Base}
 use Rattle.def_types.specs.declared.Base.TheVariants.{B, V, K, W}
 use Rattle.def_types.specs.Typed.{type_of, IsTyped, AreTyped}
@@ -64,14 +64,13 @@ mutual
   sat_highest just_1 h = is_highest 1 0 (up 1 ∷ []) 1 refl refl
   sat_highest (pk_k key) h = is_highest 2 1 (up 1 ∷ []) 2 refl refl
   sat_highest (pk_h key) h = is_highest 2 2 (up 1 ∷ up 0 ∷ up 1 ∷ down 2 ∷ []) 4 refl refl
-  sat_highest (older n) h = is_highest 1 0 (up 1 ∷ up 0 ∷ []) 1 refl refl
-  sat_highest (after n) h = is_highest 1 0 (up 1 ∷ up 0 ∷ []) 1 refl refl
   sat_highest (hash kind value) h = is_highest 1 1 (up 1 ∷ up 1 ∷ down 2 ∷ up 0 ∷ up 1 ∷ down 1 ∷ []) 3 refl refl
   sat_highest (and_or x y z) h =
       let f = typed-and_or x y z h in
       either_highest (left y) _ _ _ _
       (then_highest 0 (left y) (left y) _ _ _ _ (omega arith) (followed_highest 1 0 _ (down 1 ∷ []) _ refl refl (at B 1 x _ _ f.3 refl (sat_highest x f.0))) (sat_highest y f.1))
-      (then_highest 0 (left y) (left y) _ _ _ _ (omega arith) (followed_highest 1 0 _ (down 1 ∷ []) _ refl refl (at B 1 x _ _ f.3 refl (dsat_highest x f.0))) (same_left y z _ _ f.6 (sat_highest z f.2)))
+      (then_highest 0 (left y) (left y) _ _ _ _ (omega arith) (followed_highest 1 0 _ (down 1 ∷ []) _ refl refl (at B 1 x _ _ f.3 refl (dsat_highest x f.0)))
+      (same_left y z _ _ f.6 (sat_highest z f.2)))
   sat_highest (two kind.AndV x y) h =
       let f = typed-and_v x y h in
       then_highest 0 (left y) (left y) _ _ _ _ (omega arith) (at V 0 x _ _ f.2 refl (sat_highest x f.0)) (sat_highest y f.1)
@@ -123,18 +122,17 @@ mutual
   sat_highest (wrap wrapper.N x) h =
       let f = typed-wrap_n x h in
       followed_highest 1 1 _ (up 0 ∷ []) _ refl refl (at B 1 x _ _ f.1 refl (sat_highest x f.0))
+  sat_highest tree h = is_highest 1 0 (up 1 ∷ up 0 ∷ []) 1 refl refl
 
   pub dsat_highest : (t : Tree) → IsTyped t → IsHighest (left t) (FormalDsat t) (highest_dsat t)
   dsat_highest just_0 h = is_highest 1 0 (up 1 ∷ []) 1 refl refl
-  dsat_highest just_1 h = never_highest 1
   dsat_highest (pk_k key) h = is_highest 2 1 (up 1 ∷ []) 2 refl refl
   dsat_highest (pk_h key) h = is_highest 2 2 (up 1 ∷ up 0 ∷ up 1 ∷ down 2 ∷ []) 4 refl refl
-  dsat_highest (older n) h = never_highest 1
-  dsat_highest (after n) h = never_highest 1
   dsat_highest (hash kind value) h = is_highest 1 1 (up 1 ∷ up 1 ∷ down 2 ∷ up 0 ∷ up 1 ∷ down 1 ∷ []) 3 refl refl
   dsat_highest (and_or x y z) h =
       let f = typed-and_or x y z h in
-      then_highest 0 (left y) (left y) _ _ _ _ (omega arith) (followed_highest 1 0 _ (down 1 ∷ []) _ refl refl (at B 1 x _ _ f.3 refl (dsat_highest x f.0))) (same_left y z _ _ f.6 (dsat_highest z f.2))
+      then_highest 0 (left y) (left y) _ _ _ _ (omega arith) (followed_highest 1 0 _ (down 1 ∷ []) _ refl refl (at B 1 x _ _ f.3 refl (dsat_highest x f.0)))
+      (same_left y z _ _ f.6 (dsat_highest z f.2))
   dsat_highest (two kind.AndV x y) h = never_highest (left y)
   dsat_highest (two kind.AndB x y) h =
       let f = typed-and_b x y h in
@@ -170,6 +168,7 @@ mutual
   dsat_highest (wrap wrapper.N x) h =
       let f = typed-wrap_n x h in
       followed_highest 1 1 _ (up 0 ∷ []) _ refl refl (at B 1 x _ _ f.1 refl (dsat_highest x f.0))
+  dsat_highest tree h = never_highest 1
 
   pub first_highest : (xs : Trees) (k : ℕ) → AreFit xs → IsHighest 1 (FormalParts [] xs k) (highest_parts 1 xs k)
   first_highest none k fit = absurd fit

@@ -5,4 +5,3 @@ pub mod Found
 pub mod Formals
 pub mod Opcodes
 pub mod Bounds
-pub mod Computed

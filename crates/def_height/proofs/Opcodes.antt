@@ -38,7 +38,12 @@ pub ops_multi : (k : ℕ) (keys : List Key) → ops (multi k keys) ≡ 1
 ops_multi k keys = opcodes_pushed keys (push_number (length keys) ∷ code op.CheckMultiSig ∷ [])
 
 pub ops_and_or : (x y z : Tree) → ops (and_or x y z) ≡ ops x + ops y + ops z + 3
-ops_and_or x y z = omega (arith, opcodes_append (emit x ++ (code op.NotIf ∷ emit z) ++ (code op.Else ∷ emit y)) (code op.EndIf ∷ []), opcodes_append (emit x ++ (code op.NotIf ∷ emit z)) (code op.Else ∷ emit y), opcodes_append (emit x) (code op.NotIf ∷ emit z))
+ops_and_or x y z = omega (
+  arith,
+  opcodes_append (emit x ++ (code op.NotIf ∷ emit z) ++ (code op.Else ∷ emit y)) (code op.EndIf ∷ []),
+  opcodes_append (emit x ++ (code op.NotIf ∷ emit z)) (code op.Else ∷ emit y),
+  opcodes_append (emit x) (code op.NotIf ∷ emit z),
+)
 
 pub ops_and_v : (x y : Tree) → ops (two kind.AndV x y) ≡ ops x + ops y
 ops_and_v x y = opcodes_append (emit x) (emit y)

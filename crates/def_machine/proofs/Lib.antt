@@ -1,4 +1,2 @@
-pub mod Faults
-pub mod Fragments
-pub mod LockRuns
+pub mod Computing
 pub mod Joined

@@ -2,15 +2,18 @@
 use Rattle.std.proofs.Common.{◌≡◌, ◌⊎◌, inl, inr, ℕ, ◌+◌, ◌≤◌, nat_le, min, Bool, true, false, not, ◌&&◌, ◌||◌, if◌then◌else◌, List, [], ◌∷◌, ◌++◌, length, map, Option, Some, None, refl, sym, ap, subst, ◌∙◌, arith}
 use Rattle.std.specs.List.{list_any, list_all, filter, IsDistinct, AllByRecursion}
 use Rattle.std.specs.Str.{bytes_eq}
+use Rattle.std.proofs.Math.Bool.{and-false, or-true}
+use Rattle.std.proofs.lemmas.Bool.{or_parts, not-true}
 use Rattle.std.proofs.lemmas.List.Folds.{list_any-append}
 use Rattle.std.proofs.lemmas.Map.Views.{any-filter_same}
 use Rattle.std.proofs.lemmas.Slice.Eq.{bytes_eq-Decides}
 use Rattle.def_tree.specs.Tree.{Key}
-use Rattle.def_policy.specs.Policy.{Policy, Policies, never, always, key, older, after, hash, all, any, thresh, none, more}
+use Rattle.def_policy.specs.Policy.{Policy, Policies, key, all, any, thresh, none, more}
 use Rattle.def_policy.specs.Truth.{how_many, is_true, truths, with_keys}
 use Rattle.def_policy.specs.Keys.{keys, keys_of, AreLeastKeys}
 use Rattle.def_policy.specs.LeastKeys.{key_sets, least_with, smallest, least_keys}
 use Rattle.def_policy.specs.Laws.{LeastKeysAreLeast, OneLeast}
+use Rattle.def_policy.proofs.Joins.{if_cases}
 
 abbrev signs : List Key → Key → Bool
 signs signers k = list_any (bytes_eq k) signers
@@ -41,16 +44,9 @@ without k ts = filter (λ s. not (signs s k)) ts
 
 in_without : (k : Key) (s : List Key) (ts : List (List Key)) → In s ts → signs s k ≡ false → In s (without k ts)
 in_without k s [] h e = absurd h
-in_without k s (t ∷ ts) (inl is) e = go (signs t k) refl
-  where
-    go : (b : Bool) → signs t k ≡ b → In s (if not b then t ∷ without k ts else without k ts)
-    go true q = let both : signs t k ≡ false = subst (λ u. signs u k ≡ false) is e in cc (sym q ∙ both)
-    go false q = inl is
-in_without k s (t ∷ ts) (inr h) e = go (not (signs t k)) (in_without k s ts h e)
-  where
-    go : (b : Bool) → In s (without k ts) → In s (if b then t ∷ without k ts else without k ts)
-    go true rest = inr rest
-    go false rest = rest
+in_without k s (t ∷ ts) (inl is) e = let lacks : signs t k ≡ false = subst (λ u. signs u k ≡ false) is e in rw lacks (inl is)
+in_without k s (t ∷ ts) (inr h) e =
+    let rest = in_without k s ts h e in if_cases (In s) (not (signs t k)) _ _ (λ q. inr rest) (λ q. rest)
 
 in_with : (k : Key) (s : List Key) (ts : List (List Key)) → In s ts → In (k ∷ s) (map (λ t. k ∷ t) ts)
 in_with k s [] h = absurd h
@@ -69,24 +65,17 @@ later k s t ts h = record { rest = h.rest; is = h.is; lacks = h.lacks; before = 
 
 rest_of : (k : Key) (s : List Key) (ts : List (List Key)) → In s (map (λ t. k ∷ t) (without k ts)) → HasRest k s ts
 rest_of k s [] h = absurd h
-rest_of k s (t ∷ ts) h = go (signs t k) refl (λ h. later k s t ts (rest_of k s ts h)) h
-  where
-    go : (b : Bool) → signs t k ≡ b → (In s (map (λ t. k ∷ t) (without k ts)) → HasRest k s (t ∷ ts))
-        → In s (map (λ t. k ∷ t) (if not b then t ∷ without k ts else without k ts)) → HasRest k s (t ∷ ts)
-    go true q rest h = rest h
-    go false q rest (inl is) = record { rest = t; is = is; lacks = q; before = inl refl }
-    go false q rest (inr h) = rest h
+rest_of k s (t ∷ ts) h =
+    if_cases (λ us. In s (map (λ u. k ∷ u) us) → HasRest k s (t ∷ ts)) (not (signs t k)) _ _ (λ q h. elim h [
+      | inl is ↦ record { rest = t; is = is; lacks = not-true (signs t k) q; before = inl refl }
+      | inr h ↦ later k s t ts (rest_of k s ts h)
+    ]) (λ q h. later k s t ts (rest_of k s ts h)) h
 
 -- ---- no key stands twice in a set
 
 all_differ : (k : Key) (s : List Key) → signs s k ≡ false → AllByRecursion (λ y. bytes_eq k y ≡ false) s
 all_differ k [] e = tt
-all_differ k (x ∷ s) e = go (bytes_eq k x) refl (λ e. all_differ k s e) e
-  where
-    go : (b : Bool) → bytes_eq k x ≡ b → (signs s k ≡ false → AllByRecursion (λ y. bytes_eq k y ≡ false) s) → (b || signs s k) ≡ false
-        → AllByRecursion (λ y. bytes_eq k y ≡ false) (x ∷ s)
-    go true q rest e = cc e
-    go false q rest e = (q, rest e)
+all_differ k (x ∷ s) e = let parts = or_parts (bytes_eq k x) (signs s k) e in (parts.0, all_differ k s parts.1)
 
 each_distinct : (ks s : List Key) → In s (key_sets ks) → IsDistinct bytes_eq s
 unfolding IsDistinct
@@ -122,15 +111,11 @@ lesser_either a n (Some m) e = let is : min a m ≡ n = cc e in elim (min_either
 
 found_set : (passes : List Key → Bool) (ss : List (List Key)) (n : ℕ) → smallest passes ss ≡ Some n → Found passes ss n
 found_set passes [] n e = cc e
-found_set passes (s ∷ ss) n e = go (passes s) refl (λ e. found_later passes s ss n (found_set passes ss n e)) e
-  where
-    go : (b : Bool) → passes s ≡ b → (smallest passes ss ≡ Some n → Found passes (s ∷ ss) n)
-        → (if b then least_with (length s) (smallest passes ss) else smallest passes ss) ≡ Some n → Found passes (s ∷ ss) n
-    go true q rest e = elim (lesser_either (length s) n (smallest passes ss) e) [
+found_set passes (s ∷ ss) n e =
+    if_cases (λ o. o ≡ Some n → Found passes (s ∷ ss) n) (passes s) _ _ (λ q e. elim (lesser_either (length s) n (smallest passes ss) e) [
       | inl here ↦ record { set = s; member = inl refl; passed = q; size = here }
-      | inr there ↦ rest there
-    ]
-    go false q rest e = rest e
+      | inr there ↦ found_later passes s ss n (found_set passes ss n there)
+    ]) (λ q e. found_later passes s ss n (found_set passes ss n e)) e
 
 -- at most so many
 abbrev AtMost : Option ℕ → ℕ → Type 0
@@ -147,16 +132,12 @@ lesser_right a m (Some n) h = omega (arith, h)
 
 no_more : (passes : List Key → Bool) (ss : List (List Key)) (s : List Key) → In s ss → passes s ≡ true → AtMost (smallest passes ss) (length s)
 no_more passes [] s h e = absurd h
-no_more passes (t ∷ ts) s (inl is) e = go (passes t) refl
-  where
-    go : (b : Bool) → passes t ≡ b → AtMost (if b then least_with (length t) (smallest passes ts) else smallest passes ts) (length s)
-    go true q = subst (λ u. AtMost (least_with (length t) (smallest passes ts)) (length u)) (sym is) (lesser_left (length t) (smallest passes ts))
-    go false q = let both : passes t ≡ true = subst (λ u. passes u ≡ true) is e in cc (sym q ∙ both)
-no_more passes (t ∷ ts) s (inr h) e = go (passes t) (no_more passes ts s h e)
-  where
-    go : (b : Bool) → AtMost (smallest passes ts) (length s) → AtMost (if b then least_with (length t) (smallest passes ts) else smallest passes ts) (length s)
-    go true rest = lesser_right (length t) (length s) (smallest passes ts) rest
-    go false rest = rest
+no_more passes (t ∷ ts) s (inl is) e =
+    let passed : passes t ≡ true = subst (λ u. passes u ≡ true) is e in
+    rw (passed, is) (lesser_left (length t) (smallest passes ts))
+no_more passes (t ∷ ts) s (inr h) e =
+    let rest = no_more passes ts s h e in
+    if_cases (λ o. AtMost o (length s)) (passes t) _ _ (λ q. lesser_right (length t) (length s) (smallest passes ts) rest) (λ q. rest)
 
 -- ---- of any keys those that are among some others
 
@@ -172,11 +153,9 @@ dropped k ks = filter (λ x. not (bytes_eq k x)) ks
 
 pub fewer : (k : Key) (ks : List Key) → length (dropped k ks) ≤ length ks
 fewer k [] = omega arith
-fewer k (x ∷ ks) = go (bytes_eq k x) (fewer k ks)
-  where
-    go : (b : Bool) → length (dropped k ks) ≤ length ks → length (if not b then x ∷ dropped k ks else dropped k ks) ≤ length (x ∷ ks)
-    go true rest = omega (arith, rest)
-    go false rest = omega (arith, rest)
+fewer k (x ∷ ks) =
+    let rest = fewer k ks in
+    if_cases (λ l. length l ≤ length (x ∷ ks)) (not (bytes_eq k x)) _ _ (λ q. omega (arith, rest)) (λ q. omega (arith, rest))
 
 one_fewer : (k : Key) (ks : List Key) → signs ks k ≡ true → length (dropped k ks) + 1 ≤ length ks
 one_fewer k [] e = cc e
@@ -206,15 +185,11 @@ record Chosen (others ks : List Key) : Type 0 where
   same : (q : Key) → signs set q ≡ (signs ks q && signs others q)
   few : length set ≤ length others
 
-and_false : (b : Bool) → (b && false) ≡ false
-and_false true = refl
-and_false false = refl
-
 lacking : (k q : Key) (ks others : List Key) (b : Bool) → bytes_eq q k ≡ b → signs others k ≡ false
     → (signs ks q && signs others q) ≡ ((b || signs ks q) && signs others q)
 lacking k q ks others true e lacks =
     let no : signs others q ≡ false = subst (λ x. signs others x ≡ false) (sym (same_key q k e)) lacks in
-    rw no (and_false (signs ks q))
+    rw no (and-false (signs ks q))
 lacking k q ks others false e lacks = refl
 
 having : (k q : Key) (ks others : List Key) (b : Bool) → bytes_eq q k ≡ b → signs others k ≡ true
@@ -228,7 +203,7 @@ choose (k ∷ ks) others = go (signs others k) refl (choose ks (dropped k others
   where
     go : (b : Bool) → signs others k ≡ b → Chosen (dropped k others) ks → Chosen others ks → Chosen others (k ∷ ks)
     go true some rest whole =
-        let lacks : signs rest.set k ≡ false = rest.same k ∙ ap (λ b. signs ks k && b) (dropped_signs k k true (own_key k) others) ∙ and_false (signs ks k) in
+        let lacks : signs rest.set k ≡ false = rest.same k ∙ ap (λ b. signs ks k && b) (dropped_signs k k true (own_key k) others) ∙ and-false (signs ks k) in
         let before = rest.few in
         let dropped_one = one_fewer k others some in
         record {
@@ -253,33 +228,21 @@ choose (k ∷ ks) others = go (signs others k) refl (choose ks (dropped k others
 abbrev Alike : (asked a b : List Key) → Type 0
 Alike asked a b = (q : Key) → signs asked q ≡ true → signs a q ≡ signs b q
 
-or_left : (a b : Bool) → a ≡ true → (a || b) ≡ true
-or_left true b e = refl
-or_left false b e = cc e
-
-or_right : (a b : Bool) → b ≡ true → (a || b) ≡ true
-or_right true b e = refl
-or_right false b e = e
-
 alike_first : (x : Policy) (xs : Policies) (a b : List Key) → Alike (keys_of (more x xs)) a b → Alike (keys x) a b
 alike_first x xs a b same q e =
-    same q (list_any-append (bytes_eq q) (keys x) (keys_of xs) ∙ or_left (signs (keys x) q) (signs (keys_of xs) q) e)
+    same q (list_any-append (bytes_eq q) (keys x) (keys_of xs) ∙ rw e)
 
 alike_rest : (x : Policy) (xs : Policies) (a b : List Key) → Alike (keys_of (more x xs)) a b → Alike (keys_of xs) a b
 alike_rest x xs a b same q e =
-    same q (list_any-append (bytes_eq q) (keys x) (keys_of xs) ∙ or_right (signs (keys x) q) (signs (keys_of xs) q) e)
+    same q (list_any-append (bytes_eq q) (keys x) (keys_of xs) ∙ rw e (or-true (signs (keys x) q)))
 
 mutual
   same_truth : (a b : List Key) (p : Policy) → Alike (keys p) a b → is_true (with_keys a) p ≡ is_true (with_keys b) p
-  same_truth a b never same = refl
-  same_truth a b always same = refl
-  same_truth a b (key k) same = same k (or_left (bytes_eq k k) false (own_key k))
-  same_truth a b (older n) same = refl
-  same_truth a b (after n) same = refl
-  same_truth a b (hash kind value) same = refl
+  same_truth a b (key k) same = same k (rw (own_key k))
   same_truth a b (all parts) same = ap (list_all (λ b. b)) (same_truths a b parts same)
   same_truth a b (any parts) same = ap (list_any (λ b. b)) (same_truths a b parts same)
   same_truth a b (thresh k parts) same = ap (λ bs. nat_le k (how_many bs)) (same_truths a b parts same)
+  same_truth a b p same = refl
 
   same_truths : (a b : List Key) (xs : Policies) → Alike (keys_of xs) a b → truths (with_keys a) xs ≡ truths (with_keys b) xs
   same_truths a b none same = refl

@@ -1,12 +1,13 @@
 -- A simple policy is true where the policy is.
 use Rattle.std.proofs.Common.{◌≡◌, ℕ, ◌+◌, ◌-◌, ◌≤◌, nat_le, Bool, true, false, not, ◌&&◌, ◌||◌, List, [], ◌∷◌, ◌++◌, length, map, filter, flat_map, refl, sym, ◌∙◌, ap, arith}
 use Rattle.std.specs.List.{list_any, list_all}
+use Rattle.std.proofs.Math.Bool.{and-true, and-false, or-true, or-false}
 use Rattle.std.proofs.lemmas.Bool.Decides.{nat_tests}
 use Rattle.std.proofs.lemmas.List.{map-append, length-map}
 use Rattle.std.proofs.lemmas.List.Folds.{list_all-append, list_any-append}
 use Rattle.def_policy.specs.declared.Join.{Join}
 use Rattle.def_policy.specs.declared.Join.TheVariants as join
-use Rattle.def_policy.specs.Policy.{Policy, Policies, never, always, key, older, after, hash, all, any, thresh, none, more, list_of, policies_of}
+use Rattle.def_policy.specs.Policy.{Policy, Policies, never, always, all, any, thresh, none, more, list_of, policies_of}
 use Rattle.def_policy.specs.Simple.{decisive, is_decisive, opened, gathered, joined, is_always, is_never, chosen, threshold, simple, simple_each}
 use Rattle.def_policy.specs.Truth.{Facts, how_many, is_true, truths}
 use Rattle.def_policy.specs.Laws.{SimpleKeepsTruth}
@@ -16,22 +17,6 @@ use Rattle.def_policy.proofs.Joins.{joined_cases, chosen_cases}
 abbrev pub holds : Join → List Bool → Bool
 holds join.All = list_all (λ b. b)
 holds join.Any = list_any (λ b. b)
-
-pub true_and : (b : Bool) → (b && true) ≡ b
-true_and true = refl
-true_and false = refl
-
-pub false_or : (b : Bool) → (b || false) ≡ b
-false_or true = refl
-false_or false = refl
-
-and_false : (b : Bool) → (b && false) ≡ false
-and_false true = refl
-and_false false = refl
-
-or_true : (b : Bool) → (b || true) ≡ true
-or_true true = refl
-or_true false = refl
 
 -- counts and truths
 pub how_many-le : (bs : List Bool) → how_many bs ≤ length bs
@@ -86,8 +71,8 @@ module _ (facts : Facts) where
   gathered_truth : (how : Join) (parts : List Policy) → is_true facts (gathered how parts) ≡ holds how (each parts)
   gathered_truth join.All [] = refl
   gathered_truth join.Any [] = refl
-  gathered_truth join.All (x ∷ []) = sym (true_and (is_true facts x))
-  gathered_truth join.Any (x ∷ []) = sym (false_or (is_true facts x))
+  gathered_truth join.All (x ∷ []) = sym (and-true (is_true facts x))
+  gathered_truth join.Any (x ∷ []) = sym (or-false (is_true facts x))
   gathered_truth join.All (x ∷ y ∷ xs) = ap (list_all (λ b. b)) (truths-policies_of (x ∷ y ∷ xs))
   gathered_truth join.Any (x ∷ y ∷ xs) = ap (list_any (λ b. b)) (truths-policies_of (x ∷ y ∷ xs))
 
@@ -95,9 +80,9 @@ module _ (facts : Facts) where
   decided join.All [] e = cc
   decided join.Any [] e = cc
   decided join.All (never ∷ xs) e = refl
-  decided join.All (x ∷ xs) e = sym (ap (λ b. is_true facts x && b) (sym (decided join.All xs e)) ∙ and_false (is_true facts x))
+  decided join.All (x ∷ xs) e = sym (ap (λ b. is_true facts x && b) (sym (decided join.All xs e)) ∙ and-false (is_true facts x))
   decided join.Any (always ∷ xs) e = refl
-  decided join.Any (x ∷ xs) e = sym (ap (λ b. is_true facts x || b) (sym (decided join.Any xs e)) ∙ or_true (is_true facts x))
+  decided join.Any (x ∷ xs) e = sym (ap (λ b. is_true facts x || b) (sym (decided join.Any xs e)) ∙ or-true (is_true facts x))
 
   pub joined_truth : (how : Join) (parts : List Policy) → is_true facts (joined how parts) ≡ holds how (each parts)
   joined_truth how parts =
@@ -133,15 +118,10 @@ module _ (facts : Facts) where
 
   mutual
     pub truth_kept : (policy : Policy) → is_true facts (simple policy) ≡ is_true facts policy
-    truth_kept never = refl
-    truth_kept always = refl
-    truth_kept (key k) = refl
-    truth_kept (older n) = refl
-    truth_kept (after n) = refl
-    truth_kept (hash kind value) = refl
     truth_kept (all parts) = joined_truth join.All (simple_each parts) ∙ ap (list_all (λ b. b)) (truths_kept parts)
     truth_kept (any parts) = joined_truth join.Any (simple_each parts) ∙ ap (list_any (λ b. b)) (truths_kept parts)
     truth_kept (thresh k parts) = threshold_truth k (simple_each parts) ∙ ap (λ bs. nat_le k (how_many bs)) (truths_kept parts)
+    truth_kept policy = refl
 
     truths_kept : (parts : Policies) → each (simple_each parts) ≡ truths facts parts
     truths_kept none = refl

@@ -15,7 +15,7 @@ use Rattle.def_tree.specs.declared.Two.{Two}
 use Rattle.def_tree.specs.declared.Two.TheVariants as kind
 use Rattle.def_tree.specs.declared.Wrapper.{Wrapper}
 use Rattle.def_tree.specs.declared.Wrapper.TheVariants as wrapper
-use Rattle.def_tree.specs.Tree.{Tree, Trees, Key, just_0, just_1, pk_k, pk_h, older, after, hash, and_or, two, thresh, multi, wrap, none, more}
+use Rattle.def_tree.specs.Tree.{Tree, Trees, Key, pk_h, hash, and_or, two, thresh, wrap, none, more}
 use Rattle.def_assets.specs.Assets.{Assets, known}
 use Rattle.def_tree.specs.Nodes.{all_nodes, nodes_of_all}
 use Rattle.def_satisfaction.specs.StackSet.{StackSet, Is, Both, Either}
@@ -57,7 +57,16 @@ module _ (assets : Assets) (given : Given) (nodes : List Tree) where
   Odd stack = Unknown assets nodes stack ⊎ Other nodes stack
 
   odd_in : (w v : Stack) → ((x : Bytes) → Contains w x → Contains v x) → Odd w → Odd v
-  odd_in w v keep (inl u) = inl (record { kind = u.kind; value = u.value; preimage = u.preimage; fragment = u.fragment; item = keep u.preimage u.item; preimage_of = u.preimage_of; unknown = u.unknown })
+  odd_in w v keep (inl u) = inl (record {
+    kind = u.kind;
+    value = u.value;
+    preimage = u.preimage;
+    fragment = u.fragment;
+    item =
+        keep u.preimage u.item;
+    preimage_of = u.preimage_of;
+    unknown = u.unknown;
+  })
   odd_in w v keep (inr o) = inr (record { key = o.key; other = o.other; fragment = o.fragment; item = keep o.other o.item; form = o.form; hash = o.hash; differs = o.differs })
 
   odd_below : (below above stack : Stack) → stack ≡ above ++ below → Odd below → Odd stack
@@ -73,17 +82,17 @@ module _ (assets : Assets) (given : Given) (nodes : List Tree) where
   plain : (P : StackSet) → Or P P
   plain P stack h = inl h
 
-  both_or : (P P' Q Q' : StackSet) → Or P P' → Or Q Q' → Or (Both P Q) (Both P' Q')
-  both_or P P' Q Q' p q stack (below, above, i, j, e) = go (p below i) (q above j)
+  both_or : {P P' Q Q' : StackSet} → Or P P' → Or Q Q' → Or (Both P Q) (Both P' Q')
+  both_or {P' = P'} {Q' = Q'} p q stack (below, above, i, j, e) = go (p below i) (q above j)
     where
       go : Either P' Odd below → Either Q' Odd above → Either (Both P' Q') Odd stack
       go (inl k) (inl l) = inl (below, above, k, l, e)
       go (inr k) l = inr (odd_below below above stack e k)
       go (inl k) (inr l) = inr (odd_above below above stack e l)
 
-  either_or : (P P' Q Q' : StackSet) → Or P P' → Or Q Q' → Or (Either P Q) (Either P' Q')
-  either_or P P' Q Q' p q stack (inl i) = elim (p stack i) [ inl k ↦ inl (inl k) | inr k ↦ inr k ]
-  either_or P P' Q Q' p q stack (inr i) = elim (q stack i) [ inl k ↦ inl (inr k) | inr k ↦ inr k ]
+  either_or : {P P' Q Q' : StackSet} → Or P P' → Or Q Q' → Or (Either P Q) (Either P' Q')
+  either_or p q stack (inl i) = elim (p stack i) [ inl k ↦ inl (inl k) | inr k ↦ inr k ]
+  either_or p q stack (inr i) = elim (q stack i) [ inl k ↦ inl (inr k) | inr k ↦ inr k ]
 
   abbrev anyone : Setting
   anyone = full given any
@@ -91,8 +100,8 @@ module _ (assets : Assets) (given : Given) (nodes : List Tree) where
   abbrev knower : Setting
   knower = full given (only (known assets))
 
-  extra_or : (P P' : StackSet) → Or P P' → Or (NotCanonical anyone P) (NotCanonical knower P')
-  extra_or P P' p stack h = elim (p stack h.1) [ inl k ↦ inl (h.0, k) | inr k ↦ inr k ]
+  extra_or : {P P' : StackSet} → Or P P' → Or (NotCanonical anyone P) (NotCanonical knower P')
+  extra_or p stack h = elim (p stack h.1) [ inl k ↦ inl (h.0, k) | inr k ↦ inr k ]
 
   record Splits (x y : Row) : Type 0 where
     dsat : Or x.dsat y.dsat
@@ -107,7 +116,8 @@ module _ (assets : Assets) (given : Given) (nodes : List Tree) where
       unknown : (stack : Stack) (x : Bytes) → IsPreimageOf kind value x → stack ≡ x ∷ [] → (known assets kind value ≡ Some x → ⊥) → Odd stack
       unknown stack x p e no_one = inl (record { kind = kind; value = value; preimage = x; fragment = here; item = alone x stack e; preimage_of = p; unknown = no_one })
 
-      same_or : (stack : Stack) (x y : Bytes) → IsPreimageOf kind value x → stack ≡ x ∷ [] → known assets kind value ≡ Some y → (test : Bool) → bytes_eq y x ≡ test → Either (row knower (hash kind value)).sat Odd stack
+      same_or : (stack : Stack) (x y : Bytes) → IsPreimageOf kind value x → stack ≡ x ∷ [] → known assets kind value ≡ Some y → (test : Bool) → bytes_eq y x
+          ≡ test → Either (row knower (hash kind value)).sat Odd stack
       same_or stack x y p e h true t = inl (x, (p, h ∙ ap Some ((bytes_eq-Decides y x).0 t)), e)
       same_or stack x y p e h false t = inr (unknown stack x p e (λ q. differ y x t (same_Some y x (sym h ∙ q))))
 
@@ -128,12 +138,12 @@ module _ (assets : Assets) (given : Given) (nodes : List Tree) where
   pk_h_or key here = record { dsat = key_or key here (λ other. Is EMPTY); sat = key_or key here (λ other. Signature anyone other) }
 
   counted_or : (x y : Row) (P Q : ℕ → StackSet) → Splits x y → ((n : ℕ) → Or (P n) (Q n)) → (n : ℕ) → Or (PartsOf x P n) (PartsOf y Q n)
-  counted_or x y P Q i j n stack (inl h) = elim (both_or (P h.0) (Q h.0) x.sat y.sat (j h.0) i.sat stack h.2) [ inl k ↦ inl (inl (h.0, h.1, k)) | inr k ↦ inr k ]
-  counted_or x y P Q i j n stack (inr h) = elim (both_or (P n) (Q n) x.dsat y.dsat (j n) i.dsat stack h) [ inl k ↦ inl (inr k) | inr k ↦ inr k ]
+  counted_or x y P Q i j n stack (inl h) = elim (both_or (j h.0) i.sat stack h.2) [ inl k ↦ inl (inl (h.0, h.1, k)) | inr k ↦ inr k ]
+  counted_or x y P Q i j n stack (inr h) = elim (both_or (j n) i.dsat stack h) [ inl k ↦ inl (inr k) | inr k ↦ inr k ]
 
   thresh_or : (k : ℕ) (P Q : ℕ → StackSet) → ((n : ℕ) → Or (P n) (Q n)) → Splits (thresh_row anyone k P) (thresh_row knower k Q)
   thresh_or k P Q j = record {
-    dsat = either_or _ _ _ _ (j 0) (extra_or _ _ (λ stack h. elim (j h.0 stack h.3) [ inl i ↦ inl (h.0, h.1, h.2, i) | inr i ↦ inr i ]));
+    dsat = either_or (j 0) (extra_or (λ stack h. elim (j h.0 stack h.3) [ inl i ↦ inl (h.0, h.1, h.2, i) | inr i ↦ inr i ]));
     sat = j k;
   }
 
@@ -162,70 +172,47 @@ module _ (assets : Assets) (given : Given) (nodes : List Tree) where
   wrapped : (wrapper : Wrapper) (x : Tree) → In (all_nodes (wrap wrapper x)) → In (all_nodes x)
   wrapped wrapper x h = left (all_nodes x) (wrap wrapper x ∷ []) h
 
+  two_or : (which : Two) (x y : Tree) → Splits (row anyone x) (row knower x) → Splits (row anyone y) (row knower y) → Splits (row anyone (two which x y)) (row knower (two which x y))
+  two_or kind.AndV x y i j = record { dsat = extra_or (both_or j.dsat i.sat); sat = both_or j.sat i.sat }
+  two_or kind.AndB x y i j = record {
+    dsat = either_or (both_or j.dsat i.dsat) (extra_or (either_or (both_or j.sat i.dsat) (both_or j.dsat i.sat)));
+    sat = both_or j.sat i.sat;
+  }
+  two_or kind.OrB x z i k = record {
+    dsat = both_or k.dsat i.dsat;
+    sat = either_or (both_or k.dsat i.sat) (either_or (both_or k.sat i.dsat) (extra_or (both_or k.sat i.sat)));
+  }
+  two_or kind.OrC x z i k = record { dsat = plain _; sat = either_or i.sat (both_or k.sat i.dsat) }
+  two_or kind.OrD x z i k = record { dsat = both_or k.dsat i.dsat; sat = either_or i.sat (both_or k.sat i.dsat) }
+  two_or kind.OrI x z i k = record {
+    dsat = either_or (both_or i.dsat (plain _)) (both_or k.dsat (plain _));
+    sat = either_or (both_or i.sat (plain _)) (both_or k.sat (plain _));
+  }
+
   mutual
     splits : (tree : Tree) → In (all_nodes tree) → Splits (row anyone tree) (row knower tree)
-    splits just_0 h = record { dsat = plain _; sat = plain _ }
-    splits just_1 h = record { dsat = plain _; sat = plain _ }
-    splits (pk_k key) h = record { dsat = plain _; sat = plain _ }
     splits (pk_h key) h = pk_h_or key (h (pk_h key) (0, omega arith, refl))
-    splits (older n) h = record { dsat = plain _; sat = plain _ }
-    splits (after n) h = record { dsat = plain _; sat = plain _ }
     splits (hash kind value) h = hash_or kind value (h (hash kind value) (0, omega arith, refl))
     splits (and_or x y z) h =
         let i = splits x (left (all_nodes x) (all_nodes y) (two_of_three x y z h)) in
         let j = splits y (right (all_nodes x) (all_nodes y) (two_of_three x y z h)) in
         let k = splits z (right (all_nodes x ++ all_nodes y) (all_nodes z) (three x y z h)) in
         record {
-          dsat = either_or _ _ _ _ (both_or _ _ _ _ k.dsat i.dsat) (extra_or _ _ (both_or _ _ _ _ j.dsat i.sat));
-          sat = either_or _ _ _ _ (both_or _ _ _ _ j.sat i.sat) (both_or _ _ _ _ k.sat i.dsat);
+          dsat = either_or (both_or k.dsat i.dsat) (extra_or (both_or j.dsat i.sat));
+          sat = either_or (both_or j.sat i.sat) (both_or k.sat i.dsat);
         }
-    splits (two kind.AndV x y) h =
-        let i = splits x (two_x kind.AndV x y h) in
-        let j = splits y (two_y kind.AndV x y h) in
-        record { dsat = extra_or _ _ (both_or _ _ _ _ j.dsat i.sat); sat = both_or _ _ _ _ j.sat i.sat }
-    splits (two kind.AndB x y) h =
-        let i = splits x (two_x kind.AndB x y h) in
-        let j = splits y (two_y kind.AndB x y h) in
-        record {
-          dsat = either_or _ _ _ _ (both_or _ _ _ _ j.dsat i.dsat) (extra_or _ _ (either_or _ _ _ _ (both_or _ _ _ _ j.sat i.dsat) (both_or _ _ _ _ j.dsat i.sat)));
-          sat = both_or _ _ _ _ j.sat i.sat;
-        }
-    splits (two kind.OrB x z) h =
-        let i = splits x (two_x kind.OrB x z h) in
-        let k = splits z (two_y kind.OrB x z h) in
-        record {
-          dsat = both_or _ _ _ _ k.dsat i.dsat;
-          sat = either_or _ _ _ _ (both_or _ _ _ _ k.dsat i.sat) (either_or _ _ _ _ (both_or _ _ _ _ k.sat i.dsat) (extra_or _ _ (both_or _ _ _ _ k.sat i.sat)));
-        }
-    splits (two kind.OrC x z) h =
-        let i = splits x (two_x kind.OrC x z h) in
-        let k = splits z (two_y kind.OrC x z h) in
-        record { dsat = plain _; sat = either_or _ _ _ _ i.sat (both_or _ _ _ _ k.sat i.dsat) }
-    splits (two kind.OrD x z) h =
-        let i = splits x (two_x kind.OrD x z h) in
-        let k = splits z (two_y kind.OrD x z h) in
-        record { dsat = both_or _ _ _ _ k.dsat i.dsat; sat = either_or _ _ _ _ i.sat (both_or _ _ _ _ k.sat i.dsat) }
-    splits (two kind.OrI x z) h =
-        let i = splits x (two_x kind.OrI x z h) in
-        let k = splits z (two_y kind.OrI x z h) in
-        record {
-          dsat = either_or _ _ _ _ (both_or _ _ _ _ i.dsat (plain _)) (both_or _ _ _ _ k.dsat (plain _));
-          sat = either_or _ _ _ _ (both_or _ _ _ _ i.sat (plain _)) (both_or _ _ _ _ k.sat (plain _));
-        }
+    splits (two which x y) h = two_or which x y (splits x (two_x which x y h)) (splits y (two_y which x y h))
     splits (thresh k xs) h = thresh_or k _ _ (parts_or xs (left (nodes_of_all xs) (thresh k xs ∷ []) h))
-    splits (multi k keys) h = record { dsat = plain _; sat = plain _ }
-    splits (wrap wrapper.A x) h = splits x (wrapped wrapper.A x h)
-    splits (wrap wrapper.S x) h = splits x (wrapped wrapper.S x h)
-    splits (wrap wrapper.C x) h = splits x (wrapped wrapper.C x h)
-    splits (wrap wrapper.D x) h = let i = splits x (wrapped wrapper.D x h) in record { dsat = plain _; sat = both_or _ _ _ _ i.sat (plain _) }
+    splits (wrap wrapper.D x) h = let i = splits x (wrapped wrapper.D x h) in record { dsat = plain _; sat = both_or i.sat (plain _) }
     splits (wrap wrapper.V x) h = let i = splits x (wrapped wrapper.V x h) in record { dsat = plain _; sat = i.sat }
     splits (wrap wrapper.J x) h =
         let i = splits x (wrapped wrapper.J x h) in
         record {
-          dsat = either_or _ _ _ _ (plain _) (extra_or _ _ (λ stack g. elim (i.dsat stack g.1) [ inl k ↦ inl (g.0, k) | inr k ↦ inr k ]));
+          dsat = either_or (plain _) (extra_or (λ stack g. elim (i.dsat stack g.1) [ inl k ↦ inl (g.0, k) | inr k ↦ inr k ]));
           sat = i.sat;
         }
-    splits (wrap wrapper.N x) h = splits x (wrapped wrapper.N x h)
+    splits (wrap letter x) h = splits x (wrapped letter x h)
+    splits tree h = record { dsat = plain _; sat = plain _ }
 
     parts_or : (xs : Trees) → In (nodes_of_all xs) → (n : ℕ) → Or (parts anyone xs n) (parts knower xs n)
     parts_or none h n = plain _

@@ -1,3 +1,3 @@
-mod Computed
+mod OnLiterals
 pub mod Reading
 mod Writing

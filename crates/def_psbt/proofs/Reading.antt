@@ -19,6 +19,7 @@ use Rattle.def_psbt.specs.Map.{Pair, Map, Psbt, pair_text, map_text, magic, psbt
 use Rattle.def_psbt.specs.Listed.{Form, global_form, input_form, output_form, pair_fault}
 use Rattle.def_psbt.specs.Reading.{◌>>=◌, placed, size_at, bytes_at, string_at, pair_at, tested, sound_pair_at, pairs_at, map_at, maps_at, transaction_in, transaction_or, ended, read_psbt}
 use Rattle.def_psbt.specs.Laws.{IsSoundMap, IsSound, ReadIsWritten}
+use Rattle.def_psbt.proofs.Writing.{map_cons}
 
 bind_ok : {A B : Type 0} (r : Result A Refusal) (f : A → Result B Refusal) (y : B) → (r >>= f) ≡ Ok y → (x : A) × (r ≡ Ok x) × (f x ≡ Ok y)
 bind_ok (Ok x) f y e = (x, refl, e)
@@ -87,9 +88,6 @@ tested_ok : (o : Option PsbtFault) (at : ℕ) (read x : Pair × ℕ) → tested 
 tested_ok None at read x e = (refl, ok_is read x e)
 tested_ok (Some fault) at read x e = absurd cc
 
-map_cons : (pair : Pair) (map : Map) → map_text (pair ∷ map) ≡ pair_text pair ++ map_text map
-map_cons pair map = ap (λ (x : Bytes). x ++ 0x00 ∷ []) (flat_map-cons pair_text pair map) ∙ append_assoc (pair_text pair) (flat_map pair_text map) (0x00 ∷ [])
-
 -- pairs that were read stand there, and have nothing wrong
 pub pairs_from : (forms : ℕ → Form) (psbt : Bytes) (room : ℕ) (before : Map) (at : ℕ) (read : Map × ℕ) → IsBytes psbt → length psbt < 2 ^ 64 → pairs_at forms psbt room before at ≡ Ok read
     → From psbt at (map_text read.0) read.1 × IsSoundMap forms before read.0
@@ -128,7 +126,8 @@ maps_from : (forms : ℕ → Form) (psbt : Bytes) (count : ℕ) (at : ℕ) (read
     → From psbt at (flat_map map_text read.0) read.1 × AllByRecursion (λ map. IsSoundMap forms [] map) read.0 × (length read.0 ≡ count)
 unfolding maps_at
 maps_from forms psbt zero at read fits small e =
-    subst (λ (r : List Map × ℕ). From psbt at (flat_map map_text r.0) r.1 × AllByRecursion (λ map. IsSoundMap forms [] map) r.0 × (length r.0 ≡ 0)) (ok_is ([], at) read e) (record { parts = refl }, tt, refl)
+    subst (λ (r : List Map × ℕ). From psbt at (flat_map map_text r.0) r.1 × AllByRecursion (λ map. IsSoundMap forms [] map) r.0 × (length r.0 ≡ 0))
+    (ok_is ([], at) read e) (record { parts = refl }, tt, refl)
 maps_from forms psbt (suc count) at read fits small e =
     let m = bind_ok (map_at forms psbt at) (λ map. maps_at forms psbt count map.1 >>= λ maps. Ok (map.0 ∷ maps.0, maps.1)) read e in
     let r = bind_ok (maps_at forms psbt count m.0.1) (λ maps. Ok (m.0.0 ∷ maps.0, maps.1)) read m.2 in
@@ -158,7 +157,8 @@ read_is_written bytes psbt fits size begins e =
     >>= λ outputs. ended bytes outputs.1 (record { global = g.0.0; transaction = transaction; inputs = inputs.0; outputs = outputs.0 })) psbt g.2 in
     let i = bind_ok (maps_at input_form bytes (length t.0.inputs) g.0.1) (λ inputs. maps_at output_form bytes (length t.0.outputs) inputs.1
     >>= λ outputs. ended bytes outputs.1 (record { global = g.0.0; transaction = t.0; inputs = inputs.0; outputs = outputs.0 })) psbt t.2 in
-    let o = bind_ok (maps_at output_form bytes (length t.0.outputs) i.0.1) (λ outputs. ended bytes outputs.1 (record { global = g.0.0; transaction = t.0; inputs = i.0.0; outputs = outputs.0 })) psbt i.2 in
+    let o = bind_ok (maps_at output_form bytes (length t.0.outputs) i.0.1)
+    (λ outputs. ended bytes outputs.1 (record { global = g.0.0; transaction = t.0; inputs = i.0.0; outputs = outputs.0 })) psbt i.2 in
     let made : Psbt = record { global = g.0.0; transaction = t.0; inputs = i.0.0; outputs = o.0.0 } in
     let end = ended_ok bytes o.0.1 made psbt o.2 in
     let global = pairs_from global_form bytes (suc (length bytes)) [] 5 g.0 fits small g.1 in
@@ -169,7 +169,8 @@ read_is_written bytes psbt fits size begins e =
     let nothing : drop o.0.1 bytes ≡ [] = drop_all o.0.1 bytes end.0 in
     let front : take 5 bytes ≡ magic = (bytes_eq-Decides (take 5 bytes) magic).0 begins in
     let tail : drop 5 bytes ≡ map_text g.0.0 ++ (flat_map map_text i.0.0 ++ flat_map map_text o.0.0) =
-    maps.parts ∙ ap (λ (x : Bytes). (map_text g.0.0 ++ (flat_map map_text i.0.0 ++ flat_map map_text o.0.0)) ++ x) nothing ∙ append-nil (map_text g.0.0 ++ (flat_map map_text i.0.0 ++ flat_map map_text o.0.0)) in
+    maps.parts ∙ ap (λ (x : Bytes). (map_text g.0.0 ++ (flat_map map_text i.0.0 ++ flat_map map_text o.0.0)) ++ x) nothing
+    ∙ append-nil (map_text g.0.0 ++ (flat_map map_text i.0.0 ++ flat_map map_text o.0.0)) in
     let text : bytes ≡ psbt_text g.0.0 i.0.0 o.0.0 =
     sym (take-append-drop 5 bytes) ∙ ap (λ (x : Bytes). x ++ drop 5 bytes) front ∙ ap (λ (x : Bytes). magic ++ x) tail in
     subst (λ (p : Psbt). IsSound p × (bytes ≡ psbt_text p.global p.inputs p.outputs)) end.1 (

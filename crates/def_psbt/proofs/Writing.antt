@@ -85,7 +85,7 @@ some_key forms before pair e none = go (stands pair.key before) pair.key none e
     go false [] z e = cc
     go false (x ∷ key) z e = omega arith
 
-map_cons : (pair : Pair) (map : Map) → map_text (pair ∷ map) ≡ pair_text pair ++ map_text map
+pub map_cons : (pair : Pair) (map : Map) → map_text (pair ∷ map) ≡ pair_text pair ++ map_text map
 map_cons pair map = ap (λ (x : Bytes). x ++ 0x00 ∷ []) (flat_map-cons pair_text pair map) ∙ append_assoc (pair_text pair) (flat_map pair_text map) (0x00 ∷ [])
 
 some_size : (n : ℕ) → 1 ≤ length (size_bytes n)
@@ -105,7 +105,8 @@ some_size n =
 few_pairs : (map : Map) → length map ≤ length (flat_map pair_text map)
 few_pairs [] = omega arith
 few_pairs (pair ∷ map) =
-    let long : length (flat_map pair_text (pair ∷ map)) ≡ length (pair_text pair) + length (flat_map pair_text map) = ap length (flat_map-cons pair_text pair map) ∙ length-append (pair_text pair) (flat_map pair_text map) in
+    let long : length (flat_map pair_text (pair ∷ map)) ≡ length (pair_text pair) + length (flat_map pair_text map) =
+    ap length (flat_map-cons pair_text pair map) ∙ length-append (pair_text pair) (flat_map pair_text map) in
     let key : length (pair_text pair) ≡ length (sized pair.key) + length (sized pair.value) = length-append (sized pair.key) (sized pair.value) in
     let size : length (sized pair.key) ≡ length (size_bytes (length pair.key)) + length pair.key = length-append (size_bytes (length pair.key)) pair.key in
     omega (arith, some_size (length pair.key), few_pairs map)
@@ -118,16 +119,19 @@ pairs_here forms psbt [] (suc room) before at rest h sound less =
     let size : size_at psbt at ≡ Ok (0, at + 1) = zero_here psbt at rest h in
     rw size refl
 pairs_here forms psbt (pair ∷ map) (suc room) before at rest h sound less =
-    let first : Here psbt at (pair_text pair ++ (map_text map ++ rest)) = subst (Here psbt at) (ap (λ (x : Bytes). x ++ rest) (map_cons pair map) ∙ append_assoc (pair_text pair) (map_text map) rest) h in
+    let first : Here psbt at (pair_text pair ++ (map_text map ++ rest)) =
+    subst (Here psbt at) (ap (λ (x : Bytes). x ++ rest) (map_cons pair map) ∙ append_assoc (pair_text pair) (map_text map) rest) h in
     let fault = sound.0.fault in
     let size = key_size_here psbt at pair (map_text map ++ rest) first sound.0.key in
     let some : (length pair.key == 0) ≡ false = ne_eqb _ _ (some_key forms before pair fault) in
     let read = pair_here psbt at pair (map_text map ++ rest) first sound.0.key sound.0.value in
     let others = pairs_here forms psbt map room (before ++ pair ∷ []) (at + length (pair_text pair)) rest (next psbt at (pair_text pair) (map_text map ++ rest) first) sound.1 (omega arith) in
-    let long : at + length (pair_text pair) + length (map_text map) ≡ at + length (map_text (pair ∷ map)) = omega (arith, ap length (map_cons pair map), length-append (pair_text pair) (map_text map)) in
+    let long : at + length (pair_text pair) + length (map_text map)
+    ≡ at + length (map_text (pair ∷ map)) = omega (arith, ap length (map_cons pair map), length-append (pair_text pair) (map_text map)) in
     rw (size, some, read, fault, others) (ap (λ (n : ℕ). let y : Read Map = Ok (pair ∷ map, n) in y) long)
 
-map_here : (forms : ℕ → Form) (psbt : Bytes) (map : Map) (at : ℕ) (rest : Bytes) → Here psbt at (map_text map ++ rest) → IsSoundMap forms [] map → map_at forms psbt at ≡ Ok (map, at + length (map_text map))
+map_here : (forms : ℕ → Form) (psbt : Bytes) (map : Map) (at : ℕ) (rest : Bytes) → Here psbt at (map_text map ++ rest) → IsSoundMap forms [] map
+    → map_at forms psbt at ≡ Ok (map, at + length (map_text map))
 map_here forms psbt map at rest h sound =
     let after = next psbt at (map_text map) rest h in
     let inside = after.inside in
@@ -140,10 +144,12 @@ unfolding maps_at
 maps_here forms psbt [] at rest h sound = let none : at + 0 ≡ at = omega arith in ap (λ (n : ℕ). let y : Read (List Map) = Ok ([], n) in y) (sym none)
 maps_here forms psbt (map ∷ maps) at rest h sound =
     let cons : flat_map map_text (map ∷ maps) ≡ map_text map ++ flat_map map_text maps = flat_map-cons map_text map maps in
-    let first : Here psbt at (map_text map ++ (flat_map map_text maps ++ rest)) = subst (Here psbt at) (ap (λ (x : Bytes). x ++ rest) cons ∙ append_assoc (map_text map) (flat_map map_text maps) rest) h in
+    let first : Here psbt at (map_text map ++ (flat_map map_text maps ++ rest)) =
+    subst (Here psbt at) (ap (λ (x : Bytes). x ++ rest) cons ∙ append_assoc (map_text map) (flat_map map_text maps) rest) h in
     let read = map_here forms psbt map at (flat_map map_text maps ++ rest) first sound.0 in
     let others = maps_here forms psbt maps (at + length (map_text map)) rest (next psbt at (map_text map) (flat_map map_text maps ++ rest) first) sound.1 in
-    let long : at + length (map_text map) + length (flat_map map_text maps) ≡ at + length (flat_map map_text (map ∷ maps)) = omega (arith, ap length cons, length-append (map_text map) (flat_map map_text maps)) in
+    let long : at + length (map_text map) + length (flat_map map_text maps)
+    ≡ at + length (flat_map map_text (map ∷ maps)) = omega (arith, ap length cons, length-append (map_text map) (flat_map map_text maps)) in
     rw (read, others) (ap (λ (n : ℕ). let y : Read (List Map) = Ok (map ∷ maps, n) in y) long)
 
 pub written_is_read_back : WrittenIsReadBack
@@ -157,11 +163,13 @@ written_is_read_back psbt sound =
     let global = map_here global_form text psbt.global 5 (inputs_text ++ outputs_text) start sound.global in
     let at_inputs = next text 5 (map_text psbt.global) (inputs_text ++ outputs_text) start in
     let inputs = maps_here input_form text psbt.inputs (5 + length (map_text psbt.global)) outputs_text at_inputs (recursion_from_All (λ map. IsSoundMap input_form [] map) psbt.inputs sound.inputs) in
-    let inputs_are : maps_at input_form text (length psbt.transaction.inputs) (5 + length (map_text psbt.global)) ≡ Ok (psbt.inputs, 5 + length (map_text psbt.global) + length (flat_map map_text psbt.inputs)) =
+    let inputs_are : maps_at input_form text (length psbt.transaction.inputs) (5 + length (map_text psbt.global))
+    ≡ Ok (psbt.inputs, 5 + length (map_text psbt.global) + length (flat_map map_text psbt.inputs)) =
     ap (λ (n : ℕ). maps_at input_form text n (5 + length (map_text psbt.global))) (sym sound.each_input) ∙ inputs in
     let at_outputs : Here (psbt_text psbt.global psbt.inputs psbt.outputs) (5 + length (map_text psbt.global) + length (flat_map map_text psbt.inputs)) (flat_map map_text psbt.outputs ++ []) =
     subst (Here text (5 + length (map_text psbt.global) + length inputs_text)) (sym (append-nil outputs_text)) (next text (5 + length (map_text psbt.global)) inputs_text outputs_text at_inputs) in
-    let outputs = maps_here output_form text psbt.outputs (5 + length (map_text psbt.global) + length inputs_text) [] at_outputs (recursion_from_All (λ map. IsSoundMap output_form [] map) psbt.outputs sound.outputs) in
+    let outputs = maps_here output_form text psbt.outputs (5 + length (map_text psbt.global) + length inputs_text) [] at_outputs
+    (recursion_from_All (λ map. IsSoundMap output_form [] map) psbt.outputs sound.outputs) in
     let outputs_are : maps_at output_form text (length psbt.transaction.outputs) (5 + length (map_text psbt.global) + length inputs_text)
     ≡ Ok (psbt.outputs, 5 + length (map_text psbt.global) + length (flat_map map_text psbt.inputs) + length (flat_map map_text psbt.outputs)) =
     ap (λ (n : ℕ). maps_at output_form text n (5 + length (map_text psbt.global) + length inputs_text)) (sym sound.each_output) ∙ outputs in
@@ -169,5 +177,6 @@ written_is_read_back psbt sound =
     let nothing : length text - (5 + length (map_text psbt.global) + length inputs_text + length outputs_text) ≡ 0 = sym (length-drop _ text) ∙ ap length at_end.rest in
     let ended : nat_lt (length text) (length text) ≡ false = le-ltb _ _ (omega arith) in
     let transaction = sound.transaction in
-    let last : nat_lt (5 + length (map_text psbt.global) + length (flat_map map_text psbt.inputs) + length (flat_map map_text psbt.outputs)) (length (psbt_text psbt.global psbt.inputs psbt.outputs)) ≡ false = le-ltb _ _ (omega arith) in
+    let last : nat_lt (5 + length (map_text psbt.global) + length (flat_map map_text psbt.inputs) + length (flat_map map_text psbt.outputs))
+    (length (psbt_text psbt.global psbt.inputs psbt.outputs)) ≡ false = le-ltb _ _ (omega arith) in
     rw (global, transaction, inputs_are, outputs_are, last) refl

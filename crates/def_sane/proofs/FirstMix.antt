@@ -1,7 +1,8 @@
 -- The first node that mixes.
 use Rattle.std.specs.Option.{option_or}
-use Rattle.std.proofs.Common.{◌++◌, length, ◌≡◌, ℕ, zero, suc, ◌+◌, ◌<◌, Bool, true, false, cond, List, [], ◌∷◌, Option, Some, None, slice_get, refl, sym, ◌∙◌, ap, arith, subst, MatchOption}
+use Rattle.std.proofs.Common.{inl, inr, ◌++◌, length, ◌≡◌, ℕ, zero, suc, ◌+◌, ◌<◌, Bool, true, false, cond, List, [], ◌∷◌, Option, Some, None, slice_get, refl, sym, ◌∙◌, ap, arith, subst, MatchOption}
 use Rattle.std.specs.List.{position_from}
+use Rattle.std.proofs.lemmas.Bool.{cases_Bool}
 use Rattle.def_tree.specs.Nodes.{all_nodes}
 use Rattle.def_sane.specs.Locks.{Mixes, mixes, mix}
 use Rattle.def_sane.specs.Laws.{MixIsFirst}
@@ -12,12 +13,8 @@ NonePasses {X} p xs = (k : ℕ) (y : X) → slice_get xs k ≡ Some y → p y �
 
 none_passes : {X : Type 0} (p : X → Bool) (i : ℕ) (xs : List X) → position_from p i xs ≡ None → NonePasses p xs
 none_passes p i [] e k y h = cc
-none_passes {X} p i (x ∷ xs) e k y h = go (p x) refl (none_passes p (i + 1) xs) e k h
-  where
-    go : (b : Bool) → p x ≡ b → (position_from p (i + 1) xs ≡ None → NonePasses p xs) → cond b (Some i) (position_from p (i + 1) xs) ≡ None → (k : ℕ) → slice_get (x ∷ xs) k ≡ Some y → p y ≡ false
-    go true q rest e k h = cc
-    go false q rest e zero h = let s : x ≡ y = cc in sym (ap p s) ∙ q
-    go false q rest e (suc k) h = rest e k y h
+none_passes p i (x ∷ xs) e zero y h = elim (cases_Bool (p x)) [ inl q ↦ (let f = rw q at e in cc) | inr q ↦ (let s : x ≡ y = cc in sym (ap p s) ∙ q) ]
+none_passes p i (x ∷ xs) e (suc k) y h = elim (cases_Bool (p x)) [ inl q ↦ (let f = rw q at e in cc) | inr q ↦ none_passes p (i + 1) xs (rw q at e) k y h ]
 
 -- the element at k passes, and none before it
 abbrev FirstPasses : {X : Type 0} (p : X → Bool) → List X → ℕ → Type 0
@@ -29,7 +26,8 @@ first_passes : {X : Type 0} (p : X → Bool) (i : ℕ) (xs : List X) (n : ℕ) �
 first_passes p i [] n e = cc
 first_passes {X} p i (x ∷ xs) n e = go (p x) refl (first_passes p (i + 1) xs n) e
   where
-    go : (b : Bool) → p x ≡ b → (position_from p (i + 1) xs ≡ Some n → (k : ℕ) × (n ≡ i + 1 + k) × FirstPasses p xs k) → cond b (Some i) (position_from p (i + 1) xs) ≡ Some n → (k : ℕ) × (n ≡ i + k) × FirstPasses p (x ∷ xs) k
+    go : (b : Bool) → p x ≡ b → (position_from p (i + 1) xs ≡ Some n → (k : ℕ) × (n ≡ i + 1 + k) × FirstPasses p xs k)
+        → cond b (Some i) (position_from p (i + 1) xs) ≡ Some n → (k : ℕ) × (n ≡ i + k) × FirstPasses p (x ∷ xs) k
     go true q rest e = (0, let s : i ≡ n = cc in omega arith, ((x, refl, q), λ m y below h. absurd (omega arith)))
     go false q rest e =
         let r = rest e in
@@ -45,7 +43,9 @@ pub position_from-append : {X : Type 0} (p : X → Bool) (i : ℕ) (xs ys : List
 position_from-append p i [] ys = let e : i + 0 ≡ i = omega arith in rw e
 position_from-append {X} p i (x ∷ xs) ys = go (p x) (position_from-append p (i + 1) xs ys)
   where
-    go : (b : Bool) → position_from p (i + 1) (xs ++ ys) ≡ option_or (position_from p (i + 1) xs) (position_from p (i + 1 + length xs) ys) → cond b (Some i) (position_from p (i + 1) (xs ++ ys)) ≡ option_or (cond b (Some i) (position_from p (i + 1) xs)) (position_from p (i + suc (length xs)) ys)
+    go : (b : Bool) → position_from p (i + 1) (xs ++ ys) ≡ option_or (position_from p (i + 1) xs) (position_from p (i + 1 + length xs) ys)
+        → cond b (Some i) (position_from p (i + 1) (xs ++ ys))
+        ≡ option_or (cond b (Some i) (position_from p (i + 1) xs)) (position_from p (i + suc (length xs)) ys)
     go true rest = refl
     go false rest = let e : i + 1 + length xs ≡ i + suc (length xs) = omega arith in rw (← e) rest
 

@@ -1,18 +1,33 @@
 -- No key is repeated exactly where all keys are distinct.
-use Rattle.std.proofs.Common.{◌≡◌, ◌↔◌, ℕ, ◌+◌, ◌<◌, Bool, true, false, ◌||◌, List, [], ◌∷◌, ◌++◌, Some, None, Contains, refl, sym, subst, ◌⊎◌, inl, inr, arith, append_assoc, if◌then◌else◌}
+use Rattle.std.proofs.Common.{◌≡◌, ◌++◌, refl, ◌↔◌, ℕ, ◌+◌, ◌<◌, Bool, true, false, List, [], ◌∷◌, Some, None, Contains, sym, subst, ◌⊎◌, inl, inr, arith, append_assoc, if◌then◌else◌}
+use Rattle.std.specs.List.{flat_map, list_any}
+use Rattle.std.proofs.lemmas.Bool.{cases_Bool}
+use Rattle.std.proofs.lemmas.Grind.{flat_map-append}
+use Rattle.std.proofs.lemmas.List.{append-nil}
+use Rattle.def_tree.specs.Tree.{Tree, Trees, and_or, two, thresh, multi, wrap, none, more, Key}
+use Rattle.def_tree.specs.Nodes.{all_nodes, nodes_of_all}
+use Rattle.def_sane.specs.Keys.{keys, keys_of_all, own_keys, repeats, repeated_from, AreDistinct}
 use Rattle.std.specs.Prelude.{⊤}
 use Rattle.std.specs.Str.{bytes_eq}
-use Rattle.std.specs.List.{list_any, flat_map}
-use Rattle.std.proofs.lemmas.List.{append-nil}
 use Rattle.std.proofs.lemmas.List.Elements.{Contains-append_left, Contains-append_right, Contains-append_cases, Contains-push, Contains-push_cases}
 use Rattle.std.proofs.lemmas.Map.Views.{list_any-from_Contains, Contains-from_any}
 use Rattle.std.proofs.lemmas.Slice.Eq.{bytes_eq-Decides}
 use Rattle.std.proofs.lemmas.Cmp.{nat_list_eq_equiv}
-use Rattle.def_tree.specs.Tree.{Tree, Key}
-use Rattle.def_tree.specs.Nodes.{all_nodes}
-use Rattle.def_sane.specs.Keys.{keys, own_keys, repeats, repeated_from, AreDistinct}
 use Rattle.def_sane.specs.Laws.{NoneIsRepeated}
-use Rattle.def_sane.proofs.NodeLists.{keys_of_nodes}
+
+-- the keys of a tree are those of its nodes, in their order
+mutual
+  pub keys_of_nodes : (t : Tree) → flat_map own_keys (all_nodes t) ≡ keys t
+  keys_of_nodes (and_or x y z) = simp (flat_map-append, keys_of_nodes x, keys_of_nodes y, keys_of_nodes z) (append-nil (keys x ++ keys y ++ keys z))
+  keys_of_nodes (two kind x y) = simp (flat_map-append, keys_of_nodes x, keys_of_nodes y) (append-nil (keys x ++ keys y))
+  keys_of_nodes (thresh k xs) = simp (flat_map-append, keys_of_node_list xs) (append-nil (keys_of_all xs))
+  keys_of_nodes (multi k own) = append-nil own
+  keys_of_nodes (wrap wrapper x) = simp (flat_map-append, keys_of_nodes x) (append-nil (keys x))
+  keys_of_nodes tree = refl
+
+  pub keys_of_node_list : (xs : Trees) → flat_map own_keys (nodes_of_all xs) ≡ keys_of_all xs
+  keys_of_node_list none = refl
+  keys_of_node_list (more x xs) = simp (flat_map-append, keys_of_nodes x, keys_of_node_list xs)
 
 -- no key of the list stands before, or earlier in the list
 abbrev pub Free : List Key → List Key → Type 0
@@ -24,19 +39,16 @@ not_found : (key : Key) (before : List Key) → list_any (bytes_eq key) before �
 not_found key before e h = let f = list_any-from_Contains nat_list_eq_equiv key before h in cc
 
 not_there : (key : Key) (before : List Key) → ¬ Contains before key → list_any (bytes_eq key) before ≡ false
-not_there key before h = go (list_any (bytes_eq key) before) refl
-  where
-    go : (b : Bool) → list_any (bytes_eq key) before ≡ b → b ≡ false
-    go true e = absurd (h (Contains-from_any (λ x y. (bytes_eq-Decides x y).0) key before e))
-    go false e = refl
+not_there key before h =
+    elim (cases_Bool (list_any (bytes_eq key) before)) [ inl e ↦ absurd (h (Contains-from_any (λ x y. (bytes_eq-Decides x y).0) key before e)) | inr e ↦ e ]
 
 pub free_from_test : (before own : List Key) → repeats before own ≡ false → Free before own
 free_from_test before [] e = tt
-free_from_test before (key ∷ rest) e = go (list_any (bytes_eq key) before) refl (free_from_test (before ++ key ∷ []) rest) e
-  where
-    go : (b : Bool) → list_any (bytes_eq key) before ≡ b → (repeats (before ++ key ∷ []) rest ≡ false → Free (before ++ key ∷ []) rest) → (b || repeats (before ++ key ∷ []) rest) ≡ false → Free before (key ∷ rest)
-    go true q rest_free e = cc
-    go false q rest_free e = (not_found key before q, rest_free e)
+free_from_test before (key ∷ rest) e =
+    elim (cases_Bool (list_any (bytes_eq key) before)) [
+      | inl q ↦ (let f = rw q at e in cc)
+      | inr q ↦ (not_found key before q, free_from_test (before ++ key ∷ []) rest (rw q at e))
+    ]
 
 test_from_free : (before own : List Key) → Free before own → repeats before own ≡ false
 test_from_free before [] h = refl
@@ -56,7 +68,9 @@ free_from_none : (first : ℕ) (before : List Key) (nodes : List Tree) → repea
 free_from_none first before [] e = tt
 free_from_none first before (t ∷ nodes) e = go (repeats before (own_keys t)) refl (free_from_none (first + 1) (before ++ own_keys t) nodes) e
   where
-    go : (b : Bool) → repeats before (own_keys t) ≡ b → (repeated_from (first + 1) (before ++ own_keys t) nodes ≡ None → Free (before ++ own_keys t) (flat_map own_keys nodes)) → (if b then Some first else repeated_from (first + 1) (before ++ own_keys t) nodes) ≡ None → Free before (own_keys t ++ flat_map own_keys nodes)
+    go : (b : Bool) → repeats before (own_keys t) ≡ b → (repeated_from (first + 1) (before ++ own_keys t) nodes ≡ None
+        → Free (before ++ own_keys t) (flat_map own_keys nodes)) → (if b then Some first else repeated_from (first + 1) (before ++ own_keys t) nodes) ≡ None
+        → Free before (own_keys t ++ flat_map own_keys nodes)
     go true q rest e = cc
     go false q rest e = (free-append before (own_keys t) (flat_map own_keys nodes)).1 (free_from_test before (own_keys t) q, rest e)
 
@@ -68,20 +82,20 @@ none_from_free first before (t ∷ nodes) h =
 
 -- the first of a list, or one of the rest
 first_or_rest : (k : Key) (ks : List Key) (key : Key) → Contains (k ∷ ks) key → (k ≡ key) ⊎ Contains ks key
-first_or_rest k ks key c = go (Contains-append_cases (k ∷ []) ks key c)
-  where
-    go : Contains (k ∷ []) key ⊎ Contains ks key → (k ≡ key) ⊎ Contains ks key
-    go (inl at) = elim (Contains-push_cases [] k key at) [ inl none ↦ absurd (let p : none.0 < 0 = none.1 in omega arith) | inr same ↦ inl same ]
-    go (inr in_rest) = inr in_rest
+first_or_rest k ks key c =
+    elim (Contains-append_cases (k ∷ []) ks key c) [
+      | inl at ↦ elim (Contains-push_cases [] k key at) [ inl empty ↦ absurd (let p : empty.0 < 0 = empty.1 in omega arith) | inr same ↦ inl same ]
+      | inr later ↦ inr later
+    ]
 
 -- a list that is free of what stands before has none of it, and is distinct
 apart_from_free : (before ks : List Key) → Free before ks → (key : Key) → Contains ks key → ¬ Contains before key
 apart_from_free before [] h key c d = absurd (let p : c.0 < 0 = c.1 in omega arith)
-apart_from_free before (k ∷ ks) h key c d = go (first_or_rest k ks key c) (apart_from_free (before ++ k ∷ []) ks h.1 key)
-  where
-    go : (k ≡ key) ⊎ Contains ks key → (Contains ks key → ¬ Contains (before ++ k ∷ []) key) → ⊥
-    go (inl same) rest = h.0 (subst (λ l. Contains before l) (sym same) d)
-    go (inr in_rest) rest = rest in_rest (Contains-append_left before (k ∷ []) key d)
+apart_from_free before (k ∷ ks) h key c d =
+    elim (first_or_rest k ks key c) [
+      | inl same ↦ h.0 (subst (λ l. Contains before l) (sym same) d)
+      | inr later ↦ apart_from_free (before ++ k ∷ []) ks h.1 key later (Contains-append_left before (k ∷ []) key d)
+    ]
 
 distinct_from_free : (before ks : List Key) → Free before ks → AreDistinct ks
 distinct_from_free before [] h = tt

@@ -1,12 +1,5 @@
-pub mod MostOf
 pub mod Greatest
-pub mod NodeLists
 pub mod FirstMix
 pub mod FirstRepeat
 pub mod Repeating
 pub mod Meanings
-pub mod Computed
-pub mod Refused
-pub mod Allowed
-pub mod FirstNodes
-pub mod Translated

@@ -1,6 +1,6 @@
 -- What it means that none of the reasons applies.
-use Rattle.std.proofs.Common.{◌≡◌, ◌↔◌, ℕ, ◌≤◌, Bool, true, false, nat_lt, List, ◌∷◌, Option, Some, None, Result, Ok, Err, IsTrue, refl, sym, ◌∙◌, ap, subst, if◌then◌else◌, arith}
-use Rattle.std.proofs.lemmas.Bool.{ltb-false, le-ltb}
+use Rattle.std.proofs.Common.{inl, inr, ◌≡◌, ◌↔◌, ℕ, ◌≤◌, true, false, nat_lt, List, ◌∷◌, Option, Some, None, Result, Ok, Err, IsTrue, refl, sym, ◌∙◌, ap, subst, if◌then◌else◌, arith}
+use Rattle.std.proofs.lemmas.Bool.{cases_Bool, ltb-false, le-ltb}
 use Rattle.def_tree.specs.Tree.{Tree}
 use Rattle.def_types.specs.declared.Base.{Base}
 use Rattle.def_types.specs.declared.Base.TheVariants.{B, V, K, W}
@@ -33,11 +33,7 @@ none_first o rest e f = rw e f
 
 -- a reason by a bound
 within_bound : (most n : ℕ) (reason : Unfit) → (if nat_lt most n then Some reason else None) ≡ None → n ≤ most
-within_bound most n reason e = go (nat_lt most n) refl e
-  where
-    go : (b : Bool) → nat_lt most n ≡ b → (if b then Some reason else None) ≡ None → n ≤ most
-    go true q e = cc
-    go false q e = ltb-false most n q
+within_bound most n reason e = elim (cases_Bool (nat_lt most n)) [ inl q ↦ (let f = rw q at e in cc) | inr q ↦ ltb-false most n q ]
 
 bound_within : (most n : ℕ) (reason : Unfit) → n ≤ most → (if nat_lt most n then Some reason else None) ≡ None
 bound_within most n reason h = rw (le-ltb most n h)
@@ -52,11 +48,8 @@ not_too_many Policy items h = le-ltb MOST_ITEMS items h
 not_too_many Consensus items h = refl
 
 items_within : (rules : Rules) (items : ℕ) (reason : Unfit) → (if are_too_many rules items then Some reason else None) ≡ None → AreFewItems rules items
-items_within rules items reason e = few_items rules items (go (are_too_many rules items) e)
-  where
-    go : (b : Bool) → (if b then Some reason else None) ≡ None → b ≡ false
-    go true e = cc
-    go false e = refl
+items_within rules items reason e =
+    few_items rules items (elim (cases_Bool (are_too_many rules items)) [ inl q ↦ (let f = rw q at e in cc) | inr q ↦ q ])
 
 within_items : (rules : Rules) (items : ℕ) (reason : Unfit) → AreFewItems rules items → (if are_too_many rules items then Some reason else None) ≡ None
 within_items rules items reason h = let e = not_too_many rules items h in rw e refl
@@ -73,11 +66,7 @@ typed_from_none (Ok ty) e = (ty, refl)
 typed_from_none (Err at) e = cc
 
 b_from_none : (ty : Ty) → wrong_top (Ok ty) ≡ None → ty.base ≡ B
-b_from_none ty e = b_from_test ty.base (go (is_b ty.base) e)
-  where
-    go : (b : Bool) → (if b then None else Some Unfit.TopNotB) ≡ None → b ≡ true
-    go true e = refl
-    go false e = cc
+b_from_none ty e = b_from_test ty.base (elim (cases_Bool (is_b ty.base)) [ inl q ↦ q | inr q ↦ (let f = rw q at e in cc) ])
 
 wrong_top-b : (ty : Ty) → ty.base ≡ B → wrong_top (Ok ty) ≡ None
 wrong_top-b ty e = rw e
@@ -130,11 +119,7 @@ mall_from_none (Ok m) e = (m, refl)
 mall_from_none (Err at) e = cc
 
 s_from_none : (m : Mall) → no_signature (Ok m) ≡ None → m.s ≡ true
-s_from_none m e = go m.s e
-  where
-    go : (b : Bool) → (if b then None else Some Unfit.NoSignature) ≡ None → b ≡ true
-    go true e = refl
-    go false e = cc
+s_from_none m e = elim (cases_Bool m.s) [ inl q ↦ q | inr q ↦ (let f = rw q at e in cc) ]
 
 no_signature-s : (m : Mall) → m.s ≡ true → no_signature (Ok m) ≡ None
 no_signature-s m e = rw e

@@ -1,7 +1,8 @@
 -- The first node that repeats a key.
-use Rattle.std.proofs.Common.{◌≡◌, ℕ, zero, suc, ◌+◌, ◌<◌, Bool, true, false, ◌||◌, List, [], ◌∷◌, ◌++◌, take, slice_get, Option, Some, None, Contains, MatchOption, refl, sym, subst, arith, append_assoc, if◌then◌else◌}
+use Rattle.std.proofs.Common.{inl, inr, ◌≡◌, ℕ, zero, suc, ◌+◌, ◌<◌, Bool, true, false, List, [], ◌∷◌, ◌++◌, take, slice_get, Option, Some, None, Contains, MatchOption, refl, sym, subst, arith, append_assoc, if◌then◌else◌}
 use Rattle.std.specs.Str.{bytes_eq}
 use Rattle.std.specs.List.{list_any, flat_map}
+use Rattle.std.proofs.lemmas.Bool.{or_cases}
 use Rattle.std.proofs.lemmas.List.{append-nil}
 use Rattle.std.proofs.lemmas.List.Elements.{Contains-append_left}
 use Rattle.std.proofs.lemmas.Map.Views.{Contains-from_any}
@@ -18,13 +19,13 @@ Again before own = (place : ℕ) × (key : Key) × (slice_get own place ≡ Some
 
 again_from_test : (before own : List Key) → repeats before own ≡ true → Again before own
 again_from_test before [] e = cc
-again_from_test before (k ∷ rest) e = go (list_any (bytes_eq k) before) refl (again_from_test (before ++ k ∷ []) rest) e
-  where
-    go : (b : Bool) → list_any (bytes_eq k) before ≡ b → (repeats (before ++ k ∷ []) rest ≡ true → Again (before ++ k ∷ []) rest) → (b || repeats (before ++ k ∷ []) rest) ≡ true → Again before (k ∷ rest)
-    go true q later e = (zero, k, refl, Contains-append_left before [] k (Contains-from_any (λ x y. (bytes_eq-Decides x y).0) k before q))
-    go false q later e =
-        let a = later e in
-        (suc a.0, a.1, a.2, subst (λ (l : List Key). Contains l a.1) (append_assoc before (k ∷ []) (take a.0 rest)) a.3)
+again_from_test before (k ∷ rest) e =
+    elim (or_cases (list_any (bytes_eq k) before) (repeats (before ++ k ∷ []) rest) e) [
+      | inl q ↦ (zero, k, refl, Contains-append_left before [] k (Contains-from_any (λ x y. (bytes_eq-Decides x y).0) k before q))
+      | inr q ↦
+          let a = again_from_test (before ++ k ∷ []) rest q in
+          (suc a.0, a.1, a.2, subst (λ (l : List Key). Contains l a.1) (append_assoc before (k ∷ []) (take a.0 rest)) a.3)
+    ]
 
 none_again : (before own : List Key) → Free before own → (place : ℕ) (key : Key) → slice_get own place ≡ Some key → ¬ Contains (before ++ take place own) key
 none_again before [] h place key e c = cc

@@ -4,80 +4,82 @@ use Rattle.std.specs.List.{IsDistinct}
 use Rattle.std.proofs.lemmas.List.Elements.{All-nil, All-from_recursion}
 use Rattle.std.proofs.lemmas.Option.{none-some}
 use Rattle.std.proofs.lemmas.Bool.{false≢true}
-use Rattle.def_machine.specs.Samples.{key_a, key_b, sig_a, sig_b, sig_c}
+use Rattle.def_machine.specs.Samples.{key_a, sig_a, sig_b, sig_c}
 use Rattle.def_script.specs.Bytes.{Bytes}
 use Rattle.def_machine.specs.Stacks.{Stack}
 use Rattle.def_tree.specs.Range.{IsKey}
 use Rattle.def_assets.specs.Assets.{AreAssets, IsSignature, IsPreimage}
 use Rattle.def_satisfaction.proofs.Computing.{computing}
 use Rattle.def_satisfaction.proofs.Forms.{key_form, signature_form}
-use Rattle.def_satisfaction.specs.Samples.{preimage_0, preimage_1, preimage_2, preimage_3, pair_a, pair_b, pair_c, pair_short_a, with_preimages, key_or_key}
+use Rattle.def_satisfaction.specs.Samples.{preimage_1, preimage_2, preimage_3, pair_a, pair_b, pair_short_a, with_preimages, key_or_key}
 use Rattle.def_satisfaction.specs.Rows.{EMPTY, ONE}
 use Rattle.def_satisfaction.specs.Satisfaction.{Sat}
-use Rattle.def_satisfaction.specs.Examples.{both_signatures, two_of_one_key, TwoOfThree, TwoOfThreeWitness, LateKey, VoidLock, TimeLock, ByPreimages, BySignatures, RightBranch, LeftBranch, LockMet, LockUnmet, ZerosAsPreimage, ZerosAreNoMiss, SeveralSignatures, EitherSignature, BothOfOrB}
-
-pub two_of_three : TwoOfThree
-unfolding computing
-two_of_three = record {
-  sat = ([] ∷ [], sig_c ∷ sig_a ∷ [], refl, (refl, inl (refl, inr (inl (refl, tt)))), refl);
-  weight = refl;
-  checks = pair_c ∷ pair_a ∷ [];
-  run = refl;
-}
-
-pub two_of_three_witness : TwoOfThreeWitness
-unfolding computing
-two_of_three_witness = refl
-
-pub late_key : LateKey
-unfolding computing
-late_key = record {
-  sat = inr (key_b ∷ sig_b ∷ [], EMPTY ∷ [], ([], key_b ∷ sig_b ∷ [], (refl, refl), (key_b, refl, refl, refl, (sig_b ∷ [], key_b ∷ [], (sig_b, refl, refl), refl, refl)), refl), refl, refl);
-  weight = refl;
-  checks = pair_b ∷ [];
-  run = refl;
-}
-
-pub void_lock : VoidLock
-unfolding computing
-void_lock = record {
-  sat = ([], sig_a ∷ [], (refl, refl), (sig_a, refl, refl), refl);
-  weight = refl;
-  checks = pair_a ∷ [];
-  run = refl;
-}
-
-pub time_lock : TimeLock
-unfolding computing
-time_lock = record {
-  sat = ([], sig_a ∷ [], (refl, refl), (sig_a, refl, refl), refl);
-  weight = refl;
-  checks = pair_a ∷ [];
-  run = refl;
-}
+use Rattle.def_satisfaction.specs.Examples.{both_signatures, two_of_one_key, ByPreimages, RightBranch, LeftBranch, ZerosAreNoMiss}
 
 pub by_preimages : ByPreimages
 unfolding computing
 by_preimages = record {
-  sat = inl (1, refl, (sig_a ∷ EMPTY ∷ [], preimage_1 ∷ preimage_2 ∷ preimage_3 ∷ [], inl (0, refl, (EMPTY ∷ [], sig_a ∷ [], inr ([], EMPTY ∷ [], (refl, refl), refl, refl), (sig_a, refl, refl), refl)), (preimage_2 ∷ preimage_3 ∷ [], preimage_1 ∷ [], (preimage_3 ∷ [], preimage_2 ∷ [], ([], preimage_3 ∷ [], refl, (preimage_3, ((refl, refl), refl), refl), refl), (preimage_2, ((refl, refl), refl), refl), refl), (preimage_1, ((refl, refl), refl), refl), refl), refl));
+  sat = inl (
+    1,
+    refl,
+    (
+      sig_a ∷ EMPTY ∷ [],
+      preimage_1 ∷ preimage_2 ∷ preimage_3
+          ∷ [],
+      inl (0, refl, (EMPTY ∷ [], sig_a ∷ [], inr ([], EMPTY ∷ [], (refl, refl), refl, refl), (sig_a, refl, refl), refl)),
+      (
+        preimage_2 ∷ preimage_3 ∷ [],
+        preimage_1 ∷ [],
+        (
+          preimage_3 ∷ [],
+          preimage_2
+              ∷ [],
+          ([], preimage_3 ∷ [], refl, (preimage_3, ((refl, refl), refl), refl), refl),
+          (preimage_2, ((refl, refl), refl), refl),
+          refl,
+        ),
+        (preimage_1, ((refl, refl), refl), refl),
+        refl,
+      ),
+      refl,
+    ),
+  );
   weight = refl;
   checks = pair_a ∷ [];
-  run = refl;
-}
-
-pub by_signatures : BySignatures
-unfolding computing
-by_signatures = record {
-  sat = inr (sig_a ∷ sig_b ∷ [], EMPTY ∷ [], inl (1, refl, (sig_b ∷ [], sig_a ∷ [], inl (0, refl, ([], sig_b ∷ [], (refl, refl), (sig_b, refl, refl), refl)), (sig_a, refl, refl), refl)), inl refl, refl);
-  weight = refl;
-  checks = pair_a ∷ pair_b ∷ [];
   run = refl;
 }
 
 pub right_branch : RightBranch
 unfolding computing
 right_branch = record {
-  sat = (EMPTY ∷ preimage_1 ∷ preimage_2 ∷ preimage_3 ∷ [], sig_b ∷ [], inr (preimage_1 ∷ preimage_2 ∷ preimage_3 ∷ [], EMPTY ∷ [], (preimage_2 ∷ preimage_3 ∷ [], preimage_1 ∷ [], (preimage_3 ∷ [], preimage_2 ∷ [], (preimage_3, ((refl, refl), refl), refl), (preimage_2, ((refl, refl), refl), refl), refl), (preimage_1, ((refl, refl), refl), refl), refl), refl, refl), (sig_b, refl, refl), refl);
+  sat = (
+    EMPTY ∷ preimage_1 ∷ preimage_2 ∷ preimage_3 ∷ [],
+    sig_b
+        ∷ [],
+    inr (
+      preimage_1 ∷ preimage_2 ∷ preimage_3 ∷ [],
+      EMPTY
+          ∷ [],
+      (
+        preimage_2 ∷ preimage_3 ∷ [],
+        preimage_1 ∷ [],
+        (
+          preimage_3 ∷ [],
+          preimage_2
+              ∷ [],
+          (preimage_3, ((refl, refl), refl), refl),
+          (preimage_2, ((refl, refl), refl), refl),
+          refl,
+        ),
+        (preimage_1, ((refl, refl), refl), refl),
+        refl,
+      ),
+      refl,
+      refl,
+    ),
+    (sig_b, refl, refl),
+    refl,
+  );
   weight = refl;
   checks = pair_b ∷ [];
   run = refl;
@@ -89,33 +91,6 @@ left_branch = record {
   sat = (ONE ∷ sig_a ∷ [], sig_b ∷ [], inl (sig_a ∷ [], ONE ∷ [], (sig_a, refl, refl), refl, refl), (sig_b, refl, refl), refl);
   weight = refl;
   checks = pair_b ∷ pair_a ∷ [];
-  run = refl;
-}
-
-pub lock_met : LockMet
-unfolding computing
-lock_met = record {
-  sat = inl (2, refl, (EMPTY ∷ sig_c ∷ EMPTY ∷ [], sig_a ∷ [], inr (sig_c ∷ EMPTY ∷ [], EMPTY ∷ [], inl (1, refl, (EMPTY ∷ [], sig_c ∷ [], inl (0, refl, ([], EMPTY ∷ [], (refl, refl), inr ([], EMPTY ∷ [], (refl, refl), refl, refl), refl)), (sig_c, refl, refl), refl)), refl, refl), (sig_a, refl, refl), refl));
-  weight = refl;
-  checks = pair_a ∷ pair_c ∷ [];
-  run = refl;
-}
-
-pub lock_unmet : LockUnmet
-unfolding computing
-lock_unmet = record {
-  sat = inl (2, refl, (sig_b ∷ sig_c ∷ ONE ∷ [], sig_a ∷ [], inl (1, refl, (sig_c ∷ ONE ∷ [], sig_b ∷ [], inl (0, refl, (ONE ∷ [], sig_c ∷ [], inr ([], ONE ∷ [], (refl, refl), inl ([], ONE ∷ [], refl, refl, refl), refl), (sig_c, refl, refl), refl)), (sig_b, refl, refl), refl)), (sig_a, refl, refl), refl));
-  weight = refl;
-  checks = pair_a ∷ pair_b ∷ pair_c ∷ [];
-  run = refl;
-}
-
-pub zeros_as_preimage : ZerosAsPreimage
-unfolding computing
-zeros_as_preimage = record {
-  sat = inl (0, refl, (EMPTY ∷ [], preimage_0 ∷ [], inr ([], EMPTY ∷ [], (refl, refl), refl, refl), (preimage_0, ((refl, refl), refl), refl), refl));
-  weight = refl;
-  checks = [];
   run = refl;
 }
 
@@ -131,7 +106,7 @@ zeros_are_no_miss stack (inr (below, above, p, inr q, e)) = false≢true q.0
 key_a_form : IsKey key_a
 key_a_form = key_form key_a refl refl
 
-two_of_one_key_form : AreAssets two_of_one_key
+pub two_of_one_key_form : AreAssets two_of_one_key
 unfolding computing IsDistinct
 two_of_one_key_form = record {
   keys = All-from_recursion (λ pair. IsKey pair.0) (pair_a ∷ pair_short_a ∷ []) (key_a_form, (key_a_form, tt));
@@ -145,19 +120,9 @@ two_of_one_key_form = record {
   locktime = omega arith;
 }
 
-twice_no_form : ¬ AreAssets (with_preimages [] (pair_a ∷ pair_a ∷ []))
+pub twice_no_form : ¬ AreAssets (with_preimages [] (pair_a ∷ pair_a ∷ []))
 unfolding computing IsDistinct
 twice_no_form are = let differs : true ≡ false = are.distinct.0.0 in false≢true (sym differs)
-
-pub several_signatures : SeveralSignatures
-several_signatures = (two_of_one_key_form, twice_no_form)
-
-pub either_signature : EitherSignature
-unfolding computing
-either_signature = (
-  record { sat = (sig_a, refl, refl); weight = refl; checks = pair_a ∷ []; run = refl },
-  record { sat = (sig_c, refl, refl); weight = refl; checks = pair_short_a ∷ []; run = refl },
-)
 
 -- where two items are one item on one other, the lower one is the other
 lower : (a b x y : Bytes) (above below : Stack) → above ≡ x ∷ [] → below ≡ y ∷ [] → a ∷ b ∷ [] ≡ above ++ below → b ≡ y
@@ -170,15 +135,10 @@ upper a b x y above below p q e =
     let whole : a ∷ b ∷ [] ≡ x ∷ y ∷ [] = e ∙ ap (λ v. v ++ below) p ∙ ap (λ v. x ∷ v) q in
     cc
 
-not_canonical : ¬ Sat key_or_key both_signatures (sig_b ∷ sig_a ∷ [])
+pub not_canonical : ¬ Sat key_or_key both_signatures (sig_b ∷ sig_a ∷ [])
 unfolding computing
 not_canonical (inl (below, above, p, q, e)) =
     not_empty 0xbb (replicate 71 0xbb) (lower sig_a sig_b q.0 [] above below q.2 p e)
 not_canonical (inr (inl (below, above, p, q, e))) =
     not_empty 0xaa (replicate 70 0xaa) (upper sig_a sig_b [] p.0 above below q p.2 e)
 not_canonical (inr (inr h)) = false≢true h.0
-
-pub both_of_or_b : BothOfOrB
-unfolding computing
-both_of_or_b =
-    (inr (inr (refl, (sig_b ∷ [], sig_a ∷ [], (sig_b, refl, refl), (sig_a, refl, refl), refl))), not_canonical)

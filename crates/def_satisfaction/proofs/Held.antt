@@ -1,11 +1,11 @@
 -- What assets hold: the signature of a key is one, and no longer than any other; a known preimage is one.
-use Rattle.std.proofs.Common.{◌≡◌, ◌≤◌, Bool, true, false, ◌&&◌, ◌||◌, not, List, [], ◌∷◌, length, Contains, Some, refl, ◌∙◌, ap, subst, inl, inr, All, arith, if◌then◌else◌}
+use Rattle.std.proofs.Common.{◌≡◌, ◌≤◌, true, false, ◌&&◌, not, List, [], ◌∷◌, length, Contains, Some, refl, ◌∙◌, ap, subst, inl, inr, All, arith, if◌then◌else◌}
 use Rattle.std.specs.List.{find}
 use Rattle.std.specs.Str.{bytes_eq}
 use Rattle.std.proofs.lemmas.Slice.Eq.{bytes_eq-Decides}
 use Rattle.std.proofs.lemmas.List.Elements.{All-contains, All-head, All-tail, Contains-append_right}
 use Rattle.std.proofs.lemmas.Option.{none-some, same_Some}
-use Rattle.std.proofs.lemmas.Bool.{false≢true, and_parts}
+use Rattle.std.proofs.lemmas.Bool.{false≢true, and_parts, or_cases, or_right, cases_Bool}
 use Rattle.def_hash.specs.declared.HashKind.{HashKind}
 use Rattle.def_hash.specs.Hash.{digest_of}
 use Rattle.def_script.specs.Bytes.{Bytes}
@@ -17,14 +17,13 @@ use Rattle.def_assets.proofs.Shortest.{no_pair, first_or_later, found_is_held, h
 -- a pair that is held is among the pairs
 member_in : (pairs : Pairs) (key sig : Bytes) → member pairs key sig ≡ true → Contains pairs (key, sig)
 member_in [] key sig h = absurd (false≢true h)
-member_in (pair ∷ pairs) key sig h = go (bytes_eq pair.0 key) (bytes_eq pair.1 sig) refl refl h (member_in pairs key sig)
-  where
-    go : (first second : Bool) → bytes_eq pair.0 key ≡ first → bytes_eq pair.1 sig ≡ second → ((first && second) || member pairs key sig) ≡ true →
-        (member pairs key sig ≡ true → Contains pairs (key, sig)) → Contains (pair ∷ pairs) (key, sig)
-    go true true e f k more =
-        (0, omega arith, ap (λ x. (x, pair.1)) ((bytes_eq-Decides pair.0 key).0 e) ∙ ap (λ x. (key, x)) ((bytes_eq-Decides pair.1 sig).0 f))
-    go true false e f k more = Contains-append_right (pair ∷ []) pairs (key, sig) (more k)
-    go false second e f k more = Contains-append_right (pair ∷ []) pairs (key, sig) (more k)
+member_in (pair ∷ pairs) key sig h =
+    elim (or_cases (bytes_eq pair.0 key && bytes_eq pair.1 sig) (member pairs key sig) h) [
+      | inl a ↦
+          let p = and_parts (bytes_eq pair.0 key) (bytes_eq pair.1 sig) a in
+          (0, omega arith, ap (λ x. (x, pair.1)) ((bytes_eq-Decides pair.0 key).0 p.0) ∙ ap (λ x. (key, x)) ((bytes_eq-Decides pair.1 sig).0 p.1))
+      | inr a ↦ Contains-append_right (pair ∷ []) pairs (key, sig) (member_in pairs key sig a)
+    ]
 
 in_member : (pairs : Pairs) (key sig : Bytes) → Contains pairs (key, sig) → member pairs key sig ≡ true
 in_member [] key sig h = absurd (no_pair (key, sig) h)
@@ -32,12 +31,8 @@ in_member (pair ∷ pairs) key sig h =
     elim (first_or_later pair pairs (key, sig) h) [
       | inl e ↦
           rw ((bytes_eq-Decides pair.0 key).1 (ap (λ p. p.0) e), (bytes_eq-Decides pair.1 sig).1 (ap (λ p. p.1) e)) refl
-      | inr i ↦ rw (in_member pairs key sig i) (behind (bytes_eq pair.0 key && bytes_eq pair.1 sig))
+      | inr i ↦ or_right (bytes_eq pair.0 key && bytes_eq pair.1 sig) (member pairs key sig) (in_member pairs key sig i)
     ]
-  where
-    behind : (first : Bool) → (first || true) ≡ true
-    behind true = refl
-    behind false = refl
 
 filled : (sig : Bytes) → 1 ≤ length sig → is_empty sig ≡ false
 filled [] h = absurd (omega arith)
@@ -64,15 +59,13 @@ known_of : (kind : HashKind) (value : Bytes) (preimages : List Bytes) (x : Bytes
     find (λ preimage. bytes_eq (digest_of kind preimage) value) preimages ≡ Some x → IsPreimage x × (digest_of kind x ≡ value)
 known_of kind value [] x all h = absurd (none-some x h)
 known_of kind value (p ∷ ps) x all h =
-    go (bytes_eq (digest_of kind p) value) refl h (known_of kind value ps x (All-tail IsPreimage p ps all))
-  where
-    go : (test : Bool) → bytes_eq (digest_of kind p) value ≡ test → (if test then Some p else find (λ preimage. bytes_eq (digest_of kind preimage) value) ps) ≡ Some x →
-        (find (λ preimage. bytes_eq (digest_of kind preimage) value) ps ≡ Some x → IsPreimage x × (digest_of kind x ≡ value)) →
-        IsPreimage x × (digest_of kind x ≡ value)
-    go true e k more =
-        subst (λ y. IsPreimage y × (digest_of kind y ≡ value)) (same_Some p x k)
-        (All-head IsPreimage p ps all, (bytes_eq-Decides (digest_of kind p) value).0 e)
-    go false e k more = more k
+    let k : (if bytes_eq (digest_of kind p) value then Some p else find (λ preimage. bytes_eq (digest_of kind preimage) value) ps) ≡ Some x = h in
+    elim (cases_Bool (bytes_eq (digest_of kind p) value)) [
+      | inl e ↦
+          subst (λ y. IsPreimage y × (digest_of kind y ≡ value)) (same_Some p x (rw e at k))
+          (All-head IsPreimage p ps all, (bytes_eq-Decides (digest_of kind p) value).0 e)
+      | inr e ↦ known_of kind value ps x (All-tail IsPreimage p ps all) (rw e at k)
+    ]
 
 pub known_is_preimage : (assets : Assets) → AreAssets assets → (kind : HashKind) (value x : Bytes) → known assets kind value ≡ Some x → IsPreimage x × (digest_of kind x ≡ value)
 known_is_preimage assets are kind value x h = known_of kind value assets.preimages x are.preimages h

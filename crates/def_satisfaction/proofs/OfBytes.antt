@@ -8,7 +8,7 @@ use Rattle.def_machine.specs.Stacks.{Stack}
 use Rattle.def_machine.specs.MultiSig.{is_good}
 use Rattle.def_tree.specs.declared.Two.TheVariants as kind
 use Rattle.def_tree.specs.declared.Wrapper.TheVariants as wrapper
-use Rattle.def_tree.specs.Tree.{Tree, Trees, Key, just_0, just_1, pk_k, pk_h, older, after, hash, and_or, two, thresh, multi, wrap, none, more}
+use Rattle.def_tree.specs.Tree.{Tree, Trees, Key, just_0, just_1, pk_k, pk_h, hash, and_or, two, thresh, multi, wrap, none, more}
 use Rattle.def_tree.specs.Range.{IsWritable, AreWritable}
 use Rattle.def_assets.specs.Assets.{Assets, AreAssets}
 use Rattle.def_satisfaction.specs.StackSet.{StackSet, Is, If, Both, Either}
@@ -69,30 +69,24 @@ module _ (assets : Assets) where
   mutual
     pub dsat_bytes : (tree : Tree) → IsWritable tree → OfBytes (row (canonical assets) tree).dsat
     dsat_bytes just_0 w = nothing_bytes
-    dsat_bytes just_1 w = never_bytes
     dsat_bytes (pk_k key) w = is_bytes EMPTY empty_bytes
     dsat_bytes (pk_h key) w = λ stack h.
         both_bytes _ _ (is_bytes EMPTY empty_bytes) (is_bytes h.0 (subst IsBytes (sym h.3) w.bytes)) stack h.4
-    dsat_bytes (older n) w = never_bytes
-    dsat_bytes (after n) w = never_bytes
     dsat_bytes (hash kind value) w = either_bytes _ _ (if_bytes _ _ (is_bytes ZEROS zeros_bytes)) (extra_bytes _)
     dsat_bytes (and_or x y z) w = either_bytes _ _ (both_bytes _ _ (dsat_bytes z w.2) (dsat_bytes x w.0)) (extra_bytes _)
     dsat_bytes (two kind.AndV x y) w = extra_bytes _
     dsat_bytes (two kind.AndB x y) w = either_bytes _ _ (both_bytes _ _ (dsat_bytes y w.1) (dsat_bytes x w.0)) (extra_bytes _)
-    dsat_bytes (two kind.OrB x z) w = both_bytes _ _ (dsat_bytes z w.1) (dsat_bytes x w.0)
     dsat_bytes (two kind.OrC x z) w = never_bytes
-    dsat_bytes (two kind.OrD x z) w = both_bytes _ _ (dsat_bytes z w.1) (dsat_bytes x w.0)
     dsat_bytes (two kind.OrI x z) w =
         either_bytes _ _ (both_bytes _ _ (dsat_bytes x w.0) (is_bytes ONE one_bytes)) (both_bytes _ _ (dsat_bytes z w.1) (is_bytes EMPTY empty_bytes))
+    dsat_bytes (two which x z) w = both_bytes _ _ (dsat_bytes z w.1) (dsat_bytes x w.0)
     dsat_bytes (thresh k xs) w = either_bytes _ _ (none_bytes xs w.2) (extra_bytes _)
     dsat_bytes (multi k keys) w = λ stack e. All-same IsBytes stack _ e (All-replicate IsBytes _ EMPTY empty_bytes)
-    dsat_bytes (wrap wrapper.A x) w = dsat_bytes x w
-    dsat_bytes (wrap wrapper.S x) w = dsat_bytes x w
-    dsat_bytes (wrap wrapper.C x) w = dsat_bytes x w
     dsat_bytes (wrap wrapper.D x) w = is_bytes EMPTY empty_bytes
     dsat_bytes (wrap wrapper.V x) w = never_bytes
     dsat_bytes (wrap wrapper.J x) w = either_bytes _ _ (is_bytes EMPTY empty_bytes) (extra_bytes _)
-    dsat_bytes (wrap wrapper.N x) w = dsat_bytes x w
+    dsat_bytes (wrap letter x) w = dsat_bytes x w
+    dsat_bytes tree w = never_bytes
 
     -- all children dissatisfied
     none_bytes : (xs : Trees) → AreWritable xs → OfBytes (parts (canonical assets) xs 0)
@@ -123,13 +117,9 @@ module _ (assets : Assets) (are : AreAssets assets) where
     sat_bytes (pk_k key) w = signature_bytes key
     sat_bytes (pk_h key) w = λ stack h.
         both_bytes _ _ (signature_bytes h.0) (is_bytes h.0 (subst IsBytes (sym h.3) w.bytes)) stack h.4
-    sat_bytes (older n) w = if_bytes _ _ nothing_bytes
-    sat_bytes (after n) w = if_bytes _ _ nothing_bytes
     sat_bytes (hash kind value) w = λ stack h. is_bytes h.0 (let is = known_is_preimage assets are kind value h.0 h.1.1 in is.0.bytes) stack h.2
     sat_bytes (and_or x y z) w =
         either_bytes _ _ (both_bytes _ _ (sat_bytes y w.1) (sat_bytes x w.0)) (both_bytes _ _ (sat_bytes z w.2) (dsat_bytes assets x w.0))
-    sat_bytes (two kind.AndV x y) w = both_bytes _ _ (sat_bytes y w.1) (sat_bytes x w.0)
-    sat_bytes (two kind.AndB x y) w = both_bytes _ _ (sat_bytes y w.1) (sat_bytes x w.0)
     sat_bytes (two kind.OrB x z) w =
         either_bytes _ _ (both_bytes _ _ (dsat_bytes assets z w.1) (sat_bytes x w.0))
         (either_bytes _ _ (both_bytes _ _ (sat_bytes z w.1) (dsat_bytes assets x w.0)) (extra_bytes assets _))
@@ -137,15 +127,12 @@ module _ (assets : Assets) (are : AreAssets assets) where
     sat_bytes (two kind.OrD x z) w = either_bytes _ _ (sat_bytes x w.0) (both_bytes _ _ (sat_bytes z w.1) (dsat_bytes assets x w.0))
     sat_bytes (two kind.OrI x z) w =
         either_bytes _ _ (both_bytes _ _ (sat_bytes x w.0) (is_bytes ONE one_bytes)) (both_bytes _ _ (sat_bytes z w.1) (is_bytes EMPTY empty_bytes))
+    sat_bytes (two which x y) w = both_bytes _ _ (sat_bytes y w.1) (sat_bytes x w.0)
     sat_bytes (thresh k xs) w = parts_bytes xs w.2 k
     sat_bytes (multi k keys) w = both_bytes _ _ (is_bytes EMPTY empty_bytes) (λ sigs h. signatures_bytes (reverse keys) sigs h.1)
-    sat_bytes (wrap wrapper.A x) w = sat_bytes x w
-    sat_bytes (wrap wrapper.S x) w = sat_bytes x w
-    sat_bytes (wrap wrapper.C x) w = sat_bytes x w
     sat_bytes (wrap wrapper.D x) w = both_bytes _ _ (sat_bytes x w) (is_bytes ONE one_bytes)
-    sat_bytes (wrap wrapper.V x) w = sat_bytes x w
-    sat_bytes (wrap wrapper.J x) w = sat_bytes x w
-    sat_bytes (wrap wrapper.N x) w = sat_bytes x w
+    sat_bytes (wrap letter x) w = sat_bytes x w
+    sat_bytes tree w = if_bytes _ _ nothing_bytes
 
     parts_bytes : (xs : Trees) → AreWritable xs → (n : ℕ) → OfBytes (parts (canonical assets) xs n)
     parts_bytes none w n = if_bytes _ _ nothing_bytes

@@ -5,9 +5,10 @@ use Rattle.def_script.specs.Bytes.{Bytes}
 use Rattle.def_machine.specs.Stacks.{Stack}
 use Rattle.def_machine.specs.MultiSig.{is_good}
 use Rattle.def_machine.specs.Locks.{older_holds, after_holds}
+use Rattle.def_tree.specs.declared.Two.{Two}
 use Rattle.def_tree.specs.declared.Two.TheVariants as kind
 use Rattle.def_tree.specs.declared.Wrapper.TheVariants as wrapper
-use Rattle.def_tree.specs.Tree.{Tree, Trees, Key, just_0, just_1, pk_k, pk_h, older, after, hash, and_or, two, thresh, multi, wrap, none, more}
+use Rattle.def_tree.specs.Tree.{Tree, Trees, Key, pk_k, pk_h, older, after, hash, and_or, two, thresh, multi, wrap, none, more}
 use Rattle.def_satisfaction.specs.StackSet.{StackSet, Is, Both, Either}
 use Rattle.def_satisfaction.specs.Setting.{Setting, CountsAsPreimage, CountsAsKey}
 use Rattle.def_satisfaction.specs.Rows.{Row, NotCanonical, Signature, PartsOf, AreSignatures, pk_h_row, hash_row, thresh_row, multi_row, row, parts}
@@ -80,10 +81,25 @@ module _ (s t : Setting) (wider : IsWider s t) where
     sat = j k;
   }
 
+  two_within : (which : Two) (x y : Tree) → IsWithin (row s x) (row t x) → IsWithin (row s y) (row t y) → IsWithin (row s (two which x y)) (row t (two which x y))
+  two_within kind.AndV x y i j = record { dsat = extra_within _ _ (both_within _ _ _ _ j.dsat i.sat); sat = both_within _ _ _ _ j.sat i.sat }
+  two_within kind.AndB x y i j = record {
+    dsat = either_within _ _ _ _ (both_within _ _ _ _ j.dsat i.dsat) (extra_within _ _ (either_within _ _ _ _ (both_within _ _ _ _ j.sat i.dsat) (both_within _ _ _ _ j.dsat i.sat)));
+    sat = both_within _ _ _ _ j.sat i.sat;
+  }
+  two_within kind.OrB x z i k = record {
+    dsat = both_within _ _ _ _ k.dsat i.dsat;
+    sat = either_within _ _ _ _ (both_within _ _ _ _ k.dsat i.sat) (either_within _ _ _ _ (both_within _ _ _ _ k.sat i.dsat) (extra_within _ _ (both_within _ _ _ _ k.sat i.sat)));
+  }
+  two_within kind.OrC x z i k = record { dsat = same _; sat = either_within _ _ _ _ i.sat (both_within _ _ _ _ k.sat i.dsat) }
+  two_within kind.OrD x z i k = record { dsat = both_within _ _ _ _ k.dsat i.dsat; sat = either_within _ _ _ _ i.sat (both_within _ _ _ _ k.sat i.dsat) }
+  two_within kind.OrI x z i k = record {
+    dsat = either_within _ _ _ _ (both_within _ _ _ _ i.dsat (same _)) (both_within _ _ _ _ k.dsat (same _));
+    sat = either_within _ _ _ _ (both_within _ _ _ _ i.sat (same _)) (both_within _ _ _ _ k.sat (same _));
+  }
+
   mutual
     pub row_within : (tree : Tree) → IsWithin (row s tree) (row t tree)
-    row_within just_0 = record { dsat = same _; sat = same _ }
-    row_within just_1 = record { dsat = same _; sat = same _ }
     row_within (pk_k key) = record { dsat = same _; sat = signature_within key }
     row_within (pk_h key) = pk_h_within key
     row_within (older n) = record { dsat = same _; sat = λ stack h. (wider.older n h.0, h.1) }
@@ -97,50 +113,16 @@ module _ (s t : Setting) (wider : IsWider s t) where
           dsat = either_within _ _ _ _ (both_within _ _ _ _ k.dsat i.dsat) (extra_within _ _ (both_within _ _ _ _ j.dsat i.sat));
           sat = either_within _ _ _ _ (both_within _ _ _ _ j.sat i.sat) (both_within _ _ _ _ k.sat i.dsat);
         }
-    row_within (two kind.AndV x y) =
-        let i = row_within x in
-        let j = row_within y in
-        record { dsat = extra_within _ _ (both_within _ _ _ _ j.dsat i.sat); sat = both_within _ _ _ _ j.sat i.sat }
-    row_within (two kind.AndB x y) =
-        let i = row_within x in
-        let j = row_within y in
-        record {
-          dsat = either_within _ _ _ _ (both_within _ _ _ _ j.dsat i.dsat) (extra_within _ _ (either_within _ _ _ _ (both_within _ _ _ _ j.sat i.dsat) (both_within _ _ _ _ j.dsat i.sat)));
-          sat = both_within _ _ _ _ j.sat i.sat;
-        }
-    row_within (two kind.OrB x z) =
-        let i = row_within x in
-        let k = row_within z in
-        record {
-          dsat = both_within _ _ _ _ k.dsat i.dsat;
-          sat = either_within _ _ _ _ (both_within _ _ _ _ k.dsat i.sat) (either_within _ _ _ _ (both_within _ _ _ _ k.sat i.dsat) (extra_within _ _ (both_within _ _ _ _ k.sat i.sat)));
-        }
-    row_within (two kind.OrC x z) =
-        let i = row_within x in
-        let k = row_within z in
-        record { dsat = same _; sat = either_within _ _ _ _ i.sat (both_within _ _ _ _ k.sat i.dsat) }
-    row_within (two kind.OrD x z) =
-        let i = row_within x in
-        let k = row_within z in
-        record { dsat = both_within _ _ _ _ k.dsat i.dsat; sat = either_within _ _ _ _ i.sat (both_within _ _ _ _ k.sat i.dsat) }
-    row_within (two kind.OrI x z) =
-        let i = row_within x in
-        let k = row_within z in
-        record {
-          dsat = either_within _ _ _ _ (both_within _ _ _ _ i.dsat (same _)) (both_within _ _ _ _ k.dsat (same _));
-          sat = either_within _ _ _ _ (both_within _ _ _ _ i.sat (same _)) (both_within _ _ _ _ k.sat (same _));
-        }
+    row_within (two which x y) = two_within which x y (row_within x) (row_within y)
     row_within (thresh k xs) = thresh_within k _ _ (parts_within xs)
     row_within (multi k keys) = multi_within k keys
-    row_within (wrap wrapper.A x) = row_within x
-    row_within (wrap wrapper.S x) = row_within x
-    row_within (wrap wrapper.C x) = row_within x
     row_within (wrap wrapper.D x) = let i = row_within x in record { dsat = same _; sat = both_within _ _ _ _ i.sat (same _) }
     row_within (wrap wrapper.V x) = let i = row_within x in record { dsat = same _; sat = i.sat }
     row_within (wrap wrapper.J x) =
         let i = row_within x in
         record { dsat = either_within _ _ _ _ (same _) (extra_within _ _ (λ stack h. (h.0, i.dsat stack h.1))); sat = i.sat }
-    row_within (wrap wrapper.N x) = row_within x
+    row_within (wrap letter x) = row_within x
+    row_within tree = record { dsat = same _; sat = same _ }
 
     pub parts_within : (xs : Trees) (n : ℕ) → Within (parts s xs n) (parts t xs n)
     parts_within none n = same _

@@ -1,4 +1,3 @@
-pub mod Computed
 pub mod Decoding
 pub mod Reading
 pub mod Sizing

@@ -18,32 +18,7 @@ use Rattle.def_script.specs.Laws.{item_of, CanSpell, ByteStandsForOp, SpellingIs
 
 pub byte_stands_for_op : ByteStandsForOp
 byte_stands_for_op op.If = refl
-byte_stands_for_op op.NotIf = refl
-byte_stands_for_op op.Else = refl
-byte_stands_for_op op.EndIf = refl
-byte_stands_for_op op.Verify = refl
-byte_stands_for_op op.ToAltStack = refl
-byte_stands_for_op op.FromAltStack = refl
-byte_stands_for_op op.IfDup = refl
-byte_stands_for_op op.Dup = refl
-byte_stands_for_op op.Swap = refl
-byte_stands_for_op op.Size = refl
-byte_stands_for_op op.Equal = refl
-byte_stands_for_op op.EqualVerify = refl
-byte_stands_for_op op.ZeroNotEqual = refl
-byte_stands_for_op op.Add = refl
-byte_stands_for_op op.BoolAnd = refl
-byte_stands_for_op op.BoolOr = refl
-byte_stands_for_op op.Ripemd160 = refl
-byte_stands_for_op op.Sha256 = refl
-byte_stands_for_op op.Hash160 = refl
-byte_stands_for_op op.Hash256 = refl
-byte_stands_for_op op.CheckSig = refl
-byte_stands_for_op op.CheckSigVerify = refl
-byte_stands_for_op op.CheckMultiSig = refl
-byte_stands_for_op op.CheckMultiSigVerify = refl
-byte_stands_for_op op.Cltv = refl
-byte_stands_for_op op.Csv = refl
+byte_stands_for_op other = refl
 
 -- skipping is dropping
 pub items_after-drop : (skipped : ℕ) (bytes : Bytes) → items_after skipped bytes ≡ items (drop skipped bytes)
@@ -145,32 +120,7 @@ push-read (b ∷ c ∷ bytes) rest low = sized_push-read (b ∷ c ∷ bytes) res
 pub op-read : (op : Op) (rest : Bytes) → items (opcode_byte op ∷ rest) ≡ item.code op ∷ items rest
 unfolding items_after first_item
 op-read op.If rest = refl
-op-read op.NotIf rest = refl
-op-read op.Else rest = refl
-op-read op.EndIf rest = refl
-op-read op.Verify rest = refl
-op-read op.ToAltStack rest = refl
-op-read op.FromAltStack rest = refl
-op-read op.IfDup rest = refl
-op-read op.Dup rest = refl
-op-read op.Swap rest = refl
-op-read op.Size rest = refl
-op-read op.Equal rest = refl
-op-read op.EqualVerify rest = refl
-op-read op.ZeroNotEqual rest = refl
-op-read op.Add rest = refl
-op-read op.BoolAnd rest = refl
-op-read op.BoolOr rest = refl
-op-read op.Ripemd160 rest = refl
-op-read op.Sha256 rest = refl
-op-read op.Hash160 rest = refl
-op-read op.Hash256 rest = refl
-op-read op.CheckSig rest = refl
-op-read op.CheckSigVerify rest = refl
-op-read op.CheckMultiSig rest = refl
-op-read op.CheckMultiSigVerify rest = refl
-op-read op.Cltv rest = refl
-op-read op.Csv rest = refl
+op-read other rest = refl
 
 instruction-read : (i : Instruction) (rest : Bytes) → CanSpell i → items (spell_one i ++ rest) ≡ item_of i ∷ items rest
 instruction-read (push bytes) rest can = push-read bytes rest can

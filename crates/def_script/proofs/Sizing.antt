@@ -54,8 +54,6 @@ more_bytes b bytes low rest (suc i) = rest i
 
 wide_2-spelling : (rest : Bytes) (read : ℕ × ℕ) → IsBytes rest → read_wide w16 0xfd rest ≡ Ok read → (0xfd ∷ rest) ≡ size_bytes read.0 ++ drop read.1 (0xfd ∷ rest)
 unfolding size_bytes
-wide_2-spelling [] read bytes e = let reads = read_wide-reads w16 0xfd [] read e in absurd (omega arith)
-wide_2-spelling (a ∷ []) read bytes e = let reads = read_wide-reads w16 0xfd (a ∷ []) read e in absurd (omega arith)
 wide_2-spelling (a ∷ b ∷ tail) read bytes e =
     let reads = read_wide-reads w16 0xfd (a ∷ b ∷ tail) read e in
     let spelled : to_le_bytes w16 (from_le_bytes w16 (a ∷ b ∷ [])) ≡ a ∷ b ∷ [] = le_bytes_2 (a ∷ b ∷ []) _ refl (more_bytes a (b ∷ []) (bytes 0) (more_bytes b [] (bytes 1) no_bytes)) refl in
@@ -64,42 +62,41 @@ wide_2-spelling (a ∷ b ∷ tail) read bytes e =
     let within : nat_lt (from_le_bytes w16 (a ∷ b ∷ [])) (2 ^ 16) ≡ true = lt-ltb _ _ (omega arith) in
     let P : ℕ × ℕ → Type 0 = λ r. (0xfd ∷ a ∷ b ∷ tail) ≡ size_bytes r.0 ++ drop r.1 (0xfd ∷ a ∷ b ∷ tail) in
     subst P reads.2 (rw (over_0, within) (sym (ap (λ (s : List ℕ). 0xfd ∷ (s ++ tail)) spelled)))
+wide_2-spelling short read bytes e = let reads = read_wide-reads w16 0xfd short read e in absurd (omega arith)
 
 wide_4-spelling : (rest : Bytes) (read : ℕ × ℕ) → IsBytes rest → read_wide w32 (2 ^ 16) rest ≡ Ok read → (0xfe ∷ rest) ≡ size_bytes read.0 ++ drop read.1 (0xfe ∷ rest)
 unfolding size_bytes
-wide_4-spelling [] read bytes e = let reads = read_wide-reads w32 (2 ^ 16) [] read e in absurd (omega arith)
-wide_4-spelling (a ∷ []) read bytes e = let reads = read_wide-reads w32 (2 ^ 16) (a ∷ []) read e in absurd (omega arith)
-wide_4-spelling (a ∷ b ∷ []) read bytes e = let reads = read_wide-reads w32 (2 ^ 16) (a ∷ b ∷ []) read e in absurd (omega arith)
-wide_4-spelling (a ∷ b ∷ c ∷ []) read bytes e = let reads = read_wide-reads w32 (2 ^ 16) (a ∷ b ∷ c ∷ []) read e in absurd (omega arith)
 wide_4-spelling (a ∷ b ∷ c ∷ d ∷ tail) read bytes e =
     let reads = read_wide-reads w32 (2 ^ 16) (a ∷ b ∷ c ∷ d ∷ tail) read e in
-    let spelled : to_le_bytes w32 (from_le_bytes w32 (a ∷ b ∷ c ∷ d ∷ [])) ≡ a ∷ b ∷ c ∷ d ∷ [] = le_bytes_4 (a ∷ b ∷ c ∷ d ∷ []) _ refl (more_bytes a (b ∷ c ∷ d ∷ []) (bytes 0) (more_bytes b (c ∷ d ∷ []) (bytes 1) (more_bytes c (d ∷ []) (bytes 2) (more_bytes d [] (bytes 3) no_bytes)))) refl in
+    let spelled : to_le_bytes w32 (from_le_bytes w32 (a ∷ b ∷ c ∷ d ∷ [])) ≡ a ∷ b ∷ c ∷ d
+    ∷ [] = le_bytes_4 (a ∷ b ∷ c ∷ d ∷ []) _ refl (more_bytes a (b ∷ c ∷ d ∷ []) (bytes 0)
+    (more_bytes b (c ∷ d ∷ []) (bytes 1) (more_bytes c (d ∷ []) (bytes 2) (more_bytes d [] (bytes 3) no_bytes)))) refl in
     let bounds : (a < 256) × (b < 256) × (c < 256) × (d < 256) = (bytes 0, bytes 1, bytes 2, bytes 3) in
     let over_0 : nat_lt (from_le_bytes w32 (a ∷ b ∷ c ∷ d ∷ [])) 0xfd ≡ false = le-ltb _ _ (omega arith) in
     let over_1 : nat_lt (from_le_bytes w32 (a ∷ b ∷ c ∷ d ∷ [])) (2 ^ 16) ≡ false = le-ltb _ _ (omega arith) in
     let within : nat_lt (from_le_bytes w32 (a ∷ b ∷ c ∷ d ∷ [])) (2 ^ 32) ≡ true = lt-ltb _ _ (omega arith) in
     let P : ℕ × ℕ → Type 0 = λ r. (0xfe ∷ a ∷ b ∷ c ∷ d ∷ tail) ≡ size_bytes r.0 ++ drop r.1 (0xfe ∷ a ∷ b ∷ c ∷ d ∷ tail) in
     subst P reads.2 (rw (over_0, over_1, within) (sym (ap (λ (s : List ℕ). 0xfe ∷ (s ++ tail)) spelled)))
+wide_4-spelling short read bytes e = let reads = read_wide-reads w32 (2 ^ 16) short read e in absurd (omega arith)
 
 wide_8-spelling : (rest : Bytes) (read : ℕ × ℕ) → IsBytes rest → read_wide w64 (2 ^ 32) rest ≡ Ok read → (0xff ∷ rest) ≡ size_bytes read.0 ++ drop read.1 (0xff ∷ rest)
 unfolding size_bytes
-wide_8-spelling [] read bytes e = let reads = read_wide-reads w64 (2 ^ 32) [] read e in absurd (omega arith)
-wide_8-spelling (b0 ∷ []) read bytes e = let reads = read_wide-reads w64 (2 ^ 32) (b0 ∷ []) read e in absurd (omega arith)
-wide_8-spelling (b0 ∷ b1 ∷ []) read bytes e = let reads = read_wide-reads w64 (2 ^ 32) (b0 ∷ b1 ∷ []) read e in absurd (omega arith)
-wide_8-spelling (b0 ∷ b1 ∷ b2 ∷ []) read bytes e = let reads = read_wide-reads w64 (2 ^ 32) (b0 ∷ b1 ∷ b2 ∷ []) read e in absurd (omega arith)
-wide_8-spelling (b0 ∷ b1 ∷ b2 ∷ b3 ∷ []) read bytes e = let reads = read_wide-reads w64 (2 ^ 32) (b0 ∷ b1 ∷ b2 ∷ b3 ∷ []) read e in absurd (omega arith)
-wide_8-spelling (b0 ∷ b1 ∷ b2 ∷ b3 ∷ b4 ∷ []) read bytes e = let reads = read_wide-reads w64 (2 ^ 32) (b0 ∷ b1 ∷ b2 ∷ b3 ∷ b4 ∷ []) read e in absurd (omega arith)
-wide_8-spelling (b0 ∷ b1 ∷ b2 ∷ b3 ∷ b4 ∷ b5 ∷ []) read bytes e = let reads = read_wide-reads w64 (2 ^ 32) (b0 ∷ b1 ∷ b2 ∷ b3 ∷ b4 ∷ b5 ∷ []) read e in absurd (omega arith)
-wide_8-spelling (b0 ∷ b1 ∷ b2 ∷ b3 ∷ b4 ∷ b5 ∷ b6 ∷ []) read bytes e = let reads = read_wide-reads w64 (2 ^ 32) (b0 ∷ b1 ∷ b2 ∷ b3 ∷ b4 ∷ b5 ∷ b6 ∷ []) read e in absurd (omega arith)
 wide_8-spelling (b0 ∷ b1 ∷ b2 ∷ b3 ∷ b4 ∷ b5 ∷ b6 ∷ b7 ∷ tail) read bytes e =
     let reads = read_wide-reads w64 (2 ^ 32) (b0 ∷ b1 ∷ b2 ∷ b3 ∷ b4 ∷ b5 ∷ b6 ∷ b7 ∷ tail) read e in
-    let spelled : to_le_bytes w64 (from_le_bytes w64 (b0 ∷ b1 ∷ b2 ∷ b3 ∷ b4 ∷ b5 ∷ b6 ∷ b7 ∷ [])) ≡ b0 ∷ b1 ∷ b2 ∷ b3 ∷ b4 ∷ b5 ∷ b6 ∷ b7 ∷ [] = le_bytes_8 (b0 ∷ b1 ∷ b2 ∷ b3 ∷ b4 ∷ b5 ∷ b6 ∷ b7 ∷ []) _ refl (more_bytes b0 (b1 ∷ b2 ∷ b3 ∷ b4 ∷ b5 ∷ b6 ∷ b7 ∷ []) (bytes 0) (more_bytes b1 (b2 ∷ b3 ∷ b4 ∷ b5 ∷ b6 ∷ b7 ∷ []) (bytes 1) (more_bytes b2 (b3 ∷ b4 ∷ b5 ∷ b6 ∷ b7 ∷ []) (bytes 2) (more_bytes b3 (b4 ∷ b5 ∷ b6 ∷ b7 ∷ []) (bytes 3) (more_bytes b4 (b5 ∷ b6 ∷ b7 ∷ []) (bytes 4) (more_bytes b5 (b6 ∷ b7 ∷ []) (bytes 5) (more_bytes b6 (b7 ∷ []) (bytes 6) (more_bytes b7 [] (bytes 7) no_bytes)))))))) refl in
+    let spelled : to_le_bytes w64 (from_le_bytes w64 (b0 ∷ b1 ∷ b2 ∷ b3 ∷ b4 ∷ b5 ∷ b6 ∷ b7 ∷ [])) ≡ b0 ∷ b1 ∷ b2 ∷ b3 ∷ b4 ∷ b5 ∷ b6 ∷ b7
+    ∷ [] = le_bytes_8 (b0 ∷ b1 ∷ b2 ∷ b3 ∷ b4 ∷ b5 ∷ b6 ∷ b7 ∷ []) _ refl
+    (more_bytes b0 (b1 ∷ b2 ∷ b3 ∷ b4 ∷ b5 ∷ b6 ∷ b7 ∷ []) (bytes 0)
+    (more_bytes b1 (b2 ∷ b3 ∷ b4 ∷ b5 ∷ b6 ∷ b7 ∷ []) (bytes 1)
+    (more_bytes b2 (b3 ∷ b4 ∷ b5 ∷ b6 ∷ b7 ∷ []) (bytes 2)
+    (more_bytes b3 (b4 ∷ b5 ∷ b6 ∷ b7 ∷ []) (bytes 3) (more_bytes b4 (b5 ∷ b6 ∷ b7 ∷ []) (bytes 4)
+    (more_bytes b5 (b6 ∷ b7 ∷ []) (bytes 5) (more_bytes b6 (b7 ∷ []) (bytes 6) (more_bytes b7 [] (bytes 7) no_bytes)))))))) refl in
     let bounds : (b0 < 256) × (b1 < 256) × (b2 < 256) × (b3 < 256) × (b4 < 256) × (b5 < 256) × (b6 < 256) × (b7 < 256) = (bytes 0, bytes 1, bytes 2, bytes 3, bytes 4, bytes 5, bytes 6, bytes 7) in
     let over_0 : nat_lt (from_le_bytes w64 (b0 ∷ b1 ∷ b2 ∷ b3 ∷ b4 ∷ b5 ∷ b6 ∷ b7 ∷ [])) 0xfd ≡ false = le-ltb _ _ (omega arith) in
     let over_1 : nat_lt (from_le_bytes w64 (b0 ∷ b1 ∷ b2 ∷ b3 ∷ b4 ∷ b5 ∷ b6 ∷ b7 ∷ [])) (2 ^ 16) ≡ false = le-ltb _ _ (omega arith) in
     let over_2 : nat_lt (from_le_bytes w64 (b0 ∷ b1 ∷ b2 ∷ b3 ∷ b4 ∷ b5 ∷ b6 ∷ b7 ∷ [])) (2 ^ 32) ≡ false = le-ltb _ _ (omega arith) in
     let P : ℕ × ℕ → Type 0 = λ r. (0xff ∷ b0 ∷ b1 ∷ b2 ∷ b3 ∷ b4 ∷ b5 ∷ b6 ∷ b7 ∷ tail) ≡ size_bytes r.0 ++ drop r.1 (0xff ∷ b0 ∷ b1 ∷ b2 ∷ b3 ∷ b4 ∷ b5 ∷ b6 ∷ b7 ∷ tail) in
     subst P reads.2 (rw (over_0, over_1, over_2) (sym (ap (λ (s : List ℕ). 0xff ∷ (s ++ tail)) spelled)))
+wide_8-spelling short read bytes e = let reads = read_wide-reads w64 (2 ^ 32) short read e in absurd (omega arith)
 
 pub size_has_one_spelling : SizeHasOneSpelling
 unfolding read_size size_bytes

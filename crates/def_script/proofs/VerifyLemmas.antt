@@ -20,7 +20,8 @@ verified-set (x ∷ y ∷ xs) (suc n) form d last is =
     ap (λ rest. x ∷ rest) (verified-set (y ∷ xs) n form d (omega (arith, last)) is)
 
 -- the last instruction has none
-pub verified-plain : (xs : List Instruction) (n : ℕ) (d : Instruction) → n + 1 ≡ length xs → verified_last (get_or xs n d) ≡ get_or xs n d ∷ code op.Verify ∷ [] → xs ++ code op.Verify ∷ [] ≡ verified xs
+pub verified-plain : (xs : List Instruction) (n : ℕ) (d : Instruction) → n + 1 ≡ length xs → verified_last (get_or xs n d) ≡ get_or xs n d ∷ code op.Verify
+    ∷ [] → xs ++ code op.Verify ∷ [] ≡ verified xs
 verified-plain [] n d last is = absurd (omega (arith, last))
 verified-plain (x ∷ []) zero d last is = sym is
 verified-plain (x ∷ []) (suc n) d last is = absurd (omega (arith, last))

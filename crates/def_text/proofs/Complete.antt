@@ -1,8 +1,8 @@
 -- The machine reads what is spelled: behind the tokens of an expression its tree has been read.
 use Rattle.std.specs.Option.{option_and_then}
-use Rattle.std.proofs.Common.{◌≡◌, ℕ, ◌+◌, List, [], ◌∷◌, ◌++◌, Option, Some, refl, sym, ap, ◌∙◌, append_assoc, append-nil}
+use Rattle.std.proofs.Common.{◌≡◌, ℕ, ◌+◌, List, [], ◌∷◌, ◌++◌, Option, Some, refl, sym, ap, ◌∙◌, append_assoc, append-nil, arith}
 use Rattle.def_tree.specs.Tree.{Key, Tree, Trees, and_or, thresh, more, none}
-use Rattle.def_text.specs.Token.{Token, word, opening, closing, comma, colon, other, end}
+use Rattle.def_text.specs.Token.{Token, closing, comma, end}
 use Rattle.def_text.specs.Letter.{Letter, letter_of_wrapper, letter_t, letter_l, letter_u, letter_tree, letter_offsets, letters_tree, letters_offsets}
 use Rattle.def_text.specs.Spells.{Spells, text_0, text_1, text_pk_k, text_pk_h, text_pk, text_pkh, text_older, text_after, text_hash, text_andor, text_two, text_and_n, text_thresh, text_multi, text_letters, SpellsChildren, last_child, next_child, SpellsKeys, last_key, next_key, SpellsText, text_whole}
 use Rattle.def_text.specs.Scaffolding.Reader.{expression, ended, finished, multi_comma, multi_next, thresh_comma, Frame, letter_frame, thresh_child, andor_first, andor_second, andor_third, pair_first, pair_second, pair_two, pair_and_n, Pair, pair_tree, pair_offsets, State, START, step, behind, run_frames, run_offsets, joined, offsets_before, offsets_behind}
@@ -13,13 +13,7 @@ use Rattle.def_text.proofs.Words.{head_of_letters, head_of_hash, head_of_two}
 -- a letter that waits is applied by whichever token follows
 pub step_letter : (l : Letter) (a : ℕ) (x : Tree) (fs : List Frame) (os : List ℕ) (t : Token) →
     step (ended x, letter_frame l a ∷ fs, os) t ≡ step (ended (letter_tree l x), fs, os ++ offsets_behind l a) t
-step_letter l a x fs os (word b w) = refl
-step_letter l a x fs os (opening b) = refl
-step_letter l a x fs os (closing b) = refl
-step_letter l a x fs os (comma b) = refl
-step_letter l a x fs os (colon b) = refl
-step_letter l a x fs os (other b) = refl
-step_letter l a x fs os (end b) = refl
+step_letter l a x fs os t = grind arith
 
 pub offsets_of_letter : (l : Letter) (a : ℕ) (ps os : List ℕ) →
     ((ps ++ offsets_before l a) ++ os) ++ offsets_behind l a ≡ ps ++ letter_offsets a l os
@@ -46,19 +40,12 @@ unwound a (l ∷ ls) x fs ps os t ts =
 abbrev pub Leads : State → List Token → State → Type 0
 Leads s ts n = (t : Token) (rest : List Token) → behind s (ts ++ t ∷ rest) ≡ behind n (t ∷ rest)
 
--- the tokens of an expression are followed by more in the same form
-leads_on : (s n : State) (xs : List Token) (t : Token) (later rest : List Token) → Leads s xs n →
-    behind s ((xs ++ t ∷ later) ++ rest) ≡ behind n (t ∷ (later ++ rest))
-leads_on s n xs t later rest h = ap (behind s) (append_assoc xs (t ∷ later) rest) ∙ h t (later ++ rest)
-
 -- two children and what stands behind the second
 two_children : (s n m : State) (xs ys : List Token) (c d : ℕ) (rest : List Token) → step n (comma c) ≡ Some m →
-    Leads s xs n → (e : State) → Leads m ys e →
-    behind s ((xs ++ comma c ∷ (ys ++ closing d ∷ [])) ++ rest) ≡ behind e (closing d ∷ rest)
+    Leads s xs n → (e : State) → Leads m ys e → behind s (xs ++ comma c ∷ (ys ++ closing d ∷ rest)) ≡ behind e (closing d ∷ rest)
 two_children s n m xs ys c d rest goes first e second =
-    leads_on s n xs (comma c) (ys ++ closing d ∷ []) rest first
-    ∙ (ap (λ o. option_and_then (λ next. behind next ((ys ++ closing d ∷ []) ++ rest)) o) goes
-    ∙ leads_on m e ys (closing d) [] rest second)
+    first (comma c) (ys ++ closing d ∷ rest)
+    ∙ (ap (λ o. option_and_then (λ next. behind next (ys ++ closing d ∷ rest)) o) goes ∙ second (closing d) rest)
 
 keys_on : {ts : List Token} {keys : List Key} → SpellsKeys ts keys → (k : ℕ) (before : List Key) (fs : List Frame) (os : List ℕ) →
     Leads (multi_next k before, fs, os) ts (multi_next k (before ++ keys), fs, os)
@@ -84,28 +71,6 @@ leads_to : (s n : State) (xs ys : List Token) (t : Token) (rest : List Token) �
 leads_to s n xs [] t rest h = h t rest
 leads_to s n xs (y ∷ ys) t rest h = h y (ys ++ t ∷ rest)
 
--- the children of `thresh` and its `)`, where its last child has been read
-thresh_ended : (k : ℕ) (before : Trees) (y x : Tree) (a : ℕ) (fs : List Frame) (ps os : List ℕ) (d : ℕ) (rest : List Token) →
-    behind (ended x, thresh_child k (joined before (more y none)) a ∷ fs, ps ++ os) (closing d ∷ rest)
-    ≡ behind (ended (thresh k (joined before (more y (more x none)))), fs, (ps ++ os) ++ a ∷ []) rest
-thresh_ended k before y x a fs ps os d rest =
-    ap (λ r. behind (ended (thresh k r), fs, (ps ++ os) ++ a ∷ []) rest) (joined_assoc before (more y none) (more x none))
-
--- the tokens of two and of three children, from the left and from the right
-two_tokens : (xs ys rest : List Token) (c d : ℕ) →
-    (xs ++ comma c ∷ ys ++ closing d ∷ []) ++ rest ≡ (xs ++ comma c ∷ (ys ++ closing d ∷ [])) ++ rest
-two_tokens xs ys rest c d = simp append_assoc
-
-three_tokens : (xs ys zs rest : List Token) (c d e : ℕ) →
-    (xs ++ comma c ∷ ys ++ comma d ∷ zs ++ closing e ∷ []) ++ rest ≡ (xs ++ comma c ∷ (ys ++ comma d ∷ (zs ++ closing e ∷ []))) ++ rest
-three_tokens xs ys zs rest c d e = simp append_assoc
-
-three : (ps os qs rs : List ℕ) → ps ++ os ++ qs ++ rs ≡ ps ++ (os ++ qs ++ rs)
-three ps os qs rs = simp append_assoc
-
-four : (ps os qs rs ss : List ℕ) → ps ++ os ++ qs ++ rs ++ ss ≡ ps ++ (os ++ qs ++ rs ++ ss)
-four ps os qs rs ss = simp append_assoc
-
 -- a fragment of two children, where each is read
 pair_ended : (pair : Pair) (a c d : ℕ) (xs ys : List Token) (x y : Tree) (fs : List Frame) (ps os qs : List ℕ) (rest : List Token) →
     Leads (expression, pair_first pair a ∷ fs, ps) xs (ended x, pair_first pair a ∷ fs, ps ++ os) →
@@ -113,11 +78,9 @@ pair_ended : (pair : Pair) (a c d : ℕ) (xs ys : List Token) (x y : Tree) (fs :
     behind (expression, pair_first pair a ∷ fs, ps) ((xs ++ comma c ∷ ys ++ closing d ∷ []) ++ rest)
     ≡ behind (ended (pair_tree pair x y), fs, ps ++ (os ++ qs ++ pair_offsets pair a)) rest
 pair_ended pair a c d xs ys x y fs ps os qs rest hx hy =
-    ap (behind (expression, pair_first pair a ∷ fs, ps)) (two_tokens xs ys rest c d)
-    ∙ (two_children (expression, pair_first pair a ∷ fs, ps) (ended x, pair_first pair a ∷ fs, ps ++ os)
-    (expression, pair_second pair x a ∷ fs, ps ++ os) xs ys c d rest refl hx
-    (ended y, pair_second pair x a ∷ fs, (ps ++ os) ++ qs) hy
-    ∙ ap (λ r. behind (ended (pair_tree pair x y), fs, r) rest) (three ps os qs (pair_offsets pair a)))
+    simp append_assoc
+    (simp append_assoc at (two_children (expression, pair_first pair a ∷ fs, ps) (ended x, pair_first pair a ∷ fs, ps ++ os)
+    (expression, pair_second pair x a ∷ fs, ps ++ os) xs ys c d rest refl hx (ended y, pair_second pair x a ∷ fs, (ps ++ os) ++ qs) hy))
 
 -- `andor`, where each of its children is read
 andor_ended : (a c d e : ℕ) (xs ys zs : List Token) (x y z : Tree) (fs : List Frame) (ps os qs rs : List ℕ) (rest : List Token) →
@@ -127,13 +90,10 @@ andor_ended : (a c d e : ℕ) (xs ys zs : List Token) (x y z : Tree) (fs : List 
     behind (expression, andor_first a ∷ fs, ps) ((xs ++ comma c ∷ ys ++ comma d ∷ zs ++ closing e ∷ []) ++ rest)
     ≡ behind (ended (and_or x y z), fs, ps ++ (os ++ qs ++ rs ++ a ∷ [])) rest
 andor_ended a c d e xs ys zs x y z fs ps os qs rs rest hx hy hz =
-    ap (behind (expression, andor_first a ∷ fs, ps)) (three_tokens xs ys zs rest c d e)
-    ∙ (leads_on (expression, andor_first a ∷ fs, ps) (ended x, andor_first a ∷ fs, ps ++ os)
-    xs (comma c) (ys ++ comma d ∷ (zs ++ closing e ∷ [])) rest hx
-    ∙ (two_children (expression, andor_second x a ∷ fs, ps ++ os) (ended y, andor_second x a ∷ fs, (ps ++ os) ++ qs)
-    (expression, andor_third x y a ∷ fs, (ps ++ os) ++ qs) ys zs d e rest refl hy
-    (ended z, andor_third x y a ∷ fs, ((ps ++ os) ++ qs) ++ rs) hz
-    ∙ ap (λ r. behind (ended (and_or x y z), fs, r) rest) (four ps os qs rs (a ∷ []))))
+    simp append_assoc
+    (simp append_assoc at (hx (comma c) (ys ++ comma d ∷ (zs ++ closing e ∷ rest))
+    ∙ two_children (expression, andor_second x a ∷ fs, ps ++ os) (ended y, andor_second x a ∷ fs, (ps ++ os) ++ qs)
+    (expression, andor_third x y a ∷ fs, (ps ++ os) ++ qs) ys zs d e rest refl hy (ended z, andor_third x y a ∷ fs, ((ps ++ os) ++ qs) ++ rs) hz))
 
 mutual
   pub complete : {ts : List Token} {x : Tree} {os : List ℕ} → Spells ts x os → (fs : List Frame) (ps : List ℕ) →
@@ -162,9 +122,9 @@ mutual
       rw h (ap (behind (thresh_comma k a, fs, ps)) (append_assoc xs (closing d ∷ []) (t ∷ rest))
       ∙ (first_child hx k a fs ps d (t ∷ rest)
       ∙ ap (λ r. behind (ended (thresh k x), fs, r) (t ∷ rest)) (append_assoc ps os (a ∷ []))))
-  complete (text_multi {a = a} d {k = k} {ts = ts} {keys = keys} h hk) fs ps t rest =
-      rw h (leads_on (multi_comma k, fs, ps ++ a ∷ []) (multi_next k keys, fs, ps ++ a ∷ []) ts (closing d) [] (t ∷ rest)
-      (first_key hk k fs (ps ++ a ∷ [])))
+  complete (text_multi {a = a} d {k = k} {ts = ts} h hk) fs ps t rest =
+      rw h (ap (behind (multi_comma k, fs, ps ++ a ∷ [])) (append_assoc ts (closing d ∷ []) (t ∷ rest))
+      ∙ first_key hk k fs (ps ++ a ∷ []) (closing d) (t ∷ rest))
   complete (text_letters {a = a} l ls {xs = xs} {x = x} {os = os} hx) fs ps t rest =
       rw (head_of_letters l ls)
       (complete hx (run_frames a (l ∷ ls) fs) (run_offsets a (l ∷ ls) ps) t rest
@@ -175,11 +135,10 @@ mutual
       behind (thresh_comma k a, fs, ps) (ts ++ closing d ∷ rest) ≡ behind (ended (thresh k xs), fs, (ps ++ os) ++ a ∷ []) rest
   first_child (last_child hx) k a fs ps d rest = complete hx (thresh_child k none a ∷ fs) ps (closing d) rest
   first_child (next_child {c = c} {ts = xs} {us = ys} {x = x} {xs = y} {os = os} {ps = qs} hx hy) k a fs ps d rest =
-      ap (behind (expression, thresh_child k none a ∷ fs, ps)) (append_assoc xs ys (closing d ∷ rest))
-      ∙ (leads_to (expression, thresh_child k none a ∷ fs, ps) (ended x, thresh_child k none a ∷ fs, ps ++ os) xs ys (closing d) rest
-      (complete hx (thresh_child k none a ∷ fs) ps)
-      ∙ (next_children hy k none x a fs (ps ++ os) d rest
-      ∙ ap (λ r. behind (ended (thresh k (more x y)), fs, r ++ a ∷ []) rest) (append_assoc ps os qs)))
+      simp append_assoc
+      (simp append_assoc at (leads_to (expression, thresh_child k none a ∷ fs, ps) (ended x, thresh_child k none a ∷ fs, ps ++ os)
+      xs ys (closing d) rest (complete hx (thresh_child k none a ∷ fs) ps)
+      ∙ next_children hy k none x a fs (ps ++ os) d rest))
 
   next_children : {ts : List Token} {xs : Trees} {os : List ℕ} → SpellsChildren ts xs os →
       (k : ℕ) (before : Trees) (y : Tree) (a : ℕ) (fs : List Frame) (ps : List ℕ) (d : ℕ) (rest : List Token) →
@@ -187,15 +146,13 @@ mutual
       ≡ behind (ended (thresh k (joined before (more y xs))), fs, (ps ++ os) ++ a ∷ []) rest
   next_children (last_child {x = x} {os = os} hx) k before y a fs ps d rest =
       complete hx (thresh_child k (joined before (more y none)) a ∷ fs) ps (closing d) rest
-      ∙ thresh_ended k before y x a fs ps os d rest
+      ∙ ap (λ r. behind (ended (thresh k r), fs, (ps ++ os) ++ a ∷ []) rest) (joined_assoc before (more y none) (more x none))
   next_children (next_child {c = c} {ts = xs} {us = ys} {x = x} {xs = z} {os = os} {ps = qs} hx hy) k before y a fs ps d rest =
-      ap (behind (expression, thresh_child k (joined before (more y none)) a ∷ fs, ps)) (append_assoc xs ys (closing d ∷ rest))
-      ∙ (leads_to (expression, thresh_child k (joined before (more y none)) a ∷ fs, ps)
+      simp (append_assoc, joined_assoc)
+      (simp (append_assoc, joined_assoc) at (leads_to (expression, thresh_child k (joined before (more y none)) a ∷ fs, ps)
       (ended x, thresh_child k (joined before (more y none)) a ∷ fs, ps ++ os) xs ys (closing d) rest
       (complete hx (thresh_child k (joined before (more y none)) a ∷ fs) ps)
-      ∙ (next_children hy k (joined before (more y none)) x a fs (ps ++ os) d rest
-      ∙ (ap (λ r. behind (ended (thresh k r), fs, ((ps ++ os) ++ qs) ++ a ∷ []) rest) (joined_assoc before (more y none) (more x z))
-      ∙ ap (λ r. behind (ended (thresh k (joined before (more y (more x z)))), fs, r ++ a ∷ []) rest) (append_assoc ps os qs))))
+      ∙ next_children hy k (joined before (more y none)) x a fs (ps ++ os) d rest))
 
 -- ---- whole texts
 
@@ -204,11 +161,7 @@ complete_text (text_whole e h) = complete h [] [] (end e) []
 
 same_end : (x y : Tree) (os ps : List ℕ) →
     ◌≡◌ {A = Option State} (Some (finished x, [], os)) (Some (finished y, [], ps)) → (x ≡ y) × (os ≡ ps)
-same_end x y os ps h =
-    let e : ◌≡◌ {A = State} (finished x, [], os) (finished y, [], ps) = cc in
-    let want : finished x ≡ finished y = ap (λ (s : State). s.0) e in
-    let offsets : os ≡ ps = ap (λ (s : State). s.2) e in
-    (cc, offsets)
+same_end x y os ps h = (grind arith, grind arith)
 
 -- a text spells at most one tree, with one list of offsets
 pub one_tree : {ts : List Token} {x y : Tree} {os ps : List ℕ} → SpellsText ts x os → SpellsText ts y ps → (x ≡ y) × (os ≡ ps)

@@ -44,10 +44,8 @@ closing_text [] = []
 closing_text (letter_frame l a ∷ fs) = closing_text fs
 closing_text (andor_first a ∷ fs) = codes ",0,0)" ++ closing_text fs
 closing_text (andor_second x a ∷ fs) = codes ",0)" ++ closing_text fs
-closing_text (andor_third x y a ∷ fs) = codes ")" ++ closing_text fs
 closing_text (pair_first pair a ∷ fs) = codes ",0)" ++ closing_text fs
-closing_text (pair_second pair x a ∷ fs) = codes ")" ++ closing_text fs
-closing_text (thresh_child k xs a ∷ fs) = codes ")" ++ closing_text fs
+closing_text (frame ∷ fs) = codes ")" ++ closing_text fs
 
 -- the bytes that end a text in a state
 abbrev pub completion : Want → List Frame → Bytes
@@ -77,10 +75,7 @@ Ends s ts = (z : Tree) × (zs : List ℕ) × (behind s ts ≡ Some (finished z, 
 
 not_finished : (y z : Tree) (fs : List Frame) (ps zs : List ℕ) →
     ◌≡◌ {A = Option State} (Some (ended y, fs, ps)) (Some (finished z, [], zs)) → ⊥
-not_finished y z fs ps zs h =
-    let e : ◌≡◌ {A = State} (ended y, fs, ps) (finished z, [], zs) = cc in
-    let want : ended y ≡ finished z = ap (λ (s : State). s.0) e in
-    cc
+not_finished y z fs ps zs h = grind arith
 
 ends_letter : (x : Tree) (frame : Frame) (fs : List Frame) (os : List ℕ) (y : Tree) (ps : List ℕ) (ts : List Token) →
     ((t : Token) → step (ended x, frame ∷ fs, os) t ≡ step (ended y, fs, ps) t) → Ends (ended y, fs, ps) ts →
@@ -117,9 +112,7 @@ key_reads = refl
 hash_reads : (kind : HashKind) → hash_of kind (hash_text kind) ≡ Some (replicate (digest_length kind) 0)
 unfolding hex_on_literals
 hash_reads Sha256 = refl
-hash_reads Hash256 = refl
-hash_reads Ripemd160 = refl
-hash_reads Hash160 = refl
+hash_reads kind = refl
 
 leaf_reads : (leaf : Leaf) → (x : Tree) × (leaf_of leaf (leaf_text leaf) ≡ Some x)
 leaf_reads leaf_pk_k = (_, ap (option_map pk_k) key_reads)
@@ -134,27 +127,16 @@ leaf_reads (leaf_hash kind) = (_, ap (option_map (hash kind)) (hash_reads kind))
 leaf_tokens : (leaf : Leaf) (at : ℕ) (bs : Bytes) →
     (n : ℕ) × (tokens_from at (leaf_text leaf ++ (codes ")" ++ bs)) ≡ word at (leaf_text leaf) ∷ closing n ∷ tokens_from (n + 1) bs)
 leaf_tokens leaf_pk_k at bs = (_, refl)
-leaf_tokens leaf_pk_h at bs = (_, refl)
-leaf_tokens leaf_pk at bs = (_, refl)
-leaf_tokens leaf_pkh at bs = (_, refl)
-leaf_tokens leaf_older at bs = (_, refl)
-leaf_tokens leaf_after at bs = (_, refl)
 leaf_tokens (leaf_hash Sha256) at bs = (_, refl)
-leaf_tokens (leaf_hash Hash256) at bs = (_, refl)
-leaf_tokens (leaf_hash Ripemd160) at bs = (_, refl)
-leaf_tokens (leaf_hash Hash160) at bs = (_, refl)
+leaf_tokens (leaf_hash kind) at bs = (_, refl)
+leaf_tokens leaf at bs = (_, refl)
 
 -- ---- every state
 
 closing_starts : (fs : List Frame) (at : ℕ) → starts_word (tokens_from at (closing_text fs)) ≡ false
 closing_starts [] at = refl
 closing_starts (letter_frame l a ∷ fs) at = closing_starts fs at
-closing_starts (andor_first a ∷ fs) at = refl
-closing_starts (andor_second x a ∷ fs) at = refl
-closing_starts (andor_third x y a ∷ fs) at = refl
-closing_starts (pair_first pair a ∷ fs) at = refl
-closing_starts (pair_second pair x a ∷ fs) at = refl
-closing_starts (thresh_child k xs a ∷ fs) at = refl
+closing_starts (frame ∷ fs) at = refl
 
 -- `0` is an expression
 zero_ends : (fs : List Frame) (os : List ℕ) (at : ℕ) → Ends (expression, fs, os) (tokens_from at (codes "0" ++ closing_text fs))
@@ -214,23 +196,7 @@ wants_word want = false
 -- a word begins a completion only where it is wanted
 pub completion_starts : (want : Want) (fs : List Frame) (at : ℕ) → wants_word want ≡ false →
     starts_word (tokens_from at (completion want fs)) ≡ false
-completion_starts expression fs at w = absurd (cc)
-completion_starts colon_next fs at w = refl
-completion_starts (leaf_open leaf) fs at w = refl
-completion_starts (leaf_word leaf) fs at w = absurd (cc)
-completion_starts (leaf_close x) fs at w = refl
-completion_starts (andor_open a) fs at w = refl
-completion_starts (pair_open pair a) fs at w = refl
-completion_starts (thresh_open a) fs at w = refl
-completion_starts (thresh_number a) fs at w = absurd (cc)
-completion_starts (thresh_comma k a) fs at w = refl
-completion_starts multi_open fs at w = refl
-completion_starts multi_number fs at w = absurd (cc)
-completion_starts (multi_comma k) fs at w = refl
-completion_starts (multi_key k keys) fs at w = absurd (cc)
-completion_starts (multi_next k keys) fs at w = refl
-completion_starts (ended x) fs at w = closing_starts fs at
-completion_starts (finished x) fs at w = refl
+completion_starts want fs at = grind (arith, closing_starts)
 
 -- ---- the completion is ASCII
 
@@ -246,25 +212,14 @@ closing_is_utf8 [] = IsUtf8-nil
 closing_is_utf8 (letter_frame l a ∷ fs) = closing_is_utf8 fs
 closing_is_utf8 (andor_first a ∷ fs) = with_text (codes ",0,0)") (closing_text fs) refl (closing_is_utf8 fs)
 closing_is_utf8 (andor_second x a ∷ fs) = with_text (codes ",0)") (closing_text fs) refl (closing_is_utf8 fs)
-closing_is_utf8 (andor_third x y a ∷ fs) = with_text (codes ")") (closing_text fs) refl (closing_is_utf8 fs)
 closing_is_utf8 (pair_first pair a ∷ fs) = with_text (codes ",0)") (closing_text fs) refl (closing_is_utf8 fs)
-closing_is_utf8 (pair_second pair x a ∷ fs) = with_text (codes ")") (closing_text fs) refl (closing_is_utf8 fs)
-closing_is_utf8 (thresh_child k xs a ∷ fs) = with_text (codes ")") (closing_text fs) refl (closing_is_utf8 fs)
+closing_is_utf8 (frame ∷ fs) = with_text (codes ")") (closing_text fs) refl (closing_is_utf8 fs)
 
 closed_is_utf8 : (fs : List Frame) → IsUtf8 (codes ")" ++ closing_text fs)
 closed_is_utf8 fs = with_text (codes ")") (closing_text fs) refl (closing_is_utf8 fs)
 
 leaf_is_ascii : (leaf : Leaf) → list_all is_ascii (leaf_text leaf) ≡ true
-leaf_is_ascii leaf_pk_k = refl
-leaf_is_ascii leaf_pk_h = refl
-leaf_is_ascii leaf_pk = refl
-leaf_is_ascii leaf_pkh = refl
-leaf_is_ascii leaf_older = refl
-leaf_is_ascii leaf_after = refl
-leaf_is_ascii (leaf_hash Sha256) = refl
-leaf_is_ascii (leaf_hash Hash256) = refl
-leaf_is_ascii (leaf_hash Ripemd160) = refl
-leaf_is_ascii (leaf_hash Hash160) = refl
+leaf_is_ascii leaf = grind arith
 
 leaf_is_utf8 : (leaf : Leaf) (fs : List Frame) → IsUtf8 (leaf_text leaf ++ (codes ")" ++ closing_text fs))
 leaf_is_utf8 leaf fs = with_text (leaf_text leaf) (codes ")" ++ closing_text fs) (leaf_is_ascii leaf) (closed_is_utf8 fs)

@@ -115,24 +115,11 @@ data FirstWord (ts : List Token) : Type 0 where
   not_first : starts_word ts ≡ false → FirstWord ts
 
 first_word : (ts : List Token) → FirstWord ts
-first_word [] = not_first refl
 first_word (word n w ∷ ts) = word_first n w ts refl
-first_word (opening n ∷ ts) = not_first refl
-first_word (closing n ∷ ts) = not_first refl
-first_word (comma n ∷ ts) = not_first refl
-first_word (colon n ∷ ts) = not_first refl
-first_word (other n ∷ ts) = not_first refl
-first_word (end n ∷ ts) = not_first refl
+first_word ts = not_first refl
 
 pub alone : (at b : ℕ) (ts : List Token) → starts_word ts ≡ false → word_before at b ts ≡ word at (b ∷ []) ∷ ts
-alone at b [] h = refl
-alone at b (word n w ∷ ts) h = cc
-alone at b (opening n ∷ ts) h = refl
-alone at b (closing n ∷ ts) h = refl
-alone at b (comma n ∷ ts) h = refl
-alone at b (colon n ∷ ts) h = refl
-alone at b (other n ∷ ts) h = refl
-alone at b (end n ∷ ts) h = refl
+alone at b ts = grind arith
 
 -- no word begins what follows a word of one byte
 unjoined : (at b : ℕ) (u : Token) (us ts later : List Token) → word at (b ∷ []) ≡ u → starts_word ts ≡ false →
@@ -143,6 +130,19 @@ unjoined at b u (v ∷ vs) ts later e f t after h j = sym (ap starts_word h) ∙
 
 module _ (at b : ℕ) (bs : Bytes) (inner : (us : List Token) (t : Token) (after : List Token) → tokens_from (at + 1) bs ≡ us ++ t ∷ after →
     Cut (at + 1) bs us t) where
+  -- one byte more in front of a cut
+  further : (vs us : List Token) (t : Token) (c : Cut (at + 1) bs vs t) → NoEnd us →
+      ((later : Bytes) → (ends_word us && starts_word (tokens_from (offset t) later)) ≡ false →
+      tokens_from at (b ∷ (c.front ++ later)) ≡ us ++ tokens_from (offset t) later) → Cut at (b ∷ bs) us t
+  further vs us t c none same = record {
+    front = b ∷ c.front;
+    rest = c.rest;
+    split = ap (λ r. b ∷ r) c.split;
+    character = c.character;
+    no_end = none;
+    same = same;
+  }
+
   cut_single : (s : Token) → goes_on b ≡ false → offset s ≡ at → is_end s ≡ false →
       ((ts : List Token) → byte_before at b ts ≡ s ∷ ts) → (us : List Token) (t : Token) (after : List Token) →
       s ∷ tokens_from (at + 1) bs ≡ us ++ t ∷ after → Cut at (b ∷ bs) us t
@@ -150,17 +150,11 @@ module _ (at b : ℕ) (bs : Bytes) (inner : (us : List Token) (t : Token) (after
   cut_single s g o n same (u ∷ us) t after h =
       let e : s ≡ u = cc in
       let c : Cut (at + 1) bs us t = inner us t after (cc) in
-      record {
-        front = b ∷ c.front;
-        rest = c.rest;
-        split = ap (λ r. b ∷ r) c.split;
-        character = c.character;
-        no_end = (rw (← e) n, c.no_end);
-        same = λ later j.
-            same (tokens_from (at + 1) (c.front ++ later))
-            ∙ (ap (λ r. s ∷ r) (c.same later (inner_join u us (starts_word (tokens_from (offset t) later)) j))
-            ∙ ap (λ r. r ∷ (us ++ tokens_from (offset t) later)) e);
-      }
+      further us (u ∷ us) t c (rw (← e) n, c.no_end)
+      (λ later j.
+      same (tokens_from (at + 1) (c.front ++ later))
+      ∙ (ap (λ r. s ∷ r) (c.same later (inner_join u us (starts_word (tokens_from (offset t) later)) j))
+      ∙ ap (λ r. r ∷ (us ++ tokens_from (offset t) later)) e))
 
   cut_joined : (n : ℕ) (w : Bytes) (ts : List Token) → tokens_from (at + 1) bs ≡ word n w ∷ ts → goes_on b ≡ false →
       ((ts : List Token) → byte_before at b ts ≡ word_before at b ts) → (us : List Token) (t : Token) (after : List Token) →
@@ -171,18 +165,12 @@ module _ (at b : ℕ) (bs : Bytes) (inner : (us : List Token) (t : Token) (after
       let e : word at (b ∷ w) ≡ u = cc in
       let tail : ts ≡ us ++ t ∷ after = cc in
       let c : Cut (at + 1) bs (word n w ∷ us) t = inner (word n w ∷ us) t after (k ∙ ap (λ r. word n w ∷ r) tail) in
-      record {
-        front = b ∷ c.front;
-        rest = c.rest;
-        split = ap (λ r. b ∷ r) c.split;
-        character = c.character;
-        no_end = (ap is_end (sym e), c.no_end.1);
-        same = λ later j.
-            same (tokens_from (at + 1) (c.front ++ later))
-            ∙ (ap (word_before at b)
-            (c.same later (other_first u (word n w) us (starts_word (tokens_from (offset t) later)) (ap is_word (sym e)) j))
-            ∙ ap (λ r. r ∷ (us ++ tokens_from (offset t) later)) e);
-      }
+      further (word n w ∷ us) (u ∷ us) t c (ap is_end (sym e), c.no_end.1)
+      (λ later j.
+      same (tokens_from (at + 1) (c.front ++ later))
+      ∙ (ap (word_before at b)
+      (c.same later (other_first u (word n w) us (starts_word (tokens_from (offset t) later)) (ap is_word (sym e)) j))
+      ∙ ap (λ r. r ∷ (us ++ tokens_from (offset t) later)) e))
 
   cut_alone : starts_word (tokens_from (at + 1) bs) ≡ false → goes_on b ≡ false →
       ((ts : List Token) → byte_before at b ts ≡ word_before at b ts) → (us : List Token) (t : Token) (after : List Token) →
@@ -193,19 +181,13 @@ module _ (at b : ℕ) (bs : Bytes) (inner : (us : List Token) (t : Token) (after
       let e : word at (b ∷ []) ≡ u = cc in
       let tail : tokens_from (at + 1) bs ≡ us ++ t ∷ after = cc in
       let c : Cut (at + 1) bs us t = inner us t after tail in
-      record {
-        front = b ∷ c.front;
-        rest = c.rest;
-        split = ap (λ r. b ∷ r) c.split;
-        character = c.character;
-        no_end = (ap is_end (sym e), c.no_end);
-        same = λ later j.
-            same (tokens_from (at + 1) (c.front ++ later))
-            ∙ (ap (word_before at b) (c.same later (inner_join u us (starts_word (tokens_from (offset t) later)) j))
-            ∙ (alone at b (us ++ tokens_from (offset t) later)
-            (unjoined at b u us (tokens_from (at + 1) bs) (tokens_from (offset t) later) e f t after tail j)
-            ∙ ap (λ r. r ∷ (us ++ tokens_from (offset t) later)) e));
-      }
+      further us (u ∷ us) t c (ap is_end (sym e), c.no_end)
+      (λ later j.
+      same (tokens_from (at + 1) (c.front ++ later))
+      ∙ (ap (word_before at b) (c.same later (inner_join u us (starts_word (tokens_from (offset t) later)) j))
+      ∙ (alone at b (us ++ tokens_from (offset t) later)
+      (unjoined at b u us (tokens_from (at + 1) bs) (tokens_from (offset t) later) e f t after tail j)
+      ∙ ap (λ r. r ∷ (us ++ tokens_from (offset t) later)) e)))
 
   cut_word : FirstWord (tokens_from (at + 1) bs) → goes_on b ≡ false →
       ((ts : List Token) → byte_before at b ts ≡ word_before at b ts) → (us : List Token) (t : Token) (after : List Token) →
@@ -217,14 +199,7 @@ module _ (at b : ℕ) (bs : Bytes) (inner : (us : List Token) (t : Token) (after
       tokens_from (at + 1) bs ≡ us ++ t ∷ after → Cut at (b ∷ bs) us t
   cut_skip same us t after h =
       let c : Cut (at + 1) bs us t = inner us t after h in
-      record {
-        front = b ∷ c.front;
-        rest = c.rest;
-        split = ap (λ r. b ∷ r) c.split;
-        character = c.character;
-        no_end = c.no_end;
-        same = λ later j. same (tokens_from (at + 1) (c.front ++ later)) ∙ c.same later j;
-      }
+      further us us t c c.no_end (λ later j. same (tokens_from (at + 1) (c.front ++ later)) ∙ c.same later j)
 
   cut_by_kind : ByteKind at b → (us : List Token) (t : Token) (after : List Token) →
       byte_before at b (tokens_from (at + 1) bs) ≡ us ++ t ∷ after → Cut at (b ∷ bs) us t

@@ -1,12 +1,12 @@
 -- A token is too deep exactly where the machine finds it so.
-use Rattle.std.proofs.Common.{◌≡◌, ℕ, ◌+◌, ◌<◌, true, false, ◌||◌, List, ◌∷◌, ◌++◌, length, Some, refl, sym, ap, ◌∙◌, subst}
+use Rattle.std.proofs.Common.{◌≡◌, ℕ, ◌+◌, ◌<◌, true, ◌||◌, List, ◌∷◌, ◌++◌, length, Some, refl, sym, ap, ◌∙◌, subst, arith}
 use Rattle.std.specs.Str.{IsUtf8}
 use Rattle.std.proofs.lemmas.Bool.{ltb-true, lt-ltb}
 use Rattle.def_script.specs.Bytes.{Bytes}
-use Rattle.def_text.specs.Token.{Token, word, opening, closing, comma, colon, other, end, tokens}
+use Rattle.def_text.specs.Token.{Token, word, tokens}
 use Rattle.def_text.specs.Word.{is_fragment_name}
 use Rattle.def_text.specs.Refusal.{MOST_WRITTEN_DEPTH, MayBegin, is_run, levels_of, enclosing, IsDeep}
-use Rattle.def_text.specs.Scaffolding.Reader.{Form, form_0, form_1, form_leaf, form_andor, form_pair, form_thresh, form_multi, Head, named, run, neither, head_of, head_levels, begin_form, begin, Want, expression, Frame, State, START, step, behind, is_deep_head, is_deep_word, is_deep}
+use Rattle.def_text.specs.Scaffolding.Reader.{Form, form_0, Head, named, run, neither, head_of, begin_form, begin, Want, expression, Frame, State, START, step, behind, is_deep_head, is_deep_word, is_deep}
 use Rattle.def_text.proofs.Levels.{HeadSays, head_says}
 use Rattle.def_text.proofs.Viable.{may_begin, begins_expression}
 use Rattle.def_text.proofs.Counted.{enclosing_is}
@@ -15,29 +15,16 @@ use Rattle.def_text.proofs.Counted.{enclosing_is}
 
 deep_says : (w : Bytes) (head : Head) (n : ℕ) → HeadSays w head → is_deep_head head n ≡ true →
     ((is_fragment_name w || is_run w) ≡ true) × (MOST_WRITTEN_DEPTH < n + levels_of w)
-deep_says w (named form) n says h =
-    (says.begun, subst (λ k. MOST_WRITTEN_DEPTH < n + k) (sym says.levels) (ltb-true MOST_WRITTEN_DEPTH (n + head_levels (named form)) h))
-deep_says w (run l ls) n says h =
-    (says.begun, subst (λ k. MOST_WRITTEN_DEPTH < n + k) (sym says.levels) (ltb-true MOST_WRITTEN_DEPTH (n + head_levels (run l ls)) h))
-deep_says w neither n says h = absurd (cc)
+deep_says w head n = grind (arith, ltb-true)
 
 says_deep : (w : Bytes) (head : Head) (n : ℕ) → HeadSays w head → (is_fragment_name w || is_run w) ≡ true →
     MOST_WRITTEN_DEPTH < n + levels_of w →
     is_deep_head head n ≡ true
-says_deep w (named form) n says b h =
-    lt-ltb MOST_WRITTEN_DEPTH (n + head_levels (named form)) (subst (λ k. MOST_WRITTEN_DEPTH < n + k) says.levels h)
-says_deep w (run l ls) n says b h =
-    lt-ltb MOST_WRITTEN_DEPTH (n + head_levels (run l ls)) (subst (λ k. MOST_WRITTEN_DEPTH < n + k) says.levels h)
-says_deep w neither n says b h = let e : false ≡ true = sym says.begun ∙ b in absurd (cc)
+says_deep w head n = grind (arith, lt-ltb)
 
 form_steps : (form : Form) (a : ℕ) (fs : List Frame) (os : List ℕ) → (n : State) × (begin_form form a fs os ≡ Some n)
 form_steps form_0 a fs os = (_, refl)
-form_steps form_1 a fs os = (_, refl)
-form_steps (form_leaf leaf) a fs os = (_, refl)
-form_steps form_andor a fs os = (_, refl)
-form_steps (form_pair pair) a fs os = (_, refl)
-form_steps form_thresh a fs os = (_, refl)
-form_steps form_multi a fs os = (_, refl)
+form_steps form a fs os = (_, refl)
 
 head_steps : (head : Head) (a : ℕ) (fs : List Frame) (os : List ℕ) → is_deep_head head (length fs) ≡ true →
     (n : State) × (begin head a fs os ≡ Some n)
@@ -64,12 +51,7 @@ deep_word want fs os b v h = absurd (cc)
 
 pub deep_token : (s : State) (t : Token) → is_deep s t ≡ true → DeepWord s t
 deep_token s (word b v) h = deep_word s.0 s.1 s.2 b v h
-deep_token s (opening b) h = absurd (cc)
-deep_token s (closing b) h = absurd (cc)
-deep_token s (comma b) h = absurd (cc)
-deep_token s (colon b) h = absurd (cc)
-deep_token s (other b) h = absurd (cc)
-deep_token s (end b) h = absurd (cc)
+deep_token s t h = absurd (cc)
 
 wanted_behind : (us : List Token) (s : State) → s.0 ≡ expression → behind START us ≡ Some s →
     behind START us ≡ Some (expression, s.1, s.2)
@@ -95,9 +77,4 @@ deep_machine us (word a w) s goes (begins, named_or_run, over) =
     ap (λ want. is_deep_word want w s.1) e
     ∙ says_deep w (head_of w) (length s.1) (head_says w) named_or_run
     (subst (λ n. MOST_WRITTEN_DEPTH < n + levels_of w) depth over)
-deep_machine us (opening a) s goes h = absurd h
-deep_machine us (closing a) s goes h = absurd h
-deep_machine us (comma a) s goes h = absurd h
-deep_machine us (colon a) s goes h = absurd h
-deep_machine us (other a) s goes h = absurd h
-deep_machine us (end a) s goes h = absurd h
+deep_machine us t s goes h = absurd h

@@ -1,14 +1,14 @@
 -- A text ends with its end, and its front is viable where the machine takes it.
-use Rattle.std.proofs.Common.{◌≡◌, ℕ, ◌+◌, true, List, [], ◌∷◌, ◌++◌, Option, Some, None, refl, sym, ap, ◌∙◌, subst, append-nil}
+use Rattle.std.proofs.Common.{◌≡◌, ℕ, ◌+◌, true, List, [], ◌∷◌, ◌++◌, Option, Some, None, refl, sym, ap, ◌∙◌, subst, append-nil, arith}
 use Rattle.std.specs.Prelude.{⊤}
 use Rattle.std.specs.Str.{IsUtf8}
 use Rattle.def_script.specs.Bytes.{Bytes}
 use Rattle.def_tree.specs.Tree.{Tree}
-use Rattle.def_text.specs.Token.{Token, word, opening, closing, comma, colon, other, end, tokens, tokens_from, word_before, byte_before}
+use Rattle.def_text.specs.Token.{Token, tokens, tokens_from, word_before, byte_before}
 use Rattle.def_text.specs.Letter.{letter_tree}
 use Rattle.def_text.specs.Spells.{SpellsText}
 use Rattle.def_text.specs.Refusal.{IsViable}
-use Rattle.def_text.specs.Scaffolding.Reader.{Want, ended, finished, Frame, letter_frame, State, START, step_end, end_behind, step, behind}
+use Rattle.def_text.specs.Scaffolding.Reader.{finished, Frame, letter_frame, State, START, end_behind, step, behind}
 use Rattle.def_text.proofs.Sound.{spelled}
 use Rattle.def_text.proofs.Cut.{ByteKind, word_kind, single_kind, skip_kind, kind_of, is_end}
 use Rattle.def_text.proofs.Completion.{is_finished}
@@ -26,15 +26,7 @@ last_behind t [] h = absurd h
 last_behind t (u ∷ ts) h = h
 
 last_of_word : (at b : ℕ) (ts : List Token) → LastEnd ts → LastEnd (word_before at b ts)
-last_of_word at b [] h = absurd h
-last_of_word at b (word n w ∷ []) h = absurd (cc)
-last_of_word at b (word n w ∷ u ∷ ts) h = h
-last_of_word at b (opening n ∷ ts) h = h
-last_of_word at b (closing n ∷ ts) h = h
-last_of_word at b (comma n ∷ ts) h = h
-last_of_word at b (colon n ∷ ts) h = h
-last_of_word at b (other n ∷ ts) h = h
-last_of_word at b (end n ∷ ts) h = h
+last_of_word at b ts = grind arith
 
 last_by_kind : (at b : ℕ) (ts : List Token) → ByteKind at b → LastEnd ts → LastEnd (byte_before at b ts)
 last_by_kind at b ts (word_kind g same) h = subst LastEnd (sym (same ts)) (last_of_word at b ts h)
@@ -54,18 +46,8 @@ ended_finishes x [] os = refl
 ended_finishes x (letter_frame l a ∷ fs) os = ended_finishes (letter_tree l x) fs _
 ended_finishes x (frame ∷ fs) os = tt
 
-end_finishes : (want : Want) (fs : List Frame) (os : List ℕ) → NextFinished (step_end want fs os)
-end_finishes (ended x) fs os = ended_finishes x fs os
-end_finishes want fs os = tt
-
 step_finishes : (s : State) (t : Token) → is_end t ≡ true → NextFinished (step s t)
-step_finishes s (word a w) h = absurd (cc)
-step_finishes s (opening a) h = absurd (cc)
-step_finishes s (closing a) h = absurd (cc)
-step_finishes s (comma a) h = absurd (cc)
-step_finishes s (colon a) h = absurd (cc)
-step_finishes s (other a) h = absurd (cc)
-step_finishes s (end a) h = end_finishes s.0 s.1 s.2
+step_finishes s t = grind (arith, ended_finishes)
 
 -- behind its end a text is finished
 pub finishes : (us : List Token) (s n : State) → LastEnd us → behind s us ≡ Some n → is_finished n.0 ≡ true

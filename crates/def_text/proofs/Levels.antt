@@ -1,62 +1,29 @@
 -- What a word adds to the written depth is what its head says.
-use Rattle.std.proofs.Common.{◌≡◌, ℕ, ◌==◌, Bool, true, false, ◌&&◌, ◌||◌, List, [], ◌∷◌, length, map, Option, Some, None, is_some, nat_eq, suc, refl, sym, ap, ◌∙◌, subst}
+use Rattle.std.proofs.Common.{◌≡◌, ℕ, Bool, true, false, ◌&&◌, ◌||◌, List, [], ◌∷◌, length, map, Option, Some, None, is_some, suc, refl, sym, ap, ◌∙◌, subst, arith}
 use Rattle.std.specs.Prelude.{if◌then◌else◌}
 use Rattle.std.specs.Option.{option_and_then, option_map}
 use Rattle.std.specs.List.{list_any, list_all}
 use Rattle.std.specs.Str.{bytes_eq}
 use Rattle.def_script.specs.Bytes.{Bytes}
-use Rattle.def_hash.specs.declared.HashKind.TheVariants.{Sha256, Hash256, Ripemd160, Hash160}
-use Rattle.def_tree.specs.declared.Wrapper.TheVariants.{A, S, C, D, V, J, N}
-use Rattle.def_tree.specs.declared.Two.TheVariants.{AndV, AndB, OrB, OrC, OrD, OrI}
 use Rattle.def_text.specs.Word.{is_fragment_name}
-use Rattle.def_text.specs.Letter.{Letter, letter_of_wrapper, letter_t, letter_l, letter_u, letter_byte, letter_word}
+use Rattle.def_text.specs.Letter.{Letter, letter_byte, letter_word}
 use Rattle.def_text.specs.Refusal.{is_letter, is_run, levels_of}
-use Rattle.def_text.specs.Scaffolding.Reader.{Leaf, leaf_pk_k, leaf_pk_h, leaf_pk, leaf_pkh, leaf_older, leaf_after, leaf_hash, leaf_name, pair_two, pair_and_n, Form, form_0, form_1, form_leaf, form_andor, form_pair, form_thresh, form_multi, form_name, FORMS, first_named, LETTERS, first_letter, letters_of, Head, named, run, neither, head_from, head_of, head_levels}
+use Rattle.def_text.specs.Scaffolding.Reader.{Form, form_name, FORMS, first_named, LETTERS, first_letter, letters_of, Head, named, run, neither, head_from, head_of, head_levels}
 use Rattle.def_text.proofs.Words.{named_is, word_is}
 
 -- ---- names
 
-any_here : (w : Bytes) (form : Form) (forms : List Form) (b : Bool) →
-    list_any (bytes_eq w) (map form_name forms) ≡ is_some (first_named w forms) →
-    (b || list_any (bytes_eq w) (map form_name forms)) ≡ is_some (if b then Some form else first_named w forms)
-any_here w form forms true h = refl
-any_here w form forms false h = h
-
 any_named : (w : Bytes) (forms : List Form) → list_any (bytes_eq w) (map form_name forms) ≡ is_some (first_named w forms)
 any_named w [] = refl
-any_named w (form ∷ forms) = any_here w form forms (bytes_eq w (form_name form)) (any_named w forms)
+any_named w (form ∷ forms) = grind (arith, any_named w forms)
 
 -- a word is the name of a fragment where the table has it
 name_is_found : (w : Bytes) → is_fragment_name w ≡ is_some (first_named w FORMS)
 name_is_found w = any_named w FORMS
 
 -- no name is a run of letters
-leaf_no_run : (leaf : Leaf) → letters_of (leaf_name leaf) ≡ None
-leaf_no_run leaf_pk_k = refl
-leaf_no_run leaf_pk_h = refl
-leaf_no_run leaf_pk = refl
-leaf_no_run leaf_pkh = refl
-leaf_no_run leaf_older = refl
-leaf_no_run leaf_after = refl
-leaf_no_run (leaf_hash Sha256) = refl
-leaf_no_run (leaf_hash Hash256) = refl
-leaf_no_run (leaf_hash Ripemd160) = refl
-leaf_no_run (leaf_hash Hash160) = refl
-
 name_no_run : (form : Form) → letters_of (form_name form) ≡ None
-name_no_run form_0 = refl
-name_no_run form_1 = refl
-name_no_run (form_leaf leaf) = leaf_no_run leaf
-name_no_run form_andor = refl
-name_no_run (form_pair (pair_two AndV)) = refl
-name_no_run (form_pair (pair_two AndB)) = refl
-name_no_run (form_pair (pair_two OrB)) = refl
-name_no_run (form_pair (pair_two OrC)) = refl
-name_no_run (form_pair (pair_two OrD)) = refl
-name_no_run (form_pair (pair_two OrI)) = refl
-name_no_run (form_pair pair_and_n) = refl
-name_no_run form_thresh = refl
-name_no_run form_multi = refl
+name_no_run form = grind arith
 
 run_no_name : (w : Bytes) (l : Letter) (ls : List Letter) (o : Option Form) → first_named w FORMS ≡ o →
     letters_of w ≡ Some (l ∷ ls) →
@@ -70,16 +37,7 @@ run_no_name w l ls (Some form) e h =
 -- ---- letters
 
 is_letter_byte : (l : Letter) → is_letter (letter_byte l) ≡ true
-is_letter_byte (letter_of_wrapper A) = refl
-is_letter_byte (letter_of_wrapper S) = refl
-is_letter_byte (letter_of_wrapper C) = refl
-is_letter_byte (letter_of_wrapper D) = refl
-is_letter_byte (letter_of_wrapper V) = refl
-is_letter_byte (letter_of_wrapper J) = refl
-is_letter_byte (letter_of_wrapper N) = refl
-is_letter_byte letter_t = refl
-is_letter_byte letter_l = refl
-is_letter_byte letter_u = refl
+is_letter_byte l = grind arith
 
 all_letters : (ls : List Letter) → list_all is_letter (letter_word ls) ≡ true
 all_letters [] = refl
@@ -89,29 +47,10 @@ length_of_word : (ls : List Letter) → length (letter_word ls) ≡ length ls
 length_of_word [] = refl
 length_of_word (l ∷ ls) = ap suc (length_of_word ls)
 
-letter_here : (n : ℕ) (l : Letter) (ls : List Letter) (b : Bool) →
-    list_any (nat_eq n) (map letter_byte ls) ≡ is_some (first_letter n ls) →
-    (b || list_any (nat_eq n) (map letter_byte ls)) ≡ is_some (if b then Some l else first_letter n ls)
-letter_here n l ls true h = refl
-letter_here n l ls false h = h
-
-any_letter : (n : ℕ) (ls : List Letter) → list_any (nat_eq n) (map letter_byte ls) ≡ is_some (first_letter n ls)
-any_letter n [] = refl
-any_letter n (l ∷ ls) = letter_here n l ls (n == letter_byte l) (any_letter n ls)
-
-letter_is_found : (n : ℕ) → is_letter n ≡ is_some (first_letter n LETTERS)
-letter_is_found n = any_letter n LETTERS
-
 not_all_here : (n : ℕ) (w : Bytes) (o : Option Letter) (p : Option (List Letter)) → first_letter n LETTERS ≡ o →
     (p ≡ None → list_all is_letter w ≡ false) → option_and_then (λ l. option_map (λ ls. l ∷ ls) p) o ≡ None →
     (is_letter n && list_all is_letter w) ≡ false
-not_all_here n w None p e others h =
-    let k : is_letter n ≡ false = letter_is_found n ∙ ap is_some e in
-    ap (λ b. b && list_all is_letter w) k
-not_all_here n w (Some l) None e others h =
-    let k : is_letter n ≡ true = letter_is_found n ∙ ap is_some e in
-    ap (λ b. b && list_all is_letter w) k ∙ others refl
-not_all_here n w (Some l) (Some ls) e others h = absurd (cc)
+not_all_here n w o p = grind arith
 
 not_all_letters : (w : Bytes) → letters_of w ≡ None → list_all is_letter w ≡ false
 not_all_letters [] h = absurd (cc)

@@ -9,29 +9,7 @@ use Rattle.def_text.specs.declared.TextFault.TheVariants.{TooLong, Syntax, TooDe
 use Rattle.def_text.specs.Token.{Token, offset, tokens}
 use Rattle.def_text.specs.Refusal.{MOST_BYTES, IsViable, Place, SyntaxAt, DeepAt, TextRefusal, TextReads}
 use Rattle.def_text.specs.Scaffolding.Reader.{START, Outcome, tree_outcome, syntax_outcome, deep_outcome, outcome}
-use Rattle.def_text.proofs.Report.{Reports, report}
-
--- of two splits of one list, which one comes first
-data Order (xs : List Token) (x : Token) (ys : List Token) (y : Token) : Type 0 where
-  same_place : xs ≡ ys → x ≡ y → Order xs x ys y
-  earlier : (later : List Token) → ys ≡ xs ++ x ∷ later → Order xs x ys y
-  later : (later : List Token) → xs ≡ ys ++ y ∷ later → Order xs x ys y
-
-order_further : (u v : Token) (xs : List Token) (x : Token) (ys : List Token) (y : Token) → u ≡ v → Order xs x ys y →
-    Order (u ∷ xs) x (v ∷ ys) y
-order_further u v xs x ys y e (same_place h k) = same_place (ap (λ r. r ∷ xs) e ∙ ap (λ r. v ∷ r) h) k
-order_further u v xs x ys y e (earlier rest h) = earlier rest (ap (λ r. v ∷ r) h ∙ ap (λ r. r ∷ (xs ++ x ∷ rest)) (sym e))
-order_further u v xs x ys y e (later rest h) = later rest (ap (λ r. u ∷ r) h ∙ ap (λ r. r ∷ (ys ++ y ∷ rest)) e)
-
-order : (xs : List Token) (x : Token) (xs' : List Token) (ys : List Token) (y : Token) (ys' : List Token) →
-    xs ++ x ∷ xs' ≡ ys ++ y ∷ ys' → Order xs x ys y
-order [] x xs' [] y ys' h = same_place refl (cc)
-order [] x xs' (v ∷ ys) y ys' h = let e : x ≡ v = cc in earlier ys (ap (λ r. r ∷ ys) (sym e))
-order (u ∷ xs) x xs' [] y ys' h = let e : u ≡ y = cc in later xs (ap (λ r. r ∷ xs) e)
-order (u ∷ xs) x xs' (v ∷ ys) y ys' h =
-    let e : u ≡ v = cc in
-    let rest : xs ++ x ∷ xs' ≡ ys ++ y ∷ ys' = cc in
-    order_further u v xs x ys y e (order xs x xs' ys y ys' rest)
+use Rattle.def_text.proofs.Report.{Order, same_place, earlier, later, order, Reports, report}
 
 places : {text : Bytes} {p q : ℕ} (a : Place text p) (b : Place text q) → Order a.before a.token b.before b.token
 places a b = order a.before a.token a.after b.before b.token b.after (sym a.split ∙ b.split)
@@ -80,16 +58,13 @@ module _ {text : Bytes} {p q : ℕ} where
 
 pub one_refusal : (text : Bytes) (d e : TextFault) → TextRefusal text d → TextRefusal text e → d ≡ e
 one_refusal text TooLong TooLong a b = refl
-one_refusal text TooLong (Syntax q) a (short, b) = absurd (omega arith)
-one_refusal text TooLong (TooDeep q) a (short, b) = absurd (omega arith)
-one_refusal text (Syntax p) TooLong (short, a) b = absurd (omega arith)
 one_refusal text (Syntax p) (Syntax q) (short, a) (same, b) = ap Syntax (syntax_order a b (places a.place b.place))
 one_refusal text (Syntax p) (TooDeep q) (short, a) (same, b) = absurd (mixed_order a b (places a.place b.place))
-one_refusal text (TooDeep p) TooLong (short, a) b = absurd (omega arith)
 one_refusal text (TooDeep p) (Syntax q) (short, a) (same, b) = absurd (mixed_order b a (places b.place a.place))
 one_refusal text (TooDeep p) (TooDeep q) (short, a) (same, b) = ap TooDeep (deep_order a b (places a.place b.place))
 one_refusal text Memory e a b = absurd a
 one_refusal text d Memory a b = absurd b
+one_refusal text d e a b = absurd (omega arith)
 
 -- ---- a refusal beside a tree
 

@@ -1,15 +1,15 @@
 -- The printed form of a tree spells it.
 use Rattle.std.proofs.Common.{◌≡◌, ℕ, ◌+◌, ◌<◌, ◌≤◌, ◌^◌, true, List, [], ◌∷◌, ◌++◌, length, codes, decimal, refl, sym, ap, ◌∙◌, subst, append_assoc, append-nil, arith}
 use Rattle.std.specs.Prelude.{All}
+use Rattle.std.specs.List.{list_all}
 use Rattle.std.proofs.lemmas.List.Elements.{All-head, All-tail}
 use Rattle.hex.specs.Hex.{encode_lower}
 use Rattle.def_script.specs.Bytes.{Bytes}
 use Rattle.def_hash.specs.declared.HashKind.{HashKind}
-use Rattle.def_hash.specs.declared.HashKind.TheVariants.{Sha256, Hash256, Ripemd160, Hash160}
+use Rattle.def_hash.specs.declared.HashKind.TheVariants.{Sha256}
 use Rattle.def_tree.specs.declared.Wrapper.{Wrapper}
-use Rattle.def_tree.specs.declared.Wrapper.TheVariants.{A, S, C, D, V, J, N}
 use Rattle.def_tree.specs.declared.Two.{Two}
-use Rattle.def_tree.specs.declared.Two.TheVariants.{AndV, AndB, OrB, OrC, OrD, OrI}
+use Rattle.def_tree.specs.declared.Two.TheVariants.{AndV}
 use Rattle.def_tree.specs.Tree.{Key, Tree, Trees, just_0, just_1, pk_k, pk_h, older, after, hash, and_or, two, thresh, multi, wrap, none, more}
 use Rattle.def_tree.specs.Range.{IsKey, IsDigest, IsWritable, AreWritable, count}
 use Rattle.def_text.specs.Token.{Token, word, opening, closing, comma, colon, end, tokens, tokens_from, word_before, is_word_byte}
@@ -18,14 +18,15 @@ use Rattle.def_script.specs.Key.{is_key}
 use Rattle.def_text.specs.Letter.{Letter, letter_of_wrapper, wrapper_byte, letter_word, letters_tree, letters_offsets}
 use Rattle.def_text.specs.Spells.{call, Spells, text_0, text_1, text_pk_k, text_pk_h, text_older, text_after, text_hash, text_andor, text_two, text_thresh, text_multi, text_letters, SpellsChildren, last_child, next_child, SpellsKeys, last_key, next_key, SpellsText, text_whole}
 use Rattle.def_text.specs.Print.{printed, printed_behind, printed_children, printed_keys}
-use Rattle.def_text.proofs.Sound.{two_split, three_split}
-use Rattle.def_text.proofs.PrintedWords.{NoWord, word_byte, one_token, closed_word, number_is_spelled, number_is_word, digits_are_spelled, digits_are_word, digits_are_some, hash_passes, key_is_some, hash_is_some, key_token, number_token}
+use Rattle.def_text.proofs.PrintedWords.{NoWord, word_byte, one_token, closed_word, number_is_spelled, number_is_word, digits_are_spelled, digits_are_word, digits_are_some, hash_passes, key_has_digits, hash_is_some}
 
 -- the printed form of a tree, before bytes that begin no word, spells it
-abbrev Prints : Tree → Type 0
-Prints x =
-    (at : ℕ) (rest : Bytes) → NoWord rest →
+abbrev PrintsAt : Tree → ℕ → Bytes → Type 0
+PrintsAt x at rest =
     (ts : List Token) × (os : List ℕ) × (n : ℕ) × (tokens_from at (printed_behind [] x ++ rest) ≡ ts ++ tokens_from n rest) × Spells ts x os
+
+abbrev Prints : Tree → Type 0
+Prints x = (at : ℕ) (rest : Bytes) → NoWord rest → PrintsAt x at rest
 
 -- tokens behind a word of letters, if there are some
 abbrev behind_letters : ℕ → List Letter → List Token → List Token
@@ -44,18 +45,11 @@ PrintsBehind x =
 -- ---- letters
 
 wrapper_is_word : (w : Wrapper) → is_word_byte (wrapper_byte w) ≡ true
-wrapper_is_word A = refl
-wrapper_is_word S = refl
-wrapper_is_word C = refl
-wrapper_is_word D = refl
-wrapper_is_word V = refl
-wrapper_is_word J = refl
-wrapper_is_word N = refl
+wrapper_is_word w = grind arith
 
 joins_letters : (at b next : ℕ) (ls : List Letter) (c : ℕ) (ts : List Token) →
     word_before at b (behind_letters next ls (colon c ∷ ts)) ≡ word at (b ∷ letter_word ls) ∷ colon c ∷ ts
-joins_letters at b next [] c ts = refl
-joins_letters at b next (l ∷ ls) c ts = refl
+joins_letters at b next ls c ts = grind arith
 
 letter_tokens : (w : Wrapper) (x : Tree) (at : ℕ) (rest : Bytes) (ls : List Letter) (c : ℕ) (ts : List Token) →
     tokens_from (at + 1) (printed_behind (codes ":") x ++ rest) ≡ behind_letters (at + 1) ls (colon c ∷ ts) →
@@ -99,78 +93,51 @@ prints_1 at rest apart =
     let (n, e) = one_token (codes "1") at rest refl (omega arith) apart in
     (word at (codes "1") ∷ [], at ∷ [], n, e, text_1)
 
+-- a fragment whose argument is one word
+prints_leaf : (x : Tree) (name w : Bytes) (at q : ℕ) (rest : Bytes) →
+    tokens_from at (printed_behind [] x ++ rest) ≡ word at name ∷ opening q ∷ tokens_from (q + 1) ((w ++ codes ")") ++ rest) →
+    list_all is_word_byte w ≡ true → 0 < length w → ((c d : ℕ) → Spells (call at name q (word c w ∷ []) d) x (at ∷ [])) → PrintsAt x at rest
+prints_leaf x name w at q rest opens is some spells =
+    let (n, e) = closed_word w (q + 1) rest is some in
+    (call at name q (word (q + 1) w ∷ []) n, at ∷ [], n + 1, opens ∙ ap (λ r. word at name ∷ opening q ∷ r) e, spells (q + 1) n)
+
 prints_pk_k : (key : Key) → IsKey key → Prints (pk_k key)
 prints_pk_k key h at rest apart =
-    let (n, e) = key_token key (at + 1 + 1 + 1 + 1 + 1) rest h in (
-      word at (codes "pk_k") ∷ opening (at + 1 + 1 + 1 + 1) ∷ word (at + 1 + 1 + 1 + 1 + 1) (encode_lower key) ∷ closing n ∷ [],
-      at ∷ [],
-      n + 1,
-      ap (λ r. word at (codes "pk_k") ∷ opening (at + 1 + 1 + 1 + 1) ∷ r) e,
-      text_pk_k (digits_are_spelled is_key key h.form h.bytes),
-    )
+    prints_leaf (pk_k key) (codes "pk_k") (encode_lower key) at _ rest refl (digits_are_word key h.bytes) (key_has_digits key h)
+    (λ c d. text_pk_k (digits_are_spelled is_key key h.form h.bytes))
 
 prints_pk_h : (key : Key) → IsKey key → Prints (pk_h key)
 prints_pk_h key h at rest apart =
-    let (n, e) = key_token key (at + 1 + 1 + 1 + 1 + 1) rest h in (
-      word at (codes "pk_h") ∷ opening (at + 1 + 1 + 1 + 1) ∷ word (at + 1 + 1 + 1 + 1 + 1) (encode_lower key) ∷ closing n ∷ [],
-      at ∷ [],
-      n + 1,
-      ap (λ r. word at (codes "pk_h") ∷ opening (at + 1 + 1 + 1 + 1) ∷ r) e,
-      text_pk_h (digits_are_spelled is_key key h.form h.bytes),
-    )
+    prints_leaf (pk_h key) (codes "pk_h") (encode_lower key) at _ rest refl (digits_are_word key h.bytes) (key_has_digits key h)
+    (λ c d. text_pk_h (digits_are_spelled is_key key h.form h.bytes))
 
 prints_older : (m : ℕ) → m < 10 ^ 10 → Prints (older m)
 prints_older m h at rest apart =
-    let (n, e) = number_token m (at + 1 + 1 + 1 + 1 + 1 + 1) rest h in (
-      word at (codes "older") ∷ opening (at + 1 + 1 + 1 + 1 + 1) ∷ word (at + 1 + 1 + 1 + 1 + 1 + 1) (decimal m) ∷ closing n ∷ [],
-      at ∷ [],
-      n + 1,
-      ap (λ r. word at (codes "older") ∷ opening (at + 1 + 1 + 1 + 1 + 1) ∷ r) e,
-      text_older (number_is_spelled m h),
-    )
+    let (is, some) = number_is_word m h in
+    prints_leaf (older m) (codes "older") (decimal m) at _ rest refl is some (λ c d. text_older (number_is_spelled m h))
 
 prints_after : (m : ℕ) → m < 10 ^ 10 → Prints (after m)
 prints_after m h at rest apart =
-    let (n, e) = number_token m (at + 1 + 1 + 1 + 1 + 1 + 1) rest h in (
-      word at (codes "after") ∷ opening (at + 1 + 1 + 1 + 1 + 1) ∷ word (at + 1 + 1 + 1 + 1 + 1 + 1) (decimal m) ∷ closing n ∷ [],
-      at ∷ [],
-      n + 1,
-      ap (λ r. word at (codes "after") ∷ opening (at + 1 + 1 + 1 + 1 + 1) ∷ r) e,
-      text_after (number_is_spelled m h),
-    )
+    let (is, some) = number_is_word m h in
+    prints_leaf (after m) (codes "after") (decimal m) at _ rest refl is some (λ c d. text_after (number_is_spelled m h))
 
 -- a name and the `(` behind it
 hash_opens : (kind : HashKind) (at : ℕ) (bs : Bytes) →
-    (q : ℕ) × (tokens_from at ((hash_name kind ++ codes "(") ++ bs) ≡ word at (hash_name kind) ∷ opening q ∷ tokens_from (q + 1) bs)
+    (q : ℕ) × (tokens_from at (hash_name kind ++ (codes "(" ++ bs)) ≡ word at (hash_name kind) ∷ opening q ∷ tokens_from (q + 1) bs)
 hash_opens Sha256 at bs = (_, refl)
-hash_opens Hash256 at bs = (_, refl)
-hash_opens Ripemd160 at bs = (_, refl)
-hash_opens Hash160 at bs = (_, refl)
+hash_opens kind at bs = (_, refl)
 
 two_opens : (kind : Two) (at : ℕ) (bs : Bytes) →
-    (q : ℕ) × (tokens_from at ((two_name kind ++ codes "(") ++ bs) ≡ word at (two_name kind) ∷ opening q ∷ tokens_from (q + 1) bs)
+    (q : ℕ) × (tokens_from at (two_name kind ++ (codes "(" ++ bs)) ≡ word at (two_name kind) ∷ opening q ∷ tokens_from (q + 1) bs)
 two_opens AndV at bs = (_, refl)
-two_opens AndB at bs = (_, refl)
-two_opens OrB at bs = (_, refl)
-two_opens OrC at bs = (_, refl)
-two_opens OrD at bs = (_, refl)
-two_opens OrI at bs = (_, refl)
-
-four_parts : (a b c d rest : Bytes) → (((a ++ b) ++ c) ++ d) ++ rest ≡ (a ++ b) ++ ((c ++ d) ++ rest)
-four_parts a b c d rest = simp append_assoc
+two_opens kind at bs = (_, refl)
 
 prints_hash : (kind : HashKind) (value : Bytes) → IsDigest kind value → Prints (hash kind value)
 prints_hash kind value h at rest apart =
     let (q, opens) = hash_opens kind at ((encode_lower value ++ codes ")") ++ rest) in
-    let some : 0 < length (encode_lower value) = digits_are_some value (hash_is_some kind value h.length) in
-    let (n, e) = closed_word (encode_lower value) (q + 1) rest (digits_are_word value h.bytes) some in (
-      word at (hash_name kind) ∷ opening q ∷ word (q + 1) (encode_lower value) ∷ closing n ∷ [],
-      at ∷ [],
-      n + 1,
-      ap (tokens_from at) (four_parts (hash_name kind) (codes "(") (encode_lower value) (codes ")") rest)
-          ∙ (opens ∙ ap (λ r. word at (hash_name kind) ∷ opening q ∷ r) e),
-      text_hash kind (digits_are_spelled (is_digest kind) value (hash_passes kind value h) h.bytes),
-    )
+    prints_leaf (hash kind value) (hash_name kind) (encode_lower value) at q rest
+    (simp append_assoc (simp append_assoc at opens)) (digits_are_word value h.bytes) (digits_are_some value (hash_is_some kind value h.length))
+    (λ c d. text_hash kind (digits_are_spelled (is_digest kind) value (hash_passes kind value h) h.bytes))
 
 -- ---- children
 
@@ -189,10 +156,6 @@ prints_two x y hx hy at rest =
     let (ys, ps, d, f, sy) = hy (c + 1) (codes ")" ++ rest) (λ n. refl) in
     (c, d, xs, ys, os, ps, d + 1, e ∙ ap (λ r. xs ++ comma c ∷ r) f, sx, sy)
 
-pair_parts : (a b c d e f rest : Bytes) →
-    (((((a ++ b) ++ c) ++ d) ++ e) ++ f) ++ rest ≡ (a ++ b) ++ (c ++ (d ++ (e ++ (f ++ rest))))
-pair_parts a b c d e f rest = simp append_assoc
-
 prints_pair : (kind : Two) (x y : Tree) → Prints x → Prints y → Prints (two kind x y)
 prints_pair kind x y hx hy at rest apart =
     let (q, opens) = two_opens kind at (printed_behind [] x ++ (codes "," ++ (printed_behind [] y ++ (codes ")" ++ rest)))) in
@@ -200,14 +163,17 @@ prints_pair kind x y hx hy at rest apart =
       call at (two_name kind) q (xs ++ comma c ∷ ys) d,
       os ++ ps ++ at ∷ [],
       n,
-      ap (tokens_from at) (pair_parts (two_name kind) (codes "(") (printed_behind [] x) (codes ",") (printed_behind [] y) (codes ")") rest)
-          ∙ (opens ∙ ap (λ r. word at (two_name kind) ∷ opening q ∷ r) (e ∙ two_split xs ys (tokens_from n rest) c d)),
+      simp (append_assoc, opens, e),
       text_two kind c d sx sy,
     )
 
 triple_parts : (a b c d e f rest : Bytes) →
     (((((a ++ b) ++ c) ++ d) ++ e) ++ f) ++ rest ≡ a ++ (b ++ (c ++ (d ++ (e ++ (f ++ rest)))))
 triple_parts a b c d e f rest = simp append_assoc
+
+three_split : (xs ys zs rest : List Token) (c d e : ℕ) →
+    xs ++ comma c ∷ (ys ++ comma d ∷ (zs ++ closing e ∷ rest)) ≡ (xs ++ comma c ∷ ys ++ comma d ∷ zs ++ closing e ∷ []) ++ rest
+three_split xs ys zs rest c d e = simp append_assoc
 
 prints_andor : (x y z : Tree) → Prints x → Prints y → Prints z → Prints (and_or x y z)
 prints_andor x y z hx hy hz at rest apart =
@@ -227,9 +193,6 @@ prints_andor x y z hx hy hz at rest apart =
 
 -- ---- lists
 
-row_parts : (a b c rest : Bytes) → ((a ++ b) ++ c) ++ rest ≡ a ++ (b ++ (c ++ rest))
-row_parts a b c rest = simp append_assoc
-
 -- keys, each behind a comma
 abbrev PrintsKeys : List Key → Type 0
 PrintsKeys keys =
@@ -240,9 +203,9 @@ PrintsKeys keys =
 key_before : (key : Key) (at : ℕ) (others rest : Bytes) → IsKey key → NoWord (others ++ rest) →
     (n : ℕ) × (tokens_from at ((encode_lower key ++ others) ++ rest) ≡ word at (encode_lower key) ∷ tokens_from n (others ++ rest))
 key_before key at others rest h apart =
-    let some : 0 < length (encode_lower key) = digits_are_some key (key_is_some key h) in
+    let some : 0 < length (encode_lower key) = key_has_digits key h in
     let (n, e) = one_token (encode_lower key) at (others ++ rest) (digits_are_word key h.bytes) some apart in
-    (n, ap (tokens_from at) (append_assoc (encode_lower key) others rest) ∙ e)
+    (n, rw append_assoc e)
 
 prints_keys : (key : Key) (keys : List Key) → All IsKey (key ∷ keys) → PrintsKeys (key ∷ keys)
 prints_keys key [] h at rest apart =
@@ -255,7 +218,7 @@ prints_keys key (next ∷ keys) h at rest apart =
     let (ts, m, f, others) = prints_keys next keys (All-tail IsKey key (next ∷ keys) h) n rest apart in (
       comma at ∷ word (at + 1) (encode_lower key) ∷ ts,
       m,
-      ap (λ r. comma at ∷ r) (e ∙ ap (λ r. word (at + 1) (encode_lower key) ∷ r) f),
+      simp (e, f),
       next_key (digits_are_spelled is_key key is.form is.bytes) others,
     )
 
@@ -265,7 +228,7 @@ number_before : (k : ℕ) (at : ℕ) (others rest : Bytes) → k < 10 ^ 10 → N
     × (tokens_from at (((decimal k ++ others) ++ codes ")") ++ rest) ≡ word at (decimal k) ∷ tokens_from n (others ++ (codes ")" ++ rest)))
 number_before k at others rest h apart =
     let (n, e) = one_token (decimal k) at (others ++ (codes ")" ++ rest)) (number_is_word k h).0 (number_is_word k h).1 apart in
-    (n, ap (tokens_from at) (row_parts (decimal k) others (codes ")") rest) ∙ e)
+    (n, simp append_assoc e)
 
 prints_multi : (k : ℕ) (key : Key) (keys : List Key) → k < 10 ^ 10 → All IsKey (key ∷ keys) → Prints (multi k (key ∷ keys))
 prints_multi k key keys small h at rest apart =
@@ -275,8 +238,7 @@ prints_multi k key keys small h at rest apart =
       word at (codes "multi") ∷ opening q ∷ word (q + 1) (decimal k) ∷ (ts ++ closing m ∷ []),
       at ∷ [],
       m + 1,
-      ap (λ r. word at (codes "multi") ∷ opening q ∷ r)
-          (e ∙ ap (λ r. word (q + 1) (decimal k) ∷ r) (f ∙ sym (append_assoc ts (closing m ∷ []) (tokens_from (m + 1) rest)))),
+      simp (append_assoc, e, f),
       text_multi m (number_is_spelled k small) spells,
     )
 
@@ -317,8 +279,7 @@ prints_thresh k x xs small h at rest apart =
       word at (codes "thresh") ∷ opening q ∷ word (q + 1) (decimal k) ∷ (ts ++ closing m ∷ []),
       os ++ at ∷ [],
       m + 1,
-      ap (λ r. word at (codes "thresh") ∷ opening q ∷ r)
-          (e ∙ ap (λ r. word (q + 1) (decimal k) ∷ r) (f ∙ sym (append_assoc ts (closing m ∷ []) (tokens_from (m + 1) rest)))),
+      simp (append_assoc, e, f),
       text_thresh m (number_is_spelled k small) spells,
     )
 

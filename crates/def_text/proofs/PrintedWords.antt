@@ -17,7 +17,6 @@ use Rattle.hex.proofs.HexLemmas.{decode_of-encode_lower, length-encode_with}
 use Rattle.def_script.specs.Bytes.{Bytes}
 use Rattle.def_hash.specs.Hash.{digest_length}
 use Rattle.def_hash.specs.declared.HashKind.{HashKind}
-use Rattle.def_hash.specs.declared.HashKind.TheVariants.{Sha256, Hash256, Ripemd160, Hash160}
 use Rattle.def_tree.specs.Tree.{Key}
 use Rattle.def_tree.specs.Range.{IsKey, IsDigest}
 use Rattle.def_text.specs.Token.{Token, word, closing, is_word_byte, byte_before, word_before, tokens_from}
@@ -53,7 +52,7 @@ closed_word w at rest h l =
 
 -- ---- numbers
 
-own : IsNumeralModel (λ ds. all_ascii_digits ds ≡ true) (digits_value 10)
+pub own : IsNumeralModel (λ ds. all_ascii_digits ds ≡ true) (digits_value 10)
 own = numerals_by_value (λ ds. all_ascii_digits ds ≡ true) tells_all_ascii_digits
 
 small : (n : ℕ) → n < 10 ^ 10 → n < 2 ^ 64
@@ -114,33 +113,17 @@ digits_are_word (x ∷ xs) b =
     rw (high, low, digits_are_word xs (λ k. b (suc k))) refl
 
 pub digits_are_some : (bytes : Bytes) → 0 < length bytes → 0 < length (encode_lower bytes)
-digits_are_some bytes h = let e = length-encode_with lower_digits bytes in omega arith
+digits_are_some bytes h = omega (arith, length-encode_with lower_digits bytes)
 
 length_passes : (kind : HashKind) → (digest_length kind == digest_length kind) ≡ true
-length_passes Sha256 = refl
-length_passes Hash256 = refl
-length_passes Ripemd160 = refl
-length_passes Hash160 = refl
+length_passes kind = grind arith
 
 -- the test of a hash value passes
 pub hash_passes : (kind : HashKind) (value : Bytes) → IsDigest kind value → is_digest kind value ≡ true
 hash_passes kind value h = ap (λ n. n == digest_length kind) h.length ∙ length_passes kind
 
-pub key_is_some : (key : Key) → IsKey key → 0 < length key
-key_is_some key h = let e = key_length key h.form in omega arith
+pub key_has_digits : (key : Key) → IsKey key → 0 < length (encode_lower key)
+key_has_digits key h = let e = key_length key h.form in digits_are_some key (omega arith)
 
 pub hash_is_some : (kind : HashKind) (value : Bytes) → length value ≡ digest_length kind → 0 < length value
-hash_is_some Sha256 value e = omega arith
-hash_is_some Hash256 value e = omega arith
-hash_is_some Ripemd160 value e = omega arith
-hash_is_some Hash160 value e = omega arith
-
--- a key and the `)` behind it
-pub key_token : (key : Key) (at : ℕ) (rest : Bytes) → IsKey key →
-    (n : ℕ) × (tokens_from at ((encode_lower key ++ codes ")") ++ rest) ≡ word at (encode_lower key) ∷ closing n ∷ tokens_from (n + 1) rest)
-key_token key at rest h =
-    closed_word (encode_lower key) at rest (digits_are_word key h.bytes) (digits_are_some key (key_is_some key h))
-
-pub number_token : (m : ℕ) (at : ℕ) (rest : Bytes) → m < 10 ^ 10 →
-    (n : ℕ) × (tokens_from at ((decimal m ++ codes ")") ++ rest) ≡ word at (decimal m) ∷ closing n ∷ tokens_from (n + 1) rest)
-number_token m at rest h = closed_word (decimal m) at rest (number_is_word m h).0 (number_is_word m h).1
+hash_is_some kind value = grind arith

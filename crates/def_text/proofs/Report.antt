@@ -1,5 +1,5 @@
 -- What the machine answers to a text is what the definitions say of it.
-use Rattle.std.proofs.Common.{◌≡◌, Bool, true, false, List, [], ◌∷◌, ◌++◌, Option, Some, None, refl, sym, ap, ◌∙◌, subst, append_assoc, append-nil}
+use Rattle.std.proofs.Common.{◌≡◌, Bool, true, false, List, [], ◌∷◌, ◌++◌, length, length-append, arith, Option, Some, None, refl, sym, ap, ◌∙◌, subst, append_assoc, append-nil}
 use Rattle.std.specs.Option.{option_and_then}
 use Rattle.std.specs.Str.{IsUtf8}
 use Rattle.def_script.specs.Bytes.{Bytes}
@@ -15,38 +15,36 @@ use Rattle.def_text.proofs.Deep.{DeepWord, deep_token, machine_deep, deep_machin
 
 -- ---- what no token is
 
--- where the last of some tokens stands
-data LastSplit (us : List Token) (t : Token) (before : List Token) (u : Token) : Type 0 where
-  last_here : before ≡ us → u ≡ t → LastSplit us t before u
-  last_after : (after : List Token) → us ≡ before ++ u ∷ after → LastSplit us t before u
+-- of two splits of one list, which one comes first
+pub data Order (xs : List Token) (x : Token) (ys : List Token) (y : Token) : Type 0 where
+  same_place : xs ≡ ys → x ≡ y → Order xs x ys y
+  earlier : (later : List Token) → ys ≡ xs ++ x ∷ later → Order xs x ys y
+  later : (later : List Token) → xs ≡ ys ++ y ∷ later → Order xs x ys y
 
-split_further : (v w : Token) (us : List Token) (t : Token) (before : List Token) (u : Token) → v ≡ w → LastSplit us t before u →
-    LastSplit (v ∷ us) t (w ∷ before) u
-split_further v w us t before u e (last_here h k) = last_here (ap (λ r. r ∷ before) (sym e) ∙ ap (λ r. v ∷ r) h) k
-split_further v w us t before u e (last_after after h) = last_after after (ap (λ r. v ∷ r) h ∙ ap (λ r. r ∷ (before ++ u ∷ after)) e)
+order_further : (u v : Token) (xs : List Token) (x : Token) (ys : List Token) (y : Token) → u ≡ v → Order xs x ys y →
+    Order (u ∷ xs) x (v ∷ ys) y
+order_further u v xs x ys y e (same_place h k) = same_place (ap (λ r. r ∷ xs) e ∙ ap (λ r. v ∷ r) h) k
+order_further u v xs x ys y e (earlier rest h) = earlier rest (ap (λ r. v ∷ r) h ∙ ap (λ r. r ∷ (xs ++ x ∷ rest)) (sym e))
+order_further u v xs x ys y e (later rest h) = later rest (ap (λ r. u ∷ r) h ∙ ap (λ r. r ∷ (ys ++ y ∷ rest)) e)
 
-last_split : (us : List Token) (t : Token) (before : List Token) (u : Token) (after : List Token) →
-    us ++ t ∷ [] ≡ before ++ u ∷ after →
-    LastSplit us t before u
-last_split [] t [] u after h = last_here refl (cc)
-last_split [] t (w ∷ before) u after h =
-    let e : [] ≡ before ++ u ∷ after = cc in absurd (nothing_behind before u after e)
-last_split (v ∷ us) t [] u after h = last_after us (cc)
-last_split (v ∷ us) t (w ∷ before) u after h =
-    let e : v ≡ w = cc in
-    let rest : us ++ t ∷ [] ≡ before ++ u ∷ after = cc in
-    split_further v w us t before u e (last_split us t before u after rest)
-
-none_by_split : (us : List Token) (t : Token) (before : List Token) (u : Token) → NoneDeep us → ¬ IsDeep us t →
-    LastSplit us t before u →
-    ¬ IsDeep before u
-none_by_split us t before u none last (last_here h k) =
-    λ deep. last (subst (λ r. IsDeep r t) h (subst (IsDeep before) k deep))
-none_by_split us t before u none last (last_after after h) = none before u after h
+pub order : (xs : List Token) (x : Token) (xs' : List Token) (ys : List Token) (y : Token) (ys' : List Token) →
+    xs ++ x ∷ xs' ≡ ys ++ y ∷ ys' → Order xs x ys y
+order [] x xs' [] y ys' h = same_place refl (cc)
+order [] x xs' (v ∷ ys) y ys' h = let e : x ≡ v = cc in earlier ys (ap (λ r. r ∷ ys) (sym e))
+order (u ∷ xs) x xs' [] y ys' h = let e : u ≡ y = cc in later xs (ap (λ r. r ∷ xs) e)
+order (u ∷ xs) x xs' (v ∷ ys) y ys' h =
+    let e : u ≡ v = cc in
+    let rest : xs ++ x ∷ xs' ≡ ys ++ y ∷ ys' = cc in
+    order_further u v xs x ys y e (order xs x xs' ys y ys' rest)
 
 -- one more token that isn't too deep
 none_deep-behind : (us : List Token) (t : Token) → NoneDeep us → ¬ IsDeep us t → NoneDeep (us ++ t ∷ [])
-none_deep-behind us t none last before u after h = none_by_split us t before u none last (last_split us t before u after h)
+none_deep-behind us t none last before u after h = go (order us t [] before u after h)
+  where
+    go : Order us t before u → ¬ IsDeep before u
+    go (same_place e k) = λ deep. last (subst (λ r. IsDeep r t) (sym e) (subst (IsDeep before) (sym k) deep))
+    go (earlier rest e) = absurd (omega (arith, simp length-append at (ap length h), simp length-append at (ap length e)))
+    go (later rest e) = none before u rest e
 
 none_deep-nil : NoneDeep []
 none_deep-nil before t after h = absurd (nothing_behind before t after h)
@@ -69,9 +67,9 @@ module _ (text : Bytes) (utf8 : IsUtf8 text) where
       subst (λ want. Reports text (last_outcome want s.2)) (sym e) (h, subst NoneDeep (sym all) none)
 
   -- one more token
-  go_on : (us : List Token) (s n : State) (t : Token) → behind START us ≡ Some s → step s t ≡ Some n →
-      behind START (us ++ t ∷ []) ≡ Some n
-  go_on us s n t goes steps =
+  go_on : (us : List Token) (s : State) (o : Option State) (t : Token) → behind START us ≡ Some s → step s t ≡ o →
+      behind START (us ++ t ∷ []) ≡ option_and_then (λ m. Some m) o
+  go_on us s o t goes steps =
       behind-append us (t ∷ []) START ∙ (ap (λ o. option_and_then (λ m. behind m (t ∷ [])) o) goes
       ∙ ap (λ o. option_and_then (λ m. Some m) o) steps)
 
@@ -83,7 +81,7 @@ module _ (text : Bytes) (utf8 : IsUtf8 text) where
       DeepWord s t → DeepAt text (offset t)
   report_deep us s t ts split goes none d = record {
     place = record { before = us; token = t; after = ts; split = split; there = refl };
-    begins = front_viable text (us ++ t ∷ []) ts d.next utf8 (one_more us t ts split) (go_on us s d.next t goes d.steps);
+    begins = front_viable text (us ++ t ∷ []) ts d.next utf8 (one_more us t ts split) (go_on us s (Some d.next) t goes d.steps);
     deep = machine_deep text us t ts s utf8 split goes d;
     none_deep = none;
   }
@@ -92,10 +90,7 @@ module _ (text : Bytes) (utf8 : IsUtf8 text) where
   not_viable : (us : List Token) (s : State) (t : Token) → behind START us ≡ Some s → step s t ≡ None → ¬ IsViable (us ++ t ∷ [])
   not_viable us s t goes stops v =
       let (n, e) = viable_goes v in
-      let none : behind START (us ++ t ∷ []) ≡ None =
-      behind-append us (t ∷ []) START ∙ (ap (λ o. option_and_then (λ m. behind m (t ∷ [])) o) goes
-      ∙ ap (λ o. option_and_then (λ m. Some m) o) stops) in
-      let clash : None ≡ Some n = sym none ∙ e in
+      let clash : None ≡ Some n = sym (go_on us s None t goes stops) ∙ e in
       cc
 
   report_syntax : (us : List Token) (s : State) (t : Token) (ts : List Token) → tokens text ≡ us ++ t ∷ ts →
@@ -119,10 +114,10 @@ module _ (text : Bytes) (utf8 : IsUtf8 text) where
       Reports text (outcome n ts)) →
       (b : Bool) (o : Option State) → is_deep s t ≡ b → step s t ≡ o →
       Reports text (next_outcome b (offset t) o (λ n. outcome n ts))
-  report_next us s t ts split goes none later true o f e = report_deep us s t ts split goes none (deep_token s t f)
-  report_next us s t ts split goes none later false None f e = report_syntax us s t ts split goes none e
-  report_next us s t ts split goes none later false (Some n) f e =
-      later (us ++ t ∷ []) n (one_more us t ts split) (go_on us s n t goes e) (none_deep-behind us t none (not_deep us s t goes f))
+  report_next us s t ts split goes none others true o f e = report_deep us s t ts split goes none (deep_token s t f)
+  report_next us s t ts split goes none others false None f e = report_syntax us s t ts split goes none e
+  report_next us s t ts split goes none others false (Some n) f e =
+      others (us ++ t ∷ []) n (one_more us t ts split) (go_on us s (Some n) t goes e) (none_deep-behind us t none (not_deep us s t goes f))
 
   report_from : (ts us : List Token) (s : State) → tokens text ≡ us ++ ts → behind START us ≡ Some s → NoneDeep us →
       Reports text (outcome s ts)

@@ -16,30 +16,23 @@ use Rattle.def_text.proofs.Fills.{OtherChildren, no_child, some_children, OtherK
 -- ---- fragments
 
 -- a value that was mapped, at its result
-by_value : {A : Type 0} (f : A → Tree) (o : Option A) (x : Tree) (P : Tree → Type 0) → ((v : A) → o ≡ Some v → P (f v)) →
-    option_map f o ≡ Some x → P x
-by_value f None x P h e = absurd (cc)
-by_value f (Some v) x P h e = let same : f v ≡ x = cc in subst P same (h v refl)
+by_value : {A : Type 0} {ts : List Token} {os : List ℕ} (f : A → Tree) (o : Option A) (x : Tree) →
+    ((v : A) → o ≡ Some v → Spells ts (f v) os) → option_map f o ≡ Some x → Spells ts x os
+by_value f None x h e = absurd (cc)
+by_value {ts = ts} {os = os} f (Some v) x h e = let same : f v ≡ x = cc in subst (λ y. Spells ts y os) same (h v refl)
 
 abbrev leaf_tokens : Leaf → (a b c d : ℕ) (w : Bytes) → List Token
 leaf_tokens leaf a b c d w = call a (leaf_name leaf) b (word c w ∷ []) d
 
 spells_leaf : (leaf : Leaf) (a b c d : ℕ) (w : Bytes) (x : Tree) → leaf_of leaf w ≡ Some x →
     Spells (leaf_tokens leaf a b c d w) x (leaf_offsets leaf a)
-spells_leaf leaf_pk_k a b c d w x h =
-    by_value pk_k (key_of w) x (λ y. Spells (leaf_tokens leaf_pk_k a b c d w) y (a ∷ [])) (λ v e. text_pk_k e) h
-spells_leaf leaf_pk_h a b c d w x h =
-    by_value pk_h (key_of w) x (λ y. Spells (leaf_tokens leaf_pk_h a b c d w) y (a ∷ [])) (λ v e. text_pk_h e) h
-spells_leaf leaf_pk a b c d w x h =
-    by_value (λ key. wrap C (pk_k key)) (key_of w) x (λ y. Spells (leaf_tokens leaf_pk a b c d w) y (a ∷ a ∷ [])) (λ v e. text_pk e) h
-spells_leaf leaf_pkh a b c d w x h =
-    by_value (λ key. wrap C (pk_h key)) (key_of w) x (λ y. Spells (leaf_tokens leaf_pkh a b c d w) y (a ∷ a ∷ [])) (λ v e. text_pkh e) h
-spells_leaf leaf_older a b c d w x h =
-    by_value older (number_of w) x (λ y. Spells (leaf_tokens leaf_older a b c d w) y (a ∷ [])) (λ v e. text_older e) h
-spells_leaf leaf_after a b c d w x h =
-    by_value after (number_of w) x (λ y. Spells (leaf_tokens leaf_after a b c d w) y (a ∷ [])) (λ v e. text_after e) h
-spells_leaf (leaf_hash kind) a b c d w x h =
-    by_value (hash kind) (hash_of kind w) x (λ y. Spells (leaf_tokens (leaf_hash kind) a b c d w) y (a ∷ [])) (λ v e. text_hash kind e) h
+spells_leaf leaf_pk_k a b c d w x h = by_value pk_k (key_of w) x (λ v e. text_pk_k e) h
+spells_leaf leaf_pk_h a b c d w x h = by_value pk_h (key_of w) x (λ v e. text_pk_h e) h
+spells_leaf leaf_pk a b c d w x h = by_value (λ key. wrap C (pk_k key)) (key_of w) x (λ v e. text_pk e) h
+spells_leaf leaf_pkh a b c d w x h = by_value (λ key. wrap C (pk_h key)) (key_of w) x (λ v e. text_pkh e) h
+spells_leaf leaf_older a b c d w x h = by_value older (number_of w) x (λ v e. text_older e) h
+spells_leaf leaf_after a b c d w x h = by_value after (number_of w) x (λ v e. text_after e) h
+spells_leaf (leaf_hash kind) a b c d w x h = by_value (hash kind) (hash_of kind w) x (λ v e. text_hash kind e) h
 
 spells_pair : (pair : Pair) (a b c d : ℕ) {xs ys : List Token} {x y : Tree} {os ps : List ℕ} → Spells xs x os → Spells ys y ps →
     Spells (call a (pair_name pair) b (xs ++ comma c ∷ ys) d) (pair_tree pair x y) (os ++ ps ++ pair_offsets pair a)
@@ -62,36 +55,29 @@ children_from c h (some_children others) = next_child h others
 
 comma_fills : (x : Tree) (fs : List Frame) (os : List ℕ) (c : ℕ) (ts : List Token) (z : Tree) (zs : List ℕ) →
     NextFills (comma_behind x fs os) ts z zs → EndedFills fs x os (comma c ∷ ts) z zs
-comma_fills x [] os c ts z zs h = absurd h
 comma_fills x (letter_frame l a ∷ fs) os c ts z zs h = comma_fills (letter_tree l x) fs (os ++ offsets_behind l a) c ts z zs h
 comma_fills x (andor_first a ∷ fs) os c ts z zs (us, rest, u, ps, e, hu, (d, f, vs, tail, v, qs, g, hv, last)) =
-    (c, d, f, us, vs, tail, u, v, ps, qs, ap (λ r. comma c ∷ r) (e ∙ ap (λ r. us ++ r) g), hu, hv, last)
+    (c, d, f, us, vs, tail, u, v, ps, qs, simp (e, g), hu, hv, last)
 comma_fills x (andor_second y a ∷ fs) os c ts z zs (us, rest, u, ps, e, hu, (d, tail, g, last)) =
-    (c, d, us, tail, u, ps, ap (λ r. comma c ∷ r) (e ∙ ap (λ r. us ++ r) g), hu, last)
-comma_fills x (andor_third y u a ∷ fs) os c ts z zs h = absurd h
+    (c, d, us, tail, u, ps, simp (e, g), hu, last)
 comma_fills x (pair_first pair a ∷ fs) os c ts z zs (us, rest, u, ps, e, hu, (d, tail, g, last)) =
-    (c, d, us, tail, u, ps, ap (λ r. comma c ∷ r) (e ∙ ap (λ r. us ++ r) g), hu, last)
-comma_fills x (pair_second pair y a ∷ fs) os c ts z zs h = absurd h
+    (c, d, us, tail, u, ps, simp (e, g), hu, last)
 comma_fills x (thresh_child k xs a ∷ fs) os c ts z zs (us, rest, u, ps, e, hu, (d, cs, tail, ys, qs, g, hy, last)) = (
   d,
   comma c ∷ (us ++ cs),
   tail,
   more u ys,
   ps ++ qs,
-  ap (λ r. comma c ∷ r) (e ∙ (ap (λ r. us ++ r) g ∙ sym (append_assoc us cs (closing d ∷ tail)))),
+  simp (e, g, append_assoc),
   some_children (children_from c hu hy),
-  subst (λ r. EndedFills fs (thresh k (joined xs (more x (more u ys)))) (r ++ a ∷ []) tail z zs) (append_assoc os ps qs)
-      (subst (λ r. EndedFills fs (thresh k r) (((os ++ ps) ++ qs) ++ a ∷ []) tail z zs) (joined_assoc xs (more x none) (more u ys)) last),
+  simp append_assoc (simp (append_assoc, joined_assoc) at last),
 )
+comma_fills x fs os c ts z zs h = absurd h
 
 closing_fills : (x : Tree) (fs : List Frame) (os : List ℕ) (d : ℕ) (ts : List Token) (z : Tree) (zs : List ℕ) →
     NextFills (closing_behind x fs os) ts z zs → EndedFills fs x os (closing d ∷ ts) z zs
-closing_fills x [] os d ts z zs h = absurd h
 closing_fills x (letter_frame l a ∷ fs) os d ts z zs h = closing_fills (letter_tree l x) fs (os ++ offsets_behind l a) d ts z zs h
-closing_fills x (andor_first a ∷ fs) os d ts z zs h = absurd h
-closing_fills x (andor_second y a ∷ fs) os d ts z zs h = absurd h
 closing_fills x (andor_third y u a ∷ fs) os d ts z zs h = (d, ts, refl, h)
-closing_fills x (pair_first pair a ∷ fs) os d ts z zs h = absurd h
 closing_fills x (pair_second pair y a ∷ fs) os d ts z zs h = (d, ts, refl, h)
 closing_fills x (thresh_child k xs a ∷ fs) os d ts z zs h = (
   d,
@@ -103,36 +89,15 @@ closing_fills x (thresh_child k xs a ∷ fs) os d ts z zs h = (
   no_child,
   subst (λ r. EndedFills fs (thresh k (joined xs (more x none))) (r ++ a ∷ []) ts z zs) (sym (append-nil os)) h,
 )
+closing_fills x fs os d ts z zs h = absurd h
 
 end_fills : (x : Tree) (fs : List Frame) (os : List ℕ) (e : ℕ) (ts : List Token) (z : Tree) (zs : List ℕ) →
     NextFills (end_behind x fs os) ts z zs → EndedFills fs x os (end e ∷ ts) z zs
 end_fills x [] os e ts z zs h = (e, ap (λ r. end e ∷ r) h.0, h.1, h.2)
 end_fills x (letter_frame l a ∷ fs) os e ts z zs h = end_fills (letter_tree l x) fs (os ++ offsets_behind l a) e ts z zs h
-end_fills x (andor_first a ∷ fs) os e ts z zs h = absurd h
-end_fills x (andor_second y a ∷ fs) os e ts z zs h = absurd h
-end_fills x (andor_third y u a ∷ fs) os e ts z zs h = absurd h
-end_fills x (pair_first pair a ∷ fs) os e ts z zs h = absurd h
-end_fills x (pair_second pair y a ∷ fs) os e ts z zs h = absurd h
-end_fills x (thresh_child k xs a ∷ fs) os e ts z zs h = absurd h
+end_fills x (frame ∷ fs) os e ts z zs h = absurd h
 
 -- ---- where an expression begins
-
-pub two_split : (xs ys rest : List Token) (c d : ℕ) →
-    xs ++ comma c ∷ (ys ++ closing d ∷ rest) ≡ (xs ++ comma c ∷ ys ++ closing d ∷ []) ++ rest
-two_split xs ys rest c d = simp append_assoc
-
-pub three_split : (xs ys zs rest : List Token) (c d e : ℕ) →
-    xs ++ comma c ∷ (ys ++ comma d ∷ (zs ++ closing e ∷ rest)) ≡ (xs ++ comma c ∷ ys ++ comma d ∷ zs ++ closing e ∷ []) ++ rest
-three_split xs ys zs rest c d e = simp append_assoc
-
-three_offsets : (os ps qs rs ss : List ℕ) → os ++ ps ++ qs ++ rs ++ ss ≡ os ++ (ps ++ qs ++ rs ++ ss)
-three_offsets os ps qs rs ss = simp append_assoc
-
-pub children_split : (us cs rest : List Token) (d : ℕ) → us ++ (cs ++ closing d ∷ rest) ≡ ((us ++ cs) ++ closing d ∷ []) ++ rest
-children_split us cs rest d = simp append_assoc
-
-two_offsets : (os ps qs rs : List ℕ) → os ++ ps ++ qs ++ rs ≡ os ++ (ps ++ qs ++ rs)
-two_offsets os ps qs rs = simp append_assoc
 
 name_fills : (form : Form) (a : ℕ) (fs : List Frame) (os : List ℕ) (ts : List Token) (z : Tree) (zs : List ℕ) →
     NextFills (begin_form form a fs os) ts z zs → ExpressionFills fs os (word a (form_name form) ∷ ts) z zs
@@ -143,7 +108,7 @@ name_fills (form_leaf leaf) a fs os ts z zs (b, c, w, x, rest, e, h, (d, tail, g
   tail,
   x,
   leaf_offsets leaf a,
-  ap (λ r. word a (leaf_name leaf) ∷ r) (e ∙ ap (λ r. opening b ∷ word c w ∷ r) g),
+  simp (e, g),
   spells_leaf leaf a b c d w x h,
   last,
 )
@@ -152,19 +117,18 @@ name_fills form_andor a fs os ts z zs (b, rest, e, (xs, tail, x, ps, g, hx, (c, 
   rest',
   and_or x u v,
   ps ++ qs ++ rs ++ a ∷ [],
-  ap (λ r. word a (form_name form_andor) ∷ r)
-      (e ∙ ap (λ r. opening b ∷ r) (g ∙ (ap (λ r. xs ++ r) k ∙ three_split xs us vs rest' c d f))),
+  simp (e, g, k, append_assoc),
   text_andor c d f hx hu hv,
-  subst (λ r. EndedFills fs (and_or x u v) r rest' z zs) (three_offsets os ps qs rs (a ∷ [])) last,
+  simp append_assoc (simp append_assoc at last),
 )
 name_fills (form_pair pair) a fs os ts z zs (b, rest, e, (xs, tail, x, ps, g, hx, (c, d, vs, rest', v, qs, k, hv, last))) = (
   call a (pair_name pair) b (xs ++ comma c ∷ vs) d,
   rest',
   pair_tree pair x v,
   ps ++ qs ++ pair_offsets pair a,
-  ap (λ r. word a (pair_name pair) ∷ r) (e ∙ ap (λ r. opening b ∷ r) (g ∙ (ap (λ r. xs ++ r) k ∙ two_split xs vs rest' c d))),
+  simp (e, g, k, append_assoc),
   spells_pair pair a b c d hx hv,
-  subst (λ r. EndedFills fs (pair_tree pair x v) r rest' z zs) (two_offsets os ps qs (pair_offsets pair a)) last,
+  simp append_assoc (simp append_assoc at last),
 )
 name_fills form_thresh a fs os ts z zs
     (b, c, w, k, rest, e, h, (f, tail, g, (us, rest', u, ps, i, hu, (d, cs, rest'', ys, qs, j, hy, last)))) = (
@@ -172,10 +136,9 @@ name_fills form_thresh a fs os ts z zs
       rest'',
       thresh k (more u ys),
       ps ++ qs ++ a ∷ [],
-      ap (λ r. word a (form_name form_thresh) ∷ r)
-          (e ∙ ap (λ r. opening b ∷ word c w ∷ r) (g ∙ ap (λ r. comma f ∷ r) (i ∙ (ap (λ r. us ++ r) j ∙ children_split us cs rest'' d)))),
+      simp (e, g, i, j, append_assoc),
       text_thresh d h (children_from f hu hy),
-      subst (λ r. EndedFills fs (thresh k (more u ys)) r rest'' z zs) (two_offsets os ps qs (a ∷ [])) last,
+      simp append_assoc (simp append_assoc at last),
     )
 name_fills form_multi a fs os ts z zs
     (b, c, w, k, rest, e, h, (f, tail, g, (i, v, key, rest', j, hk, (d, cs, rest'', others, m, ho, last)))) = (
@@ -183,9 +146,7 @@ name_fills form_multi a fs os ts z zs
       rest'',
       multi k (key ∷ others),
       a ∷ [],
-      ap (λ r. word a (form_name form_multi) ∷ r)
-          (e ∙ ap (λ r. opening b ∷ word c w ∷ r)
-          (g ∙ ap (λ r. comma f ∷ r) (j ∙ ap (λ r. word i v ∷ r) (m ∙ sym (append_assoc cs (closing d ∷ []) rest''))))),
+      simp (e, g, j, m, append_assoc),
       text_multi d h (keys_from f i v key hk ho),
       last,
     )
@@ -207,7 +168,7 @@ run_fills l ls a fs os ts z zs (b, rest, e, (us, tail, u, ps, g, hu, last)) = (
   tail,
   letters_tree (l ∷ ls) u,
   letters_offsets a (l ∷ ls) ps,
-  ap (λ r. word a (letter_word (l ∷ ls)) ∷ r) (e ∙ ap (λ r. colon b ∷ r) g),
+  simp (e, g),
   text_letters l ls hu,
   letters_fill a (l ∷ ls) u fs os ps tail z zs last,
 )
@@ -271,7 +232,7 @@ next_key_fills k keys a fs os ts z zs (c, w, key, rest, e, h, (d, cs, tail, othe
   comma a ∷ word c w ∷ cs,
   tail,
   key ∷ others,
-  ap (λ r. comma a ∷ r) (e ∙ ap (λ r. word c w ∷ r) g),
+  simp (e, g),
   some_keys (keys_from a c w key h ho),
   subst (λ r. EndedFills fs (multi k r) os tail z zs) (append_assoc keys (key ∷ []) others) last,
 )

@@ -5,12 +5,12 @@ use Rattle.std.specs.Str.{IsUtf8}
 use Rattle.std.proofs.Common.{◌≡◌, ℕ, ◌+◌, ◌≤◌, false, List, [], ◌∷◌, ◌++◌, length, codes, Some, refl, sym, ap, ◌∙◌, subst, append_assoc, arith}
 use Rattle.std.proofs.lemmas.Bool.{ltb-false, false_from_ne_true}
 use Rattle.def_script.specs.Bytes.{Bytes}
-use Rattle.def_tree.specs.Tree.{Tree, Trees, just_0, just_1, pk_k, pk_h, older, after, hash, and_or, two, thresh, multi, wrap, none, more}
+use Rattle.def_tree.specs.Tree.{Tree, Trees, just_0, none, more}
 use Rattle.def_tree.specs.Size.{depth, depth_of}
 use Rattle.def_tree.specs.Range.{MOST_DEPTH}
 use Rattle.def_text.specs.Token.{Token, word, opening, closing, comma, colon, end, tokens}
-use Rattle.def_text.specs.Word.{hash_name, two_name}
-use Rattle.def_text.specs.Letter.{Letter, letter_of_wrapper, letter_t, letter_l, letter_u, letter_word, letter_tree, letters_tree}
+use Rattle.def_text.specs.Word.{two_name}
+use Rattle.def_text.specs.Letter.{Letter, letter_word, letter_tree, letters_tree}
 use Rattle.def_text.specs.Spells.{call, Spells, text_0, text_1, text_pk_k, text_pk_h, text_pk, text_pkh, text_older, text_after, text_hash, text_andor, text_two, text_and_n, text_thresh, text_multi, text_letters, SpellsChildren, last_child, next_child, SpellsText, text_whole}
 use Rattle.def_text.specs.Refusal.{NoneDeep, MOST_WRITTEN_DEPTH}
 use Rattle.def_text.specs.Scaffolding.Reader.{Form, form_0, form_1, form_leaf, form_multi, named, head_of, leaf_pk_k, leaf_pk_h, leaf_pk, leaf_pkh, leaf_older, leaf_after, leaf_hash, Pair, pair_two, pair_and_n, Frame, andor_first, andor_second, andor_third, pair_first, pair_second, thresh_child, joined, expression, ended, thresh_comma, State, START, behind, is_deep, is_deep_head, run_frames, run_offsets}
@@ -75,30 +75,14 @@ room_at_name a w form fs os ts head h =
 -- each tree has a node
 some_depth : (x : Tree) → 1 ≤ depth x
 some_depth just_0 = omega arith
-some_depth just_1 = omega arith
-some_depth (pk_k key) = omega arith
-some_depth (pk_h key) = omega arith
-some_depth (older n) = omega arith
-some_depth (after n) = omega arith
-some_depth (hash kind value) = omega arith
-some_depth (and_or x y z) = omega arith
-some_depth (two kind x y) = omega arith
-some_depth (thresh k xs) = omega arith
-some_depth (multi k keys) = omega arith
-some_depth (wrap wrapper x) = omega arith
+some_depth x = omega arith
 
 letter_depth : (l : Letter) (x : Tree) → depth (letter_tree l x) ≤ depth x + 1
-letter_depth (letter_of_wrapper w) x = omega arith
-letter_depth letter_t x = let some = some_depth x in omega arith
-letter_depth letter_l x = let some = some_depth x in omega arith
-letter_depth letter_u x = let some = some_depth x in omega arith
+letter_depth l x = grind (arith, some_depth)
 
 letters_depth : (ls : List Letter) (x : Tree) → depth (letters_tree ls x) ≤ depth x + length ls
 letters_depth [] x = omega arith
-letters_depth (l ∷ ls) x =
-    let later = letters_depth ls x in
-    let here = letter_depth l (letters_tree ls x) in
-    omega arith
+letters_depth (l ∷ ls) x = omega (arith, letters_depth ls x, letter_depth l (letters_tree ls x))
 
 -- the children of a fragment of two
 pair_within : (pair : Pair) (a c : ℕ) (xs ys : List Token) (x y : Tree) (fs : List Frame) (ps os : List ℕ) →
@@ -113,25 +97,15 @@ pair_within pair a c xs ys x y fs ps os leads h = (
 mutual
   within : {ts : List Token} {x : Tree} {os : List ℕ} → Spells ts x os → (fs : List Frame) (ps : List ℕ) →
       Shallow (expression, fs, ps) ts → depth x + length fs ≤ MOST_DEPTH
-  within (text_0 {a = a}) fs ps h =
-      let room = room_at_name a (codes "0") form_0 fs ps [] refl h in omega arith
-  within (text_1 {a = a}) fs ps h =
-      let room = room_at_name a (codes "1") form_1 fs ps [] refl h in omega arith
-  within (text_pk_k {a = a} {b = b} {c = c} {d = d} {w = w} k) fs ps h =
-      let room = room_at_name a (codes "pk_k") (form_leaf leaf_pk_k) fs ps (opening b ∷ word c w ∷ closing d ∷ []) refl h in omega arith
-  within (text_pk_h {a = a} {b = b} {c = c} {d = d} {w = w} k) fs ps h =
-      let room = room_at_name a (codes "pk_h") (form_leaf leaf_pk_h) fs ps (opening b ∷ word c w ∷ closing d ∷ []) refl h in omega arith
-  within (text_pk {a = a} {b = b} {c = c} {d = d} {w = w} k) fs ps h =
-      let room = room_at_name a (codes "pk") (form_leaf leaf_pk) fs ps (opening b ∷ word c w ∷ closing d ∷ []) refl h in omega arith
-  within (text_pkh {a = a} {b = b} {c = c} {d = d} {w = w} k) fs ps h =
-      let room = room_at_name a (codes "pkh") (form_leaf leaf_pkh) fs ps (opening b ∷ word c w ∷ closing d ∷ []) refl h in omega arith
-  within (text_older {a = a} {b = b} {c = c} {d = d} {w = w} k) fs ps h =
-      let room = room_at_name a (codes "older") (form_leaf leaf_older) fs ps (opening b ∷ word c w ∷ closing d ∷ []) refl h in omega arith
-  within (text_after {a = a} {b = b} {c = c} {d = d} {w = w} k) fs ps h =
-      let room = room_at_name a (codes "after") (form_leaf leaf_after) fs ps (opening b ∷ word c w ∷ closing d ∷ []) refl h in omega arith
-  within (text_hash {a = a} {b = b} {c = c} {d = d} {w = w} kind k) fs ps h =
-      let room = room_at_name a (hash_name kind) (form_leaf (leaf_hash kind)) fs ps (opening b ∷ word c w ∷ closing d ∷ []) (head_of_hash kind) h in
-      omega arith
+  within text_0 fs ps h = omega (arith, room_at_name _ _ form_0 fs ps _ refl h)
+  within text_1 fs ps h = omega (arith, room_at_name _ _ form_1 fs ps _ refl h)
+  within (text_pk_k k) fs ps h = omega (arith, room_at_name _ _ (form_leaf leaf_pk_k) fs ps _ refl h)
+  within (text_pk_h k) fs ps h = omega (arith, room_at_name _ _ (form_leaf leaf_pk_h) fs ps _ refl h)
+  within (text_pk k) fs ps h = omega (arith, room_at_name _ _ (form_leaf leaf_pk) fs ps _ refl h)
+  within (text_pkh k) fs ps h = omega (arith, room_at_name _ _ (form_leaf leaf_pkh) fs ps _ refl h)
+  within (text_older k) fs ps h = omega (arith, room_at_name _ _ (form_leaf leaf_older) fs ps _ refl h)
+  within (text_after k) fs ps h = omega (arith, room_at_name _ _ (form_leaf leaf_after) fs ps _ refl h)
+  within (text_hash kind k) fs ps h = omega (arith, room_at_name _ _ (form_leaf (leaf_hash kind)) fs ps _ (head_of_hash kind) h)
   within (text_andor {a = a} {b = b} c d e {xs = xs} {ys = ys} {zs = zs} {x = x} {y = y} {z = z} {os = os} {ps = qs} {qs = rs} hx hy hz) fs ps h =
       let first : State = (expression, andor_first a ∷ fs, ps) in
       let second : State = (expression, andor_second x a ∷ fs, ps ++ os) in
@@ -168,8 +142,7 @@ mutual
       shallow_after (expression, fs, ps) (thresh_comma k a, fs, ps) (word a (codes "thresh") ∷ opening b ∷ word c w ∷ []) (ts ++ closing d ∷ []) goes h in
       let dx = children_within hx (thresh_comma k a, fs, ps) k none a fs ps (λ b. refl) (shallow_front (thresh_comma k a, fs, ps) ts (closing d ∷ []) inner) in
       omega arith
-  within (text_multi {a = a} {b = b} {c = c} d {w = w} {ts = ts} n hk) fs ps h =
-      let room = room_at_name a (codes "multi") form_multi fs ps (opening b ∷ (word c w ∷ ts) ++ closing d ∷ []) refl h in omega arith
+  within (text_multi d n hk) fs ps h = omega (arith, room_at_name _ _ form_multi fs ps _ refl h)
   within (text_letters {a = a} {b = b} l ls {xs = xs} {x = x} hx) fs ps h =
       let frames : List Frame = run_frames a (l ∷ ls) fs in
       let offsets : List ℕ = run_offsets a (l ∷ ls) ps in

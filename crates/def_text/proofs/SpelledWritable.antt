@@ -1,6 +1,6 @@
 -- A spelled tree can be written: each word of a text is a key, a hash value or a number of at most ten digits.
 use Rattle.std.specs.Prelude.{if◌then◌else◌, All}
-use Rattle.std.proofs.Common.{◌≡◌, inl, inr, ℕ, ◌==◌, ◌<◌, ◌≤◌, Bool, true, false, ◌&&◌, not, List, [], ◌∷◌, length, slice_index, codes, Some, None, Result, Ok, Err, nat_le, refl, sym, ap, ◌∙◌, subst, arith}
+use Rattle.std.proofs.Common.{◌≡◌, inl, inr, ℕ, ◌==◌, ◌<◌, ◌≤◌, Bool, true, false, ◌&&◌, not, List, [], ◌∷◌, length, slice_index, codes, Some, None, Result, Ok, nat_le, refl, sym, subst, arith}
 use Rattle.std.specs.Option.{option_and_then}
 use Rattle.std.specs.Result.{result_ok}
 use Rattle.std.specs.Str.{all_ascii_digits, bytes_eq}
@@ -8,7 +8,7 @@ use Rattle.std.specs.Str.Parse.{digits_value}
 use Rattle.std.proofs.lemmas.Bool.{and_parts, or_cases, leb-true, eqb-true}
 use Rattle.std.proofs.lemmas.Slice.Eq.{bytes_eq-Decides}
 use Rattle.std.proofs.lemmas.List.Elements.{All-nil, All-cons}
-use Rattle.std.proofs.lemmas.Str.Parse.{digits_value_short, numerals_by_value, tells_all_ascii_digits, IsNumeralModel}
+use Rattle.std.proofs.lemmas.Str.Parse.{digits_value_short}
 use Rattle.hex.specs.Hex.{decode_of}
 use Rattle.hex.specs.declared.error.FromHexError.{FromHexError}
 use Rattle.hex.proofs.HexLemmas.{decode_of-ok}
@@ -21,22 +21,19 @@ use Rattle.def_text.specs.Token.{Token}
 use Rattle.def_text.specs.Word.{is_number, number_of, key_of, is_digest, hash_of}
 use Rattle.def_script.specs.Key.{is_key}
 use Rattle.def_text.specs.Letter.{Letter, letter_of_wrapper, letter_t, letter_l, letter_u, letter_tree, letters_tree}
+use Rattle.def_text.proofs.PrintedWords.{own}
 use Rattle.def_text.specs.Spells.{Spells, text_0, text_1, text_pk_k, text_pk_h, text_pk, text_pkh, text_older, text_after, text_hash, text_andor, text_two, text_and_n, text_thresh, text_multi, text_letters, SpellsChildren, last_child, next_child, SpellsKeys, last_key, next_key, SpellsText, text_whole}
 
 -- ---- keys and hash values
 
 tested : (b : Bool) (v bytes : Bytes) → (if b then Some v else None) ≡ Some bytes → (b ≡ true) × (v ≡ bytes)
-tested true v bytes h = (refl, cc)
-tested false v bytes h = absurd (cc)
+tested b v bytes = grind arith
 
 -- what a word of hexadecimal digits spells was decoded, and passed the test
 decoded : (test : Bytes → Bool) (r : Result (List ℕ) FromHexError) (bytes : Bytes) →
     option_and_then (λ (v : Bytes). if test v then Some v else None) (result_ok r) ≡ Some bytes →
     (r ≡ Ok bytes) × (test bytes ≡ true)
-decoded test (Err e) bytes h = absurd (cc)
-decoded test (Ok v) bytes h =
-    let (passed, same) = tested (test v) v bytes h in
-    (ap Ok same, sym (ap test same) ∙ passed)
+decoded test r bytes = grind arith
 
 key_by_word : (w : Bytes) (key : Key) → key_of w ≡ Some key → IsKey key
 key_by_word w key h =
@@ -49,9 +46,6 @@ hash_by_word kind w value h =
     record { length = eqb-true (length value) (digest_length kind) passed; bytes = (decode_of-ok w value ok).3 }
 
 -- ---- numbers
-
-own : IsNumeralModel (λ ds. all_ascii_digits ds ≡ true) (digits_value 10)
-own = numerals_by_value (λ ds. all_ascii_digits ds ≡ true) tells_all_ascii_digits
 
 short_number : (w : Bytes) → is_number w ≡ true → digits_value 10 w < TEN_DIGITS
 short_number w h = elim (or_cases (bytes_eq w (codes "0"))

@@ -1,37 +1,20 @@
 -- What a word is where an expression may begin: names and letters, and back.
 use Rattle.std.specs.Prelude.{if◌then◌else◌}
-use Rattle.std.proofs.Common.{◌≡◌, ℕ, ◌==◌, Bool, true, false, List, [], ◌∷◌, Option, Some, None, refl, ap, ◌∙◌}
+use Rattle.std.proofs.Common.{◌≡◌, ℕ, ◌==◌, Bool, true, List, [], ◌∷◌, Option, Some, refl, ap, arith}
 use Rattle.std.specs.Option.{option_and_then, option_map}
-use Rattle.std.specs.Str.{bytes_eq}
 use Rattle.std.proofs.lemmas.Bool.{eqb-true}
 use Rattle.std.proofs.lemmas.Slice.Eq.{bytes_eq-Decides}
 use Rattle.def_script.specs.Bytes.{Bytes}
 use Rattle.def_hash.specs.declared.HashKind.{HashKind}
-use Rattle.def_hash.specs.declared.HashKind.TheVariants.{Sha256, Hash256, Ripemd160, Hash160}
-use Rattle.def_tree.specs.declared.Wrapper.{Wrapper}
-use Rattle.def_tree.specs.declared.Wrapper.TheVariants.{A, S, C, D, V, J, N}
 use Rattle.def_tree.specs.declared.Two.{Two}
-use Rattle.def_tree.specs.declared.Two.TheVariants.{AndV, AndB, OrB, OrC, OrD, OrI}
 use Rattle.def_text.specs.Word.{hash_name, two_name}
-use Rattle.def_text.specs.Letter.{Letter, letter_of_wrapper, letter_t, letter_l, letter_u, letter_byte, letter_word}
+use Rattle.def_text.specs.Letter.{Letter, letter_byte, letter_word}
 use Rattle.def_text.specs.Scaffolding.Reader.{Form, form_leaf, leaf_hash, form_pair, pair_two, form_name, FORMS, first_named, LETTERS, first_letter, letters_of, named, run, head_from, head_of}
 
 -- ---- from names and letters to heads
 
-first_letter_of_wrapper : (w : Wrapper) → first_letter (letter_byte (letter_of_wrapper w)) LETTERS ≡ Some (letter_of_wrapper w)
-first_letter_of_wrapper A = refl
-first_letter_of_wrapper S = refl
-first_letter_of_wrapper C = refl
-first_letter_of_wrapper D = refl
-first_letter_of_wrapper V = refl
-first_letter_of_wrapper J = refl
-first_letter_of_wrapper N = refl
-
 first_letter_of : (l : Letter) → first_letter (letter_byte l) LETTERS ≡ Some l
-first_letter_of (letter_of_wrapper w) = first_letter_of_wrapper w
-first_letter_of letter_t = refl
-first_letter_of letter_l = refl
-first_letter_of letter_u = refl
+first_letter_of l = grind arith
 
 letters_of_word : (ls : List Letter) → letters_of (letter_word ls) ≡ Some ls
 letters_of_word [] = refl
@@ -41,35 +24,20 @@ pub head_of_letters : (l : Letter) (ls : List Letter) → head_of (letter_word (
 head_of_letters l ls = ap (λ o. head_from o (first_named (letter_word (l ∷ ls)) FORMS)) (letters_of_word (l ∷ ls))
 
 pub head_of_hash : (kind : HashKind) → head_of (hash_name kind) ≡ named (form_leaf (leaf_hash kind))
-head_of_hash Sha256 = refl
-head_of_hash Hash256 = refl
-head_of_hash Ripemd160 = refl
-head_of_hash Hash160 = refl
+head_of_hash kind = grind arith
 
 pub head_of_two : (kind : Two) → head_of (two_name kind) ≡ named (form_pair (pair_two kind))
-head_of_two AndV = refl
-head_of_two AndB = refl
-head_of_two OrB = refl
-head_of_two OrC = refl
-head_of_two OrD = refl
-head_of_two OrI = refl
+head_of_two kind = grind arith
 
 -- ---- from heads to names and letters
 
-named_here : (w : Bytes) (f g : Form) (b : Bool) (later : Option Form) → (b ≡ true → w ≡ form_name g) →
-    (later ≡ Some f → w ≡ form_name f) → (if b then Some g else later) ≡ Some f → w ≡ form_name f
-named_here w f g true later here there h = let e : g ≡ f = cc in here refl ∙ ap form_name e
-named_here w f g false later here there h = there h
-
 pub named_is : (w : Bytes) (f : Form) (fs : List Form) → first_named w fs ≡ Some f → w ≡ form_name f
 named_is w f [] h = absurd (cc)
-named_is w f (g ∷ gs) h =
-    named_here w f g (bytes_eq w (form_name g)) (first_named w gs) (bytes_eq-Decides w (form_name g)).0 (named_is w f gs) h
+named_is w f (g ∷ gs) h = grind (arith, named_is w f gs, (bytes_eq-Decides w (form_name g)).0)
 
 letter_here : (n : ℕ) (l m : Letter) (b : Bool) (later : Option Letter) → (b ≡ true → n ≡ letter_byte m) →
     (later ≡ Some l → n ≡ letter_byte l) → (if b then Some m else later) ≡ Some l → n ≡ letter_byte l
-letter_here n l m true later here there h = let e : m ≡ l = cc in here refl ∙ ap letter_byte e
-letter_here n l m false later here there h = there h
+letter_here n l m b later = grind arith
 
 letter_is : (n : ℕ) (l : Letter) (ls : List Letter) → first_letter n ls ≡ Some l → n ≡ letter_byte l
 letter_is n l [] h = absurd (cc)
@@ -79,31 +47,18 @@ letter_is n l (m ∷ ms) h =
 letters_are : (n : ℕ) (w : Bytes) (ls : List Letter) (o : Option Letter) (p : Option (List Letter)) →
     ((l : Letter) → o ≡ Some l → n ≡ letter_byte l) → ((ms : List Letter) → p ≡ Some ms → w ≡ letter_word ms) →
     option_and_then (λ l. option_map (λ ms. l ∷ ms) p) o ≡ Some ls → n ∷ w ≡ letter_word ls
-letters_are n w ls None p first others h = absurd (cc)
-letters_are n w ls (Some l) None first others h = absurd (cc)
-letters_are n w ls (Some l) (Some ms) first others h =
-    let a : n ≡ letter_byte l = first l refl in
-    let b : w ≡ letter_word ms = others ms refl in
-    let e : l ∷ ms ≡ ls = cc in
-    let both : n ∷ w ≡ letter_word (l ∷ ms) = cc in
-    both ∙ ap letter_word e
+letters_are n w ls o p = grind arith
 
 pub word_is : (w : Bytes) (ls : List Letter) → letters_of w ≡ Some ls → w ≡ letter_word ls
 word_is [] ls h = let e : [] ≡ ls = cc in ap letter_word e
 word_is (n ∷ w) ls h = letters_are n w ls (first_letter n LETTERS) (letters_of w) (λ l. letter_is n l LETTERS) (word_is w) h
 
 name_from : (f : Form) (o : Option (List Letter)) (p : Option Form) → head_from o p ≡ named f → p ≡ Some f
-name_from f None None h = absurd (cc)
-name_from f None (Some g) h = cc
-name_from f (Some []) p h = absurd (cc)
-name_from f (Some (l ∷ ls)) p h = absurd (cc)
+name_from f o p = grind arith
 
 run_from : (l : Letter) (ls : List Letter) (o : Option (List Letter)) (p : Option Form) → head_from o p ≡ run l ls →
     o ≡ Some (l ∷ ls)
-run_from l ls None None h = absurd (cc)
-run_from l ls None (Some g) h = absurd (cc)
-run_from l ls (Some []) p h = absurd (cc)
-run_from l ls (Some (m ∷ ms)) p h = let a : m ≡ l = cc in let b : ms ≡ ls = cc in cc
+run_from l ls o p = grind arith
 
 pub name_of_head : (w : Bytes) (f : Form) → head_of w ≡ named f → w ≡ form_name f
 name_of_head w f h = named_is w f FORMS (name_from f (letters_of w) (first_named w FORMS) h)

@@ -15,63 +15,41 @@ use Rattle.def_types.proofs.Rows.{corr_rows}
 
 pub all_true : (a b c : Bool) → (a && b && c) ≡ true → (a ≡ true) × (b ≡ true) × (c ≡ true)
 all_true true true c e = (refl, refl, e)
-all_true true false c e = cc
-all_true false b c e = cc
+all_true a b c e = cc
 
 pub base-b : (b : Base) → is_b b ≡ true → b ≡ B
 base-b B e = refl
-base-b V e = cc
-base-b K e = cc
-base-b W e = cc
+base-b other e = cc
 
 pub base-v : (b : Base) → is_v b ≡ true → b ≡ V
-base-v B e = cc
 base-v V e = refl
-base-v K e = cc
-base-v W e = cc
+base-v other e = cc
 
 pub base-k : (b : Base) → is_k b ≡ true → b ≡ K
-base-k B e = cc
-base-k V e = cc
 base-k K e = refl
-base-k W e = cc
+base-k other e = cc
 
 pub base-w : (b : Base) → is_w b ≡ true → b ≡ W
-base-w B e = cc
-base-w V e = cc
-base-w K e = cc
 base-w W e = refl
+base-w other e = cc
 
 pub base-not_w : (b : Base) → (is_b b || is_k b || is_v b) ≡ true → b ≢ W
 base-not_w B e = λ h. cc
-base-not_w V e = λ h. cc
-base-not_w K e = λ h. cc
-base-not_w W e = λ h. cc
+base-not_w other e = λ h. cc
 
 pub base-same : (b c : Base) → are_same b c ≡ true → (b ≡ c) × (b ≢ W)
 base-same B B e = (refl, λ h. cc)
-base-same B V e = cc
-base-same B K e = cc
-base-same B W e = cc
-base-same V B e = cc
 base-same V V e = (refl, λ h. cc)
-base-same V K e = cc
-base-same V W e = cc
-base-same K B e = cc
-base-same K V e = cc
 base-same K K e = (refl, λ h. cc)
-base-same K W e = cc
-base-same W B e = cc
-base-same W V e = cc
-base-same W K e = cc
-base-same W W e = cc
+base-same b c e = cc
 
 -- the fragments
 pub typed-older : (n : ℕ) → IsTyped (older n) → (1 ≤ n) × (n < 2 ^ 31)
 unfolding corr_rows
 typed-older n h = let p = and_parts (nat_le 1 n) (nat_lt n (2 ^ 31)) h.0 in (leb-true 1 n p.0, ltb-true n (2 ^ 31) p.1)
 
-pub typed-and_or : (x y z : Tree) → IsTyped (and_or x y z) → IsTyped x × IsTyped y × IsTyped z × ((type_of x).base ≡ B) × ((type_of x).d ≡ true) × ((type_of x).u ≡ true) × ((type_of y).base ≡ (type_of z).base) × ((type_of y).base ≢ W)
+pub typed-and_or : (x y z : Tree) → IsTyped (and_or x y z) → IsTyped x × IsTyped y × IsTyped z × ((type_of x).base ≡ B) × ((type_of x).d ≡ true)
+    × ((type_of x).u ≡ true) × ((type_of y).base ≡ (type_of z).base) × ((type_of y).base ≢ W)
 unfolding corr_rows
 typed-and_or x y z h =
     let p = all_true (is_b (type_of x).base) (type_of x).d (type_of x).u h.3.0 in
@@ -167,7 +145,8 @@ count-types_of : (xs : Trees) → length (types_of xs) ≡ count xs
 count-types_of none = refl
 count-types_of (more x xs) = let e = count-types_of xs in omega arith
 
-pub typed-thresh : (k : ℕ) (x : Tree) (xs : Trees) → IsTyped (thresh k (more x xs)) → IsTyped x × AreTyped xs × (1 ≤ k) × (k ≤ count (more x xs)) × ((type_of x).base ≡ B) × ((type_of x).d ≡ true) × ((type_of x).u ≡ true) × OthersFit xs
+pub typed-thresh : (k : ℕ) (x : Tree) (xs : Trees) → IsTyped (thresh k (more x xs)) → IsTyped x × AreTyped xs × (1 ≤ k) × (k ≤ count (more x xs))
+    × ((type_of x).base ≡ B) × ((type_of x).d ≡ true) × ((type_of x).u ≡ true) × OthersFit xs
 unfolding corr_rows
 typed-thresh k x xs h =
     let p = and_parts (nat_le 1 k) (nat_le k (length (types_of (more x xs)))) h.1.0 in

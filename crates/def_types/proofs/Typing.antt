@@ -2,7 +2,7 @@
 use Rattle.std.specs.Option.{option_or}
 use Rattle.std.specs.Prelude.{⊤}
 use Rattle.std.proofs.Common.{◌≡◌, ◌↔◌, ℕ, zero, suc, ◌+◌, ◌<◌, Bool, true, false, IsTrue, List, [], ◌∷◌, ◌++◌, length, take, slice_get, Option, Some, None, Result, Ok, Err, refl, sym, ◌∙◌, ap, subst, arith, append_assoc, if◌then◌else◌}
-use Rattle.def_tree.specs.Tree.{Tree, Trees, just_0, just_1, pk_k, pk_h, older, after, hash, and_or, two, thresh, multi, wrap, none, more}
+use Rattle.def_tree.specs.Tree.{Tree, Trees, and_or, two, thresh, wrap, none, more}
 use Rattle.def_tree.specs.Size.{nodes, nodes_of}
 use Rattle.def_tree.specs.Nodes.{all_nodes, nodes_of_all}
 use Rattle.def_tree.proofs.NodeLists.{nodes_are_all, trees_are_all}
@@ -42,7 +42,8 @@ first_from_broken : (needs : List Need) (rule : Rule) → broken needs ≡ Some 
 first_from_broken [] rule e = cc
 first_from_broken (n ∷ needs) rule e = go n.holds refl (first_from_broken needs rule) e
   where
-    go : (b : Bool) → n.holds ≡ b → (broken needs ≡ Some rule → (place : ℕ) × FirstOfRow needs rule place) → (if b then broken needs else Some n.rule) ≡ Some rule → (place : ℕ) × FirstOfRow (n ∷ needs) rule place
+    go : (b : Bool) → n.holds ≡ b → (broken needs ≡ Some rule → (place : ℕ) × FirstOfRow needs rule place) → (if b then broken needs else Some n.rule)
+        ≡ Some rule → (place : ℕ) × FirstOfRow (n ∷ needs) rule place
     go true p rest e = let r = rest e in (suc r.0, (r.1.0, (p, r.1.1)))
     go false p rest e = let same : n.rule ≡ rule = cc in (zero, (ap (λ (b : Bool). Some (need n.rule b)) p ∙ ap (λ (r : Rule). Some (need r false)) same, tt))
 
@@ -111,13 +112,6 @@ module _ {A : Type 0} (rows : Rows A) where
   -- the answer is the first of all nodes
   mutual
     pub typed-is : (first : ℕ) (t : Tree) → typed_from rows first t ≡ unless_at (first_false first (all_nodes t)) (gives rows t)
-    typed-is first just_0 = root first just_0
-    typed-is first just_1 = root first just_1
-    typed-is first (pk_k key) = root first (pk_k key)
-    typed-is first (pk_h key) = root first (pk_h key)
-    typed-is first (older n) = root first (older n)
-    typed-is first (after n) = root first (after n)
-    typed-is first (hash kind value) = root first (hash kind value)
     typed-is first (and_or x y z) =
         rw (append_assoc (all_nodes x ++ all_nodes y) (all_nodes z) (and_or x y z ∷ []))
         (rw (append_assoc (all_nodes x) (all_nodes y) (all_nodes z ++ and_or x y z ∷ []))
@@ -139,11 +133,11 @@ module _ {A : Type 0} (rows : Rows A) where
         rw (first_false-append first (first + nodes_of xs) (nodes_of_all xs) (thresh k xs ∷ []) (omega (arith, trees_are_all xs)))
         (step (typed_each rows first xs) _ _ _ (gives_each rows xs) (gives rows (thresh k xs)) (typed_each-is first xs)
         (root (first + nodes_of xs) (thresh k xs)))
-    typed-is first (multi k keys) = root first (multi k keys)
     typed-is first (wrap wrapper x) =
         rw (first_false-append first (first + nodes x) (all_nodes x) (wrap wrapper x ∷ []) (omega (arith, nodes_are_all x)))
         (step (typed_from rows first x) _ _ _ (gives rows x) (gives rows (wrap wrapper x)) (typed-is first x)
         (root (first + nodes x) (wrap wrapper x)))
+    typed-is first leaf = root first leaf
 
     pub typed_each-is : (first : ℕ) (xs : Trees) → typed_each rows first xs ≡ unless_at (first_false first (nodes_of_all xs)) (gives_each rows xs)
     typed_each-is first none = refl
@@ -195,7 +189,8 @@ module _ {A : Type 0} (rows : Rows A) where
   first_from_false first [] at e = cc
   first_from_false first (t ∷ ts) at e = go (broken (needs_of t)) refl (first_from_false (first + 1) ts at) e
     where
-      none_before : (k : ℕ) → AllHold (needs_of t) → ((n : ℕ) (u : Tree) → n < k → slice_get ts n ≡ Some u → AllHold (needs_of u)) → (n : ℕ) (u : Tree) → n < suc k → slice_get (t ∷ ts) n ≡ Some u → AllHold (needs_of u)
+      none_before : (k : ℕ) → AllHold (needs_of t) → ((n : ℕ) (u : Tree) → n < k → slice_get ts n ≡ Some u → AllHold (needs_of u)) → (n : ℕ) (u : Tree)
+          → n < suc k → slice_get (t ∷ ts) n ≡ Some u → AllHold (needs_of u)
       none_before k here rest zero u below e = let same : t ≡ u = cc in subst (λ (v : Tree). AllHold (needs_of v)) same here
       none_before k here rest (suc n) u below e = rest n u (omega arith) e
 
@@ -228,13 +223,6 @@ module _ {A : Type 0} (rows : Rows A) where
   -- the same by recursion
   mutual
     met_is : (t : Tree) → IsMet rows t ↔ EachMet (all_nodes t)
-    met_is just_0 = (λ h. (h, tt), λ h. h.0)
-    met_is just_1 = (λ h. (h, tt), λ h. h.0)
-    met_is (pk_k key) = (λ h. (h, tt), λ h. h.0)
-    met_is (pk_h key) = (λ h. (h, tt), λ h. h.0)
-    met_is (older n) = (λ h. (h, tt), λ h. h.0)
-    met_is (after n) = (λ h. (h, tt), λ h. h.0)
-    met_is (hash kind value) = (λ h. (h, tt), λ h. h.0)
     met_is (and_or x y z) =
         let all = each_met-append (all_nodes x ++ all_nodes y ++ all_nodes z) (and_or x y z ∷ []) in
         let three = each_met-append (all_nodes x ++ all_nodes y) (all_nodes z) in
@@ -254,10 +242,10 @@ module _ {A : Type 0} (rows : Rows A) where
     met_is (thresh k xs) =
         let all = each_met-append (nodes_of_all xs) (thresh k xs ∷ []) in
         (λ h. all.1 ((are_met xs).0 h.0, (h.1, tt)), λ h. ((are_met xs).1 (all.0 h).0, (all.0 h).1.0))
-    met_is (multi k keys) = (λ h. (h, tt), λ h. h.0)
     met_is (wrap wrapper x) =
         let all = each_met-append (all_nodes x) (wrap wrapper x ∷ []) in
         (λ h. all.1 ((met_is x).0 h.0, (h.1, tt)), λ h. ((met_is x).1 (all.0 h).0, (all.0 h).1.0))
+    met_is leaf = (λ h. (h, tt), λ h. h.0)
 
     are_met : (xs : Trees) → AreMet rows xs ↔ EachMet (nodes_of_all xs)
     are_met none = (λ h. tt, λ h. tt)

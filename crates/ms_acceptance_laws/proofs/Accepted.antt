@@ -1,7 +1,7 @@
 -- The interpreter accepts the canonical satisfactions of a valid miniscript; and what it accepts are satisfactions.
 use Rattle.std.proofs.Common.{◌≡◌, ℕ, ◌+◌, ◌^◌, ◌<◌, ◌≤◌, nat_le, Bool, true, false, List, [], ◌∷◌, ◌++◌, length, reverse, All, Ok, refl, sym, ◌∙◌, ap, subst, ◌⊎◌, inl, inr, arith}
 use Rattle.std.specs.List.{list_all}
-use Rattle.std.proofs.lemmas.Bool.{leb-true, false≢true, and_parts}
+use Rattle.std.proofs.lemmas.Bool.{leb-true, false≢true, and_parts, cases_Bool}
 use Rattle.std.proofs.lemmas.List.{append-nil, reverse-reverse, length-reverse}
 use Rattle.std.proofs.lemmas.List.Elements.{All-head, All-tail, All-weaker}
 use Rattle.def_script.specs.Bytes.{Bytes}
@@ -58,7 +58,8 @@ use Rattle.ms_row_laws.proofs.RunLog.{Log}
 use Rattle.ms_acceptance_laws.proofs.StackEffects.{left}
 
 -- from a whole satisfaction
-pub satisfied : (s : Setting) (t : Tree) → IsWritable t → IsWithinConsensus t → (w : Stack) → Short w → (r : (row s t).sat w) → (v : Bytes) × (den s.given t w ≡ Ok (left (v ∷ []) (sat_log s t w r))) × (truth v ≡ true)
+pub satisfied : (s : Setting) (t : Tree) → IsWritable t → IsWithinConsensus t → (w : Stack) → Short w → (r : (row s t).sat w) → (v : Bytes)
+    × (den s.given t w ≡ Ok (left (v ∷ []) (sat_log s t w r))) × (truth v ≡ true)
 satisfied s t writable consensus w short r =
     let e : EndsB (type_of t).u true (den s.given t) w [] (sat_log s t w r) =
     subst (λ b. Ends s.given.table b (type_of t).u true (den s.given t) w [] (sat_log s t w r)) consensus.base (sat_ends s t writable consensus.typed (few_children t consensus) w [] short r) in
@@ -92,7 +93,9 @@ short_items most low (x ∷ w) h =
 -- a canonical satisfaction's run, with what it passes
 pub record Accepts (tree : Tree) (limits : Limits) (assets : Assets) (table : Pairs) (stack : List Bytes) (r : (row (canonical_with assets table) tree).sat (reverse stack)) : Type 0 where
   pub peak : ℕ
-  pub run : run (given_with assets table) (script_of tree) stack ≡ accepted (opcode_count (emit tree) + (sat_log (canonical_with assets table) tree (reverse stack) r).keys) peak (sat_log (canonical_with assets table) tree (reverse stack) r).checks
+  pub run : run (given_with assets table) (script_of tree) stack
+      ≡ accepted (opcode_count (emit tree) + (sat_log (canonical_with assets table) tree (reverse stack) r).keys) peak
+      (sat_log (canonical_with assets table) tree (reverse stack) r).checks
   pub few_ops : opcode_count (emit tree) + (sat_log (canonical_with assets table) tree (reverse stack) r).keys ≤ limits.ops
   pub low : (height : ℕ) → IsHeight tree height → peak ≤ height
   pub way : Way
@@ -129,7 +132,9 @@ has_peak s canonical tree writable consensus w short r =
     }
 
 -- every row of a canonical satisfaction tells what its run logs
-pub accepts_row : (tree : Tree) (limits : Limits) (assets : Assets) (table : Pairs) (stack : List Bytes) → IsWritable tree → IsWithinConsensus tree → AreLimits tree limits → AreAssets assets → Sat tree assets stack → (r : (row (canonical_with assets table) tree).sat (reverse stack)) → Accepts tree limits assets table stack r
+pub accepts_row : (tree : Tree) (limits : Limits) (assets : Assets) (table : Pairs) (stack : List Bytes) → IsWritable tree → IsWithinConsensus tree
+    → AreLimits tree limits → AreAssets assets → Sat tree assets stack → (r : (row (canonical_with assets table) tree).sat (reverse stack))
+    → Accepts tree limits assets table stack r
 accepts_row tree limits assets table stack writable consensus are_limits are sat r =
     let s = canonical_with assets table in
     let w = reverse stack in
@@ -141,7 +146,8 @@ accepts_row tree limits assets table stack writable consensus are_limits are sat
     let top = has_peak s refl tree writable consensus w short r in
     let height = height_is_computed tree consensus.typed in
     let done =
-    accepted_run s.given tree w (left (ends.0 ∷ []) (sat_log s tree w r)) ends.0 (peak top.way) writable consensus.size (All-weaker (λ item. length item ≤ MAX_SIGNATURE_SIZE) (λ item. length item ≤ 520) (λ item h. omega (arith, h)) w sized.short) ends.1 refl ends.2
+    accepted_run s.given tree w (left (ends.0 ∷ []) (sat_log s tree w r)) ends.0 (peak top.way) writable consensus.size
+    (All-weaker (λ item. length item ≤ MAX_SIGNATURE_SIZE) (λ item. length item ≤ 520) (λ item h. omega (arith, h)) w sized.short) ends.1 refl ends.2
     (omega (arith, few, most, consensus.ops)) top.low
     (omega (arith, top.below (height_of tree) height, height_is_low tree consensus.typed consensus.base consensus.ops (height_of tree) height)) in
     record {
@@ -152,15 +158,19 @@ accepts_row tree limits assets table stack writable consensus are_limits are sat
       way = top.way;
       is = top.is;
       items = omega (arith, top.items, length-reverse stack);
-      course = let most = top.high (reached (first w) (opcode_count (emit tree)) (left (ends.0 ∷ []) (sat_log s tree w r))) (does_first s.given tree w (left (ends.0 ∷ []) (sat_log s tree w r)) ends.1) done.0 done.3 in omega (arith, most, done.1);
+      course = let most = top.high (reached (first w) (opcode_count (emit tree)) (left (ends.0 ∷ []) (sat_log s tree w r)))
+          (does_first s.given tree w (left (ends.0 ∷ []) (sat_log s tree w r)) ends.1) done.0 done.3 in omega (arith, most, done.1);
     }
 
-pub accepts : (tree : Tree) (limits : Limits) (assets : Assets) (table : Pairs) (stack : List Bytes) → IsWritable tree → IsWithinConsensus tree → AreLimits tree limits → AreAssets assets → (holds : Holds table assets) → (sat : Sat tree assets stack) → Accepts tree limits assets table stack (sat_with tree assets table (reverse stack) holds sat)
+pub accepts : (tree : Tree) (limits : Limits) (assets : Assets) (table : Pairs) (stack : List Bytes) → IsWritable tree → IsWithinConsensus tree
+    → AreLimits tree limits → AreAssets assets → (holds : Holds table assets) → (sat : Sat tree assets stack)
+    → Accepts tree limits assets table stack (sat_with tree assets table (reverse stack) holds sat)
 accepts tree limits assets table stack writable consensus are_limits are holds sat =
     accepts_row tree limits assets table stack writable consensus are_limits are sat (sat_with tree assets table (reverse stack) holds sat)
 
 -- a canonical satisfaction is accepted, within the limits and the height, with no word on the number of its items
-pub accepted_in_consensus : (tree : Tree) (limits : Limits) (assets : Assets) (table : Pairs) (stack : List Bytes) → IsWritable tree → IsWithinConsensus tree → AreLimits tree limits → AreAssets assets → Holds table assets →
+pub accepted_in_consensus : (tree : Tree) (limits : Limits) (assets : Assets) (table : Pairs) (stack : List Bytes) → IsWritable tree → IsWithinConsensus tree
+    → AreLimits tree limits → AreAssets assets → Holds table assets →
     Sat tree assets stack → IsAcceptedWithin tree limits (given_with assets table) stack
 accepted_in_consensus tree limits assets table stack writable consensus are_limits are holds sat =
     let a = accepts tree limits assets table stack writable consensus are_limits are holds sat in
@@ -245,7 +255,8 @@ accounted tree given stack checks writable consensus is =
         record { row = q.0; log = c ∙ sym (ap (λ z. z.checks) q.1) }
     go false w l e i took c = absurd (false≢true i)
 
-pub accepted_is_satisfaction : (tree : Tree) (given : Given) (stack : List Bytes) (checks : Pairs) → IsWritable tree → IsWithinConsensus tree → IsAccepted tree given stack checks → FullSat tree given any stack
+pub accepted_is_satisfaction : (tree : Tree) (given : Given) (stack : List Bytes) (checks : Pairs) → IsWritable tree → IsWithinConsensus tree
+    → IsAccepted tree given stack checks → FullSat tree given any stack
 accepted_is_satisfaction tree given stack checks writable consensus is = (accounted tree given stack checks writable consensus is).row
 
 -- items that the interpreter takes
@@ -257,17 +268,18 @@ fit_short (x ∷ w) e =
     (omega arith, fit_short w p.1)
 
 -- a satisfaction is accepted, or stops at a limit
-pub satisfaction_is_accepted : (tree : Tree) (given : Given) (stack : List Bytes) → IsWritable tree → IsWithinConsensus tree → FullSat tree given any stack → ((checks : Pairs) × IsAccepted tree given stack checks) ⊎ StopsAtLimit tree given stack
-satisfaction_is_accepted tree given stack writable consensus sat = go (list_all (λ x. nat_le (length x) MAX_SCRIPT_ELEMENT_SIZE) (reverse stack)) refl
-  where
-    go : (b : Bool) → list_all (λ x. nat_le (length x) MAX_SCRIPT_ELEMENT_SIZE) (reverse stack) ≡ b → ((checks : Pairs) × IsAccepted tree given stack checks) ⊎ StopsAtLimit tree given stack
-    go true short =
-        let ends = satisfied (full given any) tree writable consensus (reverse stack) (fit_short (reverse stack) short) sat in
-        elim (run_or_limit given tree stack _ ends.0 writable consensus.size ends.1 refl ends.2) [
-          | inl fine ↦ inl (_, record { ops = fine.0; peak = fine.1; run = fine.2 })
-          | inr stops ↦ inr stops
-        ]
-    go false long = inr (too_long given tree stack writable consensus.size long)
+pub satisfaction_is_accepted : (tree : Tree) (given : Given) (stack : List Bytes) → IsWritable tree → IsWithinConsensus tree → FullSat tree given any stack
+    → ((checks : Pairs) × IsAccepted tree given stack checks) ⊎ StopsAtLimit tree given stack
+satisfaction_is_accepted tree given stack writable consensus sat =
+    elim (cases_Bool (list_all (λ x. nat_le (length x) MAX_SCRIPT_ELEMENT_SIZE) (reverse stack))) [
+      | inl short ↦
+          let ends = satisfied (full given any) tree writable consensus (reverse stack) (fit_short (reverse stack) short) sat in
+          elim (run_or_limit given tree stack _ ends.0 writable consensus.size ends.1 refl ends.2) [
+            | inl fine ↦ inl (_, record { ops = fine.0; peak = fine.1; run = fine.2 })
+            | inr stops ↦ inr stops
+          ]
+      | inr long ↦ inr (too_long given tree stack writable consensus.size long)
+    ]
 
 pub inversion_of : InversionHolds
 inversion_of tree writable valid = record {
@@ -277,11 +289,11 @@ inversion_of tree writable valid = record {
 
 -- what is accepted has no item that is too long
 pub accepted_short : (tree : Tree) (given : Given) (stack : List Bytes) (checks : Pairs) → IsWritable tree → IsWithinConsensus tree → IsAccepted tree given stack checks → Short (reverse stack)
-accepted_short tree given stack checks writable consensus is = go (list_all (λ x. nat_le (length x) MAX_SCRIPT_ELEMENT_SIZE) (reverse stack)) refl
+accepted_short tree given stack checks writable consensus is =
+    elim (cases_Bool (list_all (λ x. nat_le (length x) MAX_SCRIPT_ELEMENT_SIZE) (reverse stack))) [
+      | inl short ↦ fit_short (reverse stack) short
+      | inr long ↦ let stops = too_long given tree stack writable consensus.size long in absurd (no_refusal stops.fault stops.place is.ops is.peak checks (sym stops.run ∙ is.run))
+    ]
   where
     no_refusal : (fault : ScriptFault) (place ops peak : ℕ) (c : Pairs) → refused fault place ≡ accepted ops peak c → ⊥
     no_refusal fault place ops peak c e = cc
-
-    go : (b : Bool) → list_all (λ x. nat_le (length x) MAX_SCRIPT_ELEMENT_SIZE) (reverse stack) ≡ b → Short (reverse stack)
-    go true short = fit_short (reverse stack) short
-    go false long = let stops = too_long given tree stack writable consensus.size long in absurd (no_refusal stops.fault stops.place is.ops is.peak checks (sym stops.run ∙ is.run))

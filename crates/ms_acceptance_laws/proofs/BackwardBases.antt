@@ -1,9 +1,9 @@
 -- What the main stack was where the Script of a miniscript went on: it ended in a satisfaction or a dissatisfaction.
-use Rattle.std.proofs.Common.{◌≡◌, ◌≢◌, ◌==◌, Bool, true, false, IsTrue, [], ◌∷◌, ◌++◌, Ok, Err, refl, sym, ◌∙◌, ap, subst, ◌⊎◌, inl, inr}
+use Rattle.std.proofs.Common.{◌≡◌, ◌≢◌, ◌==◌, Bool, true, false, IsTrue, [], ◌∷◌, ◌++◌, Ok, refl, sym, ◌∙◌, ap, subst, ◌⊎◌, inl, inr}
 use Rattle.std.proofs.lemmas.Bool.{eqb-true, cases_Bool}
 use Rattle.std.proofs.lemmas.List.{append_assoc}
 use Rattle.def_script.specs.Bytes.{Bytes}
-use Rattle.def_machine.specs.Faults.{OrFault, ◌>>=◌}
+use Rattle.def_machine.specs.Faults.{OrFault}
 use Rattle.def_machine.specs.Stacks.{Stack, Pairs}
 use Rattle.def_script.specs.Key.{is_key}
 use Rattle.def_machine.specs.Effects.{condition}
@@ -13,12 +13,12 @@ use Rattle.def_types.specs.declared.Base.{Base}
 use Rattle.def_types.specs.declared.Base.TheVariants.{B, V, K, W}
 use Rattle.def_satisfaction.specs.Setting.{Setting}
 use Rattle.def_satisfaction.specs.Rows.{EMPTY, ONE, row}
-use Rattle.ms_acceptance_laws.proofs.StackEffects.{Left, Effect, behind, both, on_left, plain, silent, choose, left}
+use Rattle.ms_acceptance_laws.proofs.StackEffects.{Effect, behind, both, on_left, plain, silent, choose, left}
 use Rattle.ms_row_laws.proofs.RowLogs.{check_log, sat_log, dsat_log}
 use Rattle.ms_acceptance_laws.proofs.StackValues.{Value}
 use Rattle.ms_acceptance_laws.proofs.ForwardBases.{Beside, weaker}
 use Rattle.ms_row_laws.proofs.RunLog.{Log, quiet, then_log, then_log_assoc}
-use Rattle.ms_row_laws.proofs.Outcomes.{same_ok, no_fault}
+use Rattle.ms_row_laws.proofs.Outcomes.{same_ok, no_fault, bind_split}
 
 -- the stacks that satisfy and dissatisfy, each with what is logged
 pub record Logged : Type 1 where
@@ -83,7 +83,8 @@ pub onto : (m above s w rest : Stack) → m ≡ above ++ s → s ≡ w ++ rest �
 onto m above s w rest e i = e ∙ ap (λ v. above ++ v) i ∙ sym (append_assoc above w rest)
 
 -- from a stack below which the part `above` was taken before
-pub prepend : (table : Pairs) (c : Base) (u : Bool) (R S : Logged) (k : Log → Log) (m above s end : Stack) (l : Log) → (c ≢ W) → Keeps k → m ≡ above ++ s → ((b : Bool) (w : Stack) (n : Log) → Took S b w n → Took R b (above ++ w) (k n)) → Back table c u S s end l → Back table c u R m end (k l)
+pub prepend : (table : Pairs) (c : Base) (u : Bool) (R S : Logged) (k : Log → Log) (m above s end : Stack) (l : Log) → (c ≢ W) → Keeps k → m ≡ above ++ s
+    → ((b : Bool) (w : Stack) (n : Log) → Took S b w n → Took R b (above ++ w) (k n)) → Back table c u S s end l → Back table c u R m end (k l)
 prepend table B u R S k m above s end l n keeps e take r =
     (r.0, above ++ r.1, r.2, r.3, onto m above s r.1 r.2 e r.4, r.5, r.6, take r.0 r.1 l r.7)
 prepend table V u R S k m above s end l n keeps e take r =
@@ -111,34 +112,25 @@ pub record Between (f g : Effect) (m end : Stack) (l : Log) : Type 0 where
   pub log : l ≡ then_log first second
 
 pub between : (f g : Effect) (m end : Stack) (l : Log) → both f g m ≡ Ok (left end l) → Between f g m end l
-between f g m end l e = go (f m) refl e
-  where
-    on_second : (x : Left) → f m ≡ Ok x → (r : OrFault Left) → g x.main ≡ r → (r >>= λ next. Ok (behind x.log next)) ≡ Ok (left end l) → Between f g m end l
-    on_second x i (Err fault) j h = absurd (no_fault fault (left end l) h)
-    on_second x i (Ok y) j h =
-        let same = same_ok (behind x.log y) (left end l) h in
-        record {
-          mid = x.main;
-          first = x.log;
-          second = y.log;
-          before = i;
-          after = j ∙ ap (λ v. Ok (left v y.log)) (ap (λ z. z.main) same);
-          log = sym (ap (λ z. z.log) same);
-        }
-
-    go : (r : OrFault Left) → f m ≡ r → (r >>= on_left g) ≡ Ok (left end l) → Between f g m end l
-    go (Err fault) i h = absurd (no_fault fault (left end l) h)
-    go (Ok x) i h = on_second x i (g x.main) refl h
+between f g m end l e =
+    let x = bind_split (f m) (on_left g) (left end l) e in
+    let y = bind_split (g x.0.main) _ (left end l) x.2 in
+    let same = same_ok (behind x.0.log y.0) (left end l) y.2 in
+    record {
+      mid = x.0.main;
+      first = x.0.log;
+      second = y.0.log;
+      before = x.1;
+      after = y.1 ∙ ap (λ v. Ok (left v y.0.log)) (ap (λ z. z.main) same);
+      log = sym (ap (λ z. z.log) same);
+    }
 
 -- an effect with nothing to log
 pub plainly : (op : Stack → OrFault Stack) (m end : Stack) (l : Log) → plain op m ≡ Ok (left end l) → (op m ≡ Ok end) × (l ≡ quiet)
-plainly op m end l e = go (op m) refl e
-  where
-    go : (r : OrFault Stack) → op m ≡ r → (r >>= silent) ≡ Ok (left end l) → (op m ≡ Ok end) × (l ≡ quiet)
-    go (Err fault) i h = absurd (no_fault fault (left end l) h)
-    go (Ok x) i h =
-        let same = same_ok (left x quiet) (left end l) h in
-        (i ∙ ap Ok (ap (λ z. z.main) same), sym (ap (λ z. z.log) same))
+plainly op m end l e =
+    let x = bind_split (op m) silent (left end l) e in
+    let same = same_ok (left x.0 quiet) (left end l) x.2 in
+    (x.1 ∙ ap Ok (ap (λ z. z.main) same), sym (ap (λ z. z.log) same))
 
 pub silently : (m end : Stack) (l : Log) → silent m ≡ Ok (left end l) → (end ≡ m) × (l ≡ quiet)
 silently m end l e =

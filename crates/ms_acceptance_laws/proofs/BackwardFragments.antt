@@ -1,6 +1,5 @@
 -- What the main stack was where a fragment or wrapper with children went on, over any children of which that is known.
-use Rattle.std.proofs.Common.{◌≡◌, ◌≢◌, ◌&&◌, ◌||◌, Bool, true, false, [], ◌∷◌, ◌++◌, Ok, refl, sym, ◌∙◌, ap, subst, ◌⊎◌, inl, inr}
-use Rattle.std.proofs.lemmas.Bool.{true≢false}
+use Rattle.std.proofs.Common.{◌≡◌, ◌≢◌, ◌&&◌, ◌||◌, Bool, true, false, [], ◌∷◌, ◌++◌, Ok, refl, sym, ◌∙◌, ap, subst, inl, inr}
 use Rattle.def_machine.specs.Faults.{OrFault}
 use Rattle.def_machine.specs.Stacks.{Stack, Pairs, bool_bytes}
 use Rattle.def_machine.specs.Effects.{if_dup, bool_and, bool_or}
@@ -30,7 +29,8 @@ abbrev pub Rows2 : (b : Bool) → (X Y : Stack → Log → Type 0) → Logged �
 Rows2 b X Y R = (above below : Stack) (k l : Log) → X above k → Y below l → Took R b (above ++ below) (then_log k l)
 
 -- `and_v`
-pub and_v_back : (table : Pairs) (c : Base) (u : Bool) (f g : Effect) (X Y R : Logged) → (c ≢ W) → ((b : Bool) → Rows2 b X.sat (Took Y b) R) → ((m end : Stack) (l : Log) → f m ≡ Ok (left end l) → BackV X m end l) → Inverts table c u g Y → Inverts table c u (both f g) R
+pub and_v_back : (table : Pairs) (c : Base) (u : Bool) (f g : Effect) (X Y R : Logged) → (c ≢ W) → ((b : Bool) → Rows2 b X.sat (Took Y b) R)
+    → ((m end : Stack) (l : Log) → f m ≡ Ok (left end l) → BackV X m end l) → Inverts table c u g Y → Inverts table c u (both f g) R
 and_v_back table c u f g X Y R n rows x y m end l e =
     let p = between f g m end l e in
     let i = x m p.mid p.first p.before in
@@ -42,7 +42,9 @@ abbrev pub Chosen : Pairs → Base → (u : Bool) → (g h : Effect) → (R : Lo
 Chosen table c u g h R m w s end k l b = choose g h (bool_bytes b ∷ s) ≡ Ok (left end l) → Back table c u R m end (then_log k l)
 
 -- an effect whose first part leaves the byte 1 or the empty string
-behind_unit : (table : Pairs) (c : Base) (u : Bool) (f g : Effect) (X R : Logged) → ((b : Bool) (m w s end : Stack) (k l : Log) → m ≡ w ++ s → Took X b w k → g (bool_bytes b ∷ s) ≡ Ok (left end l) → Back table c u R m end (then_log k l)) → ((m end : Stack) (l : Log) → f m ≡ Ok (left end l) → BackB true X m end l) → Inverts table c u (both f g) R
+behind_unit : (table : Pairs) (c : Base) (u : Bool) (f g : Effect) (X R : Logged)
+    → ((b : Bool) (m w s end : Stack) (k l : Log) → m ≡ w ++ s → Took X b w k → g (bool_bytes b ∷ s) ≡ Ok (left end l) → Back table c u R m end (then_log k l))
+    → ((m end : Stack) (l : Log) → f m ≡ Ok (left end l) → BackB true X m end l) → Inverts table c u (both f g) R
 behind_unit table c u f g X R next x m end l e =
     let p = between f g m end l e in
     let i = x m p.mid p.first p.before in
@@ -51,7 +53,10 @@ behind_unit table c u f g X R next x m end l e =
     (next i.0 m i.1 i.2 end p.first p.second i.4 i.7 (ap g (sym is) ∙ p.after))
 
 -- `andor`
-pub and_or_back : (table : Pairs) (c : Base) (u t v : Bool) (f g h : Effect) (X Y Z R : Logged) → (c ≢ W) → (u ≡ true → t ≡ true) → (u ≡ true → v ≡ true) → ((b : Bool) → Rows2 b X.sat (Took Y b) R) → ((b : Bool) → Rows2 b X.dsat (Took Z b) R) → ((m end : Stack) (l : Log) → f m ≡ Ok (left end l) → BackB true X m end l) → Inverts table c t g Y → Inverts table c v h Z → Inverts table c u (both f (choose g h)) R
+pub and_or_back : (table : Pairs) (c : Base) (u t v : Bool) (f g h : Effect) (X Y Z R : Logged) → (c ≢ W) → (u ≡ true → t ≡ true) → (u ≡ true → v ≡ true)
+    → ((b : Bool) → Rows2 b X.sat (Took Y b) R) → ((b : Bool) → Rows2 b X.dsat (Took Z b) R)
+    → ((m end : Stack) (l : Log) → f m ≡ Ok (left end l) → BackB true X m end l) → Inverts table c t g Y → Inverts table c v h Z
+    → Inverts table c u (both f (choose g h)) R
 and_or_back table c u t v f g h X Y Z R n ut uv rows others x y z = behind_unit table c u f (choose g h) X R next x
   where
     next : (b : Bool) (m w s end : Stack) (k l : Log) → m ≡ w ++ s → Took X b w k → choose g h (bool_bytes b ∷ s) ≡ Ok (left end l) → Back table c u R m end (then_log k l)
@@ -63,7 +68,10 @@ and_or_back table c u t v f g h X Y Z R n ut uv rows others x y z = behind_unit 
         (prepend table c v R Z (then_log k) m w s end l n (keeps_behind k) i (λ b v n q. others b w v k n took q) (z s end l (sym (choose_empty g h s) ∙ e)))
 
 -- `or_c`
-pub or_c_back : (table : Pairs) (f h : Effect) (X Z R : Logged) → ((w : Stack) (l : Log) → X.sat w l → R.sat w l) → ((above below : Stack) (k l : Log) → X.dsat above k → Z.sat below l → R.sat (above ++ below) (then_log k l)) → ((m end : Stack) (l : Log) → f m ≡ Ok (left end l) → BackB true X m end l) → ((m end : Stack) (l : Log) → h m ≡ Ok (left end l) → BackV Z m end l) → (m end : Stack) (l : Log) → both f (choose silent h) m ≡ Ok (left end l) → BackV R m end l
+pub or_c_back : (table : Pairs) (f h : Effect) (X Z R : Logged) → ((w : Stack) (l : Log) → X.sat w l → R.sat w l)
+    → ((above below : Stack) (k l : Log) → X.dsat above k → Z.sat below l → R.sat (above ++ below) (then_log k l))
+    → ((m end : Stack) (l : Log) → f m ≡ Ok (left end l) → BackB true X m end l) → ((m end : Stack) (l : Log) → h m ≡ Ok (left end l) → BackV Z m end l)
+    → (m end : Stack) (l : Log) → both f (choose silent h) m ≡ Ok (left end l) → BackV R m end l
 or_c_back table f h X Z R rows others x z = behind_unit table V false f (choose silent h) X R next x
   where
     next : (b : Bool) (m w s end : Stack) (k l : Log) → m ≡ w ++ s → Took X b w k → choose silent h (bool_bytes b ∷ s) ≡ Ok (left end l) → BackV R m end (then_log k l)
@@ -75,32 +83,33 @@ or_c_back table f h X Z R rows others x z = behind_unit table V false f (choose 
         (w ++ j.0, onto m w s j.0 end i j.1, others w j.0 k l took j.2)
 
 -- `or_d`
-if_dup_back : (h : Effect) (b : Bool) (s end : Stack) (l : Log) → both (plain if_dup) (choose silent h) (bool_bytes b ∷ s) ≡ Ok (left end l) → ((b ≡ true) × (end ≡ ONE ∷ s) × (l ≡ quiet)) ⊎ ((b ≡ false) × (h s ≡ Ok (left end l)))
+if_dup_one_back : (h : Effect) (s end : Stack) (l : Log) → both (plain if_dup) (choose silent h) (ONE ∷ s) ≡ Ok (left end l) → (end ≡ ONE ∷ s) × (l ≡ quiet)
 unfolding if_dup
-if_dup_back h true s end l e =
+if_dup_one_back h s end l e =
     let i = quietly if_dup (choose silent h) (ONE ∷ s) (ONE ∷ ONE ∷ s) end l refl e in
-    let p = silently (ONE ∷ s) end l (sym (choose_one silent h (ONE ∷ s)) ∙ i) in
-    inl (refl, p.0, p.1)
-if_dup_back h false s end l e =
-    let i = quietly if_dup (choose silent h) (EMPTY ∷ s) (EMPTY ∷ s) end l refl e in
-    inr (refl, sym (choose_empty silent h s) ∙ i)
+    silently (ONE ∷ s) end l (sym (choose_one silent h (ONE ∷ s)) ∙ i)
 
-pub or_d_back : (table : Pairs) (u : Bool) (f h : Effect) (X Z R : Logged) → ((w : Stack) (l : Log) → X.sat w l → R.sat w l) → ((b : Bool) → Rows2 b X.dsat (Took Z b) R) → ((m end : Stack) (l : Log) → f m ≡ Ok (left end l) → BackB true X m end l) → ((m end : Stack) (l : Log) → h m ≡ Ok (left end l) → BackB u Z m end l) → (m end : Stack) (l : Log) → both f (both (plain if_dup) (choose silent h)) m ≡ Ok (left end l) → BackB u R m end l
+if_dup_empty_back : (h : Effect) (s end : Stack) (l : Log) → both (plain if_dup) (choose silent h) (EMPTY ∷ s) ≡ Ok (left end l) → h s ≡ Ok (left end l)
+unfolding if_dup
+if_dup_empty_back h s end l e = sym (choose_empty silent h s) ∙ quietly if_dup (choose silent h) (EMPTY ∷ s) (EMPTY ∷ s) end l refl e
+
+pub or_d_back : (table : Pairs) (u : Bool) (f h : Effect) (X Z R : Logged) → ((w : Stack) (l : Log) → X.sat w l → R.sat w l)
+    → ((b : Bool) → Rows2 b X.dsat (Took Z b) R) → ((m end : Stack) (l : Log) → f m ≡ Ok (left end l) → BackB true X m end l)
+    → ((m end : Stack) (l : Log) → h m ≡ Ok (left end l) → BackB u Z m end l) → (m end : Stack) (l : Log) → both f (both (plain if_dup) (choose silent h)) m
+    ≡ Ok (left end l) → BackB u R m end l
 or_d_back table u f h X Z R rows others x z = behind_unit table B u f (both (plain if_dup) (choose silent h)) X R next x
   where
-    on : (b : Bool) (m w s end : Stack) (k l : Log) → m ≡ w ++ s → Took X b w k → ((b ≡ true) × (end ≡ ONE ∷ s) × (l ≡ quiet)) ⊎ ((b ≡ false) × (h s ≡ Ok (left end l))) → BackB u R m end (then_log k l)
-    on true m w s end k l i took (inl p) =
-        (true, w, s, ONE, i, p.1, bool_value u true, subst (R.sat w) (sym (ap (then_log k) p.2 ∙ quiet_right k)) (rows w k took))
-    on false m w s end k l i took (inr p) =
-        prepend table B u R Z (then_log k) m w s end l (λ e. cc) (keeps_behind k) i (λ b v n q. others b w v k n took q) (z s end l p.1)
-    on true m w s end k l i took (inr p) = absurd (true≢false p.0)
-    on false m w s end k l i took (inl p) = absurd (true≢false (sym p.0))
-
     next : (b : Bool) (m w s end : Stack) (k l : Log) → m ≡ w ++ s → Took X b w k → both (plain if_dup) (choose silent h) (bool_bytes b ∷ s) ≡ Ok (left end l) → BackB u R m end (then_log k l)
-    next b m w s end k l i took e = on b m w s end k l i took (if_dup_back h b s end l e)
+    next true m w s end k l i took e =
+        let p = if_dup_one_back h s end l e in
+        (true, w, s, ONE, i, p.0, bool_value u true, subst (R.sat w) (sym (ap (then_log k) p.1 ∙ quiet_right k)) (rows w k took))
+    next false m w s end k l i took e =
+        prepend table B u R Z (then_log k) m w s end l (λ e. cc) (keeps_behind k) i (λ b v n q. others b w v k n took q) (z s end l (if_dup_empty_back h s end l e))
 
 -- `or_i`
-pub or_i_back : (table : Pairs) (c : Base) (u t v : Bool) (f g : Effect) (X Z R : Logged) → (c ≢ W) → (u ≡ true → t ≡ true) → (u ≡ true → v ≡ true) → ((b : Bool) (w : Stack) (l : Log) → Took X b w l → Took R b (ONE ∷ w) l) → ((b : Bool) (w : Stack) (l : Log) → Took Z b w l → Took R b (EMPTY ∷ w) l) → Inverts table c t f X → Inverts table c v g Z → Inverts table c u (choose f g) R
+pub or_i_back : (table : Pairs) (c : Base) (u t v : Bool) (f g : Effect) (X Z R : Logged) → (c ≢ W) → (u ≡ true → t ≡ true) → (u ≡ true → v ≡ true)
+    → ((b : Bool) (w : Stack) (l : Log) → Took X b w l → Took R b (ONE ∷ w) l) → ((b : Bool) (w : Stack) (l : Log) → Took Z b w l → Took R b (EMPTY ∷ w) l)
+    → Inverts table c t f X → Inverts table c v g Z → Inverts table c u (choose f g) R
 or_i_back table c u t v f g X Z R n ut uv rows others x z m end l e =
     elim (branched f g m end l e) [
       | inl p ↦ weaken_back table c t u R m end l ut
@@ -110,7 +119,10 @@ or_i_back table c u t v f g X Z R n ut uv rows others x z m end l e =
     ]
 
 -- `and_b` and `or_b`
-two_back : (op : Stack → OrFault Stack) (with_op : Bool → Bool → Bool) → Takes2 op with_op → (t u v : Bool) (f g : Effect) (X Y R : Logged) → ((a b : Bool) → Rows2 (with_op a b) (Took X a) (Took Y b) R) → ((m end : Stack) (l : Log) → f m ≡ Ok (left end l) → BackB t X m end l) → ((m end : Stack) (l : Log) → g m ≡ Ok (left end l) → BackW u Y m end l) → (m end : Stack) (l : Log) → both f (both g (plain op)) m ≡ Ok (left end l) → BackB v R m end l
+two_back : (op : Stack → OrFault Stack) (with_op : Bool → Bool → Bool) → Takes2 op with_op → (t u v : Bool) (f g : Effect) (X Y R : Logged)
+    → ((a b : Bool) → Rows2 (with_op a b) (Took X a) (Took Y b) R) → ((m end : Stack) (l : Log) → f m ≡ Ok (left end l) → BackB t X m end l)
+    → ((m end : Stack) (l : Log) → g m ≡ Ok (left end l) → BackW u Y m end l) → (m end : Stack) (l : Log) → both f (both g (plain op)) m ≡ Ok (left end l)
+    → BackB v R m end l
 two_back op with_op takes t u v f g X Y R rows x y m end l e =
     let p = between f (both g (plain op)) m end l e in
     let i = x m p.mid p.first p.before in
@@ -134,8 +146,12 @@ two_back op with_op takes t u v f g X Y R rows x y m end l e =
       subst (Took R (with_op i.0 j.0) (i.1 ++ j.2)) (sym log) (rows i.0 j.0 i.1 j.2 p.first q.first i.7 j.8),
     )
 
-pub and_b_back : (t u v : Bool) (f g : Effect) (X Y R : Logged) → ((a b : Bool) → Rows2 (a && b) (Took X a) (Took Y b) R) → ((m end : Stack) (l : Log) → f m ≡ Ok (left end l) → BackB t X m end l) → ((m end : Stack) (l : Log) → g m ≡ Ok (left end l) → BackW u Y m end l) → (m end : Stack) (l : Log) → both f (both g (plain bool_and)) m ≡ Ok (left end l) → BackB v R m end l
+pub and_b_back : (t u v : Bool) (f g : Effect) (X Y R : Logged) → ((a b : Bool) → Rows2 (a && b) (Took X a) (Took Y b) R)
+    → ((m end : Stack) (l : Log) → f m ≡ Ok (left end l) → BackB t X m end l) → ((m end : Stack) (l : Log) → g m ≡ Ok (left end l) → BackW u Y m end l)
+    → (m end : Stack) (l : Log) → both f (both g (plain bool_and)) m ≡ Ok (left end l) → BackB v R m end l
 and_b_back = two_back bool_and (λ a b. a && b) (record { run = bool_and-natural; turned = and_turned })
 
-pub or_b_back : (t u v : Bool) (f g : Effect) (X Y R : Logged) → ((a b : Bool) → Rows2 (a || b) (Took X a) (Took Y b) R) → ((m end : Stack) (l : Log) → f m ≡ Ok (left end l) → BackB t X m end l) → ((m end : Stack) (l : Log) → g m ≡ Ok (left end l) → BackW u Y m end l) → (m end : Stack) (l : Log) → both f (both g (plain bool_or)) m ≡ Ok (left end l) → BackB v R m end l
+pub or_b_back : (t u v : Bool) (f g : Effect) (X Y R : Logged) → ((a b : Bool) → Rows2 (a || b) (Took X a) (Took Y b) R)
+    → ((m end : Stack) (l : Log) → f m ≡ Ok (left end l) → BackB t X m end l) → ((m end : Stack) (l : Log) → g m ≡ Ok (left end l) → BackW u Y m end l)
+    → (m end : Stack) (l : Log) → both f (both g (plain bool_or)) m ≡ Ok (left end l) → BackB v R m end l
 or_b_back = two_back bool_or (λ a b. a || b) (record { run = bool_or-natural; turned = or_turned })

@@ -69,7 +69,8 @@ lock_back holds n m end low e =
       | inr differs ↦ absurd (no_fault _ end (rw (decode_5 n low, differs) at e))
     ]
 
-locked_back : (holds : ℕ → Bool) (n : ℕ) (m end : Stack) (l : Log) → n < 2 ^ 31 → both (pushes (natural_bytes n)) (plain (lock holds)) m ≡ Ok (left end l) → IsTrue (holds n) × (end ≡ natural_bytes n ∷ m) × (l ≡ quiet)
+locked_back : (holds : ℕ → Bool) (n : ℕ) (m end : Stack) (l : Log) → n < 2 ^ 31 → both (pushes (natural_bytes n)) (plain (lock holds)) m ≡ Ok (left end l)
+    → IsTrue (holds n) × (end ≡ natural_bytes n ∷ m) × (l ≡ quiet)
 locked_back holds n m end l low e =
     let p = between (pushes (natural_bytes n)) (plain (lock holds)) m end l e in
     let q = pushed (natural_bytes n) m p.mid p.first p.before in
@@ -155,11 +156,13 @@ sized_32 x e = only_32 (length x) e
 abbrev hash_tail : HashKind → Bytes → Effect
 hash_tail kind value = both (plain (hash_top kind)) (both (pushes value) (plain equal))
 
-hash_took : (given : Given) (kind : HashKind) (value x : Bytes) (l : Log) → length x ≡ 32 → l ≡ quiet → (b : Bool) → bytes_eq (digest_of kind x) value ≡ b → Took (logged (full given any) (hash kind value)) b (x ∷ []) l
+hash_took : (given : Given) (kind : HashKind) (value x : Bytes) (l : Log) → length x ≡ 32 → l ≡ quiet → (b : Bool) → bytes_eq (digest_of kind x) value ≡ b
+    → Took (logged (full given any) (hash kind value)) b (x ∷ []) l
 hash_took given kind value x l long log true e = ((x, ((long, (bytes_eq-Decides (digest_of kind x) value).0 e), tt), refl), sym log)
 hash_took given kind value x l long log false e = (inr (refl, (x, (long, λ same. false≢true (sym e ∙ (bytes_eq-Decides (digest_of kind x) value).1 same)), refl)), sym log)
 
-pub hash_back : (given : Given) (kind : HashKind) (value : Bytes) (m end : Stack) (l : Log) → den given (hash kind value) m ≡ Ok (left end l) → BackB true (logged (full given any) (hash kind value)) m end l
+pub hash_back : (given : Given) (kind : HashKind) (value : Bytes) (m end : Stack) (l : Log) → den given (hash kind value) m ≡ Ok (left end l)
+    → BackB true (logged (full given any) (hash kind value)) m end l
 unfolding size hash_top equal
 hash_back given kind value [] end l e = absurd (no_fault _ (left end l) e)
 hash_back given kind value (x ∷ s) end l e =

@@ -38,7 +38,9 @@ pub record Counted (X : Logged) (g : Effect) (a : ℕ) (m end : Stack) (l : Log)
   pub others : g (natural_bytes (a + one_if satisfied) ∷ s) ≡ Ok (left end second)
   pub log : l ≡ then_log first second
 
-pub added_back : (X : Logged) (f g : Effect) (a : ℕ) (m end : Stack) (l : Log) → a + 1 < 2 ^ 31 → ((m end : Stack) (l : Log) → f m ≡ Ok (left end l) → BackW true X m end l) → both f (both (plain add) g) (natural_bytes a ∷ m) ≡ Ok (left end l) → Counted X g a m end l
+pub added_back : (X : Logged) (f g : Effect) (a : ℕ) (m end : Stack) (l : Log) → a + 1 < 2 ^ 31
+    → ((m end : Stack) (l : Log) → f m ≡ Ok (left end l) → BackW true X m end l) → both f (both (plain add) g) (natural_bytes a ∷ m) ≡ Ok (left end l)
+    → Counted X g a m end l
 added_back X f g a m end l low x e =
     let p = between f (both (plain add) g) (natural_bytes a ∷ m) end l e in
     let i = x (natural_bytes a ∷ m) p.mid p.first p.before in
@@ -59,7 +61,8 @@ added_back X f g a m end l low x e =
       log = p.log ∙ ap (then_log p.first) (q.log ∙ ap (λ k. then_log k q.second) r.1 ∙ quiet_left q.second);
     }
 
-pub first_back : (X : Logged) (f g : Effect) (m end : Stack) (l : Log) → ((m end : Stack) (l : Log) → f m ≡ Ok (left end l) → BackB true X m end l) → both f g m ≡ Ok (left end l) → Counted X g 0 m end l
+pub first_back : (X : Logged) (f g : Effect) (m end : Stack) (l : Log) → ((m end : Stack) (l : Log) → f m ≡ Ok (left end l) → BackB true X m end l)
+    → both f g m ≡ Ok (left end l) → Counted X g 0 m end l
 first_back X f g m end l x e =
     let p = between f g m end l e in
     let i = x m p.mid p.first p.before in
@@ -104,7 +107,8 @@ multi_tail table keys n k m =
     null_dummy extra.0 >>= λ empty.
     Ok (left (bool_bytes passed.0 ∷ extra.1) (log_of n passed.1))
 
-multi_starts : (table : Pairs) (keys m : Stack) (k : ℕ) → length keys ≤ 20 → k ≤ length keys → checks_multi_sig table (natural_bytes (length keys) ∷ (reverse keys ++ (natural_bytes k ∷ m))) ≡ multi_tail table (reverse keys) (length keys) k m
+multi_starts : (table : Pairs) (keys m : Stack) (k : ℕ) → length keys ≤ 20 → k ≤ length keys
+    → checks_multi_sig table (natural_bytes (length keys) ∷ (reverse keys ++ (natural_bytes k ∷ m))) ≡ multi_tail table (reverse keys) (length keys) k m
 unfolding checks_multi_sig
 multi_starts table keys m k few low =
     rw (
@@ -149,7 +153,8 @@ pub record Tried (table : Pairs) (keys : List Key) (k : ℕ) (m end : Stack) (l 
   pub unsigned : passed ≡ false → (sigs ≡ replicate k EMPTY) × (l ≡ log_of (length keys) [])
 
 -- the verdict: all pairs that were found, or only empty strings
-verdict_is : (sigs : Stack) (t : Option Pairs) (v : Bool × Pairs) → verdict sigs t ≡ Ok v → ((found : Pairs) × (t ≡ Some found) × (v ≡ (true, found))) ⊎ ((sigs ≡ replicate (length sigs) EMPTY) × (v ≡ (false, [])))
+verdict_is : (sigs : Stack) (t : Option Pairs) (v : Bool × Pairs) → verdict sigs t ≡ Ok v → ((found : Pairs) × (t ≡ Some found) × (v ≡ (true, found)))
+    ⊎ ((sigs ≡ replicate (length sigs) EMPTY) × (v ≡ (false, [])))
 unfolding verdict
 verdict_is sigs (Some found) v e = inl (found, refl, sym (same_ok (true, found) v e))
 verdict_is sigs None v e =

@@ -5,7 +5,7 @@ use Rattle.std.specs.Str.{bytes_eq}
 use Rattle.std.proofs.lemmas.Slice.Eq.{bytes_eq-Decides}
 use Rattle.std.proofs.lemmas.List.{append_assoc}
 use Rattle.def_script.specs.Numbers.{natural_bytes}
-use Rattle.def_machine.specs.Stacks.{Stack, Pairs, bool_bytes}
+use Rattle.def_machine.specs.Stacks.{Stack, bool_bytes}
 use Rattle.def_machine.specs.Machine.{Given}
 use Rattle.def_tree.specs.declared.Two.TheVariants as kind
 use Rattle.def_tree.specs.declared.Wrapper.TheVariants as wrapper
@@ -19,7 +19,7 @@ use Rattle.def_types.proofs.Facts.{typed-and_or, typed-and_v, typed-and_b, typed
 use Rattle.def_satisfaction.specs.Setting.{Setting, any}
 use Rattle.def_satisfaction.specs.Satisfaction.{full}
 use Rattle.def_satisfaction.specs.Rows.{EMPTY, ONE, HasTop, parts}
-use Rattle.ms_acceptance_laws.proofs.StackEffects.{Effect, left}
+use Rattle.ms_acceptance_laws.proofs.StackEffects.{left}
 use Rattle.ms_acceptance_laws.proofs.TreeEffects.{den, den_sum, den_added}
 use Rattle.ms_row_laws.proofs.RowLogs.{parts_log}
 use Rattle.ms_row_laws.proofs.RowLengths.{takes_none, takes_one}
@@ -105,7 +105,8 @@ record PartsBack (given : Given) (xs : Trees) (a : ℕ) (m end : Stack) (l : Log
   row : parts (every given) xs n w
   log : parts_log (every given) xs n w row ≡ l
 
-extend : (given : Given) (x : Tree) (xs : Trees) (a : ℕ) (b : Bool) (m w s end : Stack) (first second l : Log) → m ≡ w ++ s → Took (of_tree given x) b w first → PartsBack given xs (a + one_if b) s end second → l ≡ then_log first second → PartsBack given (more x xs) a m end l
+extend : (given : Given) (x : Tree) (xs : Trees) (a : ℕ) (b : Bool) (m w s end : Stack) (first second l : Log) → m ≡ w ++ s → Took (of_tree given x) b w first
+    → PartsBack given xs (a + one_if b) s end second → l ≡ then_log first second → PartsBack given (more x xs) a m end l
 extend given x xs a true m w s end first second l at took p log = record {
   n = suc p.n;
   w = w ++ p.w;
@@ -129,7 +130,8 @@ abbrev Counts : Given → Trees → Stack → Log → ℕ → Type 0
 Counts given xs w l i = (q : parts (every given) xs i w) × (parts_log (every given) xs i w q ≡ l)
 
 -- so many children satisfied, and whether that is k
-thresh_took : (given : Given) (k n : ℕ) (xs : Trees) (w : Stack) (l : Log) → n < 2 ^ 31 → k < 2 ^ 31 → (r : parts (every given) xs n w) → parts_log (every given) xs n w r ≡ l → Took (of_tree given (thresh k xs)) (bytes_eq (natural_bytes n) (natural_bytes k)) w l
+thresh_took : (given : Given) (k n : ℕ) (xs : Trees) (w : Stack) (l : Log) → n < 2 ^ 31 → k < 2 ^ 31 → (r : parts (every given) xs n w)
+    → parts_log (every given) xs n w r ≡ l → Took (of_tree given (thresh k xs)) (bytes_eq (natural_bytes n) (natural_bytes k)) w l
 thresh_took given k n xs w l low small r log = go (bytes_eq (natural_bytes n) (natural_bytes k)) refl
   where
     none_of : (i : ℕ) → (i ≡ k → ⊥) → Counts given xs w l i → (of_tree given (thresh k xs)).dsat w l
@@ -145,16 +147,16 @@ abbrev PartsInvert : Given → Trees → Type 0
 PartsInvert given xs =
     (a : ℕ) (m end : Stack) (l : Log) → a + count xs < 2 ^ 31 → den_added given xs (natural_bytes a ∷ m) ≡ Ok (left end l) → PartsBack given xs a m end l
 
-sum_back : (given : Given) (x : Tree) (xs : Trees) → count (more x xs) < 2 ^ 30 → ((m end : Stack) (l : Log) → den given x m ≡ Ok (left end l) → BackB true (of_tree given x) m end l) → PartsInvert given xs → (m end : Stack) (l : Log) → den_sum given (more x xs) m ≡ Ok (left end l) → PartsBack given (more x xs) 0 m end l
-sum_back given x xs few first others m end l e =
-    let f = first_back (of_tree given x) (den given x) (den_added given xs) m end l first e in
+thresh_back : (given : Given) (k : ℕ) (x : Tree) (xs : Trees) → k ≤ count (more x xs) → count (more x xs) < 2 ^ 30 → Inverts given.table B true (den given x) (of_tree given x) → PartsInvert given xs →
+    Inverts given.table B true (den given (thresh k (more x xs))) (of_tree given (thresh k (more x xs)))
+thresh_back given k x xs range few first others m end l e =
+    let c = compared (den_sum given (more x xs)) k m end l e in
+    let f = first_back (of_tree given x) (den given x) (den_added given xs) m c.mid l first c.before in
     let small : one_if f.satisfied ≤ 1 = one_if-low f.satisfied in
-    extend given x xs 0 f.satisfied m f.w f.s end f.first f.second l f.at f.took
-    (others (0 + one_if f.satisfied) f.s end f.second (omega arith) f.others) f.log
-
-counted_back : (given : Given) (k : ℕ) (xs : Trees) (m mid end : Stack) (l : Log) → k < 2 ^ 31 → count xs < 2 ^ 30 → PartsBack given xs 0 m mid l → ((n : ℕ) (s : Stack) → mid ≡ natural_bytes n ∷ s → end ≡ bool_bytes (bytes_eq (natural_bytes n) (natural_bytes k)) ∷ s) → BackB true (of_tree given (thresh k xs)) m end l
-counted_back given k xs m mid end l small few b compare =
-    let most = parts_few (every given) xs b.n b.w b.row in
+    let b =
+    extend given x xs 0 f.satisfied m f.w f.s c.mid f.first f.second l f.at f.took
+    (others (0 + one_if f.satisfied) f.s c.mid f.second (omega arith) f.others) f.log in
+    let most = parts_few (every given) (more x xs) b.n b.w b.row in
     let named : 0 + b.n ≡ b.n = omega arith in
     let same = bytes_eq (natural_bytes b.n) (natural_bytes k) in (
       same,
@@ -162,15 +164,10 @@ counted_back given k xs m mid end l small few b compare =
       b.s,
       bool_bytes same,
       b.at,
-      compare b.n b.s (b.main ∙ ap (λ i. natural_bytes i ∷ b.s) named),
+      c.after b.n b.s (b.main ∙ ap (λ i. natural_bytes i ∷ b.s) named),
       bool_value true same,
-      thresh_took given k b.n xs b.w l (omega arith) small b.row b.log,
+      thresh_took given k b.n (more x xs) b.w l (omega arith) (omega arith) b.row b.log,
     )
-
-thresh_back : (given : Given) (k : ℕ) (x : Tree) (xs : Trees) → k ≤ count (more x xs) → count (more x xs) < 2 ^ 30 → ((m end : Stack) (l : Log) → den given x m ≡ Ok (left end l) → BackB true (of_tree given x) m end l) → PartsInvert given xs → (m end : Stack) (l : Log) → den given (thresh k (more x xs)) m ≡ Ok (left end l) → BackB true (of_tree given (thresh k (more x xs))) m end l
-thresh_back given k x xs range few first others m end l e =
-    let c = compared (den_sum given (more x xs)) k m end l e in
-    counted_back given k (more x xs) m c.mid end l (omega arith) few (sum_back given x xs few first others m c.mid l c.before) c.after
 
 multi_took : (given : Given) (k : ℕ) (keys : List Key) (m end : Stack) (l : Log) → Tried given.table keys k m end l → BackB true (of_tree given (multi k keys)) m end l
 multi_took given k keys m end l t = go t.passed refl
@@ -202,11 +199,14 @@ multi_took given k keys m end l t = go t.passed refl
           (ap (λ v. v ++ EMPTY ∷ []) p.0 ∙ sym (empties_split k), sym p.1),
         )
 
-as_base : (table : Pairs) (c d : Base) (u : Bool) (f : Effect) (R : Logged) → c ≡ d → Inverts table c u f R → Inverts table d u f R
-as_base table c d u f R e h = subst (λ a. Inverts table a u f R) e h
+-- by another name of its base type, and of u
+as_base : (given : Given) (t : Tree) (c : Base) → (type_of t).base ≡ c → Inverts given.table (type_of t).base (type_of t).u (den given t) (of_tree given t) →
+    Inverts given.table c (type_of t).u (den given t) (of_tree given t)
+as_base given t c e h = subst (λ a. Inverts given.table a (type_of t).u (den given t) (of_tree given t)) e h
 
-as_type : (table : Pairs) (c d : Base) (u t : Bool) (f : Effect) (R : Logged) → c ≡ d → u ≡ t → Inverts table c u f R → Inverts table d t f R
-as_type table c d u t f R e i h = subst (λ v. Inverts table d v f R) i (subst (λ a. Inverts table a u f R) e h)
+as_unit : (given : Given) (t : Tree) (c : Base) → (type_of t).base ≡ c → (type_of t).u ≡ true → Inverts given.table (type_of t).base (type_of t).u (den given t) (of_tree given t) →
+    Inverts given.table c true (den given t) (of_tree given t)
+as_unit given t c e i h = subst (λ v. Inverts given.table c v (den given t) (of_tree given t)) i (as_base given t c e h)
 
 mutual
   unfolding corr_rows
@@ -225,41 +225,41 @@ mutual
       (of_tree given x) (of_tree given y) (of_tree given z) (of_tree given (and_or x y z)) p.7
       (λ e. (and_parts (type_of y).u (type_of z).u e).0) (λ e. (and_parts (type_of y).u (type_of z).u e).1)
       (and_or_rows given x y z) (and_or_others given x y z)
-      (as_type given.table _ B _ true (den given x) (of_tree given x) p.3 p.5 (inverts given x k.0 p.0 few.0))
+      (as_unit given x B p.3 p.5 (inverts given x k.0 p.0 few.0))
       (inverts given y k.1 p.1 few.1)
-      (as_base given.table _ _ _ (den given z) (of_tree given z) (sym p.6) (inverts given z k.2 p.2 few.2))
+      (as_base given z _ (sym p.6) (inverts given z k.2 p.2 few.2))
   inverts given (two kind.AndV x y) k typed few =
       let p = typed-and_v x y typed in
       and_v_back given.table (type_of y).base (type_of y).u (den given x) (den given y) (of_tree given x) (of_tree given y) (of_tree given (two kind.AndV x y)) p.3
       (and_v_rows given x y)
-      (as_base given.table _ V _ (den given x) (of_tree given x) p.2 (inverts given x k.0 p.0 few.0))
+      (as_base given x V p.2 (inverts given x k.0 p.0 few.0))
       (inverts given y k.1 p.1 few.1)
   inverts given (two kind.AndB x y) k typed few =
       let p = typed-and_b x y typed in
       and_b_back (type_of x).u (type_of y).u true (den given x) (den given y) (of_tree given x) (of_tree given y) (of_tree given (two kind.AndB x y))
       (and_b_rows given x y)
-      (as_base given.table _ B _ (den given x) (of_tree given x) p.2 (inverts given x k.0 p.0 few.0))
-      (as_base given.table _ W _ (den given y) (of_tree given y) p.3 (inverts given y k.1 p.1 few.1))
+      (as_base given x B p.2 (inverts given x k.0 p.0 few.0))
+      (as_base given y W p.3 (inverts given y k.1 p.1 few.1))
   inverts given (two kind.OrB x z) k typed few =
       let p = typed-or_b x z typed in
       or_b_back (type_of x).u (type_of z).u true (den given x) (den given z) (of_tree given x) (of_tree given z) (of_tree given (two kind.OrB x z))
       (or_b_rows given x z)
-      (as_base given.table _ B _ (den given x) (of_tree given x) p.2 (inverts given x k.0 p.0 few.0))
-      (as_base given.table _ W _ (den given z) (of_tree given z) p.4 (inverts given z k.1 p.1 few.1))
+      (as_base given x B p.2 (inverts given x k.0 p.0 few.0))
+      (as_base given z W p.4 (inverts given z k.1 p.1 few.1))
   inverts given (two kind.OrC x z) k typed few =
       let p = typed-or_c x z typed in
       or_c_back given.table (den given x) (den given z) (of_tree given x) (of_tree given z) (of_tree given (two kind.OrC x z))
       (λ w l r. (inl r.0, r.1))
       (λ above below k l r q. (inr (below, above, q.0, r.0, refl), logs_same _ _ k l r.1 q.1))
-      (as_type given.table _ B _ true (den given x) (of_tree given x) p.2 p.4 (inverts given x k.0 p.0 few.0))
-      (as_base given.table _ V _ (den given z) (of_tree given z) p.5 (inverts given z k.1 p.1 few.1))
+      (as_unit given x B p.2 p.4 (inverts given x k.0 p.0 few.0))
+      (as_base given z V p.5 (inverts given z k.1 p.1 few.1))
   inverts given (two kind.OrD x z) k typed few =
       let p = typed-or_d x z typed in
       or_d_back given.table (type_of z).u (den given x) (den given z) (of_tree given x) (of_tree given z) (of_tree given (two kind.OrD x z))
       (λ w l r. (inl r.0, r.1))
       (or_d_others given x z)
-      (as_type given.table _ B _ true (den given x) (of_tree given x) p.2 p.4 (inverts given x k.0 p.0 few.0))
-      (as_base given.table _ B _ (den given z) (of_tree given z) p.5 (inverts given z k.1 p.1 few.1))
+      (as_unit given x B p.2 p.4 (inverts given x k.0 p.0 few.0))
+      (as_base given z B p.5 (inverts given z k.1 p.1 few.1))
   inverts given (two kind.OrI x z) k typed few =
       let p = typed-or_i x z typed in
       or_i_back given.table (type_of x).base ((type_of x).u && (type_of z).u) (type_of x).u (type_of z).u (den given x) (den given z)
@@ -267,44 +267,43 @@ mutual
       (λ e. (and_parts (type_of x).u (type_of z).u e).0) (λ e. (and_parts (type_of x).u (type_of z).u e).1)
       (or_i_rows given x z) (or_i_others given x z)
       (inverts given x k.0 p.0 few.0)
-      (as_base given.table _ _ _ (den given z) (of_tree given z) (sym p.2) (inverts given z k.1 p.1 few.1))
+      (as_base given z _ (sym p.2) (inverts given z k.1 p.1 few.1))
   inverts given (thresh k none) writable typed few = absurd (typed-thresh_none k typed)
   inverts given (thresh k (more x xs)) writable typed few =
       let p = typed-thresh k x xs typed in
       thresh_back given k x xs p.3 few.0
-      (as_type given.table _ B _ true (den given x) (of_tree given x) p.4 p.6 (inverts given x writable.2.0 p.0 few.1.0))
+      (as_unit given x B p.4 p.6 (inverts given x writable.2.0 p.0 few.1.0))
       (parts_back given xs writable.2.1 p.1 p.7 few.1.1)
   inverts given (multi k keys) writable typed few = λ m end l e. (
       let p = typed-multi k keys typed in
       multi_took given k keys m end l (multi_tried given.table keys k m end l p.2 p.1 e))
   inverts given (wrap wrapper.A x) k typed few =
       let p = typed-wrap_a x typed in
-      wrap_a_back (type_of x).u (den given x) (of_tree given x) (as_base given.table _ B _ (den given x) (of_tree given x) p.1 (inverts given x k p.0 few))
+      wrap_a_back (type_of x).u (den given x) (of_tree given x) (as_base given x B p.1 (inverts given x k p.0 few))
   inverts given (wrap wrapper.S x) k typed few =
       let p = typed-wrap_s x typed in
-      wrap_s_back (type_of x).u (den given x) (of_tree given x) (one_long given x p.0 p.2)
-      (as_base given.table _ B _ (den given x) (of_tree given x) p.1 (inverts given x k p.0 few))
+      wrap_s_back (type_of x).u (den given x) (of_tree given x) (one_long given x p.0 p.2) (as_base given x B p.1 (inverts given x k p.0 few))
   inverts given (wrap wrapper.C x) k typed few =
       let p = typed-wrap_c x typed in
-      wrap_c_back given.table (den given x) (of_tree given x) (as_base given.table _ K _ (den given x) (of_tree given x) p.1 (inverts given x k p.0 few))
+      wrap_c_back given.table (den given x) (of_tree given x) (as_base given x K p.1 (inverts given x k p.0 few))
   inverts given (wrap wrapper.D x) k typed few =
       let p = typed-wrap_d x typed in
       wrap_d_back (den given x) (of_tree given x) (of_tree given (wrap wrapper.D x))
       (λ w l r. (takes_none (every given) x p.2).sat w r.0) (λ l r. (([], ONE ∷ [], r.0, refl, refl), r.1)) (refl, refl)
-      (as_base given.table _ V _ (den given x) (of_tree given x) p.1 (inverts given x k p.0 few))
+      (as_base given x V p.1 (inverts given x k p.0 few))
   inverts given (wrap wrapper.V x) k typed few =
       let p = typed-wrap_v x typed in
-      wrap_v_back (type_of x).u (den given x) (of_tree given x)
-      (as_base given.table _ B _ (den given x) (of_tree given x) p.1 (inverts given x k p.0 few))
+      wrap_v_back (type_of x).u (den given x) (of_tree given x) (as_base given x B p.1 (inverts given x k p.0 few))
   inverts given (wrap wrapper.J x) k typed few =
       let p = typed-wrap_j x typed in
       wrap_j_back (type_of x).u (den given x) (of_tree given x) (of_tree given (wrap wrapper.J x)) (item_long given x p.0 p.2) (wrap_j_rows given x) (inl refl, refl)
-      (as_base given.table _ B _ (den given x) (of_tree given x) p.1 (inverts given x k p.0 few))
+      (as_base given x B p.1 (inverts given x k p.0 few))
   inverts given (wrap wrapper.N x) k typed few =
       let p = typed-wrap_n x typed in
-      wrap_n_back (type_of x).u (den given x) (of_tree given x) (as_base given.table _ B _ (den given x) (of_tree given x) p.1 (inverts given x k p.0 few))
+      wrap_n_back (type_of x).u (den given x) (of_tree given x) (as_base given x B p.1 (inverts given x k p.0 few))
 
-  parts_back : (given : Given) (xs : Trees) → AreWritable xs → AreTyped xs → OthersFit xs → AllFew xs → (a : ℕ) (m end : Stack) (l : Log) → a + count xs < 2 ^ 31 → den_added given xs (natural_bytes a ∷ m) ≡ Ok (left end l) → PartsBack given xs a m end l
+  parts_back : (given : Given) (xs : Trees) → AreWritable xs → AreTyped xs → OthersFit xs → AllFew xs → (a : ℕ) (m end : Stack) (l : Log)
+      → a + count xs < 2 ^ 31 → den_added given xs (natural_bytes a ∷ m) ≡ Ok (left end l) → PartsBack given xs a m end l
   parts_back given none k typed fit few a m end l low e =
       let p = silently (natural_bytes a ∷ m) end l e in
       record {
@@ -318,7 +317,7 @@ mutual
       }
   parts_back given (more x xs) k typed fit few a m end l low e =
       let c = added_back (of_tree given x) (den given x) (den_added given xs) a m end l (omega arith)
-      (as_type given.table _ W _ true (den given x) (of_tree given x) fit.0 fit.2 (inverts given x k.0 typed.0 few.0)) e in
+      (as_unit given x W fit.0 fit.2 (inverts given x k.0 typed.0 few.0)) e in
       let small : one_if c.satisfied ≤ 1 = one_if-low c.satisfied in
       extend given x xs a c.satisfied m c.w c.s end c.first c.second l c.at c.took
       (parts_back given xs k.1 typed.1 fit.3 few.1 (a + one_if c.satisfied) c.s end c.second (omega arith) c.others) c.log

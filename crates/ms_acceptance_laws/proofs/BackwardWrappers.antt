@@ -1,19 +1,18 @@
 -- What the main stack was where a wrapper went on, over any child of which that is known.
-use Rattle.std.proofs.Common.{◌≡◌, ℕ, zero, suc, ◌+◌, ◌*◌, ◌/◌, ◌^◌, ◌<◌, ◌≤◌, nat_lt, Bool, true, false, IsTrue, [], ◌∷◌, ◌++◌, length, Ok, Err, refl, sym, ◌∙◌, ap, subst, ◌⊎◌, inl, inr, arith}
+use Rattle.std.proofs.Common.{◌≡◌, ℕ, zero, suc, ◌+◌, ◌*◌, ◌/◌, ◌^◌, ◌<◌, ◌≤◌, nat_lt, Bool, true, false, IsTrue, [], ◌∷◌, ◌++◌, length, Ok, refl, sym, ◌∙◌, ap, subst, ◌⊎◌, inl, inr, arith}
 use Rattle.std.specs.Prelude.{pos}
 use Rattle.std.proofs.lemmas.Bool.{cases_Bool, cases_lt, ltb-false, le-ltb}
 use Rattle.std.proofs.lemmas.List.{nil_from_length}
 use Rattle.def_script.specs.Bytes.{Bytes}
 use Rattle.def_script.specs.Numbers.{natural_bytes, signed_bytes}
 use Rattle.def_script.specs.Decode.{is_nonzero, truth}
-use Rattle.def_machine.specs.Faults.{OrFault, ◌>>=◌}
 use Rattle.def_machine.specs.Stacks.{Stack, Pairs, member, is_empty, bool_bytes}
 use Rattle.def_script.specs.Key.{is_key}
 use Rattle.def_machine.specs.Effects.{dup, swap, size, verify, zero_not_equal, one_number, operand, check_sig}
 use Rattle.def_machine.specs.MultiSig.{is_good}
 use Rattle.def_satisfaction.specs.Rows.{EMPTY, ONE, HasTop}
 use Rattle.def_satisfaction.proofs.EqualParts.{first_same, rest_same}
-use Rattle.ms_acceptance_laws.proofs.StackEffects.{Left, Effect, both, plain, silent, choose, aside, put_back, left}
+use Rattle.ms_acceptance_laws.proofs.StackEffects.{Effect, both, plain, silent, choose, aside, put_back, left}
 use Rattle.ms_acceptance_laws.proofs.TreeEffects.{checks_sig}
 use Rattle.ms_row_laws.proofs.RowLogs.{check_log}
 use Rattle.ms_acceptance_laws.proofs.StackValues.{Value, truth-natural, zero_not_equal-natural}
@@ -23,31 +22,31 @@ use Rattle.ms_acceptance_laws.proofs.BackwardBases.{Logged, Took, BackB, BackV, 
 use Rattle.ms_acceptance_laws.proofs.BackwardLeaves.{quietly}
 use Rattle.ms_row_laws.proofs.RowLengths.{one_item}
 use Rattle.ms_row_laws.proofs.RunLog.{Log, quiet, then_log, quiet_left, quiet_right}
-use Rattle.ms_row_laws.proofs.Outcomes.{same_ok, no_fault}
+use Rattle.ms_row_laws.proofs.Outcomes.{same_ok, no_fault, bind_split}
 
 -- `a`
-pub wrap_a_back : (u : Bool) (f : Effect) (R : Logged) → ((m end : Stack) (l : Log) → f m ≡ Ok (left end l) → BackB u R m end l) → (m end : Stack) (l : Log) → aside f m ≡ Ok (left end l) → BackW u R m end l
+pub wrap_a_back : (u : Bool) (f : Effect) (R : Logged) → ((m end : Stack) (l : Log) → f m ≡ Ok (left end l) → BackB u R m end l) → (m end : Stack) (l : Log)
+    → aside f m ≡ Ok (left end l) → BackW u R m end l
 wrap_a_back u f R h [] end l e = absurd (no_fault _ (left end l) e)
-wrap_a_back u f R h (x ∷ m) end l e = go (f m) refl e
-  where
-    go : (r : OrFault Left) → f m ≡ r → (r >>= λ next. Ok (put_back x next)) ≡ Ok (left end l) → BackW u R (x ∷ m) end l
-    go (Err fault) i j = absurd (no_fault fault (left end l) j)
-    go (Ok next) i j =
-        let same = same_ok (put_back x next) (left end l) j in
-        let r = h m next.main next.log i in (
-          r.0,
-          x,
-          r.1,
-          r.2,
-          r.3,
-          ap (λ v. x ∷ v) r.4,
-          inl (sym (ap (λ z. z.main) same) ∙ ap (λ v. x ∷ v) r.5),
-          r.6,
-          subst (Took R r.0 r.1) (ap (λ z. z.log) same) r.7,
-        )
+wrap_a_back u f R h (x ∷ m) end l e =
+    let next = bind_split (f m) _ (left end l) e in
+    let same = same_ok (put_back x next.0) (left end l) next.2 in
+    let r = h m next.0.main next.0.log next.1 in (
+      r.0,
+      x,
+      r.1,
+      r.2,
+      r.3,
+      ap (λ v. x ∷ v) r.4,
+      inl (sym (ap (λ z. z.main) same) ∙ ap (λ v. x ∷ v) r.5),
+      r.6,
+      subst (Took R r.0 r.1) (ap (λ z. z.log) same) r.7,
+    )
 
 -- `s`
-pub wrap_s_back : (u : Bool) (f : Effect) (R : Logged) → ((b : Bool) (w : Stack) (l : Log) → Took R b w l → length w ≡ 1) → ((m end : Stack) (l : Log) → f m ≡ Ok (left end l) → BackB u R m end l) → (m end : Stack) (l : Log) → both (plain swap) f m ≡ Ok (left end l) → BackW u R m end l
+pub wrap_s_back : (u : Bool) (f : Effect) (R : Logged) → ((b : Bool) (w : Stack) (l : Log) → Took R b w l → length w ≡ 1)
+    → ((m end : Stack) (l : Log) → f m ≡ Ok (left end l) → BackB u R m end l) → (m end : Stack) (l : Log) → both (plain swap) f m ≡ Ok (left end l)
+    → BackW u R m end l
 unfolding swap
 wrap_s_back u f R one h [] end l e = absurd (no_fault _ (left end l) e)
 wrap_s_back u f R one h (x ∷ []) end l e = absurd (no_fault _ (left end l) e)
@@ -68,7 +67,9 @@ wrap_s_back u f R one h (x ∷ y ∷ m) end l e =
     )
 
 -- `c`
-check_back : (table : Pairs) (key : Bytes) (below end : Stack) (l : Log) → checks_sig table (key ∷ below) ≡ Ok (left end l) → (sig : Bytes) × (s : Stack) × (below ≡ sig ∷ s) × IsTrue (is_key key) × (((sig ≡ []) × (end ≡ EMPTY ∷ s) × (l ≡ quiet)) ⊎ (IsTrue (is_good table key sig) × (end ≡ ONE ∷ s) × (l ≡ check_log key sig)))
+check_back : (table : Pairs) (key : Bytes) (below end : Stack) (l : Log) → checks_sig table (key ∷ below) ≡ Ok (left end l) → (sig : Bytes) × (s : Stack)
+    × (below ≡ sig ∷ s) × IsTrue (is_key key) × (((sig ≡ []) × (end ≡ EMPTY ∷ s) × (l ≡ quiet))
+    ⊎ (IsTrue (is_good table key sig) × (end ≡ ONE ∷ s) × (l ≡ check_log key sig)))
 unfolding check_sig
 check_back table key [] end l e = absurd (no_fault _ (left end l) e)
 check_back table key (sig ∷ s) end l e =
@@ -77,7 +78,8 @@ check_back table key (sig ∷ s) end l e =
       | inr formless ↦ absurd (no_fault _ (left end l) (rw formless at e))
     ]
   where
-    go : (sig : Bytes) → is_key key ≡ true → checks_sig table (key ∷ sig ∷ s) ≡ Ok (left end l) → ((sig ≡ []) × (end ≡ EMPTY ∷ s) × (l ≡ quiet)) ⊎ (IsTrue (is_good table key sig) × (end ≡ ONE ∷ s) × (l ≡ check_log key sig))
+    go : (sig : Bytes) → is_key key ≡ true → checks_sig table (key ∷ sig ∷ s) ≡ Ok (left end l) → ((sig ≡ []) × (end ≡ EMPTY ∷ s) × (l ≡ quiet))
+        ⊎ (IsTrue (is_good table key sig) × (end ≡ ONE ∷ s) × (l ≡ check_log key sig))
     go [] form e =
         let p = same_ok (left (EMPTY ∷ s) quiet) (left end l) (rw form at e) in
         inl (refl, sym (ap (λ z. z.main) p), sym (ap (λ z. z.log) p))
@@ -89,7 +91,8 @@ check_back table key (sig ∷ s) end l e =
           | inr unheld ↦ absurd (no_fault _ (left end l) (rw (form, unheld) at e))
         ]
 
-pub wrap_c_back : (table : Pairs) (f : Effect) (R : Logged) → ((m end : Stack) (l : Log) → f m ≡ Ok (left end l) → BackK table R m end l) → (m end : Stack) (l : Log) → both f (checks_sig table) m ≡ Ok (left end l) → BackB true R m end l
+pub wrap_c_back : (table : Pairs) (f : Effect) (R : Logged) → ((m end : Stack) (l : Log) → f m ≡ Ok (left end l) → BackK table R m end l)
+    → (m end : Stack) (l : Log) → both f (checks_sig table) m ≡ Ok (left end l) → BackB true R m end l
 wrap_c_back table f R h m end l e =
     let p = between f (checks_sig table) m end l e in
     let i = h m p.mid p.first p.before in
@@ -119,7 +122,9 @@ wrap_c_back table f R h m end l e =
     ]
 
 -- `d`, whose child takes nothing
-pub wrap_d_back : (f : Effect) (X R : Logged) → ((w : Stack) (l : Log) → X.sat w l → length w ≡ 0) → ((l : Log) → X.sat [] l → R.sat (ONE ∷ []) l) → R.dsat (EMPTY ∷ []) quiet → ((m end : Stack) (l : Log) → f m ≡ Ok (left end l) → BackV X m end l) → (m end : Stack) (l : Log) → both (plain dup) (choose f silent) m ≡ Ok (left end l) → BackB false R m end l
+pub wrap_d_back : (f : Effect) (X R : Logged) → ((w : Stack) (l : Log) → X.sat w l → length w ≡ 0) → ((l : Log) → X.sat [] l → R.sat (ONE ∷ []) l)
+    → R.dsat (EMPTY ∷ []) quiet → ((m end : Stack) (l : Log) → f m ≡ Ok (left end l) → BackV X m end l) → (m end : Stack) (l : Log)
+    → both (plain dup) (choose f silent) m ≡ Ok (left end l) → BackB false R m end l
 unfolding dup
 wrap_d_back f X R none rows other h [] end l e = absurd (no_fault _ (left end l) e)
 wrap_d_back f X R none rows other h (x ∷ m) end l e =
@@ -163,7 +168,8 @@ verify_back u b v s end value e =
       | inr fails ↦ absurd (no_fault _ end (rw fails at e))
     ]
 
-pub wrap_v_back : (u : Bool) (f : Effect) (R : Logged) → ((m end : Stack) (l : Log) → f m ≡ Ok (left end l) → BackB u R m end l) → (m end : Stack) (l : Log) → both f (plain verify) m ≡ Ok (left end l) → BackV R m end l
+pub wrap_v_back : (u : Bool) (f : Effect) (R : Logged) → ((m end : Stack) (l : Log) → f m ≡ Ok (left end l) → BackB u R m end l) → (m end : Stack) (l : Log)
+    → both f (plain verify) m ≡ Ok (left end l) → BackV R m end l
 wrap_v_back u f R h m end l e =
     let p = between f (plain verify) m end l e in
     let i = h m p.mid p.first p.before in
@@ -175,7 +181,8 @@ wrap_v_back u f R h m end l e =
     )
 
 -- `n`
-pub wrap_n_back : (u : Bool) (f : Effect) (R : Logged) → ((m end : Stack) (l : Log) → f m ≡ Ok (left end l) → BackB u R m end l) → (m end : Stack) (l : Log) → both f (plain zero_not_equal) m ≡ Ok (left end l) → BackB true R m end l
+pub wrap_n_back : (u : Bool) (f : Effect) (R : Logged) → ((m end : Stack) (l : Log) → f m ≡ Ok (left end l) → BackB u R m end l) → (m end : Stack) (l : Log)
+    → both f (plain zero_not_equal) m ≡ Ok (left end l) → BackB true R m end l
 wrap_n_back u f R h m end l e =
     let p = between f (plain zero_not_equal) m end l e in
     let i = h m p.mid p.first p.before in
@@ -235,7 +242,8 @@ tested n s end e =
     ]
 
 -- `j`
-measured_back : (f : Effect) (x : Bytes) (m end : Stack) (l : Log) → measured f (x ∷ m) ≡ Ok (left end l) → ((is_empty x ≡ false) × (f (x ∷ m) ≡ Ok (left end l))) ⊎ ((x ≡ EMPTY) × (end ≡ EMPTY ∷ m) × (l ≡ quiet))
+measured_back : (f : Effect) (x : Bytes) (m end : Stack) (l : Log) → measured f (x ∷ m) ≡ Ok (left end l)
+    → ((is_empty x ≡ false) × (f (x ∷ m) ≡ Ok (left end l))) ⊎ ((x ≡ EMPTY) × (end ≡ EMPTY ∷ m) × (l ≡ quiet))
 measured_back f x m end l e =
     let i = quietly size (both (plain zero_not_equal) (choose f silent)) (x ∷ m) (natural_bytes (length x) ∷ x ∷ m) end l (sized x m) e in
     let p = between (plain zero_not_equal) (choose f silent) (natural_bytes (length x) ∷ x ∷ m) end l i in
@@ -244,7 +252,8 @@ measured_back f x m end l e =
     let log = p.log ∙ ap (λ k. then_log k p.second) q.1 ∙ quiet_left p.second in
     go x (ap (choose f silent) (sym is) ∙ p.after ∙ ap (λ k. Ok (left end k)) (sym log))
   where
-    go : (x : Bytes) → choose f silent (bool_bytes (is_nonzero (pos (length x))) ∷ x ∷ m) ≡ Ok (left end l) → ((is_empty x ≡ false) × (f (x ∷ m) ≡ Ok (left end l))) ⊎ ((x ≡ EMPTY) × (end ≡ EMPTY ∷ m) × (l ≡ quiet))
+    go : (x : Bytes) → choose f silent (bool_bytes (is_nonzero (pos (length x))) ∷ x ∷ m) ≡ Ok (left end l)
+        → ((is_empty x ≡ false) × (f (x ∷ m) ≡ Ok (left end l))) ⊎ ((x ≡ EMPTY) × (end ≡ EMPTY ∷ m) × (l ≡ quiet))
     go [] i = let p = silently (EMPTY ∷ m) end l (sym (choose_empty f silent (EMPTY ∷ m)) ∙ i) in inr (refl, p.0, p.1)
     go (b ∷ x) i = inl (refl, sym (choose_one f silent ((b ∷ x) ∷ m)) ∙ i)
 
@@ -252,7 +261,9 @@ top_is_some : (x : Bytes) (m w s : Stack) → is_empty x ≡ false → 1 ≤ len
 top_is_some x m [] s some long e = absurd (omega arith)
 top_is_some x m (y ∷ w) s some long e = (y, w, refl, ap is_empty (sym (first_same x y m (w ++ s) e)) ∙ some)
 
-pub wrap_j_back : (u : Bool) (f : Effect) (X R : Logged) → ((b : Bool) (w : Stack) (l : Log) → Took X b w l → 1 ≤ length w) → ((b : Bool) (w : Stack) (l : Log) → HasTop w → Took X b w l → Took R b w l) → R.dsat (EMPTY ∷ []) quiet → ((m end : Stack) (l : Log) → f m ≡ Ok (left end l) → BackB u X m end l) → (m end : Stack) (l : Log) → measured f m ≡ Ok (left end l) → BackB u R m end l
+pub wrap_j_back : (u : Bool) (f : Effect) (X R : Logged) → ((b : Bool) (w : Stack) (l : Log) → Took X b w l → 1 ≤ length w)
+    → ((b : Bool) (w : Stack) (l : Log) → HasTop w → Took X b w l → Took R b w l) → R.dsat (EMPTY ∷ []) quiet
+    → ((m end : Stack) (l : Log) → f m ≡ Ok (left end l) → BackB u X m end l) → (m end : Stack) (l : Log) → measured f m ≡ Ok (left end l) → BackB u R m end l
 unfolding size
 wrap_j_back u f X R long rows other h [] end l e = absurd (no_fault _ (left end l) e)
 wrap_j_back u f X R long rows other h (x ∷ m) end l e =

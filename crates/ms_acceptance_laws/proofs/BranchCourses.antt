@@ -1,5 +1,5 @@
 -- IF and NOTIF with the branches behind them keep within a course.
-use Rattle.std.proofs.Common.{◌≡◌, not, Bool, true, false, List, [], ◌∷◌, ◌++◌, length, if◌then◌else◌, Ok, refl, sym, ◌∙◌, ap, arith}
+use Rattle.std.proofs.Common.{◌≡◌, not, Bool, true, false, List, [], ◌∷◌, ◌++◌, length, if◌then◌else◌, Ok, refl, sym, ◌∙◌, ap, subst, arith}
 use Rattle.std.proofs.lemmas.Bool.{false≢true}
 use Rattle.def_script.specs.declared.Op.TheVariants as op
 use Rattle.def_script.specs.Instruction.{Instruction, code}
@@ -36,11 +36,7 @@ opened_step given wanted b s t m live is h =
     (sym (opens given wanted s.branches live s
     ∙ ap (λ (r : OrFault (Bool × Stack)). r >>= λ top. Ok (record (one_more s) { main = top.1; branches = (if wanted then top.0 else not top.0) ∷ s.branches }))
     (ap condition is ∙ condition_bool b m)) ∙ h) in
-    record {
-      main = sym (ap (λ (u : State). u.main) e);
-      alt = sym (ap (λ (u : State). u.alt) e);
-      branches = sym (ap (λ (u : State). u.branches) e);
-    }
+    subst (λ (u : State). Opened s u m (side wanted b)) e (record { main = refl; alt = refl; branches = refl })
 
 open_is_live : (taken : Bool) (branches : List Bool) → taken ≡ true → all_taken branches ≡ true → all_taken (taken ∷ branches) ≡ true
 open_is_live true branches e live = live

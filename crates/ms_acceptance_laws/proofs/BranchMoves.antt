@@ -1,5 +1,5 @@
 -- Parts of a run that do an effect to the main stack, and take the branches from some to others.
-use Rattle.std.proofs.Common.{◌≡◌, ℕ, ◌+◌, Bool, List, [], ◌∷◌, ◌++◌, Ok, Err, refl, sym, ◌∙◌, ap, append_assoc, append-nil, arith}
+use Rattle.std.proofs.Common.{◌≡◌, ℕ, ◌+◌, Bool, List, [], ◌∷◌, ◌++◌, Ok, Err, refl, sym, ◌∙◌, ap, append_assoc, append-nil, add-zero, arith}
 use Rattle.def_script.specs.Instruction.{Instruction}
 use Rattle.def_machine.specs.Faults.{OrFault, ◌>>=◌}
 use Rattle.def_machine.specs.Stacks.{Stack, Pairs}
@@ -7,7 +7,7 @@ use Rattle.def_machine.specs.Machine.{Given, State, on_main}
 use Rattle.ms_acceptance_laws.proofs.StackEffects.{Left, Effect, behind, on_left, both, silent, plain, left as leaves}
 use Rattle.ms_acceptance_laws.proofs.UnlimitedMachine.{reached, free_step, free_steps}
 use Rattle.ms_row_laws.proofs.RunLog.{quiet, quiet_left, quiet_right}
-use Rattle.ms_row_laws.proofs.Outcomes.{bind_same, bind_assoc}
+use Rattle.ms_row_laws.proofs.Outcomes.{sure, bind_same, bind_assoc, bind_ok}
 
 pub free_steps-append : (given : Given) (front back : List Instruction) (s : State) → free_steps given (front ++ back) s ≡ (free_steps given front s >>= free_steps given back)
 free_steps-append given [] back s = refl
@@ -40,14 +40,11 @@ pub then_moves : (step next : Step) (f g : Effect) (n m : ℕ) (from mid to : Li
     Moves step f n from mid → Moves next g m mid to → Moves (λ s. step s >>= next) (both f g) (n + m) from to
 then_moves step next f g n m from mid to x y = record { moves = λ s. ap (λ (r : OrFault State). r >>= next) (x.moves s) ∙ go s (f s.main) }
   where
-    last : (s : State) (left : Left) (r : OrFault Left) →
-        (r >>= λ end. Ok (at (reached (reached s n left) m end) to)) ≡ ((r >>= λ end. Ok (behind left.log end)) >>= λ end. Ok (at (reached s (n + m) end) to))
-    last s left (Ok end) = ap (λ (t : State). Ok t) (reached_twice s n m left end to)
-    last s left (Err e) = refl
-
     go : (s : State) (r : OrFault Left) →
         ((r >>= λ left. Ok (at (reached s n left) mid)) >>= next) ≡ ((r >>= on_left g) >>= λ left. Ok (at (reached s (n + m) left) to))
-    go s (Ok left) = y.moves (reached s n left) ∙ last s left (g left.main)
+    go s (Ok left) =
+        y.moves (reached s n left) ∙ bind_same (g left.main) _ _ (λ end. ap (λ (t : State). Ok t) (reached_twice s n m left end to))
+        ∙ sym (bind_assoc (g left.main) (λ end. Ok (behind left.log end)) (λ end. Ok (at (reached s (n + m) end) to)))
     go s (Err e) = refl
 
 -- the same effect, the same number and the same step
@@ -59,41 +56,26 @@ moves_as step next f g n m from to same_step same count x = record {
 
 -- silence before or after an effect
 pub silent_both : (f : Effect) (main : Stack) → both silent f main ≡ f main
-silent_both f main = go (f main)
-  where
-    go : (r : OrFault Left) → (r >>= λ next. Ok (behind quiet next)) ≡ r
-    go (Ok left) = ap (λ (l : Left). Ok l) (ap (leaves left.main) (quiet_left left.log))
-    go (Err e) = refl
+silent_both f main = bind_same (f main) _ (λ left. Ok left) (λ left. ap (λ (l : Left). Ok l) (ap (leaves left.main) (quiet_left left.log))) ∙ bind_ok (f main)
 
 pub both_silent : (f : Effect) (main : Stack) → both f silent main ≡ f main
-both_silent f main = go (f main)
-  where
-    go : (r : OrFault Left) → (r >>= on_left silent) ≡ r
-    go (Ok left) = ap (λ (l : Left). Ok l) (ap (leaves left.main) (quiet_right left.log))
-    go (Err e) = refl
+both_silent f main = bind_same (f main) _ (λ left. Ok left) (λ left. ap (λ (l : Left). Ok l) (ap (leaves left.main) (quiet_right left.log))) ∙ bind_ok (f main)
+
+-- with nothing to log
+quietly_reached : (s : State) (n : ℕ) (main : Stack) (to : List Bool) → sure (at (record s { main = main; ops = s.ops + n }) to) ≡ Ok (at (reached s n (record { main = main; log = quiet })) to)
+quietly_reached s n main to = rw (add-zero (s.ops + n), append-nil s.checks) refl
 
 -- an effect on the main stack with nothing to log
 pub plain_moves : (f : Stack → OrFault Stack) (n : ℕ) (branches : List Bool) →
     (step : Step) → ((s : State) → step (at s branches) ≡ on_main f (at (record s { ops = s.ops + n }) branches)) → Moves step (plain f) n branches branches
-plain_moves f n branches step is = record { moves = λ s. is s ∙ go s (f s.main) }
-  where
-    same : (s : State) (main : Stack) (ops : ℕ) (checks : Pairs) → s.ops + n ≡ ops → s.checks ≡ checks →
-        at (record s { main = main; ops = s.ops + n }) branches ≡ at (record s { main = main; ops = ops; checks = checks }) branches
-    same s main ops checks e i = rw (e, i) refl
-
-    go : (s : State) (r : OrFault Stack) →
-        (r >>= λ main. Ok (at (record s { main = main; ops = s.ops + n }) branches)) ≡ ((r >>= silent) >>= λ left. Ok (at (reached s n left) branches))
-    go s (Ok main) = ap (λ (t : State). Ok t) (same s main (s.ops + n + 0) (s.checks ++ []) (omega arith) (sym (append-nil s.checks)))
-    go s (Err e) = refl
+plain_moves f n branches step is = record {
+  moves = λ s. is s ∙ bind_same (f s.main) _ _ (λ main. quietly_reached s n main branches) ∙ sym (bind_assoc (f s.main) silent (λ left. Ok (at (reached s n left) branches)));
+}
 
 -- an effect that can't fail, with nothing to log
 pub main_moves : (h : Stack → Stack) (n : ℕ) (from to : List Bool) (step : Step) →
     ((s : State) → step (at s from) ≡ Ok (at (record s { main = h s.main; ops = s.ops + n }) to)) → Moves step (λ main. silent (h main)) n from to
-main_moves h n from to step is = record { moves = λ s. is s ∙ ap (λ (t : State). Ok t) (same s (s.ops + n + 0) (s.checks ++ []) (omega arith) (sym (append-nil s.checks))) }
-  where
-    same : (s : State) (ops : ℕ) (checks : Pairs) → s.ops + n ≡ ops → s.checks ≡ checks →
-        at (record s { main = h s.main; ops = s.ops + n }) to ≡ at (record s { main = h s.main; ops = ops; checks = checks }) to
-    same s ops checks e i = rw (e, i) refl
+main_moves h n from to step is = record { moves = λ s. is s ∙ quietly_reached s n (h s.main) to }
 
 -- opcodes that leave the main stack as it is
 pub silent_moves : (n : ℕ) (from to : List Bool) (step : Step) → ((s : State) → step (at s from) ≡ Ok (at (record s { ops = s.ops + n }) to)) → Moves step silent n from to

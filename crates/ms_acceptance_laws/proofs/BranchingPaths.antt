@@ -1,5 +1,5 @@
 -- The ways of the fragments and wrappers whose Scripts branch, set the top aside, swap or add.
-use Rattle.std.proofs.Common.{◌≡◌, ◌≢◌, ℕ, ◌+◌, Bool, true, false, List, [], ◌∷◌, ◌++◌, length, Ok, ℤ, refl, sym, ◌∙◌, ap, subst, inl, inr, append_assoc, arith}
+use Rattle.std.proofs.Common.{◌≡◌, ◌≢◌, ℕ, ◌+◌, ◌-◌, ◌≤◌, Bool, true, false, List, [], ◌∷◌, ◌++◌, length, Ok, ℤ, refl, sym, ◌∙◌, ap, subst, inl, inr, append_assoc, arith}
 use Rattle.std.specs.Prelude.{◌+ℤ◌}
 use Rattle.def_hash.specs.declared.HashKind.{HashKind}
 use Rattle.def_hash.specs.declared.HashKind.TheVariants as hash_kind
@@ -16,9 +16,9 @@ use Rattle.def_types.specs.declared.Base.{Base}
 use Rattle.def_types.specs.declared.Base.TheVariants.{B, V, K, W}
 use Rattle.def_emit.specs.Emit.{push_number, hash_opcode}
 use Rattle.def_satisfaction.specs.Rows.{EMPTY, ONE, HasTop}
-use Rattle.def_height.specs.Course.{up, down, Course}
+use Rattle.def_height.specs.Course.{up, down, Course, rise}
 use Rattle.def_height.specs.Formal.{Way, then, Is, Then, Followed}
-use Rattle.def_height.proofs.Courses.{rise_append, rise_ends}
+use Rattle.def_height.proofs.Courses.{ups, downs, rise_append, rise_ends}
 use Rattle.ms_acceptance_laws.proofs.StackEffects.{Left, Effect, both, plain, silent, pushes, left}
 use Rattle.ms_acceptance_laws.proofs.StackValues.{zero_not_equal-natural}
 use Rattle.ms_acceptance_laws.proofs.ForwardBases.{Beside, Short, split}
@@ -28,10 +28,10 @@ use Rattle.ms_acceptance_laws.proofs.InstructionEffects.{Does, all_taken, goes_f
 use Rattle.ms_acceptance_laws.proofs.SignatureOpcodes.{equal_verify_does}
 use Rattle.ms_acceptance_laws.proofs.ScriptEffects.{then_does, hash_does, if_dup_does, dup_does, swap_does, size_does, zero_not_equal_does, add_does}
 use Rattle.ms_acceptance_laws.proofs.RunHeights.{low_first, low_behind}
-use Rattle.ms_acceptance_laws.proofs.WithinCourse.{Keeps, Follows, does_follow, one_follows, parted, keeps_then, keeps_pushes, keeps_as}
+use Rattle.ms_acceptance_laws.proofs.WithinCourse.{Keeps, Follows, does_follow, one_follows, parted, then_keeps, keeps_pushes, keeps_from}
 use Rattle.ms_acceptance_laws.proofs.UntakenBranches.{Still}
 use Rattle.ms_acceptance_laws.proofs.BranchCourses.{else_taken, else_passed, only_taken, only_passed}
-use Rattle.ms_acceptance_laws.proofs.SimplePaths.{Path, Child, followed, on_follows, path_keeps, both_items, unit_then, unit_end, begun_path, led_path, is_path}
+use Rattle.ms_acceptance_laws.proofs.SimplePaths.{Path, Child, v_not_w, followed, followed_path, on_follows, path_keeps, both_items, unit_then, unit_end, begun_path, led_path, is_path}
 use Rattle.ms_row_laws.proofs.RunLog.{quiet}
 use Rattle.ms_row_laws.proofs.Outcomes.{bind_split, same_ok}
 
@@ -41,54 +41,36 @@ b_not_w e = cc
 pub k_not_w : K ≢ W
 k_not_w e = cc
 
-v_not_w : V ≢ W
-v_not_w e = cc
-
 -- single opcodes
 module _ (given : Given) (m : Stack) where
-  if_dup_one : plain if_dup (ONE ∷ m) ≡ Ok (left (ONE ∷ ONE ∷ m) quiet)
-  unfolding if_dup
-  if_dup_one = refl
-
-  if_dup_empty : plain if_dup (EMPTY ∷ m) ≡ Ok (left (EMPTY ∷ m) quiet)
-  unfolding if_dup
-  if_dup_empty = refl
-
-  duplicated : (x : Bytes) → plain dup (x ∷ m) ≡ Ok (left (x ∷ x ∷ m) quiet)
-  unfolding dup
-  duplicated x = refl
+  plain_follows : (i : Instruction) (f : Stack → OrFault Stack) (course : Course) (from to : Stack) → Does given (i ∷ []) (plain f) → f from ≡ Ok to →
+      length from + ups course ≡ length to + downs course → rise course ≤ ups course - downs course → Follows given (i ∷ []) course from to
+  plain_follows i f course from to does is = one_follows given i (plain f) course from to quiet does (ap (λ (r : OrFault Stack). r >>= silent) is)
 
   if_dup_one_follows : Follows given (code op.IfDup ∷ []) (up 1 ∷ []) (ONE ∷ m) (ONE ∷ ONE ∷ m)
-  if_dup_one_follows = one_follows given (code op.IfDup) (plain if_dup) (up 1 ∷ []) (ONE ∷ m) (ONE ∷ ONE ∷ m) quiet (if_dup_does given) if_dup_one (omega arith) (omega arith)
+  unfolding if_dup
+  if_dup_one_follows = plain_follows (code op.IfDup) if_dup (up 1 ∷ []) (ONE ∷ m) (ONE ∷ ONE ∷ m) (if_dup_does given) refl (omega arith) (omega arith)
 
   if_dup_empty_follows : Follows given (code op.IfDup ∷ []) (up 0 ∷ []) (EMPTY ∷ m) (EMPTY ∷ m)
-  if_dup_empty_follows = one_follows given (code op.IfDup) (plain if_dup) (up 0 ∷ []) (EMPTY ∷ m) (EMPTY ∷ m) quiet (if_dup_does given) if_dup_empty (omega arith) (omega arith)
+  unfolding if_dup
+  if_dup_empty_follows = plain_follows (code op.IfDup) if_dup (up 0 ∷ []) (EMPTY ∷ m) (EMPTY ∷ m) (if_dup_does given) refl (omega arith) (omega arith)
 
   dup_follows : (x : Bytes) → Follows given (code op.Dup ∷ []) (up 1 ∷ []) (x ∷ m) (x ∷ x ∷ m)
-  dup_follows x = one_follows given (code op.Dup) (plain dup) (up 1 ∷ []) (x ∷ m) (x ∷ x ∷ m) quiet (dup_does given) (duplicated x) (omega arith) (omega arith)
+  unfolding dup
+  dup_follows x = plain_follows (code op.Dup) dup (up 1 ∷ []) (x ∷ m) (x ∷ x ∷ m) (dup_does given) refl (omega arith) (omega arith)
 
   swap_follows : (x y : Bytes) → Follows given (code op.Swap ∷ []) (up 0 ∷ []) (x ∷ y ∷ m) (y ∷ x ∷ m)
-  swap_follows x y =
-      one_follows given (code op.Swap) (plain swap) (up 0 ∷ []) (x ∷ y ∷ m) (y ∷ x ∷ m) quiet (swap_does given)
-      (ap (λ (r : OrFault Stack). r >>= silent) (swapped x y m)) (omega arith) (omega arith)
-
-  digested : (k : HashKind) (x : Bytes) → plain (hash k) (x ∷ m) ≡ Ok (left (digest_of k x ∷ m) quiet)
-  unfolding hash
-  digested k x = refl
+  swap_follows x y = plain_follows (code op.Swap) swap (up 0 ∷ []) (x ∷ y ∷ m) (y ∷ x ∷ m) (swap_does given) (swapped x y m) (omega arith) (omega arith)
 
   hash_follows : (k : HashKind) (x : Bytes) → Follows given (code (hash_opcode k) ∷ []) (up 0 ∷ []) (x ∷ m) (digest_of k x ∷ m)
-  hash_follows k x =
-      one_follows given (code (hash_opcode k)) (plain (hash k)) (up 0 ∷ []) (x ∷ m) (digest_of k x ∷ m) quiet (hash_does given k) (digested k x) (omega arith) (omega arith)
+  unfolding hash
+  hash_follows k x = plain_follows (code (hash_opcode k)) (hash k) (up 0 ∷ []) (x ∷ m) (digest_of k x ∷ m) (hash_does given k) refl (omega arith) (omega arith)
 
   size_follows : (x : Bytes) → Follows given (code op.Size ∷ []) (up 1 ∷ []) (x ∷ m) (natural_bytes (length x) ∷ x ∷ m)
-  size_follows x =
-      one_follows given (code op.Size) (plain size) (up 1 ∷ []) (x ∷ m) (natural_bytes (length x) ∷ x ∷ m) quiet (size_does given)
-      (ap (λ (r : OrFault Stack). r >>= silent) (sized x m)) (omega arith) (omega arith)
+  size_follows x = plain_follows (code op.Size) size (up 1 ∷ []) (x ∷ m) (natural_bytes (length x) ∷ x ∷ m) (size_does given) (sized x m) (omega arith) (omega arith)
 
   nonzero_follows : (v : Bytes) (b : Bool) → zero_not_equal (v ∷ m) ≡ Ok (bool_bytes b ∷ m) → Follows given (code op.ZeroNotEqual ∷ []) (up 0 ∷ []) (v ∷ m) (bool_bytes b ∷ m)
-  nonzero_follows v b is =
-      one_follows given (code op.ZeroNotEqual) (plain zero_not_equal) (up 0 ∷ []) (v ∷ m) (bool_bytes b ∷ m) quiet (zero_not_equal_does given)
-      (ap (λ (r : OrFault Stack). r >>= silent) is) (omega arith) (omega arith)
+  nonzero_follows v b is = plain_follows (code op.ZeroNotEqual) zero_not_equal (up 0 ∷ []) (v ∷ m) (bool_bytes b ∷ m) (zero_not_equal_does given) is (omega arith) (omega arith)
 
 -- SIZE 32 EQUALVERIFY leaves 32 bytes as they are
 measured : (x : Bytes) (m : Stack) → length x ≡ 32 →
@@ -99,51 +81,36 @@ measured x m e = rw e refl
 pub hash_path : (given : Given) (kind : HashKind) (value x : Bytes) (w : Stack) → length x ≡ 32 → w ≡ x ∷ [] →
     Path given B (code op.Size ∷ push_number 32 ∷ code op.EqualVerify ∷ code (hash_opcode kind) ∷ push value ∷ code op.Equal ∷ []) (Is 1 (up 1 ∷ up 1 ∷ down 2 ∷ up 0 ∷ up 1 ∷ down 1 ∷ [])) w
 hash_path given kind value x w long e =
-    let front : List Instruction = code op.Size ∷ push_number 32 ∷ code op.EqualVerify ∷ [] in
-    let back : List Instruction = code (hash_opcode kind) ∷ push value ∷ code op.Equal ∷ [] in
-    let a : Course = up 1 ∷ up 1 ∷ down 2 ∷ [] in
-    let b : Course = up 0 ∷ up 1 ∷ down 1 ∷ [] in
-    is_path B 1 (a ++ b) w b_not_w (ap length e) (front ++ back)
-    (λ rest.
-    keeps_as given (front ++ back) (front ++ back) (a ++ b) (a ++ b) (x ∷ rest) (w ++ rest) refl refl (ap (λ (v : Stack). v ++ rest) e)
-    (keeps_then given front back a b (x ∷ rest) (x ∷ rest)
-    (does_follow given front (both (plain size) (both (pushes (natural_bytes 32)) (both (plain equal) (plain verify)))) a (x ∷ rest) (x ∷ rest) quiet
+    is_path B 1 (up 1 ∷ up 1 ∷ down 2 ∷ up 0 ∷ up 1 ∷ down 1 ∷ []) w b_not_w (ap length e) _
+    (λ rest. keeps_from (ap (λ (v : Stack). v ++ rest) e)
+    (then_keeps
+    (does_follow given (code op.Size ∷ push_number 32 ∷ code op.EqualVerify ∷ []) _ (up 1 ∷ up 1 ∷ down 2 ∷ []) (x ∷ rest) (x ∷ rest) quiet
     (then_does given (size_does given) (then_does given (push_does given (natural_bytes 32)) (equal_verify_does given)))
     (measured x rest long) (omega arith)
-    (keeps_then given (code op.Size ∷ []) (push_number 32 ∷ code op.EqualVerify ∷ []) (up 1 ∷ []) (up 1 ∷ down 2 ∷ []) (x ∷ rest) (natural_bytes (length x) ∷ x ∷ rest) (size_follows given rest x)
-    (keeps_pushes given (natural_bytes 32 ∷ []) (code op.EqualVerify ∷ []) (up 1 ∷ down 2 ∷ []) (natural_bytes (length x) ∷ x ∷ rest) refl refl)))
-    (keeps_then given (code (hash_opcode kind) ∷ []) (push value ∷ code op.Equal ∷ []) (up 0 ∷ []) (up 1 ∷ down 1 ∷ []) (x ∷ rest) (digest_of kind x ∷ rest) (hash_follows given rest kind x)
-    (keeps_pushes given (value ∷ []) (code op.Equal ∷ []) (up 1 ∷ down 1 ∷ []) (digest_of kind x ∷ rest) refl refl))))
+    (then_keeps (size_follows given rest x) (keeps_pushes given (natural_bytes 32 ∷ []) (code op.EqualVerify ∷ []) (up 1 ∷ down 2 ∷ []) _ refl refl)))
+    (then_keeps (hash_follows given rest kind x) (keeps_pushes given (value ∷ []) (code op.Equal ∷ []) (up 1 ∷ down 1 ∷ []) _ refl refl))))
 
 -- `pk_h`
 pub pk_h_path : (given : Given) (value other : Bytes) (w above below : Stack) → w ≡ above ++ below → above ≡ other ∷ [] → length below ≡ 1 →
     Path given K (code op.Dup ∷ code op.Hash160 ∷ push value ∷ code op.EqualVerify ∷ []) (Is 2 (up 1 ∷ up 0 ∷ up 1 ∷ down 2 ∷ [])) w
 pk_h_path given value other w above below e i one =
-    is_path K 2 (up 1 ∷ up 0 ∷ up 1 ∷ down 2 ∷ []) w k_not_w (both_items w above below 1 1 2 e (ap length i) one refl)
-    (code op.Dup ∷ code op.Hash160 ∷ push value ∷ code op.EqualVerify ∷ [])
-    (λ rest.
-    let m : Stack = below ++ rest in
-    keeps_as given (code op.Dup ∷ code op.Hash160 ∷ push value ∷ code op.EqualVerify ∷ []) (code op.Dup ∷ code op.Hash160 ∷ push value ∷ code op.EqualVerify ∷ [])
-    (up 1 ∷ up 0 ∷ up 1 ∷ down 2 ∷ []) (up 1 ∷ up 0 ∷ up 1 ∷ down 2 ∷ []) (other ∷ m) (w ++ rest) refl refl
-    (ap (λ (v : Stack). v ++ rest) (e ∙ ap (λ (v : Stack). v ++ below) i))
-    (keeps_then given (code op.Dup ∷ []) (code op.Hash160 ∷ push value ∷ code op.EqualVerify ∷ []) (up 1 ∷ []) (up 0 ∷ up 1 ∷ down 2 ∷ []) (other ∷ m) (other ∷ other ∷ m) (dup_follows given m other)
-    (keeps_then given (code op.Hash160 ∷ []) (push value ∷ code op.EqualVerify ∷ []) (up 0 ∷ []) (up 1 ∷ down 2 ∷ []) (other ∷ other ∷ m) (digest_of hash_kind.Hash160 other ∷ other ∷ m)
-    (hash_follows given (other ∷ m) hash_kind.Hash160 other)
-    (keeps_pushes given (value ∷ []) (code op.EqualVerify ∷ []) (up 1 ∷ down 2 ∷ []) (digest_of hash_kind.Hash160 other ∷ other ∷ m) refl refl))))
+    is_path K 2 (up 1 ∷ up 0 ∷ up 1 ∷ down 2 ∷ []) w k_not_w (both_items w above below 1 1 2 e (ap length i) one refl) _
+    (λ rest. keeps_from (ap (λ (v : Stack). v ++ rest) (e ∙ ap (λ (v : Stack). v ++ below) i))
+    (then_keeps (dup_follows given (below ++ rest) other)
+    (then_keeps (hash_follows given (other ∷ (below ++ rest)) hash_kind.Hash160 other) (keeps_pushes given (value ∷ []) (code op.EqualVerify ∷ []) (up 1 ∷ down 2 ∷ []) _ refl refl))))
 
 -- `andor`
 pub and_or_true_path : {given : Given} {base : Base} {cx cy cz : List Instruction} {P Q : Way → Type 0} {above below : Stack} → (h : Effect) (w : Stack) → (base ≢ W) → w ≡ above ++ below →
     Child given B true true cx P above → Path given base cy Q below → Does given cz h → Still given cz →
     Path given base (cx ++ (code op.NotIf ∷ (cz ++ code op.Else ∷ (cy ++ code op.EndIf ∷ [])))) (Then (Followed P (down 1 ∷ [])) Q) w
 and_or_true_path {given} {base} {cx} {cy} {cz} {P} {Q} {above} {below} h w n e x y does still =
-    unit_then base Q w below n e x (down 1 ∷ []) y.way y.formal y.items (code op.NotIf ∷ (cz ++ code op.Else ∷ (cy ++ code op.EndIf ∷ [])))
-    (λ rest. else_passed given false true y.way.course (below ++ rest) cz cy h refl does still (path_keeps n y rest))
+    unit_then base Q w below n e x (down 1 ∷ []) y.way y.formal y.items _ (λ rest. else_passed given false true y.way.course (below ++ rest) cz cy h refl does still (path_keeps n y rest))
 
 pub and_or_false_path : {given : Given} {base : Base} {u b : Bool} {cx cy cz : List Instruction} {P Q : Way → Type 0} {above below : Stack} → (w : Stack) → (base ≢ W) → w ≡ above ++ below →
     Child given B true false cx P above → Child given base u b cz Q below → Still given cy →
     Path given base (cx ++ (code op.NotIf ∷ (cz ++ code op.Else ∷ (cy ++ code op.EndIf ∷ [])))) (Then (Followed P (down 1 ∷ [])) Q) w
 and_or_false_path {given} {base} {u} {b} {cx} {cy} {cz} {P} {Q} {above} {below} w n e x z still =
-    unit_then base Q w below n e x (down 1 ∷ []) z.way z.formal z.items (code op.NotIf ∷ (cz ++ code op.Else ∷ (cy ++ code op.EndIf ∷ [])))
+    unit_then base Q w below n e x (down 1 ∷ []) z.way z.formal z.items _
     (λ rest.
     let f = on_follows base u b given cz z.way.course below n z.follows rest in
     else_taken given false false z.way.course (below ++ rest) cz cy f.0 refl f.1 still)
@@ -151,99 +118,80 @@ and_or_false_path {given} {base} {u} {b} {cx} {cy} {cz} {P} {Q} {above} {below} 
 -- `or_c`
 pub or_c_true_path : {given : Given} {cx cz : List Instruction} {P : Way → Type 0} {w : Stack} → Child given B true true cx P w → Still given cz →
     Path given V (cx ++ (code op.NotIf ∷ (cz ++ code op.EndIf ∷ []))) (Followed P (down 1 ∷ [])) w
-or_c_true_path {given} {cx} {cz} {P} {w} x still =
-    unit_end V v_not_w x (down 1 ∷ []) (code op.NotIf ∷ (cz ++ code op.EndIf ∷ [])) (λ rest. only_passed given false true [] rest cz refl refl still)
+or_c_true_path {given} {cz = cz} x still = unit_end V v_not_w x (down 1 ∷ []) _ (λ rest. only_passed given false true [] rest cz refl refl still)
 
-pub or_c_false_path : {given : Given} {cx cz : List Instruction} {P Q : Way → Type 0} {above below : Stack} → (w : Stack) → w ≡ above ++ below → Child given B true false cx P above → Path given V cz Q below →
+pub or_c_false_path : {given : Given} {cx cz : List Instruction} {P Q : Way → Type 0} {above below : Stack} → (w : Stack) → w ≡ above ++ below
+    → Child given B true false cx P above → Path given V cz Q below →
     Path given V (cx ++ (code op.NotIf ∷ (cz ++ code op.EndIf ∷ []))) (Then (Followed P (down 1 ∷ [])) Q) w
-or_c_false_path {given} {cx} {cz} {P} {Q} {above} {below} w e x z =
-    unit_then V Q w below v_not_w e x (down 1 ∷ []) z.way z.formal z.items (code op.NotIf ∷ (cz ++ code op.EndIf ∷ []))
-    (λ rest. only_taken given false false z.way.course (below ++ rest) cz refl (z.keeps rest))
+or_c_false_path {given} {cz = cz} {Q = Q} {below = below} w e x z =
+    unit_then V Q w below v_not_w e x (down 1 ∷ []) z.way z.formal z.items _ (λ rest. only_taken given false false z.way.course (below ++ rest) cz refl (z.keeps rest))
 
 -- `or_d`
 pub or_d_true_path : {given : Given} {cx cz : List Instruction} {P : Way → Type 0} {w : Stack} → Child given B true true cx P w → Still given cz →
     Path given B (cx ++ (code op.IfDup ∷ code op.NotIf ∷ (cz ++ code op.EndIf ∷ []))) (Followed P (up 1 ∷ down 1 ∷ [])) w
-or_d_true_path {given} {cx} {cz} {P} {w} x still =
-    let k : List Instruction = code op.NotIf ∷ (cz ++ code op.EndIf ∷ []) in
-    unit_end B b_not_w x (up 1 ∷ down 1 ∷ []) (code op.IfDup ∷ k)
-    (λ rest. keeps_then given (code op.IfDup ∷ []) k (up 1 ∷ []) (down 1 ∷ []) (ONE ∷ rest) (ONE ∷ ONE ∷ rest) (if_dup_one_follows given rest)
-    (only_passed given false true [] (ONE ∷ rest) cz refl refl still))
+or_d_true_path {given} {cz = cz} x still =
+    unit_end B b_not_w x (up 1 ∷ down 1 ∷ []) _ (λ rest. then_keeps (if_dup_one_follows given rest) (only_passed given false true [] (ONE ∷ rest) cz refl refl still))
 
-pub or_d_false_path : {given : Given} {cx cz : List Instruction} {P Q : Way → Type 0} {above below : Stack} → (w : Stack) → w ≡ above ++ below → Child given B true false cx P above → Path given B cz Q below →
+pub or_d_false_path : {given : Given} {cx cz : List Instruction} {P Q : Way → Type 0} {above below : Stack} → (w : Stack) → w ≡ above ++ below
+    → Child given B true false cx P above → Path given B cz Q below →
     Path given B (cx ++ (code op.IfDup ∷ code op.NotIf ∷ (cz ++ code op.EndIf ∷ []))) (Then (Followed P (up 0 ∷ down 1 ∷ [])) Q) w
-or_d_false_path {given} {cx} {cz} {P} {Q} {above} {below} w e x z =
-    let k : List Instruction = code op.NotIf ∷ (cz ++ code op.EndIf ∷ []) in
-    unit_then B Q w below b_not_w e x (up 0 ∷ down 1 ∷ []) z.way z.formal z.items (code op.IfDup ∷ k)
-    (λ rest. keeps_then given (code op.IfDup ∷ []) k (up 0 ∷ []) (down 1 ∷ z.way.course) (EMPTY ∷ (below ++ rest)) (EMPTY ∷ (below ++ rest)) (if_dup_empty_follows given (below ++ rest))
-    (only_taken given false false z.way.course (below ++ rest) cz refl (z.keeps rest)))
+or_d_false_path {given} {cz = cz} {Q = Q} {below = below} w e x z =
+    unit_then B Q w below b_not_w e x (up 0 ∷ down 1 ∷ []) z.way z.formal z.items _
+    (λ rest. then_keeps (if_dup_empty_follows given (below ++ rest)) (only_taken given false false z.way.course (below ++ rest) cz refl (z.keeps rest)))
 
 -- `or_i`
 pub or_i_true_path : {given : Given} {base : Base} {u b : Bool} {cx cz : List Instruction} {P : Way → Type 0} {below : Stack} → (w above : Stack) → (base ≢ W) → w ≡ above ++ below → above ≡ ONE ∷ [] →
     Child given base u b cx P below → Still given cz → Path given base (code op.If ∷ (cx ++ code op.Else ∷ (cz ++ code op.EndIf ∷ []))) (Then (Is 1 (down 1 ∷ [])) P) w
 or_i_true_path {given} {base} {u} {b} {cx} {cz} {P} {below} w above n e i x still =
-    begun_path base P w above below ONE n e i (down 1 ∷ []) x.way x.formal x.items (code op.If ∷ (cx ++ code op.Else ∷ (cz ++ code op.EndIf ∷ [])))
+    begun_path base P w above below ONE n e i (down 1 ∷ []) x.way x.formal x.items _
     (λ rest.
     let f = on_follows base u b given cx x.way.course below n x.follows rest in
     else_taken given true true x.way.course (below ++ rest) cx cz f.0 refl f.1 still)
 
-pub or_i_false_path : {given : Given} {base : Base} {cx cz : List Instruction} {Q : Way → Type 0} {below : Stack} → (f : Effect) (w above : Stack) → (base ≢ W) → w ≡ above ++ below → above ≡ EMPTY ∷ [] →
+pub or_i_false_path : {given : Given} {base : Base} {cx cz : List Instruction} {Q : Way → Type 0} {below : Stack} → (f : Effect) (w above : Stack) → (base ≢ W)
+    → w ≡ above ++ below → above ≡ EMPTY ∷ [] →
     Path given base cz Q below → Does given cx f → Still given cx → Path given base (code op.If ∷ (cx ++ code op.Else ∷ (cz ++ code op.EndIf ∷ []))) (Then (Is 1 (down 1 ∷ [])) Q) w
 or_i_false_path {given} {base} {cx} {cz} {Q} {below} f w above n e i z does still =
-    begun_path base Q w above below EMPTY n e i (down 1 ∷ []) z.way z.formal z.items (code op.If ∷ (cx ++ code op.Else ∷ (cz ++ code op.EndIf ∷ [])))
-    (λ rest. else_passed given true false z.way.course (below ++ rest) cx cz f refl does still (path_keeps n z rest))
+    begun_path base Q w above below EMPTY n e i (down 1 ∷ []) z.way z.formal z.items _ (λ rest. else_passed given true false z.way.course (below ++ rest) cx cz f refl does still (path_keeps n z rest))
 
 -- `d:X`
 pub wrap_d_sat_path : {given : Given} {cx : List Instruction} {P : Way → Type 0} {below : Stack} → (w above : Stack) → w ≡ above ++ below → above ≡ ONE ∷ [] → below ≡ [] → Path given V cx P below →
     Path given B (code op.Dup ∷ code op.If ∷ (cx ++ code op.EndIf ∷ [])) (Then (Is 1 (up 1 ∷ down 1 ∷ [])) P) w
 wrap_d_sat_path {given} {cx} {P} {below} w above e i none x =
-    let k : List Instruction = code op.If ∷ (cx ++ code op.EndIf ∷ []) in
-    begun_path B P w above below ONE b_not_w e i (up 1 ∷ down 1 ∷ []) x.way x.formal x.items (code op.Dup ∷ k)
+    begun_path B P w above below ONE b_not_w e i (up 1 ∷ down 1 ∷ []) x.way x.formal x.items _
     (λ rest.
-    keeps_then given (code op.Dup ∷ []) k (up 1 ∷ []) (down 1 ∷ x.way.course) (ONE ∷ (below ++ rest)) (ONE ∷ ONE ∷ (below ++ rest)) (dup_follows given (below ++ rest) ONE)
+    then_keeps (dup_follows given (below ++ rest) ONE)
     (only_taken given true true x.way.course (ONE ∷ (below ++ rest)) cx refl
-    (keeps_as given cx cx x.way.course x.way.course (below ++ (ONE ∷ rest)) (ONE ∷ (below ++ rest)) refl refl
-    (ap (λ (v : Stack). ONE ∷ (v ++ rest)) none ∙ sym (ap (λ (v : Stack). v ++ (ONE ∷ rest)) none)) (x.keeps (ONE ∷ rest)))))
+    (keeps_from (ap (λ (v : Stack). ONE ∷ (v ++ rest)) none ∙ sym (ap (λ (v : Stack). v ++ (ONE ∷ rest)) none)) (x.keeps (ONE ∷ rest)))))
 
 pub wrap_d_dsat_path : {given : Given} {cx : List Instruction} → (w : Stack) → w ≡ EMPTY ∷ [] → Still given cx →
     Path given B (code op.Dup ∷ code op.If ∷ (cx ++ code op.EndIf ∷ [])) (Is 1 (up 1 ∷ down 1 ∷ [])) w
 wrap_d_dsat_path {given} {cx} w e still =
-    let k : List Instruction = code op.If ∷ (cx ++ code op.EndIf ∷ []) in
-    is_path B 1 (up 1 ∷ down 1 ∷ []) w b_not_w (ap length e) (code op.Dup ∷ k)
-    (λ rest.
-    keeps_as given (code op.Dup ∷ k) (code op.Dup ∷ k) (up 1 ∷ down 1 ∷ []) (up 1 ∷ down 1 ∷ []) (EMPTY ∷ rest) (w ++ rest) refl refl (ap (λ (v : Stack). v ++ rest) e)
-    (keeps_then given (code op.Dup ∷ []) k (up 1 ∷ []) (down 1 ∷ []) (EMPTY ∷ rest) (EMPTY ∷ EMPTY ∷ rest) (dup_follows given rest EMPTY)
-    (only_passed given true false [] (EMPTY ∷ rest) cx refl refl still)))
+    is_path B 1 (up 1 ∷ down 1 ∷ []) w b_not_w (ap length e) _
+    (λ rest. keeps_from (ap (λ (v : Stack). v ++ rest) e) (then_keeps (dup_follows given rest EMPTY) (only_passed given true false [] (EMPTY ∷ rest) cx refl refl still)))
 
 -- `j:X`
 pub wrap_j_sat_path : {given : Given} {cx : List Instruction} {P : Way → Type 0} {w : Stack} → HasTop w → Short w → Path given B cx P w →
     Path given B (code op.Size ∷ code op.ZeroNotEqual ∷ code op.If ∷ (cx ++ code op.EndIf ∷ [])) (Then (Is 0 (up 1 ∷ up 0 ∷ down 1 ∷ [])) P) w
 wrap_j_sat_path {given} {cx} {P} {w} (top, m, is, some) short x =
-    let k : List Instruction = code op.If ∷ (cx ++ code op.EndIf ∷ []) in
     let s : Short (top ∷ m) = subst Short is short in
-    led_path B P w b_not_w (up 1 ∷ up 0 ∷ down 1 ∷ []) x.way x.formal x.items (code op.Size ∷ code op.ZeroNotEqual ∷ k)
+    led_path B P w b_not_w (up 1 ∷ up 0 ∷ down 1 ∷ []) x.way x.formal x.items _
     (λ rest.
     let e : w ++ rest ≡ top ∷ (m ++ rest) = ap (λ (v : Stack). v ++ rest) is in
-    keeps_as given (code op.Size ∷ code op.ZeroNotEqual ∷ k) (code op.Size ∷ code op.ZeroNotEqual ∷ k) (up 1 ∷ up 0 ∷ down 1 ∷ x.way.course) (up 1 ∷ up 0 ∷ down 1 ∷ x.way.course)
-    (top ∷ (m ++ rest)) (w ++ rest) refl refl e
-    (keeps_then given (code op.Size ∷ []) (code op.ZeroNotEqual ∷ k) (up 1 ∷ []) (up 0 ∷ down 1 ∷ x.way.course) (top ∷ (m ++ rest)) (natural_bytes (length top) ∷ top ∷ (m ++ rest)) (size_follows given (m ++ rest) top)
-    (keeps_then given (code op.ZeroNotEqual ∷ []) k (up 0 ∷ []) (down 1 ∷ x.way.course) (natural_bytes (length top) ∷ top ∷ (m ++ rest)) (ONE ∷ top ∷ (m ++ rest))
+    keeps_from e
+    (then_keeps (size_follows given (m ++ rest) top)
+    (then_keeps
     (nonzero_follows given (top ∷ (m ++ rest)) (natural_bytes (length top)) true
     (zero_not_equal-natural (length top) (top ∷ (m ++ rest)) s.0 ∙ ap (λ (c : Bool). Ok (bool_bytes c ∷ top ∷ (m ++ rest))) (some_length top some)))
-    (only_taken given true true x.way.course (top ∷ (m ++ rest)) cx refl
-    (keeps_as given cx cx x.way.course x.way.course (w ++ rest) (top ∷ (m ++ rest)) refl refl (sym e) (x.keeps rest))))))
+    (only_taken given true true x.way.course (top ∷ (m ++ rest)) cx refl (keeps_from (sym e) (x.keeps rest))))))
 
 pub wrap_j_dsat_path : {given : Given} {cx : List Instruction} → (w : Stack) → w ≡ EMPTY ∷ [] → Still given cx →
     Path given B (code op.Size ∷ code op.ZeroNotEqual ∷ code op.If ∷ (cx ++ code op.EndIf ∷ [])) (Is 1 (up 1 ∷ up 0 ∷ down 1 ∷ [])) w
 wrap_j_dsat_path {given} {cx} w e still =
-    let k : List Instruction = code op.If ∷ (cx ++ code op.EndIf ∷ []) in
-    is_path B 1 (up 1 ∷ up 0 ∷ down 1 ∷ []) w b_not_w (ap length e) (code op.Size ∷ code op.ZeroNotEqual ∷ k)
-    (λ rest.
-    keeps_as given (code op.Size ∷ code op.ZeroNotEqual ∷ k) (code op.Size ∷ code op.ZeroNotEqual ∷ k) (up 1 ∷ up 0 ∷ down 1 ∷ []) (up 1 ∷ up 0 ∷ down 1 ∷ []) (EMPTY ∷ rest) (w ++ rest) refl refl
-    (ap (λ (v : Stack). v ++ rest) e)
-    (keeps_then given (code op.Size ∷ []) (code op.ZeroNotEqual ∷ k) (up 1 ∷ []) (up 0 ∷ down 1 ∷ []) (EMPTY ∷ rest) (EMPTY ∷ EMPTY ∷ rest) (size_follows given rest EMPTY)
-    (keeps_then given (code op.ZeroNotEqual ∷ []) k (up 0 ∷ []) (down 1 ∷ []) (EMPTY ∷ EMPTY ∷ rest) (EMPTY ∷ EMPTY ∷ rest)
-    (nonzero_follows given (EMPTY ∷ rest) EMPTY false (zero_not_equal-natural 0 (EMPTY ∷ rest) (omega arith)))
-    (only_passed given true false [] (EMPTY ∷ rest) cx refl refl still))))
+    is_path B 1 (up 1 ∷ up 0 ∷ down 1 ∷ []) w b_not_w (ap length e) _
+    (λ rest. keeps_from (ap (λ (v : Stack). v ++ rest) e)
+    (then_keeps (size_follows given rest EMPTY)
+    (then_keeps (nonzero_follows given (EMPTY ∷ rest) EMPTY false (zero_not_equal-natural 0 (EMPTY ∷ rest) (omega arith))) (only_passed given true false [] (EMPTY ∷ rest) cx refl refl still))))
 
 -- `a:X`
 record IsAside (s t : State) (x : Bytes) (m : Stack) : Type 0 where
@@ -257,12 +205,7 @@ aside_step given s t x m live is h =
     let u : State = record (one_more s) { main = m; alt = x ∷ s.alt } in
     let step : free_step given (code op.ToAltStack) s ≡ Ok u =
     rw live (ap (λ (main : Stack). to_alt_stack main s.alt >>= λ stacks. Ok (record (one_more s) { main = stacks.0; alt = stacks.1 })) is) in
-    let e : u ≡ t = same_ok u t (sym step ∙ h) in
-    record {
-      main = sym (ap (λ (v : State). v.main) e);
-      alt = sym (ap (λ (v : State). v.alt) e);
-      branches = sym (ap (λ (v : State). v.branches) e);
-    }
+    subst (λ (v : State). IsAside s v x m) (same_ok u t (sym step ∙ h)) (record { main = refl; alt = refl; branches = refl })
 
 pub wrap_a_path : {given : Given} {cx : List Instruction} {P : Way → Type 0} {w : Stack} → Path given B cx P w →
     Path given W (code op.ToAltStack ∷ (cx ++ code op.FromAltStack ∷ [])) (Then (Is 0 (up 0 ∷ [])) (Followed P (up 0 ∷ []))) w
@@ -289,15 +232,13 @@ wrap_a_path {given} {cx} {P} {w} p = record {
 }
 
 -- `s:X`
-pub wrap_s_path : {given : Given} {cx : List Instruction} {P : Way → Type 0} {w : Stack} → (item : Bytes) → w ≡ item ∷ [] → Path given B cx P w → Path given W (code op.Swap ∷ cx) (Then (Is 0 (up 0 ∷ [])) P) w
+pub wrap_s_path : {given : Given} {cx : List Instruction} {P : Way → Type 0} {w : Stack} → (item : Bytes) → w ≡ item ∷ [] → Path given B cx P w
+    → Path given W (code op.Swap ∷ cx) (Then (Is 0 (up 0 ∷ [])) P) w
 wrap_s_path {given} {cx} {P} {w} item e p = record {
   way = then (record { items = 0; course = up 0 ∷ [] }) p.way;
   formal = (record { items = 0; course = up 0 ∷ [] }, p.way, refl, p.formal, refl);
   items = omega (arith, p.items);
-  keeps = λ x rest.
-      keeps_as given (code op.Swap ∷ cx) (code op.Swap ∷ cx) (up 0 ∷ p.way.course) (up 0 ∷ p.way.course) (x ∷ item ∷ rest) (x ∷ (w ++ rest)) refl refl (ap (λ (v : Stack). x ∷ (v ++ rest)) e)
-      (keeps_then given (code op.Swap ∷ []) cx (up 0 ∷ []) p.way.course (x ∷ item ∷ rest) (item ∷ x ∷ rest) (swap_follows given rest x item)
-      (keeps_as given cx cx p.way.course p.way.course (w ++ (x ∷ rest)) (item ∷ x ∷ rest) refl refl (sym (ap (λ (v : Stack). v ++ (x ∷ rest)) e)) (p.keeps (x ∷ rest))));
+  keeps = λ x rest. keeps_from (ap (λ (v : Stack). x ∷ (v ++ rest)) e) (then_keeps (swap_follows given rest x item) (keeps_from (sym (ap (λ (v : Stack). v ++ (x ∷ rest)) e)) (p.keeps (x ∷ rest))));
 }
 
 -- the first child of a threshold, and those behind it
@@ -341,7 +282,8 @@ add_step given s t y x m live is h =
       branches = sym (ap (λ (v : State). v.branches) e);
     }
 
-add_keeps : (given : Given) (d : List Instruction) (course : Course) (y x : Bytes) (m : Stack) → ((z : Bytes) → Keeps given d course (z ∷ m)) → Keeps given (code op.Add ∷ d) (down 1 ∷ course) (y ∷ x ∷ m)
+add_keeps : (given : Given) (d : List Instruction) (course : Course) (y x : Bytes) (m : Stack) → ((z : Bytes) → Keeps given d course (z ∷ m))
+    → Keeps given (code op.Add ∷ d) (down 1 ∷ course) (y ∷ x ∷ m)
 add_keeps given d course y x m p = record {
   low = λ s live is n h. (
     omega (arith, h),
@@ -366,11 +308,9 @@ added_path {given} {u} {b} {cx} {c} {P} {Q} {above} {below} w e x y = record {
   keeps = λ a rest.
       let i = x.follows a (below ++ rest) in
       let two = two_on a i.0 (below ++ rest) i.1 i.2 in
-      keeps_as given (cx ++ code op.Add ∷ c) (cx ++ code op.Add ∷ c) (x.way.course ++ (down 1 ∷ y.way.course)) ((x.way.course ++ down 1 ∷ []) ++ y.way.course) (a ∷ (above ++ (below ++ rest))) (a ∷ (w ++ rest))
-      refl (sym (append_assoc x.way.course (down 1 ∷ []) y.way.course)) (ap (λ (v : Stack). a ∷ v) (split w above below rest e))
-      (keeps_then given cx (code op.Add ∷ c) x.way.course (down 1 ∷ y.way.course) (a ∷ (above ++ (below ++ rest))) i.1 i.3
-      (keeps_as given (code op.Add ∷ c) (code op.Add ∷ c) (down 1 ∷ y.way.course) (down 1 ∷ y.way.course) (two.0 ∷ two.1 ∷ (below ++ rest)) i.1 refl refl two.2
-      (add_keeps given c y.way.course two.0 two.1 (below ++ rest) (λ z. y.keeps z rest))));
+      keeps_from (ap (λ (v : Stack). a ∷ v) (split w above below rest e))
+      (subst (λ (course : Course). Keeps given (cx ++ code op.Add ∷ c) course (a ∷ (above ++ (below ++ rest)))) (sym (append_assoc x.way.course (down 1 ∷ []) y.way.course))
+      (then_keeps i.3 (keeps_from two.2 (add_keeps given c y.way.course two.0 two.1 (below ++ rest) (λ z. y.keeps z rest)))));
 }
 
 -- no children
@@ -383,14 +323,9 @@ none_path given w e = record {
 }
 
 -- and the comparison with the number of those that must be satisfied
-pub thresh_path : {given : Given} {c : List Instruction} {P : Way → Type 0} {w : Stack} → (k : ℕ) (p : Path given B c P w) → ((rest : Stack) → (v : Bytes) × Follows given c p.way.course (w ++ rest) (v ∷ rest)) →
+pub thresh_path : {given : Given} {c : List Instruction} {P : Way → Type 0} {w : Stack} → (k : ℕ) (p : Path given B c P w)
+    → ((rest : Stack) → (v : Bytes) × Follows given c p.way.course (w ++ rest) (v ∷ rest)) →
     Path given B (c ++ push_number k ∷ code op.Equal ∷ []) (Followed P (up 1 ∷ down 1 ∷ [])) w
-thresh_path {given} {c} {P} {w} k p follows = record {
-  way = followed p.way (up 1 ∷ down 1 ∷ []);
-  formal = (p.way, record { items = 0; course = up 1 ∷ down 1 ∷ [] }, p.formal, refl, refl);
-  items = omega (arith, p.items);
-  keeps = λ rest.
-      let f = follows rest in
-      keeps_then given c (push_number k ∷ code op.Equal ∷ []) p.way.course (up 1 ∷ down 1 ∷ []) (w ++ rest) (f.0 ∷ rest) f.1
-      (keeps_pushes given (natural_bytes k ∷ []) (code op.Equal ∷ []) (up 1 ∷ down 1 ∷ []) (f.0 ∷ rest) refl refl);
-}
+thresh_path {given} {P = P} {w = w} k p follows =
+    followed_path B P p.way w (up 1 ∷ down 1 ∷ []) _ b_not_w p.formal p.items
+    (λ rest. then_keeps (follows rest).1 (keeps_pushes given (natural_bytes k ∷ []) (code op.Equal ∷ []) (up 1 ∷ down 1 ∷ []) _ refl refl))

@@ -86,7 +86,8 @@ both_ok f g main mid end l m e i = rw (e, i) refl
 pub split : (w above below rest : Stack) → w ≡ above ++ below → w ++ rest ≡ above ++ (below ++ rest)
 split w above below rest e = ap (λ v. v ++ rest) e ∙ append_assoc above below rest
 
-pub joined : (f g : Effect) (w above below rest mid end : Stack) (l m : Log) → w ≡ above ++ below → f (above ++ (below ++ rest)) ≡ Ok (left mid l) → g mid ≡ Ok (left end m) → both f g (w ++ rest) ≡ Ok (left end (then_log l m))
+pub joined : (f g : Effect) (w above below rest mid end : Stack) (l m : Log) → w ≡ above ++ below → f (above ++ (below ++ rest)) ≡ Ok (left mid l) → g mid
+    ≡ Ok (left end m) → both f g (w ++ rest) ≡ Ok (left end (then_log l m))
 joined f g w above below rest mid end l m e i j =
     both_ok f g (w ++ rest) mid end l m (ap f (split w above below rest e) ∙ i) j
 
@@ -99,7 +100,9 @@ checked_behind table true key sig l m n h = (h.0, ap (then_log l) h.1 ∙ sym (t
 checked_behind table false key sig l m n h = (h.0, ap (then_log l) h.1)
 
 -- a first part leaves the stack on which the second goes on
-pub after : (table : Pairs) (c : Base) (u b : Bool) (f k g : Effect) (w above below rest mid : Stack) (l m : Log) → (c ≢ W) → w ≡ above ++ below → f (above ++ (below ++ rest)) ≡ Ok (left mid l) → k mid ≡ g (below ++ rest) → Ends table c u b g below rest m → Ends table c u b (both f k) w rest (then_log l m)
+pub after : (table : Pairs) (c : Base) (u b : Bool) (f k g : Effect) (w above below rest mid : Stack) (l m : Log) → (c ≢ W) → w ≡ above ++ below
+    → f (above ++ (below ++ rest)) ≡ Ok (left mid l) → k mid ≡ g (below ++ rest) → Ends table c u b g below rest m
+    → Ends table c u b (both f k) w rest (then_log l m)
 after table B u b f k g w above below rest mid l m n e i same h =
     (h.0, h.1, joined f k w above below rest mid (h.0 ∷ rest) l m e i (same ∙ h.2))
 after table V u b f k g w above below rest mid l m n e i same h =
@@ -109,7 +112,8 @@ after table K u b f k g w above below rest mid l m n e i same h =
 after table W u b f k g w above below rest mid l m n e i same h = absurd (n refl)
 
 -- the same effect from another stack
-pub instead : (table : Pairs) (c : Base) (u b : Bool) (k g : Effect) (w below rest : Stack) (l : Log) → (c ≢ W) → k (w ++ rest) ≡ g (below ++ rest) → Ends table c u b g below rest l → Ends table c u b k w rest l
+pub instead : (table : Pairs) (c : Base) (u b : Bool) (k g : Effect) (w below rest : Stack) (l : Log) → (c ≢ W) → k (w ++ rest) ≡ g (below ++ rest)
+    → Ends table c u b g below rest l → Ends table c u b k w rest l
 instead table B u b k g w below rest l n same h = (h.0, h.1, same ∙ h.2)
 instead table V u b k g w below rest l n same h = (h.0, same ∙ h.1)
 instead table K u b k g w below rest l n same h = (h.0, h.1, h.2, h.3, same ∙ h.4, h.5)

@@ -27,15 +27,18 @@ pub unit_ends : (b : Bool) (f : Effect) (w s : Stack) (l : Log) → EndsB true b
 unit_ends b f w s l h = h.2 ∙ ap (λ v. Ok (left (v ∷ s) l)) (unit_value b h.0 h.1)
 
 -- `and_v`
-pub and_v_ends : (table : Pairs) (c : Base) (u b : Bool) (f g : Effect) (w above below rest : Stack) (l m : Log) → (c ≢ W) → w ≡ above ++ below → EndsV true f above (below ++ rest) l → Ends table c u b g below rest m → Ends table c u b (both f g) w rest (then_log l m)
+pub and_v_ends : (table : Pairs) (c : Base) (u b : Bool) (f g : Effect) (w above below rest : Stack) (l m : Log) → (c ≢ W) → w ≡ above ++ below
+    → EndsV true f above (below ++ rest) l → Ends table c u b g below rest m → Ends table c u b (both f g) w rest (then_log l m)
 and_v_ends table c u b f g w above below rest l m n e x y = after table c u b f g g w above below rest (below ++ rest) l m n e x.1 refl y
 
 -- `andor`: behind a satisfied X, and behind a dissatisfied one
-pub and_or_true : (table : Pairs) (c : Base) (u b : Bool) (f g h : Effect) (w above below rest : Stack) (l m : Log) → (c ≢ W) → w ≡ above ++ below → EndsB true true f above (below ++ rest) l → Ends table c u b g below rest m → Ends table c u b (both f (choose g h)) w rest (then_log l m)
+pub and_or_true : (table : Pairs) (c : Base) (u b : Bool) (f g h : Effect) (w above below rest : Stack) (l m : Log) → (c ≢ W) → w ≡ above ++ below
+    → EndsB true true f above (below ++ rest) l → Ends table c u b g below rest m → Ends table c u b (both f (choose g h)) w rest (then_log l m)
 and_or_true table c u b f g h w above below rest l m n e x y =
     after table c u b f (choose g h) g w above below rest (ONE ∷ (below ++ rest)) l m n e (unit_ends true f above (below ++ rest) l x) (choose_one g h (below ++ rest)) y
 
-pub and_or_false : (table : Pairs) (c : Base) (u b : Bool) (f g h : Effect) (w above below rest : Stack) (l m : Log) → (c ≢ W) → w ≡ above ++ below → EndsB true false f above (below ++ rest) l → Ends table c u b h below rest m → Ends table c u b (both f (choose g h)) w rest (then_log l m)
+pub and_or_false : (table : Pairs) (c : Base) (u b : Bool) (f g h : Effect) (w above below rest : Stack) (l m : Log) → (c ≢ W) → w ≡ above ++ below
+    → EndsB true false f above (below ++ rest) l → Ends table c u b h below rest m → Ends table c u b (both f (choose g h)) w rest (then_log l m)
 and_or_false table c u b f g h w above below rest l m n e x z =
     after table c u b f (choose g h) h w above below rest (EMPTY ∷ (below ++ rest)) l m n e (unit_ends false f above (below ++ rest) l x) (choose_empty g h (below ++ rest)) z
 
@@ -66,7 +69,8 @@ if_dup_empty h s end m e =
     relog _ end (then_log quiet m) m (quiet_left m)
     (ap (λ r. r >>= λ next. Ok (left next.main (then_log quiet next.log))) (choose_empty silent h s ∙ e))
 
-pub or_d_false : (u b : Bool) (f h : Effect) (w above below rest : Stack) (l m : Log) → w ≡ above ++ below → EndsB true false f above (below ++ rest) l → EndsB u b h below rest m → EndsB u b (both f (both (plain if_dup) (choose silent h))) w rest (then_log l m)
+pub or_d_false : (u b : Bool) (f h : Effect) (w above below rest : Stack) (l m : Log) → w ≡ above ++ below → EndsB true false f above (below ++ rest) l
+    → EndsB u b h below rest m → EndsB u b (both f (both (plain if_dup) (choose silent h))) w rest (then_log l m)
 or_d_false u b f h w above below rest l m e x z = (
   z.0,
   z.1,
@@ -75,11 +79,13 @@ or_d_false u b f h w above below rest l m e x z = (
 )
 
 -- `or_i`
-pub or_i_true : (table : Pairs) (c : Base) (u b : Bool) (f g : Effect) (w above below rest : Stack) (l : Log) → (c ≢ W) → above ≡ ONE ∷ [] → w ≡ above ++ below → Ends table c u b f below rest l → Ends table c u b (choose f g) w rest l
+pub or_i_true : (table : Pairs) (c : Base) (u b : Bool) (f g : Effect) (w above below rest : Stack) (l : Log) → (c ≢ W) → above ≡ ONE ∷ [] → w ≡ above ++ below
+    → Ends table c u b f below rest l → Ends table c u b (choose f g) w rest l
 or_i_true table c u b f g w above below rest l n i e x =
     instead table c u b (choose f g) f w below rest l n (ap (λ v. choose f g (v ++ rest)) (e ∙ ap (λ v. v ++ below) i) ∙ choose_one f g (below ++ rest)) x
 
-pub or_i_false : (table : Pairs) (c : Base) (u b : Bool) (f g : Effect) (w above below rest : Stack) (l : Log) → (c ≢ W) → above ≡ EMPTY ∷ [] → w ≡ above ++ below → Ends table c u b g below rest l → Ends table c u b (choose f g) w rest l
+pub or_i_false : (table : Pairs) (c : Base) (u b : Bool) (f g : Effect) (w above below rest : Stack) (l : Log) → (c ≢ W) → above ≡ EMPTY ∷ [] → w ≡ above
+    ++ below → Ends table c u b g below rest l → Ends table c u b (choose f g) w rest l
 or_i_false table c u b f g w above below rest l n i e z =
     instead table c u b (choose f g) g w below rest l n (ap (λ v. choose f g (v ++ rest)) (e ∙ ap (λ v. v ++ below) i) ∙ choose_empty f g (below ++ rest)) z
 
@@ -88,18 +94,22 @@ pub record Takes2 (op : Stack → OrFault Stack) (with_op : Bool → Bool → Bo
   pub run : (a b : ℕ) (s : Stack) → a < 2 ^ 31 → b < 2 ^ 31 → op (natural_bytes b ∷ natural_bytes a ∷ s) ≡ Ok (bool_bytes (with_op (is_nonzero (pos a)) (is_nonzero (pos b))) ∷ s)
   pub turned : (a b : Bool) → with_op a b ≡ with_op b a
 
-in_order : (op : Stack → OrFault Stack) (with_op : Bool → Bool → Bool) → Takes2 op with_op → (t u a b : Bool) (x y : Bytes) (s : Stack) → Value t a x → Value u b y → op (y ∷ x ∷ s) ≡ Ok (bool_bytes (with_op a b) ∷ s)
+in_order : (op : Stack → OrFault Stack) (with_op : Bool → Bool → Bool) → Takes2 op with_op → (t u a b : Bool) (x y : Bytes) (s : Stack) → Value t a x
+    → Value u b y → op (y ∷ x ∷ s) ≡ Ok (bool_bytes (with_op a b) ∷ s)
 in_order op with_op takes t u a b x y s p q =
     ap (λ v. op (y ∷ v ∷ s)) p.is ∙ ap (λ v. op (v ∷ natural_bytes p.number ∷ s)) q.is ∙ takes.run p.number q.number s p.small q.small
     ∙ ap (λ c. Ok (bool_bytes (with_op c (is_nonzero (pos q.number))) ∷ s)) p.truth ∙ ap (λ c. Ok (bool_bytes (with_op a c) ∷ s)) q.truth
 
-pub two_values : (op : Stack → OrFault Stack) (with_op : Bool → Bool → Bool) → Takes2 op with_op → (t u a b : Bool) (x v : Bytes) (s r : Stack) → Value t a x → Value u b v → Beside x v s r → op r ≡ Ok (bool_bytes (with_op a b) ∷ s)
+pub two_values : (op : Stack → OrFault Stack) (with_op : Bool → Bool → Bool) → Takes2 op with_op → (t u a b : Bool) (x v : Bytes) (s r : Stack) → Value t a x
+    → Value u b v → Beside x v s r → op r ≡ Ok (bool_bytes (with_op a b) ∷ s)
 two_values op with_op takes t u a b x v s r p q (inl e) =
     ap op e ∙ in_order op with_op takes u t b a v x s q p ∙ ap (λ c. Ok (bool_bytes c ∷ s)) (takes.turned b a)
 two_values op with_op takes t u a b x v s r p q (inr e) =
     ap op e ∙ in_order op with_op takes t u a b x v s p q
 
-two_ends : (op : Stack → OrFault Stack) (with_op : Bool → Bool → Bool) → Takes2 op with_op → (t u v a b : Bool) (f g : Effect) (w above below rest : Stack) (l m : Log) → w ≡ above ++ below → EndsB t a f above (below ++ rest) l → EndsW u b g below rest m → EndsB v (with_op a b) (both f (both g (plain op))) w rest (then_log l m)
+two_ends : (op : Stack → OrFault Stack) (with_op : Bool → Bool → Bool) → Takes2 op with_op
+    → (t u v a b : Bool) (f g : Effect) (w above below rest : Stack) (l m : Log) → w ≡ above ++ below → EndsB t a f above (below ++ rest) l
+    → EndsW u b g below rest m → EndsB v (with_op a b) (both f (both g (plain op))) w rest (then_log l m)
 two_ends op with_op takes t u v a b f g w above below rest l m e x y =
     let z = y x.0 in
     let done = two_values op with_op takes t u a b x.0 z.0 rest z.1 x.1 z.2 z.3 in
@@ -122,10 +132,12 @@ or_turned true false = refl
 or_turned false true = refl
 or_turned false false = refl
 
-pub and_b_ends : (t u v a b : Bool) (f g : Effect) (w above below rest : Stack) (l m : Log) → w ≡ above ++ below → EndsB t a f above (below ++ rest) l → EndsW u b g below rest m → EndsB v (a && b) (both f (both g (plain bool_and))) w rest (then_log l m)
+pub and_b_ends : (t u v a b : Bool) (f g : Effect) (w above below rest : Stack) (l m : Log) → w ≡ above ++ below → EndsB t a f above (below ++ rest) l
+    → EndsW u b g below rest m → EndsB v (a && b) (both f (both g (plain bool_and))) w rest (then_log l m)
 and_b_ends = two_ends bool_and (λ a b. a && b) (record { run = bool_and-natural; turned = and_turned })
 
-pub or_b_ends : (t u v a b : Bool) (f g : Effect) (w above below rest : Stack) (l m : Log) → w ≡ above ++ below → EndsB t a f above (below ++ rest) l → EndsW u b g below rest m → EndsB v (a || b) (both f (both g (plain bool_or))) w rest (then_log l m)
+pub or_b_ends : (t u v a b : Bool) (f g : Effect) (w above below rest : Stack) (l m : Log) → w ≡ above ++ below → EndsB t a f above (below ++ rest) l
+    → EndsW u b g below rest m → EndsB v (a || b) (both f (both g (plain bool_or))) w rest (then_log l m)
 or_b_ends = two_ends bool_or (λ a b. a || b) (record { run = bool_or-natural; turned = or_turned })
 
 -- the wrappers
@@ -150,7 +162,8 @@ wrap_s_ends u b f w rest l item e h x =
     )
 
 -- CHECKSIG
-pub good_check : (table : Pairs) (key sig : Bytes) (s : Stack) → IsTrue (is_key key) → IsTrue (is_good table key sig) → checks_sig table (key ∷ sig ∷ s) ≡ Ok (left (bool_bytes true ∷ s) (check_log key sig))
+pub good_check : (table : Pairs) (key sig : Bytes) (s : Stack) → IsTrue (is_key key) → IsTrue (is_good table key sig) → checks_sig table (key ∷ sig ∷ s)
+    ≡ Ok (left (bool_bytes true ∷ s) (check_log key sig))
 unfolding check_sig
 good_check table key sig s form good =
     rw (form, good_is_some table key sig good, (and_parts (not (is_empty sig)) (member table key sig) good).1) refl
@@ -185,7 +198,8 @@ dup_empty : (f : Effect) (s : Stack) → both (plain dup) (choose f silent) (EMP
 unfolding dup
 dup_empty f s = ap (λ r. r >>= λ next. Ok (left next.main (then_log quiet next.log))) (choose_empty f silent (EMPTY ∷ s))
 
-pub wrap_d_sat_ends : (f : Effect) (w above below rest : Stack) (l : Log) → above ≡ ONE ∷ [] → length below ≡ 0 → w ≡ above ++ below → EndsV true f below (ONE ∷ rest) l → EndsB false true (both (plain dup) (choose f silent)) w rest l
+pub wrap_d_sat_ends : (f : Effect) (w above below rest : Stack) (l : Log) → above ≡ ONE ∷ [] → length below ≡ 0 → w ≡ above ++ below
+    → EndsV true f below (ONE ∷ rest) l → EndsB false true (both (plain dup) (choose f silent)) w rest l
 wrap_d_sat_ends f w above below rest l i none e x =
     let gone = nil_from_length below none in
     let at : w ≡ ONE ∷ [] = e ∙ ap (λ v. v ++ below) i ∙ ap (λ v. ONE ∷ v) gone in
@@ -243,7 +257,8 @@ measured_some f x s end l short some e =
 measured_empty : (f : Effect) (s : Stack) → measured f (EMPTY ∷ s) ≡ Ok (left (EMPTY ∷ s) quiet)
 measured_empty f s =
     let inner : both (plain zero_not_equal) (choose f silent) (EMPTY ∷ EMPTY ∷ s) ≡ Ok (left (EMPTY ∷ s) quiet) =
-    both_ok (plain zero_not_equal) (choose f silent) (EMPTY ∷ EMPTY ∷ s) (EMPTY ∷ EMPTY ∷ s) (EMPTY ∷ s) quiet quiet (ap (λ r. r >>= silent) (zero_not_equal-natural 0 (EMPTY ∷ s) (omega arith))) (choose_empty f silent (EMPTY ∷ s)) in
+    both_ok (plain zero_not_equal) (choose f silent) (EMPTY ∷ EMPTY ∷ s) (EMPTY ∷ EMPTY ∷ s) (EMPTY ∷ s) quiet quiet
+    (ap (λ r. r >>= silent) (zero_not_equal-natural 0 (EMPTY ∷ s) (omega arith))) (choose_empty f silent (EMPTY ∷ s)) in
     both_ok (plain size) (both (plain zero_not_equal) (choose f silent)) (EMPTY ∷ s) (EMPTY ∷ EMPTY ∷ s) (EMPTY ∷ s) quiet quiet (ap (λ r. r >>= silent) (sized EMPTY s)) inner
 
 pub wrap_j_some_ends : (u b : Bool) (f : Effect) (w rest : Stack) (l : Log) → HasTop w → Short w → EndsB u b f w rest l → EndsB u b (measured f) w rest l

@@ -1,6 +1,6 @@
 -- How the fragments without children go on.
 use Rattle.std.proofs.Common.{◌≡◌, ◌≢◌, ℕ, zero, suc, ◌^◌, ◌<◌, ◌≤◌, Bool, true, false, IsTrue, [], ◌∷◌, ◌++◌, length, Ok, refl, sym, ◌∙◌, ap, inl, inr, arith}
-use Rattle.std.proofs.lemmas.Bool.{false≢true}
+use Rattle.std.proofs.lemmas.Bool.{false≢true, cases_Bool}
 use Rattle.std.specs.Prelude.{pos}
 use Rattle.std.specs.Str.{bytes_eq}
 use Rattle.std.proofs.lemmas.Slice.Eq.{bytes_eq-Decides}
@@ -51,7 +51,8 @@ unfolding dup hash_top equal verify
 pk_h_run given key other m e = rw (e, bytes_eq-same (hash160 key)) refl
 
 -- 32 bytes, and whether they hash to the value
-pub hash_run : (given : Given) (kind : HashKind) (value x : Bytes) (s : Stack) → length x ≡ 32 → den given (hash kind value) (x ∷ s) ≡ Ok (left (bool_bytes (bytes_eq (digest_of kind x) value) ∷ s) quiet)
+pub hash_run : (given : Given) (kind : HashKind) (value x : Bytes) (s : Stack) → length x ≡ 32 → den given (hash kind value) (x ∷ s)
+    ≡ Ok (left (bool_bytes (bytes_eq (digest_of kind x) value) ∷ s) quiet)
 unfolding size hash_top equal verify
 hash_run given kind value x s e = rw e refl
 
@@ -97,16 +98,13 @@ after_ends s n w rest typed r =
     let p = typed-after n typed in
     (natural_bytes n, number_value n p.0 p.1, locked_run (λ m. after_holds m s.given.locks) n w rest r.1 p.1 r.0)
 
-hash_ends : (given : Given) (kind : HashKind) (value x : Bytes) (b : Bool) (w rest : Stack) → length x ≡ 32 → w ≡ x ∷ [] → bytes_eq (digest_of kind x) value ≡ b → EndsB true b (den given (hash kind value)) w rest quiet
+hash_ends : (given : Given) (kind : HashKind) (value x : Bytes) (b : Bool) (w rest : Stack) → length x ≡ 32 → w ≡ x ∷ [] → bytes_eq (digest_of kind x) value
+    ≡ b → EndsB true b (den given (hash kind value)) w rest quiet
 hash_ends given kind value x b w rest l e i =
     (bool_bytes b, bool_value true b, ap (λ v. den given (hash kind value) (v ++ rest)) e ∙ hash_run given kind value x rest l ∙ ap (λ c. Ok (left (bool_bytes c ∷ rest) quiet)) i)
 
 differ : (x y : Bytes) → x ≢ y → bytes_eq x y ≡ false
-differ x y h = go (bytes_eq x y) refl
-  where
-    go : (b : Bool) → bytes_eq x y ≡ b → b ≡ false
-    go true e = absurd (h ((bytes_eq-Decides x y).0 e))
-    go false e = refl
+differ x y h = elim (cases_Bool (bytes_eq x y)) [ inl e ↦ absurd (h ((bytes_eq-Decides x y).0 e)) | inr e ↦ e ]
 
 pub hash_sat_ends : (s : Setting) (kind : HashKind) (value : Bytes) (w rest : Stack) → (row s (hash kind value)).sat w → Ends s.given.table B true true (den s.given (hash kind value)) w rest quiet
 hash_sat_ends s kind value w rest r =

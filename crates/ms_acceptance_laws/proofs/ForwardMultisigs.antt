@@ -40,7 +40,10 @@ some_off_run xs rest n e =
     (rw (le-ltb (length (xs ++ rest)) (length xs) (omega arith), take-append_seam xs rest, drop-append_seam xs rest) refl)
 
 -- the whole
-multi_run : (table : Pairs) (keys sigs rest : Stack) (k : ℕ) (t : Option Pairs) (b : Bool) (found : Pairs) → length keys ≤ 20 → k ≤ length keys → length sigs ≡ k → tries table (reverse keys) sigs [] ≡ Ok t → verdict sigs t ≡ Ok (b, found) → checks_multi_sig table (natural_bytes (length keys) ∷ (reverse keys ++ (natural_bytes k ∷ (sigs ++ (EMPTY ∷ rest))))) ≡ Ok (left (bool_bytes b ∷ rest) (log_of (length keys) found))
+multi_run : (table : Pairs) (keys sigs rest : Stack) (k : ℕ) (t : Option Pairs) (b : Bool) (found : Pairs) → length keys ≤ 20 → k ≤ length keys → length sigs
+    ≡ k → tries table (reverse keys) sigs [] ≡ Ok t → verdict sigs t ≡ Ok (b, found)
+    → checks_multi_sig table (natural_bytes (length keys) ∷ (reverse keys ++ (natural_bytes k ∷ (sigs ++ (EMPTY ∷ rest)))))
+    ≡ Ok (left (bool_bytes b ∷ rest) (log_of (length keys) found))
 unfolding checks_multi_sig one_off null_dummy
 multi_run table keys sigs rest k t b found few low e tried passed =
     let n = length-reverse keys in
@@ -68,16 +71,22 @@ stack_is sigs w below rest i e = ap (λ v. v ++ rest) (e ∙ ap (λ v. sigs ++ v
 abbrev pub multi_effect : Pairs → (k : ℕ) → List Key → Effect
 multi_effect table k keys = both (pushes (natural_bytes k)) (both (pushes_all keys) (both (pushes (natural_bytes (length keys))) (checks_multi_sig table)))
 
-multi_steps : (table : Pairs) (k : ℕ) (keys : List Key) (m end : Stack) (l : Log) → checks_multi_sig table (natural_bytes (length keys) ∷ (reverse keys ++ (natural_bytes k ∷ m))) ≡ Ok (left end l) → multi_effect table k keys m ≡ Ok (left end l)
+multi_steps : (table : Pairs) (k : ℕ) (keys : List Key) (m end : Stack) (l : Log)
+    → checks_multi_sig table (natural_bytes (length keys) ∷ (reverse keys ++ (natural_bytes k ∷ m))) ≡ Ok (left end l) → multi_effect table k keys m
+    ≡ Ok (left end l)
 multi_steps table k keys m end l e =
     let third = relog _ end (then_log quiet l) l (quiet_left l)
-    (both_ok (pushes (natural_bytes (length keys))) (checks_multi_sig table) (reverse keys ++ (natural_bytes k ∷ m)) (natural_bytes (length keys) ∷ (reverse keys ++ (natural_bytes k ∷ m))) end quiet l refl e) in
+    (both_ok (pushes (natural_bytes (length keys))) (checks_multi_sig table) (reverse keys ++ (natural_bytes k ∷ m))
+    (natural_bytes (length keys) ∷ (reverse keys ++ (natural_bytes k ∷ m))) end quiet l refl e) in
     let second = relog _ end (then_log quiet l) l (quiet_left l)
-    (both_ok (pushes_all keys) (both (pushes (natural_bytes (length keys))) (checks_multi_sig table)) (natural_bytes k ∷ m) (reverse keys ++ (natural_bytes k ∷ m)) end quiet l (pushed_all keys (natural_bytes k ∷ m)) third) in
+    (both_ok (pushes_all keys) (both (pushes (natural_bytes (length keys))) (checks_multi_sig table)) (natural_bytes k ∷ m)
+    (reverse keys ++ (natural_bytes k ∷ m)) end quiet l (pushed_all keys (natural_bytes k ∷ m)) third) in
     relog _ end (then_log quiet l) l (quiet_left l)
     (both_ok (pushes (natural_bytes k)) (both (pushes_all keys) (both (pushes (natural_bytes (length keys))) (checks_multi_sig table))) m (natural_bytes k ∷ m) end quiet l refl second)
 
-pub multi_sat_ends : (table : Pairs) (k : ℕ) (keys : List Key) (sigs w below rest : Stack) → length keys ≤ 20 → k ≤ length keys → All (λ key. IsTrue (is_key key)) keys → below ≡ EMPTY ∷ [] → w ≡ sigs ++ below → length sigs ≡ k → AreSignatures table (reverse keys) sigs → EndsB true true (multi_effect table k keys) w rest (multi_log table keys sigs)
+pub multi_sat_ends : (table : Pairs) (k : ℕ) (keys : List Key) (sigs w below rest : Stack) → length keys ≤ 20 → k ≤ length keys
+    → All (λ key. IsTrue (is_key key)) keys → below ≡ EMPTY ∷ [] → w ≡ sigs ++ below → length sigs ≡ k → AreSignatures table (reverse keys) sigs
+    → EndsB true true (multi_effect table k keys) w rest (multi_log table keys sigs)
 multi_sat_ends table k keys sigs w below rest few low forms i e n h =
     let all = good_tries table (reverse keys) sigs [] (reversed_forms keys forms) h in
     let run = multi_run table keys sigs rest k (Some all.0) true all.0 few low n all.1 (verdict_found sigs all.0) in (
@@ -88,7 +97,8 @@ multi_sat_ends table k keys sigs w below rest few low forms i e n h =
           ∙ ap (λ t. Ok (left (bool_bytes true ∷ rest) (log_of (length keys) (found_in t)))) (sym all.1),
     )
 
-pub multi_dsat_ends : (table : Pairs) (k : ℕ) (keys : List Key) (w rest : Stack) → 1 ≤ k → length keys ≤ 20 → k ≤ length keys → All (λ key. IsTrue (is_key key)) keys → w ≡ replicate (k + 1) EMPTY → EndsB true false (multi_effect table k keys) w rest (log_of (length keys) [])
+pub multi_dsat_ends : (table : Pairs) (k : ℕ) (keys : List Key) (w rest : Stack) → 1 ≤ k → length keys ≤ 20 → k ≤ length keys
+    → All (λ key. IsTrue (is_key key)) keys → w ≡ replicate (k + 1) EMPTY → EndsB true false (multi_effect table k keys) w rest (log_of (length keys) [])
 multi_dsat_ends table zero keys w rest some few low forms e = absurd (omega arith)
 multi_dsat_ends table (suc k) keys w rest some few low forms e =
     let tried = empty_tries table (reverse keys) k [] (reversed_forms keys forms) in

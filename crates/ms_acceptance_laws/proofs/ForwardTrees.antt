@@ -46,7 +46,8 @@ v_not_w e = cc
 mutual
   unfolding corr_rows
 
-  pub sat_ends : (s : Setting) (t : Tree) → IsWritable t → IsTyped t → Few t → (w rest : Stack) → Short w → (r : (row s t).sat w) → Ends s.given.table (type_of t).base (type_of t).u true (den s.given t) w rest (sat_log s t w r)
+  pub sat_ends : (s : Setting) (t : Tree) → IsWritable t → IsTyped t → Few t → (w rest : Stack) → Short w → (r : (row s t).sat w)
+      → Ends s.given.table (type_of t).base (type_of t).u true (den s.given t) w rest (sat_log s t w r)
   sat_ends s just_0 k typed few w rest short r = absurd r
   sat_ends s just_1 k typed few w rest short r = just_1_ends s w rest r
   sat_ends s (pk_k key) k typed few w rest short r = pk_k_sat_ends s key w rest k r
@@ -161,13 +162,11 @@ mutual
       let p = typed-wrap_n x typed in
       wrap_n_ends (type_of x).u true (den s.given x) w rest _ (as_base s.given.table _ B _ true _ _ _ _ p.1 (sat_ends s x k p.0 few w rest short r))
 
-  pub dsat_ends : (s : Setting) (t : Tree) → IsWritable t → IsTyped t → Few t → (w rest : Stack) → Short w → (r : (row s t).dsat w) → Ends s.given.table (type_of t).base (type_of t).u false (den s.given t) w rest (dsat_log s t w r)
+  pub dsat_ends : (s : Setting) (t : Tree) → IsWritable t → IsTyped t → Few t → (w rest : Stack) → Short w → (r : (row s t).dsat w)
+      → Ends s.given.table (type_of t).base (type_of t).u false (den s.given t) w rest (dsat_log s t w r)
   dsat_ends s just_0 k typed few w rest short r = just_0_ends s w rest r
-  dsat_ends s just_1 k typed few w rest short r = absurd r
   dsat_ends s (pk_k key) k typed few w rest short r = pk_k_dsat_ends s key w rest k r
   dsat_ends s (pk_h key) k typed few w rest short r = pk_h_dsat_ends s key w rest r
-  dsat_ends s (older n) k typed few w rest short r = absurd r
-  dsat_ends s (after n) k typed few w rest short r = absurd r
   dsat_ends s (hash kind value) k typed few w rest short r = hash_dsat_ends s kind value w rest r
   dsat_ends s (and_or x y z) k typed few w rest short (inl r) =
       let p = typed-and_or x y z typed in
@@ -213,7 +212,6 @@ mutual
       let j = dsat_ends s z k.1 p.1 few.1 r.0 rest (lower w r.1 r.0 r.4 short) r.2 in
       or_b_ends (type_of x).u (type_of z).u true false false (den s.given x) (den s.given z) w r.1 r.0 rest _ _ r.4
       (as_base s.given.table _ B _ false _ _ _ _ p.2 i) (as_base s.given.table _ W _ false _ _ _ _ p.4 j)
-  dsat_ends s (two kind.OrC x z) k typed few w rest short r = absurd r
   dsat_ends s (two kind.OrD x z) k typed few w rest short r =
       let p = typed-or_d x z typed in
       let i = dsat_ends s x k.0 p.0 few.0 r.1 (r.0 ++ rest) (upper w r.1 r.0 r.4 short) r.3 in
@@ -257,7 +255,6 @@ mutual
       let p = typed-wrap_c x typed in
       wrap_c_ends s.given.table false (den s.given x) w rest _ (as_base s.given.table _ K _ false _ _ _ _ p.1 (dsat_ends s x k p.0 few w rest short r))
   dsat_ends s (wrap wrapper.D x) k typed few w rest short r = wrap_d_dsat_ends (den s.given x) w rest r
-  dsat_ends s (wrap wrapper.V x) k typed few w rest short r = absurd r
   dsat_ends s (wrap wrapper.J x) k typed few w rest short (inl r) = wrap_j_empty_ends (type_of x).u (den s.given x) w rest r
   dsat_ends s (wrap wrapper.J x) k typed few w rest short (inr (fact, r)) =
       let p = typed-wrap_j x typed in
@@ -266,9 +263,11 @@ mutual
   dsat_ends s (wrap wrapper.N x) k typed few w rest short r =
       let p = typed-wrap_n x typed in
       wrap_n_ends (type_of x).u false (den s.given x) w rest _ (as_base s.given.table _ B _ false _ _ _ _ p.1 (dsat_ends s x k p.0 few w rest short r))
+  dsat_ends s tree k typed few w rest short r = absurd r
 
   -- all children of a threshold, n of them satisfied
-  pub sum_ends : (s : Setting) (k : ℕ) (xs : Trees) → IsWritable (thresh k xs) → IsTyped (thresh k xs) → Few (thresh k xs) → (n : ℕ) (w rest : Stack) → Short w → (r : parts s xs n w) → den_sum s.given xs (w ++ rest) ≡ Ok (left (natural_bytes n ∷ rest) (parts_log s xs n w r))
+  pub sum_ends : (s : Setting) (k : ℕ) (xs : Trees) → IsWritable (thresh k xs) → IsTyped (thresh k xs) → Few (thresh k xs) → (n : ℕ) (w rest : Stack) → Short w
+      → (r : parts s xs n w) → den_sum s.given xs (w ++ rest) ≡ Ok (left (natural_bytes n ∷ rest) (parts_log s xs n w r))
   sum_ends s k none writable typed few n w rest short r = absurd (typed-thresh_none k typed)
   sum_ends s k (more x xs) writable typed few n w rest short (inl (m, is, r)) =
       let p = typed-thresh k x xs typed in
@@ -290,7 +289,8 @@ mutual
       (j ∙ ap (λ c. Ok (left (natural_bytes c ∷ rest) (parts_log s xs n r.0 r.2))) same)
 
   -- further children, behind the sum of those before them
-  parts_ends : (s : Setting) (xs : Trees) → AreWritable xs → AreTyped xs → OthersFit xs → AllFew xs → (a n : ℕ) (w rest : Stack) → a + count xs < 2 ^ 31 → Short w → (r : parts s xs n w) → den_added s.given xs (natural_bytes a ∷ (w ++ rest)) ≡ Ok (left (natural_bytes (a + n) ∷ rest) (parts_log s xs n w r))
+  parts_ends : (s : Setting) (xs : Trees) → AreWritable xs → AreTyped xs → OthersFit xs → AllFew xs → (a n : ℕ) (w rest : Stack) → a + count xs < 2 ^ 31
+      → Short w → (r : parts s xs n w) → den_added s.given xs (natural_bytes a ∷ (w ++ rest)) ≡ Ok (left (natural_bytes (a + n) ∷ rest) (parts_log s xs n w r))
   parts_ends s none k typed fit few a n w rest low short r =
       let same : a ≡ a + n = (let e = r.0 in omega arith) in
       ap (λ v. silent (natural_bytes a ∷ (v ++ rest))) r.1 ∙ ap (λ c. Ok (left (natural_bytes c ∷ rest) quiet)) same

@@ -1,5 +1,6 @@
 -- VERIFY behind a Script, where the last opcode may do it too.
-use Rattle.std.proofs.Common.{◌≡◌, ℕ, ◌+◌, Bool, true, false, List, [], ◌∷◌, Option, Some, None, Ok, Err, refl, sym, ◌∙◌, ap, add-zero, arith}
+use Rattle.std.proofs.Common.{◌≡◌, ℕ, ◌+◌, Bool, true, false, List, [], ◌∷◌, Option, Some, None, Ok, Err, refl, sym, ◌∙◌, ap, inl, inr, add-zero, arith}
+use Rattle.std.proofs.lemmas.Bool.{cases_Bool}
 use Rattle.def_script.specs.declared.Op.{Op}
 use Rattle.def_script.specs.declared.Op.TheVariants as op
 use Rattle.def_script.specs.Instruction.{Instruction, push, code, opcode_count}
@@ -52,24 +53,21 @@ after_live given (Err e) h live = refl
 last_closes : (given : Given) (i : Instruction) (s : State) → free_steps given (verified_last i) s ≡ (free_steps given (i ∷ []) s >>= closing given (fuses_last i))
 unfolding act
 last_closes given (push bytes) s = unfused given (push bytes) s
-last_closes given (code op.Equal) s = go (is_live s) refl
-  where
-    go : (live : Bool) → is_live s ≡ live →
-        free_steps given (code op.EqualVerify ∷ []) s ≡ (free_steps given (code op.Equal ∷ []) s >>= closing given true)
-    go true live = rw live (after_live given (equal s.main) (λ main. record (one_more s) { main = main }) (λ main. live))
-    go false dead = rw (dead, dead) refl
-last_closes given (code op.CheckSig) s = go (is_live s) refl
-  where
-    go : (live : Bool) → is_live s ≡ live →
-        free_steps given (code op.CheckSigVerify ∷ []) s ≡ (free_steps given (code op.CheckSig ∷ []) s >>= closing given true)
-    go true live = rw live (after_live given (check_sig given.table s.main s.checks) (λ left. record (one_more s) { main = left.0; checks = left.1 }) (λ left. live))
-    go false dead = rw (dead, dead) refl
-last_closes given (code op.CheckMultiSig) s = go (is_live s) refl
-  where
-    go : (live : Bool) → is_live s ≡ live →
-        free_steps given (code op.CheckMultiSigVerify ∷ []) s ≡ (free_steps given (code op.CheckMultiSig ∷ []) s >>= closing given true)
-    go true live = rw live (after_live given (checks_multi_sig given.table s.main) (λ left. reached (one_more s) 0 left) (λ left. live))
-    go false dead = rw (dead, dead) refl
+last_closes given (code op.Equal) s =
+    elim (cases_Bool (is_live s)) [
+      | inl live ↦ rw live (after_live given (equal s.main) (λ main. record (one_more s) { main = main }) (λ main. live))
+      | inr dead ↦ rw (dead, dead) refl
+    ]
+last_closes given (code op.CheckSig) s =
+    elim (cases_Bool (is_live s)) [
+      | inl live ↦ rw live (after_live given (check_sig given.table s.main s.checks) (λ left. record (one_more s) { main = left.0; checks = left.1 }) (λ left. live))
+      | inr dead ↦ rw (dead, dead) refl
+    ]
+last_closes given (code op.CheckMultiSig) s =
+    elim (cases_Bool (is_live s)) [
+      | inl live ↦ rw live (after_live given (checks_multi_sig given.table s.main) (λ left. reached (one_more s) 0 left) (λ left. live))
+      | inr dead ↦ rw (dead, dead) refl
+    ]
 last_closes given (code other) s = unfused given (code other) s
 
 pub closes : (given : Given) (c : List Instruction) (s : State) → free_steps given (verified c) s ≡ (free_steps given c s >>= closing given (fuses c))

@@ -87,7 +87,8 @@ module _ (given : Given) where
 
   pub push_does : (bytes : Bytes) → Does given (push bytes ∷ []) (pushes bytes)
   push_does bytes = record {
-    goes = λ branches live. one_moves (push bytes) (pushes bytes) 0 branches branches (main_moves (λ main. bytes ∷ main) 0 branches branches (free_step given (push bytes)) (λ s. rw (live, add-zero s.ops) refl));
+    goes = λ branches live. one_moves (push bytes) (pushes bytes) 0 branches branches
+        (main_moves (λ main. bytes ∷ main) 0 branches branches (free_step given (push bytes)) (λ s. rw (live, add-zero s.ops) refl));
     skips = λ branches dead. one_moves (push bytes) silent 0 branches branches (silent_moves 0 branches branches (free_step given (push bytes)) (λ s. rw (dead, add-zero s.ops) refl));
   }
 
@@ -122,7 +123,8 @@ module _ (given : Given) where
       Moves (free_steps given (code (opening wanted) ∷ c)) (choose (h (side wanted true)) (h (side wanted false))) (1 + n) branches branches
   choice_moves wanted c h n branches live x = record { moves = λ s. ap (λ (r : OrFault State). r >>= free_steps given c) (opens wanted branches live s) ∙ go s (condition s.main) }
     where
-      same : (s : State) (taken : Bool) (main : Stack) → free_steps given c (at (record s { main = main; ops = s.ops + 1 }) (taken ∷ branches)) ≡ (h taken main >>= λ left. Ok (at (reached s (1 + n) left) branches))
+      same : (s : State) (taken : Bool) (main : Stack) → free_steps given c (at (record s { main = main; ops = s.ops + 1 }) (taken ∷ branches))
+          ≡ (h taken main >>= λ left. Ok (at (reached s (1 + n) left) branches))
       same s taken main =
           (x taken).moves (record s { main = main; ops = s.ops + 1 })
           ∙ bind_same (h taken main) _ _ (λ left. rw (add_assoc s.ops 1 n) refl)
@@ -195,14 +197,10 @@ module _ (given : Given) where
   -- an opcode with an effect that may log
   pub effect_does : (op : Op) (f : Effect) → is_branching op ≡ false → ((s : State) → free_act given op s ≡ affect f s) → Does given (code op ∷ []) f
   effect_does op f is acts = record {
-    goes = λ branches live. one_moves (code op) f 1 branches branches (record { moves = λ s. rw (is, live) (acts (at (one_more s) branches) ∙ same branches s (f s.main)) });
+    goes = λ branches live. one_moves (code op) f 1 branches branches
+        (record { moves = λ s. rw (is, live) (acts (at (one_more s) branches) ∙ bind_same (f s.main) _ _ (λ left. rw (add-zero (s.ops + 1)) refl)) });
     skips = λ branches dead. code_skips op branches is dead;
   }
-    where
-      same : (branches : List Bool) (s : State) (r : OrFault Left) →
-          (r >>= λ left. Ok (reached (at (one_more s) branches) 0 left)) ≡ (r >>= λ left. Ok (at (reached s 1 left) branches))
-      same branches s (Ok left) = rw (add-zero (s.ops + 1)) refl
-      same branches s (Err e) = refl
 
   -- the top is set aside on the alternative stack
   pub aside_does : (x : List Instruction) (f : Effect) → Does given x f → Does given (code op.ToAltStack ∷ (x ++ code op.FromAltStack ∷ [])) (aside f)

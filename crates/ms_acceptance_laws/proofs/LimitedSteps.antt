@@ -1,5 +1,6 @@
 -- The machine with its limits makes the steps of the machine without them, or stops at a limit.
-use Rattle.std.proofs.Common.{◌≡◌, ℕ, ◌+◌, ◌<◌, ◌||◌, ◌⊎◌, inl, inr, max, nat_lt, Bool, true, false, [], ◌∷◌, ◌++◌, length, if◌then◌else◌, Ok, Err, refl, sym, ◌∙◌, ap, IsTrue, add-zero, ltb-true, le-ltb, arith}
+use Rattle.std.proofs.Common.{◌≡◌, ℕ, ◌+◌, ◌<◌, ◌||◌, ◌⊎◌, inl, inr, max, nat_lt, Bool, true, false, [], ◌∷◌, ◌++◌, length, Ok, Err, refl, sym, ◌∙◌, ap, IsTrue, add-zero, ltb-true, le-ltb, arith}
+use Rattle.std.proofs.lemmas.Bool.{cases_Bool}
 use Rattle.def_script.specs.declared.Op.{Op}
 use Rattle.def_script.specs.declared.Op.TheVariants as op
 use Rattle.def_script.specs.Instruction.{Instruction, push, code}
@@ -12,7 +13,7 @@ use Rattle.def_script.specs.Limits.{MAX_PUBKEYS_PER_MULTISIG, MAX_OPS_PER_SCRIPT
 use Rattle.def_machine.specs.Stacks.{Stack, Pairs, bool_bytes}
 use Rattle.def_machine.specs.Effects.{verify}
 use Rattle.def_machine.specs.MultiSig.{count, within_op_limit, some_off, one_off, tries, verdict, null_dummy, check_multi_sig}
-use Rattle.def_machine.specs.Machine.{Given, State, on_main, on_multi, act, only_if, is_branching, is_live, pushed, carry_out, count_op, settle, step, height}
+use Rattle.def_machine.specs.Machine.{Given, State, on_main, on_multi, act, only_if, is_branching, is_live, pushed, carry_out, settle, step, height}
 use Rattle.def_promises.specs.Limited.{is_limit}
 use Rattle.ms_acceptance_laws.proofs.StackEffects.{Left}
 use Rattle.ms_acceptance_laws.proofs.TreeEffects.{checks_multi_sig}
@@ -20,7 +21,7 @@ use Rattle.ms_acceptance_laws.proofs.UnlimitedMachine.{reached, affect, free_act
 use Rattle.ms_acceptance_laws.proofs.PeakUnseen.{peaked}
 use Rattle.ms_acceptance_laws.proofs.OpcodeGrowth.{verify_grows}
 use Rattle.ms_acceptance_laws.proofs.StepRises.{main_climbs, code_climbs}
-use Rattle.ms_row_laws.proofs.Outcomes.{bind_split, same_ok, bind_same}
+use Rattle.ms_row_laws.proofs.Outcomes.{bind_split, same_ok, no_fault, bind_same}
 
 -- CHECKMULTISIG behind the number of keys
 abbrev after_count : {A : Type 0} → Pairs → ℕ × Stack → (Stack → Pairs → OrFault A) → OrFault A
@@ -110,11 +111,7 @@ multi_found table main ops checks out h =
 -- a count of opcodes
 counted_or : (n : ℕ) → (within_op_limit n ≡ Ok n) ⊎ ((within_op_limit n ≡ Err fault.OpCount) × (MAX_OPS_PER_SCRIPT < n))
 unfolding within_op_limit
-counted_or n = go (nat_lt MAX_OPS_PER_SCRIPT n) refl
-  where
-    go : (over : Bool) → nat_lt MAX_OPS_PER_SCRIPT n ≡ over → (within_op_limit n ≡ Ok n) ⊎ ((within_op_limit n ≡ Err fault.OpCount) × (MAX_OPS_PER_SCRIPT < n))
-    go true e = inr (rw e refl, ltb-true _ _ e)
-    go false e = inl (rw e refl)
+counted_or n = elim (cases_Bool (nat_lt MAX_OPS_PER_SCRIPT n)) [ inl e ↦ inr (rw e refl, ltb-true _ _ e) | inr e ↦ inl (rw e refl) ]
 
 -- a step is carried out, or there are too many opcodes
 abbrev OrTooMany : OrFault State → State → Type 0
@@ -136,27 +133,24 @@ unfolding act
 act_bounded given op.CheckMultiSig s t h = multi_bounded given.table s t h
 act_bounded given op.CheckMultiSigVerify s t h =
     let u = bind_split (affect (checks_multi_sig given.table) s) (on_main verify) t h in
-    go u.0 u.2 (multi_bounded given.table s u.0 u.1)
-  where
-    go : (u : State) → on_main verify u ≡ Ok t → OrTooMany (on_multi (check_multi_sig given.table) s) u → OrTooMany (on_multi (check_multi_sig given.table) s >>= on_main verify) t
-    go u e (inl few) = inl (rw few e)
-    go u e (inr many) =
-        let climb = main_climbs verify 0 verify_grows u t e in
-        inr (rw (many.0) refl, omega (arith, many.1, climb.ops))
+    elim (multi_bounded given.table s u.0 u.1) [
+      | inl few ↦ inl (rw few u.2)
+      | inr many ↦ let climb = main_climbs verify 0 verify_grows u.0 t u.2 in inr (rw (many.0) refl, omega (arith, many.1, climb.ops))
+    ]
 act_bounded given other s t h = inl h
 
 carry_bounded : (given : Given) (i : Instruction) (s t : State) → IsShort i → free_step given i s ≡ Ok t → OrTooMany (carry_out given (item_of i) s) t
 unfolding carry_out pushed
 carry_bounded given (push bytes) s t short h = inl (rw (le-ltb 520 (length bytes) short) h)
-carry_bounded given (code op) s t short h = go (counted_or (s.ops + 1))
+carry_bounded given (code op) s t short h =
+    elim (counted_or (s.ops + 1)) [
+      | inl few ↦ rw few (done_or (is_branching op || is_live s) h)
+      | inr many ↦ let climb = code_climbs given op s t h in inr (rw (many.0) refl, omega (arith, many.1, climb.ops))
+    ]
   where
     done_or : (done : Bool) → only_if done (free_act given op) (one_more s) ≡ Ok t → OrTooMany (only_if done (act given op) (one_more s)) t
     done_or true h = act_bounded given op (one_more s) t h
     done_or false h = inl h
-
-    go : (within_op_limit (s.ops + 1) ≡ Ok (s.ops + 1)) ⊎ ((within_op_limit (s.ops + 1) ≡ Err fault.OpCount) × (MAX_OPS_PER_SCRIPT < s.ops + 1)) → OrTooMany (carry_out given (item_of (code op)) s) t
-    go (inl few) = rw few (done_or (is_branching op || is_live s) h)
-    go (inr many) = let climb = code_climbs given op s t h in inr (rw (many.0) refl, omega (arith, many.1, climb.ops))
 
 -- the elements on the stacks are few enough, or not
 abbrev pub settled : State → State
@@ -164,11 +158,7 @@ settled t = peaked (max t.peak (height t)) t
 
 settle_or : (t : State) → (settle t ≡ Ok (settled t)) ⊎ ((settle t ≡ Err fault.StackSize) × (MAX_STACK_SIZE < height t))
 unfolding settle
-settle_or t = go (nat_lt MAX_STACK_SIZE (height t)) refl
-  where
-    go : (over : Bool) → nat_lt MAX_STACK_SIZE (height t) ≡ over → (settle t ≡ Ok (settled t)) ⊎ ((settle t ≡ Err fault.StackSize) × (MAX_STACK_SIZE < height t))
-    go true e = inr (rw e refl, ltb-true _ _ e)
-    go false e = inl (rw e refl)
+settle_or t = elim (cases_Bool (nat_lt MAX_STACK_SIZE (height t))) [ inl e ↦ inr (rw e refl, ltb-true _ _ e) | inr e ↦ inl (rw e refl) ]
 
 -- a step that stops at a limit, and why
 pub record StopsStep (r : OrFault State) (t : State) : Type 0 where
@@ -192,14 +182,11 @@ multi_free : (table : Pairs) (s t : State) → on_multi (check_multi_sig table) 
 multi_free table s t h =
     let out = bind_split (check_multi_sig table s.main s.ops s.checks) _ t h in
     let left = multi_found table s.main s.ops s.checks out.0 out.1 in
-    go left.0 left.1 (multi_bounded table s (reached s 0 left.0) (affected left.0 left.1))
-  where
-    affected : (left : Left) → checks_multi_sig table s.main ≡ Ok left → affect (checks_multi_sig table) s ≡ Ok (reached s 0 left)
-    affected left e = rw e refl
-
-    go : (left : Left) → checks_multi_sig table s.main ≡ Ok left → OrTooMany (on_multi (check_multi_sig table) s) (reached s 0 left) → affect (checks_multi_sig table) s ≡ Ok t
-    go left e (inl few) = affected left e ∙ (sym few ∙ h)
-    go left e (inr many) = absurd (let f = many.0 in cc)
+    let affected : affect (checks_multi_sig table) s ≡ Ok (reached s 0 left.0) = rw left.1 refl in
+    elim (multi_bounded table s (reached s 0 left.0) affected) [
+      | inl few ↦ affected ∙ (sym few ∙ h)
+      | inr many ↦ absurd (no_fault _ t (sym (many.0) ∙ h))
+    ]
 
 -- conversely, what is carried out is a step of the machine without limits
 act_free : (given : Given) (op : Op) (s t : State) → act given op s ≡ Ok t → free_act given op s ≡ Ok t
@@ -212,29 +199,21 @@ act_free given other s t h = h
 
 pub carry_free : (given : Given) (i : Instruction) (s t : State) → carry_out given (item_of i) s ≡ Ok t → free_step given i s ≡ Ok t
 unfolding carry_out pushed
-carry_free given (push bytes) s t h = go (nat_lt 520 (length bytes)) h
-  where
-    go : (long : Bool) → (if long then Err fault.ElementSize else only_if (is_live s) (pushed bytes true) s) ≡ Ok t → free_step given (push bytes) s ≡ Ok t
-    go true h = absurd cc
-    go false h = h
-carry_free given (code op) s t h = go (counted_or (s.ops + 1)) h
+carry_free given (push bytes) s t h = elim (cases_Bool (nat_lt 520 (length bytes))) [ inl long ↦ absurd (no_fault _ t (rw long at h)) | inr few ↦ rw few at h ]
+carry_free given (code op) s t h =
+    elim (counted_or (s.ops + 1)) [
+      | inl few ↦ done_free (is_branching op || is_live s) (rw few at h)
+      | inr many ↦ absurd (no_fault _ t (rw (many.0) at h))
+    ]
   where
     done_free : (done : Bool) → only_if done (act given op) (one_more s) ≡ Ok t → only_if done (free_act given op) (one_more s) ≡ Ok t
     done_free true h = act_free given op (one_more s) t h
     done_free false h = h
-
-    go : (within_op_limit (s.ops + 1) ≡ Ok (s.ops + 1)) ⊎ ((within_op_limit (s.ops + 1) ≡ Err fault.OpCount) × (MAX_OPS_PER_SCRIPT < s.ops + 1)) →
-        (count_op s >>= λ u. only_if (is_branching op || is_live u) (act given op) u) ≡ Ok t → free_step given (code op) s ≡ Ok t
-    go (inl few) h = done_free (is_branching op || is_live s) (rw few at h)
-    go (inr many) h = absurd (let e = many.0 in cc)
 
 -- and up to the peak the step is the same
 pub step_free : (given : Given) (i : Instruction) (s t : State) → step given (item_of i) s ≡ Ok t → (u : State) × (free_step given i s ≡ Ok u) × (t ≡ settled u)
 unfolding step
 step_free given i s t h =
     let u = bind_split (carry_out given (item_of i) s) settle t h in
-    (u.0, carry_free given i s u.0 u.1, go u.0 u.2 (settle_or u.0))
-  where
-    go : (u : State) → settle u ≡ Ok t → (settle u ≡ Ok (settled u)) ⊎ ((settle u ≡ Err fault.StackSize) × (MAX_STACK_SIZE < height u)) → t ≡ settled u
-    go u e (inl low) = same_ok t (settled u) (sym e ∙ low)
-    go u e (inr high) = absurd (let f = high.0 in cc)
+    let same : t ≡ settled u.0 = elim (settle_or u.0) [ inl low ↦ same_ok t (settled u.0) (sym u.2 ∙ low) | inr high ↦ absurd (no_fault _ t (sym (high.0) ∙ u.2)) ] in
+    (u.0, carry_free given i s u.0 u.1, same)

@@ -13,7 +13,6 @@ use Rattle.def_machine.specs.Effects.{verify, condition, if_dup, dup, swap, size
 use Rattle.def_machine.specs.MultiSig.{count, within, some_off, one_off, tries, verdict, null_dummy}
 use Rattle.ms_acceptance_laws.proofs.StackEffects.{Left}
 use Rattle.ms_acceptance_laws.proofs.TreeEffects.{checks_multi_sig}
-use Rattle.ms_row_laws.proofs.RunLog.{Log}
 use Rattle.ms_row_laws.proofs.Outcomes.{sure, same_ok, bind_split}
 
 -- an effect leaves at most so many elements more than it finds
@@ -23,14 +22,15 @@ Grows f n = (main left : Stack) → f main ≡ Ok left → length left ≤ lengt
 is_long : (s left : Stack) (n : ℕ) → length s ≤ n → sure s ≡ Ok left → length left ≤ n
 is_long s left n low h = rw (← same_ok s left h) low
 
+-- a test that held
+if_held : {A : Type 0} (held : Bool) (x y : A) (e : ScriptFault) → (if held then sure x else Err e) ≡ Ok y → x ≡ y
+if_held true x y e h = same_ok x y h
+if_held false x y e h = absurd cc
+
 pub verify_grows : Grows verify 0
 unfolding verify
 verify_grows [] left h = absurd cc
-verify_grows (x ∷ s) left h = go (truth x) h
-  where
-    go : (good : Bool) → (if good then sure s else Err fault.Verify) ≡ Ok left → length left ≤ suc (length s) + 0
-    go true h = is_long s left _ (omega arith) h
-    go false h = absurd cc
+verify_grows (x ∷ s) left h = is_long s left _ (omega arith) (ap Ok (if_held (truth x) s left _ h))
 
 pub if_dup_grows : Grows if_dup 1
 unfolding if_dup
@@ -74,11 +74,7 @@ lock_grows holds [] left h = absurd cc
 lock_grows holds (x ∷ s) left h =
     let z = bind_split (operand 5 x) _ left h in
     let n = bind_split (non_negative z.0) _ left z.2 in
-    go (holds n.0) n.2
-  where
-    go : (good : Bool) → (if good then sure (x ∷ s) else Err fault.UnmetLock) ≡ Ok left → length left ≤ suc (length s) + 0
-    go true h = is_long (x ∷ s) left _ (omega arith) h
-    go false h = absurd cc
+    is_long (x ∷ s) left _ (omega arith) (ap Ok (if_held (holds n.0) (x ∷ s) left _ n.2))
 
 -- numbers that are taken
 one_number_takes : (main : Stack) (taken : ℤ × Stack) → one_number main ≡ Ok taken → length taken.1 + 1 ≡ length main
@@ -126,12 +122,8 @@ bool_or_grows main left h =
 pub condition_takes : (main : Stack) (top : Bool × Stack) → condition main ≡ Ok top → length top.1 ≤ length main
 unfolding condition
 condition_takes [] top h = absurd cc
-condition_takes ([] ∷ s) top h = omega (arith, ap length (ap (λ (t : Bool × Stack). t.1) (same_ok (false, s) top h)))
-condition_takes ((b ∷ []) ∷ s) top h = go (b == 1) h
-  where
-    go : (one : Bool) → (if one then sure (true, s) else Err fault.MinimalIf) ≡ Ok top → length top.1 ≤ suc (length s)
-    go true h = omega (arith, ap length (ap (λ (t : Bool × Stack). t.1) (same_ok (true, s) top h)))
-    go false h = absurd cc
+condition_takes ([] ∷ s) top h = omega (arith, ap (λ (t : Bool × Stack). length t.1) (same_ok (false, s) top h))
+condition_takes ((b ∷ []) ∷ s) top h = omega (arith, ap (λ (t : Bool × Stack). length t.1) (if_held (b == 1) (true, s) top _ h))
 condition_takes ((b ∷ c ∷ bytes) ∷ s) top h = absurd cc
 
 pub check_sig_takes : (table : Pairs) (main : Stack) (checks : Pairs) (left : Stack × Pairs) → check_sig table main checks ≡ Ok left → length left.0 ≤ length main
@@ -173,9 +165,6 @@ unfolding one_off
 one_off_takes [] taken h = absurd cc
 one_off_takes (x ∷ s) taken h = omega (arith, ap length (ap (λ (t : Bytes × Stack). t.1) (same_ok (x, s) taken h)))
 
-left_is : (x : Bytes) (s : Stack) (log : Log) (left : Left) → sure (record { main = x ∷ s; log = log }) ≡ Ok left → length left.main ≡ length s + 1
-left_is x s log left h = omega (arith, ap (λ (l : Left). length l.main) (same_ok (record { main = x ∷ s; log = log }) left h))
-
 after_sigs : (table : Pairs) (keys sigs : Stack) (n : ℕ) (extra : Bytes × Stack) (left : Left) →
     (tries table keys sigs [] >>= λ tried. verdict sigs tried >>= λ passed. null_dummy extra.0 >>= λ empty.
     Ok (record { main = bool_bytes passed.0 ∷ extra.1; log = record { keys = n; checks = passed.1 } })) ≡ Ok left →
@@ -184,7 +173,8 @@ after_sigs table keys sigs n extra left h =
     let tried = bind_split (tries table keys sigs []) _ left h in
     let passed = bind_split (verdict sigs tried.0) _ left tried.2 in
     let empty = bind_split (null_dummy extra.0) _ left passed.2 in
-    left_is (bool_bytes passed.0.0) extra.1 (record { keys = n; checks = passed.0.1 }) left empty.2
+    let same = same_ok (record { main = bool_bytes passed.0.0 ∷ extra.1; log = record { keys = n; checks = passed.0.1 } }) left empty.2 in
+    omega (arith, ap (λ (l : Left). length l.main) same)
 
 pub checks_multi_sig_takes : (table : Pairs) (main : Stack) (left : Left) → checks_multi_sig table main ≡ Ok left → length left.main ≤ length main
 unfolding checks_multi_sig

@@ -22,8 +22,7 @@ with_peak p r = r >>= λ s. Ok (peaked p s)
 
 module _ (p : ℕ) where
   after : {A : Type 0} (r : OrFault A) (h : A → State) → (r >>= λ a. Ok (peaked p (h a))) ≡ with_peak p (r >>= λ a. Ok (h a))
-  after (Ok a) h = refl
-  after (Err e) h = refl
+  after r h = sym (bind_assoc r (λ a. Ok (h a)) (λ s. Ok (peaked p s)))
 
   main : (f : Stack → OrFault Stack) (s : State) → on_main f (peaked p s) ≡ with_peak p (on_main f s)
   main f s = after (f s.main) (λ main. record s { main = main })

@@ -69,10 +69,6 @@ module _ (given : Given) where
   unfolding act
   size_does = code_does given op.Size size refl (λ s. refl)
 
-  equal_does : Does given (code op.Equal ∷ []) (plain equal)
-  unfolding act
-  equal_does = code_does given op.Equal equal refl (λ s. refl)
-
   pub zero_not_equal_does : Does given (code op.ZeroNotEqual ∷ []) (plain zero_not_equal)
   unfolding act
   zero_not_equal_does = code_does given op.ZeroNotEqual zero_not_equal refl (λ s. refl)
@@ -81,40 +77,26 @@ module _ (given : Given) where
   unfolding act
   add_does = code_does given op.Add add refl (λ s. refl)
 
-  bool_and_does : Does given (code op.BoolAnd ∷ []) (plain bool_and)
-  unfolding act
-  bool_and_does = code_does given op.BoolAnd bool_and refl (λ s. refl)
-
-  bool_or_does : Does given (code op.BoolOr ∷ []) (plain bool_or)
-  unfolding act
-  bool_or_does = code_does given op.BoolOr bool_or refl (λ s. refl)
-
-  older_does : Does given (code op.Csv ∷ []) (plain (lock (λ n. older_holds n given.locks)))
-  unfolding act
-  older_does = code_does given op.Csv (lock (λ n. older_holds n given.locks)) refl (λ s. refl)
-
-  after_does : Does given (code op.Cltv ∷ []) (plain (lock (λ n. after_holds n given.locks)))
-  unfolding act
-  after_does = code_does given op.Cltv (lock (λ n. after_holds n given.locks)) refl (λ s. refl)
-
   mutual
+    unfolding act
+
     pub does : (t : Tree) → Does given (emit t) (den given t)
     does just_0 = push_does given _
     does just_1 = push_does given _
     does (pk_k key) = push_does given key
     does (pk_h key) =
         then_does dup_does (then_does (hash_does hash_kind.Hash160) (then_does (push_does given (hash160 key)) (equal_verify_does given)))
-    does (older n) = then_does (push_does given (natural_bytes n)) older_does
-    does (after n) = then_does (push_does given (natural_bytes n)) after_does
+    does (older n) = then_does (push_does given (natural_bytes n)) (code_does given op.Csv (lock (λ n. older_holds n given.locks)) refl (λ s. refl))
+    does (after n) = then_does (push_does given (natural_bytes n)) (code_does given op.Cltv (lock (λ n. after_holds n given.locks)) refl (λ s. refl))
     does (hash_of kind value) =
         then_does size_does (then_does (push_does given (natural_bytes 32)) (then_does (equal_verify_does given)
-        (then_does (hash_does kind) (then_does (push_does given value) equal_does))))
+        (then_does (hash_does kind) (then_does (push_does given value) (code_does given op.Equal equal refl (λ s. refl))))))
     does (and_or x y z) =
         same_script (and_or_script x y z)
         (then_does (does x) (else_does given false (emit z) (emit y) (den given z) (den given y) (does z) (does y)))
     does (two kind.AndV x y) = then_does (does x) (does y)
-    does (two kind.AndB x y) = same_script (sym (append_assoc (emit x) (emit y) _)) (then_does (does x) (then_does (does y) bool_and_does))
-    does (two kind.OrB x y) = same_script (sym (append_assoc (emit x) (emit y) _)) (then_does (does x) (then_does (does y) bool_or_does))
+    does (two kind.AndB x y) = same_script (sym (append_assoc (emit x) (emit y) _)) (then_does (does x) (then_does (does y) (code_does given op.BoolAnd bool_and refl (λ s. refl))))
+    does (two kind.OrB x y) = same_script (sym (append_assoc (emit x) (emit y) _)) (then_does (does x) (then_does (does y) (code_does given op.BoolOr bool_or refl (λ s. refl))))
     does (two kind.OrC x y) =
         same_script (or_c_script x y)
         (then_does (does x) (only_does given false (emit y) (den given y) (does y)))
@@ -124,7 +106,7 @@ module _ (given : Given) where
     does (two kind.OrI x y) =
         same_script (or_i_script x y)
         (else_does given true (emit x) (emit y) (den given x) (den given y) (does x) (does y))
-    does (thresh k xs) = then_does (does_sum xs) (then_does (push_does given (natural_bytes k)) equal_does)
+    does (thresh k xs) = then_does (does_sum xs) (then_does (push_does given (natural_bytes k)) (code_does given op.Equal equal refl (λ s. refl)))
     does (multi k keys) =
         then_does (push_does given (natural_bytes k)) (then_does (pushes_does keys) (then_does (push_does given (natural_bytes (length keys))) (check_multi_sig_does given)))
     does (wrap wrapper.A x) = aside_does given (emit x) (den given x) (does x)

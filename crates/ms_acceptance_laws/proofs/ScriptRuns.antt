@@ -1,6 +1,7 @@
 -- Runs of a miniscript's Script by what it does to the main stack.
 use Rattle.std.proofs.Common.{◌≡◌, ℕ, ◌+◌, ◌≤◌, ◌⊎◌, inl, inr, nat_le, nat_lt, Bool, true, false, List, [], ◌∷◌, length, map, reverse, All, Ok, Err, refl, sym, ◌∙◌, ap, if◌then◌else◌, IsTrue, le-ltb, le-leb, arith}
 use Rattle.std.specs.List.{list_all}
+use Rattle.std.proofs.lemmas.Bool.{cases_Bool}
 use Rattle.std.proofs.lemmas.List.{reverse-reverse}
 use Rattle.std.proofs.lemmas.List.Elements.{All-head, All-tail}
 use Rattle.def_script.specs.Bytes.{Bytes}
@@ -13,7 +14,7 @@ use Rattle.def_machine.specs.Faults.{OrFault}
 use Rattle.def_script.specs.Limits.{MAX_SCRIPT_ELEMENT_SIZE, MAX_SCRIPT_SIZE, MAX_OPS_PER_SCRIPT, MAX_STACK_SIZE}
 use Rattle.def_machine.specs.Stacks.{Stack, Pairs}
 use Rattle.def_machine.specs.Machine.{Given, State, is_live}
-use Rattle.def_machine.specs.Run.{Outcome, accepted, leads, start, steps, is_clean, finish, ended, run}
+use Rattle.def_machine.specs.Run.{accepted, leads, start, steps, is_clean, finish, ended, run}
 use Rattle.def_machine.proofs.Joined.{spelled_run}
 use Rattle.def_tree.specs.Tree.{Tree}
 use Rattle.def_tree.specs.Range.{IsWritable}
@@ -26,7 +27,7 @@ use Rattle.ms_acceptance_laws.proofs.UnlimitedMachine.{reached, free_steps}
 use Rattle.ms_acceptance_laws.proofs.PeakUnseen.{peaked}
 use Rattle.ms_acceptance_laws.proofs.InstructionEffects.{goes_from}
 use Rattle.ms_acceptance_laws.proofs.ScriptEffects.{does}
-use Rattle.ms_acceptance_laws.proofs.LimitedInstructions.{Ends, Stops, bounded, low_ends, was_reached}
+use Rattle.ms_acceptance_laws.proofs.LimitedInstructions.{leads_on, bounded, low_ends, was_reached}
 use Rattle.ms_acceptance_laws.proofs.RunHeights.{IsLow, low_start}
 use Rattle.ms_row_laws.proofs.Outcomes.{bind_split, sure, same_ok}
 
@@ -56,37 +57,9 @@ starts script w small short = rw (le-ltb 10000 (length script) small, short) ref
 
 -- at the end there is one element, which is true
 ends_well : (place peak n : ℕ) (w : Stack) (left : Left) (x : Bytes) → left.main ≡ x ∷ [] → truth x ≡ true →
-    ended place (peaked peak (reached (first w) n left)) ≡ accepted (0 + n + left.log.keys) peak left.log.checks
+    ended place (peaked peak (reached (first w) n left)) ≡ accepted (n + left.log.keys) peak left.log.checks
 unfolding finish
-ends_well place peak n w left x one good = rw (one, good) refl
-
--- the run from a stack that is written as a witness is, its top last
-run_is : (given : Given) (t : Tree) (w : Stack) → IsWritable t → length (script_of t) ≤ 10000 → list_all (λ x. nat_le (length x) MAX_SCRIPT_ELEMENT_SIZE) w ≡ true →
-    run given (script_of t) (reverse w) ≡ steps given (map item_of (emit t)) 0 (first w) ended
-run_is given t w writable small short = runs given t (reverse w) writable ∙ rw (reverse-reverse w, starts (script_of t) w small short) refl
-
--- the number of opcodes at the end
-no_more_ops : (n keys : ℕ) → 0 + n + keys ≡ n + keys
-no_more_ops n keys = omega arith
-
--- the run is accepted, or stops at a limit
-within : (given : Given) (t : Tree) (w : Stack) (left : Left) (x : Bytes) → IsWritable t → length (script_of t) ≤ 10000 →
-    list_all (λ x. nat_le (length x) MAX_SCRIPT_ELEMENT_SIZE) w ≡ true →
-    den given t w ≡ Ok left → left.main ≡ x ∷ [] → truth x ≡ true →
-    ((peak : ℕ) × (run given (script_of t) (reverse w) ≡ accepted (opcode_count (emit t) + left.log.keys) peak left.log.checks)) ⊎ StopsAtLimit t given (reverse w)
-within given t w left x writable small short h one good =
-    let s = short-emit t writable in
-    go (bounded given (emit t) (first w) (reached (first w) (opcode_count (emit t)) left) s.all (does_first given t w left h))
-  where
-    go : Ends given (emit t) (first w) (reached (first w) (opcode_count (emit t)) left) ⊎ Stops given (emit t) (first w) →
-        ((peak : ℕ) × (run given (script_of t) (reverse w) ≡ accepted (opcode_count (emit t) + left.log.keys) peak left.log.checks)) ⊎ StopsAtLimit t given (reverse w)
-    go (inl ends) =
-        inl (
-          ends.peak,
-          run_is given t w writable small short ∙ ends.steps 0 ended ∙ ends_well _ ends.peak (opcode_count (emit t)) w left x one good
-              ∙ ap (λ (n : ℕ). accepted n ends.peak left.log.checks) (no_more_ops (opcode_count (emit t)) left.log.keys),
-        )
-    go (inr stops) = inr (record { fault = stops.fault; place = stops.at 0; limit = stops.limit; run = run_is given t w writable small short ∙ stops.steps 0 ended })
+ends_well place peak n w left x one good = rw (one, good) (ap (λ (ops : ℕ). accepted ops peak left.log.checks) (omega arith))
 
 -- within the limits it is accepted, and its peak is no higher than the stacks get, and no lower
 pub accepted_run : (given : Given) (t : Tree) (w : Stack) (left : Left) (x : Bytes) (n : ℕ) → IsWritable t → length (script_of t) ≤ 10000 →
@@ -100,8 +73,7 @@ accepted_run given t w left x n writable small short h one good few low room =
     (omega (arith, low_start given (emit t) (first w) n low)) room (omega (arith, few)) in (
       e.peak,
       e.low,
-      run_is given t w writable small (all_short w short) ∙ e.steps 0 ended ∙ ends_well _ e.peak (opcode_count (emit t)) w left x one good
-          ∙ ap (λ (n : ℕ). accepted n e.peak left.log.checks) (no_more_ops (opcode_count (emit t)) left.log.keys),
+      runs given t (reverse w) writable ∙ rw (reverse-reverse w, starts (script_of t) w small (all_short w short)) (e.steps 0 ended ∙ ends_well _ e.peak (opcode_count (emit t)) w left x one good),
       e.top (omega arith),
     )
 
@@ -120,24 +92,18 @@ too_long given t stack writable small e = record {
 pub run_or_limit : (given : Given) (t : Tree) (stack : List Bytes) (left : Left) (x : Bytes) → IsWritable t → length (script_of t) ≤ 10000 →
     den given t (reverse stack) ≡ Ok left → left.main ≡ x ∷ [] → truth x ≡ true →
     ((ops : ℕ) × (peak : ℕ) × (run given (script_of t) stack ≡ accepted ops peak left.log.checks)) ⊎ StopsAtLimit t given stack
-run_or_limit given t stack left x writable small h one good = go (list_all (λ x. nat_le (length x) MAX_SCRIPT_ELEMENT_SIZE) (reverse stack)) refl
-  where
-    turned : ((peak : ℕ) × (run given (script_of t) (reverse (reverse stack)) ≡ accepted (opcode_count (emit t) + left.log.keys) peak left.log.checks)) ⊎ StopsAtLimit t given (reverse (reverse stack)) →
-        ((ops : ℕ) × (peak : ℕ) × (run given (script_of t) stack ≡ accepted ops peak left.log.checks)) ⊎ StopsAtLimit t given stack
-    turned (inl fine) = inl (opcode_count (emit t) + left.log.keys, fine.0, ap (run given (script_of t)) (sym (reverse-reverse stack)) ∙ fine.1)
-    turned (inr stops) = inr (record { fault = stops.fault; place = stops.place; limit = stops.limit; run = ap (run given (script_of t)) (sym (reverse-reverse stack)) ∙ stops.run })
-
-    go : (all : Bool) → list_all (λ x. nat_le (length x) MAX_SCRIPT_ELEMENT_SIZE) (reverse stack) ≡ all →
-        ((ops : ℕ) × (peak : ℕ) × (run given (script_of t) stack ≡ accepted ops peak left.log.checks)) ⊎ StopsAtLimit t given stack
-    go true short = turned (within given t (reverse stack) left x writable small short h one good)
-    go false e = inr (too_long given t stack writable small e)
+run_or_limit given t stack left x writable small h one good =
+    elim (cases_Bool (list_all (λ x. nat_le (length x) MAX_SCRIPT_ELEMENT_SIZE) (reverse stack))) [
+      | inl short ↦
+          let run = runs given t stack writable ∙ ap (λ (r : OrFault State). leads r 0 (λ s. steps given (map item_of (emit t)) 0 s ended)) (starts (script_of t) (reverse stack) small short) in
+          elim (bounded given (emit t) (first (reverse stack)) _ (short-emit t writable).all (does_first given t (reverse stack) left h)) [
+            | inl ends ↦ inl (_, ends.peak, run ∙ ends.steps 0 ended ∙ ends_well _ ends.peak (opcode_count (emit t)) (reverse stack) left x one good)
+            | inr stops ↦ inr (record { fault = stops.fault; place = stops.at 0; limit = stops.limit; run = run ∙ stops.steps 0 ended })
+          ]
+      | inr long ↦ inr (too_long given t stack writable small long)
+    ]
 
 -- conversely: what is accepted was at the start, went on and ended well
-leads_on : (r : OrFault State) (place : ℕ) (next : State → Outcome) (ops peak : ℕ) (checks : Pairs) → leads r place next ≡ accepted ops peak checks →
-    (s : State) × (r ≡ Ok s) × (next s ≡ accepted ops peak checks)
-leads_on (Ok s) place next ops peak checks h = (s, refl, h)
-leads_on (Err fault) place next ops peak checks h = absurd cc
-
 started : (script : Bytes) (w : Stack) (s : State) → start script w ≡ Ok s → first w ≡ s
 unfolding start
 started script w s h = go (nat_lt MAX_SCRIPT_SIZE (length script)) (list_all (λ x. nat_le (length x) MAX_SCRIPT_ELEMENT_SIZE) w) h
@@ -170,28 +136,20 @@ run_accepted given t stack ops peak checks writable h =
     let same = started (script_of t) (reverse stack) s.0 s.1 in
     let r = was_reached given (emit t) 0 (first (reverse stack)) ended ops peak checks (ap (λ (s : State). steps given (map item_of (emit t)) 0 s ended) same ∙ s.2) in
     let left = bind_split (den given t (reverse stack)) _ r.end (sym (goes_from given (emit t) (den given t) (does given t) (first (reverse stack)) refl) ∙ r.free) in
-    done left.0 left.1 r.peak (ap (λ (s : State). ended (0 + length (map item_of (emit t))) (peaked r.peak s)) (same_ok _ r.end left.2) ∙ r.then)
-  where
-    done : (left : Left) → den given t (reverse stack) ≡ Ok left → (p : ℕ) →
-        ended (0 + length (map item_of (emit t))) (peaked p (reached (first (reverse stack)) (opcode_count (emit t)) left)) ≡ accepted ops peak checks →
-        (left : Left) × (x : Bytes) × (den given t (reverse stack) ≡ Ok left) × (left.main ≡ x ∷ []) × (truth x ≡ true)
-        × (ops ≡ opcode_count (emit t) + left.log.keys) × (checks ≡ left.log.checks)
-    done left e p h =
-        let u = leads_on (finish (peaked p (reached (first (reverse stack)) (opcode_count (emit t)) left))) _ (λ t. accepted t.ops t.peak t.checks) ops peak checks h in
-        let x = bind_split (is_clean left.main) _ u.0 u.1 in
-        let one = is_one left.main x.0 x.1 in
-        let out = outcome_is _ ops _ peak _ checks (ap (λ (t : State). accepted t.ops t.peak t.checks) (same_ok _ u.0 x.2) ∙ u.2) in
-        (left, x.0, e, one.0, one.1, omega (arith, out.0), sym out.1)
+    let u =
+    leads_on (finish (peaked r.peak (reached (first (reverse stack)) (opcode_count (emit t)) left.0))) _ (λ t. accepted t.ops t.peak t.checks) ops peak checks
+    (ap (λ (s : State). ended (0 + length (map item_of (emit t))) (peaked r.peak s)) (same_ok _ r.end left.2) ∙ r.then) in
+    let x = bind_split (is_clean left.0.main) _ u.0 u.1 in
+    let one = is_one left.0.main x.0 x.1 in
+    let out = outcome_is _ ops _ peak _ checks (ap (λ (t : State). accepted t.ops t.peak t.checks) (same_ok _ u.0 x.2) ∙ u.2) in
+    (left.0, x.0, left.1, one.0, one.1, omega (arith, out.0), sym out.1)
 
 -- from any state whose branches are all taken, whatever comes after them, the instructions stop at a limit or leave what the
 -- Script does to the main stack
 pub stop_or_leave : (given : Given) (t : Tree) (s : State) (place : ℕ) (left : Left) → IsWritable t → IsTrue (is_live s) → den given t s.main ≡ Ok left →
     StopFrom t given s place ⊎ LeaveFrom t given s place left.main
 stop_or_leave given t s place left writable live h =
-    let short = short-emit t writable in
-    go (bounded given (emit t) s (reached s (opcode_count (emit t)) left) short.all (goes_from given (emit t) (den given t) (does given t) s live ∙ rw h refl))
-  where
-    go : Ends given (emit t) s (reached s (opcode_count (emit t)) left) ⊎ Stops given (emit t) s →
-        StopFrom t given s place ⊎ LeaveFrom t given s place left.main
-    go (inl ends) = inr (record { end = peaked ends.peak (reached s (opcode_count (emit t)) left); main = refl; steps = ends.steps place })
-    go (inr stops) = inl (record { fault = stops.fault; at = stops.at place; limit = stops.limit; steps = stops.steps place })
+    elim (bounded given (emit t) s (reached s (opcode_count (emit t)) left) (short-emit t writable).all (goes_from given (emit t) (den given t) (does given t) s live ∙ rw h refl)) [
+      | inl ends ↦ inr (record { end = peaked ends.peak (reached s (opcode_count (emit t)) left); main = refl; steps = ends.steps place })
+      | inr stops ↦ inl (record { fault = stops.fault; at = stops.at place; limit = stops.limit; steps = stops.steps place })
+    ]

@@ -104,7 +104,8 @@ sum_follows : (s : Setting) (k : ℕ) (x : Tree) (xs : Trees) → IsWritable (th
     (r : parts s (more x xs) n w) → (p : Path s.given B (emit_sum (more x xs)) (PartsWay s [] (more x xs) n w r) w) → (rest : Stack) →
     (v : Bytes) × Follows s.given (emit_sum (more x xs)) p.way.course (w ++ rest) (v ∷ rest)
 sum_follows s k x xs writable typed few n w short r p rest =
-    let leaves = leaves_of 1 (FormalParts [] (more x xs) n) (highest_parts 1 (more x xs) n) (first_highest (more x xs) n (fit_children k x xs typed)) p.way (parts_formal s [] (more x xs) n w r p.way p.formal) in (
+    let leaves = leaves_of 1 (FormalParts [] (more x xs) n) (highest_parts 1 (more x xs) n) (first_highest (more x xs) n (fit_children k x xs typed)) p.way
+    (parts_formal s [] (more x xs) n w r p.way p.formal) in (
       natural_bytes n,
       does_follow s.given (emit_sum (more x xs)) (den_sum s.given (more x xs)) p.way.course (w ++ rest) (natural_bytes n ∷ rest) (parts_log s (more x xs) n w r) (does_sum s.given (more x xs))
           (sum_ends s k (more x xs) writable typed few n w rest short r) (omega (arith, leaves, p.items, length-append w rest)) (p.keeps rest),
@@ -127,26 +128,34 @@ module _ (s : Setting) (no_more : IsTrue s.all_rows → ⊥) where
         let p = typed-and_or x y z typed in
         path_as _ (λ v h. h) (path_script (emit (and_or x y z)) (and_or_script x y z)
         (and_or_true_path (den s.given z) w p.7 r.4
-        (unit_child p.5 (sat_child s x k.0 p.0 few.0 r.1 (upper w r.1 r.0 r.4 short) r.3 B p.3 (sat_path x k.0 p.0 few.0 r.1 (upper w r.1 r.0 r.4 short) r.3))) (sat_path y k.1 p.1 few.1 r.0 (lower w r.1 r.0 r.4 short) r.2) (does s.given z) (still s.given z)))
+        (unit_child p.5 (sat_child s x k.0 p.0 few.0 r.1 (upper w r.1 r.0 r.4 short) r.3 B p.3 (sat_path x k.0 p.0 few.0 r.1 (upper w r.1 r.0 r.4 short) r.3)))
+        (sat_path y k.1 p.1 few.1 r.0 (lower w r.1 r.0 r.4 short) r.2) (does s.given z) (still s.given z)))
     sat_path (and_or x y z) k typed few w short (inr r) =
         let p = typed-and_or x y z typed in
         path_as _ (λ v h. h) (path_script (emit (and_or x y z)) (and_or_script x y z)
         (and_or_false_path w p.7 r.4
-        (unit_child p.5 (dsat_child s x k.0 p.0 few.0 r.1 (upper w r.1 r.0 r.4 short) r.3 B p.3 (dsat_path x k.0 p.0 few.0 r.1 (upper w r.1 r.0 r.4 short) r.3))) (sat_child s z k.2 p.2 few.2 r.0 (lower w r.1 r.0 r.4 short) r.2 (type_of y).base (sym p.6) (sat_path z k.2 p.2 few.2 r.0 (lower w r.1 r.0 r.4 short) r.2)) (still s.given y)))
+        (unit_child p.5 (dsat_child s x k.0 p.0 few.0 r.1 (upper w r.1 r.0 r.4 short) r.3 B p.3
+        (dsat_path x k.0 p.0 few.0 r.1 (upper w r.1 r.0 r.4 short) r.3)))
+        (sat_child s z k.2 p.2 few.2 r.0 (lower w r.1 r.0 r.4 short) r.2 (type_of y).base (sym p.6)
+        (sat_path z k.2 p.2 few.2 r.0 (lower w r.1 r.0 r.4 short) r.2)) (still s.given y)))
     sat_path (two kind.AndV x y) k typed few w short r =
         let p = typed-and_v x y typed in
-        and_v_path w p.3 r.4 (sat_child s x k.0 p.0 few.0 r.1 (upper w r.1 r.0 r.4 short) r.3 V p.2 (sat_path x k.0 p.0 few.0 r.1 (upper w r.1 r.0 r.4 short) r.3)) (sat_path y k.1 p.1 few.1 r.0 (lower w r.1 r.0 r.4 short) r.2)
+        and_v_path w p.3 r.4 (sat_child s x k.0 p.0 few.0 r.1 (upper w r.1 r.0 r.4 short) r.3 V p.2
+        (sat_path x k.0 p.0 few.0 r.1 (upper w r.1 r.0 r.4 short) r.3)) (sat_path y k.1 p.1 few.1 r.0 (lower w r.1 r.0 r.4 short) r.2)
     sat_path (two kind.AndB x y) k typed few w short r =
         let p = typed-and_b x y typed in
-        two_path w (code op.BoolAnd ∷ []) r.4 refl (sat_child s x k.0 p.0 few.0 r.1 (upper w r.1 r.0 r.4 short) r.3 B p.2 (sat_path x k.0 p.0 few.0 r.1 (upper w r.1 r.0 r.4 short) r.3)) (path_base W p.3 (sat_path y k.1 p.1 few.1 r.0 (lower w r.1 r.0 r.4 short) r.2))
+        two_path w (code op.BoolAnd ∷ []) r.4 refl (sat_child s x k.0 p.0 few.0 r.1 (upper w r.1 r.0 r.4 short) r.3 B p.2
+        (sat_path x k.0 p.0 few.0 r.1 (upper w r.1 r.0 r.4 short) r.3)) (path_base W p.3 (sat_path y k.1 p.1 few.1 r.0 (lower w r.1 r.0 r.4 short) r.2))
     sat_path (two kind.OrB x z) k typed few w short (inl r) =
         let p = typed-or_b x z typed in
         path_as _ (λ v h. h)
-        (two_path w (code op.BoolOr ∷ []) r.4 refl (sat_child s x k.0 p.0 few.0 r.1 (upper w r.1 r.0 r.4 short) r.3 B p.2 (sat_path x k.0 p.0 few.0 r.1 (upper w r.1 r.0 r.4 short) r.3)) (path_base W p.4 (dsat_path z k.1 p.1 few.1 r.0 (lower w r.1 r.0 r.4 short) r.2)))
+        (two_path w (code op.BoolOr ∷ []) r.4 refl (sat_child s x k.0 p.0 few.0 r.1 (upper w r.1 r.0 r.4 short) r.3 B p.2
+        (sat_path x k.0 p.0 few.0 r.1 (upper w r.1 r.0 r.4 short) r.3)) (path_base W p.4 (dsat_path z k.1 p.1 few.1 r.0 (lower w r.1 r.0 r.4 short) r.2)))
     sat_path (two kind.OrB x z) k typed few w short (inr (inl r)) =
         let p = typed-or_b x z typed in
         path_as _ (λ v h. h)
-        (two_path w (code op.BoolOr ∷ []) r.4 refl (dsat_child s x k.0 p.0 few.0 r.1 (upper w r.1 r.0 r.4 short) r.3 B p.2 (dsat_path x k.0 p.0 few.0 r.1 (upper w r.1 r.0 r.4 short) r.3)) (path_base W p.4 (sat_path z k.1 p.1 few.1 r.0 (lower w r.1 r.0 r.4 short) r.2)))
+        (two_path w (code op.BoolOr ∷ []) r.4 refl (dsat_child s x k.0 p.0 few.0 r.1 (upper w r.1 r.0 r.4 short) r.3 B p.2
+        (dsat_path x k.0 p.0 few.0 r.1 (upper w r.1 r.0 r.4 short) r.3)) (path_base W p.4 (sat_path z k.1 p.1 few.1 r.0 (lower w r.1 r.0 r.4 short) r.2)))
     sat_path (two kind.OrB x z) k typed few w short (inr (inr r)) = absurd (no_more r.0)
     sat_path (two kind.OrC x z) k typed few w short (inl r) =
         let p = typed-or_c x z typed in
@@ -155,7 +164,8 @@ module _ (s : Setting) (no_more : IsTrue s.all_rows → ⊥) where
     sat_path (two kind.OrC x z) k typed few w short (inr r) =
         let p = typed-or_c x z typed in
         path_as _ (λ v h. h) (path_script (emit (two kind.OrC x z)) (or_c_script x z)
-        (or_c_false_path w r.4 (unit_child p.4 (dsat_child s x k.0 p.0 few.0 r.1 (upper w r.1 r.0 r.4 short) r.3 B p.2 (dsat_path x k.0 p.0 few.0 r.1 (upper w r.1 r.0 r.4 short) r.3))) (path_base V p.5 (sat_path z k.1 p.1 few.1 r.0 (lower w r.1 r.0 r.4 short) r.2))))
+        (or_c_false_path w r.4 (unit_child p.4 (dsat_child s x k.0 p.0 few.0 r.1 (upper w r.1 r.0 r.4 short) r.3 B p.2
+        (dsat_path x k.0 p.0 few.0 r.1 (upper w r.1 r.0 r.4 short) r.3))) (path_base V p.5 (sat_path z k.1 p.1 few.1 r.0 (lower w r.1 r.0 r.4 short) r.2))))
     sat_path (two kind.OrD x z) k typed few w short (inl r) =
         let p = typed-or_d x z typed in
         path_as _ (λ v h. h) (path_script (emit (two kind.OrD x z)) (or_d_script x z)
@@ -163,11 +173,13 @@ module _ (s : Setting) (no_more : IsTrue s.all_rows → ⊥) where
     sat_path (two kind.OrD x z) k typed few w short (inr r) =
         let p = typed-or_d x z typed in
         path_as _ (λ v h. h) (path_script (emit (two kind.OrD x z)) (or_d_script x z)
-        (or_d_false_path w r.4 (unit_child p.4 (dsat_child s x k.0 p.0 few.0 r.1 (upper w r.1 r.0 r.4 short) r.3 B p.2 (dsat_path x k.0 p.0 few.0 r.1 (upper w r.1 r.0 r.4 short) r.3))) (path_base B p.5 (sat_path z k.1 p.1 few.1 r.0 (lower w r.1 r.0 r.4 short) r.2))))
+        (or_d_false_path w r.4 (unit_child p.4 (dsat_child s x k.0 p.0 few.0 r.1 (upper w r.1 r.0 r.4 short) r.3 B p.2
+        (dsat_path x k.0 p.0 few.0 r.1 (upper w r.1 r.0 r.4 short) r.3))) (path_base B p.5 (sat_path z k.1 p.1 few.1 r.0 (lower w r.1 r.0 r.4 short) r.2))))
     sat_path (two kind.OrI x z) k typed few w short (inl r) =
         let p = typed-or_i x z typed in
         path_as _ (λ v h. h) (path_script (emit (two kind.OrI x z)) (or_i_script x z)
-        (or_i_true_path w r.1 p.3 r.4 r.3 (sat_child s x k.0 p.0 few.0 r.0 (lower w r.1 r.0 r.4 short) r.2 (type_of x).base refl (sat_path x k.0 p.0 few.0 r.0 (lower w r.1 r.0 r.4 short) r.2)) (still s.given z)))
+        (or_i_true_path w r.1 p.3 r.4 r.3 (sat_child s x k.0 p.0 few.0 r.0 (lower w r.1 r.0 r.4 short) r.2 (type_of x).base refl
+        (sat_path x k.0 p.0 few.0 r.0 (lower w r.1 r.0 r.4 short) r.2)) (still s.given z)))
     sat_path (two kind.OrI x z) k typed few w short (inr r) =
         let p = typed-or_i x z typed in
         path_as _ (λ v h. h) (path_script (emit (two kind.OrI x z)) (or_i_script x z)
@@ -203,37 +215,40 @@ module _ (s : Setting) (no_more : IsTrue s.all_rows → ⊥) where
 
     pub dsat_path : (t : Tree) → IsWritable t → IsTyped t → Few t → (w : Stack) → Short w → (r : (row s t).dsat w) → Path s.given (type_of t).base (emit t) (DsatWay s t w r) w
     dsat_path just_0 k typed few w short r = pushes_path s.given B (EMPTY ∷ []) [] 0 (up 1 ∷ []) w b_not_w (ap length r) refl refl
-    dsat_path just_1 k typed few w short r = absurd r
     dsat_path (pk_k key) k typed few w short r = pushes_path s.given K (key ∷ []) [] 1 (up 1 ∷ []) w k_not_w (ap length r) refl refl
     dsat_path (pk_h key) k typed few w short r =
         pk_h_path s.given (hash160 key) r.0 w r.4.1 r.4.0 r.4.4 r.4.3 (ap length r.4.2)
-    dsat_path (older n) k typed few w short r = absurd r
-    dsat_path (after n) k typed few w short r = absurd r
     dsat_path (hash kind value) k typed few w short (inl r) = hash_path s.given kind value ZEROS w r.0.0 r.1
     dsat_path (hash kind value) k typed few w short (inr r) = absurd (no_more r.0)
     dsat_path (and_or x y z) k typed few w short (inl r) =
         let p = typed-and_or x y z typed in
         path_script (emit (and_or x y z)) (and_or_script x y z)
         (and_or_false_path w p.7 r.4
-        (unit_child p.5 (dsat_child s x k.0 p.0 few.0 r.1 (upper w r.1 r.0 r.4 short) r.3 B p.3 (dsat_path x k.0 p.0 few.0 r.1 (upper w r.1 r.0 r.4 short) r.3))) (dsat_child s z k.2 p.2 few.2 r.0 (lower w r.1 r.0 r.4 short) r.2 (type_of y).base (sym p.6) (dsat_path z k.2 p.2 few.2 r.0 (lower w r.1 r.0 r.4 short) r.2)) (still s.given y))
+        (unit_child p.5 (dsat_child s x k.0 p.0 few.0 r.1 (upper w r.1 r.0 r.4 short) r.3 B p.3
+        (dsat_path x k.0 p.0 few.0 r.1 (upper w r.1 r.0 r.4 short) r.3)))
+        (dsat_child s z k.2 p.2 few.2 r.0 (lower w r.1 r.0 r.4 short) r.2 (type_of y).base (sym p.6)
+        (dsat_path z k.2 p.2 few.2 r.0 (lower w r.1 r.0 r.4 short) r.2)) (still s.given y))
     dsat_path (and_or x y z) k typed few w short (inr r) = absurd (no_more r.0)
     dsat_path (two kind.AndV x y) k typed few w short r = absurd (no_more r.0)
     dsat_path (two kind.AndB x y) k typed few w short (inl r) =
         let p = typed-and_b x y typed in
-        two_path w (code op.BoolAnd ∷ []) r.4 refl (dsat_child s x k.0 p.0 few.0 r.1 (upper w r.1 r.0 r.4 short) r.3 B p.2 (dsat_path x k.0 p.0 few.0 r.1 (upper w r.1 r.0 r.4 short) r.3)) (path_base W p.3 (dsat_path y k.1 p.1 few.1 r.0 (lower w r.1 r.0 r.4 short) r.2))
+        two_path w (code op.BoolAnd ∷ []) r.4 refl (dsat_child s x k.0 p.0 few.0 r.1 (upper w r.1 r.0 r.4 short) r.3 B p.2
+        (dsat_path x k.0 p.0 few.0 r.1 (upper w r.1 r.0 r.4 short) r.3)) (path_base W p.3 (dsat_path y k.1 p.1 few.1 r.0 (lower w r.1 r.0 r.4 short) r.2))
     dsat_path (two kind.AndB x y) k typed few w short (inr r) = absurd (no_more r.0)
     dsat_path (two kind.OrB x z) k typed few w short r =
         let p = typed-or_b x z typed in
-        two_path w (code op.BoolOr ∷ []) r.4 refl (dsat_child s x k.0 p.0 few.0 r.1 (upper w r.1 r.0 r.4 short) r.3 B p.2 (dsat_path x k.0 p.0 few.0 r.1 (upper w r.1 r.0 r.4 short) r.3)) (path_base W p.4 (dsat_path z k.1 p.1 few.1 r.0 (lower w r.1 r.0 r.4 short) r.2))
-    dsat_path (two kind.OrC x z) k typed few w short r = absurd r
+        two_path w (code op.BoolOr ∷ []) r.4 refl (dsat_child s x k.0 p.0 few.0 r.1 (upper w r.1 r.0 r.4 short) r.3 B p.2
+        (dsat_path x k.0 p.0 few.0 r.1 (upper w r.1 r.0 r.4 short) r.3)) (path_base W p.4 (dsat_path z k.1 p.1 few.1 r.0 (lower w r.1 r.0 r.4 short) r.2))
     dsat_path (two kind.OrD x z) k typed few w short r =
         let p = typed-or_d x z typed in
         path_script (emit (two kind.OrD x z)) (or_d_script x z)
-        (or_d_false_path w r.4 (unit_child p.4 (dsat_child s x k.0 p.0 few.0 r.1 (upper w r.1 r.0 r.4 short) r.3 B p.2 (dsat_path x k.0 p.0 few.0 r.1 (upper w r.1 r.0 r.4 short) r.3))) (path_base B p.5 (dsat_path z k.1 p.1 few.1 r.0 (lower w r.1 r.0 r.4 short) r.2)))
+        (or_d_false_path w r.4 (unit_child p.4 (dsat_child s x k.0 p.0 few.0 r.1 (upper w r.1 r.0 r.4 short) r.3 B p.2
+        (dsat_path x k.0 p.0 few.0 r.1 (upper w r.1 r.0 r.4 short) r.3))) (path_base B p.5 (dsat_path z k.1 p.1 few.1 r.0 (lower w r.1 r.0 r.4 short) r.2)))
     dsat_path (two kind.OrI x z) k typed few w short (inl r) =
         let p = typed-or_i x z typed in
         path_as _ (λ v h. h) (path_script (emit (two kind.OrI x z)) (or_i_script x z)
-        (or_i_true_path w r.1 p.3 r.4 r.3 (dsat_child s x k.0 p.0 few.0 r.0 (lower w r.1 r.0 r.4 short) r.2 (type_of x).base refl (dsat_path x k.0 p.0 few.0 r.0 (lower w r.1 r.0 r.4 short) r.2)) (still s.given z)))
+        (or_i_true_path w r.1 p.3 r.4 r.3 (dsat_child s x k.0 p.0 few.0 r.0 (lower w r.1 r.0 r.4 short) r.2 (type_of x).base refl
+        (dsat_path x k.0 p.0 few.0 r.0 (lower w r.1 r.0 r.4 short) r.2)) (still s.given z)))
     dsat_path (two kind.OrI x z) k typed few w short (inr r) =
         let p = typed-or_i x z typed in
         path_as _ (λ v h. h) (path_script (emit (two kind.OrI x z)) (or_i_script x z)
@@ -255,12 +270,12 @@ module _ (s : Setting) (no_more : IsTrue s.all_rows → ⊥) where
         let p = typed-wrap_c x typed in
         behind_path B k_not_w b_not_w (down 1 ∷ []) (code op.CheckSig ∷ []) refl refl (path_base K p.1 (dsat_path x k p.0 few w short r))
     dsat_path (wrap wrapper.D x) k typed few w short r = wrap_d_dsat_path w r (still s.given x)
-    dsat_path (wrap wrapper.V x) k typed few w short r = absurd r
     dsat_path (wrap wrapper.J x) k typed few w short (inl r) = wrap_j_dsat_path w r (still s.given x)
     dsat_path (wrap wrapper.J x) k typed few w short (inr r) = absurd (no_more r.0)
     dsat_path (wrap wrapper.N x) k typed few w short r =
         let p = typed-wrap_n x typed in
         behind_path B b_not_w b_not_w (up 0 ∷ []) (code op.ZeroNotEqual ∷ []) refl refl (path_base B p.1 (dsat_path x k p.0 few w short r))
+    dsat_path tree k typed few w short r = absurd r
 
     -- all children of a threshold, n of them satisfied
     sum_path : (k : ℕ) (xs : Trees) → IsWritable (thresh k xs) → IsTyped (thresh k xs) → Few (thresh k xs) → (n : ℕ) (w : Stack) → Short w → (r : parts s xs n w) →
@@ -268,15 +283,22 @@ module _ (s : Setting) (no_more : IsTrue s.all_rows → ⊥) where
     sum_path k none writable typed few n w short r = absurd (typed-thresh_none k typed)
     sum_path k (more x xs) writable typed few n w short (inl (m, is, r)) =
         let p = typed-thresh k x xs typed in
-        (first_path w r.4 (unit_child p.6 (sat_child s x writable.2.0 p.0 few.1.0 r.1 (upper w r.1 r.0 r.4 short) r.3 B p.4 (sat_path x writable.2.0 p.0 few.1.0 r.1 (upper w r.1 r.0 r.4 short) r.3))) (parts_path xs writable.2.1 p.1 p.7 few.1.1 m r.0 (lower w r.1 r.0 r.4 short) r.2))
+        (first_path w r.4 (unit_child p.6 (sat_child s x writable.2.0 p.0 few.1.0 r.1 (upper w r.1 r.0 r.4 short) r.3 B p.4
+        (sat_path x writable.2.0 p.0 few.1.0 r.1 (upper w r.1 r.0 r.4 short) r.3)))
+        (parts_path xs writable.2.1 p.1 p.7 few.1.1 m r.0 (lower w r.1 r.0 r.4 short) r.2))
     sum_path k (more x xs) writable typed few n w short (inr r) =
         let p = typed-thresh k x xs typed in
-        (first_path w r.4 (unit_child p.6 (dsat_child s x writable.2.0 p.0 few.1.0 r.1 (upper w r.1 r.0 r.4 short) r.3 B p.4 (dsat_path x writable.2.0 p.0 few.1.0 r.1 (upper w r.1 r.0 r.4 short) r.3))) (parts_path xs writable.2.1 p.1 p.7 few.1.1 n r.0 (lower w r.1 r.0 r.4 short) r.2))
+        (first_path w r.4 (unit_child p.6 (dsat_child s x writable.2.0 p.0 few.1.0 r.1 (upper w r.1 r.0 r.4 short) r.3 B p.4
+        (dsat_path x writable.2.0 p.0 few.1.0 r.1 (upper w r.1 r.0 r.4 short) r.3)))
+        (parts_path xs writable.2.1 p.1 p.7 few.1.1 n r.0 (lower w r.1 r.0 r.4 short) r.2))
 
     -- further children, behind the sum of those before them
-    parts_path : (xs : Trees) → AreWritable xs → AreTyped xs → OthersFit xs → AllFew xs → (n : ℕ) (w : Stack) → Short w → (r : parts s xs n w) → Path s.given W (emit_added xs) (PartsWay s (down 1 ∷ []) xs n w r) w
+    parts_path : (xs : Trees) → AreWritable xs → AreTyped xs → OthersFit xs → AllFew xs → (n : ℕ) (w : Stack) → Short w → (r : parts s xs n w)
+        → Path s.given W (emit_added xs) (PartsWay s (down 1 ∷ []) xs n w r) w
     parts_path none k typed fit few n w short r = none_path s.given w r.1
     parts_path (more x xs) k typed fit few n w short (inl (m, is, r)) =
-        (added_path w r.4 (sat_child s x k.0 typed.0 few.0 r.1 (upper w r.1 r.0 r.4 short) r.3 W fit.0 (sat_path x k.0 typed.0 few.0 r.1 (upper w r.1 r.0 r.4 short) r.3)) (parts_path xs k.1 typed.1 fit.3 few.1 m r.0 (lower w r.1 r.0 r.4 short) r.2))
+        (added_path w r.4 (sat_child s x k.0 typed.0 few.0 r.1 (upper w r.1 r.0 r.4 short) r.3 W fit.0
+        (sat_path x k.0 typed.0 few.0 r.1 (upper w r.1 r.0 r.4 short) r.3)) (parts_path xs k.1 typed.1 fit.3 few.1 m r.0 (lower w r.1 r.0 r.4 short) r.2))
     parts_path (more x xs) k typed fit few n w short (inr r) =
-        (added_path w r.4 (dsat_child s x k.0 typed.0 few.0 r.1 (upper w r.1 r.0 r.4 short) r.3 W fit.0 (dsat_path x k.0 typed.0 few.0 r.1 (upper w r.1 r.0 r.4 short) r.3)) (parts_path xs k.1 typed.1 fit.3 few.1 n r.0 (lower w r.1 r.0 r.4 short) r.2))
+        (added_path w r.4 (dsat_child s x k.0 typed.0 few.0 r.1 (upper w r.1 r.0 r.4 short) r.3 W fit.0
+        (dsat_path x k.0 typed.0 few.0 r.1 (upper w r.1 r.0 r.4 short) r.3)) (parts_path xs k.1 typed.1 fit.3 few.1 n r.0 (lower w r.1 r.0 r.4 short) r.2))

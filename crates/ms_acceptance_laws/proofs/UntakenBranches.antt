@@ -31,11 +31,7 @@ pub record Still (given : Given) (c : List Instruction) : Type 0 where
 pub skips_lead : (given : Given) (c : List Instruction) (f : Effect) → Does given c f → (s t : State) → is_live s ≡ false → free_steps given c s ≡ Ok t → Leads s t s.main
 skips_lead given c f x s t dead h =
     let e : record s { ops = s.ops + opcode_count c } ≡ t = same_ok (record s { ops = s.ops + opcode_count c }) t (sym (skips_from given c f x s dead) ∙ h) in
-    record {
-      main = sym (ap (λ (u : State). u.main) e);
-      alt = sym (ap (λ (u : State). u.alt) e);
-      branches = sym (ap (λ (u : State). u.branches) e);
-    }
+    subst (λ (u : State). Leads s u s.main) e (record { main = refl; alt = refl; branches = refl })
 
 -- ELSE
 pub else_step : (given : Given) (s t : State) (taken : Bool) (branches : List Bool) → s.branches ≡ taken ∷ branches → free_step given (code op.Else) s ≡ Ok t →
@@ -127,14 +123,9 @@ module _ (given : Given) where
   still_pushes [] c x = x
   still_pushes (key ∷ keys) c x = still_push key (map push keys ++ c) (still_pushes keys c x)
 
-  still_as : (c d : List Instruction) → c ≡ d → Still given c → Still given d
-  still_as c d e x = subst (λ (z : List Instruction). Still given z) e x
-
   hash_is_no_branch : (kind : HashKind) → is_branching (hash_opcode kind) ≡ false
   hash_is_no_branch hash_kind.Sha256 = refl
-  hash_is_no_branch hash_kind.Hash256 = refl
-  hash_is_no_branch hash_kind.Ripemd160 = refl
-  hash_is_no_branch hash_kind.Hash160 = refl
+  hash_is_no_branch other = refl
 
   mutual
     pub still : (t : Tree) → Still given (emit t)
@@ -148,18 +139,18 @@ module _ (given : Given) where
         still_code op.Size _ refl (still_push _ _ (still_code op.EqualVerify _ refl
         (still_code (hash_opcode kind) _ (hash_is_no_branch kind) (still_push value _ (still_code op.Equal _ refl still_nothing)))))
     still (and_or x y z) =
-        still_as _ _ (and_or_script x y z)
+        subst (Still given) (and_or_script x y z)
         (still_append (emit x) _ (den given x) (does given x) (still x) (still_else false (emit z) (emit y) (den given z) (does given z) (still z) (still y)))
     still (two kind.AndV x y) = still_append (emit x) (emit y) (den given x) (does given x) (still x) (still y)
     still (two kind.AndB x y) = still_behind (emit x ++ emit y) _ refl (still_append (emit x) (emit y) (den given x) (does given x) (still x) (still y))
     still (two kind.OrB x y) = still_behind (emit x ++ emit y) _ refl (still_append (emit x) (emit y) (den given x) (does given x) (still x) (still y))
     still (two kind.OrC x y) =
-        still_as _ _ (or_c_script x y)
+        subst (Still given) (or_c_script x y)
         (still_append (emit x) _ (den given x) (does given x) (still x) (still_only false (emit y) (still y)))
     still (two kind.OrD x y) =
-        still_as _ _ (or_d_script x y)
+        subst (Still given) (or_d_script x y)
         (still_append (emit x) _ (den given x) (does given x) (still x) (still_code op.IfDup _ refl (still_only false (emit y) (still y))))
-    still (two kind.OrI x y) = still_as _ _ (or_i_script x y) (still_else true (emit x) (emit y) (den given x) (does given x) (still x) (still y))
+    still (two kind.OrI x y) = subst (Still given) (or_i_script x y) (still_else true (emit x) (emit y) (den given x) (does given x) (still x) (still y))
     still (thresh k xs) =
         still_append (emit_sum xs) _ (den_sum given xs) (does_sum given xs) (still_sum xs) (still_push _ _ (still_code op.Equal _ refl still_nothing))
     still (multi k keys) = still_push _ _ (still_pushes keys _ (still_push _ _ (still_code op.CheckMultiSig _ refl still_nothing)))

@@ -45,11 +45,7 @@ does_lead given c f from to log x run s t live is h =
     let e : reached s (opcode_count c) (left to log) ≡ t =
     same_ok (reached s (opcode_count c) (left to log)) t
     (sym (goes_from given c f x s live ∙ ap (λ (r : OrFault Left). r >>= λ left. Ok (reached s (opcode_count c) left)) (ap f is ∙ run)) ∙ h) in
-    record {
-      main = sym (ap (λ (u : State). u.main) e);
-      alt = sym (ap (λ (u : State). u.alt) e);
-      branches = sym (ap (λ (u : State). u.branches) e);
-    }
+    subst (λ (u : State). Leads s u to) e (record { main = refl; alt = refl; branches = refl })
 
 pub does_follow : (given : Given) (c : List Instruction) (f : Effect) (course : Course) (from to : Stack) (log : Log) → Does given c f → f from ≡ Ok (left to log) →
     length from + ups course ≡ length to + downs course → Keeps given c course from → Follows given c course from to
@@ -77,8 +73,8 @@ pub parted : (given : Given) (c d : List Instruction) (s t : State) → free_ste
 parted given c d s t e = bind_split (free_steps given c s) (free_steps given d) t (sym (free_steps-append given c d s) ∙ e)
 
 -- one course behind the other
-pub keeps_then : (given : Given) (c d : List Instruction) (a b : Course) (from mid : Stack) → Follows given c a from mid → Keeps given d b mid → Keeps given (c ++ d) (a ++ b) from
-keeps_then given c d a b from mid x y = record {
+pub then_keeps : {given : Given} {c d : List Instruction} {a b : Course} {from mid : Stack} → Follows given c a from mid → Keeps given d b mid → Keeps given (c ++ d) (a ++ b) from
+then_keeps {given} {c} {d} {a} {b} {from} {mid} x y = record {
   low = λ s live is n h.
       low_append given c d s n (x.keeps.low s live is n (omega (arith, h, rise_append a b)))
       (λ t e.
@@ -128,11 +124,6 @@ keeps_pushes given items d course from flat up = record {
   high = λ s t live is e n h. omega (arith, high_pushes given items d s n live h, up);
 }
 
--- the same instructions, course and stack
-pub keeps_as : (given : Given) (c d : List Instruction) (a b : Course) (from start : Stack) → c ≡ d → a ≡ b → start ≡ from → Keeps given c a from → Keeps given d b start
-keeps_as given c d a b from start e f i x = record {
-  low = λ s live is n h. subst (λ (z : List Instruction). IsLow given z s n) e (x.low s live (is ∙ i) n (omega (arith, h, ap rise f)));
-  high = λ s t live is g n h.
-      let top = x.high s t live (is ∙ i) (subst (λ (z : List Instruction). free_steps given z s ≡ Ok t) (sym e) g) n (subst (λ (z : List Instruction). IsLow given z s n) (sym e) h) in
-      omega (arith, top, ap rise f);
-}
+-- another spelling of the stack
+pub keeps_from : {given : Given} {c : List Instruction} {course : Course} {from start : Stack} → start ≡ from → Keeps given c course from → Keeps given c course start
+keeps_from {given} {c} {course} e x = subst (Keeps given c course) (sym e) x

@@ -140,12 +140,10 @@ is_ascii_text (script rules text) = list_all is_ascii text
 is_ascii_text (check rules text) = list_all is_ascii text
 is_ascii_text (satisfy rules text) = list_all is_ascii text
 is_ascii_text (satisfy_malleable rules text) = list_all is_ascii text
-is_ascii_text run = true
-is_ascii_text (gen n) = true
 is_ascii_text (policy text) = list_all is_ascii text
 is_ascii_text (plan text) = list_all is_ascii text
 is_ascii_text (audit text) = list_all is_ascii text
-is_ascii_text (decode digits keys) = true
+is_ascii_text command = true
 
 abbrev pub are_ascii_words : Option Command → Bool
 are_ascii_words None = true
@@ -156,12 +154,10 @@ ascii_text (script rules text) ascii = ascii_is_utf8 text ascii
 ascii_text (check rules text) ascii = ascii_is_utf8 text ascii
 ascii_text (satisfy rules text) ascii = ascii_is_utf8 text ascii
 ascii_text (satisfy_malleable rules text) ascii = ascii_is_utf8 text ascii
-ascii_text run ascii = tt
-ascii_text (gen n) ascii = tt
 ascii_text (policy text) ascii = ascii_is_utf8 text ascii
 ascii_text (plan text) ascii = ascii_is_utf8 text ascii
 ascii_text (audit text) ascii = ascii_is_utf8 text ascii
-ascii_text (decode digits keys) ascii = tt
+ascii_text command ascii = tt
 
 ascii_words : (o : Option Command) → are_ascii_words o ≡ true → OnWords IsUtf8 o
 ascii_words None ascii = tt

@@ -1,5 +1,5 @@
 -- The steps of an audit: the walk finds them, and there are no others.
-use Rattle.std.proofs.Common.{◌≡◌, ℕ, Bool, true, false, if◌then◌else◌, List, [], Option, Some, Ok, Err, refl, sym, ◌∙◌, ap, subst, nat_lt, length}
+use Rattle.std.proofs.Common.{◌≡◌, ℕ, Bool, true, false, if◌then◌else◌, List, [], Ok, Err, refl, sym, ◌∙◌, ap, subst, nat_lt, length}
 use Rattle.std.specs.Prelude.{Result, unwrap_or}
 use Rattle.std.specs.Str.{bytes_eq}
 use Rattle.std.proofs.lemmas.Slice.Eq.{bytes_eq-Decides}
@@ -16,7 +16,6 @@ use Rattle.def_files.specs.declared.AssetFault.{AssetFault}
 use Rattle.def_files.specs.RunFile.{RunFile, run_of}
 use Rattle.def_audit.specs.declared.Step.{Step}
 use Rattle.def_audit.specs.Derives.{Derives}
-use Rattle.ms_audit_laws.specs.Walk.{trail_of}
 use Rattle.ms_audit_laws.proofs.WalkTrees.{walk_is_trail, trail_is_unique, accepted_has_trail}
 use Rattle.def_answer.specs.declared.status.Status.TheVariants as status
 use Rattle.def_answer.specs.Lines.{wrong_script_line, file_too_long_line, file_line}
@@ -26,16 +25,12 @@ use Rattle.ms_answer_laws.specs.Laws.{walked, steps_in, WalkedAreSteps}
 
 -- ---- the walk finds them
 
-found : (o : Option (List Step)) (steps : List Step) → o ≡ Some steps → unwrap_or o [] ≡ steps
-found o steps e = ap (λ p. unwrap_or p []) e
-
 pub walked_are_steps : WalkedAreSteps
 walked_are_steps tree source writable valid file ops peak checks read is =
     let wide = valid_under_consensus Policy tree valid in
     let given = given_by file in
     let trail = accepted_has_trail tree given file.stack checks writable wide (record { ops = ops; peak = peak; run = is }) in
-    let same : walked tree source
-    ≡ trail.0 = ap (steps_in tree) read ∙ found (trail_of tree given file.stack) trail.0 trail.1 in
+    let same : walked tree source ≡ trail.0 = ap (steps_in tree) read ∙ ap (λ o. unwrap_or o []) trail.1 in
     subst (λ s. Derives tree given true s file.stack) (sym same) ((walk_is_trail tree given trail.0 file.stack wide).0 trail.1)
 
 -- ---- they are the only ones

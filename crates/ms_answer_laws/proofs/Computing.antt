@@ -14,5 +14,6 @@ use Rattle.ms_answer_laws.proofs.Decided.{decided}
 use Rattle.ms_answer_laws.proofs.Forms.{children_of}
 
 unfoldable pub answers_on_literals : ⊤
-unfolding script_report check_report satisfy_report run_report policy_report plan_report audit_report plan_file_of decode_report decided natural_of fits least_keys gen_report gen_reply computing hash256 corr_rows mall_rows files_on_literals children_of digits
+unfolding script_report check_report satisfy_report run_report policy_report plan_report audit_report plan_file_of decode_report decided natural_of fits
+    least_keys gen_report gen_reply computing hash256 corr_rows mall_rows files_on_literals children_of digits
 answers_on_literals = tt

@@ -19,7 +19,6 @@ use Rattle.def_tree.specs.Tree.{Key, Tree, Trees, just_0, just_1, pk_k, pk_h, ol
 use Rattle.def_tree.specs.Range.{IsKey, IsDigest, IsWritable, AreWritable, TEN_DIGITS, count}
 use Rattle.def_emit.specs.Emit.{emit, script_of}
 use Rattle.def_emit.proofs.Short.{items-script_of}
-use Rattle.def_sane.specs.declared.Unfit.{Unfit}
 use Rattle.def_sane.specs.Unfit.{first_unfit_valid}
 use Rattle.def_decode.specs.Nested.{EachHashed, EachHashedOf}
 use Rattle.def_decode.specs.Decoded.{first_with, IsReading, IsDecoded}
@@ -43,7 +42,7 @@ is_key_bytes k = is_key k && list_all (λ b. nat_lt b 256) k
 key_tells : (k : Key) → Decides (is_key_bytes k) (IsKey k)
 key_tells k = Decides-like _ (λ h. record { form = h.0; bytes = h.1 }) (λ h. (h.form, h.bytes)) (Decides-and (is_key k) _ (λ e. e, λ e. e) (bytes_tell k))
 
-keys_tell : (ks : List Key) → Decides (list_all is_key_bytes ks) (All IsKey ks)
+pub keys_tell : (ks : List Key) → Decides (list_all is_key_bytes ks) (All IsKey ks)
 keys_tell ks = Decides-by_and is_key_bytes IsKey (list_all is_key_bytes) key_tells refl (λ x xs. refl) ks
 
 abbrev pub is_digest_bytes : HashKind → Bytes → Bool
@@ -53,9 +52,6 @@ digest_tells : (kind : HashKind) (value : Bytes) → Decides (is_digest_bytes ki
 digest_tells kind value =
     Decides-like _ (λ h. record { length = h.0; bytes = h.1 }) (λ h. (h.length, h.bytes))
     (Decides-and _ _ (Decides-eqb (length value) (digest_length kind)) (bytes_tell value))
-
-always : Decides true (Unit {0})
-always = (λ e. tt, λ h. refl)
 
 some_tell : (n : ℕ) → Decides (nat_lt 0 n) (1 ≤ n)
 some_tell n = Decides-like _ (λ h. omega (arith, h)) (λ h. omega (arith, h)) (Decides-ltb 0 n)
@@ -114,18 +110,12 @@ lists_tells keys key =
 
 abbrev mutual
   pub each_listed : List Key → Tree → Bool
-  each_listed keys just_0 = true
-  each_listed keys just_1 = true
-  each_listed keys (pk_k key) = true
   each_listed keys (pk_h key) = lists keys key
-  each_listed keys (older n) = true
-  each_listed keys (after n) = true
-  each_listed keys (hash kind value) = true
   each_listed keys (and_or x y z) = each_listed keys x && each_listed keys y && each_listed keys z
   each_listed keys (two kind x y) = each_listed keys x && each_listed keys y
   each_listed keys (thresh k xs) = all_listed keys xs
-  each_listed keys (multi k ks) = true
   each_listed keys (wrap wrapper x) = each_listed keys x
+  each_listed keys leaf = true
 
   pub all_listed : List Key → Trees → Bool
   all_listed keys none = true
@@ -133,18 +123,12 @@ abbrev mutual
 
 mutual
   listed_tells : (keys : List Key) (t : Tree) → Decides (each_listed keys t) (EachHashed (λ key. Contains keys key) t)
-  listed_tells keys just_0 = (λ e. tt, λ h. refl)
-  listed_tells keys just_1 = (λ e. tt, λ h. refl)
-  listed_tells keys (pk_k key) = (λ e. tt, λ h. refl)
   listed_tells keys (pk_h key) = lists_tells keys key
-  listed_tells keys (older n) = (λ e. tt, λ h. refl)
-  listed_tells keys (after n) = (λ e. tt, λ h. refl)
-  listed_tells keys (hash kind value) = (λ e. tt, λ h. refl)
   listed_tells keys (and_or x y z) = all_three _ _ _ (listed_tells keys x) (listed_tells keys y) (listed_tells keys z)
   listed_tells keys (two kind x y) = Decides-and _ _ (listed_tells keys x) (listed_tells keys y)
   listed_tells keys (thresh k xs) = all_listed_tells keys xs
-  listed_tells keys (multi k ks) = (λ e. tt, λ h. refl)
   listed_tells keys (wrap wrapper x) = listed_tells keys x
+  listed_tells keys leaf = (λ e. tt, λ h. refl)
 
   all_listed_tells : (keys : List Key) (ts : Trees) → Decides (all_listed keys ts) (EachHashedOf (λ key. Contains keys key) ts)
   all_listed_tells keys none = (λ e. tt, λ h. refl)
@@ -152,9 +136,9 @@ mutual
 
 -- ---- readings
 
-none_tells : (o : Option Unfit) → Decides (is_none o) (o ≡ None)
+pub none_tells : {A : Type 0} (o : Option A) → Decides (is_none o) (o ≡ None)
 none_tells None = (λ e. refl, λ h. refl)
-none_tells (Some unfit) = (λ e. cc e, λ h. cc h)
+none_tells (Some x) = (λ e. cc e, λ h. cc h)
 
 abbrev pub is_reading : List Key → Bytes → Tree → Bool
 is_reading keys script t = (is_none (first_unfit_valid t) && writable t) && (each_listed keys t && bytes_eq (script_of t) script)
@@ -187,16 +171,10 @@ items_of keys script t h =
 abbrev pub found_in : List Key → Bytes → Option Tree
 found_in keys script = read (first_with keys) (reverse (instructions (items script)))
 
--- what the reader finds of a Script that has a reading
-found_by : (keys : List Key) (script : Bytes) (t : Tree) (is : List Instruction) → items script ≡ map item_of is → read (first_with keys) (reverse is) ≡ Some t
-    → found_in keys script ≡ Some t
-found_by keys script t is same e =
-    ap (λ l. read (first_with keys) (reverse l)) (ap instructions same ∙ same_instructions is) ∙ e
-
-found_from : (keys : List Key) (script : Bytes) (t : Tree) (is : List Instruction) → items script ≡ map item_of is → found_in keys script ≡ Some t
-    → read (first_with keys) (reverse is) ≡ Some t
-found_from keys script t is same e =
-    sym (ap (λ l. read (first_with keys) (reverse l)) (ap instructions same ∙ same_instructions is)) ∙ e
+-- what the reader finds of a Script is what it reads of its instructions
+found_same : (keys : List Key) (script : Bytes) (is : List Instruction) → items script ≡ map item_of is
+    → found_in keys script ≡ read (first_with keys) (reverse is)
+found_same keys script is same = ap (λ l. read (first_with keys) (reverse l)) (ap instructions same ∙ same_instructions is)
 
 -- the tree that a Script is decoded to, if it can be read
 abbrev pub if_reading : List Key → Bytes → Option Tree → Option Tree
@@ -225,14 +203,14 @@ decided_is keys script t all e = go (found_in keys script) refl e
         let reading = (reading_tells keys script u).0 told.0 in
         let same = items_of keys script u reading in
         subst (IsDecoded keys script) told.1
-        (found_is_decoded keys script (emit u) u all same (found_from keys script u (emit u) same f) reading)
+        (found_is_decoded keys script (emit u) u all same (sym (found_same keys script (emit u) same) ∙ f) reading)
 
 pub decided_not : (keys : List Key) (script : Bytes) (t : Tree) → All IsKey keys → decided keys script ≡ None → ¬ IsReading keys script t
 unfolding decided
 decided_not keys script t all e h =
     let same = items_of keys script t h in
     let found = reading_is_found keys script (emit t) t all same h in
-    let is = found_by keys script found.tree (emit t) same found.found in
+    let is = found_same keys script (emit t) same ∙ found.found in
     let no : is_reading keys script found.tree ≡ false = none_false (is_reading keys script found.tree) found.tree (sym (ap (if_reading keys script) is) ∙ e) in
     let yes = (reading_tells keys script found.tree).1 found.decoded.reading in
     cc (sym no ∙ yes)

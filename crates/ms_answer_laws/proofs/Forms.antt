@@ -1,7 +1,7 @@
 -- The command of some words, found.
-use Rattle.std.proofs.Common.{◌≡◌, ℕ, zero, suc, ◌+◌, ◌-◌, ◌%◌, ◌==◌, ◌≤◌, ◌<◌, ◌⊎◌, length, is_some, IsSome, inl, inr, Bool, true, false, ◌&&◌, nat_eq, if◌then◌else◌, List, [], ◌∷◌, Option, Some, None, codes, decimal, find, option_map, refl, sym, ap, subst, ◌∙◌, arith, slice_index_or}
+use Rattle.std.proofs.Common.{◌≡◌, ℕ, zero, suc, ◌+◌, ◌-◌, ◌%◌, ◌==◌, ◌≤◌, ◌<◌, length, is_some, IsSome, Bool, true, false, ◌&&◌, nat_eq, if◌then◌else◌, List, [], ◌∷◌, Option, Some, None, codes, decimal, find, option_map, refl, sym, ap, subst, ◌∙◌, arith, slice_index_or}
 use Rattle.std.specs.Bool.{Decides}
-use Rattle.std.specs.List.{AllPass, list_all, range_with_len}
+use Rattle.std.specs.List.{list_all, range_with_len}
 use Rattle.std.specs.Fmt.{digits}
 use Rattle.std.specs.Str.{bytes_eq}
 use Rattle.std.proofs.lemmas.Bool.{eqb-true, and_parts}
@@ -71,20 +71,11 @@ command_of (first ∷ second ∷ more) = if bytes_eq first (codes "decode") then
 
 -- ---- a command is found from its words
 
-hex_tells : (digits : Bytes) → Decides (list_all is_hex_digit digits) (AllPass is_hex_digit digits)
-hex_tells digits = (AllPass-from_list_all is_hex_digit digits, list_all-from_AllPass is_hex_digit digits)
-
-key_tells : (word : Bytes) → Decides (is_some (key_of word)) (IsSome (key_of word))
-key_tells word = (λ e. e, λ h. h)
-
 script_and_keys_tell : (digits : Bytes) (keys : List Bytes) → Decides (are_script_and_keys digits keys) (IsCommand (decode digits keys))
 script_and_keys_tell digits keys =
-    Decides-and _ _ (Decides-and _ _ (Decides-eqb (length digits % 2) 0) (hex_tells digits))
-    (Decides-by_and (λ word. is_some (key_of word)) (λ word. IsSome (key_of word)) (list_all (λ word. is_some (key_of word))) key_tells refl (λ x xs. refl) keys)
-
-if_true : (b : Bool) (c : Command) → b ≡ true → (if b then Some c else None) ≡ Some c
-if_true true c e = refl
-if_true false c e = cc e
+    Decides-and _ _ (Decides-and _ _ (Decides-eqb (length digits % 2) 0) (AllPass-from_list_all is_hex_digit digits, list_all-from_AllPass is_hex_digit digits))
+    (Decides-by_and (λ word. is_some (key_of word)) (λ word. IsSome (key_of word)) (list_all (λ word. is_some (key_of word)))
+    (λ word. (λ e. e, λ h. h)) refl (λ x xs. refl) keys)
 
 found_number : Option ℕ → ℕ → Bool
 found_number None n = false
@@ -120,25 +111,26 @@ command_found (gen n) h = ap (option_map gen) (children_found n h.0 h.1)
 command_found (policy text) h = refl
 command_found (plan text) h = refl
 command_found (audit text) h = refl
-command_found (decode digits keys) h = if_true (are_script_and_keys digits keys) (decode digits keys) ((script_and_keys_tell digits keys).1 h)
+command_found (decode digits keys) h = rw ((script_and_keys_tell digits keys).1 h)
 
 -- ---- and its words are those
-
-if_some : (b : Bool) (x y : Option Command) (c : Command) → (if b then x else y) ≡ Some c → ((b ≡ true) × (x ≡ Some c)) ⊎ ((b
-    ≡ false) × (y ≡ Some c))
-if_some true x y c e = inl (refl, e)
-if_some false x y c e = inr (refl, e)
 
 -- a word that is the given one
 is_word : (word wanted : Bytes) → bytes_eq word wanted ≡ true → word ≡ wanted
 is_word word wanted e = (bytes_eq-Decides word wanted).0 e
 
-same_form : (words : List Bytes) (c d : Command) → words ≡ words_of c → IsCommand c → Some c ≡ Some d → IsForm words d
-same_form words c d same h e =
-    let same_command : c ≡ d = cc e in subst (IsForm words) same_command (record { same = same; in_range = h })
+-- a command that is found in one branch or the other
+branch : (words : List Bytes) (c : Command) (b : Bool) (x y : Option Command) → (b ≡ true → x ≡ Some c → IsForm words c) → (y ≡ Some c → IsForm words c)
+    → (if b then x else y) ≡ Some c → IsForm words c
+branch words c true x y here there e = here refl e
+branch words c false x y here there e = there e
 
-pair_is : (first second wanted : Bytes) → first ≡ wanted → (first ∷ second ∷ []) ≡ (wanted ∷ second ∷ [])
-pair_is first second wanted e = ap (λ w. w ∷ second ∷ []) e
+-- a command that is found by its first word
+named : (first name : Bytes) (words : List Bytes) (d c : Command) → name ∷ words ≡ words_of d → IsCommand d → bytes_eq first name ≡ true
+    → Some d ≡ Some c → IsForm (first ∷ words) c
+named first name words d c same in_range is e =
+    let one : d ≡ c = cc e in
+    subst (IsForm (first ∷ words)) one (record { same = ap (λ w. w ∷ words) (is_word first name is) ∙ same; in_range = in_range })
 
 -- what is found in a range is in it, and passes
 found_in : (p : ℕ → Bool) (a count n : ℕ) → find p (range_with_len a count) ≡ Some n → (p n ≡ true) × (a ≤ n) × (n < a + count)
@@ -156,91 +148,43 @@ children_is word n e =
     let found = found_in (λ m. bytes_eq (decimal m) word) 1 30 n e in
     (sym ((bytes_eq-Decides (decimal n) word).0 found.0), found.1, omega arith)
 
-gen_form : (first second : Bytes) (o : Option ℕ) (c : Command) → children_of second ≡ o → first ≡ codes "gen" → option_map gen o
-    ≡ Some c → IsForm (first ∷ second ∷ []) c
-gen_form first second None c found e h = cc h
-gen_form first second (Some n) c found e h =
-    let is = children_is second n found in
-    same_form (first ∷ second ∷ []) (gen n) c (ap (λ w. w ∷ second ∷ []) e ∙ ap (λ w. codes "gen" ∷ w ∷ []) is.0) (is.1, is.2) h
+gen_form : (first second : Bytes) (o : Option ℕ) (c : Command) → children_of second ≡ o → bytes_eq first (codes "gen") ≡ true → option_map gen o ≡ Some c
+    → IsForm (first ∷ second ∷ []) c
+gen_form first second None c found is e = cc e
+gen_form first second (Some n) c found is e =
+    let at = children_is second n found in rw at.0 (named first (codes "gen") _ (gen n) c refl (at.1, at.2) is e)
 
 two_form : (first second : Bytes) (c : Command) → two_words first second ≡ Some c → IsForm (first ∷ second ∷ []) c
-two_form first second c e =
-    elim (if_some (bytes_eq first (codes "script")) _ _ c e) [
-      | inl h ↦ same_form _ (script Policy second) c (pair_is first second (codes "script") (is_word first (codes "script") h.0)) tt h.1
-      | inr h ↦ elim (if_some (bytes_eq first (codes "check")) _ _ c h.1) [
-        | inl h ↦ same_form _ (check Policy second) c (pair_is first second (codes "check") (is_word first (codes "check") h.0)) tt h.1
-        | inr h ↦ elim (if_some (bytes_eq first (codes "satisfy")) _ _ c h.1) [
-          | inl h ↦ same_form _ (satisfy Policy second) c (pair_is first second (codes "satisfy") (is_word first (codes "satisfy") h.0)) tt h.1
-          | inr h ↦ elim (if_some (bytes_eq first (codes "gen")) _ _ c h.1) [
-            | inl h ↦ gen_form first second (children_of second) c refl (is_word first (codes "gen") h.0) h.1
-            | inr h ↦ elim (if_some (bytes_eq first (codes "policy")) _ _ c h.1) [
-              | inl h ↦ same_form _ (policy second) c (pair_is first second (codes "policy") (is_word first (codes "policy") h.0)) tt h.1
-              | inr h ↦ elim (if_some (bytes_eq first (codes "plan")) _ _ c h.1) [
-                | inl h ↦ same_form _ (plan second) c (pair_is first second (codes "plan") (is_word first (codes "plan") h.0)) tt h.1
-                | inr h ↦ elim (if_some (bytes_eq first (codes "audit")) _ _ c h.1) [
-                  | inl h ↦ same_form _ (audit second) c (pair_is first second (codes "audit") (is_word first (codes "audit") h.0)) tt h.1
-                  | inr h ↦ cc h.1
-                ]
-              ]
-            ]
-          ]
-        ]
-      ]
-    ]
+two_form first second c =
+    branch _ c _ _ _ (named first (codes "script") _ (script Policy second) c refl tt) (
+    branch _ c _ _ _ (named first (codes "check") _ (check Policy second) c refl tt) (
+    branch _ c _ _ _ (named first (codes "satisfy") _ (satisfy Policy second) c refl tt) (
+    branch _ c _ _ _ (gen_form first second (children_of second) c refl) (
+    branch _ c _ _ _ (named first (codes "policy") _ (policy second) c refl tt) (
+    branch _ c _ _ _ (named first (codes "plan") _ (plan second) c refl tt) (
+    branch _ c _ _ _ (named first (codes "audit") _ (audit second) c refl tt) (λ e. cc e)))))))
 
-one_form : (first : Bytes) (c : Command) → one_word first ≡ Some c → IsForm (first ∷ []) c
-one_form first c e =
-    elim (if_some (bytes_eq first (codes "run")) _ _ c e) [
-      | inl h ↦ same_form _ run c (ap (λ w. w ∷ []) (is_word first (codes "run") h.0)) tt h.1
-      | inr h ↦ cc h.1
-    ]
+consensus_form : (first third : Bytes) (c : Command) → consensus_words first third ≡ Some c → IsForm (first ∷ codes "--consensus" ∷ third ∷ []) c
+consensus_form first third c =
+    branch _ c _ _ _ (named first (codes "script") _ (script Consensus third) c refl tt) (
+    branch _ c _ _ _ (named first (codes "check") _ (check Consensus third) c refl tt) (
+    branch _ c _ _ _ (named first (codes "satisfy") _ (satisfy Consensus third) c refl tt) (λ e. cc e)))
 
-consensus_is : (first second third wanted : Bytes) → first ≡ wanted → second ≡ codes "--consensus" →
-    (first ∷ second ∷ third ∷ []) ≡ (wanted ∷ codes "--consensus" ∷ third ∷ [])
-consensus_is first second third wanted e f = ap (λ w. w ∷ second ∷ third ∷ []) e ∙ ap (λ w. wanted ∷ w ∷ third ∷ []) f
-
-consensus_form : (first second third : Bytes) (c : Command) → second ≡ codes "--consensus" → consensus_words first third ≡ Some c →
-    IsForm (first ∷ second ∷ third ∷ []) c
-consensus_form first second third c is e =
-    elim (if_some (bytes_eq first (codes "script")) _ _ c e) [
-      | inl h ↦ same_form _ (script Consensus third) c (consensus_is first second third (codes "script") (is_word first (codes "script") h.0) is) tt h.1
-      | inr h ↦ elim (if_some (bytes_eq first (codes "check")) _ _ c h.1) [
-        | inl h ↦ same_form _ (check Consensus third) c (consensus_is first second third (codes "check") (is_word first (codes "check") h.0) is) tt h.1
-        | inr h ↦ elim (if_some (bytes_eq first (codes "satisfy")) _ _ c h.1) [
-          | inl h ↦ same_form _ (satisfy Consensus third) c (consensus_is first second third (codes "satisfy") (is_word first (codes "satisfy") h.0) is) tt h.1
-          | inr h ↦ cc h.1
-        ]
-      ]
-    ]
-
-three_form : (first second third : Bytes) (c : Command) → three_words first second third ≡ Some c → IsForm (first ∷ second
-    ∷ third ∷ []) c
-three_form first second third c e =
-    elim (if_some (bytes_eq first (codes "satisfy") && bytes_eq second (codes "--malleable")) _ _ c e) [
-      | inl h ↦
-          let both = and_parts (bytes_eq first (codes "satisfy")) (bytes_eq second (codes "--malleable")) h.0 in
-          same_form _ (satisfy_malleable Policy third) c
-          (ap (λ w. w ∷ second ∷ third ∷ []) (is_word first (codes "satisfy") both.0) ∙ ap (λ w. codes "satisfy" ∷ w ∷ third
-          ∷ []) (is_word second (codes "--malleable") both.1)) tt h.1
-      | inr h ↦ elim (if_some (bytes_eq second (codes "--consensus")) _ _ c h.1) [
-        | inl h ↦ consensus_form first second third c (is_word second (codes "--consensus") h.0) h.1
-        | inr h ↦ cc h.1
-      ]
-    ]
+three_form : (first second third : Bytes) (c : Command) → three_words first second third ≡ Some c → IsForm (first ∷ second ∷ third ∷ []) c
+three_form first second third c =
+    branch _ c _ _ _ (λ is e.
+    let both = and_parts (bytes_eq first (codes "satisfy")) (bytes_eq second (codes "--malleable")) is in
+    rw (is_word second (codes "--malleable") both.1) (named first (codes "satisfy") _ (satisfy_malleable Policy third) c refl tt both.0 e)) (
+    branch _ c _ _ _ (λ is e. rw (is_word second (codes "--consensus") is) (consensus_form first third c e)) (λ e. cc e))
 
 four_form : (first second third fourth : Bytes) (c : Command) → four_words first second third fourth ≡ Some c →
     IsForm (first ∷ second ∷ third ∷ fourth ∷ []) c
-four_form first second third fourth c e =
-    elim (if_some (bytes_eq first (codes "satisfy") && (bytes_eq second (codes "--malleable") && bytes_eq third (codes "--consensus"))) _ _ c e) [
-      | inl h ↦
-          let both = and_parts (bytes_eq first (codes "satisfy")) _ h.0 in
-          let more = and_parts (bytes_eq second (codes "--malleable")) (bytes_eq third (codes "--consensus")) both.1 in
-          same_form _ (satisfy_malleable Consensus fourth) c
-          (ap (λ w. w ∷ second ∷ third ∷ fourth ∷ []) (is_word first (codes "satisfy") both.0)
-          ∙ ap (λ w. codes "satisfy" ∷ w ∷ third ∷ fourth ∷ []) (is_word second (codes "--malleable") more.0)
-          ∙ ap (λ w. codes "satisfy" ∷ codes "--malleable" ∷ w ∷ fourth ∷ []) (is_word third (codes "--consensus") more.1)) tt h.1
-      | inr h ↦ cc h.1
-    ]
+four_form first second third fourth c =
+    branch _ c _ _ _ (λ is e.
+    let both = and_parts (bytes_eq first (codes "satisfy")) _ is in
+    let more = and_parts (bytes_eq second (codes "--malleable")) (bytes_eq third (codes "--consensus")) both.1 in
+    rw (is_word second (codes "--malleable") more.0, is_word third (codes "--consensus") more.1)
+    (named first (codes "satisfy") _ (satisfy_malleable Consensus fourth) c refl tt both.0 e)) (λ e. cc e)
 
 several_form : (first second : Bytes) (more : List Bytes) (c : Command) → several_words first second more ≡ Some c → IsForm (first ∷ second ∷ more) c
 several_form first second [] c e = two_form first second c e
@@ -248,20 +192,13 @@ several_form first second (third ∷ []) c e = three_form first second third c e
 several_form first second (third ∷ fourth ∷ []) c e = four_form first second third fourth c e
 several_form first second (third ∷ fourth ∷ fifth ∷ more) c e = cc e
 
-decode_form : (first second : Bytes) (more : List Bytes) (c : Command) → first ≡ codes "decode" → decode_words second more ≡ Some c
-    → IsForm (first ∷ second ∷ more) c
-decode_form first second more c is e = elim (if_some (are_script_and_keys second more) _ _ c e) [
-  | inl h ↦ same_form _ (decode second more) c (ap (λ w. w ∷ second ∷ more) is) ((script_and_keys_tell second more).0 h.0) h.1
-  | inr h ↦ cc h.1
-]
-
 pub is_form : (words : List Bytes) (c : Command) → command_of words ≡ Some c → IsForm words c
 is_form [] c e = cc e
-is_form (first ∷ []) c e = one_form first c e
-is_form (first ∷ second ∷ more) c e = elim (if_some (bytes_eq first (codes "decode")) _ _ c e) [
-  | inl h ↦ decode_form first second more c (is_word first (codes "decode") h.0) h.1
-  | inr h ↦ several_form first second more c h.1
-]
+is_form (first ∷ []) c e = branch _ c _ _ _ (named first (codes "run") [] run c refl tt) (λ e. cc e) e
+is_form (first ∷ second ∷ more) c e =
+    branch _ c _ _ _ (λ is. branch _ c _ _ _ (λ told.
+    named first (codes "decode") _ (decode second more) c refl ((script_and_keys_tell second more).0 told) is) (λ e. cc e))
+    (several_form first second more c) e
 
 -- the command of words that have a form
 pub form_found : (words : List Bytes) (c : Command) → IsForm words c → command_of words ≡ Some c
@@ -269,10 +206,3 @@ form_found words c form = ap command_of form.same ∙ command_found c form.in_ra
 
 pub none_has_form : (words : List Bytes) → command_of words ≡ None → HasNoForm words
 none_has_form words e c form = cc (sym e ∙ form_found words c form)
-
-pub no_form_found : (words : List Bytes) → HasNoForm words → command_of words ≡ None
-no_form_found words none = go (command_of words) refl
-  where
-    go : (o : Option Command) → command_of words ≡ o → o ≡ None
-    go None e = refl
-    go (Some c) e = absurd (none c (is_form words c e))

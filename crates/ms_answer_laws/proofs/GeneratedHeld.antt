@@ -1,8 +1,8 @@
 -- The generated assets are assets.
-use Rattle.std.proofs.Common.{◌≡◌, ℕ, zero, suc, ◌+◌, ◌%◌, ◌≤◌, ◌<◌, Bool, true, false, ◌&&◌, nat_eq, List, [], ◌∷◌, All, map, replicate, slice_index_or, refl, sym, ap, subst, arith, lit<}
+use Rattle.std.proofs.Common.{◌≡◌, ℕ, zero, suc, ◌+◌, ◌%◌, ◌≤◌, ◌<◌, false, List, [], ◌∷◌, All, map, replicate, slice_index_or, refl, sym, ap, subst, arith, lit<}
 use Rattle.std.specs.List.{range_with_len, IsDistinct, AllByRecursion}
 use Rattle.std.specs.Str.{bytes_eq}
-use Rattle.std.proofs.lemmas.Bool.{eqb-true}
+use Rattle.std.proofs.lemmas.Bool.{ne_eqb}
 use Rattle.std.proofs.lemmas.List.{length-replicate}
 use Rattle.std.proofs.lemmas.List.Elements.{All-map}
 use Rattle.std.proofs.lemmas.List.FromFn.{length-range_with_len, get_or-range_with_len}
@@ -45,19 +45,8 @@ all_in_range P n few h k d in_range =
 
 -- ---- distinct keys
 
-both_false : (a b : Bool) → a ≡ false → (a && b) ≡ false
-both_false true b e = cc e
-both_false false b e = refl
-
-not_same : (i j : ℕ) → i < j → nat_eq (i + 1) (j + 1) ≡ false
-not_same i j h = go (nat_eq (i + 1) (j + 1)) refl
-  where
-    go : (b : Bool) → nat_eq (i + 1) (j + 1) ≡ b → b ≡ false
-    go true e = let same = eqb-true (i + 1) (j + 1) e in absurd (omega arith)
-    go false e = refl
-
 differs : (i j : ℕ) → i < j → bytes_eq (generated_key i) (generated_key j) ≡ false
-differs i j h = both_false (nat_eq (i + 1) (j + 1)) _ (not_same i j h)
+differs i j h = rw (ne_eqb (i + 1) (j + 1) (λ same. omega (arith, same, h)))
 
 all_differ : (i a n : ℕ) → i < a → AllByRecursion (λ key. bytes_eq (generated_key i) key
     ≡ false) (map generated_key (range_with_len a n))

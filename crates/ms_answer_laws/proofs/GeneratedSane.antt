@@ -1,5 +1,5 @@
 -- The generated trees are sane.
-use Rattle.std.proofs.Common.{◌≡◌, ℕ, zero, suc, ◌+◌, ◌%◌, ◌≤◌, Bool, true, false, ◌&&◌, ◌==◌, nat_le, nat_lt, is_none, if◌then◌else◌, List, [], ◌∷◌, Option, Some, None, Result, Ok, Err, length, refl, arith}
+use Rattle.std.proofs.Common.{◌≡◌, ℕ, zero, suc, ◌+◌, ◌%◌, ◌≤◌, Bool, true, false, ◌&&◌, ◌==◌, nat_le, is_none, if◌then◌else◌, Option, Some, None, Result, Ok, Err, length, refl, ap, arith}
 use Rattle.std.specs.Prelude.{⊤}
 use Rattle.std.proofs.lemmas.Bool.{leb-true, le-ltb, and_parts}
 use Rattle.def_tree.specs.declared.Wrapper.TheVariants.{S}
@@ -17,12 +17,10 @@ use Rattle.def_sane.specs.Locks.{mix}
 use Rattle.def_sane.specs.Keys.{repeated_key}
 use Rattle.def_sane.specs.Limits.{limits_of}
 use Rattle.def_sane.specs.Scaffolding.Most.{both, either, most_sat, most_dsat, most_parts, number_of}
-use Rattle.def_sane.specs.declared.Rules.TheVariants.{Policy}
-use Rattle.def_sane.specs.declared.Unfit.{Unfit}
-use Rattle.def_sane.specs.declared.Unfit.TheVariants as unfit
-use Rattle.def_sane.specs.Unfit.{broken_rule, wrong_top, too_large, too_many_ops, too_many_items, malleable, no_signature, mixed_locks, repeated, first_reason, first_unfit_valid, IsSane}
+use Rattle.def_sane.specs.Unfit.{broken_rule, wrong_top, malleable, no_signature, mixed_locks, repeated, IsValid, IsSane}
 use Rattle.def_answer.specs.Generated.{threshold_of, pk_child, hash_child, child, generated_children, generated_tree}
 use Rattle.ms_answer_laws.specs.Laws.{GeneratedIsSane}
+use Rattle.ms_answer_laws.proofs.Decided.{none_tells}
 use Rattle.ms_answer_laws.proofs.Computing.{answers_on_literals}
 use Rattle.ms_answer_laws.proofs.UpTo.{UpTo, holds_at}
 
@@ -110,41 +108,13 @@ fit_30 = ((((((((((fit_20, refl), refl), refl), refl), refl), refl), refl), refl
 
 -- ---- no reason stands against it
 
-abbrev AreNone : List (Option Unfit) → Type 0
-AreNone [] = ⊤
-AreNone (r ∷ rs) = (r ≡ None) × AreNone rs
-
-none_first : (rs : List (Option Unfit)) → AreNone rs → first_reason rs ≡ None
-none_first [] h = refl
-none_first (None ∷ rs) h = none_first rs h.1
-none_first (Some r ∷ rs) h = cc h.0
-
 no_broken_rule : (r : Result Ty RuleAt) → type_fits r ≡ true → (broken_rule r ≡ None) × (wrong_top r ≡ None)
-no_broken_rule (Ok ty) e = (refl, go (is_b ty.base) e)
-  where
-    go : (b : Bool) → b ≡ true → (if b then None else Some unfit.TopNotB) ≡ None
-    go true e = refl
-    go false e = cc e
+no_broken_rule (Ok ty) e = (refl, rw e)
 no_broken_rule (Err at) e = cc e
 
 not_malleable : (r : Result Mall RuleAt) → mall_fits r ≡ true → (malleable r ≡ None) × (no_signature r ≡ None)
-not_malleable (Ok m) e = (refl, go m.s e)
-  where
-    go : (b : Bool) → b ≡ true → (if b then None else Some unfit.NoSignature) ≡ None
-    go true e = refl
-    go false e = cc e
+not_malleable (Ok m) e = (refl, rw e)
 not_malleable (Err at) e = cc e
-
-not_mixed : (o : Option ℕ) → is_none o ≡ true → mixed_locks o ≡ None
-not_mixed None e = refl
-not_mixed (Some node) e = cc e
-
-not_repeated : (o : Option ℕ) → is_none o ≡ true → repeated o ≡ None
-not_repeated None e = refl
-not_repeated (Some node) e = cc e
-
-within : (most n : ℕ) (r : Unfit) → n ≤ most → (if nat_lt most n then Some r else None) ≡ None
-within most n r h = rw (le-ltb most n h) refl
 
 few_items : (m : ℕ) (o : Option Takes) → TakesSome m o → m ≤ 100 → (number_of (λ t. t.items) o ≤ 100)
     × (number_of (λ t. t.keys) o ≡ 0)
@@ -164,25 +134,10 @@ sane_tree tree m e takes few =
     let size : (limits_of tree).size ≤ 3600 = leb-true (length (script_of tree)) 3600 p5.0 in
     let codes : opcode_count (emit tree) ≤ 201 = leb-true (opcode_count (emit tree)) 201 p5.1 in
     let ops : (limits_of tree).ops ≤ 201 = let keys = items.1 in omega (arith, codes, keys) in
-    let valid = none_first
-    (broken_rule (corr tree) ∷ wrong_top (corr tree) ∷ too_large Policy (limits_of tree) ∷ too_many_ops (limits_of tree)
-    ∷ too_many_items Policy (limits_of tree) ∷ []) (
-      typed.0,
-      (
-        typed.1,
-        (
-          within 3600 (limits_of tree).size (unfit.Size (limits_of tree).size) size,
-          (
-            within 201 (limits_of tree).ops (unfit.Ops (limits_of tree).ops) ops,
-            (within 100 (limits_of tree).items (unfit.Items (limits_of tree).items) items.0, tt),
-          ),
-        ),
-      ),
-    ) in
-    none_first
-    (first_unfit_valid tree ∷ malleable (mall tree) ∷ no_signature (mall tree) ∷ mixed_locks (mix tree)
-    ∷ repeated (repeated_key tree) ∷ [])
-    (valid, (signed.0, (signed.1, (not_mixed (mix tree) p3.0, (not_repeated (repeated_key tree) p4.0, tt)))))
+    let mixed = ap mixed_locks ((none_tells (mix tree)).0 p3.0) in
+    let repeats = ap repeated ((none_tells (repeated_key tree)).0 p4.0) in
+    let valid : IsValid tree = rw (typed.0, typed.1, le-ltb 3600 _ size, le-ltb 201 _ ops, le-ltb 100 _ items.0) in
+    rw (valid, signed.0, signed.1, mixed, repeats)
 
 pub generated_is_sane : GeneratedIsSane
 generated_is_sane n some few =

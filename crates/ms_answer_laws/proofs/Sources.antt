@@ -20,8 +20,9 @@ use Rattle.def_answer.specs.Reply.{Reply, reply, unless_unfit, text_reply, MOST_
 use Rattle.def_answer.specs.Answer.{script_reply, check_reply, policy_reply, gen_reply, RepliesToText, AreSteps, HasSteps, offsets_of, RepliesToAudit, Replies, RepliesToWords}
 use Rattle.def_answer.specs.Sources.{Passes, NeedsSource, ReadsSource, IsOfSource, IsToFile}
 use Rattle.ms_answer_laws.specs.Laws.{AnswerWithoutSource, StatusWithoutSource, StatusWithSource}
+use Rattle.ms_answer_laws.proofs.Decided.{none_tells}
 use Rattle.ms_answer_laws.proofs.Answered.{OnText, reading_of, has_reading}
-use Rattle.ms_answer_laws.proofs.Early.{OfStatus, satisfy_status, run_status, plan_status, audit_status, long_asset_file, long_run_file, long_plan_file, long_audit_file}
+use Rattle.ms_answer_laws.proofs.Early.{OfStatus, satisfy_status, run_status, plan_status, audit_status, text_status, audited_status, long_asset_file, long_run_file, long_plan_file, long_audit_file}
 use Rattle.ms_answer_laws.proofs.Forms.{command_of, form_found}
 use Rattle.ms_answer_laws.proofs.Unique.{one_form, one_reading, text_of_form}
 
@@ -32,22 +33,11 @@ same_refusal : (reason : Option Unfit) (offsets : List ℕ) (f g : Reply) → ¬
 same_refusal None offsets f g some = absurd (some refl)
 same_refusal (Some unfit) offsets f g some = refl
 
-refusal_status : (reason : Option Unfit) (offsets : List ℕ) (f : Reply) → ¬ (reason ≡ None) →
-    (unless_unfit reason offsets f).status ≡ status.TextRefused
-refusal_status None offsets f some = absurd (some refl)
-refusal_status (Some unfit) offsets f some = refl
-
 same_without : (text : Bytes) (reason : Tree → Option Unfit) (f g : Tree → Reply) (r : Reading) → ¬ Passes reason text →
     HasReading text r → text_reply reason f r ≡ text_reply reason g r
 same_without text reason f g (read tree offsets) never has =
     same_refusal (reason tree) offsets (f tree) (g tree) (λ none. never (tree, offsets, has, none))
 same_without text reason f g (refused fault) never has = refl
-
-status_without : (text : Bytes) (reason : Tree → Option Unfit) (next : Tree → Reply) (r : Reading) → ¬ Passes reason text →
-    HasReading text r → (text_reply reason next r).status ≡ status.TextRefused
-status_without text reason next (read tree offsets) never has =
-    refusal_status (reason tree) offsets (next tree) (λ none. never (tree, offsets, has, none))
-status_without text reason next (refused fault) never has = refl
 
 text_without : (text : Bytes) (reason : Tree → Option Unfit) (f g : Tree → Reply) (r : Reply) → ¬ Passes reason text →
     RepliesToText text reason f r → RepliesToText text reason g r
@@ -70,58 +60,36 @@ audit_without text source other r never (reading, steps, has, are, e) = (
 -- ---- replies without the source
 
 reply_without : (c : Command) (source other : Bytes) (r : Reply) → ¬ NeedsSource c → Replies c source r → Replies c other r
-reply_without (script rules text) source other r never h = h
-reply_without (check rules text) source other r never h = h
 reply_without (satisfy rules text) source other r never h =
     text_without text (first_unfit_under rules) (satisfy_reply rules strict source) (satisfy_reply rules strict other) r never h
 reply_without (satisfy_malleable rules text) source other r never h =
     text_without text (first_unfit_valid_under rules) (satisfy_reply rules cheapest source) (satisfy_reply rules cheapest other) r never h
 reply_without run source other r never h = absurd (never tt)
-reply_without (gen n) source other r never h = h
-reply_without (policy text) source other r never h = h
 reply_without (plan text) source other r never h = text_without text first_unfit (plan_reply source) (plan_reply other) r never h
 reply_without (audit text) source other r never h = audit_without text source other r never h
-reply_without (decode digits keys) source other r never h = h
+reply_without c source other r never h = h
 
 -- no status that tells of the source
 abbrev IsOther : Status → Type 0
 IsOther s = ¬ IsOfSource s
 
-other_unfit : (reason : Option Unfit) (offsets : List ℕ) (next : Reply) → OfStatus IsOther next → OfStatus IsOther (unless_unfit reason offsets next)
-other_unfit None offsets next after = after
-other_unfit (Some unfit) offsets next after = λ s. s
-
-other_text : (reason : Tree → Option Unfit) (next : Tree → Reply) (r : Reading) → ((tree : Tree) → OfStatus IsOther (next tree)) →
-    OfStatus IsOther (text_reply reason next r)
-other_text reason next (read tree offsets) after = other_unfit (reason tree) offsets (next tree) (after tree)
-other_text reason next (refused fault) after = λ s. s
-
-refused_other : (text : Bytes) (reason : Tree → Option Unfit) (next : Tree → Reply) (r : Reply) → ¬ Passes reason text →
-    RepliesToText text reason next r → OfStatus IsOther r
-refused_other text reason next r never h =
-    let is = ap (λ (s : Reply). s.status) h.2 ∙ status_without text reason next h.0 never h.1 in
-    subst IsOther (sym is) (λ s. s)
-
-audit_refused_other : (text source : Bytes) (r : Reply) → ¬ Passes first_unfit_valid text → RepliesToAudit text source r → OfStatus IsOther r
-audit_refused_other text source r never (reading, steps, has, are, e) =
-    let is = ap (λ (s : Reply). s.status) e ∙ status_without text first_unfit_valid (audit_reply (offsets_of reading) steps source) reading never has in
-    subst IsOther (sym is) (λ s. s)
-
 other_status : (c : Command) (source : Bytes) (r : Reply) → ¬ NeedsSource c → Replies c source r → OfStatus IsOther r
 unfolding gen_reply
 other_status (script rules text) source r never h =
-    subst (OfStatus IsOther) (sym h.2) (other_text (first_unfit_valid_under rules) script_reply h.0 (λ tree s. s))
+    text_status IsOther text (first_unfit_valid_under rules) script_reply r (λ s. s) (λ passes s. s) h
 other_status (check rules text) source r never h =
-    subst (OfStatus IsOther) (sym h.2) (other_text (first_unfit_under rules) (check_reply rules) h.0 (λ tree s. s))
-other_status (satisfy rules text) source r never h = refused_other text (first_unfit_under rules) (satisfy_reply rules strict source) r never h
+    text_status IsOther text (first_unfit_under rules) (check_reply rules) r (λ s. s) (λ passes s. s) h
+other_status (satisfy rules text) source r never h =
+    text_status IsOther text (first_unfit_under rules) (satisfy_reply rules strict source) r (λ s. s) (λ passes. absurd (never passes)) h
 other_status (satisfy_malleable rules text) source r never h =
-    refused_other text (first_unfit_valid_under rules) (satisfy_reply rules cheapest source) r never h
+    text_status IsOther text (first_unfit_valid_under rules) (satisfy_reply rules cheapest source) r (λ s. s) (λ passes. absurd (never passes)) h
 other_status run source r never h = absurd (never tt)
 other_status (gen n) source r never h = subst (OfStatus IsOther) (sym h) (λ s. s)
-other_status (policy text) source r never h =
-    subst (OfStatus IsOther) (sym h.2) (other_text first_unfit policy_reply h.0 (λ tree s. s))
-other_status (plan text) source r never h = refused_other text first_unfit (plan_reply source) r never h
-other_status (audit text) source r never h = audit_refused_other text source r never h
+other_status (policy text) source r never h = text_status IsOther text first_unfit policy_reply r (λ s. s) (λ passes s. s) h
+other_status (plan text) source r never h =
+    text_status IsOther text first_unfit (plan_reply source) r (λ s. s) (λ passes. absurd (never passes)) h
+other_status (audit text) source r never h =
+    audited_status IsOther text source r (λ s. s) (λ passes offsets steps. absurd (never passes)) h
 other_status (decode digits keys) source r never (inl h) = subst (OfStatus IsOther) (sym h.2) (λ s. s)
 other_status (decode digits keys) source r never (inr h) = subst (OfStatus IsOther) (sym h.1) (λ s. s)
 
@@ -164,8 +132,6 @@ passed_audit text source r utf8 passes (reading, steps, has, are, e) =
 
 file_status : (c : Command) (source : Bytes) (r : Reply) → OnText IsUtf8 c → NeedsSource c → Replies c source r →
     OfStatus IsToFile r
-file_status (script rules text) source r utf8 needs h = absurd needs
-file_status (check rules text) source r utf8 needs h = absurd needs
 file_status (satisfy rules text) source r utf8 needs h =
     subst (OfStatus IsToFile) (sym (passed_text text (first_unfit_under rules) (satisfy_reply rules strict source) r utf8 needs h))
     (satisfy_status IsToFile rules strict source needs.0 tt tt tt)
@@ -173,21 +139,17 @@ file_status (satisfy_malleable rules text) source r utf8 needs h =
     subst (OfStatus IsToFile) (sym (passed_text text (first_unfit_valid_under rules) (satisfy_reply rules cheapest source) r utf8 needs h))
     (satisfy_status IsToFile rules cheapest source needs.0 tt tt tt)
 file_status run source r utf8 needs h = subst (OfStatus IsToFile) (sym h) (run_status IsToFile source tt tt tt)
-file_status (gen n) source r utf8 needs h = absurd needs
-file_status (policy text) source r utf8 needs h = absurd needs
 file_status (plan text) source r utf8 needs h =
     subst (OfStatus IsToFile) (sym (passed_text text first_unfit (plan_reply source) r utf8 needs h))
     (plan_status IsToFile source needs.0 tt tt tt)
 file_status (audit text) source r utf8 needs h =
     let found = passed_audit text source r utf8 needs h in
     subst (OfStatus IsToFile) (sym found.2) (audit_status IsToFile needs.1 found.0 source needs.0 tt tt tt)
-file_status (decode digits keys) source r utf8 needs h = absurd needs
+file_status c source r utf8 needs h = absurd needs
 
 -- a file that is too long is refused, whatever it says
 pub long_file : (c : Command) (source : Bytes) (r : Reply) → OnText IsUtf8 c → NeedsSource c → MOST_FILE < length source →
     Replies c source r → r.status ≡ status.FileRefused
-long_file (script rules text) source r utf8 needs long h = absurd needs
-long_file (check rules text) source r utf8 needs long h = absurd needs
 long_file (satisfy rules text) source r utf8 needs long h =
     ap (λ (r : Reply). r.status)
     (passed_text text (first_unfit_under rules) (satisfy_reply rules strict source) r utf8 needs h ∙ long_asset_file rules strict source needs.0 long)
@@ -195,14 +157,12 @@ long_file (satisfy_malleable rules text) source r utf8 needs long h =
     ap (λ (r : Reply). r.status)
     (passed_text text (first_unfit_valid_under rules) (satisfy_reply rules cheapest source) r utf8 needs h ∙ long_asset_file rules cheapest source needs.0 long)
 long_file run source r utf8 needs long h = ap (λ (r : Reply). r.status) (h ∙ long_run_file source long)
-long_file (gen n) source r utf8 needs long h = absurd needs
-long_file (policy text) source r utf8 needs long h = absurd needs
 long_file (plan text) source r utf8 needs long h =
     ap (λ (r : Reply). r.status) (passed_text text first_unfit (plan_reply source) r utf8 needs h ∙ long_plan_file source needs.0 long)
 long_file (audit text) source r utf8 needs long h =
     let found = passed_audit text source r utf8 needs h in
     ap (λ (r : Reply). r.status) (found.2 ∙ long_audit_file needs.1 found.0 source needs.0 long)
-long_file (decode digits keys) source r utf8 needs long h = absurd needs
+long_file c source r utf8 needs long h = absurd needs
 
 file_words : (words : List Bytes) (source : Bytes) (r : Reply) → All IsUtf8 words → ReadsSource words →
     RepliesToWords words source r → OfStatus IsToFile r
@@ -221,34 +181,20 @@ abbrev pub passed : (reason : Tree → Option Unfit) → Reading → Bool
 passed reason (read tree offsets) = is_none (reason tree)
 passed reason (refused fault) = false
 
-none_is : (o : Option Unfit) → is_none o ≡ true → o ≡ None
-none_is None e = refl
-none_is (Some unfit) e = cc e
-
-some_is : (o : Option Unfit) → is_none o ≡ false → ¬ (o ≡ None)
-some_is None e is = cc e
-some_is (Some unfit) e is = cc is
-
 passes_by : (text : Bytes) (reason : Tree → Option Unfit) (r : Reading) → HasReading text r → passed reason r ≡ true → Passes reason text
-passes_by text reason (read tree offsets) has e = (tree, offsets, has, none_is (reason tree) e)
+passes_by text reason (read tree offsets) has e = (tree, offsets, has, (none_tells (reason tree)).0 e)
 passes_by text reason (refused fault) has e = cc e
 
 pub passes : (text : Bytes) (reason : Tree → Option Unfit) → list_all is_ascii text ≡ true → passed reason (reading_of text) ≡ true →
     Passes reason text
 passes text reason ascii e = passes_by text reason (reading_of text) (has_reading text (ascii_is_utf8 text ascii)) e
 
-fails_by : (text : Bytes) (reason : Tree → Option Unfit) (r : Reading) → IsUtf8 text → HasReading text r → passed reason r ≡ false → ¬ Passes reason text
-fails_by text reason (read tree offsets) utf8 has e p =
-    let same = one_reading text (read p.0 p.1) (read tree offsets) utf8 p.2 has in
-    let is = ap (passed reason) same in
-    some_is (reason p.0) (is ∙ e) p.3
-fails_by text reason (refused fault) utf8 has e p =
-    let same = one_reading text (refused fault) (read p.0 p.1) utf8 has p.2 in cc same
-
 pub fails : (text : Bytes) (reason : Tree → Option Unfit) → list_all is_ascii text ≡ true → passed reason (reading_of text) ≡ false →
     ¬ Passes reason text
-fails text reason ascii e =
-    let utf8 = ascii_is_utf8 text ascii in fails_by text reason (reading_of text) utf8 (has_reading text utf8) e
+fails text reason ascii e p =
+    let utf8 = ascii_is_utf8 text ascii in
+    let same = one_reading text (read p.0 p.1) (reading_of text) utf8 p.2 (has_reading text utf8) in
+    cc (sym ((none_tells (reason p.0)).1 p.3) ∙ ap (passed reason) same ∙ e)
 
 -- the words have this command and no other
 pub reads_by : (words : List Bytes) (c : Command) → command_of words ≡ Some c → ¬ NeedsSource c → ¬ ReadsSource words

@@ -43,12 +43,10 @@ text_of_words P (satisfy Policy text) h = h 1 [] (omega arith)
 text_of_words P (satisfy Consensus text) h = h 2 [] (omega arith)
 text_of_words P (satisfy_malleable Policy text) h = h 2 [] (omega arith)
 text_of_words P (satisfy_malleable Consensus text) h = h 3 [] (omega arith)
-text_of_words P run h = tt
-text_of_words P (gen n) h = tt
 text_of_words P (policy text) h = h 1 [] (omega arith)
 text_of_words P (plan text) h = h 1 [] (omega arith)
 text_of_words P (audit text) h = h 1 [] (omega arith)
-text_of_words P (decode digits keys) h = tt
+text_of_words P c h = tt
 
 pub text_of_form : (words : List Bytes) (c : Command) → All IsUtf8 words → IsForm words c → OnText IsUtf8 c
 text_of_form words c h form = text_of_words IsUtf8 c (subst (All IsUtf8) form.same h)

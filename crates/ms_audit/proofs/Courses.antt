@@ -175,7 +175,8 @@ two_goes kind.OrD w true n e = absurd cc
 two_goes kind.OrD w false n e = inl refl
 two_goes kind.OrI w first n e = absurd (n refl)
 
-two_is : (given : Given) (n : ℕ) (k : Two) (x z : Tree) (s : Stack) → k ≢ kind.OrI → walk given n (two k x z) s ≡ walk_child (n + nodes x + nodes z) (walk given n x) (two_next k (walk given (n + nodes x) z)) s
+two_is : (given : Given) (n : ℕ) (k : Two) (x z : Tree) (s : Stack) → k ≢ kind.OrI → walk given n (two k x z) s
+    ≡ walk_child (n + nodes x + nodes z) (walk given n x) (two_next k (walk given (n + nodes x) z)) s
 unfolding two_next
 two_is given n kind.AndV x z s other = refl
 two_is given n kind.AndB x z s other = refl
@@ -196,11 +197,13 @@ two_done given stack k x z s a b c result first second other h e h2 ends_so =
     (ap (behind s.steps.items) (two_is given s.next k x z (below stack s.left) other)
     ∙ elim (two_goes k (walk given (s.next + nodes x) z) first other e) [
       | inl goes_on ↦
-          child_go (s.next + nodes x + nodes z) (walk given s.next x) (walk given (s.next + nodes x) z) (two_next k (walk given (s.next + nodes x) z)) (verdict_of_two k first) s.steps.items (below stack s.left)
+          child_go (s.next + nodes x + nodes z) (walk given s.next x) (walk given (s.next + nodes x) z) (two_next k (walk given (s.next + nodes x) z))
+          (verdict_of_two k first) s.steps.items (below stack s.left)
           first a.steps.items (below stack a.left) second b.steps.items (below stack b.left) h.found goes_on
           (ap (λ (m : ℕ). behind a.steps.items (walk given m z (below stack a.left))) (sym at) ∙ h2.found)
       | inr stops ↦
-          child_end (s.next + nodes x + nodes z) (walk given s.next x) (two_next k (walk given (s.next + nodes x) z)) s.steps.items (below stack s.left) first a.steps.items (below stack a.left) None h.found stops.0
+          child_end (s.next + nodes x + nodes z) (walk given s.next x) (two_next k (walk given (s.next + nodes x) z)) s.steps.items
+          (below stack s.left) first a.steps.items (below stack a.left) None h.found stops.0
           ∙ ap (λ v. with_step (s.next + nodes x + nodes z) v b.steps.items (below stack b.left)) (sym (stops.1 second))
     ]
     ∙ ap (λ (m : ℕ). with_step m (verdict_of_two k first second) b.steps.items (below stack b.left)) (sym node))
@@ -272,7 +275,8 @@ count_step given stack xs i x a b sat count total there at h is =
     let next : b.next ≡ a.next + nodes (shape x) = h.next in
     sym (
     ap (λ ts. added count a.steps.items (walk_all given a.next ts (below stack a.left))) (rest_cons xs i x there at)
-    ∙ added_step count a.steps.items (walk given a.next (shape x) (below stack a.left)) (walk_all given (a.next + nodes (shape x)) (shapes (drop (i + 1) xs))) sat b.steps.items (below stack b.left) total h.found is
+    ∙ added_step count a.steps.items (walk given a.next (shape x) (below stack a.left))
+    (walk_all given (a.next + nodes (shape x)) (shapes (drop (i + 1) xs))) sat b.steps.items (below stack b.left) total h.found is
     ∙ ap (λ (n : ℕ). added total b.steps.items (walk_all given n (shapes (drop (i + 1) xs)) (below stack b.left))) (sym next)
     )
 

@@ -63,7 +63,9 @@ drop_short stack top (suc k) few within =
 -- what `multi` takes
 pub multi_off : (given : Given) (node k : ℕ) (keys : List Key) (stack : List Bytes) (left : ℕ) → k < left → left ≤ length stack →
     walk_multi given node k keys (below stack left) ≡
-    with_step node (multi_verdict (is_empty (get_or stack (left - k - 1) [])) (are_found given.table (reverse keys) (take (left - (left - k)) (below stack left))) (list_all is_empty (take (left - (left - k)) (below stack left)))) []
+    with_step node (multi_verdict (is_empty (get_or stack (left - k - 1) []))
+    (are_found given.table (reverse keys) (take (left - (left - k)) (below stack left))) (list_all is_empty (take (left - (left - k)) (below stack left))))
+    []
     (below stack (left - k - 1))
 multi_off given node k keys stack left some within =
     let same : k ≡ left - (left - k) = omega (arith, some) in
@@ -87,7 +89,8 @@ try_key table keys stack count bottom end good key sig some within many there ke
     ∙ go good good_is sig_first
   where
     go : (good : Bool) → is_good table key sig ≡ good → between stack bottom end ≡ sig ∷ between stack bottom (end - 1) →
-        are_found table (key ∷ reverse (take (count - 1) keys)) (sig ∷ between stack bottom (end - 1)) ≡ are_found table (reverse (take (count - 1) keys)) (between stack bottom (if good then end - 1 else end))
+        are_found table (key ∷ reverse (take (count - 1) keys)) (sig ∷ between stack bottom (end - 1))
+        ≡ are_found table (reverse (take (count - 1) keys)) (between stack bottom (if good then end - 1 else end))
     go true e first = rw e refl
     go false e first = rw e (ap (are_found table (reverse (take (count - 1) keys))) (sym first))
 
@@ -103,7 +106,8 @@ none_left table keys stack bottom end none = ap (are_found table keys) (between_
 pub no_key : (table : Pairs) (keys : List Key) (stack : List Bytes) (bottom end : ℕ) → bottom < end → end ≤ length stack → are_found table (reverse (take 0 keys)) (between stack bottom end) ≡ false
 no_key table keys stack bottom end some within = ap (are_found table []) (between_step stack bottom end some within)
 
-pub empty_step : (stack : List Bytes) (bottom end : ℕ) (e : Bool) → bottom < end → end ≤ length stack → is_empty (get_or stack (end - 1) []) ≡ e → list_all is_empty (between stack bottom end) ≡ (if e then list_all is_empty (between stack bottom (end - 1)) else false)
+pub empty_step : (stack : List Bytes) (bottom end : ℕ) (e : Bool) → bottom < end → end ≤ length stack → is_empty (get_or stack (end - 1) []) ≡ e
+    → list_all is_empty (between stack bottom end) ≡ (if e then list_all is_empty (between stack bottom (end - 1)) else false)
 empty_step stack bottom end true some within e = ap (list_all is_empty) (between_step stack bottom end some within) ∙ (rw e refl)
 empty_step stack bottom end false some within e = ap (list_all is_empty) (between_step stack bottom end some within) ∙ (rw e refl)
 

@@ -4,10 +4,11 @@ use Rattle.std.proofs.lemmas.Bool.{false≢true, and_parts, and_from}
 use Rattle.def_script.specs.Bytes.{Bytes}
 use Rattle.def_machine.specs.Stacks.{Stack, Pairs}
 use Rattle.def_machine.specs.Machine.{Given}
+use Rattle.def_tree.specs.declared.Two.{Two}
 use Rattle.def_tree.specs.declared.Two.TheVariants as kind
 use Rattle.def_tree.specs.declared.Wrapper.TheVariants as wrapper
 use Rattle.def_tree.specs.Size.{nodes}
-use Rattle.def_tree.specs.Tree.{Tree, Trees, Key, just_0, just_1, pk_k, pk_h, older, after, hash, and_or, two, thresh, multi, wrap, none, more}
+use Rattle.def_tree.specs.Tree.{Tree, Trees, Key, pk_h, hash, and_or, two, thresh, wrap, none, more}
 use Rattle.def_assets.specs.Assets.{Assets, known}
 use Rattle.def_satisfaction.specs.StackSet as plain
 use Rattle.def_satisfaction.specs.StackSet.{StackSet}
@@ -46,8 +47,8 @@ bare P Q R f g = record { to = λ stack h. ([], (f stack h, refl), λ e. g stack
 same : (P : StackSet) → Keeps P (Bare P) P
 same P = bare P P P (λ stack h. h) (λ stack h. h)
 
-both : (P Q : StackSet) (P' Q' : TrailSet) (R S : StackSet) → Keeps P P' R → Keeps Q Q' S → Keeps (plain.Both P Q) (Both P' Q') (plain.Both R S)
-both P Q P' Q' R S p q = record {
+both : {P Q : StackSet} {P' Q' : TrailSet} {R S : StackSet} → Keeps P P' R → Keeps Q Q' S → Keeps (plain.Both P Q) (Both P' Q') (plain.Both R S)
+both p q = record {
   to = λ stack h.
       let lower = p.to h.0 h.2 in
       let upper = q.to h.1 h.3 in (
@@ -57,15 +58,16 @@ both P Q P' Q' R S p q = record {
       );
 }
 
-either : (P Q : StackSet) (P' Q' : TrailSet) (R S : StackSet) → Keeps P P' R → Keeps Q Q' S → Keeps (plain.Either P Q) (Either P' Q') (plain.Either R S)
-either P Q P' Q' R S p q = record { to = to }
-  where
-    to : (stack : Stack) → plain.Either P Q stack → (steps : List Step) × Either P' Q' stack steps × (is_canonical steps ≡ true → plain.Either R S stack)
-    to stack (inl h) = let r = p.to stack h in (r.0, inl r.1, λ e. inl (r.2 e))
-    to stack (inr h) = let r = q.to stack h in (r.0, inr r.1, λ e. inr (r.2 e))
+either : {P Q : StackSet} {P' Q' : TrailSet} {R S : StackSet} → Keeps P P' R → Keeps Q Q' S → Keeps (plain.Either P Q) (Either P' Q') (plain.Either R S)
+either p q = record {
+  to = λ stack h. elim h [
+    | inl h ↦ let r = p.to stack h in (r.0, inl r.1, λ e. inl (r.2 e))
+    | inr h ↦ let r = q.to stack h in (r.0, inr r.1, λ e. inr (r.2 e))
+  ];
+}
 
-own : (step : Step) (P : StackSet) (Q : TrailSet) (R : StackSet) → Keeps P Q R → Keeps P (Then step Q) R
-own step P Q R p = record {
+own : {step : Step} {P : StackSet} {Q : TrailSet} {R : StackSet} → Keeps P Q R → Keeps P (Then step Q) R
+own {step} p = record {
   to = λ stack h. let r = p.to stack h in (r.0 ++ step ∷ [], (r.0, r.1, refl), λ e. r.2 (canonical_parts r.0 (step ∷ []) e).0);
 }
 
@@ -73,40 +75,29 @@ never : (Q : TrailSet) (R : StackSet) → Keeps plain.Never Q R
 never Q R = record { to = λ stack h. absurd h }
 
 -- a row that isn't canonical has a step that says so
-extra_row : (given : Given) (assets : Assets) (node : ℕ) (sat : Bool) (P : StackSet) (Q : TrailSet) (R S : StackSet) → Keeps P Q R →
+extra_row : (given : Given) (assets : Assets) {node : ℕ} {sat : Bool} {P : StackSet} {Q : TrailSet} (R : StackSet) {S : StackSet} → Keeps P Q R →
     Keeps (NotCanonical (full given (only (known assets))) P) (Extra node sat Q) (NotCanonical (canonical assets) S)
-extra_row given assets node sat P Q R S p = record {
+extra_row given assets {node} {sat} R p = record {
   to = λ stack h.
       let r = p.to stack h.1 in
       let step : Step = record { node = node; sat = sat; extra = true } in
       (r.0 ++ step ∷ [], (r.0, r.1, refl), λ e. absurd (false≢true (canonical_parts r.0 (step ∷ []) e).1));
 }
 
-of_three : (P Q R : StackSet) (S : TrailSet) (P' Q' R' : StackSet) → Keeps (plain.Either (plain.Either P Q) R) S (plain.Either (plain.Either P' Q') R') →
+of_three : {P Q R : StackSet} {S : TrailSet} {P' Q' R' : StackSet} → Keeps (plain.Either (plain.Either P Q) R) S (plain.Either (plain.Either P' Q') R') →
     Keeps (plain.Either P (plain.Either Q R)) S (plain.Either P' (plain.Either Q' R'))
-of_three P Q R S P' Q' R' p = record {
-  to = λ stack h. let r = p.to stack (turned stack h) in (r.0, r.1, λ e. back stack (r.2 e));
+of_three {P} {Q} {R} p = record {
+  to = λ stack h.
+      let turned : plain.Either (plain.Either P Q) R stack = elim h [ inl x ↦ inl (inl x) | inr (inl y) ↦ inl (inr y) | inr (inr z) ↦ inr z ] in
+      let r = p.to stack turned in
+      (r.0, r.1, λ e. elim (r.2 e) [ inl (inl x) ↦ inl x | inl (inr y) ↦ inr (inl y) | inr z ↦ inr (inr z) ]);
 }
-  where
-    turned : (stack : Stack) → plain.Either P (plain.Either Q R) stack → plain.Either (plain.Either P Q) R stack
-    turned stack (inl h) = inl (inl h)
-    turned stack (inr (inl h)) = inl (inr h)
-    turned stack (inr (inr h)) = inr h
-
-    back : (stack : Stack) → plain.Either (plain.Either P' Q') R' stack → plain.Either P' (plain.Either Q' R') stack
-    back stack (inl (inl h)) = inl h
-    back stack (inl (inr h)) = inr (inl h)
-    back stack (inr h) = inr (inr h)
 
 parts_of : (x y : Row) (t : TrailRow) (P : ℕ → StackSet) (Q : ℕ → TrailSet) (R : ℕ → StackSet) → KeepsRow x t y → ((n : ℕ) → Keeps (P n) (Q n) (R n)) →
     (n : ℕ) → Keeps (PartsOf x P n) (TrailsOf t Q n) (PartsOf y R n)
-parts_of x y t P Q R i j n = record { to = to }
-  where
-    to : (stack : Stack) → PartsOf x P n stack → (steps : List Step) × TrailsOf t Q n stack steps × (is_canonical steps ≡ true → PartsOf y R n stack)
-    to stack (inl h) =
-        let r = (both (P h.0) x.sat (Q h.0) t.sat (R h.0) y.sat (j h.0) i.sat).to stack h.2 in
-        (r.0, inl (h.0, h.1, r.1), λ e. inl (h.0, h.1, r.2 e))
-    to stack (inr h) = let r = (both (P n) x.dsat (Q n) t.dsat (R n) y.dsat (j n) i.dsat).to stack h in (r.0, inr r.1, λ e. inr (r.2 e))
+parts_of x y t P Q R i j n = either (record {
+  to = λ stack h. let r = (both (j h.0) i.sat).to stack h.2 in (r.0, (h.0, h.1, r.1), λ e. (h.0, h.1, r.2 e));
+}) (both (j n) i.dsat)
 
 module _ (assets : Assets) (table : Pairs) (holds : Holds table assets) where
   abbrev s : Setting
@@ -132,7 +123,7 @@ module _ (assets : Assets) (table : Pairs) (holds : Holds table assets) where
   leaf_kept : (node : ℕ) (tree : Tree) (y : Row) → IsWithin (row s tree) y → KeepsRow (row s tree) (bare_row node (row t tree)) y
   leaf_kept node tree y within =
       let w = row_within s t wider tree in
-      record { dsat = own _ _ _ _ (bare _ _ _ w.dsat within.dsat); sat = own _ _ _ _ (bare _ _ _ w.sat within.sat) }
+      record { dsat = own (bare _ _ _ w.dsat within.dsat); sat = own (bare _ _ _ w.sat within.sat) }
 
   all_same : (x : Row) → IsWithin x x
   all_same x = record { dsat = λ stack h. h; sat = λ stack h. h }
@@ -148,15 +139,12 @@ module _ (assets : Assets) (table : Pairs) (holds : Holds table assets) where
   }
 
   same_item : (a b : Bytes) (stack rest : Stack) → stack ≡ a ∷ [] → stack ≡ b ∷ rest → b ≡ a
-  same_item a b stack rest p q = first (sym p ∙ q)
-    where
-      first : a ∷ [] ≡ b ∷ rest → b ≡ a
-      first e = cc
+  same_item a b stack rest p q = cc (sym p ∙ q)
 
   hash_kept : (node : ℕ) (k : _) (value : Bytes) → KeepsRow (hash_row s k value) (hash_trails node (hash_row t k value)) (hash_row c k value)
   hash_kept node k value = record {
     dsat = record { to = to };
-    sat = own _ _ _ _ (bare _ _ _ (row_within s t wider (hash k value)).sat (λ stack h. h));
+    sat = own (bare _ _ _ (row_within s t wider (hash k value)).sat (λ stack h. h));
   }
     where
       zeros : (stack rest : Stack) → stack ≡ ZEROS ∷ rest → (hash_row s k value).dsat stack → (hash_row c k value).dsat stack
@@ -165,7 +153,8 @@ module _ (assets : Assets) (table : Pairs) (holds : Holds table assets) where
           let is = same_item h.1.0 ZEROS stack rest h.1.2 top in
           inl (subst (IsNoPreimageOf k value) (sym is) h.1.1, h.1.2 ∙ ap (λ x. x ∷ []) (sym is))
 
-      to : (stack : Stack) → (hash_row s k value).dsat stack → (steps : List Step) × WithTop ZEROS node false (hash_row t k value).dsat stack steps × (is_canonical steps ≡ true → (hash_row c k value).dsat stack)
+      to : (stack : Stack) → (hash_row s k value).dsat stack → (steps : List Step) × WithTop ZEROS node false (hash_row t k value).dsat stack steps
+          × (is_canonical steps ≡ true → (hash_row c k value).dsat stack)
       to stack h =
           elim (top_or_not ZEROS stack) [
             | inl is ↦ (_, inl ([], (is, (h, refl)), refl), λ e. zeros stack is.0 is.1 h)
@@ -174,90 +163,69 @@ module _ (assets : Assets) (table : Pairs) (holds : Holds table assets) where
 
   thresh_kept : (node k : ℕ) (P : ℕ → StackSet) (Q : ℕ → TrailSet) (R : ℕ → StackSet) → ((n : ℕ) → Keeps (P n) (Q n) (R n)) → KeepsRow (thresh_row s k P) (thresh_trails node k Q) (thresh_row c k R)
   thresh_kept node k P Q R j = record {
-    dsat = either _ _ _ _ _ _ (own _ _ _ _ (j 0)) (extra_row (given_of assets) assets _ _ _ _ (λ stack. (n : ℕ) × R n stack) _ (record {
+    dsat = either (own (j 0)) (extra_row (given_of assets) assets (λ stack. (n : ℕ) × R n stack) (record {
       to = λ stack h. let r = (j h.0).to stack h.3 in (r.0, (h.0, h.1, h.2, r.1), λ e. (h.0, r.2 e));
     }));
-    sat = own _ _ _ _ (j k);
+    sat = own (j k);
   }
 
   j_kept : (node : ℕ) (P : StackSet) (Q : TrailSet) (R : StackSet) → Keeps P Q R →
       Keeps (NotCanonical s (λ stack. HasTop stack × P stack)) (Extra node false (Where HasTop Q)) (NotCanonical c (λ stack. HasTop stack × R stack))
-  j_kept node P Q R p = extra_row (given_of assets) assets _ _ _ _ R _ (record {
+  j_kept node P Q R p = extra_row (given_of assets) assets R (record {
     to = λ stack h. let r = p.to stack h.1 in (r.0, (h.0, r.1), r.2);
   })
 
   wrap_kept : (node : ℕ) (x y : Row) (t : TrailRow) → KeepsRow x t y → KeepsRow x (record { dsat = Canonical node false t.dsat; sat = Canonical node true t.sat }) y
-  wrap_kept node x y t i = record { dsat = own _ _ _ _ i.dsat; sat = own _ _ _ _ i.sat }
+  wrap_kept node x y t i = record { dsat = own i.dsat; sat = own i.sat }
+
+  two_kept : (first : ℕ) (kind : Two) (x y : Tree) → KeepsRow (row s x) (trails (given_with assets table) first x) (row c x) →
+      KeepsRow (row s y) (trails (given_with assets table) (first + nodes x) y) (row c y) →
+      KeepsRow (row s (two kind x y)) (trails (given_with assets table) first (two kind x y)) (row c (two kind x y))
+  two_kept first kind.AndV x y i j = record {
+    dsat = extra_row (given_of assets) assets _ (both j.dsat i.sat);
+    sat = own (both j.sat i.sat);
+  }
+  two_kept first kind.AndB x y i j = record {
+    dsat = either (own (both j.dsat i.dsat)) (extra_row (given_of assets) assets _ (either (both j.sat i.dsat) (both j.dsat i.sat)));
+    sat = own (both j.sat i.sat);
+  }
+  two_kept first kind.OrB x y i j = record {
+    dsat = own (both j.dsat i.dsat);
+    sat = of_three (either (own (either (both j.dsat i.sat) (both j.sat i.dsat))) (extra_row (given_of assets) assets _ (both j.sat i.sat)));
+  }
+  two_kept first kind.OrC x y i j = record { dsat = never _ _; sat = own (either i.sat (both j.sat i.dsat)) }
+  two_kept first kind.OrD x y i j = record { dsat = own (both j.dsat i.dsat); sat = own (either i.sat (both j.sat i.dsat)) }
+  two_kept first kind.OrI x y i j = record {
+    dsat = own (either (both i.dsat (same _)) (both j.dsat (same _)));
+    sat = own (either (both i.sat (same _)) (both j.sat (same _)));
+  }
 
   mutual
     row_kept : (first : ℕ) (tree : Tree) → KeepsRow (row s tree) (trails (given_with assets table) first tree) (row c tree)
-    row_kept first just_0 = leaf_kept first just_0 _ (all_same _)
-    row_kept first just_1 = leaf_kept first just_1 _ (all_same _)
-    row_kept first (pk_k key) = leaf_kept first (pk_k key) _ (all_same _)
     row_kept first (pk_h key) =
         let w = row_within s t wider (pk_h key) in record { dsat = key_kept key first false _ _ w.dsat; sat = key_kept key first true _ _ w.sat }
-    row_kept first (older n) = leaf_kept first (older n) _ (all_same _)
-    row_kept first (after n) = leaf_kept first (after n) _ (all_same _)
     row_kept first (hash k value) = hash_kept first k value
     row_kept first (and_or x y z) =
         let i = row_kept first x in
         let j = row_kept (first + nodes x) y in
         let k = row_kept (first + nodes x + nodes y) z in
         record {
-          dsat = either _ _ _ _ _ _ (own _ _ _ _ (both _ _ _ _ _ _ k.dsat i.dsat)) (extra_row (given_of assets) assets _ _ _ _ _ _ (both _ _ _ _ _ _ j.dsat i.sat));
-          sat = own _ _ _ _ (either _ _ _ _ _ _ (both _ _ _ _ _ _ j.sat i.sat) (both _ _ _ _ _ _ k.sat i.dsat));
+          dsat = either (own (both k.dsat i.dsat)) (extra_row (given_of assets) assets _ (both j.dsat i.sat));
+          sat = own (either (both j.sat i.sat) (both k.sat i.dsat));
         }
-    row_kept first (two kind.AndV x y) =
-        let i = row_kept first x in
-        let j = row_kept (first + nodes x) y in
-        record {
-          dsat = extra_row (given_of assets) assets _ _ _ _ _ _ (both _ _ _ _ _ _ j.dsat i.sat);
-          sat = own _ _ _ _ (both _ _ _ _ _ _ j.sat i.sat);
-        }
-    row_kept first (two kind.AndB x y) =
-        let i = row_kept first x in
-        let j = row_kept (first + nodes x) y in
-        record {
-          dsat = either _ _ _ _ _ _ (own _ _ _ _ (both _ _ _ _ _ _ j.dsat i.dsat)) (extra_row (given_of assets) assets _ _ _ _ _ _ (either _ _ _ _ _ _ (both _ _ _ _ _ _ j.sat i.dsat) (both _ _ _ _ _ _ j.dsat i.sat)));
-          sat = own _ _ _ _ (both _ _ _ _ _ _ j.sat i.sat);
-        }
-    row_kept first (two kind.OrB x z) =
-        let i = row_kept first x in
-        let k = row_kept (first + nodes x) z in
-        record {
-          dsat = own _ _ _ _ (both _ _ _ _ _ _ k.dsat i.dsat);
-          sat = of_three _ _ _ _ _ _ _ (either _ _ _ _ _ _ (own _ _ _ _ (either _ _ _ _ _ _ (both _ _ _ _ _ _ k.dsat i.sat) (both _ _ _ _ _ _ k.sat i.dsat))) (extra_row (given_of assets) assets _ _ _ _ _ _ (both _ _ _ _ _ _ k.sat i.sat)));
-        }
-    row_kept first (two kind.OrC x z) =
-        let i = row_kept first x in
-        let k = row_kept (first + nodes x) z in
-        record { dsat = never _ _; sat = own _ _ _ _ (either _ _ _ _ _ _ i.sat (both _ _ _ _ _ _ k.sat i.dsat)) }
-    row_kept first (two kind.OrD x z) =
-        let i = row_kept first x in
-        let k = row_kept (first + nodes x) z in
-        record { dsat = own _ _ _ _ (both _ _ _ _ _ _ k.dsat i.dsat); sat = own _ _ _ _ (either _ _ _ _ _ _ i.sat (both _ _ _ _ _ _ k.sat i.dsat)) }
-    row_kept first (two kind.OrI x z) =
-        let i = row_kept first x in
-        let k = row_kept (first + nodes x) z in
-        record {
-          dsat = own _ _ _ _ (either _ _ _ _ _ _ (both _ _ _ _ _ _ i.dsat (same _)) (both _ _ _ _ _ _ k.dsat (same _)));
-          sat = own _ _ _ _ (either _ _ _ _ _ _ (both _ _ _ _ _ _ i.sat (same _)) (both _ _ _ _ _ _ k.sat (same _)));
-        }
+    row_kept first (two kind x y) = two_kept first kind x y (row_kept first x) (row_kept (first + nodes x) y)
     row_kept first (thresh k xs) = thresh_kept _ k _ _ _ (parts_kept first xs)
-    row_kept first (multi k keys) = leaf_kept first (multi k keys) _ (all_same _)
-    row_kept first (wrap wrapper.A x) = wrap_kept _ _ _ _ (row_kept first x)
-    row_kept first (wrap wrapper.S x) = wrap_kept _ _ _ _ (row_kept first x)
-    row_kept first (wrap wrapper.C x) = wrap_kept _ _ _ _ (row_kept first x)
     row_kept first (wrap wrapper.D x) =
         let i = row_kept first x in
-        record { dsat = own _ _ _ _ (same _); sat = own _ _ _ _ (both _ _ _ _ _ _ i.sat (same _)) }
+        record { dsat = own (same _); sat = own (both i.sat (same _)) }
     row_kept first (wrap wrapper.V x) =
         let i = row_kept first x in
-        record { dsat = never _ _; sat = own _ _ _ _ i.sat }
+        record { dsat = never _ _; sat = own i.sat }
     row_kept first (wrap wrapper.J x) =
         let i = row_kept first x in
-        record { dsat = either _ _ _ _ _ _ (own _ _ _ _ (same _)) (j_kept _ _ _ _ i.dsat); sat = own _ _ _ _ i.sat }
-    row_kept first (wrap wrapper.N x) = wrap_kept _ _ _ _ (row_kept first x)
+        record { dsat = either (own (same _)) (j_kept _ _ _ _ i.dsat); sat = own i.sat }
+    row_kept first (wrap wrapper x) = wrap_kept _ _ _ _ (row_kept first x)
+    row_kept first leaf = leaf_kept first leaf _ (all_same _)
 
     parts_kept : (first : ℕ) (xs : Trees) (n : ℕ) → Keeps (parts s xs n) (trails_of (given_with assets table) first xs n) (parts c xs n)
     parts_kept first none n = record { to = λ stack h. ([], (h.0, (h.1, refl)), λ e. h) }

@@ -4,16 +4,17 @@ use Rattle.std.proofs.lemmas.Bool.{false≢true, and_parts, and_from}
 use Rattle.def_script.specs.Bytes.{Bytes}
 use Rattle.def_machine.specs.declared.Locks.{Locks}
 use Rattle.def_machine.specs.Stacks.{Stack, Pairs}
+use Rattle.def_tree.specs.declared.Two.{Two}
 use Rattle.def_tree.specs.declared.Two.TheVariants as kind
 use Rattle.def_tree.specs.declared.Wrapper.TheVariants as wrapper
 use Rattle.def_tree.specs.Size.{nodes}
-use Rattle.def_tree.specs.Tree.{Tree, Trees, Key, just_0, just_1, pk_k, pk_h, older, after, hash, and_or, two, thresh, multi, wrap, none, more}
+use Rattle.def_tree.specs.Tree.{Tree, Trees, Key, pk_h, hash, and_or, two, thresh, wrap, none, more}
 use Rattle.def_assets.specs.Assets.{Assets}
 use Rattle.def_satisfaction.specs.StackSet as plain
 use Rattle.def_satisfaction.specs.StackSet.{StackSet}
 use Rattle.def_satisfaction.specs.Setting.{Setting, any}
 use Rattle.def_satisfaction.specs.Satisfaction.{canonical, full, Holds}
-use Rattle.def_satisfaction.specs.Rows.{Row, NotCanonical, PartsOf, ZEROS, WithHashOf, hash_row, row, parts}
+use Rattle.def_satisfaction.specs.Rows.{Row, NotCanonical, PartsOf, WithHashOf, hash_row, row, parts}
 use Rattle.def_satisfaction.proofs.Wider.{Within, IsWider, row_within}
 use Rattle.def_satisfaction.proofs.Canonical.{held}
 use Rattle.def_choice.specs.NonMalleable.{given_with}
@@ -45,24 +46,25 @@ bare P Q within = record { to = λ stack h. ([], (within stack h, refl), refl) }
 same : (P : StackSet) → Has P (Bare P)
 same P = bare P P (λ stack h. h)
 
-both : (P Q : StackSet) (P' Q' : TrailSet) → Has P P' → Has Q Q' → Has (plain.Both P Q) (Both P' Q')
-both P Q P' Q' p q = record {
+both : {P Q : StackSet} {P' Q' : TrailSet} → Has P P' → Has Q Q' → Has (plain.Both P Q) (Both P' Q')
+both p q = record {
   to = λ stack h.
       let lower = p.to h.0 h.2 in
       let upper = q.to h.1 h.3 in
       (upper.0 ++ lower.0, (h.0, h.1, upper.0, lower.0, lower.1, upper.1, h.4, refl), joined upper.0 lower.0 upper.2 lower.2);
 }
 
-either : (P Q : StackSet) (P' Q' : TrailSet) → Has P P' → Has Q Q' → Has (plain.Either P Q) (Either P' Q')
-either P Q P' Q' p q = record { to = to }
-  where
-    to : (stack : Stack) → plain.Either P Q stack → (steps : List Step) × Either P' Q' stack steps × (is_canonical steps ≡ true)
-    to stack (inl h) = let r = p.to stack h in (r.0, inl r.1, r.2)
-    to stack (inr h) = let r = q.to stack h in (r.0, inr r.1, r.2)
+either : {P Q : StackSet} {P' Q' : TrailSet} → Has P P' → Has Q Q' → Has (plain.Either P Q) (Either P' Q')
+either p q = record {
+  to = λ stack h. elim h [
+    | inl h ↦ let r = p.to stack h in (r.0, inl r.1, r.2)
+    | inr h ↦ let r = q.to stack h in (r.0, inr r.1, r.2)
+  ];
+}
 
 -- the node's own step by a canonical row
-own : (node : ℕ) (sat : Bool) (P : StackSet) (Q : TrailSet) → Has P Q → Has P (Canonical node sat Q)
-own node sat P Q p = record {
+own : {node : ℕ} {sat : Bool} {P : StackSet} {Q : TrailSet} → Has P Q → Has P (Canonical node sat Q)
+own {node} {sat} p = record {
   to = λ stack h.
       let r = p.to stack h in
       let step : Step = record { node = node; sat = sat; extra = false } in
@@ -74,12 +76,9 @@ never Q = record { to = λ stack h. absurd h }
 
 parts_of : (x : Row) (t : TrailRow) (P : ℕ → StackSet) (Q : ℕ → TrailSet) → HasRow x t → ((n : ℕ) → Has (P n) (Q n)) →
     (n : ℕ) → Has (PartsOf x P n) (TrailsOf t Q n)
-parts_of x t P Q i j n = record { to = to }
-  where
-    to : (stack : Stack) → PartsOf x P n stack → (steps : List Step) × TrailsOf t Q n stack steps × (is_canonical steps ≡ true)
-    to stack (inl h) =
-        let r = (both (P h.0) x.sat (Q h.0) t.sat (j h.0) i.sat).to stack h.2 in (r.0, inl (h.0, h.1, r.1), r.2)
-    to stack (inr h) = let r = (both (P n) x.dsat (Q n) t.dsat (j n) i.dsat).to stack h in (r.0, inr r.1, r.2)
+parts_of x t P Q i j n = either (record {
+  to = λ stack h. let r = (both (j h.0) i.sat).to stack h.2 in (r.0, (h.0, h.1, r.1), r.2);
+}) (both (j n) i.dsat)
 
 module _ (assets : Assets) (table : Pairs) (holds : Holds table assets) where
   abbrev c : Setting
@@ -99,26 +98,25 @@ module _ (assets : Assets) (table : Pairs) (holds : Holds table assets) where
   }
 
   -- a row that isn't canonical doesn't count
-  no_extra : (P Q : StackSet) (R S : TrailSet) → Has P R → Has (plain.Either P (NotCanonical c Q)) (Either R S)
-  no_extra P Q R S p = record { to = to }
-    where
-      to : (stack : Stack) → plain.Either P (NotCanonical c Q) stack → (steps : List Step) × Either R S stack steps × (is_canonical steps ≡ true)
-      to stack (inl h) = let r = p.to stack h in (r.0, inl r.1, r.2)
-      to stack (inr h) = absurd (false≢true h.0)
+  no_extra : {P Q : StackSet} {R S : TrailSet} → Has P R → Has (plain.Either P (NotCanonical c Q)) (Either R S)
+  no_extra p = record {
+    to = λ stack h. elim h [ inl h ↦ (let r = p.to stack h in (r.0, inl r.1, r.2)) | inr h ↦ absurd (false≢true h.0) ];
+  }
 
   -- nor as the last of three
-  no_extra_of_three : (P Q R : StackSet) (S T : TrailSet) → Has (plain.Either P Q) S → Has (plain.Either P (plain.Either Q (NotCanonical c R))) (Either S T)
-  no_extra_of_three P Q R S T p = record { to = to }
-    where
-      to : (stack : Stack) → plain.Either P (plain.Either Q (NotCanonical c R)) stack → (steps : List Step) × Either S T stack steps × (is_canonical steps ≡ true)
-      to stack (inl h) = let r = p.to stack (inl h) in (r.0, inl r.1, r.2)
-      to stack (inr (inl h)) = let r = p.to stack (inr h) in (r.0, inl r.1, r.2)
-      to stack (inr (inr h)) = absurd (false≢true h.0)
+  no_extra_of_three : {P Q R : StackSet} {S T : TrailSet} → Has (plain.Either P Q) S → Has (plain.Either P (plain.Either Q (NotCanonical c R))) (Either S T)
+  no_extra_of_three p = record {
+    to = λ stack h. elim h [
+      | inl h ↦ let r = p.to stack (inl h) in (r.0, inl r.1, r.2)
+      | inr (inl h) ↦ let r = p.to stack (inr h) in (r.0, inl r.1, r.2)
+      | inr (inr h) ↦ absurd (false≢true h.0)
+    ];
+  }
 
   -- a fragment without children, all of whose rows are canonical
   leaf : (node : ℕ) (tree : Tree) → HasRow (row c tree) (bare_row node (row t tree))
   leaf node tree =
-      let w = row_within c t wider tree in record { dsat = own _ _ _ _ (bare _ _ w.dsat); sat = own _ _ _ _ (bare _ _ w.sat) }
+      let w = row_within c t wider tree in record { dsat = own (bare _ _ w.dsat); sat = own (bare _ _ w.sat) }
 
   -- `pk_h` with its own key
   own_key : (key : Key) (node : ℕ) (sat : Bool) (P : Key → StackSet) (Q : StackSet) → Within (WithHashOf c key (λ other. plain.Both (P other) (plain.Is other))) Q →
@@ -132,77 +130,54 @@ module _ (assets : Assets) (table : Pairs) (holds : Holds table assets) where
 
   hash_has : (node : ℕ) (k : _) (value : Bytes) → HasRow (hash_row c k value) (hash_trails node (hash_row t k value))
   hash_has node k value = record {
-    dsat = record { to = to };
-    sat = own _ _ _ _ (bare _ _ (row_within c t wider (hash k value)).sat);
+    dsat = record {
+      to = λ stack h. elim h [ inl h ↦ (_, inl ([], (([], h.1), (inl h, refl)), refl), refl) | inr h ↦ absurd (false≢true h.0) ];
+    };
+    sat = own (bare _ _ (row_within c t wider (hash k value)).sat);
   }
-    where
-      to : (stack : Stack) → (hash_row c k value).dsat stack → (steps : List Step) × WithTop ZEROS node false (hash_row t k value).dsat stack steps × (is_canonical steps ≡ true)
-      to stack (inl h) = (_, inl ([], (([], h.1), (inl h, refl)), refl), refl)
-      to stack (inr h) = absurd (false≢true h.0)
 
   wrapped : (node : ℕ) (x : Row) (t : TrailRow) → HasRow x t → HasRow x (record { dsat = Canonical node false t.dsat; sat = Canonical node true t.sat })
-  wrapped node x t i = record { dsat = own _ _ _ _ i.dsat; sat = own _ _ _ _ i.sat }
+  wrapped node x t i = record { dsat = own i.dsat; sat = own i.sat }
+
+  two_has : (first : ℕ) (kind : Two) (x y : Tree) → HasRow (row c x) (trails (given_with assets table) first x) →
+      HasRow (row c y) (trails (given_with assets table) (first + nodes x) y) →
+      HasRow (row c (two kind x y)) (trails (given_with assets table) first (two kind x y))
+  two_has first kind.AndV x y i j = record { dsat = record { to = λ stack h. absurd (false≢true h.0) }; sat = own (both j.sat i.sat) }
+  two_has first kind.AndB x y i j = record { dsat = no_extra (own (both j.dsat i.dsat)); sat = own (both j.sat i.sat) }
+  two_has first kind.OrB x y i j = record {
+    dsat = own (both j.dsat i.dsat);
+    sat = no_extra_of_three (own (either (both j.dsat i.sat) (both j.sat i.dsat)));
+  }
+  two_has first kind.OrC x y i j = record { dsat = never _; sat = own (either i.sat (both j.sat i.dsat)) }
+  two_has first kind.OrD x y i j = record { dsat = own (both j.dsat i.dsat); sat = own (either i.sat (both j.sat i.dsat)) }
+  two_has first kind.OrI x y i j = record {
+    dsat = own (either (both i.dsat (same _)) (both j.dsat (same _)));
+    sat = own (either (both i.sat (same _)) (both j.sat (same _)));
+  }
 
   mutual
     row_has : (first : ℕ) (tree : Tree) → HasRow (row c tree) (trails (given_with assets table) first tree)
-    row_has first just_0 = leaf first just_0
-    row_has first just_1 = leaf first just_1
-    row_has first (pk_k key) = leaf first (pk_k key)
     row_has first (pk_h key) =
         let w = row_within c t wider (pk_h key) in record { dsat = own_key key first false _ _ w.dsat; sat = own_key key first true _ _ w.sat }
-    row_has first (older n) = leaf first (older n)
-    row_has first (after n) = leaf first (after n)
     row_has first (hash k value) = hash_has first k value
     row_has first (and_or x y z) =
         let i = row_has first x in
         let j = row_has (first + nodes x) y in
         let k = row_has (first + nodes x + nodes y) z in
         record {
-          dsat = no_extra _ _ _ _ (own _ _ _ _ (both _ _ _ _ k.dsat i.dsat));
-          sat = own _ _ _ _ (either _ _ _ _ (both _ _ _ _ j.sat i.sat) (both _ _ _ _ k.sat i.dsat));
+          dsat = no_extra (own (both k.dsat i.dsat));
+          sat = own (either (both j.sat i.sat) (both k.sat i.dsat));
         }
-    row_has first (two kind.AndV x y) =
-        let i = row_has first x in
-        let j = row_has (first + nodes x) y in
-        record { dsat = record { to = λ stack h. absurd (false≢true h.0) }; sat = own _ _ _ _ (both _ _ _ _ j.sat i.sat) }
-    row_has first (two kind.AndB x y) =
-        let i = row_has first x in
-        let j = row_has (first + nodes x) y in
-        record { dsat = no_extra _ _ _ _ (own _ _ _ _ (both _ _ _ _ j.dsat i.dsat)); sat = own _ _ _ _ (both _ _ _ _ j.sat i.sat) }
-    row_has first (two kind.OrB x z) =
-        let i = row_has first x in
-        let k = row_has (first + nodes x) z in
-        record {
-          dsat = own _ _ _ _ (both _ _ _ _ k.dsat i.dsat);
-          sat = no_extra_of_three _ _ _ _ _ (own _ _ _ _ (either _ _ _ _ (both _ _ _ _ k.dsat i.sat) (both _ _ _ _ k.sat i.dsat)));
-        }
-    row_has first (two kind.OrC x z) =
-        let i = row_has first x in
-        let k = row_has (first + nodes x) z in
-        record { dsat = never _; sat = own _ _ _ _ (either _ _ _ _ i.sat (both _ _ _ _ k.sat i.dsat)) }
-    row_has first (two kind.OrD x z) =
-        let i = row_has first x in
-        let k = row_has (first + nodes x) z in
-        record { dsat = own _ _ _ _ (both _ _ _ _ k.dsat i.dsat); sat = own _ _ _ _ (either _ _ _ _ i.sat (both _ _ _ _ k.sat i.dsat)) }
-    row_has first (two kind.OrI x z) =
-        let i = row_has first x in
-        let k = row_has (first + nodes x) z in
-        record {
-          dsat = own _ _ _ _ (either _ _ _ _ (both _ _ _ _ i.dsat (same _)) (both _ _ _ _ k.dsat (same _)));
-          sat = own _ _ _ _ (either _ _ _ _ (both _ _ _ _ i.sat (same _)) (both _ _ _ _ k.sat (same _)));
-        }
+    row_has first (two kind x y) = two_has first kind x y (row_has first x) (row_has (first + nodes x) y)
     row_has first (thresh k xs) =
-        let i = parts_have first xs in record { dsat = no_extra _ _ _ _ (own _ _ _ _ (i 0)); sat = own _ _ _ _ (i k) }
-    row_has first (multi k keys) = leaf first (multi k keys)
-    row_has first (wrap wrapper.A x) = wrapped _ _ _ (row_has first x)
-    row_has first (wrap wrapper.S x) = wrapped _ _ _ (row_has first x)
-    row_has first (wrap wrapper.C x) = wrapped _ _ _ (row_has first x)
+        let i = parts_have first xs in record { dsat = no_extra (own (i 0)); sat = own (i k) }
     row_has first (wrap wrapper.D x) =
-        let i = row_has first x in record { dsat = own _ _ _ _ (same _); sat = own _ _ _ _ (both _ _ _ _ i.sat (same _)) }
-    row_has first (wrap wrapper.V x) = let i = row_has first x in record { dsat = never _; sat = own _ _ _ _ i.sat }
+        let i = row_has first x in record { dsat = own (same _); sat = own (both i.sat (same _)) }
+    row_has first (wrap wrapper.V x) = let i = row_has first x in record { dsat = never _; sat = own i.sat }
     row_has first (wrap wrapper.J x) =
-        let i = row_has first x in record { dsat = no_extra _ _ _ _ (own _ _ _ _ (same _)); sat = own _ _ _ _ i.sat }
-    row_has first (wrap wrapper.N x) = wrapped _ _ _ (row_has first x)
+        let i = row_has first x in record { dsat = no_extra (own (same _)); sat = own i.sat }
+    row_has first (wrap wrapper x) = wrapped _ _ _ (row_has first x)
+    row_has first fragment = leaf first fragment
 
     parts_have : (first : ℕ) (xs : Trees) (n : ℕ) → Has (parts c xs n) (trails_of (given_with assets table) first xs n)
     parts_have first none n = record { to = λ stack h. ([], (h.0, (h.1, refl)), refl) }

@@ -23,7 +23,7 @@ use Rattle.def_audit.specs.TrailRows.{TrailRow, WithTop, bare_row, pk_h_trails, 
 use Rattle.def_satisfaction.proofs.EqualParts.{first_same}
 use Rattle.ms_row_laws.proofs.MultisigTries.{all_empty, all_empties, empties_split, rest_good, rest_bad}
 use Rattle.ms_audit_laws.specs.Walk.{Found, Verdict, with_step, sig_verdict, key_verdict, forced, hash_verdict, multi_verdict, walk_pk_k, walk_pk_h, walk_hash, are_found, walk_multi_off, walk_multi}
-use Rattle.ms_audit_laws.proofs.Walks.{side, Taken, IsWalk, is_found, none_found, own, same_steps}
+use Rattle.ms_audit_laws.proofs.Walks.{side, Taken, IsWalk, is_walk, is_found, none_found, own, same_steps}
 
 -- a stack of a leaf by this verdict
 abbrev Fits : TrailRow → (node : ℕ) → Stack → Verdict → Type 0
@@ -47,39 +47,34 @@ abbrev pub all_row : Row
 all_row = record { dsat = Never; sat = Nothing }
 
 pub just_0_walk : (node : ℕ) → IsWalk (bare_row node none_row) (with_step node (Some (false, false)) [])
-just_0_walk node = record { sound = sound; complete = complete }
-  where
-    sound : (stack : Stack) (f : Found) → with_step node (Some (false, false)) [] stack ≡ Some f → Taken (bare_row node none_row) stack f
-    sound stack f e = leaf_sound (bare_row node none_row) node (Some (false, false)) stack [] stack f refl ([], (refl, refl), refl) e
-
-    complete : (sat : Bool) (taken : Stack) (steps : List Step) (rest : Stack) → side (bare_row node none_row) sat taken steps → with_step node (Some (false, false)) [] (taken ++ rest) ≡ Some (record { sat = sat; steps = steps; rest = rest })
-    complete true taken steps rest h = absurd h.1.0
-    complete false taken steps rest h =
-        ap (λ w. with_step node (Some (false, false)) [] (w ++ rest)) h.1.0 ∙ leaf_done node false false h.0 steps rest (Some (false, false)) refl h.1.1 h.2
+just_0_walk node =
+    let t = bare_row node none_row in
+    is_walk t (with_step node (Some (false, false)) [])
+    (λ stack f. leaf_sound t node (Some (false, false)) stack [] stack f refl ([], (refl, refl), refl)) (λ taken steps rest h. absurd h.1.0)
+    (λ taken steps rest h. ap (λ w. with_step node (Some (false, false)) [] (w ++ rest)) h.1.0
+    ∙ leaf_done node false false h.0 steps rest (Some (false, false)) refl h.1.1 h.2)
 
 pub just_1_walk : (node : ℕ) → IsWalk (bare_row node all_row) (with_step node (Some (true, false)) [])
-just_1_walk node = record { sound = sound; complete = complete }
-  where
-    sound : (stack : Stack) (f : Found) → with_step node (Some (true, false)) [] stack ≡ Some f → Taken (bare_row node all_row) stack f
-    sound stack f e = leaf_sound (bare_row node all_row) node (Some (true, false)) stack [] stack f refl ([], (refl, refl), refl) e
-
-    complete : (sat : Bool) (taken : Stack) (steps : List Step) (rest : Stack) → side (bare_row node all_row) sat taken steps → with_step node (Some (true, false)) [] (taken ++ rest) ≡ Some (record { sat = sat; steps = steps; rest = rest })
-    complete false taken steps rest h = absurd h.1.0
-    complete true taken steps rest h =
-        ap (λ w. with_step node (Some (true, false)) [] (w ++ rest)) h.1.0 ∙ leaf_done node true false h.0 steps rest (Some (true, false)) refl h.1.1 h.2
+just_1_walk node =
+    let t = bare_row node all_row in
+    is_walk t (with_step node (Some (true, false)) [])
+    (λ stack f. leaf_sound t node (Some (true, false)) stack [] stack f refl ([], (refl, refl), refl))
+    (λ taken steps rest h. ap (λ w. with_step node (Some (true, false)) [] (w ++ rest)) h.1.0
+    ∙ leaf_done node true false h.0 steps rest (Some (true, false)) refl h.1.1 h.2) (λ taken steps rest h. absurd h.1.0)
 
 -- a lock
-pub lock_walk : (node : ℕ) (holds : Bool) → IsWalk (bare_row node (record { dsat = Never; sat = If (IsTrue holds) Nothing })) (with_step node (forced holds) [])
-lock_walk node holds = record { sound = sound holds; complete = complete }
-  where
-    sound : (holds : Bool) (stack : Stack) (f : Found) → with_step node (forced holds) [] stack ≡ Some f → Taken (bare_row node (record { dsat = Never; sat = If (IsTrue holds) Nothing })) stack f
-    sound true stack f e = leaf_sound (bare_row node (record { dsat = Never; sat = If (IsTrue true) Nothing })) node (Some (true, false)) stack [] stack f refl ([], ((refl, refl), refl), refl) e
-    sound false stack f e = none_found _ f e
+abbrev lock_row : Bool → Row
+lock_row holds = record { dsat = Never; sat = If (IsTrue holds) Nothing }
 
-    complete : (sat : Bool) (taken : Stack) (steps : List Step) (rest : Stack) → side (bare_row node (record { dsat = Never; sat = If (IsTrue holds) Nothing })) sat taken steps → with_step node (forced holds) [] (taken ++ rest) ≡ Some (record { sat = sat; steps = steps; rest = rest })
-    complete false taken steps rest h = absurd h.1.0
-    complete true taken steps rest h =
-        ap (λ w. with_step node (forced holds) [] (w ++ rest)) h.1.0.1 ∙ leaf_done node true false h.0 steps rest (forced holds) (ap forced h.1.0.0) h.1.1 h.2
+pub lock_walk : (node : ℕ) (holds : Bool) → IsWalk (bare_row node (lock_row holds)) (with_step node (forced holds) [])
+lock_walk node holds =
+    is_walk (bare_row node (lock_row holds)) (with_step node (forced holds) []) (sound holds)
+    (λ taken steps rest h. ap (λ w. with_step node (forced holds) [] (w ++ rest)) h.1.0.1
+    ∙ leaf_done node true false h.0 steps rest (forced holds) (ap forced h.1.0.0) h.1.1 h.2) (λ taken steps rest h. absurd h.1.0)
+  where
+    sound : (holds : Bool) (stack : Stack) (f : Found) → with_step node (forced holds) [] stack ≡ Some f → Taken (bare_row node (lock_row holds)) stack f
+    sound true stack f e = leaf_sound (bare_row node (lock_row true)) node (Some (true, false)) stack [] stack f refl ([], ((refl, refl), refl), refl) e
+    sound false stack f e = none_found _ f e
 
 -- a string without a byte
 pub is_nothing : (bytes : Bytes) → is_empty bytes ≡ true → bytes ≡ EMPTY
@@ -90,7 +85,15 @@ abbrev pk_k_trails_of : Given → (node : ℕ) → Key → TrailRow
 pk_k_trails_of given node key = bare_row node (pk_k_row (full given any) key)
 
 pub pk_k_walk : (given : Given) (node : ℕ) (key : Key) → IsWalk (bare_row node (pk_k_row (full given any) key)) (walk_pk_k given node key)
-pk_k_walk given node key = record { sound = sound; complete = complete }
+pk_k_walk given node key =
+    is_walk (pk_k_trails_of given node key) (walk_pk_k given node key) sound
+    (λ taken steps rest h.
+    ap (λ w. walk_pk_k given node key (w ++ rest)) h.1.0.2
+    ∙ leaf_done node true false h.0 steps rest (sig_verdict (is_good given.table key h.1.0.0) (is_empty h.1.0.0))
+    (ap (λ g. sig_verdict g (is_empty h.1.0.0)) h.1.0.1) h.1.1 h.2)
+    (λ taken steps rest h.
+    ap (λ w. walk_pk_k given node key (w ++ rest)) h.1.0
+    ∙ leaf_done node false false h.0 steps rest (sig_verdict (is_good given.table key EMPTY) (is_empty EMPTY)) refl h.1.1 h.2)
   where
     fits : (top : Bytes) (good empty : Bool) → is_good given.table key top ≡ good → is_empty top ≡ empty → Fits (pk_k_trails_of given node key) node (top ∷ []) (sig_verdict good empty)
     fits top true empty g e = ([], ((top, g, refl), refl), refl)
@@ -100,18 +103,12 @@ pk_k_walk given node key = record { sound = sound; complete = complete }
     sound : (stack : Stack) (f : Found) → walk_pk_k given node key stack ≡ Some f → Taken (pk_k_trails_of given node key) stack f
     sound [] f e = none_found _ f e
     sound (top ∷ rest) f e =
-        leaf_sound (pk_k_trails_of given node key) node (sig_verdict (is_good given.table key top) (is_empty top)) (top ∷ rest) (top ∷ []) rest f refl (fits top (is_good given.table key top) (is_empty top) refl refl) e
-
-    complete : (sat : Bool) (taken : Stack) (steps : List Step) (rest : Stack) → side (pk_k_trails_of given node key) sat taken steps → walk_pk_k given node key (taken ++ rest) ≡ Some (record { sat = sat; steps = steps; rest = rest })
-    complete true taken steps rest h =
-        ap (λ w. walk_pk_k given node key (w ++ rest)) h.1.0.2
-        ∙ leaf_done node true false h.0 steps rest (sig_verdict (is_good given.table key h.1.0.0) (is_empty h.1.0.0)) (ap (λ g. sig_verdict g (is_empty h.1.0.0)) h.1.0.1) h.1.1 h.2
-    complete false taken steps rest h =
-        ap (λ w. walk_pk_k given node key (w ++ rest)) h.1.0
-        ∙ leaf_done node false false h.0 steps rest (sig_verdict (is_good given.table key EMPTY) (is_empty EMPTY)) refl h.1.1 h.2
+        leaf_sound (pk_k_trails_of given node key) node (sig_verdict (is_good given.table key top) (is_empty top)) (top ∷ rest) (top ∷ []) rest f refl
+        (fits top (is_good given.table key top) (is_empty top) refl refl) e
 
 -- a set that is canonical with this item on top
-with_top_fits : (item : Bytes) (node : ℕ) (sat : Bool) (P : StackSet) (top : Bytes) (rest : Stack) (is : Bool) → bytes_eq top item ≡ is → P (top ∷ rest) → WithTop item node sat P (top ∷ rest) (own node sat (not is) ∷ [])
+with_top_fits : (item : Bytes) (node : ℕ) (sat : Bool) (P : StackSet) (top : Bytes) (rest : Stack) (is : Bool) → bytes_eq top item ≡ is → P (top ∷ rest)
+    → WithTop item node sat P (top ∷ rest) (own node sat (not is) ∷ [])
 with_top_fits item node sat P top rest true e p =
     inl ([], ((rest, ap (λ x. x ∷ rest) ((bytes_eq-Decides top item).0 e)), (p, refl)), refl)
 with_top_fits item node sat P top rest false e p =
@@ -149,9 +146,33 @@ pk_h_verdict_of given key other sig =
     key_verdict (is_key other && bytes_eq (hash160 other) (hash160 key)) (bytes_eq other key) (is_good given.table other sig) (is_empty sig)
 
 pub pk_h_walk : (given : Given) (node : ℕ) (key : Key) → IsWalk (pk_h_trails node key (pk_h_row (full given any) key)) (walk_pk_h given node key)
-pk_h_walk given node key = record { sound = sound; complete = complete }
+pk_h_walk given node key =
+    is_walk (pk_h_trails_of given node key) (walk_pk_h given node key) sound
+    (λ taken steps rest h.
+    let c = top_split key node true (pk_h_row (full given any) key).sat taken steps h in
+    let r = c.in_set in
+    let b = r.4 in
+    let other = r.0 in
+    let sig = b.2.0 in
+    let whole = two_items other sig taken b.0 b.1 b.2.2 b.3 b.4 in
+    ap (λ w. walk_pk_h given node key (w ++ rest)) whole
+    ∙ leaf_done node true (not c.is) [] steps rest (pk_h_verdict_of given key other sig)
+    (ap (λ f. key_verdict f (bytes_eq other key) (is_good given.table other sig) (is_empty sig)) (fit_true other r.1 r.2)
+    ∙ ap (λ g. key_verdict true (bytes_eq other key) g (is_empty sig)) b.2.1
+    ∙ ap (λ (i : Bool). Some (true, not i)) (c.decides other (sig ∷ []) whole)) refl c.are)
+    (λ taken steps rest h.
+    let c = top_split key node false (pk_h_row (full given any) key).dsat taken steps h in
+    let r = c.in_set in
+    let b = r.4 in
+    let other = r.0 in
+    let whole = two_items other EMPTY taken b.0 b.1 b.2 b.3 b.4 in
+    ap (λ w. walk_pk_h given node key (w ++ rest)) whole
+    ∙ leaf_done node false (not c.is) [] steps rest (pk_h_verdict_of given key other EMPTY)
+    (ap (λ f. key_verdict f (bytes_eq other key) false true) (fit_true other r.1 r.2)
+    ∙ ap (λ (i : Bool). Some (false, not i)) (c.decides other (EMPTY ∷ []) whole)) refl c.are)
   where
-    fits : (other sig : Bytes) (fit is good empty : Bool) → (is_key other && bytes_eq (hash160 other) (hash160 key)) ≡ fit → bytes_eq other key ≡ is → is_good given.table other sig ≡ good → is_empty sig ≡ empty →
+    fits : (other sig : Bytes) (fit is good empty : Bool) → (is_key other && bytes_eq (hash160 other) (hash160 key)) ≡ fit → bytes_eq other key ≡ is
+        → is_good given.table other sig ≡ good → is_empty sig ≡ empty →
         Fits (pk_h_trails_of given node key) node (other ∷ sig ∷ []) (key_verdict fit is good empty)
     fits other sig false is good empty f i g e = tt
     fits other sig true is true empty f i g e =
@@ -176,30 +197,6 @@ pk_h_walk given node key = record { sound = sound; complete = complete }
     two_items : (other sig : Bytes) (taken below above : Stack) → below ≡ sig ∷ [] → above ≡ other ∷ [] → taken ≡ above ++ below → taken ≡ other ∷ sig ∷ []
     two_items other sig taken below above b a e = e ∙ ap (λ w. w ++ below) a ∙ ap (λ w. other ∷ w) b
 
-    complete : (sat : Bool) (taken : Stack) (steps : List Step) (rest : Stack) → side (pk_h_trails_of given node key) sat taken steps → walk_pk_h given node key (taken ++ rest) ≡ Some (record { sat = sat; steps = steps; rest = rest })
-    complete true taken steps rest h =
-        let c = top_split key node true (pk_h_row (full given any) key).sat taken steps h in
-        let r = c.in_set in
-        let b = r.4 in
-        let other = r.0 in
-        let sig = b.2.0 in
-        let whole = two_items other sig taken b.0 b.1 b.2.2 b.3 b.4 in
-        ap (λ w. walk_pk_h given node key (w ++ rest)) whole
-        ∙ leaf_done node true (not c.is) [] steps rest (pk_h_verdict_of given key other sig)
-        (ap (λ f. key_verdict f (bytes_eq other key) (is_good given.table other sig) (is_empty sig)) (fit_true other r.1 r.2)
-        ∙ ap (λ g. key_verdict true (bytes_eq other key) g (is_empty sig)) b.2.1
-        ∙ ap (λ (i : Bool). Some (true, not i)) (c.decides other (sig ∷ []) whole)) refl c.are
-    complete false taken steps rest h =
-        let c = top_split key node false (pk_h_row (full given any) key).dsat taken steps h in
-        let r = c.in_set in
-        let b = r.4 in
-        let other = r.0 in
-        let whole = two_items other EMPTY taken b.0 b.1 b.2 b.3 b.4 in
-        ap (λ w. walk_pk_h given node key (w ++ rest)) whole
-        ∙ leaf_done node false (not c.is) [] steps rest (pk_h_verdict_of given key other EMPTY)
-        (ap (λ f. key_verdict f (bytes_eq other key) false true) (fit_true other r.1 r.2)
-        ∙ ap (λ (i : Bool). Some (false, not i)) (c.decides other (EMPTY ∷ []) whole)) refl c.are
-
 abbrev hash_trails_of : Given → (node : ℕ) → HashKind → Bytes → TrailRow
 hash_trails_of given node kind value = hash_trails node (hash_row (full given any) kind value)
 
@@ -207,9 +204,26 @@ abbrev hash_verdict_of : HashKind → (value top : Bytes) → Verdict
 hash_verdict_of kind value top = hash_verdict (length top == 32) (bytes_eq (digest_of kind top) value) (bytes_eq top ZEROS)
 
 pub hash_walk : (given : Given) (node : ℕ) (kind : HashKind) (value : Bytes) → IsWalk (hash_trails node (hash_row (full given any) kind value)) (walk_hash node kind value)
-hash_walk given node kind value = record { sound = sound; complete = complete }
+hash_walk given node kind value =
+    is_walk (hash_trails_of given node kind value) (walk_hash node kind value) sound
+    (λ taken steps rest h.
+    let item = h.1.0.0 in
+    ap (λ w. walk_hash node kind value (w ++ rest)) h.1.0.2
+    ∙ leaf_done node true false h.0 steps rest (hash_verdict_of kind value item)
+    (ap (λ l. hash_verdict l (bytes_eq (digest_of kind item) value) (bytes_eq item ZEROS)) (eq-eqb _ _ h.1.0.1.0.0)
+    ∙ ap (λ m. hash_verdict true m (bytes_eq item ZEROS)) ((bytes_eq-Decides (digest_of kind item) value).1 h.1.0.1.0.1)) h.1.1 h.2)
+    (λ taken steps rest h.
+    let c = top_split ZEROS node false (hash_row (full given any) kind value).dsat taken steps h in
+    let m = missed taken c.in_set in
+    let item = m.0 in
+    ap (λ w. walk_hash node kind value (w ++ rest)) m.2
+    ∙ leaf_done node false (not c.is) [] steps rest (hash_verdict_of kind value item)
+    (ap (λ l. hash_verdict l (bytes_eq (digest_of kind item) value) (bytes_eq item ZEROS)) (eq-eqb _ _ m.1.0)
+    ∙ ap (λ b. hash_verdict true b (bytes_eq item ZEROS)) (unmet item m.1.1)
+    ∙ ap (λ (i : Bool). Some (false, not i)) (c.decides item [] m.2)) refl c.are)
   where
-    fits : (top : Bytes) (long met zeros : Bool) → (length top == 32) ≡ long → bytes_eq (digest_of kind top) value ≡ met → bytes_eq top ZEROS ≡ zeros → Fits (hash_trails_of given node kind value) node (top ∷ []) (hash_verdict long met zeros)
+    fits : (top : Bytes) (long met zeros : Bool) → (length top == 32) ≡ long → bytes_eq (digest_of kind top) value ≡ met → bytes_eq top ZEROS ≡ zeros
+        → Fits (hash_trails_of given node kind value) node (top ∷ []) (hash_verdict long met zeros)
     fits top false met zeros l m z = tt
     fits top true true zeros l m z =
         ([], ((top, ((eqb-true (length top) 32 l, (bytes_eq-Decides (digest_of kind top) value).0 m), tt), refl), refl), refl)
@@ -231,23 +245,6 @@ hash_walk given node kind value = record { sound = sound; complete = complete }
     missed : (taken : Stack) → (hash_row (full given any) kind value).dsat taken → (item : Bytes) × IsNoPreimageOf kind value item × (taken ≡ item ∷ [])
     missed taken (inl h) = (ZEROS, h.0, h.1)
     missed taken (inr h) = h.1
-
-    complete : (sat : Bool) (taken : Stack) (steps : List Step) (rest : Stack) → side (hash_trails_of given node kind value) sat taken steps → walk_hash node kind value (taken ++ rest) ≡ Some (record { sat = sat; steps = steps; rest = rest })
-    complete true taken steps rest h =
-        let item = h.1.0.0 in
-        ap (λ w. walk_hash node kind value (w ++ rest)) h.1.0.2
-        ∙ leaf_done node true false h.0 steps rest (hash_verdict_of kind value item)
-        (ap (λ l. hash_verdict l (bytes_eq (digest_of kind item) value) (bytes_eq item ZEROS)) (eq-eqb _ _ h.1.0.1.0.0)
-        ∙ ap (λ m. hash_verdict true m (bytes_eq item ZEROS)) ((bytes_eq-Decides (digest_of kind item) value).1 h.1.0.1.0.1)) h.1.1 h.2
-    complete false taken steps rest h =
-        let c = top_split ZEROS node false (hash_row (full given any) kind value).dsat taken steps h in
-        let m = missed taken c.in_set in
-        let item = m.0 in
-        ap (λ w. walk_hash node kind value (w ++ rest)) m.2
-        ∙ leaf_done node false (not c.is) [] steps rest (hash_verdict_of kind value item)
-        (ap (λ l. hash_verdict l (bytes_eq (digest_of kind item) value) (bytes_eq item ZEROS)) (eq-eqb _ _ m.1.0)
-        ∙ ap (λ b. hash_verdict true b (bytes_eq item ZEROS)) (unmet item m.1.1)
-        ∙ ap (λ (i : Bool). Some (false, not i)) (c.decides item [] m.2)) refl c.are
 
 -- the first key left that takes a signature may have it
 found_are : (table : Pairs) (keys : List Key) (sigs : Stack) → are_found table keys sigs ≡ true → AreSignatures table keys sigs
@@ -294,7 +291,23 @@ abbrev multi_trails_of : Given → (node : ℕ) → (k : ℕ) → List Key → T
 multi_trails_of given node k keys = bare_row node (multi_row (full given any) k keys)
 
 pub multi_walk : (given : Given) (node k : ℕ) (keys : List Key) → 1 ≤ k → IsWalk (bare_row node (multi_row (full given any) k keys)) (walk_multi given node k keys)
-multi_walk given node k keys some = record { sound = sound; complete = complete }
+multi_walk given node k keys some =
+    is_walk (multi_trails_of given node k keys) (walk_multi given node k keys) sound
+    (λ taken steps rest h.
+    let b = h.1.0 in
+    let sigs = b.1 in
+    ap (λ w. walk_multi given node k keys (w ++ rest)) (b.4 ∙ ap (λ w. sigs ++ w) b.2)
+    ∙ ap (walk_multi given node k keys) (append_assoc sigs (EMPTY ∷ []) rest)
+    ∙ off sigs (EMPTY ∷ rest) b.3.0
+    ∙ leaf_done node true false h.0 steps rest (multi_verdict true (are_found given.table (reverse keys) sigs) (list_all is_empty sigs))
+    (ap (λ f. multi_verdict true f (list_all is_empty sigs)) (are_are_found given.table (reverse keys) sigs b.3.1)) h.1.1 h.2)
+    (λ taken steps rest h.
+    let sigs : Stack = replicate k EMPTY in
+    ap (λ w. walk_multi given node k keys (w ++ rest)) (h.1.0 ∙ empties_split k)
+    ∙ ap (walk_multi given node k keys) (append_assoc sigs (EMPTY ∷ []) rest)
+    ∙ off sigs (EMPTY ∷ rest) (length-replicate k EMPTY)
+    ∙ leaf_done node false false h.0 steps rest (multi_verdict true (are_found given.table (reverse keys) sigs) (list_all is_empty sigs))
+    (ap (λ f. multi_verdict true f (list_all is_empty sigs)) (none_of_empties k some) ∙ ap (multi_verdict true false) (all_empty k)) h.1.1 h.2)
   where
     fits : (sigs : Stack) (dummy : Bytes) → length sigs ≡ k → (d found empty : Bool) → is_empty dummy ≡ d → are_found given.table (reverse keys) sigs ≡ found → list_all is_empty sigs ≡ empty →
         Fits (multi_trails_of given node k keys) node (sigs ++ dummy ∷ []) (multi_verdict d found empty)
@@ -308,7 +321,8 @@ multi_walk given node k keys some = record { sound = sound; complete = complete 
     )
     fits sigs dummy l true false false d f e = tt
 
-    off_sound : (stack sigs d : Stack) (f : Found) → stack ≡ sigs ++ d → ((dummy : Bytes) (rest : Stack) → d ≡ dummy ∷ rest → length sigs ≡ k) → walk_multi_off given node keys sigs d ≡ Some f → Taken (multi_trails_of given node k keys) stack f
+    off_sound : (stack sigs d : Stack) (f : Found) → stack ≡ sigs ++ d → ((dummy : Bytes) (rest : Stack) → d ≡ dummy ∷ rest → length sigs ≡ k)
+        → walk_multi_off given node keys sigs d ≡ Some f → Taken (multi_trails_of given node k keys) stack f
     off_sound stack sigs [] f p l e = none_found _ f e
     off_sound stack sigs (dummy ∷ rest) f p l e =
         leaf_sound (multi_trails_of given node k keys) node (multi_verdict (is_empty dummy) (are_found given.table (reverse keys) sigs) (list_all is_empty sigs)) stack (sigs ++ dummy ∷ []) rest f
@@ -325,20 +339,3 @@ multi_walk given node k keys some = record { sound = sound; complete = complete 
     none_of_empties : (k : ℕ) → 1 ≤ k → are_found given.table (reverse keys) (replicate k EMPTY) ≡ false
     none_of_empties zero some = absurd (omega arith)
     none_of_empties (suc n) some = empties_not_found given.table (reverse keys) n
-
-    complete : (sat : Bool) (taken : Stack) (steps : List Step) (rest : Stack) → side (multi_trails_of given node k keys) sat taken steps → walk_multi given node k keys (taken ++ rest) ≡ Some (record { sat = sat; steps = steps; rest = rest })
-    complete true taken steps rest h =
-        let b = h.1.0 in
-        let sigs = b.1 in
-        ap (λ w. walk_multi given node k keys (w ++ rest)) (b.4 ∙ ap (λ w. sigs ++ w) b.2)
-        ∙ ap (walk_multi given node k keys) (append_assoc sigs (EMPTY ∷ []) rest)
-        ∙ off sigs (EMPTY ∷ rest) b.3.0
-        ∙ leaf_done node true false h.0 steps rest (multi_verdict true (are_found given.table (reverse keys) sigs) (list_all is_empty sigs))
-        (ap (λ f. multi_verdict true f (list_all is_empty sigs)) (are_are_found given.table (reverse keys) sigs b.3.1)) h.1.1 h.2
-    complete false taken steps rest h =
-        let sigs : Stack = replicate k EMPTY in
-        ap (λ w. walk_multi given node k keys (w ++ rest)) (h.1.0 ∙ empties_split k)
-        ∙ ap (walk_multi given node k keys) (append_assoc sigs (EMPTY ∷ []) rest)
-        ∙ off sigs (EMPTY ∷ rest) (length-replicate k EMPTY)
-        ∙ leaf_done node false false h.0 steps rest (multi_verdict true (are_found given.table (reverse keys) sigs) (list_all is_empty sigs))
-        (ap (λ f. multi_verdict true f (list_all is_empty sigs)) (none_of_empties k some) ∙ ap (multi_verdict true false) (all_empty k)) h.1.1 h.2

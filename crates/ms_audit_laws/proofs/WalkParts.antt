@@ -14,139 +14,88 @@ use Rattle.def_audit.specs.TrailSet.{TrailSet, Bare, Both, Then}
 use Rattle.def_audit.specs.TrailRows.{TrailRow, bare_row, TrailsOfNone, TrailsOf, and_or_trails, and_v_trails, and_b_trails, or_b_trails, or_c_trails, or_d_trails, or_i_trails, thresh_trails, wrap_d_trails, wrap_v_trails, wrap_j_trails, wrap_trails}
 use Rattle.def_satisfaction.proofs.EqualParts.{first_same}
 use Rattle.ms_audit_laws.specs.Walk.{Found, Walker, ends, with_step, forced, walk_child, passed, next, Counted, count_behind, count_on, count_child, selected, by_selector, unless_empty, count_verdict, walk_thresh, after_and_or, after_and_v, after_and_b, after_or_b, after_or_c, after_or_d}
-use Rattle.ms_audit_laws.proofs.Walks.{side, Taken, IsWalk, some_is, is_found, none_found, own, Allows, Follows, Split, ends_follow, goes_follow, child_is_walk, same_steps, ends_split, goes_split}
+use Rattle.ms_audit_laws.proofs.Walks.{side, Taken, IsWalk, some_is, is_found, none_found, own, ends_follow, goes_follow, child_is_walk, same_steps, ends_split, goes_split}
 use Rattle.ms_audit_laws.proofs.WalkLeaves.{is_nothing, none_row, just_0_walk}
 
 -- `a`, `s`, `c` and `n`
 pub wrap_walk : (node : ℕ) (x : TrailRow) (w : Walker) → IsWalk x w → IsWalk (wrap_trails node x) (walk_child node w passed)
-wrap_walk node x w i = child_is_walk x (wrap_trails node x) node w passed i follows splits
-  where
-    follows : (a : Bool) → Follows x (wrap_trails node x) node a (passed a)
-    follows true = ends_follow x (wrap_trails node x) node true (Some (true, false)) (λ w s h. (s, h, refl))
-    follows false = ends_follow x (wrap_trails node x) node false (Some (false, false)) (λ w s h. (s, h, refl))
-
-    splits : (sat : Bool) (taken : Stack) (steps : List Step) → side (wrap_trails node x) sat taken steps → Split x node passed sat taken steps
-    splits true taken steps h = ends_split x node passed true true false taken steps refl h
-    splits false taken steps h = ends_split x node passed false false false taken steps refl h
+wrap_walk node x w i =
+    let t = wrap_trails node x in
+    child_is_walk x t node w passed i (ends_follow x t node true (Some (true, false)) (λ w s h. (s, h, refl)))
+    (ends_follow x t node false (Some (false, false)) (λ w s h. (s, h, refl)))
+    (λ taken steps h. ends_split true refl h) (λ taken steps h. ends_split false refl h)
 
 -- `v`
 pub wrap_v_walk : (node : ℕ) (x : TrailRow) (w : Walker) → IsWalk x w → IsWalk (wrap_v_trails node x) (walk_child node w (λ sat. ends (forced sat)))
-wrap_v_walk node x w i = child_is_walk x (wrap_v_trails node x) node w (λ sat. ends (forced sat)) i follows splits
-  where
-    follows : (a : Bool) → Follows x (wrap_v_trails node x) node a (ends (forced a))
-    follows true = ends_follow x (wrap_v_trails node x) node true (Some (true, false)) (λ w s h. (s, h, refl))
-    follows false = ends_follow x (wrap_v_trails node x) node false None tt
-
-    splits : (sat : Bool) (taken : Stack) (steps : List Step) → side (wrap_v_trails node x) sat taken steps → Split x node (λ sat. ends (forced sat)) sat taken steps
-    splits true taken steps h = ends_split x node (λ sat. ends (forced sat)) true true false taken steps refl h
-    splits false taken steps h = absurd h
+wrap_v_walk node x w i =
+    let t = wrap_v_trails node x in
+    child_is_walk x t node w (λ sat. ends (forced sat)) i (ends_follow x t node true (Some (true, false)) (λ w s h. (s, h, refl)))
+    (ends_follow x t node false None tt) (λ taken steps h. ends_split true refl h) (λ taken steps h. absurd h)
 
 -- `andor`
 pub and_or_walk : (node : ℕ) (x y z : TrailRow) (wx wy wz : Walker) → IsWalk x wx → IsWalk y wy → IsWalk z wz → IsWalk (and_or_trails node x y z) (walk_child node wx (after_and_or wy wz))
-and_or_walk node x y z wx wy wz i j k = child_is_walk x (and_or_trails node x y z) node wx (after_and_or wy wz) i follows splits
-  where
-    follows : (a : Bool) → Follows x (and_or_trails node x y z) node a (after_and_or wy wz a)
-    follows true = goes_follow x y (and_or_trails node x y z) node true wy (λ sat. Some (sat, not sat)) j (λ b. elim b as (λ b. (taken : Stack) (steps : List Step) → Both (side y b) x.sat taken steps → side (and_or_trails node x y z) b taken (steps ++ own node b (not b) ∷ [])) [
-      | true ↦ λ w s h. (s, inl h, refl)
-      | false ↦ λ w s h. inr (s, h, refl)
-    ])
-    follows false = goes_follow x z (and_or_trails node x y z) node false wz (λ sat. Some (sat, false)) k (λ b. elim b as (λ b. (taken : Stack) (steps : List Step) → Both (side z b) x.dsat taken steps → side (and_or_trails node x y z) b taken (steps ++ own node b false ∷ [])) [
-      | true ↦ λ w s h. (s, inr h, refl)
-      | false ↦ λ w s h. inl (s, h, refl)
-    ])
-
-    splits : (sat : Bool) (taken : Stack) (steps : List Step) → side (and_or_trails node x y z) sat taken steps → Split x node (after_and_or wy wz) sat taken steps
-    splits true taken steps (before, inl h, e) = goes_split x y node (after_and_or wy wz) wy (λ sat. Some (sat, not sat)) true true true false taken steps j refl refl (before, h, e)
-    splits true taken steps (before, inr h, e) = goes_split x z node (after_and_or wy wz) wz (λ sat. Some (sat, false)) false true true false taken steps k refl refl (before, h, e)
-    splits false taken steps (inl h) = goes_split x z node (after_and_or wy wz) wz (λ sat. Some (sat, false)) false false false false taken steps k refl refl h
-    splits false taken steps (inr h) = goes_split x y node (after_and_or wy wz) wy (λ sat. Some (sat, not sat)) true false false true taken steps j refl refl h
+and_or_walk node x y z wx wy wz i j k =
+    let t = and_or_trails node x y z in
+    child_is_walk x t node wx (after_and_or wy wz) i
+    (goes_follow x y t node true wy (λ sat. Some (sat, not sat)) j (λ w s h. (s, inl h, refl)) (λ w s h. inr (s, h, refl)))
+    (goes_follow x z t node false wz (λ sat. Some (sat, false)) k (λ w s h. (s, inr h, refl)) (λ w s h. inl (s, h, refl)))
+    (λ taken steps h. elim h.1 [ inl p ↦ goes_split true true j refl refl (h.0, p, h.2) | inr p ↦ goes_split false true k refl refl (h.0, p, h.2) ])
+    (λ taken steps h. elim h [ inl p ↦ goes_split false false k refl refl p | inr p ↦ goes_split true false j refl refl p ])
 
 -- `and_v`
 pub and_v_walk : (node : ℕ) (x y : TrailRow) (wx wy : Walker) → IsWalk x wx → IsWalk y wy → IsWalk (and_v_trails node x y) (walk_child node wx (after_and_v wy))
-and_v_walk node x y wx wy i j = child_is_walk x (and_v_trails node x y) node wx (after_and_v wy) i follows splits
-  where
-    follows : (a : Bool) → Follows x (and_v_trails node x y) node a (after_and_v wy a)
-    follows true = goes_follow x y (and_v_trails node x y) node true wy (λ sat. Some (sat, not sat)) j (λ b. elim b as (λ b. (taken : Stack) (steps : List Step) → Both (side y b) x.sat taken steps → side (and_v_trails node x y) b taken (steps ++ own node b (not b) ∷ [])) [
-      | true ↦ λ w s h. (s, h, refl)
-      | false ↦ λ w s h. (s, h, refl)
-    ])
-    follows false = ends_follow x (and_v_trails node x y) node false None tt
-
-    splits : (sat : Bool) (taken : Stack) (steps : List Step) → side (and_v_trails node x y) sat taken steps → Split x node (after_and_v wy) sat taken steps
-    splits true taken steps h = goes_split x y node (after_and_v wy) wy (λ sat. Some (sat, not sat)) true true true false taken steps j refl refl h
-    splits false taken steps h = goes_split x y node (after_and_v wy) wy (λ sat. Some (sat, not sat)) true false false true taken steps j refl refl h
+and_v_walk node x y wx wy i j =
+    let t = and_v_trails node x y in
+    child_is_walk x t node wx (after_and_v wy) i
+    (goes_follow x y t node true wy (λ sat. Some (sat, not sat)) j (λ w s h. (s, h, refl)) (λ w s h. (s, h, refl)))
+    (ends_follow x t node false None tt)
+    (λ taken steps h. goes_split true true j refl refl h) (λ taken steps h. goes_split true false j refl refl h)
 
 -- `and_b`
 pub and_b_walk : (node : ℕ) (x y : TrailRow) (wx wy : Walker) → IsWalk x wx → IsWalk y wy → IsWalk (and_b_trails node x y) (walk_child node wx (after_and_b wy))
-and_b_walk node x y wx wy i j = child_is_walk x (and_b_trails node x y) node wx (after_and_b wy) i follows splits
-  where
-    follows : (a : Bool) → Follows x (and_b_trails node x y) node a (after_and_b wy a)
-    follows true = goes_follow x y (and_b_trails node x y) node true wy (λ sat. Some (sat, not sat)) j (λ b. elim b as (λ b. (taken : Stack) (steps : List Step) → Both (side y b) x.sat taken steps → side (and_b_trails node x y) b taken (steps ++ own node b (not b) ∷ [])) [
-      | true ↦ λ w s h. (s, h, refl)
-      | false ↦ λ w s h. inr (s, inr h, refl)
+and_b_walk node x y wx wy i j =
+    let t = and_b_trails node x y in
+    child_is_walk x t node wx (after_and_b wy) i
+    (goes_follow x y t node true wy (λ sat. Some (sat, not sat)) j (λ w s h. (s, h, refl)) (λ w s h. inr (s, inr h, refl)))
+    (goes_follow x y t node false wy (λ sat. Some (false, sat)) j (λ w s h. inr (s, inl h, refl)) (λ w s h. inl (s, h, refl)))
+    (λ taken steps h. goes_split true true j refl refl h)
+    (λ taken steps h. elim h [
+      | inl p ↦ goes_split false false j refl refl p
+      | inr (before, inl p, e) ↦ goes_split false true j refl refl (before, p, e)
+      | inr (before, inr p, e) ↦ goes_split true false j refl refl (before, p, e)
     ])
-    follows false = goes_follow x y (and_b_trails node x y) node false wy (λ sat. Some (false, sat)) j (λ b. elim b as (λ b. (taken : Stack) (steps : List Step) → Both (side y b) x.dsat taken steps → side (and_b_trails node x y) false taken (steps ++ own node false b ∷ [])) [
-      | true ↦ λ w s h. inr (s, inl h, refl)
-      | false ↦ λ w s h. inl (s, h, refl)
-    ])
-
-    splits : (sat : Bool) (taken : Stack) (steps : List Step) → side (and_b_trails node x y) sat taken steps → Split x node (after_and_b wy) sat taken steps
-    splits true taken steps h = goes_split x y node (after_and_b wy) wy (λ sat. Some (sat, not sat)) true true true false taken steps j refl refl h
-    splits false taken steps (inl h) = goes_split x y node (after_and_b wy) wy (λ sat. Some (false, sat)) false false false false taken steps j refl refl h
-    splits false taken steps (inr (before, inl h, e)) = goes_split x y node (after_and_b wy) wy (λ sat. Some (false, sat)) false true false true taken steps j refl refl (before, h, e)
-    splits false taken steps (inr (before, inr h, e)) = goes_split x y node (after_and_b wy) wy (λ sat. Some (sat, not sat)) true false false true taken steps j refl refl (before, h, e)
 
 -- `or_b`
 pub or_b_walk : (node : ℕ) (x z : TrailRow) (wx wz : Walker) → IsWalk x wx → IsWalk z wz → IsWalk (or_b_trails node x z) (walk_child node wx (after_or_b wz))
-or_b_walk node x z wx wz i k = child_is_walk x (or_b_trails node x z) node wx (after_or_b wz) i follows splits
-  where
-    follows : (a : Bool) → Follows x (or_b_trails node x z) node a (after_or_b wz a)
-    follows true = goes_follow x z (or_b_trails node x z) node true wz (λ sat. Some (true, sat)) k (λ b. elim b as (λ b. (taken : Stack) (steps : List Step) → Both (side z b) x.sat taken steps → side (or_b_trails node x z) true taken (steps ++ own node true b ∷ [])) [
-      | true ↦ λ w s h. inr (s, h, refl)
-      | false ↦ λ w s h. inl (s, inl h, refl)
+or_b_walk node x z wx wz i k =
+    let t = or_b_trails node x z in
+    child_is_walk x t node wx (after_or_b wz) i
+    (goes_follow x z t node true wz (λ sat. Some (true, sat)) k (λ w s h. inr (s, h, refl)) (λ w s h. inl (s, inl h, refl)))
+    (goes_follow x z t node false wz (λ sat. Some (sat, false)) k (λ w s h. inl (s, inr h, refl)) (λ w s h. (s, h, refl)))
+    (λ taken steps h. elim h [
+      | inl (before, inl p, e) ↦ goes_split true false k refl refl (before, p, e)
+      | inl (before, inr p, e) ↦ goes_split false true k refl refl (before, p, e)
+      | inr p ↦ goes_split true true k refl refl p
     ])
-    follows false = goes_follow x z (or_b_trails node x z) node false wz (λ sat. Some (sat, false)) k (λ b. elim b as (λ b. (taken : Stack) (steps : List Step) → Both (side z b) x.dsat taken steps → side (or_b_trails node x z) b taken (steps ++ own node b false ∷ [])) [
-      | true ↦ λ w s h. inl (s, inr h, refl)
-      | false ↦ λ w s h. (s, h, refl)
-    ])
-
-    splits : (sat : Bool) (taken : Stack) (steps : List Step) → side (or_b_trails node x z) sat taken steps → Split x node (after_or_b wz) sat taken steps
-    splits true taken steps (inl (before, inl h, e)) = goes_split x z node (after_or_b wz) wz (λ sat. Some (true, sat)) true false true false taken steps k refl refl (before, h, e)
-    splits true taken steps (inl (before, inr h, e)) = goes_split x z node (after_or_b wz) wz (λ sat. Some (sat, false)) false true true false taken steps k refl refl (before, h, e)
-    splits true taken steps (inr h) = goes_split x z node (after_or_b wz) wz (λ sat. Some (true, sat)) true true true true taken steps k refl refl h
-    splits false taken steps h = goes_split x z node (after_or_b wz) wz (λ sat. Some (sat, false)) false false false false taken steps k refl refl h
+    (λ taken steps h. goes_split false false k refl refl h)
 
 -- `or_c`
 pub or_c_walk : (node : ℕ) (x z : TrailRow) (wx wz : Walker) → IsWalk x wx → IsWalk z wz → IsWalk (or_c_trails node x z) (walk_child node wx (after_or_c wz))
-or_c_walk node x z wx wz i k = child_is_walk x (or_c_trails node x z) node wx (after_or_c wz) i follows splits
-  where
-    follows : (a : Bool) → Follows x (or_c_trails node x z) node a (after_or_c wz a)
-    follows true = ends_follow x (or_c_trails node x z) node true (Some (true, false)) (λ w s h. (s, inl h, refl))
-    follows false = goes_follow x z (or_c_trails node x z) node false wz forced k (λ b. elim b as (λ b. Allows (Both (side z b) x.dsat) (or_c_trails node x z) node (forced b)) [
-      | true ↦ λ w s h. (s, inr h, refl)
-      | false ↦ tt
-    ])
-
-    splits : (sat : Bool) (taken : Stack) (steps : List Step) → side (or_c_trails node x z) sat taken steps → Split x node (after_or_c wz) sat taken steps
-    splits true taken steps (before, inl h, e) = ends_split x node (after_or_c wz) true true false taken steps refl (before, h, e)
-    splits true taken steps (before, inr h, e) = goes_split x z node (after_or_c wz) wz forced false true true false taken steps k refl refl (before, h, e)
-    splits false taken steps h = absurd h
+or_c_walk node x z wx wz i k =
+    let t = or_c_trails node x z in
+    child_is_walk x t node wx (after_or_c wz) i (ends_follow x t node true (Some (true, false)) (λ w s h. (s, inl h, refl)))
+    (goes_follow x z t node false wz forced k (λ w s h. (s, inr h, refl)) tt)
+    (λ taken steps h. elim h.1 [ inl p ↦ ends_split true refl (h.0, p, h.2) | inr p ↦ goes_split false true k refl refl (h.0, p, h.2) ])
+    (λ taken steps h. absurd h)
 
 -- `or_d`
 pub or_d_walk : (node : ℕ) (x z : TrailRow) (wx wz : Walker) → IsWalk x wx → IsWalk z wz → IsWalk (or_d_trails node x z) (walk_child node wx (after_or_d wz))
-or_d_walk node x z wx wz i k = child_is_walk x (or_d_trails node x z) node wx (after_or_d wz) i follows splits
-  where
-    follows : (a : Bool) → Follows x (or_d_trails node x z) node a (after_or_d wz a)
-    follows true = ends_follow x (or_d_trails node x z) node true (Some (true, false)) (λ w s h. (s, inl h, refl))
-    follows false = goes_follow x z (or_d_trails node x z) node false wz (λ sat. Some (sat, false)) k (λ b. elim b as (λ b. (taken : Stack) (steps : List Step) → Both (side z b) x.dsat taken steps → side (or_d_trails node x z) b taken (steps ++ own node b false ∷ [])) [
-      | true ↦ λ w s h. (s, inr h, refl)
-      | false ↦ λ w s h. (s, h, refl)
-    ])
-
-    splits : (sat : Bool) (taken : Stack) (steps : List Step) → side (or_d_trails node x z) sat taken steps → Split x node (after_or_d wz) sat taken steps
-    splits true taken steps (before, inl h, e) = ends_split x node (after_or_d wz) true true false taken steps refl (before, h, e)
-    splits true taken steps (before, inr h, e) = goes_split x z node (after_or_d wz) wz (λ sat. Some (sat, false)) false true true false taken steps k refl refl (before, h, e)
-    splits false taken steps h = goes_split x z node (after_or_d wz) wz (λ sat. Some (sat, false)) false false false false taken steps k refl refl h
+or_d_walk node x z wx wz i k =
+    let t = or_d_trails node x z in
+    child_is_walk x t node wx (after_or_d wz) i (ends_follow x t node true (Some (true, false)) (λ w s h. (s, inl h, refl)))
+    (goes_follow x z t node false wz (λ sat. Some (sat, false)) k (λ w s h. (s, inr h, refl)) (λ w s h. (s, h, refl)))
+    (λ taken steps h. elim h.1 [ inl p ↦ ends_split true refl (h.0, p, h.2) | inr p ↦ goes_split false true k refl refl (h.0, p, h.2) ])
+    (λ taken steps h. goes_split false false k refl refl h)
 
 -- a child below a selector, one of two kinds of stacks
 pub selector_walk : (t x z : TrailRow) (wx wz : Walker) → IsWalk x wx → IsWalk z wz →
@@ -192,7 +141,8 @@ on_selector item P taken steps h = (taken, item ∷ [], [], steps, h, (refl, ref
 -- `or_i`
 pub or_i_walk : (node : ℕ) (x z : TrailRow) (wx wz : Walker) → IsWalk x wx → IsWalk z wz → IsWalk (or_i_trails node x z) (by_selector (walk_child node wx passed) (walk_child node wz passed))
 or_i_walk node x z wx wz i k =
-    selector_walk (or_i_trails node x z) (wrap_trails node x) (wrap_trails node z) (walk_child node wx passed) (walk_child node wz passed) (wrap_walk node x wx i) (wrap_walk node z wz k) one empty parts
+    selector_walk (or_i_trails node x z) (wrap_trails node x) (wrap_trails node z) (walk_child node wx passed) (walk_child node wz passed)
+    (wrap_walk node x wx i) (wrap_walk node z wz k) one empty parts
   where
     one : (sat : Bool) (taken : Stack) (steps : List Step) → side (wrap_trails node x) sat taken steps → side (or_i_trails node x z) sat (ONE ∷ taken) steps
     one true taken steps h = (h.0, inl (on_selector ONE x.sat taken h.0 h.1), h.2)
@@ -210,9 +160,11 @@ or_i_walk node x z wx wz i k =
     parts false taken steps (before, inr h, e) = inr (below_selector node false EMPTY z.dsat taken steps before h e)
 
 -- `d`
-pub wrap_d_walk : (node : ℕ) (x : TrailRow) (w : Walker) → IsWalk x w → IsWalk (wrap_d_trails node x) (by_selector (walk_child node w (λ sat. ends (forced sat))) (with_step node (Some (false, false)) []))
+pub wrap_d_walk : (node : ℕ) (x : TrailRow) (w : Walker) → IsWalk x w
+    → IsWalk (wrap_d_trails node x) (by_selector (walk_child node w (λ sat. ends (forced sat))) (with_step node (Some (false, false)) []))
 wrap_d_walk node x w i =
-    selector_walk (wrap_d_trails node x) (wrap_v_trails node x) (bare_row node none_row) (walk_child node w (λ sat. ends (forced sat))) (with_step node (Some (false, false)) []) (wrap_v_walk node x w i) (just_0_walk node) one empty parts
+    selector_walk (wrap_d_trails node x) (wrap_v_trails node x) (bare_row node none_row) (walk_child node w (λ sat. ends (forced sat)))
+    (with_step node (Some (false, false)) []) (wrap_v_walk node x w i) (just_0_walk node) one empty parts
   where
     one : (sat : Bool) (taken : Stack) (steps : List Step) → side (wrap_v_trails node x) sat taken steps → side (wrap_d_trails node x) sat (ONE ∷ taken) steps
     one true taken steps h = (h.0, on_selector ONE x.sat taken h.0 h.1, h.2)
@@ -232,17 +184,14 @@ abbrev j_child : (node : ℕ) → TrailRow → TrailRow
 j_child node x = record { dsat = Then (own node false true) x.dsat; sat = Then (own node true false) x.sat }
 
 j_child_walk : (node : ℕ) (x : TrailRow) (w : Walker) → IsWalk x w → IsWalk (j_child node x) (walk_child node w (λ sat. ends (Some (sat, not sat))))
-j_child_walk node x w i = child_is_walk x (j_child node x) node w (λ sat. ends (Some (sat, not sat))) i follows splits
-  where
-    follows : (a : Bool) → Follows x (j_child node x) node a (ends (Some (a, not a)))
-    follows true = ends_follow x (j_child node x) node true (Some (true, false)) (λ w s h. (s, h, refl))
-    follows false = ends_follow x (j_child node x) node false (Some (false, true)) (λ w s h. (s, h, refl))
+j_child_walk node x w i =
+    let t = j_child node x in
+    child_is_walk x t node w (λ sat. ends (Some (sat, not sat))) i (ends_follow x t node true (Some (true, false)) (λ w s h. (s, h, refl)))
+    (ends_follow x t node false (Some (false, true)) (λ w s h. (s, h, refl)))
+    (λ taken steps h. ends_split true refl h) (λ taken steps h. ends_split false refl h)
 
-    splits : (sat : Bool) (taken : Stack) (steps : List Step) → side (j_child node x) sat taken steps → Split x node (λ sat. ends (Some (sat, not sat))) sat taken steps
-    splits true taken steps h = ends_split x node (λ sat. ends (Some (sat, not sat))) true true false taken steps refl h
-    splits false taken steps h = ends_split x node (λ sat. ends (Some (sat, not sat))) false false true taken steps refl h
-
-pub wrap_j_walk : (node : ℕ) (x : TrailRow) (w : Walker) → IsWalk x w → ((taken : Stack) (steps : List Step) → x.dsat taken steps → 1 ≤ length taken) → ((taken : Stack) (steps : List Step) → x.sat taken steps → HasTop taken) →
+pub wrap_j_walk : (node : ℕ) (x : TrailRow) (w : Walker) → IsWalk x w → ((taken : Stack) (steps : List Step) → x.dsat taken steps → 1 ≤ length taken)
+    → ((taken : Stack) (steps : List Step) → x.sat taken steps → HasTop taken) →
     IsWalk (wrap_j_trails node x) (unless_empty node (walk_child node w (λ sat. ends (Some (sat, not sat)))))
 wrap_j_walk node x w i long top = record { sound = sound; complete = complete }
   where
@@ -253,7 +202,8 @@ wrap_j_walk node x w i long top = record { sound = sound; complete = complete }
     has_top item rest [] below full e l = absurd (omega (arith, l))
     has_top item rest (first ∷ taken) below full e l = (first, taken, refl, ap is_empty (sym (first_same item first rest (taken ++ below) e)) ∙ full)
 
-    turned : (item : Bytes) (rest taken below : Stack) (sat : Bool) (steps : List Step) → is_empty item ≡ false → item ∷ rest ≡ taken ++ below → side (j_child node x) sat taken steps → side (wrap_j_trails node x) sat taken steps
+    turned : (item : Bytes) (rest taken below : Stack) (sat : Bool) (steps : List Step) → is_empty item ≡ false → item ∷ rest ≡ taken ++ below
+        → side (j_child node x) sat taken steps → side (wrap_j_trails node x) sat taken steps
     turned item rest taken below true steps full e h = h
     turned item rest taken below false steps full e h = inr (h.0, (has_top item rest taken below full e (long taken h.0 h.1), h.1), h.2)
 
@@ -269,12 +219,14 @@ wrap_j_walk node x w i long top = record { sound = sound; complete = complete }
               (r.0, turned item rest r.0 f.rest f.sat f.steps full r.2 r.1, r.2)
         ]
 
-    passes : (taken rest : Stack) → HasTop taken → unless_empty node (walk_child node w (λ sat. ends (Some (sat, not sat)))) (taken ++ rest) ≡ walk_child node w (λ sat. ends (Some (sat, not sat))) (taken ++ rest)
+    passes : (taken rest : Stack) → HasTop taken → unless_empty node (walk_child node w (λ sat. ends (Some (sat, not sat)))) (taken ++ rest)
+        ≡ walk_child node w (λ sat. ends (Some (sat, not sat))) (taken ++ rest)
     passes taken rest h =
         subst (λ v. unless_empty node (walk_child node w (λ sat. ends (Some (sat, not sat)))) (v ++ rest) ≡ walk_child node w (λ sat. ends (Some (sat, not sat))) (v ++ rest)) (sym h.2)
         (rw h.3 refl)
 
-    complete : (sat : Bool) (taken : Stack) (steps : List Step) (rest : Stack) → side (wrap_j_trails node x) sat taken steps → unless_empty node (walk_child node w (λ sat. ends (Some (sat, not sat)))) (taken ++ rest) ≡ Some (record { sat = sat; steps = steps; rest = rest })
+    complete : (sat : Bool) (taken : Stack) (steps : List Step) (rest : Stack) → side (wrap_j_trails node x) sat taken steps
+        → unless_empty node (walk_child node w (λ sat. ends (Some (sat, not sat)))) (taken ++ rest) ≡ Some (record { sat = sat; steps = steps; rest = rest })
     complete true taken steps rest h = passes taken rest (top taken h.0 h.1) ∙ inner.complete true taken steps rest h
     complete false taken steps rest (inl h) =
         ap (λ v. unless_empty node (walk_child node w (λ sat. ends (Some (sat, not sat)))) (v ++ rest)) h.1.0
@@ -299,14 +251,16 @@ none_count = record {
 pub more_count : (x : TrailRow) (w : Walker) (parts : ℕ → TrailSet) (others : Stack → Option Counted) → IsWalk x w → IsCount parts others → IsCount (TrailsOf x parts) (count_child w others)
 more_count x w parts others i j = record { sound = sound; complete = complete }
   where
-    fits : (sat : Bool) (n : ℕ) (above below : Stack) (first later : List Step) → side x sat above first → parts n below later → TrailsOf x parts (if sat then suc n else n) (above ++ below) (first ++ later)
+    fits : (sat : Bool) (n : ℕ) (above below : Stack) (first later : List Step) → side x sat above first → parts n below later
+        → TrailsOf x parts (if sat then suc n else n) (above ++ below) (first ++ later)
     fits true n above below first later p q = inl (n, refl, (below, above, first, later, q, p, refl, refl))
     fits false n above below first later p q = inr (below, above, first, later, q, p, refl, refl)
 
     sound : (stack : Stack) (c : Counted) → count_child w others stack ≡ Some c → (taken : Stack) × TrailsOf x parts c.count taken c.steps × (stack ≡ taken ++ c.rest)
     sound stack c e = go (w stack) refl e
       where
-        second : (f : Found) → w stack ≡ Some f → (o : Option Counted) → others f.rest ≡ o → count_behind f o ≡ Some c → (taken : Stack) × TrailsOf x parts c.count taken c.steps × (stack ≡ taken ++ c.rest)
+        second : (f : Found) → w stack ≡ Some f → (o : Option Counted) → others f.rest ≡ o → count_behind f o ≡ Some c → (taken : Stack)
+            × TrailsOf x parts c.count taken c.steps × (stack ≡ taken ++ c.rest)
         second f p None q h = absurd (none-some c h)
         second f p (Some o) q h =
             let r = i.sound stack f p in
@@ -318,7 +272,8 @@ more_count x w parts others i j = record { sound = sound; complete = complete }
         go None p h = absurd (none-some c h)
         go (Some f) p h = second f p (others f.rest) refl h
 
-    both : (sat : Bool) (n : ℕ) (taken : Stack) (steps : List Step) (rest : Stack) → Both (parts n) (side x sat) taken steps → count_child w others (taken ++ rest) ≡ Some (record { count = if sat then suc n else n; steps = steps; rest = rest })
+    both : (sat : Bool) (n : ℕ) (taken : Stack) (steps : List Step) (rest : Stack) → Both (parts n) (side x sat) taken steps
+        → count_child w others (taken ++ rest) ≡ Some (record { count = if sat then suc n else n; steps = steps; rest = rest })
     both sat n taken steps rest h =
         ap (λ v. count_child w others (v ++ rest)) h.6
         ∙ ap (count_child w others) (append_assoc h.1 h.0 rest)
@@ -326,7 +281,8 @@ more_count x w parts others i j = record { sound = sound; complete = complete }
         ∙ ap (count_behind (record { sat = sat; steps = h.2; rest = h.0 ++ rest })) (j.complete n h.0 h.3 rest h.4)
         ∙ ap (λ (s : List Step). Some (record { count = if sat then suc n else n; steps = s; rest = rest })) (sym h.7)
 
-    complete : (n : ℕ) (taken : Stack) (steps : List Step) (rest : Stack) → TrailsOf x parts n taken steps → count_child w others (taken ++ rest) ≡ Some (record { count = n; steps = steps; rest = rest })
+    complete : (n : ℕ) (taken : Stack) (steps : List Step) (rest : Stack) → TrailsOf x parts n taken steps → count_child w others (taken ++ rest)
+        ≡ Some (record { count = n; steps = steps; rest = rest })
     complete n taken steps rest (inl h) =
         both true h.0 taken steps rest h.2 ∙ ap (λ (m : ℕ). Some (record { count = m; steps = steps; rest = rest })) (sym h.1)
     complete n taken steps rest (inr h) = both false n taken steps rest h
@@ -335,7 +291,8 @@ more_count x w parts others i j = record { sound = sound; complete = complete }
 pub thresh_walk : (node k : ℕ) (parts : ℕ → TrailSet) (w : Stack → Option Counted) → 1 ≤ k → IsCount parts w → IsWalk (thresh_trails node k parts) (walk_thresh node k w)
 thresh_walk node k parts w some i = record { sound = sound; complete = complete }
   where
-    fits : (stack : Stack) (f : Found) (c : Counted) (taken : Stack) → parts c.count taken c.steps → stack ≡ taken ++ c.rest → (met no_child : Bool) → (c.count == k) ≡ met → (c.count == 0) ≡ no_child →
+    fits : (stack : Stack) (f : Found) (c : Counted) (taken : Stack) → parts c.count taken c.steps → stack ≡ taken ++ c.rest → (met no_child : Bool)
+        → (c.count == k) ≡ met → (c.count == 0) ≡ no_child →
         with_step node (count_verdict met no_child) c.steps c.rest ≡ Some f → Taken (thresh_trails node k parts) stack f
     fits stack f c taken p e true no_child m n h =
         is_found (thresh_trails node k parts) stack _ f h (taken, (c.steps, subst (λ n. parts n taken c.steps) (eqb-true c.count k m) p, refl), e)
@@ -351,14 +308,16 @@ thresh_walk node k parts w some i = record { sound = sound; complete = complete 
         go None p h = none_found _ f h
         go (Some c) p h = let r = i.sound stack c p in fits stack f c r.0 r.1 r.2 (c.count == k) (c.count == 0) refl refl h
 
-    done : (n : ℕ) (sat extra : Bool) (taken : Stack) (before steps : List Step) (rest : Stack) → parts n taken before → count_verdict (n == k) (n == 0) ≡ Some (sat, extra) → steps ≡ before ++ own node sat extra ∷ [] →
+    done : (n : ℕ) (sat extra : Bool) (taken : Stack) (before steps : List Step) (rest : Stack) → parts n taken before → count_verdict (n == k) (n == 0)
+        ≡ Some (sat, extra) → steps ≡ before ++ own node sat extra ∷ [] →
         walk_thresh node k w (taken ++ rest) ≡ Some (record { sat = sat; steps = steps; rest = rest })
     done n sat extra taken before steps rest p v e =
         ap (λ o. next o (λ c. with_step node (count_verdict (c.count == k) (c.count == 0)) c.steps c.rest)) (i.complete n taken before rest p)
         ∙ ap (λ v. with_step node v before rest) v
         ∙ same_steps node sat extra before steps rest e
 
-    complete : (sat : Bool) (taken : Stack) (steps : List Step) (rest : Stack) → side (thresh_trails node k parts) sat taken steps → walk_thresh node k w (taken ++ rest) ≡ Some (record { sat = sat; steps = steps; rest = rest })
+    complete : (sat : Bool) (taken : Stack) (steps : List Step) (rest : Stack) → side (thresh_trails node k parts) sat taken steps
+        → walk_thresh node k w (taken ++ rest) ≡ Some (record { sat = sat; steps = steps; rest = rest })
     complete true taken steps rest h = done k true false taken h.0 steps rest h.1 (ap (λ b. count_verdict b (k == 0)) (eq-eqb k k refl)) h.2
     complete false taken steps rest (inl h) =
         done 0 false false taken h.0 steps rest h.1 (ap (λ b. count_verdict b true) (ne_eqb 0 k (λ e. absurd (omega (arith, e, some))))) h.2

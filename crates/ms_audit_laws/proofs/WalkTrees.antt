@@ -49,9 +49,6 @@ module _ (given : Given) where
     tree_walk first (two kind.OrI x z) typed = or_i_walk _ _ _ _ _ (tree_walk first x typed.0) (tree_walk (first + nodes x) z typed.1)
     tree_walk first (thresh k xs) typed = thresh_walk _ k _ _ (at_least_one k xs typed) (trees_walk first xs typed.0)
     tree_walk first (multi k keys) typed = multi_walk given first k keys (typed-multi k keys typed).0
-    tree_walk first (wrap wrapper.A x) typed = wrap_walk _ _ _ (tree_walk first x typed.0)
-    tree_walk first (wrap wrapper.S x) typed = wrap_walk _ _ _ (tree_walk first x typed.0)
-    tree_walk first (wrap wrapper.C x) typed = wrap_walk _ _ _ (tree_walk first x typed.0)
     tree_walk first (wrap wrapper.D x) typed = wrap_d_walk _ _ _ (tree_walk first x typed.0)
     tree_walk first (wrap wrapper.V x) typed = wrap_v_walk _ _ _ (tree_walk first x typed.0)
     tree_walk first (wrap wrapper.J x) typed =
@@ -60,14 +57,16 @@ module _ (given : Given) where
         wrap_j_walk _ _ _ (tree_walk first x typed.0)
         (λ taken steps h. items.dsat taken (same.dsat.from taken steps h))
         (λ taken steps h. items.sat taken (same.sat.from taken steps h))
-    tree_walk first (wrap wrapper.N x) typed = wrap_walk _ _ _ (tree_walk first x typed.0)
+    tree_walk first (wrap wrapper x) typed = wrap_walk _ _ _ (tree_walk first x typed.0)
 
     pub trees_walk : (first : ℕ) (xs : Trees) → AreTyped xs → IsCount (trails_of given first xs) (walk_all given first xs)
     trees_walk first none typed = none_count
     trees_walk first (more x xs) typed = more_count _ _ _ _ (tree_walk first x typed.0) (trees_walk (first + nodes x) xs typed.1)
 
 -- what takes the whole stack
-whole_sat : (t : TrailRow) (stack : Stack) (steps found : List Step) (sat : Bool) (rest : Stack) → Taken t stack (record { sat = sat; steps = found; rest = rest }) → whole (Some (record { sat = sat; steps = found; rest = rest })) ≡ Some steps → t.sat stack steps
+whole_sat : (t : TrailRow) (stack : Stack) (steps found : List Step) (sat : Bool) (rest : Stack)
+    → Taken t stack (record { sat = sat; steps = found; rest = rest }) → whole (Some (record { sat = sat; steps = found; rest = rest })) ≡ Some steps
+    → t.sat stack steps
 whole_sat t stack steps found true [] h e =
     subst (λ s. t.sat stack s) (some_is found steps e) (subst (λ w. t.sat w found) (sym (h.2 ∙ append-nil h.0)) h.1)
 whole_sat t stack steps found true (item ∷ rest) h e = absurd (none-some steps e)

@@ -21,6 +21,18 @@ pub record IsWalk (t : TrailRow) (w : Walker) : Type 0 where
   pub sound : (stack : Stack) (f : Found) → w stack ≡ Some f → Taken t stack f
   pub complete : (sat : Bool) (taken : Stack) (steps : List Step) (rest : Stack) → side t sat taken steps → w (taken ++ rest) ≡ Some (record { sat = sat; steps = steps; rest = rest })
 
+-- from the stacks that satisfy and from those that dissatisfy
+pub is_walk : (t : TrailRow) (w : Walker) → ((stack : Stack) (f : Found) → w stack ≡ Some f → Taken t stack f) →
+    ((taken : Stack) (steps : List Step) (rest : Stack) → t.sat taken steps → w (taken ++ rest) ≡ Some (record { sat = true; steps = steps; rest = rest })) →
+    ((taken : Stack) (steps : List Step) (rest : Stack) → t.dsat taken steps → w (taken ++ rest) ≡ Some (record { sat = false; steps = steps; rest = rest })) →
+    IsWalk t w
+is_walk t w sound sat dsat = record { sound = sound; complete = complete }
+  where
+    complete : (sat : Bool) (taken : Stack) (steps : List Step) (rest : Stack) → side t sat taken steps →
+        w (taken ++ rest) ≡ Some (record { sat = sat; steps = steps; rest = rest })
+    complete true = sat
+    complete false = dsat
+
 pub some_is : {A : Type 0} (x y : A) → Some x ≡ Some y → x ≡ y
 some_is x y e = cc
 
@@ -59,12 +71,12 @@ ends_follow x t node a (Some v) h taken rest steps g s e =
 
 -- another child follows
 pub goes_follow : (x y t : TrailRow) (node : ℕ) (a : Bool) (w : Walker) (verdict : Bool → Verdict) → IsWalk y w →
-    ((b : Bool) → Allows (Both (side y b) (side x a)) t node (verdict b)) → Follows x t node a (goes w verdict)
-goes_follow x y t node a w verdict i h taken rest steps g s e =
+    Allows (Both y.sat (side x a)) t node (verdict true) → Allows (Both y.dsat (side x a)) t node (verdict false) → Follows x t node a (goes w verdict)
+goes_follow x y t node a w verdict i sat dsat taken rest steps g s e =
     let p = next_some (w rest) (λ second. with_step node (verdict second.sat) (steps ++ second.steps) second.rest) g e in
     let f = p.0 in
     let r = i.sound rest f p.1 in
-    go (verdict f.sat) f (h f.sat) r.0 r.1 r.2 p.2
+    go (verdict f.sat) f (elim f.sat as (λ b. Allows (Both (side y b) (side x a)) t node (verdict b)) [ true ↦ sat | false ↦ dsat ]) r.0 r.1 r.2 p.2
   where
     go : (v : Verdict) (f : Found) → Allows (Both (side y f.sat) (side x a)) t node v → (more : Stack) → side y f.sat more f.steps → rest ≡ more ++ f.rest →
         with_step node v (steps ++ f.steps) f.rest ≡ Some g → (more : Stack) × side t g.sat (taken ++ more) g.steps × (rest ≡ more ++ g.rest)
@@ -84,11 +96,19 @@ pub record Split (x : TrailRow) (node : ℕ) (follow : Bool → Next) (sat : Boo
   pub finish : (rest : Stack) → go_on node (follow a) (record { sat = a; steps = first; rest = below ++ rest }) ≡ Some (record { sat = sat; steps = steps; rest = rest })
 
 pub child_is_walk : (x t : TrailRow) (node : ℕ) (w : Walker) (follow : Bool → Next) → IsWalk x w →
-    ((a : Bool) → Follows x t node a (follow a)) →
-    ((sat : Bool) (taken : Stack) (steps : List Step) → side t sat taken steps → Split x node follow sat taken steps) →
-    IsWalk t (walk_child node w follow)
-child_is_walk x t node w follow i follows splits = record { sound = sound; complete = complete }
+    Follows x t node true (follow true) → Follows x t node false (follow false) →
+    ((taken : Stack) (steps : List Step) → t.sat taken steps → Split x node follow true taken steps) →
+    ((taken : Stack) (steps : List Step) → t.dsat taken steps → Split x node follow false taken steps) → IsWalk t (walk_child node w follow)
+child_is_walk x t node w follow i sat_follows dsat_follows sat_splits dsat_splits = record { sound = sound; complete = complete }
   where
+    follows : (a : Bool) → Follows x t node a (follow a)
+    follows true = sat_follows
+    follows false = dsat_follows
+
+    splits : (sat : Bool) (taken : Stack) (steps : List Step) → side t sat taken steps → Split x node follow sat taken steps
+    splits true = sat_splits
+    splits false = dsat_splits
+
     sound : (stack : Stack) (g : Found) → walk_child node w follow stack ≡ Some g → Taken t stack g
     sound stack g e =
         let p = next_some (w stack) (λ first. go_on node (follow first.sat) first) g e in
@@ -97,7 +117,8 @@ child_is_walk x t node w follow i follows splits = record { sound = sound; compl
         let m = follows f.sat s.0 f.rest f.steps g s.1 p.2 in
         (s.0 ++ m.0, m.1, s.2 ∙ ap (λ r. s.0 ++ r) m.2 ∙ sym (append_assoc s.0 m.0 g.rest))
 
-    complete : (sat : Bool) (taken : Stack) (steps : List Step) (rest : Stack) → side t sat taken steps → walk_child node w follow (taken ++ rest) ≡ Some (record { sat = sat; steps = steps; rest = rest })
+    complete : (sat : Bool) (taken : Stack) (steps : List Step) (rest : Stack) → side t sat taken steps → walk_child node w follow (taken ++ rest)
+        ≡ Some (record { sat = sat; steps = steps; rest = rest })
     complete sat taken steps rest h =
         let s = splits sat taken steps h in
         ap (λ v. walk_child node w follow (v ++ rest)) s.parts
@@ -111,9 +132,9 @@ pub same_steps : (node : ℕ) (sat extra : Bool) (before steps : List Step) (res
 same_steps node sat extra before steps rest e = ap (λ (s : List Step). Some (record { sat = sat; steps = s; rest = rest })) (sym e)
 
 -- a child alone
-pub ends_split : (x : TrailRow) (node : ℕ) (follow : Bool → Next) (a sat extra : Bool) (taken : Stack) (steps : List Step) →
+pub ends_split : {x : TrailRow} {node : ℕ} {follow : Bool → Next} (a : Bool) {sat extra : Bool} {taken : Stack} {steps : List Step} →
     follow a ≡ ends (Some (sat, extra)) → Then (own node sat extra) (side x a) taken steps → Split x node follow sat taken steps
-ends_split x node follow a sat extra taken steps e h = record {
+ends_split {x} {node} {follow} a {sat} {extra} {taken} {steps} e h = record {
   a = a;
   above = taken;
   below = [];
@@ -125,10 +146,11 @@ ends_split x node follow a sat extra taken steps e h = record {
 }
 
 -- a child and another one
-pub goes_split : (x y : TrailRow) (node : ℕ) (follow : Bool → Next) (w : Walker) (verdict : Bool → Verdict) (a b sat extra : Bool) (taken : Stack) (steps : List Step) →
+pub goes_split : {x y : TrailRow} {node : ℕ} {follow : Bool → Next} {w : Walker} {verdict : Bool → Verdict} (a b : Bool)
+    {sat extra : Bool} {taken : Stack} {steps : List Step} →
     IsWalk y w → follow a ≡ goes w verdict → verdict b ≡ Some (sat, extra) → Then (own node sat extra) (Both (side y b) (side x a)) taken steps →
     Split x node follow sat taken steps
-goes_split x y node follow w verdict a b sat extra taken steps i e v h =
+goes_split {x} {y} {node} {follow} {w} {verdict} a b {sat} {extra} {taken} {steps} i e v h =
     let p = h.1 in record {
       a = a;
       above = p.1;

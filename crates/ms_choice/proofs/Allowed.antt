@@ -106,7 +106,8 @@ allowed cs kinds k told =
 pub counts_push : (cs : List Costs) (c : Costs) (kinds : KindCounts) → Counts cs kinds → Counts (cs ++ c ∷ []) (with_child kinds (is_some c.sat) (is_some c.dsat))
 counts_push cs c kinds told = go c.sat c.dsat (total_push (λ c. forced_by c.sat c.dsat) cs c) (total_push (λ c. stuck_by c.sat c.dsat) cs c) (over_free-push (λ difference place. 1) 0 cs c)
   where
-    go : (s d : Option ℕ) → forced (cs ++ c ∷ []) ≡ forced cs + forced_by s d → stuck (cs ++ c ∷ []) ≡ stuck cs + stuck_by s d → free (cs ++ c ∷ []) ≡ free cs + free_by (λ difference place. 1) (0 + length cs) s d
+    go : (s d : Option ℕ) → forced (cs ++ c ∷ []) ≡ forced cs + forced_by s d → stuck (cs ++ c ∷ []) ≡ stuck cs + stuck_by s d → free (cs ++ c ∷ [])
+        ≡ free cs + free_by (λ difference place. 1) (0 + length cs) s d
         → Counts (cs ++ c ∷ []) (with_child kinds (is_some s) (is_some d))
     go None None x y z = record { forced = omega (arith, x, told.forced); stuck = omega (arith, y, told.stuck); free = omega (arith, z, told.free) }
     go None (Some d) x y z = record { forced = omega (arith, x, told.forced); stuck = omega (arith, y, told.stuck); free = omega (arith, z, told.free) }

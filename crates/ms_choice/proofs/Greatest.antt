@@ -155,7 +155,8 @@ module _ (a b : ℕ) where
   abbrev Others : ℕ → List Costs → Type 0
   Others i cs = (k : ℕ) → Marks i cs k → Reaches i cs k (most_chosen cs k)
 
-  free_below : (s d : ℕ) (i : ℕ) (cs : List Costs) (k : ℕ) → Others (suc i) cs → s + b < d + a → Marks i (child (Some s) (Some d) ∷ cs) k → Reaches i (child (Some s) (Some d) ∷ cs) k (counted_most (Some s) (Some d) (most_chosen cs) k)
+  free_below : (s d : ℕ) (i : ℕ) (cs : List Costs) (k : ℕ) → Others (suc i) cs → s + b < d + a → Marks i (child (Some s) (Some d) ∷ cs) k
+      → Reaches i (child (Some s) (Some d) ∷ cs) k (counted_most (Some s) (Some d) (most_chosen cs) k)
   free_below s d i cs k others h m =
       let e = above_is a b s d in
       let l = is_above_below a b s d (omega (arith, h)) in
@@ -163,7 +164,8 @@ module _ (a b : ℕ) where
       skip (Some s) (Some d) (most_chosen cs) k _ _
       (with_part (most_chosen cs k) d _ _ _ _ (omega (arith, e, h)) (others k (record { stuck = omega (arith, m.stuck); enough = omega (arith, l, m.enough); reached = omega (arith, r, m.reached) })))
 
-  free_above : (s d : ℕ) (i : ℕ) (cs : List Costs) (k : ℕ) → Others (suc i) cs → d + a < s + b → Marks i (child (Some s) (Some d) ∷ cs) k → Reaches i (child (Some s) (Some d) ∷ cs) k (counted_most (Some s) (Some d) (most_chosen cs) k)
+  free_above : (s d : ℕ) (i : ℕ) (cs : List Costs) (k : ℕ) → Others (suc i) cs → d + a < s + b → Marks i (child (Some s) (Some d) ∷ cs) k
+      → Reaches i (child (Some s) (Some d) ∷ cs) k (counted_most (Some s) (Some d) (most_chosen cs) k)
   free_above s d i cs zero others h m =
       let l = is_above_above a b s d h in absurd (omega (arith, l, m.enough))
   free_above s d i cs (suc k) others h m =
@@ -189,7 +191,8 @@ module _ (a b : ℕ) where
       let r = is_reached_above a b s d (omega (arith, h)) in
       let le = above_le (suc i) cs in
       take (Some s) (Some d) (most_chosen cs) k _ _
-      (with_part (most_chosen cs k) s _ _ _ _ (omega (arith, e, h)) (others k (record { stuck = omega (arith, m.stuck); enough = omega (arith, le, many, m.enough); reached = omega (arith, r, m.reached) })))
+      (with_part (most_chosen cs k) s _ _ _ _ (omega (arith, e, h))
+      (others k (record { stuck = omega (arith, m.stuck); enough = omega (arith, le, many, m.enough); reached = omega (arith, r, m.reached) })))
 
   step : (s d : Option ℕ) (i : ℕ) (cs : List Costs) (k : ℕ) → Others (suc i) cs → Marks i (child s d ∷ cs) k → Reaches i (child s d ∷ cs) k (counted_most s d (most_chosen cs) k)
   step None None i cs k others m = absurd (omega (arith, m.stuck))

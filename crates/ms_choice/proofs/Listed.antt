@@ -95,8 +95,10 @@ greatest_step p ps (Some n) h = go (nat_lt n p.0) refl
         let less : n ≤ p.0 = grind (arith, nat_tests) in
         ((p, first_in p ps, omega (arith, less)), All-cons (λ q. q.0 ≤ max p.0 n) p ps (omega arith) (All-weaker (λ q. q.0 ≤ n) (λ q. q.0 ≤ max p.0 n) (λ q g. omega (arith, g)) ps h.1))
     go false e =
-        let less : p.0 ≤ n = grind (arith, nat_tests) in
-        ((h.0.0, later_in p ps h.0.0 h.0.1, omega (arith, less, h.0.2)), All-cons (λ q. q.0 ≤ max p.0 n) p ps (omega arith) (All-weaker (λ q. q.0 ≤ n) (λ q. q.0 ≤ max p.0 n) (λ q g. omega (arith, g)) ps h.1))
+        let less : p.0 ≤ n = grind (arith, nat_tests) in (
+          (h.0.0, later_in p ps h.0.0 h.0.1, omega (arith, less, h.0.2)),
+          All-cons (λ q. q.0 ≤ max p.0 n) p ps (omega arith) (All-weaker (λ q. q.0 ≤ n) (λ q. q.0 ≤ max p.0 n) (λ q g. omega (arith, g)) ps h.1),
+        )
 
 is_greatest : (ps : List Pick) → IsGreatest ps (most ps)
 is_greatest [] = refl

@@ -109,7 +109,8 @@ module _ (last : Slot) where
       go false e = let h = within_false d p e in omega (arith, h.0)
 
   abbrev ExactOver : (a b i : ℕ) (cs : List Costs) → Type 0
-  ExactOver a b i cs = over_free (ups (Some last)) i cs + over_free (below a b) i cs + over_free (ones (Some last)) i cs * b ≡ over_free (downs (Some last)) i cs + over_free (ones (Some last)) i cs * a
+  ExactOver a b i cs = over_free (ups (Some last)) i cs + over_free (below a b) i cs + over_free (ones (Some last)) i cs * b
+      ≡ over_free (downs (Some last)) i cs + over_free (ones (Some last)) i cs * a
 
   exact_more : (a b i : ℕ) (s d : Option ℕ) (cs : List Costs) → ((z : ℤ) → Exact a b z i) → ExactOver a b (suc i) cs → ExactOver a b i (child s d ∷ cs)
   exact_more a b i None d cs at h = omega (arith, h)

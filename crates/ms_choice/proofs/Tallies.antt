@@ -79,12 +79,14 @@ module _ (n : Number) (cs : List Costs) (t : Tally) (slots : List Slot) (told : 
         free = omega (arith, told.free, one_more);
         base = omega (arith, sum, told.base, all.2);
         differences = λ f.
-            let total_front : total (λ s. f (difference n s) s.place) (take (t.free + 1) (set slots t.free x)) ≡ total (λ s. f (difference n s) s.place) (take t.free slots ++ x ∷ []) = ap (total (λ s. f (difference n s) s.place)) front in
+            let total_front : total (λ s. f (difference n s) s.place) (take (t.free + 1) (set slots t.free x))
+            ≡ total (λ s. f (difference n s) s.place) (take t.free slots ++ x ∷ []) = ap (total (λ s. f (difference n s) s.place)) front in
             let this : f (difference n x) x.place ≡ f (pos s -ℤ pos d) t.place = ap (λ z. f z x.place) first ∙ ap (f (pos s -ℤ pos d)) place in
             omega (arith, total_front, this, told.differences f, total_push (λ s. f (difference n s) s.place) (take t.free slots) x, pushed f cs (Some s) (Some d) t.place told.place);
       }
 
-  tells_forced : (s : ℕ) (b : Numbers) → number_in n b ≡ number_in n t.base + s → Tells n (cs ++ costs (Some s) None ∷ []) (record { base = b; forced = t.forced + 1; stuck = t.stuck; free = t.free; place = t.place + 1 }) slots
+  tells_forced : (s : ℕ) (b : Numbers) → number_in n b ≡ number_in n t.base + s
+      → Tells n (cs ++ costs (Some s) None ∷ []) (record { base = b; forced = t.forced + 1; stuck = t.stuck; free = t.free; place = t.place + 1 }) slots
   tells_forced s b sum =
       let all = counts (Some s) None in
       let no_more = pushed (λ difference place. 1) cs (Some s) None t.place told.place in
@@ -97,7 +99,8 @@ module _ (n : Number) (cs : List Costs) (t : Tally) (slots : List Slot) (told : 
         differences = λ f. omega (arith, told.differences f, pushed f cs (Some s) None t.place told.place);
       }
 
-  tells_out : (d : ℕ) (b : Numbers) → number_in n b ≡ number_in n t.base + d → Tells n (cs ++ costs None (Some d) ∷ []) (record { base = b; forced = t.forced; stuck = t.stuck; free = t.free; place = t.place + 1 }) slots
+  tells_out : (d : ℕ) (b : Numbers) → number_in n b ≡ number_in n t.base + d
+      → Tells n (cs ++ costs None (Some d) ∷ []) (record { base = b; forced = t.forced; stuck = t.stuck; free = t.free; place = t.place + 1 }) slots
   tells_out d b sum =
       let all = counts None (Some d) in
       let no_more = pushed (λ difference place. 1) cs None (Some d) t.place told.place in
@@ -136,7 +139,8 @@ module _ (n : Number) (cs : List Costs) (t : Tally) (slots : List Slot) (told : 
       → Tells n (cs ++ costs_in n c ∷ []) (record { base = b; forced = t.forced; stuck = t.stuck; free = t.free; place = t.place + 1 }) slots
   told_out c d b is_s is_d sum = rw (is_s, is_d) (tells_out (number_in n d) b sum)
 
-  pub told_stuck : (c : Child) → c.sat ≡ None → c.dsat ≡ None → Tells n (cs ++ costs_in n c ∷ []) (record { base = t.base; forced = t.forced; stuck = t.stuck + 1; free = t.free; place = t.place + 1 }) slots
+  pub told_stuck : (c : Child) → c.sat ≡ None → c.dsat ≡ None
+      → Tells n (cs ++ costs_in n c ∷ []) (record { base = t.base; forced = t.forced; stuck = t.stuck + 1; free = t.free; place = t.place + 1 }) slots
   told_stuck c is_s is_d = rw (is_s, is_d) tells_stuck
 
 -- each child has a place of its own

@@ -26,7 +26,8 @@ none_behind (x ∷ a) r none [] e = cc
 none_behind (x ∷ a) r none (i ∷ is) e = let rest : map item_of a ++ r ≡ map item_of is = cc in none_behind a r none is rest
 
 -- one more instruction
-pub one_more : (xs : List Item) (done : List Code) (c : Code) (r s : List Item) → xs ≡ map item_of (map instruction_of done) ++ r → r ≡ item_of (instruction_of c) ∷ s → xs ≡ map item_of (map instruction_of (done ++ c ∷ [])) ++ s
+pub one_more : (xs : List Item) (done : List Code) (c : Code) (r s : List Item) → xs ≡ map item_of (map instruction_of done) ++ r → r
+    ≡ item_of (instruction_of c) ∷ s → xs ≡ map item_of (map instruction_of (done ++ c ∷ [])) ++ s
 one_more xs done c r s e f = e ∙ ap (λ l. map item_of (map instruction_of done) ++ l) f ∙ go done
   where
     go : (d : List Code) → map item_of (map instruction_of d) ++ item_of (instruction_of c) ∷ s ≡ map item_of (map instruction_of (d ++ c ∷ [])) ++ s

@@ -12,7 +12,8 @@ few_fit : (k : ℕ) (ks : List Key) → length ks ≤ 20 → fits (tree.multi k 
 unfolding fits
 few_fit k ks few = let within : length ks + 1 ≤ 131072 = omega (arith, few) in rw (le-leb (length ks + 1) 131072 within)
 
-pub keys_done : (n k : ℕ) (ks : List Key) (fs : List Frame) (bytes : Bytes) (i : Instruction) (x : Tree) → n ≡ 0 → i ≡ push bytes → Some k ≡ natural_of bytes → x ≡ tree.multi k ks → length ks ≤ 20 → keys_step n ks fs i ≡ settle x fs
+pub keys_done : (n k : ℕ) (ks : List Key) (fs : List Frame) (bytes : Bytes) (i : Instruction) (x : Tree) → n ≡ 0 → i ≡ push bytes → Some k ≡ natural_of bytes
+    → x ≡ tree.multi k ks → length ks ≤ 20 → keys_step n ks fs i ≡ settle x fs
 keys_done n k ks fs bytes i x none is read same few =
     let a : keys_step n ks fs i ≡ keys_step 0 ks fs (push bytes) = rw (none, is) in
     let b : signed_by ks fs (natural_of bytes) ≡ signed_by ks fs (Some k) = ap (signed_by ks fs) (sym read) in

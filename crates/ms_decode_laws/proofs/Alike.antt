@@ -1,13 +1,12 @@
 -- A tree that is nested to the right has the malleability properties, the timelocks and the keys of the tree before.
-use Rattle.std.proofs.Common.{◌≡◌, ◌↔◌, ℕ, ◌+◌, Bool, true, false, ◌&&◌, ◌||◌, nat_le, cond, List, [], ◌∷◌, ◌++◌, Some, None, refl, sym, ◌∙◌, ap, subst, append_assoc}
+use Rattle.std.proofs.Common.{◌≡◌, ◌↔◌, ℕ, ◌+◌, Bool, true, false, ◌&&◌, ◌||◌, nat_le, cond, List, [], ◌∷◌, ◌++◌, Some, None, refl, sym, ◌∙◌, ap, subst, append_assoc, arith}
 use Rattle.std.specs.Prelude.{⊤}
 use Rattle.std.specs.List.{position_from}
-use Rattle.std.proofs.lemmas.Bool.{false≢true}
 use Rattle.def_tree.specs.declared.Two.{Two}
 use Rattle.def_tree.specs.declared.Two.TheVariants as kind
 use Rattle.def_tree.specs.declared.Wrapper.{Wrapper}
 use Rattle.def_tree.specs.declared.Wrapper.TheVariants as wrapper
-use Rattle.def_tree.specs.Tree.{Tree, Trees, Key, just_0, just_1, pk_k, pk_h, older, after, hash, and_or, two, thresh, multi, wrap, none, more}
+use Rattle.def_tree.specs.Tree.{Tree, Trees, Key, pk_h, and_or, two, thresh, wrap, none, more}
 use Rattle.def_tree.specs.Nodes.{all_nodes, nodes_of_all}
 use Rattle.def_types.specs.Row.{Need, AllHold}
 use Rattle.def_types.specs.Malleable.{and_or_row, two_row, thresh_row, wrap_row}
@@ -22,8 +21,7 @@ use Rattle.ms_decode_laws.proofs.Nest.{nest, nest_each}
 -- ---- kinds that don't conflict
 
 or_assoc : (a b c : Bool) → (a || (b || c)) ≡ ((a || b) || c)
-or_assoc true b c = refl
-or_assoc false b c = refl
+or_assoc a b c = grind arith
 
 union_assoc : (a b c : Kinds) → union a (union b c) ≡ union (union a b) c
 union_assoc a b c = λ i. record {
@@ -34,21 +32,13 @@ union_assoc a b c = λ i. record {
 }
 
 four_false : (p q r s : Bool) → ((p || q || r || s) ≡ false) ↔ ((p ≡ false) × (q ≡ false) × (r ≡ false) × (s ≡ false))
-four_false true q r s = (λ e. absurd (false≢true (sym e)), λ h. absurd (false≢true (sym h.0)))
-four_false false true r s = (λ e. absurd (false≢true (sym e)), λ h. absurd (false≢true (sym h.1)))
-four_false false false true s = (λ e. absurd (false≢true (sym e)), λ h. absurd (false≢true (sym h.2)))
-four_false false false false s = (λ e. (refl, refl, refl, e), λ h. h.3)
+four_false p q r s = (λ e. (grind arith, grind arith, grind arith, grind arith), λ h. grind arith)
 
 either_and : (p q r : Bool) → (((p || q) && r) ≡ false) ↔ (((p && r) ≡ false) × ((q && r) ≡ false))
-either_and true q true = (λ e. absurd (false≢true (sym e)), λ h. h.0)
-either_and true true false = (λ e. (refl, refl), λ h. refl)
-either_and true false false = (λ e. (refl, refl), λ h. refl)
-either_and false q r = (λ e. (refl, e), λ h. h.1)
+either_and p q r = (λ e. (grind arith, grind arith), λ h. grind arith)
 
 and_either : (p q r : Bool) → ((r && (p || q)) ≡ false) ↔ (((r && p) ≡ false) × ((r && q) ≡ false))
-and_either p q false = (λ e. (refl, refl), λ h. refl)
-and_either true q true = (λ e. absurd (false≢true (sym e)), λ h. h.0)
-and_either false q true = (λ e. (refl, e), λ h. h.1)
+and_either p q r = (λ e. (grind arith, grind arith), λ h. grind arith)
 
 -- no time of one with a height of the other
 abbrev Apart : Kinds → Kinds → Type 0
@@ -93,18 +83,11 @@ union_right a b c =
 
 abbrev mutual
   NoMix : Tree → Type 0
-  NoMix just_0 = ⊤
-  NoMix just_1 = ⊤
-  NoMix (pk_k key) = ⊤
-  NoMix (pk_h key) = ⊤
-  NoMix (older n) = ⊤
-  NoMix (after n) = ⊤
-  NoMix (hash kind value) = ⊤
   NoMix (and_or x y z) = NoMix x × NoMix y × NoMix z × (conflict (kinds x) (kinds y) ≡ false)
   NoMix (two kind x y) = NoMix x × NoMix y × (mixes (two kind x y) ≡ false)
   NoMix (thresh k xs) = AreNoMix xs × (mixes (thresh k xs) ≡ false)
-  NoMix (multi k keys) = ⊤
   NoMix (wrap wrapper x) = NoMix x
+  NoMix leaf = ⊤
 
   AreNoMix : Trees → Type 0
   AreNoMix none = ⊤
@@ -140,13 +123,6 @@ root_of ts root =
 
 mutual
   no_mix : (t : Tree) → NoneMixes (all_nodes t) ↔ NoMix t
-  no_mix just_0 = (λ h. tt, λ h. (refl, tt))
-  no_mix just_1 = (λ h. tt, λ h. (refl, tt))
-  no_mix (pk_k key) = (λ h. tt, λ h. (refl, tt))
-  no_mix (pk_h key) = (λ h. tt, λ h. (refl, tt))
-  no_mix (older n) = (λ h. tt, λ h. (refl, tt))
-  no_mix (after n) = (λ h. tt, λ h. (refl, tt))
-  no_mix (hash kind value) = (λ h. tt, λ h. (refl, tt))
   no_mix (and_or x y z) =
       let r = root_of (all_nodes x ++ all_nodes y ++ all_nodes z) (and_or x y z) in
       let q = none_mixes-append (all_nodes x ++ all_nodes y) (all_nodes z) in
@@ -166,11 +142,11 @@ mutual
       let r = root_of (nodes_of_all xs) (thresh k xs) in
       let i = no_mixes xs in
       (λ h. let a = r.0 h in (i.0 a.0, a.1), λ h. r.1 (i.1 h.0, h.1))
-  no_mix (multi k keys) = (λ h. tt, λ h. (refl, tt))
   no_mix (wrap wrapper x) =
       let r = root_of (all_nodes x) (wrap wrapper x) in
       let i = no_mix x in
       (λ h. i.0 (r.0 h).0, λ h. r.1 (i.1 h, refl))
+  no_mix leaf = (λ h. tt, λ h. (refl, tt))
 
   no_mixes : (xs : Trees) → NoneMixes (nodes_of_all xs) ↔ AreNoMix xs
   no_mixes none = (λ h. tt, λ h. tt)
@@ -229,10 +205,7 @@ same_and_or x y z n m o a b c =
 same_mixes : (b : Two) (x y n m : Tree) → kinds n ≡ kinds x → kinds m ≡ kinds y → mixes (two b n m) ≡ mixes (two b x y)
 same_mixes kind.AndV x y n m e f = λ k. conflict (e k) (f k)
 same_mixes kind.AndB x y n m e f = λ k. conflict (e k) (f k)
-same_mixes kind.OrB x y n m e f = refl
-same_mixes kind.OrC x y n m e f = refl
-same_mixes kind.OrD x y n m e f = refl
-same_mixes kind.OrI x y n m e f = refl
+same_mixes b x y n m e f = refl
 
 same_two : (b : Two) (x y n m : Tree) → Same x n → Same y m → Same (two b x y) (two b n m)
 same_two b x y n m i j =
@@ -280,8 +253,7 @@ turned f moves (two kind.AndV x y) =
 turned f moves t = itself (f t)
 
 or_true : (a : Bool) → (a || true) ≡ true
-or_true true = refl
-or_true false = refl
+or_true a = grind arith
 
 c_turns : Turns (λ t. wrap wrapper.C t)
 unfolding mall_rows
@@ -321,10 +293,7 @@ mixed_three a b c =
     )
 
 and_b_forced : (xs yf ys wf ws : Bool) → (xs || ((yf && wf) || (ys && yf) || (ws && wf))) ≡ (((xs || yf) && wf) || ((xs || ys) && (xs || yf)) || (ws && wf))
-and_b_forced true yf ys true ws = refl
-and_b_forced true yf ys false true = refl
-and_b_forced true yf ys false false = refl
-and_b_forced false yf ys wf ws = refl
+and_b_forced xs yf ys wf ws = grind arith
 
 and_v_turns : (w : Tree) → Turns (λ t. two kind.AndV t w)
 unfolding mall_rows
@@ -374,29 +343,17 @@ module _ (g : Key → Key) where
 
   mutual
     same_nest : (t : Tree) → Same t (nest g t)
-    same_nest just_0 = itself just_0
-    same_nest just_1 = itself just_1
-    same_nest (pk_k key) = itself (pk_k key)
     same_nest (pk_h key) = record { properties = refl; typed = (λ h. h, λ h. h); locks = refl; unmixed = (λ h. h, λ h. h) }
-    same_nest (older n) = itself (older n)
-    same_nest (after n) = itself (after n)
-    same_nest (hash kind value) = itself (hash kind value)
     same_nest (and_or x y z) = same_and_or x y z (nest g x) (nest g y) (nest g z) (same_nest x) (same_nest y) (same_nest z)
     same_nest (two kind.AndV x y) = beside kind.AndV x y (and_v_turns (nest g y)) (same_nest x) (same_nest y)
     same_nest (two kind.AndB x y) = beside kind.AndB x y (and_b_turns (nest g y)) (same_nest x) (same_nest y)
-    same_nest (two kind.OrB x z) = same_two kind.OrB x z (nest g x) (nest g z) (same_nest x) (same_nest z)
-    same_nest (two kind.OrC x z) = same_two kind.OrC x z (nest g x) (nest g z) (same_nest x) (same_nest z)
-    same_nest (two kind.OrD x z) = same_two kind.OrD x z (nest g x) (nest g z) (same_nest x) (same_nest z)
-    same_nest (two kind.OrI x z) = same_two kind.OrI x z (nest g x) (nest g z) (same_nest x) (same_nest z)
+    same_nest (two b x z) = same_two b x z (nest g x) (nest g z) (same_nest x) (same_nest z)
     same_nest (thresh n xs) = same_thresh n xs (nest_each g xs) (same_nests xs)
-    same_nest (multi n keys) = itself (multi n keys)
-    same_nest (wrap wrapper.A x) = same_wrap wrapper.A x (nest g x) (same_nest x)
-    same_nest (wrap wrapper.S x) = same_wrap wrapper.S x (nest g x) (same_nest x)
     same_nest (wrap wrapper.C x) = around wrapper.C c_turns x (same_nest x)
-    same_nest (wrap wrapper.D x) = same_wrap wrapper.D x (nest g x) (same_nest x)
     same_nest (wrap wrapper.V x) = around wrapper.V v_turns x (same_nest x)
-    same_nest (wrap wrapper.J x) = same_wrap wrapper.J x (nest g x) (same_nest x)
     same_nest (wrap wrapper.N x) = around wrapper.N n_turns x (same_nest x)
+    same_nest (wrap w x) = same_wrap w x (nest g x) (same_nest x)
+    same_nest leaf = itself leaf
 
     same_nests : (ts : Trees) → AreSame ts (nest_each g ts)
     same_nests none = record { properties = refl; typed = (λ h. h, λ h. h); locks = refl; each = refl; unmixed = (λ h. h, λ h. h) }
@@ -438,31 +395,19 @@ module _ (g : Key → Key) where
   mutual
     -- the keys, where g leaves those of each `pk_h` as they are
     pub nest_keys : (t : Tree) → EachHashed (λ key. g key ≡ key) t → keys (nest g t) ≡ keys t
-    nest_keys just_0 h = refl
-    nest_keys just_1 h = refl
-    nest_keys (pk_k key) h = refl
     nest_keys (pk_h key) h = λ k. h k ∷ []
-    nest_keys (older n) h = refl
-    nest_keys (after n) h = refl
-    nest_keys (hash kind value) h = refl
     nest_keys (and_or x y z) h = λ k. nest_keys x h.0 k ++ nest_keys y h.1 k ++ nest_keys z h.2 k
     nest_keys (two kind.AndV x y) h =
         keys_out (λ t. two kind.AndV t (nest g y)) (keys (nest g y)) (λ t. refl) (nest g x) ∙ (λ k. nest_keys x h.0 k ++ nest_keys y h.1 k)
     nest_keys (two kind.AndB x y) h =
         keys_out (λ t. two kind.AndB t (nest g y)) (keys (nest g y)) (λ t. refl) (nest g x) ∙ (λ k. nest_keys x h.0 k ++ nest_keys y h.1 k)
-    nest_keys (two kind.OrB x z) h = λ k. nest_keys x h.0 k ++ nest_keys z h.1 k
-    nest_keys (two kind.OrC x z) h = λ k. nest_keys x h.0 k ++ nest_keys z h.1 k
-    nest_keys (two kind.OrD x z) h = λ k. nest_keys x h.0 k ++ nest_keys z h.1 k
-    nest_keys (two kind.OrI x z) h = λ k. nest_keys x h.0 k ++ nest_keys z h.1 k
+    nest_keys (two b x z) h = λ k. nest_keys x h.0 k ++ nest_keys z h.1 k
     nest_keys (thresh n xs) h = nest_all_keys xs h
-    nest_keys (multi n own) h = refl
-    nest_keys (wrap wrapper.A x) h = nest_keys x h
-    nest_keys (wrap wrapper.S x) h = nest_keys x h
     nest_keys (wrap wrapper.C x) h = keys_kept (λ t. wrap wrapper.C t) (λ t. refl) (nest g x) ∙ nest_keys x h
-    nest_keys (wrap wrapper.D x) h = nest_keys x h
     nest_keys (wrap wrapper.V x) h = keys_kept (λ t. wrap wrapper.V t) (λ t. refl) (nest g x) ∙ nest_keys x h
-    nest_keys (wrap wrapper.J x) h = nest_keys x h
     nest_keys (wrap wrapper.N x) h = keys_kept (λ t. wrap wrapper.N t) (λ t. refl) (nest g x) ∙ nest_keys x h
+    nest_keys (wrap w x) h = nest_keys x h
+    nest_keys leaf h = refl
 
     nest_all_keys : (ts : Trees) → EachHashedOf (λ key. g key ≡ key) ts → keys_of_all (nest_each g ts) ≡ keys_of_all ts
     nest_all_keys none h = refl

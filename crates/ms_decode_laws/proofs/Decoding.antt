@@ -1,7 +1,6 @@
 -- What a Script is decoded to: the tree that the reader finds, where there is one.
-use Rattle.std.proofs.Common.{◌≡◌, ◌↔◌, ℕ, zero, suc, ◌+◌, ◌<◌, ◌≤◌, ◌==◌, ◌&&◌, nat_le, Bool, true, false, List, [], ◌∷◌, ◌++◌, length, map, reverse, append-nil, slice_index_or, All, Option, Some, None, Ok, if◌then◌else◌, refl, sym, ◌∙◌, ap, subst, arith}
+use Rattle.std.proofs.Common.{◌≡◌, ◌↔◌, ℕ, zero, suc, ◌+◌, ◌<◌, ◌≤◌, Bool, true, false, List, [], ◌∷◌, ◌++◌, length, map, reverse, append-nil, slice_index_or, All, Option, Some, None, Ok, if◌then◌else◌, refl, sym, ◌∙◌, ap, subst, arith}
 use Rattle.std.specs.List.{find, Contains}
-use Rattle.std.specs.Int.{w16, w32, to_le_bytes}
 use Rattle.std.specs.Str.{bytes_eq}
 use Rattle.std.proofs.lemmas.List.{length-append, reverse-reverse}
 use Rattle.std.proofs.lemmas.List.Elements.{All-head, All-tail}
@@ -12,7 +11,7 @@ use Rattle.def_script.specs.Instruction.{Instruction, push, code, opcode_count}
 use Rattle.def_script.specs.Spell.{sized_push, byte_push, spell_one, spell}
 use Rattle.def_script.specs.Items.{items}
 use Rattle.def_script.specs.Laws.{item_of}
-use Rattle.def_tree.specs.Tree.{Tree, Trees, Key, just_0, just_1, pk_k, pk_h, older, after, hash, and_or, two, thresh, multi, wrap, none, more}
+use Rattle.def_tree.specs.Tree.{Tree, Trees, Key, pk_h, and_or, two, thresh, wrap, none, more}
 use Rattle.def_tree.specs.Size.{measure, depth}
 use Rattle.def_tree.specs.Range.{IsKey, MOST_MEASURE, MOST_DEPTH}
 use Rattle.def_types.specs.declared.Base.TheVariants.{B, W}
@@ -47,13 +46,9 @@ use Rattle.ms_decode_laws.proofs.Fitting.{Fit, parses}
 
 -- the first element that passes a test
 module _ (X : Type 0) (p : X → Bool) where
-  passes_on : (x y : X) (xs : List X) (b : Bool) → p x ≡ b → (if b then Some x else find p xs) ≡ Some y → (find p xs ≡ Some y → p y ≡ true) → p y ≡ true
-  passes_on x y xs true q e next = let same : x ≡ y = cc in subst (λ (z : X). p z ≡ true) same q
-  passes_on x y xs false q e next = next e
-
   found_passes : (xs : List X) (y : X) → find p xs ≡ Some y → p y ≡ true
   found_passes [] y e = cc
-  found_passes (x ∷ xs) y e = passes_on x y xs (p x) refl e (found_passes xs y)
+  found_passes (x ∷ xs) y e = grind (arith, found_passes xs y)
 
   at_on : (x : X) (xs : List X) (b : Bool) → p x ≡ b → (z : X) × (find p xs ≡ Some z) → (z : X) × (find p (x ∷ xs) ≡ Some z)
   at_on x xs true q next = (x, rw q refl)
@@ -118,18 +113,12 @@ first_from_listed keys k all h =
 
 mutual
   each_map : (P Q : Key → Type 0) (f : (k : Key) → P k → Q k) (t : Tree) → EachHashed P t → EachHashed Q t
-  each_map P Q f just_0 h = tt
-  each_map P Q f just_1 h = tt
-  each_map P Q f (pk_k key) h = tt
   each_map P Q f (pk_h key) h = f key h
-  each_map P Q f (older n) h = tt
-  each_map P Q f (after n) h = tt
-  each_map P Q f (hash kind value) h = tt
   each_map P Q f (and_or x y z) h = (each_map P Q f x h.0, each_map P Q f y h.1, each_map P Q f z h.2)
   each_map P Q f (two kind x y) h = (each_map P Q f x h.0, each_map P Q f y h.1)
   each_map P Q f (thresh k xs) h = each_map_of P Q f xs h
-  each_map P Q f (multi k keys) h = tt
   each_map P Q f (wrap w x) h = each_map P Q f x h
+  each_map P Q f leaf h = tt
 
   each_map_of : (P Q : Key → Type 0) (f : (k : Key) → P k → Q k) (ts : Trees) → EachHashedOf P ts → EachHashedOf Q ts
   each_map_of P Q f none h = tt
@@ -221,26 +210,15 @@ each_is_decoded keys script t all h = nest_is_decoded keys script t all h
 
 -- every instruction takes a byte
 sized_some : (bytes : Bytes) → 1 ≤ length (sized_push bytes)
-sized_some bytes = go (nat_le (length bytes) 75) (nat_le (length bytes) 255) (nat_le (length bytes) 65535)
-  where
-    go : (p q r : Bool) → 1 ≤ length (if p then length bytes ∷ bytes else if q then 0x4c ∷ length bytes ∷ bytes else if r then 0x4d ∷ to_le_bytes w16 (length bytes) ++ bytes else 0x4e ∷ to_le_bytes w32 (length bytes) ++ bytes)
-    go true q r = omega arith
-    go false true r = omega arith
-    go false false true = omega arith
-    go false false false = omega arith
+sized_some bytes = grind arith
 
 byte_some : (b : ℕ) → 1 ≤ length (byte_push b)
-byte_some b = go (nat_le 1 b && nat_le b 16) (b == 0x81)
-  where
-    go : (p q : Bool) → 1 ≤ length (if p then (0x50 + b) ∷ [] else if q then 0x4f ∷ [] else sized_push (b ∷ []))
-    go true q = omega arith
-    go false true = omega arith
-    go false false = sized_some (b ∷ [])
+byte_some b = grind (arith, sized_some)
 
 spell_some : (i : Instruction) → 1 ≤ length (spell_one i)
 spell_some (push []) = omega arith
 spell_some (push (b ∷ [])) = byte_some b
-spell_some (push (b ∷ c ∷ bytes)) = sized_some (b ∷ c ∷ bytes)
+spell_some (push bytes) = sized_some bytes
 spell_some (code op) = omega arith
 
 length-spell : (l : List Instruction) → length l ≤ length (spell l)
@@ -253,12 +231,12 @@ length-spell (i ∷ l) =
 
 length-back : (l is : List Instruction) → length (back l is) ≡ length l + length is
 length-back [] is = omega arith
-length-back (i ∷ l) is = let e = length-back l (i ∷ is) in omega (arith, e)
+length-back (i ∷ l) is = omega (arith, length-back l (i ∷ is))
 
 count-back : (l is : List Instruction) → opcode_count (back l is) ≡ opcode_count l + opcode_count is
 count-back [] is = omega arith
-count-back (push bytes ∷ l) is = let e = count-back l (push bytes ∷ is) in omega (arith, e)
-count-back (code op ∷ l) is = let e = count-back l (code op ∷ is) in omega (arith, e)
+count-back (push bytes ∷ l) is = omega (arith, count-back l (push bytes ∷ is))
+count-back (code op ∷ l) is = omega (arith, count-back l (code op ∷ is))
 
 -- such a tree is neither too deep nor too large
 deep_within : (t : Tree) → IsTyped t → RightNested t → opcode_count (emit t) ≤ MAX_OPS_PER_SCRIPT → depth t ≤ MOST_DEPTH
@@ -295,10 +273,7 @@ decoded_is_read keys script t h =
 
 -- instructions are known by their items
 item_injective : (i j : Instruction) → item_of i ≡ item_of j → i ≡ j
-item_injective (push a) (push b) e = let same : a ≡ b = cc in ap push same
-item_injective (push a) (code p) e = cc
-item_injective (code o) (push b) e = cc
-item_injective (code o) (code p) e = let same : o ≡ p = cc in ap code same
+item_injective i j e = grind arith
 
 map_injective : (a b : List Instruction) → map item_of a ≡ map item_of b → a ≡ b
 map_injective [] [] e = refl
@@ -332,7 +307,8 @@ reading_is_found keys script is t all e h =
     }
 
 -- and what it finds is decoded where it can be read
-pub found_is_decoded : (keys : List Key) (script : Bytes) (is : List Instruction) (t : Tree) → All IsKey keys → items script ≡ map item_of is → read (first_with keys) (reverse is) ≡ Some t → IsReading keys script t → IsDecoded keys script t
+pub found_is_decoded : (keys : List Key) (script : Bytes) (is : List Instruction) (t : Tree) → All IsKey keys → items script ≡ map item_of is
+    → read (first_with keys) (reverse is) ≡ Some t → IsReading keys script t → IsDecoded keys script t
 found_is_decoded keys script is t all e f h =
     let d = reading_is_found keys script is t all e h in
     let both : Some d.tree ≡ Some t = sym d.found ∙ f in

@@ -20,16 +20,11 @@ pub record Few (size : ℕ) (l whole : List Instruction) : Type 0 where
 
 -- VERIFY behind it is an instruction, or is fused
 fused_few : (size : ℕ) (l whole : List Instruction) → Few size l whole → Few (size + 1) l (fused whole)
-fused_few size l [] h = let f : size + 1 + 0 + 3 * length l ≤ 0 = h.few in absurd (omega (arith, f))
-fused_few size l (push bytes ∷ w) h = let f = h.few in record { few = omega (arith, f) }
-fused_few size l (code op.Equal ∷ w) h = let f = h.few in record { few = omega (arith, f) }
-fused_few size l (code op.CheckSig ∷ w) h = let f = h.few in record { few = omega (arith, f) }
-fused_few size l (code op.CheckMultiSig ∷ w) h = let f = h.few in record { few = omega (arith, f) }
-fused_few size l (code other ∷ w) h = let f = h.few in record { few = omega (arith, f) }
+fused_few size l whole h = record { few = grind (arith, h.few) }
 
 length-back : (keys : List Key) (l : List Instruction) → length (back (map push keys) l) ≡ length keys + length l
 length-back [] l = omega arith
-length-back (key ∷ keys) l = let e = length-back keys (push key ∷ l) in omega (arith, e)
+length-back (key ∷ keys) l = omega (arith, length-back keys (push key ∷ l))
 
 mutual
   pub few_of : (t : Tree) (l : List Instruction) → Few (measure t) l (onto t l)
@@ -41,41 +36,27 @@ mutual
   few_of (after n) l = record { few = omega arith }
   few_of (hash kind value) l = record { few = omega arith }
   few_of (and_or x y z) l =
-      let a = (few_of x l).few in
-      let c = (few_of z (code op.NotIf ∷ onto x l)).few in
-      let b = (few_of y (code op.Else ∷ onto z (code op.NotIf ∷ onto x l))).few in
-      record { few = omega (arith, a, b, c) }
-  few_of (two kind.AndV x y) l =
-      let a = (few_of x l).few in let b = (few_of y (onto x l)).few in record { few = omega (arith, a, b) }
-  few_of (two kind.AndB x y) l =
-      let a = (few_of x l).few in let b = (few_of y (onto x l)).few in record { few = omega (arith, a, b) }
-  few_of (two kind.OrB x y) l =
-      let a = (few_of x l).few in let b = (few_of y (onto x l)).few in record { few = omega (arith, a, b) }
-  few_of (two kind.OrC x y) l =
-      let a = (few_of x l).few in let b = (few_of y (code op.NotIf ∷ onto x l)).few in record { few = omega (arith, a, b) }
-  few_of (two kind.OrD x y) l =
-      let a = (few_of x l).few in let b = (few_of y (code op.NotIf ∷ code op.IfDup ∷ onto x l)).few in record { few = omega (arith, a, b) }
-  few_of (two kind.OrI x y) l =
-      let a = (few_of x (code op.If ∷ l)).few in
-      let b = (few_of y (code op.Else ∷ onto x (code op.If ∷ l))).few in
-      record { few = omega (arith, a, b) }
-  few_of (thresh k xs) l = let a = few_sum xs l in record { few = omega (arith, a) }
-  few_of (multi k keys) l = let a = length-back keys (push_number k ∷ l) in record { few = omega (arith, a) }
-  few_of (wrap wrapper.A x) l = let a = (few_of x (code op.ToAltStack ∷ l)).few in record { few = omega (arith, a) }
-  few_of (wrap wrapper.S x) l = let a = (few_of x (code op.Swap ∷ l)).few in record { few = omega (arith, a) }
-  few_of (wrap wrapper.C x) l = let a = (few_of x l).few in record { few = omega (arith, a) }
-  few_of (wrap wrapper.D x) l = let a = (few_of x (code op.If ∷ code op.Dup ∷ l)).few in record { few = omega (arith, a) }
+      record { few = omega (arith, (few_of x l).few, (few_of z (code op.NotIf ∷ onto x l)).few, (few_of y (code op.Else ∷ onto z (code op.NotIf ∷ onto x l))).few) }
+  few_of (two kind.AndV x y) l = record { few = omega (arith, (few_of x l).few, (few_of y (onto x l)).few) }
+  few_of (two kind.AndB x y) l = record { few = omega (arith, (few_of x l).few, (few_of y (onto x l)).few) }
+  few_of (two kind.OrB x y) l = record { few = omega (arith, (few_of x l).few, (few_of y (onto x l)).few) }
+  few_of (two kind.OrC x y) l = record { few = omega (arith, (few_of x l).few, (few_of y (code op.NotIf ∷ onto x l)).few) }
+  few_of (two kind.OrD x y) l = record { few = omega (arith, (few_of x l).few, (few_of y (code op.NotIf ∷ code op.IfDup ∷ onto x l)).few) }
+  few_of (two kind.OrI x y) l = record { few = omega (arith, (few_of x (code op.If ∷ l)).few, (few_of y (code op.Else ∷ onto x (code op.If ∷ l))).few) }
+  few_of (thresh k xs) l = record { few = omega (arith, few_sum xs l) }
+  few_of (multi k keys) l = record { few = omega (arith, length-back keys (push_number k ∷ l)) }
+  few_of (wrap wrapper.A x) l = record { few = omega (arith, (few_of x (code op.ToAltStack ∷ l)).few) }
+  few_of (wrap wrapper.S x) l = record { few = omega (arith, (few_of x (code op.Swap ∷ l)).few) }
+  few_of (wrap wrapper.C x) l = record { few = omega (arith, (few_of x l).few) }
+  few_of (wrap wrapper.D x) l = record { few = omega (arith, (few_of x (code op.If ∷ code op.Dup ∷ l)).few) }
   few_of (wrap wrapper.V x) l = fused_few (measure x) l (onto x l) (few_of x l)
-  few_of (wrap wrapper.J x) l =
-      let a = (few_of x (code op.If ∷ code op.ZeroNotEqual ∷ code op.Size ∷ l)).few in record { few = omega (arith, a) }
-  few_of (wrap wrapper.N x) l = let a = (few_of x l).few in record { few = omega (arith, a) }
+  few_of (wrap wrapper.J x) l = record { few = omega (arith, (few_of x (code op.If ∷ code op.ZeroNotEqual ∷ code op.Size ∷ l)).few) }
+  few_of (wrap wrapper.N x) l = record { few = omega (arith, (few_of x l).few) }
 
   few_sum : (xs : Trees) (l : List Instruction) → measure_of xs + 3 * length l ≤ 3 * length (onto_sum xs l)
   few_sum none l = omega arith
-  few_sum (more x xs) l =
-      let a = (few_of x l).few in let b = few_added xs (onto x l) in omega (arith, a, b)
+  few_sum (more x xs) l = omega (arith, (few_of x l).few, few_added xs (onto x l))
 
   few_added : (xs : Trees) (l : List Instruction) → measure_of xs + 3 * length l ≤ 3 * length (onto_added xs l)
   few_added none l = omega arith
-  few_added (more x xs) l =
-      let a = (few_of x l).few in let b = few_added xs (code op.Add ∷ onto x l) in omega (arith, a, b)
+  few_added (more x xs) l = omega (arith, (few_of x l).few, few_added xs (code op.Add ∷ onto x l))

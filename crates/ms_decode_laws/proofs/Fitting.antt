@@ -103,59 +103,51 @@ module _ (find : Bytes → Option Key) where
     parses (after n) h = as_one find (after n) (λ e. cc) (after_one n (natural_read n h.writable))
     parses (hash kind value) h = as_one find (hash kind value) (λ e. cc) (hash_one kind value (eq-eqb _ _ h.writable.length))
     parses (and_or x y z) h =
-        let d = h.deep in let m = h.large in
         let f = typed-and_or x y z h.typed in
-        let a = parses x (record { typed = f.0; nested = h.nested.0; writable = h.writable.0; found = h.found.0; deep = omega (arith, d); large = omega (arith, m) }) in
-        let b = parses y (record { typed = f.1; nested = h.nested.1; writable = h.writable.1; found = h.found.1; deep = omega (arith, d); large = omega (arith, m) }) in
-        let c = parses z (record { typed = f.2; nested = h.nested.2; writable = h.writable.2; found = h.found.2; deep = omega (arith, d); large = omega (arith, m) }) in
+        let a = parses x (record { typed = f.0; nested = h.nested.0; writable = h.writable.0; found = h.found.0; deep = omega (arith, h.deep); large = omega (arith, h.large) }) in
+        let b = parses y (record { typed = f.1; nested = h.nested.1; writable = h.writable.1; found = h.found.1; deep = omega (arith, h.deep); large = omega (arith, h.large) }) in
+        let c = parses z (record { typed = f.2; nested = h.nested.2; writable = h.writable.2; found = h.found.2; deep = omega (arith, h.deep); large = omega (arith, h.large) }) in
         as_one find (and_or x y z) f.7
         (and_or_one x y z (a.one (d_no_and_v x f.4) (b_not_w _ f.3)) (b.row f.7) (c.row (not_w _ _ (sym f.6) f.7)) (fit (and_or x y z) h))
     parses (two kind.AndV x y) h =
-        let d = h.deep in let m = h.large in
         let f = typed-and_v x y h.typed in
-        let a = parses x (record { typed = f.0; nested = h.nested.1; writable = h.writable.0; found = h.found.0; deep = omega (arith, d); large = omega (arith, m) }) in
-        let b = parses y (record { typed = f.1; nested = h.nested.2; writable = h.writable.1; found = h.found.1; deep = omega (arith, d); large = omega (arith, m) }) in
+        let a = parses x (record { typed = f.0; nested = h.nested.1; writable = h.writable.0; found = h.found.0; deep = omega (arith, h.deep); large = omega (arith, h.large) }) in
+        let b = parses y (record { typed = f.1; nested = h.nested.2; writable = h.writable.1; found = h.found.1; deep = omega (arith, h.deep); large = omega (arith, h.large) }) in
         record {
           one = λ e w. cc;
           row = λ w. and_v_row x y (a.one h.nested.0 (v_not_w _ f.2)) (b.row f.3) (fit (two kind.AndV x y) h);
           side = λ e. absurd (f.3 e);
         }
     parses (two kind.AndB x y) h =
-        let d = h.deep in let m = h.large in
         let f = typed-and_b x y h.typed in
-        let a = parses x (record { typed = f.0; nested = h.nested.1; writable = h.writable.0; found = h.found.0; deep = omega (arith, d); large = omega (arith, m) }) in
-        let b = parses y (record { typed = f.1; nested = h.nested.2; writable = h.writable.1; found = h.found.1; deep = omega (arith, d); large = omega (arith, m) }) in
+        let a = parses x (record { typed = f.0; nested = h.nested.1; writable = h.writable.0; found = h.found.0; deep = omega (arith, h.deep); large = omega (arith, h.large) }) in
+        let b = parses y (record { typed = f.1; nested = h.nested.2; writable = h.writable.1; found = h.found.1; deep = omega (arith, h.deep); large = omega (arith, h.large) }) in
         as_one find (two kind.AndB x y) (λ e. cc) (and_b_one x y (a.one h.nested.0 (b_not_w _ f.2)) (b.side f.3) (fit (two kind.AndB x y) h))
     parses (two kind.OrB x y) h =
-        let d = h.deep in let m = h.large in
         let f = typed-or_b x y h.typed in
-        let a = parses x (record { typed = f.0; nested = h.nested.0; writable = h.writable.0; found = h.found.0; deep = omega (arith, d); large = omega (arith, m) }) in
-        let b = parses y (record { typed = f.1; nested = h.nested.1; writable = h.writable.1; found = h.found.1; deep = omega (arith, d); large = omega (arith, m) }) in
+        let a = parses x (record { typed = f.0; nested = h.nested.0; writable = h.writable.0; found = h.found.0; deep = omega (arith, h.deep); large = omega (arith, h.large) }) in
+        let b = parses y (record { typed = f.1; nested = h.nested.1; writable = h.writable.1; found = h.found.1; deep = omega (arith, h.deep); large = omega (arith, h.large) }) in
         as_one find (two kind.OrB x y) (λ e. cc) (or_b_one x y (a.one (d_no_and_v x f.3) (b_not_w _ f.2)) (b.side f.4) (fit (two kind.OrB x y) h))
     parses (two kind.OrC x y) h =
-        let d = h.deep in let m = h.large in
         let f = typed-or_c x y h.typed in
-        let a = parses x (record { typed = f.0; nested = h.nested.0; writable = h.writable.0; found = h.found.0; deep = omega (arith, d); large = omega (arith, m) }) in
-        let b = parses y (record { typed = f.1; nested = h.nested.1; writable = h.writable.1; found = h.found.1; deep = omega (arith, d); large = omega (arith, m) }) in
+        let a = parses x (record { typed = f.0; nested = h.nested.0; writable = h.writable.0; found = h.found.0; deep = omega (arith, h.deep); large = omega (arith, h.large) }) in
+        let b = parses y (record { typed = f.1; nested = h.nested.1; writable = h.writable.1; found = h.found.1; deep = omega (arith, h.deep); large = omega (arith, h.large) }) in
         as_one find (two kind.OrC x y) (λ e. cc) (or_c_one x y (a.one (d_no_and_v x f.3) (b_not_w _ f.2)) (b.row (v_not_w _ f.5)) (fit (two kind.OrC x y) h))
     parses (two kind.OrD x y) h =
-        let d = h.deep in let m = h.large in
         let f = typed-or_d x y h.typed in
-        let a = parses x (record { typed = f.0; nested = h.nested.0; writable = h.writable.0; found = h.found.0; deep = omega (arith, d); large = omega (arith, m) }) in
-        let b = parses y (record { typed = f.1; nested = h.nested.1; writable = h.writable.1; found = h.found.1; deep = omega (arith, d); large = omega (arith, m) }) in
+        let a = parses x (record { typed = f.0; nested = h.nested.0; writable = h.writable.0; found = h.found.0; deep = omega (arith, h.deep); large = omega (arith, h.large) }) in
+        let b = parses y (record { typed = f.1; nested = h.nested.1; writable = h.writable.1; found = h.found.1; deep = omega (arith, h.deep); large = omega (arith, h.large) }) in
         as_one find (two kind.OrD x y) (λ e. cc) (or_d_one x y (a.one (d_no_and_v x f.3) (b_not_w _ f.2)) (b.row (b_not_w _ f.5)) (fit (two kind.OrD x y) h))
     parses (two kind.OrI x y) h =
-        let d = h.deep in let m = h.large in
         let f = typed-or_i x y h.typed in
-        let a = parses x (record { typed = f.0; nested = h.nested.0; writable = h.writable.0; found = h.found.0; deep = omega (arith, d); large = omega (arith, m) }) in
-        let b = parses y (record { typed = f.1; nested = h.nested.1; writable = h.writable.1; found = h.found.1; deep = omega (arith, d); large = omega (arith, m) }) in
+        let a = parses x (record { typed = f.0; nested = h.nested.0; writable = h.writable.0; found = h.found.0; deep = omega (arith, h.deep); large = omega (arith, h.large) }) in
+        let b = parses y (record { typed = f.1; nested = h.nested.1; writable = h.writable.1; found = h.found.1; deep = omega (arith, h.deep); large = omega (arith, h.large) }) in
         as_one find (two kind.OrI x y) f.3 (or_i_one x y (a.row f.3) (b.row (not_w _ _ (sym f.2) f.3)) (fit (two kind.OrI x y) h))
     parses (thresh k none) h = absurd (typed-thresh_none k h.typed)
     parses (thresh k (more x xs)) h =
-        let d = h.deep in let m = h.large in
         let f = typed-thresh k x xs h.typed in
-        let a = parses x (record { typed = f.0; nested = h.nested.0; writable = h.writable.2.0; found = h.found.0; deep = omega (arith, d); large = omega (arith, m) }) in
-        let b = parse_sides xs (record { typed = f.1; nested = h.nested.1; writable = h.writable.2.1; found = h.found.1; deep = omega (arith, d); large = omega (arith, m) }) f.7 in
+        let a = parses x (record { typed = f.0; nested = h.nested.0; writable = h.writable.2.0; found = h.found.0; deep = omega (arith, h.deep); large = omega (arith, h.large) }) in
+        let b = parse_sides xs (record { typed = f.1; nested = h.nested.1; writable = h.writable.2.1; found = h.found.1; deep = omega (arith, h.deep); large = omega (arith, h.large) }) f.7 in
         as_one find (thresh k (more x xs)) (λ e. cc)
         (thresh_one k x xs (natural_read k h.writable.0) (a.one (d_no_and_v x f.5) (b_not_w _ f.4)) b (fit (thresh k (more x xs)) h))
     parses (multi k keys) h =
@@ -166,45 +158,37 @@ module _ (find : Bytes → Option Key) where
         as_one find (multi k keys) (λ e. cc)
         (multi_one k keys (natural_read k h.writable.0) (natural_read (length keys) (omega (arith, f.2))) range (keys_read keys h.writable.2) (fit (multi k keys) h))
     parses (wrap wrapper.A x) h =
-        let d = h.deep in let m = h.large in
         let f = typed-wrap_a x h.typed in
-        let a = parses x (record { typed = f.0; nested = h.nested; writable = h.writable; found = h.found; deep = omega (arith, d); large = omega (arith, m) }) in
+        let a = parses x (record { typed = f.0; nested = h.nested; writable = h.writable; found = h.found; deep = omega (arith, h.deep); large = omega (arith, h.large) }) in
         as_side find (wrap wrapper.A x) refl (a_side x (a.row (b_not_w _ f.1)) (fit (wrap wrapper.A x) h))
     parses (wrap wrapper.S x) h =
-        let d = h.deep in let m = h.large in
         let f = typed-wrap_s x h.typed in
-        let a = parses x (record { typed = f.0; nested = h.nested; writable = h.writable; found = h.found; deep = omega (arith, d); large = omega (arith, m) }) in
+        let a = parses x (record { typed = f.0; nested = h.nested; writable = h.writable; found = h.found; deep = omega (arith, h.deep); large = omega (arith, h.large) }) in
         as_side find (wrap wrapper.S x) refl (s_side x (a.row (b_not_w _ f.1)) (fit (wrap wrapper.S x) h))
     parses (wrap wrapper.C x) h =
-        let d = h.deep in let m = h.large in
         let f = typed-wrap_c x h.typed in
-        let a = parses x (record { typed = f.0; nested = h.nested.1; writable = h.writable; found = h.found; deep = omega (arith, d); large = omega (arith, m) }) in
+        let a = parses x (record { typed = f.0; nested = h.nested.1; writable = h.writable; found = h.found; deep = omega (arith, h.deep); large = omega (arith, h.large) }) in
         as_one find (wrap wrapper.C x) (λ e. cc) (c_one x (a.one h.nested.0 (k_not_w _ f.1)) (fit (wrap wrapper.C x) h))
     parses (wrap wrapper.D x) h =
-        let d = h.deep in let m = h.large in
         let f = typed-wrap_d x h.typed in
-        let a = parses x (record { typed = f.0; nested = h.nested; writable = h.writable; found = h.found; deep = omega (arith, d); large = omega (arith, m) }) in
+        let a = parses x (record { typed = f.0; nested = h.nested; writable = h.writable; found = h.found; deep = omega (arith, h.deep); large = omega (arith, h.large) }) in
         as_one find (wrap wrapper.D x) (λ e. cc) (d_one x (a.row (v_not_w _ f.1)) (fit (wrap wrapper.D x) h))
     parses (wrap wrapper.V x) h =
-        let d = h.deep in let m = h.large in
         let f = typed-wrap_v x h.typed in
-        let a = parses x (record { typed = f.0; nested = h.nested.1; writable = h.writable; found = h.found; deep = omega (arith, d); large = omega (arith, m) }) in
+        let a = parses x (record { typed = f.0; nested = h.nested.1; writable = h.writable; found = h.found; deep = omega (arith, h.deep); large = omega (arith, h.large) }) in
         as_one find (wrap wrapper.V x) (λ e. cc) (v_one x (a.one h.nested.0 (b_not_w _ f.1)) (fit (wrap wrapper.V x) h))
     parses (wrap wrapper.J x) h =
-        let d = h.deep in let m = h.large in
         let f = typed-wrap_j x h.typed in
-        let a = parses x (record { typed = f.0; nested = h.nested; writable = h.writable; found = h.found; deep = omega (arith, d); large = omega (arith, m) }) in
+        let a = parses x (record { typed = f.0; nested = h.nested; writable = h.writable; found = h.found; deep = omega (arith, h.deep); large = omega (arith, h.large) }) in
         as_one find (wrap wrapper.J x) (λ e. cc) (j_one x (a.row (b_not_w _ f.1)) (fit (wrap wrapper.J x) h))
     parses (wrap wrapper.N x) h =
-        let d = h.deep in let m = h.large in
         let f = typed-wrap_n x h.typed in
-        let a = parses x (record { typed = f.0; nested = h.nested.1; writable = h.writable; found = h.found; deep = omega (arith, d); large = omega (arith, m) }) in
+        let a = parses x (record { typed = f.0; nested = h.nested.1; writable = h.writable; found = h.found; deep = omega (arith, h.deep); large = omega (arith, h.large) }) in
         as_one find (wrap wrapper.N x) (λ e. cc) (n_one x (a.one h.nested.0 (b_not_w _ f.1)) (fit (wrap wrapper.N x) h))
 
     parse_sides : (xs : Trees) → AreFit find xs → OthersFit xs → Sides find xs
     parse_sides none h o = no_side
     parse_sides (more x xs) h o =
-        let d = h.deep in let m = h.large in
-        let a = parses x (record { typed = h.typed.0; nested = h.nested.0; writable = h.writable.0; found = h.found.0; deep = omega (arith, d); large = omega (arith, m) }) in
-        let b = parse_sides xs (record { typed = h.typed.1; nested = h.nested.1; writable = h.writable.1; found = h.found.1; deep = omega (arith, d); large = omega (arith, m) }) o.3 in
+        let a = parses x (record { typed = h.typed.0; nested = h.nested.0; writable = h.writable.0; found = h.found.0; deep = omega (arith, h.deep); large = omega (arith, h.large) }) in
+        let b = parse_sides xs (record { typed = h.typed.1; nested = h.nested.1; writable = h.writable.1; found = h.found.1; deep = omega (arith, h.deep); large = omega (arith, h.large) }) o.3 in
         more_sides x xs (a.side o.0) b

@@ -1,6 +1,6 @@
 -- A tree that is nested to the right is hardly deeper than its Script has opcodes.
-use Rattle.std.proofs.Common.{◌≡◌, ◌≢◌, ℕ, ◌+◌, ◌≤◌, Bool, true, false, ◌&&◌, ◌||◌, List, [], ◌∷◌, map, if◌then◌else◌, refl, sym, ◌∙◌, ap, inl, inr, arith}
-use Rattle.std.proofs.lemmas.Bool.{or_right, or_cases, or_left, and_parts}
+use Rattle.std.proofs.Common.{◌≡◌, ◌≢◌, ℕ, ◌+◌, ◌≤◌, Bool, true, false, ◌&&◌, ◌||◌, List, [], ◌∷◌, map, if◌then◌else◌, refl, sym, ◌∙◌, ap, arith}
+use Rattle.std.proofs.lemmas.Bool.{or_right, or_left, and_parts}
 use Rattle.def_script.specs.declared.Op.TheVariants as op
 use Rattle.def_script.specs.Instruction.{Instruction, push, code, opcode_count}
 use Rattle.def_tree.specs.declared.Two.TheVariants as kind
@@ -12,7 +12,7 @@ use Rattle.def_types.specs.declared.Base.TheVariants.{B, V, K, W}
 use Rattle.def_types.specs.Corr.{all_z, all_z_but_one}
 use Rattle.def_types.specs.Typed.{type_of, types_of, IsTyped, AreTyped}
 use Rattle.def_types.proofs.Rows.{corr_rows}
-use Rattle.def_types.proofs.Facts.{all_true, OthersFit, typed-and_or, typed-and_v, typed-and_b, typed-or_b, typed-or_c, typed-or_d, typed-or_i, typed-thresh, typed-thresh_none, typed-wrap_a, typed-wrap_s, typed-wrap_c, typed-wrap_d, typed-wrap_v, typed-wrap_j, typed-wrap_n}
+use Rattle.def_types.proofs.Facts.{OthersFit, typed-and_or, typed-and_v, typed-and_b, typed-or_b, typed-or_c, typed-or_d, typed-or_i, typed-thresh, typed-thresh_none, typed-wrap_a, typed-wrap_s, typed-wrap_c, typed-wrap_d, typed-wrap_v, typed-wrap_j, typed-wrap_n}
 use Rattle.def_emit.specs.Emit.{push_number}
 use Rattle.def_decode.specs.Nested.{is_and_v, RightNested, AreRightNested}
 use Rattle.ms_decode_laws.proofs.Onto.{back, fused, onto, onto_sum, onto_added}
@@ -68,38 +68,14 @@ head_fuses (code op.CheckMultiSig ∷ l) = true
 head_fuses l = false
 
 count_fused : (l : List Instruction) → opcode_count (fused l) ≡ opcode_count l + (if head_fuses l then 0 else 1)
-count_fused [] = refl
-count_fused (push bytes ∷ l) = omega arith
-count_fused (code op.Equal ∷ l) = omega arith
-count_fused (code op.CheckSig ∷ l) = omega arith
-count_fused (code op.CheckMultiSig ∷ l) = omega arith
-count_fused (code other ∷ l) = omega arith
+count_fused l = grind arith
 
 head_of : (t : Tree) → is_and_v t ≡ false → (type_of t).base ≡ B → (l : List Instruction) → head_fuses (onto t l) ≡ fuses t
 unfolding corr_rows
-head_of just_0 n b l = refl
-head_of just_1 n b l = refl
-head_of (pk_k key) n b l = refl
-head_of (pk_h key) n b l = refl
-head_of (older k) n b l = refl
-head_of (after k) n b l = refl
-head_of (hash kind value) n b l = refl
-head_of (and_or x y z) n b l = refl
 head_of (two kind.AndV x y) n b l = cc
-head_of (two kind.AndB x y) n b l = refl
-head_of (two kind.OrB x y) n b l = refl
-head_of (two kind.OrC x y) n b l = refl
-head_of (two kind.OrD x y) n b l = refl
-head_of (two kind.OrI x y) n b l = refl
-head_of (thresh k xs) n b l = refl
-head_of (multi k keys) n b l = refl
-head_of (wrap wrapper.A x) n b l = refl
 head_of (wrap wrapper.S x) n b l = cc
-head_of (wrap wrapper.C x) n b l = refl
-head_of (wrap wrapper.D x) n b l = refl
 head_of (wrap wrapper.V x) n b l = cc
-head_of (wrap wrapper.J x) n b l = refl
-head_of (wrap wrapper.N x) n b l = refl
+head_of other n b l = refl
 
 count_pushes : (keys : List Key) (l : List Instruction) → opcode_count (back (map push keys) l) ≡ opcode_count l
 count_pushes [] l = refl
@@ -115,22 +91,19 @@ mutual
   ops-onto (after k) h n l = omega arith
   ops-onto (hash kind value) h n l = omega arith
   ops-onto (and_or x y z) h n l =
-      let a = ops-onto x h.0 n.0 l in
-      let c = ops-onto z h.2 n.2 (code op.NotIf ∷ onto x l) in
-      let b = ops-onto y h.1 n.1 (code op.Else ∷ onto z (code op.NotIf ∷ onto x l)) in
-      omega (arith, a, b, c)
-  ops-onto (two kind.AndV x y) h n l = let a = ops-onto x h.0 n.1 l in let b = ops-onto y h.1 n.2 (onto x l) in omega (arith, a, b)
-  ops-onto (two kind.AndB x y) h n l = let a = ops-onto x h.0 n.1 l in let b = ops-onto y h.1 n.2 (onto x l) in omega (arith, a, b)
-  ops-onto (two kind.OrB x y) h n l = let a = ops-onto x h.0 n.0 l in let b = ops-onto y h.1 n.1 (onto x l) in omega (arith, a, b)
-  ops-onto (two kind.OrC x y) h n l = let a = ops-onto x h.0 n.0 l in let b = ops-onto y h.1 n.1 (code op.NotIf ∷ onto x l) in omega (arith, a, b)
-  ops-onto (two kind.OrD x y) h n l = let a = ops-onto x h.0 n.0 l in let b = ops-onto y h.1 n.1 (code op.NotIf ∷ code op.IfDup ∷ onto x l) in omega (arith, a, b)
-  ops-onto (two kind.OrI x y) h n l = let a = ops-onto x h.0 n.0 (code op.If ∷ l) in let b = ops-onto y h.1 n.1 (code op.Else ∷ onto x (code op.If ∷ l)) in omega (arith, a, b)
-  ops-onto (thresh k xs) h n l = let a = ops_sum-onto xs h.0 n l in omega (arith, a)
-  ops-onto (multi k keys) h n l = let a = count_pushes keys (push_number k ∷ l) in omega (arith, a)
-  ops-onto (wrap wrapper.A x) h n l = let a = ops-onto x h.0 n (code op.ToAltStack ∷ l) in omega (arith, a)
-  ops-onto (wrap wrapper.S x) h n l = let a = ops-onto x h.0 n (code op.Swap ∷ l) in omega (arith, a)
-  ops-onto (wrap wrapper.C x) h n l = let a = ops-onto x h.0 n.1 l in omega (arith, a)
-  ops-onto (wrap wrapper.D x) h n l = let a = ops-onto x h.0 n (code op.If ∷ code op.Dup ∷ l) in omega (arith, a)
+      omega (arith, ops-onto x h.0 n.0 l, ops-onto z h.2 n.2 (code op.NotIf ∷ onto x l), ops-onto y h.1 n.1 (code op.Else ∷ onto z (code op.NotIf ∷ onto x l)))
+  ops-onto (two kind.AndV x y) h n l = omega (arith, ops-onto x h.0 n.1 l, ops-onto y h.1 n.2 (onto x l))
+  ops-onto (two kind.AndB x y) h n l = omega (arith, ops-onto x h.0 n.1 l, ops-onto y h.1 n.2 (onto x l))
+  ops-onto (two kind.OrB x y) h n l = omega (arith, ops-onto x h.0 n.0 l, ops-onto y h.1 n.1 (onto x l))
+  ops-onto (two kind.OrC x y) h n l = omega (arith, ops-onto x h.0 n.0 l, ops-onto y h.1 n.1 (code op.NotIf ∷ onto x l))
+  ops-onto (two kind.OrD x y) h n l = omega (arith, ops-onto x h.0 n.0 l, ops-onto y h.1 n.1 (code op.NotIf ∷ code op.IfDup ∷ onto x l))
+  ops-onto (two kind.OrI x y) h n l = omega (arith, ops-onto x h.0 n.0 (code op.If ∷ l), ops-onto y h.1 n.1 (code op.Else ∷ onto x (code op.If ∷ l)))
+  ops-onto (thresh k xs) h n l = omega (arith, ops_sum-onto xs h.0 n l)
+  ops-onto (multi k keys) h n l = omega (arith, count_pushes keys (push_number k ∷ l))
+  ops-onto (wrap wrapper.A x) h n l = omega (arith, ops-onto x h.0 n (code op.ToAltStack ∷ l))
+  ops-onto (wrap wrapper.S x) h n l = omega (arith, ops-onto x h.0 n (code op.Swap ∷ l))
+  ops-onto (wrap wrapper.C x) h n l = omega (arith, ops-onto x h.0 n.1 l)
+  ops-onto (wrap wrapper.D x) h n l = omega (arith, ops-onto x h.0 n (code op.If ∷ code op.Dup ∷ l))
   ops-onto (wrap wrapper.V x) h n l =
       let f = typed-wrap_v x h in
       let a : opcode_count (onto x l) ≡ ops x + opcode_count l = ops-onto x h.0 n.1 l in
@@ -140,16 +113,16 @@ mutual
     where
       moved_sum : (f o p q r : ℕ) → f ≡ o + r → o ≡ p + q → f ≡ p + r + q
       moved_sum f o p q r e d = omega arith
-  ops-onto (wrap wrapper.J x) h n l = let a = ops-onto x h.0 n (code op.If ∷ code op.ZeroNotEqual ∷ code op.Size ∷ l) in omega (arith, a)
-  ops-onto (wrap wrapper.N x) h n l = let a = ops-onto x h.0 n.1 l in omega (arith, a)
+  ops-onto (wrap wrapper.J x) h n l = omega (arith, ops-onto x h.0 n (code op.If ∷ code op.ZeroNotEqual ∷ code op.Size ∷ l))
+  ops-onto (wrap wrapper.N x) h n l = omega (arith, ops-onto x h.0 n.1 l)
 
   ops_sum-onto : (xs : Trees) → AreTyped xs → AreRightNested xs → (l : List Instruction) → opcode_count (onto_sum xs l) ≡ ops_sum xs + opcode_count l
   ops_sum-onto none h n l = omega arith
-  ops_sum-onto (more x xs) h n l = let a = ops-onto x h.0 n.0 l in let b = ops_added-onto xs h.1 n.1 (onto x l) in omega (arith, a, b)
+  ops_sum-onto (more x xs) h n l = omega (arith, ops-onto x h.0 n.0 l, ops_added-onto xs h.1 n.1 (onto x l))
 
   ops_added-onto : (xs : Trees) → AreTyped xs → AreRightNested xs → (l : List Instruction) → opcode_count (onto_added xs l) ≡ ops_added xs + opcode_count l
   ops_added-onto none h n l = omega arith
-  ops_added-onto (more x xs) h n l = let a = ops-onto x h.0 n.0 l in let b = ops_added-onto xs h.1 n.1 (code op.Add ∷ onto x l) in omega (arith, a, b)
+  ops_added-onto (more x xs) h n l = omega (arith, ops-onto x h.0 n.0 l, ops_added-onto xs h.1 n.1 (code op.Add ∷ onto x l))
 
 -- it takes no argument or one
 abbrev small : Tree → Bool
@@ -171,13 +144,13 @@ pub record Low (t : Tree) : Type 0 where
 
 low_one : (t : Tree) → depth t ≤ ops t + 1 → ((type_of t).base ≡ V → 1 ≤ ops t) → ((type_of t).base ≢ W) → Low t
 low_one t d v w = record {
-  four = omega (arith, d);
-  four_small = λ s. omega (arith, d);
-  three = λ n. omega (arith, d);
-  three_small = λ n s. omega (arith, d);
-  two_k = λ n k. omega (arith, d);
-  two_d = λ h. omega (arith, d);
-  two_fused = λ h. omega (arith, d);
+  four = omega arith;
+  four_small = λ s. omega arith;
+  three = λ n. omega arith;
+  three_small = λ n s. omega arith;
+  two_k = λ n k. omega arith;
+  two_d = λ h. omega arith;
+  two_fused = λ h. omega arith;
   one = λ n h s. d;
   v_op = v;
   w_op = λ e. absurd (w e);
@@ -186,9 +159,9 @@ low_one t d v w = record {
 
 low_two : (t : Tree) → depth t ≤ ops t + 2 → (small t ≡ true → depth t ≤ ops t + 1) → 1 ≤ ops t → ((type_of t).base ≢ W) → Low t
 low_two t d s v w = record {
-  four = omega (arith, d);
-  four_small = λ h. omega (arith, d);
-  three = λ n. omega (arith, d);
+  four = omega arith;
+  four_small = λ h. omega arith;
+  three = λ n. omega arith;
   three_small = λ n h. d;
   two_k = λ n k. d;
   two_d = λ h. d;
@@ -202,7 +175,7 @@ low_two t d s v w = record {
 -- a type V
 low_v : (t : Tree) → (type_of t).base ≡ V → (type_of t).d ≡ false → fuses t ≡ false → depth t ≤ ops t + 3 → (small t ≡ true → depth t ≤ ops t + 2) → 1 ≤ ops t → Low t
 low_v t b no_d no_f d s v = record {
-  four = omega (arith, d);
+  four = omega arith;
   four_small = λ h. d;
   three = λ n. d;
   three_small = λ n h. s h;
@@ -218,7 +191,7 @@ low_v t b no_d no_f d s v = record {
 -- a type W
 low_w : (t : Tree) → (type_of t).base ≡ W → small t ≡ false → fuses t ≡ false → depth t ≤ ops t + 3 → ((type_of t).d ≡ true → depth t ≤ ops t + 2) → 1 ≤ ops t → Low t
 low_w t b no_s no_f d e v = record {
-  four = omega (arith, d);
+  four = omega arith;
   four_small = λ h. d;
   three = λ n. d;
   three_small = λ n h. cc;
@@ -234,7 +207,7 @@ low_w t b no_s no_f d e v = record {
 -- a type B on which no VERIFY is fused
 low_b : (t : Tree) → (type_of t).base ≡ B → fuses t ≡ false → depth t ≤ ops t + 3 → (small t ≡ true → depth t ≤ ops t + 1) → ((type_of t).d ≡ true → depth t ≤ ops t + 2) → Low t
 low_b t b no_f d s e = record {
-  four = omega (arith, d);
+  four = omega arith;
   four_small = λ h. d;
   three = λ n. d;
   three_small = λ n h. let k = s h in omega (arith, k);
@@ -249,41 +222,19 @@ low_b t b no_f d s e = record {
 
 -- which parts take no argument or one
 and_or_small : (xz xo yz yo zz zo : Bool) → ((xz && yz && zz) || ((xz && yo && zo) || (xo && yz && zz))) ≡ true → ((yz || yo) ≡ true) × ((zz || zo) ≡ true)
-and_or_small xz xo yz yo zz zo e = elim (or_cases (xz && yz && zz) ((xz && yo && zo) || (xo && yz && zz)) e) [
-  | inl h ↦ let p = all_true xz yz zz h in (or_left yz yo p.1, or_left zz zo p.2)
-  | inr k ↦ elim (or_cases (xz && yo && zo) (xo && yz && zz) k) [
-    | inl h ↦ let p = all_true xz yo zo h in (or_right yz yo p.1, or_right zz zo p.2)
-    | inr h ↦ let p = all_true xo yz zz h in (or_left yz yo p.1, or_left zz zo p.2)
-  ]
-]
+and_or_small xz xo yz yo zz zo e = (grind arith, grind arith)
 
 pair_small : (xz xo yz yo : Bool) → ((xz && yz) || ((xz && yo) || (yz && xo))) ≡ true → ((xz || xo) ≡ true) × ((yz || yo) ≡ true)
-pair_small xz xo yz yo e = elim (or_cases (xz && yz) ((xz && yo) || (yz && xo)) e) [
-  | inl h ↦ let p = and_parts xz yz h in (or_left xz xo p.0, or_left yz yo p.1)
-  | inr k ↦ elim (or_cases (xz && yo) (yz && xo) k) [
-    | inl h ↦ let p = and_parts xz yo h in (or_left xz xo p.0, or_right yz yo p.1)
-    | inr h ↦ let p = and_parts yz xo h in (or_right xz xo p.1, or_left yz yo p.0)
-  ]
-]
+pair_small xz xo yz yo e = (grind arith, grind arith)
 
 else_small : (xz xo zz zo : Bool) → ((xz && zz) || (xo && zz)) ≡ true → (zz || zo) ≡ true
-else_small xz xo zz zo e = elim (or_cases (xz && zz) (xo && zz) e) [
-  | inl h ↦ or_left zz zo (and_parts xz zz h).1
-  | inr h ↦ or_left zz zo (and_parts xo zz h).1
-]
+else_small xz xo zz zo e = grind arith
 
 alone_small : (xz xo : Bool) → ((xz && true) || ((xo && true) || (xz && false))) ≡ true → (xz || xo) ≡ true
-alone_small true xo e = refl
-alone_small false true e = refl
-alone_small false false e = e
+alone_small xz xo e = grind arith
 
 many_small : (xz xo yz yo r s : Bool) → ((xz && (yz && r)) || ((xo && (yz && r)) || (xz && ((yo && r) || (yz && s))))) ≡ true → (yz || yo) ≡ true
-many_small xz xo true yo r s e = refl
-many_small xz xo false true r s e = refl
-many_small true true false false r s e = e
-many_small true false false false r s e = e
-many_small false true false false r s e = e
-many_small false false false false r s e = e
+many_small xz xo yz yo r s e = grind arith
 
 -- a dissatisfiable one is no `and_v`, and a W is none
 pub d_no_and_v : (t : Tree) → (type_of t).d ≡ true → is_and_v t ≡ false
@@ -297,24 +248,17 @@ w_no_and_v (two kind.AndV x y) h e = absurd ((typed-and_v x y h).3 e)
 w_no_and_v other h e = refl
 
 fuses_op : (t : Tree) → fuses t ≡ true → 1 ≤ ops t
-fuses_op (hash kind value) e = omega arith
-fuses_op (thresh k xs) e = omega arith
-fuses_op (multi k keys) e = omega arith
-fuses_op (wrap wrapper.C x) e = omega arith
-fuses_op other e = cc
+fuses_op t e = grind arith
 
 -- VERIFY behind one
 v_three : (b : Bool) (d o : ℕ) → (b ≡ true → d ≤ o + 2) → d ≤ o + 3 → d + 1 ≤ o + (if b then 0 else 1) + 3
-v_three true d o f h = let k = f refl in omega (arith, k)
-v_three false d o f h = omega (arith, h)
+v_three b d o f h = grind arith
 
 v_two : (b : Bool) (d o : ℕ) → d ≤ o + 1 → d + 1 ≤ o + (if b then 0 else 1) + 2
-v_two true d o h = omega (arith, h)
-v_two false d o h = omega (arith, h)
+v_two b d o h = grind arith
 
 v_one : (b : Bool) (o : ℕ) → (b ≡ true → 1 ≤ o) → 1 ≤ o + (if b then 0 else 1)
-v_one true o f = let k = f refl in omega (arith, k)
-v_one false o f = omega arith
+v_one b o f = grind arith
 
 pub not_w : (b c : Base) → b ≡ c → c ≢ W → b ≢ W
 not_w b c e n = λ h. n (sym e ∙ h)
@@ -323,42 +267,28 @@ mutual
   unfolding corr_rows
 
   pub low : (t : Tree) → IsTyped t → RightNested t → Low t
-  low just_0 h n = low_one just_0 (omega arith) (λ e. cc) (λ e. cc)
-  low just_1 h n = low_one just_1 (omega arith) (λ e. cc) (λ e. cc)
-  low (pk_k key) h n = low_one (pk_k key) (omega arith) (λ e. cc) (λ e. cc)
-  low (pk_h key) h n = low_one (pk_h key) (omega arith) (λ e. cc) (λ e. cc)
-  low (older k) h n = low_one (older k) (omega arith) (λ e. cc) (λ e. cc)
-  low (after k) h n = low_one (after k) (omega arith) (λ e. cc) (λ e. cc)
-  low (hash kind value) h n = low_one (hash kind value) (omega arith) (λ e. cc) (λ e. cc)
   low (and_or x y z) h n =
       let f = typed-and_or x y z h in
       let a = low x f.0 n.0 in
       let b = low y f.1 n.1 in
       let c = low z f.2 n.2 in
       let p : depth x ≤ ops x + 2 = a.two_d f.4 in
-      let q : depth y ≤ ops y + 4 = b.four in
-      let r : depth z ≤ ops z + 4 = c.four in
       low_two (and_or x y z) (omega arith)
       (λ s.
       let i = and_or_small (type_of x).z (type_of x).o (type_of y).z (type_of y).o (type_of z).z (type_of z).o s in
-      let u : depth y ≤ ops y + 3 = b.four_small i.0 in
-      let v : depth z ≤ ops z + 3 = c.four_small i.1 in
-      omega arith)
+      omega (arith, b.four_small i.0, c.four_small i.1))
       (omega arith) f.7
   low (two kind.AndV x y) h n =
       let f = typed-and_v x y h in
       let a = low x f.0 n.1 in
       let b = low y f.1 n.2 in
       let p : depth x ≤ ops x + 3 = a.three n.0 in
-      let q : depth y ≤ ops y + 4 = b.four in
       let o : 1 ≤ ops x = a.v_op f.2 in
       record {
         four = omega arith;
         four_small = λ s.
             let i = pair_small (type_of x).z (type_of x).o (type_of y).z (type_of y).o s in
-            let u : depth x ≤ ops x + 2 = a.three_small n.0 i.0 in
-            let v : depth y ≤ ops y + 3 = b.four_small i.1 in
-            omega arith;
+            omega (arith, a.three_small n.0 i.0, b.four_small i.1);
         three = λ e. cc;
         three_small = λ e s. cc;
         two_k = λ e k. cc;
@@ -380,9 +310,7 @@ mutual
       (λ s. let i : small y ≡ true = (pair_small (type_of x).z (type_of x).o (type_of y).z (type_of y).o s).1 in cc)
       (λ d.
       let i = and_parts (type_of x).d (type_of y).d d in
-      let u : depth x ≤ ops x + 2 = a.two_d i.0 in
-      let v : depth y ≤ ops y + 2 = b.two_d i.1 in
-      omega arith)
+      omega (arith, a.two_d i.0, b.two_d i.1))
   low (two kind.OrB x y) h n =
       let f = typed-or_b x y h in
       let a = low x f.0 n.0 in
@@ -398,37 +326,29 @@ mutual
       let a = low x f.0 n.0 in
       let b = low y f.1 n.1 in
       let p : depth x ≤ ops x + 2 = a.two_d f.3 in
-      let q : depth y ≤ ops y + 4 = b.four in
       low_v (two kind.OrC x y) refl refl refl (omega arith)
       (λ s.
       let i = else_small (type_of x).z (type_of x).o (type_of y).z (type_of y).o s in
-      let v : depth y ≤ ops y + 3 = b.four_small i in
-      omega arith)
+      omega (arith, b.four_small i))
       (omega arith)
   low (two kind.OrD x y) h n =
       let f = typed-or_d x y h in
       let a = low x f.0 n.0 in
       let b = low y f.1 n.1 in
       let p : depth x ≤ ops x + 2 = a.two_d f.3 in
-      let q : depth y ≤ ops y + 4 = b.four in
       low_two (two kind.OrD x y) (omega arith)
       (λ s.
       let i = else_small (type_of x).z (type_of x).o (type_of y).z (type_of y).o s in
-      let v : depth y ≤ ops y + 3 = b.four_small i in
-      omega arith)
+      omega (arith, b.four_small i))
       (omega arith) (λ e. cc)
   low (two kind.OrI x y) h n =
       let f = typed-or_i x y h in
       let a = low x f.0 n.0 in
       let b = low y f.1 n.1 in
-      let p : depth x ≤ ops x + 4 = a.four in
-      let q : depth y ≤ ops y + 4 = b.four in
       low_two (two kind.OrI x y) (omega arith)
       (λ s.
       let i = and_parts (type_of x).z (type_of y).z s in
-      let u : depth x ≤ ops x + 3 = a.four_small (or_left (type_of x).z (type_of x).o i.0) in
-      let v : depth y ≤ ops y + 3 = b.four_small (or_left (type_of y).z (type_of y).o i.1) in
-      omega arith)
+      omega (arith, a.four_small (or_left (type_of x).z (type_of x).o i.0), b.four_small (or_left (type_of y).z (type_of y).o i.1)))
       (omega arith) f.3
   low (thresh k none) h n = absurd (typed-thresh_none k h)
   low (thresh k (more x none)) h n =
@@ -438,8 +358,7 @@ mutual
       low_two (thresh k (more x none)) (omega arith)
       (λ s.
       let i : small x ≡ true = alone_small (type_of x).z (type_of x).o s in
-      let u : depth x ≤ ops x + 1 = a.one (d_no_and_v x f.5) (λ e. let b = f.4 in cc) i in
-      omega arith)
+      omega (arith, a.one (d_no_and_v x f.5) (λ e. let b = f.4 in cc) i))
       (omega arith) (λ e. cc)
   low (thresh k (more x (more y ys))) h n =
       let f = typed-thresh k x (more y ys) h in
@@ -451,23 +370,21 @@ mutual
       low_two (thresh k (more x (more y ys))) (omega arith)
       (λ s. let i : small y ≡ true = many_small (type_of x).z (type_of x).o (type_of y).z (type_of y).o (all_z (types_of ys)) (all_z_but_one (types_of ys)) s in cc)
       (omega arith) (λ e. cc)
-  low (multi k keys) h n = low_one (multi k keys) (omega arith) (λ e. cc) (λ e. cc)
   low (wrap wrapper.A x) h n =
       let f = typed-wrap_a x h in
       let a = low x f.0 n in
-      let p : depth x ≤ ops x + 4 = a.four in
-      low_w (wrap wrapper.A x) refl refl refl (omega arith) (λ d. let q : depth x ≤ ops x + 2 = a.two_d d in omega arith) (omega arith)
+      low_w (wrap wrapper.A x) refl refl refl (omega arith) (λ d. omega (arith, a.two_d d)) (omega arith)
   low (wrap wrapper.S x) h n =
       let f = typed-wrap_s x h in
       let a = low x f.0 n in
       let p : depth x ≤ ops x + 3 = a.four_small (or_right (type_of x).z (type_of x).o f.2) in
-      low_w (wrap wrapper.S x) refl refl refl (omega arith) (λ d. let q : depth x ≤ ops x + 2 = a.two_d d in omega arith) (omega arith)
+      low_w (wrap wrapper.S x) refl refl refl (omega arith) (λ d. omega (arith, a.two_d d)) (omega arith)
   low (wrap wrapper.C x) h n =
       let f = typed-wrap_c x h in
       let a = low x f.0 n.1 in
       let p : depth x ≤ ops x + 2 = a.two_k n.0 f.1 in
       low_two (wrap wrapper.C x) (omega arith)
-      (λ s. let q : depth x ≤ ops x + 1 = a.one n.0 (λ e. let b = f.1 in cc) (or_right (type_of x).z (type_of x).o s) in omega arith)
+      (λ s. omega (arith, a.one n.0 (λ e. let b = f.1 in cc) (or_right (type_of x).z (type_of x).o s)))
       (omega arith) (λ e. cc)
   low (wrap wrapper.D x) h n =
       let f = typed-wrap_d x h in
@@ -484,15 +401,15 @@ mutual
   low (wrap wrapper.J x) h n =
       let f = typed-wrap_j x h in
       let a = low x f.0 n in
-      let p : depth x ≤ ops x + 4 = a.four in
       low_one (wrap wrapper.J x) (omega arith) (λ e. cc) (λ e. cc)
   low (wrap wrapper.N x) h n =
       let f = typed-wrap_n x h in
       let a = low x f.0 n.1 in
       let p : depth x ≤ ops x + 3 = a.three n.0 in
       low_b (wrap wrapper.N x) refl refl (omega arith)
-      (λ s. let q : depth x ≤ ops x + 1 = a.one n.0 (λ e. let b = f.1 in cc) s in omega arith)
-      (λ d. let q : depth x ≤ ops x + 2 = a.two_d d in omega arith)
+      (λ s. omega (arith, a.one n.0 (λ e. let b = f.1 in cc) s))
+      (λ d. omega (arith, a.two_d d))
+  low leaf h n = low_one leaf (omega arith) (λ e. cc) (λ e. cc)
 
   low_others : (xs : Trees) → AreTyped xs → AreRightNested xs → OthersFit xs → depth_of xs ≤ ops_added xs + 1
   low_others none h n o = omega arith

@@ -1,9 +1,9 @@
 -- An `and_v` is moved outwards: what stands around it is put around its second child.
-use Rattle.std.proofs.Common.{◌≡◌, ◌+◌, Bool, true, false, ◌&&◌, ◌||◌, IsTrue, List, Option, Some, None, refl, sym, ◌∙◌, ap, subst, arith}
+use Rattle.std.proofs.Common.{◌≡◌, Bool, true, false, ◌&&◌, ◌||◌, IsTrue, List, Option, None, refl, sym, ◌∙◌, ap, subst, arith}
 use Rattle.def_script.specs.Instruction.{Instruction}
 use Rattle.def_tree.specs.declared.Two.TheVariants as kind
 use Rattle.def_tree.specs.declared.Wrapper.TheVariants as wrapper
-use Rattle.def_tree.specs.Tree.{Tree, Key, just_0, just_1, pk_k, pk_h, older, after, hash, and_or, two, thresh, multi, wrap}
+use Rattle.def_tree.specs.Tree.{Tree, Key, pk_k, pk_h, and_or, two, wrap}
 use Rattle.def_tree.specs.Range.{IsWritable}
 use Rattle.def_types.specs.declared.Base.{Base}
 use Rattle.def_types.specs.declared.Base.TheVariants.{B}
@@ -78,74 +78,37 @@ module _ (P : Key → Type 0) (f : Tree → Tree) (row : Ty → Row Ty) (m : Mov
 
 -- a K isn't z
 mid_false : (a b c : Bool) → b ≡ false → (a && b && c) ≡ false
-mid_false true true c e = cc
-mid_false true false c e = refl
-mid_false false b c e = refl
+mid_false a b c e = grind arith
 
 right_false : (a b : Bool) → b ≡ false → (a && b) ≡ false
-right_false true b e = e
-right_false false b e = refl
+right_false a b e = grind arith
 
 k_not_z : (t : Tree) → is_k (type_of t).base ≡ true → IsTyped t → (type_of t).z ≡ false
 unfolding corr_rows
-k_not_z just_0 k h = cc
-k_not_z just_1 k h = cc
 k_not_z (pk_k key) k h = refl
 k_not_z (pk_h key) k h = refl
-k_not_z (older n) k h = cc
-k_not_z (after n) k h = cc
-k_not_z (hash kind value) k h = cc
 k_not_z (and_or x y z) k h = mid_false (type_of x).z (type_of y).z (type_of z).z (k_not_z y k h.1)
 k_not_z (two kind.AndV x y) k h = right_false (type_of x).z (type_of y).z (k_not_z y k h.1)
-k_not_z (two kind.AndB x y) k h = cc
-k_not_z (two kind.OrB x y) k h = cc
-k_not_z (two kind.OrC x y) k h = cc
-k_not_z (two kind.OrD x y) k h = cc
 k_not_z (two kind.OrI x y) k h = refl
-k_not_z (thresh n xs) k h = cc
-k_not_z (multi n keys) k h = cc
 k_not_z (wrap wrapper.A x) k h = cc
-k_not_z (wrap wrapper.S x) k h = cc
-k_not_z (wrap wrapper.C x) k h = cc
-k_not_z (wrap wrapper.D x) k h = cc
-k_not_z (wrap wrapper.V x) k h = cc
-k_not_z (wrap wrapper.J x) k h = cc
-k_not_z (wrap wrapper.N x) k h = cc
+k_not_z other k h = cc
 
 -- three expressions one after the other: z, o and n
 and_assoc : (a b c : Bool) → (a && (b && c)) ≡ ((a && b) && c)
-and_assoc true b c = refl
-and_assoc false b c = refl
+and_assoc a b c = grind arith
 
 o_same : (xz xo yz yo wz wo : Bool) → ((xz && ((yz && wo) || (wz && yo))) || ((yz && wz) && xo)) ≡ (((xz && yz) && wo) || (wz && ((xz && yo) || (yz && xo))))
-o_same true xo true yo wz true = refl
-o_same true xo true yo true false = refl
-o_same true xo true yo false false = refl
-o_same true xo false yo true wo = refl
-o_same true xo false yo false wo = refl
-o_same false xo true yo wz wo = refl
-o_same false xo false yo true wo = refl
-o_same false xo false yo false wo = refl
+o_same xz xo yz yo wz wo = grind arith
 
 n_same : (xn xz yn yz wn : Bool) → (xn || (xz && (yn || (yz && wn)))) ≡ ((xn || (xz && yn)) || ((xz && yz) && wn))
-n_same true xz yn yz wn = refl
-n_same false true yn yz wn = refl
-n_same false false yn yz wn = refl
+n_same xn xz yn yz wn = grind arith
 
 -- what three take
 both_assoc : (a b c : Option Takes) → both (both a b) c ≡ both a (both b c)
-both_assoc None b c = refl
-both_assoc (Some a) None c = refl
-both_assoc (Some a) (Some b) None = refl
-both_assoc (Some a) (Some b) (Some c) =
-    let items : a.items + b.items + c.items ≡ a.items + (b.items + c.items) = omega arith in
-    let weight : a.weight + b.weight + c.weight ≡ a.weight + (b.weight + c.weight) = omega arith in
-    let keys : a.keys + b.keys + c.keys ≡ a.keys + (b.keys + c.keys) = omega arith in
-    λ i. Some (record { items = items i; weight = weight i; keys = keys i })
+both_assoc a b c = grind arith
 
 both_none : (a : Option Takes) → None ≡ both a None
-both_none None = refl
-both_none (Some a) = refl
+both_none a = grind arith
 
 -- the five moves
 module _ (P : Key → Type 0) where

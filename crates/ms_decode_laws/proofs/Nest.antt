@@ -7,7 +7,7 @@ use Rattle.def_tree.specs.declared.Two.{Two}
 use Rattle.def_tree.specs.declared.Two.TheVariants as kind
 use Rattle.def_tree.specs.declared.Wrapper.{Wrapper}
 use Rattle.def_tree.specs.declared.Wrapper.TheVariants as wrapper
-use Rattle.def_tree.specs.Tree.{Tree, Trees, Key, just_0, just_1, pk_k, pk_h, older, after, hash, and_or, two, thresh, multi, wrap, none, more}
+use Rattle.def_tree.specs.Tree.{Tree, Trees, Key, pk_h, and_or, two, thresh, wrap, none, more}
 use Rattle.def_tree.specs.Range.{IsKey, IsWritable, AreWritable, count}
 use Rattle.def_types.specs.declared.Ty.{Ty}
 use Rattle.def_types.specs.Row.{Row, AllHold}
@@ -26,29 +26,17 @@ use Rattle.def_script.proofs.KeyLemmas.{key_length}
 -- every `and_v` moved outwards, and `g` of each `pk_h` key
 abbrev mutual
   pub nest : (Key → Key) → Tree → Tree
-  nest g just_0 = just_0
-  nest g just_1 = just_1
-  nest g (pk_k key) = pk_k key
   nest g (pk_h key) = pk_h (g key)
-  nest g (older n) = older n
-  nest g (after n) = after n
-  nest g (hash kind value) = hash kind value
   nest g (and_or x y z) = and_or (nest g x) (nest g y) (nest g z)
   nest g (two kind.AndV x y) = out (λ t. two kind.AndV t (nest g y)) (nest g x)
   nest g (two kind.AndB x y) = out (λ t. two kind.AndB t (nest g y)) (nest g x)
-  nest g (two kind.OrB x z) = two kind.OrB (nest g x) (nest g z)
-  nest g (two kind.OrC x z) = two kind.OrC (nest g x) (nest g z)
-  nest g (two kind.OrD x z) = two kind.OrD (nest g x) (nest g z)
-  nest g (two kind.OrI x z) = two kind.OrI (nest g x) (nest g z)
+  nest g (two b x z) = two b (nest g x) (nest g z)
   nest g (thresh k xs) = thresh k (nest_each g xs)
-  nest g (multi k keys) = multi k keys
-  nest g (wrap wrapper.A x) = wrap wrapper.A (nest g x)
-  nest g (wrap wrapper.S x) = wrap wrapper.S (nest g x)
   nest g (wrap wrapper.C x) = out (λ t. wrap wrapper.C t) (nest g x)
-  nest g (wrap wrapper.D x) = wrap wrapper.D (nest g x)
   nest g (wrap wrapper.V x) = out (λ t. wrap wrapper.V t) (nest g x)
-  nest g (wrap wrapper.J x) = wrap wrapper.J (nest g x)
   nest g (wrap wrapper.N x) = out (λ t. wrap wrapper.N t) (nest g x)
+  nest g (wrap w x) = wrap w (nest g x)
+  nest g leaf = leaf
 
   pub nest_each : (Key → Key) → Trees → Trees
   nest_each g none = none
@@ -88,7 +76,9 @@ module _ (P : Key → Type 0) (g : Key → Key) (same_hash : (k : Key) → hash1
       moved P f row m n i.typed (subst (λ (ty : Ty). AllHold (row ty).needs) (sym i.type) needs) i.nested i.writable i.hashed
 
   -- with what it says of the tree before
-  wrapped : (w : Wrapper) (x n : Tree) → IsNest P x n → Moved P (λ t. wrap w t) (wrap_row w) n → most_sat (wrap w n) ≡ most_sat (wrap w x) → most_dsat (wrap w n) ≡ most_dsat (wrap w x) → ((l : List Instruction) → onto (wrap w n) l ≡ onto (wrap w x) l) → IsNest P (wrap w x) (out (λ t. wrap w t) n)
+  wrapped : (w : Wrapper) (x n : Tree) → IsNest P x n → Moved P (λ t. wrap w t) (wrap_row w) n → most_sat (wrap w n) ≡ most_sat (wrap w x)
+      → most_dsat (wrap w n) ≡ most_dsat (wrap w x) → ((l : List Instruction) → onto (wrap w n) l ≡ onto (wrap w x) l)
+      → IsNest P (wrap w x) (out (λ t. wrap w t) n)
   wrapped w x n i m sat dsat order = record {
     type = m.type ∙ ap (λ (ty : Ty). (wrap_row w ty).gives) i.type;
     typed = m.typed;
@@ -101,7 +91,9 @@ module _ (P : Key → Type 0) (g : Key → Key) (same_hash : (k : Key) → hash1
   }
 
   -- a wrapper that stays where it is
-  kept : (w : Wrapper) (x n : Tree) → IsNest P x n → AllHold (wrap_row w (type_of x)).needs → RightNested (wrap w n) → most_sat (wrap w n) ≡ most_sat (wrap w x) → most_dsat (wrap w n) ≡ most_dsat (wrap w x) → ((l : List Instruction) → onto (wrap w n) l ≡ onto (wrap w x) l) → IsNest P (wrap w x) (wrap w n)
+  kept : (w : Wrapper) (x n : Tree) → IsNest P x n → AllHold (wrap_row w (type_of x)).needs → RightNested (wrap w n) → most_sat (wrap w n)
+      ≡ most_sat (wrap w x) → most_dsat (wrap w n) ≡ most_dsat (wrap w x) → ((l : List Instruction) → onto (wrap w n) l ≡ onto (wrap w x) l)
+      → IsNest P (wrap w x) (wrap w n)
   kept w x n i needs nested sat dsat order = record {
     type = ap (λ (ty : Ty). (wrap_row w ty).gives) i.type;
     typed = (i.typed, subst (λ (ty : Ty). AllHold (wrap_row w ty).needs) (sym i.type) needs);
@@ -114,7 +106,9 @@ module _ (P : Key → Type 0) (g : Key → Key) (same_hash : (k : Key) → hash1
   }
 
   -- two children that stay where they are
-  beside : (b : Two) (x y n m : Tree) → IsNest P x n → IsNest P y m → AllHold (two_row b (type_of x) (type_of y)).needs → RightNested (two b n m) → most_sat (two b n m) ≡ most_sat (two b x y) → most_dsat (two b n m) ≡ most_dsat (two b x y) → ((l : List Instruction) → onto (two b n m) l ≡ onto (two b x y) l) → IsNest P (two b x y) (two b n m)
+  beside : (b : Two) (x y n m : Tree) → IsNest P x n → IsNest P y m → AllHold (two_row b (type_of x) (type_of y)).needs → RightNested (two b n m)
+      → most_sat (two b n m) ≡ most_sat (two b x y) → most_dsat (two b n m) ≡ most_dsat (two b x y)
+      → ((l : List Instruction) → onto (two b n m) l ≡ onto (two b x y) l) → IsNest P (two b x y) (two b n m)
   beside b x y n m i j needs nested sat dsat order = record {
     type = λ k. (two_row b (i.type k) (j.type k)).gives;
     typed = (i.typed, j.typed, subst (λ (ty : Ty). AllHold (two_row b ty (type_of m)).needs) (sym i.type) (subst (λ (ty : Ty). AllHold (two_row b (type_of x) ty).needs) (sym j.type) needs));
@@ -128,9 +122,6 @@ module _ (P : Key → Type 0) (g : Key → Key) (same_hash : (k : Key) → hash1
 
   mutual
     pub is_nest : (t : Tree) → IsTyped t → IsWritable t → EachHashed Found t → IsNest P t (nest g t)
-    is_nest just_0 h w e = record { type = refl; typed = h; nested = tt; writable = w; hashed = tt; sat = refl; dsat = refl; order = λ l. refl }
-    is_nest just_1 h w e = record { type = refl; typed = h; nested = tt; writable = w; hashed = tt; sat = refl; dsat = refl; order = λ l. refl }
-    is_nest (pk_k key) h w e = record { type = refl; typed = h; nested = tt; writable = w; hashed = tt; sat = refl; dsat = refl; order = λ l. refl }
     is_nest (pk_h key) h w e =
         let same : length (g key) ≡ length key = key_length (g key) e.1.form ∙ sym (key_length key w.form) in
         record {
@@ -143,9 +134,6 @@ module _ (P : Key → Type 0) (g : Key → Key) (same_hash : (k : Key) → hash1
           dsat = λ k. Some (plus empty (item (same k)));
           order = λ l. λ k. code op.EqualVerify ∷ push (same_hash key k) ∷ code op.Hash160 ∷ code op.Dup ∷ l;
         }
-    is_nest (older n) h w e = record { type = refl; typed = h; nested = tt; writable = w; hashed = tt; sat = refl; dsat = refl; order = λ l. refl }
-    is_nest (after n) h w e = record { type = refl; typed = h; nested = tt; writable = w; hashed = tt; sat = refl; dsat = refl; order = λ l. refl }
-    is_nest (hash kind value) h w e = record { type = refl; typed = h; nested = tt; writable = w; hashed = tt; sat = refl; dsat = refl; order = λ l. refl }
     is_nest (and_or x y z) h w e =
         let a = is_nest x h.0 w.0 e.0 in
         let b = is_nest y h.1 w.1 e.1 in
@@ -177,7 +165,8 @@ module _ (P : Key → Type 0) (g : Key → Key) (same_hash : (k : Key) → hash1
         let types : (two_row kind.AndV (type_of (nest g x)) (type_of (nest g y))).gives ≡ (two_row kind.AndV (type_of x) (type_of y)).gives = λ k. (two_row kind.AndV (i.type k) (j.type k)).gives in
         let sats : both (most_sat (nest g y)) (most_sat (nest g x)) ≡ both (most_sat y) (most_sat x) = λ k. both (j.sat k) (i.sat k) in
         let dsats : both (most_dsat (nest g y)) (most_dsat (nest g x)) ≡ both (most_dsat y) (most_dsat x) = λ k. both (j.dsat k) (i.dsat k) in
-        let m = by_move (λ (t : Tree). two kind.AndV t (nest g y)) (λ (ty : Ty). two_row kind.AndV ty (type_of (nest g y))) x (nest g x) (and_v_moves P (nest g y) j.typed j.nested j.writable j.hashed) i needs in
+        let m = by_move (λ (t : Tree). two kind.AndV t (nest g y)) (λ (ty : Ty). two_row kind.AndV ty (type_of (nest g y))) x (nest g x)
+        (and_v_moves P (nest g y) j.typed j.nested j.writable j.hashed) i needs in
         record {
           type = m.type ∙ types;
           typed = m.typed;
@@ -195,7 +184,8 @@ module _ (P : Key → Type 0) (g : Key → Key) (same_hash : (k : Key) → hash1
         let types : (two_row kind.AndB (type_of (nest g x)) (type_of (nest g y))).gives ≡ (two_row kind.AndB (type_of x) (type_of y)).gives = λ k. (two_row kind.AndB (i.type k) (j.type k)).gives in
         let sats : both (most_sat (nest g y)) (most_sat (nest g x)) ≡ both (most_sat y) (most_sat x) = λ k. both (j.sat k) (i.sat k) in
         let dsats : both (most_dsat (nest g y)) (most_dsat (nest g x)) ≡ both (most_dsat y) (most_dsat x) = λ k. both (j.dsat k) (i.dsat k) in
-        let m = by_move (λ (t : Tree). two kind.AndB t (nest g y)) (λ (ty : Ty). two_row kind.AndB ty (type_of (nest g y))) x (nest g x) (and_b_moves P (nest g y) j.typed j.nested j.writable j.hashed) i needs in
+        let m = by_move (λ (t : Tree). two kind.AndB t (nest g y)) (λ (ty : Ty). two_row kind.AndB ty (type_of (nest g y))) x (nest g x)
+        (and_b_moves P (nest g y) j.typed j.nested j.writable j.hashed) i needs in
         record {
           type = m.type ∙ types;
           typed = m.typed;
@@ -246,7 +236,6 @@ module _ (P : Key → Type 0) (g : Key → Key) (same_hash : (k : Key) → hash1
           dsat = λ k. i.parts k 0;
           order = λ l. ap (λ o. code op.Equal ∷ push_number n ∷ o) (i.sum l);
         }
-    is_nest (multi n keys) h w e = record { type = refl; typed = h; nested = tt; writable = w; hashed = tt; sat = refl; dsat = refl; order = λ l. refl }
     is_nest (wrap wrapper.A x) h w e =
         let i = is_nest x h.0 w e in
         kept wrapper.A x (nest g x) i h.1 i.nested i.sat i.dsat (λ l. ap (λ o. code op.FromAltStack ∷ o) (i.order (code op.ToAltStack ∷ l)))
@@ -267,7 +256,9 @@ module _ (P : Key → Type 0) (g : Key → Key) (same_hash : (k : Key) → hash1
         kept wrapper.J x (nest g x) i h.1 i.nested i.sat refl (λ l. ap (λ o. code op.EndIf ∷ o) (i.order (code op.If ∷ code op.ZeroNotEqual ∷ code op.Size ∷ l)))
     is_nest (wrap wrapper.N x) h w e =
         let i = is_nest x h.0 w e in
-        wrapped wrapper.N x (nest g x) i (by_move (λ (t : Tree). wrap wrapper.N t) (wrap_row wrapper.N) x (nest g x) (n_moves P) i h.1) i.sat i.dsat (λ l. ap (λ o. code op.ZeroNotEqual ∷ o) (i.order l))
+        wrapped wrapper.N x (nest g x) i (by_move (λ (t : Tree). wrap wrapper.N t) (wrap_row wrapper.N) x (nest g x) (n_moves P) i h.1) i.sat i.dsat
+        (λ l. ap (λ o. code op.ZeroNotEqual ∷ o) (i.order l))
+    is_nest leaf h w e = record { type = refl; typed = h; nested = tt; writable = w; hashed = tt; sat = refl; dsat = refl; order = λ l. refl }
 
     are_nest : (ts : Trees) → AreTyped ts → AreWritable ts → EachHashedOf Found ts → AreNest P ts (nest_each g ts)
     are_nest none h w e = record { types = refl; typed = tt; nested = tt; writable = tt; same_count = refl; hashed = tt; parts = refl; added = λ l. refl; sum = λ l. refl }

@@ -1,5 +1,5 @@
 -- The instructions of a tree, the last one first, in front of others.
-use Rattle.std.proofs.Common.{◌≡◌, List, [], ◌∷◌, ◌++◌, length, map, reverse, append_assoc, refl, sym, ◌∙◌, ap}
+use Rattle.std.proofs.Common.{◌≡◌, List, [], ◌∷◌, ◌++◌, length, map, reverse, append_assoc, refl, sym, ◌∙◌, ap, arith}
 use Rattle.std.proofs.lemmas.Grind.{reverse_onto}
 use Rattle.def_hash.specs.Hash.{hash160}
 use Rattle.def_script.specs.declared.Op.TheVariants as op
@@ -67,34 +67,7 @@ back_append [] b is = refl
 back_append (i ∷ a) b is = back_append a b (i ∷ is)
 
 fused_last : (i : Instruction) (is : List Instruction) → fused (i ∷ is) ≡ back (verified (i ∷ [])) is
-fused_last (push bytes) is = refl
-fused_last (code op.If) is = refl
-fused_last (code op.NotIf) is = refl
-fused_last (code op.Else) is = refl
-fused_last (code op.EndIf) is = refl
-fused_last (code op.Verify) is = refl
-fused_last (code op.ToAltStack) is = refl
-fused_last (code op.FromAltStack) is = refl
-fused_last (code op.IfDup) is = refl
-fused_last (code op.Dup) is = refl
-fused_last (code op.Swap) is = refl
-fused_last (code op.Size) is = refl
-fused_last (code op.Equal) is = refl
-fused_last (code op.EqualVerify) is = refl
-fused_last (code op.ZeroNotEqual) is = refl
-fused_last (code op.Add) is = refl
-fused_last (code op.BoolAnd) is = refl
-fused_last (code op.BoolOr) is = refl
-fused_last (code op.Ripemd160) is = refl
-fused_last (code op.Sha256) is = refl
-fused_last (code op.Hash160) is = refl
-fused_last (code op.Hash256) is = refl
-fused_last (code op.CheckSig) is = refl
-fused_last (code op.CheckSigVerify) is = refl
-fused_last (code op.CheckMultiSig) is = refl
-fused_last (code op.CheckMultiSigVerify) is = refl
-fused_last (code op.Cltv) is = refl
-fused_last (code op.Csv) is = refl
+fused_last i is = grind arith
 
 fused_back : (i : Instruction) (l is : List Instruction) → fused (back (i ∷ l) is) ≡ back (verified (i ∷ l)) is
 fused_back i [] is = fused_last i is
@@ -106,19 +79,13 @@ joined a b is m n e d = d ∙ ap (back b) e ∙ sym (back_append a b is)
 
 mutual
   pub onto_back : (t : Tree) (is : List Instruction) → onto t is ≡ back (emit t) is
-  onto_back just_0 is = refl
-  onto_back just_1 is = refl
-  onto_back (pk_k key) is = refl
-  onto_back (pk_h key) is = refl
-  onto_back (older n) is = refl
-  onto_back (after n) is = refl
-  onto_back (hash kind value) is = refl
   onto_back (and_or x y z) is =
       let a = onto x is in
       let b = onto z (code op.NotIf ∷ a) in
       let c = onto y (code op.Else ∷ b) in
       let first : b ≡ back (emit x ++ (code op.NotIf ∷ emit z)) is = joined (emit x) (code op.NotIf ∷ emit z) is b a (onto_back x is) (onto_back z (code op.NotIf ∷ a)) in
-      let second : c ≡ back (emit x ++ (code op.NotIf ∷ emit z) ++ (code op.Else ∷ emit y)) is = joined (emit x ++ (code op.NotIf ∷ emit z)) (code op.Else ∷ emit y) is c b first (onto_back y (code op.Else ∷ b)) in
+      let second : c ≡ back (emit x ++ (code op.NotIf ∷ emit z) ++ (code op.Else ∷ emit y)) is =
+      joined (emit x ++ (code op.NotIf ∷ emit z)) (code op.Else ∷ emit y) is c b first (onto_back y (code op.Else ∷ b)) in
       joined (emit x ++ (code op.NotIf ∷ emit z) ++ (code op.Else ∷ emit y)) (code op.EndIf ∷ []) is (code op.EndIf ∷ c) c second refl
   onto_back (two kind.AndV x y) is = joined (emit x) (emit y) is (onto y (onto x is)) (onto x is) (onto_back x is) (onto_back y (onto x is))
   onto_back (two kind.AndB x y) is =
@@ -160,6 +127,7 @@ mutual
       let b = onto x (code op.If ∷ code op.ZeroNotEqual ∷ code op.Size ∷ is) in
       joined (code op.Size ∷ code op.ZeroNotEqual ∷ code op.If ∷ emit x) (code op.EndIf ∷ []) is (code op.EndIf ∷ b) b (onto_back x (code op.If ∷ code op.ZeroNotEqual ∷ code op.Size ∷ is)) refl
   onto_back (wrap wrapper.N x) is = joined (emit x) (code op.ZeroNotEqual ∷ []) is (code op.ZeroNotEqual ∷ onto x is) (onto x is) (onto_back x is) refl
+  onto_back leaf is = refl
 
   onto_sum_back : (xs : Trees) (is : List Instruction) → onto_sum xs is ≡ back (emit_sum xs) is
   onto_sum_back none is = refl

@@ -60,42 +60,20 @@ starts_with : (P : Instruction → Bool) (i : Instruction) (l : List Instruction
 starts_with P i l e = record { first = i; rest = l; whole = refl; is = e }
 
 end_is_next : (i : Instruction) → is_end i ≡ true → is_next i ≡ true
-end_is_next (push bytes) e = refl
-end_is_next (code op.Add) e = refl
-end_is_next (code other) e = e
+end_is_next i e = grind arith
 
 next_from_end : (l : List Instruction) → Starts is_end l → Starts is_next l
 next_from_end l h = record { first = h.first; rest = h.rest; whole = h.whole; is = end_is_next h.first h.is }
 
 fused_starts : (l : List Instruction) → Starts is_end (fused l)
-fused_starts [] = starts_with _ _ _ refl
-fused_starts (push bytes ∷ l) = starts_with _ _ _ refl
 fused_starts (code op.Equal ∷ l) = starts_with _ _ _ refl
 fused_starts (code op.CheckSig ∷ l) = starts_with _ _ _ refl
 fused_starts (code op.CheckMultiSig ∷ l) = starts_with _ _ _ refl
-fused_starts (code other ∷ l) = starts_with _ _ _ refl
+fused_starts l = starts_with _ _ _ refl
 
 one_starts : (find : Bytes → Option Key) (t : Tree) → One find t → (l : List Instruction) → Starts is_end (onto t l)
-one_starts find t zero_one l = starts_with _ _ _ refl
-one_starts find t one_one l = starts_with _ _ _ refl
-one_starts find t (pk_k_one key e) l = starts_with _ _ _ refl
-one_starts find t (pk_h_one key e) l = starts_with _ _ _ refl
-one_starts find t (older_one n e) l = starts_with _ _ _ refl
-one_starts find t (after_one n e) l = starts_with _ _ _ refl
-one_starts find t (hash_one kind value e) l = starts_with _ _ _ refl
-one_starts find t (and_or_one x y z p q r e) l = starts_with _ _ _ refl
-one_starts find t (and_b_one x y p q e) l = starts_with _ _ _ refl
-one_starts find t (or_b_one x y p q e) l = starts_with _ _ _ refl
-one_starts find t (or_c_one x y p q e) l = starts_with _ _ _ refl
-one_starts find t (or_d_one x y p q e) l = starts_with _ _ _ refl
-one_starts find t (or_i_one x y p q e) l = starts_with _ _ _ refl
-one_starts find t (thresh_one k x xs n p q e) l = starts_with _ _ _ refl
-one_starts find t (multi_one k ks n m s a e) l = starts_with _ _ _ refl
-one_starts find t (c_one x p e) l = starts_with _ _ _ refl
-one_starts find t (d_one x p e) l = starts_with _ _ _ refl
 one_starts find t (v_one x p e) l = fused_starts (onto x l)
-one_starts find t (j_one x p e) l = starts_with _ _ _ refl
-one_starts find t (n_one x p e) l = starts_with _ _ _ refl
+one_starts find t p l = starts_with _ _ _ refl
 
 row_starts : (find : Bytes → Option Key) (t : Tree) → Row find t → (l : List Instruction) → Starts is_end (onto t l)
 row_starts find t (last_row x p) l = one_starts find x p l
@@ -107,31 +85,19 @@ added_starts (more x xs) l h = added_starts xs (code op.Add ∷ onto x l) (start
 
 -- before such a one another part of a chain begins, and so on
 part_begins : (x : Tree) (fs : List Frame) (i : Instruction) → is_end i ≡ true → before_part x fs i ≡ begin (frame.first_of kind.AndV x ∷ frame.chain ∷ fs) i
-part_begins x fs (code op.If) e = cc
-part_begins x fs (code op.NotIf) e = cc
-part_begins x fs (code op.Else) e = cc
-part_begins x fs (code op.ToAltStack) e = cc
-part_begins x fs (code op.Swap) e = cc
-part_begins x fs other e = refl
+part_begins x fs i e = grind arith
 
 side_begins : (fs : List Frame) (i : Instruction) → is_end i ≡ true → begin_side fs i ≡ begin (frame.chain ∷ frame.swapped ∷ fs) i
-side_begins fs (code op.FromAltStack) e = cc
-side_begins fs other e = refl
+side_begins fs i e = grind arith
 
 first_begins : (k : ℕ) (ys : Trees) (fs : List Frame) (i : Instruction) → is_end i ≡ true → next_step k ys fs i ≡ begin (frame.first k ys ∷ fs) i
-first_begins k ys fs (code op.Add) e = cc
-first_begins k ys fs other e = refl
+first_begins k ys fs i e = grind arith
 
 or_c_begins : (x : Tree) (fs : List Frame) (i : Instruction) → is_end i ≡ true → not_if_step x fs i ≡ begin (frame.first_of kind.OrC x ∷ fs) i
-or_c_begins x fs (code op.IfDup) e = cc
-or_c_begins x fs other e = refl
+or_c_begins x fs i e = grind arith
 
 children_begin : (bytes : Bytes) (k : ℕ) (fs : List Frame) (i : Instruction) → natural_of bytes ≡ Some k → is_next i ≡ true → given_step bytes fs i ≡ next_step k none fs i
-children_begin bytes k fs (code op.Sha256) n e = cc
-children_begin bytes k fs (code op.Hash256) n e = cc
-children_begin bytes k fs (code op.Ripemd160) n e = cc
-children_begin bytes k fs (code op.Hash160) n e = cc
-children_begin bytes k fs other n e = rw n
+children_begin bytes k fs i n e = grind arith
 
 -- what stands in for one state before such instructions
 module _ (find : Bytes → Option Key) where
@@ -141,22 +107,10 @@ module _ (find : Bytes → Option Key) where
 
   -- VERIFY is taken as `v`
   fused_reads : (fs : List Frame) (l : List Instruction) → run find (Some (at want.single fs)) (fused l) ≡ run find (Some (at want.single (frame.under wrapper.V ∷ fs))) l
-  fused_reads fs [] = refl
-  fused_reads fs (push bytes ∷ l) = refl
-  fused_reads fs (code op.Equal ∷ l) = refl
-  fused_reads fs (code op.CheckSig ∷ l) = refl
-  fused_reads fs (code op.CheckMultiSig ∷ l) = refl
-  fused_reads fs (code other ∷ l) = refl
+  fused_reads fs l = grind arith
 
   grown_fits : (x : Tree) (s : Option State) (l : List Instruction) → fits x ≡ true → run find (grown x s) l ≡ run find s l
   grown_fits x s l e = rw e refl
-
-  -- the numbers 0 and 1 are no keys
-  zero_reads : (fs : List Frame) (l : List Instruction) → run find (Some (at want.single fs)) (onto tree.just_0 l) ≡ run find (settle tree.just_0 fs) l
-  zero_reads fs l = refl
-
-  one_number_reads : (fs : List Frame) (l : List Instruction) → run find (Some (at want.single fs)) (onto tree.just_1 l) ≡ run find (settle tree.just_1 fs) l
-  one_number_reads fs l = refl
 
   -- keys, hash values and counts
   key_pushed : (fs : List Frame) (key : Key) → is_key key ≡ true → pushed fs key ≡ settle (tree.pk_k key) fs
@@ -180,7 +134,8 @@ module _ (find : Bytes → Option Key) where
   joined_none none = refl
   joined_none (more x xs) = ap (λ ys. more x ys) (joined_none xs)
 
-  keys_read : (ks : List Key) → AreKeys ks → (m : ℕ) (others : List Key) (fs : List Frame) (l : List Instruction) → run find (Some (at (want.keys (m + length ks) others) fs)) (back (map push ks) l) ≡ run find (Some (at (want.keys m (ks ++ others)) fs)) l
+  keys_read : (ks : List Key) → AreKeys ks → (m : ℕ) (others : List Key) (fs : List Frame) (l : List Instruction)
+      → run find (Some (at (want.keys (m + length ks) others) fs)) (back (map push ks) l) ≡ run find (Some (at (want.keys m (ks ++ others)) fs)) l
   keys_read ks no_key m others fs l = let e : m + 0 ≡ m = omega arith in rw e refl
   keys_read ks (a_key key rest e h) m others fs l =
       let n : m + suc (length rest) ≡ suc m + length rest = omega arith in
@@ -188,17 +143,15 @@ module _ (find : Bytes → Option Key) where
 
   mutual
     pub one_reads : (t : Tree) → One find t → (fs : List Frame) (l : List Instruction) → run find (Some (at want.single fs)) (onto t l) ≡ run find (settle t fs) l
-    one_reads t zero_one fs l = zero_reads fs l
-    one_reads t one_one fs l = one_number_reads fs l
+    one_reads t zero_one fs l = refl
+    one_reads t one_one fs l = refl
     one_reads t (pk_k_one key e) fs l = ap (λ (s : Option State). run find s l) (key_pushed fs key e)
     one_reads t (pk_h_one key e) fs l = ap (λ (o : Option Key). run find (keyed o fs) l) e
     one_reads t (older_one n e) fs l = ap (λ (o : Option ℕ). run find (numbered tree.older fs o) l) e
     one_reads t (after_one n e) fs l = ap (λ (o : Option ℕ). run find (numbered tree.after fs o) l) e
-    one_reads t (hash_one hash_kind.Sha256 value e) fs l = ap (λ (s : Option State). run find s (sized_rest l)) (hash_seen hash_kind.Sha256 value fs e)
-    one_reads t (hash_one hash_kind.Hash256 value e) fs l = ap (λ (s : Option State). run find s (sized_rest l)) (hash_seen hash_kind.Hash256 value fs e)
-    one_reads t (hash_one hash_kind.Ripemd160 value e) fs l = ap (λ (s : Option State). run find s (sized_rest l)) (hash_seen hash_kind.Ripemd160 value fs e)
     one_reads t (hash_one hash_kind.Hash160 value e) fs l =
         ap (λ (b : Bool). run find (if b then Some (at (want.sized (tree.hash hash_kind.Hash160 value)) fs) else None) (push_number 32 ∷ code op.Size ∷ l)) e
+    one_reads t (hash_one kind value e) fs l = ap (λ (s : Option State). run find s (sized_rest l)) (hash_seen kind value fs e)
     one_reads t (and_or_one x y z p q r e) fs l =
         row_reads y q (frame.ended ∷ fs) _ ∙ row_reads z r (frame.else_seen y ∷ fs) _ ∙ one_reads x p (frame.condition y z ∷ fs) l ∙ grown_fits _ _ l e
     one_reads t (and_b_one x y p q e) fs l =
@@ -214,7 +167,8 @@ module _ (find : Bytes → Option Key) where
     one_reads t (or_i_one x y p q e) fs l =
         row_reads y q (frame.ended ∷ fs) _ ∙ row_reads x p (frame.else_seen y ∷ fs) _ ∙ grown_fits _ _ l e
     one_reads t (thresh_one k x xs n p q e) fs l =
-        stands_for is_next (at (want.given (natural_bytes k)) fs) (at (want.next k none) fs) (onto_added xs (onto x l)) (added_starts xs (onto x l) (next_from_end (onto x l) (one_starts find x p l))) (λ i h. children_begin (natural_bytes k) k fs i n h)
+        stands_for is_next (at (want.given (natural_bytes k)) fs) (at (want.next k none) fs) (onto_added xs (onto x l))
+        (added_starts xs (onto x l) (next_from_end (onto x l) (one_starts find x p l))) (λ i h. children_begin (natural_bytes k) k fs i n h)
         ∙ sides_read xs q k none fs (onto x l)
         ∙ ap (λ ys. run find (Some (at (want.next k ys) fs)) (onto x l)) (joined_none xs)
         ∙ stands_for is_end (at (want.next k xs) fs) (at want.single (frame.first k xs ∷ fs)) (onto x l) (one_starts find x p l) (first_begins k xs fs)
@@ -233,7 +187,8 @@ module _ (find : Bytes → Option Key) where
     one_reads t (j_one x p e) fs l = row_reads x p (frame.ended ∷ fs) _ ∙ grown_fits _ _ (code op.Size ∷ l) e
     one_reads t (n_one x p e) fs l = one_reads x p (frame.under wrapper.N ∷ fs) l ∙ grown_fits _ _ l e
 
-    pub row_reads : (t : Tree) → Row find t → (fs : List Frame) (l : List Instruction) → run find (Some (at want.single (frame.chain ∷ fs))) (onto t l) ≡ run find (Some (at (want.after t) (frame.chain ∷ fs))) l
+    pub row_reads : (t : Tree) → Row find t → (fs : List Frame) (l : List Instruction) → run find (Some (at want.single (frame.chain ∷ fs))) (onto t l)
+        ≡ run find (Some (at (want.after t) (frame.chain ∷ fs))) l
     row_reads t (last_row x p) fs l = one_reads x p (frame.chain ∷ fs) l
     row_reads t (and_v_row x y p q e) fs l =
         row_reads y q fs (onto x l)
@@ -246,7 +201,8 @@ module _ (find : Bytes → Option Key) where
         stands_for is_end (at want.side fs) (at want.single (frame.chain ∷ frame.swapped ∷ fs)) (onto x (code op.Swap ∷ l)) (row_starts find x p _) (side_begins fs)
         ∙ row_reads x p (frame.swapped ∷ fs) _ ∙ grown_fits _ _ l e
 
-    sides_read : (xs : Trees) → Sides find xs → (k : ℕ) (ys : Trees) (fs : List Frame) (l : List Instruction) → run find (Some (at (want.next k ys) fs)) (onto_added xs l) ≡ run find (Some (at (want.next k (joined xs ys)) fs)) l
+    sides_read : (xs : Trees) → Sides find xs → (k : ℕ) (ys : Trees) (fs : List Frame) (l : List Instruction)
+        → run find (Some (at (want.next k ys) fs)) (onto_added xs l) ≡ run find (Some (at (want.next k (joined xs ys)) fs)) l
     sides_read xs no_side k ys fs l = refl
     sides_read ts (more_sides x xs p q) k ys fs l =
         sides_read xs q k ys fs (code op.Add ∷ onto x l) ∙ side_reads x p (frame.further k (joined xs ys) ∷ fs) l

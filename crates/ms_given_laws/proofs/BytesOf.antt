@@ -1,6 +1,7 @@
 -- Pieces of bytes consist of bytes.
-use Rattle.std.proofs.Common.{ℕ, zero, suc, ◌<◌, List, [], ◌∷◌, ◌++◌, take, drop, filter, Bool, true, false, cond, arith, sym, subst}
+use Rattle.std.proofs.Common.{ℕ, zero, suc, ◌<◌, List, [], ◌∷◌, ◌++◌, take, drop, filter, Bool, inl, inr, arith, sym, subst}
 use Rattle.std.specs.List.{flat_map, AllByRecursion}
+use Rattle.std.proofs.lemmas.Bool.{cases_Bool}
 use Rattle.std.proofs.lemmas.List.{take-append-drop}
 use Rattle.std.proofs.lemmas.List.Concat.{flat_map-cons}
 use Rattle.def_script.specs.Bytes.{Bytes, IsBytes}
@@ -32,11 +33,9 @@ dropped n bytes h = back (take n bytes) (drop n bytes) (subst IsBytes (sym (take
 
 pub kept : (test : ℕ → Bool) (bytes : Bytes) → IsBytes bytes → IsBytes (filter test bytes)
 kept test [] h = none
-kept test (x ∷ bytes) h = go (test x) (kept test bytes (λ i. h (suc i)))
-  where
-    go : (b : Bool) → IsBytes (filter test bytes) → IsBytes (cond b (x ∷ filter test bytes) (filter test bytes))
-    go true rest = more x (filter test bytes) (h 0) rest
-    go false rest = rest
+kept test (x ∷ bytes) h =
+    let rest = kept test bytes (λ i. h (suc i)) in
+    elim (cases_Bool (test x)) [ inl e ↦ rw e (more x (filter test bytes) (h 0) rest) | inr e ↦ rw e rest ]
 
 -- the pieces that are joined
 pub pieces : {A : Type 0} (text : A → Bytes) (xs : List A) → IsBytes (flat_map text xs) → AllByRecursion (λ x. IsBytes (text x)) xs

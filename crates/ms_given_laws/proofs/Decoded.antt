@@ -1,6 +1,7 @@
 -- What base64 gives consists of bytes, and is no longer; and so what a source gives.
-use Rattle.std.proofs.Common.{◌≡◌, ℕ, zero, suc, ◌+◌, ◌-◌, ◌*◌, ◌/◌, ◌%◌, ◌<◌, ◌≤◌, nat_lt, Bool, true, false, not, cond, [], ◌∷◌, length, drop, filter, replicate, slice_index, Option, Some, None, Result, Ok, Err, inl, inr, refl, ap, subst, arith}
+use Rattle.std.proofs.Common.{◌≡◌, ℕ, zero, suc, ◌+◌, ◌-◌, ◌*◌, ◌/◌, ◌%◌, ◌<◌, ◌≤◌, nat_lt, Bool, true, false, not, cond, [], ◌∷◌, length, drop, replicate, slice_index, Option, Some, None, Result, Ok, Err, inl, inr, refl, ap, subst, arith}
 use Rattle.std.proofs.lemmas.Bool.{ltb-false, eq-eqb}
+use Rattle.std.proofs.lemmas.List.Filters.{length-filter_both}
 use Rattle.std.proofs.lemmas.List.{length-append, length-drop, get_or-drop}
 use Rattle.base64.specs.declared.decode.DecodeError.{DecodeError}
 use Rattle.base64.specs.Rfc4648.{encode_symbols, padding_len}
@@ -109,14 +110,6 @@ pub record Begins (bytes : Bytes) (psbt : Psbt) : Type 0 where
   pub magic : has_magic bytes ≡ true
   pub read : read_psbt bytes ≡ Ok psbt
 
-few_kept : (test : ℕ → Bool) (bytes : Bytes) → length (filter test bytes) ≤ length bytes
-few_kept test [] = omega arith
-few_kept test (x ∷ bytes) = go (test x) (few_kept test bytes)
-  where
-    go : (b : Bool) → length (filter test bytes) ≤ length bytes → length (cond b (x ∷ filter test bytes) (filter test bytes)) ≤ suc (length bytes)
-    go true h = omega arith
-    go false h = omega arith
-
 bind_ok : {A B : Type 0} (r : Result A Refusal) (f : A → Result B Refusal) (y : B) → (r >>= f) ≡ Ok y → (x : A) × (r ≡ Ok x) × (f x ≡ Ok y)
 bind_ok (Ok x) f y e = (x, refl, e)
 bind_ok (Err refusal) f y e = absurd cc
@@ -140,7 +133,7 @@ from_source source psbt fits e =
     by_base64 (Ok b) is small out h =
         let told = magic_is b (has_magic b) refl out h in
         let blanks = kept (λ byte. not (is_blank byte)) source fits in
-        let few = few_kept (λ byte. not (is_blank byte)) source in
+        let few = length-filter_both (λ byte. not (is_blank byte)) (λ byte. not (not (is_blank byte))) (λ byte. refl) source in
         let less = decoded_is_shorter (without_blanks source) b blanks is in
         subst IsGood told.1 (decoded_is_bytes (without_blanks source) b blanks is, omega (arith, few, less, small), told.0)
 
@@ -148,6 +141,7 @@ from_source source psbt fits e =
     by_magic true is small out h = let same : source ≡ out = cc h in subst IsGood same (fits, small, is)
     by_magic false is small out h = by_base64 (decode_of standard (without_blanks source)) refl small out h
 
-    short : (t : Bool) → nat_lt MAX_SOURCE_SIZE (length source) ≡ t → (out : Bytes) → cond t (Err TooLong) (cond (has_magic source) (Ok source) (decoded (decode_of standard (without_blanks source)))) ≡ Ok out → IsGood out
+    short : (t : Bool) → nat_lt MAX_SOURCE_SIZE (length source) ≡ t → (out : Bytes)
+        → cond t (Err TooLong) (cond (has_magic source) (Ok source) (decoded (decode_of standard (without_blanks source)))) ≡ Ok out → IsGood out
     short true is out h = absurd cc
     short false is out h = by_magic (has_magic source) refl (ltb-false _ _ is) out h

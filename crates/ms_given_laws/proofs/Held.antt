@@ -1,8 +1,8 @@
 -- What the map of an input holds: keys, and assets.
-use Rattle.std.proofs.Common.{◌≡◌, ℕ, suc, ◌^◌, ◌<◌, ◌==◌, ◌&&◌, ◌||◌, nat_le, Bool, true, false, cond, List, [], ◌∷◌, ◌++◌, length, map, filter, drop, All, Option, Some, None, Ok, Err, refl, sym, ap, subst, ◌∙◌, arith}
+use Rattle.std.proofs.Common.{◌≡◌, ℕ, suc, ◌^◌, ◌<◌, ◌==◌, ◌&&◌, ◌||◌, nat_le, Bool, true, false, cond, List, [], ◌∷◌, ◌++◌, length, map, filter, drop, All, Option, Some, None, Ok, Err, inl, inr, refl, sym, ap, subst, ◌∙◌, append_assoc, arith}
 use Rattle.std.specs.List.{AllByRecursion, IsDistinct}
 use Rattle.std.specs.Str.{bytes_eq}
-use Rattle.std.proofs.lemmas.Bool.{and_parts, eqb-true, leb-true, false≢true}
+use Rattle.std.proofs.lemmas.Bool.{and_parts, or_parts, cases_Bool, eqb-true, leb-true, false_from_ne_true, false≢true}
 use Rattle.std.proofs.lemmas.Slice.Eq.{bytes_eq-Decides}
 use Rattle.std.proofs.lemmas.List.Elements.{All-from_recursion, recursion_from_All}
 use Rattle.def_script.specs.Bytes.{Bytes, IsBytes}
@@ -28,11 +28,9 @@ use Rattle.ms_given_laws.proofs.Maps.{IsPairOfBytes}
 pub each_kept : {A B : Type 0} (P : A → Type 0) (Q : B → Type 0) (test : A → Bool) (make : A → B) → ((x : A) → test x ≡ true → P x → Q (make x)) → (xs : List A)
     → AllByRecursion P xs → AllByRecursion Q (map make (filter test xs))
 each_kept {A} {B} P Q test make each [] h = tt
-each_kept {A} {B} P Q test make each (x ∷ xs) h = go (test x) refl (each_kept P Q test make each xs h.1)
-  where
-    go : (b : Bool) → test x ≡ b → AllByRecursion Q (map make (filter test xs)) → AllByRecursion Q (map make (cond b (x ∷ filter test xs) (filter test xs)))
-    go true e rest = (each x e h.0, rest)
-    go false e rest = rest
+each_kept {A} {B} P Q test make each (x ∷ xs) h =
+    let rest = each_kept P Q test make each xs h.1 in
+    elim (cases_Bool (test x)) [ inl e ↦ rw e (each x e h.0, rest) | inr e ↦ rw e rest ]
 
 -- ---- keys
 
@@ -89,7 +87,7 @@ form_of forms pair e =
     let typed = some_form (is_typed (read_size pair.key)) (form_fault (forms (type_of pair.key)) pair) e in
     some_form ((forms (type_of pair.key)).key (data_of pair.key)) ((forms (type_of pair.key)).value (data_of pair.key) pair.value) typed.1
 
-passed : (b : Bool) → passes b ≡ None → b ≡ true
+pub passed : (b : Bool) → passes b ≡ None → b ≡ true
 passed true e = refl
 passed false e = absurd cc
 
@@ -115,39 +113,23 @@ differ : (forms : ℕ → Form) (first : Pair) (before after map : Map) → IsSo
 differ forms first before after [] h = tt
 differ forms first before after (pair ∷ map) h = (
   other before ((fault_none forms (before ++ first ∷ after) pair h.0.fault).0),
-  differ forms first before (after ++ pair ∷ []) map (subst (λ (former : Map). IsSoundMap forms former map) (joined before) h.1),
+  differ forms first before (after ++ pair ∷ []) map
+      (subst (λ (former : Map). IsSoundMap forms former map) (append_assoc before (first ∷ after) (pair ∷ [])) h.1),
 )
   where
-    joined : (before : Map) → (before ++ first ∷ after) ++ pair ∷ [] ≡ before ++ first ∷ (after ++ pair ∷ [])
-    joined [] = refl
-    joined (x ∷ before) = ap (λ (l : Map). x ∷ l) (joined before)
-
-    left : (a b : Bool) → (a || b) ≡ false → a ≡ false
-    left true b e = absurd (false≢true (sym e))
-    left false b e = refl
-
-    right : (a b : Bool) → (a || b) ≡ false → b ≡ false
-    right true b e = absurd (false≢true (sym e))
-    right false b e = e
-
     other : (before : Map) → stands pair.key (before ++ first ∷ after) ≡ false → bytes_eq pair.key first.key ≡ false
-    other [] e = left (bytes_eq pair.key first.key) (stands pair.key after) e
-    other (x ∷ before) e = other before (right (bytes_eq pair.key x.key) (stands pair.key (before ++ first ∷ after)) e)
+    other [] e = (or_parts (bytes_eq pair.key first.key) (stands pair.key after) e).0
+    other (x ∷ before) e = other before (or_parts (bytes_eq pair.key x.key) (stands pair.key (before ++ first ∷ after)) e).1
 
 -- of two pairs of signatures, with different keys, the keys that sign differ
 keys_differ : (first pair : Pair) → IsPairOfBytes first → IsPairOfBytes pair → has_type PARTIAL_SIG first ≡ true → has_type PARTIAL_SIG pair ≡ true
     → bytes_eq pair.key first.key ≡ false → bytes_eq (data_of first.key) (data_of pair.key) ≡ false
-keys_differ first pair fits own signs_first signs other =
-    go (bytes_eq (data_of first.key) (data_of pair.key)) refl
-  where
-    go : (b : Bool) → bytes_eq (data_of first.key) (data_of pair.key) ≡ b → b ≡ false
-    go false e = refl
-    go true e =
-        let same_data = (bytes_eq-Decides (data_of first.key) (data_of pair.key)).0 e in
-        let one = key_is first.key 1 fits.0 (eqb-true (type_of first.key) 0x02 signs_first) in
-        let two = key_is pair.key 1 own.0 (eqb-true (type_of pair.key) 0x02 signs) in
-        let same : pair.key ≡ first.key = two ∙ ap (λ (d : Bytes). size_bytes 2 ++ d) (sym same_data) ∙ sym one in
-        absurd (false≢true (sym other ∙ (bytes_eq-Decides pair.key first.key).1 same))
+keys_differ first pair fits own signs_first signs other = false_from_ne_true _ (λ e.
+    let same_data = (bytes_eq-Decides (data_of first.key) (data_of pair.key)).0 e in
+    let one = key_is first.key 1 fits.0 (eqb-true (type_of first.key) 0x02 signs_first) in
+    let two = key_is pair.key 1 own.0 (eqb-true (type_of pair.key) 0x02 signs) in
+    let same : pair.key ≡ first.key = two ∙ ap (λ (d : Bytes). size_bytes 2 ++ d) (sym same_data) ∙ sym one in
+    false≢true (sym other ∙ (bytes_eq-Decides pair.key first.key).1 same))
 
 abbrev pub signature : Pair → Bytes × Bytes
 signature pair = (data_of pair.key, pair.value)
@@ -155,25 +137,26 @@ signature pair = (data_of pair.key, pair.value)
 signs : (pair : Pair) → is_signed pair ≡ true → has_type PARTIAL_SIG pair ≡ true
 signs pair e = (and_parts (has_type PARTIAL_SIG pair) (is_key (data_of pair.key)) e).0
 
-later_differ : (first : Pair) (fields : Map) → IsPairOfBytes first → is_signed first ≡ true → AllByRecursion IsPairOfBytes fields → AllByRecursion (λ (pair : Pair). bytes_eq pair.key first.key ≡ false) fields
+later_differ : (first : Pair) (fields : Map) → IsPairOfBytes first → is_signed first ≡ true → AllByRecursion IsPairOfBytes fields
+    → AllByRecursion (λ (pair : Pair). bytes_eq pair.key first.key ≡ false) fields
     → AllByRecursion (λ other. same_key (signature first) other ≡ false) (signatures_in fields)
 later_differ first [] fits is all h = tt
-later_differ first (pair ∷ fields) fits is all h = go (is_signed pair) refl (later_differ first fields fits is all.1 h.1)
-  where
-    go : (b : Bool) → is_signed pair ≡ b → AllByRecursion (λ other. same_key (signature first) other ≡ false) (signatures_in fields)
-        → AllByRecursion (λ (other : Bytes × Bytes). same_key (signature first) other ≡ false) (map signature (cond b (pair ∷ filter is_signed fields) (filter is_signed fields)))
-    go true e rest = (keys_differ first pair fits all.0 (signs first is) (signs pair e) h.0, rest)
-    go false e rest = rest
+later_differ first (pair ∷ fields) fits is all h =
+    let rest = later_differ first fields fits is all.1 h.1 in
+    elim (cases_Bool (is_signed pair)) [
+      | inl e ↦ rw e (keys_differ first pair fits all.0 (signs first is) (signs pair e) h.0, rest)
+      | inr e ↦ rw e rest
+    ]
 
 pub one_signature : (before fields : Map) → IsSoundMap input_form before fields → AllByRecursion IsPairOfBytes fields → IsDistinct same_key (signatures_in fields)
 unfolding IsDistinct
 one_signature before [] sound all = tt
-one_signature before (pair ∷ fields) sound all = go (is_signed pair) refl (one_signature (before ++ pair ∷ []) fields sound.1 all.1)
-  where
-    go : (b : Bool) → is_signed pair ≡ b → IsDistinct same_key (signatures_in fields)
-        → IsDistinct same_key (map signature (cond b (pair ∷ filter is_signed fields) (filter is_signed fields)))
-    go true e rest = (later_differ pair fields all.0 e all.1 (differ input_form pair before [] fields sound.1), rest)
-    go false e rest = rest
+one_signature before (pair ∷ fields) sound all =
+    let rest = one_signature (before ++ pair ∷ []) fields sound.1 all.1 in
+    elim (cases_Bool (is_signed pair)) [
+      | inl e ↦ rw e (later_differ pair fields all.0 e all.1 (differ input_form pair before [] fields sound.1), rest)
+      | inr e ↦ rw e rest
+    ]
 
 -- ---- the assets
 

@@ -1,5 +1,6 @@
 -- What is read of bytes consists of bytes.
-use Rattle.std.proofs.Common.{◌≡◌, ◌==◌, Bool, true, false, cond, List, [], ◌∷◌, ◌++◌, length, All, Some}
+use Rattle.std.proofs.Common.{◌≡◌, ◌==◌, List, [], ◌∷◌, ◌++◌, length, inl, inr, All, Some}
+use Rattle.std.proofs.lemmas.Bool.{cases_Bool}
 use Rattle.std.specs.List.{flat_map, AllByRecursion}
 use Rattle.std.proofs.lemmas.List.Elements.{All-from_recursion, recursion_from_All}
 use Rattle.def_script.specs.Bytes.{Bytes, IsBytes}
@@ -40,12 +41,10 @@ maps_bytes maps h = All-from_recursion IsMapOfBytes maps (each_map maps (pieces 
 -- the transaction is that of a pair
 found_pair : (transaction : Transaction) (map : Map) → AllByRecursion IsPairOfBytes map → transaction_in_pair (pair_of_type 0x00 map) ≡ Some transaction → IsTransaction transaction
 found_pair transaction [] all e = absurd cc
-found_pair transaction (pair ∷ map) all e = go (type_of pair.key == 0x00) (found_pair transaction map all.1) e
-  where
-    go : (b : Bool) → (transaction_in_pair (pair_of_type 0x00 map) ≡ Some transaction → IsTransaction transaction)
-        → transaction_in_pair (cond b (Some pair) (pair_of_type 0x00 map)) ≡ Some transaction → IsTransaction transaction
-    go true rest e = transaction_is pair.value transaction all.0.1 e
-    go false rest e = rest e
+found_pair transaction (pair ∷ map) all e = elim (cases_Bool (type_of pair.key == 0x00)) [
+  | inl is ↦ transaction_is pair.value transaction all.0.1 (rw is at e)
+  | inr other ↦ found_pair transaction map all.1 (rw other at e)
+]
 
 pub whole_is : (psbt : Psbt) → IsSound psbt → IsBytes (psbt_text psbt.global psbt.inputs psbt.outputs) → IsWhole psbt
 whole_is psbt sound h =

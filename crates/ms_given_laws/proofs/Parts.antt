@@ -33,30 +33,13 @@ bytes_part count bytes read fits e =
     (length-take-le count bytes room, taken count bytes fits, dropped count bytes fits)
 
 number_16 : (bytes : Bytes) → IsBytes bytes → from_le_bytes w16 bytes < 2 ^ 16
-number_16 bytes fits =
-    let b0 = fits 0 in
-    let b1 = fits 1 in
-    omega (arith, b0, b1)
+number_16 bytes fits = omega (arith, fits 0, fits 1)
 
 number_32 : (bytes : Bytes) → IsBytes bytes → from_le_bytes w32 bytes < 2 ^ 32
-number_32 bytes fits =
-    let b0 = fits 0 in
-    let b1 = fits 1 in
-    let b2 = fits 2 in
-    let b3 = fits 3 in
-    omega (arith, b0, b1, b2, b3)
+number_32 bytes fits = omega (arith, fits 0, fits 1, fits 2, fits 3)
 
 number_64 : (bytes : Bytes) → IsBytes bytes → from_le_bytes w64 bytes < 2 ^ 64
-number_64 bytes fits =
-    let b0 = fits 0 in
-    let b1 = fits 1 in
-    let b2 = fits 2 in
-    let b3 = fits 3 in
-    let b4 = fits 4 in
-    let b5 = fits 5 in
-    let b6 = fits 6 in
-    let b7 = fits 7 in
-    omega (arith, b0, b1, b2, b3, b4, b5, b6, b7)
+number_64 bytes fits = omega (arith, fits 0, fits 1, fits 2, fits 3, fits 4, fits 5, fits 6, fits 7)
 
 -- a number of a width of which each number of so many bytes is below a bound
 number_part : (width : Width) (most : ℕ) → ((bytes : Bytes) → IsBytes bytes → from_le_bytes width bytes < most) → (bytes : Bytes) (read : ℕ × Bytes) → IsBytes bytes
@@ -124,9 +107,7 @@ string_first bytes read fits e =
     let s = bind_some (first_size bytes) (λ size. first_bytes size.0 size.1) read e in
     let size = size_first bytes s.0 fits s.1 in
     let part = bytes_part s.0.0 s.0.1 read size.1 s.2 in
-    let low = size.0 in
-    let long = part.0 in
-    (omega (arith, low, long), part.1, part.2)
+    (omega (arith, size.0, part.0), part.1, part.2)
 
 -- ---- lists
 
@@ -154,9 +135,7 @@ list_first P first each bytes read fits e =
     let c = bind_some (first_size bytes) (λ count. first_many first count.0 count.1) read e in
     let count = size_first bytes c.0 fits c.1 in
     let many = many_first P first each c.0.0 c.0.1 read count.1 c.2 in
-    let low = count.0 in
-    let long = many.1 in
-    (many.0, omega (arith, low, long), many.2)
+    (many.0, omega (arith, count.0, many.1), many.2)
 
 -- ---- transactions
 

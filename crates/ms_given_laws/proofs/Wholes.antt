@@ -1,7 +1,7 @@
 -- Every PSBT that a source of bytes gives is whole, and its inputs hold keys and assets.
 use Rattle.std.proofs.Common.{ℕ, ◌+◌, List, [], ◌∷◌, subst}
 use Rattle.std.specs.List.{AllByRecursion}
-use Rattle.std.proofs.lemmas.List.Elements.{All-from_recursion, recursion_from_All}
+use Rattle.std.proofs.lemmas.List.Elements.{All-from_recursion, All-weaker, recursion_from_All}
 use Rattle.def_script.specs.Bytes.{IsBytes}
 use Rattle.def_psbt.specs.Transaction.{TransactionInput, Transaction}
 use Rattle.def_psbt.specs.Map.{Map, Psbt}
@@ -41,10 +41,6 @@ places psbt whole =
     (recursion_from_All (λ map. IsSoundMap input_form [] map) psbt.inputs whole.sound.inputs)
     (recursion_from_All IsMapOfBytes psbt.inputs whole.inputs)
 
-weaker : {A : Type 0} (P Q : A → Type 0) → ((x : A) → P x → Q x) → (xs : List A) → AllByRecursion P xs → AllByRecursion Q xs
-weaker P Q f [] h = tt
-weaker P Q f (x ∷ xs) h = (f x h.0, weaker P Q f xs h.1)
-
 pub each_is_sound : ReadIsWritten → EachIsSound
 each_is_sound law source psbt fits e =
     let b = from_source source psbt fits e in
@@ -53,10 +49,10 @@ each_is_sound law source psbt fits e =
 
 pub each_has_keys : ReadIsWritten → EachHasKeys
 each_has_keys law source psbt fits e =
-    All-from_recursion _ (spends_of psbt)
-    (weaker HasPlace _ (λ spend place. keys_are spend.fields place.fits) (spends_of psbt) (places psbt (each_is_sound law source psbt fits e)))
+    All-weaker HasPlace _ (λ spend place. keys_are spend.fields place.fits) (spends_of psbt)
+    (All-from_recursion HasPlace (spends_of psbt) (places psbt (each_is_sound law source psbt fits e)))
 
 pub each_has_assets : ReadIsWritten → EachHasAssets
 each_has_assets law source psbt fits e =
-    All-from_recursion _ (spends_of psbt)
-    (weaker HasPlace _ (λ spend place. assets_are spend place.locks place.sound place.fits) (spends_of psbt) (places psbt (each_is_sound law source psbt fits e)))
+    All-weaker HasPlace _ (λ spend place. assets_are spend place.locks place.sound place.fits) (spends_of psbt)
+    (All-from_recursion HasPlace (spends_of psbt) (places psbt (each_is_sound law source psbt fits e)))

@@ -35,7 +35,15 @@ word_in_block p start k low =
     let second : start + (4 * k + 1) ≡ start + 4 * k + 1 = omega arith in
     let third : start + (4 * k + 2) ≡ start + 4 * k + 2 = omega arith in
     let fourth : start + (4 * k + 3) ≡ start + 4 * k + 3 = omega arith in
-    rw (byte_in_block p start (4 * k) (omega arith), byte_in_block p start (4 * k + 1) (omega arith), byte_in_block p start (4 * k + 2) (omega arith), byte_in_block p start (4 * k + 3) (omega arith), second, third, fourth) refl
+    rw (
+      byte_in_block p start (4 * k) (omega arith),
+      byte_in_block p start (4 * k + 1) (omega arith),
+      byte_in_block p start (4 * k + 2) (omega arith),
+      byte_in_block p start (4 * k + 3) (omega arith),
+      second,
+      third,
+      fourth,
+    ) refl
 
 -- an array that begins with the block's first k words, after its next word is written
 pub words_more : (p words : List ℕ) (start k word : ℕ) → k < 16 → k < length words → take k words ≡ block_words (take 64 (drop start p)) k

@@ -132,7 +132,8 @@ mutual
   pub parts_within : (l : ℕ) (xs : Trees) (k : ℕ) → l ≤ 1 → AreTyped xs → Within (2 * measure_of xs) (highest_parts l xs k)
   parts_within l none zero le h = within_only 0 0 _ (omega arith) (omega arith)
   parts_within l none (suc k) le h = tt
-  parts_within l (more x xs) zero le h = weaker (2 * measure x + 2 * measure_of xs) _ _ (omega arith) (within_both l _ _ _ _ (omega (arith, le, measure_positive x)) (dsat_within x h.0) (parts_within 0 xs zero (omega arith) h.1))
+  parts_within l (more x xs) zero le h = weaker (2 * measure x + 2 * measure_of xs) _ _ (omega arith)
+      (within_both l _ _ _ _ (omega (arith, le, measure_positive x)) (dsat_within x h.0) (parts_within 0 xs zero (omega arith) h.1))
   parts_within l (more x xs) (suc k) le h =
       within_either (2 * measure_of (more x xs)) _ _
       (weaker (2 * measure x + 2 * measure_of xs) _ _ (omega arith) (within_both l _ _ _ _ (omega (arith, le, measure_positive x)) (sat_within x h.0) (parts_within 0 xs k (omega arith) h.1)))

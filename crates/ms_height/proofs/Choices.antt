@@ -71,7 +71,8 @@ one_less l (c ∷ cs) t u few = go c.sat c.dsat t u few (λ m n f. one_less 0 cs
         none_either (with_child l (Some s) (Some d) (bounded 0 cs) m zero) ∙
         ap (λ o. either (both l (Some s) o) None) (sym (none_either (fewer (λ n. bounded 0 cs n zero) m)) ∙ ih m zero (omega (arith, f)))
     go (Some s) (Some d) (suc m) (suc n) f ih =
-        swap_either (both l (Some s) (fewer (λ i. bounded 0 cs i (suc n)) m)) (both l (Some d) (bounded 0 cs m n)) (both l (Some s) (bounded 0 cs m n)) (both l (Some d) (fewer (bounded 0 cs (suc m)) n)) ∙
+        swap_either (both l (Some s) (fewer (λ i. bounded 0 cs i (suc n)) m)) (both l (Some d) (bounded 0 cs m n)) (both l (Some s) (bounded 0 cs m n))
+        (both l (Some d) (fewer (bounded 0 cs (suc m)) n)) ∙
         ap (λ o. either o (either (both l (Some d) (bounded 0 cs m n)) (both l (Some d) (fewer (bounded 0 cs (suc m)) n))))
         (sym (both_either l (Some s) (fewer (λ i. bounded 0 cs i (suc n)) m) (bounded 0 cs m n)) ∙ ap (both l (Some s)) (ih m (suc n) (omega (arith, f)))) ∙
         ap (either (both l (Some s) (bounded 0 cs m (suc n))))
@@ -121,7 +122,8 @@ is_some l [] (suc t) zero fine few = (0, refl)
 is_some l [] (suc t) (suc u) fine few = (0, refl)
 is_some l (c ∷ cs) t u fine few = go c.sat c.dsat t u fine few (λ m n f g. is_some 0 cs m n f g)
   where
-    go : (s d : Option Highest) (t u : ℕ) → stuck_by s d + stuck cs ≡ 0 → free_by s d + free cs ≤ t + u → ((m n : ℕ) → stuck cs ≡ 0 → free cs ≤ m + n → (h : ℕ) × (bounded 0 cs m n ≡ only (items_of cs m n) h))
+    go : (s d : Option Highest) (t u : ℕ) → stuck_by s d + stuck cs ≡ 0 → free_by s d + free cs ≤ t + u
+        → ((m n : ℕ) → stuck cs ≡ 0 → free cs ≤ m + n → (h : ℕ) × (bounded 0 cs m n ≡ only (items_of cs m n) h))
         → (h : ℕ) × (with_child l s d (bounded 0 cs) t u ≡ only ((base_by s d + base cs) + top t (more_sat s d ∷ more_sats cs) + top u (more_dsat s d ∷ more_dsats cs)) h)
     go None None t u f g ih = absurd (omega (arith, f))
     go None (Some d) t u f g ih =

@@ -74,7 +74,8 @@ chosen_exact l (c ∷ cs) k t u is all = go c.sat c.dsat k t u is all (λ a b d 
     go (Some s) (Some d) (suc k) zero (suc u) f g ih low high =
         ap (λ o. either (both l (Some s) o) (both l (Some d) (chosen 0 cs (suc k)))) (low k (omega (arith, f))) ∙ ap (both l (Some d)) (ih (suc k) zero u (omega (arith, f)) (omega (arith, g)))
     go (Some s) (Some d) (suc k) (suc t) zero f g ih low high =
-        ap (λ o. either (both l (Some s) (chosen 0 cs k)) (both l (Some d) o)) (high (suc k) (omega (arith, f, g))) ∙ ap (λ o. either (both l (Some s) o) None) (ih k t zero (omega (arith, f)) (omega (arith, g)))
+        ap (λ o. either (both l (Some s) (chosen 0 cs k)) (both l (Some d) o)) (high (suc k) (omega (arith, f, g)))
+        ∙ ap (λ o. either (both l (Some s) o) None) (ih k t zero (omega (arith, f)) (omega (arith, g)))
     go (Some s) (Some d) (suc k) (suc t) (suc u) f g ih low high =
         ap (λ o. either (both l (Some s) o) (both l (Some d) (chosen 0 cs (suc k)))) (ih k t (suc u) (omega (arith, f)) (omega (arith, g))) ∙
         ap (λ o. either (both l (Some s) (bounded 0 cs t (suc u))) (both l (Some d) o)) (ih (suc k) (suc t) u (omega (arith, f)) (omega (arith, g)))

@@ -48,7 +48,8 @@ kept_more xs n x sats dsats s d below inside within at sat dsat told = record {
   dsat = more_kept (λ t. highest_dsat (shape t)) xs n x dsats d below within at dsat told.dsat;
 }
 
-pub kept_all : (xs : List Tree) (n : ℕ) (sats dsats : List Slot) → length xs ≤ n → length sats ≡ length xs → length dsats ≡ length xs → KeptUpto xs n sats dsats → heights_in sats dsats ≡ heights_of (shapes xs)
+pub kept_all : (xs : List Tree) (n : ℕ) (sats dsats : List Slot) → length xs ≤ n → length sats ≡ length xs → length dsats ≡ length xs
+    → KeptUpto xs n sats dsats → heights_in sats dsats ≡ heights_of (shapes xs)
 kept_all [] n [] dsats all e f told = refl
 kept_all [] n (s ∷ ss) dsats all e f told = absurd (omega (arith, e))
 kept_all (x ∷ xs) n [] dsats all e f told = absurd (omega (arith, e))
@@ -56,7 +57,8 @@ kept_all (x ∷ xs) n (s ∷ ss) [] all e f told = absurd (omega (arith, f))
 kept_all (x ∷ xs) zero (s ∷ ss) (d ∷ ds) all e f told = absurd (omega (arith, all))
 kept_all (x ∷ xs) (suc n) (s ∷ ss) (d ∷ ds) all e f told =
     let rest : heights_in ss ds ≡ heights_of (shapes xs) =
-    kept_all xs n ss ds (omega (arith, all)) (omega (arith, e)) (omega (arith, f)) (record { sat = λ i y below. told.sat (suc i) y (omega (arith, below)); dsat = λ i y below. told.dsat (suc i) y (omega (arith, below)) }) in
+    kept_all xs n ss ds (omega (arith, all)) (omega (arith, e)) (omega (arith, f))
+    (record { sat = λ i y below. told.sat (suc i) y (omega (arith, below)); dsat = λ i y below. told.dsat (suc i) y (omega (arith, below)) }) in
     let sat : kept_in s ≡ highest_sat (shape x) = told.sat 0 x (omega arith) in
     let dsat : kept_in d ≡ highest_dsat (shape x) = told.dsat 0 x (omega arith) in
     λ i. record { sat = sat i; dsat = dsat i } ∷ rest i

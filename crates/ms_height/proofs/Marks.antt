@@ -79,7 +79,9 @@ counted_more slots number xs s inside low few more counted = record {
     go : (v : ℕ) → v < length slots → (b : Bool) → nat_eq v number ≡ b → (get_or (set slots number s) v blank).place ≡ cond (nat_eq v number) 1 0 + equal v xs
     go v below true e =
         let same : number ≡ v = grind (arith, nat_tests) in
-        let at : (get_or (set slots number s) v blank).place ≡ s.place = subst (λ (n : ℕ). (get_or (set slots number s) n blank).place ≡ s.place) same (ap (λ (x : Slot). x.place) (get_or-set_same slots number s blank inside)) in
+        let at : (get_or (set slots number s) v blank).place
+        ≡ s.place = subst (λ (n : ℕ). (get_or (set slots number s) n blank).place ≡ s.place) same
+        (ap (λ (x : Slot). x.place) (get_or-set_same slots number s blank inside)) in
         let old : (get_or slots number blank).place ≡ equal v xs = subst (λ (n : ℕ). (get_or slots number blank).place ≡ equal n xs) same (counted.each number inside) in
         let f : Bool → ℕ = λ b. cond b 1 0 in let one : f (nat_eq v number) ≡ f true = ap f e in
         omega (arith, at, more, old, one)

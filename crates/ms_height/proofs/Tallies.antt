@@ -98,7 +98,8 @@ counts_one t u n cs c s d below at e f more_forced more_free more_stuck most tol
     (omega (arith, more_forced, same forced_by)) (omega (arith, more_free, same free_by)) (omega (arith, more_stuck, same stuck_by))
     (omega (arith, most, larger_more t.most_items s, larger_more (larger t.most_items s) d))
     (record {
-      sat = subst (ItemsBelow (u.most_items + 1)) (sym e) (wider (larger t.most_items s + 1) (u.most_items + 1) s (omega (arith, most, larger_more (larger t.most_items s) d)) (larger_fits t.most_items s));
+      sat = subst (ItemsBelow (u.most_items + 1)) (sym e) (wider (larger t.most_items s + 1) (u.most_items + 1) s
+          (omega (arith, most, larger_more (larger t.most_items s) d)) (larger_fits t.most_items s));
       dsat = subst (ItemsBelow (u.most_items + 1)) (sym f) (wider (larger (larger t.most_items s) d + 1) (u.most_items + 1) d (omega (arith, most)) (larger_fits (larger t.most_items s) d));
     })
     (λ slots small fits.

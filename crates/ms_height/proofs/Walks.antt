@@ -45,7 +45,8 @@ pub stuck_from : (cs : List Heights) (i : ℕ) (c : Heights) → i < length cs �
 stuck_from cs i c below at fine = omega (arith, fine, stuck_behind cs i, ap stuck (from_child cs i c below at))
 
 -- the choice among the children behind one
-pub choice_behind : (choice : Choice) (ps ms : List Slot) (t u : ℕ) (cs : List Heights) (index i : ℕ) → index ≡ suc i → IsChoice choice ps ms t u (left_at index) (drop index cs) → IsChoice choice ps ms t u 0 (drop (suc i) cs)
+pub choice_behind : (choice : Choice) (ps ms : List Slot) (t u : ℕ) (cs : List Heights) (index i : ℕ) → index ≡ suc i
+    → IsChoice choice ps ms t u (left_at index) (drop index cs) → IsChoice choice ps ms t u 0 (drop (suc i) cs)
 choice_behind choice ps ms t u cs index i next told = subst (λ (n : ℕ). IsChoice choice ps ms t u (left_at n) (drop n cs)) next told
 
 -- and with it
@@ -55,5 +56,6 @@ choice_from choice ps ms t u left cs i c below at leaves told =
     subst (λ (n : ℕ). IsChoice choice ps ms t u n (drop i cs)) leaves (subst (IsChoice choice ps ms t u left) (sym (from_child cs i c below at)) told)
 
 -- and among all of them
-pub choice_all : (choice : Choice) (ps ms : List Slot) (t u : ℕ) (cs : List Heights) (index : ℕ) → index ≡ 0 → IsChoice choice ps ms t u (left_at index) (drop index cs) → IsChoice choice ps ms t u 1 cs
+pub choice_all : (choice : Choice) (ps ms : List Slot) (t u : ℕ) (cs : List Heights) (index : ℕ) → index ≡ 0
+    → IsChoice choice ps ms t u (left_at index) (drop index cs) → IsChoice choice ps ms t u 1 cs
 choice_all choice ps ms t u cs index none told = subst (λ (n : ℕ). IsChoice choice ps ms t u (left_at n) (drop n cs)) none told

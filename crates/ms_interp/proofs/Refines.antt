@@ -51,7 +51,8 @@ checks_is f s =
 
 multi_is : (f : Stack → ℕ → Pairs → OrFault (Stack × ℕ × Pairs)) (s : State) → on_multi f (machine_of s) ≡ seen (the_on_multi f s)
 multi_is f s =
-    bind_is (f s.main s.ops s.checks) (λ left. record (machine_of s) { main = left.0; ops = left.1; checks = left.2 }) (λ left. record s { main = left.0; ops = left.1; checks = left.2 }) (λ left. refl)
+    bind_is (f s.main s.ops s.checks) (λ left. record (machine_of s) { main = left.0; ops = left.1; checks = left.2 })
+    (λ left. record s { main = left.0; ops = left.1; checks = left.2 }) (λ left. refl)
 
 -- the open branches
 live_with : (taken : Bool) (first : Option ℕ) (depth : ℕ) (live : Bool) → is_none first ≡ live → is_none (first_with taken first depth) ≡ (taken && live)
@@ -188,7 +189,8 @@ unfolding carry_out carry_push carry_op the_carry_out
 carry_is given (item.fault e) s = refl
 carry_is given (item.push bytes minimal) s =
     if_is (nat_lt 520 (length bytes)) (Err fault.ElementSize) (Err fault.ElementSize) (the_only_if (is_live s) (the_pushed bytes minimal) s)
-    (only_if (is_none (first_false s.branches)) (pushed bytes minimal) (machine_of s)) refl (rw (live_is s.branches) (only_if_is (is_live s) (pushed bytes minimal) (the_pushed bytes minimal) s (pushed_is bytes minimal s)))
+    (only_if (is_none (first_false s.branches)) (pushed bytes minimal) (machine_of s)) refl
+    (rw (live_is s.branches) (only_if_is (is_live s) (pushed bytes minimal) (the_pushed bytes minimal) s (pushed_is bytes minimal s)))
 carry_is given (item.code op) s =
     rw (count_is s)
     (then_is (the_count_op s) (λ t. only_if (is_branching op || is_none t.branches.first_false) (act given op) t) (λ t. the_only_if (is_branching op || is_live t) (the_act given op) t)

@@ -46,7 +46,11 @@ module _ (s : Setting) (all : IsTrue s.all_rows) where
     missed_dsat just_0 k typed e h = ([], All-nil IsBytes, refl)
     missed_dsat just_1 k typed e h = absurd (false≢true e)
     missed_dsat (pk_k key) k typed e h = (EMPTY ∷ [], one_item EMPTY empty_bytes, refl)
-    missed_dsat (pk_h key) k typed e h = (key ∷ EMPTY ∷ [], All-cons IsBytes key (EMPTY ∷ []) k.bytes (one_item EMPTY empty_bytes), (key, k.form, refl, counts_itself s.mode key, (EMPTY ∷ [], key ∷ [], refl, refl, refl)))
+    missed_dsat (pk_h key) k typed e h = (
+      key ∷ EMPTY ∷ [],
+      All-cons IsBytes key (EMPTY ∷ []) k.bytes (one_item EMPTY empty_bytes),
+      (key, k.form, refl, counts_itself s.mode key, (EMPTY ∷ [], key ∷ [], refl, refl, refl)),
+    )
     missed_dsat (older n) k typed e h = absurd (false≢true e)
     missed_dsat (after n) k typed e h = absurd (false≢true e)
     missed_dsat (hash kind value) k typed e h = let m = h kind value (0, omega arith, refl) in (m.0 ∷ [], one_item m.0 m.1, inr (all, (m.0, m.2, refl)))

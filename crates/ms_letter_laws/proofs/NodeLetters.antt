@@ -41,6 +41,10 @@ module _ (tree : Tree) (writable : IsWritable tree) (consensus : IsWithinConsens
 
 pub letters_of : LettersHold
 letters_of tree writable valid = record {
-  types = λ node is. (type_of node, (corr_is_typed node (type_of node)).1 (typed tree writable (valid_consensus tree valid) node is, refl), type_letters tree writable (valid_consensus tree valid) node is);
+  types = λ node is. (
+    type_of node,
+    (corr_is_typed node (type_of node)).1 (typed tree writable (valid_consensus tree valid) node is, refl),
+    type_letters tree writable (valid_consensus tree valid) node is,
+  );
   properties = mall_letters tree writable (valid_consensus tree valid);
 }

@@ -1,11 +1,14 @@
 -- A policy whose miniscript has the letter s is false where no key signs.
 use Rattle.std.proofs.Common.{◌≡◌, ℕ, ◌+◌, ◌<◌, ◌≤◌, nat_le, Bool, true, false, ◌&&◌, ◌||◌, List, [], ◌∷◌, length, map, refl, sym, ◌∙◌, ap, subst, inl, inr, arith, if◌then◌else◌}
+use Rattle.std.specs.Bool.{⊤}
+use Rattle.std.proofs.Math.Bool.{and-false}
 use Rattle.std.proofs.lemmas.Bool.{or_cases, cases_Bool, ltb-true, false≢true, and_parts}
 use Rattle.std.proofs.lemmas.Bool.Decides.{nat_tests}
 use Rattle.def_tree.specs.declared.Two.TheVariants as kind
 use Rattle.def_tree.specs.declared.Wrapper.TheVariants as wrapper
-use Rattle.def_tree.specs.Tree.{Tree, Trees, Key, just_0, just_1, pk_k, pk_h, older, after, hash, and_or, two, thresh, multi, wrap, none, more}
-use Rattle.def_types.specs.declared.Base.TheVariants.{B, V, K, W}
+use Rattle.def_tree.specs.Tree.{Tree, Trees, Key, just_0, pk_k, pk_h, and_or, two, thresh, multi, wrap, none, more}
+use Rattle.def_types.specs.declared.Base.{Base}
+use Rattle.def_types.specs.declared.Base.TheVariants.{K}
 use Rattle.def_types.specs.Malleable.{count_not_s}
 use Rattle.def_types.specs.Typed.{type_of, IsTyped, AreTyped, mall_of, malls_of}
 use Rattle.def_types.proofs.Rows.{corr_rows, mall_rows}
@@ -22,18 +25,13 @@ use Rattle.def_policy.proofs.Truths.{simple_keeps_truth}
 
 -- both of two, and one of them
 all_first : (a b : Bool) → a ≡ false → (a && (b && true)) ≡ false
-all_first false b e = refl
-all_first true b e = absurd (false≢true (sym e))
+all_first a b e = rw e
 
 all_second : (a b : Bool) → b ≡ false → (a && (b && true)) ≡ false
-all_second false b e = refl
-all_second true false e = refl
-all_second true true e = absurd (false≢true (sym e))
+all_second a b e = rw e (and-false a)
 
 any_neither : (a b : Bool) → a ≡ false → b ≡ false → (a || (b || false)) ≡ false
-any_neither false false e f = refl
-any_neither true b e f = absurd (false≢true (sym e))
-any_neither false true e f = absurd (false≢true (sym f))
+any_neither a b e f = rw (e, f)
 
 one_of_both : (a b s t : Bool) → (s ≡ true → a ≡ false) → (t ≡ true → b ≡ false) → (s || t) ≡ true → (a && (b && true)) ≡ false
 one_of_both a b s t f g h = elim (or_cases s t h) [ inl e ↦ all_first a b (f e) | inr e ↦ all_second a b (g e) ]
@@ -41,14 +39,9 @@ one_of_both a b s t f g h = elim (or_cases s t h) [ inl e ↦ all_first a b (f e
 each_of_both : (a b s t : Bool) → (s ≡ true → a ≡ false) → (t ≡ true → b ≡ false) → (s && t) ≡ true → (a || (b || false)) ≡ false
 each_of_both a b s t f g h = let e = and_parts s t h in any_neither a b (f e.0) (g e.1)
 
-b_not_k : B ≡ K → ⊥
-b_not_k e = cc
-
-v_not_k : V ≡ K → ⊥
-v_not_k e = cc
-
-w_not_k : W ≡ K → ⊥
-w_not_k e = cc
+abbrev IsK : Base → Type 0
+IsK K = ⊤
+IsK base = ⊥
 
 module _ (facts : Facts) (unsigned : (key : Key) → facts.signs key ≡ false) where
   abbrev Is : Tree → Bool
@@ -58,32 +51,17 @@ module _ (facts : Facts) (unsigned : (key : Key) → facts.signs key ≡ false) 
   key_unsigned : (t : Tree) → IsTyped t → (type_of t).base ≡ K → Is t ≡ false
   unfolding corr_rows
   key_unsigned just_0 typed e = refl
-  key_unsigned just_1 typed e = absurd (b_not_k e)
   key_unsigned (pk_k key) typed e = unsigned key
   key_unsigned (pk_h key) typed e = unsigned key
-  key_unsigned (older n) typed e = absurd (b_not_k e)
-  key_unsigned (after n) typed e = absurd (b_not_k e)
-  key_unsigned (hash kind value) typed e = absurd (b_not_k e)
   key_unsigned (and_or x y z) typed e =
       let p = typed-and_or x y z typed in
       any_neither _ (Is z) (all_second (Is x) (Is y) (key_unsigned y p.1 e)) (key_unsigned z p.2 (sym p.6 ∙ e))
   key_unsigned (two kind.AndV x y) typed e = all_second (Is x) (Is y) (key_unsigned y typed.1 e)
-  key_unsigned (two kind.AndB x y) typed e = absurd (b_not_k e)
-  key_unsigned (two kind.OrB x y) typed e = absurd (b_not_k e)
-  key_unsigned (two kind.OrC x y) typed e = absurd (v_not_k e)
-  key_unsigned (two kind.OrD x y) typed e = absurd (b_not_k e)
   key_unsigned (two kind.OrI x y) typed e =
       let p = typed-or_i x y typed in
       any_neither (Is x) (Is y) (key_unsigned x p.0 e) (key_unsigned y p.1 (sym p.2 ∙ e))
-  key_unsigned (thresh k xs) typed e = absurd (b_not_k e)
-  key_unsigned (multi k keys) typed e = absurd (b_not_k e)
-  key_unsigned (wrap wrapper.A x) typed e = absurd (w_not_k e)
-  key_unsigned (wrap wrapper.S x) typed e = absurd (w_not_k e)
-  key_unsigned (wrap wrapper.C x) typed e = absurd (b_not_k e)
-  key_unsigned (wrap wrapper.D x) typed e = absurd (b_not_k e)
-  key_unsigned (wrap wrapper.V x) typed e = absurd (v_not_k e)
-  key_unsigned (wrap wrapper.J x) typed e = absurd (b_not_k e)
-  key_unsigned (wrap wrapper.N x) typed e = absurd (b_not_k e)
+  key_unsigned (wrap wrapper.A x) typed e = absurd (subst IsK (sym e) tt)
+  key_unsigned t typed e = absurd (subst IsK (sym e) tt)
 
   -- no key of a `multi` signs
   none_signs : (keys : List Key) → how_many (truths facts (policies_of (map policy.key keys))) ≡ 0
@@ -102,22 +80,15 @@ module _ (facts : Facts) (unsigned : (key : Key) → facts.signs key ≡ false) 
 
     pub needs_key : (t : Tree) → IsTyped t → (mall_of t).s ≡ true → Is t ≡ false
     needs_key just_0 typed s = refl
-    needs_key just_1 typed s = absurd (false≢true s)
     needs_key (pk_k key) typed s = unsigned key
     needs_key (pk_h key) typed s = unsigned key
-    needs_key (older n) typed s = absurd (false≢true s)
-    needs_key (after n) typed s = absurd (false≢true s)
-    needs_key (hash kind value) typed s = absurd (false≢true s)
     needs_key (and_or x y z) typed s =
         let e = and_parts (mall_of z).s ((mall_of x).s || (mall_of y).s) s in
         any_neither _ (Is z) (one_of_both (Is x) (Is y) _ _ (needs_key x typed.0) (needs_key y typed.1) e.1)
         (needs_key z typed.2 e.0)
     needs_key (two kind.AndV x y) typed s = one_of_both (Is x) (Is y) _ _ (needs_key x typed.0) (needs_key y typed.1) s
     needs_key (two kind.AndB x y) typed s = one_of_both (Is x) (Is y) _ _ (needs_key x typed.0) (needs_key y typed.1) s
-    needs_key (two kind.OrB x y) typed s = each_of_both (Is x) (Is y) _ _ (needs_key x typed.0) (needs_key y typed.1) s
-    needs_key (two kind.OrC x y) typed s = each_of_both (Is x) (Is y) _ _ (needs_key x typed.0) (needs_key y typed.1) s
-    needs_key (two kind.OrD x y) typed s = each_of_both (Is x) (Is y) _ _ (needs_key x typed.0) (needs_key y typed.1) s
-    needs_key (two kind.OrI x y) typed s = each_of_both (Is x) (Is y) _ _ (needs_key x typed.0) (needs_key y typed.1) s
+    needs_key (two k x y) typed s = each_of_both (Is x) (Is y) _ _ (needs_key x typed.0) (needs_key y typed.1) s
     needs_key (thresh k xs) typed s =
         let l = ltb-true (count_not_s (malls_of xs)) k s in
         let f = few_true xs typed.0 in
@@ -126,13 +97,9 @@ module _ (facts : Facts) (unsigned : (key : Key) → facts.signs key ≡ false) 
         let some = (typed-multi k keys typed).0 in
         let e = none_signs keys in
         too_few k _ (omega (arith, some, e))
-    needs_key (wrap wrapper.A x) typed s = needs_key x typed.0 s
-    needs_key (wrap wrapper.S x) typed s = needs_key x typed.0 s
     needs_key (wrap wrapper.C x) typed s = let p = typed-wrap_c x typed in key_unsigned x p.0 p.1
-    needs_key (wrap wrapper.D x) typed s = needs_key x typed.0 s
-    needs_key (wrap wrapper.V x) typed s = needs_key x typed.0 s
-    needs_key (wrap wrapper.J x) typed s = needs_key x typed.0 s
-    needs_key (wrap wrapper.N x) typed s = needs_key x typed.0 s
+    needs_key (wrap kind x) typed s = needs_key x typed.0 s
+    needs_key leaf typed s = absurd (false≢true s)
 
     -- no more children are true than there are without s
     few_true : (xs : Trees) → AreTyped xs → how_many (truths facts (plain_each xs)) ≤ count_not_s (malls_of xs)

@@ -1,14 +1,14 @@
 -- The locks of one transaction are enough for the policy of a sane miniscript.
-use Rattle.std.proofs.Common.{◌≡◌, ℕ, zero, suc, ◌+◌, ◌<◌, ◌≤◌, nat_le, cond, Bool, true, false, not, ◌&&◌, ◌||◌, ◌⊎◌, List, [], ◌∷◌, ◌++◌, map, Option, Some, None, refl, sym, ◌∙◌, ap, inl, inr, arith, lit<, ◌^◌, if◌then◌else◌}
+use Rattle.std.proofs.Common.{◌≡◌, ℕ, zero, suc, ◌+◌, ◌<◌, ◌≤◌, nat_le, Bool, true, false, not, ◌&&◌, ◌||◌, ◌⊎◌, List, [], ◌∷◌, ◌++◌, map, Option, Some, None, refl, sym, ◌∙◌, ap, inl, inr, arith, lit<, ◌^◌, if◌then◌else◌}
+use Rattle.std.specs.Prelude.{unwrap_or}
 use Rattle.std.specs.List.{list_any, position_from}
-use Rattle.std.proofs.lemmas.Bool.{false≢true, cases_Bool, or_parts, or_right, leb-true, le-leb}
+use Rattle.std.proofs.lemmas.Bool.{false≢true, cases_Bool, or_parts, and_parts, leb-true, le-leb}
 use Rattle.std.proofs.lemmas.Bool.Decides.{nat_tests}
 use Rattle.std.proofs.lemmas.Option.{none-some}
 use Rattle.std.proofs.lemmas.List.Folds.{list_any-append}
 use Rattle.def_machine.specs.Locks.{older_holds, after_holds}
 use Rattle.def_tree.specs.declared.Two.{Two}
 use Rattle.def_tree.specs.declared.Two.TheVariants as kind
-use Rattle.def_tree.specs.declared.Wrapper.TheVariants as wrapper
 use Rattle.def_tree.specs.Tree.{Tree, Trees, Key, just_0, just_1, pk_k, pk_h, older, after, hash, and_or, two, thresh, multi, wrap, none, more}
 use Rattle.def_tree.specs.Nodes.{all_nodes, nodes_of_all}
 use Rattle.def_types.specs.Typed.{IsTyped, AreTyped}
@@ -22,17 +22,16 @@ use Rattle.def_policy.specs.Truth.{Facts, how_many, is_true, truths, with_keys}
 use Rattle.def_policy.proofs.Truths.{simple_keeps_truth}
 use Rattle.ms_policy_laws.specs.Locks.{with_locks, OneTransactionMeets}
 use Rattle.ms_policy_laws.proofs.LockKinds.{Fits, Used, Chosen, chosen_none, chosen_wider, chosen_both, below_left, below_right, below_first_two, below_last, agree, agree_all}
+use Rattle.ms_policy_laws.proofs.Says.{both_true, either_left, either_right}
 use Rattle.ms_policy_laws.proofs.LocksHeld.{latest, older_held, after_held}
 
 -- nothing of a list passes a test
 none_passes : (test : Tree → Bool) (i : ℕ) (xs : List Tree) → position_from test i xs ≡ None → list_any test xs ≡ false
 none_passes test i [] e = refl
-none_passes test i (x ∷ xs) e = go (test x) (none_passes test (i + 1) xs) e
-  where
-    go : (b : Bool) → (position_from test (i + 1) xs ≡ None → list_any test xs ≡ false) →
-        cond b (Some i) (position_from test (i + 1) xs) ≡ None → (b || list_any test xs) ≡ false
-    go true f e = absurd (none-some i (sym e))
-    go false f e = f e
+none_passes test i (x ∷ xs) e = elim (cases_Bool (test x)) [
+  | inl t ↦ absurd (none-some i (sym (rw t at e)))
+  | inr f ↦ rw f (none_passes test (i + 1) xs (rw f at e))
+]
 
 -- nor of two that follow one another
 abbrev NoMix : List Tree → Type 0
@@ -55,23 +54,12 @@ module _ (signers : List Key) where
   Met t x y = is_true (one x y) (plain t) ≡ true
 
   all_two : (a b : Bool) → (a && (b && true)) ≡ true → (a ≡ true) × (b ≡ true)
-  all_two true true e = (refl, refl)
-  all_two true false e = absurd (false≢true e)
-  all_two false b e = absurd (false≢true e)
-
-  two_all : (a b : Bool) → a ≡ true → b ≡ true → (a && (b && true)) ≡ true
-  two_all a b e f = rw (e, f) refl
+  all_two a b e = let p = and_parts a (b && true) e in (p.0, (and_parts b true p.1).0)
 
   any_two : (a b : Bool) → (a || (b || false)) ≡ true → (a ≡ true) ⊎ (b ≡ true)
   any_two true b e = inl refl
   any_two false true e = inr refl
   any_two false false e = absurd (false≢true e)
-
-  first_any : (a b : Bool) → a ≡ true → (a || (b || false)) ≡ true
-  first_any a b e = rw e refl
-
-  second_any : (a b : Bool) → b ≡ true → (a || (b || false)) ≡ true
-  second_any a b e = or_right a (b || false) (rw e refl)
 
   -- keys sign alike
   keys_alike : (x y : Bool) (keys : List Key) → truths (one x y) (policies_of (map policy.key keys)) ≡ truths every (policies_of (map policy.key keys))
@@ -94,10 +82,6 @@ module _ (signers : List Key) where
   of_others : (b : Bool) (m : ℕ) → b ≡ false → 1 ≤ (if b then 1 else 0) + m → 1 ≤ m
   of_others true m e h = absurd (false≢true (sym e))
   of_others false m e h = omega (arith, h)
-
-  not_second : (a b : Bool) → a ≡ true → (a && b) ≡ false → b ≡ false
-  not_second true b e f = f
-  not_second false b e f = absurd (false≢true e)
 
   used_own : (b : Bool) → Used (Some b) b (not b)
   used_own true = refl
@@ -160,48 +144,30 @@ module _ (signers : List Key) where
           | inl h ↦
               let p = all_two (is_true every (plain x)) (is_true every (plain y)) h in
               chosen_wider _ (kinds (and_or x y z)) (λ a b. Met x a b × Met y a b) (Met (and_or x y z)) (below_first_two (kinds x) (kinds y) (kinds z))
-              (λ a b both. first_any _ (is_true (one a b) (plain z)) (two_all (is_true (one a b) (plain x)) (is_true (one a b) (plain y)) both.0 both.1))
+              (λ a b both. either_left _ (is_true (one a b) (plain z)) (both_true (is_true (one a b) (plain x)) (is_true (one a b) (plain y)) both.0 both.1))
               (chosen_both (kinds x) (kinds y) (Met x) (Met y) (λ a b. Met x a b × Met y a b) (agree (kinds x) (kinds y) (last (and_or x y z) s.1)) (λ a b f g. (f, g))
               (choose x typed.0 q.0 p.0) (choose y typed.1 q.1 p.1))
           | inr h ↦
               chosen_wider (kinds z) (kinds (and_or x y z)) (Met z) (Met (and_or x y z)) (below_last (kinds x) (kinds y) (kinds z))
-              (λ a b f. second_any _ (is_true (one a b) (plain z)) f) (choose z typed.2 r.1 h)
+              (λ a b f. either_right _ (is_true (one a b) (plain z)) f) (choose z typed.2 r.1 h)
         ]
     choose (two kind.AndV x y) typed n e =
         let s = split (all_nodes x ++ all_nodes y) (two kind.AndV x y ∷ []) n in
         let q = split (all_nodes x) (all_nodes y) s.0 in
         let p = all_two (is_true every (plain x)) (is_true every (plain y)) e in
         chosen_both (kinds x) (kinds y) (Met x) (Met y) (Met (two kind.AndV x y)) (agree (kinds x) (kinds y) (last (two kind.AndV x y) s.1))
-        (λ a b f g. two_all (is_true (one a b) (plain x)) (is_true (one a b) (plain y)) f g) (choose x typed.0 q.0 p.0) (choose y typed.1 q.1 p.1)
+        (λ a b f g. both_true (is_true (one a b) (plain x)) (is_true (one a b) (plain y)) f g) (choose x typed.0 q.0 p.0) (choose y typed.1 q.1 p.1)
     choose (two kind.AndB x y) typed n e =
         let s = split (all_nodes x ++ all_nodes y) (two kind.AndB x y ∷ []) n in
         let q = split (all_nodes x) (all_nodes y) s.0 in
         let p = all_two (is_true every (plain x)) (is_true every (plain y)) e in
         chosen_both (kinds x) (kinds y) (Met x) (Met y) (Met (two kind.AndB x y)) (agree (kinds x) (kinds y) (last (two kind.AndB x y) s.1))
-        (λ a b f g. two_all (is_true (one a b) (plain x)) (is_true (one a b) (plain y)) f g) (choose x typed.0 q.0 p.0) (choose y typed.1 q.1 p.1)
-    choose (two kind.OrB x y) typed n e =
-        let q = split (all_nodes x) (all_nodes y) (split (all_nodes x ++ all_nodes y) (two kind.OrB x y ∷ []) n).0 in
+        (λ a b f g. both_true (is_true (one a b) (plain x)) (is_true (one a b) (plain y)) f g) (choose x typed.0 q.0 p.0) (choose y typed.1 q.1 p.1)
+    choose (two k x y) typed n e =
+        let q = split (all_nodes x) (all_nodes y) (split (all_nodes x ++ all_nodes y) (two k x y ∷ []) n).0 in
         elim (any_two (is_true every (plain x)) (is_true every (plain y)) e) [
-          | inl h ↦ either_first kind.OrB x y (λ a b f. first_any (is_true (one a b) (plain x)) (is_true (one a b) (plain y)) f) (choose x typed.0 q.0 h)
-          | inr h ↦ either_second kind.OrB x y (λ a b f. second_any (is_true (one a b) (plain x)) (is_true (one a b) (plain y)) f) (choose y typed.1 q.1 h)
-        ]
-    choose (two kind.OrC x y) typed n e =
-        let q = split (all_nodes x) (all_nodes y) (split (all_nodes x ++ all_nodes y) (two kind.OrC x y ∷ []) n).0 in
-        elim (any_two (is_true every (plain x)) (is_true every (plain y)) e) [
-          | inl h ↦ either_first kind.OrC x y (λ a b f. first_any (is_true (one a b) (plain x)) (is_true (one a b) (plain y)) f) (choose x typed.0 q.0 h)
-          | inr h ↦ either_second kind.OrC x y (λ a b f. second_any (is_true (one a b) (plain x)) (is_true (one a b) (plain y)) f) (choose y typed.1 q.1 h)
-        ]
-    choose (two kind.OrD x y) typed n e =
-        let q = split (all_nodes x) (all_nodes y) (split (all_nodes x ++ all_nodes y) (two kind.OrD x y ∷ []) n).0 in
-        elim (any_two (is_true every (plain x)) (is_true every (plain y)) e) [
-          | inl h ↦ either_first kind.OrD x y (λ a b f. first_any (is_true (one a b) (plain x)) (is_true (one a b) (plain y)) f) (choose x typed.0 q.0 h)
-          | inr h ↦ either_second kind.OrD x y (λ a b f. second_any (is_true (one a b) (plain x)) (is_true (one a b) (plain y)) f) (choose y typed.1 q.1 h)
-        ]
-    choose (two kind.OrI x y) typed n e =
-        let q = split (all_nodes x) (all_nodes y) (split (all_nodes x ++ all_nodes y) (two kind.OrI x y ∷ []) n).0 in
-        elim (any_two (is_true every (plain x)) (is_true every (plain y)) e) [
-          | inl h ↦ either_first kind.OrI x y (λ a b f. first_any (is_true (one a b) (plain x)) (is_true (one a b) (plain y)) f) (choose x typed.0 q.0 h)
-          | inr h ↦ either_second kind.OrI x y (λ a b f. second_any (is_true (one a b) (plain x)) (is_true (one a b) (plain y)) f) (choose y typed.1 q.1 h)
+          | inl h ↦ either_first k x y (λ a b f. either_left (is_true (one a b) (plain x)) (is_true (one a b) (plain y)) f) (choose x typed.0 q.0 h)
+          | inr h ↦ either_second k x y (λ a b f. either_right (is_true (one a b) (plain x)) (is_true (one a b) (plain y)) f) (choose y typed.1 q.1 h)
         ]
     choose (thresh k xs) typed n e =
         let s = split (nodes_of_all xs) (thresh k xs ∷ []) n in
@@ -209,18 +175,12 @@ module _ (signers : List Key) where
           | inl several ↦
               let h = leb-true k _ e in
               same_kinds xs (AsMany xs) (Many xs k) (λ a b m. le-leb k _ (omega (arith, h, m)))
-              (each xs typed.0 s.0 (not_second (nat_le 2 k) (some_conflict (kinds_of_each xs)) several (last (thresh k xs) s.1)))
+              (each xs typed.0 s.0 (rw several at (last (thresh k xs) s.1)))
           | inr few ↦ at_most_one xs k few e (pick xs typed.0 s.0)
         ]
     choose (multi k keys) typed n e =
         chosen_none (kinds (multi k keys)) (Met (multi k keys)) (λ x y. ap (λ bs. nat_le k (how_many bs)) (keys_alike x y keys) ∙ e)
-    choose (wrap wrapper.A x) typed n e = choose x typed.0 (split (all_nodes x) (wrap wrapper.A x ∷ []) n).0 e
-    choose (wrap wrapper.S x) typed n e = choose x typed.0 (split (all_nodes x) (wrap wrapper.S x ∷ []) n).0 e
-    choose (wrap wrapper.C x) typed n e = choose x typed.0 (split (all_nodes x) (wrap wrapper.C x ∷ []) n).0 e
-    choose (wrap wrapper.D x) typed n e = choose x typed.0 (split (all_nodes x) (wrap wrapper.D x ∷ []) n).0 e
-    choose (wrap wrapper.V x) typed n e = choose x typed.0 (split (all_nodes x) (wrap wrapper.V x ∷ []) n).0 e
-    choose (wrap wrapper.J x) typed n e = choose x typed.0 (split (all_nodes x) (wrap wrapper.J x ∷ []) n).0 e
-    choose (wrap wrapper.N x) typed n e = choose x typed.0 (split (all_nodes x) (wrap wrapper.N x ∷ []) n).0 e
+    choose (wrap kind x) typed n e = choose x typed.0 (split (all_nodes x) (wrap kind x ∷ []) n).0 e
 
     each : (xs : Trees) → AreTyped xs → NoMix (nodes_of_all xs) → some_conflict (kinds_of_each xs) ≡ false → Chosen (kinds_of_all xs) (AsMany xs)
     each none typed n c = chosen_none (kinds_of_all none) (AsMany none) (λ x y. omega arith)
@@ -249,11 +209,7 @@ module _ (signers : List Key) where
               (λ a b m. still_one (is_true (one a b) (plain x)) _ m) (pick xs typed.1 s.1 (of_others (is_true every (plain x)) _ f h))
         ]
 
-abbrev wanted : Option Bool → Bool
-wanted None = false
-wanted (Some x) = x
-
-fits_wanted : (o : Option Bool) → Fits o (wanted o)
+fits_wanted : (o : Option Bool) → Fits o (unwrap_or o false)
 fits_wanted None = tt
 fits_wanted (Some x) = refl
 
@@ -270,8 +226,8 @@ one_transaction_meets tree signers writable sane e =
     let m = (sane_means tree).0 sane in
     let v = (valid_means tree).0 m.0 in
     let c = choose signers tree v.0 (none_passes mixes 0 (all_nodes tree) m.3) (sym (simple_keeps_truth (with_keys signers) (plain tree)) ∙ e) in
-    let x = wanted c.r in
-    let y = wanted c.a in
+    let x = unwrap_or c.r false in
+    let y = unwrap_or c.a false in
     record {
       locks = latest x y;
       version = lit< tt;

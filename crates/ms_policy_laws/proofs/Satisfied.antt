@@ -63,13 +63,8 @@ module _ (assets : Assets) (are : AreAssets assets) where
       from = λ w. le-leb _ _ (at_most xs k.2 safe.0 n w.0 w.1);
     }
     says (multi n keys) k safe = says_multi assets are n keys
-    says (wrap wrapper.A x) k safe = says x k safe.0
-    says (wrap wrapper.S x) k safe = says x k safe.0
-    says (wrap wrapper.C x) k safe = says x k safe.0
     says (wrap wrapper.D x) k safe = says_below _ (row s x).sat ONE (says x k safe.0)
-    says (wrap wrapper.V x) k safe = says x k safe.0
-    says (wrap wrapper.J x) k safe = says x k safe.0
-    says (wrap wrapper.N x) k safe = says x k safe.0
+    says (wrap kind x) k safe = says x k safe.0
 
     -- where so many children can be satisfied, so many of them are, and the others dissatisfied
     so_many : (xs : Trees) → AreWritable xs → AreMallTyped xs → all_e (malls_of xs) ≡ true →

@@ -1,5 +1,6 @@
 -- A truth value that says whether a set of stacks has one.
 use Rattle.std.proofs.Common.{◌≡◌, Bool, true, false, ◌&&◌, ◌||◌, [], ◌∷◌, ◌⊎◌, inl, inr, refl}
+use Rattle.std.proofs.Math.Bool.{or-true}
 use Rattle.std.proofs.lemmas.Bool.{false≢true, and_parts, or_cases}
 use Rattle.def_script.specs.Bytes.{Bytes}
 use Rattle.def_satisfaction.specs.StackSet.{StackSet, Is, Both}
@@ -11,6 +12,16 @@ pub record Says (b : Bool) (P : StackSet) : Type 0 where
   pub to : b ≡ true → HasOne P
   pub from : HasOne P → b ≡ true
 
+-- both of two are true, or one is
+pub both_true : (a b : Bool) → a ≡ true → b ≡ true → (a && (b && true)) ≡ true
+both_true a b e f = rw (e, f)
+
+pub either_left : (a b : Bool) → a ≡ true → (a || (b || false)) ≡ true
+either_left a b e = rw e
+
+pub either_right : (a b : Bool) → b ≡ true → (a || (b || false)) ≡ true
+either_right a b e = rw e (or-true a)
+
 -- a stack of each of two sets
 pub says_both : (a b : Bool) (P Q : StackSet) → Says a P → Says b Q → Says (a && (b && true)) (Both Q P)
 says_both a b P Q p q = record {
@@ -19,17 +30,6 @@ says_both a b P Q p q = record {
       one_both Q P (q.to (and_parts b true one.1).0) (p.to one.0);
   from = λ w. both_true a b (p.from (w.1.1, w.1.3)) (q.from (w.1.0, w.1.2));
 }
-  where
-    both_true : (a b : Bool) → a ≡ true → b ≡ true → (a && (b && true)) ≡ true
-    both_true a b e f = rw (e, f)
-
--- one of two is true
-either_left : (a b : Bool) → a ≡ true → (a || (b || false)) ≡ true
-either_left a b e = rw e
-
-either_right : (a b : Bool) → b ≡ true → (a || (b || false)) ≡ true
-either_right true b e = refl
-either_right false b e = rw e
 
 -- a stack of one of two sets: each stack of either gives one of the whole, and each one of the whole is had from one of these
 pub says_either : (a b : Bool) (P Q R : StackSet) → Says a P → Says b Q → (HasOne P → HasOne R) → (HasOne Q → HasOne R) →

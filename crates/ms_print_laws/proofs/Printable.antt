@@ -7,7 +7,7 @@ use Rattle.def_tree.specs.Tree.{Tree, Trees, Key}
 use Rattle.def_tree.specs.Range.{IsKey, IsWritable, AreWritable}
 use Rattle.def_policy.specs.declared.Join.{Join}
 use Rattle.def_policy.specs.declared.Join.TheVariants as join
-use Rattle.def_policy.specs.Policy.{Policy, Policies, never, always, key, older, after, hash, all, any, thresh, none, more, list_of, policies_of, joining}
+use Rattle.def_policy.specs.Policy.{Policy, Policies, never, always, key, all, any, thresh, none, more, list_of, policies_of, joining}
 use Rattle.def_policy.specs.Plain.{join_of, plain, plain_each}
 use Rattle.def_policy.specs.Simple.{decisive, opened, gathered, joined, is_always, is_never, chosen, threshold, simple, simple_each}
 use Rattle.def_policy.proofs.Forms.{Each}
@@ -97,15 +97,10 @@ threshold_printable k xs small h =
 
 mutual
   simple_printable : (p : Policy) → IsPrintable p → IsPrintable (simple p)
-  simple_printable never h = tt
-  simple_printable always h = tt
-  simple_printable (key k) h = h
-  simple_printable (older n) h = h
-  simple_printable (after n) h = h
-  simple_printable (hash kind value) h = h
   simple_printable (all parts) h = parts_printable join.All (simple_each parts) (simple_each_printable parts h)
   simple_printable (any parts) h = parts_printable join.Any (simple_each parts) (simple_each_printable parts h)
   simple_printable (thresh k parts) h = threshold_printable k (simple_each parts) h.0 (simple_each_printable parts h.1)
+  simple_printable p h = h
 
   simple_each_printable : (parts : Policies) → ArePrintable parts → Each IsPrintable (simple_each parts)
   simple_each_printable none h = tt

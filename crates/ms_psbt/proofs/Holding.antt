@@ -65,7 +65,8 @@ module _ (bytes value : Bytes) (places : List ℕ) (h : IsRead bytes value place
   map_at_place k inside =
       let m = map_place front (psbt_seen bytes).inputs (flat_map map_text (psbt_seen bytes).outputs) k inside in
       subst (λ (ps : List ℕ). MapAt bytes (get_or ps k 0) (get_or ps (suc k) 0) (psbt_seen bytes).inputs k) (sym placed)
-      (subst (λ (b : Bytes). MapAt b (get_or (places_of (length front) (psbt_seen bytes).inputs) k 0) (get_or (places_of (length front) (psbt_seen bytes).inputs) (suc k) 0) (psbt_seen bytes).inputs k) (sym whole) m)
+      (subst (λ (b : Bytes). MapAt b (get_or (places_of (length front) (psbt_seen bytes).inputs) k 0)
+      (get_or (places_of (length front) (psbt_seen bytes).inputs) (suc k) 0) (psbt_seen bytes).inputs k) (sym whole) m)
 
   first_is : get_or places 0 0 ≡ length front
   first_is = ap (λ (ps : List ℕ). get_or ps 0 0) placed ∙ first_place (length front) (psbt_seen bytes).inputs
@@ -101,13 +102,15 @@ module _ (bytes value : Bytes) (places : List ℕ) (h : IsRead bytes value place
       let split : bytes ≡ (front ++ flat_map map_text (psbt_seen bytes).inputs) ++ flat_map map_text (psbt_seen bytes).outputs =
       whole ∙ sym (append_assoc front (flat_map map_text (psbt_seen bytes).inputs) (flat_map map_text (psbt_seen bytes).outputs)) in
       let behind : drop (get_or places (length places - 1) 0) bytes ≡ flat_map map_text (psbt_seen bytes).outputs =
-      ap (drop (get_or places (length places - 1) 0)) split ∙ drop_at (front ++ flat_map map_text (psbt_seen bytes).inputs) (flat_map map_text (psbt_seen bytes).outputs) (get_or places (length places - 1) 0) long in
+      ap (drop (get_or places (length places - 1) 0)) split ∙ drop_at (front ++ flat_map map_text (psbt_seen bytes).inputs)
+      (flat_map map_text (psbt_seen bytes).outputs) (get_or places (length places - 1) 0) long in
       let size : length (flat_map map_text (psbt_seen bytes).outputs) ≤ length bytes - get_or places (length places - 1) 0 = omega (arith, last_is, whole_long) in
       ap (take (length bytes - get_or places (length places - 1) 0)) behind ∙ take_all (length bytes - get_or places (length places - 1) 0) (flat_map map_text (psbt_seen bytes).outputs) size
 
   pub sound_at : (k : ℕ) (map : Map) → slice_get (psbt_seen bytes).inputs k ≡ Some map → k < length (psbt_seen bytes).inputs → IsSoundMap input_form [] map
   sound_at k map e inside =
-      subst (λ (m : Map). IsSoundMap input_form [] m) (some_is (get_or (psbt_seen bytes).inputs k []) map (sym (slice_get-get_or (psbt_seen bytes).inputs k [] inside) ∙ e)) (h.sound.inputs k [] inside)
+      subst (λ (m : Map). IsSoundMap input_form [] m) (some_is (get_or (psbt_seen bytes).inputs k []) map
+      (sym (slice_get-get_or (psbt_seen bytes).inputs k [] inside) ∙ e)) (h.sound.inputs k [] inside)
     where
       some_is : (x y : Map) → Some x ≡ Some y → x ≡ y
       some_is x y e = cc

@@ -60,7 +60,8 @@ unfolding first_string first_size first_bytes
 string_back text rest low =
     let assoc : sized text ++ rest ≡ size_bytes (length text) ++ (text ++ rest) = append_assoc (size_bytes (length text)) text rest in
     let read : read_size (size_bytes (length text) ++ (text ++ rest)) ≡ Ok (length text, length (size_bytes (length text))) = size_is_read_back (length text) (text ++ rest) low in
-    let behind : drop (length (size_bytes (length text))) (size_bytes (length text) ++ (text ++ rest)) ≡ text ++ rest = drop_at (size_bytes (length text)) (text ++ rest) (length (size_bytes (length text))) refl in
+    let behind : drop (length (size_bytes (length text))) (size_bytes (length text) ++ (text ++ rest)) ≡ text
+    ++ rest = drop_at (size_bytes (length text)) (text ++ rest) (length (size_bytes (length text))) refl in
     let there : nat_le (length text) (length (text ++ rest)) ≡ true = le-leb _ _ (omega (arith, length-append text rest)) in
     rw (assoc, read, behind, there, take_at text rest (length text) refl, drop_at text rest (length text) refl) refl
 

@@ -103,7 +103,8 @@ many_places at (map ∷ maps) = ap suc (many_places (at + length (map_text map))
 pub last_place : (at : ℕ) (maps : List Map) → get_or (places_of at maps) (length maps) 0 ≡ at + length (flat_map map_text maps)
 last_place at [] = omega arith
 last_place at (map ∷ maps) =
-    let long : length (flat_map map_text (map ∷ maps)) ≡ length (map_text map) + length (flat_map map_text maps) = ap length (flat_map-cons map_text map maps) ∙ length-append (map_text map) (flat_map map_text maps) in
+    let long : length (flat_map map_text (map ∷ maps)) ≡ length (map_text map) + length (flat_map map_text maps) = ap length (flat_map-cons map_text map maps)
+    ∙ length-append (map_text map) (flat_map map_text maps) in
     let last = last_place (at + length (map_text map)) maps in
     omega arith
 
@@ -136,7 +137,8 @@ map_place front (map ∷ maps) back (suc k) inside =
     append_assoc front (map_text map) (flat_map map_text maps ++ back) ∙ ap (λ (x : Bytes). front ++ x) (sym cons) in
     let later : length (front ++ map_text map) ≡ length front + length (map_text map) = length-append front (map_text map) in
     let m = map_place (front ++ map_text map) maps back k (omega arith) in
-    let there : MapAt (front ++ (flat_map map_text (map ∷ maps) ++ back)) (get_or (places_of (length front + length (map_text map)) maps) k 0) (get_or (places_of (length front + length (map_text map)) maps) (suc k) 0) maps k =
+    let there : MapAt (front ++ (flat_map map_text (map ∷ maps) ++ back)) (get_or (places_of (length front + length (map_text map)) maps) k 0)
+    (get_or (places_of (length front + length (map_text map)) maps) (suc k) 0) maps k =
     subst (λ (n : ℕ). MapAt (front ++ (flat_map map_text (map ∷ maps) ++ back)) (get_or (places_of n maps) k 0) (get_or (places_of n maps) (suc k) 0) maps k) later
     (subst (λ (b : Bytes). MapAt b (get_or (places_of (length (front ++ map_text map)) maps) k 0) (get_or (places_of (length (front ++ map_text map)) maps) (suc k) 0) maps k) text m) in
     record { map = there.map; is = there.is; up = there.up; inside = there.inside; text = there.text }
@@ -164,7 +166,8 @@ sound_of_type forms type before (first ∷ map) pair sound e = go (λ e. sound_o
     some_is : (x y : Pair) → Some x ≡ Some y → x ≡ y
     some_is x y e = cc
 
-    go : (pair_of_type type map ≡ Some pair → (type_of pair.key ≡ type) × (shape_fault forms pair ≡ None)) → (b : Bool) → (type_of first.key == type) ≡ b → cond b (Some first) (pair_of_type type map) ≡ Some pair → (type_of pair.key ≡ type) × (shape_fault forms pair ≡ None)
+    go : (pair_of_type type map ≡ Some pair → (type_of pair.key ≡ type) × (shape_fault forms pair ≡ None)) → (b : Bool) → (type_of first.key == type) ≡ b
+        → cond b (Some first) (pair_of_type type map) ≡ Some pair → (type_of pair.key ≡ type) × (shape_fault forms pair ≡ None)
     go again true is e =
         subst (λ (p : Pair). (type_of p.key ≡ type) × (shape_fault forms p ≡ None)) (some_is first pair e)
         (eqb-true _ _ is, unrepeated (stands first.key before) (shape_fault forms first) sound.0.fault)

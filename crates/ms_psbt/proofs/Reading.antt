@@ -69,7 +69,8 @@ stands psbt at total h = go h.room h.read
             >>= λ pair. pairs_at global_form psbt room (h.before ++ pair.0 ∷ []) pair.1 >>= λ pairs. Ok (pair.0 ∷ pairs.0, pairs.1)) ≡ Ok h.rest
             → (pair : Pair × ℕ) × (pair_at psbt at ≡ Ok pair) × (type_of pair.0.key ≡ 0 → total ≡ Some pair.0) × ((type_of pair.0.key ≡ 0 → ⊥) → InMap psbt pair.1 total)
         more size some e =
-            let p = bind_ok (sound_pair_at global_form psbt h.before at) (λ pair. pairs_at global_form psbt room (h.before ++ pair.0 ∷ []) pair.1 >>= λ pairs. Ok (pair.0 ∷ pairs.0, pairs.1)) h.rest (rw some at e) in
+            let p = bind_ok (sound_pair_at global_form psbt h.before at)
+            (λ pair. pairs_at global_form psbt room (h.before ++ pair.0 ∷ []) pair.1 >>= λ pairs. Ok (pair.0 ∷ pairs.0, pairs.1)) h.rest (rw some at e) in
             let q = bind_ok (pair_at psbt at) (λ read. tested (pair_fault global_form h.before read.0) at read) p.0 p.1 in
             let r = bind_ok (pairs_at global_form psbt room (h.before ++ p.0.0 ∷ []) p.0.1) (λ pairs. Ok (p.0.0 ∷ pairs.0, pairs.1)) h.rest p.2 in
             let same : q.0 ≡ p.0 = tested_ok (pair_fault global_form h.before q.0.0) at q.0 p.0 q.2 in
@@ -101,7 +102,8 @@ more_there psbt at total h size e some =
     let same : size ≡ s.0 = ok_is size s.0 (e ∙ s.1) in
     s.2.1 (λ z. some (ap (λ (x : ℕ × ℕ). x.0) same ∙ z))
 
-pub no_pair : (psbt : Bytes) (at : ℕ) (total : Option Pair) → InMap psbt at total → (size : ℕ × ℕ) → Ok size ≡ size_at psbt at → (size.0 ≡ 0 → ⊥) → (refusal : Refusal) → Err refusal ≡ pair_at psbt at → ⊥
+pub no_pair : (psbt : Bytes) (at : ℕ) (total : Option Pair) → InMap psbt at total → (size : ℕ × ℕ) → Ok size ≡ size_at psbt at → (size.0 ≡ 0 → ⊥)
+    → (refusal : Refusal) → Err refusal ≡ pair_at psbt at → ⊥
 no_pair psbt at total h size e some refusal cut = let p = more_there psbt at total h size e some in let is = p.1 in cc
 
 pub found_here : (psbt : Bytes) (at : ℕ) (total : Option Pair) → InMap psbt at total → (size : ℕ × ℕ) → Ok size ≡ size_at psbt at → (size.0 ≡ 0 → ⊥)
@@ -187,7 +189,8 @@ module _ (bytes : Bytes) (after : ℕ) (value : Bytes) (counts : ℕ × ℕ) (g 
   pub inputs_stop : (why : ReadStop) → ReadsOr (λ (end : ℕ). end) (Err why) (end_of (maps_at input_form bytes counts.0 after)) → ReadsOr (λ (psbt : Psbt). psbt) (Err why) (read_psbt bytes)
   unfolding read_psbt
   inputs_stop (stop.Refused refusal) h =
-      let e : maps_at input_form bytes (length g.transaction.inputs) after ≡ Err refusal = ap (λ (n : ℕ). maps_at input_form bytes n after) inputs_count ∙ refused_at (maps_at input_form bytes counts.0 after) refusal h in
+      let e : maps_at input_form bytes (length g.transaction.inputs) after ≡ Err refusal = ap (λ (n : ℕ). maps_at input_form bytes n after) inputs_count
+      ∙ refused_at (maps_at input_form bytes counts.0 after) refusal h in
       let read = g.read in
       let there = g.there in
       rw (read, there, e) refl
@@ -202,7 +205,9 @@ module _ (bytes : Bytes) (after : ℕ) (value : Bytes) (counts : ℕ × ℕ) (g 
     pub outputs_stop : (why : ReadStop) → ReadsOr (λ (end : ℕ). end) (Err why) (end_of (maps_at output_form bytes counts.1 middle)) → ReadsOr (λ (psbt : Psbt). psbt) (Err why) (read_psbt bytes)
     unfolding read_psbt
     outputs_stop (stop.Refused refusal) h =
-        let e : maps_at output_form bytes (length g.transaction.outputs) middle ≡ Err refusal = ap (λ (n : ℕ). maps_at output_form bytes n middle) outputs_count ∙ refused_at (maps_at output_form bytes counts.1 middle) refusal h in
+        let e : maps_at output_form bytes (length g.transaction.outputs) middle
+        ≡ Err refusal = ap (λ (n : ℕ). maps_at output_form bytes n middle) outputs_count ∙ refused_at (maps_at output_form bytes counts.1 middle) refusal h
+        in
         let read = g.read in
         let there = g.there in
         let inputs = inputs_read.1 in
@@ -247,7 +252,9 @@ module _ (bytes : Bytes) (after : ℕ) (value : Bytes) (counts : ℕ × ℕ) (g 
           let small : length bytes < 2 ^ 64 = omega arith in
           let five : 5 ≤ length bytes = magic_long bytes begins in
           let seen : psbt_seen bytes ≡ held = ap (read_or (record { global = []; transaction = record { version = 0; inputs = []; outputs = []; lock_time = 0 }; inputs = []; outputs = [] })) e in
-          let global_is : after ≡ 5 + length (map_text g.global) = ends_behind bytes 5 g.global after (pairs_from global_form bytes (suc (length bytes)) [] 5 (g.global, after) fits small g.read).0 five after_inside in
+          let global_is : after ≡ 5 + length (map_text g.global) =
+          ends_behind bytes 5 g.global after (pairs_from global_form bytes (suc (length bytes)) [] 5
+          (g.global, after) fits small g.read).0 five after_inside in
           let are : starts_from input_form bytes (length g.transaction.inputs) after ++ middle ∷ [] ≡ places_of after inputs_read.0 =
           places_are input_form bytes fits small (length g.transaction.inputs) after (inputs_read.0, middle) inputs_read.1 middle_inside in
           record {

@@ -41,7 +41,8 @@ module _ (keys : Keys) (bytes : Bytes) (order : List ℕ) where
         inside = omega arith;
         same = same;
         is = ap (λ k. get_or order k 0) (sym at);
-        bound = λ k inside e. ⊎_elim (λ below. absurd (h k below e)) (λ above. let last : k + 1 ≡ i = omega arith in subst (λ j. get_or order i 0 ≤ get_or order j 0) (sym last) (omega arith)) (cases_lt (k + 1) i);
+        bound = λ k inside e. ⊎_elim (λ below. absurd (h k below e))
+            (λ above. let last : k + 1 ≡ i = omega arith in subst (λ j. get_or order i 0 ≤ get_or order j 0) (sym last) (omega arith)) (cases_lt (k + 1) i);
       }
   least_same i (Some least) low h same = go (nat_le least (get_or order i 0)) refl
     where
@@ -65,7 +66,8 @@ module _ (keys : Keys) (bytes : Bytes) (order : List ℕ) where
             inside = omega arith;
             same = same;
             is = ap (λ k. get_or order k 0) (sym at);
-            bound = λ k inside e. ⊎_elim (λ early. let bound = h.bound k early e in omega arith) (λ late. let last : k + 1 ≡ i = omega arith in subst (λ j. get_or order i 0 ≤ get_or order j 0) (sym last) (omega arith)) (cases_lt (k + 1) i);
+            bound = λ k inside e. ⊎_elim (λ early. let bound = h.bound k early e in omega arith)
+                (λ late. let last : k + 1 ≡ i = omega arith in subst (λ j. get_or order i 0 ≤ get_or order j 0) (sym last) (omega arith)) (cases_lt (k + 1) i);
           }
 
   pub least_other : (i : ℕ) (o : Option ℕ) → 1 ≤ i → LeastOf keys bytes order i o → (Same (i - 1) → ⊥) → LeastOf keys bytes order (i + 1) o
@@ -151,9 +153,11 @@ first_of : (keys : Keys) (bytes : Bytes) (before : List Bytes) (places : List �
 unfolding repeat_in
 first_of keys bytes before [] = λ j inside. absurd (omega arith)
 first_of keys bytes before (place ∷ places) =
-    go (list_any (bytes_eq (key_at keys bytes place)) before) refl (repeat_in keys bytes (before ++ key_at keys bytes place ∷ []) places) (first_of keys bytes (before ++ key_at keys bytes place ∷ []) places)
+    go (list_any (bytes_eq (key_at keys bytes place)) before) refl (repeat_in keys bytes (before ++ key_at keys bytes place ∷ []) places)
+    (first_of keys bytes (before ++ key_at keys bytes place ∷ []) places)
   where
-    more : list_any (bytes_eq (key_at keys bytes place)) before ≡ false → (o : Option ℕ) → FirstOf keys bytes (before ++ key_at keys bytes place ∷ []) places o → FirstOf keys bytes before (place ∷ places) o
+    more : list_any (bytes_eq (key_at keys bytes place)) before ≡ false → (o : Option ℕ) → FirstOf keys bytes (before ++ key_at keys bytes place ∷ []) places o
+        → FirstOf keys bytes before (place ∷ places) o
     more e None h = λ j inside. step j inside
       where
         step : (j : ℕ) → j < suc (length places) → seen_before keys bytes before (place ∷ places) j ≡ false
@@ -281,7 +285,8 @@ marked_both_ways Equal second marks there back e places places' f g = both_ways 
 marked_both_ways Greater second marks there back e places places' f g = absurd (let no = rw marks at g in cc)
 
 -- what stands between two with one key has it too
-between : (mark : Bytes → ℕ) (key other : Bytes) (m n p : ℕ) → is_lt (rank_cmp (rank_with mark other m) (rank_with mark key n)) ≡ false → is_lt (rank_cmp (rank_with mark key p) (rank_with mark other m)) ≡ false → other ≡ key
+between : (mark : Bytes → ℕ) (key other : Bytes) (m n p : ℕ) → is_lt (rank_cmp (rank_with mark other m) (rank_with mark key n)) ≡ false
+    → is_lt (rank_cmp (rank_with mark key p) (rank_with mark other m)) ≡ false → other ≡ key
 between mark key other m n p f g =
     let eq = marked_both_ways (nat_cmp (mark other) (mark key)) (nat_cmp (mark key) (mark other)) (nat_cmp_total.antisymm (mark key) (mark other))
     (slice_cmp nat_cmp other key) (slice_cmp nat_cmp key other) (nat_list_cmp_total.antisymm key other) (nat_cmp m n) (nat_cmp p m) f g in

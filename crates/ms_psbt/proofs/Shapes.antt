@@ -18,7 +18,8 @@ unfolding shape_fault first_size
 shape_of forms pair = go (read_size pair.key)
   where
     go : (reading : SizeReading)
-        → (if is_typed reading then (if (forms (type_read reading)).key (data_read reading pair.key) then (forms (type_read reading)).value (data_read reading pair.key) pair.value else Some KeyForm) else Some KeyForm)
+        → (if is_typed reading then (if (forms (type_read reading)).key (data_read reading pair.key) then (forms (type_read reading)).value
+        (data_read reading pair.key) pair.value else Some KeyForm) else Some KeyForm)
         ≡ typed forms pair.value (size_part pair.key reading)
     go (Ok read) = refl
     go (Err fault) = refl

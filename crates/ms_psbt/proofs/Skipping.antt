@@ -60,7 +60,8 @@ many_count {A} first (suc count) bytes = go (λ rest. many_count first count res
     more x (Some read) h = ap suc h
     more x None h = tt
 
-    go : ((rest : Bytes) → Counts count (first_many first count rest)) → (part : Part A) → Counts (suc count) (part >>= λ part. first_many first count part.1 >>= λ parts. Some (part.0 ∷ parts.0, parts.1))
+    go : ((rest : Bytes) → Counts count (first_many first count rest)) → (part : Part A)
+        → Counts (suc count) (part >>= λ part. first_many first count part.1 >>= λ parts. Some (part.0 ∷ parts.0, parts.1))
     go h (Some read) = more read.0 (first_many first count read.1) (h read.1)
     go h None = tt
 
@@ -117,11 +118,15 @@ pub input_rest : (bytes : Bytes) → rest_of (first_input bytes) ≡ input_skip 
 unfolding first_input input_skip
 input_rest bytes =
     bind_rest (first_outpoint bytes)
-    (λ outpoint. first_string outpoint.1 >>= λ script_sig. first_number w32 script_sig.1 >>= λ sequence. Some (record { outpoint = outpoint.0; script_sig = script_sig.0; sequence = sequence.0 }, sequence.1))
+    (λ outpoint. first_string outpoint.1 >>= λ script_sig. first_number w32 script_sig.1 >>= λ sequence. Some
+    (record { outpoint = outpoint.0; script_sig = script_sig.0; sequence = sequence.0 }, sequence.1))
     (λ rest. rest_of (first_string rest) >>= λ rest. rest_of (first_bytes 4 rest))
-    (λ outpoint. string_then outpoint.1 (λ script_sig. first_number w32 script_sig.1 >>= λ sequence. Some (record { outpoint = outpoint.0; script_sig = script_sig.0; sequence = sequence.0 }, sequence.1)) (λ rest. rest_of (first_bytes 4 rest))
-    (λ script_sig. last (first_number w32 script_sig.1) (λ sequence. let i : TransactionInput = record { outpoint = outpoint.0; script_sig = script_sig.0; sequence = sequence } in i) ∙ number_rest w32 script_sig.1))
-    ∙ joined (rest_of (first_outpoint bytes)) (rest_of (first_bytes 32 bytes)) (λ id. rest_of (first_bytes 4 id)) (λ rest. rest_of (first_string rest) >>= λ rest. rest_of (first_bytes 4 rest)) (outpoint_rest bytes)
+    (λ outpoint. string_then outpoint.1 (λ script_sig. first_number w32 script_sig.1 >>= λ sequence. Some
+    (record { outpoint = outpoint.0; script_sig = script_sig.0; sequence = sequence.0 }, sequence.1)) (λ rest. rest_of (first_bytes 4 rest))
+    (λ script_sig. last (first_number w32 script_sig.1) (λ sequence. let i : TransactionInput =
+    record { outpoint = outpoint.0; script_sig = script_sig.0; sequence = sequence } in i) ∙ number_rest w32 script_sig.1))
+    ∙ joined (rest_of (first_outpoint bytes)) (rest_of (first_bytes 32 bytes)) (λ id. rest_of (first_bytes 4 id))
+    (λ rest. rest_of (first_string rest) >>= λ rest. rest_of (first_bytes 4 rest)) (outpoint_rest bytes)
 
 pub output_rest : (bytes : Bytes) → rest_of (first_output bytes) ≡ output_skip bytes
 unfolding first_output output_skip
@@ -153,7 +158,9 @@ sides_rest bytes = go (first_list first_input bytes) ∙ ap (λ (inputs : Option
 
     go : (part : Part (List TransactionInput)) → sides_counted (part >>= λ inputs. first_list first_output inputs.1 >>= λ outputs. Some ((inputs.0, outputs.0), outputs.1))
         ≡ (counted_part part >>= behind)
-    go (Some read) = ends read.0 (first_list first_output read.1) ∙ ap (λ (o : Option (ℕ × Bytes)). o >>= λ outputs. Some ((length read.0, outputs.0), outputs.1)) (list_rest first_output (skip_of kind.Output) output_rest read.1)
+    go (Some read) = ends read.0 (first_list first_output read.1)
+        ∙ ap (λ (o : Option (ℕ × Bytes)). o >>= λ outputs. Some ((length read.0, outputs.0), outputs.1))
+        (list_rest first_output (skip_of kind.Output) output_rest read.1)
     go None = refl
 
 -- ---- whole parts

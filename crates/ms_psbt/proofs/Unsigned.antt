@@ -162,8 +162,10 @@ outpoint_some bytes part fits e =
 pub input_shape : (bytes : Bytes) (part : TransactionInput × Bytes) → IsBytes bytes → first_input bytes ≡ Some part → Empty bytes part.0 part.1 ⊎ Filled bytes part.0
 unfolding first_input
 input_shape bytes part fits e =
-    let a = bind_some (first_outpoint bytes) (λ outpoint. first_string outpoint.1 >>= λ script_sig. first_number w32 script_sig.1 >>= λ sequence. Some (record { outpoint = outpoint.0; script_sig = script_sig.0; sequence = sequence.0 }, sequence.1)) part e in
-    let b = bind_some (first_string a.0.1) (λ script_sig. first_number w32 script_sig.1 >>= λ sequence. Some (record { outpoint = a.0.0; script_sig = script_sig.0; sequence = sequence.0 }, sequence.1)) part a.2 in
+    let a = bind_some (first_outpoint bytes) (λ outpoint. first_string outpoint.1 >>= λ script_sig. first_number w32 script_sig.1 >>= λ sequence. Some
+    (record { outpoint = outpoint.0; script_sig = script_sig.0; sequence = sequence.0 }, sequence.1)) part e in
+    let b = bind_some (first_string a.0.1) (λ script_sig. first_number w32 script_sig.1 >>= λ sequence. Some
+    (record { outpoint = a.0.0; script_sig = script_sig.0; sequence = sequence.0 }, sequence.1)) part a.2 in
     let c = bind_some (first_number w32 b.0.1) (λ sequence. Some (record { outpoint = a.0.0; script_sig = b.0.0; sequence = sequence.0 }, sequence.1)) part b.2 in
     let outpoint = outpoint_some bytes a.0 fits a.1 in
     let text = string_some a.0.1 b.0 b.1 in
@@ -211,7 +213,8 @@ StandsAt bytes at inputs None = list_all has_no_script_sig inputs ≡ false
 drop_fits : (n : ℕ) (bytes : Bytes) → IsBytes bytes → IsBytes (drop n bytes)
 drop_fits n bytes h i = rw get_or-drop (h (n + i))
 
-pub stand : (bytes : Bytes) → IsBytes bytes → (count at : ℕ) (part : List TransactionInput × Bytes) → first_many first_input count (drop at bytes) ≡ Some part → StandsAt bytes at part.0 (empties bytes count at)
+pub stand : (bytes : Bytes) → IsBytes bytes → (count at : ℕ) (part : List TransactionInput × Bytes) → first_many first_input count (drop at bytes) ≡ Some part
+    → StandsAt bytes at part.0 (empties bytes count at)
 unfolding first_many empties
 stand bytes fits zero at part e =
     subst (λ (p : List TransactionInput × Bytes). Standing bytes at p.0 []) (some_is ([], drop at bytes) part e)
@@ -385,7 +388,8 @@ twice_seen keys bytes before (place ∷ places) =
         → is_some (cond b (Some place) (repeat_in keys bytes (before ++ key_at keys bytes place ∷ []) places))
         ≡ ((b || any_in before (map (key_at keys bytes) places)) || (list_any (bytes_eq (key_at keys bytes place)) (map (key_at keys bytes) places) || stands_twice (map (key_at keys bytes) places)))
     go true h = refl
-    go false h = h ∙ regroup (any_in before (map (key_at keys bytes) places)) (list_any (bytes_eq (key_at keys bytes place)) (map (key_at keys bytes) places)) (stands_twice (map (key_at keys bytes) places))
+    go false h = h ∙ regroup (any_in before (map (key_at keys bytes) places)) (list_any (bytes_eq (key_at keys bytes place)) (map (key_at keys bytes) places))
+        (stands_twice (map (key_at keys bytes) places))
 
 none_before : (keys : List Bytes) → any_in [] keys ≡ false
 none_before [] = refl

@@ -131,7 +131,8 @@ module _ (forms : ℕ → Form) (psbt : Bytes) where
 
       fault : (read : Pair × ℕ) → pair_at psbt at ≡ Ok read → ((before : Map) (at : ℕ) → end_of (pairs_at forms psbt room before at) ≡ comes_to psbt (keys_of before) (walk_from forms psbt room at))
           → (o : Option PsbtFault) → shape_fault forms read.0 ≡ o
-          → end_of (tested (cond (stands read.0.key before) (Some RepeatedKey) o) at read >>= λ pair. pairs_at forms psbt room (before ++ pair.0 ∷ []) pair.1 >>= λ pairs. Ok (pair.0 ∷ pairs.0, pairs.1))
+          → end_of (tested (cond (stands read.0.key before) (Some RepeatedKey) o) at read >>= λ pair. pairs_at forms psbt room
+          (before ++ pair.0 ∷ []) pair.1 >>= λ pairs. Ok (pair.0 ∷ pairs.0, pairs.1))
           ≡ comes_to psbt (keys_of before) (walk_step at (after_test o read.0.key at read.1) (walk_from forms psbt room))
       fault read is again (Some why) shape =
           go (stands read.0.key before) refl ∙ sym (comes_behind psbt (keys_of before) at (ended (Err (At why at))))
@@ -141,7 +142,8 @@ module _ (forms : ℕ → Form) (psbt : Bytes) where
 
           go : (b : Bool) → stands read.0.key before ≡ b
               → end_of (tested (cond b (Some RepeatedKey) (Some why)) at read >>= λ pair. pairs_at forms psbt room (before ++ pair.0 ∷ []) pair.1 >>= λ pairs. Ok (pair.0 ∷ pairs.0, pairs.1))
-              ≡ cond (list_any (bytes_eq (key_at keys.Pairs psbt at)) (keys_of before)) (Err (At RepeatedKey at)) (comes_to psbt (keys_of before ++ key_at keys.Pairs psbt at ∷ []) (ended (Err (At why at))))
+              ≡ cond (list_any (bytes_eq (key_at keys.Pairs psbt at)) (keys_of before)) (Err (At RepeatedKey at))
+              (comes_to psbt (keys_of before ++ key_at keys.Pairs psbt at ∷ []) (ended (Err (At why at))))
           go true e = let yes = same ∙ e in rw yes refl
           go false e = let no = same ∙ e in rw no (comes_ended psbt (keys_of before ++ key_at keys.Pairs psbt at ∷ []) (Err (At why at)))
       fault read is again None shape =
@@ -155,7 +157,8 @@ module _ (forms : ℕ → Form) (psbt : Bytes) where
 
           go : (b : Bool) → stands read.0.key before ≡ b
               → end_of (tested (cond b (Some RepeatedKey) None) at read >>= λ pair. pairs_at forms psbt room (before ++ pair.0 ∷ []) pair.1 >>= λ pairs. Ok (pair.0 ∷ pairs.0, pairs.1))
-              ≡ cond (list_any (bytes_eq (key_at keys.Pairs psbt at)) (keys_of before)) (Err (At RepeatedKey at)) (comes_to psbt (keys_of before ++ key_at keys.Pairs psbt at ∷ []) (walk_from forms psbt room read.1))
+              ≡ cond (list_any (bytes_eq (key_at keys.Pairs psbt at)) (keys_of before)) (Err (At RepeatedKey at))
+              (comes_to psbt (keys_of before ++ key_at keys.Pairs psbt at ∷ []) (walk_from forms psbt room read.1))
           go true e = let yes = same ∙ e in rw yes refl
           go false e =
               let no = same ∙ e in

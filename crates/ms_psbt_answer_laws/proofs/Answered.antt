@@ -1,10 +1,9 @@
 -- The answer, computed: each witness script is read by the reader of Scripts.
-use Rattle.std.proofs.Common.{◌≡◌, zero, suc, ◌<◌, ◌&&◌, nat_lt, Bool, true, List, [], ◌∷◌, map, All, Option, Some, None, Result, Ok, Err, refl, sym, ap, arith}
+use Rattle.std.proofs.Common.{◌≡◌, zero, suc, Bool, true, List, [], ◌∷◌, map, All, Option, Some, None, Result, Ok, Err, refl, sym, ap, arith}
 use Rattle.std.specs.Bool.{Decides}
 use Rattle.std.specs.List.{list_all}
-use Rattle.std.proofs.lemmas.Bool.Decides.{Decides-and, Decides-like, Decides-ltb, Decides-by_and}
-use Rattle.def_script.specs.Bytes.{Bytes, IsBytes}
-use Rattle.def_script.specs.Key.{is_key}
+use Rattle.std.proofs.lemmas.Bool.Decides.{Decides-by_and}
+use Rattle.def_script.specs.Bytes.{Bytes}
 use Rattle.def_tree.specs.Tree.{Key, Tree}
 use Rattle.def_tree.specs.Range.{IsKey}
 use Rattle.def_psbt.specs.declared.Refusal.{Refusal}
@@ -14,7 +13,7 @@ use Rattle.def_spend.specs.declared.State.{State}
 use Rattle.def_spend.specs.Fields.{keys_in}
 use Rattle.def_spend.specs.Input.{Spend, spends_of}
 use Rattle.def_spend.specs.Reading.{Input, witness_script, ReadsAs, HasReading, AreInputs}
-use Rattle.ms_answer_laws.proofs.Decided.{decided, decided_is, decided_not}
+use Rattle.ms_answer_laws.proofs.Decided.{decided, decided_is, decided_not, is_key_bytes, keys_tell}
 use Rattle.def_psbt_answer.specs.declared.status.Status.{Status}
 use Rattle.def_psbt_answer.specs.declared.words.Command.{Command}
 use Rattle.def_psbt_answer.specs.Words.{command_of}
@@ -69,23 +68,6 @@ words_reply (Some command) source = source_reply command (form_of source) (psbt_
 words_reply None source = usage_reply
 
 -- ---- keys of literals
-
-bytes_tell : (xs : Bytes) → Decides (list_all (λ b. nat_lt b 256) xs) (IsBytes xs)
-bytes_tell [] = (λ e i. omega arith, λ h. refl)
-bytes_tell (x ∷ xs) = Decides-like _ to (λ h. (h 0, λ i. h (suc i))) (Decides-and (nat_lt x 256) _ (Decides-ltb x 256) (bytes_tell xs))
-  where
-    to : (x < 256) × IsBytes xs → IsBytes (x ∷ xs)
-    to h zero = h.0
-    to h (suc i) = h.1 i
-
-abbrev pub is_key_bytes : Bytes → Bool
-is_key_bytes key = is_key key && list_all (λ b. nat_lt b 256) key
-
-key_tells : (key : Key) → Decides (is_key_bytes key) (IsKey key)
-key_tells key = Decides-like _ (λ h. record { form = h.0; bytes = h.1 }) (λ h. (h.form, h.bytes)) (Decides-and (is_key key) _ (λ e. e, λ e. e) (bytes_tell key))
-
-keys_tell : (keys : List Key) → Decides (list_all is_key_bytes keys) (All IsKey keys)
-keys_tell keys = Decides-by_and is_key_bytes IsKey (list_all is_key_bytes) key_tells refl (λ x xs. refl) keys
 
 abbrev pub has_keys : Spend → Bool
 has_keys spend = list_all is_key_bytes (keys_in spend.fields)

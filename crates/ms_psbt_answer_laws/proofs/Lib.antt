@@ -1,5 +1,4 @@
 pub mod Answered
 pub mod Computing
-mod Computed
 pub mod Unique
 pub mod Written

@@ -37,14 +37,13 @@ one_reading input other h k same =
 
 one_list : (a b : List Input) → map (λ input. input.spend) a ≡ map (λ input. input.spend) b → All HasReading a → All HasReading b → a ≡ b
 one_list [] [] e h k = refl
-one_list [] (y ∷ ys) e h k = cc
-one_list (x ∷ xs) [] e h k = cc
 one_list (x ∷ xs) (y ∷ ys) e h k =
     let head : x.spend ≡ y.spend = cc in
     let tail : map (λ input. input.spend) xs ≡ map (λ input. input.spend) ys = cc in
     let first = one_reading x y (h 0 x (omega arith)) (k 0 y (omega arith)) head in
     let rest = one_list xs ys tail (λ i d lt. h (suc i) d (omega arith)) (λ i d lt. k (suc i) d (omega arith)) in
     ap (λ z. z ∷ xs) first ∙ ap (λ zs. y ∷ zs) rest
+one_list a b e h k = cc
 
 pub one_inputs : (psbt : Psbt) (a b : List Input) → AreInputs psbt a → AreInputs psbt b → a ≡ b
 one_inputs psbt a b h k = one_list a b (h.spends ∙ sym k.spends) h.read k.read
@@ -52,15 +51,13 @@ one_inputs psbt a b h k = one_list a b (h.spends ∙ sym k.spends) h.read k.read
 -- the input with a number, once it is read
 read_at : (inputs : List Input) (spends : List Spend) (number : ℕ) (input : Input) → map (λ input. input.spend) inputs ≡ spends → All HasReading inputs
     → slice_get spends number ≡ Some input.spend → HasReading input → slice_get inputs number ≡ Some input
-read_at [] [] number input e h is read = absurd cc
-read_at [] (spend ∷ spends) number input e h is read = absurd cc
-read_at (x ∷ xs) [] number input e h is read = absurd cc
 read_at (x ∷ xs) (spend ∷ spends) zero input e h is read =
     let same : x.spend ≡ input.spend = cc in
     ap Some (one_reading x input (h 0 x (omega arith)) read same)
 read_at (x ∷ xs) (spend ∷ spends) (suc number) input e h is read =
     let rest : map (λ input. input.spend) xs ≡ spends = cc in
     read_at xs spends number input rest (λ i d lt. h (suc i) d (omega arith)) is read
+read_at inputs spends number input e h is read = absurd cc
 
 pub input_at : (psbt : Psbt) (inputs : List Input) (number : ℕ) (input : Input) → AreInputs psbt inputs
     → slice_get (spends_of psbt) number ≡ Some input.spend → HasReading input → slice_get inputs number ≡ Some input

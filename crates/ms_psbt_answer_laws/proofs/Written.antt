@@ -1,9 +1,11 @@
 -- What is written of inputs, and of those that were written.
-use Rattle.std.proofs.Common.{◌≡◌, ℕ, zero, suc, ◌+◌, ◌^◌, ◌==◌, nat_lt, Bool, true, false, not, ◌&&◌, ◌||◌, cond, List, [], ◌∷◌, ◌++◌, map, filter, find, All, length, Some, Err, if◌then◌else◌, refl, sym, ◌∙◌, ap, subst, arith}
+use Rattle.std.proofs.Common.{◌≡◌, ℕ, zero, suc, ◌+◌, ◌^◌, ◌==◌, nat_lt, Bool, true, false, not, ◌&&◌, ◌||◌, List, [], ◌∷◌, ◌++◌, map, filter, find, All, length, Some, Err, if◌then◌else◌, refl, sym, ◌∙◌, ap, subst, arith, inl, inr}
+use Rattle.std.proofs.lemmas.List.Elements.{filter-append}
+use Rattle.std.proofs.Math.Bool.{or-true}
 use Rattle.std.specs.Option.{option_map}
 use Rattle.std.specs.Int.{w16, w32, w64, to_le_bytes}
 use Rattle.std.specs.Str.{bytes_eq}
-use Rattle.std.proofs.lemmas.Bool.{eqb-true}
+use Rattle.std.proofs.lemmas.Bool.{cases_Bool, ne_eqb}
 use Rattle.std.proofs.lemmas.List.{append-nil}
 use Rattle.def_script.specs.Bytes.{Bytes}
 use Rattle.def_script.specs.Sizes.{size_bytes, read_size}
@@ -25,23 +27,11 @@ use Rattle.ms_psbt_answer_laws.proofs.Unique.{one_reading}
 pub leaves_others : LeavesOthers
 leaves_others input e = ap (λ b. if b then final_map input.spend.fields (witness_of input) else input.spend.fields) e
 
-filter-append : (test : Pair → Bool) (xs ys : Map) → filter test (xs ++ ys) ≡ filter test xs ++ filter test ys
-filter-append test [] ys = refl
-filter-append test (x ∷ xs) ys = go (test x) (filter-append test xs ys)
-  where
-    go : (b : Bool) → filter test (xs ++ ys) ≡ filter test xs ++ filter test ys
-        → cond b (x ∷ filter test (xs ++ ys)) (filter test (xs ++ ys)) ≡ cond b (x ∷ filter test xs) (filter test xs) ++ filter test ys
-    go true rest = ap (λ l. x ∷ l) rest
-    go false rest = rest
-
 filter-filter : (test : Pair → Bool) (xs : Map) → filter test (filter test xs) ≡ filter test xs
 filter-filter test [] = refl
-filter-filter test (x ∷ xs) = go (test x) refl (filter-filter test xs)
-  where
-    go : (b : Bool) → test x ≡ b → filter test (filter test xs) ≡ filter test xs
-        → filter test (cond b (x ∷ filter test xs) (filter test xs)) ≡ cond b (x ∷ filter test xs) (filter test xs)
-    go true e rest = ap (λ b. cond b (x ∷ filter test (filter test xs)) (filter test (filter test xs))) e ∙ ap (λ l. x ∷ l) rest
-    go false e rest = rest
+filter-filter test (x ∷ xs) =
+    let rest = filter-filter test xs in
+    elim (cases_Bool (test x)) [ inl e ↦ rw (e, e) (ap (λ l. x ∷ l) rest) | inr e ↦ rw e rest ]
 
 kept_of_final : (fields : Map) (witness : Bytes) → filter is_kept (final_map fields witness) ≡ filter is_kept fields
 unfolding read_size
@@ -51,38 +41,25 @@ kept_of_final fields witness =
     ∙ filter-filter is_kept fields
 
 pub keeps_pairs : KeepsPairs
-keeps_pairs input = go (is_ready (state_of input))
-  where
-    go : (b : Bool) → filter is_kept (if b then final_map input.spend.fields (witness_of input) else input.spend.fields) ≡ filter is_kept input.spend.fields
-    go true = kept_of_final input.spend.fields (witness_of input)
-    go false = refl
+keeps_pairs input = elim (cases_Bool (is_ready (state_of input))) [
+  | inl e ↦ rw e (kept_of_final input.spend.fields (witness_of input))
+  | inr e ↦ rw e refl
+]
 
 -- no pair that is kept is a final witness
 kept_other : (type : ℕ) → not (is_cleared type) ≡ true → (type == FINAL_SCRIPTWITNESS) ≡ false
-kept_other type kept = go (type == FINAL_SCRIPTWITNESS) refl
-  where
-    go : (b : Bool) → (type == FINAL_SCRIPTWITNESS) ≡ b → b ≡ false
-    go false e = refl
-    go true e = let no : false ≡ true = subst (λ t. not (is_cleared t) ≡ true) (eqb-true type FINAL_SCRIPTWITNESS e) kept in cc
+kept_other type kept = ne_eqb type FINAL_SCRIPTWITNESS (λ same.
+    let no : false ≡ true = subst (λ t. not (is_cleared t) ≡ true) same kept in cc)
 
 find_final : (fields : Map) (witness : Bytes) → find (has_type FINAL_SCRIPTWITNESS) (final_map fields witness) ≡ Some (witness_pair witness)
 unfolding read_size
 find_final [] witness = refl
-find_final (x ∷ xs) witness = go (is_kept x) refl (find_final xs witness)
-  where
-    go : (b : Bool) → is_kept x ≡ b → find (has_type FINAL_SCRIPTWITNESS) (final_map xs witness) ≡ Some (witness_pair witness)
-        → find (has_type FINAL_SCRIPTWITNESS) (cond b (x ∷ filter is_kept xs) (filter is_kept xs) ++ witness_pair witness ∷ []) ≡ Some (witness_pair witness)
-    go false e rest = rest
-    go true e rest =
-        ap (λ b. cond b (Some x) (find (has_type FINAL_SCRIPTWITNESS) (filter is_kept xs ++ witness_pair witness ∷ []))) (kept_other (type_of x.key) e)
-        ∙ rest
-
-suc_not_zero : (n : ℕ) → (suc n == 0) ≡ false
-suc_not_zero n = go (suc n == 0) refl
-  where
-    go : (b : Bool) → (suc n == 0) ≡ b → b ≡ false
-    go false e = refl
-    go true e = absurd (omega (arith, eqb-true (suc n) 0 e))
+find_final (x ∷ xs) witness =
+    let rest = find_final xs witness in
+    elim (cases_Bool (is_kept x)) [
+      | inl kept ↦ rw (kept, kept_other (type_of x.key) kept) rest
+      | inr cleared ↦ rw cleared rest
+    ]
 
 -- a witness with an item
 first_not_zero : (n : ℕ) (rest : Bytes) → bytes_eq (size_bytes (suc n) ++ rest) (0x00 ∷ []) ≡ false
@@ -93,7 +70,7 @@ first_not_zero n rest = go (nat_lt (suc n) 0xfd) (nat_lt (suc n) (2 ^ 16)) (nat_
         else if b then 0xfd ∷ to_le_bytes w16 (suc n)
         else if c then 0xfe ∷ to_le_bytes w32 (suc n)
         else 0xff ∷ to_le_bytes w64 (suc n)) ++ rest) (0x00 ∷ []) ≡ false
-    go true b c = ap (λ e. e && bytes_eq rest []) (suc_not_zero n)
+    go true b c = ap (λ e. e && bytes_eq rest []) (ne_eqb (suc n) 0 (λ e. omega (arith, e)))
     go false true c = refl
     go false false true = refl
     go false false false = refl
@@ -107,11 +84,7 @@ final_is_final input =
     let fields = final_map input.spend.fields (witness_of input) in
     let found = ap (option_map (λ (pair : Pair). pair.value)) (find_final input.spend.fields (witness_of input)) in
     let item = ap has_item found ∙ ap not (has_witness _ _) in
-    ap (λ b. has_byte (field FINAL_SCRIPTSIG fields) || b) item ∙ or_true (has_byte (field FINAL_SCRIPTSIG fields))
-  where
-    or_true : (b : Bool) → (b || true) ≡ true
-    or_true true = refl
-    or_true false = refl
+    ap (λ b. has_byte (field FINAL_SCRIPTSIG fields) || b) item ∙ or-true (has_byte (field FINAL_SCRIPTSIG fields))
 
 -- ---- inputs that were written
 
@@ -139,11 +112,10 @@ other_stays input again h k same closed =
     (ap (λ x. is_ready (state_of x)) one ∙ closed, ap written_map one)
 
 stays : (input again : Input) → HasReading input → HasReading again → again.spend ≡ with_fields input.spend (written_map input) → Stays input again
-stays input again h k same = go (is_ready (state_of input)) refl
-  where
-    go : (b : Bool) → is_ready (state_of input) ≡ b → Stays input again
-    go true e = final_stays input again same e
-    go false e = other_stays input again h k same e
+stays input again h k same = elim (cases_Bool (is_ready (state_of input))) [
+  | inl e ↦ final_stays input again same e
+  | inr e ↦ other_stays input again h k same e
+]
 
 -- each input that was written, beside what it was
 abbrev pub EachStays : List Input → List Input → Type 0
@@ -157,13 +129,7 @@ each_stays : (transaction : Transaction) (number : ℕ) (ins : List TransactionI
     → map (λ input. input.spend) ys ≡ spends_from transaction number ins (map written_map xs)
     → All HasReading xs → All HasReading ys → EachStays xs ys
 each_stays transaction number [] maps [] [] e f h k = tt
-each_stays transaction number [] maps (x ∷ xs) ys e f h k = cc
-each_stays transaction number [] maps [] (y ∷ ys) e f h k = cc
 each_stays transaction number (i ∷ ins) [] [] [] e f h k = tt
-each_stays transaction number (i ∷ ins) [] [] (y ∷ ys) e f h k = cc
-each_stays transaction number (i ∷ ins) [] (x ∷ xs) ys e f h k = cc
-each_stays transaction number (i ∷ ins) (m ∷ maps) [] ys e f h k = cc
-each_stays transaction number (i ∷ ins) (m ∷ maps) (x ∷ xs) [] e f h k = cc
 each_stays transaction number (i ∷ ins) (m ∷ maps) (x ∷ xs) (y ∷ ys) e f h k =
     let here : x.spend ≡ record { transaction = transaction; number = number; input = i; fields = m } = cc in
     let there : y.spend ≡ record { transaction = transaction; number = number; input = i; fields = written_map x } = cc in
@@ -173,6 +139,7 @@ each_stays transaction number (i ∷ ins) (m ∷ maps) (x ∷ xs) (y ∷ ys) e f
       stays x y (h 0 x (omega arith)) (k 0 y (omega arith)) same,
       each_stays transaction (number + 1) ins maps xs ys rest behind (λ n d lt. h (suc n) d (omega arith)) (λ n d lt. k (suc n) d (omega arith)),
     )
+each_stays transaction number ins maps xs ys e f h k = absurd cc
 
 none_ready : (xs ys : List Input) → EachStays xs ys → All (λ input. is_ready (state_of input) ≡ false) ys
 none_ready [] [] h k d lt = absurd (omega (arith, lt))

@@ -1,9 +1,10 @@
 -- What `finalize` wrote is a source, to which it answers as before.
-use Rattle.std.proofs.Common.{◌≡◌, ℕ, ◌+◌, ◌≤◌, ◌==◌, ◌&&◌, ◌||◌, Bool, true, false, not, cond, List, [], ◌∷◌, ◌++◌, length, map, filter, find, Some, None, Ok, Err, if◌then◌else◌, refl, sym, ap, subst, ◌∙◌, arith}
+use Rattle.std.proofs.Common.{◌≡◌, ℕ, ◌+◌, ◌≤◌, ◌==◌, ◌&&◌, ◌||◌, Bool, true, false, not, List, [], ◌∷◌, length, map, find, inl, inr, Some, None, Ok, Err, if◌then◌else◌, refl, sym, ap, subst, ◌∙◌, arith}
 use Rattle.std.specs.List.{AllByRecursion, list_all}
 use Rattle.std.specs.Option.{option_map}
 use Rattle.std.specs.Str.{bytes_eq}
-use Rattle.std.proofs.lemmas.Bool.{eqb-true, false≢true}
+use Rattle.std.proofs.Math.Bool.{or-true}
+use Rattle.std.proofs.lemmas.Bool.{ne_eqb, cases_Bool, false_from_ne_true, false≢true}
 use Rattle.std.proofs.lemmas.List.{length-append}
 use Rattle.std.proofs.lemmas.List.Elements.{All-from_recursion, recursion_from_All}
 use Rattle.std.proofs.lemmas.Slice.Eq.{bytes_eq-Decides}
@@ -44,24 +45,18 @@ use Rattle.ms_psbt_laws.proofs.Sources.{source_back, form_back}
 
 -- no pair that is kept has a type that is cleared
 kept_other : (cleared type : ℕ) → is_cleared cleared ≡ true → not (is_cleared type) ≡ true → (type == cleared) ≡ false
-kept_other cleared type is kept = go (type == cleared) refl
-  where
-    go : (b : Bool) → (type == cleared) ≡ b → b ≡ false
-    go false e = refl
-    go true e =
-        let same : type ≡ cleared = eqb-true type cleared e in
-        absurd (false≢true (ap not (sym is) ∙ ap (λ (t : ℕ). not (is_cleared t)) (sym same) ∙ kept))
+kept_other cleared type is kept =
+    ne_eqb type cleared (λ same. false≢true (ap not (sym is) ∙ ap (λ (t : ℕ). not (is_cleared t)) (sym same) ∙ kept))
 
 -- so of such a type there is what the final witness is
 found_behind : (cleared : ℕ) → is_cleared cleared ≡ true → (fields : Map) (witness : Bytes) → find (has_type cleared) (final_map fields witness) ≡ find (has_type cleared) (witness_pair witness ∷ [])
 found_behind cleared is [] witness = refl
-found_behind cleared is (x ∷ xs) witness = go (is_kept x) refl (found_behind cleared is xs witness)
-  where
-    go : (b : Bool) → is_kept x ≡ b → find (has_type cleared) (final_map xs witness) ≡ find (has_type cleared) (witness_pair witness ∷ [])
-        → find (has_type cleared) (cond b (x ∷ filter is_kept xs) (filter is_kept xs) ++ witness_pair witness ∷ []) ≡ find (has_type cleared) (witness_pair witness ∷ [])
-    go false e rest = rest
-    go true e rest =
-        ap (λ b. cond b (Some x) (find (has_type cleared) (filter is_kept xs ++ witness_pair witness ∷ []))) (kept_other cleared (type_of x.key) is e) ∙ rest
+found_behind cleared is (x ∷ xs) witness =
+    let rest = found_behind cleared is xs witness in
+    elim (cases_Bool (is_kept x)) [
+      | inl kept ↦ rw (kept, kept_other cleared (type_of x.key) is kept) rest
+      | inr other ↦ rw other rest
+    ]
 
 final_field : (fields : Map) (witness : Bytes) → field FINAL_SCRIPTWITNESS (final_map fields witness) ≡ Some witness
 unfolding read_size
@@ -80,19 +75,11 @@ same_items : (one other : List Bytes) → Some one ≡ Some other → one ≡ ot
 same_items one other e = cc
 
 some_item : (w : Bytes) (items : List Bytes) → forms.witness_of w ≡ Some items → 1 ≤ length items → bytes_eq w (0x00 ∷ []) ≡ false
-some_item w items read some = go (bytes_eq w (0x00 ∷ [])) refl
-  where
-    go : (b : Bool) → bytes_eq w (0x00 ∷ []) ≡ b → b ≡ false
-    go false e = refl
-    go true e =
-        let same = (bytes_eq-Decides w (0x00 ∷ [])).0 e in
-        let empty : Some [] ≡ Some items = sym no_items ∙ ap forms.witness_of (sym same) ∙ read in
-        let long : 0 ≡ length items = ap length (same_items [] items empty) in
-        absurd (omega (arith, long, some))
-
-or_true : (b : Bool) → (b || true) ≡ true
-or_true true = refl
-or_true false = refl
+some_item w items read some = false_from_ne_true _ (λ e.
+    let same = (bytes_eq-Decides w (0x00 ∷ [])).0 e in
+    let empty : Some [] ≡ Some items = sym no_items ∙ ap forms.witness_of (sym same) ∙ read in
+    let long : 0 ≡ length items = ap length (same_items [] items empty) in
+    omega (arith, long, some))
 
 made_final : (input : Input) → IsFinalWitness input → has_final (final_map input.spend.fields (witness_of input)) ≡ true
 made_final input w =
@@ -101,7 +88,7 @@ made_final input w =
     let other = some_item (witness_of input) (all_items (stack_of input) w.script) (ap forms.witness_of w.is ∙ items) (omega (arith, length-append (stack_of input) (w.script ∷ []))) in
     let item : has_item (field FINAL_SCRIPTWITNESS (final_map input.spend.fields (witness_of input))) ≡ true = ap has_item (final_field input.spend.fields (witness_of input)) ∙ ap not other in
     ap (λ b. has_byte (field FINAL_SCRIPTSIG (final_map input.spend.fields (witness_of input))) || b) item
-    ∙ or_true (has_byte (field FINAL_SCRIPTSIG (final_map input.spend.fields (witness_of input))))
+    ∙ or-true (has_byte (field FINAL_SCRIPTSIG (final_map input.spend.fields (witness_of input))))
 
 -- a Ready input is made final
 is_made_final : (input : Input) → IsGiven input → is_ready (state_of input) ≡ true → IsMadeFinal input
@@ -135,7 +122,7 @@ settled_again input again given read same = go (is_ready (state_of input)) refl
         let final = ap has_final fields ∙ made_final input (final_witness input given e) in
         let is = ap (λ b. state_by (if b then Err state.Final else script_of_utxo (utxo_of again.spend.input.outpoint again.spend.fields) again.spend.fields) again.tree again.spend) final in
         let one : is_settled again ≡ true = ap (λ s. is_final s || is_ready s) is in
-        let two : is_settled input ≡ true = ap (λ b. is_final (state_of input) || b) e ∙ or_true (is_final (state_of input)) in
+        let two : is_settled input ≡ true = ap (λ b. is_final (state_of input) || b) e ∙ or-true (is_final (state_of input)) in
         one ∙ sym two
 
 all_settled : (transaction : Transaction) (number : ℕ) (ins : List TransactionInput) (maps : List Map) (xs ys : List Input)
@@ -143,13 +130,7 @@ all_settled : (transaction : Transaction) (number : ℕ) (ins : List Transaction
     → map (λ input. input.spend) ys ≡ spends_from transaction number ins (map written_map xs)
     → AllByRecursion IsGiven xs → AllByRecursion HasReading ys → list_all is_settled ys ≡ list_all is_settled xs
 all_settled transaction number [] maps [] [] e f h k = refl
-all_settled transaction number [] maps (x ∷ xs) ys e f h k = absurd cc
-all_settled transaction number [] maps [] (y ∷ ys) e f h k = absurd cc
 all_settled transaction number (i ∷ ins) [] [] [] e f h k = refl
-all_settled transaction number (i ∷ ins) [] [] (y ∷ ys) e f h k = absurd cc
-all_settled transaction number (i ∷ ins) [] (x ∷ xs) ys e f h k = absurd cc
-all_settled transaction number (i ∷ ins) (m ∷ maps) [] ys e f h k = absurd cc
-all_settled transaction number (i ∷ ins) (m ∷ maps) (x ∷ xs) [] e f h k = absurd cc
 all_settled transaction number (i ∷ ins) (m ∷ maps) (x ∷ xs) (y ∷ ys) e f h k =
     let here : x.spend ≡ record { transaction = transaction; number = number; input = i; fields = m } = cc in
     let there : y.spend ≡ record { transaction = transaction; number = number; input = i; fields = written_map x } = cc in
@@ -159,6 +140,7 @@ all_settled transaction number (i ∷ ins) (m ∷ maps) (x ∷ xs) (y ∷ ys) e 
     let first = settled_again x y h.0 k.0 same in
     let others = all_settled transaction (number + 1) ins maps xs ys rest behind h.1 k.1 in
     ap (λ b. b && list_all is_settled ys) first ∙ ap (λ b. is_settled x && b) others
+all_settled transaction number ins maps xs ys e f h k = absurd cc
 
 -- ---- the source
 
@@ -203,7 +185,6 @@ pub answered_again : EachIsSound → WrittenIsReadBack → AnsweredAgain
 answered_again law back words source psbt now report fits named given short answer =
     let replies : RepliesToWords (Some command.Finalize) source (reply now report) = subst (λ c. RepliesToWords c source (reply now report)) named answer.replies in
     let found : RepliesToPsbt command.Finalize (form_of source) psbt (reply now report) = subst (λ o. RepliesToSource command.Finalize (form_of source) o (reply now report)) given replies in
-    let inputs : List Input = found.0 in
     let are : AreInputs psbt found.0 = found.1 in
     let form : Form = form_of source in
     let told : now ≡ settled_status found.0 = ap (λ r. r.status) found.2 in
@@ -212,7 +193,6 @@ answered_again law back words source psbt now report fits named given short answ
     let whole = whole_again law source psbt fits given found.0 are in
     let read : psbt_of report ≡ Ok (finalized psbt found.0) =
     ap psbt_of shown ∙ report_read law back source psbt fits given found.0 are form (subst (λ (l : Bytes). length l ≤ MAX_SOURCE_SIZE) shown short) in
-    let again : List Input = inputs_found final in
     let are_again : AreInputs final (inputs_found final) =
     are_inputs final (All-from_recursion HasKeys (spends_of final) (each_has_keys (spends_of final) (places final whole))) in
     let each = recursion_from_All IsGiven found.0 (of_each law IsGiven (λ input g. g) source psbt fits given found.0 are) in

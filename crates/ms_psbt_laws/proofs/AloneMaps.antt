@@ -1,7 +1,8 @@
 -- The map of an input, the transaction and its number decide alone.
-use Rattle.std.proofs.Common.{◌≡◌, ℕ, zero, suc, ◌+◌, List, [], ◌∷◌, map, Option, Some, None, refl, sym, ap, subst, ◌∙◌, arith}
+use Rattle.std.proofs.Common.{◌≡◌, ℕ, zero, suc, ◌+◌, List, [], ◌∷◌, Option, Some, None, refl, sym, ap, subst, ◌∙◌, arith}
 use Rattle.std.specs.List.{AllByRecursion, slice_get}
 use Rattle.std.specs.Option.{option_map}
+use Rattle.std.proofs.lemmas.Option.{slice_get-map}
 use Rattle.std.proofs.lemmas.List.Elements.{recursion_from_All}
 use Rattle.def_psbt.specs.Transaction.{TransactionInput, Transaction}
 use Rattle.def_psbt.specs.Map.{Map}
@@ -37,12 +38,6 @@ spend_at transaction number (input ∷ ins) (fields ∷ maps) (suc i) =
     let same : number + 1 + i ≡ number + suc i = omega arith in
     spend_at transaction (number + 1) ins maps i ∙ ap (λ n. picked transaction n (slice_get ins i) (slice_get maps i)) same
 
-map_at : {A B : Type 0} (f : A → B) (xs : List A) (i : ℕ) → slice_get (map f xs) i ≡ option_map f (slice_get xs i)
-map_at {A} {B} f [] zero = refl
-map_at {A} {B} f [] (suc i) = refl
-map_at {A} {B} f (x ∷ xs) zero = refl
-map_at {A} {B} f (x ∷ xs) (suc i) = map_at f xs i
-
 all_at : (xs : List Input) (i : ℕ) (x : Input) → AllByRecursion HasReading xs → slice_get xs i ≡ Some x → HasReading x
 all_at [] zero x h e = absurd cc
 all_at [] (suc i) x h e = absurd cc
@@ -58,8 +53,10 @@ one_input (Some x) (Some y) h k e = let same : x.spend ≡ y.spend = cc in ap So
 
 pub map_decides_alone : MapDecidesAlone
 map_decides_alone psbt other inputs others number are same_are transaction fields =
-    let one = sym (map_at (λ (input : Input). input.spend) inputs number) ∙ ap (λ l. slice_get l number) are.spends ∙ spend_at psbt.transaction 0 psbt.transaction.inputs psbt.inputs number in
-    let two = sym (map_at (λ (input : Input). input.spend) others number) ∙ ap (λ l. slice_get l number) same_are.spends ∙ spend_at other.transaction 0 other.transaction.inputs other.inputs number in
+    let one = sym (slice_get-map (λ (input : Input). input.spend) inputs number) ∙ ap (λ l. slice_get l number) are.spends
+    ∙ spend_at psbt.transaction 0 psbt.transaction.inputs psbt.inputs number in
+    let two = sym (slice_get-map (λ (input : Input). input.spend) others number) ∙ ap (λ l. slice_get l number) same_are.spends
+    ∙ spend_at other.transaction 0 other.transaction.inputs other.inputs number in
     let spends = one ∙ ap (λ o. picked psbt.transaction (0 + number) (slice_get psbt.transaction.inputs number) o) fields
     ∙ ap (λ t. picked t (0 + number) (slice_get t.inputs number) (slice_get other.inputs number)) transaction ∙ sym two in
     let same : slice_get inputs number ≡ slice_get others number =

@@ -7,5 +7,6 @@ use Rattle.def_psbt.specs.TransactionReading.{first_outpoint, first_input, first
 use Rattle.ms_psbt_laws.specs.Network.{witnesses_of, network_witnesses_of, SomeWitnesses}
 
 pub some_witnesses : SomeWitnesses
-unfolding read_size first_bytes first_number first_size first_string first_many first_list whole first_outpoint first_input first_output first_sides transaction_of witnesses_of network_witnesses_of decode_pairs
+unfolding read_size first_bytes first_number first_size first_string first_many first_list whole first_outpoint first_input first_output first_sides
+    transaction_of witnesses_of network_witnesses_of decode_pairs
 some_witnesses = (refl, refl, refl)

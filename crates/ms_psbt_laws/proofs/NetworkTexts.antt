@@ -1,11 +1,11 @@
 -- The network transaction is read back.
-use Rattle.std.proofs.Common.{◌≡◌, ℕ, suc, ◌^◌, ◌<◌, ◌≤◌, ◌==◌, ◌&&◌, ◌||◌, nat_lt, Bool, true, false, not, cond, List, [], ◌∷◌, ◌++◌, length, map, find, slice_index, Option, Some, None, is_some, refl, sym, ap, subst, ◌∙◌, append_assoc, arith}
+use Rattle.std.proofs.Common.{◌≡◌, ℕ, suc, ◌^◌, ◌<◌, ◌≤◌, ◌==◌, ◌&&◌, nat_lt, Bool, true, false, cond, List, [], ◌∷◌, ◌++◌, length, map, slice_index, Option, Some, None, is_some, inl, inr, refl, sym, ap, subst, ◌∙◌, append_assoc, arith}
 use Rattle.std.specs.Prelude.{unwrap_or}
 use Rattle.std.specs.List.{flat_map, list_any, list_all, AllByRecursion}
 use Rattle.std.specs.Option.{option_map}
 use Rattle.std.specs.Int.{w16, w32, w64, to_le_bytes}
-use Rattle.std.specs.Str.{bytes_eq}
-use Rattle.std.proofs.lemmas.Bool.{false≢true, and_parts, eqb-true, leb-true, lt-ltb, ne_eqb}
+use Rattle.std.proofs.Math.Bool.{and-false}
+use Rattle.std.proofs.lemmas.Bool.{false≢true, and_parts, cases_Bool, or_parts, not-false, eqb-true, leb-true, lt-ltb, ne_eqb}
 use Rattle.std.proofs.lemmas.List.{nil_from_length}
 use Rattle.std.proofs.lemmas.List.Elements.{recursion_from_All}
 use Rattle.std.proofs.lemmas.Slice.Eq.{bytes_eq-Decides}
@@ -17,7 +17,7 @@ use Rattle.def_psbt.specs.Map.{Pair, Map, Psbt, type_of, data_of}
 use Rattle.def_psbt.specs.Part.{Part, ◌>>=◌, first_bytes, first_number, first_many, whole}
 use Rattle.def_psbt.specs.TransactionReading.{first_sides, first_witness, transaction_of, witnessed_transaction_of, network_transaction_of}
 use Rattle.def_psbt.specs.Forms as forms
-use Rattle.def_psbt.specs.Listed.{passes, global_form, input_form}
+use Rattle.def_psbt.specs.Listed.{global_form, input_form}
 use Rattle.def_psbt.specs.Reading.{pair_of_type, transaction_in_pair}
 use Rattle.def_psbt.specs.Laws.{IsSoundMap}
 use Rattle.def_spend.specs.Fields.{FINAL_SCRIPTSIG, FINAL_SCRIPTWITNESS, has_type, field}
@@ -25,11 +25,11 @@ use Rattle.def_spend.specs.Reading.{has_byte, has_item}
 use Rattle.def_spend.specs.Finalized.{final_inputs, final_transaction, final_witness, witnessed_text}
 use Rattle.ms_given_laws.specs.Given.{EachIsSound, IsInput, IsOutput, IsMapOfBytes, IsWhole}
 use Rattle.ms_given_laws.proofs.Maps.{IsPairOfBytes}
-use Rattle.ms_given_laws.proofs.Parts.{some_is}
-use Rattle.ms_given_laws.proofs.Held.{HasShape, shapes, form_of}
+use Rattle.ms_given_laws.proofs.Held.{HasShape, shapes, form_of, passed}
 use Rattle.ms_psbt_laws.specs.Network.{witnesses_of, network_witnesses_of, IsReadAs, NetworkIsRead, IdStays}
 use Rattle.ms_psbt_laws.proofs.PartsBack.{AreItems, bytes_back, number_32_back, many_back, witness_back, sides_back}
 use Rattle.ms_psbt_laws.proofs.PartsWritten.{witness_written}
+use Rattle.ms_psbt_laws.proofs.Sounding.{field_pair}
 use Rattle.ms_psbt_laws.proofs.Again.{no_items}
 
 -- ---- the fields of a sound map
@@ -45,22 +45,6 @@ good_pairs before [] sound fits = tt
 good_pairs before (pair ∷ fields) sound fits =
     let shape = shapes input_form before (pair ∷ fields) sound in
     (record { shape = shape.0; fits = fits.0; short = sound.0.value }, good_pairs (before ++ pair ∷ []) fields sound.1 fits.1)
-
--- the value of a field is that of such a pair of its type
-field_pair : (type : ℕ) (fields : Map) (value : Bytes) → AllByRecursion IsGoodPair fields → field type fields ≡ Some value
-    → (pair : Pair) × IsGoodPair pair × (has_type type pair ≡ true) × (pair.value ≡ value)
-field_pair type [] value all e = absurd cc
-field_pair type (pair ∷ fields) value all e = go (has_type type pair) refl (field_pair type fields value all.1) e
-  where
-    go : (b : Bool) → has_type type pair ≡ b → (field type fields ≡ Some value → (p : Pair) × IsGoodPair p × (has_type type p ≡ true) × (p.value ≡ value))
-        → option_map (λ (p : Pair). p.value) (cond b (Some pair) (find (has_type type) fields)) ≡ Some value
-        → (p : Pair) × IsGoodPair p × (has_type type p ≡ true) × (p.value ≡ value)
-    go true is rest e = (pair, all.0, is, some_is pair.value value e)
-    go false is rest e = rest e
-
-passed : (b : Bool) → passes b ≡ None → b ≡ true
-passed true e = refl
-passed false e = absurd cc
 
 some_of : {A : Type 0} (o : Option A) → is_some o ≡ true → (x : A) × (o ≡ Some x)
 some_of None e = absurd (false≢true e)
@@ -94,7 +78,7 @@ has_items fields all = go (field FINAL_SCRIPTWITNESS fields) refl
         let none : final_witness fields ≡ 0x00 ∷ [] = ap (λ (o : Option Bytes). unwrap_or o (0x00 ∷ [])) e in
         record { items = []; are = empty_items; text = none ∙ empty_text; read = ap forms.witness_of none ∙ no_items }
     go (Some value) e =
-        let p = field_pair FINAL_SCRIPTWITNESS fields value all e in
+        let p = field_pair IsGoodPair FINAL_SCRIPTWITNESS fields value all e in
         let some = some_of (forms.witness_of p.0.value) (witness_form p.0 p.1.shape p.2) in
         let told = witness_written p.0.value some.0 p.1.fits.1 some.1 in
         let is : final_witness fields ≡ p.0.value = ap (λ (o : Option Bytes). unwrap_or o (0x00 ∷ [])) e ∙ sym p.3 in
@@ -107,7 +91,7 @@ script_sig_short fields all = go (field FINAL_SCRIPTSIG fields) refl
     go : (o : Option Bytes) → field FINAL_SCRIPTSIG fields ≡ o → length (unwrap_or o []) < 2 ^ 64
     go None e = omega arith
     go (Some value) e =
-        let p = field_pair FINAL_SCRIPTSIG fields value all e in
+        let p = field_pair IsGoodPair FINAL_SCRIPTSIG fields value all e in
         let short = p.1.short in
         let same : length p.0.value ≡ length value = ap length p.3 in
         omega (arith, short, same)
@@ -203,17 +187,14 @@ not_zero n rest some = go (nat_lt n 0xfd) (nat_lt n (2 ^ 16)) (nat_lt n (2 ^ 32)
     go false false true = refl
     go false false false = refl
 
-and_false : (a b : Bool) → b ≡ false → (a && b) ≡ false
-and_false true b e = e
-and_false false b e = refl
-
 -- a text without witnesses isn't in BIP 144's form
 plain_form : (t : Transaction) → 1 ≤ length t.inputs → (nat_lt 4 (length (transaction_text t)) && (slice_index (transaction_text t) 4 == 0)) ≡ false
 plain_form t some =
     let ins : Bytes = flat_map input_text t.inputs in
     let rest : Bytes = outputs_text t.outputs ++ to_le_bytes w32 t.lock_time in
-    and_false (nat_lt 4 (length (transaction_text t))) (slice_index (transaction_text t) 4 == 0)
-    (ap (λ (l : Bytes). slice_index l 0 == 0) (append_assoc (size_bytes (length t.inputs)) ins rest) ∙ not_zero (length t.inputs) (ins ++ rest) some)
+    let other : (slice_index (transaction_text t) 4 == 0) ≡ false =
+    ap (λ (l : Bytes). slice_index l 0 == 0) (append_assoc (size_bytes (length t.inputs)) ins rest) ∙ not_zero (length t.inputs) (ins ++ rest) some in
+    ap (λ b. nat_lt 4 (length (transaction_text t)) && b) other ∙ and-false (nat_lt 4 (length (transaction_text t)))
 
 plain_network : (t : Transaction) → IsSpelled t → 1 ≤ length t.inputs → network_transaction_of (transaction_text t) ≡ Some t
 unfolding network_transaction_of
@@ -297,29 +278,13 @@ module _ (t : Transaction) (s : IsSpelled t) (items : List (List Bytes)) (are : 
 
 -- ---- a PSBT that is whole
 
-left_false : (a b : Bool) → (a || b) ≡ false → a ≡ false
-left_false true b e = absurd (false≢true (sym e))
-left_false false b e = refl
-
-right_false : (a b : Bool) → (a || b) ≡ false → b ≡ false
-right_false true b e = absurd (false≢true (sym e))
-right_false false b e = e
-
 no_item : (o : Option Bytes) → has_item o ≡ false → unwrap_or o (0x00 ∷ []) ≡ 0x00 ∷ []
 no_item None e = refl
-no_item (Some value) e = go (bytes_eq value (0x00 ∷ [])) refl e
-  where
-    go : (b : Bool) → bytes_eq value (0x00 ∷ []) ≡ b → not b ≡ false → value ≡ 0x00 ∷ []
-    go true is e = (bytes_eq-Decides value (0x00 ∷ [])).0 is
-    go false is e = absurd (false≢true (sym e))
+no_item (Some value) e = (bytes_eq-Decides value (0x00 ∷ [])).0 (not-false _ e)
 
 no_byte : (o : Option Bytes) → has_byte o ≡ false → unwrap_or o [] ≡ []
 no_byte None e = refl
-no_byte (Some value) e = go (bytes_eq value []) refl e
-  where
-    go : (b : Bool) → bytes_eq value [] ≡ b → not b ≡ false → value ≡ []
-    go true is e = (bytes_eq-Decides value []).0 is
-    go false is e = absurd (false≢true (sym e))
+no_byte (Some value) e = (bytes_eq-Decides value []).0 (not-false _ e)
 
 abbrev read_items : Map → Option (List Bytes)
 read_items fields = forms.witness_of (final_witness fields)
@@ -330,9 +295,9 @@ none_of_maps [] [] same e = refl
 none_of_maps [] (fields ∷ maps) same e = absurd (omega (arith, same))
 none_of_maps (input ∷ ins) [] same e = absurd (omega (arith, same))
 none_of_maps (input ∷ ins) (fields ∷ maps) same e =
-    let any : Bool = list_any (λ fields. has_item (field FINAL_SCRIPTWITNESS fields)) maps in
-    let first = no_item (field FINAL_SCRIPTWITNESS fields) (left_false (has_item (field FINAL_SCRIPTWITNESS fields)) any e) in
-    let rest = none_of_maps ins maps (omega (arith, same)) (right_false (has_item (field FINAL_SCRIPTWITNESS fields)) any e) in
+    let p = or_parts (has_item (field FINAL_SCRIPTWITNESS fields)) (list_any (λ fields. has_item (field FINAL_SCRIPTWITNESS fields)) maps) e in
+    let first = no_item (field FINAL_SCRIPTWITNESS fields) p.0 in
+    let rest = none_of_maps ins maps (omega (arith, same)) p.1 in
     ap (λ o. o ∷ map read_items maps) (ap forms.witness_of first ∙ no_items) ∙ ap (λ l. Some [] ∷ l) rest
 
 good_maps : (psbt : Psbt) → IsWhole psbt → AreGood psbt.inputs
@@ -381,34 +346,27 @@ read_as psbt bytes witnesses whole read witnessed items =
     }
 
 pub network_is_read : EachIsSound → NetworkIsRead
-network_is_read law source psbt fits e some = go (list_any (λ fields. has_item (field FINAL_SCRIPTWITNESS fields)) psbt.inputs) refl
-  where
-    go : (b : Bool) → list_any (λ fields. has_item (field FINAL_SCRIPTWITNESS fields)) psbt.inputs ≡ b
-        → IsReadAs psbt (cond b (witnessed_text (final_transaction psbt) (map final_witness psbt.inputs)) (transaction_text (final_transaction psbt)))
-    go true is =
-        let whole = law source psbt fits e in
-        let f = final_is psbt whole in
-        let sound = whole.sound in
-        let h = have_items psbt.inputs (good_maps psbt whole) in
-        let each = sound.each_input in
-        let same = f.long in
-        let own = h.long in
-        let long : length h.items ≡ length (final_transaction psbt).inputs = omega (arith, own, each, same) in
-        let one : 1 ≤ length (final_transaction psbt).inputs = omega (arith, some, each, same) in
-        let s = spelled psbt whole in
-        let o = ordered (final_transaction psbt) (map final_witness psbt.inputs) h.items h.text in
-        read_as psbt _ h.items whole (ap network_transaction_of o ∙ witnessed_network (final_transaction psbt) s h.items h.are long one)
-        (ap network_witnesses_of o ∙ witnessed_items (final_transaction psbt) s h.items h.are long one) h.read
-    go false is =
-        let whole = law source psbt fits e in
-        let f = final_is psbt whole in
-        let sound = whole.sound in
-        let each = sound.each_input in
-        let same = f.long in
-        let one : 1 ≤ length (final_transaction psbt).inputs = omega (arith, some, each, same) in
-        let s = spelled psbt whole in
-        read_as psbt _ (no_witness (final_transaction psbt)) whole (plain_network (final_transaction psbt) s one) (plain_witnesses (final_transaction psbt) s one)
-        (none_of_maps (final_inputs psbt.transaction.inputs psbt.inputs) psbt.inputs (omega (arith, each, same)) is)
+network_is_read law source psbt fits e some =
+    let whole = law source psbt fits e in
+    let f = final_is psbt whole in
+    let sound = whole.sound in
+    let each = sound.each_input in
+    let same = f.long in
+    let one : 1 ≤ length (final_transaction psbt).inputs = omega (arith, some, each, same) in
+    let s = spelled psbt whole in
+    elim (cases_Bool (list_any (λ fields. has_item (field FINAL_SCRIPTWITNESS fields)) psbt.inputs)) [
+      | inl is ↦
+          let h = have_items psbt.inputs (good_maps psbt whole) in
+          let own = h.long in
+          let long : length h.items ≡ length (final_transaction psbt).inputs = omega (arith, own, each, same) in
+          let o = ordered (final_transaction psbt) (map final_witness psbt.inputs) h.items h.text in
+          rw is (read_as psbt _ h.items whole (ap network_transaction_of o ∙ witnessed_network (final_transaction psbt) s h.items h.are long one)
+          (ap network_witnesses_of o ∙ witnessed_items (final_transaction psbt) s h.items h.are long one) h.read)
+      | inr is ↦
+          rw is (read_as psbt _ (no_witness (final_transaction psbt)) whole (plain_network (final_transaction psbt) s one)
+          (plain_witnesses (final_transaction psbt) s one)
+          (none_of_maps (final_inputs psbt.transaction.inputs psbt.inputs) psbt.inputs (omega (arith, each, same)) is))
+    ]
 
 -- ---- the id
 
@@ -419,14 +377,13 @@ unsigned_form pair t shape is e =
     let told = passed (forms.is_unsigned (transaction_of pair.value)) (subst (λ (n : ℕ). (global_form n).value (data_of pair.key) pair.value ≡ None) type (form_of global_form pair shape).1) in
     (and_parts (list_all forms.has_no_script_sig t.inputs) _ (subst (λ o. forms.is_unsigned o ≡ true) e told)).0
 
-unsigned_in : (t : Transaction) (global : Map) → AllByRecursion (HasShape global_form) global → transaction_in_pair (pair_of_type 0x00 global) ≡ Some t → list_all forms.has_no_script_sig t.inputs ≡ true
+unsigned_in : (t : Transaction) (global : Map) → AllByRecursion (HasShape global_form) global → transaction_in_pair (pair_of_type 0x00 global) ≡ Some t
+    → list_all forms.has_no_script_sig t.inputs ≡ true
 unsigned_in t [] all e = absurd cc
-unsigned_in t (pair ∷ global) all e = go (type_of pair.key == 0x00) refl (unsigned_in t global all.1) e
-  where
-    go : (b : Bool) → (type_of pair.key == 0x00) ≡ b → (transaction_in_pair (pair_of_type 0x00 global) ≡ Some t → list_all forms.has_no_script_sig t.inputs ≡ true)
-        → transaction_in_pair (cond b (Some pair) (pair_of_type 0x00 global)) ≡ Some t → list_all forms.has_no_script_sig t.inputs ≡ true
-    go true is rest e = unsigned_form pair t all.0 is e
-    go false is rest e = rest e
+unsigned_in t (pair ∷ global) all e = elim (cases_Bool (type_of pair.key == 0x00)) [
+  | inl is ↦ unsigned_form pair t all.0 is (rw is at e)
+  | inr other ↦ unsigned_in t global all.1 (rw other at e)
+]
 
 same_inputs : (ins : List TransactionInput) (maps : List Map) → length maps ≡ length ins → list_all forms.has_no_script_sig ins ≡ true
     → AllByRecursion (λ fields. has_byte (field FINAL_SCRIPTSIG fields) ≡ false) maps → final_inputs ins maps ≡ ins

@@ -1,10 +1,9 @@
 -- What is written is sound: the kept pairs of each Ready input with its final witness, and the maps of others.
-use Rattle.std.proofs.Common.{◌≡◌, ℕ, zero, suc, ◌+◌, ◌*◌, ◌^◌, ◌<◌, ◌≤◌, ◌||◌, nat_lt, Bool, true, false, not, cond, List, [], ◌∷◌, ◌++◌, length, map, filter, All, Some, None, is_some, refl, sym, ap, subst, ◌∙◌, if◌then◌else◌, arith}
-use Rattle.std.specs.List.{flat_map, AllByRecursion, find}
+use Rattle.std.proofs.Common.{◌≡◌, ℕ, zero, suc, ◌+◌, ◌*◌, ◌^◌, ◌<◌, ◌≤◌, nat_lt, Bool, true, false, not, cond, List, [], ◌∷◌, ◌++◌, length, map, filter, inl, inr, All, Some, None, is_some, refl, sym, ap, subst, ◌∙◌, if◌then◌else◌, arith}
+use Rattle.std.specs.List.{flat_map, AllByRecursion}
 use Rattle.std.specs.Int.{w16, w32, w64, to_le_bytes, byte_at, bytes_low_first}
-use Rattle.std.specs.Option.{option_map}
 use Rattle.std.specs.Str.{bytes_eq}
-use Rattle.std.proofs.lemmas.Bool.{false≢true, ltb-true}
+use Rattle.std.proofs.lemmas.Bool.{false≢true, ltb-true, cases_Bool, or_parts, or_from, false_from_ne_true}
 use Rattle.std.proofs.lemmas.List.{append-nil, length-append}
 use Rattle.std.proofs.lemmas.List.Concat.{flat_map-cons}
 use Rattle.std.proofs.lemmas.List.Elements.{All-nil, All-cons, All-append, All-filter, recursion_from_All}
@@ -44,33 +43,21 @@ use Rattle.ms_psbt_laws.proofs.PartsBack.{AreItems, witness_back}
 abbrev Within : (kept before : Map) → Type 0
 Within kept before = (key : Bytes) → stands key before ≡ false → stands key kept ≡ false
 
-left_false : (a b : Bool) → (a || b) ≡ false → a ≡ false
-left_false true b e = absurd (false≢true (sym e))
-left_false false b e = refl
-
-right_false : (a b : Bool) → (a || b) ≡ false → b ≡ false
-right_false true b e = absurd (false≢true (sym e))
-right_false false b e = e
-
-both_false : (a b : Bool) → a ≡ false → b ≡ false → (a || b) ≡ false
-both_false true b e f = absurd (false≢true (sym e))
-both_false false b e f = f
-
 stands_front : (key : Bytes) (before : Map) (pair : Pair) → stands key (before ++ pair ∷ []) ≡ false → stands key before ≡ false
 stands_front key [] pair e = refl
 stands_front key (x ∷ before) pair e =
-    both_false (bytes_eq key x.key) (stands key before) (left_false (bytes_eq key x.key) (stands key (before ++ pair ∷ [])) e)
-    (stands_front key before pair (right_false (bytes_eq key x.key) (stands key (before ++ pair ∷ [])) e))
+    let p = or_parts (bytes_eq key x.key) (stands key (before ++ pair ∷ [])) e in
+    or_from (bytes_eq key x.key) (stands key before) p.0 (stands_front key before pair p.1)
 
 stands_last : (key : Bytes) (before : Map) (pair : Pair) → stands key (before ++ pair ∷ []) ≡ false → bytes_eq key pair.key ≡ false
-stands_last key [] pair e = left_false (bytes_eq key pair.key) false e
-stands_last key (x ∷ before) pair e = stands_last key before pair (right_false (bytes_eq key x.key) (stands key (before ++ pair ∷ [])) e)
+stands_last key [] pair e = (or_parts (bytes_eq key pair.key) false e).0
+stands_last key (x ∷ before) pair e = stands_last key before pair (or_parts (bytes_eq key x.key) (stands key (before ++ pair ∷ [])) e).1
 
 stands_both : (key : Bytes) (before : Map) (pair : Pair) → stands key before ≡ false → bytes_eq key pair.key ≡ false → stands key (before ++ pair ∷ []) ≡ false
-stands_both key [] pair e f = both_false (bytes_eq key pair.key) false f refl
+stands_both key [] pair e f = or_from (bytes_eq key pair.key) false f refl
 stands_both key (x ∷ before) pair e f =
-    both_false (bytes_eq key x.key) (stands key (before ++ pair ∷ [])) (left_false (bytes_eq key x.key) (stands key before) e)
-    (stands_both key before pair (right_false (bytes_eq key x.key) (stands key before) e) f)
+    let p = or_parts (bytes_eq key x.key) (stands key before) e in
+    or_from (bytes_eq key x.key) (stands key (before ++ pair ∷ [])) p.0 (stands_both key before pair p.1 f)
 
 still_sound : (forms : ℕ → Form) (before kept : Map) (pair : Pair) → Within kept before → IsSoundPair forms before pair → IsSoundPair forms kept pair
 unfolding pair_fault
@@ -97,19 +84,15 @@ filtered forms test before kept (pair ∷ map) within sound =
 none_is_final : (fields : Map) → stands (FINAL_SCRIPTWITNESS ∷ []) (filter is_kept fields) ≡ false
 unfolding read_size
 none_is_final [] = refl
-none_is_final (pair ∷ fields) = go (is_kept pair) refl (none_is_final fields)
-  where
-    other : (b : Bool) → bytes_eq (FINAL_SCRIPTWITNESS ∷ []) pair.key ≡ b → is_kept pair ≡ true → b ≡ false
-    other false e kept = refl
-    other true e kept =
-        let same = (bytes_eq-Decides (FINAL_SCRIPTWITNESS ∷ []) pair.key).0 e in
-        let cleared : false ≡ true = subst (λ (key : Bytes). not (is_cleared (type_of key)) ≡ true) (sym same) kept in
-        absurd (false≢true cleared)
-
-    go : (b : Bool) → is_kept pair ≡ b → stands (FINAL_SCRIPTWITNESS ∷ []) (filter is_kept fields) ≡ false
-        → stands (FINAL_SCRIPTWITNESS ∷ []) (cond b (pair ∷ filter is_kept fields) (filter is_kept fields)) ≡ false
-    go true e rest = both_false (bytes_eq (FINAL_SCRIPTWITNESS ∷ []) pair.key) _ (other (bytes_eq (FINAL_SCRIPTWITNESS ∷ []) pair.key) refl e) rest
-    go false e rest = rest
+none_is_final (pair ∷ fields) =
+    let rest = none_is_final fields in
+    elim (cases_Bool (is_kept pair)) [
+      | inl kept ↦ rw kept (or_from (bytes_eq (FINAL_SCRIPTWITNESS ∷ []) pair.key) _ (false_from_ne_true _ (λ e.
+          let same = (bytes_eq-Decides (FINAL_SCRIPTWITNESS ∷ []) pair.key).0 e in
+          let cleared : false ≡ true = subst (λ (key : Bytes). not (is_cleared (type_of key)) ≡ true) (sym same) kept in
+          false≢true cleared)) rest)
+      | inr cleared ↦ rw cleared rest
+    ]
 
 -- items that were written are the witness
 pub items_back : (items : List Bytes) → AreItems items → forms.witness_of (items_text items) ≡ Some items
@@ -218,17 +201,7 @@ pub record IsGoodMap (fields : Map) : Type 0 where
 
 ready_is : (s : State) → is_ready s ≡ true → s ≡ state.Ready
 ready_is state.Ready e = refl
-ready_is state.Final e = absurd cc
-ready_is state.NoUtxo e = absurd cc
-ready_is state.WrongUtxo e = absurd cc
-ready_is state.OtherOutput e = absurd cc
-ready_is state.NoScript e = absurd cc
-ready_is state.WrongScript e = absurd cc
-ready_is state.NoReading e = absurd cc
-ready_is (state.Unfit unfit) e = absurd cc
-ready_is state.WrongSighash e = absurd cc
-ready_is state.TooMany e = absurd cc
-ready_is state.Unsatisfied e = absurd cc
+ready_is s e = absurd cc
 
 -- the final witness of a Ready input
 pub record IsFinalWitness (input : Input) : Type 0 where
@@ -238,14 +211,14 @@ pub record IsFinalWitness (input : Input) : Type 0 where
   pub stack_bytes : All IsBytes (stack_of input)
   pub script_bytes : IsBytes script
 
--- the value of a field consists of bytes
-field_bytes : (type : ℕ) (fields : Map) (value : Bytes) → AllByRecursion IsPairOfBytes fields → field type fields ≡ Some value → IsBytes value
-field_bytes type [] value all e = absurd cc
-field_bytes type (pair ∷ fields) value all e = go (has_type type pair) (field_bytes type fields value all.1) e
-  where
-    go : (b : Bool) → (field type fields ≡ Some value → IsBytes value) → option_map (λ (p : Pair). p.value) (cond b (Some pair) (find (has_type type) fields)) ≡ Some value → IsBytes value
-    go true rest e = subst IsBytes (some_is pair.value value e) all.0.1
-    go false rest e = rest e
+-- the value of a field is that of a pair of its type, of which holds what holds of all
+pub field_pair : (P : Pair → Type 0) (type : ℕ) (fields : Map) (value : Bytes) → AllByRecursion P fields → field type fields ≡ Some value
+    → (pair : Pair) × P pair × (has_type type pair ≡ true) × (pair.value ≡ value)
+field_pair P type [] value all e = absurd cc
+field_pair P type (pair ∷ fields) value all e = elim (cases_Bool (has_type type pair)) [
+  | inl is ↦ (pair, all.0, is, some_is pair.value value (rw is at e))
+  | inr other ↦ field_pair P type fields value all.1 (rw other at e)
+]
 
 pub final_witness : (input : Input) → IsGiven input → is_ready (state_of input) ≡ true → IsFinalWitness input
 final_witness input given ready =
@@ -254,13 +227,14 @@ final_witness input given ready =
     let stack = stack_is input o.tree o.script some.0 o.tried some.1 in
     let c : IsChosen input o.tree o.script = record { given = given; tried = o.tried; chosen = some.1 ∙ ap Some (sym stack) } in
     let w = witness_is input o.tree o.script o.tried in
-    let place = given.place in
+    let found = field_pair IsPairOfBytes WITNESS_SCRIPT input.spend.fields (script_of o.tree)
+    (recursion_from_All IsPairOfBytes input.spend.fields given.place.fits) w.script in
     record {
       script = script_of o.tree;
       is = w.witness;
       fits = fits_witness input o.tree o.script c;
       stack_bytes = sat_is_of_bytes o.tree (assets_of input.spend) (stack_of input) (writes input o.tree o.script o.tried) (held input given) (canonical input o.tree o.script c);
-      script_bytes = field_bytes WITNESS_SCRIPT input.spend.fields (script_of o.tree) (recursion_from_All IsPairOfBytes input.spend.fields place.fits) w.script;
+      script_bytes = subst IsBytes found.3 found.1.1;
     }
 
 final_good : (input : Input) → IsGiven input → IsFinalWitness input → IsGoodMap (final_map input.spend.fields (witness_of input))
@@ -277,11 +251,10 @@ final_good input given w =
     })
 
 pub good_map : (input : Input) → IsGiven input → IsGoodMap (written_map input)
-good_map input given = go (is_ready (state_of input)) refl
-  where
-    go : (b : Bool) → is_ready (state_of input) ≡ b → IsGoodMap (if b then final_map input.spend.fields (witness_of input) else input.spend.fields)
-    go true e = final_good input given (final_witness input given e)
-    go false e = record { sound = given.place.sound; fits = given.place.fits }
+good_map input given = elim (cases_Bool (is_ready (state_of input))) [
+  | inl e ↦ rw e (final_good input given (final_witness input given e))
+  | inr e ↦ rw e (record { sound = given.place.sound; fits = given.place.fits })
+]
 
 pub good_maps : EachIsSound → OfEachInput (λ input. IsGoodMap (written_map input))
 good_maps law = of_each law _ good_map

@@ -1,19 +1,18 @@
 -- What is written, in either form, is a source of what was written.
-use Rattle.std.proofs.Common.{◌≡◌, ℕ, zero, suc, ◌+◌, ◌*◌, ◌/◌, ◌%◌, ◌≤◌, nat_lt, Bool, true, false, not, cond, List, [], ◌∷◌, ◌++◌, length, replicate, slice_index, Result, Ok, Err, inl, inr, refl, sym, ap, ◌∙◌}
+use Rattle.std.proofs.Common.{◌≡◌, ℕ, zero, suc, ◌+◌, ◌*◌, ◌/◌, ◌%◌, ◌≤◌, nat_lt, false, not, cond, List, [], ◌∷◌, ◌++◌, length, replicate, slice_index, Result, Ok, inl, inr, refl, ap, ◌∙◌}
 use Rattle.std.specs.List.{AllByRecursion}
-use Rattle.std.proofs.lemmas.Bool.{le-ltb, cases_lt}
+use Rattle.std.proofs.lemmas.Bool.{le-ltb, cases_lt, not-true}
 use Rattle.std.proofs.lemmas.List.{get_or_past}
 use Rattle.base64.specs.Rfc4648.{encode_group, encode_symbols, padding_len}
 use Rattle.base64.specs.Engines.{standard}
-use Rattle.base64.specs.GeneralPurpose.{encode_of, decode_of}
+use Rattle.base64.specs.GeneralPurpose.{encode_of}
 use Rattle.base64.proofs.Tables.{all_below_at}
 use Rattle.base64.proofs.EngineFacts.{decode_of-encode_of}
 use Rattle.def_script.specs.Bytes.{Bytes, IsBytes}
 use Rattle.def_psbt.specs.declared.Refusal.{Refusal}
-use Rattle.def_psbt.specs.declared.Refusal.TheVariants.{TooLong}
 use Rattle.def_psbt.specs.Map.{Map, Psbt, magic, psbt_text}
 use Rattle.def_psbt.specs.Reading.{◌>>=◌, read_psbt}
-use Rattle.def_psbt.specs.Source.{MAX_SOURCE_SIZE, has_magic, is_blank, without_blanks, decoded, psbt_bytes, psbt_of}
+use Rattle.def_psbt.specs.Source.{MAX_SOURCE_SIZE, has_magic, is_blank, without_blanks, psbt_bytes, psbt_of}
 use Rattle.def_answer.specs.Lines.{line}
 use Rattle.def_psbt_answer.specs.declared.words.Form.{Form}
 use Rattle.def_psbt_answer.specs.Report.{in_form}
@@ -28,13 +27,9 @@ SYMBOLS = standard.encode_table
 symbol : (i : ℕ) → is_blank (slice_index SYMBOLS i) ≡ false
 symbol i =
     elim (cases_lt i 64) [
-      | inl low ↦ turned (is_blank (slice_index SYMBOLS i)) (all_below_at (λ k. not (is_blank (slice_index SYMBOLS k))) 64 i refl low)
+      | inl low ↦ not-true _ (all_below_at (λ k. not (is_blank (slice_index SYMBOLS k))) 64 i refl low)
       | inr high ↦ ap is_blank (get_or_past SYMBOLS i 0 high)
     ]
-  where
-    turned : (b : Bool) → not b ≡ true → b ≡ false
-    turned true e = sym e
-    turned false e = refl
 
 -- no byte is blank
 abbrev AreFull : Bytes → Type 0
@@ -66,30 +61,20 @@ other_magic : (m : Bytes) → has_magic (line (encode_of standard (magic ++ m)))
 unfolding encode_symbols
 other_magic m = refl
 
--- the text of a PSBT begins with the magic
-own_magic : (m : Bytes) → has_magic (magic ++ m) ≡ true
-own_magic m = refl
-
 -- ---- the source
 
 from_bytes : (m : Bytes) → length (magic ++ m) ≤ MAX_SOURCE_SIZE → psbt_bytes (magic ++ m) ≡ Ok (magic ++ m)
 unfolding psbt_bytes
-from_bytes m short =
-    let room : nat_lt MAX_SOURCE_SIZE (length (magic ++ m)) ≡ false = le-ltb _ _ short in
-    rw room refl
+from_bytes m short = rw (le-ltb MAX_SOURCE_SIZE (length (magic ++ m)) short)
 
 from_base64 : (m : Bytes) → IsBytes (magic ++ m) → length (line (encode_of standard (magic ++ m))) ≤ MAX_SOURCE_SIZE
     → psbt_bytes (line (encode_of standard (magic ++ m))) ≡ Ok (magic ++ m)
 unfolding psbt_bytes
 from_base64 m fits short =
-    let text : Bytes = line (encode_of standard (magic ++ m)) in
     let room : nat_lt MAX_SOURCE_SIZE (length (line (encode_of standard (magic ++ m)))) ≡ false = le-ltb _ _ short in
     let full = full_both (encode_symbols SYMBOLS (magic ++ m)) (replicate (padding_len (length (magic ++ m))) 61) (full_symbols (magic ++ m)) (full_padding (padding_len (length (magic ++ m)))) in
     let blanks : without_blanks (line (encode_of standard (magic ++ m))) ≡ encode_of standard (magic ++ m) = kept_full (encode_of standard (magic ++ m)) full in
-    ap (λ b. cond b (Err TooLong) (cond (has_magic text) (Ok text) (decoded (decode_of standard (without_blanks text))))) room
-    ∙ ap (λ b. cond b (Ok text) (decoded (decode_of standard (without_blanks text)))) (other_magic m)
-    ∙ ap (λ (l : Bytes). decoded (decode_of standard l)) blanks
-    ∙ ap decoded (decode_of-encode_of standard (magic ++ m) refl fits)
+    rw (room, other_magic m, blanks, decode_of-encode_of standard (magic ++ m) refl fits)
 
 -- in either form
 pub source_back : (f : Form) (global : Map) (inputs outputs : List Map) (psbt : Psbt) → IsBytes (psbt_text global inputs outputs)

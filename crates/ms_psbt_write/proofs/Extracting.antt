@@ -40,7 +40,8 @@ witness_next maps k fields witness before after total e w a all =
     ∙ ap (λ (xs : List Map). before ++ flat_map (λ (x : Bytes). x) (map final_witness xs)) (sym (here maps k fields e)) ∙ all
 
 pub input_next : (inputs : List TransactionInput) (maps : List Map) (k : ℕ) (input : TransactionInput) (fields : Map) (script_sig before after total : Bytes)
-    → slice_get inputs k ≡ Some input → slice_get maps k ≡ Some fields → script_sig ≡ unwrap_or (field FINAL_SCRIPTSIG fields) [] → after ≡ before ++ input_text (record input { script_sig = script_sig })
+    → slice_get inputs k ≡ Some input → slice_get maps k ≡ Some fields → script_sig ≡ unwrap_or (field FINAL_SCRIPTSIG fields) [] → after ≡ before
+    ++ input_text (record input { script_sig = script_sig })
     → before ++ flat_map input_text (final_inputs (drop k inputs) (drop k maps)) ≡ total → after ++ flat_map input_text (final_inputs (drop (k + 1) inputs) (drop (k + 1) maps)) ≡ total
 input_next inputs maps k input fields script_sig before after total i m s a all =
     ap (λ (x : Bytes). x ++ flat_map input_text (final_inputs (drop (k + 1) inputs) (drop (k + 1) maps))) (a ∙ ap (λ (x : Bytes). before ++ input_text (record input { script_sig = x })) s)
@@ -57,7 +58,8 @@ as_many (input ∷ inputs) (fields ∷ maps) e = ap suc (as_many inputs maps (om
 
 -- ---- the pieces together
 
-pub sides_joined : (before size inputs count outputs a b c after : Bytes) → a ≡ before ++ size → b ≡ a ++ inputs → c ≡ b ++ count → after ≡ c ++ outputs → after ≡ before ++ ((size ++ inputs) ++ (count ++ outputs))
+pub sides_joined : (before size inputs count outputs a b c after : Bytes) → a ≡ before ++ size → b ≡ a ++ inputs → c ≡ b ++ count → after ≡ c ++ outputs
+    → after ≡ before ++ ((size ++ inputs) ++ (count ++ outputs))
 sides_joined before size inputs count outputs a b c after p q r s =
     s ∙ ap (λ (x : Bytes). x ++ outputs) (r ∙ ap (λ (x : Bytes). x ++ count) (q ∙ ap (λ (x : Bytes). x ++ inputs) p)) ∙ simp append_assoc
 
@@ -65,10 +67,12 @@ pub plain_joined : (version inputs outputs lock_time a b after : Bytes) → a �
 plain_joined version inputs outputs lock_time a b after p q r =
     r ∙ ap (λ (x : Bytes). x ++ lock_time) (q ∙ ap (λ (x : Bytes). x ++ (inputs ++ outputs)) p) ∙ simp append_assoc
 
-pub witnessed_joined : (version inputs outputs witnesses lock_time a b c d after : Bytes) → a ≡ version → b ≡ a ++ 0x00 ∷ 0x01 ∷ [] → c ≡ b ++ (inputs ++ outputs) → d ≡ c ++ witnesses → after ≡ d ++ lock_time
+pub witnessed_joined : (version inputs outputs witnesses lock_time a b c d after : Bytes) → a ≡ version → b ≡ a ++ 0x00 ∷ 0x01 ∷ [] → c ≡ b
+    ++ (inputs ++ outputs) → d ≡ c ++ witnesses → after ≡ d ++ lock_time
     → after ≡ version ++ 0x00 ∷ 0x01 ∷ [] ++ inputs ++ outputs ++ witnesses ++ lock_time
 witnessed_joined version inputs outputs witnesses lock_time a b c d after p q r s t =
-    t ∙ ap (λ (x : Bytes). x ++ lock_time) (s ∙ ap (λ (x : Bytes). x ++ witnesses) (r ∙ ap (λ (x : Bytes). x ++ (inputs ++ outputs)) (q ∙ ap (λ (x : Bytes). x ++ 0x00 ∷ 0x01 ∷ []) p))) ∙ simp append_assoc
+    t ∙ ap (λ (x : Bytes). x ++ lock_time) (s ∙ ap (λ (x : Bytes). x ++ witnesses)
+    (r ∙ ap (λ (x : Bytes). x ++ (inputs ++ outputs)) (q ∙ ap (λ (x : Bytes). x ++ 0x00 ∷ 0x01 ∷ []) p))) ∙ simp append_assoc
 
 -- ---- the inputs and the outputs
 

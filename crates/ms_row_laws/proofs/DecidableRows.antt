@@ -33,11 +33,10 @@ true_or_not true = inl refl
 true_or_not false = inr (λ e. false≢true e)
 
 same_bytes : (x y : Bytes) → Decided (x ≡ y)
-same_bytes x y = go (bytes_eq x y) refl
-  where
-    go : (b : Bool) → bytes_eq x y ≡ b → Decided (x ≡ y)
-    go true e = inl ((bytes_eq-Decides x y).0 e)
-    go false e = inr (λ i. false≢true (sym e ∙ (bytes_eq-Decides x y).1 i))
+same_bytes x y = elim (cases_Bool (bytes_eq x y)) [
+  | inl e ↦ inl ((bytes_eq-Decides x y).0 e)
+  | inr e ↦ inr (λ i. false≢true (sym e ∙ (bytes_eq-Decides x y).1 i))
+]
 
 same_stack_or_not : (m n : Stack) → Decided (m ≡ n)
 same_stack_or_not [] [] = inl refl
@@ -59,20 +58,10 @@ both_or_not P Q (inl p) (inl q) = inl (p, q)
 both_or_not P Q (inl p) (inr q) = inr (λ r. q r.1)
 both_or_not P Q (inr p) q = inr (λ r. p r.0)
 
-three_or_not : (P Q R : Type 0) → Decided P → Decided Q → Decided R → Decided (P × Q × R)
-three_or_not P Q R (inl p) (inl q) (inl r) = inl (p, q, r)
-three_or_not P Q R (inl p) (inl q) (inr r) = inr (λ h. r h.2)
-three_or_not P Q R (inl p) (inr q) r = inr (λ h. q h.1)
-three_or_not P Q R (inr p) q r = inr (λ h. p h.0)
-
 either_or_not : (P Q : Type 0) → Decided P → Decided Q → Decided (P ⊎ Q)
 either_or_not P Q (inl p) q = inl (inl p)
 either_or_not P Q (inr p) (inl q) = inl (inr q)
-either_or_not P Q (inr p) (inr q) = inr (λ r. neither r)
-  where
-    neither : P ⊎ Q → ⊥
-    neither (inl r) = p r
-    neither (inr r) = q r
+either_or_not P Q (inr p) (inr q) = inr (λ r. elim r [ inl h ↦ p h | inr h ↦ q h ])
 
 not_or_so : (P : Type 0) → Decided P → Decided (P → ⊥)
 not_or_so P (inl p) = inr (λ h. h p)
@@ -190,11 +179,10 @@ decided_signatures table (key ∷ keys) (sig ∷ sigs) =
 
 decided_top : DecidedSet HasTop
 decided_top [] = inr (λ r. never_empty r.0 r.1 r.2)
-decided_top (x ∷ w) = go (is_empty x) refl
-  where
-    go : (b : Bool) → is_empty x ≡ b → Decided (HasTop (x ∷ w))
-    go false e = inl (x, w, refl, e)
-    go true e = inr (λ r. true≢false (sym e ∙ ap is_empty (first_same x r.0 w r.1 r.2) ∙ r.3))
+decided_top (x ∷ w) = elim (cases_Bool (is_empty x)) [
+  | inl e ↦ inr (λ r. true≢false (sym e ∙ ap is_empty (first_same x r.0 w r.1 r.2) ∙ r.3))
+  | inr e ↦ inl (x, w, refl, e)
+]
 
 -- a number up to a bound
 some_number : (P : ℕ → Type 0) (bound : ℕ) → ((n : ℕ) → Decided (P n)) → ((n : ℕ) → P n → n < bound) → Decided ((n : ℕ) × P n)
@@ -210,32 +198,27 @@ some_number P (suc bound) decide low = elim (decide bound) [
 decided_parts_of : (x : Row) (others : ℕ → StackSet) → DecidedSet x.sat → DecidedSet x.dsat → ((n : ℕ) → DecidedSet (others n)) → (n : ℕ) → DecidedSet (PartsOf x others n)
 decided_parts_of x others sat dsat decide zero w = elim (cut_both (others zero) x.dsat (decide zero) dsat w) [
   | inl r ↦ inl (inr r)
-  | inr uncut ↦ inr (λ r. go uncut r)
+  | inr uncut ↦ inr (λ r. elim r [ inl h ↦ (let e = h.1 in absurd (omega arith)) | inr h ↦ uncut h ])
 ]
-  where
-    go : (Both (others zero) x.dsat w → ⊥) → PartsOf x others zero w → ⊥
-    go uncut (inl r) = let e = r.1 in absurd (omega arith)
-    go uncut (inr r) = uncut r
 decided_parts_of x others sat dsat decide (suc n) w = elim (cut_both (others n) x.sat (decide n) sat w) [
   | inl r ↦ inl (inl (n, refl, r))
   | inr unsat ↦ elim (cut_both (others (suc n)) x.dsat (decide (suc n)) dsat w) [
     | inl r ↦ inl (inr r)
-    | inr undsat ↦ inr (λ r. go unsat undsat r)
+    | inr undsat ↦ inr (λ r. elim r [
+      | inl h ↦ (let e : h.0 ≡ n = (let i = h.1 in omega arith) in unsat (subst (λ m. Both (others m) x.sat w) e h.2))
+      | inr h ↦ undsat h
+    ])
   ]
 ]
-  where
-    go : (Both (others n) x.sat w → ⊥) → (Both (others (suc n)) x.dsat w → ⊥) → PartsOf x others (suc n) w → ⊥
-    go unsat undsat (inl r) = let e : r.0 ≡ n = (let i = r.1 in omega arith) in unsat (subst (λ m. Both (others m) x.sat w) e r.2)
-    go unsat undsat (inr r) = undsat r
 
 -- another number of satisfied children
 miscounted_or_not : (k bound : ℕ) (P : ℕ → StackSet) → ((n : ℕ) → DecidedSet (P n)) → ((n : ℕ) (w : Stack) → P n w → n < bound) → DecidedSet (λ w. (n : ℕ) × (n ≢ 0) × (n ≢ k) × P n w)
 miscounted_or_not k bound P decide low w =
-    elim (some_number (λ n. (n ≢ 0) × (n ≢ k) × P n w) bound
-    (λ n. three_or_not (n ≢ 0) (n ≢ k) (P n w) (not_or_so (n ≡ 0) (same_number_or_not n 0)) (not_or_so (n ≡ k) (same_number_or_not n k)) (decide n w))
-    (λ n r. low n w r.2)) [
-      | inl r ↦ inl (r.0, r.1.0, r.1.1, r.1.2)
-      | inr no_such ↦ inr (λ r. no_such (r.0, (r.1, r.2, r.3)))
+    elim (some_number (λ n. (n ≢ 0) × ((n ≢ k) × P n w)) bound
+    (λ n. both_or_not _ _ (not_or_so (n ≡ 0) (same_number_or_not n 0)) (both_or_not _ _ (not_or_so (n ≡ k) (same_number_or_not n k)) (decide n w)))
+    (λ n r. low n w r.1.1)) [
+      | inl r ↦ inl (r.0, r.1.0, r.1.1.0, r.1.1.1)
+      | inr no_such ↦ inr (λ r. no_such (r.0, (r.1, (r.2, r.3))))
     ]
 
 mutual
@@ -250,8 +233,6 @@ mutual
       decided_item _ (λ x. both_or_not _ _ (decided_preimage kind value x) (decided_counts_as_preimage s.mode kind value x))
   sat_or_not s (and_or x y z) =
       decided_either _ _ (cut_both _ _ (sat_or_not s y) (sat_or_not s x)) (cut_both _ _ (sat_or_not s z) (dsat_or_not s x))
-  sat_or_not s (two kind.AndV x y) = cut_both _ _ (sat_or_not s y) (sat_or_not s x)
-  sat_or_not s (two kind.AndB x y) = cut_both _ _ (sat_or_not s y) (sat_or_not s x)
   sat_or_not s (two kind.OrB x z) =
       decided_either _ _ (cut_both _ _ (dsat_or_not s z) (sat_or_not s x))
       (decided_either _ _ (cut_both _ _ (sat_or_not s z) (dsat_or_not s x)) (decided_extra s _ (cut_both _ _ (sat_or_not s z) (sat_or_not s x))))
@@ -259,24 +240,17 @@ mutual
   sat_or_not s (two kind.OrD x z) = decided_either _ _ (sat_or_not s x) (cut_both _ _ (sat_or_not s z) (dsat_or_not s x))
   sat_or_not s (two kind.OrI x z) =
       decided_either _ _ (cut_both _ _ (sat_or_not s x) (decided_is ONE)) (cut_both _ _ (sat_or_not s z) (decided_is EMPTY))
+  sat_or_not s (two which x y) = cut_both _ _ (sat_or_not s y) (sat_or_not s x)
   sat_or_not s (thresh k xs) = parts_or_not s xs k
   sat_or_not s (multi k keys) =
       cut_both _ _ (decided_is EMPTY) (λ sigs. both_or_not _ _ (same_number_or_not (length sigs) k) (decided_signatures s.given.table (reverse keys) sigs))
-  sat_or_not s (wrap wrapper.A x) = sat_or_not s x
-  sat_or_not s (wrap wrapper.S x) = sat_or_not s x
-  sat_or_not s (wrap wrapper.C x) = sat_or_not s x
   sat_or_not s (wrap wrapper.D x) = cut_both _ _ (sat_or_not s x) (decided_is ONE)
-  sat_or_not s (wrap wrapper.V x) = sat_or_not s x
-  sat_or_not s (wrap wrapper.J x) = sat_or_not s x
-  sat_or_not s (wrap wrapper.N x) = sat_or_not s x
+  sat_or_not s (wrap letter x) = sat_or_not s x
 
   pub dsat_or_not : (s : Setting) (t : Tree) → DecidedSet (row s t).dsat
   dsat_or_not s just_0 = λ w. same_stack_or_not w []
-  dsat_or_not s just_1 = decided_never
   dsat_or_not s (pk_k key) = decided_is EMPTY
   dsat_or_not s (pk_h key) = decided_with_hash s key (λ other. Is EMPTY) (λ other. decided_is EMPTY)
-  dsat_or_not s (older n) = decided_never
-  dsat_or_not s (after n) = decided_never
   dsat_or_not s (hash kind value) =
       decided_either _ _ (decided_if _ _ (decided_no_preimage kind value ZEROS) (decided_is ZEROS))
       (decided_extra s _ (decided_item _ (decided_no_preimage kind value)))
@@ -286,22 +260,19 @@ mutual
   dsat_or_not s (two kind.AndB x y) =
       decided_either _ _ (cut_both _ _ (dsat_or_not s y) (dsat_or_not s x))
       (decided_extra s _ (decided_either _ _ (cut_both _ _ (sat_or_not s y) (dsat_or_not s x)) (cut_both _ _ (dsat_or_not s y) (sat_or_not s x))))
-  dsat_or_not s (two kind.OrB x z) = cut_both _ _ (dsat_or_not s z) (dsat_or_not s x)
   dsat_or_not s (two kind.OrC x z) = decided_never
-  dsat_or_not s (two kind.OrD x z) = cut_both _ _ (dsat_or_not s z) (dsat_or_not s x)
   dsat_or_not s (two kind.OrI x z) =
       decided_either _ _ (cut_both _ _ (dsat_or_not s x) (decided_is ONE)) (cut_both _ _ (dsat_or_not s z) (decided_is EMPTY))
+  dsat_or_not s (two which x z) = cut_both _ _ (dsat_or_not s z) (dsat_or_not s x)
   dsat_or_not s (thresh k xs) =
       decided_either _ _ (parts_or_not s xs 0)
       (decided_extra s _ (miscounted_or_not k (count xs + 1) (parts s xs) (parts_or_not s xs) (λ n w r. (let l = parts_few s xs n w r in omega arith))))
   dsat_or_not s (multi k keys) = λ w. same_stack_or_not w (replicate (k + 1) EMPTY)
-  dsat_or_not s (wrap wrapper.A x) = dsat_or_not s x
-  dsat_or_not s (wrap wrapper.S x) = dsat_or_not s x
-  dsat_or_not s (wrap wrapper.C x) = dsat_or_not s x
   dsat_or_not s (wrap wrapper.D x) = decided_is EMPTY
   dsat_or_not s (wrap wrapper.V x) = decided_never
   dsat_or_not s (wrap wrapper.J x) = decided_either _ _ (decided_is EMPTY) (decided_extra s _ (λ w. both_or_not _ _ (decided_top w) (dsat_or_not s x w)))
-  dsat_or_not s (wrap wrapper.N x) = dsat_or_not s x
+  dsat_or_not s (wrap letter x) = dsat_or_not s x
+  dsat_or_not s tree = decided_never
 
   pub parts_or_not : (s : Setting) (xs : Trees) (n : ℕ) → DecidedSet (parts s xs n)
   parts_or_not s none n = decided_if _ Nothing (same_number_or_not n 0) (λ w. same_stack_or_not w [])

@@ -7,7 +7,6 @@ pub mod RowLengths
 pub mod RowTops
 pub mod SmallThresholds
 pub mod ConsensusLimits
-pub mod SatisfactionSizes
 pub mod WithinLimits
 pub mod NeededSignatures
 pub mod UniqueDissatisfaction

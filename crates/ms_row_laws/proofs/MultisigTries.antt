@@ -47,11 +47,15 @@ empties_split n = ap (λ m. replicate m EMPTY) (let e : n + 1 ≡ suc n = omega 
     go (suc n) = ap (λ v. EMPTY ∷ v) (go n)
 
 -- a try that is good, and one that isn't
-pub good_step : (table : Pairs) (key sig : Bytes) (keys sigs : Stack) (found : Pairs) (t : OrFault (Option Pairs)) → nat_lt (length (key ∷ keys)) (length (sig ∷ sigs)) ≡ false → is_key key ≡ true → is_good table key sig ≡ true → tries table keys sigs (found ++ (key, sig) ∷ []) ≡ t → tries table (key ∷ keys) (sig ∷ sigs) found ≡ t
+pub good_step : (table : Pairs) (key sig : Bytes) (keys sigs : Stack) (found : Pairs) (t : OrFault (Option Pairs))
+    → nat_lt (length (key ∷ keys)) (length (sig ∷ sigs)) ≡ false → is_key key ≡ true → is_good table key sig ≡ true
+    → tries table keys sigs (found ++ (key, sig) ∷ []) ≡ t → tries table (key ∷ keys) (sig ∷ sigs) found ≡ t
 unfolding tries
 good_step table key sig keys sigs found t enough form good e = rw (enough, form, good) e
 
-pub bad_step : (table : Pairs) (key sig : Bytes) (keys sigs : Stack) (found : Pairs) (t : OrFault (Option Pairs)) → nat_lt (length (key ∷ keys)) (length (sig ∷ sigs)) ≡ false → is_key key ≡ true → is_good table key sig ≡ false → tries table keys (sig ∷ sigs) found ≡ t → tries table (key ∷ keys) (sig ∷ sigs) found ≡ t
+pub bad_step : (table : Pairs) (key sig : Bytes) (keys sigs : Stack) (found : Pairs) (t : OrFault (Option Pairs))
+    → nat_lt (length (key ∷ keys)) (length (sig ∷ sigs)) ≡ false → is_key key ≡ true → is_good table key sig ≡ false → tries table keys (sig ∷ sigs) found ≡ t
+    → tries table (key ∷ keys) (sig ∷ sigs) found ≡ t
 unfolding tries
 bad_step table key sig keys sigs found t enough form bad e = rw (enough, form, bad) e
 
@@ -69,7 +73,8 @@ rest_bad table key sig keys sigs bad (inl h) = absurd (false≢true (sym bad ∙
 rest_bad table key sig keys sigs bad (inr h) = h
 
 -- trying the keys one after the other finds the signatures
-pub good_tries : (table : Pairs) (keys : List Key) (sigs : Stack) (found : Pairs) → All (λ key. IsTrue (is_key key)) keys → AreSignatures table keys sigs → (all : Pairs) × (tries table keys sigs found ≡ Ok (Some all))
+pub good_tries : (table : Pairs) (keys : List Key) (sigs : Stack) (found : Pairs) → All (λ key. IsTrue (is_key key)) keys → AreSignatures table keys sigs
+    → (all : Pairs) × (tries table keys sigs found ≡ Ok (Some all))
 unfolding tries
 good_tries table keys [] found forms h = (found, refl)
 good_tries table [] (sig ∷ sigs) found forms h = absurd h

@@ -1,15 +1,16 @@
 -- Which rows need a signature of a miniscript's keys (the letters s and f of its properties).
-use Rattle.std.proofs.Common.{◌≡◌, ℕ, ◌+◌, ◌≤◌, Bool, true, false, ◌&&◌, ◌||◌, List, [], ◌∷◌, ◌++◌, length, reverse, Contains, refl, sym, ◌∙◌, ap, inl, inr, arith, if◌then◌else◌}
+use Rattle.std.proofs.Common.{◌≡◌, ℕ, ◌+◌, ◌≤◌, true, false, ◌&&◌, ◌||◌, List, [], ◌∷◌, ◌++◌, length, reverse, Contains, refl, sym, ◌∙◌, ap, inl, inr, arith, if◌then◌else◌}
 use Rattle.std.proofs.lemmas.Bool.{or_cases, cases_Bool, ltb-true, false≢true, and_parts, and_from, or_right}
 use Rattle.std.proofs.lemmas.List.Elements.{Contains-append_left, Contains-append_right}
 use Rattle.def_hash.specs.Hash.{hash160}
 use Rattle.def_script.specs.Bytes.{Bytes}
 use Rattle.def_machine.specs.Stacks.{Stack, Pairs}
 use Rattle.def_machine.specs.MultiSig.{is_good}
+use Rattle.def_tree.specs.declared.Two.{Two}
 use Rattle.def_tree.specs.declared.Two.TheVariants as kind
 use Rattle.def_tree.specs.declared.Wrapper.TheVariants as wrapper
-use Rattle.def_tree.specs.Tree.{Tree, Trees, Key, just_0, just_1, pk_k, pk_h, older, after, hash, and_or, two, thresh, multi, wrap, none, more}
-use Rattle.def_types.specs.declared.Base.TheVariants.{B, V, K, W}
+use Rattle.def_tree.specs.Tree.{Tree, Trees, Key, just_0, pk_k, pk_h, hash, and_or, two, thresh, multi, wrap, none, more}
+use Rattle.def_types.specs.declared.Base.TheVariants.{K}
 use Rattle.def_types.specs.declared.Mall.{Mall}
 use Rattle.def_types.specs.Malleable as mall
 use Rattle.def_types.specs.Malleable.{count_not_s}
@@ -17,13 +18,10 @@ use Rattle.def_types.specs.Typed.{type_of, IsTyped, AreTyped, mall_of, malls_of}
 use Rattle.def_types.proofs.Rows.{corr_rows, mall_rows}
 use Rattle.def_types.proofs.Facts.{typed-and_or, typed-or_i, typed-multi, typed-wrap_c}
 use Rattle.def_sane.specs.Keys.{keys, keys_of_all}
-use Rattle.def_satisfaction.specs.StackSet.{StackSet}
+use Rattle.def_satisfaction.specs.StackSet.{StackSet, If, Both, Either}
 use Rattle.def_satisfaction.specs.Setting.{Setting, Mode, any, only, CountsAsKey}
-use Rattle.def_table.specs.Table.{and_or_row, and_v_row, and_b_row, or_b_row, or_c_row, or_d_row, or_i_row, wrap_d_row, wrap_v_row, wrap_j_row}
-use Rattle.def_satisfaction.specs.Rows.{Row, Signature, AreSignatures, PartsOf, pk_k_row, pk_h_row, thresh_row, multi_row, row, parts, stacks}
-use Rattle.std.proofs.Common.{◌≡◌, Bool, true, false, ◌&&◌, not, List, [], reverse, refl, sym, ◌∙◌, ap}
-use Rattle.std.proofs.lemmas.Bool.{false≢true}
-use Rattle.def_machine.specs.Stacks.{is_empty}
+use Rattle.def_table.specs.Table.{and_or_row}
+use Rattle.def_satisfaction.specs.Rows.{Row, Signature, AreSignatures, PartsOf, thresh_row, multi_row, row, parts, stacks}
 use Rattle.def_assets.specs.Assets.{known}
 use Rattle.def_choice.proofs.Weights.{contains-reverse}
 
@@ -58,106 +56,69 @@ pub record Needs (m : Mall) (r : Row) : Type 0 where
 no_signature : (s : Setting) (key : Key) → ((sig : Bytes) → is_good s.given.table key sig ≡ false) → IsEmpty (Signature s key)
 no_signature s key bad w r = false≢true (sym (bad r.0) ∙ r.1)
 
-pk_k_needs : (s : Setting) (key : Key) → NoKeys s (key ∷ []) → Needs mall.key_row.gives (pk_k_row s key)
-unfolding mall_rows
-pk_k_needs s key h = record {
-  sat = λ e. no_signature s key (λ sig. own_is_bad s (key ∷ []) h key sig (0, omega arith, refl));
-  dsat = λ e. absurd (false≢true e);
-}
+below_none : {P Q : StackSet} → IsEmpty P → IsEmpty (Both P Q)
+below_none p w r = p r.0 r.2
 
-pk_h_needs : (s : Setting) (key : Key) → NoKeys s (key ∷ []) → Needs mall.key_row.gives (pk_h_row s key)
-unfolding mall_rows
-pk_h_needs s key h = record {
-  sat = λ e w r. no_signature s r.0 (λ sig. h key r.0 sig (0, omega arith, refl) r.2 r.3) r.4.0 r.4.2;
-  dsat = λ e. absurd (false≢true e);
-}
+above_none : {P Q : StackSet} → IsEmpty Q → IsEmpty (Both P Q)
+above_none q w r = q r.1 r.3
+
+either_none : {P Q : StackSet} → IsEmpty P → IsEmpty Q → IsEmpty (Either P Q)
+either_none p q w (inl r) = p w r
+either_none p q w (inr r) = q w r
+
+if_none : {fact : Type 0} {P : StackSet} → IsEmpty P → IsEmpty (If fact P)
+if_none p w r = p w r.1
 
 and_or_needs : (s : Setting) (mx my mz : Mall) (x y z : Row) → Needs mx x → Needs my y → Needs mz z → Needs (mall.and_or_row mx my mz).gives (and_or_row (stacks s) x y z)
 unfolding mall_rows
 and_or_needs s mx my mz x y z i j k = record {
-  sat = λ e w r. sat (and_parts mz.s (mx.s || my.s) e) w r;
-  dsat = λ e w r. dsat (and_parts mz.f (mx.s || my.f) e) w r;
-}
-  where
-    sat : (mz.s ≡ true) × ((mx.s || my.s) ≡ true) → IsEmpty (and_or_row (stacks s) x y z).sat
-    sat e w (inl r) = elim (or_cases mx.s my.s e.1) [ inl a ↦ i.sat a r.1 r.3 | inr a ↦ j.sat a r.0 r.2 ]
-    sat e w (inr r) = k.sat e.0 r.0 r.2
-
-    dsat : (mz.f ≡ true) × ((mx.s || my.f) ≡ true) → IsEmpty (and_or_row (stacks s) x y z).dsat
-    dsat e w (inl r) = k.dsat e.0 r.0 r.2
-    dsat e w (inr (fact, r)) = elim (or_cases mx.s my.f e.1) [ inl a ↦ i.sat a r.1 r.3 | inr a ↦ j.dsat a r.0 r.2 ]
-
-and_v_needs : (s : Setting) (mx my : Mall) (x y : Row) → Needs mx x → Needs my y → Needs (mall.and_v_row mx my).gives (and_v_row (stacks s) x y)
-unfolding mall_rows
-and_v_needs s mx my x y i j = record {
-  sat = λ e w r. elim (or_cases mx.s my.s e) [ inl a ↦ i.sat a r.1 r.3 | inr a ↦ j.sat a r.0 r.2 ];
-  dsat = λ e w r. elim (or_cases mx.s my.f e) [ inl a ↦ i.sat a r.1.1 r.1.3 | inr a ↦ j.dsat a r.1.0 r.1.2 ];
+  sat = λ e. let p = and_parts mz.s (mx.s || my.s) e in
+      either_none (elim (or_cases mx.s my.s p.1) [ inl a ↦ above_none (i.sat a) | inr a ↦ below_none (j.sat a) ]) (below_none (k.sat p.0));
+  dsat = λ e. let p = and_parts mz.f (mx.s || my.f) e in
+      either_none (below_none (k.dsat p.0)) (if_none (elim (or_cases mx.s my.f p.1) [ inl a ↦ above_none (i.sat a) | inr a ↦ below_none (j.dsat a) ]));
 }
 
-and_b_needs : (s : Setting) (mx my : Mall) (x y : Row) → Needs mx x → Needs my y → Needs (mall.and_b_row mx my).gives (and_b_row (stacks s) x y)
+two_needs : (s : Setting) (which : Two) (x y : Tree) → Needs (mall_of x) (row s x) → Needs (mall_of y) (row s y) → Needs (mall_of (two which x y)) (row s (two which x y))
 unfolding mall_rows
-and_b_needs s mx my x y i j = record {
-  sat = λ e w r. elim (or_cases mx.s my.s e) [ inl a ↦ i.sat a r.1 r.3 | inr a ↦ j.sat a r.0 r.2 ];
-  dsat = λ e w r. elim (or_cases ((mx.f && my.f) || (mx.s && mx.f)) (my.s && my.f) e) [
-    | inl a ↦ elim (or_cases (mx.f && my.f) (mx.s && mx.f) a) [ inl b ↦ neither (and_parts mx.f my.f b) w r | inr b ↦ of_x (and_parts mx.s mx.f b) w r ]
-    | inr a ↦ of_y (and_parts my.s my.f a) w r
-  ];
+two_needs s kind.AndV x y i j = record {
+  sat = λ e. elim (or_cases (mall_of x).s (mall_of y).s e) [ inl a ↦ above_none (i.sat a) | inr a ↦ below_none (j.sat a) ];
+  dsat = λ e. elim (or_cases (mall_of x).s (mall_of y).f e) [ inl a ↦ if_none (above_none (i.sat a)) | inr a ↦ if_none (below_none (j.dsat a)) ];
 }
-  where
-    neither : (mx.f ≡ true) × (my.f ≡ true) → IsEmpty (and_b_row (stacks s) x y).dsat
-    neither e w (inl r) = i.dsat e.0 r.1 r.3
-    neither e w (inr (fact, inl r)) = i.dsat e.0 r.1 r.3
-    neither e w (inr (fact, inr r)) = j.dsat e.1 r.0 r.2
-
-    of_x : (mx.s ≡ true) × (mx.f ≡ true) → IsEmpty (and_b_row (stacks s) x y).dsat
-    of_x e w (inl r) = i.dsat e.1 r.1 r.3
-    of_x e w (inr (fact, inl r)) = i.dsat e.1 r.1 r.3
-    of_x e w (inr (fact, inr r)) = i.sat e.0 r.1 r.3
-
-    of_y : (my.s ≡ true) × (my.f ≡ true) → IsEmpty (and_b_row (stacks s) x y).dsat
-    of_y e w (inl r) = j.dsat e.1 r.0 r.2
-    of_y e w (inr (fact, inl r)) = j.sat e.0 r.0 r.2
-    of_y e w (inr (fact, inr r)) = j.dsat e.1 r.0 r.2
-
-or_b_needs : (s : Setting) (mx mz : Mall) (x z : Row) → Needs mx x → Needs mz z → Needs (mall.or_b_row mx mz).gives (or_b_row (stacks s) x z)
-unfolding mall_rows
-or_b_needs s mx mz x z i k = record { sat = λ e w r. sat (and_parts mx.s mz.s e) w r; dsat = λ e. absurd (false≢true e) }
-  where
-    sat : (mx.s ≡ true) × (mz.s ≡ true) → IsEmpty (or_b_row (stacks s) x z).sat
-    sat e w (inl r) = i.sat e.0 r.1 r.3
-    sat e w (inr (inl r)) = k.sat e.1 r.0 r.2
-    sat e w (inr (inr r)) = i.sat e.0 r.1.1 r.1.3
-
-or_c_needs : (s : Setting) (mx mz : Mall) (x z : Row) → Needs mx x → Needs mz z → Needs (mall.or_c_row mx mz).gives (or_c_row (stacks s) x z)
-unfolding mall_rows
-or_c_needs s mx mz x z i k = record { sat = λ e w r. sat (and_parts mx.s mz.s e) w r; dsat = λ e w r. r }
-  where
-    sat : (mx.s ≡ true) × (mz.s ≡ true) → IsEmpty (or_c_row (stacks s) x z).sat
-    sat e w (inl r) = i.sat e.0 w r
-    sat e w (inr r) = k.sat e.1 r.0 r.2
-
-or_d_needs : (s : Setting) (mx mz : Mall) (x z : Row) → Needs mx x → Needs mz z → Needs (mall.or_d_row mx mz).gives (or_d_row (stacks s) x z)
-unfolding mall_rows
-or_d_needs s mx mz x z i k = record { sat = λ e w r. sat (and_parts mx.s mz.s e) w r; dsat = λ e w r. k.dsat e r.0 r.2 }
-  where
-    sat : (mx.s ≡ true) × (mz.s ≡ true) → IsEmpty (or_d_row (stacks s) x z).sat
-    sat e w (inl r) = i.sat e.0 w r
-    sat e w (inr r) = k.sat e.1 r.0 r.2
-
-or_i_needs : (s : Setting) (mx mz : Mall) (x z : Row) → Needs mx x → Needs mz z → Needs (mall.or_i_row mx mz).gives (or_i_row (stacks s) x z)
-unfolding mall_rows
-or_i_needs s mx mz x z i k = record {
-  sat = λ e w r. sat (and_parts mx.s mz.s e) w r;
-  dsat = λ e w r. dsat (and_parts mx.f mz.f e) w r;
+two_needs s kind.AndB x y i j =
+    let mx = mall_of x in
+    let my = mall_of y in record {
+      sat = λ e. elim (or_cases mx.s my.s e) [ inl a ↦ above_none (i.sat a) | inr a ↦ below_none (j.sat a) ];
+      dsat = λ e. elim (or_cases ((mx.f && my.f) || (mx.s && mx.f)) (my.s && my.f) e) [
+        | inr a ↦
+            let p = and_parts my.s my.f a in
+            either_none (below_none (j.dsat p.1)) (if_none (either_none (below_none (j.sat p.0)) (below_none (j.dsat p.1))))
+        | inl a ↦ elim (or_cases (mx.f && my.f) (mx.s && mx.f) a) [
+          | inl b ↦
+              let p = and_parts mx.f my.f b in
+              either_none (above_none (i.dsat p.0)) (if_none (either_none (above_none (i.dsat p.0)) (below_none (j.dsat p.1))))
+          | inr b ↦
+              let p = and_parts mx.s mx.f b in
+              either_none (above_none (i.dsat p.1)) (if_none (either_none (above_none (i.dsat p.1)) (above_none (i.sat p.0))))
+        ]
+      ];
+    }
+two_needs s kind.OrB x z i k = record {
+  sat = λ e. let p = and_parts (mall_of x).s (mall_of z).s e in
+      either_none (above_none (i.sat p.0)) (either_none (below_none (k.sat p.1)) (if_none (above_none (i.sat p.0))));
+  dsat = λ e. absurd (false≢true e);
 }
-  where
-    sat : (mx.s ≡ true) × (mz.s ≡ true) → IsEmpty (or_i_row (stacks s) x z).sat
-    sat e w (inl r) = i.sat e.0 r.0 r.2
-    sat e w (inr r) = k.sat e.1 r.0 r.2
-
-    dsat : (mx.f ≡ true) × (mz.f ≡ true) → IsEmpty (or_i_row (stacks s) x z).dsat
-    dsat e w (inl r) = i.dsat e.0 r.0 r.2
-    dsat e w (inr r) = k.dsat e.1 r.0 r.2
+two_needs s kind.OrC x z i k = record {
+  sat = λ e. let p = and_parts (mall_of x).s (mall_of z).s e in either_none (i.sat p.0) (below_none (k.sat p.1));
+  dsat = λ e w r. r;
+}
+two_needs s kind.OrD x z i k = record {
+  sat = λ e. let p = and_parts (mall_of x).s (mall_of z).s e in either_none (i.sat p.0) (below_none (k.sat p.1));
+  dsat = λ e. below_none (k.dsat e);
+}
+two_needs s kind.OrI x z i k = record {
+  sat = λ e. let p = and_parts (mall_of x).s (mall_of z).s e in either_none (below_none (i.sat p.0)) (below_none (k.sat p.1));
+  dsat = λ e. let p = and_parts (mall_of x).f (mall_of z).f e in either_none (below_none (i.dsat p.0)) (below_none (k.dsat p.1));
+}
 
 -- no more children are satisfied than there are without s
 abbrev pub FewSat : List Mall → (ℕ → StackSet) → Type 0
@@ -197,106 +158,53 @@ multi_needs s k keys some h = record {
   dsat = λ e. absurd (false≢true e);
 }
 
-wrap_d_needs : (s : Setting) (m : Mall) (x : Row) → Needs m x → Needs (mall.wrap_d_row m).gives (wrap_d_row (stacks s) x)
-unfolding mall_rows
-wrap_d_needs s m x i = record { sat = λ e w r. i.sat e r.0 r.2; dsat = λ e. absurd (false≢true e) }
-
-wrap_v_needs : (s : Setting) (m : Mall) (x : Row) → Needs m x → Needs (mall.wrap_v_row m).gives (wrap_v_row (stacks s) x)
-unfolding mall_rows
-wrap_v_needs s m x i = record { sat = i.sat; dsat = λ e w r. r }
-
-wrap_j_needs : (s : Setting) (m : Mall) (x : Row) → Needs m x → Needs (mall.wrap_j_row m).gives (wrap_j_row (stacks s) x)
-unfolding mall_rows
-wrap_j_needs s m x i = record { sat = i.sat; dsat = λ e. absurd (false≢true e) }
-
-b_not_k : B ≡ K → ⊥
-b_not_k e = cc
-
-v_not_k : V ≡ K → ⊥
-v_not_k e = cc
-
-w_not_k : W ≡ K → ⊥
-w_not_k e = cc
-
 -- a miniscript of type K has the letter s: it leaves a key whose signature is checked
 key_is_s : (t : Tree) → IsTyped t → (type_of t).base ≡ K → (mall_of t).s ≡ true
 unfolding corr_rows mall_rows
-key_is_s just_0 typed e = refl
-key_is_s just_1 typed e = absurd (b_not_k e)
-key_is_s (pk_k key) typed e = refl
-key_is_s (pk_h key) typed e = refl
-key_is_s (older n) typed e = absurd (b_not_k e)
-key_is_s (after n) typed e = absurd (b_not_k e)
-key_is_s (hash kind value) typed e = absurd (b_not_k e)
 key_is_s (and_or x y z) typed e =
     let p = typed-and_or x y z typed in
     and_from (mall_of z).s ((mall_of x).s || (mall_of y).s) (key_is_s z p.2 (sym p.6 ∙ e))
     (or_right (mall_of x).s (mall_of y).s (key_is_s y p.1 e))
 key_is_s (two kind.AndV x y) typed e = or_right (mall_of x).s (mall_of y).s (key_is_s y typed.1 e)
-key_is_s (two kind.AndB x y) typed e = absurd (b_not_k e)
-key_is_s (two kind.OrB x y) typed e = absurd (b_not_k e)
-key_is_s (two kind.OrC x y) typed e = absurd (v_not_k e)
-key_is_s (two kind.OrD x y) typed e = absurd (b_not_k e)
-key_is_s (two kind.OrI x y) typed e =
-    let p = typed-or_i x y typed in
-    and_from (mall_of x).s (mall_of y).s (key_is_s x p.0 e) (key_is_s y p.1 (sym p.2 ∙ e))
-key_is_s (thresh k xs) typed e = absurd (b_not_k e)
-key_is_s (multi k keys) typed e = refl
-key_is_s (wrap wrapper.A x) typed e = absurd (w_not_k e)
-key_is_s (wrap wrapper.S x) typed e = absurd (w_not_k e)
+key_is_s (two kind.OrI x z) typed e =
+    let p = typed-or_i x z typed in
+    and_from (mall_of x).s (mall_of z).s (key_is_s x p.0 e) (key_is_s z p.1 (sym p.2 ∙ e))
 key_is_s (wrap wrapper.C x) typed e = refl
-key_is_s (wrap wrapper.D x) typed e = absurd (b_not_k e)
-key_is_s (wrap wrapper.V x) typed e = absurd (v_not_k e)
-key_is_s (wrap wrapper.J x) typed e = absurd (b_not_k e)
-key_is_s (wrap wrapper.N x) typed e = absurd (b_not_k e)
-
-needs_c : (s : Setting) (x : Tree) → IsTyped (wrap wrapper.C x) → Needs (mall_of x) (row s x) → Needs (mall_of (wrap wrapper.C x)) (row s (wrap wrapper.C x))
-unfolding mall_rows
-needs_c s x typed i = let p = typed-wrap_c x typed in record { sat = λ e. i.sat (key_is_s x p.0 p.1); dsat = i.dsat }
+key_is_s tree typed e = cc
 
 mutual
   unfolding mall_rows
 
   pub needs : (s : Setting) (t : Tree) → IsTyped t → NoKeys s (keys t) → Needs (mall_of t) (row s t)
   needs s just_0 typed h = record { sat = λ e w r. r; dsat = λ e. absurd (false≢true e) }
-  needs s just_1 typed h = record { sat = λ e. absurd (false≢true e); dsat = λ e w r. r }
-  needs s (pk_k key) typed h = pk_k_needs s key h
-  needs s (pk_h key) typed h = pk_h_needs s key h
-  needs s (older n) typed h = record { sat = λ e. absurd (false≢true e); dsat = λ e w r. r }
-  needs s (after n) typed h = record { sat = λ e. absurd (false≢true e); dsat = λ e w r. r }
+  needs s (pk_k key) typed h = record {
+    sat = λ e. no_signature s key (λ sig. own_is_bad s (key ∷ []) h key sig (0, omega arith, refl));
+    dsat = λ e. absurd (false≢true e);
+  }
+  needs s (pk_h key) typed h = record {
+    sat = λ e w r. no_signature s r.0 (λ sig. h key r.0 sig (0, omega arith, refl) r.2 r.3) r.4.0 r.4.2;
+    dsat = λ e. absurd (false≢true e);
+  }
   needs s (hash kind value) typed h = record { sat = λ e. absurd (false≢true e); dsat = λ e. absurd (false≢true e) }
   needs s (and_or x y z) typed h =
       let h_xy = none_left s (keys x ++ keys y) (keys z) h in
       and_or_needs s (mall_of x) (mall_of y) (mall_of z) (row s x) (row s y) (row s z)
       (needs s x typed.0 (none_left s (keys x) (keys y) h_xy)) (needs s y typed.1 (none_right s (keys x) (keys y) h_xy))
       (needs s z typed.2 (none_right s (keys x ++ keys y) (keys z) h))
-  needs s (two kind.AndV x y) typed h =
-      and_v_needs s (mall_of x) (mall_of y) (row s x) (row s y)
-      (needs s x typed.0 (none_left s (keys x) (keys y) h)) (needs s y typed.1 (none_right s (keys x) (keys y) h))
-  needs s (two kind.AndB x y) typed h =
-      and_b_needs s (mall_of x) (mall_of y) (row s x) (row s y)
-      (needs s x typed.0 (none_left s (keys x) (keys y) h)) (needs s y typed.1 (none_right s (keys x) (keys y) h))
-  needs s (two kind.OrB x y) typed h =
-      or_b_needs s (mall_of x) (mall_of y) (row s x) (row s y)
-      (needs s x typed.0 (none_left s (keys x) (keys y) h)) (needs s y typed.1 (none_right s (keys x) (keys y) h))
-  needs s (two kind.OrC x y) typed h =
-      or_c_needs s (mall_of x) (mall_of y) (row s x) (row s y)
-      (needs s x typed.0 (none_left s (keys x) (keys y) h)) (needs s y typed.1 (none_right s (keys x) (keys y) h))
-  needs s (two kind.OrD x y) typed h =
-      or_d_needs s (mall_of x) (mall_of y) (row s x) (row s y)
-      (needs s x typed.0 (none_left s (keys x) (keys y) h)) (needs s y typed.1 (none_right s (keys x) (keys y) h))
-  needs s (two kind.OrI x y) typed h =
-      or_i_needs s (mall_of x) (mall_of y) (row s x) (row s y)
-      (needs s x typed.0 (none_left s (keys x) (keys y) h)) (needs s y typed.1 (none_right s (keys x) (keys y) h))
+  needs s (two which x y) typed h =
+      two_needs s which x y (needs s x typed.0 (none_left s (keys x) (keys y) h)) (needs s y typed.1 (none_right s (keys x) (keys y) h))
   needs s (thresh k xs) typed h = thresh_needs s k (malls_of xs) (parts s xs) (few_satisfied s xs typed.0 h)
   needs s (multi k own) typed h = multi_needs s k own (typed-multi k own typed).0 h
-  needs s (wrap wrapper.A x) typed h = needs s x typed.0 h
-  needs s (wrap wrapper.S x) typed h = needs s x typed.0 h
-  needs s (wrap wrapper.C x) typed h = needs_c s x typed (needs s x typed.0 h)
-  needs s (wrap wrapper.D x) typed h = wrap_d_needs s (mall_of x) (row s x) (needs s x typed.0 h)
-  needs s (wrap wrapper.V x) typed h = wrap_v_needs s (mall_of x) (row s x) (needs s x typed.0 h)
-  needs s (wrap wrapper.J x) typed h = wrap_j_needs s (mall_of x) (row s x) (needs s x typed.0 h)
-  needs s (wrap wrapper.N x) typed h = needs s x typed.0 h
+  needs s (wrap wrapper.C x) typed h =
+      let i = needs s x typed.0 h in
+      let p = typed-wrap_c x typed in
+      record { sat = λ e. i.sat (key_is_s x p.0 p.1); dsat = i.dsat }
+  needs s (wrap wrapper.D x) typed h =
+      let i = needs s x typed.0 h in record { sat = λ e. below_none (i.sat e); dsat = λ e. absurd (false≢true e) }
+  needs s (wrap wrapper.V x) typed h = let i = needs s x typed.0 h in record { sat = i.sat; dsat = λ e w r. r }
+  needs s (wrap wrapper.J x) typed h = let i = needs s x typed.0 h in record { sat = i.sat; dsat = λ e. absurd (false≢true e) }
+  needs s (wrap letter x) typed h = needs s x typed.0 h
+  needs s tree typed h = record { sat = λ e. absurd (false≢true e); dsat = λ e w r. r }
 
   pub few_satisfied : (s : Setting) (xs : Trees) → AreTyped xs → NoKeys s (keys_of_all xs) → FewSat (malls_of xs) (parts s xs)
   few_satisfied s none typed h = λ n w r. (let e = r.0 in omega arith)
@@ -306,11 +214,8 @@ mutual
 
 -- no table has no good signature
 pub bare_is_bad : (key sig : Bytes) → is_good [] key sig ≡ false
-bare_is_bad key sig = go (not (is_empty sig))
-  where
-    go : (b : Bool) → (b && false) ≡ false
-    go true = refl
-    go false = refl
+bare_is_bad key [] = refl
+bare_is_bad key (b ∷ sig) = refl
 
 pub no_table : (s : Setting) (keys : List Key) → s.given.table ≡ [] → NoKeys s keys
 no_table s keys e key other sig h i j = ap (λ table. is_good table other sig) e ∙ bare_is_bad other sig

@@ -4,7 +4,7 @@ use Rattle.std.specs.Prelude.{⊤}
 use Rattle.def_tree.specs.declared.Two.TheVariants as kind
 use Rattle.def_tree.specs.declared.Wrapper.TheVariants as wrapper
 use Rattle.def_machine.specs.Stacks.{Stack}
-use Rattle.def_tree.specs.Tree.{Tree, Trees, just_0, just_1, pk_k, pk_h, older, after, hash, and_or, two, thresh, multi, wrap, none, more}
+use Rattle.def_tree.specs.Tree.{Tree, Trees, and_or, two, thresh, wrap, none, more}
 use Rattle.def_tree.specs.Range.{count}
 use Rattle.def_emit.specs.Emit.{emit, emit_sum, emit_added}
 use Rattle.def_script.specs.Instruction.{opcode_count}
@@ -14,18 +14,11 @@ use Rattle.def_height.proofs.Opcodes.{opcodes_verified, ops_and_or, ops_and_v, o
 
 abbrev mutual
   pub Few : Tree → Type 0
-  Few just_0 = ⊤
-  Few just_1 = ⊤
-  Few (pk_k key) = ⊤
-  Few (pk_h key) = ⊤
-  Few (older n) = ⊤
-  Few (after n) = ⊤
-  Few (hash kind value) = ⊤
   Few (and_or x y z) = Few x × Few y × Few z
   Few (two kind x y) = Few x × Few y
   Few (thresh k xs) = (count xs < 2 ^ 30) × AllFew xs
-  Few (multi k keys) = ⊤
   Few (wrap wrapper x) = Few x
+  Few tree = ⊤
 
   pub AllFew : Trees → Type 0
   AllFew none = ⊤
@@ -55,13 +48,6 @@ few_summed (more x xs) =
 -- a Script with few opcodes is that of a miniscript with few children
 mutual
   pub few_opcodes : (t : Tree) → opcode_count (emit t) < 2 ^ 29 → Few t
-  few_opcodes just_0 low = tt
-  few_opcodes just_1 low = tt
-  few_opcodes (pk_k key) low = tt
-  few_opcodes (pk_h key) low = tt
-  few_opcodes (older n) low = tt
-  few_opcodes (after n) low = tt
-  few_opcodes (hash kind value) low = tt
   few_opcodes (and_or x y z) low =
       let e = ops_and_or x y z in
       (few_opcodes x (omega arith), few_opcodes y (omega arith), few_opcodes z (omega arith))
@@ -75,7 +61,6 @@ mutual
       let e = ops_thresh k xs in
       let i = few_summed xs in
       (omega arith, few_sum xs (omega arith))
-  few_opcodes (multi k keys) low = tt
   few_opcodes (wrap wrapper.A x) low = let e = ops_a x in few_opcodes x (omega arith)
   few_opcodes (wrap wrapper.S x) low = few_opcodes x (omega arith)
   few_opcodes (wrap wrapper.C x) low = let e = ops_c x in few_opcodes x (omega arith)
@@ -83,6 +68,7 @@ mutual
   few_opcodes (wrap wrapper.V x) low = let e = opcodes_verified (emit x) in few_opcodes x (omega arith)
   few_opcodes (wrap wrapper.J x) low = let e = ops_j x in few_opcodes x (omega arith)
   few_opcodes (wrap wrapper.N x) low = let e = ops_n x in few_opcodes x (omega arith)
+  few_opcodes tree low = tt
 
   few_sum : (xs : Trees) → opcode_count (emit_sum xs) < 2 ^ 29 → AllFew xs
   few_sum none low = tt

@@ -6,7 +6,7 @@ use Rattle.std.proofs.lemmas.Bool.{cases_Bool, or_cases, false≢true, and_parts
 use Rattle.def_machine.specs.Stacks.{Stack}
 use Rattle.def_tree.specs.declared.Two.TheVariants as kind
 use Rattle.def_tree.specs.declared.Wrapper.TheVariants as wrapper
-use Rattle.def_tree.specs.Tree.{Tree, Trees, Key, just_0, just_1, pk_k, pk_h, older, after, hash, and_or, two, thresh, multi, wrap, none, more}
+use Rattle.def_tree.specs.Tree.{Tree, Trees, Key, just_0, pk_k, pk_h, and_or, two, thresh, multi, wrap, none, more}
 use Rattle.def_tree.specs.Range.{IsWritable, AreWritable}
 use Rattle.def_types.specs.declared.Mall.{Mall}
 use Rattle.def_types.specs.Malleable.{count_not_s}
@@ -15,10 +15,9 @@ use Rattle.def_types.proofs.Rows.{mall_rows}
 use Rattle.def_sane.specs.Keys.{keys, keys_of_all}
 use Rattle.def_satisfaction.specs.StackSet.{StackSet, Both}
 use Rattle.def_satisfaction.specs.Setting.{Setting, CountsAsKey}
-use Rattle.def_table.specs.Table.{or_i_row}
-use Rattle.def_satisfaction.specs.Rows.{Row, EMPTY, ONE, row, parts, stacks}
+use Rattle.def_satisfaction.specs.Rows.{EMPTY, ONE, row, parts}
 use Rattle.def_choice.specs.Tight.{HasOne}
-use Rattle.ms_row_laws.proofs.NeededSignatures.{NoKeys, IsEmpty, none_left, none_right, counts_itself, needs, few_satisfied}
+use Rattle.ms_row_laws.proofs.NeededSignatures.{NoKeys, none_left, none_right, counts_itself, needs, few_satisfied}
 
 pub one_both : (P Q : StackSet) → HasOne P → HasOne Q → HasOne (Both P Q)
 one_both P Q p q = (q.0 ++ p.0, (p.0, q.0, p.1, q.1, refl))
@@ -44,29 +43,20 @@ or_second a b i e = sym (ap (λ c. c || b) i) ∙ e
 -- the one dissatisfaction without signatures of a miniscript with the letter e. Of others it says nothing
 abbrev mutual
   the_dsat : Tree → Stack
-  the_dsat just_0 = []
-  the_dsat just_1 = []
   the_dsat (pk_k key) = EMPTY ∷ []
   the_dsat (pk_h key) = key ∷ EMPTY ∷ []
-  the_dsat (older n) = []
-  the_dsat (after n) = []
-  the_dsat (hash kind value) = []
   the_dsat (and_or x y z) = the_dsat x ++ the_dsat z
   the_dsat (two kind.AndV x y) = []
-  the_dsat (two kind.AndB x y) = the_dsat x ++ the_dsat y
-  the_dsat (two kind.OrB x z) = the_dsat x ++ the_dsat z
   the_dsat (two kind.OrC x z) = []
-  the_dsat (two kind.OrD x z) = the_dsat x ++ the_dsat z
   the_dsat (two kind.OrI x z) = if (mall_of x).e && (mall_of z).f then ONE ∷ the_dsat x else EMPTY ∷ the_dsat z
+  the_dsat (two which x y) = the_dsat x ++ the_dsat y
   the_dsat (thresh k xs) = none_satisfied xs
   the_dsat (multi k own) = replicate (k + 1) EMPTY
-  the_dsat (wrap wrapper.A x) = the_dsat x
-  the_dsat (wrap wrapper.S x) = the_dsat x
-  the_dsat (wrap wrapper.C x) = the_dsat x
   the_dsat (wrap wrapper.D x) = EMPTY ∷ []
   the_dsat (wrap wrapper.V x) = []
   the_dsat (wrap wrapper.J x) = EMPTY ∷ []
-  the_dsat (wrap wrapper.N x) = the_dsat x
+  the_dsat (wrap letter x) = the_dsat x
+  the_dsat tree = []
 
   -- all children dissatisfied
   none_satisfied : Trees → Stack
@@ -79,23 +69,17 @@ module _ (s : Setting) where
 
     is_dsat : (t : Tree) → IsWritable t → IsMallTyped t → (mall_of t).e ≡ true → (row s t).dsat (the_dsat t)
     is_dsat just_0 k safe e = refl
-    is_dsat just_1 k safe e = absurd (false≢true e)
     is_dsat (pk_k key) k safe e = refl
     is_dsat (pk_h key) k safe e = (key, k.form, refl, counts_itself s.mode key, (EMPTY ∷ [], key ∷ [], refl, refl, refl))
-    is_dsat (older n) k safe e = absurd (false≢true e)
-    is_dsat (after n) k safe e = absurd (false≢true e)
-    is_dsat (hash kind value) k safe e = absurd (false≢true e)
     is_dsat (and_or x y z) k safe e =
         let p = and_parts (mall_of z).e ((mall_of x).s || (mall_of y).f) e in
         inl (_, _, is_dsat z k.2 safe.2 p.0, is_dsat x k.0 safe.0 safe.3.0, refl)
-    is_dsat (two kind.AndV x y) k safe e = absurd (false≢true e)
     is_dsat (two kind.AndB x y) k safe e =
         let p = and_b_e (mall_of x).e (mall_of y).e (mall_of x).s (mall_of y).s e in
         inl (_, _, is_dsat y k.1 safe.1 p.1, is_dsat x k.0 safe.0 p.0, refl)
     is_dsat (two kind.OrB x z) k safe e =
         let p = and_parts (mall_of x).e (mall_of z).e safe.2.0 in
         (_, _, is_dsat z k.1 safe.1 p.1, is_dsat x k.0 safe.0 p.0, refl)
-    is_dsat (two kind.OrC x z) k safe e = absurd (false≢true e)
     is_dsat (two kind.OrD x z) k safe e = (_, _, is_dsat z k.1 safe.1 e, is_dsat x k.0 safe.0 safe.2.0, refl)
     is_dsat (two kind.OrI x z) k safe e =
         elim (cases_Bool ((mall_of x).e && (mall_of z).f)) [
@@ -106,13 +90,11 @@ module _ (s : Setting) where
         ]
     is_dsat (thresh k xs) writable safe e = inl (are_none xs writable.2 safe.0 safe.1.0)
     is_dsat (multi k own) writable safe e = refl
-    is_dsat (wrap wrapper.A x) k safe e = is_dsat x k safe.0 e
-    is_dsat (wrap wrapper.S x) k safe e = is_dsat x k safe.0 e
-    is_dsat (wrap wrapper.C x) k safe e = is_dsat x k safe.0 e
     is_dsat (wrap wrapper.D x) k safe e = refl
     is_dsat (wrap wrapper.V x) k safe e = absurd (false≢true e)
     is_dsat (wrap wrapper.J x) k safe e = inl refl
-    is_dsat (wrap wrapper.N x) k safe e = is_dsat x k safe.0 e
+    is_dsat (wrap letter x) k safe e = is_dsat x k safe.0 e
+    is_dsat tree k safe e = absurd (false≢true e)
 
     are_none : (xs : Trees) → AreWritable xs → AreMallTyped xs → all_e (malls_of xs) ≡ true → parts s xs 0 (none_satisfied xs)
     are_none none k safe e = (refl, refl)
@@ -126,14 +108,6 @@ free_dsat s t k safe e = (the_dsat t, is_dsat s t k safe e)
 -- of two parts each is the one that it can be
 both_are : (w above below a b : Stack) → w ≡ above ++ below → above ≡ a → below ≡ b → w ≡ a ++ b
 both_are w above below a b e i j = e ∙ ap (λ v. v ++ below) i ∙ ap (λ v. a ++ v) j
-
-or_i_first : (s : Setting) (x z : Row) (a w : Stack) → IsEmpty z.dsat → ((v : Stack) → x.dsat v → v ≡ a) → (or_i_row (stacks s) x z).dsat w → w ≡ ONE ∷ a
-or_i_first s x z a w empty only (inl r) = both_are w r.1 r.0 (ONE ∷ []) a r.4 r.3 (only r.0 r.2)
-or_i_first s x z a w empty only (inr r) = absurd (empty r.0 r.2)
-
-or_i_second : (s : Setting) (x z : Row) (a w : Stack) → IsEmpty x.dsat → ((v : Stack) → z.dsat v → v ≡ a) → (or_i_row (stacks s) x z).dsat w → w ≡ EMPTY ∷ a
-or_i_second s x z a w empty only (inl r) = absurd (empty r.0 r.2)
-or_i_second s x z a w empty only (inr r) = both_are w r.1 r.0 (EMPTY ∷ []) a r.4 r.3 (only r.0 r.2)
 
 none_not_s : (ms : List Mall) → all_s ms ≡ true → count_not_s ms ≡ 0
 none_not_s [] e = refl
@@ -151,13 +125,9 @@ module _ (s : Setting) (own : OwnKeys s) where
 
     only_dsat : (tree : Tree) → IsTyped tree → IsMallTyped tree → NoKeys s (keys tree) → (mall_of tree).e ≡ true → (w : Stack) → (row s tree).dsat w → w ≡ the_dsat tree
     only_dsat just_0 typed safe h e w r = r
-    only_dsat just_1 typed safe h e w r = absurd (false≢true e)
     only_dsat (pk_k key) typed safe h e w r = r
     only_dsat (pk_h key) typed safe h e w r =
         both_are w r.4.1 r.4.0 (key ∷ []) (EMPTY ∷ []) r.4.4 (r.4.3 ∙ ap (λ other. other ∷ []) (own key r.0 r.3)) r.4.2
-    only_dsat (older n) typed safe h e w r = absurd (false≢true e)
-    only_dsat (after n) typed safe h e w r = absurd (false≢true e)
-    only_dsat (hash kind value) typed safe h e w r = absurd (false≢true e)
     only_dsat (and_or x y z) typed safe h e w (inl r) =
         let p = and_parts (mall_of z).e ((mall_of x).s || (mall_of y).f) e in
         let h_x = none_left s (keys x) (keys y) (none_left s (keys x ++ keys y) (keys z) h) in
@@ -170,26 +140,21 @@ module _ (s : Setting) (own : OwnKeys s) where
         let i = needs s x typed.0 (none_left s (keys x) (keys y) h_xy) in
         let j = needs s y typed.1 (none_right s (keys x) (keys y) h_xy) in
         absurd (elim (or_cases (mall_of x).s (mall_of y).f p.1) [ inl a ↦ i.sat a r.1 r.3 | inr a ↦ j.dsat a r.0 r.2 ])
-    only_dsat (two kind.AndV x y) typed safe h e w r = absurd (false≢true e)
     only_dsat (two kind.AndB x y) typed safe h e w (inl r) =
         let p = and_b_e (mall_of x).e (mall_of y).e (mall_of x).s (mall_of y).s e in
         both_are w r.1 r.0 _ _ r.4
         (only_dsat x typed.0 safe.0 (none_left s (keys x) (keys y) h) p.0 r.1 r.3)
         (only_dsat y typed.1 safe.1 (none_right s (keys x) (keys y) h) p.1 r.0 r.2)
-    only_dsat (two kind.AndB x y) typed safe h e w (inr (fact, inl r)) =
-        let p = and_b_e (mall_of x).e (mall_of y).e (mall_of x).s (mall_of y).s e in
-        let j = needs s y typed.1 (none_right s (keys x) (keys y) h) in
-        absurd (j.sat p.3 r.0 r.2)
-    only_dsat (two kind.AndB x y) typed safe h e w (inr (fact, inr r)) =
+    only_dsat (two kind.AndB x y) typed safe h e w (inr (fact, r)) =
         let p = and_b_e (mall_of x).e (mall_of y).e (mall_of x).s (mall_of y).s e in
         let i = needs s x typed.0 (none_left s (keys x) (keys y) h) in
-        absurd (i.sat p.2 r.1 r.3)
+        let j = needs s y typed.1 (none_right s (keys x) (keys y) h) in
+        absurd (elim r [ inl a ↦ j.sat p.3 a.0 a.2 | inr a ↦ i.sat p.2 a.1 a.3 ])
     only_dsat (two kind.OrB x z) typed safe h e w r =
         let p = and_parts (mall_of x).e (mall_of z).e safe.2.0 in
         both_are w r.1 r.0 _ _ r.4
         (only_dsat x typed.0 safe.0 (none_left s (keys x) (keys z) h) p.0 r.1 r.3)
         (only_dsat z typed.1 safe.1 (none_right s (keys x) (keys z) h) p.1 r.0 r.2)
-    only_dsat (two kind.OrC x z) typed safe h e w r = absurd (false≢true e)
     only_dsat (two kind.OrD x z) typed safe h e w r =
         both_are w r.1 r.0 _ _ r.4
         (only_dsat x typed.0 safe.0 (none_left s (keys x) (keys z) h) safe.2.0 r.1 r.3)
@@ -201,11 +166,17 @@ module _ (s : Setting) (own : OwnKeys s) where
           | inl a ↦
               let p = and_parts (mall_of x).e (mall_of z).f a in
               let k = needs s z typed.1 h_z in
-              rw a (or_i_first s (row s x) (row s z) _ w (k.dsat p.1) (only_dsat x typed.0 safe.0 h_x p.0) r)
+              rw a (elim r [
+                | inl q ↦ both_are w q.1 q.0 (ONE ∷ []) _ q.4 q.3 (only_dsat x typed.0 safe.0 h_x p.0 q.0 q.2)
+                | inr q ↦ absurd (k.dsat p.1 q.0 q.2)
+              ])
           | inr b ↦
               let p = and_parts (mall_of z).e (mall_of x).f (or_second _ _ b e) in
               let i = needs s x typed.0 h_x in
-              rw b (or_i_second s (row s x) (row s z) _ w (i.dsat p.1) (only_dsat z typed.1 safe.1 h_z p.0) r)
+              rw b (elim r [
+                | inl q ↦ absurd (i.dsat p.1 q.0 q.2)
+                | inr q ↦ both_are w q.1 q.0 (EMPTY ∷ []) _ q.4 q.3 (only_dsat z typed.1 safe.1 h_z p.0 q.0 q.2)
+              ])
         ]
     only_dsat (thresh k xs) typed safe h e w (inl r) = only_none xs typed.0 safe.0 h safe.1.0 w r
     only_dsat (thresh k xs) typed safe h e w (inr (fact, (n, some, other, r))) =
@@ -213,14 +184,12 @@ module _ (s : Setting) (own : OwnKeys s) where
         let l = none_not_s (malls_of xs) e in
         absurd (some (omega arith))
     only_dsat (multi k keys) typed safe h e w r = r
-    only_dsat (wrap wrapper.A x) typed safe h e w r = only_dsat x typed.0 safe.0 h e w r
-    only_dsat (wrap wrapper.S x) typed safe h e w r = only_dsat x typed.0 safe.0 h e w r
-    only_dsat (wrap wrapper.C x) typed safe h e w r = only_dsat x typed.0 safe.0 h e w r
     only_dsat (wrap wrapper.D x) typed safe h e w r = r
     only_dsat (wrap wrapper.V x) typed safe h e w r = absurd (false≢true e)
     only_dsat (wrap wrapper.J x) typed safe h e w (inl r) = r
     only_dsat (wrap wrapper.J x) typed safe h e w (inr (fact, (top, r))) = let i = needs s x typed.0 h in absurd (i.dsat e w r)
-    only_dsat (wrap wrapper.N x) typed safe h e w r = only_dsat x typed.0 safe.0 h e w r
+    only_dsat (wrap letter x) typed safe h e w r = only_dsat x typed.0 safe.0 h e w r
+    only_dsat tree typed safe h e w r = absurd (false≢true e)
 
     only_none : (xs : Trees) → AreTyped xs → AreMallTyped xs → NoKeys s (keys_of_all xs) → all_e (malls_of xs) ≡ true → (w : Stack) → parts s xs 0 w → w ≡ none_satisfied xs
     only_none none typed safe h e w r = r.1
@@ -235,5 +204,6 @@ module _ (s : Setting) (own : OwnKeys s) where
 abbrev pub AreOne : StackSet → StackSet → Type 0
 AreOne P Q = (w v : Stack) → P w → Q v → w ≡ v
 
-pub one_dsat : (s t : Setting) → OwnKeys s → OwnKeys t → (tree : Tree) → IsTyped tree → IsMallTyped tree → NoKeys s (keys tree) → NoKeys t (keys tree) → (mall_of tree).e ≡ true → AreOne (row s tree).dsat (row t tree).dsat
+pub one_dsat : (s t : Setting) → OwnKeys s → OwnKeys t → (tree : Tree) → IsTyped tree → IsMallTyped tree → NoKeys s (keys tree) → NoKeys t (keys tree)
+    → (mall_of tree).e ≡ true → AreOne (row s tree).dsat (row t tree).dsat
 one_dsat s t own_s own_t tree typed safe h i e w v p q = only_dsat s own_s tree typed safe h e w p ∙ sym (only_dsat t own_t tree typed safe i e v q)

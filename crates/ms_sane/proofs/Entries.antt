@@ -34,7 +34,8 @@ word_injective xs ys x y same = sym (be_bytes_8 xs (from_be_bytes w64 xs) x.coun
 first_eight : (n : ℕ) (bytes : List ℕ) → AreBytes (8 + n) bytes → AreBytes 8 (take 8 bytes)
 first_eight n bytes are = record {
   count_is = length-take-le 8 bytes (omega (arith, are.count_is));
-  all = λ i. ⊎_elim (λ below. rw (get_or-take 8 bytes i 0 below) (are.all i)) (λ past. rw (get_or_past (take 8 bytes) i 0 (omega (arith, past, length-take-le 8 bytes (omega (arith, are.count_is))))) (omega arith)) (cases_lt i 8);
+  all = λ i. ⊎_elim (λ below. rw (get_or-take 8 bytes i 0 below) (are.all i))
+      (λ past. rw (get_or_past (take 8 bytes) i 0 (omega (arith, past, length-take-le 8 bytes (omega (arith, are.count_is))))) (omega arith)) (cases_lt i 8);
 }
 
 others : (n : ℕ) (bytes : List ℕ) → AreBytes (8 + n) bytes → AreBytes n (drop 8 bytes)

@@ -64,7 +64,8 @@ mixed_or_kinds-wrap first wrapper x =
 mixed_or_kinds-two : (first : ℕ) (kind : Two) (x y : Tree) → mixed_or_kinds first (two kind x y)
     ≡ if_ok (mixed_or_kinds first x) (λ a. if_ok (mixed_or_kinds (first + nodes x) y) (λ b. of_node (first + nodes x + nodes y) (asks_both kind && conflict a b) (union a b)))
 mixed_or_kinds-two first kind x y =
-    rw (first_mix-append (all_nodes x ++ all_nodes y) (two kind x y ∷ []) first (first + nodes x + nodes y) (omega (arith, length-append (all_nodes x) (all_nodes y), nodes_are_all x, nodes_are_all y)))
+    rw (first_mix-append (all_nodes x ++ all_nodes y) (two kind x y ∷ []) first (first + nodes x + nodes y)
+    (omega (arith, length-append (all_nodes x) (all_nodes y), nodes_are_all x, nodes_are_all y)))
     (rw (first_mix-append (all_nodes x) (all_nodes y) first (first + nodes x) (ap (λ n. first + n) (sym (nodes_are_all x))))
     (go (first_mix first (all_nodes x)) (first_mix (first + nodes x) (all_nodes y))))
   where
@@ -75,15 +76,25 @@ mixed_or_kinds-two first kind x y =
     go (Some node) p = refl
 
 mixed_or_kinds-and_or : (first : ℕ) (x y z : Tree) → mixed_or_kinds first (and_or x y z)
-    ≡ if_ok (mixed_or_kinds first x) (λ a. if_ok (mixed_or_kinds (first + nodes x) y) (λ b. if_ok (mixed_or_kinds (first + nodes x + nodes y) z) (λ c. of_node (first + nodes x + nodes y + nodes z) (conflict a b) (union a (union b c)))))
+    ≡ if_ok (mixed_or_kinds first x) (λ a. if_ok (mixed_or_kinds (first + nodes x) y)
+    (λ b. if_ok (mixed_or_kinds (first + nodes x + nodes y) z) (λ c. of_node (first + nodes x + nodes y + nodes z) (conflict a b) (union a (union b c)))))
 mixed_or_kinds-and_or first x y z =
-    rw (first_mix-append (all_nodes x ++ all_nodes y ++ all_nodes z) (and_or x y z ∷ []) first (first + nodes x + nodes y + nodes z) (omega (arith, length-append (all_nodes x ++ all_nodes y) (all_nodes z), length-append (all_nodes x) (all_nodes y), nodes_are_all x, nodes_are_all y, nodes_are_all z)))
+    rw (first_mix-append (all_nodes x ++ all_nodes y ++ all_nodes z) (and_or x y z ∷ []) first (first + nodes x + nodes y + nodes z)
+    (omega (
+      arith,
+      length-append (all_nodes x ++ all_nodes y) (all_nodes z),
+      length-append (all_nodes x) (all_nodes y),
+      nodes_are_all x,
+      nodes_are_all y,
+      nodes_are_all z,
+    )))
     (rw (first_mix-append (all_nodes x ++ all_nodes y) (all_nodes z) first (first + nodes x + nodes y) (omega (arith, length-append (all_nodes x) (all_nodes y), nodes_are_all x, nodes_are_all y)))
     (rw (first_mix-append (all_nodes x) (all_nodes y) first (first + nodes x) (ap (λ n. first + n) (sym (nodes_are_all x))))
     (go (first_mix first (all_nodes x)) (first_mix (first + nodes x) (all_nodes y)) (first_mix (first + nodes x + nodes y) (all_nodes z)))))
   where
     go : (o p q : Option ℕ) → unless_mixed (option_or (option_or (option_or o p) q) (first_mix (first + nodes x + nodes y + nodes z) (and_or x y z ∷ []))) (union (kinds x) (union (kinds y) (kinds z)))
-        ≡ if_ok (unless_mixed o (kinds x)) (λ a. if_ok (unless_mixed p (kinds y)) (λ b. if_ok (unless_mixed q (kinds z)) (λ c. of_node (first + nodes x + nodes y + nodes z) (conflict a b) (union a (union b c)))))
+        ≡ if_ok (unless_mixed o (kinds x)) (λ a. if_ok (unless_mixed p (kinds y))
+        (λ b. if_ok (unless_mixed q (kinds z)) (λ c. of_node (first + nodes x + nodes y + nodes z) (conflict a b) (union a (union b c)))))
     go None None None = last_node (and_or x y z) (first + nodes x + nodes y + nodes z)
     go None None (Some node) = refl
     go None (Some node) q = refl

@@ -142,7 +142,8 @@ own_first node (key ∷ own) before rest known keys =
     go false c o p is = is
 
 -- those of nodes
-nodes_first : (first : ℕ) (ts : List Tree) (before : List Held) → AreKeys before → HoldKeys ts → repeats_first (map entry before) (map entry (held_nodes first ts)) ≡ repeated_from first (keys_of before) ts
+nodes_first : (first : ℕ) (ts : List Tree) (before : List Held) → AreKeys before → HoldKeys ts
+    → repeats_first (map entry before) (map entry (held_nodes first ts)) ≡ repeated_from first (keys_of before) ts
 nodes_first first [] before known hold = refl
 nodes_first first (t ∷ ts) before known hold =
     let own = own_keys t in

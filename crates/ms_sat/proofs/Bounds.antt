@@ -60,7 +60,8 @@ within_lighter n (Some v) (Some w) a b = go (nat_lt (weight w) (weight v))
 pub within_two : (n : ℕ) (o p : Option Stack) → Within n o → Within n p → Within n (least (o ∷ p ∷ []))
 within_two n o p a b = within_lighter n o (lighter p None) a (within_lighter n p None b tt)
 
-pub within_counted : (m n : ℕ) (sat dsat : Option Stack) (others : ℕ → Option Stack) (k : ℕ) → Within m sat → Within m dsat → ((j : ℕ) → Within n (others j)) → Within (n + m) (counted sat dsat others k)
+pub within_counted : (m n : ℕ) (sat dsat : Option Stack) (others : ℕ → Option Stack) (k : ℕ) → Within m sat → Within m dsat → ((j : ℕ) → Within n (others j))
+    → Within (n + m) (counted sat dsat others k)
 within_counted m n sat dsat others zero s d o = within_both n m (others zero) dsat (o zero) d
 within_counted m n sat dsat others (suc k) s d o =
     within_lighter (n + m) (both (others k) sat) (both (others (suc k)) dsat) (within_both n m (others k) sat (o k) s) (within_both n m (others (suc k)) dsat (o (suc k)) d)

@@ -51,7 +51,8 @@ costs_push f ts t c is =
 
 -- ---- what is counted
 
-pub counts_push : (rule : Rule) (assets : Assets) (ts : List model.Tree) (t : model.Tree) (w : Weighed) (kinds : KindCounts) → Counts (costs_of (map (free_child_by rule assets) ts)) kinds → IsWeighed rule assets t w
+pub counts_push : (rule : Rule) (assets : Assets) (ts : List model.Tree) (t : model.Tree) (w : Weighed) (kinds : KindCounts)
+    → Counts (costs_of (map (free_child_by rule assets) ts)) kinds → IsWeighed rule assets t w
     → Counts (costs_of (map (free_child_by rule assets) (ts ++ t ∷ []))) (with_child kinds w.free (is_some w.costs.dsat))
 counts_push rule assets ts t w kinds told h =
     let f = free_child_by rule assets in
@@ -60,7 +61,8 @@ counts_push rule assets ts t w kinds told h =
     let more : costs_of (map f ts) ++ c ∷ [] ≡ costs_of (map f (ts ++ t ∷ [])) = costs_push f ts t c refl in
     let sat : is_some c.sat ≡ w.free = some_weight (free_by rule assets t) ∙ sym h.free in
     let dsat : is_some c.dsat ≡ is_some w.costs.dsat = sym (ap is_some h.dsat) in
-    let same : with_child kinds (is_some c.sat) (is_some c.dsat) ≡ with_child kinds w.free (is_some w.costs.dsat) = ap (λ b. with_child kinds b (is_some c.dsat)) sat ∙ ap (with_child kinds w.free) dsat in
+    let same : with_child kinds (is_some c.sat) (is_some c.dsat)
+    ≡ with_child kinds w.free (is_some w.costs.dsat) = ap (λ b. with_child kinds b (is_some c.dsat)) sat ∙ ap (with_child kinds w.free) dsat in
     subst (λ cs. Counts cs (with_child kinds w.free (is_some w.costs.dsat))) more (subst (Counts (costs_of (map f ts) ++ c ∷ [])) same all)
 
 -- ---- dissatisfactions

@@ -28,7 +28,8 @@ pub nodes_more : (xs : List Tree) (i : ℕ) (x : Tree) → i < length xs → x �
 nodes_more xs i x below at = ap (λ ts. nodes_of_all (trees_of ts)) (shape_more xs i x below at) ∙ nodes_push (map shape (take i xs)) (shape x)
 
 -- the last of those up to a place
-pub nodes_last : (xs : List Tree) (p : ℕ) (x : Tree) → 0 < p → p ≤ length xs → x ≡ get_or xs (p - 1) x → nodes_of_all (shapes (take p xs)) ≡ nodes_of_all (shapes (take (p - 1) xs)) ++ all_nodes (shape x)
+pub nodes_last : (xs : List Tree) (p : ℕ) (x : Tree) → 0 < p → p ≤ length xs → x ≡ get_or xs (p - 1) x → nodes_of_all (shapes (take p xs))
+    ≡ nodes_of_all (shapes (take (p - 1) xs)) ++ all_nodes (shape x)
 nodes_last xs p x some within at =
     let next : p ≡ (p - 1) + 1 = omega (arith, some) in
     ap (λ n. nodes_of_all (shapes (take n xs))) next ∙ nodes_more xs (p - 1) x (omega (arith, some, within)) at

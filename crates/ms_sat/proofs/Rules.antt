@@ -86,7 +86,8 @@ free_cheapest assets ts = (go ts, go_free 0 ts)
     go_free i [] = refl
     go_free i (u ∷ us) = let h = go_free (suc i) us in omega (arith, h)
 
-free_chosen : (rule : Rule) (assets : Assets) (k : ℕ) (ts : List model.Tree) → 1 ≤ k → is_some (choose (map (free_child_by rule assets) ts) k) ≡ is_some (free_by rule assets (model.thresh k (trees_of ts)))
+free_chosen : (rule : Rule) (assets : Assets) (k : ℕ) (ts : List model.Tree) → 1 ≤ k → is_some (choose (map (free_child_by rule assets) ts) k)
+    ≡ is_some (free_by rule assets (model.thresh k (trees_of ts)))
 free_chosen Cheapest assets k ts some =
     let f = free_cheapest assets ts in
     ap is_some (none_chosen (map (free_child_by Cheapest assets) ts) k (inr (inr (omega (arith, f.0, f.1, some)))))

@@ -76,7 +76,8 @@ module _ (assets : Assets) (are : AreAssets assets) where
         (strict_within x w.0 h.0) (within_if _ (is_some (free assets x)) None (dissatisfaction x) tt (dsat_within x w.0 h.0)) (choice_within xs w.1 h.1)))
 
 -- so the weights of a tree are below 2^32
-pub light_by : (rule : Rule) (assets : Assets) (t : Tree) (c : Costs) → IsInRange t → IsTyped t → AreAssets assets → c.sat ≡ weight_of (stack_by rule assets t) → c.dsat ≡ weight_of (dissatisfaction t) → IsLight c
+pub light_by : (rule : Rule) (assets : Assets) (t : Tree) (c : Costs) → IsInRange t → IsTyped t → AreAssets assets → c.sat ≡ weight_of (stack_by rule assets t)
+    → c.dsat ≡ weight_of (dissatisfaction t) → IsLight c
 light_by Cheapest assets t c range typed are sat dsat = light_of t assets c range typed are sat dsat
 light_by Strict assets t c range typed are sat dsat = record {
   sat = light_option (128 * measure t) c.sat (strict_of assets t) (omega (arith, range.measure)) sat (strict_within assets are t range.writable typed);

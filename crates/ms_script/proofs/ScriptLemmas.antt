@@ -21,13 +21,15 @@ at_place : (xs : List Instr) (n : ℕ) (x : Instr) → x ≡ get_or xs n x → g
 at_place xs n x at = get_or-map instruction_of xs n x ∙ ap instruction_of (sym at)
 
 -- the last instruction has a VERIFY form
-pub verify_set : (xs : List Instr) (n : ℕ) (x : Instr) (form : Op) → n + 1 ≡ length xs → x ≡ get_or xs n x → verified_last (instruction_of x) ≡ code form ∷ [] → instructions_of (set xs n (Code form)) ≡ verified (instructions_of xs)
+pub verify_set : (xs : List Instr) (n : ℕ) (x : Instr) (form : Op) → n + 1 ≡ length xs → x ≡ get_or xs n x → verified_last (instruction_of x) ≡ code form ∷ []
+    → instructions_of (set xs n (Code form)) ≡ verified (instructions_of xs)
 verify_set xs n x form last at is =
     map-set instruction_of xs n (Code form)
     ∙ verified-set (instructions_of xs) n (code form) (instruction_of x) (last ∙ sym (length-map xs instruction_of)) (ap verified_last (at_place xs n x at) ∙ is)
 
 -- it has none
-pub verify_plain : (xs : List Instr) (n : ℕ) (x : Instr) → n + 1 ≡ length xs → x ≡ get_or xs n x → verified_last (instruction_of x) ≡ instruction_of x ∷ code op.Verify ∷ [] → instructions_of xs ++ code op.Verify ∷ [] ≡ verified (instructions_of xs)
+pub verify_plain : (xs : List Instr) (n : ℕ) (x : Instr) → n + 1 ≡ length xs → x ≡ get_or xs n x → verified_last (instruction_of x) ≡ instruction_of x
+    ∷ code op.Verify ∷ [] → instructions_of xs ++ code op.Verify ∷ [] ≡ verified (instructions_of xs)
 verify_plain xs n x last at is =
     let same = at_place xs n x at in
     verified-plain (instructions_of xs) n (instruction_of x) (last ∙ sym (length-map xs instruction_of)) (ap verified_last same ∙ is ∙ ap (λ i. i ∷ code op.Verify ∷ []) (sym same))

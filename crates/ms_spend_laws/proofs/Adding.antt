@@ -1,7 +1,7 @@
 -- The signatures that a plan asks for make an input Ready.
-use Rattle.std.proofs.Common.{◌≡◌, ℕ, ◌≤◌, ◌==◌, ◌&&◌, ◌||◌, nat_lt, Bool, true, false, not, cond, IsTrue, IsSome, is_some, All, ◌⊎◌, List, [], ◌∷◌, ◌++◌, length, map, filter, Contains, Option, Some, None, Ok, inl, inr, refl, sym, ap, subst, ◌∙◌, arith}
+use Rattle.std.proofs.Common.{◌≡◌, ℕ, ◌≤◌, ◌==◌, ◌&&◌, ◌||◌, nat_lt, true, false, not, cond, IsTrue, IsSome, is_some, All, ◌⊎◌, List, [], ◌∷◌, ◌++◌, length, Contains, Option, Some, None, Ok, inl, inr, refl, sym, ap, subst, ◌∙◌, arith}
 use Rattle.std.specs.List.{AllByRecursion}
-use Rattle.std.proofs.lemmas.Bool.{eq-eqb, lt-ltb}
+use Rattle.std.proofs.lemmas.Bool.{eq-eqb, lt-ltb, cases_Bool}
 use Rattle.std.proofs.lemmas.List.Elements.{recursion_from_All, All-contains, Contains-append_right}
 use Rattle.def_script.specs.Bytes.{Bytes}
 use Rattle.def_script.specs.Witness.{weight}
@@ -87,12 +87,13 @@ module _ (input : Input) (tree : Tree) (script : Bytes) (given : IsGiven input) 
         | inl same ↦
             let open_key : not (is_some (sig_of one first)) ≡ true = ap (λ o. not (is_some o)) (ap (sig_of one) (sym same) ∙ e) in
             subst (λ l. Contains l key) (sym (ap (λ b. cond b (first ∷ unsigned_keys one ks) (unsigned_keys one ks)) open_key)) (0, omega arith, sym same)
-        | inr rest ↦ behind (not (is_some (sig_of one first))) (kept_in ks key rest e)
+        | inr rest ↦
+            let there = kept_in ks key rest e in
+            elim (cases_Bool (not (is_some (sig_of one first)))) [
+              | inl is ↦ rw is (Contains-append_right (first ∷ []) (unsigned_keys one ks) key there)
+              | inr is ↦ rw is there
+            ]
       ]
-    where
-      behind : (b : Bool) → Contains (unsigned_keys one ks) key → Contains (cond b (first ∷ unsigned_keys one ks) (unsigned_keys one ks)) key
-      behind true i = Contains-append_right (first ∷ []) (unsigned_keys one ks) key i
-      behind false i = i
 
   signs : (key : Key) → Contains plan.keys key → (o : Option Bytes) → sig_of one key ≡ o → (sig : Bytes) × (sig_of other key ≡ Some sig) × (length sig ≤ length_by o)
   signs key i (Some sig) e =
@@ -137,12 +138,12 @@ module _ (input : Input) (tree : Tree) (script : Bytes) (given : IsGiven input) 
 
   new_types : (type : ℕ) (l : Map) → AllByRecursion (λ pair. last_byte pair.value ≡ type) l → has_other_type type (signatures_in l) ≡ false
   new_types type [] h = refl
-  new_types type (pair ∷ l) h = go (is_signed pair) (new_types type l h.1)
-    where
-      go : (b : Bool) → has_other_type type (signatures_in l) ≡ false
-          → has_other_type type (map (λ (p : Pair). (data_of p.key, p.value)) (cond b (pair ∷ filter is_signed l) (filter is_signed l))) ≡ false
-      go true rest = ap (λ n. not (n == type) || has_other_type type (signatures_in l)) h.0 ∙ ap (λ b. not b || has_other_type type (signatures_in l)) (eq-eqb type type refl) ∙ rest
-      go false rest = rest
+  new_types type (pair ∷ l) h =
+      let rest = new_types type l h.1 in
+      elim (cases_Bool (is_signed pair)) [
+        | inl is ↦ rw (is, h.0, eq-eqb type type refl) rest
+        | inr other ↦ rw other rest
+      ]
 
   right : (type : ℕ) (pairs : Pairs) → IsSome (hash_type_of type) → has_other_type type pairs ≡ false → is_sighash_wrong type pairs ≡ false
   right type [] some e = refl

@@ -1,6 +1,6 @@
 -- How many keys a miniscript has: no more than its Script has room for.
-use Rattle.std.proofs.Common.{◌≡◌, ℕ, ◌+◌, ◌*◌, ◌≤◌, nat_le, Bool, true, false, List, [], ◌∷◌, ◌++◌, length, map, All, refl, if◌then◌else◌, arith}
-use Rattle.std.proofs.lemmas.Bool.{le-leb, leb-true}
+use Rattle.std.proofs.Common.{◌≡◌, ℕ, ◌+◌, ◌*◌, ◌≤◌, nat_le, Bool, true, false, List, [], ◌∷◌, ◌++◌, length, map, All, refl, if◌then◌else◌, arith, inl, inr}
+use Rattle.std.proofs.lemmas.Bool.{le-leb, leb-true, cases_Bool}
 use Rattle.std.proofs.lemmas.List.{length-append}
 use Rattle.std.proofs.lemmas.List.Elements.{All-nil, All-cons, All-append, All-head, All-tail}
 use Rattle.def_hash.specs.declared.HashKind.TheVariants as hash_kind
@@ -15,7 +15,7 @@ use Rattle.std.specs.Int.{w16, w32, to_le_bytes}
 use Rattle.def_script.proofs.KeyLemmas.{key_length}
 use Rattle.def_tree.specs.declared.Two.TheVariants as kind
 use Rattle.def_tree.specs.declared.Wrapper.TheVariants as wrapper
-use Rattle.def_tree.specs.Tree.{Key, Tree, Trees, just_0, just_1, pk_k, pk_h, older, after, hash, and_or, two, thresh, multi, wrap, none, more}
+use Rattle.def_tree.specs.Tree.{Key, Tree, Trees, pk_k, pk_h, and_or, two, thresh, multi, wrap, none, more}
 use Rattle.def_tree.specs.Range.{IsKey, IsWritable, AreWritable}
 use Rattle.def_emit.specs.Emit.{push_number, emit, emit_sum, emit_added, script_of}
 use Rattle.def_sane.specs.Keys.{keys, keys_of_all}
@@ -64,11 +64,10 @@ room_one : (i : Instruction) → 21 * wide_one i ≤ length (spell_one i)
 room_one (code op) = omega arith
 room_one (push []) = omega arith
 room_one (push (b ∷ [])) = omega arith
-room_one (push (b ∷ c ∷ bytes)) = go (nat_le 20 (length (b ∷ c ∷ bytes))) refl
-  where
-    go : (t : Bool) → nat_le 20 (length (b ∷ c ∷ bytes)) ≡ t → 21 * (if t then 1 else 0) ≤ length (sized_push (b ∷ c ∷ bytes))
-    go true e = omega (arith, leb-true 20 (length (b ∷ c ∷ bytes)) e, some_size (b ∷ c ∷ bytes))
-    go false e = omega arith
+room_one (push (b ∷ c ∷ bytes)) = elim (cases_Bool (nat_le 20 (length (b ∷ c ∷ bytes)))) [
+  | inl e ↦ rw e (omega (arith, leb-true 20 (length (b ∷ c ∷ bytes)) e, some_size (b ∷ c ∷ bytes)))
+  | inr e ↦ rw e (omega arith)
+]
 
 room : (is : List Instruction) → 21 * wide is ≤ length (spell is)
 unfolding wide
@@ -97,33 +96,26 @@ own_keys (key ∷ ks) all =
 
 mutual
   few : (t : Tree) → IsWritable t → length (keys t) ≤ wide (emit t)
-  few just_0 w = omega arith
-  few just_1 w = omega arith
   few (pk_k key) w = let long = key_is_long key w in omega (arith, wide_push key [] long)
   few (pk_h key) w =
       let long : 20 ≤ length (hash160 key) = omega (arith, digest_has_its_length hash_kind.Hash160 key) in
       simp wide-cons (omega (arith, wide_push (hash160 key) [] long, wide-cons (push (hash160 key)) []))
-  few (older n) w = omega arith
-  few (after n) w = omega arith
-  few (hash kind value) w = omega arith
   few (and_or x y z) w = simp (length-append, wide-append, wide-cons) (omega (arith, few x w.0, few y w.1, few z w.2))
   few (two kind.AndV x y) w = simp (length-append, wide-append) (omega (arith, few x w.0, few y w.1))
   few (two kind.AndB x y) w = simp (length-append, wide-append) (omega (arith, few x w.0, few y w.1))
   few (two kind.OrB x y) w = simp (length-append, wide-append) (omega (arith, few x w.0, few y w.1))
-  few (two kind.OrC x y) w = simp (length-append, wide-append, wide-cons) (omega (arith, few x w.0, few y w.1))
-  few (two kind.OrD x y) w = simp (length-append, wide-append, wide-cons) (omega (arith, few x w.0, few y w.1))
-  few (two kind.OrI x y) w = simp (length-append, wide-append, wide-cons) (omega (arith, few x w.0, few y w.1))
+  few (two kind x y) w = simp (length-append, wide-append, wide-cons) (omega (arith, few x w.0, few y w.1))
   few (thresh k xs) w = simp wide-append (omega (arith, few_sum xs w.2))
   few (multi k ks) w =
       let behind : List Instruction = push_number (length ks) ∷ code op.CheckMultiSig ∷ [] in
       simp wide-cons (omega (arith, own_keys ks w.2, wide-append (map push ks) behind))
   few (wrap wrapper.A x) w = omega (arith, few x w, wide_inside (code op.ToAltStack ∷ []) (emit x) (code op.FromAltStack ∷ []))
   few (wrap wrapper.S x) w = simp wide-cons (omega (arith, few x w))
-  few (wrap wrapper.C x) w = simp wide-append (omega (arith, few x w))
   few (wrap wrapper.D x) w = omega (arith, few x w, wide_inside (code op.Dup ∷ code op.If ∷ []) (emit x) (code op.EndIf ∷ []))
   few (wrap wrapper.V x) w = omega (arith, few x w, verified_wide (emit x))
   few (wrap wrapper.J x) w = omega (arith, few x w, wide_inside (code op.Size ∷ code op.ZeroNotEqual ∷ code op.If ∷ []) (emit x) (code op.EndIf ∷ []))
-  few (wrap wrapper.N x) w = simp wide-append (omega (arith, few x w))
+  few (wrap wrapper x) w = simp wide-append (omega (arith, few x w))
+  few leaf w = omega arith
 
   few_sum : (xs : Trees) → AreWritable xs → length (keys_of_all xs) ≤ wide (emit_sum xs)
   few_sum none w = omega arith
@@ -141,19 +133,15 @@ keys_take_room t w = omega (arith, few t w, room (emit t))
 
 mutual
   pub written_keys : (t : Tree) → IsWritable t → All IsKey (keys t)
-  written_keys just_0 w = All-nil IsKey
-  written_keys just_1 w = All-nil IsKey
   written_keys (pk_k key) w = All-cons IsKey key [] w (All-nil IsKey)
   written_keys (pk_h key) w = All-cons IsKey key [] w (All-nil IsKey)
-  written_keys (older n) w = All-nil IsKey
-  written_keys (after n) w = All-nil IsKey
-  written_keys (hash kind value) w = All-nil IsKey
   written_keys (and_or x y z) w =
       All-append IsKey (keys x ++ keys y) (keys z) (All-append IsKey (keys x) (keys y) (written_keys x w.0) (written_keys y w.1)) (written_keys z w.2)
   written_keys (two kind x y) w = All-append IsKey (keys x) (keys y) (written_keys x w.0) (written_keys y w.1)
   written_keys (thresh k xs) w = keys_of_written xs w.2
   written_keys (multi k ks) w = w.2
   written_keys (wrap wrapper x) w = written_keys x w
+  written_keys leaf w = All-nil IsKey
 
   keys_of_written : (xs : Trees) → AreWritable xs → All IsKey (keys_of_all xs)
   keys_of_written none w = All-nil IsKey

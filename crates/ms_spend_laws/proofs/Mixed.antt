@@ -1,15 +1,10 @@
 -- Maps that consist of some pairs and of others.
-use Rattle.std.proofs.Common.{◌≡◌, ◌||◌, Bool, true, false, cond, List, [], ◌∷◌, ◌++◌, map, filter, find, Contains, Some, inl, inr, ◌⊎◌, refl, sym, ap, subst, ◌∙◌, arith}
+use Rattle.std.proofs.Common.{◌≡◌, Bool, false, cond, List, [], ◌∷◌, map, filter, find, Contains, Some, inl, inr, ◌⊎◌, refl, sym, ap, subst, ◌∙◌, arith}
+use Rattle.std.proofs.lemmas.Bool.{cases_Bool, or_parts, or_from}
 use Rattle.std.specs.List.{AllByRecursion, list_any}
 use Rattle.std.proofs.lemmas.List.Elements.{Contains-append_right, Contains-append_cases, Contains-push_cases}
 use Rattle.def_psbt.specs.Map.{Pair, Map}
 use Rattle.ms_spend_laws.specs.Planned.{ConsistsOf}
-
--- the further pairs behind the others
-pub appended : (some others : Map) → ConsistsOf (some ++ others) some others
-appended [] [] = (refl, refl)
-appended [] (pair ∷ others) = inr (others, refl, appended [] others)
-appended (pair ∷ some) others = inl (some, refl, appended some others)
 
 -- each from its side
 pub turned : (later some others : Map) → ConsistsOf later some others → ConsistsOf later others some
@@ -52,49 +47,40 @@ pub made_stays : {B : Type 0} (test : Pair → Bool) (make : Pair → B) (later 
     → Contains (map make (filter test some)) x → Contains (map make (filter test later)) x
 made_stays {B} test make [] some others h x i = absurd (no_element x (subst (λ l. Contains (map make (filter test l)) x) h.0 i))
 made_stays {B} test make (pair ∷ later) some others (inl h) x i =
-    go (test pair) (made_stays test make later h.0 others h.2 x) (subst (λ l. Contains (map make (filter test l)) x) h.1 i)
-  where
-    go : (b : Bool) → (Contains (map make (filter test h.0)) x → Contains (map make (filter test later)) x)
-        → Contains (map make (cond b (pair ∷ filter test h.0) (filter test h.0))) x → Contains (map make (cond b (pair ∷ filter test later) (filter test later))) x
-    go true rest i =
-        elim (first_or_rest x (make pair) (map make (filter test h.0)) i) [
-          | inl same ↦ (0, omega arith, same)
-          | inr j ↦ Contains-append_right (make pair ∷ []) (map make (filter test later)) x (rest j)
-        ]
-    go false rest i = rest i
-made_stays {B} test make (pair ∷ later) some others (inr h) x i = go (test pair) (made_stays test make later some h.0 h.2 x i)
-  where
-    go : (b : Bool) → Contains (map make (filter test later)) x → Contains (map make (cond b (pair ∷ filter test later) (filter test later))) x
-    go true j = Contains-append_right (make pair ∷ []) (map make (filter test later)) x j
-    go false j = j
+    let rest = made_stays test make later h.0 others h.2 x in
+    let i = subst (λ l. Contains (map make (filter test l)) x) h.1 i in
+    elim (cases_Bool (test pair)) [
+      | inl is ↦ rw is (elim (first_or_rest x (make pair) (map make (filter test h.0)) (rw is at i)) [
+        | inl same ↦ (0, omega arith, same)
+        | inr j ↦ Contains-append_right (make pair ∷ []) (map make (filter test later)) x (rest j)
+      ])
+      | inr other ↦ rw other (rest (rw other at i))
+    ]
+made_stays {B} test make (pair ∷ later) some others (inr h) x i =
+    let rest = made_stays test make later some h.0 h.2 x i in
+    elim (cases_Bool (test pair)) [
+      | inl is ↦ rw is (Contains-append_right (make pair ∷ []) (map make (filter test later)) x rest)
+      | inr other ↦ rw other rest
+    ]
 
-or_false : (a b : Bool) → (a || b) ≡ false → (a ≡ false) × (b ≡ false)
-or_false true b e = absurd cc
-or_false false b e = (refl, e)
-
-both_false : (a b : Bool) → a ≡ false → b ≡ false → (a || b) ≡ false
-both_false true b e f = absurd cc
-both_false false b e f = f
+-- a pair before some, of which the same passes no further test as of others
+one_before : {B : Type 0} (bad : B → Bool) (test : Pair → Bool) (make : Pair → B) (pair : Pair) (some later : Map)
+    → (list_any bad (map make (filter test some)) ≡ false → list_any bad (map make (filter test later)) ≡ false)
+    → list_any bad (map make (filter test (pair ∷ some))) ≡ false → list_any bad (map make (filter test (pair ∷ later))) ≡ false
+one_before {B} bad test make pair some later rest p = elim (cases_Bool (test pair)) [
+  | inl is ↦
+      let parts = or_parts (bad (make pair)) (list_any bad (map make (filter test some))) (rw is at p) in
+      rw is (or_from (bad (make pair)) (list_any bad (map make (filter test later))) parts.0 (rest parts.1))
+  | inr other ↦ rw other (rest (rw other at p))
+]
 
 -- what passes no further test among both passes none
 pub none_among : {B : Type 0} (bad : B → Bool) (test : Pair → Bool) (make : Pair → B) (later some others : Map) → ConsistsOf later some others
     → list_any bad (map make (filter test some)) ≡ false → list_any bad (map make (filter test others)) ≡ false → list_any bad (map make (filter test later)) ≡ false
 none_among {B} bad test make [] some others h p q = refl
 none_among {B} bad test make (pair ∷ later) some others (inl h) p q =
-    go (test pair) (λ p. none_among bad test make later h.0 others h.2 p q) (subst (λ l. list_any bad (map make (filter test l)) ≡ false) h.1 p)
-  where
-    go : (b : Bool) → (list_any bad (map make (filter test h.0)) ≡ false → list_any bad (map make (filter test later)) ≡ false)
-        → list_any bad (map make (cond b (pair ∷ filter test h.0) (filter test h.0))) ≡ false → list_any bad (map make (cond b (pair ∷ filter test later) (filter test later))) ≡ false
-    go true rest p =
-        let parts = or_false (bad (make pair)) (list_any bad (map make (filter test h.0))) p in
-        both_false (bad (make pair)) (list_any bad (map make (filter test later))) parts.0 (rest parts.1)
-    go false rest p = rest p
+    one_before bad test make pair h.0 later (λ p. none_among bad test make later h.0 others h.2 p q)
+    (subst (λ l. list_any bad (map make (filter test l)) ≡ false) h.1 p)
 none_among {B} bad test make (pair ∷ later) some others (inr h) p q =
-    go (test pair) (λ q. none_among bad test make later some h.0 h.2 p q) (subst (λ l. list_any bad (map make (filter test l)) ≡ false) h.1 q)
-  where
-    go : (b : Bool) → (list_any bad (map make (filter test h.0)) ≡ false → list_any bad (map make (filter test later)) ≡ false)
-        → list_any bad (map make (cond b (pair ∷ filter test h.0) (filter test h.0))) ≡ false → list_any bad (map make (cond b (pair ∷ filter test later) (filter test later))) ≡ false
-    go true rest q =
-        let parts = or_false (bad (make pair)) (list_any bad (map make (filter test h.0))) q in
-        both_false (bad (make pair)) (list_any bad (map make (filter test later))) parts.0 (rest parts.1)
-    go false rest q = rest q
+    one_before bad test make pair h.0 later (λ q. none_among bad test make later some h.0 h.2 p q)
+    (subst (λ l. list_any bad (map make (filter test l)) ≡ false) h.1 q)

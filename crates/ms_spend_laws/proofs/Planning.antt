@@ -1,9 +1,9 @@
 -- What is promised of the plan of an input.
-use Rattle.std.proofs.Common.{◌≡◌, ℕ, ◌≤◌, Bool, true, false, cond, IsSome, List, [], ◌∷◌, length, map, reverse, find, Contains, Option, Some, None, inl, inr, refl, sym, ap, subst, ◌∙◌, arith}
+use Rattle.std.proofs.Common.{◌≡◌, ℕ, ◌≤◌, false, IsSome, List, [], ◌∷◌, length, map, reverse, Contains, Option, Some, None, inl, inr, refl, sym, ap, subst, ◌∙◌, arith}
 use Rattle.std.specs.List.{AllByRecursion, IsDistinct}
 use Rattle.std.specs.Option.{option_map}
 use Rattle.std.specs.Str.{bytes_eq}
-use Rattle.std.proofs.lemmas.Bool.{false≢true}
+use Rattle.std.proofs.lemmas.Bool.{false≢true, cases_Bool, false_from_ne_true}
 use Rattle.std.proofs.lemmas.Option.{none-some}
 use Rattle.std.proofs.lemmas.List.{length-map, reverse-reverse}
 use Rattle.std.proofs.lemmas.List.Elements.{All-map, All-weaker, All-contains, Contains-append_right}
@@ -54,11 +54,10 @@ their_keys size (key ∷ ks) = ap (λ rest. key ∷ rest) (their_keys size ks)
 
 others_differ : (key : Key) (ks : List Key) → ¬ Contains ks key → AllByRecursion (λ other. bytes_eq key other ≡ false) ks
 others_differ key [] h = tt
-others_differ key (other ∷ ks) h = (go (bytes_eq key other) refl, others_differ key ks (λ i. h (Contains-append_right (other ∷ []) ks key i)))
-  where
-    go : (b : Bool) → bytes_eq key other ≡ b → b ≡ false
-    go true e = absurd (h (0, omega arith, sym ((bytes_eq-Decides key other).0 e)))
-    go false e = refl
+others_differ key (other ∷ ks) h = (
+  false_from_ne_true _ (λ e. h (0, omega arith, sym ((bytes_eq-Decides key other).0 e))),
+  others_differ key ks (λ i. h (Contains-append_right (other ∷ []) ks key i)),
+)
 
 distinct : (ks : List Key) → AreDistinct ks → IsDistinct bytes_eq ks
 unfolding IsDistinct
@@ -67,16 +66,13 @@ distinct (key ∷ ks) h = (others_differ key ks h.0, distinct ks h.1)
 
 pub listed : (size : Key → ℕ) (ks : List Key) (key : Key) → Contains ks key → length_of (with_lengths size ks) key ≡ Some (size key)
 listed size [] key i = absurd (let low = i.1 in omega (arith, low))
-listed size (first ∷ ks) key i = go (bytes_eq first key) refl (listed size ks key)
-  where
-    go : (b : Bool) → bytes_eq first key ≡ b → (Contains ks key → length_of (with_lengths size ks) key ≡ Some (size key))
-        → option_map (λ entry. entry.1) (cond b (Some (first, size first)) (find (λ entry. bytes_eq entry.0 key) (with_lengths size ks))) ≡ Some (size key)
-    go true e rest = ap (λ k. Some (size k)) ((bytes_eq-Decides first key).0 e)
-    go false e rest =
-        elim (first_or_other first ks key i) [
-          | inl same ↦ absurd (false≢true (sym e ∙ (bytes_eq-Decides first key).1 (sym same)))
-          | inr other ↦ rest other
-        ]
+listed size (first ∷ ks) key i = elim (cases_Bool (bytes_eq first key)) [
+  | inl e ↦ rw e (ap (λ k. Some (size k)) ((bytes_eq-Decides first key).0 e))
+  | inr e ↦ elim (first_or_other first ks key i) [
+    | inl same ↦ absurd (false≢true (sym e ∙ (bytes_eq-Decides first key).1 (sym same)))
+    | inr other ↦ rw e (listed size ks key other)
+  ]
+]
 
 -- they are lengths of signatures
 pub are_lengths : (tree : Tree) (assets : Assets) → IsWritable tree → IsSane tree → AreAssets assets → AreLengths (lengths_of tree assets)

@@ -3,14 +3,14 @@ use Rattle.std.proofs.Common.{◌≡◌, ℕ, ◌==◌, ◌&&◌, ◌||◌, Bool
 use Rattle.std.specs.List.{AllByRecursion}
 use Rattle.std.specs.Option.{option_map, option_and_then}
 use Rattle.std.specs.Str.{bytes_eq}
-use Rattle.std.proofs.lemmas.Bool.{and_parts, eqb-true, false≢true}
+use Rattle.std.proofs.lemmas.Bool.{and_parts, eqb-true, false≢true, cases_Bool}
 use Rattle.std.proofs.lemmas.List.{map-append}
 use Rattle.std.proofs.lemmas.List.Elements.{filter-append, Contains-append_left, Contains-append_right}
 use Rattle.std.proofs.lemmas.Slice.Eq.{bytes_eq-Decides}
 use Rattle.def_hash.specs.Hash.{hash160}
 use Rattle.def_script.specs.Bytes.{Bytes}
 use Rattle.def_script.specs.Key.{is_key}
-use Rattle.def_tree.specs.Tree.{Key, Tree, Trees, just_0, just_1, pk_k, pk_h, older, after, hash, and_or, two, thresh, multi, wrap, none, more}
+use Rattle.def_tree.specs.Tree.{Key, Tree, Trees, pk_h, and_or, two, thresh, wrap, none, more}
 use Rattle.def_decode.specs.Nested.{EachHashed, EachHashedOf}
 use Rattle.def_decode.specs.Decoded.{first_with, IsDecoded}
 use Rattle.def_psbt.specs.Transaction.{Outpoint}
@@ -32,33 +32,29 @@ use Rattle.def_spend.specs.declared.State.TheVariants as state
 -- what is found stays
 found_stays : {A : Type 0} (test : A → Bool) (xs ys : List A) (a : A) → find test xs ≡ Some a → find test (xs ++ ys) ≡ Some a
 found_stays {A} test [] ys a e = absurd cc
-found_stays {A} test (x ∷ xs) ys a e = go (test x) (found_stays test xs ys a) e
-  where
-    go : (b : Bool) → (find test xs ≡ Some a → find test (xs ++ ys) ≡ Some a) → cond b (Some x) (find test xs) ≡ Some a → cond b (Some x) (find test (xs ++ ys)) ≡ Some a
-    go true rest e = e
-    go false rest e = rest e
+found_stays {A} test (x ∷ xs) ys a e = elim (cases_Bool (test x)) [
+  | inl is ↦ rw is (rw is at e)
+  | inr other ↦ rw other (found_stays test xs ys a (rw other at e))
+]
 
 -- what is found passes, and stands there
 pub found_is : {A : Type 0} (test : A → Bool) (xs : List A) (a : A) → find test xs ≡ Some a → (test a ≡ true) × Contains xs a
 found_is {A} test [] a e = absurd cc
-found_is {A} test (x ∷ xs) a e = go (test x) refl (found_is test xs a) e
-  where
-    go : (b : Bool) → test x ≡ b → (find test xs ≡ Some a → (test a ≡ true) × Contains xs a) → cond b (Some x) (find test xs) ≡ Some a → (test a ≡ true) × Contains (x ∷ xs) a
-    go true is rest e = let same : x ≡ a = cc in (subst (λ y. test y ≡ true) same is, (0, omega arith, same))
-    go false is rest e = let h = rest e in (h.0, Contains-append_right (x ∷ []) xs a h.1)
+found_is {A} test (x ∷ xs) a e = elim (cases_Bool (test x)) [
+  | inl is ↦ (let same : x ≡ a = cc (rw is at e) in (subst (λ y. test y ≡ true) same is, (0, omega arith, same)))
+  | inr other ↦ (let h = found_is test xs a (rw other at e) in (h.0, Contains-append_right (x ∷ []) xs a h.1))
+]
 
 -- something is found where an element passes
 some_found : {A : Type 0} (test : A → Bool) (xs : List A) (a : A) → Contains xs a → test a ≡ true → (y : A) × (find test xs ≡ Some y)
 some_found {A} test [] a i p = absurd (let low = i.1 in omega (arith, low))
-some_found {A} test (x ∷ xs) a i p = go (test x) refl (some_found test xs a)
-  where
-    go : (b : Bool) → test x ≡ b → (Contains xs a → test a ≡ true → (y : A) × (find test xs ≡ Some y)) → (y : A) × (cond b (Some x) (find test xs) ≡ Some y)
-    go true is rest = (x, refl)
-    go false is rest =
-        elim (first_or_rest a x xs i) [
-          | inl same ↦ absurd (false≢true (sym is ∙ ap test same ∙ p))
-          | inr j ↦ rest j p
-        ]
+some_found {A} test (x ∷ xs) a i p = elim (cases_Bool (test x)) [
+  | inl is ↦ (x, rw is)
+  | inr other ↦ elim (first_or_rest a x xs i) [
+    | inl same ↦ absurd (false≢true (sym other ∙ ap test same ∙ p))
+    | inr j ↦ rw other (some_found test xs a j p)
+  ]
+]
 
 each : {A : Type 0} (P Q : A → Type 0) → ((x : A) → P x → Q x) → (xs : List A) → AllByRecursion P xs → AllByRecursion Q xs
 each {A} P Q f [] h = tt
@@ -123,18 +119,12 @@ script_stays spend later added parts signed =
 
 mutual
   each_key : (P Q : Key → Type 0) → ((k : Key) → P k → Q k) → (t : Tree) → EachHashed P t → EachHashed Q t
-  each_key P Q f just_0 h = tt
-  each_key P Q f just_1 h = tt
-  each_key P Q f (pk_k key) h = tt
   each_key P Q f (pk_h key) h = f key h
-  each_key P Q f (older n) h = tt
-  each_key P Q f (after n) h = tt
-  each_key P Q f (hash kind value) h = tt
   each_key P Q f (and_or x y z) h = (each_key P Q f x h.0, each_key P Q f y h.1, each_key P Q f z h.2)
   each_key P Q f (two kind x y) h = (each_key P Q f x h.0, each_key P Q f y h.1)
   each_key P Q f (thresh k xs) h = each_key_of P Q f xs h
-  each_key P Q f (multi k keys) h = tt
   each_key P Q f (wrap wrapper x) h = each_key P Q f x h
+  each_key P Q f leaf h = tt
 
   each_key_of : (P Q : Key → Type 0) → ((k : Key) → P k → Q k) → (xs : Trees) → EachHashedOf P xs → EachHashedOf Q xs
   each_key_of P Q f none h = tt

@@ -1,5 +1,6 @@
 -- Which inputs are Ready or Unsatisfied.
-use Rattle.std.proofs.Common.{◌≡◌, ◌↔◌, Bool, true, false, List, [], Option, Some, None, Result, Ok, Err, refl, sym, ap, subst, ◌∙◌, if◌then◌else◌}
+use Rattle.std.proofs.Common.{◌≡◌, ◌↔◌, false, List, [], Option, Some, None, Result, Ok, Err, refl, sym, ap, subst, ◌∙◌, if◌then◌else◌, inl, inr}
+use Rattle.std.proofs.lemmas.Bool.{cases_Bool}
 use Rattle.std.specs.Bool.{⊤}
 use Rattle.std.specs.Prelude.{unwrap_or}
 use Rattle.std.specs.Option.{option_and_then}
@@ -53,18 +54,16 @@ Tells known fields (Err s) = ¬ IsChoice s
 
 script_tells : (output : TransactionOutput) (fields : Map) (o : Option Bytes) → field WITNESS_SCRIPT fields ≡ o → Tells (Some output) fields (script_for output.script o)
 script_tells output fields None is = λ h. h
-script_tells output fields (Some script) is = go (bytes_eq output.script (program_of script)) refl
-  where
-    go : (b : Bool) → bytes_eq output.script (program_of script) ≡ b → Tells (Some output) fields (if b then Ok script else Err state.WrongScript)
-    go true e = record { output = output; spent = refl; held = is; program = (bytes_eq-Decides output.script (program_of script)).0 e }
-    go false e = λ h. h
+script_tells output fields (Some script) is = elim (cases_Bool (bytes_eq output.script (program_of script))) [
+  | inl e ↦ rw e (record { output = output; spent = refl; held = is; program = (bytes_eq-Decides output.script (program_of script)).0 e })
+  | inr e ↦ rw e (λ h. h)
+]
 
 output_tells : (output : TransactionOutput) (fields : Map) → Tells (Some output) fields (script_of_output output.script fields)
-output_tells output fields = go (is_program output.script)
-  where
-    go : (b : Bool) → Tells (Some output) fields (if b then script_for output.script (field WITNESS_SCRIPT fields) else Err state.OtherOutput)
-    go true = script_tells output fields (field WITNESS_SCRIPT fields) refl
-    go false = λ h. h
+output_tells output fields = elim (cases_Bool (is_program output.script)) [
+  | inl e ↦ rw e (script_tells output fields (field WITNESS_SCRIPT fields) refl)
+  | inr e ↦ rw e (λ h. h)
+]
 
 utxo_tells : (u : Utxo) (fields : Map) → Tells (output_in u) fields (script_of_utxo u fields)
 utxo_tells utxo.none fields = λ h. h
@@ -73,11 +72,10 @@ utxo_tells (utxo.proved output) fields = output_tells output fields
 utxo_tells (utxo.claimed output) fields = output_tells output fields
 
 spend_tells : (spend : Spend) → Tells (spent_output spend) spend.fields (witness_script spend)
-spend_tells spend = go (has_final spend.fields)
-  where
-    go : (b : Bool) → Tells (spent_output spend) spend.fields (if b then Err state.Final else script_of_utxo (utxo_of spend.input.outpoint spend.fields) spend.fields)
-    go true = λ h. h
-    go false = utxo_tells (utxo_of spend.input.outpoint spend.fields) spend.fields
+spend_tells spend = elim (cases_Bool (has_final spend.fields)) [
+  | inl e ↦ rw e (λ h. h)
+  | inr e ↦ rw e (utxo_tells (utxo_of spend.input.outpoint spend.fields) spend.fields)
+]
 
 pub script_is : (spend : Spend) (script : Bytes) → witness_script spend ≡ Ok script → IsScriptFor (spent_output spend) spend.fields script
 script_is spend script e = subst (Tells (spent_output spend) spend.fields) e (spend_tells spend)
@@ -96,23 +94,17 @@ other_state s wanted choice never e = never (subst IsChoice (sym e) choice)
 pub opens : (input : Input) (wanted : State) → HasReading input → IsChoice wanted → state_of input ≡ wanted → IsOpen input wanted
 opens input wanted read choice e = by_script (witness_script input.spend) refl (spend_tells input.spend) read e
   where
-    by_few : (tree : Tree) (script : Bytes) (b : Bool) → are_too_many input.spend.fields ≡ b → (are_too_many input.spend.fields ≡ false → IsTried input tree script)
-        → (if b then state.TooMany else choice_state (strict tree (assets_of input.spend))) ≡ wanted → IsOpen input wanted
-    by_few tree script true is tried e = absurd (other_state state.TooMany wanted choice (λ h. h) e)
-    by_few tree script false is tried e = record { tree = tree; script = script; tried = tried is; chosen = e }
-
-    by_types : (tree : Tree) (script : Bytes) (b : Bool) → is_sighash_wrong (asked_type input.spend.fields) (signatures_in input.spend.fields) ≡ b
-        → (is_sighash_wrong (asked_type input.spend.fields) (signatures_in input.spend.fields) ≡ false → are_too_many input.spend.fields ≡ false → IsTried input tree script)
-        → (if b then state.WrongSighash else if are_too_many input.spend.fields then state.TooMany else choice_state (strict tree (assets_of input.spend))) ≡ wanted → IsOpen input wanted
-    by_types tree script true is tried e = absurd (other_state state.WrongSighash wanted choice (λ h. h) e)
-    by_types tree script false is tried e = by_few tree script (are_too_many input.spend.fields) refl (tried is) e
-
     by_reason : (tree : Tree) (script : Bytes) (o : Option Unfit) → first_unfit tree ≡ o
         → (first_unfit tree ≡ None → is_sighash_wrong (asked_type input.spend.fields) (signatures_in input.spend.fields) ≡ false → are_too_many input.spend.fields ≡ false → IsTried input tree script)
         → unless_unfit o (held_state tree input.spend) ≡ wanted → IsOpen input wanted
     by_reason tree script (Some unfit) is tried e = absurd (other_state (state.Unfit unfit) wanted choice (λ h. h) e)
-    by_reason tree script None is tried e =
-        by_types tree script (is_sighash_wrong (asked_type input.spend.fields) (signatures_in input.spend.fields)) refl (tried is) e
+    by_reason tree script None is tried e = elim (cases_Bool (is_sighash_wrong (asked_type input.spend.fields) (signatures_in input.spend.fields))) [
+      | inl wrong ↦ absurd (other_state state.WrongSighash wanted choice (λ h. h) (rw wrong at e))
+      | inr types ↦ elim (cases_Bool (are_too_many input.spend.fields)) [
+        | inl many ↦ absurd (other_state state.TooMany wanted choice (λ h. h) (rw (types, many) at e))
+        | inr few ↦ record { tree = tree; script = script; tried = tried is types few; chosen = rw (types, few) at e }
+      ]
+    ]
 
     by_tree : (script : Bytes) → witness_script input.spend ≡ Ok script → (o : Option Tree) → input.tree ≡ o → ReadsAs (keys_in input.spend.fields) (Ok script) o
         → tree_state o input.spend ≡ wanted → IsOpen input wanted

@@ -1,13 +1,17 @@
 -- What a run logs along a canonical row: nothing along a dissatisfaction and along a satisfaction without
 -- signatures, and otherwise pairs with keys of the miniscript.
-use Rattle.std.proofs.Common.{◌≡◌, ℕ, ◌≤◌, List, [], ◌∷◌, ◌++◌, length, reverse, All, refl, sym, subst, ◌⊎◌, inl, inr, arith}
-use Rattle.std.proofs.lemmas.Bool.{false≢true}
-use Rattle.std.proofs.lemmas.List.Elements.{Contains-append_left, Contains-append_right}
-use Rattle.def_script.specs.Bytes.{Bytes}
+use Rattle.std.proofs.Common.{◌≡◌, [], refl, IsTrue, inl, inr, arith, ℕ, ◌≤◌, List, ◌∷◌, ◌++◌, length, reverse, All, sym, subst, ◌⊎◌}
 use Rattle.def_machine.specs.Stacks.{Stack, Pairs}
 use Rattle.def_tree.specs.declared.Two.TheVariants as kind
 use Rattle.def_tree.specs.declared.Wrapper.TheVariants as wrapper
-use Rattle.def_tree.specs.Tree.{Tree, Trees, Key, just_0, just_1, pk_k, pk_h, older, after, hash, and_or, two, thresh, multi, wrap, none, more}
+use Rattle.def_tree.specs.Tree.{Tree, Trees, and_or, two, thresh, wrap, none, more, Key, just_0, pk_k, pk_h, multi}
+use Rattle.def_satisfaction.specs.Setting.{Setting}
+use Rattle.def_satisfaction.specs.Rows.{row, parts, AreSignatures}
+use Rattle.ms_row_laws.proofs.RowLogs.{dsat_log, parts_log, multi_log, sat_log}
+use Rattle.ms_strict_laws.proofs.PairSets.{both_none, HasPair, pair_left, pair_right, has_one, Inside, inside_both, second_inside, first_inside, own_inside, none_inside}
+use Rattle.std.proofs.lemmas.Bool.{false≢true}
+use Rattle.std.proofs.lemmas.List.Elements.{Contains-append_left, Contains-append_right}
+use Rattle.def_script.specs.Bytes.{Bytes}
 use Rattle.def_tree.specs.Range.{IsKey, IsWritable, AreWritable}
 use Rattle.def_types.specs.Typed.{IsTyped, AreTyped}
 use Rattle.def_types.proofs.Rows.{mall_rows}
@@ -15,16 +19,39 @@ use Rattle.def_types.proofs.Facts.{typed-multi}
 use Rattle.def_assets.specs.Assets.{Assets, unsigned}
 use Rattle.def_sane.specs.Keys.{keys, keys_of_all}
 use Rattle.def_satisfaction.specs.StackSet.{StackSet, Both}
-use Rattle.def_satisfaction.specs.Rows.{AreSignatures, parts}
 use Rattle.def_satisfaction.specs.Satisfaction.{canonical}
 use Rattle.def_choice.specs.Tight.{signed_row, free_row}
 use Rattle.def_choice.proofs.TightFree.{free_dsat}
 use Rattle.def_choice.proofs.Weights.{contains-reverse}
-use Rattle.ms_row_laws.proofs.RowLogs.{multi_log, sat_log, dsat_log, parts_log}
 use Rattle.ms_strict_laws.proofs.MultisigPairs.{Matched, matched_log, matched_inside}
-use Rattle.ms_strict_laws.proofs.QuietDissatisfactions.{quiet_dsat}
 use Rattle.ms_strict_laws.proofs.UnsignedStacks.{signed_dsat, signs}
-use Rattle.ms_strict_laws.proofs.PairSets.{HasPair, pair_left, pair_right, both_none, has_one, Inside, inside_both, second_inside, first_inside, own_inside, none_inside}
+
+module _ (s : Setting) (canonical : IsTrue s.all_rows → ⊥) where
+  mutual
+    pub quiet_dsat : (t : Tree) (w : Stack) (r : (row s t).dsat w) → (dsat_log s t w r).checks ≡ []
+    quiet_dsat (and_or x y z) w (inl r) = both_none _ _ (quiet_dsat x r.1 r.3) (quiet_dsat z r.0 r.2)
+    quiet_dsat (and_or x y z) w (inr r) = absurd (canonical r.0)
+    quiet_dsat (two kind.AndV x y) w r = absurd (canonical r.0)
+    quiet_dsat (two kind.AndB x y) w (inl r) = both_none _ _ (quiet_dsat x r.1 r.3) (quiet_dsat y r.0 r.2)
+    quiet_dsat (two kind.AndB x y) w (inr (fact, r)) = absurd (canonical fact)
+    quiet_dsat (two kind.OrC x z) w r = refl
+    quiet_dsat (two kind.OrI x z) w (inl r) = quiet_dsat x r.0 r.2
+    quiet_dsat (two kind.OrI x z) w (inr r) = quiet_dsat z r.0 r.2
+    quiet_dsat (two which x z) w r = both_none _ _ (quiet_dsat x r.1 r.3) (quiet_dsat z r.0 r.2)
+    quiet_dsat (thresh k xs) w (inl r) = quiet_none xs w r
+    quiet_dsat (thresh k xs) w (inr r) = absurd (canonical r.0)
+    quiet_dsat (wrap wrapper.D x) w r = refl
+    quiet_dsat (wrap wrapper.V x) w r = refl
+    quiet_dsat (wrap wrapper.J x) w (inl r) = refl
+    quiet_dsat (wrap wrapper.J x) w (inr r) = absurd (canonical r.0)
+    quiet_dsat (wrap letter x) w r = quiet_dsat x w r
+    quiet_dsat tree w r = refl
+
+    -- all children dissatisfied
+    quiet_none : (xs : Trees) (w : Stack) (r : parts s xs 0 w) → (parts_log s xs 0 w r).checks ≡ []
+    quiet_none none w r = refl
+    quiet_none (more x xs) w (inl r) = absurd (omega (arith, r.1))
+    quiet_none (more x xs) w (inr r) = both_none _ _ (quiet_dsat x r.1 r.3) (quiet_none xs r.0 r.2)
 
 -- where signatures are found there is a pair
 first_pair : (key sig : Bytes) (rest : Pairs) → HasPair ((key, sig) ∷ rest)
@@ -84,86 +111,58 @@ module _ (assets : Assets) where
   abbrev pub IsQuiet : (tree : Tree) (w : Stack) → Type 0
   IsQuiet tree w = (r : (signed_row assets tree).sat w) × (checks tree w r ≡ [])
 
+  both_quiet : {P Q : Type 0} {c : P → Pairs} {d : Q → Pairs} → (p : P) × (c p ≡ []) → (q : Q) × (d q ≡ []) → (p : P) × (q : Q) × (d q ++ c p ≡ [])
+  both_quiet below above = (below.0, above.0, both_none _ _ above.1 below.1)
+
+  quiet_still : (x : Tree) (w : Stack) → (free_row assets x).dsat w → (r : (signed_row assets x).dsat w) × (dsat_checks x w r ≡ [])
+  quiet_still x w f = let d = signed_dsat assets x w f in (d, dsat_quiet x w d)
+
   mutual
     unfolding mall_rows
 
     pub free_quiet : (tree : Tree) → IsTyped tree → (w : Stack) → (free_row assets tree).sat w → IsQuiet tree w
     free_quiet just_0 t w f = absurd f
-    free_quiet just_1 t w f = (f, refl)
     free_quiet (pk_k key) t w f = absurd (signs assets (pk_k key) t refl w f)
     free_quiet (pk_h key) t w f = absurd (signs assets (pk_h key) t refl w f)
-    free_quiet (older n) t w f = (f, refl)
-    free_quiet (after n) t w f = (f, refl)
-    free_quiet (hash kind value) t w f = (f, refl)
     free_quiet (and_or x y z) t w (inl f) =
-        let i = free_quiet x t.0 f.1 f.3 in
-        let j = free_quiet y t.1 f.0 f.2 in
-        (inl (f.0, f.1, j.0, i.0, f.4), both_none _ _ i.1 j.1)
+        let b = both_quiet (free_quiet y t.1 f.0 f.2) (free_quiet x t.0 f.1 f.3) in (inl (f.0, f.1, b.0, b.1, f.4), b.2)
     free_quiet (and_or x y z) t w (inr f) =
-        let d = signed_dsat assets x f.1 f.3 in
-        let j = free_quiet z t.2 f.0 f.2 in
-        (inr (f.0, f.1, j.0, d, f.4), both_none _ _ (dsat_quiet x f.1 d) j.1)
-    free_quiet (two kind.AndV x y) t w f =
-        let i = free_quiet x t.0 f.1 f.3 in
-        let j = free_quiet y t.1 f.0 f.2 in
-        ((f.0, f.1, j.0, i.0, f.4), both_none _ _ i.1 j.1)
-    free_quiet (two kind.AndB x y) t w f =
-        let i = free_quiet x t.0 f.1 f.3 in
-        let j = free_quiet y t.1 f.0 f.2 in
-        ((f.0, f.1, j.0, i.0, f.4), both_none _ _ i.1 j.1)
+        let b = both_quiet (free_quiet z t.2 f.0 f.2) (quiet_still x f.1 f.3) in (inr (f.0, f.1, b.0, b.1, f.4), b.2)
     free_quiet (two kind.OrB x z) t w (inl f) =
-        let i = free_quiet x t.0 f.1 f.3 in
-        let d = signed_dsat assets z f.0 f.2 in
-        (inl (f.0, f.1, d, i.0, f.4), both_none _ _ i.1 (dsat_quiet z f.0 d))
+        let b = both_quiet (quiet_still z f.0 f.2) (free_quiet x t.0 f.1 f.3) in (inl (f.0, f.1, b.0, b.1, f.4), b.2)
     free_quiet (two kind.OrB x z) t w (inr (inl f)) =
-        let d = signed_dsat assets x f.1 f.3 in
-        let j = free_quiet z t.1 f.0 f.2 in
-        (inr (inl (f.0, f.1, j.0, d, f.4)), both_none _ _ (dsat_quiet x f.1 d) j.1)
+        let b = both_quiet (free_quiet z t.1 f.0 f.2) (quiet_still x f.1 f.3) in (inr (inl (f.0, f.1, b.0, b.1, f.4)), b.2)
     free_quiet (two kind.OrB x z) t w (inr (inr f)) = absurd (false≢true f.0)
-    free_quiet (two kind.OrC x z) t w (inl f) = let i = free_quiet x t.0 w f in (inl i.0, i.1)
-    free_quiet (two kind.OrC x z) t w (inr f) =
-        let d = signed_dsat assets x f.1 f.3 in
-        let j = free_quiet z t.1 f.0 f.2 in
-        (inr (f.0, f.1, j.0, d, f.4), both_none _ _ (dsat_quiet x f.1 d) j.1)
-    free_quiet (two kind.OrD x z) t w (inl f) = let i = free_quiet x t.0 w f in (inl i.0, i.1)
-    free_quiet (two kind.OrD x z) t w (inr f) =
-        let d = signed_dsat assets x f.1 f.3 in
-        let j = free_quiet z t.1 f.0 f.2 in
-        (inr (f.0, f.1, j.0, d, f.4), both_none _ _ (dsat_quiet x f.1 d) j.1)
     free_quiet (two kind.OrI x z) t w (inl f) = let i = free_quiet x t.0 f.0 f.2 in (inl (f.0, f.1, i.0, f.3, f.4), i.1)
     free_quiet (two kind.OrI x z) t w (inr f) = let j = free_quiet z t.1 f.0 f.2 in (inr (f.0, f.1, j.0, f.3, f.4), j.1)
+    free_quiet (two kind.AndV x y) t w f =
+        let b = both_quiet (free_quiet y t.1 f.0 f.2) (free_quiet x t.0 f.1 f.3) in ((f.0, f.1, b.0, b.1, f.4), b.2)
+    free_quiet (two kind.AndB x y) t w f =
+        let b = both_quiet (free_quiet y t.1 f.0 f.2) (free_quiet x t.0 f.1 f.3) in ((f.0, f.1, b.0, b.1, f.4), b.2)
+    free_quiet (two which x z) t w (inl f) = let i = free_quiet x t.0 w f in (inl i.0, i.1)
+    free_quiet (two which x z) t w (inr f) =
+        let b = both_quiet (free_quiet z t.1 f.0 f.2) (quiet_still x f.1 f.3) in (inr (f.0, f.1, b.0, b.1, f.4), b.2)
     free_quiet (thresh k xs) t w f = parts_quiet xs t.0 k w f
     free_quiet (multi k keys) t w f = absurd (signs assets (multi k keys) t refl w f)
-    free_quiet (wrap wrapper.A x) t w f = free_quiet x t.0 w f
-    free_quiet (wrap wrapper.S x) t w f = free_quiet x t.0 w f
-    free_quiet (wrap wrapper.C x) t w f = free_quiet x t.0 w f
     free_quiet (wrap wrapper.D x) t w f = let i = free_quiet x t.0 f.0 f.2 in ((f.0, f.1, i.0, f.3, f.4), i.1)
-    free_quiet (wrap wrapper.V x) t w f = free_quiet x t.0 w f
-    free_quiet (wrap wrapper.J x) t w f = free_quiet x t.0 w f
-    free_quiet (wrap wrapper.N x) t w f = free_quiet x t.0 w f
+    free_quiet (wrap letter x) t w f = free_quiet x t.0 w f
+    free_quiet tree t w f = (f, refl)
 
     parts_quiet : (xs : Trees) → AreTyped xs → (n : ℕ) (w : Stack) → parts (canonical (unsigned assets)) xs n w →
         (r : parts (canonical assets) xs n w) × (parts_checks xs n w r ≡ [])
     parts_quiet none t n w f = (f, refl)
     parts_quiet (more x xs) t n w (inl f) =
         let g = f.2 in
-        let i = free_quiet x t.0 g.1 g.3 in
-        let j = parts_quiet xs t.1 f.0 g.0 g.2 in
-        (inl (f.0, f.1, (g.0, g.1, j.0, i.0, g.4)), both_none _ _ i.1 j.1)
+        let b = both_quiet (parts_quiet xs t.1 f.0 g.0 g.2) (free_quiet x t.0 g.1 g.3) in
+        (inl (f.0, f.1, (g.0, g.1, b.0, b.1, g.4)), b.2)
     parts_quiet (more x xs) t n w (inr f) =
-        let d = signed_dsat assets x f.1 f.3 in
-        let j = parts_quiet xs t.1 n f.0 f.2 in
-        (inr (f.0, f.1, j.0, d, f.4), both_none _ _ (dsat_quiet x f.1 d) j.1)
+        let b = both_quiet (parts_quiet xs t.1 n f.0 f.2) (quiet_still x f.1 f.3) in (inr (f.0, f.1, b.0, b.1, f.4), b.2)
 
   mutual
     pub free_or_pair : (tree : Tree) → IsWritable tree → IsTyped tree → (w : Stack) (r : (signed_row assets tree).sat w) → (free_row assets tree).sat w ⊎ HasPair (checks tree w r)
     free_or_pair just_0 k t w r = absurd r
-    free_or_pair just_1 k t w r = inl r
     free_or_pair (pk_k key) k t w r = inr (key, r.0, has_one key r.0)
     free_or_pair (pk_h key) k t w r = let g = r.4.2 in inr (r.0, g.0, has_one r.0 g.0)
-    free_or_pair (older n) k t w r = inl r
-    free_or_pair (after n) k t w r = inl r
-    free_or_pair (hash kind value) k t w r = inl r
     free_or_pair (and_or x y z) k t w (inl r) =
         either_left _ _ _ (both_free _ _ _ _ w r.0 r.1 r.4 (free_or_pair y k.1 t.1 r.0 r.2) (free_or_pair x k.0 t.0 r.1 r.3))
     free_or_pair (and_or x y z) k t w (inr r) =
@@ -176,25 +175,18 @@ module _ (assets : Assets) where
         either_right _ _ _ (either_left _ _ _
         (both_free _ _ _ _ w r.0 r.1 r.4 (free_or_pair z k.1 t.1 r.0 r.2) (inl (free_dsat assets x r.1 r.3))))
     free_or_pair (two kind.OrB x z) k t w (inr (inr r)) = absurd (false≢true r.0)
-    free_or_pair (two kind.OrC x z) k t w (inl r) = either_left _ _ _ (free_or_pair x k.0 t.0 w r)
-    free_or_pair (two kind.OrC x z) k t w (inr r) =
-        either_right _ _ _ (both_free _ _ _ _ w r.0 r.1 r.4 (free_or_pair z k.1 t.1 r.0 r.2) (inl (free_dsat assets x r.1 r.3)))
-    free_or_pair (two kind.OrD x z) k t w (inl r) = either_left _ _ _ (free_or_pair x k.0 t.0 w r)
-    free_or_pair (two kind.OrD x z) k t w (inr r) =
-        either_right _ _ _ (both_free _ _ _ _ w r.0 r.1 r.4 (free_or_pair z k.1 t.1 r.0 r.2) (inl (free_dsat assets x r.1 r.3)))
     free_or_pair (two kind.OrI x z) k t w (inl r) =
         either_left _ _ _ (both_free _ _ _ [] w r.0 r.1 r.4 (free_or_pair x k.0 t.0 r.0 r.2) (inl r.3))
     free_or_pair (two kind.OrI x z) k t w (inr r) =
         either_right _ _ _ (both_free _ _ _ [] w r.0 r.1 r.4 (free_or_pair z k.1 t.1 r.0 r.2) (inl r.3))
+    free_or_pair (two which x z) k t w (inl r) = either_left _ _ _ (free_or_pair x k.0 t.0 w r)
+    free_or_pair (two which x z) k t w (inr r) =
+        either_right _ _ _ (both_free _ _ _ _ w r.0 r.1 r.4 (free_or_pair z k.1 t.1 r.0 r.2) (inl (free_dsat assets x r.1 r.3)))
     free_or_pair (thresh n xs) k t w r = parts_or_pair xs k.2 t.0 n w r
     free_or_pair (multi n keys) k t w r = let i = typed-multi n keys t in inr (multi_pair n keys r.1 k.2 i.0 r.3.0 r.3.1)
-    free_or_pair (wrap wrapper.A x) k t w r = free_or_pair x k t.0 w r
-    free_or_pair (wrap wrapper.S x) k t w r = free_or_pair x k t.0 w r
-    free_or_pair (wrap wrapper.C x) k t w r = free_or_pair x k t.0 w r
     free_or_pair (wrap wrapper.D x) k t w r = both_free _ _ _ [] w r.0 r.1 r.4 (free_or_pair x k t.0 r.0 r.2) (inl r.3)
-    free_or_pair (wrap wrapper.V x) k t w r = free_or_pair x k t.0 w r
-    free_or_pair (wrap wrapper.J x) k t w r = free_or_pair x k t.0 w r
-    free_or_pair (wrap wrapper.N x) k t w r = free_or_pair x k t.0 w r
+    free_or_pair (wrap letter x) k t w r = free_or_pair x k t.0 w r
+    free_or_pair tree k t w r = inl r
 
     parts_or_pair : (xs : Trees) → AreWritable xs → AreTyped xs → (n : ℕ) (w : Stack) (r : parts (canonical assets) xs n w) →
         parts (canonical (unsigned assets)) xs n w ⊎ HasPair (parts_checks xs n w r)
@@ -210,12 +202,8 @@ module _ (assets : Assets) where
     -- the keys of the pairs that are logged are the miniscript's
     pub keys_within : (tree : Tree) → IsWritable tree → (w : Stack) (r : (signed_row assets tree).sat w) → Inside (checks tree w r) (keys tree)
     keys_within just_0 k w r = absurd r
-    keys_within just_1 k w r = none_inside []
     keys_within (pk_k key) k w r = own_inside key r.0
     keys_within (pk_h key) k w r = subst (λ own. Inside (checks (pk_h key) w r) (own ∷ [])) r.3 (own_inside r.0 r.4.2.0)
-    keys_within (older n) k w r = none_inside []
-    keys_within (after n) k w r = none_inside []
-    keys_within (hash kind value) k w r = none_inside []
     keys_within (and_or x y z) k w (inl r) =
         on_left _ (keys x ++ keys y) (keys z) (inside_both (keys x) (keys y) _ _ (keys_within x k.0 r.1 r.3) (keys_within y k.1 r.0 r.2))
     keys_within (and_or x y z) k w (inr r) =
@@ -227,24 +215,17 @@ module _ (assets : Assets) where
     keys_within (two kind.OrB x z) k w (inr (inl r)) =
         on_right _ (keys x) (keys z) (second_inside _ _ (keys z) (dsat_quiet x r.1 r.3) (keys_within z k.1 r.0 r.2))
     keys_within (two kind.OrB x z) k w (inr (inr r)) = absurd (false≢true r.0)
-    keys_within (two kind.OrC x z) k w (inl r) = on_left _ (keys x) (keys z) (keys_within x k.0 w r)
-    keys_within (two kind.OrC x z) k w (inr r) =
-        on_right _ (keys x) (keys z) (second_inside _ _ (keys z) (dsat_quiet x r.1 r.3) (keys_within z k.1 r.0 r.2))
-    keys_within (two kind.OrD x z) k w (inl r) = on_left _ (keys x) (keys z) (keys_within x k.0 w r)
-    keys_within (two kind.OrD x z) k w (inr r) =
-        on_right _ (keys x) (keys z) (second_inside _ _ (keys z) (dsat_quiet x r.1 r.3) (keys_within z k.1 r.0 r.2))
     keys_within (two kind.OrI x z) k w (inl r) = on_left _ (keys x) (keys z) (keys_within x k.0 r.0 r.2)
     keys_within (two kind.OrI x z) k w (inr r) = on_right _ (keys x) (keys z) (keys_within z k.1 r.0 r.2)
+    keys_within (two which x z) k w (inl r) = on_left _ (keys x) (keys z) (keys_within x k.0 w r)
+    keys_within (two which x z) k w (inr r) =
+        on_right _ (keys x) (keys z) (second_inside _ _ (keys z) (dsat_quiet x r.1 r.3) (keys_within z k.1 r.0 r.2))
     keys_within (thresh n xs) k w r = keys_of_parts xs k.2 n w r
     keys_within (multi n own) k w r =
         λ key sig h. contains-reverse own key (matched_inside (reverse own) r.1 (checks (multi n own) w r) (matched_log assets.pairs own r.1 k.2 r.3.1) key sig h)
-    keys_within (wrap wrapper.A x) k w r = keys_within x k w r
-    keys_within (wrap wrapper.S x) k w r = keys_within x k w r
-    keys_within (wrap wrapper.C x) k w r = keys_within x k w r
     keys_within (wrap wrapper.D x) k w r = keys_within x k r.0 r.2
-    keys_within (wrap wrapper.V x) k w r = keys_within x k w r
-    keys_within (wrap wrapper.J x) k w r = keys_within x k w r
-    keys_within (wrap wrapper.N x) k w r = keys_within x k w r
+    keys_within (wrap letter x) k w r = keys_within x k w r
+    keys_within tree k w r = none_inside []
 
     pub keys_of_parts : (xs : Trees) → AreWritable xs → (n : ℕ) (w : Stack) (r : parts (canonical assets) xs n w) → Inside (parts_checks xs n w r) (keys_of_all xs)
     keys_of_parts none k n w r = none_inside []

@@ -112,27 +112,18 @@ module _ (s t : Setting) (has : HasAssets s t) where
         or_b_gives s t (row s x) (row s z) (row t x) (row t z)
         (sat_gives x k.0 typed.0 safe.0 (give_left s t (keys x) (keys z) h)) (sat_gives z k.1 typed.1 safe.1 (give_right s t (keys x) (keys z) h))
         (free_dsat t x k.0 safe.0 p.0) (free_dsat t z k.1 safe.1 p.1)
-    sat_gives (two kind.OrC x z) k typed safe h =
-        either_gives _ _ _ _
-        (sat_gives x k.0 typed.0 safe.0 (give_left s t (keys x) (keys z) h))
-        (below_gives _ _ _ _ (sat_gives z k.1 typed.1 safe.1 (give_right s t (keys x) (keys z) h)) (free_dsat t x k.0 safe.0 safe.2.0))
-    sat_gives (two kind.OrD x z) k typed safe h =
-        either_gives _ _ _ _
-        (sat_gives x k.0 typed.0 safe.0 (give_left s t (keys x) (keys z) h))
-        (below_gives _ _ _ _ (sat_gives z k.1 typed.1 safe.1 (give_right s t (keys x) (keys z) h)) (free_dsat t x k.0 safe.0 safe.2.0))
     sat_gives (two kind.OrI x z) k typed safe h =
         either_gives _ _ _ _
         (both_gives _ _ _ _ (sat_gives x k.0 typed.0 safe.0 (give_left s t (keys x) (keys z) h)) (is_given ONE))
         (both_gives _ _ _ _ (sat_gives z k.1 typed.1 safe.1 (give_right s t (keys x) (keys z) h)) (is_given EMPTY))
+    sat_gives (two which x z) k typed safe h =
+        either_gives _ _ _ _
+        (sat_gives x k.0 typed.0 safe.0 (give_left s t (keys x) (keys z) h))
+        (below_gives _ _ _ _ (sat_gives z k.1 typed.1 safe.1 (give_right s t (keys x) (keys z) h)) (free_dsat t x k.0 safe.0 safe.2.0))
     sat_gives (thresh n xs) k typed safe h = parts_sat_give xs k.2 typed.0 safe.0 h safe.1.0 n
     sat_gives (multi n own) k typed safe h = λ w r. (w, (r.0, r.1, r.2, (r.3.0, signatures_give s t (reverse own) (λ key other sig i. h key other sig (contains-reverse own key i)) r.1 r.3.1), r.4))
-    sat_gives (wrap wrapper.A x) k typed safe h = sat_gives x k typed.0 safe.0 h
-    sat_gives (wrap wrapper.S x) k typed safe h = sat_gives x k typed.0 safe.0 h
-    sat_gives (wrap wrapper.C x) k typed safe h = sat_gives x k typed.0 safe.0 h
     sat_gives (wrap wrapper.D x) k typed safe h = both_gives _ _ _ _ (sat_gives x k typed.0 safe.0 h) (is_given ONE)
-    sat_gives (wrap wrapper.V x) k typed safe h = sat_gives x k typed.0 safe.0 h
-    sat_gives (wrap wrapper.J x) k typed safe h = sat_gives x k typed.0 safe.0 h
-    sat_gives (wrap wrapper.N x) k typed safe h = sat_gives x k typed.0 safe.0 h
+    sat_gives (wrap letter x) k typed safe h = sat_gives x k typed.0 safe.0 h
 
     pub parts_sat_give : (xs : Trees) → AreWritable xs → AreTyped xs → AreMallTyped xs → KeysGive s t (keys_of_all xs) → all_e (malls_of xs) ≡ true → (n : ℕ) → Gives (parts s xs n) (parts t xs n)
     parts_sat_give none k typed safe h e n = λ w r. (w, r)
@@ -148,7 +139,8 @@ free_sat s t has tree k typed safe h =
     sat_gives s t has tree k typed safe (λ key other sig i same counts good. absurd (false≢true (sym (h key other sig i same counts) ∙ good)))
 
 -- where it is the table of the assets
-pub canonical_sat : (assets : Assets) (tree : Tree) → IsWritable tree → IsTyped tree → IsMallTyped tree → Gives (row (full (given_of assets) (only (known assets))) tree).sat (row (canonical assets) tree).sat
+pub canonical_sat : (assets : Assets) (tree : Tree) → IsWritable tree → IsTyped tree → IsMallTyped tree
+    → Gives (row (full (given_of assets) (only (known assets))) tree).sat (row (canonical assets) tree).sat
 canonical_sat assets tree k typed safe =
     let s = full (given_of assets) (only (known assets)) in
     let has : HasAssets s (canonical assets) = record { older = λ n h. h; after = λ n h. h; preimages = λ kind value preimage h. h } in

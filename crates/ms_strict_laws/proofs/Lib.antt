@@ -1,14 +1,11 @@
 pub mod PairSets
 pub mod MultisigPairs
 pub mod UniqueUnderPairs
-pub mod QuietDissatisfactions
 pub mod UnsignedStacks
 pub mod CanonicalChecks
 pub mod CanonicalExists
 pub mod TightOptions
 pub mod TightIsUnique
-pub mod TightExists
-pub mod StrictIsLightestTight
 pub mod StrictChoiceExists
 pub mod TightOrBeaten
 pub mod OwnPairsSuffice

@@ -64,7 +64,8 @@ covered_itself checks keys key sig i good = (and_parts (not (is_empty sig)) (mem
 covered_later : (table : Pairs) (key : Key) (keys : List Key) (found : Pairs) → Covered table (key ∷ keys) found → Covered table keys found
 covered_later table key keys found h k g i = h k g (later_in key keys k i)
 
-covered_rest : (table : Pairs) (key : Key) (sig : Bytes) (keys : List Key) (found rest : Pairs) → ¬ Contains keys key → found ≡ (key, sig) ∷ rest → Covered table (key ∷ keys) found → Covered table keys rest
+covered_rest : (table : Pairs) (key : Key) (sig : Bytes) (keys : List Key) (found rest : Pairs) → ¬ Contains keys key → found ≡ (key, sig) ∷ rest
+    → Covered table (key ∷ keys) found → Covered table keys rest
 covered_rest table key sig keys found rest apart e h k g i good =
     elim (first_or_later key sig rest k g (sym (ap (λ q. member q k g) e) ∙ h k g (later_in key keys k i) good)) [
       | inl p ↦ absurd (apart (subst (Contains keys) (sym p.0) i))
@@ -72,7 +73,8 @@ covered_rest table key sig keys found rest apart e h k g i good =
     ]
 
 -- the signature of a key that was found with one
-the_first : (table : Pairs) (key : Key) (sig : Bytes) (keys : List Key) (sigs : List Bytes) (found rest : Pairs) → ¬ Contains keys key → found ≡ (key, sig) ∷ rest → Matched keys sigs rest → Covered table (key ∷ keys) found → (g : Bytes) → is_good table key g ≡ true → g ≡ sig
+the_first : (table : Pairs) (key : Key) (sig : Bytes) (keys : List Key) (sigs : List Bytes) (found rest : Pairs) → ¬ Contains keys key → found ≡ (key, sig)
+    ∷ rest → Matched keys sigs rest → Covered table (key ∷ keys) found → (g : Bytes) → is_good table key g ≡ true → g ≡ sig
 the_first table key sig keys sigs found rest apart e m h g good =
     elim (first_or_later key sig rest key g (sym (ap (λ q. member q key g) e) ∙ h key g (first_in key keys) good)) [
       | inl p ↦ sym p.1
@@ -80,7 +82,8 @@ the_first table key sig keys sigs found rest apart e m h g good =
     ]
 
 -- then there are no more signatures in any other stack, and the same where there are as many
-pub matched_only : (table : Pairs) (keys : List Key) (sigs : Stack) (found : Pairs) → AreDistinct keys → Matched keys sigs found → Covered table keys found → (others : Stack) → AreSignatures table keys others → (length others ≤ length sigs) × (length others ≡ length sigs → others ≡ sigs)
+pub matched_only : (table : Pairs) (keys : List Key) (sigs : Stack) (found : Pairs) → AreDistinct keys → Matched keys sigs found → Covered table keys found
+    → (others : Stack) → AreSignatures table keys others → (length others ≤ length sigs) × (length others ≡ length sigs → others ≡ sigs)
 matched_only table keys [] found distinct m h [] r = (omega arith, λ e. refl)
 matched_only table keys (sig ∷ sigs) found distinct m h [] r = (omega arith, λ e. absurd (omega arith))
 matched_only table [] sigs found distinct m h (g ∷ others) r = absurd r

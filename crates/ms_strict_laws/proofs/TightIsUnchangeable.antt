@@ -44,7 +44,8 @@ all_or_new : (these those : Pairs) → ((key sig : Bytes) → Has these key sig 
 all_or_new [] those = inl (λ key sig h. absurd (false≢true h))
 all_or_new (pair ∷ rest) those = go (member those pair.0 pair.1) refl (all_or_new rest those)
   where
-    go : (b : Bool) → member those pair.0 pair.1 ≡ b → ((key sig : Bytes) → Has rest key sig → Has those key sig) ⊎ HasNewPair rest those → ((key sig : Bytes) → Has (pair ∷ rest) key sig → Has those key sig) ⊎ HasNewPair (pair ∷ rest) those
+    go : (b : Bool) → member those pair.0 pair.1 ≡ b → ((key sig : Bytes) → Has rest key sig → Has those key sig) ⊎ HasNewPair rest those
+        → ((key sig : Bytes) → Has (pair ∷ rest) key sig → Has those key sig) ⊎ HasNewPair (pair ∷ rest) those
     go false e h = inr (pair.0, pair.1, has_left (pair ∷ []) rest pair.0 pair.1 (has_one pair.0 pair.1), λ i. false≢true (sym e ∙ i))
     go true e (inl all) = inl (λ key sig h. elim (first_or_later pair.0 pair.1 rest key sig h) [
       | inl same ↦ subst (λ k. Has those k sig) same.0 (subst (λ g. Has those pair.0 g) same.1 e)
@@ -53,7 +54,9 @@ all_or_new (pair ∷ rest) those = go (member those pair.0 pair.1) refl (all_or_
     go true e (inr n) = inr (n.0, n.1, has_right (pair ∷ []) rest n.0 n.1 n.2, n.3)
 
 -- what a run passes doesn't depend on the row
-same_checks : (tree : Tree) (assets : Assets) (table : Pairs) (stack : List Bytes) (checks : Pairs) → IsWritable tree → IsWithinConsensus tree → IsAccepted tree (given_with assets table) stack checks → (r : (row (full (given_with assets table) (only (known assets))) tree).sat (reverse stack)) → (sat_log (full (given_with assets table) (only (known assets))) tree (reverse stack) r).checks ≡ checks
+same_checks : (tree : Tree) (assets : Assets) (table : Pairs) (stack : List Bytes) (checks : Pairs) → IsWritable tree → IsWithinConsensus tree
+    → IsAccepted tree (given_with assets table) stack checks → (r : (row (full (given_with assets table) (only (known assets))) tree).sat (reverse stack))
+    → (sat_log (full (given_with assets table) (only (known assets))) tree (reverse stack) r).checks ≡ checks
 same_checks tree assets table stack checks writable consensus is r =
     let s = full (given_with assets table) (only (known assets)) in
     let short = accepted_short tree (given_with assets table) stack checks writable consensus is in
@@ -67,7 +70,9 @@ abbrev IsOnly : Assets → Tree → (checks : Pairs) → Stack → Type 0
 IsOnly assets tree checks w =
     (other : Pairs) → Covered other (keys tree) checks → (v : Stack) → (row (under assets other) tree).sat v → v ≡ w
 
-against : (tree : Tree) (assets : Assets) (table : Pairs) (stack : List Bytes) (checks : Pairs) → IsWritable tree → IsWithinConsensus tree → IsOnly assets tree checks (reverse stack) → (other : List Bytes) (others : Pairs) → IsAccepted tree (given_with assets table) other others → other ≢ stack → HasNewPair others checks ⊎ Fresh tree assets table other
+against : (tree : Tree) (assets : Assets) (table : Pairs) (stack : List Bytes) (checks : Pairs) → IsWritable tree → IsWithinConsensus tree
+    → IsOnly assets tree checks (reverse stack) → (other : List Bytes) (others : Pairs) → IsAccepted tree (given_with assets table) other others
+    → other ≢ stack → HasNewPair others checks ⊎ Fresh tree assets table other
 against tree assets table stack checks writable consensus unique other others is differs =
     elim (all_or_new others checks) [
       | inr new ↦ inl new

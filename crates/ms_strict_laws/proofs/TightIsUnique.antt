@@ -6,7 +6,7 @@ use Rattle.def_machine.specs.Stacks.{Stack, Pairs}
 use Rattle.def_machine.specs.MultiSig.{is_good}
 use Rattle.def_tree.specs.declared.Two.TheVariants as kind
 use Rattle.def_tree.specs.declared.Wrapper.TheVariants as wrapper
-use Rattle.def_tree.specs.Tree.{Tree, Trees, Key, just_0, just_1, pk_k, pk_h, older, after, hash, and_or, two, thresh, multi, wrap, none, more}
+use Rattle.def_tree.specs.Tree.{Tree, Trees, Key, just_0, just_1, pk_k, pk_h, hash, and_or, two, thresh, multi, wrap, none, more}
 use Rattle.def_tree.specs.Range.{IsWritable}
 use Rattle.def_types.specs.Typed.{IsTyped, mall_of, malls_of, IsMallTyped}
 use Rattle.def_types.proofs.Rows.{mall_rows}
@@ -20,7 +20,7 @@ use Rattle.def_choice.specs.Tight.{TightSat, TightParts}
 use Rattle.def_choice.specs.NonMalleable.{given_with}
 use Rattle.ms_row_laws.proofs.RowLogs.{sat_log, parts_log}
 use Rattle.ms_row_laws.proofs.UniqueDissatisfaction.{all_e}
-use Rattle.ms_strict_laws.proofs.QuietDissatisfactions.{quiet_dsat}
+use Rattle.ms_strict_laws.proofs.CanonicalChecks.{quiet_dsat}
 use Rattle.ms_strict_laws.proofs.MultisigPairs.{Covered, matched_log}
 use Rattle.ms_strict_laws.proofs.UniqueUnderPairs.{Sole, SoleParts, both_sole, item_sole, sat_part, dsat_part}
 use Rattle.ms_strict_laws.proofs.TightOptions.{Fits, AllFit, fit_wrap, fit_two, fit_and_or, fit_more, at, under, Sats, freed, no_pairs, dsat_sole, fixed_sole, pk_k_sole, pk_h_stack, pk_h_sole, some_same, multi_sole, or_b_first, or_b_second, or_first, or_second, or_i_first, or_i_second, and_or_first, and_or_second}
@@ -58,8 +58,6 @@ module _ (assets : Assets) (table : Pairs) (holds : Holds table assets) where
       (other, form, same, own, (below, above, (sig.0, good_here other sig.0 sig.1, sig.2), at_top, e)),
       pk_h_sole assets key other sig.0 w own (pk_h_stack other sig.0 w above below e at_top sig.2),
     )
-    one_sat (older n) f w r = (r, fixed_sole [] _ w [] (λ other v h. h.1) r.1)
-    one_sat (after n) f w r = (r, fixed_sole [] _ w [] (λ other v h. h.1) r.1)
     one_sat (hash kind value) f w r =
         (r, fixed_sole [] _ w (r.0 ∷ []) (λ other v h. h.2 ∙ ap (λ x. x ∷ []) (some_same h.0 r.0 (known assets kind value) h.1.1 r.1.1)) r.2)
     one_sat (and_or x y z) f w (inl (r, free)) =
@@ -69,8 +67,7 @@ module _ (assets : Assets) (table : Pairs) (holds : Holds table assets) where
         (inl (r.0, r.1, j.0, i.0, r.4), and_or_first assets x y z _ _ w r.1 r.0 f r.4 i.1 j.1 free)
     one_sat (and_or x y z) f w (inr (r, free)) =
         let t = fit_and_or x y z f in
-        let safe = f.safe in
-        let i = dsat_sole assets table x t.0 safe.3.0 r.1 r.3 in
+        let i = dsat_sole assets table x t.0 f.safe.3.0 r.1 r.3 in
         let j = one_sat z t.2 r.0 r.2 in
         (inr (r.0, r.1, j.0, i.0, r.4), and_or_second assets x y z _ _ w r.1 r.0 f r.4 i.2 j.1 (i.1 (keys z)) free)
     one_sat (two kind.AndV x y) f w r =
@@ -85,38 +82,14 @@ module _ (assets : Assets) (table : Pairs) (holds : Holds table assets) where
         ((r.0, r.1, j.0, i.0, r.4), both_sole (keys x) (keys y) _ _ (Sats assets x) (Sats assets y) w r.1 r.0 t.2 i.1 j.1 r.4)
     one_sat (two kind.OrB x z) f w (inl (r, free)) =
         let t = fit_two kind.OrB x z f in
-        let safe = f.safe in
         let i = one_sat x t.0 r.1 r.3 in
-        let j = dsat_sole assets table z t.1 (and_parts (mall_of x).e (mall_of z).e safe.2.0).1 r.0 r.2 in
+        let j = dsat_sole assets table z t.1 (and_parts (mall_of x).e (mall_of z).e f.safe.2.0).1 r.0 r.2 in
         (inl (r.0, r.1, j.0, i.0, r.4), or_b_first assets x z _ _ w r.1 r.0 f r.4 i.1 j.2 (j.1 (keys x)) free)
     one_sat (two kind.OrB x z) f w (inr (r, free)) =
         let t = fit_two kind.OrB x z f in
-        let safe = f.safe in
-        let i = dsat_sole assets table x t.0 (and_parts (mall_of x).e (mall_of z).e safe.2.0).0 r.1 r.3 in
+        let i = dsat_sole assets table x t.0 (and_parts (mall_of x).e (mall_of z).e f.safe.2.0).0 r.1 r.3 in
         let j = one_sat z t.1 r.0 r.2 in
         (inr (inl (r.0, r.1, j.0, i.0, r.4)), or_b_second assets x z _ _ w r.1 r.0 f r.4 i.2 j.1 (i.1 (keys z)) free)
-    one_sat (two kind.OrC x z) f w (inl (r, free)) =
-        let t = fit_two kind.OrC x z f in
-        let safe = f.safe in
-        let i = one_sat x t.0 w r in
-        (inl i.0, or_first assets x z _ w t.0 t.1 t.2 safe.2.0 safe.2.1.0 i.1 free)
-    one_sat (two kind.OrC x z) f w (inr (r, free)) =
-        let t = fit_two kind.OrC x z f in
-        let safe = f.safe in
-        let i = dsat_sole assets table x t.0 safe.2.0 r.1 r.3 in
-        let j = one_sat z t.1 r.0 r.2 in
-        (inr (r.0, r.1, j.0, i.0, r.4), or_second assets x z _ _ w r.1 r.0 t.0 t.1 t.2 safe.2.0 safe.2.1.0 r.4 i.2 j.1 (i.1 (keys z)) free)
-    one_sat (two kind.OrD x z) f w (inl (r, free)) =
-        let t = fit_two kind.OrD x z f in
-        let safe = f.safe in
-        let i = one_sat x t.0 w r in
-        (inl i.0, or_first assets x z _ w t.0 t.1 t.2 safe.2.0 safe.2.1.0 i.1 free)
-    one_sat (two kind.OrD x z) f w (inr (r, free)) =
-        let t = fit_two kind.OrD x z f in
-        let safe = f.safe in
-        let i = dsat_sole assets table x t.0 safe.2.0 r.1 r.3 in
-        let j = one_sat z t.1 r.0 r.2 in
-        (inr (r.0, r.1, j.0, i.0, r.4), or_second assets x z _ _ w r.1 r.0 t.0 t.1 t.2 safe.2.0 safe.2.1.0 r.4 i.2 j.1 (i.1 (keys z)) free)
     one_sat (two kind.OrI x z) f w (inl (r, free)) =
         let t = fit_two kind.OrI x z f in
         let i = one_sat x t.0 r.0 r.2 in
@@ -125,28 +98,29 @@ module _ (assets : Assets) (table : Pairs) (holds : Holds table assets) where
         let t = fit_two kind.OrI x z f in
         let i = one_sat z t.1 r.0 r.2 in
         (inr (r.0, r.1, i.0, r.3, r.4), or_i_second assets x z _ w r.1 r.0 f r.4 r.3 i.1 free)
+    one_sat (two which x z) f w (inl (r, free)) =
+        let t = fit_two which x z f in
+        let i = one_sat x t.0 w r in
+        (inl i.0, or_first assets x z _ w t.0 t.1 t.2 f.safe.2.0 f.safe.2.1.0 i.1 free)
+    one_sat (two which x z) f w (inr (r, free)) =
+        let t = fit_two which x z f in
+        let i = dsat_sole assets table x t.0 f.safe.2.0 r.1 r.3 in
+        let j = one_sat z t.1 r.0 r.2 in
+        (inr (r.0, r.1, j.0, i.0, r.4), or_second assets x z _ _ w r.1 r.0 t.0 t.1 t.2 f.safe.2.0 f.safe.2.1.0 r.4 i.2 j.1 (i.1 (keys z)) free)
     one_sat (thresh k xs) f w r =
-        let writable = f.writable in
-        let typed = f.typed in
-        let safe = f.safe in
-        let i = one_parts xs (record { writable = writable.2; typed = typed.0; safe = safe.0; distinct = f.distinct }) safe.1.0 k w r in
+        let i = one_parts xs (record { writable = f.writable.2; typed = f.typed.0; safe = f.safe.0; distinct = f.distinct }) f.safe.1.0 k w r in
         let s = i.1 in
         (i.0, record { inside = s.inside; only = λ other c v h. (s.only other c k v h).1 refl })
     one_sat (multi k own) f w r =
-        let writable = f.writable in
         let signed = signed_here (reverse own) r.1 r.3.1 in (
           (r.0, r.1, r.2, (r.3.0, signed), r.4),
-          multi_sole assets k own _ r.1 w r.0 f.distinct (matched_log table own r.1 writable.2 signed) r.3.0 r.2 r.4,
+          multi_sole assets k own _ r.1 w r.0 f.distinct (matched_log table own r.1 f.writable.2 signed) r.3.0 r.2 r.4,
         )
-    one_sat (wrap wrapper.A x) f w r = one_sat x (fit_wrap wrapper.A x f) w r
-    one_sat (wrap wrapper.S x) f w r = one_sat x (fit_wrap wrapper.S x f) w r
-    one_sat (wrap wrapper.C x) f w r = one_sat x (fit_wrap wrapper.C x f) w r
     one_sat (wrap wrapper.D x) f w r =
         let i = one_sat x (fit_wrap wrapper.D x f) r.0 r.2 in
         ((r.0, r.1, i.0, r.3, r.4), item_sole (keys x) _ (Sats assets x) ONE w r.1 r.0 i.1 r.3 r.4)
-    one_sat (wrap wrapper.V x) f w r = one_sat x (fit_wrap wrapper.V x f) w r
-    one_sat (wrap wrapper.J x) f w r = one_sat x (fit_wrap wrapper.J x f) w r
-    one_sat (wrap wrapper.N x) f w r = one_sat x (fit_wrap wrapper.N x f) w r
+    one_sat (wrap letter x) f w r = one_sat x (fit_wrap letter x f) w r
+    one_sat tree f w r = (r, fixed_sole [] _ w [] (λ other v h. h.1) r.1)
 
     pub one_parts : (xs : Trees) → AllFit xs → all_e (malls_of xs) ≡ true → (n : ℕ) (w : Stack) → TightParts assets xs n w → OneOf xs n w
     one_parts none f e n w r =
@@ -171,7 +145,8 @@ module _ (assets : Assets) (table : Pairs) (holds : Holds table assets) where
 
 -- a tight satisfaction has a row under each table that holds the assets' pairs; and under no table, which of the
 -- miniscript's keys has but the pairs of that row, has it another satisfaction
-pub only_sat : (assets : Assets) (table : Pairs) → Holds table assets → (tree : Tree) → IsWritable tree → IsTyped tree → IsMallTyped tree → AreDistinct (keys tree) → (w : Stack) → TightSat assets tree w →
+pub only_sat : (assets : Assets) (table : Pairs) → Holds table assets → (tree : Tree) → IsWritable tree → IsTyped tree → IsMallTyped tree
+    → AreDistinct (keys tree) → (w : Stack) → TightSat assets tree w →
     (r : (row (at assets table) tree).sat w) ×
     ((other : Pairs) → Covered other (keys tree) (sat_log (at assets table) tree w r).checks → (v : Stack) → (row (full (given_with assets other) (only (known assets))) tree).sat v → v ≡ w)
 only_sat assets table holds tree writable typed safe distinct w tight =

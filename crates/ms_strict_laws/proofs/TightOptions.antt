@@ -28,7 +28,7 @@ use Rattle.ms_row_laws.proofs.RowLogs.{dsat_log}
 use Rattle.ms_row_laws.proofs.NeededSignatures.{NoKeys, IsEmpty, needs, no_table}
 use Rattle.ms_row_laws.proofs.UniqueDissatisfaction.{one_both, free_dsat, one_dsat}
 use Rattle.ms_strict_laws.proofs.CanonicalExists.{HasAssets, Gives, free_sat}
-use Rattle.ms_strict_laws.proofs.QuietDissatisfactions.{quiet_dsat}
+use Rattle.ms_strict_laws.proofs.CanonicalChecks.{quiet_dsat}
 use Rattle.ms_strict_laws.proofs.MultisigPairs.{Covered, Matched, matched_inside, matched_only}
 use Rattle.ms_strict_laws.proofs.UniqueUnderPairs.{NoneOf, Sole, none_of, both_sole, item_sole, more_keys, first_sole, second_sole}
 use Rattle.ms_row_laws.proofs.KeyLists.{Disjoint, first_in, distinct_parts, distinct_reverse, Among, among_left, among_right}
@@ -49,43 +49,32 @@ pub record AllFit (xs : Trees) : Type 0 where
 
 pub fit_wrap : (wrapper : Wrapper) (x : Tree) → Fits (wrap wrapper x) → Fits x
 fit_wrap wrapper x f =
-    let typed = f.typed in
-    let safe = f.safe in
-    record { writable = f.writable; typed = typed.0; safe = safe.0; distinct = f.distinct }
+    record { writable = f.writable; typed = f.typed.0; safe = f.safe.0; distinct = f.distinct }
 
 pub fit_two : (kind : Two) (x y : Tree) → Fits (two kind x y) → Fits x × Fits y × Disjoint (keys x) (keys y)
 fit_two kind x y f =
-    let writable = f.writable in
-    let typed = f.typed in
-    let safe = f.safe in
     let d = distinct_parts (keys x) (keys y) f.distinct in (
-      record { writable = writable.0; typed = typed.0; safe = safe.0; distinct = d.0 },
-      record { writable = writable.1; typed = typed.1; safe = safe.1; distinct = d.1 },
+      record { writable = f.writable.0; typed = f.typed.0; safe = f.safe.0; distinct = d.0 },
+      record { writable = f.writable.1; typed = f.typed.1; safe = f.safe.1; distinct = d.1 },
       d.2,
     )
 
 pub fit_and_or : (x y z : Tree) → Fits (and_or x y z) → Fits x × Fits y × Fits z × Disjoint (keys x) (keys y) × Disjoint (keys x ++ keys y) (keys z)
 fit_and_or x y z f =
-    let writable = f.writable in
-    let typed = f.typed in
-    let safe = f.safe in
     let d = distinct_parts (keys x ++ keys y) (keys z) f.distinct in
     let c = distinct_parts (keys x) (keys y) d.0 in (
-      record { writable = writable.0; typed = typed.0; safe = safe.0; distinct = c.0 },
-      record { writable = writable.1; typed = typed.1; safe = safe.1; distinct = c.1 },
-      record { writable = writable.2; typed = typed.2; safe = safe.2; distinct = d.1 },
+      record { writable = f.writable.0; typed = f.typed.0; safe = f.safe.0; distinct = c.0 },
+      record { writable = f.writable.1; typed = f.typed.1; safe = f.safe.1; distinct = c.1 },
+      record { writable = f.writable.2; typed = f.typed.2; safe = f.safe.2; distinct = d.1 },
       c.2,
       d.2,
     )
 
 pub fit_more : (x : Tree) (xs : Trees) → AllFit (more x xs) → Fits x × AllFit xs × Disjoint (keys x) (keys_of_all xs)
 fit_more x xs f =
-    let writable = f.writable in
-    let typed = f.typed in
-    let safe = f.safe in
     let d = distinct_parts (keys x) (keys_of_all xs) f.distinct in (
-      record { writable = writable.0; typed = typed.0; safe = safe.0; distinct = d.0 },
-      record { writable = writable.1; typed = typed.1; safe = safe.1; distinct = d.1 },
+      record { writable = f.writable.0; typed = f.typed.0; safe = f.safe.0; distinct = d.0 },
+      record { writable = f.writable.1; typed = f.typed.1; safe = f.safe.1; distinct = d.1 },
       d.2,
     )
 
@@ -198,7 +187,8 @@ pk_h_sole assets key other sig w own e =
 pub some_same : (x y : Bytes) (held : Option Bytes) → held ≡ Some x → held ≡ Some y → x ≡ y
 some_same x y held e f = cc
 
-pub multi_sole : (assets : Assets) (k : ℕ) (own : List Key) (found : Pairs) (sigs w below : Stack) → AreDistinct own → Matched (reverse own) sigs found → length sigs ≡ k → below ≡ EMPTY ∷ [] → w ≡ sigs ++ below → Sole own found (Sats assets (multi k own)) w
+pub multi_sole : (assets : Assets) (k : ℕ) (own : List Key) (found : Pairs) (sigs w below : Stack) → AreDistinct own → Matched (reverse own) sigs found
+    → length sigs ≡ k → below ≡ EMPTY ∷ [] → w ≡ sigs ++ below → Sole own found (Sats assets (multi k own)) w
 multi_sole assets k own found sigs w below distinct m e i j = record {
   inside = λ key sig h. contains-reverse own key (matched_inside (reverse own) sigs found m key sig h);
   only = λ table c v r.
@@ -216,12 +206,16 @@ turned a b apart key i j = apart key j i
 
 module _ (assets : Assets) where
   -- of two options, the other one's child isn't satisfied
-  no_second : (x z : Tree) (checks : Pairs) (table : Pairs) → Fits x → Fits z → Disjoint (keys x) (keys z) → ((mall_of x).s || (mall_of z).s) ≡ true → Inside checks (keys x) → (HasOne (row (bare assets) z).sat → HasOne (row (bare assets) x).sat) → Covered table (keys x ++ keys z) checks → IsEmpty (Sats assets z table)
+  no_second : (x z : Tree) (checks : Pairs) (table : Pairs) → Fits x → Fits z → Disjoint (keys x) (keys z) → ((mall_of x).s || (mall_of z).s) ≡ true
+      → Inside checks (keys x) → (HasOne (row (bare assets) z).sat → HasOne (row (bare assets) x).sat) → Covered table (keys x ++ keys z) checks
+      → IsEmpty (Sats assets z table)
   no_second x z checks table f g apart e inside free c v q =
       let h = none_of table (keys x ++ keys z) (keys x) (keys z) checks inside apart (among_right (keys x) (keys z)) c in
       clash assets table x z f g h e (free (freed assets table z g h v q)) (v, q)
 
-  no_first : (x z : Tree) (checks : Pairs) (table : Pairs) → Fits x → Fits z → Disjoint (keys x) (keys z) → ((mall_of x).s || (mall_of z).s) ≡ true → Inside checks (keys z) → (HasOne (row (bare assets) x).sat → HasOne (row (bare assets) z).sat) → Covered table (keys x ++ keys z) checks → IsEmpty (Sats assets x table)
+  no_first : (x z : Tree) (checks : Pairs) (table : Pairs) → Fits x → Fits z → Disjoint (keys x) (keys z) → ((mall_of x).s || (mall_of z).s) ≡ true
+      → Inside checks (keys z) → (HasOne (row (bare assets) x).sat → HasOne (row (bare assets) z).sat) → Covered table (keys x ++ keys z) checks
+      → IsEmpty (Sats assets x table)
   no_first x z checks table f g apart e inside free c v q =
       let h = none_of table (keys x ++ keys z) (keys z) (keys x) checks inside (turned (keys x) (keys z) apart) (among_left (keys x) (keys z)) c in
       clash_other assets table x z f g h e (v, q) (free (freed assets table x f h v q))
@@ -231,15 +225,15 @@ module _ (assets : Assets) where
 
   pub or_b_first : (x z : Tree) (p q : Pairs) (w above below : Stack) → Fits (two kind.OrB x z) → w ≡ above ++ below →
       Sole (keys x) p (Sats assets x) above → Sole (keys z) q (Dsats assets z) below → Inside q (keys x) →
-      (HasOne (Either (Both (row (bare assets) z).dsat (row (bare assets) x).sat) (Both (row (bare assets) z).sat (row (bare assets) x).dsat)) → Both (row (bare assets) z).dsat (row (bare assets) x).sat w) →
+      (HasOne (Either (Both (row (bare assets) z).dsat (row (bare assets) x).sat) (Both (row (bare assets) z).sat (row (bare assets) x).dsat))
+      → Both (row (bare assets) z).dsat (row (bare assets) x).sat w) →
       Sole (keys x ++ keys z) (p ++ q) (Sats assets (two kind.OrB x z)) w
   unfolding mall_rows
   or_b_first x z p q w above below f e i j inside free =
       let t = fit_two kind.OrB x z f in
-      let safe = f.safe in
-      let es = and_parts (mall_of x).e (mall_of z).e safe.2.0 in
+      let es = and_parts (mall_of x).e (mall_of z).e f.safe.2.0 in
       let no : (table : Pairs) → Covered table (keys x ++ keys z) (p ++ q) → IsEmpty (Sats assets z table) =
-      λ table. no_second x z (p ++ q) table t.0 t.1 t.2 safe.2.1.0 (inside_all (keys x) p q i.inside inside)
+      λ table. no_second x z (p ++ q) table t.0 t.1 t.2 f.safe.2.1.0 (inside_all (keys x) p q i.inside inside)
       (λ one. let b = one_both _ _ one (free_other x t.0 es.0) in let g = free (b.0, inr b.1) in (g.1, g.3)) in
       first_sole (keys x ++ keys z) (p ++ q) (λ table. Both (Dsats assets z table) (Sats assets x table)) _ w
       (both_sole (keys x) (keys z) p q (Sats assets x) (Dsats assets z) w above below t.2 i j e)
@@ -247,15 +241,15 @@ module _ (assets : Assets) where
 
   pub or_b_second : (x z : Tree) (p q : Pairs) (w above below : Stack) → Fits (two kind.OrB x z) → w ≡ above ++ below →
       Sole (keys x) p (Dsats assets x) above → Sole (keys z) q (Sats assets z) below → Inside p (keys z) →
-      (HasOne (Either (Both (row (bare assets) z).dsat (row (bare assets) x).sat) (Both (row (bare assets) z).sat (row (bare assets) x).dsat)) → Both (row (bare assets) z).sat (row (bare assets) x).dsat w) →
+      (HasOne (Either (Both (row (bare assets) z).dsat (row (bare assets) x).sat) (Both (row (bare assets) z).sat (row (bare assets) x).dsat))
+      → Both (row (bare assets) z).sat (row (bare assets) x).dsat w) →
       Sole (keys x ++ keys z) (p ++ q) (Sats assets (two kind.OrB x z)) w
   unfolding mall_rows
   or_b_second x z p q w above below f e i j inside free =
       let t = fit_two kind.OrB x z f in
-      let safe = f.safe in
-      let es = and_parts (mall_of x).e (mall_of z).e safe.2.0 in
+      let es = and_parts (mall_of x).e (mall_of z).e f.safe.2.0 in
       let no : (table : Pairs) → Covered table (keys x ++ keys z) (p ++ q) → IsEmpty (Sats assets x table) =
-      λ table. no_first x z (p ++ q) table t.0 t.1 t.2 safe.2.1.0 (inside_all (keys z) p q inside j.inside)
+      λ table. no_first x z (p ++ q) table t.0 t.1 t.2 f.safe.2.1.0 (inside_all (keys z) p q inside j.inside)
       (λ one. let b = one_both _ _ (free_other z t.1 es.1) one in let g = free (b.0, inl b.1) in (g.0, g.2)) in
       second_sole (keys x ++ keys z) (p ++ q) _ _ w
       (first_sole (keys x ++ keys z) (p ++ q) (λ table. Both (Sats assets z table) (Dsats assets x table)) _ w
@@ -276,7 +270,8 @@ module _ (assets : Assets) where
       (λ one. let b = one_both _ _ one (free_other x f e) in (w, free (b.0, inr b.1)))
       c r.0 r.2)
 
-  pub or_second : (x z : Tree) (p q : Pairs) (w above below : Stack) → Fits x → Fits z → Disjoint (keys x) (keys z) → (mall_of x).e ≡ true → ((mall_of x).s || (mall_of z).s) ≡ true → w ≡ above ++ below →
+  pub or_second : (x z : Tree) (p q : Pairs) (w above below : Stack) → Fits x → Fits z → Disjoint (keys x) (keys z) → (mall_of x).e ≡ true
+      → ((mall_of x).s || (mall_of z).s) ≡ true → w ≡ above ++ below →
       Sole (keys x) p (Dsats assets x) above → Sole (keys z) q (Sats assets z) below → Inside p (keys z) →
       (HasOne (Either (row (bare assets) x).sat (Both (row (bare assets) z).sat (row (bare assets) x).dsat)) → Both (row (bare assets) z).sat (row (bare assets) x).dsat w) →
       Sole (keys x ++ keys z) (p ++ q) (λ table. Either (Sats assets x table) (Both (Sats assets z table) (Dsats assets x table))) w
@@ -295,12 +290,11 @@ module _ (assets : Assets) where
   unfolding mall_rows
   or_i_first x z p w above below f e one i free =
       let t = fit_two kind.OrI x z f in
-      let safe = f.safe in
       first_sole (keys x ++ keys z) p (λ table. Both (Sats assets x table) (Is ONE)) _ w
       (more_keys (keys x) (keys x ++ keys z) p _ w (among_left (keys x) (keys z))
       (item_sole (keys x) p (Sats assets x) ONE w above below i one e))
       (λ table c v r.
-      no_second x z p table t.0 t.1 t.2 safe.2.0 i.inside
+      no_second x z p table t.0 t.1 t.2 f.safe.2.0 i.inside
       (λ o. let b = one_both _ (Is EMPTY) o (EMPTY ∷ [], refl) in let g = free (b.0, inr b.1) in (g.0, g.2))
       c r.0 r.2)
 
@@ -311,43 +305,42 @@ module _ (assets : Assets) where
   unfolding mall_rows
   or_i_second x z p w above below f e empty i free =
       let t = fit_two kind.OrI x z f in
-      let safe = f.safe in
       second_sole (keys x ++ keys z) p _ (λ table. Both (Sats assets z table) (Is EMPTY)) w
       (more_keys (keys z) (keys x ++ keys z) p _ w (among_right (keys x) (keys z))
       (item_sole (keys z) p (Sats assets z) EMPTY w above below i empty e))
       (λ table c v r.
-      no_first x z p table t.0 t.1 t.2 safe.2.0 i.inside
+      no_first x z p table t.0 t.1 t.2 f.safe.2.0 i.inside
       (λ o. let b = one_both _ (Is ONE) o (ONE ∷ [], refl) in let g = free (b.0, inl b.1) in (g.0, g.2))
       c r.0 r.2)
 
   pub and_or_first : (x y z : Tree) (p q : Pairs) (w above below : Stack) → Fits (and_or x y z) → w ≡ above ++ below →
       Sole (keys x) p (Sats assets x) above → Sole (keys y) q (Sats assets y) below →
-      (HasOne (Either (Both (row (bare assets) y).sat (row (bare assets) x).sat) (Both (row (bare assets) z).sat (row (bare assets) x).dsat)) → Both (row (bare assets) y).sat (row (bare assets) x).sat w) →
+      (HasOne (Either (Both (row (bare assets) y).sat (row (bare assets) x).sat) (Both (row (bare assets) z).sat (row (bare assets) x).dsat))
+      → Both (row (bare assets) y).sat (row (bare assets) x).sat w) →
       Sole (keys x ++ keys y ++ keys z) (p ++ q) (Sats assets (and_or x y z)) w
   unfolding mall_rows
   and_or_first x y z p q w above below f e i j free =
       let t = fit_and_or x y z f in
-      let safe = f.safe in
       let both = both_sole (keys x) (keys y) p q (Sats assets x) (Sats assets y) w above below t.3 i j e in
       first_sole (keys x ++ keys y ++ keys z) (p ++ q) (λ table. Both (Sats assets y table) (Sats assets x table)) _ w
       (more_keys (keys x ++ keys y) (keys x ++ keys y ++ keys z) (p ++ q) _ w (among_left (keys x ++ keys y) (keys z)) both)
       (λ table c v r.
       let h = none_of table (keys x ++ keys y ++ keys z) (keys x ++ keys y) (keys z) (p ++ q) both.inside t.4 (among_right (keys x ++ keys y) (keys z)) c in
-      let b = one_both _ _ (freed assets table z t.2 h r.0 r.2) (free_other x t.0 safe.3.0) in
+      let b = one_both _ _ (freed assets table z t.2 h r.0 r.2) (free_other x t.0 f.safe.3.0) in
       let g = free (b.0, inr b.1) in
-      elim (or_cases ((mall_of x).s || (mall_of y).s) (mall_of z).s safe.3.1.0) [
+      elim (or_cases ((mall_of x).s || (mall_of y).s) (mall_of z).s f.safe.3.1.0) [
         | inl s ↦ elim (or_cases (mall_of x).s (mall_of y).s s) [ inl a ↦ not_free assets x t.0 a g.1 g.3 | inr a ↦ not_free assets y t.1 a g.0 g.2 ]
         | inr s ↦ not_sat assets table z t.2 h s r.0 r.2
       ])
 
   pub and_or_second : (x y z : Tree) (p q : Pairs) (w above below : Stack) → Fits (and_or x y z) → w ≡ above ++ below →
       Sole (keys x) p (Dsats assets x) above → Sole (keys z) q (Sats assets z) below → Inside p (keys z) →
-      (HasOne (Either (Both (row (bare assets) y).sat (row (bare assets) x).sat) (Both (row (bare assets) z).sat (row (bare assets) x).dsat)) → Both (row (bare assets) z).sat (row (bare assets) x).dsat w) →
+      (HasOne (Either (Both (row (bare assets) y).sat (row (bare assets) x).sat) (Both (row (bare assets) z).sat (row (bare assets) x).dsat))
+      → Both (row (bare assets) z).sat (row (bare assets) x).dsat w) →
       Sole (keys x ++ keys y ++ keys z) (p ++ q) (Sats assets (and_or x y z)) w
   unfolding mall_rows
   and_or_second x y z p q w above below f e i j inside free =
       let t = fit_and_or x y z f in
-      let safe = f.safe in
       let apart : Disjoint (keys x) (keys z) = λ key k l. t.4 key (Contains-append_left (keys x) (keys y) key k) l in
       let both = both_sole (keys x) (keys z) p q (Dsats assets x) (Sats assets z) w above below apart i j e in
       let among : Among (keys x ++ keys z) (keys x ++ keys y ++ keys z) =
@@ -358,12 +351,13 @@ module _ (assets : Assets) where
       second_sole (keys x ++ keys y ++ keys z) (p ++ q) _ (λ table. Both (Sats assets z table) (Dsats assets x table)) w
       (more_keys (keys x ++ keys z) (keys x ++ keys y ++ keys z) (p ++ q) _ w among both)
       (λ table c v r.
-      let h = none_of table (keys x ++ keys y ++ keys z) (keys z) (keys x ++ keys y) (p ++ q) (inside_all (keys z) p q inside j.inside) (turned (keys x ++ keys y) (keys z) t.4) (among_left (keys x ++ keys y) (keys z)) c in
+      let h = none_of table (keys x ++ keys y ++ keys z) (keys z) (keys x ++ keys y) (p ++ q) (inside_all (keys z) p q inside j.inside)
+      (turned (keys x ++ keys y) (keys z) t.4) (among_left (keys x ++ keys y) (keys z)) c in
       let h_x : NoneOf table (keys x) = λ key sig k. h key sig (Contains-append_left (keys x) (keys y) key k) in
       let h_y : NoneOf table (keys y) = λ key sig k. h key sig (Contains-append_right (keys x) (keys y) key k) in
       let b = one_both _ _ (freed assets table y t.1 h_y r.0 r.2) (freed assets table x t.0 h_x r.1 r.3) in
       let g = free (b.0, inl b.1) in
-      elim (or_cases ((mall_of x).s || (mall_of y).s) (mall_of z).s safe.3.1.0) [
+      elim (or_cases ((mall_of x).s || (mall_of y).s) (mall_of z).s f.safe.3.1.0) [
         | inl s ↦ elim (or_cases (mall_of x).s (mall_of y).s s) [ inl a ↦ not_sat assets table x t.0 h_x a r.1 r.3 | inr a ↦ not_sat assets table y t.1 h_y a r.0 r.2 ]
         | inr s ↦ not_free assets z t.2 s g.0 g.2
       ])

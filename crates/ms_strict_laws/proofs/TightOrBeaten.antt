@@ -6,7 +6,7 @@ use Rattle.def_script.specs.Bytes.{Bytes}
 use Rattle.def_machine.specs.Stacks.{Stack, Pairs}
 use Rattle.def_tree.specs.declared.Two.TheVariants as kind
 use Rattle.def_tree.specs.declared.Wrapper.TheVariants as wrapper
-use Rattle.def_tree.specs.Tree.{Tree, Trees, just_0, just_1, pk_k, pk_h, older, after, hash, and_or, two, thresh, multi, wrap, none, more}
+use Rattle.def_tree.specs.Tree.{Tree, Trees, and_or, two, thresh, wrap, none, more}
 use Rattle.def_tree.specs.Range.{IsWritable, AreWritable}
 use Rattle.def_types.specs.Malleable.{count_not_s}
 use Rattle.def_types.specs.Typed.{IsTyped, AreTyped, mall_of, malls_of, IsMallTyped, AreMallTyped}
@@ -21,7 +21,7 @@ use Rattle.def_choice.proofs.TightFree.{free_dsat}
 use Rattle.def_choice.proofs.StrictTight.{free_best}
 use Rattle.ms_row_laws.proofs.UniqueDissatisfaction.{free_dsat as has_dsat}
 use Rattle.ms_strict_laws.proofs.UnsignedStacks.{signs}
-use Rattle.ms_strict_laws.proofs.TightExists.{one_or_none}
+use Rattle.ms_strict_laws.proofs.StrictChoiceExists.{one_or_none}
 use Rattle.ms_strict_laws.proofs.PairSets.{HasPair, IsWithin, Fewer, Apart, has_right, apart_none, apart_turned, apart_inside, fewer_none, fewer_within, within_right, fewer_left, fewer_right, has_cases, in_none}
 use Rattle.ms_strict_laws.proofs.CanonicalChecks.{checks, dsat_checks, parts_checks, dsat_quiet, free_quiet, both_free, either_left, either_right, free_or_pair, keys_within, keys_of_parts}
 use Rattle.ms_row_laws.proofs.KeyLists.{Disjoint, distinct_parts}
@@ -190,13 +190,6 @@ module _ (assets : Assets) (are : AreAssets assets) where
       beats_both (sat z) (dsat x) (TightSat assets z) (dsat x) (checks assets z) (dsat_checks assets x) w r a (inl r.3)
       (apart_none _ _ (dsat_quiet assets x r.1 r.3))
 
-  upper_satisfied : (x z : Tree) (w : Stack) (r : Both (dsat z) (sat x) w) → TightSat assets x r.1 ⊎ Lesser x (checks assets x r.1 r.3) →
-      Both (dsat z) (TightSat assets x) w ⊎
-      LesserIn (Both (dsat z) (sat x)) (both_checks (dsat z) (sat x) (dsat_checks assets z) (checks assets x)) (checks assets x r.1 r.3 ++ dsat_checks assets z r.0 r.2)
-  upper_satisfied x z w r a =
-      beats_both (dsat z) (sat x) (dsat z) (TightSat assets x) (dsat_checks assets z) (checks assets x) w r (inl r.2) a
-      (apart_turned _ _ (apart_none _ (checks assets x r.1 r.3) (dsat_quiet assets z r.0 r.2)))
-
   -- an item on top, which has no pair
   under_item : (x : Tree) (item : Bytes) (w : Stack) (r : Both (sat x) (Is item) w) → TightSat assets x r.0 ⊎ Lesser x (checks assets x r.0 r.2) →
       Both (TightSat assets x) (Is item) w ⊎ ((v : Stack) × (q : Both (sat x) (Is item) v) × Fewer (checks assets x q.0 q.2) (checks assets x r.0 r.2))
@@ -220,13 +213,6 @@ module _ (assets : Assets) (are : AreAssets assets) where
     -- a canonical satisfaction is tight or beaten
     pub beats : (tree : Tree) → IsWritable tree → IsTyped tree → IsMallTyped tree → AreDistinct (keys tree) →
         (w : Stack) (r : sat tree w) → TightSat assets tree w ⊎ Lesser tree (checks assets tree w r)
-    beats just_0 k t m d w r = inl r
-    beats just_1 k t m d w r = inl r
-    beats (pk_k key) k t m d w r = inl r
-    beats (pk_h key) k t m d w r = inl r
-    beats (older n) k t m d w r = inl r
-    beats (after n) k t m d w r = inl r
-    beats (hash kind value) k t m d w r = inl r
     beats (and_or x y z) k t m d w (inl r) =
         let p = distinct_parts (keys x ++ keys y) (keys z) d in
         let q = distinct_parts (keys x) (keys y) p.0 in
@@ -247,7 +233,8 @@ module _ (assets : Assets) (are : AreAssets assets) where
     beats (two kind.OrB x z) k t m d w (inl r) =
         let q = distinct_parts (keys x) (keys z) d in
         either_left _ _ _ (settled (two kind.OrB x z) k t _ _ _ _ _
-        (upper_satisfied x z w r (beats x k.0 t.0 m.0 q.0 r.1 r.3)) (λ b. (b.0, inl b.1, b.2))
+        (beats_both (dsat z) (sat x) (dsat z) (TightSat assets x) (dsat_checks assets z) (checks assets x) w r (inl r.2) (beats x k.0 t.0 m.0 q.0 r.1 r.3)
+        (apart_turned _ _ (apart_none _ (checks assets x r.1 r.3) (dsat_quiet assets z r.0 r.2)))) (λ b. (b.0, inl b.1, b.2))
         (both_free _ _ _ _ w r.0 r.1 r.4 (inl (free_dsat assets z r.0 r.2)) (free_or_pair assets x k.0 t.0 r.1 r.3)) (λ e. (e.0, third e.1)))
     beats (two kind.OrB x z) k t m d w (inr (inl r)) =
         let q = distinct_parts (keys x) (keys z) d in
@@ -255,26 +242,6 @@ module _ (assets : Assets) (are : AreAssets assets) where
         (lower_satisfied x z w r (beats z k.1 t.1 m.1 q.1 r.0 r.2)) (λ b. (b.0, inr (inl b.1), b.2))
         (both_free _ _ _ _ w r.0 r.1 r.4 (free_or_pair assets z k.1 t.1 r.0 r.2) (inl (free_dsat assets x r.1 r.3))) (λ e. (e.0, third e.1)))
     beats (two kind.OrB x z) k t m d w (inr (inr r)) = absurd (false≢true r.0)
-    beats (two kind.OrC x z) k t m d w (inl r) =
-        let q = distinct_parts (keys x) (keys z) d in
-        either_left _ _ _ (settled (two kind.OrC x z) k t _ _ _ _ _
-        (beats x k.0 t.0 m.0 q.0 w r) (λ b. (b.0, inl b.1, b.2))
-        (free_or_pair assets x k.0 t.0 w r) (λ e. e))
-    beats (two kind.OrC x z) k t m d w (inr r) =
-        let q = distinct_parts (keys x) (keys z) d in
-        either_right _ _ _ (settled (two kind.OrC x z) k t _ _ _ _ _
-        (lower_satisfied x z w r (beats z k.1 t.1 m.1 q.1 r.0 r.2)) (λ b. (b.0, inr b.1, b.2))
-        (both_free _ _ _ _ w r.0 r.1 r.4 (free_or_pair assets z k.1 t.1 r.0 r.2) (inl (free_dsat assets x r.1 r.3))) (λ e. e))
-    beats (two kind.OrD x z) k t m d w (inl r) =
-        let q = distinct_parts (keys x) (keys z) d in
-        either_left _ _ _ (settled (two kind.OrD x z) k t _ _ _ _ _
-        (beats x k.0 t.0 m.0 q.0 w r) (λ b. (b.0, inl b.1, b.2))
-        (free_or_pair assets x k.0 t.0 w r) (λ e. e))
-    beats (two kind.OrD x z) k t m d w (inr r) =
-        let q = distinct_parts (keys x) (keys z) d in
-        either_right _ _ _ (settled (two kind.OrD x z) k t _ _ _ _ _
-        (lower_satisfied x z w r (beats z k.1 t.1 m.1 q.1 r.0 r.2)) (λ b. (b.0, inr b.1, b.2))
-        (both_free _ _ _ _ w r.0 r.1 r.4 (free_or_pair assets z k.1 t.1 r.0 r.2) (inl (free_dsat assets x r.1 r.3))) (λ e. e))
     beats (two kind.OrI x z) k t m d w (inl r) =
         let q = distinct_parts (keys x) (keys z) d in
         either_left _ _ _ (settled (two kind.OrI x z) k t _ _ _ _ _
@@ -285,17 +252,22 @@ module _ (assets : Assets) (are : AreAssets assets) where
         either_right _ _ _ (settled (two kind.OrI x z) k t _ _ _ _ _
         (under_item z EMPTY w r (beats z k.1 t.1 m.1 q.1 r.0 r.2)) (λ b. (b.0, inr b.1, b.2))
         (both_free _ _ _ [] w r.0 r.1 r.4 (free_or_pair assets z k.1 t.1 r.0 r.2) (inl r.3)) (λ e. e))
+    beats (two which x z) k t m d w (inl r) =
+        let q = distinct_parts (keys x) (keys z) d in
+        either_left _ _ _ (settled (two which x z) k t _ _ _ _ _
+        (beats x k.0 t.0 m.0 q.0 w r) (λ b. (b.0, inl b.1, b.2))
+        (free_or_pair assets x k.0 t.0 w r) (λ e. e))
+    beats (two which x z) k t m d w (inr r) =
+        let q = distinct_parts (keys x) (keys z) d in
+        either_right _ _ _ (settled (two which x z) k t _ _ _ _ _
+        (lower_satisfied x z w r (beats z k.1 t.1 m.1 q.1 r.0 r.2)) (λ b. (b.0, inr b.1, b.2))
+        (both_free _ _ _ _ w r.0 r.1 r.4 (free_or_pair assets z k.1 t.1 r.0 r.2) (inl (free_dsat assets x r.1 r.3))) (λ e. e))
     beats (thresh n xs) k t m d w r =
         let most = leb-true (count_not_s (malls_of xs)) n m.1.1.0 in
         at_threshold xs k.2 t.0 m.0 m.1.0 d n w r most (beats_parts xs k.2 t.0 m.0 d n w r)
-    beats (multi n own) k t m d w r = inl r
-    beats (wrap wrapper.A x) k t m d w r = beats x k t.0 m.0 d w r
-    beats (wrap wrapper.S x) k t m d w r = beats x k t.0 m.0 d w r
-    beats (wrap wrapper.C x) k t m d w r = beats x k t.0 m.0 d w r
     beats (wrap wrapper.D x) k t m d w r = under_item x ONE w r (beats x k t.0 m.0 d r.0 r.2)
-    beats (wrap wrapper.V x) k t m d w r = beats x k t.0 m.0 d w r
-    beats (wrap wrapper.J x) k t m d w r = beats x k t.0 m.0 d w r
-    beats (wrap wrapper.N x) k t m d w r = beats x k t.0 m.0 d w r
+    beats (wrap letter x) k t m d w r = beats x k t.0 m.0 d w r
+    beats tree k t m d w r = inl r
 
     beats_parts : (xs : Trees) → AreWritable xs → AreTyped xs → AreMallTyped xs → AreDistinct (keys_of_all xs) →
         (n : ℕ) (w : Stack) (r : parts (canonical assets) xs n w) → Outcome xs n w (parts_checks assets xs n w r)

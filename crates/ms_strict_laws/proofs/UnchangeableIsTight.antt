@@ -79,7 +79,8 @@ accepts_own tree assets stack writable consensus are sat =
     }
 
 -- two runs of one stack pass the same checks
-pub one_run : (tree : Tree) (assets : Assets) (table : Pairs) (stack : List Bytes) (c d : Pairs) → IsAccepted tree (given_with assets table) stack c → IsAccepted tree (given_with assets table) stack d → c ≡ d
+pub one_run : (tree : Tree) (assets : Assets) (table : Pairs) (stack : List Bytes) (c d : Pairs) → IsAccepted tree (given_with assets table) stack c
+    → IsAccepted tree (given_with assets table) stack d → c ≡ d
 one_run tree assets table stack c d p q = same_checks p.ops q.ops p.peak q.peak c d (sym p.run ∙ q.run)
 
 -- the assets' own pairs are a table of bytes

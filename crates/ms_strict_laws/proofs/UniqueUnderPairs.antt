@@ -42,7 +42,8 @@ none_of table keys a b checks inside apart among c key sig i =
       | inr bad ↦ bad
     ]
 
-pub both_sole : (a b : List Key) (p q : Pairs) (P Q : Pairs → StackSet) (w above below : Stack) → Disjoint a b → Sole a p P above → Sole b q Q below → w ≡ above ++ below → Sole (a ++ b) (p ++ q) (λ table. Both (Q table) (P table)) w
+pub both_sole : (a b : List Key) (p q : Pairs) (P Q : Pairs → StackSet) (w above below : Stack) → Disjoint a b → Sole a p P above → Sole b q Q below → w
+    ≡ above ++ below → Sole (a ++ b) (p ++ q) (λ table. Both (Q table) (P table)) w
 both_sole a b p q P Q w above below apart i j e = record {
   inside = inside_both a b p q i.inside j.inside;
   only = λ table c v r.
@@ -52,7 +53,8 @@ both_sole a b p q P Q w above below apart i j e = record {
       ∙ sym e;
 }
 
-pub item_sole : (keys : List Key) (checks : Pairs) (P : Pairs → StackSet) (item : Bytes) (w above below : Stack) → Sole keys checks P below → above ≡ item ∷ [] → w ≡ above ++ below → Sole keys checks (λ table. Both (P table) (Is item)) w
+pub item_sole : (keys : List Key) (checks : Pairs) (P : Pairs → StackSet) (item : Bytes) (w above below : Stack) → Sole keys checks P below → above ≡ item ∷ []
+    → w ≡ above ++ below → Sole keys checks (λ table. Both (P table) (Is item)) w
 item_sole keys checks P item w above below i f e = record {
   inside = i.inside;
   only = λ table c v r. r.4 ∙ ap (λ x. x ++ r.0) (r.3 ∙ sym f) ∙ ap (λ x. above ++ x) (i.only table c r.0 r.2) ∙ sym e;
@@ -66,13 +68,15 @@ more_keys a keys checks P w among i = record {
 }
 
 -- beside another option that has no stack
-pub first_sole : (keys : List Key) (checks : Pairs) (P Q : Pairs → StackSet) (w : Stack) → Sole keys checks P w → ((table : Pairs) → Covered table keys checks → IsEmpty (Q table)) → Sole keys checks (λ table. Either (P table) (Q table)) w
+pub first_sole : (keys : List Key) (checks : Pairs) (P Q : Pairs → StackSet) (w : Stack) → Sole keys checks P w
+    → ((table : Pairs) → Covered table keys checks → IsEmpty (Q table)) → Sole keys checks (λ table. Either (P table) (Q table)) w
 first_sole keys checks P Q w i no_other = record {
   inside = i.inside;
   only = λ table c v r. elim r [ inl h ↦ i.only table c v h | inr h ↦ absurd (no_other table c v h) ];
 }
 
-pub second_sole : (keys : List Key) (checks : Pairs) (P Q : Pairs → StackSet) (w : Stack) → Sole keys checks Q w → ((table : Pairs) → Covered table keys checks → IsEmpty (P table)) → Sole keys checks (λ table. Either (P table) (Q table)) w
+pub second_sole : (keys : List Key) (checks : Pairs) (P Q : Pairs → StackSet) (w : Stack) → Sole keys checks Q w
+    → ((table : Pairs) → Covered table keys checks → IsEmpty (P table)) → Sole keys checks (λ table. Either (P table) (Q table)) w
 second_sole keys checks P Q w i no_other = record {
   inside = i.inside;
   only = λ table c v r. elim r [ inl h ↦ absurd (no_other table c v h) | inr h ↦ i.only table c v h ];
@@ -82,14 +86,17 @@ second_sole keys checks P Q w i no_other = record {
 same_both : (v w above below a b : Stack) → v ≡ a ++ b → w ≡ above ++ below → a ≡ above → b ≡ below → v ≡ w
 same_both v w above below a b e f i j = e ∙ ap (λ x. x ++ b) i ∙ ap (λ x. above ++ x) j ∙ sym f
 
-pub sat_part : (a b : List Key) (p q : Pairs) (n m : ℕ) (X : Pairs → Row) (P : Pairs → ℕ → StackSet) (w above below : Stack) → Disjoint a b → Sole a p (λ table. (X table).sat) above → SoleParts b q m P below → n ≡ suc m → w ≡ above ++ below → SoleParts (a ++ b) (p ++ q) n (λ table. PartsOf (X table) (P table)) w
+pub sat_part : (a b : List Key) (p q : Pairs) (n m : ℕ) (X : Pairs → Row) (P : Pairs → ℕ → StackSet) (w above below : Stack) → Disjoint a b
+    → Sole a p (λ table. (X table).sat) above → SoleParts b q m P below → n ≡ suc m → w ≡ above ++ below
+    → SoleParts (a ++ b) (p ++ q) n (λ table. PartsOf (X table) (P table)) w
 sat_part a b p q n m X P w above below apart i j e f = record {
   inside = inside_both a b p q i.inside j.inside;
   only = λ table c k v r.
       go table k v r (i.only table (covered_above table a b p q apart j.inside c)) (j.only table (covered_below table a b p q apart i.inside c));
 }
   where
-    go : (table : Pairs) (k : ℕ) (v : Stack) → PartsOf (X table) (P table) k v → ((v : Stack) → (X table).sat v → v ≡ above) → ((k : ℕ) (v : Stack) → P table k v → (k ≤ m) × (k ≡ m → v ≡ below)) → (k ≤ n) × (k ≡ n → v ≡ w)
+    go : (table : Pairs) (k : ℕ) (v : Stack) → PartsOf (X table) (P table) k v → ((v : Stack) → (X table).sat v → v ≡ above)
+        → ((k : ℕ) (v : Stack) → P table k v → (k ≤ m) × (k ≡ m → v ≡ below)) → (k ≤ n) × (k ≡ n → v ≡ w)
     go table k v (inl (l, g, r)) x others =
         let o = others l r.0 r.2 in
         let few = o.0 in
@@ -98,7 +105,9 @@ sat_part a b p q n m X P w above below apart i j e f = record {
         let few = (others k r.0 r.2).0 in
         (omega arith, λ same. absurd (omega arith))
 
-pub dsat_part : (a b : List Key) (p q : Pairs) (n : ℕ) (X : Pairs → Row) (P : Pairs → ℕ → StackSet) (w above below : Stack) → Disjoint a b → Sole a p (λ table. (X table).dsat) above → SoleParts b q n P below → w ≡ above ++ below → ((table : Pairs) → Covered table a p → IsEmpty (X table).sat) → SoleParts (a ++ b) (p ++ q) n (λ table. PartsOf (X table) (P table)) w
+pub dsat_part : (a b : List Key) (p q : Pairs) (n : ℕ) (X : Pairs → Row) (P : Pairs → ℕ → StackSet) (w above below : Stack) → Disjoint a b
+    → Sole a p (λ table. (X table).dsat) above → SoleParts b q n P below → w ≡ above ++ below → ((table : Pairs) → Covered table a p → IsEmpty (X table).sat)
+    → SoleParts (a ++ b) (p ++ q) n (λ table. PartsOf (X table) (P table)) w
 dsat_part a b p q n X P w above below apart i j f no_sat = record {
   inside = inside_both a b p q i.inside j.inside;
   only = λ table c k v r.
@@ -106,7 +115,8 @@ dsat_part a b p q n X P w above below apart i j f no_sat = record {
       go table k v r (no_sat table c_x) (i.only table c_x) (j.only table (covered_below table a b p q apart i.inside c));
 }
   where
-    go : (table : Pairs) (k : ℕ) (v : Stack) → PartsOf (X table) (P table) k v → IsEmpty (X table).sat → ((v : Stack) → (X table).dsat v → v ≡ above) → ((k : ℕ) (v : Stack) → P table k v → (k ≤ n) × (k ≡ n → v ≡ below)) → (k ≤ n) × (k ≡ n → v ≡ w)
+    go : (table : Pairs) (k : ℕ) (v : Stack) → PartsOf (X table) (P table) k v → IsEmpty (X table).sat → ((v : Stack) → (X table).dsat v → v ≡ above)
+        → ((k : ℕ) (v : Stack) → P table k v → (k ≤ n) × (k ≡ n → v ≡ below)) → (k ≤ n) × (k ≡ n → v ≡ w)
     go table k v (inl (l, g, r)) none x others = absurd (none r.1 r.3)
     go table k v (inr r) none x others =
         let o = others k r.0 r.2 in

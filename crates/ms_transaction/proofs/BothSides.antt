@@ -59,7 +59,8 @@ pub record SidesRead (bytes middle rest inputs outputs : Bytes) (input_count out
   pub inside : length rest ≤ length bytes
   pub inputs_inside : length middle ≤ length inputs
   pub outputs_inside : length rest ≤ length outputs
-  pub sides : (text : Bytes) (input_bytes : Bytes) (output_bytes : Bytes) → text ≡ take (length bytes - length rest) bytes → input_bytes ≡ take (length inputs - length middle) inputs → output_bytes ≡ take (length outputs - length rest) outputs
+  pub sides : (text : Bytes) (input_bytes : Bytes) (output_bytes : Bytes) → text ≡ take (length bytes - length rest) bytes → input_bytes
+      ≡ take (length inputs - length middle) inputs → output_bytes ≡ take (length outputs - length rest) outputs
       → AreSides text input_bytes output_bytes input_count output_count × (first_sides bytes ≡ Some ((inputs_in input_bytes, outputs_in output_bytes), rest))
 
 pub sides_read : (bytes middle rest inputs outputs : Bytes) (input_count output_count input_size output_size : ℕ) → length bytes < 2 ^ 64 → IsBytes bytes
@@ -67,9 +68,11 @@ pub sides_read : (bytes middle rest inputs outputs : Bytes) (input_count output_
     → first_size bytes ≡ Some (input_size, inputs) → first_size middle ≡ Some (output_size, outputs) → SidesRead bytes middle rest inputs outputs input_count output_count
 unfolding first_sides
 sides_read bytes middle rest inputs outputs input_count output_count input_size output_size small fits i o si so =
-    let ins : ListRead first_input input_text IsInput bytes input_count inputs middle = list_read first_input input_text IsInput input_spelled bytes input_count input_size inputs middle small fits i si in
+    let ins : ListRead first_input input_text IsInput bytes input_count inputs middle =
+    list_read first_input input_text IsInput input_spelled bytes input_count input_size inputs middle small fits i si in
     let shorter : length bytes ≡ length (inputs_text ins.xs) + length middle = ap length ins.whole ∙ length-append (inputs_text ins.xs) middle in
-    let outs : ListRead first_output output_text IsOutput middle output_count outputs rest = list_read first_output output_text IsOutput output_spelled middle output_count output_size outputs rest (omega arith) ins.fits o so in
+    let outs : ListRead first_output output_text IsOutput middle output_count outputs rest =
+    list_read first_output output_text IsOutput output_spelled middle output_count output_size outputs rest (omega arith) ins.fits o so in
     let whole : bytes ≡ (inputs_text ins.xs ++ outputs_text outs.xs) ++ rest =
     ins.whole ∙ ap (λ (x : Bytes). inputs_text ins.xs ++ x) outs.whole ∙ sym (append_assoc (inputs_text ins.xs) (outputs_text outs.xs) rest) in
     record {
@@ -100,7 +103,8 @@ pub no_inputs : (bytes : Bytes) → counted_part (first_list first_input bytes) 
 unfolding first_sides
 no_inputs bytes e = let none : first_list first_input bytes ≡ None = counted_none (first_list first_input bytes) e in rw none refl
 
-pub no_outputs : (bytes middle : Bytes) (count : ℕ) → counted_part (first_list first_input bytes) ≡ Some (count, middle) → counted_part (first_list first_output middle) ≡ None → first_sides bytes ≡ None
+pub no_outputs : (bytes middle : Bytes) (count : ℕ) → counted_part (first_list first_input bytes) ≡ Some (count, middle)
+    → counted_part (first_list first_output middle) ≡ None → first_sides bytes ≡ None
 unfolding first_sides
 no_outputs bytes middle count i e =
     let ins = counted_some (first_list first_input bytes) count middle i in

@@ -80,7 +80,8 @@ bytes_back bytes rest =
 abbrev pub IsNumber : Width → ℕ → Type 0
 IsNumber width n = from_le_bytes width (to_le_bytes width n) ≡ n
 
-number_some : (width : Width) → ((bytes : Bytes) → length bytes ≡ byte_len width → IsBytes bytes → to_le_bytes width (from_le_bytes width bytes) ≡ bytes) → Spells (first_number width) (to_le_bytes width) (IsNumber width)
+number_some : (width : Width) → ((bytes : Bytes) → length bytes ≡ byte_len width → IsBytes bytes → to_le_bytes width (from_le_bytes width bytes) ≡ bytes)
+    → Spells (first_number width) (to_le_bytes width) (IsNumber width)
 unfolding first_number
 number_some width back bytes part fits e =
     let b = bind_some (first_bytes (byte_len width) bytes) (λ p. Some (from_le_bytes width p.0, p.1)) part e in
@@ -130,7 +131,8 @@ string_spelled bytes part small fits e =
     let z = bind_some (first_size bytes) (λ size. first_bytes size.0 size.1) part e in
     let size = size_spelled bytes z.0 fits z.1 in
     let b = bytes_spelled z.0.0 z.0.1 part size.1 z.2 in
-    let text : bytes ≡ size_bytes (length part.0) ++ (part.0 ++ part.1) = size.0 ∙ ap (λ (x : Bytes). size_bytes z.0.0 ++ x) b.is ∙ ap (λ (n : ℕ). size_bytes n ++ (part.0 ++ part.1)) (sym b.good_part) in
+    let text : bytes ≡ size_bytes (length part.0) ++ (part.0 ++ part.1) = size.0 ∙ ap (λ (x : Bytes). size_bytes z.0.0 ++ x) b.is
+    ∙ ap (λ (n : ℕ). size_bytes n ++ (part.0 ++ part.1)) (sym b.good_part) in
     let long : length bytes ≡ length (size_bytes (length part.0)) + (length part.0 + length part.1) =
     ap length text ∙ length-append (size_bytes (length part.0)) (part.0 ++ part.1) ∙ ap (λ (n : ℕ). length (size_bytes (length part.0)) + n) (length-append part.0 part.1) in
     record { is = text ∙ sym (append_assoc (size_bytes (length part.0)) part.0 part.1); good_part = omega arith; fits = b.fits }
@@ -149,7 +151,8 @@ module _ {A : Type 0} (first : Bytes → Part A) (text : A → Bytes) (good : A 
   abbrev pub SpellsShort : Type 0
   SpellsShort = (bytes : Bytes) (part : A × Bytes) → length bytes < 2 ^ 64 → IsBytes bytes → first bytes ≡ Some part → Reads text good bytes part
 
-  pub many_spelled : SpellsShort → (count : ℕ) (bytes : Bytes) (part : List A × Bytes) → length bytes < 2 ^ 64 → IsBytes bytes → first_many first count bytes ≡ Some part → ReadsMany text good count bytes part
+  pub many_spelled : SpellsShort → (count : ℕ) (bytes : Bytes) (part : List A × Bytes) → length bytes < 2 ^ 64 → IsBytes bytes → first_many first count bytes
+      ≡ Some part → ReadsMany text good count bytes part
   unfolding first_many
   many_spelled spells zero bytes part small fits e =
       subst (λ (p : List A × Bytes). ReadsMany text good zero bytes p) (some_is ([], bytes) part e) (record { is = refl; each = tt; number = refl; fits = fits })

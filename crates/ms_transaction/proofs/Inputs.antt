@@ -35,7 +35,8 @@ parts_of input h =
 pub input_long : (input : TransactionInput) → IsUnsigned input → length (input_text input) ≡ 41
 input_long input h =
     let id = h.id in
-    let long : length (input_text input) ≡ length input.outpoint.id + 9 = ap length (parts_of input h) ∙ length-append input.outpoint.id (to_le_bytes w32 input.outpoint.index ++ (0x00 ∷ to_le_bytes w32 input.sequence)) in
+    let long : length (input_text input) ≡ length input.outpoint.id + 9 = ap length (parts_of input h)
+    ∙ length-append input.outpoint.id (to_le_bytes w32 input.outpoint.index ++ (0x00 ∷ to_le_bytes w32 input.sequence)) in
     omega arith
 
 pub text_is : (bytes : Bytes) → (h : IsEmptyInput bytes) → bytes ≡ input_text (input_in bytes)
@@ -118,7 +119,8 @@ input_cut bytes number h less unsigned =
 pub cut_is_empty : (bytes text : Bytes) (inputs : List TransactionInput) (number : ℕ) → InputAt bytes inputs number → text ≡ take 41 (drop (41 * number) bytes) → IsEmptyInput text
 cut_is_empty bytes text inputs number at e = record { input = at.input; text = e ∙ at.text; spelled = at.spelled; unsigned = at.unsigned }
 
-pub cut_is : (bytes text : Bytes) (inputs : List TransactionInput) (number : ℕ) → InputAt bytes inputs number → text ≡ take 41 (drop (41 * number) bytes) → slice_get inputs number ≡ Some (input_in text)
+pub cut_is : (bytes text : Bytes) (inputs : List TransactionInput) (number : ℕ) → InputAt bytes inputs number → text ≡ take 41 (drop (41 * number) bytes)
+    → slice_get inputs number ≡ Some (input_in text)
 cut_is bytes text inputs number at e =
     let empty : IsEmptyInput text = record { input = at.input; text = e ∙ at.text; spelled = at.spelled; unsigned = at.unsigned } in
     at.is ∙ ap (λ (i : TransactionInput). Some i) (sym (input_is text empty))
@@ -160,7 +162,8 @@ each_unsigned (input ∷ inputs) each e =
     let none : length input.script_sig ≤ 0 = leb-true _ _ b.0 in
     (record { id = each.0.id; script_sig = nil_from_length input.script_sig (omega arith) }, each_unsigned inputs each.1 b.1)
 
-pub all_unsigned : (bytes : Bytes) (transaction : Transaction) → length bytes < 2 ^ 64 → IsBytes bytes → transaction_of bytes ≡ Some transaction → is_unsigned (Some transaction) ≡ true → All IsUnsigned transaction.inputs
+pub all_unsigned : (bytes : Bytes) (transaction : Transaction) → length bytes < 2 ^ 64 → IsBytes bytes → transaction_of bytes ≡ Some transaction
+    → is_unsigned (Some transaction) ≡ true → All IsUnsigned transaction.inputs
 all_unsigned bytes transaction small fits e unsigned =
     let b = both_true (list_all has_no_script_sig transaction.inputs) (not (stands_twice (outpoint_texts transaction.inputs))) unsigned in
     All-from_recursion IsUnsigned transaction.inputs (each_unsigned transaction.inputs (each_input bytes transaction small fits e) b.0)

@@ -33,7 +33,8 @@ output_spelled bytes part small fits e =
     })
 
 -- the bytes of an output, by its amount and its Script
-output_front : (bytes : Bytes) (amount : ℕ) (middle script rest : Bytes) → length bytes < 2 ^ 64 → IsBytes bytes → first_number w64 bytes ≡ Some (amount, middle) → first_string middle ≡ Some (script, rest)
+output_front : (bytes : Bytes) (amount : ℕ) (middle script rest : Bytes) → length bytes < 2 ^ 64 → IsBytes bytes → first_number w64 bytes
+    ≡ Some (amount, middle) → first_string middle ≡ Some (script, rest)
     → bytes ≡ output_text (record { amount = amount; script = script }) ++ rest
 unfolding first_output
 output_front bytes amount middle script rest small fits a s =
@@ -41,7 +42,8 @@ output_front bytes amount middle script rest small fits a s =
     let read : first_output bytes ≡ Some (record { amount = amount; script = script }, rest) = rw (a, s) refl in
     (output_spelled bytes (made, rest) small fits read).is
 
-pub output_cut : (bytes : Bytes) (amount : ℕ) (middle script rest : Bytes) → length bytes < 2 ^ 64 → IsBytes bytes → first_number w64 bytes ≡ Some (amount, middle) → first_string middle ≡ Some (script, rest)
+pub output_cut : (bytes : Bytes) (amount : ℕ) (middle script rest : Bytes) → length bytes < 2 ^ 64 → IsBytes bytes → first_number w64 bytes
+    ≡ Some (amount, middle) → first_string middle ≡ Some (script, rest)
     → (length rest ≤ length bytes) × (take (length bytes - length rest) bytes ≡ output_text (record { amount = amount; script = script }))
 output_cut bytes amount middle script rest small fits a s =
     let front = output_front bytes amount middle script rest small fits a s in
@@ -66,17 +68,20 @@ pub outputs_back : (bytes : Bytes) (outputs : List TransactionOutput) → bytes 
 outputs_back bytes outputs e all = all_back first_output output_text IsOutput output_back no_output output_some bytes outputs e all
 
 -- what the next output leaves
-pub next_output : (bytes : Bytes) (output : TransactionOutput) (rest : Bytes) → AreOutputs bytes → first_output bytes ≡ Some (output, rest) → (outputs_in bytes ≡ output ∷ outputs_in rest) × AreOutputs rest
+pub next_output : (bytes : Bytes) (output : TransactionOutput) (rest : Bytes) → AreOutputs bytes → first_output bytes ≡ Some (output, rest)
+    → (outputs_in bytes ≡ output ∷ outputs_in rest) × AreOutputs rest
 next_output bytes output rest h e = go h.outputs h.text h.each
   where
     go : (outputs : List TransactionOutput) → bytes ≡ flat_map output_text outputs → AllByRecursion IsOutput outputs → (outputs_in bytes ≡ output ∷ outputs_in rest) × AreOutputs rest
     go [] text all = let none = ap first_output text ∙ no_output in absurd cc
     go (first ∷ outputs) text all =
-        let read : first_output bytes ≡ Some (first, flat_map output_text outputs) = ap first_output (text ∙ flat_map-cons output_text first outputs) ∙ output_back first (flat_map output_text outputs) all.0 in
+        let read : first_output bytes ≡ Some (first, flat_map output_text outputs) = ap first_output (text ∙ flat_map-cons output_text first outputs)
+        ∙ output_back first (flat_map output_text outputs) all.0 in
         let both : (output, rest) ≡ (first, flat_map output_text outputs) = some_is (output, rest) (first, flat_map output_text outputs) (sym e ∙ read) in
         let same : output ≡ first = ap (λ (p : TransactionOutput × Bytes). p.0) both in
         let behind : rest ≡ flat_map output_text outputs = ap (λ (p : TransactionOutput × Bytes). p.1) both in (
-          outputs_back bytes (first ∷ outputs) text all ∙ ap (λ (o : TransactionOutput). o ∷ outputs) (sym same) ∙ ap (λ (os : List TransactionOutput). output ∷ os) (sym (outputs_back rest outputs behind all.1)),
+          outputs_back bytes (first ∷ outputs) text all ∙ ap (λ (o : TransactionOutput). o ∷ outputs) (sym same)
+              ∙ ap (λ (os : List TransactionOutput). output ∷ os) (sym (outputs_back rest outputs behind all.1)),
           record { outputs = outputs; text = behind; each = all.1 },
         )
 
@@ -105,8 +110,10 @@ outpoint_spelled bytes part fits e =
 pub input_spelled : SpellsShort first_input input_text IsInput
 unfolding first_input
 input_spelled bytes part small fits e =
-    let o = bind_some (first_outpoint bytes) (λ outpoint. first_string outpoint.1 >>= λ script_sig. first_number w32 script_sig.1 >>= λ sequence. Some (record { outpoint = outpoint.0; script_sig = script_sig.0; sequence = sequence.0 }, sequence.1)) part e in
-    let s = bind_some (first_string o.0.1) (λ script_sig. first_number w32 script_sig.1 >>= λ sequence. Some (record { outpoint = o.0.0; script_sig = script_sig.0; sequence = sequence.0 }, sequence.1)) part o.2 in
+    let o = bind_some (first_outpoint bytes) (λ outpoint. first_string outpoint.1 >>= λ script_sig. first_number w32 script_sig.1 >>= λ sequence. Some
+    (record { outpoint = outpoint.0; script_sig = script_sig.0; sequence = sequence.0 }, sequence.1)) part e in
+    let s = bind_some (first_string o.0.1) (λ script_sig. first_number w32 script_sig.1 >>= λ sequence. Some
+    (record { outpoint = o.0.0; script_sig = script_sig.0; sequence = sequence.0 }, sequence.1)) part o.2 in
     let n = bind_some (first_number w32 s.0.1) (λ sequence. Some (record { outpoint = o.0.0; script_sig = s.0.0; sequence = sequence.0 }, sequence.1)) part s.2 in
     let outpoint = outpoint_spelled bytes o.0 fits o.1 in
     let fewer : length bytes ≡ length (outpoint_text o.0.0) + length o.0.1 = ap length outpoint.0 ∙ length-append (outpoint_text o.0.0) o.0.1 in
@@ -122,7 +129,8 @@ input_spelled bytes part small fits e =
       fits = sequence.fits;
     })
 
-outpoint_back : (outpoint : Outpoint) (rest : Bytes) → length outpoint.id ≡ 32 → from_le_bytes w32 (to_le_bytes w32 outpoint.index) ≡ outpoint.index → first_outpoint (outpoint_text outpoint ++ rest) ≡ Some (outpoint, rest)
+outpoint_back : (outpoint : Outpoint) (rest : Bytes) → length outpoint.id ≡ 32 → from_le_bytes w32 (to_le_bytes w32 outpoint.index) ≡ outpoint.index
+    → first_outpoint (outpoint_text outpoint ++ rest) ≡ Some (outpoint, rest)
 unfolding first_outpoint
 outpoint_back outpoint rest long index_is =
     let id : first_bytes 32 (outpoint.id ++ (to_le_bytes w32 outpoint.index ++ rest)) ≡ Some (outpoint.id, to_le_bytes w32 outpoint.index ++ rest) =
@@ -134,10 +142,14 @@ pub input_back : ReadsBack first_input input_text IsInput
 unfolding first_input
 input_back input rest h =
     let assoc : input_text input ++ rest ≡ outpoint_text input.outpoint ++ (sized input.script_sig ++ (to_le_bytes w32 input.sequence ++ rest)) =
-    append_assoc (outpoint_text input.outpoint) (sized input.script_sig ++ to_le_bytes w32 input.sequence) rest ∙ ap (λ (x : Bytes). outpoint_text input.outpoint ++ x) (append_assoc (sized input.script_sig) (to_le_bytes w32 input.sequence) rest) in
-    let outpoint : first_outpoint (outpoint_text input.outpoint ++ (sized input.script_sig ++ (to_le_bytes w32 input.sequence ++ rest))) ≡ Some (input.outpoint, sized input.script_sig ++ (to_le_bytes w32 input.sequence ++ rest)) =
+    append_assoc (outpoint_text input.outpoint) (sized input.script_sig ++ to_le_bytes w32 input.sequence) rest
+    ∙ ap (λ (x : Bytes). outpoint_text input.outpoint ++ x) (append_assoc (sized input.script_sig) (to_le_bytes w32 input.sequence) rest) in
+    let outpoint : first_outpoint (outpoint_text input.outpoint ++ (sized input.script_sig ++ (to_le_bytes w32 input.sequence ++ rest)))
+    ≡ Some (input.outpoint, sized input.script_sig ++ (to_le_bytes w32 input.sequence ++ rest)) =
     outpoint_back input.outpoint (sized input.script_sig ++ (to_le_bytes w32 input.sequence ++ rest)) h.id h.index in
-    let script_sig : first_string (sized input.script_sig ++ (to_le_bytes w32 input.sequence ++ rest)) ≡ Some (input.script_sig, to_le_bytes w32 input.sequence ++ rest) = string_back input.script_sig (to_le_bytes w32 input.sequence ++ rest) h.script_sig in
+    let script_sig : first_string (sized input.script_sig ++ (to_le_bytes w32 input.sequence ++ rest))
+    ≡ Some (input.script_sig, to_le_bytes w32 input.sequence ++ rest) = string_back input.script_sig (to_le_bytes w32 input.sequence ++ rest) h.script_sig
+    in
     let sequence : first_number w32 (to_le_bytes w32 input.sequence ++ rest) ≡ Some (input.sequence, rest) = u32_back input.sequence rest h.sequence in
     subst (λ (b : Bytes). first_input b ≡ Some (input, rest)) (sym assoc) (rw (outpoint, script_sig, sequence) refl)
 
@@ -147,7 +159,8 @@ no_input = refl
 
 input_some : (input : TransactionInput) → 1 ≤ length (input_text input)
 input_some input =
-    let long : length (input_text input) ≡ length (outpoint_text input.outpoint) + length (sized input.script_sig ++ to_le_bytes w32 input.sequence) = length-append (outpoint_text input.outpoint) (sized input.script_sig ++ to_le_bytes w32 input.sequence) in
+    let long : length (input_text input) ≡ length (outpoint_text input.outpoint) + length (sized input.script_sig ++ to_le_bytes w32 input.sequence) =
+    length-append (outpoint_text input.outpoint) (sized input.script_sig ++ to_le_bytes w32 input.sequence) in
     let more : length (outpoint_text input.outpoint) ≡ length input.outpoint.id + 4 = length-append input.outpoint.id (to_le_bytes w32 input.outpoint.index) in
     omega arith
 

@@ -17,7 +17,8 @@ FitsItem item = length item ≤ MOST_WITNESS
 pub item_takes : (bytes : Bytes) (part : Bytes × Bytes) → IsBytes bytes → first_item bytes ≡ Ok part → Takes bytes (sized part.0) part.1 × FitsItem part.0
 unfolding first_item
 item_takes bytes part fits e =
-    let a = bind_ok (first_size bytes) (λ size. cond (nat_lt MOST_WITNESS size.0) (Err TooLong) (cond (nat_lt (length size.1) size.0) (Err Truncated) (Ok (take size.0 size.1, drop size.0 size.1)))) part e in
+    let a = bind_ok (first_size bytes) (λ size. cond (nat_lt MOST_WITNESS size.0) (Err TooLong)
+    (cond (nat_lt (length size.1) size.0) (Err Truncated) (Ok (take size.0 size.1, drop size.0 size.1)))) part e in
     let size = a.0 in
     let short = guard_ok (nat_lt MOST_WITNESS size.0) TooLong (cond (nat_lt (length size.1) size.0) (Err Truncated) (Ok (take size.0 size.1, drop size.0 size.1))) part a.2 in
     let there = guard_ok (nat_lt (length size.1) size.0) Truncated (Ok (take size.0 size.1, drop size.0 size.1)) part short.1 in
@@ -42,7 +43,8 @@ pub items_take : (count : ℕ) (bytes : Bytes) (part : List Bytes × Bytes) → 
     → Takes bytes (flat_map sized part.0) part.1 × (length part.0 ≡ count) × AllByRecursion FitsItem part.0
 unfolding first_items
 items_take zero bytes part fits e =
-    subst (λ (p : List Bytes × Bytes). Takes bytes (flat_map sized p.0) p.1 × (length p.0 ≡ 0) × AllByRecursion FitsItem p.0) (ok_is ([], bytes) part e) (record { parts = refl; rest_fits = fits }, refl, tt)
+    subst (λ (p : List Bytes × Bytes). Takes bytes (flat_map sized p.0) p.1 × (length p.0 ≡ 0) × AllByRecursion FitsItem p.0) (ok_is ([], bytes) part e)
+    (record { parts = refl; rest_fits = fits }, refl, tt)
 items_take (suc count) bytes part fits e =
     let a = bind_ok (first_item bytes) (λ item. first_items count item.1 >>= λ items. Ok (item.0 ∷ items.0, items.1)) part e in
     let b = bind_ok (first_items count a.0.1) (λ items. Ok (a.0.0 ∷ items.0, items.1)) part a.2 in
@@ -50,11 +52,14 @@ items_take (suc count) bytes part fits e =
     let second = items_take count a.0.1 b.0 first.0.rest_fits b.1 in
     let both = Takes-then bytes (sized a.0.0) a.0.1 (flat_map sized b.0.0) b.0.1 first.0 second.0 in
     let made : List Bytes × Bytes = (a.0.0 ∷ b.0.0, b.0.1) in
-    subst (λ (p : List Bytes × Bytes). Takes bytes (flat_map sized p.0) p.1 × (length p.0 ≡ suc count) × AllByRecursion FitsItem p.0) (ok_is made part b.2) (rw flat_map-cons both, ap suc second.1, (first.1, second.2))
+    subst (λ (p : List Bytes × Bytes). Takes bytes (flat_map sized p.0) p.1 × (length p.0 ≡ suc count) × AllByRecursion FitsItem p.0) (ok_is made part b.2)
+    (rw flat_map-cons both, ap suc second.1, (first.1, second.2))
 
 pub items_again : (items : List Bytes) (rest : Bytes) → AllByRecursion FitsItem items → first_items (length items) (flat_map sized items ++ rest) ≡ Ok (items, rest)
 unfolding first_items
 items_again [] rest short = refl
 items_again (item ∷ items) rest short =
-    let regrouped : flat_map sized (item ∷ items) ++ rest ≡ sized item ++ (flat_map sized items ++ rest) = ap (λ (x : Bytes). x ++ rest) (flat_map-cons sized item items) ∙ append_assoc (sized item) (flat_map sized items) rest in
+    let regrouped : flat_map sized (item ∷ items) ++ rest ≡ sized item
+    ++ (flat_map sized items ++ rest) = ap (λ (x : Bytes). x ++ rest) (flat_map-cons sized item items)
+    ∙ append_assoc (sized item) (flat_map sized items) rest in
     ap (first_items (suc (length items))) regrouped ∙ rw (item_again item (flat_map sized items ++ rest) short.0, items_again items rest short.1) refl

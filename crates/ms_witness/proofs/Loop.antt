@@ -20,7 +20,8 @@ pub goes_on : (front : List Bytes) (count i : ℕ) (bytes item rest : Bytes) (to
 unfolding first_items
 goes_on front count i bytes item rest total more read so_far =
     let one_more : count - i ≡ suc (count - (i + 1)) = omega arith in
-    let one : after front (first_items (count - i) bytes) ≡ after (front ++ item ∷ []) (first_items (count - (i + 1)) rest) = rw (one_more, read) (regroup front item (first_items (count - (i + 1)) rest)) in
+    let one : after front (first_items (count - i) bytes) ≡ after (front ++ item ∷ []) (first_items (count - (i + 1)) rest) =
+    rw (one_more, read) (regroup front item (first_items (count - (i + 1)) rest)) in
     sym one ∙ so_far
 
 faults : (why : WitnessFault) (front : List Bytes) (count i : ℕ) (bytes : Bytes) (total : Part (List Bytes)) → i < count → first_item bytes ≡ Err why

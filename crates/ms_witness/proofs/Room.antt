@@ -26,8 +26,10 @@ sized_item item short = omega (arith, length-append (size_bytes (length item)) i
 pub one_more : (items : List Bytes) (item : Bytes) → length item ≤ MOST_WITNESS
     → length (flat_map sized (items ++ item ∷ [])) ≤ length (flat_map sized items) + (3 + length item)
 one_more items item short =
-    let parts : flat_map sized (items ++ item ∷ []) ≡ flat_map sized items ++ sized item = flat_map-append sized items (item ∷ []) ∙ ap (λ (b : Bytes). flat_map sized items ++ b) (append-nil (sized item)) in
-    let long : length (flat_map sized (items ++ item ∷ [])) ≡ length (flat_map sized items) + length (sized item) = ap (λ (b : Bytes). length b) parts ∙ length-append (flat_map sized items) (sized item) in
+    let parts : flat_map sized (items ++ item ∷ []) ≡ flat_map sized items ++ sized item = flat_map-append sized items (item ∷ [])
+    ∙ ap (λ (b : Bytes). flat_map sized items ++ b) (append-nil (sized item)) in
+    let long : length (flat_map sized (items ++ item ∷ [])) ≡ length (flat_map sized items) + length (sized item) = ap (λ (b : Bytes). length b) parts
+    ∙ length-append (flat_map sized items) (sized item) in
     omega (arith, long, sized_item item short)
 
 -- room for all of them

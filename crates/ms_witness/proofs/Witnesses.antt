@@ -46,7 +46,8 @@ guard_ended false d x y e = absurd cc
 text_parts : (stack : List Bytes) (script : Bytes) → witness_text stack script ≡ size_bytes (length stack + 1) ++ (flat_map sized stack ++ sized script)
 text_parts stack script =
     let count : length (stack ++ script ∷ []) ≡ length stack + 1 = length-append stack (script ∷ []) in
-    let items : flat_map sized (stack ++ script ∷ []) ≡ flat_map sized stack ++ sized script = flat_map-append sized stack (script ∷ []) ∙ ap (λ (x : Bytes). flat_map sized stack ++ x) (append-nil (sized script)) in
+    let items : flat_map sized (stack ++ script ∷ []) ≡ flat_map sized stack ++ sized script = flat_map-append sized stack (script ∷ [])
+    ∙ ap (λ (x : Bytes). flat_map sized stack ++ x) (append-nil (sized script)) in
     rw (count, items) refl
 
 -- bytes with a count, the stack and the Script, and nothing after them
@@ -54,13 +55,15 @@ all_text : (bytes : Bytes) (count : ℕ) (stack : List Bytes) (script rest : Byt
     → bytes ≡ witness_text stack script
 all_text bytes count stack script rest parts nothing counted =
     let text = text_parts stack script in
-    let ended : (size_bytes count ++ (flat_map sized stack ++ sized script)) ++ [] ≡ size_bytes count ++ (flat_map sized stack ++ sized script) = append-nil (size_bytes count ++ (flat_map sized stack ++ sized script)) in
+    let ended : (size_bytes count ++ (flat_map sized stack ++ sized script)) ++ [] ≡ size_bytes count
+    ++ (flat_map sized stack ++ sized script) = append-nil (size_bytes count ++ (flat_map sized stack ++ sized script)) in
     cc
 
 pub witness_has_one_spelling : WitnessHasOneSpelling
 unfolding read_witness
 witness_has_one_spelling bytes read fits e =
-    let a = bind_ok (first_count bytes) (λ count. first_items (count.0 - 1) count.1 >>= λ stack. first_item stack.1 >>= λ script. cond (length script.1 == 0) (Ok (stack.0, script.0)) (Err Trailing)) read e in
+    let a = bind_ok (first_count bytes) (λ count. first_items (count.0 - 1) count.1 >>= λ stack. first_item stack.1 >>= λ script. cond (length script.1 == 0)
+    (Ok (stack.0, script.0)) (Err Trailing)) read e in
     let b = bind_ok (first_items (a.0.0 - 1) a.0.1) (λ stack. first_item stack.1 >>= λ script. cond (length script.1 == 0) (Ok (stack.0, script.0)) (Err Trailing)) read a.2 in
     let c = bind_ok (first_item b.0.1) (λ script. cond (length script.1 == 0) (Ok (b.0.0, script.0)) (Err Trailing)) read b.2 in
     let g = guard_ended (length c.0.1 == 0) Trailing (b.0.0, c.0.0) read c.2 in
@@ -81,7 +84,12 @@ witness_is_read_back stack script short =
     let less : (length stack + 1) - 1 ≡ length stack = omega arith in
     let last : first_item (sized script) ≡ Ok (script, []) = ap first_item (sym (append-nil (sized script))) ∙ item_again script [] short.last in
     ap read_witness (text_parts stack script)
-    ∙ rw (count_again (length stack + 1) (flat_map sized stack ++ sized script) (omega arith) (omega (arith, short.few)), less, items_again stack (sized script) (recursion_from_All FitsItem stack short.items), last) refl
+    ∙ rw (
+      count_again (length stack + 1) (flat_map sized stack ++ sized script) (omega arith) (omega (arith, short.few)),
+      less,
+      items_again stack (sized script) (recursion_from_All FitsItem stack short.items),
+      last,
+    ) refl
 
 pub witness_is_replayed : WitnessIsReplayed
 witness_is_replayed given stack script short =
@@ -89,6 +97,7 @@ witness_is_replayed given stack script short =
     let same : bytes_eq (program_of script) (program_of script) ≡ true = (bytes_eq-Decides (program_of script) (program_of script)).1 refl in
     rw (read, same) refl
 
-pub is_spelled : (bytes : Bytes) (r : Result (List Bytes × Bytes) WitnessFault) → IsBytes bytes → Gives r (read_witness bytes) → IfOk r (λ read. FitsWitness read.0 read.1 × (bytes ≡ witness_text read.0 read.1))
+pub is_spelled : (bytes : Bytes) (r : Result (List Bytes × Bytes) WitnessFault) → IsBytes bytes → Gives r (read_witness bytes)
+    → IfOk r (λ read. FitsWitness read.0 read.1 × (bytes ≡ witness_text read.0 read.1))
 is_spelled bytes (Ok read) fits reading = witness_has_one_spelling bytes read fits reading
 is_spelled bytes (Err why) fits reading = tt

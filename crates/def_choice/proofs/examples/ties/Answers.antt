@@ -1,29 +1,120 @@
+-- The examples of options of equal weight.
 use Rattle.def_choice.proofs.examples.ties.Goals as goal
-use Rattle.def_choice.proofs.Ties.{tie_of_and_or, tie_of_or_b, tie_of_or_c, tie_of_or_d, tie_of_or_i, tie_of_threshold, tie_of_multi, tie_of_dissatisfactions, key_signs_twice}
+use Rattle.std.proofs.Common.{[], ◌∷◌, refl, inl, inr}
+use Rattle.def_machine.specs.Samples.{sig_a, sig_b, sig_c}
+use Rattle.def_satisfaction.specs.Rows.{EMPTY, ONE}
+use Rattle.def_satisfaction.specs.Samples.{pair_a}
+use Rattle.def_satisfaction.proofs.Computing.{computing}
+use Rattle.def_choice.specs.TieExamples.{short_sig_b}
 
 pub returns-clause-and_or : goal.returns-clause-and_or
-returns-clause-and_or c = tie_of_and_or
+unfolding computing
+returns-clause-and_or c = record {
+  first_satisfies = inl ([], sig_a ∷ [], (refl, refl), (sig_a, refl, refl), refl);
+  second_satisfies = inr (sig_c ∷ [], EMPTY ∷ [], (sig_c, refl, refl), refl, refl);
+  tie = refl;
+  chosen = (refl, refl);
+}
 
 pub returns-clause-or_b : goal.returns-clause-or_b
-returns-clause-or_b c = tie_of_or_b
+unfolding computing
+returns-clause-or_b c = record {
+  first_satisfies = inl (EMPTY ∷ [], sig_a ∷ [], refl, (sig_a, refl, refl), refl);
+  second_satisfies = inr (inl (short_sig_b ∷ [], EMPTY ∷ [], (short_sig_b, refl, refl), refl, refl));
+  tie = refl;
+  chosen = (refl, refl);
+}
 
 pub returns-clause-or_c : goal.returns-clause-or_c
-returns-clause-or_c c = tie_of_or_c
+unfolding computing
+returns-clause-or_c c = record {
+  first_satisfies = ([], sig_a ∷ [], refl, inl (sig_a, refl, refl), refl);
+  second_satisfies = ([], EMPTY ∷ sig_c ∷ [], refl, inr (sig_c ∷ [], EMPTY ∷ [], (sig_c, refl, refl), refl, refl), refl);
+  tie = refl;
+  chosen = (refl, refl);
+}
 
 pub returns-clause-or_d : goal.returns-clause-or_d
-returns-clause-or_d c = tie_of_or_d
+unfolding computing
+returns-clause-or_d c = record {
+  first_satisfies = inl (sig_a, refl, refl);
+  second_satisfies = inr (sig_c ∷ [], EMPTY ∷ [], (sig_c, refl, refl), refl, refl);
+  tie = refl;
+  chosen = (refl, refl);
+}
 
 pub returns-clause-or_i : goal.returns-clause-or_i
-returns-clause-or_i c = tie_of_or_i
+unfolding computing
+returns-clause-or_i c = record {
+  first_satisfies = inl (sig_a ∷ [], ONE ∷ [], (sig_a, refl, refl), refl, refl);
+  second_satisfies = inr (sig_b ∷ [], EMPTY ∷ [], (sig_b, refl, refl), refl, refl);
+  tie = refl;
+  chosen = (refl, refl);
+}
 
 pub returns-clause-threshold : goal.returns-clause-threshold
-returns-clause-threshold c = tie_of_threshold
+unfolding computing
+returns-clause-threshold c = record {
+  first_satisfies =
+      inl (
+        1,
+        refl,
+        (
+          EMPTY ∷ sig_c ∷ [],
+          sig_a ∷ [],
+          inr (sig_c ∷ [], EMPTY ∷ [], inl (0, refl, ([], sig_c ∷ [], (refl, refl), (sig_c, refl, refl), refl)), refl, refl),
+          (sig_a, refl, refl),
+          refl,
+        ),
+      );
+  second_satisfies =
+      inr (
+        short_sig_b ∷ sig_c ∷ [],
+        EMPTY ∷ [],
+        inl (
+          1,
+          refl,
+          (
+            sig_c ∷ [],
+            short_sig_b ∷ [],
+            inl (0, refl, ([], sig_c ∷ [], (refl, refl), (sig_c, refl, refl), refl)),
+            (short_sig_b, refl, refl),
+            refl,
+          ),
+        ),
+        refl,
+        refl,
+      );
+  tie = refl;
+  chosen = (refl, refl);
+}
 
 pub returns-clause-multi : goal.returns-clause-multi
-returns-clause-multi c = tie_of_multi
+unfolding computing
+returns-clause-multi c = record {
+  first_satisfies = (EMPTY ∷ [], sig_c ∷ sig_a ∷ [], refl, (refl, inl (refl, inr (inl (refl, tt)))), refl);
+  second_satisfies = (EMPTY ∷ [], sig_c ∷ short_sig_b ∷ [], refl, (refl, inl (refl, inl (refl, tt))), refl);
+  tie = refl;
+  chosen = (refl, refl);
+}
 
 pub returns-clause-dissatisfactions : goal.returns-clause-dissatisfactions
-returns-clause-dissatisfactions c = tie_of_dissatisfactions
+unfolding computing
+returns-clause-dissatisfactions c assets = record {
+  first = inl (EMPTY ∷ [], ONE ∷ [], refl, refl, refl);
+  second = inr (EMPTY ∷ EMPTY ∷ [], EMPTY ∷ [], inl (EMPTY ∷ [], EMPTY ∷ [], refl, refl, refl), refl, refl);
+  tie = refl;
+  chosen = refl;
+}
 
 pub returns-clause-key_twice : goal.returns-clause-key_twice
-returns-clause-key_twice c = key_signs_twice
+unfolding computing
+returns-clause-key_twice c = record {
+  chosen = (refl, refl);
+  satisfies = record {
+    sat = (EMPTY ∷ [], sig_a ∷ sig_a ∷ [], refl, (refl, inl (refl, inr (inl (refl, tt)))), refl);
+    weight = refl;
+    checks = pair_a ∷ pair_a ∷ [];
+    run = refl;
+  };
+}

@@ -1,14 +1,20 @@
-use Rattle.def_psbt.proofs.Computed.{source_refusals, size_refusals, pair_refusals, value_refusals}
+-- The examples, each computed.
+use Rattle.std.proofs.Common.{refl}
+use Rattle.def_psbt.proofs.OnLiterals.{psbt_on_literals}
 use Rattle.def_psbt.proofs.examples.refusals.Goals as goal
 
 pub returns-clause-source : goal.returns-clause-source
-returns-clause-source c = source_refusals
+unfolding psbt_on_literals
+returns-clause-source c = (refl, refl, refl, refl)
 
 pub returns-clause-size : goal.returns-clause-size
-returns-clause-size c = size_refusals
+unfolding psbt_on_literals
+returns-clause-size c = (refl, refl, refl, refl)
 
 pub returns-clause-pair : goal.returns-clause-pair
-returns-clause-pair c = pair_refusals
+unfolding psbt_on_literals
+returns-clause-pair c = (refl, refl, refl)
 
 pub returns-clause-value : goal.returns-clause-value
-returns-clause-value c = value_refusals
+unfolding psbt_on_literals
+returns-clause-value c = (refl, refl, refl, refl, refl)

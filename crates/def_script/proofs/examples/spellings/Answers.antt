@@ -1,35 +1,49 @@
 use Rattle.def_script.proofs.examples.spellings.Goals as goal
-use Rattle.def_script.proofs.Computed.{small_pushes, sized_pushes, long_pushes, truncated_pushes, nop_is_unsupported, number_spellings, number_faults, truth_values, size_spellings, size_faults, small_witness}
+use Rattle.std.proofs.Common.{refl}
+use Rattle.def_script.specs.Items.{first_item, items_after}
+use Rattle.def_script.specs.Sizes.{size_bytes, read_size}
 
+-- The examples, each computed.
 pub returns-clause-small_pushes : goal.returns-clause-small_pushes
-returns-clause-small_pushes c = small_pushes
+unfolding first_item items_after size_bytes read_size
+returns-clause-small_pushes c = refl
 
 pub returns-clause-sized_pushes : goal.returns-clause-sized_pushes
-returns-clause-sized_pushes c = sized_pushes
+unfolding first_item items_after size_bytes read_size
+returns-clause-sized_pushes c = refl
 
 pub returns-clause-long_pushes : goal.returns-clause-long_pushes
-returns-clause-long_pushes c = long_pushes
+unfolding first_item items_after size_bytes read_size
+returns-clause-long_pushes c = refl
 
 pub returns-clause-truncated_pushes : goal.returns-clause-truncated_pushes
-returns-clause-truncated_pushes c = truncated_pushes
+unfolding first_item items_after size_bytes read_size
+returns-clause-truncated_pushes c = refl
 
 pub returns-clause-nop_is_unsupported : goal.returns-clause-nop_is_unsupported
-returns-clause-nop_is_unsupported c = nop_is_unsupported
+unfolding first_item items_after size_bytes read_size
+returns-clause-nop_is_unsupported c = refl
 
 pub returns-clause-number_spellings : goal.returns-clause-number_spellings
-returns-clause-number_spellings c = number_spellings
+unfolding first_item items_after size_bytes read_size
+returns-clause-number_spellings c = refl
 
 pub returns-clause-number_faults : goal.returns-clause-number_faults
-returns-clause-number_faults c = number_faults
+unfolding first_item items_after size_bytes read_size
+returns-clause-number_faults c = refl
 
 pub returns-clause-truth_values : goal.returns-clause-truth_values
-returns-clause-truth_values c = truth_values
+unfolding first_item items_after size_bytes read_size
+returns-clause-truth_values c = refl
 
 pub returns-clause-size_spellings : goal.returns-clause-size_spellings
-returns-clause-size_spellings c = size_spellings
+unfolding first_item items_after size_bytes read_size
+returns-clause-size_spellings c = refl
 
 pub returns-clause-size_faults : goal.returns-clause-size_faults
-returns-clause-size_faults c = size_faults
+unfolding first_item items_after size_bytes read_size
+returns-clause-size_faults c = refl
 
 pub returns-clause-small_witness : goal.returns-clause-small_witness
-returns-clause-small_witness c = small_witness
+unfolding first_item items_after size_bytes read_size
+returns-clause-small_witness c = refl

@@ -31,7 +31,14 @@ returns-clause-andor c = (read_as _ _ _ refl refl refl, refl)
 
 pub returns-clause-pairs : goal.returns-clause-pairs
 unfolding hex_on_literals digits
-returns-clause-pairs c = ((read_as _ _ _ refl refl refl, refl), (read_as _ _ _ refl refl refl, refl), (read_as _ _ _ refl refl refl, refl), (read_as _ _ _ refl refl refl, refl), (read_as _ _ _ refl refl refl, refl), (read_as _ _ _ refl refl refl, refl))
+returns-clause-pairs c = (
+  (read_as _ _ _ refl refl refl, refl),
+  (read_as _ _ _ refl refl refl, refl),
+  (read_as _ _ _ refl refl refl, refl),
+  (read_as _ _ _ refl refl refl, refl),
+  (read_as _ _ _ refl refl refl, refl),
+  (read_as _ _ _ refl refl refl, refl),
+)
 
 pub returns-clause-thresh : goal.returns-clause-thresh
 unfolding hex_on_literals digits
@@ -39,7 +46,15 @@ returns-clause-thresh c = (read_as _ _ _ refl refl refl, refl)
 
 pub returns-clause-wrappers : goal.returns-clause-wrappers
 unfolding hex_on_literals digits
-returns-clause-wrappers c = ((read_as _ _ _ refl refl refl, refl), (read_as _ _ _ refl refl refl, refl), (read_as _ _ _ refl refl refl, refl), (read_as _ _ _ refl refl refl, refl), (read_as _ _ _ refl refl refl, refl), (read_as _ _ _ refl refl refl, refl), (read_as _ _ _ refl refl refl, refl))
+returns-clause-wrappers c = (
+  (read_as _ _ _ refl refl refl, refl),
+  (read_as _ _ _ refl refl refl, refl),
+  (read_as _ _ _ refl refl refl, refl),
+  (read_as _ _ _ refl refl refl, refl),
+  (read_as _ _ _ refl refl refl, refl),
+  (read_as _ _ _ refl refl refl, refl),
+  (read_as _ _ _ refl refl refl, refl),
+)
 
 pub returns-clause-groups : goal.returns-clause-groups
 unfolding hex_on_literals digits

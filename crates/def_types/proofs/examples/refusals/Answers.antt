@@ -1,38 +1,52 @@
 use Rattle.def_types.proofs.examples.refusals.Goals as goal
-use Rattle.def_types.proofs.Refused.{number_ranges, and_or_rules, and_or_children, and_rules, or_rules, threshold_rules, wrapper_rules, rule_order, malleable_and_or, malleable_or, malleable_threshold, malleable_order}
+use Rattle.std.proofs.Common.{refl}
+use Rattle.def_types.proofs.Rows.{corr_rows, mall_rows}
 
+-- The refusals compute.
 pub returns-clause-number_ranges : goal.returns-clause-number_ranges
-returns-clause-number_ranges c = number_ranges
+unfolding corr_rows mall_rows
+returns-clause-number_ranges c = (refl, refl, refl, refl, refl, refl, refl, refl, refl)
 
 pub returns-clause-and_or_rules : goal.returns-clause-and_or_rules
-returns-clause-and_or_rules c = and_or_rules
+unfolding corr_rows mall_rows
+returns-clause-and_or_rules c = (refl, refl, refl, refl, refl)
 
 pub returns-clause-and_or_children : goal.returns-clause-and_or_children
-returns-clause-and_or_children c = and_or_children
+unfolding corr_rows mall_rows
+returns-clause-and_or_children c = (refl, refl, refl)
 
 pub returns-clause-and_rules : goal.returns-clause-and_rules
-returns-clause-and_rules c = and_rules
+unfolding corr_rows mall_rows
+returns-clause-and_rules c = (refl, refl, refl, refl)
 
 pub returns-clause-or_rules : goal.returns-clause-or_rules
-returns-clause-or_rules c = or_rules
+unfolding corr_rows mall_rows
+returns-clause-or_rules c = (refl, refl, refl, refl, refl, refl, refl, refl, refl, refl, refl)
 
 pub returns-clause-threshold_rules : goal.returns-clause-threshold_rules
-returns-clause-threshold_rules c = threshold_rules
+unfolding corr_rows mall_rows
+returns-clause-threshold_rules c = (refl, refl, refl, refl, refl, refl)
 
 pub returns-clause-wrapper_rules : goal.returns-clause-wrapper_rules
-returns-clause-wrapper_rules c = wrapper_rules
+unfolding corr_rows mall_rows
+returns-clause-wrapper_rules c = (refl, refl, refl, refl, refl, refl, refl, refl, refl, refl)
 
 pub returns-clause-rule_order : goal.returns-clause-rule_order
-returns-clause-rule_order c = rule_order
+unfolding corr_rows mall_rows
+returns-clause-rule_order c = (refl, refl)
 
 pub returns-clause-malleable_and_or : goal.returns-clause-malleable_and_or
-returns-clause-malleable_and_or c = malleable_and_or
+unfolding corr_rows mall_rows
+returns-clause-malleable_and_or c = (refl, refl, refl, refl)
 
 pub returns-clause-malleable_or : goal.returns-clause-malleable_or
-returns-clause-malleable_or c = malleable_or
+unfolding corr_rows mall_rows
+returns-clause-malleable_or c = (refl, refl, refl, refl, refl, refl, refl, refl)
 
 pub returns-clause-malleable_threshold : goal.returns-clause-malleable_threshold
-returns-clause-malleable_threshold c = malleable_threshold
+unfolding corr_rows mall_rows
+returns-clause-malleable_threshold c = (refl, refl, refl)
 
 pub returns-clause-malleable_order : goal.returns-clause-malleable_order
-returns-clause-malleable_order c = malleable_order
+unfolding corr_rows mall_rows
+returns-clause-malleable_order c = (refl, refl)

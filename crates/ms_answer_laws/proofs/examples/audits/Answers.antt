@@ -1,23 +1,19 @@
-use Rattle.ms_answer_laws.proofs.AuditRows.{both_keys, one_key, not_accepted, other_bytes, audited_texts, refused_audit_files, audit_file_too_long}
+-- Answers to `audit TEXT`, each computed.
+use Rattle.std.proofs.Common.{[], ◌∷◌, refl}
+use Rattle.def_tree.specs.Tree.{just_1}
+use Rattle.ms_answer_laws.proofs.Answered.{answered}
+use Rattle.ms_answer_laws.proofs.Early.{long_audit_file}
+use Rattle.ms_answer_laws.proofs.Computing.{answers_on_literals}
 use Rattle.ms_answer_laws.proofs.examples.audits.Goals as goal
 
-pub returns-clause-both_keys : goal.returns-clause-both_keys
-returns-clause-both_keys c = both_keys
-
-pub returns-clause-one_key : goal.returns-clause-one_key
-returns-clause-one_key c = one_key
-
-pub returns-clause-not_accepted : goal.returns-clause-not_accepted
-returns-clause-not_accepted c = not_accepted
-
-pub returns-clause-other_bytes : goal.returns-clause-other_bytes
-returns-clause-other_bytes c = other_bytes
-
-pub returns-clause-texts : goal.returns-clause-texts
-returns-clause-texts c = audited_texts
-
-pub returns-clause-refused_files : goal.returns-clause-refused_files
-returns-clause-refused_files c = refused_audit_files
-
-pub returns-clause-file_too_long : goal.returns-clause-file_too_long
-returns-clause-file_too_long c = audit_file_too_long
+pub returns : goal.returns
+unfolding answers_on_literals
+returns c = record {
+  both_keys = answered refl refl;
+  one_key = answered refl refl;
+  not_accepted = (answered refl refl, answered refl refl, answered refl refl);
+  other_bytes = answered refl refl;
+  texts = (answered refl refl, answered refl refl, answered refl refl);
+  refused_files = (answered refl refl, answered refl refl);
+  file_too_long = λ source long. answered refl (long_audit_file (0 ∷ []) _ source just_1 long);
+}

@@ -1,8 +1,12 @@
+-- Answers to `gen N`, each computed.
+use Rattle.std.proofs.Common.{refl}
+use Rattle.ms_answer_laws.proofs.Answered.{answered}
+use Rattle.ms_answer_laws.proofs.Computing.{answers_on_literals}
 use Rattle.ms_answer_laws.proofs.examples.generated.Goals as goal
-use Rattle.ms_answer_laws.proofs.GenRows.{gen_one, gen_four}
 
-pub returns-clause-gen_one : goal.returns-clause-gen_one
-returns-clause-gen_one c = gen_one
-
-pub returns-clause-gen_four : goal.returns-clause-gen_four
-returns-clause-gen_four c = gen_four
+pub returns : goal.returns
+unfolding answers_on_literals
+returns c = record {
+  gen_one = answered refl refl;
+  gen_four = answered refl refl;
+}

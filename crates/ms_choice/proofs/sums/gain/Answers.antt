@@ -15,4 +15,5 @@ pub returns-clause-gain : goal.returns-clause-gain
 returns-clause-gain c =
     let fits : SFits w64 c.sum_of.result = search rules in
     rw (to_z-of_z w64 c.sum_of.result fits)
-    (gain_from (difference c.args.number) c.args.slots.now c.sort_by.new.slots c.args.count c.sum_of.result c.sort_by.ensures.permutation c.sort_by.ensures.sorted c.requires.enough c.sum_of.ensures.sum)
+    (gain_from (difference c.args.number) c.args.slots.now c.sort_by.new.slots c.args.count c.sum_of.result c.sort_by.ensures.permutation
+    c.sort_by.ensures.sorted c.requires.enough c.sum_of.ensures.sum)

@@ -17,4 +17,5 @@ returns c =
     let within = c.loop-from.invariant.0 in
     let at : c.loop-from.from ≡ length c.args.script.now = omega (arith, past, within) in
     let none : drop c.loop-from.from c.args.script.now ≡ [] = ap (λ n. drop n c.args.script.now) at ∙ drop-length c.args.script.now in
-    c.loop-from.invariant.1 ∙ ap (λ l. map item_of (map instruction_of c.loop-from.codes.items) ++ items l) none ∙ ap (λ (l : List Item). map item_of (map instruction_of c.loop-from.codes.items) ++ l) items_none ∙ append-nil _
+    c.loop-from.invariant.1 ∙ ap (λ l. map item_of (map instruction_of c.loop-from.codes.items) ++ items l) none
+    ∙ ap (λ (l : List Item). map item_of (map instruction_of c.loop-from.codes.items) ++ l) items_none ∙ append-nil _

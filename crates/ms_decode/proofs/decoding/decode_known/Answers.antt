@@ -9,7 +9,8 @@ use Rattle.ms_decode.proofs.decoding.decode_known.Goals as goal
 pub returns-in_default-check_valid-clause-none : goal.returns-in_default-check_valid-clause-none
 returns-in_default-check_valid-clause-none c =
     let m : IsCandidate c.args.keys.now c.args.script.now (shape c.in-Some.part.tree) = subst (λ o. MayBe c.args.keys.now c.args.script.now (made o)) c.in-Some.is c.in_ok-part.ensures in
-    λ e. tried_none c.args.keys.now c.args.script.now (shape c.in-Some.part.tree) m (tried_unfit c.args.script.now (shape c.in-Some.part.tree) c.in_default-check_valid.field-0 c.in_default-check_valid.ensures.unfit)
+    λ e. tried_none c.args.keys.now c.args.script.now (shape c.in-Some.part.tree) m
+    (tried_unfit c.args.script.now (shape c.in-Some.part.tree) c.in_default-check_valid.field-0 c.in_default-check_valid.ensures.unfit)
 
 pub returns-then-branch-clause-some : goal.returns-then-branch-clause-some
 returns-then-branch-clause-some c =

@@ -10,7 +10,9 @@ pub returns : goal.returns
 returns c =
     let past = c.if-signers-gt0.false in
     let few = c.args.signers.few in
-    let e : keys_step c.args.signers.left (reverse c.args.signers.keys.items) (frames_of c.args.frames.now.items) (instruction_of c.args.code) ≡ settle (tree_of c.in_ok-part.part) (frames_of c.args.frames.now.items) =
-    keys_done c.args.signers.left c.in-Some-numeral.k.value (reverse c.args.signers.keys.items) (frames_of c.args.frames.now.items) c.in-Push.bytes.now (instruction_of c.args.code) (tree_of c.in_ok-part.part)
+    let e : keys_step c.args.signers.left (reverse c.args.signers.keys.items) (frames_of c.args.frames.now.items) (instruction_of c.args.code)
+    ≡ settle (tree_of c.in_ok-part.part) (frames_of c.args.frames.now.items) =
+    keys_done c.args.signers.left c.in-Some-numeral.k.value (reverse c.args.signers.keys.items) (frames_of c.args.frames.now.items) c.in-Push.bytes.now
+    (instruction_of c.args.code) (tree_of c.in_ok-part.part)
     (omega (arith, past)) (ap instruction_of c.in-Push.is) c.in-Some-numeral.ensures c.in_ok-part.ensures (omega (arith, few, length-reverse c.args.signers.keys.items)) in
     rw e c.settle.ensures

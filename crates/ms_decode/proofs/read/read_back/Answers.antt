@@ -8,6 +8,7 @@ use Rattle.ms_decode.proofs.read.read_back.Goals as goal
 
 pub returns-in_default-2 : goal.returns-in_default-2
 returns-in_default-2 c =
-    stopped (first_with (keys_of c.args.keys.now)) (at (want_of c.loop-code.want) (frames_of c.loop-code.frames.items)) (instruction_of c.in-Some.code) (backwards c.pop_code.new.codes.items) (backwards c.loop-code.codes.items)
+    stopped (first_with (keys_of c.args.keys.now)) (at (want_of c.loop-code.want) (frames_of c.loop-code.frames.items)) (instruction_of c.in-Some.code)
+    (backwards c.pop_code.new.codes.items) (backwards c.loop-code.codes.items)
     c.in-Some.ensures.taken (rw c.in_default-2.is at c.in_ok-next.ensures)
     ∙ ap finish c.loop-code.invariant

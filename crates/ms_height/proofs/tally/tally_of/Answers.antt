@@ -14,5 +14,6 @@ pub loop-index-preserved : goal.loop-index-preserved
 loop-index-preserved c =
     let as_many = length_in c.args.sats.now c.args.dsats.now c.requires.alike in
     record {
-      counts = c.add.ensures c.loop-index.index (heights_in c.args.sats.now c.args.dsats.now) (omega (arith, as_many, c.loop-index-test.true, c.loop-index.auto.index-end)) c.child_at.ensures c.loop-index.invariant.counts;
+      counts = c.add.ensures c.loop-index.index (heights_in c.args.sats.now c.args.dsats.now)
+          (omega (arith, as_many, c.loop-index-test.true, c.loop-index.auto.index-end)) c.child_at.ensures c.loop-index.invariant.counts;
     }

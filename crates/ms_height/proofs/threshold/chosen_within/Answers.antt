@@ -39,7 +39,8 @@ add-requires-clause-told c =
       c.args.bounds.now.satisfied,
       c.args.bounds.now.dissatisfied,
       drop (suc i) cs,
-      choice_behind c.loop-index.choice c.loop-index.pluses c.loop-index.minuses c.args.bounds.now.satisfied c.args.bounds.now.dissatisfied cs index i (omega (arith, c.loop-index-test.true)) c.loop-index.invariant.told,
+      choice_behind c.loop-index.choice c.loop-index.pluses c.loop-index.minuses c.args.bounds.now.satisfied c.args.bounds.now.dissatisfied cs index i
+          (omega (arith, c.loop-index-test.true)) c.loop-index.invariant.told,
       omega (arith, shorter cs i below, as_many, c.requires.few),
     )
 
@@ -51,19 +52,22 @@ add-requires-clause-low c =
 pub add-requires-clause-fine : goal.add-requires-clause-fine
 add-requires-clause-fine c =
     let as_many = length_in c.args.sats.now c.args.dsats.now c.requires.alike in
-    stuck_from (heights_in c.args.sats.now c.args.dsats.now) (c.loop-index.index - 1) c.child_at.result (omega (arith, as_many, c.loop-index.invariant.index, c.loop-index-test.true)) c.child_at.ensures c.requires.fine
+    stuck_from (heights_in c.args.sats.now c.args.dsats.now) (c.loop-index.index - 1) c.child_at.result
+    (omega (arith, as_many, c.loop-index.invariant.index, c.loop-index-test.true)) c.child_at.ensures c.requires.fine
 
 pub add-requires-clause-sat : goal.add-requires-clause-sat
 add-requires-clause-sat c =
     let as_many = length_in c.args.sats.now c.args.dsats.now c.requires.alike in
-    let fits = subst (IsFitting (length c.args.pluses.now)) (sym c.child_at.ensures) (c.requires.fits (c.loop-index.index - 1) c.child_at.result (omega (arith, as_many, c.loop-index.invariant.index, c.loop-index-test.true))) in
+    let fits = subst (IsFitting (length c.args.pluses.now)) (sym c.child_at.ensures)
+    (c.requires.fits (c.loop-index.index - 1) c.child_at.result (omega (arith, as_many, c.loop-index.invariant.index, c.loop-index-test.true))) in
     let same : length c.args.pluses.now ≡ length c.loop-index.pluses = omega (arith, c.loop-index.auto.pluses) in
     subst (λ (n : ℕ). ItemsBelow n c.child_at.result.sat) same fits.sat
 
 pub add-requires-clause-dsat : goal.add-requires-clause-dsat
 add-requires-clause-dsat c =
     let as_many = length_in c.args.sats.now c.args.dsats.now c.requires.alike in
-    let fits = subst (IsFitting (length c.args.pluses.now)) (sym c.child_at.ensures) (c.requires.fits (c.loop-index.index - 1) c.child_at.result (omega (arith, as_many, c.loop-index.invariant.index, c.loop-index-test.true))) in
+    let fits = subst (IsFitting (length c.args.pluses.now)) (sym c.child_at.ensures)
+    (c.requires.fits (c.loop-index.index - 1) c.child_at.result (omega (arith, as_many, c.loop-index.invariant.index, c.loop-index-test.true))) in
     let same : length c.args.pluses.now ≡ length c.loop-index.minuses = omega (arith, c.loop-index.auto.minuses, c.requires.minuses) in
     subst (λ (n : ℕ). ItemsBelow n c.child_at.result.dsat) same fits.dsat
 

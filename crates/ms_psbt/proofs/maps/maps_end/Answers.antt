@@ -17,7 +17,8 @@ loop-preserved c =
     let psbt = c.args.psbt.now in (
       c.in_ok-at.ensures.within,
       maps_more forms psbt c.args.count c.loop.counter c.loop.at c.in_ok-at.at _ c.loop-test.true c.in_ok-at.ensures.reading c.loop.invariant.1,
-      subst (λ xs. xs ++ starts_from (forms_of c.args.kind) c.args.psbt.now (c.args.count - (c.loop.counter + 1)) c.in_ok-at.at ≡ c.args.starts.now.items ++ starts_from (forms_of c.args.kind) c.args.psbt.now c.args.count c.args.from) (sym c.in_ok-push.ensures.items)
+      subst (λ xs. xs ++ starts_from (forms_of c.args.kind) c.args.psbt.now (c.args.count - (c.loop.counter + 1)) c.in_ok-at.at ≡ c.args.starts.now.items
+          ++ starts_from (forms_of c.args.kind) c.args.psbt.now c.args.count c.args.from) (sym c.in_ok-push.ensures.items)
           (starts_more forms psbt c.args.count c.loop.counter c.loop.at c.in_ok-at.at c.loop.starts.items _ c.loop-test.true c.in_ok-at.ensures.reading c.loop.invariant.2),
     )
 

@@ -24,7 +24,8 @@ pub returns-in-Fault-clause-walk : goal.returns-in-Fault-clause-walk
 returns-in-Fault-clause-walk c =
     let is = sym c.in_ok-next.ensures.step ∙ c.in-Fault.is in
     let marked = fault_marked (forms_of c.args.kind) c.args.psbt.now c.loop-next.at c.in-Fault.place c.in-Fault.refusal is in
-    ap (λ places. walk_of places (Err c.in-Fault.refusal)) (places_more c.loop-next.places.items _ c.in-Fault.place (key_at keys.Pairs c.args.psbt.now c.loop-next.at) c.loop-next.at c.in_ok-push-in-Fault.ensures.items marked)
+    ap (λ places. walk_of places (Err c.in-Fault.refusal)) (places_more c.loop-next.places.items _ c.in-Fault.place
+    (key_at keys.Pairs c.args.psbt.now c.loop-next.at) c.loop-next.at c.in_ok-push-in-Fault.ensures.items marked)
     ∙ walk_fault (forms_of c.args.kind) c.args.psbt.now c.loop-next.at (places_of c.loop-next.places.items) _ c.loop-next.invariant.0 c.loop-next.invariant.2
     c.in-Fault.place c.in-Fault.refusal is
 
@@ -32,7 +33,8 @@ pub returns-in-Fault-clause-up : goal.returns-in-Fault-clause-up
 returns-in-Fault-clause-up c =
     let marked = fault_marked (forms_of c.args.kind) c.args.psbt.now c.loop-next.at c.in-Fault.place c.in-Fault.refusal (sym c.in_ok-next.ensures.step ∙ c.in-Fault.is) in
     let before = more_before (places_of c.loop-next.places.items) c.loop-next.at (c.loop-next.at + 1) c.loop-next.invariant.1 (omega arith) in
-    subst IsStrictlyIncreasing (sym (places_more c.loop-next.places.items _ c.in-Fault.place (key_at keys.Pairs c.args.psbt.now c.loop-next.at) c.loop-next.at c.in_ok-push-in-Fault.ensures.items marked)) before.up
+    subst IsStrictlyIncreasing (sym (places_more c.loop-next.places.items _ c.in-Fault.place
+    (key_at keys.Pairs c.args.psbt.now c.loop-next.at) c.loop-next.at c.in_ok-push-in-Fault.ensures.items marked)) before.up
 
 pub returns-in-Fault-clause-marks : goal.returns-in-Fault-clause-marks
 returns-in-Fault-clause-marks c =

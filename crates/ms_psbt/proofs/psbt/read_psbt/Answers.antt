@@ -24,25 +24,39 @@ returns-in_default-clause-reading c =
 pub returns-in_err-middle-clause-reading : goal.returns-in_err-middle-clause-reading
 returns-in_err-middle-clause-reading c =
     let refused = err_from_is_err_and c.from_residual-in_err-middle.result c.from_residual-in_err-middle.ensures.1 in
-    rw (refused.1, refused.2) (inputs_stop c.args.bytes.now c.in_ok-after.after c.in-Some.transaction.now c.in-Some.counts (global_found c.args.bytes.now c.in_ok-after.after c.in-Some.transaction.now c.in-Some.counts c.in_ok-after.ensures.reading (λ map e. c.in-Some.ensures map e)) c.in_err-middle.field-0.0 c.in_err-middle.ensures.reading)
+    rw (refused.1, refused.2) (inputs_stop c.args.bytes.now c.in_ok-after.after c.in-Some.transaction.now c.in-Some.counts
+    (global_found c.args.bytes.now c.in_ok-after.after c.in-Some.transaction.now c.in-Some.counts c.in_ok-after.ensures.reading
+    (λ map e. c.in-Some.ensures map e)) c.in_err-middle.field-0.0 c.in_err-middle.ensures.reading)
 
 pub returns-in_err-last-clause-reading : goal.returns-in_err-last-clause-reading
 returns-in_err-last-clause-reading c =
     let refused = err_from_is_err_and c.from_residual-in_err-last.result c.from_residual-in_err-last.ensures.1 in
-    rw (refused.1, refused.2) (outputs_stop c.args.bytes.now c.in_ok-after.after c.in-Some.transaction.now c.in-Some.counts (global_found c.args.bytes.now c.in_ok-after.after c.in-Some.transaction.now c.in-Some.counts c.in_ok-after.ensures.reading (λ map e. c.in-Some.ensures map e)) c.in_ok-middle.middle c.in_ok-middle.ensures.reading c.in_err-last.field-0.0 c.in_err-last.ensures.reading)
+    rw (refused.1, refused.2) (outputs_stop c.args.bytes.now c.in_ok-after.after c.in-Some.transaction.now c.in-Some.counts
+    (global_found c.args.bytes.now c.in_ok-after.after c.in-Some.transaction.now c.in-Some.counts c.in_ok-after.ensures.reading
+    (λ map e. c.in-Some.ensures map e)) c.in_ok-middle.middle c.in_ok-middle.ensures.reading c.in_err-last.field-0.0 c.in_err-last.ensures.reading)
 
 pub returns-then-last-bytes-clause-reading : goal.returns-then-last-bytes-clause-reading
-returns-then-last-bytes-clause-reading c = trails c.args.bytes.now c.in_ok-after.after c.in-Some.transaction.now c.in-Some.counts (global_found c.args.bytes.now c.in_ok-after.after c.in-Some.transaction.now c.in-Some.counts c.in_ok-after.ensures.reading (λ map e. c.in-Some.ensures map e)) c.in_ok-middle.middle c.in_ok-middle.ensures.reading c.in_ok-last.last c.in_ok-last.ensures.reading c.if-last-bytes.true
+returns-then-last-bytes-clause-reading c = trails c.args.bytes.now c.in_ok-after.after c.in-Some.transaction.now c.in-Some.counts
+    (global_found c.args.bytes.now c.in_ok-after.after c.in-Some.transaction.now c.in-Some.counts c.in_ok-after.ensures.reading
+    (λ map e. c.in-Some.ensures map e)) c.in_ok-middle.middle c.in_ok-middle.ensures.reading c.in_ok-last.last c.in_ok-last.ensures.reading c.if-last-bytes.true
 
 pub invariant_of-result : goal.invariant_of-result
 invariant_of-result c =
-    is_read c.args.bytes.now c.in_ok-after.after c.in-Some.transaction.now c.in-Some.counts (global_found c.args.bytes.now c.in_ok-after.after c.in-Some.transaction.now c.in-Some.counts c.in_ok-after.ensures.reading (λ map e. c.in-Some.ensures map e)) c.in_ok-middle.middle c.in_ok-middle.ensures.reading c.in_ok-last.last c.in_ok-last.ensures.reading _
+    is_read c.args.bytes.now c.in_ok-after.after c.in-Some.transaction.now c.in-Some.counts
+    (global_found c.args.bytes.now c.in_ok-after.after c.in-Some.transaction.now c.in-Some.counts c.in_ok-after.ensures.reading
+    (λ map e. c.in-Some.ensures map e)) c.in_ok-middle.middle c.in_ok-middle.ensures.reading c.in_ok-last.last c.in_ok-last.ensures.reading _
     (λ i. omega (arith, c.type_inv.bytes i)) c.requires.short c.requires.magic c.in_ok-after.ensures.within c.in_ok-middle.ensures.within c.if-last-bytes.false
-    (c.in_ok-push.ensures.items ∙ ap (λ xs. xs ++ c.in_ok-middle.middle ∷ []) (c.in_ok-middle.ensures.starts ∙ ap (λ xs. xs ++ starts_from input_form c.args.bytes.now c.in-Some.counts.0 c.in_ok-after.after) c.new-places.ensures.items))
+    (c.in_ok-push.ensures.items ∙ ap (λ xs. xs ++ c.in_ok-middle.middle ∷ [])
+    (c.in_ok-middle.ensures.starts ∙ ap (λ xs. xs ++ starts_from input_form c.args.bytes.now c.in-Some.counts.0 c.in_ok-after.after)
+    c.new-places.ensures.items))
 
 pub returns : goal.returns
 returns c =
-    let kept = is_read c.args.bytes.now c.in_ok-after.after c.in-Some.transaction.now c.in-Some.counts (global_found c.args.bytes.now c.in_ok-after.after c.in-Some.transaction.now c.in-Some.counts c.in_ok-after.ensures.reading (λ map e. c.in-Some.ensures map e)) c.in_ok-middle.middle c.in_ok-middle.ensures.reading c.in_ok-last.last c.in_ok-last.ensures.reading _
+    let kept = is_read c.args.bytes.now c.in_ok-after.after c.in-Some.transaction.now c.in-Some.counts
+    (global_found c.args.bytes.now c.in_ok-after.after c.in-Some.transaction.now c.in-Some.counts c.in_ok-after.ensures.reading
+    (λ map e. c.in-Some.ensures map e)) c.in_ok-middle.middle c.in_ok-middle.ensures.reading c.in_ok-last.last c.in_ok-last.ensures.reading _
     (λ i. omega (arith, c.type_inv.bytes i)) c.requires.short c.requires.magic c.in_ok-after.ensures.within c.in_ok-middle.ensures.within c.if-last-bytes.false
-    (c.in_ok-push.ensures.items ∙ ap (λ xs. xs ++ c.in_ok-middle.middle ∷ []) (c.in_ok-middle.ensures.starts ∙ ap (λ xs. xs ++ starts_from input_form c.args.bytes.now c.in-Some.counts.0 c.in_ok-after.after) c.new-places.ensures.items)) in
+    (c.in_ok-push.ensures.items ∙ ap (λ xs. xs ++ c.in_ok-middle.middle ∷ [])
+    (c.in_ok-middle.ensures.starts ∙ ap (λ xs. xs ++ starts_from input_form c.args.bytes.now c.in-Some.counts.0 c.in_ok-after.after)
+    c.new-places.ensures.items)) in
     record { reading = kept.read; sound = kept.sound; text = kept.text }

@@ -13,7 +13,8 @@ returns-then-size-eq0 c = λ map e. at_end c.args.psbt.now c.loop-size.at _ (c.l
 
 pub returns-in_default-pair_at : goal.returns-in_default-pair_at
 returns-in_default-pair_at c = λ map e.
-    absurd (no_pair c.args.psbt.now c.loop-size.at _ (c.loop-size.invariant.1 map e) (c.in-Ok.size, c.in-Ok.field-0-1) c.in-Ok.ensures.reading c.if-size-eq0.false c.in_default-pair_at.field-0 c.in_default-pair_at.ensures.reading)
+    absurd (no_pair c.args.psbt.now c.loop-size.at _ (c.loop-size.invariant.1 map e)
+    (c.in-Ok.size, c.in-Ok.field-0-1) c.in-Ok.ensures.reading c.if-size-eq0.false c.in_default-pair_at.field-0 c.in_default-pair_at.ensures.reading)
 
 pub returns-then-key_type-eq0 : goal.returns-then-key_type-eq0
 returns-then-key_type-eq0 c = λ map e.

@@ -23,7 +23,8 @@ returns c =
     let same = c.mark_many.ensures.same in
     let mark = c.mark_many.ensures.marks.0 in
     let marks = All-permutation (IsMarkedBy mark keys bytes) _ _ c.sort_unstable_by.ensures.permutation c.mark_many.ensures.marks.1 in
-    let sorted = c.sort_unstable_by.ensures.sorted (λ first second. is_lt (rank_cmp (rank_of keys bytes first) (rank_of keys bytes second))) (weak keys bytes) (always_returns_same _ _ _ (λ a r f' called. search rules)) in
+    let sorted = c.sort_unstable_by.ensures.sorted (λ first second. is_lt (rank_cmp (rank_of keys bytes first) (rank_of keys bytes second))) (weak keys bytes)
+    (always_returns_same _ _ _ (λ a r f' called. search rules)) in
     least_is_first mark keys bytes (places_of marked) (places_of order) (subst IsStrictlyIncreasing (sym same) c.requires.up)
     (IsPermutation-map (λ (m : Marked). m.place) _ _ c.sort_unstable_by.ensures.permutation)
     (sorted_places mark keys bytes order marks sorted)

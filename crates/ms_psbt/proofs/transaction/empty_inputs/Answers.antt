@@ -14,7 +14,8 @@ returns-clause-places c = empties_done c.args.bytes.now c.args.count c.loop.coun
 
 pub returns-else-is_empty-clause-places : goal.returns-else-is_empty-clause-places
 returns-else-is_empty-clause-places c =
-    empties_none c.args.bytes.now c.args.count c.loop.counter c.loop.at (places_of c.loop.places.items) _ c.loop-test.true (sym c.is_empty_input-is_empty.ensures ∙ c.if-is_empty.false) c.loop.invariant.1
+    empties_none c.args.bytes.now c.args.count c.loop.counter c.loop.at (places_of c.loop.places.items) _ c.loop-test.true
+    (sym c.is_empty_input-is_empty.ensures ∙ c.if-is_empty.false) c.loop.invariant.1
 
 pub loop-preserved : goal.loop-preserved
 loop-preserved c =

@@ -1,8 +1,12 @@
+-- The examples of refusals, each computed.
+use Rattle.std.proofs.Common.{refl}
+use Rattle.ms_psbt_answer_laws.proofs.Answered.{answered}
+use Rattle.ms_psbt_answer_laws.proofs.Computing.{psbt_answers_on_literals}
 use Rattle.ms_psbt_answer_laws.proofs.examples.refusals.Goals as goal
-use Rattle.ms_psbt_answer_laws.proofs.Computed.{no_form, refused}
 
-pub returns-clause-no_form : goal.returns-clause-no_form
-returns-clause-no_form c = no_form
-
-pub returns-clause-refused : goal.returns-clause-refused
-returns-clause-refused c = refused
+pub returns : goal.returns
+unfolding psbt_answers_on_literals
+returns c = record {
+  no_form = (answered refl refl, answered refl refl, answered refl refl);
+  refused = (answered refl refl, answered refl refl, answered refl refl);
+}

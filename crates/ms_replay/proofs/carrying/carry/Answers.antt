@@ -23,14 +23,16 @@ replay_accepted-requires-clause-accepted g c =
 pub returns-clause-report : goal.returns-clause-report
 returns-clause-report g c =
     let report = c.in_ok-report.report in
-    run_is (shape c.args.tree.now) c.args.assets.now c.args.stack.now c.locks-locks.result c.program_of-program.result c.as_slice-3.result.now (table_of c.args.sigs.now) (accepted report.ops report.peak report.checks)
+    run_is (shape c.args.tree.now) c.args.assets.now c.args.stack.now c.locks-locks.result c.program_of-program.result c.as_slice-3.result.now
+    (table_of c.args.sigs.now) (accepted report.ops report.peak report.checks)
     (record { in_range = c.requires.in_range; valid = c.requires.valid; few = c.locks-locks.ensures.few; sat = c.requires.satisfies })
     (record { same_locks = search rules; is_program = search rules; is_witness = search rules }) c.in_ok-report.ensures
 
 pub returns-clause-few_ops : goal.returns-clause-few_ops
 returns-clause-few_ops g c =
     let report = c.in_ok-report.report in
-    few_ops (shape c.args.tree.now) c.args.assets.now c.args.stack.now c.locks-locks.result c.program_of-program.result c.as_slice-3.result.now (table_of c.args.sigs.now) report.ops report.peak report.checks
+    few_ops (shape c.args.tree.now) c.args.assets.now c.args.stack.now c.locks-locks.result c.program_of-program.result c.as_slice-3.result.now
+    (table_of c.args.sigs.now) report.ops report.peak report.checks
     (record { in_range = c.requires.in_range; valid = c.requires.valid; few = c.locks-locks.ensures.few; sat = c.requires.satisfies })
     (record { same_locks = search rules; is_program = search rules; is_witness = search rules }) c.requires.holds c.in_ok-report.ensures
 

@@ -13,7 +13,8 @@ decreases-copy_keys_of_all l = 2 * nodes_of (shapes l.parts.now) + 1
 
 abbrev pub invariant-copy_keys_of_all-loop-part : goal.invariant-copy_keys_of_all-loop-part
 invariant-copy_keys_of_all-loop-part l = record {
-  copied : take l.passed.keys l.entries ++ map entry (held_in l.passed.nodes (shapes (drop l.part-index l.parts))) ≡ take l.initial.passed.keys l.initial.entries ++ map entry (held_in l.initial.passed.nodes (shapes l.parts));
+  copied : take l.passed.keys l.entries ++ map entry (held_in l.passed.nodes (shapes (drop l.part-index l.parts)))
+      ≡ take l.initial.passed.keys l.initial.entries ++ map entry (held_in l.initial.passed.nodes (shapes l.parts));
   nodes : l.passed.nodes + nodes_of (shapes (drop l.part-index l.parts)) ≡ l.initial.passed.nodes + nodes_of (shapes l.parts);
   keys : l.passed.keys + measure_of (shapes (drop l.part-index l.parts)) ≤ l.initial.passed.keys + measure_of (shapes l.parts);
 }

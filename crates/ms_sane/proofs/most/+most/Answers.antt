@@ -100,7 +100,8 @@ of_thresh-loop-child-preserved t c =
       fits = c.add.ensures.fits;
       told = λ n.
           let told = told_written n (children_in n (take i xs)) tally slots c.most-taken.new.slots (length slots - tally.free) c.loop-child.invariant.fits.room (c.loop-child.invariant.told n) in
-          let more = children_more n xs i x (costs_in n c.as_child.result) c.loop-child-test.true c.child-item.is (c.as_child.ensures.costs n ∙ costs_alike n c.most-taken.ensures.sat c.most-taken.ensures.dsat) in
+          let more = children_more n xs i x (costs_in n c.as_child.result) c.loop-child-test.true c.child-item.is
+          (c.as_child.ensures.costs n ∙ costs_alike n c.most-taken.ensures.sat c.most-taken.ensures.dsat) in
           subst (λ cs. Tells n cs c.add.new.self c.add.new.slots) more (c.add.ensures.told n (children_in n (take i xs)) told);
       free = omega (arith, c.add.ensures.free, c.loop-child.invariant.free);
       place = omega (arith, c.add.ensures.place, c.loop-child.invariant.place);

@@ -46,8 +46,12 @@ weigh_root-weigh_and_or-requires-clause-table t c =
     let ny = all_nodes (shape c.in-AndOr.y.now) in
     let nz = all_nodes (shape c.in-AndOr.z.now) in
     let xy = adds_both rule assets nx ny _ _ _ c.in_ok-weigh_nodes-in-AndOr.ensures.added c.in_ok-weigh_nodes-in-AndOr-2.ensures.added in
-    let all = adds_both rule assets (nx ++ ny) nz _ _ _ xy c.in_ok-weigh_nodes-in-AndOr-3.ensures.added in
-    (rule, assets, added_slice rule assets (nx ++ ny ++ nz) c.args.table.now.items c.weigh_nodes-in-AndOr-2.new.table.items c.deref.result.now c.len-start.result all c.deref.ensures.value (c.len-start.ensures ∙ c.args.table.now.ok.0))
+    let all = adds_both rule assets (nx ++ ny) nz _ _ _ xy c.in_ok-weigh_nodes-in-AndOr-3.ensures.added in (
+      rule,
+      assets,
+      added_slice rule assets (nx ++ ny ++ nz) c.args.table.now.items c.weigh_nodes-in-AndOr-2.new.table.items c.deref.result.now
+          c.len-start.result all c.deref.ensures.value (c.len-start.ensures ∙ c.args.table.now.ok.0),
+    )
 
 pub weigh_root-weigh_two-requires-clause-table : goal.weigh_root-weigh_two-requires-clause-table
 weigh_root-weigh_two-requires-clause-table t c =
@@ -55,8 +59,12 @@ weigh_root-weigh_two-requires-clause-table t c =
     let assets = c.args.assets.now in
     let nx = all_nodes (shape c.in-Two.x.now) in
     let nz = all_nodes (shape c.in-Two.z.now) in
-    let all = adds_both rule assets nx nz _ _ _ c.in_ok-weigh_nodes-in-Two.ensures.added c.in_ok-weigh_nodes-in-Two-2.ensures.added in
-    (rule, assets, added_slice rule assets (nx ++ nz) c.args.table.now.items c.weigh_nodes-in-Two-2.new.table.items c.deref-in-Two.result.now c.len-start.result all c.deref-in-Two.ensures.value (c.len-start.ensures ∙ c.args.table.now.ok.0))
+    let all = adds_both rule assets nx nz _ _ _ c.in_ok-weigh_nodes-in-Two.ensures.added c.in_ok-weigh_nodes-in-Two-2.ensures.added in (
+      rule,
+      assets,
+      added_slice rule assets (nx ++ nz) c.args.table.now.items c.weigh_nodes-in-Two-2.new.table.items c.deref-in-Two.result.now
+          c.len-start.result all c.deref-in-Two.ensures.value (c.len-start.ensures ∙ c.args.table.now.ok.0),
+    )
 
 pub weigh_root-weigh_thresh-requires : goal.weigh_root-weigh_thresh-requires
 weigh_root-weigh_thresh-requires t c =
@@ -64,8 +72,13 @@ weigh_root-weigh_thresh-requires t c =
     let Ready : model.Tree → Type 0 = λ s. IsReady s c.args.assets.now (length c.args.slots.now) in
     let ready = subst Ready shows c.requires in
     let fewer = ap nodes shows in
-    let some = thresh_some c.in-Thresh.k (shapes c.in-Thresh.children.now) ready.typed in
-    (omega (arith, c.decreases, fewer), (c.in-Thresh.ensures.in_range.1, (typed_children c.in-Thresh.children.now ready.typed.0, (ready.are, (omega (arith, ready.in_range.measure), (omega (arith, ready.room), some))))))
+    let some = thresh_some c.in-Thresh.k (shapes c.in-Thresh.children.now) ready.typed in (
+      omega (arith, c.decreases, fewer),
+      (
+        c.in-Thresh.ensures.in_range.1,
+        (typed_children c.in-Thresh.children.now ready.typed.0, (ready.are, (omega (arith, ready.in_range.measure), (omega (arith, ready.room), some)))),
+      ),
+    )
 
 pub weigh_root-weigh_multi-requires-clause-some : goal.weigh_root-weigh_multi-requires-clause-some
 weigh_root-weigh_multi-requires-clause-some t c =
@@ -90,7 +103,8 @@ weigh_root-returns-in_ok-weigh_nodes-in-AndOr-3-clause-weighed t c =
     let all = adds_both rule assets (nx ++ ny) nz _ _ _ xy c.in_ok-weigh_nodes-in-AndOr-3.ensures.added in
     same_weighed rule assets _ _ c.weigh_and_or.result (sym c.in-AndOr.ensures.shows)
     (c.weigh_and_or.ensures rule assets
-    (added_slice rule assets (nx ++ ny ++ nz) c.args.table.now.items c.weigh_nodes-in-AndOr-2.new.table.items c.deref.result.now c.len-start.result all c.deref.ensures.value (c.len-start.ensures ∙ c.args.table.now.ok.0)))
+    (added_slice rule assets (nx ++ ny ++ nz) c.args.table.now.items c.weigh_nodes-in-AndOr-2.new.table.items c.deref.result.now c.len-start.result all
+    c.deref.ensures.value (c.len-start.ensures ∙ c.args.table.now.ok.0)))
 
 pub weigh_root-returns-in_ok-weigh_nodes-in-AndOr-3-clause-added : goal.weigh_root-returns-in_ok-weigh_nodes-in-AndOr-3-clause-added
 weigh_root-returns-in_ok-weigh_nodes-in-AndOr-3-clause-added t c =
@@ -112,7 +126,8 @@ weigh_root-returns-in_ok-weigh_nodes-in-Two-2-clause-weighed t c =
     let all = adds_both rule assets nx nz _ _ _ c.in_ok-weigh_nodes-in-Two.ensures.added c.in_ok-weigh_nodes-in-Two-2.ensures.added in
     same_weighed rule assets _ _ c.weigh_two.result (sym c.in-Two.ensures.shows)
     (c.weigh_two.ensures rule assets
-    (added_slice rule assets (nx ++ nz) c.args.table.now.items c.weigh_nodes-in-Two-2.new.table.items c.deref-in-Two.result.now c.len-start.result all c.deref-in-Two.ensures.value (c.len-start.ensures ∙ c.args.table.now.ok.0)))
+    (added_slice rule assets (nx ++ nz) c.args.table.now.items c.weigh_nodes-in-Two-2.new.table.items c.deref-in-Two.result.now c.len-start.result all
+    c.deref-in-Two.ensures.value (c.len-start.ensures ∙ c.args.table.now.ok.0)))
 
 pub weigh_root-returns-in_ok-weigh_nodes-in-Two-2-clause-added : goal.weigh_root-returns-in_ok-weigh_nodes-in-Two-2-clause-added
 weigh_root-returns-in_ok-weigh_nodes-in-Two-2-clause-added t c =

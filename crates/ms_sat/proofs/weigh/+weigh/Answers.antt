@@ -27,8 +27,13 @@ weigh-of_thresh-requires t c =
     let shows = c.in-Thresh.ensures.shows in
     let Ready : model.Tree → Type 0 = λ s. IsReady s c.args.assets.now (length c.args.slots.now) in
     let ready = subst Ready shows c.requires in
-    let fewer = ap nodes shows in
-    (omega (arith, c.decreases, fewer), (c.in-Thresh.ensures.in_range.1, (typed_children c.in-Thresh.children.now ready.typed.0, (ready.are, (omega (arith, ready.in_range.measure), omega (arith, ready.room))))))
+    let fewer = ap nodes shows in (
+      omega (arith, c.decreases, fewer),
+      (
+        c.in-Thresh.ensures.in_range.1,
+        (typed_children c.in-Thresh.children.now ready.typed.0, (ready.are, (omega (arith, ready.in_range.measure), omega (arith, ready.room)))),
+      ),
+    )
 
 pub weigh-of_multi-requires-clause-enough : goal.weigh-of_multi-requires-clause-enough
 weigh-of_multi-requires-clause-enough t c =
@@ -153,7 +158,8 @@ tally_of-loop-child-preserved t c =
     }
 
 -- the same of the kind that was found
-sat_of : (assets : Assets) (kind found : Two) (x z : model.Tree) (n : Option ℕ) → kind ≡ found → n ≡ weight_of (cheapest_of assets (model.two found x z)) → n ≡ weight_of (cheapest_of assets (model.two kind x z))
+sat_of : (assets : Assets) (kind found : Two) (x z : model.Tree) (n : Option ℕ) → kind ≡ found → n ≡ weight_of (cheapest_of assets (model.two found x z)) → n
+    ≡ weight_of (cheapest_of assets (model.two kind x z))
 sat_of assets kind found x z n is h = h ∙ sym (ap (λ k. weight_of (cheapest_of assets (model.two k x z))) is)
 
 dsat_of : (kind found : Two) (x z : model.Tree) (n : Option ℕ) → kind ≡ found → n ≡ weight_of (dissatisfaction (model.two found x z)) → n ≡ weight_of (dissatisfaction (model.two kind x z))

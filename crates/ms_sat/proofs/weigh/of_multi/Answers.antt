@@ -13,7 +13,8 @@ both-requires-clause-above c =
     let assets = c.args.assets.now in
     let keys = c.args.keys.now in
     signatures_light assets c.requires.are c.args.k keys c.weight_of_choice-signatures.result c.requires.few
-    (c.weight_of_choice-signatures.ensures ∙ found_weight (lengths_of_keys assets keys) (children_of_keys assets keys) c.args.k c.choice_of_keys-choice.result c.choice_of_keys-choice.ensures ∙ sym (signatures_weigh assets c.args.k keys))
+    (c.weight_of_choice-signatures.ensures ∙ found_weight (lengths_of_keys assets keys)
+    (children_of_keys assets keys) c.args.k c.choice_of_keys-choice.result c.choice_of_keys-choice.ensures ∙ sym (signatures_weigh assets c.args.k keys))
 
 pub returns-clause-sat : goal.returns-clause-sat
 returns-clause-sat c =
@@ -22,7 +23,8 @@ returns-clause-sat c =
     c.both.ensures ∙
     both_weighs (Some c.of_item.result) c.weight_of_choice-signatures.result (Some (EMPTY ∷ [])) (signatures assets c.args.k keys)
     (ap Some c.of_item.ensures)
-    (c.weight_of_choice-signatures.ensures ∙ found_weight (lengths_of_keys assets keys) (children_of_keys assets keys) c.args.k c.choice_of_keys-choice.result c.choice_of_keys-choice.ensures ∙ sym (signatures_weigh assets c.args.k keys))
+    (c.weight_of_choice-signatures.ensures ∙ found_weight (lengths_of_keys assets keys)
+    (children_of_keys assets keys) c.args.k c.choice_of_keys-choice.result c.choice_of_keys-choice.ensures ∙ sym (signatures_weigh assets c.args.k keys))
 
 pub returns-clause-dsat : goal.returns-clause-dsat
 returns-clause-dsat c =

@@ -49,7 +49,8 @@ typed-returns-in_ok-y-in-Two-clause-typed g t c =
 
 pub typed-returns-in_ok-children-in-Thresh-clause-typed : goal.typed-returns-in_ok-children-in-Thresh-clause-typed
 typed-returns-in_ok-children-in-Thresh-clause-typed g t c =
-    let found = types_seen g.T.TypeSystem.seen (typed_each g.T.TypeSystem.rows c.args.next.now (shapes c.in-Thresh.children.now)) c.in_ok-children-in-Thresh.children c.in_ok-children-in-Thresh.ensures.children in
+    let found = types_seen g.T.TypeSystem.seen (typed_each g.T.TypeSystem.rows c.args.next.now
+    (shapes c.in-Thresh.children.now)) c.in_ok-children-in-Thresh.children c.in_ok-children-in-Thresh.ensures.children in
     c.answer-in-Thresh.ensures.typed
     ∙ rw (c.of_thresh.ensures found.0 found.2)
     (thresh_is g.T.TypeSystem.rows

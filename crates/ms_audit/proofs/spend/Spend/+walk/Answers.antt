@@ -66,14 +66,17 @@ two-returns g t c =
 
 pub walk-returns-in_ok-row-in-Leaf : goal.walk-returns-in_ok-row-in-Leaf
 walk-returns-in_ok-row-in-Leaf g t c =
-    let Goes : model.Tree → Type 0 = λ tree. Walks (given_by (table_of c.args.self.now.sigs.now) c.args.self.now.locks.now) c.args.self.now.stack.now tree c.args.course.now c.end.new.self c.end.result in
+    let Goes : model.Tree → Type 0 = λ tree. Walks (given_by
+    (table_of c.args.self.now.sigs.now) c.args.self.now.locks.now) c.args.self.now.stack.now tree c.args.course.now c.end.new.self c.end.result in
     subst Goes (sym c.in-Leaf.ensures.shows)
     (leaf_done _ _ _ c.args.course.now _ c.end.new.self c.end.result _ (leaf_nodes c.in-Leaf.leaf) refl refl c.in_ok-row-in-Leaf.ensures.left
     (c.in_ok-row-in-Leaf.ensures.row c.args.course.now.next) c.end.ensures)
 
 pub walk-returns-in_ok-row-in-Multi : goal.walk-returns-in_ok-row-in-Multi
 walk-returns-in_ok-row-in-Multi g t c =
-    let Goes : model.Tree → Type 0 = λ tree. Walks (given_by (table_of c.args.self.now.sigs.now) c.args.self.now.locks.now) c.args.self.now.stack.now tree c.args.course.now c.end-in-Multi.new.self c.end-in-Multi.result in
+    let Goes : model.Tree → Type 0 = λ tree. Walks (given_by
+    (table_of c.args.self.now.sigs.now) c.args.self.now.locks.now) c.args.self.now.stack.now tree c.args.course.now c.end-in-Multi.new.self
+    c.end-in-Multi.result in
     subst Goes (sym c.in-Multi.ensures.shows)
     (leaf_done _ _ _ c.args.course.now _ c.end-in-Multi.new.self c.end-in-Multi.result _ refl refl refl c.in_ok-row-in-Multi.ensures.left
     (c.in_ok-row-in-Multi.ensures.row c.args.course.now.next) c.end-in-Multi.ensures)
@@ -87,7 +90,8 @@ wrap-returns-in_ok-sat-in-A g t c =
 pub wrap-returns-in_ok-sat-in-V : goal.wrap-returns-in_ok-sat-in-V
 wrap-returns-in_ok-sat-in-V g t c =
     rw c.in-V.is
-    (wrap_done _ _ _ (shape c.args.x.now) c.args.course.now _ c.end-in-V.new.self c.end-in-V.result c.in_ok-sat-in-V.sat (λ sat. ends (forced sat)) (forced c.in_ok-sat-in-V.sat) refl refl c.in_ok-sat-in-V.ensures
+    (wrap_done _ _ _ (shape c.args.x.now) c.args.course.now _ c.end-in-V.new.self c.end-in-V.result c.in_ok-sat-in-V.sat (λ sat. ends (forced sat))
+    (forced c.in_ok-sat-in-V.sat) refl refl c.in_ok-sat-in-V.ensures
     (ends_by _ _ _ c.end-in-V.new.self c.end-in-V.result c.forced.ensures c.end-in-V.ensures))
 
 pub wrap-returns-in_ok-sat-in-D : goal.wrap-returns-in_ok-sat-in-D

@@ -17,7 +17,8 @@ loop-count-preserved-then-is_good g c =
       count = omega (arith, i.count);
       same =
           sym (try_key table keys stack c.loop-count.count c.args.bottom c.loop-count.end true c.as_bytes.result.now c.item.result.now c.loop-count-test.true i.count some i.top
-          (c.as_bytes.ensures.bytes ∙ get_or_read keys (c.loop-count.count - 1) c.index-keys-count.result (omega (arith, i.count, c.loop-count-test.true)) c.index-keys-count.is []) c.item.ensures (sym c.is_good.ensures ∙ c.if-is_good.true))
+          (c.as_bytes.ensures.bytes ∙ get_or_read keys (c.loop-count.count - 1) c.index-keys-count.result
+          (omega (arith, i.count, c.loop-count-test.true)) c.index-keys-count.is []) c.item.ensures (sym c.is_good.ensures ∙ c.if-is_good.true))
           ∙ i.same;
     }
 
@@ -34,7 +35,8 @@ loop-count-preserved g c =
       count = omega (arith, i.count);
       same =
           sym (try_key table keys stack c.loop-count.count c.args.bottom c.loop-count.end false c.as_bytes.result.now c.item.result.now c.loop-count-test.true i.count some i.top
-          (c.as_bytes.ensures.bytes ∙ get_or_read keys (c.loop-count.count - 1) c.index-keys-count.result (omega (arith, i.count, c.loop-count-test.true)) c.index-keys-count.is []) c.item.ensures (sym c.is_good.ensures ∙ c.if-is_good.false))
+          (c.as_bytes.ensures.bytes ∙ get_or_read keys (c.loop-count.count - 1) c.index-keys-count.result
+          (omega (arith, i.count, c.loop-count-test.true)) c.index-keys-count.is []) c.item.ensures (sym c.is_good.ensures ∙ c.if-is_good.false))
           ∙ i.same;
     }
 

@@ -15,4 +15,5 @@ pub returns : goal.returns
 returns c =
     let d = c.args.self.deep in
     let m = c.args.self.large in
-    fitting_small (tree.thresh c.args.k.value (children_of c.args.self)) (shape c.in_ok-tree.tree) (omega (arith, d)) (omega (arith, m)) (c.in_ok-tree.ensures.tree ∙ ap (λ l. tree.thresh c.args.k.value (shapes l)) c.reverse.ensures.items)
+    fitting_small (tree.thresh c.args.k.value (children_of c.args.self)) (shape c.in_ok-tree.tree) (omega (arith, d)) (omega (arith, m))
+    (c.in_ok-tree.ensures.tree ∙ ap (λ l. tree.thresh c.args.k.value (shapes l)) c.reverse.ensures.items)

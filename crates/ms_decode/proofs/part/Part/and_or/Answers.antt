@@ -14,7 +14,9 @@ returns-then-not-is_small c =
     let g = c.args.z.large in
     let m = c.max.ensures in
     let n = c.max-depth.ensures in
-    fitting_none (tree.and_or (shape c.args.self.tree) (shape c.args.y.tree) (shape c.args.z.tree)) (c.max-depth.result + 1) (c.args.self.measure + c.args.y.measure + c.args.z.measure + 1) c.is_small.result (omega (arith, a, b, d, m, n)) (omega (arith, e, f, g)) c.is_small.ensures c.if-not-is_small.true
+    fitting_none (tree.and_or (shape c.args.self.tree) (shape c.args.y.tree) (shape c.args.z.tree)) (c.max-depth.result + 1)
+    (c.args.self.measure + c.args.y.measure + c.args.z.measure + 1) c.is_small.result (omega (arith, a, b, d, m, n))
+    (omega (arith, e, f, g)) c.is_small.ensures c.if-not-is_small.true
 
 pub returns : goal.returns
 returns c =
@@ -26,4 +28,6 @@ returns c =
     let g = c.args.z.large in
     let m = c.max.ensures in
     let n = c.max-depth.ensures in
-    fitting_some (tree.and_or (shape c.args.self.tree) (shape c.args.y.tree) (shape c.args.z.tree)) (shape c.in_ok-tree.tree) (c.max-depth.result + 1) (c.args.self.measure + c.args.y.measure + c.args.z.measure + 1) c.is_small.result (omega (arith, a, b, d, m, n)) (omega (arith, e, f, g)) c.is_small.ensures c.if-not-is_small.false c.in_ok-tree.ensures.tree
+    fitting_some (tree.and_or (shape c.args.self.tree) (shape c.args.y.tree) (shape c.args.z.tree)) (shape c.in_ok-tree.tree) (c.max-depth.result + 1)
+    (c.args.self.measure + c.args.y.measure + c.args.z.measure + 1) c.is_small.result (omega (arith, a, b, d, m, n))
+    (omega (arith, e, f, g)) c.is_small.ensures c.if-not-is_small.false c.in_ok-tree.ensures.tree

@@ -11,7 +11,9 @@ returns-then-not-is_small c =
     let d = c.args.self.large in
     let e = c.args.second.large in
     let f = c.max-depth.ensures in
-    fitting_none (tree.two c.args.kind (shape c.args.self.tree) (shape c.args.second.tree)) (c.max-depth.result + 1) (c.args.self.measure + c.args.second.measure + 1) c.is_small.result (omega (arith, a, b, f)) (omega (arith, d, e)) c.is_small.ensures c.if-not-is_small.true
+    fitting_none (tree.two c.args.kind (shape c.args.self.tree) (shape c.args.second.tree)) (c.max-depth.result + 1)
+    (c.args.self.measure + c.args.second.measure + 1) c.is_small.result (omega (arith, a, b, f))
+    (omega (arith, d, e)) c.is_small.ensures c.if-not-is_small.true
 
 pub returns : goal.returns
 returns c =
@@ -20,4 +22,6 @@ returns c =
     let d = c.args.self.large in
     let e = c.args.second.large in
     let f = c.max-depth.ensures in
-    fitting_some (tree.two c.args.kind (shape c.args.self.tree) (shape c.args.second.tree)) (shape c.in_ok-tree.tree) (c.max-depth.result + 1) (c.args.self.measure + c.args.second.measure + 1) c.is_small.result (omega (arith, a, b, f)) (omega (arith, d, e)) c.is_small.ensures c.if-not-is_small.false c.in_ok-tree.ensures.tree
+    fitting_some (tree.two c.args.kind (shape c.args.self.tree) (shape c.args.second.tree)) (shape c.in_ok-tree.tree) (c.max-depth.result + 1)
+    (c.args.self.measure + c.args.second.measure + 1) c.is_small.result (omega (arith, a, b, f))
+    (omega (arith, d, e)) c.is_small.ensures c.if-not-is_small.false c.in_ok-tree.ensures.tree

@@ -24,7 +24,8 @@ returns c = λ t u cs is few some.
       base = omega (arith, is.base, c.min.ensures);
       best = free_child c.args.left sat dsat cs t u c.args.self.now.best is.fine some is.best ∙ ap (only _) best;
       sats = subst (λ (n : ℕ). IsTop c.add.new.self c.add.new.counts t (n ∷ more_sats cs)) c.saturating_sub.ensures (c.add.ensures t (more_sats cs) is.sats (omega (arith, few, length_sats cs)));
-      dsats = subst (λ (n : ℕ). IsTop c.add-2.new.self c.add-2.new.counts u (n ∷ more_dsats cs)) c.saturating_sub-2.ensures (c.add-2.ensures u (more_dsats cs) is.dsats (omega (arith, few, length_dsats cs)));
+      dsats = subst (λ (n : ℕ). IsTop c.add-2.new.self c.add-2.new.counts u (n ∷ more_dsats cs)) c.saturating_sub-2.ensures
+          (c.add-2.ensures u (more_dsats cs) is.dsats (omega (arith, few, length_dsats cs)));
       fine = omega (arith, is.fine);
       light = omega (arith, is.light, c.min.ensures, c.requires.sat.items);
       low = omega (arith, c.max-self.ensures, c.max.ensures, is.low, c.requires.left, c.height_at_sat-at_sat.ensures.low, c.height_at_dsat-at_dsat.ensures.low);
