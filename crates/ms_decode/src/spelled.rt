@@ -28,7 +28,7 @@ fn behind_instr<'s>(instr: &Instr, bytes: &'s [u8]) -> Option<&'s [u8]>
     ensures { IsBehind (spell_one (instruction_of instr.now)) bytes.now result }
 {
     match instr {
-        Instr::Push(blob) => behind_push(blob.as_slice(), bytes),
+        Instr::Push(pushed) => behind_push(pushed.as_slice(), bytes),
         Instr::Code(op) => behind(&[opcode_byte(*op)], bytes),
     }
 }

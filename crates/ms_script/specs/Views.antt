@@ -6,7 +6,7 @@ use Rattle.ms_script.specs.declared.script.Instr.TheVariants.{Push, Code}
 
 -- an instruction, where a push is seen as its bytes
 abbrev pub instruction_of : Instr → Instruction
-instruction_of (Push bytes) = push bytes
+instruction_of (Push bytes) = push bytes.items
 instruction_of (Code op) = code op
 
 abbrev pub instructions_of : List Instr → List Instruction

@@ -44,7 +44,7 @@ fn encode_one(bytes: &mut Vec<u8>, instr: &Instr) -> Result<(), AllocError>
     ensures { OnOk result (bytes.new.items ≡ bytes.old.items ++ spell_one (instruction_of instr.now)) }
 {
     match instr {
-        Instr::Push(blob) => encode_push(bytes, blob.as_slice())?,
+        Instr::Push(pushed) => encode_push(bytes, pushed.as_slice())?,
         Instr::Code(op) => bytes.push(opcode_byte(*op))?,
     }
     Ok(())

@@ -5,16 +5,17 @@ ghost use Rattle.def_script.specs.Instruction.{Instruction, push, code};
 ghost use Rattle.def_script.specs.Verify.{verify_form as the_verify_form, verified, verified_last};
 ghost use Rattle.ms_script.specs.Views.{instruction_of, instructions_of};
 
-use crate::blob::Blob;
 use def_script::Op;
+use smallvec::SmallVec;
 use std::alloc::{AllocError, Global};
 use std::marker::Model;
 
 /// An instruction of a Script: a push of bytes, or an opcode that isn't a push.
 #[derive(Debug, Drop)]
 pub enum Instr {
-    /// A push of these bytes, whose spelling `encode` chooses.
-    Push(Blob),
+    /// A push of these bytes, whose spelling `encode` chooses. Up to 33, as a key, a digest or a number has, lie in the
+    /// instruction itself.
+    Push(SmallVec<u8, 33>),
     /// An opcode.
     Code(Op),
 }
@@ -60,8 +61,8 @@ impl Script {
         ensures ok { OnOk result (self.new ≡ self.old ++ push bytes.now ∷ []) }
         ensures err { OnErr result (self.new ≡ self.old) }
     {
-        let blob = Blob::from_slice(self.alloc, bytes)?;
-        self.instrs.push(Instr::Push(blob))?;
+        let pushed = SmallVec::from_slice(self.alloc, bytes)?;
+        self.instrs.push(Instr::Push(pushed))?;
         Ok(())
     }
 
