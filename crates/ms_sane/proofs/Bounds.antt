@@ -3,14 +3,14 @@ use Rattle.std.proofs.Common.{◌≡◌, ℕ, zero, suc, ◌+◌, ◌*◌, ◌^�
 use Rattle.std.specs.Prelude.{⊤, IsTrue, nat_le}
 use Rattle.std.proofs.lemmas.Bool.Decides.{nat_tests}
 use Rattle.def_tree.specs.declared.Two.TheVariants as kind
-use Rattle.def_tree.specs.declared.Wrapper.TheVariants as wrapper
-use Rattle.def_tree.specs.Tree.{Key, Tree, Trees, just_0, just_1, pk_k, pk_h, older, after, hash, and_or, two, thresh, multi, wrap, none, more}
-use Rattle.def_tree.specs.Range.{IsWritable, AreWritable, IsInRange}
+use Rattle.def_tree.specs.Tree.{Key, Tree, Trees, pk_k, pk_h, older, after, hash, thresh, multi, none, more}
+use Rattle.def_tree.specs.Range.{IsInRange}
 use Rattle.def_tree.specs.Size.{measure, measure_of}
 use Rattle.def_types.specs.Corr.{multi_row}
-use Rattle.def_types.specs.Typed.{IsTyped, AreTyped}
+use Rattle.def_types.specs.Typed.{IsTyped}
 use Rattle.def_sane.specs.Formal.{Takes, one, empty}
-use Rattle.def_sane.specs.Scaffolding.Most.{both, either, most_sat, most_dsat, most_parts}
+use Rattle.def_sane.specs.Scaffolding.Most.{both, either, most, most_sat, most_dsat, most_parts}
+use Rattle.ms_rows.proofs.Within.{AreWithin, IsBounded, within}
 use Rattle.ms_sane.specs.declared.takes.Most as rust
 use Rattle.ms_sane.specs.declared.takes.Takes as rust_takes
 use Rattle.ms_sane.specs.Scaffolding.Takes.{taken, IsLightOption, IsLightMost}
@@ -47,94 +47,47 @@ pub multi_enough : (k : ℕ) (keys : List Key) → IsTyped (multi k keys) → k 
 unfolding multi_row
 multi_enough k keys typed = enough_keys k (length keys) typed.0
 
-pushed : Within 2 (Some one)
-pushed = record { items = omega arith; weight = omega arith; keys = omega arith }
+-- each number of one that takes so much
+so_much : (n : ℕ) (t : Takes) → t.items ≤ n → t.weight ≤ n → t.keys ≤ n → IsWithin n t
+so_much n t items weight keys = record { items = items; weight = weight; keys = keys }
 
-pushed_empty : Within 2 (Some empty)
-pushed_empty = record { items = omega arith; weight = omega arith; keys = omega arith }
+parts_within : (xs : Trees) (k : ℕ) → AreWithin most Within Within xs → Within (128 * measure_of xs) (most_parts xs k)
+parts_within none zero h = so_much _ _ (omega arith) (omega arith) (omega arith)
+parts_within none (suc k) h = tt
+parts_within (more x xs) zero h = weaker (128 * measure_of xs + 128 * measure x) _ _ (omega arith) (within_both _ _ _ _ (parts_within xs zero h.1) h.0.0)
+parts_within (more x xs) (suc k) h =
+    within_either (128 * measure_of (more x xs)) _ _
+    (weaker (128 * measure_of xs + 128 * measure x) _ _ (omega arith) (within_both _ _ _ _ (parts_within xs k h.1) h.0.1))
+    (weaker (128 * measure_of xs + 128 * measure x) _ _ (omega arith) (within_both _ _ _ _ (parts_within xs (suc k) h.1) h.0.0))
 
-mutual
-  pub sat_within : (t : Tree) → IsWritable t → IsTyped t → Within (128 * measure t) (most_sat t)
-  sat_within just_0 w h = tt
-  sat_within just_1 w h = record { items = omega arith; weight = omega arith; keys = omega arith }
-  sat_within (pk_k key) w h = record { items = omega arith; weight = omega arith; keys = omega arith }
-  sat_within (pk_h key) w h = let long = key_length key w.form in record { items = omega (arith, long); weight = omega (arith, long); keys = omega arith }
-  sat_within (older n) w h = record { items = omega arith; weight = omega arith; keys = omega arith }
-  sat_within (after n) w h = record { items = omega arith; weight = omega arith; keys = omega arith }
-  sat_within (hash kind value) w h = record { items = omega arith; weight = omega arith; keys = omega arith }
-  sat_within (and_or x y z) w h =
-      within_either (128 * measure (and_or x y z)) _ _
-      (weaker (128 * measure y + 128 * measure x) _ _ (omega arith) (within_both _ _ _ _ (sat_within y w.1 h.1) (sat_within x w.0 h.0)))
-      (weaker (128 * measure z + 128 * measure x) _ _ (omega arith) (within_both _ _ _ _ (sat_within z w.2 h.2) (dsat_within x w.0 h.0)))
-  sat_within (two kind.AndV x y) w h = weaker (128 * measure y + 128 * measure x) _ _ (omega arith) (within_both _ _ _ _ (sat_within y w.1 h.1) (sat_within x w.0 h.0))
-  sat_within (two kind.AndB x y) w h = weaker (128 * measure y + 128 * measure x) _ _ (omega arith) (within_both _ _ _ _ (sat_within y w.1 h.1) (sat_within x w.0 h.0))
-  sat_within (two kind.OrB x z) w h =
-      within_either (128 * measure (two kind.OrB x z)) _ _
-      (weaker (128 * measure z + 128 * measure x) _ _ (omega arith) (within_both _ _ _ _ (dsat_within z w.1 h.1) (sat_within x w.0 h.0)))
-      (weaker (128 * measure z + 128 * measure x) _ _ (omega arith) (within_both _ _ _ _ (sat_within z w.1 h.1) (dsat_within x w.0 h.0)))
-  sat_within (two kind.OrC x z) w h =
-      within_either (128 * measure (two kind.OrC x z)) _ _
-      (weaker (128 * measure x) _ _ (omega arith) (sat_within x w.0 h.0))
-      (weaker (128 * measure z + 128 * measure x) _ _ (omega arith) (within_both _ _ _ _ (sat_within z w.1 h.1) (dsat_within x w.0 h.0)))
-  sat_within (two kind.OrD x z) w h =
-      within_either (128 * measure (two kind.OrD x z)) _ _
-      (weaker (128 * measure x) _ _ (omega arith) (sat_within x w.0 h.0))
-      (weaker (128 * measure z + 128 * measure x) _ _ (omega arith) (within_both _ _ _ _ (sat_within z w.1 h.1) (dsat_within x w.0 h.0)))
-  sat_within (two kind.OrI x z) w h =
-      within_either (128 * measure (two kind.OrI x z)) _ _
-      (weaker (128 * measure x + 2) _ _ (omega arith) (within_both _ _ _ _ (sat_within x w.0 h.0) pushed))
-      (weaker (128 * measure z + 2) _ _ (omega arith) (within_both _ _ _ _ (sat_within z w.1 h.1) pushed_empty))
-  sat_within (thresh k xs) w h = weaker (128 * measure_of xs) _ _ (omega arith) (parts_within xs k w.2 h.0)
-  sat_within (multi k keys) w h =
-      let enough = multi_enough k keys h in
-      record { items = omega (arith, enough); weight = omega (arith, enough); keys = omega arith }
-  sat_within (wrap wrapper.A x) w h = weaker (128 * measure x) _ _ (omega arith) (sat_within x w h.0)
-  sat_within (wrap wrapper.S x) w h = weaker (128 * measure x) _ _ (omega arith) (sat_within x w h.0)
-  sat_within (wrap wrapper.C x) w h = weaker (128 * measure x) _ _ (omega arith) (sat_within x w h.0)
-  sat_within (wrap wrapper.D x) w h = weaker (128 * measure x + 2) _ _ (omega arith) (within_both _ _ _ _ (sat_within x w h.0) pushed)
-  sat_within (wrap wrapper.V x) w h = weaker (128 * measure x) _ _ (omega arith) (sat_within x w h.0)
-  sat_within (wrap wrapper.J x) w h = weaker (128 * measure x) _ _ (omega arith) (sat_within x w h.0)
-  sat_within (wrap wrapper.N x) w h = weaker (128 * measure x) _ _ (omega arith) (sat_within x w h.0)
-
-  pub dsat_within : (t : Tree) → IsWritable t → IsTyped t → Within (128 * measure t) (most_dsat t)
-  dsat_within just_0 w h = record { items = omega arith; weight = omega arith; keys = omega arith }
-  dsat_within just_1 w h = tt
-  dsat_within (pk_k key) w h = record { items = omega arith; weight = omega arith; keys = omega arith }
-  dsat_within (pk_h key) w h = let long = key_length key w.form in record { items = omega (arith, long); weight = omega (arith, long); keys = omega arith }
-  dsat_within (older n) w h = tt
-  dsat_within (after n) w h = tt
-  dsat_within (hash kind value) w h = record { items = omega arith; weight = omega arith; keys = omega arith }
-  dsat_within (and_or x y z) w h = weaker (128 * measure z + 128 * measure x) _ _ (omega arith) (within_both _ _ _ _ (dsat_within z w.2 h.2) (dsat_within x w.0 h.0))
-  dsat_within (two kind.AndV x y) w h = tt
-  dsat_within (two kind.AndB x y) w h = weaker (128 * measure y + 128 * measure x) _ _ (omega arith) (within_both _ _ _ _ (dsat_within y w.1 h.1) (dsat_within x w.0 h.0))
-  dsat_within (two kind.OrB x z) w h = weaker (128 * measure z + 128 * measure x) _ _ (omega arith) (within_both _ _ _ _ (dsat_within z w.1 h.1) (dsat_within x w.0 h.0))
-  dsat_within (two kind.OrC x z) w h = tt
-  dsat_within (two kind.OrD x z) w h = weaker (128 * measure z + 128 * measure x) _ _ (omega arith) (within_both _ _ _ _ (dsat_within z w.1 h.1) (dsat_within x w.0 h.0))
-  dsat_within (two kind.OrI x z) w h =
-      within_either (128 * measure (two kind.OrI x z)) _ _
-      (weaker (128 * measure x + 2) _ _ (omega arith) (within_both _ _ _ _ (dsat_within x w.0 h.0) pushed))
-      (weaker (128 * measure z + 2) _ _ (omega arith) (within_both _ _ _ _ (dsat_within z w.1 h.1) pushed_empty))
-  dsat_within (thresh k xs) w h = weaker (128 * measure_of xs) _ _ (omega arith) (parts_within xs 0 w.2 h.0)
-  dsat_within (multi k keys) w h =
-      let enough = multi_enough k keys h in
-      record { items = omega (arith, enough); weight = omega (arith, enough); keys = omega arith }
-  dsat_within (wrap wrapper.A x) w h = weaker (128 * measure x) _ _ (omega arith) (dsat_within x w h.0)
-  dsat_within (wrap wrapper.S x) w h = weaker (128 * measure x) _ _ (omega arith) (dsat_within x w h.0)
-  dsat_within (wrap wrapper.C x) w h = weaker (128 * measure x) _ _ (omega arith) (dsat_within x w h.0)
-  dsat_within (wrap wrapper.D x) w h = record { items = omega arith; weight = omega arith; keys = omega arith }
-  dsat_within (wrap wrapper.V x) w h = tt
-  dsat_within (wrap wrapper.J x) w h = record { items = omega arith; weight = omega arith; keys = omega arith }
-  dsat_within (wrap wrapper.N x) w h = weaker (128 * measure x) _ _ (omega arith) (dsat_within x w h.0)
-
-  parts_within : (xs : Trees) (k : ℕ) → AreWritable xs → AreTyped xs → Within (128 * measure_of xs) (most_parts xs k)
-  parts_within none zero w h = record { items = omega arith; weight = omega arith; keys = omega arith }
-  parts_within none (suc k) w h = tt
-  parts_within (more x xs) zero w h =
-      weaker (128 * measure_of xs + 128 * measure x) _ _ (omega arith) (within_both _ _ _ _ (parts_within xs zero w.1 h.1) (dsat_within x w.0 h.0))
-  parts_within (more x xs) (suc k) w h =
-      within_either (128 * measure_of (more x xs)) _ _
-      (weaker (128 * measure_of xs + 128 * measure x) _ _ (omega arith) (within_both _ _ _ _ (parts_within xs k w.1 h.1) (sat_within x w.0 h.0)))
-      (weaker (128 * measure_of xs + 128 * measure x) _ _ (omega arith) (within_both _ _ _ _ (parts_within xs (suc k) w.1 h.1) (dsat_within x w.0 h.0)))
+bounded : IsBounded most Within Within
+bounded = record {
+  weaker_dsat = weaker;
+  weaker = weaker;
+  never = λ n. (tt, tt);
+  nothing = λ n. (so_much _ _ (omega arith) (omega arith) (omega arith), so_much _ _ (omega arith) (omega arith) (omega arith));
+  empty = (so_much _ _ (omega arith) (omega arith) (omega arith), so_much _ _ (omega arith) (omega arith) (omega arith));
+  one = (so_much _ _ (omega arith) (omega arith) (omega arith), so_much _ _ (omega arith) (omega arith) (omega arith));
+  both_dsat = within_both;
+  both = within_both;
+  either_dsat = within_either;
+  either = within_either;
+  still = λ n m h. h;
+  extra = λ n m. tt;
+  beside_dsat = λ n m extra h. h;
+  beside = λ n m extra h. h;
+  pk_k = λ key w. (so_much _ _ (omega arith) (omega arith) (omega arith), so_much _ _ (omega arith) (omega arith) (omega arith));
+  pk_h = λ key w.
+      let long = key_length key w.form in
+      (so_much _ _ (omega arith) (omega (arith, long)) (omega arith), so_much _ _ (omega arith) (omega (arith, long)) (omega arith));
+  older = λ n. (tt, so_much _ _ (omega arith) (omega arith) (omega arith));
+  after = λ n. (tt, so_much _ _ (omega arith) (omega arith) (omega arith));
+  hash = λ kind value. (so_much _ _ (omega arith) (omega arith) (omega arith), so_much _ _ (omega arith) (omega arith) (omega arith));
+  multi = λ k keys typed.
+      let enough = multi_enough k keys typed in
+      (so_much _ _ (omega (arith, enough)) (omega (arith, enough)) (omega arith), so_much _ _ (omega (arith, enough)) (omega (arith, enough)) (omega arith));
+  thresh = λ k xs h. (parts_within xs 0 h, parts_within xs k h);
+}
 
 light_option : (n : ℕ) (o : Option rust_takes.Takes) (p : Option Takes) → n < 2 ^ 32 → taken o ≡ p → Within n p → IsLightOption o
 light_option n None p small is h = tt
@@ -145,6 +98,6 @@ light_option n (Some t) p small is h =
 -- so each number of a tree in range is below 2^32
 pub light_of : (t : Tree) (m : rust.Most) → IsInRange t → IsTyped t → taken m.sat ≡ most_sat t → taken m.dsat ≡ most_dsat t → IsLightMost m
 light_of t m range typed sat dsat = record {
-  sat = light_option (128 * measure t) m.sat (most_sat t) (omega (arith, range.measure)) sat (sat_within t range.writable typed);
-  dsat = light_option (128 * measure t) m.dsat (most_dsat t) (omega (arith, range.measure)) dsat (dsat_within t range.writable typed);
+  sat = light_option (128 * measure t) m.sat (most_sat t) (omega (arith, range.measure)) sat (within most Within Within bounded t range.writable typed).1;
+  dsat = light_option (128 * measure t) m.dsat (most_dsat t) (omega (arith, range.measure)) dsat (within most Within Within bounded t range.writable typed).0;
 }

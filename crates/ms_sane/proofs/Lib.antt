@@ -2,6 +2,7 @@ pub mod Bounds
 pub mod Children
 pub mod Accepted
 mod Known
+mod Rows
 mod Mixed
 mod Unions
 mod Entries

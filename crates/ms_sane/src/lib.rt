@@ -6,6 +6,7 @@ mod kinds;
 mod mixing;
 mod most;
 mod resources;
+mod row;
 mod sane;
 mod takes;
 mod valid;

@@ -9,8 +9,10 @@ ghost use Rattle.ms_tree.specs.Shape.{shape, shapes, leaf_shape};
 ghost use Rattle.ms_sane.specs.Scaffolding.Takes.{taken, IsLightMost};
 ghost use Rattle.ms_sane.specs.Scaffolding.Most.{IsReady};
 
-use crate::takes::{Most, Takes, both, either, taken_of};
+use crate::row::of_row;
+use crate::takes::{Most, Takes, taken_of};
 use ms_choice::{Slot, Tally};
+use ms_rows::{Argument, and_or, two, wrap};
 use ms_script::MAX_SIGNATURE_SIZE;
 use ms_tree::{Key, Leaf, Tree, Two, View, Wrapper};
 
@@ -81,10 +83,7 @@ fn of_and_or(x: &Tree<'_>, y: &Tree<'_>, z: &Tree<'_>, slots: &mut [Slot]) -> Mo
     let x = most(x, slots);
     let y = most(y, slots);
     let z = most(z, slots);
-    Most {
-        sat: either(both(y.sat, x.sat), both(z.sat, x.dsat)),
-        dsat: both(z.dsat, x.dsat),
-    }
+    of_row(&and_or(Argument::X, Argument::Y, Argument::Z), &x, &y, &z)
 }
 
 #[cycle(most)]
@@ -96,35 +95,7 @@ fn of_two(kind: Two, x: &Tree<'_>, z: &Tree<'_>, slots: &mut [Slot]) -> Most
 {
     let x = most(x, slots);
     let z = most(z, slots);
-    match kind {
-        Two::AndV => Most {
-            sat: both(z.sat, x.sat),
-            dsat: None,
-        },
-        Two::AndB => Most {
-            sat: both(z.sat, x.sat),
-            dsat: both(z.dsat, x.dsat),
-        },
-        Two::OrB => Most {
-            sat: either(both(z.dsat, x.sat), both(z.sat, x.dsat)),
-            dsat: both(z.dsat, x.dsat),
-        },
-        Two::OrC => Most {
-            sat: either(x.sat, both(z.sat, x.dsat)),
-            dsat: None,
-        },
-        Two::OrD => Most {
-            sat: either(x.sat, both(z.sat, x.dsat)),
-            dsat: both(z.dsat, x.dsat),
-        },
-        Two::OrI => {
-            let (left, right) = (Some(Takes::item(1)), Some(Takes::item(0)));
-            Most {
-                sat: either(both(x.sat, left), both(z.sat, right)),
-                dsat: either(both(x.dsat, left), both(z.dsat, right)),
-            }
-        }
-    }
+    of_row(&two(kind, Argument::X, Argument::Z), &x, &z, &z)
 }
 
 #[cycle(most)]
@@ -167,19 +138,5 @@ fn of_wrap(wrapper: Wrapper, x: &Tree<'_>, slots: &mut [Slot]) -> Most
     ensures dsat { taken result.dsat ≡ most_dsat (tree.wrap wrapper (shape x.now)) }
 {
     let x = most(x, slots);
-    match wrapper {
-        Wrapper::A | Wrapper::S | Wrapper::C | Wrapper::N => x,
-        Wrapper::D => Most {
-            sat: both(x.sat, Some(Takes::item(1))),
-            dsat: Some(Takes::item(0)),
-        },
-        Wrapper::V => Most {
-            sat: x.sat,
-            dsat: None,
-        },
-        Wrapper::J => Most {
-            sat: x.sat,
-            dsat: Some(Takes::item(0)),
-        },
-    }
+    of_row(&wrap(wrapper, Argument::X), &x, &x, &x)
 }

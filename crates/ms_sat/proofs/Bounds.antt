@@ -1,4 +1,4 @@
--- The cheapest satisfaction and the dissatisfaction weigh at most 128 times the measure.
+-- What parts of a satisfaction weigh at most.
 use Rattle.std.proofs.Common.{◌≡◌, ℕ, zero, suc, ◌+◌, ◌*◌, ◌^◌, ◌<◌, ◌≤◌, nat_lt, Bool, true, false, List, [], ◌∷◌, map, reverse, replicate, Option, Some, None, length, All, refl, sym, ◌∙◌, ap, subst, arith, if◌then◌else◌}
 use Rattle.std.specs.Prelude.{⊤}
 use Rattle.std.specs.List.{find}
@@ -6,33 +6,26 @@ use Rattle.std.specs.Option.{option_map}
 use Rattle.std.proofs.lemmas.List.Elements.{All-head, All-tail}
 use Rattle.def_script.specs.Bytes.{Bytes}
 use Rattle.def_machine.specs.Stacks.{Stack}
-use Rattle.def_machine.specs.Locks.{older_holds, after_holds}
 use Rattle.def_hash.specs.declared.HashKind.{HashKind}
 use Rattle.def_hash.specs.Hash.{digest_of}
 use Rattle.std.specs.Str.{bytes_eq}
 use Rattle.def_tree.specs.declared.Two.TheVariants as kind
-use Rattle.def_tree.specs.declared.Wrapper.TheVariants as wrapper
-use Rattle.def_tree.specs.Tree.{Key, Tree, Trees, just_0, just_1, pk_k, pk_h, older, after, hash, and_or, two, thresh, multi, wrap, none, more}
-use Rattle.def_tree.specs.Range.{MOST_MEASURE, IsWritable, AreWritable, IsInRange, count}
-use Rattle.def_tree.specs.Size.{measure, measure_of}
-use Rattle.def_types.specs.Typed.{IsTyped, AreTyped}
+use Rattle.def_tree.specs.Tree.{Key, Trees, none, more}
+use Rattle.def_tree.specs.Range.{MOST_MEASURE, count}
 use Rattle.def_assets.proofs.Shortest.{found_is_held}
 use Rattle.def_assets.specs.Assets.{Assets, AreAssets, IsSignature, IsPreimage, sig_of, known}
 use Rattle.def_script.specs.Witness.{weight}
-use Rattle.def_satisfaction.specs.Rows.{EMPTY, ONE, ZEROS}
+use Rattle.def_satisfaction.specs.Rows.{EMPTY}
 use Rattle.def_choice.specs.Sets.{sets}
 use Rattle.def_choice.specs.Least.{item, both, lighter, least}
-use Rattle.def_choice.specs.Cheapest.{dissatisfaction, all_dissatisfied, cheapest_of, cheapest_children, signatures, stack_of}
+use Rattle.def_choice.specs.Cheapest.{cheapest_children, signatures, stack_of}
 use Rattle.def_choice.proofs.Weights.{weight-append, weight-reverse}
 use Rattle.def_choice.proofs.Counted.{counted}
-use Rattle.ms_sane.proofs.Bounds.{multi_enough}
-use Rattle.ms_choice.specs.declared.children.Costs.{Costs}
 use Rattle.ms_sat.specs.Scaffolding.Costs.{weight_of}
-use Rattle.ms_choice.specs.Numbers.{IsLightOption, IsLight}
+use Rattle.ms_choice.specs.Numbers.{IsLightOption}
 use Rattle.ms_sat.specs.Scaffolding.Children.{children_of_keys}
 use Rattle.ms_sat.proofs.Chosen.{choose, chosen_is}
 use Rattle.ms_sat.proofs.Keys.{signatures_are}
-use Rattle.def_script.proofs.KeyLemmas.{key_length}
 
 abbrev pub Within : ℕ → Option Stack → Type 0
 Within n None = ⊤
@@ -89,7 +82,7 @@ within_item n None h = tt
 within_item n (Some bytes) h = omega (arith, h)
 
 -- a held signature, and a known preimage
-sig_within : (assets : Assets) → AreAssets assets → (key : Key) → Within 74 (item (sig_of assets key))
+pub sig_within : (assets : Assets) → AreAssets assets → (key : Key) → Within 74 (item (sig_of assets key))
 sig_within assets are key = go (sig_of assets key) refl
   where
     go : (o : Option Bytes) → sig_of assets key ≡ o → Within 74 (item o)
@@ -100,7 +93,7 @@ sig_within assets are key = go (sig_of assets key) refl
         let f = fits.few in
         omega (arith, f)
 
-known_within : (assets : Assets) → AreAssets assets → (kind : HashKind) (value : Bytes) → Within 33 (item (known assets kind value))
+pub known_within : (assets : Assets) → AreAssets assets → (kind : HashKind) (value : Bytes) → Within 33 (item (known assets kind value))
 known_within assets are kind value = go (known assets kind value) (found IsPreimage (λ preimage. bytes_eq (digest_of kind preimage) value) assets.preimages are.preimages)
   where
     go : (o : Option Bytes) → Found IsPreimage o → Within 33 (item o)
@@ -123,7 +116,7 @@ keys_within assets are (key ∷ keys) k =
     (within_counted 74 (74 * length keys) (item (sig_of assets key)) (Some []) (choose (children_of_keys assets keys)) k
     (sig_within assets are key) (omega arith) (keys_within assets are keys))
 
-signatures_within : (assets : Assets) → AreAssets assets → (k : ℕ) (keys : List Key) → Within (74 * length keys) (signatures assets k keys)
+pub signatures_within : (assets : Assets) → AreAssets assets → (k : ℕ) (keys : List Key) → Within (74 * length keys) (signatures assets k keys)
 signatures_within assets are k keys =
     let same : option_map reverse (choose (children_of_keys assets keys) k) ≡ signatures assets k keys =
     ap (option_map reverse) (sym (chosen_is (children_of_keys assets keys) k)) ∙ sym (signatures_are assets k keys)
@@ -139,113 +132,12 @@ pub thresh_choose : (assets : Assets) (xs : Trees) (k : ℕ) → least (map (sta
 thresh_choose assets xs k =
     ap (λ n. least (map (stack_of (cheapest_children assets xs)) (sets n k))) (count_is assets xs) ∙ chosen_is (cheapest_children assets xs) k
 
-pub pushed_one : Within 2 (Some (ONE ∷ []))
-pushed_one = omega arith
-
-pub pushed_empty : Within 2 (Some (EMPTY ∷ []))
-pushed_empty = omega arith
-
-mutual
-  pub dsat_within : (t : Tree) → IsWritable t → IsTyped t → Within (128 * measure t) (dissatisfaction t)
-  dsat_within just_0 w h = omega arith
-  dsat_within just_1 w h = tt
-  dsat_within (pk_k key) w h = omega arith
-  dsat_within (pk_h key) w h = let long = key_length key w.form in omega (arith, long)
-  dsat_within (older n) w h = tt
-  dsat_within (after n) w h = tt
-  dsat_within (hash kind value) w h = within_if 128 (bytes_eq (digest_of kind ZEROS) value) None (Some (ZEROS ∷ [])) tt (omega arith)
-  dsat_within (and_or x y z) w h = weaker (128 * measure z + 128 * measure x) _ _ (omega arith) (within_both _ _ _ _ (dsat_within z w.2 h.2) (dsat_within x w.0 h.0))
-  dsat_within (two kind.AndV x y) w h = tt
-  dsat_within (two kind.AndB x y) w h = weaker (128 * measure y + 128 * measure x) _ _ (omega arith) (within_both _ _ _ _ (dsat_within y w.1 h.1) (dsat_within x w.0 h.0))
-  dsat_within (two kind.OrB x z) w h = weaker (128 * measure z + 128 * measure x) _ _ (omega arith) (within_both _ _ _ _ (dsat_within z w.1 h.1) (dsat_within x w.0 h.0))
-  dsat_within (two kind.OrC x z) w h = tt
-  dsat_within (two kind.OrD x z) w h = weaker (128 * measure z + 128 * measure x) _ _ (omega arith) (within_both _ _ _ _ (dsat_within z w.1 h.1) (dsat_within x w.0 h.0))
-  dsat_within (two kind.OrI x z) w h =
-      within_two (128 * measure (two kind.OrI x z)) _ _
-      (weaker (128 * measure x + 2) _ _ (omega arith) (within_both _ _ _ _ (dsat_within x w.0 h.0) pushed_one))
-      (weaker (128 * measure z + 2) _ _ (omega arith) (within_both _ _ _ _ (dsat_within z w.1 h.1) pushed_empty))
-  dsat_within (thresh k xs) w h = weaker (128 * measure_of xs) _ _ (omega arith) (all_within xs w.2 h.0)
-  dsat_within (multi k keys) w h = let enough = multi_enough k keys h in omega (arith, enough, weight-replicate (k + 1))
-  dsat_within (wrap wrapper.A x) w h = weaker (128 * measure x) _ _ (omega arith) (dsat_within x w h.0)
-  dsat_within (wrap wrapper.S x) w h = weaker (128 * measure x) _ _ (omega arith) (dsat_within x w h.0)
-  dsat_within (wrap wrapper.C x) w h = weaker (128 * measure x) _ _ (omega arith) (dsat_within x w h.0)
-  dsat_within (wrap wrapper.D x) w h = omega arith
-  dsat_within (wrap wrapper.V x) w h = tt
-  dsat_within (wrap wrapper.J x) w h = omega arith
-  dsat_within (wrap wrapper.N x) w h = weaker (128 * measure x) _ _ (omega arith) (dsat_within x w h.0)
-
-  all_within : (xs : Trees) → AreWritable xs → AreTyped xs → Within (128 * measure_of xs) (all_dissatisfied xs)
-  all_within none w h = omega arith
-  all_within (more x xs) w h =
-      weaker (128 * measure_of xs + 128 * measure x) _ _ (omega arith) (within_both _ _ _ _ (all_within xs w.1 h.1) (dsat_within x w.0 h.0))
-
-module _ (assets : Assets) (are : AreAssets assets) where
-  mutual
-    pub sat_within : (t : Tree) → IsWritable t → IsTyped t → Within (128 * measure t) (cheapest_of assets t)
-    sat_within just_0 w h = tt
-    sat_within just_1 w h = omega arith
-    sat_within (pk_k key) w h = weaker 74 128 _ (omega arith) (sig_within assets are key)
-    sat_within (pk_h key) w h = weaker (74 + 34) 128 _ (omega arith) (within_both 74 34 _ _ (sig_within assets are key) (let long = key_length key w.form in omega (arith, long)))
-    sat_within (older n) w h = within_if 128 (older_holds n assets.locks) (Some []) None (omega arith) tt
-    sat_within (after n) w h = within_if 128 (after_holds n assets.locks) (Some []) None (omega arith) tt
-    sat_within (hash kind value) w h = weaker 33 128 _ (omega arith) (known_within assets are kind value)
-    sat_within (and_or x y z) w h =
-        within_two (128 * measure (and_or x y z)) _ _
-        (weaker (128 * measure y + 128 * measure x) _ _ (omega arith) (within_both _ _ _ _ (sat_within y w.1 h.1) (sat_within x w.0 h.0)))
-        (weaker (128 * measure z + 128 * measure x) _ _ (omega arith) (within_both _ _ _ _ (sat_within z w.2 h.2) (dsat_within x w.0 h.0)))
-    sat_within (two kind.AndV x y) w h = weaker (128 * measure y + 128 * measure x) _ _ (omega arith) (within_both _ _ _ _ (sat_within y w.1 h.1) (sat_within x w.0 h.0))
-    sat_within (two kind.AndB x y) w h = weaker (128 * measure y + 128 * measure x) _ _ (omega arith) (within_both _ _ _ _ (sat_within y w.1 h.1) (sat_within x w.0 h.0))
-    sat_within (two kind.OrB x z) w h =
-        within_two (128 * measure (two kind.OrB x z)) _ _
-        (weaker (128 * measure z + 128 * measure x) _ _ (omega arith) (within_both _ _ _ _ (dsat_within z w.1 h.1) (sat_within x w.0 h.0)))
-        (weaker (128 * measure z + 128 * measure x) _ _ (omega arith) (within_both _ _ _ _ (sat_within z w.1 h.1) (dsat_within x w.0 h.0)))
-    sat_within (two kind.OrC x z) w h =
-        within_two (128 * measure (two kind.OrC x z)) _ _
-        (weaker (128 * measure x) _ _ (omega arith) (sat_within x w.0 h.0))
-        (weaker (128 * measure z + 128 * measure x) _ _ (omega arith) (within_both _ _ _ _ (sat_within z w.1 h.1) (dsat_within x w.0 h.0)))
-    sat_within (two kind.OrD x z) w h =
-        within_two (128 * measure (two kind.OrD x z)) _ _
-        (weaker (128 * measure x) _ _ (omega arith) (sat_within x w.0 h.0))
-        (weaker (128 * measure z + 128 * measure x) _ _ (omega arith) (within_both _ _ _ _ (sat_within z w.1 h.1) (dsat_within x w.0 h.0)))
-    sat_within (two kind.OrI x z) w h =
-        within_two (128 * measure (two kind.OrI x z)) _ _
-        (weaker (128 * measure x + 2) _ _ (omega arith) (within_both _ _ _ _ (sat_within x w.0 h.0) pushed_one))
-        (weaker (128 * measure z + 2) _ _ (omega arith) (within_both _ _ _ _ (sat_within z w.1 h.1) pushed_empty))
-    sat_within (thresh k xs) w h =
-        weaker (128 * measure_of xs) (128 * measure (thresh k xs)) _ (omega arith)
-        (subst (Within (128 * measure_of xs)) (sym (thresh_choose assets xs k)) (parts_within xs w.2 h.0 k))
-    sat_within (multi k keys) w h =
-        weaker (2 + 74 * length keys) (128 * measure (multi k keys)) _ (omega arith)
-        (within_both 2 (74 * length keys) (Some (EMPTY ∷ [])) (signatures assets k keys) pushed_empty (signatures_within assets are k keys))
-    sat_within (wrap wrapper.A x) w h = weaker (128 * measure x) _ _ (omega arith) (sat_within x w h.0)
-    sat_within (wrap wrapper.S x) w h = weaker (128 * measure x) _ _ (omega arith) (sat_within x w h.0)
-    sat_within (wrap wrapper.C x) w h = weaker (128 * measure x) _ _ (omega arith) (sat_within x w h.0)
-    sat_within (wrap wrapper.D x) w h = weaker (128 * measure x + 2) _ _ (omega arith) (within_both _ _ _ _ (sat_within x w h.0) pushed_one)
-    sat_within (wrap wrapper.V x) w h = weaker (128 * measure x) _ _ (omega arith) (sat_within x w h.0)
-    sat_within (wrap wrapper.J x) w h = weaker (128 * measure x) _ _ (omega arith) (sat_within x w h.0)
-    sat_within (wrap wrapper.N x) w h = weaker (128 * measure x) _ _ (omega arith) (sat_within x w h.0)
-
-    parts_within : (xs : Trees) → AreWritable xs → AreTyped xs → (k : ℕ) → Within (128 * measure_of xs) (choose (cheapest_children assets xs) k)
-    parts_within none w h zero = omega arith
-    parts_within none w h (suc k) = tt
-    parts_within (more x xs) w h k =
-        weaker (128 * measure_of xs + 128 * measure x) (128 * measure_of (more x xs)) _ (omega arith)
-        (within_counted (128 * measure x) (128 * measure_of xs) (cheapest_of assets x) (dissatisfaction x) (choose (cheapest_children assets xs)) k
-        (sat_within x w.0 h.0) (dsat_within x w.0 h.0) (parts_within xs w.1 h.1))
-
 pub light_option : (n : ℕ) (o : Option ℕ) (p : Option Stack) → n < 2 ^ 32 → o ≡ weight_of p → Within n p → IsLightOption o
 light_option n None p small is h = tt
 light_option n (Some v) None small is h = absurd (let never : ⊥ = cc in never)
 light_option n (Some v) (Some w) small is h = let e : v ≡ weight w = cc in omega (arith, e, h, small)
 
--- so each weight of a tree in range is below 2^32
-pub light_of : (t : Tree) (assets : Assets) (c : Costs) → IsInRange t → IsTyped t → AreAssets assets → c.sat ≡ weight_of (cheapest_of assets t) → c.dsat ≡ weight_of (dissatisfaction t) → IsLight c
-light_of t assets c range typed are sat dsat = record {
-  sat = light_option (128 * measure t) c.sat (cheapest_of assets t) (omega (arith, range.measure)) sat (sat_within assets are t range.writable typed);
-  dsat = light_option (128 * measure t) c.dsat (dissatisfaction t) (omega (arith, range.measure)) dsat (dsat_within t range.writable typed);
-}
-
--- the same of the signature of a key
+-- so the weight of a key's signature is below 2^32
 pub sig_light : (assets : Assets) → AreAssets assets → (key : Key) (o : Option ℕ) → o ≡ weight_of (item (sig_of assets key)) → IsLightOption o
 sig_light assets are key o is = light_option 74 o (item (sig_of assets key)) (omega arith) is (sig_within assets are key)
 

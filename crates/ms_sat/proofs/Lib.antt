@@ -14,4 +14,6 @@ pub mod Ways
 pub mod Rules
 pub mod Counts
 pub mod Rows
-pub mod StrictBounds
+pub mod Light
+mod SeenRows
+mod Weighed

@@ -2,6 +2,7 @@
 #![tactic(auto)]
 
 mod cost;
+mod row;
 mod rule;
 mod satisfy;
 mod table;

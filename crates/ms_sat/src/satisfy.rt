@@ -28,14 +28,13 @@ ghost use Rattle.ms_sat.specs.Scaffolding.Way.{tree_of, stack_of_part, stack_of_
 use crate::rule::Rule;
 use crate::table::{Entry, weigh_nodes};
 use crate::way::{
-    Part, Seen, Way, Ways, dissatisfactions_of_and_or, dissatisfactions_of_two,
-    dissatisfactions_of_wrap, satisfactions_of_and_or, satisfactions_of_two, satisfactions_of_wrap,
-    see_last, see_two,
+    Seen, dissatisfying, row_of_and_or, row_of_two, row_of_wrap, satisfying, see_last, see_two,
 };
 use crate::weigh::{ZEROS, of_key};
 use ms_assets::Assets;
 use ms_choice::Choice;
 use ms_hash::HashVal;
+use ms_rows::{Part, Way, Ways};
 use ms_sane::Work;
 use ms_script::Stack;
 use ms_tree::{Key, Leaf, Tree, View};
@@ -103,11 +102,11 @@ fn satisfy(seen: Seen<'_>, assets: &Assets, stack: &mut Stack) -> Result<(), All
         View::AndOr(x, y, z) => {
             let (before, z) = see_last(z, below);
             let (x, y) = see_two(x, y, before);
-            push_satisfying(satisfactions_of_and_or(x, y, z), assets, stack)
+            push_satisfying(row_of_and_or(x, y, z).sat, assets, stack)
         }
         View::Two(kind, x, z) => {
             let (x, z) = see_two(x, z, below);
-            push_satisfying(satisfactions_of_two(kind, x, z), assets, stack)
+            push_satisfying(row_of_two(kind, x, z).sat, assets, stack)
         }
         View::Thresh(_, children) => {
             push_children(children, below, &seen.weighed().choice, assets, stack)
@@ -118,7 +117,7 @@ fn satisfy(seen: Seen<'_>, assets: &Assets, stack: &mut Stack) -> Result<(), All
                 tree: x,
                 table: below,
             };
-            push_satisfying(satisfactions_of_wrap(wrapper, x), assets, stack)
+            push_satisfying(row_of_wrap(wrapper, x).sat, assets, stack)
         }
     }
 }
@@ -134,12 +133,12 @@ fn dissatisfy(seen: Seen<'_>, assets: &Assets, stack: &mut Stack) -> Result<(), 
         View::Leaf(leaf) => dissatisfy_leaf(leaf, stack),
         View::AndOr(x, y, z) => {
             let (before, z) = see_last(z, below);
-            let (x, _) = see_two(x, y, before);
-            push_dissatisfying(dissatisfactions_of_and_or(x, z), assets, stack)
+            let (x, y) = see_two(x, y, before);
+            push_dissatisfying(row_of_and_or(x, y, z).dsat, assets, stack)
         }
         View::Two(kind, x, z) => {
             let (x, z) = see_two(x, z, below);
-            push_dissatisfying(dissatisfactions_of_two(kind, x, z), assets, stack)
+            push_dissatisfying(row_of_two(kind, x, z).dsat, assets, stack)
         }
         View::Thresh(_, children) => dissatisfy_all(children, below, assets, stack),
         View::Multi(k, _) => push_empty(k + 1, stack),
@@ -148,35 +147,43 @@ fn dissatisfy(seen: Seen<'_>, assets: &Assets, stack: &mut Stack) -> Result<(), 
                 tree: x,
                 table: below,
             };
-            push_dissatisfying(dissatisfactions_of_wrap(wrapper, x), assets, stack)
+            push_dissatisfying(row_of_wrap(wrapper, x).dsat, assets, stack)
         }
     }
 }
 
 #[cycle(satisfy)]
-fn push_satisfying(ways: Ways<'_>, assets: &Assets, stack: &mut Stack) -> Result<(), AllocError>
+fn push_satisfying(
+    ways: Ways<Seen<'_>>,
+    assets: &Assets,
+    stack: &mut Stack,
+) -> Result<(), AllocError>
     requires { (rule : By) × AreSeen rule assets.now ways }
     ensures { OnOk result ((rule : By) → AreSeen rule assets.now ways.entry → IsPushed (sat_of rule assets.now ways.entry) stack.old stack.new) }
 {
-    match ways.satisfying() {
+    match satisfying(&ways) {
         Some(way) => push_way(way, assets, stack),
         None => Ok(()),
     }
 }
 
 #[cycle(satisfy)]
-fn push_dissatisfying(ways: Ways<'_>, assets: &Assets, stack: &mut Stack) -> Result<(), AllocError>
+fn push_dissatisfying(
+    ways: Ways<Seen<'_>>,
+    assets: &Assets,
+    stack: &mut Stack,
+) -> Result<(), AllocError>
     requires { (rule : By) × AreSeen rule assets.now ways }
     ensures { OnOk result ((rule : By) → AreSeen rule assets.now ways.entry → IsPushed (dsat_of rule assets.now ways.entry) stack.old stack.new) }
 {
-    match ways.dissatisfying() {
+    match dissatisfying(&ways) {
         Some(way) => push_way(way, assets, stack),
         None => Ok(()),
     }
 }
 
 #[cycle(satisfy)]
-fn push_way(way: Way<'_>, assets: &Assets, stack: &mut Stack) -> Result<(), AllocError>
+fn push_way(way: Way<Seen<'_>>, assets: &Assets, stack: &mut Stack) -> Result<(), AllocError>
     requires { (rule : By) × IsSeenWay rule assets.now way }
     ensures { OnOk result ((rule : By) → IsSeenWay rule assets.now way.entry → IsPushed (stack_of_way rule assets.now way.entry) stack.old stack.new) }
 {
@@ -185,7 +192,7 @@ fn push_way(way: Way<'_>, assets: &Assets, stack: &mut Stack) -> Result<(), Allo
 }
 
 #[cycle(satisfy)]
-fn push_part(part: Part<'_>, assets: &Assets, stack: &mut Stack) -> Result<(), AllocError>
+fn push_part(part: Part<Seen<'_>>, assets: &Assets, stack: &mut Stack) -> Result<(), AllocError>
     requires { (rule : By) × IsSeenPart rule assets.now part }
     ensures { OnOk result ((rule : By) → IsSeenPart rule assets.now part.entry → IsPushed (stack_of_part rule assets.now part.entry) stack.old stack.new) }
 {

@@ -20,12 +20,12 @@ ghost use Rattle.ms_sat.specs.Scaffolding.Count.{IsBounded, AreFew, AreTold, Cou
 
 use crate::rule::Rule;
 use crate::way::{
-    Seen, Ways, dissatisfactions_of_and_or, dissatisfactions_of_two, dissatisfactions_of_wrap,
-    satisfactions_of_and_or, satisfactions_of_two, satisfactions_of_wrap, see_last, see_two,
+    Seen, price_of_dsat, price_of_sat, row_of_and_or, row_of_two, row_of_wrap, see_last, see_two,
 };
 use crate::weigh::{of_leaf, of_multi, weight_of_choice};
 use ms_assets::Assets;
 use ms_choice::{Choice, Costs, KindCounts, Slot, Tally};
+use ms_rows::Row;
 use ms_tree::{Key, Leaf, Tree, Two, View, Wrapper};
 use std::alloc::AllocError;
 
@@ -269,10 +269,7 @@ fn weigh_and_or(x: &Tree<'_>, y: &Tree<'_>, z: &Tree<'_>, table: &[Entry]) -> We
 {
     let (before, z) = see_last(z, table);
     let (x, y) = see_two(x, y, before);
-    weigh_ways(
-        satisfactions_of_and_or(x, y, z),
-        dissatisfactions_of_and_or(x, z),
-    )
+    weigh_row(row_of_and_or(x, y, z))
 }
 
 fn weigh_two(kind: Two, x: &Tree<'_>, z: &Tree<'_>, table: &[Entry]) -> Weighed
@@ -282,10 +279,7 @@ fn weigh_two(kind: Two, x: &Tree<'_>, z: &Tree<'_>, table: &[Entry]) -> Weighed
     ensures { Weighs (all_nodes (shape x.now) ++ all_nodes (shape z.now)) table.now (tree.two kind (shape x.now) (shape z.now)) result }
 {
     let (x, z) = see_two(x, z, table);
-    weigh_ways(
-        satisfactions_of_two(kind, x, z),
-        dissatisfactions_of_two(kind, x, z),
-    )
+    weigh_row(row_of_two(kind, x, z))
 }
 
 fn weigh_wrap(wrapper: Wrapper, x: &Tree<'_>, table: &[Entry]) -> Weighed
@@ -294,25 +288,22 @@ fn weigh_wrap(wrapper: Wrapper, x: &Tree<'_>, table: &[Entry]) -> Weighed
     ensures { (rule : By) (assets : Held) → AreEntries rule assets (all_nodes (shape x.now)) table.now → IsWeighed rule assets (tree.wrap wrapper (shape x.now)) result }
 {
     let x = Seen { tree: x, table };
-    weigh_ways(
-        satisfactions_of_wrap(wrapper, x),
-        dissatisfactions_of_wrap(wrapper, x),
-    )
+    weigh_row(row_of_wrap(wrapper, x))
 }
 
-/// What is weighed of a fragment that has these ways.
-fn weigh_ways(satisfactions: Ways<'_>, dissatisfactions: Ways<'_>) -> Weighed
-    requires tables { (rule : By) × (assets : Held) × AreSeen rule assets satisfactions × AreSeen rule assets dissatisfactions }
-    ensures sat { (rule : By) (assets : Held) → AreSeen rule assets satisfactions.entry → result.costs.sat ≡ stack_weight (sat_of rule assets satisfactions.entry) }
-    ensures dsat { (rule : By) (assets : Held) → AreSeen rule assets dissatisfactions.entry → result.costs.dsat ≡ stack_weight (dsat_of rule assets dissatisfactions.entry) }
-    ensures free { (rule : By) (assets : Held) → AreSeen rule assets satisfactions.entry → result.free ≡ is_free rule assets satisfactions.entry }
+/// What is weighed of a fragment that has this row.
+fn weigh_row(row: Row<Seen<'_>>) -> Weighed
+    requires tables { (rule : By) × (assets : Held) × AreSeen rule assets row.sat × AreSeen rule assets row.dsat }
+    ensures sat { (rule : By) (assets : Held) → AreSeen rule assets row.entry.sat → result.costs.sat ≡ stack_weight (sat_of rule assets row.entry.sat) }
+    ensures dsat { (rule : By) (assets : Held) → AreSeen rule assets row.entry.dsat → result.costs.dsat ≡ stack_weight (dsat_of rule assets row.entry.dsat) }
+    ensures free { (rule : By) (assets : Held) → AreSeen rule assets row.entry.sat → result.free ≡ is_free rule assets row.entry.sat }
     ensures choice { result.choice ≡ None }
 {
-    let sat = satisfactions.sat();
+    let sat = price_of_sat(&row.sat);
     Weighed {
         costs: Costs {
             sat: sat.weight,
-            dsat: dissatisfactions.dsat(),
+            dsat: price_of_dsat(&row.dsat),
         },
         free: sat.free,
         choice: None,

@@ -25,10 +25,12 @@ ghost use Rattle.ms_choice.specs.declared.children.Number.TheVariants.{First};
 ghost use Rattle.ms_sat.specs.Least.{IsLeastWeight};
 ghost use Rattle.std.specs.Str.{bytes_eq};
 
-use crate::cost::{both, least};
+use crate::cost::both;
+use crate::row::of_row;
 use ms_assets::Assets;
 use ms_choice::{Choice, Costs, Numbers, Slot, Tally};
 use ms_hash::{HashVal, hash_of};
+use ms_rows::{Argument, and_or, two, wrap};
 use ms_sane::Work;
 use ms_tree::{Key, Leaf, Tree, Two, View, Wrapper};
 
@@ -171,10 +173,7 @@ fn of_and_or(x: &Tree<'_>, y: &Tree<'_>, z: &Tree<'_>, assets: &Assets, slots: &
     let x = weigh(x, assets, slots);
     let y = weigh(y, assets, slots);
     let z = weigh(z, assets, slots);
-    Costs {
-        sat: least(both(y.sat, x.sat), both(z.sat, x.dsat)),
-        dsat: both(z.dsat, x.dsat),
-    }
+    of_row(&and_or(Argument::X, Argument::Y, Argument::Z), &x, &y, &z)
 }
 
 #[cycle(weigh)]
@@ -186,35 +185,7 @@ fn of_two(kind: Two, x: &Tree<'_>, z: &Tree<'_>, assets: &Assets, slots: &mut [S
 {
     let x = weigh(x, assets, slots);
     let z = weigh(z, assets, slots);
-    match kind {
-        Two::AndV => Costs {
-            sat: both(z.sat, x.sat),
-            dsat: None,
-        },
-        Two::AndB => Costs {
-            sat: both(z.sat, x.sat),
-            dsat: both(z.dsat, x.dsat),
-        },
-        Two::OrB => Costs {
-            sat: least(both(z.dsat, x.sat), both(z.sat, x.dsat)),
-            dsat: both(z.dsat, x.dsat),
-        },
-        Two::OrC => Costs {
-            sat: least(x.sat, both(z.sat, x.dsat)),
-            dsat: None,
-        },
-        Two::OrD => Costs {
-            sat: least(x.sat, both(z.sat, x.dsat)),
-            dsat: both(z.dsat, x.dsat),
-        },
-        Two::OrI => {
-            let (left, right) = (Some(of_item(&[1])), Some(of_item(&[])));
-            Costs {
-                sat: least(both(x.sat, left), both(z.sat, right)),
-                dsat: least(both(x.dsat, left), both(z.dsat, right)),
-            }
-        }
-    }
+    of_row(&two(kind, Argument::X, Argument::Z), &x, &z, &z)
 }
 
 #[cycle(weigh)]
@@ -360,19 +331,5 @@ fn of_wrap(wrapper: Wrapper, x: &Tree<'_>, assets: &Assets, slots: &mut [Slot]) 
     ensures dsat { result.dsat ≡ weight_of (dissatisfaction (tree.wrap wrapper (shape x.now))) }
 {
     let x = weigh(x, assets, slots);
-    match wrapper {
-        Wrapper::A | Wrapper::S | Wrapper::C | Wrapper::N => x,
-        Wrapper::D => Costs {
-            sat: both(x.sat, Some(of_item(&[1]))),
-            dsat: Some(of_item(&[])),
-        },
-        Wrapper::V => Costs {
-            sat: x.sat,
-            dsat: None,
-        },
-        Wrapper::J => Costs {
-            sat: x.sat,
-            dsat: Some(of_item(&[])),
-        },
-    }
+    of_row(&wrap(wrapper, Argument::X), &x, &x, &x)
 }

@@ -5,6 +5,8 @@ use Rattle.def_machine.specs.Stacks.{Stack}
 use Rattle.def_script.specs.Witness.{weight}
 use Rattle.def_choice.specs.Cheapest.{Child}
 use Rattle.ms_choice.specs.declared.children.Costs.{Costs}
+use Rattle.ms_rows.specs.declared.ways.Argument.{Argument}
+use Rattle.ms_rows.specs.Reading.{Reader}
 
 -- the weight of both together
 abbrev pub sum_of : (below above : Option ℕ) → Option ℕ
@@ -28,3 +30,16 @@ costs_of_child child = record { sat = weight_of child.sat; dsat = weight_of chil
 
 abbrev pub costs_of : List Child → List Costs
 costs_of = map costs_of_child
+
+-- what ways weigh, where the children weigh so much
+abbrev pub weights : (Argument → Costs) → Reader Argument (Option ℕ)
+weights costs = record {
+  sat = λ argument. (costs argument).sat;
+  dsat = λ argument. (costs argument).dsat;
+  one = Some 2;
+  empty = Some 1;
+  nothing = Some 0;
+  never = None;
+  both = sum_of;
+  either = lesser;
+}

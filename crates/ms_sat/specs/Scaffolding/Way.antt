@@ -1,5 +1,5 @@
 -- What the ways to satisfy or dissatisfy a fragment push.
-use Rattle.std.specs.Prelude.{◌≡◌, ℕ, ◌+◌, max, Bool, false, ◌||◌, ◌&&◌, not, ⊤, List, [], ◌∷◌, is_some, Option, Some, None}
+use Rattle.std.specs.Prelude.{◌≡◌, ℕ, ◌+◌, max, Bool, false, ◌||◌, ◌&&◌, not, List, [], ◌∷◌, is_some, Option, Some, None}
 use Rattle.def_machine.specs.Stacks.{Stack}
 use Rattle.def_tree.specs.Tree as model
 use Rattle.def_tree.specs.Size.{nodes}
@@ -10,12 +10,12 @@ use Rattle.def_choice.specs.Cheapest.{dissatisfaction}
 use Rattle.ms_tree.specs.Shape.{shape}
 use Rattle.ms_sat.specs.declared.rule.Rule.{Rule}
 use Rattle.ms_sat.specs.declared.way.Seen.{Seen}
-use Rattle.ms_sat.specs.declared.way.Part.{Part}
-use Rattle.ms_sat.specs.declared.way.Part.TheVariants.{Sat, Dsat, One, Empty, Nothing}
-use Rattle.ms_sat.specs.declared.way.Way.{Way}
 use Rattle.ms_sat.specs.declared.way.Price.{Price}
-use Rattle.ms_sat.specs.declared.way.Ways.{Ways}
-use Rattle.ms_sat.specs.declared.way.Ways.TheVariants.{Never, Only, Either}
+use Rattle.ms_rows.specs.declared.ways.Part.{Part}
+use Rattle.ms_rows.specs.declared.ways.Way.{Way}
+use Rattle.ms_rows.specs.declared.ways.Ways.{Ways}
+use Rattle.ms_rows.specs.declared.ways.Ways.TheVariants.{Never, Only, Either}
+use Rattle.ms_rows.specs.Reading.{Reader, part_in, way_in, ways_in, InPart, InWay, InWays}
 use Rattle.ms_sat.specs.Scaffolding.Costs.{weight_of}
 use Rattle.ms_sat.specs.Scaffolding.Pushed.{is_former}
 use Rattle.ms_sat.specs.Rule.{stack_by, free_by, first_of}
@@ -25,30 +25,46 @@ use Rattle.ms_sat.specs.declared.table.Entry.{Entry}
 abbrev pub tree_of : Seen → model.Tree
 tree_of seen = shape seen.tree.now
 
--- the stack of a part: what satisfies or dissatisfies a tree, an item, or nothing
-abbrev pub stack_of_part : Rule → Assets → Part → Option Stack
-stack_of_part rule assets (Sat x) = stack_by rule assets (tree_of x)
-stack_of_part rule assets (Dsat x) = dissatisfaction (tree_of x)
-stack_of_part rule assets One = Some (ONE ∷ [])
-stack_of_part rule assets Empty = Some (EMPTY ∷ [])
-stack_of_part rule assets Nothing = Some []
+-- the stacks of ways, and the lightest one
+abbrev pub stacks : Rule → Assets → Reader Seen (Option Stack)
+stacks rule assets = record {
+  sat = λ x. stack_by rule assets (tree_of x);
+  dsat = λ x. dissatisfaction (tree_of x);
+  one = Some (ONE ∷ []);
+  empty = Some (EMPTY ∷ []);
+  nothing = Some [];
+  never = None;
+  both = both;
+  either = λ former latter. least (former ∷ latter ∷ []);
+}
+
+abbrev pub stack_of_part : Rule → Assets → Part Seen → Option Stack
+stack_of_part rule assets part = part_in (stacks rule assets) part
+
+abbrev pub stack_of_way : Rule → Assets → Way Seen → Option Stack
+stack_of_way rule assets way = way_in (stacks rule assets) way
 
 -- the same without a signature, where the rule asks for it
-abbrev pub free_of_part : Rule → Assets → Part → Option Stack
-free_of_part rule assets (Sat x) = free_by rule assets (tree_of x)
-free_of_part rule assets (Dsat x) = dissatisfaction (tree_of x)
-free_of_part rule assets One = Some (ONE ∷ [])
-free_of_part rule assets Empty = Some (EMPTY ∷ [])
-free_of_part rule assets Nothing = Some []
+abbrev pub free_stacks : Rule → Assets → Reader Seen (Option Stack)
+free_stacks rule assets = record {
+  sat = λ x. free_by rule assets (tree_of x);
+  dsat = λ x. dissatisfaction (tree_of x);
+  one = Some (ONE ∷ []);
+  empty = Some (EMPTY ∷ []);
+  nothing = Some [];
+  never = None;
+  both = both;
+  either = λ former latter. least (former ∷ latter ∷ []);
+}
 
-abbrev pub stack_of_way : Rule → Assets → Way → Option Stack
-stack_of_way rule assets way = both (stack_of_part rule assets way.below) (stack_of_part rule assets way.above)
+abbrev pub free_of_part : Rule → Assets → Part Seen → Option Stack
+free_of_part rule assets part = part_in (free_stacks rule assets) part
 
-abbrev pub free_of_way : Rule → Assets → Way → Option Stack
-free_of_way rule assets way = both (free_of_part rule assets way.below) (free_of_part rule assets way.above)
+abbrev pub free_of_way : Rule → Assets → Way Seen → Option Stack
+free_of_way rule assets way = way_in (free_stacks rule assets) way
 
 -- what satisfies by some ways: the first of them that has a free stack, or else the lightest
-abbrev pub sat_of : Rule → Assets → Ways → Option Stack
+abbrev pub sat_of : Rule → Assets → Ways Seen → Option Stack
 sat_of rule assets Never = None
 sat_of rule assets (Only way) = stack_of_way rule assets way
 sat_of rule assets (Either former latter) =
@@ -57,58 +73,56 @@ sat_of rule assets (Either former latter) =
     (stack_of_way rule assets former) (stack_of_way rule assets latter)
 
 -- what dissatisfies by some ways: the lightest of them
-abbrev pub dsat_of : Rule → Assets → Ways → Option Stack
-dsat_of rule assets Never = None
-dsat_of rule assets (Only way) = stack_of_way rule assets way
-dsat_of rule assets (Either former latter) = least (stack_of_way rule assets former ∷ stack_of_way rule assets latter ∷ [])
+abbrev pub dsat_of : Rule → Assets → Ways Seen → Option Stack
+dsat_of rule assets ways = ways_in (stacks rule assets) ways
 
 -- one of the ways has a free stack
-abbrev pub is_free : Rule → Assets → Ways → Bool
+abbrev pub is_free : Rule → Assets → Ways Seen → Bool
 is_free rule assets Never = false
 is_free rule assets (Only way) = is_some (free_of_way rule assets way)
 is_free rule assets (Either former latter) =
     is_some (free_of_way rule assets former) || is_some (free_of_way rule assets latter)
 
 -- how many nodes the trees of one way have at most
-abbrev pub nodes_of_part : Part → ℕ
-nodes_of_part (Sat x) = nodes (tree_of x)
-nodes_of_part (Dsat x) = nodes (tree_of x)
-nodes_of_part One = 0
-nodes_of_part Empty = 0
-nodes_of_part Nothing = 0
+abbrev pub sizes : Reader Seen ℕ
+sizes = record {
+  sat = λ x. nodes (tree_of x);
+  dsat = λ x. nodes (tree_of x);
+  one = 0;
+  empty = 0;
+  nothing = 0;
+  never = 0;
+  both = λ below above. below + above;
+  either = max;
+}
 
-abbrev pub nodes_of_way : Way → ℕ
-nodes_of_way way = nodes_of_part way.below + nodes_of_part way.above
+abbrev pub nodes_of_part : Part Seen → ℕ
+nodes_of_part part = part_in sizes part
 
-abbrev pub nodes_of_ways : Ways → ℕ
-nodes_of_ways Never = 0
-nodes_of_ways (Only way) = nodes_of_way way
-nodes_of_ways (Either former latter) = max (nodes_of_way former) (nodes_of_way latter)
+abbrev pub nodes_of_way : Way Seen → ℕ
+nodes_of_way way = way_in sizes way
+
+abbrev pub nodes_of_ways : Ways Seen → ℕ
+nodes_of_ways ways = ways_in sizes ways
 
 -- the trees have their tables
 abbrev pub IsSeen : Rule → Assets → Seen → Type 0
 IsSeen rule assets seen = IsTable rule assets (tree_of seen) seen.table.now
 
-abbrev pub IsSeenPart : Rule → Assets → Part → Type 0
-IsSeenPart rule assets (Sat x) = IsSeen rule assets x
-IsSeenPart rule assets (Dsat x) = IsSeen rule assets x
-IsSeenPart rule assets One = ⊤
-IsSeenPart rule assets Empty = ⊤
-IsSeenPart rule assets Nothing = ⊤
-
-abbrev pub IsSeenWay : Rule → Assets → Way → Type 0
-IsSeenWay rule assets way = IsSeenPart rule assets way.below × IsSeenPart rule assets way.above
-
 abbrev pub HasTable : Seen → Type 0
 HasTable seen = (rule : Rule) × (assets : Assets) × IsSeen rule assets seen
 
-abbrev pub AreSeen : Rule → Assets → Ways → Type 0
-AreSeen rule assets Never = ⊤
-AreSeen rule assets (Only way) = IsSeenWay rule assets way
-AreSeen rule assets (Either former latter) = IsSeenWay rule assets former × IsSeenWay rule assets latter
+abbrev pub IsSeenPart : Rule → Assets → Part Seen → Type 0
+IsSeenPart rule assets part = InPart (IsSeen rule assets) part
+
+abbrev pub IsSeenWay : Rule → Assets → Way Seen → Type 0
+IsSeenWay rule assets way = InWay (IsSeen rule assets) way
+
+abbrev pub AreSeen : Rule → Assets → Ways Seen → Type 0
+AreSeen rule assets ways = InWays (IsSeen rule assets) ways
 
 -- by some rule and assets
-abbrev pub HaveTables : Ways → Type 0
+abbrev pub HaveTables : Ways Seen → Type 0
 HaveTables ways = (rule : Rule) × (assets : Assets) × AreSeen rule assets ways
 
 -- what a way weighs, and whether it has a free stack
@@ -121,13 +135,13 @@ abbrev pub comes_first : (former latter : Price) → Bool
 comes_first former latter = former.free || (not latter.free && is_former former.weight latter.weight)
 
 -- what satisfies by the ways satisfies by this one
-pub record Satisfies (rule : Rule) (assets : Assets) (ways : Ways) (way : Way) : Type 0 where
+pub record Satisfies (rule : Rule) (assets : Assets) (ways : Ways Seen) (way : Way Seen) : Type 0 where
   pub stack : sat_of rule assets ways ≡ stack_of_way rule assets way
   pub free : is_free rule assets ways ≡ is_some (free_of_way rule assets way)
   pub seen : IsSeenWay rule assets way
 
 -- what dissatisfies by the ways dissatisfies by this one
-pub record Dissatisfies (rule : Rule) (assets : Assets) (ways : Ways) (way : Way) : Type 0 where
+pub record Dissatisfies (rule : Rule) (assets : Assets) (ways : Ways Seen) (way : Way Seen) : Type 0 where
   pub stack : dsat_of rule assets ways ≡ stack_of_way rule assets way
   pub seen : IsSeenWay rule assets way
 

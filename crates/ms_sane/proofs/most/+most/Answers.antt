@@ -6,6 +6,7 @@ use Rattle.def_sane.specs.Scaffolding.Most.{most_sat, most_dsat}
 use Rattle.ms_tree.specs.Shape.{shape}
 use Rattle.ms_tree.proofs.Parts.{nodes_at, in_range_at}
 use Rattle.ms_sane.specs.Scaffolding.Most.{IsReady, children_in}
+use Rattle.ms_sane.proofs.Rows.{most_and_or, most_two, most_wrap}
 use Rattle.ms_sane.proofs.Bounds.{light_of, multi_enough}
 use Rattle.ms_sane.proofs.Children.{measure_at, few_children, typed_at, typed_children, parts_chosen, same_takes, children_more, costs_alike}
 use Rattle.ms_choice.specs.Numbers.{costs_in}
@@ -129,3 +130,35 @@ of_thresh-returns-clause-dsat t c =
     c.none_of.ensures.greatest n (children_in n (take i xs)) c.loop-child.slots (c.loop-child.invariant.told n) ∙
     ap (λ ys. greatest (children_in n ys) 0) (take_all i xs c.loop-child-test.false) ∙
     sym (parts_chosen n xs 0))
+
+pub of_and_or-returns-clause-sat : goal.of_and_or-returns-clause-sat
+of_and_or-returns-clause-sat t c =
+    c.of_row.ensures.sat ∙
+    (most_and_or _ _ _ _ (shape c.args.x.now) (shape c.args.y.now) (shape c.args.z.now) c.and_or.ensures
+    c.most-x.ensures.sat c.most-x.ensures.dsat c.most-y.ensures.sat c.most-y.ensures.dsat c.most-z.ensures.sat c.most-z.ensures.dsat).sat
+
+pub of_and_or-returns-clause-dsat : goal.of_and_or-returns-clause-dsat
+of_and_or-returns-clause-dsat t c =
+    c.of_row.ensures.dsat ∙
+    (most_and_or _ _ _ _ (shape c.args.x.now) (shape c.args.y.now) (shape c.args.z.now) c.and_or.ensures
+    c.most-x.ensures.sat c.most-x.ensures.dsat c.most-y.ensures.sat c.most-y.ensures.dsat c.most-z.ensures.sat c.most-z.ensures.dsat).dsat
+
+pub of_two-returns-clause-sat : goal.of_two-returns-clause-sat
+of_two-returns-clause-sat t c =
+    c.of_row.ensures.sat ∙
+    (most_two c.args.kind _ _ _ (shape c.args.x.now) (shape c.args.z.now) c.two.ensures c.most-x.ensures.sat c.most-x.ensures.dsat c.most-z.ensures.sat c.most-z.ensures.dsat).sat
+
+pub of_two-returns-clause-dsat : goal.of_two-returns-clause-dsat
+of_two-returns-clause-dsat t c =
+    c.of_row.ensures.dsat ∙
+    (most_two c.args.kind _ _ _ (shape c.args.x.now) (shape c.args.z.now) c.two.ensures c.most-x.ensures.sat c.most-x.ensures.dsat c.most-z.ensures.sat c.most-z.ensures.dsat).dsat
+
+pub of_wrap-returns-clause-sat : goal.of_wrap-returns-clause-sat
+of_wrap-returns-clause-sat t c =
+    c.of_row.ensures.sat ∙
+    (most_wrap c.args.wrapper _ _ (shape c.args.x.now) c.wrap.ensures c.most-x.ensures.sat c.most-x.ensures.dsat).sat
+
+pub of_wrap-returns-clause-dsat : goal.of_wrap-returns-clause-dsat
+of_wrap-returns-clause-dsat t c =
+    c.of_row.ensures.dsat ∙
+    (most_wrap c.args.wrapper _ _ (shape c.args.x.now) c.wrap.ensures c.most-x.ensures.sat c.most-x.ensures.dsat).dsat

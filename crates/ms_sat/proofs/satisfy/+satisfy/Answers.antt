@@ -13,8 +13,8 @@ use Rattle.ms_choice.specs.Marks.{set_by}
 use Rattle.ms_sat.specs.Scaffolding.Pushed.{IsPushed}
 use Rattle.ms_sat.specs.Rule.{stack_by, free_by, child_by, children_by}
 use Rattle.ms_sat.specs.Scaffolding.Table.{AreEntries, Chooses, IsFound, below}
-use Rattle.ms_sat.specs.Scaffolding.Way.{tree_of}
-use Rattle.ms_sat.proofs.Pushed.{on_ok}
+use Rattle.ms_sat.specs.Scaffolding.Way.{tree_of, stack_of_part}
+use Rattle.ms_sat.proofs.Pushed.{on_ok, pushed_both}
 use Rattle.ms_sat.proofs.Counts.{child_costs}
 use Rattle.ms_sat.proofs.Rows.{last_entries, dissatisfied_less, pushed_unless, same_weighed}
 use Rattle.ms_sat.proofs.Rules.{thresh_stack, children_shapes}
@@ -30,10 +30,10 @@ dissatisfy-returns-in-AndOr t c =
     let entries = subst (λ s. AreEntries rule assets (below s) c.below-below.result.now) shows (c.below-below.ensures rule assets c.requires.1) in
     let z = c.see_last.ensures.seen rule assets xs entries in
     let xy = c.see_two.ensures.seen rule assets (c.see_last.ensures.before rule assets xs entries) in
-    let ways = c.dissatisfactions_of_and_or.ensures.seen rule assets xy.0 z in
+    let ways = c.row_of_and_or.ensures.seen_dsat rule assets xy.0 xy.1 z in
     let same : model.and_or (tree_of c.see_two.result.0) (tree_of c.see_two.result.1) (tree_of c.see_last.result.1) ≡ tree_of c.args.seen =
     (λ i. model.and_or (c.see_two.ensures.x i) (c.see_two.ensures.z i) (c.see_last.ensures.tree i)) ∙ sym shows in
-    let is = sym (c.dissatisfactions_of_and_or.ensures.dsat rule assets (tree_of c.see_two.result.1)) ∙ ap dissatisfaction same in
+    let is = sym (c.row_of_and_or.ensures.dsat rule assets) ∙ ap dissatisfaction same in
     on_ok c.push_dissatisfying.result _ _
     (λ pushed. subst (λ o. IsPushed o c.args.stack.now c.push_dissatisfying.new.stack) is (pushed rule ways)) c.push_dissatisfying.ensures
 
@@ -44,10 +44,10 @@ dissatisfy-returns-in-Two t c =
     let shows = c.in-Two.ensures.shows in
     let entries = subst (λ s. AreEntries rule assets (below s) c.below-below.result.now) shows (c.below-below.ensures rule assets c.requires.1) in
     let xz = c.see_two-in-Two.ensures.seen rule assets entries in
-    let ways = c.dissatisfactions_of_two.ensures.seen rule assets xz.0 xz.1 in
+    let ways = c.row_of_two.ensures.seen_dsat rule assets xz.0 xz.1 in
     let same : model.two c.in-Two.kind (tree_of c.see_two-in-Two.result.0) (tree_of c.see_two-in-Two.result.1) ≡ tree_of c.args.seen =
     (λ i. model.two c.in-Two.kind (c.see_two-in-Two.ensures.x i) (c.see_two-in-Two.ensures.z i)) ∙ sym shows in
-    let is = sym (c.dissatisfactions_of_two.ensures.dsat rule assets) ∙ ap dissatisfaction same in
+    let is = sym (c.row_of_two.ensures.dsat rule assets) ∙ ap dissatisfaction same in
     on_ok c.push_dissatisfying-in-Two.result _ _
     (λ pushed. subst (λ o. IsPushed o c.args.stack.now c.push_dissatisfying-in-Two.new.stack) is (pushed rule ways)) c.push_dissatisfying-in-Two.ensures
 
@@ -57,10 +57,32 @@ dissatisfy-returns-in-Wrap t c =
     let assets = c.args.assets.now in
     let shows = c.in-Wrap.ensures.shows in
     let entries = subst (λ s. AreEntries rule assets (below s) c.below-below.result.now) shows (c.below-below.ensures rule assets c.requires.1) in
-    let ways = c.dissatisfactions_of_wrap.ensures.seen rule assets (record { in_range = c.in-Wrap.ensures.in_range; entries = entries }) in
-    let is = sym (c.dissatisfactions_of_wrap.ensures.dsat rule assets) ∙ ap dissatisfaction (sym shows) in
+    let ways = c.row_of_wrap.ensures.seen_dsat rule assets (record { in_range = c.in-Wrap.ensures.in_range; entries = entries }) in
+    let is = sym (c.row_of_wrap.ensures.dsat rule assets) ∙ ap dissatisfaction (sym shows) in
     on_ok c.push_dissatisfying-in-Wrap.result _ _
     (λ pushed. subst (λ o. IsPushed o c.args.stack.now c.push_dissatisfying-in-Wrap.new.stack) is (pushed rule ways)) c.push_dissatisfying-in-Wrap.ensures
+
+pub push_satisfying-returns-in-Some : goal.push_satisfying-returns-in-Some
+push_satisfying-returns-in-Some t c =
+    on_ok c.push_way.result _ _
+    (λ pushed rule seen.
+    let way = c.in-Some.ensures.way rule c.args.assets.now seen in
+    subst (λ o. IsPushed o c.args.stack.now c.push_way.new.stack) (sym way.stack) (pushed rule way.seen)) c.push_way.ensures
+
+pub push_dissatisfying-returns-in-Some : goal.push_dissatisfying-returns-in-Some
+push_dissatisfying-returns-in-Some t c =
+    on_ok c.push_way.result _ _
+    (λ pushed rule seen.
+    let way = c.in-Some.ensures.way rule c.args.assets.now seen in
+    subst (λ o. IsPushed o c.args.stack.now c.push_way.new.stack) (sym way.stack) (pushed rule way.seen)) c.push_way.ensures
+
+pub push_way-returns : goal.push_way-returns
+push_way-returns t c =
+    let assets = c.args.assets.now in
+    on_ok c.push_part-2.result _ _
+    (λ pushed rule seen.
+    pushed_both (stack_of_part rule assets c.args.way.below) (stack_of_part rule assets c.args.way.above) c.args.stack.now c.push_part.new.stack c.push_part-2.new.stack
+    (c.in_ok-push_part.ensures rule seen.0) (pushed rule seen.1)) c.push_part-2.ensures
 
 pub dissatisfy_all-see_last-requires-clause-table : goal.dissatisfy_all-see_last-requires-clause-table
 dissatisfy_all-see_last-requires-clause-table t c =

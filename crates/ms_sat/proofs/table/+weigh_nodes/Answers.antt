@@ -13,7 +13,7 @@ use Rattle.ms_sat.specs.Scaffolding.Count.{AreTold}
 use Rattle.ms_sat.specs.Scaffolding.Table.{Adds, below}
 use Rattle.ms_sat.proofs.Rows.{shape_more, nodes_more, same_weighed}
 use Rattle.ms_sat.proofs.Rules.{thresh_some, multi_some}
-use Rattle.ms_sat.proofs.StrictBounds.{light_by}
+use Rattle.ms_sat.proofs.Light.{light_by}
 use Rattle.ms_sat.proofs.Tables.{root_last, adds_none, adds_both, adds_entry, added_slice, added_length}
 use Rattle.ms_sat.proofs.Counts.{few_written, told_written}
 use Rattle.ms_sat.proofs.table.+weigh_nodes.Goals as goal

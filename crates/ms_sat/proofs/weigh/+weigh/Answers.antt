@@ -1,7 +1,4 @@
-use Rattle.std.proofs.Common.{◌≡◌, ℕ, Option, ◌-◌, ◌∙◌, ap, subst, sym, arith, length, take, drop, length-take, length-drop}
-use Rattle.def_assets.specs.Assets.{Assets}
-use Rattle.def_tree.specs.declared.Two.{Two}
-use Rattle.def_tree.specs.declared.Two.TheVariants.{AndV, AndB, OrB, OrC, OrD}
+use Rattle.std.proofs.Common.{◌≡◌, ◌-◌, ◌∙◌, ap, subst, sym, arith, length, take, drop, length-take, length-drop}
 use Rattle.def_tree.specs.Tree as model
 use Rattle.def_tree.specs.Size.{nodes}
 use Rattle.def_choice.specs.Cheapest.{cheapest_of, dissatisfaction}
@@ -16,10 +13,11 @@ use Rattle.ms_choice.specs.Tally.{Tells}
 use Rattle.ms_sat.proofs.Picked.{chosen_weight, choice_weight}
 use Rattle.std.specs.Option.{option_map}
 use Rattle.ms_choice.specs.Choice.{Pick}
-use Rattle.ms_sat.proofs.Bounds.{light_of}
+use Rattle.ms_sat.proofs.Light.{light_by}
+use Rattle.ms_sat.specs.declared.rule.Rule.TheVariants.{Cheapest}
 use Rattle.ms_choice.proofs.Tallies.{told_written, length_written}
 use Rattle.ms_sat.proofs.Trees.{thresh_chosen, all_chosen, costs_child, costs_more}
-use Rattle.ms_sat.proofs.Weights.{both_weighs, least_weighs}
+use Rattle.ms_sat.proofs.Weighed.{weighs_and_or, weighs_two, weighs_wrap}
 use Rattle.ms_sat.proofs.weigh.+weigh.Goals as goal
 
 pub weigh-of_thresh-requires : goal.weigh-of_thresh-requires
@@ -43,49 +41,39 @@ weigh-of_multi-requires-clause-enough t c =
 
 pub weigh-returns-in-Leaf-clause-light : goal.weigh-returns-in-Leaf-clause-light
 weigh-returns-in-Leaf-clause-light t c =
-    light_of (shape c.args.tree.now) c.args.assets.now c.of_leaf.result c.requires.in_range c.requires.typed c.requires.are
+    light_by Cheapest c.args.assets.now (shape c.args.tree.now) c.of_leaf.result c.requires.in_range c.requires.typed c.requires.are
     (c.of_leaf.ensures.sat ∙ sym (ap (λ t. weight_of (cheapest_of c.args.assets.now t)) c.in-Leaf.ensures.shows))
     (c.of_leaf.ensures.dsat ∙ sym (ap (λ t. weight_of (dissatisfaction t)) c.in-Leaf.ensures.shows))
 
 pub weigh-returns-in-AndOr-clause-light : goal.weigh-returns-in-AndOr-clause-light
 weigh-returns-in-AndOr-clause-light t c =
-    light_of (shape c.args.tree.now) c.args.assets.now c.of_and_or.result c.requires.in_range c.requires.typed c.requires.are
+    light_by Cheapest c.args.assets.now (shape c.args.tree.now) c.of_and_or.result c.requires.in_range c.requires.typed c.requires.are
     (c.of_and_or.ensures.sat ∙ sym (ap (λ t. weight_of (cheapest_of c.args.assets.now t)) c.in-AndOr.ensures.shows))
     (c.of_and_or.ensures.dsat ∙ sym (ap (λ t. weight_of (dissatisfaction t)) c.in-AndOr.ensures.shows))
 
 pub weigh-returns-in-Two-clause-light : goal.weigh-returns-in-Two-clause-light
 weigh-returns-in-Two-clause-light t c =
-    light_of (shape c.args.tree.now) c.args.assets.now c.of_two.result c.requires.in_range c.requires.typed c.requires.are
+    light_by Cheapest c.args.assets.now (shape c.args.tree.now) c.of_two.result c.requires.in_range c.requires.typed c.requires.are
     (c.of_two.ensures.sat ∙ sym (ap (λ t. weight_of (cheapest_of c.args.assets.now t)) c.in-Two.ensures.shows))
     (c.of_two.ensures.dsat ∙ sym (ap (λ t. weight_of (dissatisfaction t)) c.in-Two.ensures.shows))
 
 pub weigh-returns-in-Thresh-clause-light : goal.weigh-returns-in-Thresh-clause-light
 weigh-returns-in-Thresh-clause-light t c =
-    light_of (shape c.args.tree.now) c.args.assets.now c.of_thresh.result c.requires.in_range c.requires.typed c.requires.are
+    light_by Cheapest c.args.assets.now (shape c.args.tree.now) c.of_thresh.result c.requires.in_range c.requires.typed c.requires.are
     (c.of_thresh.ensures.sat ∙ sym (ap (λ t. weight_of (cheapest_of c.args.assets.now t)) c.in-Thresh.ensures.shows))
     (c.of_thresh.ensures.dsat ∙ sym (ap (λ t. weight_of (dissatisfaction t)) c.in-Thresh.ensures.shows))
 
 pub weigh-returns-in-Multi-clause-light : goal.weigh-returns-in-Multi-clause-light
 weigh-returns-in-Multi-clause-light t c =
-    light_of (shape c.args.tree.now) c.args.assets.now c.of_multi.result.0 c.requires.in_range c.requires.typed c.requires.are
+    light_by Cheapest c.args.assets.now (shape c.args.tree.now) c.of_multi.result.0 c.requires.in_range c.requires.typed c.requires.are
     (c.of_multi.ensures.sat ∙ sym (ap (λ t. weight_of (cheapest_of c.args.assets.now t)) c.in-Multi.ensures.shows))
     (c.of_multi.ensures.dsat ∙ sym (ap (λ t. weight_of (dissatisfaction t)) c.in-Multi.ensures.shows))
 
 pub weigh-returns-in-Wrap-clause-light : goal.weigh-returns-in-Wrap-clause-light
 weigh-returns-in-Wrap-clause-light t c =
-    light_of (shape c.args.tree.now) c.args.assets.now c.of_wrap.result c.requires.in_range c.requires.typed c.requires.are
+    light_by Cheapest c.args.assets.now (shape c.args.tree.now) c.of_wrap.result c.requires.in_range c.requires.typed c.requires.are
     (c.of_wrap.ensures.sat ∙ sym (ap (λ t. weight_of (cheapest_of c.args.assets.now t)) c.in-Wrap.ensures.shows))
     (c.of_wrap.ensures.dsat ∙ sym (ap (λ t. weight_of (dissatisfaction t)) c.in-Wrap.ensures.shows))
-
-pub of_and_or-returns-clause-sat : goal.of_and_or-returns-clause-sat
-of_and_or-returns-clause-sat t c =
-    c.least.ensures ∙
-    least_weighs _ _ _ _
-    (c.both.ensures ∙ both_weighs _ _ _ _ c.weigh-y.ensures.sat c.weigh-x.ensures.sat)
-    (c.both-2.ensures ∙ both_weighs _ _ _ _ c.weigh-z.ensures.sat c.weigh-x.ensures.dsat)
-
-pub of_and_or-returns-clause-dsat : goal.of_and_or-returns-clause-dsat
-of_and_or-returns-clause-dsat t c = c.both-3.ensures ∙ both_weighs _ _ _ _ c.weigh-z.ensures.dsat c.weigh-x.ensures.dsat
 
 pub of_thresh-returns-clause-sat : goal.of_thresh-returns-clause-sat
 of_thresh-returns-clause-sat t c =
@@ -157,57 +145,40 @@ tally_of-loop-child-preserved t c =
       place = omega (arith, c.add_costs.ensures.place, c.loop-child.invariant.place);
     }
 
--- the same of the kind that was found
-sat_of : (assets : Assets) (kind found : Two) (x z : model.Tree) (n : Option ℕ) → kind ≡ found → n ≡ weight_of (cheapest_of assets (model.two found x z)) → n
-    ≡ weight_of (cheapest_of assets (model.two kind x z))
-sat_of assets kind found x z n is h = h ∙ sym (ap (λ k. weight_of (cheapest_of assets (model.two k x z))) is)
+pub of_and_or-returns-clause-sat : goal.of_and_or-returns-clause-sat
+of_and_or-returns-clause-sat t c =
+    c.of_row.ensures.sat ∙
+    (weighs_and_or c.args.assets.now _ _ _ _ (shape c.args.x.now) (shape c.args.y.now) (shape c.args.z.now) c.and_or.ensures
+    (record { sat = c.weigh-x.ensures.sat; dsat = c.weigh-x.ensures.dsat }) (record { sat = c.weigh-y.ensures.sat; dsat = c.weigh-y.ensures.dsat })
+    (record { sat = c.weigh-z.ensures.sat; dsat = c.weigh-z.ensures.dsat })).sat
 
-dsat_of : (kind found : Two) (x z : model.Tree) (n : Option ℕ) → kind ≡ found → n ≡ weight_of (dissatisfaction (model.two found x z)) → n ≡ weight_of (dissatisfaction (model.two kind x z))
-dsat_of kind found x z n is h = h ∙ sym (ap (λ k. weight_of (dissatisfaction (model.two k x z))) is)
+pub of_and_or-returns-clause-dsat : goal.of_and_or-returns-clause-dsat
+of_and_or-returns-clause-dsat t c =
+    c.of_row.ensures.dsat ∙
+    (weighs_and_or c.args.assets.now _ _ _ _ (shape c.args.x.now) (shape c.args.y.now) (shape c.args.z.now) c.and_or.ensures
+    (record { sat = c.weigh-x.ensures.sat; dsat = c.weigh-x.ensures.dsat }) (record { sat = c.weigh-y.ensures.sat; dsat = c.weigh-y.ensures.dsat })
+    (record { sat = c.weigh-z.ensures.sat; dsat = c.weigh-z.ensures.dsat })).dsat
 
-pub of_two-returns-in-AndV-clause-sat : goal.of_two-returns-in-AndV-clause-sat
-of_two-returns-in-AndV-clause-sat t c =
-    sat_of c.args.assets.now c.args.kind AndV (shape c.args.x.now) (shape c.args.z.now) c.both.result c.in-AndV.is
-    (c.both.ensures ∙ both_weighs _ _ _ _ c.weigh-z.ensures.sat c.weigh-x.ensures.sat)
+pub of_two-returns-clause-sat : goal.of_two-returns-clause-sat
+of_two-returns-clause-sat t c =
+    c.of_row.ensures.sat ∙
+    (weighs_two c.args.assets.now c.args.kind _ _ _ (shape c.args.x.now) (shape c.args.z.now) c.two.ensures
+    (record { sat = c.weigh-x.ensures.sat; dsat = c.weigh-x.ensures.dsat }) (record { sat = c.weigh-z.ensures.sat; dsat = c.weigh-z.ensures.dsat })).sat
 
-pub of_two-returns-in-AndB-clause-sat : goal.of_two-returns-in-AndB-clause-sat
-of_two-returns-in-AndB-clause-sat t c =
-    sat_of c.args.assets.now c.args.kind AndB (shape c.args.x.now) (shape c.args.z.now) c.both-in-AndB.result c.in-AndB.is
-    (c.both-in-AndB.ensures ∙ both_weighs _ _ _ _ c.weigh-z.ensures.sat c.weigh-x.ensures.sat)
+pub of_two-returns-clause-dsat : goal.of_two-returns-clause-dsat
+of_two-returns-clause-dsat t c =
+    c.of_row.ensures.dsat ∙
+    (weighs_two c.args.assets.now c.args.kind _ _ _ (shape c.args.x.now) (shape c.args.z.now) c.two.ensures
+    (record { sat = c.weigh-x.ensures.sat; dsat = c.weigh-x.ensures.dsat }) (record { sat = c.weigh-z.ensures.sat; dsat = c.weigh-z.ensures.dsat })).dsat
 
-pub of_two-returns-in-AndB-clause-dsat : goal.of_two-returns-in-AndB-clause-dsat
-of_two-returns-in-AndB-clause-dsat t c =
-    dsat_of c.args.kind AndB (shape c.args.x.now) (shape c.args.z.now) c.both-in-AndB-2.result c.in-AndB.is
-    (c.both-in-AndB-2.ensures ∙ both_weighs _ _ _ _ c.weigh-z.ensures.dsat c.weigh-x.ensures.dsat)
+pub of_wrap-returns-clause-sat : goal.of_wrap-returns-clause-sat
+of_wrap-returns-clause-sat t c =
+    c.of_row.ensures.sat ∙
+    (weighs_wrap c.args.assets.now c.args.wrapper _ _ (shape c.args.x.now) c.wrap.ensures
+    (record { sat = c.weigh-x.ensures.sat; dsat = c.weigh-x.ensures.dsat })).sat
 
-pub of_two-returns-in-OrB-clause-sat : goal.of_two-returns-in-OrB-clause-sat
-of_two-returns-in-OrB-clause-sat t c =
-    sat_of c.args.assets.now c.args.kind OrB (shape c.args.x.now) (shape c.args.z.now) c.least.result c.in-OrB.is
-    (c.least.ensures ∙
-    least_weighs _ _ _ _
-    (c.both-in-OrB.ensures ∙ both_weighs _ _ _ _ c.weigh-z.ensures.dsat c.weigh-x.ensures.sat)
-    (c.both-in-OrB-2.ensures ∙ both_weighs _ _ _ _ c.weigh-z.ensures.sat c.weigh-x.ensures.dsat))
-
-pub of_two-returns-in-OrB-clause-dsat : goal.of_two-returns-in-OrB-clause-dsat
-of_two-returns-in-OrB-clause-dsat t c =
-    dsat_of c.args.kind OrB (shape c.args.x.now) (shape c.args.z.now) c.both-in-OrB-3.result c.in-OrB.is
-    (c.both-in-OrB-3.ensures ∙ both_weighs _ _ _ _ c.weigh-z.ensures.dsat c.weigh-x.ensures.dsat)
-
-pub of_two-returns-in-OrC-clause-sat : goal.of_two-returns-in-OrC-clause-sat
-of_two-returns-in-OrC-clause-sat t c =
-    sat_of c.args.assets.now c.args.kind OrC (shape c.args.x.now) (shape c.args.z.now) c.least-in-OrC.result c.in-OrC.is
-    (c.least-in-OrC.ensures ∙
-    least_weighs _ _ _ _ c.weigh-x.ensures.sat
-    (c.both-in-OrC.ensures ∙ both_weighs _ _ _ _ c.weigh-z.ensures.sat c.weigh-x.ensures.dsat))
-
-pub of_two-returns-in-OrD-clause-sat : goal.of_two-returns-in-OrD-clause-sat
-of_two-returns-in-OrD-clause-sat t c =
-    sat_of c.args.assets.now c.args.kind OrD (shape c.args.x.now) (shape c.args.z.now) c.least-in-OrD.result c.in-OrD.is
-    (c.least-in-OrD.ensures ∙
-    least_weighs _ _ _ _ c.weigh-x.ensures.sat
-    (c.both-in-OrD.ensures ∙ both_weighs _ _ _ _ c.weigh-z.ensures.sat c.weigh-x.ensures.dsat))
-
-pub of_two-returns-in-OrD-clause-dsat : goal.of_two-returns-in-OrD-clause-dsat
-of_two-returns-in-OrD-clause-dsat t c =
-    dsat_of c.args.kind OrD (shape c.args.x.now) (shape c.args.z.now) c.both-in-OrD-2.result c.in-OrD.is
-    (c.both-in-OrD-2.ensures ∙ both_weighs _ _ _ _ c.weigh-z.ensures.dsat c.weigh-x.ensures.dsat)
+pub of_wrap-returns-clause-dsat : goal.of_wrap-returns-clause-dsat
+of_wrap-returns-clause-dsat t c =
+    c.of_row.ensures.dsat ∙
+    (weighs_wrap c.args.assets.now c.args.wrapper _ _ (shape c.args.x.now) c.wrap.ensures
+    (record { sat = c.weigh-x.ensures.sat; dsat = c.weigh-x.ensures.dsat })).dsat
