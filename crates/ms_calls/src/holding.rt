@@ -1,6 +1,7 @@
 //! The satisfaction of a text by what a wallet holds in arrays, without an asset file.
-ghost use Rattle.std.specs.Prelude.{◌≡◌, ◌⊎◌, ◌↔◌, None, IsUtf8};
+ghost use Rattle.std.specs.Prelude.{◌≡◌, ◌⊎◌, ◌↔◌, ◌*◌, ◌≤◌, None, vec_len, IsUtf8};
 ghost use Rattle.def_tree.specs.Range.{IsInRange};
+ghost use Rattle.def_tree.specs.Size.{measure};
 ghost use Rattle.def_answer.specs.Reading.{read as the_read};
 ghost use Rattle.ms_tree.specs.Shape.{shape};
 ghost use Rattle.ms_replies.specs.Choices.{chosen_by, reason_by};
@@ -17,6 +18,7 @@ use bumpalo::Bump;
 use ms_arrays::Arrays;
 use ms_assets::Assets;
 use ms_replies::{demand_of, satisfaction};
+use ms_sane::Work;
 use ms_text::TextTree;
 use ms_tree::Tree;
 use ms_words::{Choice, TextCommand};
@@ -88,8 +90,8 @@ fn satisfied_of_text(
     requires { IsInRange (shape text.now.tree) }
     ensures { Finds (satisfied_given choice arrays.now (the_read (shape text.now.tree) text.now.offsets.items)) result }
 {
-    let _passing = fit(alloc, text, demand_of(TextCommand::Satisfy(choice)))?;
-    satisfied_of_tree(alloc, choice, text.tree(), arrays)
+    let mut passing = fit(alloc, text, demand_of(TextCommand::Satisfy(choice)))?;
+    satisfied_of_tree(alloc, choice, text.tree(), arrays, &mut passing.work)
 }
 
 /// The items of the witness of the satisfaction that is chosen of a tree against which there is no reason.
@@ -98,13 +100,19 @@ fn satisfied_of_tree(
     choice: Choice,
     tree: &Tree<'_>,
     arrays: &Arrays<'_>,
+    work: &mut Work,
 ) -> Result<Items, Stop>
     requires in_range { IsInRange (shape tree.now) }
+    requires room { 4 * measure (shape tree.now) ≤ vec_len work.old.slots }
     requires fit { reason_by choice (shape tree.now) ≡ None }
     ensures { Finds (held_given (chosen_by choice) arrays.now (shape tree.now)) result }
 {
     match held_in(alloc, arrays) {
-        Ok(assets) => items_of(alloc, tree, satisfaction(alloc, choice, tree, &assets)),
+        Ok(assets) => items_of(
+            alloc,
+            tree,
+            satisfaction(alloc, choice, tree, &assets, work),
+        ),
         Err(stop) => Err(stop),
     }
 }

@@ -206,8 +206,8 @@ fn witness_of_text(
     requires { IsInRange (shape text.now.tree) }
     ensures { Finds (witness_given choice file.now (the_read (shape text.now.tree) text.now.offsets.items)) result }
 {
-    let _passing = fit(alloc, text, demand_of(TextCommand::Satisfy(choice)))?;
-    witness_of_tree(alloc, choice, text.tree(), file)
+    let mut passing = fit(alloc, text, demand_of(TextCommand::Satisfy(choice)))?;
+    witness_of_tree(alloc, choice, text.tree(), file, &mut passing.work)
 }
 
 /// The items of the witness of the satisfaction that is chosen of a tree against which there is no reason.
@@ -216,13 +216,19 @@ fn witness_of_tree(
     choice: Choice,
     tree: &Tree<'_>,
     file: &[u8],
+    work: &mut Work,
 ) -> Result<Items, Stop>
     requires in_range { IsInRange (shape tree.now) }
+    requires room { 4 * measure (shape tree.now) ≤ vec_len work.old.slots }
     requires fit { reason_by choice (shape tree.now) ≡ None }
     ensures { Finds (chosen_given (chosen_by choice) file.now (shape tree.now)) result }
 {
     match assets_in(alloc, file) {
-        Ok(assets) => items_of(alloc, tree, satisfaction(alloc, choice, tree, &assets)),
+        Ok(assets) => items_of(
+            alloc,
+            tree,
+            satisfaction(alloc, choice, tree, &assets, work),
+        ),
         Err(stop) => Err(stop),
     }
 }

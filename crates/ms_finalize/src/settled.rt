@@ -16,9 +16,9 @@ use def_spend::State;
 use ms_assets::Assets;
 use ms_decode::{Decoded, decode_known};
 use ms_fields::Fields;
-use ms_nonmal::strict;
+use ms_nonmal::strict_in;
 use ms_oracle::Locks;
-use ms_sane::{Rules, check_sane_of_valid};
+use ms_sane::{Rules, Work, check_sane_of_valid};
 use ms_script::Stack;
 use ms_tree::Tree;
 use std::alloc::{AllocError, Global};
@@ -114,20 +114,22 @@ fn tree_state_of(
         mut work,
     } = decoded;
     match check_sane_of_valid(valid, &tree, Rules::Policy, &mut work) {
-        Ok(_) => sane_state(alloc, &tree, fields, locks),
+        Ok(_) => sane_state(alloc, &tree, fields, locks, &mut work),
         Err(unfit) => Ok(Held::of(State::Unfit(unfit))),
     }
 }
 
-/// The state of an input with this sane miniscript.
+/// The state of an input with this sane miniscript, whose satisfaction is looked for in the working room.
 fn sane_state(
     alloc: Global,
     tree: &Tree<'_>,
     fields: &Fields<'_>,
     locks: Locks,
+    work: &mut Work,
 ) -> Result<Held, AllocError>
     requires in_range { IsInRange (shape tree.now) }
     requires sane { IsSane (shape tree.now) }
+    requires room { 4 * measure (shape tree.now) ≤ vec_len work.old.slots }
     ensures state { IfOk result (λ h. (spend : Spend) → IsOf spend fields.now locks → h.state ≡ held_state (shape tree.now) spend) }
     ensures assets { IfOk result (λ h. (spend : Spend) → IsOf spend fields.now locks → h.assets ≡ assets_in h.state spend) }
     ensures stack { IfOk result (λ h. (spend : Spend) → IsOf spend fields.now locks → h.stack ≡ chosen_in h.state (input_of spend (Some (shape tree.now)))) }
@@ -141,7 +143,7 @@ fn sane_state(
     }
     let assets = fields.assets(alloc, locks)?;
     assets.are_assets();
-    let stack = strict(alloc, tree, &assets)?;
+    let stack = strict_in(alloc, tree, &assets, work)?;
     let state = match stack {
         Some(_) => State::Ready,
         None => State::Unsatisfied,

@@ -14,6 +14,7 @@ use crate::lengths::{KeyLen, Keys};
 use crate::marks::{Marks, add_signatures, differing, push_signers};
 use crate::planned::Plan;
 use ms_assets::Assets;
+use ms_sane::Work;
 use ms_sat::{Rule, satisfaction};
 use ms_tree::{Key, Tree};
 use std::alloc::{AllocError, Global};
@@ -98,10 +99,11 @@ fn plan_by(
     ensures { IfOk result (λ found. (assets : Held) (table : Lengths) → AreMarked assets table first.now second.now → found ≡ plan_of (shape tree.now) assets table) }
 {
     first.are_assets();
-    let Some(stack) = satisfaction(alloc, Rule::Strict, tree, first)? else {
+    let mut work = Work::new(alloc, tree)?;
+    let Some(stack) = satisfaction(alloc, Rule::Strict, tree, first, &mut work)? else {
         return Ok(None);
     };
-    let Some(other) = satisfaction(alloc, Rule::Strict, tree, second)? else {
+    let Some(other) = satisfaction(alloc, Rule::Strict, tree, second, &mut work)? else {
         return Ok(None);
     };
     let signatures = differing(alloc, &stack, &other)?;

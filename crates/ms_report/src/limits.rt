@@ -25,13 +25,14 @@ pub struct Bounds {
 }
 
 /// What is told of the limits of a tree by these rules. It demands that the limits are the tree's, and lends `work` to the
-/// height, four slots for each unit of the tree's measure. Takes no memory.
+/// height, four slots for each unit of the tree's measure, whose number stays. Takes no memory.
 pub fn bounds_of(rules: Rules, tree: &Tree<'_>, limits: Limits, work: &mut Work) -> Bounds
     requires range { IsInRange (shape tree.now) }
     requires typed { IsOk (corr (shape tree.now)) }
     requires limits { AreLimits (shape tree.now) limits }
     requires room { 4 * measure (shape tree.now) ≤ vec_len work.old.slots }
-    ensures { result ≡ the_bounds_of rules (shape tree.now) }
+    ensures bounds { result ≡ the_bounds_of rules (shape tree.now) }
+    ensures room { vec_len work.new.slots ≡ vec_len work.old.slots }
 {
     match rules {
         Rules::Policy => Bounds {

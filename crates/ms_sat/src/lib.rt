@@ -11,5 +11,5 @@ mod weigh;
 
 pub use ms_choice::Costs;
 pub use rule::Rule;
-pub use satisfy::{cheapest, satisfaction};
+pub use satisfy::{cheapest, cheapest_in, satisfaction};
 pub use weigh::costs;

@@ -1,9 +1,9 @@
 //! The satisfaction that a rule chooses.
-ghost use Rattle.std.specs.Prelude.{◌≡◌, ◌↔◌, ◌≤◌, List, length, replicate, All, reverse, Some, None, OnOk, IfOk};
+ghost use Rattle.std.specs.Prelude.{◌≡◌, ◌↔◌, ◌≤◌, ◌*◌, vec_len, List, length, replicate, All, reverse, Some, None, OnOk, IfOk};
 ghost use Rattle.std.specs.Option.{option_map};
 ghost use Rattle.def_script.specs.Bytes.{Bytes};
 ghost use Rattle.def_tree.specs.Range.{MOST_MEASURE, IsInRange};
-ghost use Rattle.def_tree.specs.Size.{measure_of};
+ghost use Rattle.def_tree.specs.Size.{measure, measure_of};
 ghost use Rattle.def_tree.specs.Tree as tree;
 ghost use Rattle.def_tree.specs.Nodes.{nodes_of_all};
 ghost use Rattle.def_sane.specs.declared.Rules.TheVariants.{Consensus};
@@ -58,24 +58,48 @@ pub fn cheapest(
     ensures inversion { Inversion (shape tree.now) }
     ensures letters { Letters (shape tree.now) }
 {
-    assets.are_assets();
-    satisfaction(alloc, Rule::Cheapest, tree, assets)
+    let mut work = Work::new(alloc, tree)?;
+    cheapest_in(alloc, tree, assets, &mut work)
 }
 
-/// The canonical satisfaction of a tree with these assets that a rule chooses. `None` where there is none. The tree
-/// is valid by the limits of consensus. Each node is weighed once, and what was weighed is kept until the stack is made.
+/// The cheapest canonical satisfaction, as by `cheapest`, in working room that is lent: it has at least four slots for each
+/// unit of the tree's measure, which are written.
+pub fn cheapest_in(
+    alloc: Global,
+    tree: &Tree<'_>,
+    assets: &Assets,
+    work: &mut Work,
+) -> Result<Option<Stack>, AllocError>
+    requires in_range { IsInRange (shape tree.now) }
+    requires valid { IsValidUnder Consensus (shape tree.now) }
+    requires room { 4 * measure (shape tree.now) ≤ vec_len work.old.slots }
+    ensures choice { IfOk result (λ found. found ≡ the_cheapest (shape tree.now) assets.now) }
+    ensures lightest { IfOk result (λ found. IsLightest (Sat (shape tree.now) assets.now) found) }
+    ensures none { IfOk result (λ found. (found ≡ None) ↔ ((stack : List Bytes) → Sat (shape tree.now) assets.now stack → ⊥)) }
+    ensures inversion { Inversion (shape tree.now) }
+    ensures letters { Letters (shape tree.now) }
+    ensures room { vec_len work.new.slots ≡ vec_len work.old.slots }
+{
+    assets.are_assets();
+    satisfaction(alloc, Rule::Cheapest, tree, assets, work)
+}
+
+/// The canonical satisfaction of a tree with these assets that a rule chooses, in working room that is lent. `None` where there is none.
+/// The tree is valid by the limits of consensus. Each node is weighed once, and what was weighed is kept until the stack is made.
 pub fn satisfaction(
     alloc: Global,
     rule: Rule,
     tree: &Tree<'_>,
     assets: &Assets,
+    work: &mut Work,
 ) -> Result<Option<Stack>, AllocError>
     requires in_range { IsInRange (shape tree.now) }
     requires valid { IsValidUnder Consensus (shape tree.now) }
-    ensures { IfOk result (λ found. found ≡ option_map reverse (stack_by rule assets.now (shape tree.now))) }
+    requires room { 4 * measure (shape tree.now) ≤ vec_len work.old.slots }
+    ensures choice { IfOk result (λ found. found ≡ option_map reverse (stack_by rule assets.now (shape tree.now))) }
+    ensures room { vec_len work.new.slots ≡ vec_len work.old.slots }
 {
     assets.are_assets();
-    let mut work = Work::new(alloc, tree)?;
     let mut table = Vec::new(alloc);
     let weighed = weigh_nodes(tree, rule, assets, &mut work.slots, &mut table)?;
     if weighed.costs.sat.is_none() {

@@ -1,6 +1,7 @@
 //! The file that the source holds, and what is answered to it.
-ghost use Rattle.std.specs.Prelude.{◌≡◌, ◌≤◌, None, length, IfOk, IfErr};
+ghost use Rattle.std.specs.Prelude.{◌≡◌, ◌≤◌, ◌*◌, vec_len, None, length, IfOk, IfErr};
 ghost use Rattle.def_tree.specs.Range.{IsInRange};
+ghost use Rattle.def_tree.specs.Size.{measure};
 ghost use Rattle.def_sane.specs.Unfit.{IsSane, IsValid};
 ghost use Rattle.ms_answer_laws.specs.Laws.{walked};
 ghost use Rattle.def_answer.specs.Reply.{MOST_FILE as most_file, satisfy_reply, run_reply, plan_reply, audit_reply};
@@ -14,6 +15,7 @@ use crate::answer::{Stop, or_memory};
 use ms_io::{ReadStop, Source, read_all};
 use ms_replies::{assets_answer, audit_answer, plan_answer, run_answer};
 use ms_report::{Answer, Bounds};
+use ms_sane::Work;
 use ms_text::TextTree;
 use ms_tree::Tree;
 use ms_words::Choice;
@@ -23,23 +25,25 @@ use std::alloc::Global;
 pub const MOST_FILE: usize = 1_048_576;
 
 /// Answers with the satisfaction of a tree by the assets of the file that the source holds. There is no reason
-/// against the tree, and `bounds` is what is told of its limits.
+/// against the tree, `bounds` is what is told of its limits, and `work` has four slots for each unit of its measure.
 pub fn answer_satisfaction<S: Source>(
     alloc: Global,
     choice: Choice,
     tree: &Tree<'_>,
     bounds: Bounds,
     source: &mut S,
+    work: &mut Work,
 ) -> Result<Answer, Stop>
     requires in_range { IsInRange (shape tree.now) }
     requires fit { reason_by choice (shape tree.now) ≡ None }
     requires bounds { bounds ≡ bounds_of (rules_by choice) (shape tree.now) }
+    requires room { 4 * measure (shape tree.now) ≤ vec_len work.old.slots }
     ensures answer { EndsFile (λ bytes. satisfy_reply (rules_by choice) (chosen_by choice) bytes (shape tree.now)) (side S.left S.faults source.old source.new) result }
     ensures later { S.faults source.old ≤ S.faults source.new }
     ensures front { ReadsFront (S.left source.old) (S.left source.new) }
 {
     let bytes = read_file(alloc, source)?;
-    or_memory(assets_answer(alloc, choice, tree, bounds, &bytes))
+    or_memory(assets_answer(alloc, choice, tree, bounds, &bytes, work))
 }
 
 /// Answers which keys to ask for a signature for a tree, by the plan file that the source holds. The tree is sane.

@@ -145,7 +145,7 @@ fn answer_satisfy<S: Source>(
 {
     let limits = fit.known.limits();
     let bounds = bounds_of(rules_of(choice), tree, limits, &mut fit.work);
-    answer_satisfaction(alloc, choice, tree, bounds, source)
+    answer_satisfaction(alloc, choice, tree, bounds, source, &mut fit.work)
 }
 
 /// The rules by which the text of a satisfaction has to be sane or valid.

@@ -8,5 +8,5 @@ pub returns : goal.returns
 returns c =
     sane_lines c.args.rules (shape c.args.tree.now) c.args.sane.now _ _ _ _ _ _ _ _ _ c.requires.sane
     (c.deref.ensures ∙ c.in_ok-print_text.ensures.printed) (c.deref-2.ensures ∙ c.in_ok-type_letters.ensures)
-    (c.as_slice-2.ensures ∙ c.in_ok-script.ensures) (c.deref-3.ensures ∙ c.in_ok-bounds_line.ensures ∙ told_bounds c.args.rules (shape c.args.tree.now) _ c.bounds_of-bounds.ensures)
+    (c.as_slice-2.ensures ∙ c.in_ok-script.ensures) (c.deref-3.ensures ∙ c.in_ok-bounds_line.ensures ∙ told_bounds c.args.rules (shape c.args.tree.now) _ c.bounds_of-bounds.ensures.bounds)
     c.new-report.ensures.bytes c.in_ok-push_line.ensures c.in_ok-push_line-2.ensures c.in_ok-push_output.ensures c.in_ok-push_str.ensures.bytes

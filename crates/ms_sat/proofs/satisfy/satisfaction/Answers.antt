@@ -8,5 +8,5 @@ weigh_nodes-requires c = record {
   in_range = c.requires.in_range;
   typed = typed_valid (shape c.args.tree.now) c.requires.valid;
   are = c.are_assets.ensures.held;
-  room = omega (arith, c.deref_mut.ensures.len, c.in_ok-work.ensures);
+  room = omega (arith, c.deref_mut.ensures.len, c.requires.room);
 }
