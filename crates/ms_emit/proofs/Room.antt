@@ -61,20 +61,12 @@ mutual
   few (hash kind value) = omega arith
   few (and_or x y z) = simp length-append (omega (arith, few x, few y, few z))
   few (two kind.AndV x y) = simp length-append (omega (arith, few x, few y))
-  few (two kind.AndB x y) = simp length-append (omega (arith, few x, few y))
-  few (two kind.OrB x y) = simp length-append (omega (arith, few x, few y))
-  few (two kind.OrC x y) = simp length-append (omega (arith, few x, few y))
-  few (two kind.OrD x y) = simp length-append (omega (arith, few x, few y))
-  few (two kind.OrI x y) = simp length-append (omega (arith, few x, few y))
+  few (two other x y) = simp length-append (omega (arith, few x, few y))
   few (thresh k xs) = simp length-append (omega (arith, few_sum xs))
   few (multi k keys) = simp (length-append, length-map) (omega arith)
-  few (wrap wrapper.A x) = simp length-append (omega (arith, few x))
   few (wrap wrapper.S x) = omega (arith, few x)
-  few (wrap wrapper.C x) = simp length-append (omega (arith, few x))
-  few (wrap wrapper.D x) = simp length-append (omega (arith, few x))
   few (wrap wrapper.V x) = omega (arith, few x, verified_few (emit x))
-  few (wrap wrapper.J x) = simp length-append (omega (arith, few x))
-  few (wrap wrapper.N x) = simp length-append (omega (arith, few x))
+  few (wrap other x) = simp length-append (omega (arith, few x))
 
   few_sum : (xs : Trees) → length (emit_sum xs) ≤ 8 * measure_of xs
   few_sum none = omega arith

@@ -25,10 +25,10 @@ use Rattle.ms_sat.specs.declared.table.Entry.{Entry}
 abbrev pub tree_of : Seen → model.Tree
 tree_of seen = shape seen.tree.now
 
--- the stacks of ways, and the lightest one
-abbrev pub stacks : Rule → Assets → Reader Seen (Option Stack)
-stacks rule assets = record {
-  sat = λ x. stack_by rule assets (tree_of x);
+-- the stacks of ways over what satisfies each tree, and the lightest one
+abbrev pub stacks_over : (model.Tree → Option Stack) → Reader Seen (Option Stack)
+stacks_over satisfying = record {
+  sat = λ x. satisfying (tree_of x);
   dsat = λ x. dissatisfaction (tree_of x);
   one = Some (ONE ∷ []);
   empty = Some (EMPTY ∷ []);
@@ -37,25 +37,19 @@ stacks rule assets = record {
   both = both;
   either = λ former latter. least (former ∷ latter ∷ []);
 }
+
+-- by a rule; and without a signature, where the rule asks for it
+abbrev pub stacks : Rule → Assets → Reader Seen (Option Stack)
+stacks rule assets = stacks_over (stack_by rule assets)
+
+abbrev pub free_stacks : Rule → Assets → Reader Seen (Option Stack)
+free_stacks rule assets = stacks_over (free_by rule assets)
 
 abbrev pub stack_of_part : Rule → Assets → Part Seen → Option Stack
 stack_of_part rule assets part = part_in (stacks rule assets) part
 
 abbrev pub stack_of_way : Rule → Assets → Way Seen → Option Stack
 stack_of_way rule assets way = way_in (stacks rule assets) way
-
--- the same without a signature, where the rule asks for it
-abbrev pub free_stacks : Rule → Assets → Reader Seen (Option Stack)
-free_stacks rule assets = record {
-  sat = λ x. free_by rule assets (tree_of x);
-  dsat = λ x. dissatisfaction (tree_of x);
-  one = Some (ONE ∷ []);
-  empty = Some (EMPTY ∷ []);
-  nothing = Some [];
-  never = None;
-  both = both;
-  either = λ former latter. least (former ∷ latter ∷ []);
-}
 
 abbrev pub free_of_part : Rule → Assets → Part Seen → Option Stack
 free_of_part rule assets part = part_in (free_stacks rule assets) part
