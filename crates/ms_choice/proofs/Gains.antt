@@ -58,26 +58,13 @@ module _ {X : Type 0} (key : X → ℤ) where
       let s = split_at n (up (key x)) (down (key x)) xs r.1 in
       record { a = s.a; b = s.b; from = omega (arith, r.0, s.from); low = (omega (arith, s.from), s.low); high = s.high }
 
-  -- a mark that splits a sorted list
-  pub record Marked (n : ℕ) (xs : List X) : Type 0 where
-    pub a : ℕ
-    pub b : ℕ
-    pub low : Low a b (take n xs)
-    pub high : High a b (drop n xs)
+  marked : (n : ℕ) (xs : List X) → Neighbours xs → (c : ℕ) × (d : ℕ) × Split n c d xs
+  marked n [] h = (0, 0, split_at n 0 0 [] tt)
+  marked n (x ∷ xs) h = (up (key x), down (key x), split_at n (up (key x)) (down (key x)) (x ∷ xs) (omega arith, rises_from x xs h))
 
-  marked : (n : ℕ) (xs : List X) → Neighbours xs → Marked n xs
-  marked n [] h = let s = split_at n 0 0 [] tt in record { a = s.a; b = s.b; low = s.low; high = s.high }
-  marked n (x ∷ xs) h =
-      let s = split_at n (up (key x)) (down (key x)) (x ∷ xs) (omega arith, rises_from x xs h) in
-      record { a = s.a; b = s.b; low = s.low; high = s.high }
-
-  low_above : (a b : ℕ) (xs : List X) → Low a b xs → total (λ x. above a b (key x)) xs ≡ 0
-  low_above a b [] h = refl
-  low_above a b (x ∷ xs) h = omega (arith, h.0, low_above a b xs h.1)
-
-  low_is_above : (a b : ℕ) (xs : List X) → Low a b xs → total (λ x. is_above a b (key x)) xs ≡ 0
-  low_is_above a b [] h = refl
-  low_is_above a b (x ∷ xs) h = omega (arith, h.0, low_is_above a b xs h.1)
+  low_none : (a b : ℕ) (xs : List X) → Low a b xs → (total (λ x. above a b (key x)) xs ≡ 0) × (total (λ x. is_above a b (key x)) xs ≡ 0)
+  low_none a b [] h = (refl, refl)
+  low_none a b (x ∷ xs) h = let g = low_none a b xs h.1 in (omega (arith, h.0, g.0), omega (arith, h.0, g.1))
 
   few_above : (a b : ℕ) (xs : List X) → total (λ x. is_above a b (key x)) xs ≤ length xs
   few_above a b [] = omega arith
@@ -97,16 +84,17 @@ module _ {X : Type 0} (key : X → ℤ) where
       → up gain + total (λ x. down (key x)) (drop n xs) ≡ down gain + total (λ x. up (key x)) (drop n xs)
       → IsGain key xs (length (drop n xs)) gain
   gain_of_sorted n xs gain sorted sum =
-      let m = marked n xs (neighbours xs sorted) in
+      let m = (marked n xs (neighbours xs sorted)).2 in
+      let low = low_none m.a m.b (take n xs) m.low in
       let split_above = total_split (λ x. above m.a m.b (key x)) n xs in
       let split_is = total_split (λ x. is_above m.a m.b (key x)) n xs in
       let split_reached = total_split (λ x. is_reached m.a m.b (key x)) n xs in
       record {
         a = m.a;
         b = m.b;
-        enough = omega (arith, split_is, low_is_above m.a m.b (take n xs) m.low, few_above m.a m.b (drop n xs));
+        enough = omega (arith, split_is, low.1, few_above m.a m.b (drop n xs));
         reached = omega (arith, split_reached, high_reached m.a m.b (drop n xs) m.high);
-        sum = omega (arith, sum, split_above, low_above m.a m.b (take n xs) m.low, high_sum m.a m.b (drop n xs) m.high);
+        sum = omega (arith, sum, split_above, low.0, high_sum m.a m.b (drop n xs) m.high);
       }
 
   pub gain_of_permutation : (xs ys : List X) (count : ℕ) (gain : ℤ) → IsPermutation xs ys → IsGain key ys count gain → IsGain key xs count gain

@@ -8,26 +8,20 @@ use Rattle.ms_choice.specs.Choice.{Pick, put, picks, lighter, least, heavier, mo
 use Rattle.ms_choice.specs.Laws.{IsChosen, PicksAreAll, IsLightest, IsGreatest, LightestWeighsLeast, GreatestWeighsMost}
 
 -- each listed choice is one
-put_true : (o : Option ℕ) (c : Costs) (cs : List Costs) (k : ℕ) (ps : List Pick) → c.sat ≡ o → All (λ p. IsChosen p.1 cs k p.0) ps → All (λ p. IsChosen p.1 (c ∷ cs) (suc k) p.0) (put true o ps)
-put_true None c cs k ps e h = All-nil (λ p. IsChosen p.1 (c ∷ cs) (suc k) p.0)
-put_true (Some s) c cs k ps e h =
-    All-map (λ p. IsChosen p.1 (c ∷ cs) (suc k) p.0) (λ p. (s + p.0, true ∷ p.1)) ps
-    (All-weaker (λ p. IsChosen p.1 cs k p.0) (λ p. IsChosen (true ∷ p.1) (c ∷ cs) (suc k) (s + p.0)) (λ p g. (s, k, p.0, e, refl, refl, g)) ps h)
+put_in : (b : Bool) (o : Option ℕ) (P Q : Pick → Type 0) (ps : List Pick) → ((w : ℕ) (p : Pick) → o ≡ Some w → P p → Q (w + p.0, b ∷ p.1)) → All P ps → All Q (put b o ps)
+put_in b None P Q ps f h = All-nil Q
+put_in b (Some w) P Q ps f h = All-map Q (λ p. (w + p.0, b ∷ p.1)) ps (All-weaker P (λ p. Q (w + p.0, b ∷ p.1)) (λ p g. f w p refl g) ps h)
 
-put_false : (o : Option ℕ) (c : Costs) (cs : List Costs) (k : ℕ) (ps : List Pick) → c.dsat ≡ o → All (λ p. IsChosen p.1 cs k p.0) ps → All (λ p. IsChosen p.1 (c ∷ cs) k p.0) (put false o ps)
-put_false None c cs k ps e h = All-nil (λ p. IsChosen p.1 (c ∷ cs) k p.0)
-put_false (Some d) c cs k ps e h =
-    All-map (λ p. IsChosen p.1 (c ∷ cs) k p.0) (λ p. (d + p.0, false ∷ p.1)) ps
-    (All-weaker (λ p. IsChosen p.1 cs k p.0) (λ p. IsChosen (false ∷ p.1) (c ∷ cs) k (d + p.0)) (λ p g. (d, p.0, e, refl, g)) ps h)
+abbrev Of : List Costs → ℕ → Pick → Type 0
+Of cs k p = IsChosen p.1 cs k p.0
 
 chosen : (cs : List Costs) (k : ℕ) → All (λ p. IsChosen p.1 cs k p.0) (picks cs k)
 chosen [] zero = All-cons (λ p. IsChosen p.1 [] zero p.0) (0, []) [] (refl, refl) (All-nil (λ p. IsChosen p.1 [] zero p.0))
 chosen [] (suc k) = All-nil (λ p. IsChosen p.1 [] (suc k) p.0)
-chosen (c ∷ cs) zero = put_false c.dsat c cs zero (picks cs zero) refl (chosen cs zero)
+chosen (c ∷ cs) zero = put_in false c.dsat (Of cs zero) (Of (c ∷ cs) zero) (picks cs zero) (λ w p e g. (w, p.0, e, refl, g)) (chosen cs zero)
 chosen (c ∷ cs) (suc k) =
-    All-append (λ p. IsChosen p.1 (c ∷ cs) (suc k) p.0) _ _
-    (put_true c.sat c cs k (picks cs k) refl (chosen cs k))
-    (put_false c.dsat c cs (suc k) (picks cs (suc k)) refl (chosen cs (suc k)))
+    All-append (Of (c ∷ cs) (suc k)) _ _ (put_in true c.sat (Of cs k) (Of (c ∷ cs) (suc k)) (picks cs k) (λ w p e g. (w, k, p.0, e, refl, refl, g)) (chosen cs k))
+    (put_in false c.dsat (Of cs (suc k)) (Of (c ∷ cs) (suc k)) (picks cs (suc k)) (λ w p e g. (w, p.0, e, refl, g)) (chosen cs (suc k)))
 
 -- each choice is listed
 contains-map : {A B : Type 0} (g : A → B) (xs : List A) (x : A) → Contains xs x → Contains (map g xs) (g x)

@@ -1,8 +1,8 @@
 -- Sorted slots: the first ones are those that stand at or before the last of them.
-use Rattle.std.proofs.Common.{◌≡◌, ℕ, zero, suc, ◌-◌, ◌<◌, ◌≤◌, Bool, true, false, List, [], ◌∷◌, Option, Some, None, length, get_or, take, drop, refl, sym, ◌∙◌, ap, subst, inl, inr, All, arith, add-one, if◌then◌else◌}
-use Rattle.std.proofs.Common.{Ordering, Less, Equal, Greater}
-use Rattle.std.specs.Prelude.{ℤ, pos, ◌<ℤ◌, nat_eq, IsSorted}
-use Rattle.std.specs.Ordering.{int_cmp, nat_cmp, ordering_then, is_lt, MatchOrdering}
+use Rattle.std.proofs.Common.{◌≡◌, ℕ, zero, suc, ◌-◌, ◌<◌, ◌≤◌, true, false, List, [], ◌∷◌, Option, Some, None, length, get_or, take, drop, refl, ◌∙◌, ap, subst, inr, All, arith, add-one, if◌then◌else◌}
+use Rattle.std.proofs.Common.{Ordering}
+use Rattle.std.specs.Prelude.{ℤ, pos, nat_eq, IsSorted}
+use Rattle.std.specs.Ordering.{int_cmp, nat_cmp, ordering_then, is_lt}
 use Rattle.std.specs.Cmp.{int_ranks}
 use Rattle.std.proofs.lemmas.Int.{ints}
 use Rattle.std.proofs.lemmas.Bool.Decides.{nat_tests}
@@ -10,7 +10,6 @@ use Rattle.std.specs.List.{slice_get}
 use Rattle.std.proofs.lemmas.List.{length-take-le, get_or-take}
 use Rattle.std.proofs.lemmas.Option.{slice_get-get_or}
 use Rattle.std.proofs.lemmas.List.Elements.{All-nil, All-cons, All-head, All-tail, All-weaker}
-use borrow.Author.Differences.{up, down}
 use Rattle.ms_choice.specs.declared.slot.Slot.{Slot}
 use Rattle.ms_choice.specs.Sums.{total}
 use Rattle.ms_choice.proofs.Totals.{total_split}
@@ -25,28 +24,11 @@ slot_cmp x y = ordering_then (int_cmp x.first y.first) (ordering_then (nat_cmp x
 abbrev IsBefore : Slot → Slot → Type 0
 IsBefore x y = Within y x.first x.place
 
-place_not_less : (p q : ℕ) (rest : Ordering) → is_lt (ordering_then (nat_cmp p q) rest) ≡ false → q ≤ p
-place_not_less p q rest h = go (nat_cmp p q) refl h
-  where
-    go : (o : Ordering) → nat_cmp p q ≡ o → is_lt (ordering_then o rest) ≡ false → q ≤ p
-    go Less e h = absurd (let never : ⊥ = cc in never)
-    go Equal e h = grind (arith, nat_tests)
-    go Greater e h = grind (arith, nat_tests)
-
-not_less_by : (x y : Slot) (o rest : Ordering) → MatchOrdering o (y.first <ℤ x.first) (y.first ≡ x.first) (x.first <ℤ y.first) →
-    is_lt (ordering_then o (ordering_then (nat_cmp y.place x.place) rest)) ≡ false → IsBefore x y
-not_less_by x y Less rest m h = absurd (let never : ⊥ = cc in never)
-not_less_by x y Equal rest m h = inr (sym m, place_not_less y.place x.place rest h)
-not_less_by x y Greater rest m h = inl (omega (arith, ints, m))
-
 not_less : (x y : Slot) → is_lt (slot_cmp y x) ≡ false → IsBefore x y
-not_less x y e = not_less_by x y (int_cmp y.first x.first) (ordering_then (int_cmp y.second x.second) (int_cmp y.third x.third)) (int_ranks y.first x.first) e
+not_less x y e = grind (arith, ints, nat_tests, int_ranks y.first x.first)
 
 before_trans : (x y z : Slot) → IsBefore x y → IsBefore y z → IsBefore x z
-before_trans x y z (inl h) (inl k) = inl (omega (arith, h, k))
-before_trans x y z (inl h) (inr k) = let u : up y.first ≡ up z.first = ap up k.0 in let d : down y.first ≡ down z.first = ap down k.0 in inl (omega (arith, h, u, d))
-before_trans x y z (inr h) (inl k) = let u : up x.first ≡ up y.first = ap up h.0 in let d : down x.first ≡ down y.first = ap down h.0 in inl (omega (arith, k, u, d))
-before_trans x y z (inr h) (inr k) = inr (h.0 ∙ k.0, omega (arith, h.1, k.1))
+before_trans x y z h k = grind (arith, ints)
 
 abbrev Neighbours : List Slot → Type 0
 Neighbours ys = (k : ℕ) (d : Slot) → suc k < length ys → IsBefore (get_or ys k d) (get_or ys (suc k) d)
@@ -75,7 +57,7 @@ abbrev pub Apart : List Slot → Type 0
 Apart ys = (place : ℕ) → total (at_place place) ys ≤ 1
 
 at_same : (p q : ℕ) → p ≡ q → same p q ≡ 1
-at_same p q e = let h : nat_eq p q ≡ true = grind (arith, nat_tests) in ap (λ b. if b then 1 else 0) h
+at_same p q e = grind (arith, nat_tests)
 
 apart_tail : (x : Slot) (ys : List Slot) → Apart (x ∷ ys) → Apart ys
 apart_tail x ys apart place = let h = apart place in omega (arith, h)
@@ -94,21 +76,8 @@ In last slot = is_within (Some last) slot.first slot.place ≡ true
 abbrev Out : Slot → Slot → Type 0
 Out last slot = is_within (Some last) slot.first slot.place ≡ false
 
-before_in : (x last : Slot) → IsBefore x last → In last x
-before_in x last h = (within_decides last x.first x.place).1 h
-
 after_out : (last y : Slot) → IsBefore last y → (y.place ≡ last.place → ⊥) → Out last y
-after_out last y h apart = go (is_within (Some last) y.first y.place) refl
-  where
-    both_ways : IsBefore last y → IsBefore y last → ⊥
-    both_ways (inl h) (inl k) = omega (arith, h, k)
-    both_ways (inl h) (inr k) = let u : up y.first ≡ up last.first = ap up k.0 in let d : down y.first ≡ down last.first = ap down k.0 in omega (arith, h, u, d)
-    both_ways (inr h) (inl k) = let u : up last.first ≡ up y.first = ap up h.0 in let d : down last.first ≡ down y.first = ap down h.0 in omega (arith, k, u, d)
-    both_ways (inr h) (inr k) = apart (omega (arith, h.1, k.1))
-
-    go : (b : Bool) → is_within (Some last) y.first y.place ≡ b → b ≡ false
-    go true e = absurd (both_ways h ((within_decides last y.first y.place).0 e))
-    go false e = refl
+after_out last y h apart = grind (arith, ints, nat_tests)
 
 -- the last of the first n + 1 slots divides them from the others
 pub record Divides (n : ℕ) (last : Slot) (ys : List Slot) : Type 0 where
@@ -118,7 +87,7 @@ pub record Divides (n : ℕ) (last : Slot) (ys : List Slot) : Type 0 where
 divides_by : (n : ℕ) (d : Slot) (ys : List Slot) → Neighbours ys → Apart ys → n < length ys → Divides n (get_or ys n d) ys
 divides_by n d [] near apart h = absurd (omega (arith, h))
 divides_by zero d (x ∷ ys) near apart h = record {
-  front = All-cons (In x) x [] (before_in x x (inr (refl, omega arith))) (All-nil (In x));
+  front = All-cons (In x) x [] ((within_decides x x.first x.place).1 (inr (refl, omega arith))) (All-nil (In x));
   back =
       λ k e below.
       after_out x (get_or ys k e) (all_after x ys near k e below) (apart_head x ys apart k e below);
@@ -127,7 +96,7 @@ divides_by (suc n) d (x ∷ ys) near apart h =
     let short : n < length ys = omega (arith, h) in
     let r = divides_by n d ys (λ k e g. near (suc k) e (omega (arith, g))) (apart_tail x ys apart) short in
     record {
-      front = All-cons (In (get_or ys n d)) x (take (suc n) ys) (before_in x (get_or ys n d) (all_after x ys near n d short)) r.front;
+      front = All-cons (In (get_or ys n d)) x (take (suc n) ys) ((within_decides (get_or ys n d) x.first x.place).1 (all_after x ys near n d short)) r.front;
       back = r.back;
     }
 
@@ -140,15 +109,11 @@ passing last f ys = total (λ s. where_within last f s.first s.place) ys
 
 passing_in : (last : Slot) (f : ℤ → ℕ) (ys : List Slot) → All (In last) ys → passing (Some last) f ys ≡ total (λ s. f s.first) ys
 passing_in last f [] all = refl
-passing_in last f (y ∷ ys) all =
-    let this : where_within (Some last) f y.first y.place ≡ f y.first = ap (λ b. if b then f y.first else 0) (All-head (In last) y ys all) in
-    omega (arith, this, passing_in last f ys (All-tail (In last) y ys all))
+passing_in last f (y ∷ ys) all = rw (All-head (In last) y ys all, passing_in last f ys (All-tail (In last) y ys all))
 
 passing_out : (last : Slot) (f : ℤ → ℕ) (ys : List Slot) → All (Out last) ys → passing (Some last) f ys ≡ 0
 passing_out last f [] all = refl
-passing_out last f (y ∷ ys) all =
-    let this : where_within (Some last) f y.first y.place ≡ 0 = ap (λ b. if b then f y.first else 0) (All-head (Out last) y ys all) in
-    omega (arith, this, passing_out last f ys (All-tail (Out last) y ys all))
+passing_out last f (y ∷ ys) all = rw (All-head (Out last) y ys all) (omega (arith, passing_out last f ys (All-tail (Out last) y ys all)))
 
 pub passing_front : (n : ℕ) (last : Slot) (f : ℤ → ℕ) (ys : List Slot) → Divides n last ys → passing (Some last) f ys ≡ total (λ s. f s.first) (take (suc n) ys)
 passing_front n last f ys r =

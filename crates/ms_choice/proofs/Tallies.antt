@@ -1,6 +1,6 @@
 -- A tally with a further child, and what it says of a choice.
-use Rattle.std.proofs.Common.{◌≡◌, ℕ, suc, ◌+◌, ◌-◌, ◌<◌, ◌≤◌, ◌⊎◌, List, [], ◌∷◌, ◌++◌, Option, Some, None, length, take, set, refl, sym, inl, inr, ◌∙◌, ap, subst, All, IsPermutation, arith, add-one, Bool, true, false, if◌then◌else◌}
-use Rattle.std.specs.Prelude.{ℤ, pos, ◌-ℤ◌, nat_eq, IsSorted}
+use Rattle.std.proofs.Common.{◌≡◌, ℕ, suc, ◌+◌, ◌-◌, ◌<◌, ◌≤◌, ◌⊎◌, List, [], ◌∷◌, ◌++◌, Option, Some, None, length, take, set, refl, sym, ◌∙◌, ap, subst, All, IsPermutation, arith, add-one}
+use Rattle.std.specs.Prelude.{ℤ, pos, ◌-ℤ◌, IsSorted}
 use Rattle.std.specs.List.{slice_get}
 use Rattle.std.specs.Option.{option_map}
 use Rattle.std.proofs.Math.Seq.{take-suc-set}
@@ -20,13 +20,13 @@ use Rattle.ms_choice.specs.declared.tally.Tally.{Tally}
 use Rattle.ms_choice.specs.declared.choice.Choice.{Choice}
 use Rattle.ms_choice.specs.Choice.{picks, lightest, greatest}
 use Rattle.ms_choice.specs.Numbers.{number_in, costs_in, difference, IsLightSlot}
-use Rattle.ms_choice.specs.Marks.{is_within, set_by}
+use Rattle.ms_choice.specs.Marks.{set_by}
 use Rattle.ms_choice.specs.Sums.{total, above, is_above, is_reached, IsGain}
 use Rattle.ms_choice.specs.Tally.{forced_by, stuck_by, base_by, free_by, forced, stuck, base, free, over_free, Fits, Tells}
 use Rattle.ms_choice.proofs.Totals.{total_push, total-permutation, each_number}
 use Rattle.ms_choice.proofs.Picks.{most_chosen, choose, lightest_is, greatest_is, none_least}
 use Rattle.ms_choice.proofs.Greatest.{Exactly, chosen_is, none_chosen, dissatisfied_chosen}
-use Rattle.ms_choice.proofs.Marks.{where_within, ups, downs, members, attained, nobody}
+use Rattle.ms_choice.proofs.Marks.{where_within, ups, downs, attained, nobody}
 use Rattle.ms_choice.proofs.Sorted.{slot_cmp, same, Apart, front_of, total_ones}
 
 abbrev pub costs : (sat dsat : Option ℕ) → Costs
@@ -64,128 +64,68 @@ module _ (n : Number) (cs : List Costs) (t : Tally) (slots : List Slot) (told : 
     total_push (λ c. base_by c.sat c.dsat) cs (costs s d),
   )
 
-  tells_free : (s d : ℕ) (b : Numbers) (x : Slot) → t.free < length slots → number_in n b ≡ number_in n t.base + d → difference n x ≡ (pos s -ℤ pos d) → x.place ≡ t.place →
-      Tells n (cs ++ costs (Some s) (Some d) ∷ []) (record { base = b; forced = t.forced; stuck = t.stuck; free = t.free + 1; place = t.place + 1 }) (set slots t.free x)
-  tells_free s d b x room sum first place =
-      let all = counts (Some s) (Some d) in
-      let one_more = pushed (λ difference place. 1) cs (Some s) (Some d) t.place told.place in
-      let front : take (t.free + 1) (set slots t.free x) ≡ take t.free slots ++ x ∷ [] =
-      ap (λ k. take k (set slots t.free x)) (add-one t.free) ∙ take-suc-set slots t.free x room
-      in
+  -- what they tell after a further child
+  tells : (s d : Option ℕ) (u : Tally) (after : List Slot) → u.place ≡ t.place + 1 → u.forced ≡ t.forced + forced_by s d → u.stuck ≡ t.stuck + stuck_by s d
+      → u.free ≡ t.free + free_by (λ z p. 1) 0 s d → number_in n u.base ≡ number_in n t.base + base_by s d
+      → ((f : ℤ → ℕ → ℕ) → total (λ s. f (difference n s) s.place) (take u.free after) ≡ total (λ s. f (difference n s) s.place) (take t.free slots) + free_by f t.place s d)
+      → Tells n (cs ++ costs s d ∷ []) u after
+  tells s d u after place forced stuck free base differences =
+      let all = counts s d in
+      let same : free_by (λ z p. 1) 0 s d ≡ free_by (λ z p. 1) t.place s d = grind arith in
       record {
-        place = omega (arith, told.place, length-append cs (costs (Some s) (Some d) ∷ []));
-        forced = omega (arith, told.forced, all.0);
-        stuck = omega (arith, told.stuck, all.1);
-        free = omega (arith, told.free, one_more);
-        base = omega (arith, sum, told.base, all.2);
-        differences = λ f.
-            let total_front : total (λ s. f (difference n s) s.place) (take (t.free + 1) (set slots t.free x))
-            ≡ total (λ s. f (difference n s) s.place) (take t.free slots ++ x ∷ []) = ap (total (λ s. f (difference n s) s.place)) front in
-            let this : f (difference n x) x.place ≡ f (pos s -ℤ pos d) t.place = ap (λ z. f z x.place) first ∙ ap (f (pos s -ℤ pos d)) place in
-            omega (arith, total_front, this, told.differences f, total_push (λ s. f (difference n s) s.place) (take t.free slots) x, pushed f cs (Some s) (Some d) t.place told.place);
-      }
-
-  tells_forced : (s : ℕ) (b : Numbers) → number_in n b ≡ number_in n t.base + s
-      → Tells n (cs ++ costs (Some s) None ∷ []) (record { base = b; forced = t.forced + 1; stuck = t.stuck; free = t.free; place = t.place + 1 }) slots
-  tells_forced s b sum =
-      let all = counts (Some s) None in
-      let no_more = pushed (λ difference place. 1) cs (Some s) None t.place told.place in
-      record {
-        place = omega (arith, told.place, length-append cs (costs (Some s) None ∷ []));
-        forced = omega (arith, told.forced, all.0);
-        stuck = omega (arith, told.stuck, all.1);
-        free = omega (arith, told.free, no_more);
-        base = omega (arith, sum, told.base, all.2);
-        differences = λ f. omega (arith, told.differences f, pushed f cs (Some s) None t.place told.place);
-      }
-
-  tells_out : (d : ℕ) (b : Numbers) → number_in n b ≡ number_in n t.base + d
-      → Tells n (cs ++ costs None (Some d) ∷ []) (record { base = b; forced = t.forced; stuck = t.stuck; free = t.free; place = t.place + 1 }) slots
-  tells_out d b sum =
-      let all = counts None (Some d) in
-      let no_more = pushed (λ difference place. 1) cs None (Some d) t.place told.place in
-      record {
-        place = omega (arith, told.place, length-append cs (costs None (Some d) ∷ []));
-        forced = omega (arith, told.forced, all.0);
-        stuck = omega (arith, told.stuck, all.1);
-        free = omega (arith, told.free, no_more);
-        base = omega (arith, sum, told.base, all.2);
-        differences = λ f. omega (arith, told.differences f, pushed f cs None (Some d) t.place told.place);
-      }
-
-  tells_stuck : Tells n (cs ++ costs None None ∷ []) (record { base = t.base; forced = t.forced; stuck = t.stuck + 1; free = t.free; place = t.place + 1 }) slots
-  tells_stuck =
-      let all = counts None None in
-      let no_more = pushed (λ difference place. 1) cs None None t.place told.place in
-      record {
-        place = omega (arith, told.place, length-append cs (costs None None ∷ []));
-        forced = omega (arith, told.forced, all.0);
-        stuck = omega (arith, told.stuck, all.1);
-        free = omega (arith, told.free, no_more);
-        base = omega (arith, told.base, all.2);
-        differences = λ f. omega (arith, told.differences f, pushed f cs None None t.place told.place);
+        place = omega (arith, place, told.place, length-append cs (costs s d ∷ []));
+        forced = omega (arith, forced, told.forced, all.0);
+        stuck = omega (arith, stuck, told.stuck, all.1);
+        free = omega (arith, free, same, told.free, pushed (λ z p. 1) cs s d t.place told.place);
+        base = omega (arith, base, told.base, all.2);
+        differences = λ f. omega (arith, differences f, told.differences f, pushed f cs s d t.place told.place);
       }
 
   pub told_free : (c : Child) (s d b : Numbers) (x : Slot) → c.sat ≡ Some s → c.dsat ≡ Some d → t.free < length slots → number_in n b ≡ number_in n t.base + number_in n d
       → difference n x ≡ (pos (number_in n s) -ℤ pos (number_in n d)) → x.place ≡ t.place →
       Tells n (cs ++ costs_in n c ∷ []) (record { base = b; forced = t.forced; stuck = t.stuck; free = t.free + 1; place = t.place + 1 }) (set slots t.free x)
-  told_free c s d b x is_s is_d room sum first place = rw (is_s, is_d) (tells_free (number_in n s) (number_in n d) b x room sum first place)
+  told_free c s d b x is_s is_d room sum first place =
+      rw (is_s, is_d) (tells (Some (number_in n s)) (Some (number_in n d)) _ _ refl (omega arith) (omega arith) refl sum (λ f.
+      rw (add-one t.free, take-suc-set slots t.free x room, total_push (λ s. f (difference n s) s.place) (take t.free slots) x, first, place)))
 
   pub told_forced : (c : Child) (s b : Numbers) → c.sat ≡ Some s → c.dsat ≡ None → number_in n b ≡ number_in n t.base + number_in n s
       → Tells n (cs ++ costs_in n c ∷ []) (record { base = b; forced = t.forced + 1; stuck = t.stuck; free = t.free; place = t.place + 1 }) slots
-  told_forced c s b is_s is_d sum = rw (is_s, is_d) (tells_forced (number_in n s) b sum)
+  told_forced c s b is_s is_d sum =
+      rw (is_s, is_d) (tells (Some (number_in n s)) None _ slots refl refl (omega arith) (omega arith) sum (λ f. omega arith))
 
   pub told_out : (c : Child) (d b : Numbers) → c.sat ≡ None → c.dsat ≡ Some d → number_in n b ≡ number_in n t.base + number_in n d
       → Tells n (cs ++ costs_in n c ∷ []) (record { base = b; forced = t.forced; stuck = t.stuck; free = t.free; place = t.place + 1 }) slots
-  told_out c d b is_s is_d sum = rw (is_s, is_d) (tells_out (number_in n d) b sum)
+  told_out c d b is_s is_d sum =
+      rw (is_s, is_d) (tells None (Some (number_in n d)) _ slots refl (omega arith) (omega arith) (omega arith) sum (λ f. omega arith))
 
   pub told_stuck : (c : Child) → c.sat ≡ None → c.dsat ≡ None
       → Tells n (cs ++ costs_in n c ∷ []) (record { base = t.base; forced = t.forced; stuck = t.stuck + 1; free = t.free; place = t.place + 1 }) slots
-  told_stuck c is_s is_d = rw (is_s, is_d) tells_stuck
+  told_stuck c is_s is_d = rw (is_s, is_d) (tells None None _ slots refl (omega arith) refl (omega arith) (omega arith) (λ f. omega arith))
 
 -- each child has a place of its own
+below_by : (p i : ℕ) (s d : Option ℕ) → p < i → free_by (λ difference place. same place p) i s d ≡ 0
+below_by p i s d less = grind (arith, nat_tests)
+
 below_place : (p i : ℕ) (cs : List Costs) → p < i → over_free (λ difference place. same place p) i cs ≡ 0
 below_place p i [] less = refl
-below_place p i (c ∷ cs) less = go c.sat c.dsat (below_place p (suc i) cs (omega (arith, less)))
-  where
-    go : (s d : Option ℕ) → over_free (λ difference place. same place p) (suc i) cs ≡ 0 → over_free (λ difference place. same place p) i (costs s d ∷ cs) ≡ 0
-    go None d h = omega (arith, h)
-    go (Some s) None h = omega (arith, h)
-    go (Some s) (Some d) h = let n : same i p ≡ 0 = grind (arith, nat_tests) in omega (arith, h, n)
+below_place p i (c ∷ cs) less = omega (arith, below_by p i c.sat c.dsat less, below_place p (suc i) cs (omega (arith, less)))
 
-one_here : (p i : ℕ) (cs : List Costs) (b : Bool) → nat_eq i p ≡ b → over_free (λ difference place. same place p) (suc i) cs ≤ 1 →
-    (if b then 1 else 0) + over_free (λ difference place. same place p) (suc i) cs ≤ 1
-one_here p i cs true e h =
-    let is : i ≡ p = grind (arith, nat_tests) in
-    let none = below_place p (suc i) cs (omega (arith, is)) in
-    omega (arith, none)
-one_here p i cs false e h = omega (arith, h)
-
-one_place_step : (p i : ℕ) (s d : Option ℕ) (cs : List Costs) → over_free (λ difference place. same place p) (suc i) cs ≤ 1 →
-    over_free (λ difference place. same place p) i (costs s d ∷ cs) ≤ 1
-one_place_step p i None d cs h = omega (arith, h)
-one_place_step p i (Some s) None cs h = omega (arith, h)
-one_place_step p i (Some s) (Some d) cs h = one_here p i cs (nat_eq i p) refl h
+one_place_by : (p i n : ℕ) (s d : Option ℕ) → n ≤ 1 → (i ≡ p → n ≡ 0) → free_by (λ difference place. same place p) i s d + n ≤ 1
+one_place_by p i n s d h none = grind (arith, nat_tests)
 
 one_place : (p i : ℕ) (cs : List Costs) → over_free (λ difference place. same place p) i cs ≤ 1
 one_place p i [] = omega arith
-one_place p i (c ∷ cs) = one_place_step p i c.sat c.dsat cs (one_place p (suc i) cs)
+one_place p i (c ∷ cs) =
+    one_place_by p i (over_free (λ difference place. same place p) (suc i) cs) c.sat c.dsat (one_place p (suc i) cs)
+    (λ e. below_place p (suc i) cs (omega (arith, e)))
 
 -- what the free children that are satisfied weigh less is within the base
-gain_here : (s d : ℕ) (b : Bool) → (if b then down (pos s -ℤ pos d) else 0) ≤ d + (if b then up (pos s -ℤ pos d) else 0)
-gain_here s d true = omega (arith, ints)
-gain_here s d false = omega arith
-
-gain_step : (last : Option Slot) (i : ℕ) (s d : Option ℕ) (cs : List Costs) → over_free (downs last) (suc i) cs ≤ base cs + over_free (ups last) (suc i) cs →
-    over_free (downs last) i (costs s d ∷ cs) ≤ base (costs s d ∷ cs) + over_free (ups last) i (costs s d ∷ cs)
-gain_step last i None None cs h = omega (arith, h)
-gain_step last i None (Some d) cs h = omega (arith, h)
-gain_step last i (Some s) None cs h = omega (arith, h)
-gain_step last i (Some s) (Some d) cs h = let k = gain_here s d (is_within last (pos s -ℤ pos d) i) in omega (arith, h, k)
+gain_by : (last : Option Slot) (i : ℕ) (s d : Option ℕ) → free_by (downs last) i s d ≤ base_by s d + free_by (ups last) i s d
+gain_by last i s d = grind (arith, ints)
 
 gain_within : (last : Option Slot) (i : ℕ) (cs : List Costs) → over_free (downs last) i cs ≤ base cs + over_free (ups last) i cs
 gain_within last i [] = omega arith
-gain_within last i (c ∷ cs) = gain_step last i c.sat c.dsat cs (gain_within last (suc i) cs)
+gain_within last i (c ∷ cs) = omega (arith, gain_by last i c.sat c.dsat, gain_within last (suc i) cs)
 
 -- where so many of these children can't be satisfied and the others dissatisfied
 pub no_choice : (cs : List Costs) (k : ℕ) → (0 < stuck cs) ⊎ ((k < forced cs) ⊎ (forced cs + free cs < k)) → choose cs k ≡ None
@@ -194,14 +134,7 @@ no_choice cs k out = sym (lightest_is cs k) ∙ none_least (picks cs k) (greates
 -- where the tally says that there is no choice
 module _ (n : Number) (cs : List Costs) (t : Tally) (slots : List Slot) (told : Tells n cs t slots) where
   never_told : (k : ℕ) → (0 < t.stuck) ⊎ ((k < t.forced) ⊎ (t.forced + t.free < k)) → most_chosen cs k ≡ None
-  never_told k out =
-      none_chosen cs k (elim out [
-        | inl many ↦ inl (omega (arith, many, told.stuck))
-        | inr others ↦ elim others [
-          | inl few ↦ inr (inl (omega (arith, few, told.forced)))
-          | inr many ↦ inr (inr (omega (arith, many, told.forced, told.free)))
-        ]
-      ])
+  never_told k out = none_chosen cs k (grind (arith, out, told.stuck, told.forced, told.free))
 
   pub none_greatest : (k : ℕ) → (0 < t.stuck) ⊎ ((k < t.forced) ⊎ (t.forced + t.free < k)) → None ≡ greatest cs k
   none_greatest k out = sym (greatest_is cs k ∙ never_told k out)
@@ -211,16 +144,13 @@ module _ (n : Number) (cs : List Costs) (t : Tally) (slots : List Slot) (told : 
 
 -- what is there is what is known of it
 known : (o : Option ℕ) (m : ℕ) → Exactly o (λ n. n ≡ m) → Some m ≡ o
-known None m is = absurd is
-known (Some n) m is = ap Some (sym is)
+known o m is = grind arith
 
 exactly_weaker : (o : Option ℕ) (P Q : ℕ → Type 0) → ((u : ℕ) → P u → Q u) → Exactly o P → Exactly o Q
-exactly_weaker None P Q f h = h
-exactly_weaker (Some u) P Q f h = f u h
+exactly_weaker o P Q f h = grind arith
 
 not_below : (o : Option ℕ) (g : ℤ) (b : ℕ) → Exactly o (λ u. u + down g ≡ b + up g) → down g ≤ up g + b
-not_below None g b h = absurd h
-not_below (Some u) g b h = omega (arith, h)
+not_below o g b h = grind arith
 
 module _ (n : Number) (cs : List Costs) (t : Tally) (slots : List Slot) (told : Tells n cs t slots) where
   -- all dissatisfied
@@ -234,7 +164,7 @@ module _ (n : Number) (cs : List Costs) (t : Tally) (slots : List Slot) (told : 
   pub least_told : t.stuck ≡ 0 → t.forced ≡ 0 → Some (number_in n t.base) ≡ option_map (λ pick. pick.0) (lightest cs 0)
   least_told no_stuck no_forced =
       let r = attained None 0 cs (omega (arith, no_stuck, told.stuck)) in
-      let count : members None 0 cs ≡ 0 = omega (arith, no_forced, told.forced, nobody (λ d. 1) 0 cs) in
+      let count : r.count ≡ 0 = omega (arith, no_forced, told.forced, r.is, nobody (λ d. 1) 0 cs) in
       let weighs : number_in n t.base ≡ r.weight = omega (arith, r.weighs, told.base, nobody down 0 cs, nobody up 0 cs) in
       ap Some weighs ∙ sym (ap (option_map (λ pick. pick.0)) (lightest_is cs 0 ∙ ap (choose cs) (sym count) ∙ r.choice))
 
@@ -293,7 +223,7 @@ module _ (cs : List Costs) (t : Tally) (slots : List Slot) (told : Tells First c
       let front = front_told m ys choice.last gain s in
       let long : length (take m ys) ≡ m = length-take-le m ys s.enough in
       let r = attained choice.last 0 cs (omega (arith, no_stuck, told.stuck)) in
-      let count : members choice.last 0 cs ≡ k = omega (arith, wanted, told.forced, front (λ d. 1), total_ones (take m ys), long) in
+      let count : r.count ≡ k = omega (arith, wanted, told.forced, r.is, front (λ d. 1), total_ones (take m ys), long) in
       let weighs : choice.weight ≡ r.weight = omega (arith, sum, s.sum, told.base, front down, front up, r.weighs) in
       ap (λ w. Some (w, set_by choice.last 0 cs)) weighs ∙ sym (lightest_is cs k ∙ ap (choose cs) (sym count) ∙ r.choice)
 
