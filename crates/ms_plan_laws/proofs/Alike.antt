@@ -1,7 +1,8 @@
 -- Signatures of the same lengths: the strict choice takes the same keys, and its stacks differ in their signatures alone.
-use Rattle.std.proofs.Common.{◌≡◌, nat_lt, not, Bool, true, false, List, [], ◌∷◌, ◌++◌, length, map, filter, Contains, Option, Some, None, is_some, refl, sym, ◌∙◌, ap, subst, ◌⊎◌, inl, inr, arith, if◌then◌else◌}
+use Rattle.std.proofs.Common.{◌≡◌, Bool, true, false, List, [], ◌∷◌, ◌++◌, length, map, filter, Contains, Option, Some, None, is_some, refl, sym, ◌∙◌, ap, subst, ◌⊎◌, inl, inr, arith, if◌then◌else◌}
 use Rattle.std.specs.Option.{option_map}
 use Rattle.std.proofs.lemmas.Option.{none-some, same_Some}
+use Rattle.std.proofs.lemmas.Bool.Decides.{nat_tests}
 use Rattle.std.proofs.lemmas.List.{length-append}
 use Rattle.std.proofs.lemmas.List.Elements.{Contains-append_left, Contains-append_right, Contains-append_cases}
 use Rattle.def_script.specs.Bytes.{Bytes}
@@ -32,10 +33,9 @@ BothHave (x ∷ w) (y ∷ v) a b = ((x ≡ a) × (y ≡ b)) ⊎ BothHave w v a b
 
 pub have_cases : (w v w' v' : Stack) (a b : Bytes) → length w ≡ length v → BothHave (w ++ w') (v ++ v') a b → BothHave w v a b ⊎ BothHave w' v' a b
 have_cases [] [] w' v' a b e h = inr h
-have_cases [] (y ∷ v) w' v' a b e h = absurd (omega (arith, e))
-have_cases (x ∷ w) [] w' v' a b e h = absurd (omega (arith, e))
 have_cases (x ∷ w) (y ∷ v) w' v' a b e (inl h) = inl (inl h)
 have_cases (x ∷ w) (y ∷ v) w' v' a b e (inr h) = elim (have_cases w v w' v' a b (omega (arith, e)) h) [ inl i ↦ inl (inr i) | inr i ↦ inr i ]
+have_cases w v w' v' a b e h = absurd (omega (arith, e))
 
 pub have_left : (w v w' v' : Stack) (a b : Bytes) → BothHave w v a b → BothHave (w ++ w') (v ++ v') a b
 have_left [] v w' v' a b h = absurd h
@@ -45,9 +45,8 @@ have_left (x ∷ w) (y ∷ v) w' v' a b (inr h) = inr (have_left w v w' v' a b h
 
 pub have_right : (w v w' v' : Stack) (a b : Bytes) → length w ≡ length v → BothHave w' v' a b → BothHave (w ++ w') (v ++ v') a b
 have_right [] [] w' v' a b e h = h
-have_right [] (y ∷ v) w' v' a b e h = absurd (omega (arith, e))
-have_right (x ∷ w) [] w' v' a b e h = absurd (omega (arith, e))
 have_right (x ∷ w) (y ∷ v) w' v' a b e h = inr (have_right w v w' v' a b (omega (arith, e)) h)
+have_right w v w' v' a b e h = absurd (omega (arith, e))
 
 have_same : (w : Stack) (a b : Bytes) → BothHave w w a b → a ≡ b
 have_same [] a b h = absurd h
@@ -82,10 +81,7 @@ union-cons key keys = record {
 
 -- the same choice
 if_same : {A : Type 0} (s t : Bool) (a b c d : A) → s ≡ t → a ≡ c → b ≡ d → (if s then a else b) ≡ (if t then c else d)
-if_same true true a b c d e f g = f
-if_same false false a b c d e f g = g
-if_same true false a b c d e f g = absurd cc
-if_same false true a b c d e f g = absurd cc
+if_same s t a b c d e f g = rw (e, f, g) refl
 
 module _ (assets : Assets) (pairs : Pairs) where
   abbrev there : Assets
@@ -128,51 +124,19 @@ module _ (assets : Assets) (pairs : Pairs) where
   }
 
   same_both : (all below above : List Key) (a b a' b' : Option Stack) → Union all below above → Same below a a' → Same above b b' → Same all (both a b) (both a' b')
-  same_both all below above None b None b' u p q = tt
-  same_both all below above None b (Some v) b' u p q = absurd p
-  same_both all below above (Some w) b None b' u p q = absurd p
-  same_both all below above (Some w) None (Some v) None u p q = tt
-  same_both all below above (Some w) None (Some v) (Some y) u p q = absurd q
-  same_both all below above (Some w) (Some x) (Some v) None u p q = absurd q
-  same_both all below above (Some w) (Some x) (Some v) (Some y) u p q = marks_both all below above w v x y u p q
-
-  same_test : (w x v y : Stack) → weight w ≡ weight v → weight x ≡ weight y → nat_lt (weight x) (weight w) ≡ nat_lt (weight y) (weight v)
-  same_test w x v y e f = ap (λ n. nat_lt n (weight w)) f ∙ ap (λ n. nat_lt (weight y) n) e
+  same_both all below above a b a' b' u p q = grind (arith, λ (w v w' v' : Stack). marks_both all below above w v w' v' u)
 
   same_former : (ka kb : List Key) (a b a' b' : Option Stack) → Same ka a a' → Same kb b b' → is_former a b ≡ is_former a' b'
-  same_former ka kb None b None b' p q = refl
-  same_former ka kb None b (Some v) b' p q = absurd p
-  same_former ka kb (Some w) b None b' p q = absurd p
-  same_former ka kb (Some w) None (Some v) None p q = refl
-  same_former ka kb (Some w) None (Some v) (Some y) p q = absurd q
-  same_former ka kb (Some w) (Some x) (Some v) None p q = absurd q
-  same_former ka kb (Some w) (Some x) (Some v) (Some y) p q = ap not (same_test w x v y p.light q.light)
+  same_former ka kb a b a' b' p q = grind (arith, nat_tests)
 
   same_lighter : (ka kb : List Key) (a b a' b' : Option Stack) → Same ka a a' → Same kb b b' → Same (if is_former a b then ka else kb) (lighter a b) (lighter a' b')
-  same_lighter ka kb None b None b' p q = q
-  same_lighter ka kb None b (Some v) b' p q = absurd p
-  same_lighter ka kb (Some w) b None b' p q = absurd p
-  same_lighter ka kb (Some w) None (Some v) None p q = p
-  same_lighter ka kb (Some w) None (Some v) (Some y) p q = absurd q
-  same_lighter ka kb (Some w) (Some x) (Some v) None p q = absurd q
-  same_lighter ka kb (Some w) (Some x) (Some v) (Some y) p q =
-      go (nat_lt (weight x) (weight w)) (nat_lt (weight y) (weight v)) (same_test w x v y p.light q.light)
-    where
-      go : (s t : Bool) → s ≡ t → Same (if not s then ka else kb) (if s then Some x else Some w) (if t then Some y else Some v)
-      go true true e = q
-      go false false e = p
-      go true false e = absurd cc
-      go false true e = absurd cc
+  same_lighter ka kb a b a' b' p q = grind (arith, nat_tests)
 
   same_takes : (ka kb : List Key) (f g a b a' b' : Option Stack) → Same ka a a' → Same kb b b' → takes_former f g a b ≡ takes_former f g a' b'
-  same_takes ka kb (Some u) g a b a' b' p q = refl
-  same_takes ka kb None (Some u) a b a' b' p q = refl
-  same_takes ka kb None None a b a' b' p q = same_former ka kb a b a' b' p q
+  same_takes ka kb f g a b a' b' p q = grind (arith, same_former ka kb a b a' b' p q)
 
   same_first : (ka kb : List Key) (f g a b a' b' : Option Stack) → Same ka a a' → Same kb b b' → Same (if takes_former f g a b then ka else kb) (free_first f g a b) (free_first f g a' b')
-  same_first ka kb (Some u) g a b a' b' p q = p
-  same_first ka kb None (Some u) a b a' b' p q = q
-  same_first ka kb None None a b a' b' p q = rw (lighter-none b, lighter-none b') (same_lighter ka kb a b a' b' p q)
+  same_first ka kb f g a b a' b' p q = grind (arith, lighter-none b, lighter-none b', same_lighter ka kb a b a' b' p q)
 
   -- of sets
   same_sets : (keys : List Bool → List Key) (f g : List Bool → Option Stack) → ((set : List Bool) → Same (keys set) (f set) (g set)) → (xs : List (List Bool)) →
@@ -186,8 +150,7 @@ module _ (assets : Assets) (pairs : Pairs) where
     where
       pulled : (test : Bool) → Same (if test then keys x else keys (set_taken f xs)) (least (map f (x ∷ xs))) (least (map g (x ∷ xs))) →
           Same (keys (if test then x else set_taken f xs)) (least (map f (x ∷ xs))) (least (map g (x ∷ xs)))
-      pulled true h = h
-      pulled false h = h
+      pulled test h = grind arith
 
   free_same : (xs : Trees) → free_children assets xs ≡ free_children there xs
   free_same none = refl

@@ -1,6 +1,6 @@
 -- The strict choice under the signatures of the keys that it takes alone: they are enough for a tight satisfaction that
 -- weighs no more, where none of them is longer.
-use Rattle.std.proofs.Common.{◌≡◌, ◌≤◌, Bool, true, false, not, ◌&&◌, ◌||◌, List, [], ◌∷◌, ◌++◌, length, reverse, Contains, Option, Some, None, is_some, refl, sym, ◌∙◌, ap, subst, inl, inr, arith, if◌then◌else◌}
+use Rattle.std.proofs.Common.{◌≡◌, ◌≤◌, Bool, true, false, not, ◌&&◌, ◌||◌, List, [], ◌∷◌, ◌++◌, length, reverse, Contains, Option, Some, None, is_some, refl, sym, ◌∙◌, ap, subst, inl, inr, arith}
 use Rattle.std.proofs.lemmas.Bool.{false≢true}
 use Rattle.std.proofs.lemmas.Option.{none-some, same_Some}
 use Rattle.std.proofs.lemmas.List.{length-append}
@@ -46,19 +46,13 @@ behind table (k ∷ keys) key (g ∷ sigs) sig good (inl h) = inl (h.0, behind t
 behind table (k ∷ keys) key (g ∷ sigs) sig good (inr h) = inr (behind table keys key (g ∷ sigs) sig good h)
 
 pub not_wanted : (wanted : Bool) (rest : Bool) → ((not wanted || false) && rest) ≡ true → (wanted ≡ false) × (rest ≡ true)
-not_wanted true rest h = absurd (false≢true h)
-not_wanted false rest h = (refl, h)
+not_wanted wanted rest h = grind arith
 
 pub wanted_or_not : (wanted : Bool) (rest : Bool) → ((not wanted || true) && rest) ≡ true → rest ≡ true
-wanted_or_not true rest h = h
-wanted_or_not false rest h = h
+wanted_or_not wanted rest h = grind arith
 
 pub not_free : (assets : Assets) → AreAssets assets → (x : Tree) → IsWritable x → is_some (free assets x) ≡ false → HasOne (free_row assets x).sat → ⊥
-not_free assets are x writable e one = go (free assets x) (free_best assets are x writable) e
-  where
-    go : (o : Option Stack) → IsLightest (free_row assets x).sat o → is_some o ≡ false → ⊥
-    go None best e = let k = best.lightest one.0 one.1 in none-some k.0 k.1
-    go (Some v) best e = false≢true (sym e)
+not_free assets are x writable e one = let k = (free_best assets are x writable).lightest one.0 one.1 in false≢true (sym e ∙ ap is_some k.1)
 
 module _ (Light : Type 0) where
   -- beside what is chosen is a stack of the set that weighs no more, where `Light` is so
@@ -109,21 +103,10 @@ module _ (Light : Type 0) where
     right : (a b : List Key) → Signed (a ++ b) → Signed b
     right a b h key i = h key (Contains-append_right a b key i)
 
-    if_former : (test : Bool) (a b : List Key) → Signed (if test then a else b) → test ≡ true → Signed a
-    if_former true a b h e = h
-    if_former false a b h e = absurd (false≢true e)
-
-    if_latter : (test : Bool) (a b : List Key) → Signed (if test then a else b) → test ≡ false → Signed b
-    if_latter true a b h e = absurd (false≢true (sym e))
-    if_latter false a b h e = h
-
-    signature_enough : (key : Key) → Signed (key ∷ []) → (sig : Bytes) → sig_of assets key ≡ Some sig → (g : Bytes) × (is_good pairs key g ≡ true) × (Light → length g ≤ length sig)
-    signature_enough key h sig e = h key (0, omega arith, refl) sig e
-
     item_enough : (key : Key) → Signed (key ∷ []) → Enough (item (sig_of assets key)) (signed_row there (pk_k key)).sat
     item_enough key h w e =
         let i = item_is (sig_of assets key) w e in
-        let x = signature_enough key h i.0 i.1 in
+        let x = h key (0, omega arith, refl) i.0 i.1 in
         let f : weight w ≡ weight (i.0 ∷ []) = ap weight i.2 in
         (x.0 ∷ [], (x.0, x.1, refl), λ light. let a = x.2 light in omega (arith, f, a))
 
@@ -169,9 +152,9 @@ module _ (Light : Type 0) where
           (best_both _ _ _ _ (free_best assets are z w.2) (free_dsat_best assets are x w.0))
           (below_free _ _ _ _ (tight_free there y) (tight_free there x))
           (below_free _ _ _ _ (tight_free there z) (always _ _ (free_dsat there x)))
-          (λ e. let s = if_former _ (taken assets x ++ taken assets y) (taken assets z) h e in
+          (λ e. let s = rw e at h in
           both_enough _ _ _ _ (taken_enough y w.1 (right (taken assets x) (taken assets y) s)) (taken_enough x w.0 (left (taken assets x) (taken assets y) s)))
-          (λ e. both_enough _ _ _ _ (taken_enough z w.2 (if_latter _ (taken assets x ++ taken assets y) (taken assets z) h e)) (dsat_enough x w.0))
+          (λ e. both_enough _ _ _ _ (taken_enough z w.2 (rw e at h)) (dsat_enough x w.0))
       taken_enough (two kind.AndV x y) w h =
           both_enough _ _ _ _ (taken_enough y w.1 (right (taken assets x) (taken assets y) h)) (taken_enough x w.0 (left (taken assets x) (taken assets y) h))
       taken_enough (two kind.AndB x y) w h =
@@ -182,24 +165,24 @@ module _ (Light : Type 0) where
           (best_both _ _ _ _ (free_best assets are z w.1) (free_dsat_best assets are x w.0))
           (below_free _ _ _ _ (always _ _ (free_dsat there z)) (tight_free there x))
           (below_free _ _ _ _ (tight_free there z) (always _ _ (free_dsat there x)))
-          (λ e. both_enough _ _ _ _ (dsat_enough z w.1) (taken_enough x w.0 (left (taken assets x) [] (if_former _ (taken assets x ++ []) (taken assets z) h e))))
-          (λ e. both_enough _ _ _ _ (taken_enough z w.1 (if_latter _ (taken assets x ++ []) (taken assets z) h e)) (dsat_enough x w.0))
+          (λ e. both_enough _ _ _ _ (dsat_enough z w.1) (taken_enough x w.0 (left (taken assets x) [] (rw e at h))))
+          (λ e. both_enough _ _ _ _ (taken_enough z w.1 (rw e at h)) (dsat_enough x w.0))
       taken_enough (two kind.OrI x z) w h =
           first_enough _ _ _ _ _ _ _ _
           (best_both _ _ _ _ (free_best assets are x w.0) (is_best ONE))
           (best_both _ _ _ _ (free_best assets are z w.1) (is_best EMPTY))
           (below_free _ _ _ _ (tight_free there x) (always _ _ (same _)))
           (below_free _ _ _ _ (tight_free there z) (always _ _ (same _)))
-          (λ e. both_enough _ _ _ _ (taken_enough x w.0 (if_former _ (taken assets x) (taken assets z) h e)) (is_enough ONE))
-          (λ e. both_enough _ _ _ _ (taken_enough z w.1 (if_latter _ (taken assets x) (taken assets z) h e)) (is_enough EMPTY))
+          (λ e. both_enough _ _ _ _ (taken_enough x w.0 (rw e at h)) (is_enough ONE))
+          (λ e. both_enough _ _ _ _ (taken_enough z w.1 (rw e at h)) (is_enough EMPTY))
       taken_enough (two which x z) w h =
           first_enough _ _ _ _ _ _ _ _
           (free_best assets are x w.0)
           (best_both _ _ _ _ (free_best assets are z w.1) (free_dsat_best assets are x w.0))
           (tight_free there x)
           (below_free _ _ _ _ (tight_free there z) (always _ _ (free_dsat there x)))
-          (λ e. taken_enough x w.0 (if_former _ (taken assets x) (taken assets z) h e))
-          (λ e. both_enough _ _ _ _ (taken_enough z w.1 (if_latter _ (taken assets x) (taken assets z) h e)) (dsat_enough x w.0))
+          (λ e. taken_enough x w.0 (rw e at h))
+          (λ e. both_enough _ _ _ _ (taken_enough z w.1 (rw e at h)) (dsat_enough x w.0))
       taken_enough (thresh k xs) w h = λ v e.
           let t = set_is_taken (λ set. IsSet (count xs) k set × (has_all (free_children assets xs) set ≡ true)) (stack_of (strict_children assets xs)) _
           (each-filter (IsSet (count xs) k) (has_all (free_children assets xs)) (sets (count xs) k) (sets_are (count xs) k)) v e in

@@ -1,9 +1,9 @@
 -- What assets hold beside a table: signatures that are found and held, and signatures of estimated lengths.
-use Rattle.std.proofs.Common.{◌≡◌, ℕ, zero, suc, ◌≤◌, Bool, true, false, List, [], ◌∷◌, length, map, replicate, find, Contains, Option, Some, None, IsSome, refl, sym, ◌∙◌, ap, subst, arith, if◌then◌else◌}
+use Rattle.std.proofs.Common.{◌≡◌, ℕ, zero, suc, ◌≤◌, List, [], ◌∷◌, length, map, replicate, find, Contains, Option, Some, None, IsSome, refl, sym, ◌∙◌, ap, subst, inl, inr, arith}
 use Rattle.std.specs.Option.{option_map}
 use Rattle.std.specs.List.{IsDistinct}
 use Rattle.std.specs.Str.{bytes_eq}
-use Rattle.std.proofs.lemmas.Bool.{false≢true}
+use Rattle.std.proofs.lemmas.Bool.{false≢true, cases_Bool}
 use Rattle.std.proofs.lemmas.List.{length-replicate}
 use Rattle.std.proofs.lemmas.List.Elements.{All-map}
 use Rattle.def_script.specs.Bytes.{Bytes, IsBytes}
@@ -40,13 +40,7 @@ lengths_keys (pair ∷ pairs) = ap (λ ks. pair.0 ∷ ks) (lengths_keys pairs)
 
 length_found : (pairs : Pairs) (key : Key) → length_of (lengths_of pairs) key ≡ option_map length (option_map (λ pair. pair.1) (find (λ pair. bytes_eq pair.0 key) pairs))
 length_found [] key = refl
-length_found (pair ∷ pairs) key = go (bytes_eq pair.0 key) (length_found pairs key)
-  where
-    go : (test : Bool) → length_of (lengths_of pairs) key ≡ option_map length (option_map (λ p. p.1) (find (λ p. bytes_eq p.0 key) pairs)) →
-        option_map (λ entry. entry.1) (if test then Some (pair.0, length pair.1) else find (λ entry. bytes_eq entry.0 key) (lengths_of pairs)) ≡
-        option_map length (option_map (λ p. p.1) (if test then Some pair else find (λ p. bytes_eq p.0 key) pairs))
-    go true more = refl
-    go false more = more
+length_found (pair ∷ pairs) key = elim (cases_Bool (bytes_eq pair.0 key)) [ inl e ↦ rw e refl | inr e ↦ rw e (length_found pairs key) ]
 
 pub length_is : (assets : Assets) (table : Lengths) → AreLengths table → (other : Assets) → IsEstimate assets table other → (key : Key) →
     length_of table key ≡ option_map length (sig_of other key)

@@ -21,7 +21,7 @@ part_left (k ∷ a) [] d h = absurd h
 part_left (k ∷ a) (f ∷ b) d (inl h) = inl (h.0, part_left a b d h.1)
 part_left (k ∷ a) (f ∷ b) d (inr h) = inr (part_left (k ∷ a) b d h)
 
-part_both : (a b c d : List Key) → IsPartOf a b → IsPartOf c d → IsPartOf (a ++ c) (b ++ d)
+pub part_both : (a b c d : List Key) → IsPartOf a b → IsPartOf c d → IsPartOf (a ++ c) (b ++ d)
 part_both [] b c d h k = part_right c b d k
 part_both (x ∷ a) [] c d h k = absurd h
 part_both (x ∷ a) (f ∷ b) c d (inl h) k = inl (h.0, part_both a b c d h.1 k)

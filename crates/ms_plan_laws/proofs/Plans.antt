@@ -71,24 +71,17 @@ plan_is tree assets plan h = go (strict_of assets tree) refl h
   where
     go : (o : Option Stack) → strict_of assets tree ≡ o → option_map (λ stack. record { keys = taken assets tree; weight = weight stack }) (option_map reverse o) ≡ Some plan → IsPlan tree assets plan
     go None e k = absurd (none-some plan k)
-    go (Some w) e k =
-        let same : record { keys = taken assets tree; weight = weight (reverse w) } ≡ plan = same_Some _ plan k in
-        record { stack = w; strict = e; keys = sym (ap (λ (p : Plan). p.keys) same); weight = sym (ap (λ (p : Plan). p.weight) same) ∙ weight-reverse w }
+    go (Some w) e k = record { stack = w; strict = e; keys = cc; weight = cc (weight-reverse w) }
 
 -- a stack with keys as a plan
 abbrev as_plan : List Key → List Bytes → Plan
 as_plan ks stack = record { keys = ks; weight = weight stack }
 
 none_planned : (tree : Tree) (assets : Assets) → plan_with tree assets ≡ None → strict tree assets ≡ None
-none_planned tree assets h = go (strict tree assets) h
-  where
-    go : (o : Option (List Bytes)) → option_map (as_plan (taken assets tree)) o ≡ None → o ≡ None
-    go None k = refl
-    go (Some w) k = absurd (none-some _ (sym k))
+none_planned tree assets h = grind arith
 
 none_or_some : {A : Type 0} (o : Option A) → ((x : A) → o ≡ Some x → ⊥) → o ≡ None
-none_or_some None h = refl
-none_or_some (Some x) h = absurd (h x refl)
+none_or_some o h = grind arith
 
 -- with other signatures of the same lengths
 plan_same : (tree : Tree) (assets : Assets) (pairs : Pairs) → ((key : Key) → option_map length (sig_of assets key) ≡ option_map length (sig_of (with_pairs assets pairs) key)) →
@@ -99,12 +92,7 @@ plan_same tree assets pairs lengths =
   where
     go : (m n : Option Stack) (ks ls : List Key) → ks ≡ ls → Same assets pairs (taken assets tree) m n →
         option_map (as_plan ks) (option_map reverse m) ≡ option_map (as_plan ls) (option_map reverse n)
-    go None None ks ls e h = refl
-    go None (Some v) ks ls e h = absurd h
-    go (Some w) None ks ls e h = absurd h
-    go (Some w) (Some v) ks ls e h =
-        let l : weight (reverse w) ≡ weight (reverse v) = weight-reverse w ∙ h.light ∙ sym (weight-reverse v) in
-        rw (e, l) refl
+    go m n ks ls e h = grind (arith, weight-reverse)
 
 -- two estimates
 pub estimates_alike : (assets : Assets) (table : Lengths) → AreLengths table → (one other : Assets) → IsEstimate assets table one
@@ -117,6 +105,9 @@ estimates_alike assets table lengths one other h k tree =
 pub lengths_decide : LengthsDecideAll
 lengths_decide tree assets table input other are estimate =
     estimates_alike assets table input.lengths (estimated assets table) other (estimate_exists assets table input.held input.lengths).0 estimate tree
+
+length_of_some : (o : Option Bytes) (n : ℕ) → option_map length o ≡ Some n → (g : Bytes) × (o ≡ Some g) × (length g ≡ n)
+length_of_some o n h = grind arith
 
 module _ (tree : Tree) (assets : Assets) (table : Lengths) (input : IsInput tree assets table) where
   abbrev F : Assets
@@ -133,11 +124,7 @@ module _ (tree : Tree) (assets : Assets) (table : Lengths) (input : IsInput tree
 
   -- a listed key has a signature of its length
   listed : (key : Key) (n : ℕ) → length_of table key ≡ Some n → (g : Bytes) × (sig_of F key ≡ Some g) × (length g ≡ n)
-  listed key n h = go (sig_of F key) refl (sym (length_is assets table input.lengths F is_estimate key) ∙ h)
-    where
-      go : (o : Option Bytes) → sig_of F key ≡ o → option_map length o ≡ Some n → (g : Bytes) × (sig_of F key ≡ Some g) × (length g ≡ n)
-      go None e k = absurd (none-some n k)
-      go (Some g) e k = (g, e, same_Some (length g) n k)
+  listed key n h = length_of_some (sig_of F key) n (sym (length_is assets table input.lengths F is_estimate key) ∙ h)
 
   of_length : (key : Key) (sig : Bytes) → sig_of F key ≡ Some sig → length_of table key ≡ Some (length sig)
   of_length key sig h = length_is assets table input.lengths F is_estimate key ∙ ap (option_map length) h

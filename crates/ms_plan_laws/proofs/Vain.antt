@@ -41,7 +41,7 @@ use Rattle.def_choice.proofs.StrictTight.{free_best, free_dsat_best}
 use Rattle.ms_plan_laws.proofs.Sets.{first_taken, both_joined, each-filter, ones, IsSet, sets_are, set_is_taken}
 use Rattle.ms_plan_laws.proofs.Moved.{with_pairs}
 use Rattle.ms_plan_laws.proofs.Enough.{not_wanted, wanted_or_not, not_free}
-use Rattle.ms_plan_laws.proofs.Order.{taken_in, children_in, first_or_other, in_part, set_part}
+use Rattle.ms_plan_laws.proofs.Order.{taken_part, part_both, taken_in, children_in, first_or_other, in_part, set_part}
 
 -- where the former of two options is taken and the latter is free, the former is free too
 former_free : (F G : StackSet) (f g a b : Option Stack) → IsLightest F f → IsLightest G g → takes_former f g a b ≡ true → HasOne G → HasOne F
@@ -51,8 +51,7 @@ former_free F G None None a b ff gg e one = let k = gg.lightest one.0 one.1 in a
 
 -- where the latter is taken, the former isn't free
 latter_free : (F : StackSet) (f g a b : Option Stack) → IsLightest F f → takes_former f g a b ≡ false → HasOne F → ⊥
-latter_free F (Some v) g a b ff e one = false≢true (sym e)
-latter_free F None g a b ff e one = let k = ff.lightest one.0 one.1 in none-some k.0 k.1
+latter_free F f g a b ff e one = let k = ff.lightest one.0 one.1 in false≢true (sym e ∙ ap (λ o. takes_former o g a b) k.1)
 
 -- which option is taken, and what that says of free ones
 option_taken : (F G : StackSet) (f g a b : Option Stack) → IsLightest F f → IsLightest G g → (w : Stack) → free_first f g a b ≡ Some w →
@@ -97,12 +96,10 @@ without k (key ∷ own) (b ∷ set) = (b && not (bytes_eq key k)) ∷ without k 
 no_more : (k : Key) (own : List Key) (set : List Bool) → ones (without k own set) ≤ ones set
 no_more k [] set = omega arith
 no_more k (c ∷ own) [] = omega arith
-no_more k (c ∷ own) (false ∷ set) = no_more k own set
-no_more k (c ∷ own) (true ∷ set) = step (not (bytes_eq c k)) (no_more k own set)
+no_more k (c ∷ own) (b ∷ set) = step b (not (bytes_eq c k)) (without k own set) set (no_more k own set)
   where
-    step : (b : Bool) → ones (without k own set) ≤ ones set → ones (b ∷ without k own set) ≤ suc (ones set)
-    step true n = omega (arith, n)
-    step false n = omega (arith, n)
+    step : (b c : Bool) (m n : List Bool) → ones m ≤ ones n → ones ((b && c) ∷ m) ≤ ones (b ∷ n)
+    step b c m n le = grind arith
 
 fewer_ones : (own : List Key) (set : List Bool) (k : Key) → Contains (keys_of_set own set) k → suc (ones (without k own set)) ≤ ones set
 fewer_ones [] set k i = absurd (no_element k i)
@@ -135,12 +132,29 @@ module _ (assets : Assets) (are : AreAssets assets) (pairs : Pairs) where
   Missing some = (key : Key) × Contains some key × ((sig : Bytes) → is_good pairs key sig ≡ false)
 
   -- those of a part
-  only_of : (some own a b : List Key) → ((key : Key) → Contains b key → Contains own key) → ((key : Key) → Contains b key → Contains some key → Contains a key) → OnlySign some own → OnlySign a b
-  only_of some own a b among back h key sig i good = back key i (h key sig (among key i) good)
+  in_left : (some a b : List Key) → OnlySign some (a ++ b) → OnlySign some a
+  in_left some a b h key sig i = h key sig (Contains-append_left a b key i)
 
-  none_of : (some own b : List Key) → ((key : Key) → Contains b key → Contains own key) → ((key : Key) → Contains b key → Contains some key → ⊥) → OnlySign some own → NoneSigns b
-  none_of some own b among apart h key sig i =
-      elim (cases_Bool (is_good pairs key sig)) [ inl good ↦ absurd (apart key i (h key sig (among key i) good)) | inr bad ↦ bad ]
+  in_right : (some a b : List Key) → OnlySign some (a ++ b) → OnlySign some b
+  in_right some a b h key sig i = h key sig (Contains-append_right a b key i)
+
+  only_left : (p q a b : List Key) → Disjoint a b → ((key : Key) → Contains q key → Contains b key) → OnlySign (p ++ q) (a ++ b) → OnlySign p a
+  only_left p q a b apart among h key sig i good =
+      elim (Contains-append_cases p q key (in_left (p ++ q) a b h key sig i good)) [ inl k ↦ k | inr k ↦ absurd (apart key i (among key k)) ]
+
+  only_right : (p q a b : List Key) → Disjoint a b → ((key : Key) → Contains p key → Contains a key) → OnlySign (p ++ q) (a ++ b) → OnlySign q b
+  only_right p q a b apart among h key sig i good =
+      elim (Contains-append_cases p q key (in_right (p ++ q) a b h key sig i good)) [ inl k ↦ absurd (apart key (among key k) i) | inr k ↦ k ]
+
+  none_of : (some own : List Key) → ((key : Key) → Contains own key → Contains some key → ⊥) → OnlySign some own → NoneSigns own
+  none_of some own apart h key sig i =
+      elim (cases_Bool (is_good pairs key sig)) [ inl good ↦ absurd (apart key i (h key sig i good)) | inr bad ↦ bad ]
+
+  none_left : (some a b : List Key) → Disjoint a b → ((key : Key) → Contains some key → Contains b key) → OnlySign some (a ++ b) → NoneSigns a
+  none_left some a b apart among h = none_of some a (λ key i j. apart key i (among key j)) (in_left some a b h)
+
+  none_right : (some a b : List Key) → Disjoint a b → ((key : Key) → Contains some key → Contains a key) → OnlySign some (a ++ b) → NoneSigns b
+  none_right some a b apart among h = none_of some b (λ key i j. apart key (among key j) i) (in_right some a b h)
 
   freed : (t : Tree) → Fits t → NoneSigns (keys t) → (w : Stack) → Sats t w → HasOne (free_row assets t).sat
   freed t f h =
@@ -156,51 +170,18 @@ module _ (assets : Assets) (are : AreAssets assets) (pairs : Pairs) where
       elim (or_cases (mall_of x).s (mall_of z).s e) [ inl a ↦ signs assets x f.typed a p.0 p.1 | inr a ↦ signs assets z g.typed a q.0 q.1 ]
 
   -- two parts of a tree: both, of which one lacks a signature
-  left_keys : (x y : Tree) → Disjoint (keys x) (keys y) → OnlySign (taken assets x ++ taken assets y) (keys x ++ keys y) → OnlySign (taken assets x) (keys x)
-  left_keys x y apart =
-      only_of (taken assets x ++ taken assets y) (keys x ++ keys y) (taken assets x) (keys x) (Contains-append_left (keys x) (keys y))
-      (λ key i j. elim (Contains-append_cases (taken assets x) (taken assets y) key j) [ inl k ↦ k | inr k ↦ absurd (apart key i (taken_in assets y key k)) ])
-
-  right_keys : (x y : Tree) → Disjoint (keys x) (keys y) → OnlySign (taken assets x ++ taken assets y) (keys x ++ keys y) → OnlySign (taken assets y) (keys y)
-  right_keys x y apart =
-      only_of (taken assets x ++ taken assets y) (keys x ++ keys y) (taken assets y) (keys y) (Contains-append_right (keys x) (keys y))
-      (λ key i j. elim (Contains-append_cases (taken assets x) (taken assets y) key j) [ inl k ↦ absurd (apart key (taken_in assets x key k) i) | inr k ↦ k ])
-
   both_empty : (x y : Tree) → Disjoint (keys x) (keys y) → OnlySign (taken assets x ++ taken assets y) (keys x ++ keys y) → Missing (taken assets x ++ taken assets y) →
       (OnlySign (taken assets x) (keys x) → Missing (taken assets x) → IsEmpty (Sats x)) →
       (OnlySign (taken assets y) (keys y) → Missing (taken assets y) → IsEmpty (Sats y)) → IsEmpty (Both (Sats y) (Sats x))
   both_empty x y apart only missing of_x of_y w (below, above, i, j, e) =
       elim (Contains-append_cases (taken assets x) (taken assets y) missing.0 missing.1) [
-        | inl k ↦ of_x (left_keys x y apart only) (missing.0, k, missing.2) above j
-        | inr k ↦ of_y (right_keys x y apart only) (missing.0, k, missing.2) below i
+        | inl k ↦ of_x (only_left (taken assets x) (taken assets y) (keys x) (keys y) apart (taken_in assets y) only) (missing.0, k, missing.2) above j
+        | inr k ↦ of_y (only_right (taken assets x) (taken assets y) (keys x) (keys y) apart (taken_in assets x) only) (missing.0, k, missing.2) below i
       ]
-
-  -- two options: the one that is taken lacks a signature
-  sub_left : (x z : Tree) (some : List Key) → OnlySign some (keys x ++ keys z) → OnlySign some (keys x)
-  sub_left x z some = only_of some (keys x ++ keys z) some (keys x) (Contains-append_left (keys x) (keys z)) (λ key i j. j)
-
-  sub_right : (x z : Tree) (some : List Key) → OnlySign some (keys x ++ keys z) → OnlySign some (keys z)
-  sub_right x z some = only_of some (keys x ++ keys z) some (keys z) (Contains-append_right (keys x) (keys z)) (λ key i j. j)
-
-  no_latter : (x z : Tree) → Disjoint (keys x) (keys z) → OnlySign (taken assets x) (keys x ++ keys z) → NoneSigns (keys z)
-  no_latter x z apart =
-      none_of (taken assets x) (keys x ++ keys z) (keys z) (Contains-append_right (keys x) (keys z)) (λ key i j. apart key (taken_in assets x key j) i)
-
-  no_former : (x z : Tree) → Disjoint (keys x) (keys z) → OnlySign (taken assets z) (keys x ++ keys z) → NoneSigns (keys x)
-  no_former x z apart =
-      none_of (taken assets z) (keys x ++ keys z) (keys x) (Contains-append_left (keys x) (keys z)) (λ key i j. apart key i (taken_in assets z key j))
 
   -- the facts of the option that is taken
   abbrev OnOption : Bool → (former latter : List Key) → (own : List Key) → Type 0
   OnOption test former latter own = OnlySign (if test then former else latter) own × Missing (if test then former else latter)
-
-  if_former : (test : Bool) (a b own : List Key) → OnOption test a b own → test ≡ true → OnlySign a own × Missing a
-  if_former true a b own h e = h
-  if_former false a b own h e = absurd (false≢true e)
-
-  if_latter : (test : Bool) (a b own : List Key) → OnOption test a b own → test ≡ false → OnlySign b own × Missing b
-  if_latter true a b own h e = absurd (false≢true (sym e))
-  if_latter false a b own h e = h
 
   few_signers : (own : List Key) (set : List Bool) (k : Key) → AreDistinct own → OnlySign (keys_of_set own set) own → ((sig : Bytes) → is_good pairs k sig ≡ false) →
       (sigs : Stack) → AreSignatures pairs (reverse own) sigs → length sigs ≤ ones (without k own set)
@@ -223,8 +204,7 @@ module _ (assets : Assets) (are : AreAssets assets) (pairs : Pairs) where
       tail true c j i = elim (first_or_other key (keys_of_set own set) c i) [ inl e ↦ absurd (d.0 (subst (Contains own) e j)) | inr i ↦ i ]
 
       at_least : (c : Bool) → length sigs ≤ ones (without k own set) → length sigs ≤ ones (c ∷ without k own set)
-      at_least true n = omega (arith, n)
-      at_least false n = n
+      at_least c n = grind arith
 
       one_more : (b : Bool) → Contains (if b then key ∷ keys_of_set own set else keys_of_set own set) key → (sig : Bytes) → is_good pairs key sig ≡ true
           → {m : ℕ} → m ≤ ones (without k own set) → length sigs ≡ suc m →
@@ -243,32 +223,21 @@ module _ (assets : Assets) (are : AreAssets assets) (pairs : Pairs) where
       (b ≡ Some w → OnlySign latter own → Missing latter → IsEmpty Q) → (OnlySign latter own → (HasOne F → ⊥) → IsEmpty P) → IsEmpty (Either P Q)
   options_empty F G P Q f g a b former latter own w ff gg e on of_first no_second of_second no_first =
       elim (option_taken F G f g a b ff gg w e) [
-        | inl h ↦ (let o = if_former _ former latter own on h.0 in λ v r. elim r [ inl p ↦ of_first h.1 o.0 o.1 v p | inr q ↦ no_second o.0 h.2 v q ])
-        | inr h ↦ (let o = if_latter _ former latter own on h.0 in λ v r. elim r [ inl p ↦ no_first o.0 h.2 v p | inr q ↦ of_second h.1 o.0 o.1 v q ])
+        | inl h ↦ (let o = rw h.0 at on in λ v r. elim r [ inl p ↦ of_first h.1 o.0 o.1 v p | inr q ↦ no_second o.0 h.2 v q ])
+        | inr h ↦ (let o = rw h.0 at on in λ v r. elim r [ inl p ↦ no_first o.0 h.2 v p | inr q ↦ of_second h.1 o.0 o.1 v q ])
       ]
 
   -- the children of a threshold: no more are satisfied than are chosen
   rest_only : (x : Tree) (xs : Trees) (set : List Bool) → Disjoint (keys x) (keys_of_all xs) →
       OnlySign (taken assets x ++ taken_of_children assets xs set) (keys x ++ keys_of_all xs) → OnlySign (taken_of_children assets xs set) (keys_of_all xs)
-  rest_only x xs set apart =
-      only_of _ _ (taken_of_children assets xs set) (keys_of_all xs) (Contains-append_right (keys x) (keys_of_all xs))
-      (λ key i j. elim (Contains-append_cases (taken assets x) (taken_of_children assets xs set) key j) [ inl k ↦ absurd (apart key (taken_in assets x key k) i) | inr k ↦ k ])
-
-  child_only : (x : Tree) (xs : Trees) (set : List Bool) → Disjoint (keys x) (keys_of_all xs) →
-      OnlySign (taken assets x ++ taken_of_children assets xs set) (keys x ++ keys_of_all xs) → OnlySign (taken assets x) (keys x)
-  child_only x xs set apart =
-      only_of _ _ (taken assets x) (keys x) (Contains-append_left (keys x) (keys_of_all xs))
-      (λ key i j. elim (Contains-append_cases (taken assets x) (taken_of_children assets xs set) key j) [ inl k ↦ k | inr k ↦ absurd (apart key i (children_in assets xs set key k)) ])
-
-  others_only : (x : Tree) (xs : Trees) (set : List Bool) → OnlySign (taken_of_children assets xs set) (keys x ++ keys_of_all xs) → OnlySign (taken_of_children assets xs set) (keys_of_all xs)
-  others_only x xs set = only_of _ _ (taken_of_children assets xs set) (keys_of_all xs) (Contains-append_right (keys x) (keys_of_all xs)) (λ key i j. j)
+  rest_only x xs set apart = only_right (taken assets x) (taken_of_children assets xs set) (keys x) (keys_of_all xs) apart (taken_in assets x)
 
   -- a child that isn't chosen isn't satisfied
   not_chosen : (x : Tree) (xs : Trees) (set : List Bool) → Fits x → Disjoint (keys x) (keys_of_all xs) → is_some (free assets x) ≡ false →
       OnlySign (taken_of_children assets xs set) (keys x ++ keys_of_all xs) → IsEmpty (Sats x)
   not_chosen x xs set f apart e only v h =
       not_free assets are x f.writable e
-      (freed x f (none_of _ _ (keys x) (Contains-append_left (keys x) (keys_of_all xs)) (λ key i j. apart key i (children_in assets xs set key j)) only) v h)
+      (freed x f (none_left (taken_of_children assets xs set) (keys x) (keys_of_all xs) apart (children_in assets xs set) only) v h)
 
   few_parts : (xs : Trees) → AllFit xs → (set : List Bool) → (w : Stack) → stack_of (strict_children assets xs) set ≡ Some w → has_all (free_children assets xs) set ≡ true →
       OnlySign (taken_of_children assets xs set) (keys_of_all xs) → (n : ℕ) (v : Stack) → parts (canonical there) xs n v → n ≤ ones set
@@ -293,7 +262,7 @@ module _ (assets : Assets) (are : AreAssets assets) (pairs : Pairs) where
       let t = fit_more x xs f in
       let j = both_joined _ _ w e in
       let u = not_wanted (is_some (free assets x)) _ all in
-      few_parts xs t.1 set j.below j.left u.1 (others_only x xs set only) n h.0 h.2
+      few_parts xs t.1 set j.below j.left u.1 (in_right (taken_of_children assets xs set) (keys x) (keys_of_all xs) only) n h.0 h.2
 
   mutual
     unfolding mall_rows
@@ -313,21 +282,15 @@ module _ (assets : Assets) (are : AreAssets assets) (pairs : Pairs) where
         let t = fit_and_or x y z f in
         let xy = taken assets x ++ taken assets y in
         let own = keys (and_or x y z) in
-        let left = Contains-append_left (keys x ++ keys y) (keys z) in
-        let right = Contains-append_right (keys x ++ keys y) (keys z) in
         options_empty _ _ _ _
         (both (free assets y) (free assets x)) (both (free assets z) (dissatisfaction x)) (both (strict_of assets y) (strict_of assets x)) (both (strict_of assets z) (dissatisfaction x))
         xy (taken assets z) own w
         (best_both _ _ _ _ (free_best assets are y t.1.writable) (free_best assets are x t.0.writable))
         (best_both _ _ _ _ (free_best assets are z t.2.writable) (free_dsat_best assets are x t.0.writable)) e (only, missing)
         (λ i signs_xy lacks. let j = both_joined _ _ w i in
-        both_empty x y t.3 (only_of xy own xy (keys x ++ keys y) left (λ key k l. l) signs_xy) lacks (vain x t.0 j.above j.right) (vain y t.1 j.below j.left))
+        both_empty x y t.3 (in_left xy (keys x ++ keys y) (keys z) signs_xy) lacks (vain x t.0 j.above j.right) (vain y t.1 j.below j.left))
         (λ signs_xy freer v r.
-        let bare_z = none_of xy own (keys z) right
-        (λ key i l. t.4 key (elim (Contains-append_cases (taken assets x) (taken assets y) key l) [
-          | inl k ↦ Contains-append_left (keys x) (keys y) key (taken_in assets x key k)
-          | inr k ↦ Contains-append_right (keys x) (keys y) key (taken_in assets y key k)
-        ]) i) signs_xy in
+        let bare_z = none_right xy (keys x ++ keys y) (keys z) t.4 (in_part xy (keys x ++ keys y) (part_both _ _ _ _ (taken_part assets x) (taken_part assets y))) signs_xy in
         let free_z = freed z t.2 bare_z r.0 r.2 in
         let first = freer (one_both _ _ free_z (bare_dsat x t.0 f.safe.3.0)) in
         elim (or_cases ((mall_of x).s || (mall_of y).s) (mall_of z).s f.safe.3.1.0) [
@@ -335,9 +298,9 @@ module _ (assets : Assets) (are : AreAssets assets) (pairs : Pairs) where
           | inr s ↦ signs assets z t.2.typed s free_z.0 free_z.1
         ])
         (λ i signs_z lacks v r. let j = both_joined _ _ w i in
-        vain z t.2 j.below j.left (only_of (taken assets z) own (taken assets z) (keys z) right (λ key k l. l) signs_z) lacks r.0 r.2)
+        vain z t.2 j.below j.left (in_right (taken assets z) (keys x ++ keys y) (keys z) signs_z) lacks r.0 r.2)
         (λ signs_z unfree v r.
-        let bare = none_of (taken assets z) own (keys x ++ keys y) left (λ key i l. t.4 key i (taken_in assets z key l)) signs_z in
+        let bare = none_left (taken assets z) (keys x ++ keys y) (keys z) t.4 (taken_in assets z) signs_z in
         unfree
         (one_both _ _ (freed y t.1 (λ key sig i. bare key sig (Contains-append_right (keys x) (keys y) key i)) r.0 r.2)
         (freed x t.0 (λ key sig i. bare key sig (Contains-append_left (keys x) (keys y) key i)) r.1 r.3)))
@@ -360,13 +323,13 @@ module _ (assets : Assets) (are : AreAssets assets) (pairs : Pairs) where
         (best_both _ _ _ _ (free_dsat_best assets are z t.1.writable) (free_best assets are x t.0.writable))
         (best_both _ _ _ _ (free_best assets are z t.1.writable) (free_dsat_best assets are x t.0.writable)) e (only, missing)
         (λ i signs_x lacks v r. let j = both_joined _ _ w i in
-        vain x t.0 j.above j.right (sub_left x z (taken assets x) (alone signs_x)) (subst Missing (append-nil (taken assets x)) lacks) r.1 r.3)
+        vain x t.0 j.above j.right (in_left (taken assets x) (keys x) (keys z) (alone signs_x)) (subst Missing (append-nil (taken assets x)) lacks) r.1 r.3)
         (λ signs_x freer v r.
-        let free_z = freed z t.1 (no_latter x z t.2 (alone signs_x)) r.0 r.2 in
+        let free_z = freed z t.1 (none_right (taken assets x) (keys x) (keys z) t.2 (taken_in assets x) (alone signs_x)) r.0 r.2 in
         let first = freer (one_both _ _ free_z (bare_dsat x t.0 es.0)) in
         clash x z t.0 t.1 f.safe.2.1.0 (first.1.1, first.1.3) free_z)
-        (λ i signs_z lacks v r. let j = both_joined _ _ w i in vain z t.1 j.below j.left (sub_right x z (taken assets z) signs_z) lacks r.0 r.2)
-        (λ signs_z unfree v r. unfree (one_both _ _ (bare_dsat z t.1 es.1) (freed x t.0 (no_former x z t.2 signs_z) r.1 r.3))) in
+        (λ i signs_z lacks v r. let j = both_joined _ _ w i in vain z t.1 j.below j.left (in_right (taken assets z) (keys x) (keys z) signs_z) lacks r.0 r.2)
+        (λ signs_z unfree v r. unfree (one_both _ _ (bare_dsat z t.1 es.1) (freed x t.0 (none_left (taken assets z) (keys x) (keys z) t.2 (taken_in assets z) signs_z) r.1 r.3))) in
         λ v r. elim r [ inl a ↦ neither v (inl a) | inr b ↦ elim b [ inl a ↦ neither v (inr a) | inr c ↦ false≢true c.0 ] ]
     vain (two kind.OrI x z) f w e only missing =
         let t = fit_two kind.OrI x z f in
@@ -374,24 +337,24 @@ module _ (assets : Assets) (are : AreAssets assets) (pairs : Pairs) where
         (both (free assets x) (Some (ONE ∷ []))) (both (free assets z) (Some (EMPTY ∷ []))) (both (strict_of assets x) (Some (ONE ∷ []))) (both (strict_of assets z) (Some (EMPTY ∷ [])))
         (taken assets x) (taken assets z) (keys x ++ keys z) w
         (best_both _ _ _ _ (free_best assets are x t.0.writable) (is_best ONE)) (best_both _ _ _ _ (free_best assets are z t.1.writable) (is_best EMPTY)) e (only, missing)
-        (λ i signs_x lacks v r. let j = both_joined _ _ w i in vain x t.0 j.below j.left (sub_left x z (taken assets x) signs_x) lacks r.0 r.2)
+        (λ i signs_x lacks v r. let j = both_joined _ _ w i in vain x t.0 j.below j.left (in_left (taken assets x) (keys x) (keys z) signs_x) lacks r.0 r.2)
         (λ signs_x freer v r.
-        let free_z = freed z t.1 (no_latter x z t.2 signs_x) r.0 r.2 in
+        let free_z = freed z t.1 (none_right (taken assets x) (keys x) (keys z) t.2 (taken_in assets x) signs_x) r.0 r.2 in
         let first = freer (one_both _ (Is EMPTY) free_z (EMPTY ∷ [], refl)) in
         clash x z t.0 t.1 f.safe.2.0 (first.1.0, first.1.2) free_z)
-        (λ i signs_z lacks v r. let j = both_joined _ _ w i in vain z t.1 j.below j.left (sub_right x z (taken assets z) signs_z) lacks r.0 r.2)
-        (λ signs_z unfree v r. unfree (one_both _ (Is ONE) (freed x t.0 (no_former x z t.2 signs_z) r.0 r.2) (ONE ∷ [], refl)))
+        (λ i signs_z lacks v r. let j = both_joined _ _ w i in vain z t.1 j.below j.left (in_right (taken assets z) (keys x) (keys z) signs_z) lacks r.0 r.2)
+        (λ signs_z unfree v r. unfree (one_both _ (Is ONE) (freed x t.0 (none_left (taken assets z) (keys x) (keys z) t.2 (taken_in assets z) signs_z) r.0 r.2) (ONE ∷ [], refl)))
     vain (two which x z) f w e only missing =
         let t = fit_two which x z f in
         options_empty _ _ _ _
         (free assets x) (both (free assets z) (dissatisfaction x)) (strict_of assets x) (both (strict_of assets z) (dissatisfaction x))
         (taken assets x) (taken assets z) (keys x ++ keys z) w
         (free_best assets are x t.0.writable) (best_both _ _ _ _ (free_best assets are z t.1.writable) (free_dsat_best assets are x t.0.writable)) e (only, missing)
-        (λ i signs_x lacks. vain x t.0 w i (sub_left x z (taken assets x) signs_x) lacks)
-        (λ signs_x freer v r. let free_z = freed z t.1 (no_latter x z t.2 signs_x) r.0 r.2 in
+        (λ i signs_x lacks. vain x t.0 w i (in_left (taken assets x) (keys x) (keys z) signs_x) lacks)
+        (λ signs_x freer v r. let free_z = freed z t.1 (none_right (taken assets x) (keys x) (keys z) t.2 (taken_in assets x) signs_x) r.0 r.2 in
         clash x z t.0 t.1 f.safe.2.1.0 (freer (one_both _ _ free_z (bare_dsat x t.0 f.safe.2.0))) free_z)
-        (λ i signs_z lacks v r. let j = both_joined _ _ w i in vain z t.1 j.below j.left (sub_right x z (taken assets z) signs_z) lacks r.0 r.2)
-        (λ signs_z unfree v r. unfree (freed x t.0 (no_former x z t.2 signs_z) v r))
+        (λ i signs_z lacks v r. let j = both_joined _ _ w i in vain z t.1 j.below j.left (in_right (taken assets z) (keys x) (keys z) signs_z) lacks r.0 r.2)
+        (λ signs_z unfree v r. unfree (freed x t.0 (none_left (taken assets z) (keys x) (keys z) t.2 (taken_in assets z) signs_z) v r))
     vain (thresh k xs) f w e only missing =
         let fits : AllFit xs = record { writable = f.writable.2; typed = f.typed.0; safe = f.safe.0; distinct = f.distinct } in
         let t = set_is_taken (λ set. IsSet (count xs) k set × (has_all (free_children assets xs) set ≡ true)) (stack_of (strict_children assets xs)) _
@@ -427,7 +390,7 @@ module _ (assets : Assets) (are : AreAssets assets) (pairs : Pairs) where
         let rest = rest_only x xs set t.2 only in
         elim (Contains-append_cases (taken assets x) (taken_of_children assets xs set) missing.0 missing.1) [
           | inl i ↦ elim h [
-            | inl a ↦ absurd (vain x t.0 j.above j.right (child_only x xs set t.2 only) (missing.0, i, missing.2) a.2.1 a.2.3)
+            | inl a ↦ absurd (vain x t.0 j.above j.right (only_left (taken assets x) (taken_of_children assets xs set) (keys x) (keys_of_all xs) t.2 (children_in assets xs set) only) (missing.0, i, missing.2) a.2.1 a.2.3)
             | inr a ↦ (let r = few_parts xs t.1 set j.below j.left others rest n a.0 a.2 in omega (arith, r))
           ]
           | inr i ↦ elim h [
@@ -441,5 +404,5 @@ module _ (assets : Assets) (are : AreAssets assets) (pairs : Pairs) where
         let u = not_wanted (is_some (free assets x)) _ all in
         elim h [
           | inl a ↦ absurd (not_chosen x xs set t.0 t.2 u.0 only a.2.1 a.2.3)
-          | inr a ↦ fewer_parts xs t.1 set j.below j.left u.1 (others_only x xs set only) missing n a.0 a.2
+          | inr a ↦ fewer_parts xs t.1 set j.below j.left u.1 (in_right (taken_of_children assets xs set) (keys x) (keys_of_all xs) only) missing n a.0 a.2
         ]
