@@ -1,24 +1,22 @@
 -- Each state of the machine has bytes that end a text there: an expression is `0`, and what waits is closed.
-use Rattle.std.proofs.Common.{◌≡◌, ℕ, ◌+◌, Bool, true, false, List, [], ◌∷◌, ◌++◌, Option, Some, codes, replicate, refl, sym, ap, ◌∙◌, subst, arith}
+use Rattle.std.proofs.Common.{◌≡◌, ℕ, ◌+◌, Bool, true, false, List, [], ◌∷◌, ◌++◌, Some, codes, replicate, refl, sym, ap, ◌∙◌, subst, arith}
 use Rattle.std.specs.Str.{IsUtf8}
 use Rattle.std.specs.Str.{IsAscii}
 use Rattle.std.specs.Char.{is_ascii}
 use Rattle.std.specs.List.{list_all}
 use Rattle.std.proofs.lemmas.Bool.{and_parts}
 use Rattle.std.proofs.lemmas.Str.Ascii.{IsAscii-nil, IsAscii-cons}
-use Rattle.std.proofs.lemmas.Str.{IsUtf8-nil, IsUtf8-append, IsUtf8-from_ascii}
-use Rattle.std.specs.Option.{option_and_then, option_map}
+use Rattle.std.proofs.lemmas.Str.{IsUtf8-from_ascii}
+use Rattle.std.specs.Option.{option_and_then}
 use Rattle.hex.proofs.OnLiterals.{hex_on_literals}
 use Rattle.def_script.specs.Bytes.{Bytes}
-use Rattle.def_hash.specs.Hash.{digest_length}
 use Rattle.def_hash.specs.declared.HashKind.{HashKind}
 use Rattle.def_hash.specs.declared.HashKind.TheVariants.{Sha256, Hash256, Ripemd160, Hash160}
-use Rattle.def_tree.specs.declared.Wrapper.TheVariants.{C}
-use Rattle.def_tree.specs.Tree.{Key, Tree, just_0, multi, pk_k, pk_h, older, after, hash, wrap, none, more, and_or, thresh}
+use Rattle.def_tree.specs.Tree.{Key, Tree, just_0, multi}
 use Rattle.def_text.specs.Token.{Token, word, closing, tokens_from}
 use Rattle.def_text.specs.Letter.{letter_tree}
-use Rattle.def_text.specs.Word.{key_of, hash_of}
-use Rattle.def_text.specs.Scaffolding.Reader.{Leaf, leaf_pk_k, leaf_pk_h, leaf_pk, leaf_pkh, leaf_older, leaf_after, leaf_hash, leaf_of, Want, expression, colon_next, leaf_open, leaf_word, leaf_close, andor_open, pair_open, thresh_open, thresh_number, thresh_comma, multi_open, multi_number, multi_comma, multi_key, multi_next, ended, finished, Frame, letter_frame, andor_first, andor_second, andor_third, pair_first, pair_second, thresh_child, State, behind, step, offsets_behind, pair_tree}
+use Rattle.def_text.specs.Word.{key_of}
+use Rattle.def_text.specs.Scaffolding.Reader.{Leaf, leaf_pk_k, leaf_older, leaf_after, leaf_hash, leaf_of, Want, expression, colon_next, leaf_open, leaf_word, leaf_close, andor_open, pair_open, thresh_open, thresh_number, thresh_comma, multi_open, multi_number, multi_comma, multi_key, multi_next, ended, finished, Frame, letter_frame, andor_first, andor_second, pair_first, State, behind, step, offsets_behind}
 use Rattle.def_text.proofs.Complete.{step_letter}
 use Rattle.def_text.proofs.Cut.{starts_word, alone}
 
@@ -73,14 +71,10 @@ Ends s ts = (z : Tree) × (zs : List ℕ) × (behind s ts ≡ Some (finished z, 
 
 -- ---- behind an expression
 
-not_finished : (y z : Tree) (fs : List Frame) (ps zs : List ℕ) →
-    ◌≡◌ {A = Option State} (Some (ended y, fs, ps)) (Some (finished z, [], zs)) → ⊥
-not_finished y z fs ps zs h = grind arith
-
 ends_letter : (x : Tree) (frame : Frame) (fs : List Frame) (os : List ℕ) (y : Tree) (ps : List ℕ) (ts : List Token) →
     ((t : Token) → step (ended x, frame ∷ fs, os) t ≡ step (ended y, fs, ps) t) → Ends (ended y, fs, ps) ts →
     Ends (ended x, frame ∷ fs, os) ts
-ends_letter x frame fs os y ps [] same (z, zs, h) = absurd (not_finished y z fs ps zs h)
+ends_letter x frame fs os y ps [] same (z, zs, h) = absurd (grind arith)
 ends_letter x frame fs os y ps (t ∷ ts) same (z, zs, h) =
     (z, zs, ap (λ o. option_and_then (λ n. behind n ts) o) (same t) ∙ h)
 
@@ -90,12 +84,7 @@ closing_ends x (letter_frame l a ∷ fs) os at =
     ends_letter x (letter_frame l a) fs os (letter_tree l x) (os ++ offsets_behind l a) (tokens_from at (closing_text fs))
     (step_letter l a x fs os)
     (closing_ends (letter_tree l x) fs (os ++ offsets_behind l a) at)
-closing_ends x (andor_first a ∷ fs) os at = closing_ends (and_or x just_0 just_0) fs _ _
-closing_ends x (andor_second y a ∷ fs) os at = closing_ends (and_or y x just_0) fs _ _
-closing_ends x (andor_third y z a ∷ fs) os at = closing_ends (and_or y z x) fs _ _
-closing_ends x (pair_first pair a ∷ fs) os at = closing_ends _ fs _ _
-closing_ends x (pair_second pair y a ∷ fs) os at = closing_ends _ fs _ _
-closing_ends x (thresh_child k xs a ∷ fs) os at = closing_ends _ fs _ _
+closing_ends x (frame ∷ fs) os at = closing_ends _ fs _ _
 
 -- ---- words
 
@@ -109,24 +98,15 @@ key_reads : key_of KEY_TEXT ≡ Some (2 ∷ replicate 32 0)
 unfolding hex_on_literals
 key_reads = refl
 
-hash_reads : (kind : HashKind) → hash_of kind (hash_text kind) ≡ Some (replicate (digest_length kind) 0)
-unfolding hex_on_literals
-hash_reads Sha256 = refl
-hash_reads kind = refl
-
 leaf_reads : (leaf : Leaf) → (x : Tree) × (leaf_of leaf (leaf_text leaf) ≡ Some x)
-leaf_reads leaf_pk_k = (_, ap (option_map pk_k) key_reads)
-leaf_reads leaf_pk_h = (_, ap (option_map pk_h) key_reads)
-leaf_reads leaf_pk = (_, ap (option_map (λ key. wrap C (pk_k key))) key_reads)
-leaf_reads leaf_pkh = (_, ap (option_map (λ key. wrap C (pk_h key))) key_reads)
-leaf_reads leaf_older = (older 0, refl)
-leaf_reads leaf_after = (after 0, refl)
-leaf_reads (leaf_hash kind) = (_, ap (option_map (hash kind)) (hash_reads kind))
+unfolding hex_on_literals
+leaf_reads (leaf_hash Sha256) = (_, refl)
+leaf_reads (leaf_hash kind) = (_, refl)
+leaf_reads leaf = (_, refl)
 
 -- the word is one token
 leaf_tokens : (leaf : Leaf) (at : ℕ) (bs : Bytes) →
     (n : ℕ) × (tokens_from at (leaf_text leaf ++ (codes ")" ++ bs)) ≡ word at (leaf_text leaf) ∷ closing n ∷ tokens_from (n + 1) bs)
-leaf_tokens leaf_pk_k at bs = (_, refl)
 leaf_tokens (leaf_hash Sha256) at bs = (_, refl)
 leaf_tokens (leaf_hash kind) at bs = (_, refl)
 leaf_tokens leaf at bs = (_, refl)
@@ -170,19 +150,12 @@ completes expression fs os at f = zero_ends fs os at
 completes colon_next fs os at f = zero_ends fs os (at + 1)
 completes (leaf_open leaf) fs os at f = leaf_ends leaf fs os (at + 1)
 completes (leaf_word leaf) fs os at f = leaf_ends leaf fs os at
-completes (leaf_close x) fs os at f = closing_ends x fs os (at + 1)
-completes (andor_open a) fs os at f = closing_ends (and_or just_0 just_0 just_0) fs _ _
-completes (pair_open pair a) fs os at f = closing_ends (pair_tree pair just_0 just_0) fs _ _
-completes (thresh_open a) fs os at f = closing_ends (thresh 0 (more just_0 none)) fs _ _
-completes (thresh_number a) fs os at f = closing_ends (thresh 0 (more just_0 none)) fs _ _
-completes (thresh_comma k a) fs os at f = closing_ends (thresh k (more just_0 none)) fs _ _
 completes multi_open fs os at f = key_ends 0 [] fs os _
 completes multi_number fs os at f = key_ends 0 [] fs os _
 completes (multi_comma k) fs os at f = key_ends k [] fs os _
 completes (multi_key k keys) fs os at f = key_ends k keys fs os at
-completes (multi_next k keys) fs os at f = closing_ends (multi k keys) fs os (at + 1)
-completes (ended x) fs os at f = closing_ends x fs os at
 completes (finished x) fs os at f = absurd (cc)
+completes want fs os at f = closing_ends _ fs _ _
 
 -- whether a word is wanted
 abbrev pub wants_word : Want → Bool
@@ -203,43 +176,21 @@ completion_starts want fs at = grind (arith, closing_starts)
 pub ascii_is_utf8 : (bs : Bytes) → list_all is_ascii bs ≡ true → IsUtf8 bs
 ascii_is_utf8 bs h = IsUtf8-from_ascii bs (all_ascii bs h)
 
--- a literal text and one behind it
-with_text : (bs ds : Bytes) → list_all is_ascii bs ≡ true → IsUtf8 ds → IsUtf8 (bs ++ ds)
-with_text bs ds h k = IsUtf8-append bs ds (ascii_is_utf8 bs h) k
+closing_is_ascii : (fs : List Frame) → list_all is_ascii (closing_text fs) ≡ true
+closing_is_ascii [] = refl
+closing_is_ascii (letter_frame l a ∷ fs) = closing_is_ascii fs
+closing_is_ascii (frame ∷ fs) = closing_is_ascii fs
 
-closing_is_utf8 : (fs : List Frame) → IsUtf8 (closing_text fs)
-closing_is_utf8 [] = IsUtf8-nil
-closing_is_utf8 (letter_frame l a ∷ fs) = closing_is_utf8 fs
-closing_is_utf8 (andor_first a ∷ fs) = with_text (codes ",0,0)") (closing_text fs) refl (closing_is_utf8 fs)
-closing_is_utf8 (andor_second x a ∷ fs) = with_text (codes ",0)") (closing_text fs) refl (closing_is_utf8 fs)
-closing_is_utf8 (pair_first pair a ∷ fs) = with_text (codes ",0)") (closing_text fs) refl (closing_is_utf8 fs)
-closing_is_utf8 (frame ∷ fs) = with_text (codes ")") (closing_text fs) refl (closing_is_utf8 fs)
+leaf_is_ascii : (leaf : Leaf) (bs : Bytes) → list_all is_ascii bs ≡ true → list_all is_ascii (leaf_text leaf ++ bs) ≡ true
+leaf_is_ascii (leaf_hash Sha256) bs h = h
+leaf_is_ascii (leaf_hash kind) bs h = h
+leaf_is_ascii leaf bs h = h
 
-closed_is_utf8 : (fs : List Frame) → IsUtf8 (codes ")" ++ closing_text fs)
-closed_is_utf8 fs = with_text (codes ")") (closing_text fs) refl (closing_is_utf8 fs)
-
-leaf_is_ascii : (leaf : Leaf) → list_all is_ascii (leaf_text leaf) ≡ true
-leaf_is_ascii leaf = grind arith
-
-leaf_is_utf8 : (leaf : Leaf) (fs : List Frame) → IsUtf8 (leaf_text leaf ++ (codes ")" ++ closing_text fs))
-leaf_is_utf8 leaf fs = with_text (leaf_text leaf) (codes ")" ++ closing_text fs) (leaf_is_ascii leaf) (closed_is_utf8 fs)
+completion_is_ascii : (want : Want) (fs : List Frame) → list_all is_ascii (completion want fs) ≡ true
+completion_is_ascii (leaf_open leaf) fs = leaf_is_ascii leaf (codes ")" ++ closing_text fs) (closing_is_ascii fs)
+completion_is_ascii (leaf_word leaf) fs = leaf_is_ascii leaf (codes ")" ++ closing_text fs) (closing_is_ascii fs)
+completion_is_ascii (finished x) fs = refl
+completion_is_ascii want fs = closing_is_ascii fs
 
 pub completion_is_utf8 : (want : Want) (fs : List Frame) → IsUtf8 (completion want fs)
-completion_is_utf8 expression fs = with_text (codes "0") (closing_text fs) refl (closing_is_utf8 fs)
-completion_is_utf8 colon_next fs = with_text (codes ":0") (closing_text fs) refl (closing_is_utf8 fs)
-completion_is_utf8 (leaf_open leaf) fs =
-    with_text (codes "(") (leaf_text leaf ++ (codes ")" ++ closing_text fs)) refl (leaf_is_utf8 leaf fs)
-completion_is_utf8 (leaf_word leaf) fs = leaf_is_utf8 leaf fs
-completion_is_utf8 (leaf_close x) fs = closed_is_utf8 fs
-completion_is_utf8 (andor_open a) fs = with_text (codes "(0,0,0)") (closing_text fs) refl (closing_is_utf8 fs)
-completion_is_utf8 (pair_open pair a) fs = with_text (codes "(0,0)") (closing_text fs) refl (closing_is_utf8 fs)
-completion_is_utf8 (thresh_open a) fs = with_text (codes "(0,0)") (closing_text fs) refl (closing_is_utf8 fs)
-completion_is_utf8 (thresh_number a) fs = with_text (codes "0,0)") (closing_text fs) refl (closing_is_utf8 fs)
-completion_is_utf8 (thresh_comma k a) fs = with_text (codes ",0)") (closing_text fs) refl (closing_is_utf8 fs)
-completion_is_utf8 multi_open fs = with_text (codes "(0,") (KEY_TEXT ++ (codes ")" ++ closing_text fs)) refl (leaf_is_utf8 leaf_pk_k fs)
-completion_is_utf8 multi_number fs = with_text (codes "0,") (KEY_TEXT ++ (codes ")" ++ closing_text fs)) refl (leaf_is_utf8 leaf_pk_k fs)
-completion_is_utf8 (multi_comma k) fs = with_text (codes ",") (KEY_TEXT ++ (codes ")" ++ closing_text fs)) refl (leaf_is_utf8 leaf_pk_k fs)
-completion_is_utf8 (multi_key k keys) fs = leaf_is_utf8 leaf_pk_k fs
-completion_is_utf8 (multi_next k keys) fs = closed_is_utf8 fs
-completion_is_utf8 (ended x) fs = closing_is_utf8 fs
-completion_is_utf8 (finished x) fs = IsUtf8-nil
+completion_is_utf8 want fs = ascii_is_utf8 (completion want fs) (completion_is_ascii want fs)

@@ -1,10 +1,11 @@
 -- Where a text is cut before one of its tokens: what stands before the cut, and what may follow it in the rest's place.
-use Rattle.std.proofs.Common.{◌≡◌, ℕ, ◌+◌, ◌==◌, ◌≤◌, Bool, true, false, ◌&&◌, List, [], ◌∷◌, ◌++◌, length, slice_index, refl, sym, ap, ◌∙◌, subst, arith, append-nil, length-append}
+use Rattle.std.proofs.Common.{◌≡◌, inl, inr, ℕ, ◌+◌, ◌==◌, ◌≤◌, Bool, true, false, ◌&&◌, List, [], ◌∷◌, ◌++◌, length, slice_index, refl, sym, ap, ◌∙◌, subst, arith, append-nil, length-append}
 use Rattle.std.proofs.Math.Seq.{get_or-append_seam, take-append_seam}
 use Rattle.std.specs.Prelude.{⊤}
-use Rattle.std.specs.Str.{byte, IsUtf8, IsCharBoundary}
+use Rattle.std.specs.Str.{IsUtf8, IsCharBoundary}
 use Rattle.std.proofs.lemmas.Str.{IsUtf8-take}
-use Rattle.std.proofs.lemmas.Bool.{eqb-true}
+use Rattle.std.proofs.lemmas.Bool.{cases_Bool}
+use Rattle.std.proofs.lemmas.Bool.Decides.{nat_tests}
 use Rattle.def_script.specs.Bytes.{Bytes}
 use Rattle.def_text.specs.Token.{Token, word, opening, closing, comma, colon, other, end, offset, is_word_byte, goes_on, word_before, byte_before, tokens_from}
 
@@ -57,30 +58,26 @@ pub data ByteKind (at b : ℕ) : Type 0 where
 word_byte_is_ascii : (b : ℕ) → is_word_byte b ≡ true → goes_on b ≡ false
 word_byte_is_ascii b h = grind arith
 
-kind_from : (at b : ℕ) (c d e f g h : Bool) → is_word_byte b ≡ c → (b == byte "(") ≡ d → (b == byte ")") ≡ e →
-    (b == byte ",") ≡ f →
-    (b == byte ":") ≡ g → goes_on b ≡ h → ByteKind at b
-kind_from at b true d e f g h hc hd he hf hg hh = word_kind (word_byte_is_ascii b hc) (λ ts. rw hc refl)
-kind_from at b false true e f g h hc hd he hf hg hh =
-    let k : b ≡ 40 = eqb-true b 40 hd in
-    single_kind (rw k refl) (opening at) refl refl refl (λ ts. rw (hc, hd) refl)
-kind_from at b false false true f g h hc hd he hf hg hh =
-    let k : b ≡ 41 = eqb-true b 41 he in
-    single_kind (rw k refl) (closing at) refl refl refl (λ ts. rw (hc, hd, he) refl)
-kind_from at b false false false true g h hc hd he hf hg hh =
-    let k : b ≡ 44 = eqb-true b 44 hf in
-    single_kind (rw k refl) (comma at) refl refl refl (λ ts. rw (hc, hd, he, hf) refl)
-kind_from at b false false false false true h hc hd he hf hg hh =
-    let k : b ≡ 58 = eqb-true b 58 hg in
-    single_kind (rw k refl) (colon at) refl refl refl (λ ts. rw (hc, hd, he, hf, hg) refl)
-kind_from at b false false false false false true hc hd he hf hg hh = skip_kind (λ ts. rw (hc, hd, he, hf, hg, hh) refl)
-kind_from at b false false false false false false hc hd he hf hg hh =
-    single_kind hh (other at) refl refl refl (λ ts. rw (hc, hd, he, hf, hg, hh) refl)
-
 pub kind_of : (at b : ℕ) → ByteKind at b
-kind_of at b =
-    kind_from at b (is_word_byte b) (b == byte "(") (b == byte ")") (b == byte ",") (b == byte ":") (goes_on b)
-    refl refl refl refl refl refl
+kind_of at b = elim (cases_Bool (is_word_byte b)) [
+  | inl w ↦ word_kind (word_byte_is_ascii b w) (λ ts. rw w)
+  | inr w ↦ elim (cases_Bool (b == 40)) [
+    | inl o ↦ single_kind (grind (arith, nat_tests)) (opening at) refl refl refl (λ ts. rw (w, o))
+    | inr o ↦ elim (cases_Bool (b == 41)) [
+      | inl c ↦ single_kind (grind (arith, nat_tests)) (closing at) refl refl refl (λ ts. rw (w, o, c))
+      | inr c ↦ elim (cases_Bool (b == 44)) [
+        | inl d ↦ single_kind (grind (arith, nat_tests)) (comma at) refl refl refl (λ ts. rw (w, o, c, d))
+        | inr d ↦ elim (cases_Bool (b == 58)) [
+          | inl e ↦ single_kind (grind (arith, nat_tests)) (colon at) refl refl refl (λ ts. rw (w, o, c, d, e))
+          | inr e ↦ elim (cases_Bool (goes_on b)) [
+            | inl g ↦ skip_kind (λ ts. rw (w, o, c, d, e, g))
+            | inr g ↦ single_kind g (other at) refl refl refl (λ ts. rw (w, o, c, d, e, g))
+          ]
+        ]
+      ]
+    ]
+  ]
+]
 
 -- ---- the cut
 

@@ -6,7 +6,7 @@ use Rattle.def_script.specs.Bytes.{Bytes}
 use Rattle.def_text.specs.Token.{Token, word, tokens}
 use Rattle.def_text.specs.Word.{is_fragment_name}
 use Rattle.def_text.specs.Refusal.{MOST_WRITTEN_DEPTH, MayBegin, is_run, levels_of, enclosing, IsDeep}
-use Rattle.def_text.specs.Scaffolding.Reader.{Form, form_0, Head, named, run, neither, head_of, begin_form, begin, Want, expression, Frame, State, START, step, behind, is_deep_head, is_deep_word, is_deep}
+use Rattle.def_text.specs.Scaffolding.Reader.{form_0, Head, named, run, neither, head_of, begin, Want, expression, Frame, State, START, step, behind, is_deep_head, is_deep_word, is_deep}
 use Rattle.def_text.proofs.Levels.{HeadSays, head_says}
 use Rattle.def_text.proofs.Viable.{may_begin, begins_expression}
 use Rattle.def_text.proofs.Counted.{enclosing_is}
@@ -22,13 +22,10 @@ says_deep : (w : Bytes) (head : Head) (n : ℕ) → HeadSays w head → (is_frag
     is_deep_head head n ≡ true
 says_deep w head n = grind (arith, lt-ltb)
 
-form_steps : (form : Form) (a : ℕ) (fs : List Frame) (os : List ℕ) → (n : State) × (begin_form form a fs os ≡ Some n)
-form_steps form_0 a fs os = (_, refl)
-form_steps form a fs os = (_, refl)
-
 head_steps : (head : Head) (a : ℕ) (fs : List Frame) (os : List ℕ) → is_deep_head head (length fs) ≡ true →
     (n : State) × (begin head a fs os ≡ Some n)
-head_steps (named form) a fs os h = form_steps form a fs os
+head_steps (named form_0) a fs os h = (_, refl)
+head_steps (named form) a fs os h = (_, refl)
 head_steps (run l ls) a fs os h = (_, refl)
 head_steps neither a fs os h = absurd (cc)
 

@@ -1,5 +1,5 @@
 -- A text has at most one answer: the places of two answers are compared.
-use Rattle.std.proofs.Common.{◌≡◌, ◌⊎◌, inl, inr, ℕ, ◌<◌, ◌≤◌, List, [], ◌∷◌, ◌++◌, length, refl, sym, ap, ◌∙◌, subst, append_assoc, arith}
+use Rattle.std.proofs.Common.{◌≡◌, ◌⊎◌, inl, inr, ℕ, ◌≤◌, List, [], ◌∷◌, ◌++◌, length, refl, sym, ap, ◌∙◌, subst, append_assoc, arith}
 use Rattle.std.specs.Str.{IsUtf8}
 use Rattle.std.proofs.lemmas.Bool.{cases_lt}
 use Rattle.def_script.specs.Bytes.{Bytes}
@@ -98,9 +98,8 @@ by_outcome text (tree_outcome x os) short h = inl (x, os, record { short = short
 by_outcome text (syntax_outcome p) short h = inr (Syntax p, (short, h))
 by_outcome text (deep_outcome p) short h = inr (TooDeep p, (short, h))
 
-by_length : (text : Bytes) → IsUtf8 text → (MOST_BYTES < length text) ⊎ (length text ≤ MOST_BYTES) → Answers text
-by_length text utf8 (inl long) = inr (TooLong, long)
-by_length text utf8 (inr short) = by_outcome text (outcome START (tokens text)) short (report text utf8)
-
 pub some_answer : (text : Bytes) → IsUtf8 text → Answers text
-some_answer text utf8 = by_length text utf8 (cases_lt MOST_BYTES (length text))
+some_answer text utf8 = elim (cases_lt MOST_BYTES (length text)) [
+  | inl long ↦ inr (TooLong, long)
+  | inr short ↦ by_outcome text (outcome START (tokens text)) short (report text utf8)
+]

@@ -1,5 +1,5 @@
 -- The words of printed forms: digits are one token, and spell the number, key or hash value that was printed.
-use Rattle.std.proofs.Common.{◌≡◌, ◌⊎◌, inl, inr, ℕ, zero, suc, ◌+◌, ◌==◌, ◌<◌, ◌≤◌, ◌^◌, ◌/◌, ◌%◌, Bool, true, false, ◌&&◌, ◌||◌, not, List, [], ◌∷◌, ◌++◌, length, slice_index, codes, decimal, Some, None, refl, sym, ap, ◌∙◌, subst, append_assoc, arith}
+use Rattle.std.proofs.Common.{◌≡◌, ℕ, zero, suc, ◌+◌, ◌==◌, ◌<◌, ◌≤◌, ◌^◌, ◌/◌, ◌%◌, Bool, true, false, ◌&&◌, ◌||◌, not, List, [], ◌∷◌, ◌++◌, length, slice_index, codes, decimal, Some, None, refl, ap, ◌∙◌, append_assoc, arith}
 use Rattle.std.specs.Prelude.{IsTrue, nat_le, if◌then◌else◌}
 use Rattle.std.specs.List.{list_all}
 use Rattle.std.specs.Option.{option_and_then}
@@ -9,7 +9,6 @@ use Rattle.std.specs.Str.Parse.{digits_value}
 use Rattle.std.proofs.lemmas.Fmt.{digits_decimal, digits_value-decimal, length-decimal-le, decimal_nonempty, first_decimal, decimal_digit}
 use Rattle.std.proofs.lemmas.Bool.{and_parts, le-leb}
 use Rattle.std.proofs.Math.Bool.{or-true}
-use Rattle.std.proofs.Math.Nat.{eq-or-lt_of_le}
 use Rattle.std.specs.Char.{is_ascii_digit}
 use Rattle.std.proofs.lemmas.Str.Parse.{numerals_by_value, tells_all_ascii_digits, IsNumeralModel}
 use Rattle.hex.specs.Hex.{IsBytes, encode_lower, encode_with, lower_digits}
@@ -67,19 +66,15 @@ is_number_by w digits some most first =
     rw (digits, a, b, c) refl in
     ap (λ v. bytes_eq w (codes "0") || v) d ∙ or-true (bytes_eq w (codes "0"))
 
-number_by_size : (n : ℕ) → n < 10 ^ 10 → (0 ≡ n) ⊎ (0 < n) → number_of (decimal n) ≡ Some n
-number_by_size n h (inl none) =
-    let e : decimal 0 ≡ 48 ∷ [] = decimal_digit 0 (omega arith) in
-    subst (λ m. number_of (decimal m) ≡ Some m) none (subst (λ w. number_of w ≡ Some 0) (sym e) refl)
-number_by_size n h (inr some) =
+pub number_is_spelled : (n : ℕ) → n < 10 ^ 10 → number_of (decimal n) ≡ Some n
+number_is_spelled zero h = rw (decimal_digit 0 (omega arith))
+number_is_spelled (suc m) h =
+    let n : ℕ = suc m in
     let wide : n < 2 ^ 64 = small n h in
     let is : is_number (decimal n) ≡ true =
     is_number_by (decimal n) (digits_decimal own n wide) (decimal_nonempty n wide)
-    (length-decimal-le 10 n (omega arith) h wide) (first_decimal n some wide) in
+    (length-decimal-le 10 n (omega arith) h wide) (first_decimal n (omega arith) wide) in
     ap (λ b. if b then Some (digits_value 10 (decimal n)) else None) is ∙ ap (λ m. Some m) (digits_value-decimal own n wide)
-
-pub number_is_spelled : (n : ℕ) → n < 10 ^ 10 → number_of (decimal n) ≡ Some n
-number_is_spelled n h = number_by_size n h (eq-or-lt_of_le (omega arith))
 
 digits_are_word_bytes : (w : Bytes) → all_ascii_digits w ≡ true → list_all is_word_byte w ≡ true
 digits_are_word_bytes [] h = refl

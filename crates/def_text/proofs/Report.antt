@@ -21,21 +21,16 @@ pub data Order (xs : List Token) (x : Token) (ys : List Token) (y : Token) : Typ
   earlier : (later : List Token) → ys ≡ xs ++ x ∷ later → Order xs x ys y
   later : (later : List Token) → xs ≡ ys ++ y ∷ later → Order xs x ys y
 
-order_further : (u v : Token) (xs : List Token) (x : Token) (ys : List Token) (y : Token) → u ≡ v → Order xs x ys y →
-    Order (u ∷ xs) x (v ∷ ys) y
-order_further u v xs x ys y e (same_place h k) = same_place (ap (λ r. r ∷ xs) e ∙ ap (λ r. v ∷ r) h) k
-order_further u v xs x ys y e (earlier rest h) = earlier rest (ap (λ r. v ∷ r) h ∙ ap (λ r. r ∷ (xs ++ x ∷ rest)) (sym e))
-order_further u v xs x ys y e (later rest h) = later rest (ap (λ r. u ∷ r) h ∙ ap (λ r. r ∷ (ys ++ y ∷ rest)) e)
-
 pub order : (xs : List Token) (x : Token) (xs' : List Token) (ys : List Token) (y : Token) (ys' : List Token) →
     xs ++ x ∷ xs' ≡ ys ++ y ∷ ys' → Order xs x ys y
 order [] x xs' [] y ys' h = same_place refl (cc)
-order [] x xs' (v ∷ ys) y ys' h = let e : x ≡ v = cc in earlier ys (ap (λ r. r ∷ ys) (sym e))
-order (u ∷ xs) x xs' [] y ys' h = let e : u ≡ y = cc in later xs (ap (λ r. r ∷ xs) e)
-order (u ∷ xs) x xs' (v ∷ ys) y ys' h =
-    let e : u ≡ v = cc in
-    let rest : xs ++ x ∷ xs' ≡ ys ++ y ∷ ys' = cc in
-    order_further u v xs x ys y e (order xs x xs' ys y ys' rest)
+order [] x xs' (v ∷ ys) y ys' h = earlier ys (cc)
+order (u ∷ xs) x xs' [] y ys' h = later xs (cc)
+order (u ∷ xs) x xs' (v ∷ ys) y ys' h = elim (order xs x xs' ys y ys' (cc)) [
+  | same_place i k ↦ same_place (cc) k
+  | earlier rest i ↦ earlier rest (cc)
+  | later rest i ↦ later rest (cc)
+]
 
 -- one more token that isn't too deep
 none_deep-behind : (us : List Token) (t : Token) → NoneDeep us → ¬ IsDeep us t → NoneDeep (us ++ t ∷ [])

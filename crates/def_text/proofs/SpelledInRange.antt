@@ -15,6 +15,6 @@ spelled_in_range text x os utf8 reads =
     let short : length text ≤ MOST_BYTES = reads.short in
     record {
       measure = omega arith;
-      depth = depth_of_text text x os utf8 reads.spelled reads.none_deep;
+      depth = depth_of_text text x os utf8 reads;
       writable = spelled_writable reads.spelled;
     }

@@ -19,15 +19,9 @@ use Rattle.def_text.proofs.Completion.{completion, completes, completion_starts,
 
 -- ---- some tokens, and then others
 
-then_behind : (us vs : List Token) (o : Option State) → ((n : State) →
-    behind n (us ++ vs) ≡ option_and_then (λ m. behind m vs) (behind n us)) →
-    option_and_then (λ n. behind n (us ++ vs)) o ≡ option_and_then (λ m. behind m vs) (option_and_then (λ n. behind n us) o)
-then_behind us vs None h = refl
-then_behind us vs (Some n) h = h n
-
 pub behind-append : (us vs : List Token) (s : State) → behind s (us ++ vs) ≡ option_and_then (λ n. behind n vs) (behind s us)
 behind-append [] vs s = refl
-behind-append (u ∷ us) vs s = then_behind us vs (step s u) (behind-append us vs)
+behind-append (u ∷ us) vs s = grind (arith, behind-append us vs)
 
 pub some_first : (f : State → Option State) (o : Option State) (r : State) → option_and_then f o ≡ Some r →
     (n : State) × (o ≡ Some n) × (f n ≡ Some r)

@@ -1,6 +1,5 @@
 -- What a word is where an expression may begin: names and letters, and back.
-use Rattle.std.specs.Prelude.{if◌then◌else◌}
-use Rattle.std.proofs.Common.{◌≡◌, ℕ, ◌==◌, Bool, true, List, [], ◌∷◌, Option, Some, refl, ap, arith}
+use Rattle.std.proofs.Common.{◌≡◌, ℕ, List, [], ◌∷◌, Option, Some, refl, ap, arith}
 use Rattle.std.specs.Option.{option_and_then, option_map}
 use Rattle.std.proofs.lemmas.Bool.{eqb-true}
 use Rattle.std.proofs.lemmas.Slice.Eq.{bytes_eq-Decides}
@@ -35,14 +34,9 @@ pub named_is : (w : Bytes) (f : Form) (fs : List Form) → first_named w fs ≡ 
 named_is w f [] h = absurd (cc)
 named_is w f (g ∷ gs) h = grind (arith, named_is w f gs, (bytes_eq-Decides w (form_name g)).0)
 
-letter_here : (n : ℕ) (l m : Letter) (b : Bool) (later : Option Letter) → (b ≡ true → n ≡ letter_byte m) →
-    (later ≡ Some l → n ≡ letter_byte l) → (if b then Some m else later) ≡ Some l → n ≡ letter_byte l
-letter_here n l m b later = grind arith
-
 letter_is : (n : ℕ) (l : Letter) (ls : List Letter) → first_letter n ls ≡ Some l → n ≡ letter_byte l
 letter_is n l [] h = absurd (cc)
-letter_is n l (m ∷ ms) h =
-    letter_here n l m (n == letter_byte m) (first_letter n ms) (eqb-true n (letter_byte m)) (letter_is n l ms) h
+letter_is n l (m ∷ ms) h = grind (arith, letter_is n l ms, eqb-true n (letter_byte m))
 
 letters_are : (n : ℕ) (w : Bytes) (ls : List Letter) (o : Option Letter) (p : Option (List Letter)) →
     ((l : Letter) → o ≡ Some l → n ≡ letter_byte l) → ((ms : List Letter) → p ≡ Some ms → w ≡ letter_word ms) →

@@ -7,19 +7,13 @@ use Rattle.def_text.specs.Letter.{letter_of_wrapper, letter_t, letter_l}
 use Rattle.def_text.specs.Spells.{text_1, text_pk, text_pkh, text_older, text_two, text_letters, text_whole}
 use Rattle.def_text.proofs.examples.trees_hold.Goals as goal
 
-pub returns-clause-pk : goal.returns-clause-pk
+pub returns : goal.returns
 unfolding hex_on_literals
-returns-clause-pk c = text_whole 70 (text_pk refl)
-
-pub returns-clause-or_d : goal.returns-clause-or_d
-unfolding hex_on_literals
-returns-clause-or_d c =
-    text_whole 168
-    (text_two OrD 75 167 (text_pk refl)
-    (text_two AndV 155 166 (text_letters (letter_of_wrapper V) [] (text_pkh refl)) (text_older refl)))
-
-pub returns-clause-sugar : goal.returns-clause-sugar
-returns-clause-sugar c = text_whole 5 (text_letters letter_l [] (text_letters letter_t [] text_1))
-
-pub returns-clause-group : goal.returns-clause-group
-returns-clause-group c = text_whole 4 (text_letters letter_l (letter_t ∷ []) text_1)
+returns c = record {
+  pk = text_whole 70 (text_pk refl);
+  or_d =     text_whole 168
+      (text_two OrD 75 167 (text_pk refl)
+      (text_two AndV 155 166 (text_letters (letter_of_wrapper V) [] (text_pkh refl)) (text_older refl)));
+  sugar = text_whole 5 (text_letters letter_l [] (text_letters letter_t [] text_1));
+  group = text_whole 4 (text_letters letter_l (letter_t ∷ []) text_1);
+}
