@@ -1,5 +1,5 @@
 -- No key is repeated exactly where all keys are distinct.
-use Rattle.std.proofs.Common.{◌≡◌, ◌++◌, refl, ◌↔◌, ℕ, ◌+◌, ◌<◌, Bool, true, false, List, [], ◌∷◌, Some, None, Contains, sym, subst, ◌⊎◌, inl, inr, arith, append_assoc, if◌then◌else◌}
+use Rattle.std.proofs.Common.{◌≡◌, ◌++◌, refl, ◌↔◌, ℕ, ◌+◌, ◌<◌, false, List, [], ◌∷◌, None, Contains, sym, subst, ◌⊎◌, inl, inr, arith, append_assoc}
 use Rattle.std.specs.List.{flat_map, list_any}
 use Rattle.std.proofs.lemmas.Bool.{cases_Bool}
 use Rattle.std.proofs.lemmas.Grind.{flat_map-append}
@@ -66,13 +66,11 @@ free-append before (x ∷ xs) ys =
 
 free_from_none : (first : ℕ) (before : List Key) (nodes : List Tree) → repeated_from first before nodes ≡ None → Free before (flat_map own_keys nodes)
 free_from_none first before [] e = tt
-free_from_none first before (t ∷ nodes) e = go (repeats before (own_keys t)) refl (free_from_none (first + 1) (before ++ own_keys t) nodes) e
-  where
-    go : (b : Bool) → repeats before (own_keys t) ≡ b → (repeated_from (first + 1) (before ++ own_keys t) nodes ≡ None
-        → Free (before ++ own_keys t) (flat_map own_keys nodes)) → (if b then Some first else repeated_from (first + 1) (before ++ own_keys t) nodes) ≡ None
-        → Free before (own_keys t ++ flat_map own_keys nodes)
-    go true q rest e = cc
-    go false q rest e = (free-append before (own_keys t) (flat_map own_keys nodes)).1 (free_from_test before (own_keys t) q, rest e)
+free_from_none first before (t ∷ nodes) e = elim (cases_Bool (repeats before (own_keys t))) [
+  | inl q ↦ (let f = rw q at e in cc)
+  | inr q ↦ (free-append before (own_keys t) (flat_map own_keys nodes)).1
+      (free_from_test before (own_keys t) q, free_from_none (first + 1) (before ++ own_keys t) nodes (rw q at e))
+]
 
 none_from_free : (first : ℕ) (before : List Key) (nodes : List Tree) → Free before (flat_map own_keys nodes) → repeated_from first before nodes ≡ None
 none_from_free first before [] h = refl

@@ -1,4 +1,5 @@
 pub mod Greatest
+pub mod First
 pub mod FirstMix
 pub mod FirstRepeat
 pub mod Repeating

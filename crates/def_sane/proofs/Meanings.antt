@@ -1,9 +1,9 @@
 -- What it means that none of the reasons applies.
-use Rattle.std.proofs.Common.{inl, inr, ◌≡◌, ◌↔◌, ℕ, ◌≤◌, true, false, nat_lt, List, ◌∷◌, Option, Some, None, Result, Ok, Err, IsTrue, refl, sym, ◌∙◌, ap, subst, if◌then◌else◌, arith}
-use Rattle.std.proofs.lemmas.Bool.{cases_Bool, ltb-false, le-ltb}
+use Rattle.std.proofs.Common.{◌≡◌, ◌↔◌, ℕ, ◌≤◌, true, Bool, false, nat_lt, [], ◌∷◌, Option, Some, None, Result, Ok, Err, IsTrue, refl, sym, ◌∙◌, ap, subst, if◌then◌else◌, arith}
+use Rattle.std.proofs.lemmas.Bool.{ltb-false, le-ltb}
 use Rattle.def_tree.specs.Tree.{Tree}
 use Rattle.def_types.specs.declared.Base.{Base}
-use Rattle.def_types.specs.declared.Base.TheVariants.{B, V, K, W}
+use Rattle.def_types.specs.declared.Base.TheVariants.{B}
 use Rattle.def_types.specs.declared.Ty.{Ty}
 use Rattle.def_types.specs.declared.Mall.{Mall}
 use Rattle.def_types.specs.declared.rule.RuleAt.{RuleAt}
@@ -14,6 +14,7 @@ use Rattle.def_types.proofs.Typing.{corr_is_typed, mall_is_non_malleable}
 use Rattle.def_sane.specs.declared.Rules.{Rules}
 use Rattle.def_sane.specs.declared.Rules.TheVariants.{Policy, Consensus}
 use Rattle.def_sane.specs.declared.Unfit.{Unfit}
+use Rattle.def_sane.specs.declared.Unfit.TheVariants as unfit
 use Rattle.def_sane.specs.Limits.{limits_of}
 use Rattle.def_sane.specs.Locks.{mix}
 use Rattle.def_sane.specs.Keys.{keys, AreDistinct, repeated_key}
@@ -23,17 +24,14 @@ use Rattle.def_sane.specs.Laws.{AreFewItems, IsValidWithin, ReasonsAreByLimits, 
 use Rattle.def_sane.proofs.FirstRepeat.{none_is_repeated}
 use Rattle.def_sane.proofs.Greatest.{limits_are_unique}
 
--- a list without a reason, first by first
-no_reason : (o : Option Unfit) (rest : List (Option Unfit)) → first_reason (o ∷ rest) ≡ None → (o ≡ None) × (first_reason rest ≡ None)
-no_reason None rest e = (refl, e)
-no_reason (Some reason) rest e = cc
+-- five reasons of which none applies
+none_of_five : (a b c d e : Option Unfit) → first_reason (a ∷ b ∷ c ∷ d ∷ e ∷ []) ≡ None ↔
+    ((a ≡ None) × (b ≡ None) × (c ≡ None) × (d ≡ None) × (e ≡ None))
+none_of_five a b c d e = grind arith
 
-none_first : (o : Option Unfit) (rest : List (Option Unfit)) → o ≡ None → first_reason rest ≡ None → first_reason (o ∷ rest) ≡ None
-none_first o rest e f = rw e f
-
--- a reason by a bound
-within_bound : (most n : ℕ) (reason : Unfit) → (if nat_lt most n then Some reason else None) ≡ None → n ≤ most
-within_bound most n reason e = elim (cases_Bool (nat_lt most n)) [ inl q ↦ (let f = rw q at e in cc) | inr q ↦ ltb-false most n q ]
+-- a reason that comes where a test passes
+not_told : (b : Bool) (reason : Unfit) → (if b then Some reason else None) ≡ None → b ≡ false
+not_told b reason = grind arith
 
 bound_within : (most n : ℕ) (reason : Unfit) → n ≤ most → (if nat_lt most n then Some reason else None) ≡ None
 bound_within most n reason h = rw (le-ltb most n h)
@@ -47,26 +45,16 @@ not_too_many : (rules : Rules) (items : ℕ) → AreFewItems rules items → are
 not_too_many Policy items h = le-ltb MOST_ITEMS items h
 not_too_many Consensus items h = refl
 
-items_within : (rules : Rules) (items : ℕ) (reason : Unfit) → (if are_too_many rules items then Some reason else None) ≡ None → AreFewItems rules items
-items_within rules items reason e =
-    few_items rules items (elim (cases_Bool (are_too_many rules items)) [ inl q ↦ (let f = rw q at e in cc) | inr q ↦ q ])
-
 within_items : (rules : Rules) (items : ℕ) (reason : Unfit) → AreFewItems rules items → (if are_too_many rules items then Some reason else None) ≡ None
 within_items rules items reason h = let e = not_too_many rules items h in rw e refl
-
-b_from_test : (base : Base) → is_b base ≡ true → base ≡ B
-b_from_test B e = refl
-b_from_test V e = cc
-b_from_test K e = cc
-b_from_test W e = cc
 
 -- a type, and a top of type B
 typed_from_none : (r : Result Ty RuleAt) → broken_rule r ≡ None → (ty : Ty) × (r ≡ Ok ty)
 typed_from_none (Ok ty) e = (ty, refl)
 typed_from_none (Err at) e = cc
 
-b_from_none : (ty : Ty) → wrong_top (Ok ty) ≡ None → ty.base ≡ B
-b_from_none ty e = b_from_test ty.base (elim (cases_Bool (is_b ty.base)) [ inl q ↦ q | inr q ↦ (let f = rw q at e in cc) ])
+b_from_none : (base : Base) → (if is_b base then None else Some unfit.TopNotB) ≡ None → base ≡ B
+b_from_none base = grind arith
 
 wrong_top-b : (ty : Ty) → ty.base ≡ B → wrong_top (Ok ty) ≡ None
 wrong_top-b ty e = rw e
@@ -76,29 +64,27 @@ valid_means_under rules tree = (forth, back)
   where
     forth : IsValidUnder rules tree → IsValidWithin rules tree (limits_of tree)
     forth valid =
-        let one = no_reason _ _ valid in
-        let two = no_reason _ _ one.1 in
-        let three = no_reason _ _ two.1 in
-        let four = no_reason _ _ three.1 in
-        let five = no_reason _ _ four.1 in
-        let typed = typed_from_none (corr tree) one.0 in
+        let none = (none_of_five _ _ _ _ _).0 valid in
+        let typed = typed_from_none (corr tree) none.0 in
         let known = (corr_is_typed tree typed.0).0 typed.1 in
-        let base : typed.0.base ≡ B = b_from_none typed.0 (subst (λ r. wrong_top r ≡ None) typed.1 two.0) in (
+        let base : typed.0.base ≡ B = b_from_none typed.0.base (subst (λ r. wrong_top r ≡ None) typed.1 none.1) in (
           known.0,
           subst (λ (ty : Ty). ty.base ≡ B) known.1 base,
-          within_bound (size_limit rules) _ _ three.0,
-          within_bound MAX_OPS_PER_SCRIPT _ _ four.0,
-          items_within rules _ _ five.0,
+          ltb-false (size_limit rules) _ (not_told _ _ none.2),
+          ltb-false MAX_OPS_PER_SCRIPT _ (not_told _ _ none.3),
+          few_items rules _ (not_told _ _ none.4),
         )
 
     back : IsValidWithin rules tree (limits_of tree) → IsValidUnder rules tree
     back h =
         let typed : corr tree ≡ Ok (type_of tree) = (corr_is_typed tree (type_of tree)).1 (h.0, refl) in
-        none_first _ _ (ap broken_rule typed)
-        (none_first _ _ (ap wrong_top typed ∙ wrong_top-b (type_of tree) h.1)
-        (none_first _ _ (bound_within (size_limit rules) _ _ h.2)
-        (none_first _ _ (bound_within MAX_OPS_PER_SCRIPT _ _ h.3)
-        (none_first _ _ (within_items rules _ _ h.4) refl))))
+        (none_of_five _ _ _ _ _).1 (
+          ap broken_rule typed,
+          ap wrong_top typed ∙ wrong_top-b (type_of tree) h.1,
+          bound_within (size_limit rules) _ _ h.2,
+          bound_within MAX_OPS_PER_SCRIPT _ _ h.3,
+          within_items rules _ _ h.4,
+        )
 
 -- whatever limits a tree has are those that are computed
 pub valid_means_within : ValidMeans
@@ -118,48 +104,44 @@ mall_from_none : (r : Result Mall RuleAt) → malleable r ≡ None → (m : Mall
 mall_from_none (Ok m) e = (m, refl)
 mall_from_none (Err at) e = cc
 
-s_from_none : (m : Mall) → no_signature (Ok m) ≡ None → m.s ≡ true
-s_from_none m e = elim (cases_Bool m.s) [ inl q ↦ q | inr q ↦ (let f = rw q at e in cc) ]
+s_from_none : (s : Bool) → (if s then None else Some unfit.NoSignature) ≡ None → s ≡ true
+s_from_none s = grind arith
 
 no_signature-s : (m : Mall) → m.s ≡ true → no_signature (Ok m) ≡ None
 no_signature-s m e = rw e
 
 mix_from_none : (o : Option ℕ) → mixed_locks o ≡ None → o ≡ None
-mix_from_none None e = refl
-mix_from_none (Some node) e = cc
+mix_from_none o = grind arith
 
 repeat_from_none : (o : Option ℕ) → repeated o ≡ None → o ≡ None
-repeat_from_none None e = refl
-repeat_from_none (Some node) e = cc
+repeat_from_none o = grind arith
 
 pub sane_means_under : SaneMeans
 sane_means_under rules tree = (forth, back)
   where
     forth : IsSaneUnder rules tree → IsValidUnder rules tree × IsMallTyped tree × IsTrue (mall_of tree).s × (mix tree ≡ None) × AreDistinct (keys tree)
     forth sane =
-        let one = no_reason _ _ sane in
-        let two = no_reason _ _ one.1 in
-        let three = no_reason _ _ two.1 in
-        let four = no_reason _ _ three.1 in
-        let five = no_reason _ _ four.1 in
-        let typed = mall_from_none (mall tree) two.0 in
+        let none = (none_of_five _ _ _ _ _).0 sane in
+        let typed = mall_from_none (mall tree) none.1 in
         let known = (mall_is_non_malleable tree typed.0).0 typed.1 in
-        let signed : typed.0.s ≡ true = s_from_none typed.0 (subst (λ r. no_signature r ≡ None) typed.1 three.0) in (
-          one.0,
+        let signed : typed.0.s ≡ true = s_from_none typed.0.s (subst (λ r. no_signature r ≡ None) typed.1 none.2) in (
+          none.0,
           known.0,
           subst (λ (m : Mall). m.s ≡ true) known.1 signed,
-          mix_from_none (mix tree) four.0,
-          (none_is_repeated tree).0 (repeat_from_none (repeated_key tree) five.0),
+          mix_from_none (mix tree) none.3,
+          (none_is_repeated tree).0 (repeat_from_none (repeated_key tree) none.4),
         )
 
     back : IsValidUnder rules tree × IsMallTyped tree × IsTrue (mall_of tree).s × (mix tree ≡ None) × AreDistinct (keys tree) → IsSaneUnder rules tree
     back h =
         let typed : mall tree ≡ Ok (mall_of tree) = (mall_is_non_malleable tree (mall_of tree)).1 (h.1, refl) in
-        none_first _ _ h.0
-        (none_first _ _ (ap malleable typed)
-        (none_first _ _ (ap no_signature typed ∙ no_signature-s (mall_of tree) h.2)
-        (none_first _ _ (ap mixed_locks h.3)
-        (none_first _ _ (ap repeated ((none_is_repeated tree).1 h.4)) refl))))
+        (none_of_five _ _ _ _ _).1 (
+          h.0,
+          ap malleable typed,
+          ap no_signature typed ∙ no_signature-s (mall_of tree) h.2,
+          ap mixed_locks h.3,
+          ap repeated ((none_is_repeated tree).1 h.4),
+        )
 
 -- of policy
 pub sane_means : (tree : Tree) →

@@ -1,8 +1,8 @@
 -- The first node that repeats a key.
-use Rattle.std.proofs.Common.{inl, inr, ◌≡◌, ℕ, zero, suc, ◌+◌, ◌<◌, Bool, true, false, List, [], ◌∷◌, ◌++◌, take, slice_get, Option, Some, None, Contains, MatchOption, refl, sym, subst, arith, append_assoc, if◌then◌else◌}
+use Rattle.std.proofs.Common.{inl, inr, ◌≡◌, ℕ, zero, suc, ◌+◌, true, false, List, [], ◌∷◌, ◌++◌, take, slice_get, Some, Contains, refl, sym, subst, append_assoc}
 use Rattle.std.specs.Str.{bytes_eq}
 use Rattle.std.specs.List.{list_any, flat_map}
-use Rattle.std.proofs.lemmas.Bool.{or_cases}
+use Rattle.std.proofs.lemmas.Bool.{cases_Bool, or_cases}
 use Rattle.std.proofs.lemmas.List.{append-nil}
 use Rattle.std.proofs.lemmas.List.Elements.{Contains-append_left}
 use Rattle.std.proofs.lemmas.Map.Views.{Contains-from_any}
@@ -12,6 +12,7 @@ use Rattle.def_tree.specs.Nodes.{all_nodes}
 use Rattle.def_sane.specs.Keys.{own_keys, repeats, repeated_from, repeated_key, Repeats}
 use Rattle.def_sane.specs.Laws.{RepeatedIsFirst}
 use Rattle.def_sane.proofs.FirstRepeat.{Free, free_from_test}
+use Rattle.def_sane.proofs.First.{IsFirst, first_here, first_behind, first_is}
 
 -- some key of a list stands before, or earlier in the list
 abbrev Again : (before own : List Key) → Type 0
@@ -54,45 +55,17 @@ later before t nodes n r = (r.0, r.1, subst (λ (l : List Key). Again l (own_key
 earlier : (before : List Key) (t : Tree) (nodes : List Tree) (n : ℕ) → RepeatsAt before (t ∷ nodes) (suc n) → RepeatsAt (before ++ own_keys t) nodes n
 earlier before t nodes n r = (r.0, r.1, subst (λ (l : List Key). Again l (own_keys r.0)) (sym (append_assoc before (own_keys t) (flat_map own_keys (take n nodes)))) r.2)
 
-none_repeats : (first : ℕ) (before : List Key) (nodes : List Tree) → repeated_from first before nodes ≡ None → (n : ℕ) → ¬ RepeatsAt before nodes n
-none_repeats first before [] e n r = let f = r.1 in cc
-none_repeats first before (t ∷ nodes) e n r = go (repeats before (own_keys t)) refl (none_repeats (first + 1) (before ++ own_keys t) nodes) e n r
-  where
-    go : (b : Bool) → repeats before (own_keys t) ≡ b → (repeated_from (first + 1) (before ++ own_keys t) nodes ≡ None → (n : ℕ) → ¬ RepeatsAt (before ++ own_keys t) nodes n)
-        → (if b then Some first else repeated_from (first + 1) (before ++ own_keys t) nodes) ≡ None → (n : ℕ) → ¬ RepeatsAt before (t ∷ nodes) n
-    go true q rest e n r = cc
-    go false q rest e zero r = first_apart before t nodes q r
-    go false q rest e (suc n) r = rest e n (earlier before t nodes n r)
-
--- the node at place k is the first one that does
-abbrev FirstAt : (before : List Key) → List Tree → (k : ℕ) → Type 0
-FirstAt before nodes k = RepeatsAt before nodes k × ((n : ℕ) → n < k → ¬ RepeatsAt before nodes n)
-
-first_repeats : (first : ℕ) (before : List Key) (nodes : List Tree) (node : ℕ) → repeated_from first before nodes ≡ Some node → (k : ℕ) × (node ≡ first + k) × FirstAt before nodes k
-first_repeats first before [] node e = cc
-first_repeats first before (t ∷ nodes) node e = go (repeats before (own_keys t)) refl (first_repeats (first + 1) (before ++ own_keys t) nodes node) e
-  where
-    none_before : (k : ℕ) → repeats before (own_keys t) ≡ false → ((n : ℕ) → n < k → ¬ RepeatsAt (before ++ own_keys t) nodes n) → (n : ℕ) → n < suc k → ¬ RepeatsAt before (t ∷ nodes) n
-    none_before k q rest zero below r = first_apart before t nodes q r
-    none_before k q rest (suc n) below r = rest n (omega arith) (earlier before t nodes n r)
-
-    go : (b : Bool) → repeats before (own_keys t) ≡ b → (repeated_from (first + 1) (before ++ own_keys t) nodes ≡ Some node → (k : ℕ) × (node ≡ first + 1 + k) × FirstAt (before ++ own_keys t) nodes k)
-        → (if b then Some first else repeated_from (first + 1) (before ++ own_keys t) nodes) ≡ Some node → (k : ℕ) × (node ≡ first + k) × FirstAt before (t ∷ nodes) k
-    go true q rest e =
-        let same : first ≡ node = cc in
-        let again : Again (before ++ []) (own_keys t) = subst (λ (l : List Key). Again l (own_keys t)) (sym (append-nil before)) (again_from_test before (own_keys t) q) in
-        (zero, omega arith, ((t, refl, again), λ n below r. absurd (omega arith)))
-    go false q rest e =
-        let r = rest e in
-        (suc r.0, (let s = r.1 in omega arith), (later before t nodes r.0 r.2.0, none_before r.0 q r.2.1))
+first_repeats : (start : ℕ) (before : List Key) (nodes : List Tree) → IsFirst (RepeatsAt before nodes) start (repeated_from start before nodes)
+first_repeats start before [] = λ n r. let e = r.1 in cc
+first_repeats start before (t ∷ nodes) = elim (cases_Bool (repeats before (own_keys t))) [
+  | inl q ↦ rw q
+      (first_here (RepeatsAt before (t ∷ nodes)) start
+      (t, refl, subst (λ (l : List Key). Again l (own_keys t)) (sym (append-nil before)) (again_from_test before (own_keys t) q)))
+  | inr q ↦ rw q
+      (first_behind (RepeatsAt before (t ∷ nodes)) (RepeatsAt (before ++ own_keys t) nodes) start _ (first_apart before t nodes q)
+      (λ n. (earlier before t nodes n, later before t nodes n)) (first_repeats (start + 1) (before ++ own_keys t) nodes))
+]
 
 -- as the law says it
 pub repeated_is_first : RepeatedIsFirst
-repeated_is_first tree = go (repeated_key tree) refl
-  where
-    go : (o : Option ℕ) → repeated_key tree ≡ o → MatchOption o ((node : ℕ) → ¬ Repeats tree node) (λ first. Repeats tree first × ((node : ℕ) → node < first → ¬ Repeats tree node))
-    go None e = λ node r. none_repeats 0 [] (all_nodes tree) e node r
-    go (Some first) e =
-        let f = first_repeats 0 [] (all_nodes tree) first e in
-        let same : f.0 ≡ first = let s = f.1 in omega arith in
-        subst (λ (n : ℕ). FirstAt [] (all_nodes tree) n) same f.2
+repeated_is_first tree = first_is (Repeats tree) (repeated_key tree) (first_repeats 0 [] (all_nodes tree))

@@ -3,11 +3,5 @@ use Rattle.def_sane.proofs.FirstMix.{mix_is_first}
 use Rattle.def_sane.proofs.FirstRepeat.{none_is_repeated}
 use Rattle.def_sane.proofs.Repeating.{repeated_is_first}
 
-pub returns-clause-mix : goal.returns-clause-mix
-returns-clause-mix c = mix_is_first
-
-pub returns-clause-repeated : goal.returns-clause-repeated
-returns-clause-repeated c = repeated_is_first
-
-pub returns-clause-distinct : goal.returns-clause-distinct
-returns-clause-distinct c = none_is_repeated
+pub returns : goal.returns
+returns c = record { mix = mix_is_first; repeated = repeated_is_first; distinct = none_is_repeated }
