@@ -1,7 +1,8 @@
 -- A tree that is nested to the right has the malleability properties, the timelocks and the keys of the tree before.
-use Rattle.std.proofs.Common.{◌≡◌, ◌↔◌, ℕ, ◌+◌, Bool, true, false, ◌&&◌, ◌||◌, nat_le, cond, List, [], ◌∷◌, ◌++◌, Some, None, refl, sym, ◌∙◌, ap, subst, append_assoc, arith}
+use Rattle.std.proofs.Common.{inl, inr, ◌≡◌, ◌↔◌, ℕ, ◌+◌, Bool, true, false, ◌&&◌, ◌||◌, nat_le, List, [], ◌∷◌, ◌++◌, None, refl, sym, ◌∙◌, ap, subst, append_assoc, arith}
 use Rattle.std.specs.Prelude.{⊤}
 use Rattle.std.specs.List.{position_from}
+use Rattle.std.proofs.lemmas.Bool.{cases_Bool}
 use Rattle.def_tree.specs.declared.Two.{Two}
 use Rattle.def_tree.specs.declared.Two.TheVariants as kind
 use Rattle.def_tree.specs.declared.Wrapper.{Wrapper}
@@ -31,53 +32,23 @@ union_assoc a b c = λ i. record {
   absolute_height = or_assoc a.absolute_height b.absolute_height c.absolute_height i;
 }
 
-four_false : (p q r s : Bool) → ((p || q || r || s) ≡ false) ↔ ((p ≡ false) × (q ≡ false) × (r ≡ false) × (s ≡ false))
-four_false p q r s = (λ e. (grind arith, grind arith, grind arith, grind arith), λ h. grind arith)
+spread_left : (p q r : Bool) → ((p || q) && r) ≡ ((p && r) || (q && r))
+spread_left p q r = grind arith
 
-either_and : (p q r : Bool) → (((p || q) && r) ≡ false) ↔ (((p && r) ≡ false) × ((q && r) ≡ false))
-either_and p q r = (λ e. (grind arith, grind arith), λ h. grind arith)
+spread_right : (p q r : Bool) → (r && (p || q)) ≡ ((r && p) || (r && q))
+spread_right p q r = grind arith
 
-and_either : (p q r : Bool) → ((r && (p || q)) ≡ false) ↔ (((r && p) ≡ false) × ((r && q) ≡ false))
-and_either p q r = (λ e. (grind arith, grind arith), λ h. grind arith)
+four_pairs : (p q r s t u v w : Bool) → ((p || t) || (q || u) || (r || v) || (s || w)) ≡ ((p || q || r || s) || (t || u || v || w))
+four_pairs p q r s t u v w = grind arith
 
--- no time of one with a height of the other
-abbrev Apart : Kinds → Kinds → Type 0
-Apart a b =
-    ((a.relative_time && b.relative_height) ≡ false) × ((a.relative_height && b.relative_time) ≡ false) ×
-    ((a.absolute_time && b.absolute_height) ≡ false) × ((a.absolute_height && b.absolute_time) ≡ false)
-
-apart : (a b : Kinds) → (conflict a b ≡ false) ↔ Apart a b
-apart a b = four_false (a.relative_time && b.relative_height) (a.relative_height && b.relative_time) (a.absolute_time && b.absolute_height) (a.absolute_height && b.absolute_time)
+neither : (p q r : Bool) → p ≡ (q || r) → (p ≡ false) ↔ ((q ≡ false) × (r ≡ false))
+neither p q r e = (λ h. (grind arith, grind arith), λ h. grind arith)
 
 union_left : (a b c : Kinds) → (conflict (union a b) c ≡ false) ↔ ((conflict a c ≡ false) × (conflict b c ≡ false))
-union_left a b c =
-    let p = either_and a.relative_time b.relative_time c.relative_height in
-    let q = either_and a.relative_height b.relative_height c.relative_time in
-    let r = either_and a.absolute_time b.absolute_time c.absolute_height in
-    let s = either_and a.absolute_height b.absolute_height c.absolute_time in (
-      λ e.
-          let h = (apart (union a b) c).0 e in
-          ((apart a c).1 ((p.0 h.0).0, (q.0 h.1).0, (r.0 h.2).0, (s.0 h.3).0), (apart b c).1 ((p.0 h.0).1, (q.0 h.1).1, (r.0 h.2).1, (s.0 h.3).1)),
-      λ e.
-          let h = (apart a c).0 e.0 in
-          let k = (apart b c).0 e.1 in
-          (apart (union a b) c).1 (p.1 (h.0, k.0), q.1 (h.1, k.1), r.1 (h.2, k.2), s.1 (h.3, k.3)),
-    )
+union_left a b c = neither (conflict (union a b) c) (conflict a c) (conflict b c) (simp (spread_left, four_pairs))
 
 union_right : (a b c : Kinds) → (conflict a (union b c) ≡ false) ↔ ((conflict a b ≡ false) × (conflict a c ≡ false))
-union_right a b c =
-    let p = and_either b.relative_height c.relative_height a.relative_time in
-    let q = and_either b.relative_time c.relative_time a.relative_height in
-    let r = and_either b.absolute_height c.absolute_height a.absolute_time in
-    let s = and_either b.absolute_time c.absolute_time a.absolute_height in (
-      λ e.
-          let h = (apart a (union b c)).0 e in
-          ((apart a b).1 ((p.0 h.0).0, (q.0 h.1).0, (r.0 h.2).0, (s.0 h.3).0), (apart a c).1 ((p.0 h.0).1, (q.0 h.1).1, (r.0 h.2).1, (s.0 h.3).1)),
-      λ e.
-          let h = (apart a b).0 e.0 in
-          let k = (apart a c).0 e.1 in
-          (apart a (union b c)).1 (p.1 (h.0, k.0), q.1 (h.1, k.1), r.1 (h.2, k.2), s.1 (h.3, k.3)),
-    )
+union_right a b c = neither (conflict a (union b c)) (conflict a b) (conflict a c) (simp (spread_right, four_pairs))
 
 -- ---- trees in which no node mixes
 
@@ -106,54 +77,28 @@ none_mixes-append (t ∷ ts) us =
 
 none_from_first : (first : ℕ) (ts : List Tree) → position_from mixes first ts ≡ None → NoneMixes ts
 none_from_first first [] e = tt
-none_from_first first (t ∷ ts) e = go (mixes t) refl (none_from_first (first + 1) ts) e
-  where
-    go : (b : Bool) → mixes t ≡ b → (position_from mixes (first + 1) ts ≡ None → NoneMixes ts) → cond b (Some first) (position_from mixes (first + 1) ts) ≡ None → (mixes t ≡ false) × NoneMixes ts
-    go true q rest e = cc
-    go false q rest e = (q, rest e)
+none_from_first first (t ∷ ts) e = elim (cases_Bool (mixes t)) [
+  | inl q ↦ (let f = rw q at e in cc)
+  | inr q ↦ (q, none_from_first (first + 1) ts (rw q at e))
+]
 
 first_from_none : (first : ℕ) (ts : List Tree) → NoneMixes ts → position_from mixes first ts ≡ None
 first_from_none first [] h = refl
 first_from_none first (t ∷ ts) h = rw h.0 (first_from_none (first + 1) ts h.1)
 
--- the nodes before a root
-root_of : (ts : List Tree) (root : Tree) → NoneMixes (ts ++ root ∷ []) ↔ (NoneMixes ts × (mixes root ≡ false))
-root_of ts root =
-    let both = none_mixes-append ts (root ∷ []) in (λ h. ((both.0 h).0, (both.0 h).1.0), λ h. both.1 (h.0, (h.1, tt)))
-
 mutual
   no_mix : (t : Tree) → NoneMixes (all_nodes t) ↔ NoMix t
   no_mix (and_or x y z) =
-      let r = root_of (all_nodes x ++ all_nodes y ++ all_nodes z) (and_or x y z) in
-      let q = none_mixes-append (all_nodes x ++ all_nodes y) (all_nodes z) in
-      let p = none_mixes-append (all_nodes x) (all_nodes y) in
-      let i = no_mix x in let j = no_mix y in let k = no_mix z in (
-        λ h. let a = r.0 h in let b = q.0 a.0 in let c = p.0 b.0 in (i.0 c.0, j.0 c.1, k.0 b.1, a.1),
-        λ h. r.1 (q.1 (p.1 (i.1 h.0, j.1 h.1), k.1 h.2), h.3),
-      )
-  no_mix (two kind x y) =
-      let r = root_of (all_nodes x ++ all_nodes y) (two kind x y) in
-      let p = none_mixes-append (all_nodes x) (all_nodes y) in
-      let i = no_mix x in let j = no_mix y in (
-        λ h. let a = r.0 h in let c = p.0 a.0 in (i.0 c.0, j.0 c.1, a.1),
-        λ h. r.1 (p.1 (i.1 h.0, j.1 h.1), h.2),
-      )
-  no_mix (thresh k xs) =
-      let r = root_of (nodes_of_all xs) (thresh k xs) in
-      let i = no_mixes xs in
-      (λ h. let a = r.0 h in (i.0 a.0, a.1), λ h. r.1 (i.1 h.0, h.1))
-  no_mix (wrap wrapper x) =
-      let r = root_of (all_nodes x) (wrap wrapper x) in
-      let i = no_mix x in
-      (λ h. i.0 (r.0 h).0, λ h. r.1 (i.1 h, refl))
+      simp (none_mixes-append, no_mix x, no_mix y, no_mix z)
+      (λ h. (h.0.0.0, h.0.0.1, h.0.1, h.1.0), λ h. (((h.0, h.1), h.2), (h.3, tt)))
+  no_mix (two kind x y) = simp (none_mixes-append, no_mix x, no_mix y) (λ h. (h.0.0, h.0.1, h.1.0), λ h. ((h.0, h.1), (h.2, tt)))
+  no_mix (thresh k xs) = simp (none_mixes-append, no_mixes xs) (λ h. (h.0, h.1.0), λ h. (h.0, (h.1, tt)))
+  no_mix (wrap wrapper x) = simp (none_mixes-append, no_mix x) (λ h. h.0, λ h. (h, (refl, tt)))
   no_mix leaf = (λ h. tt, λ h. (refl, tt))
 
   no_mixes : (xs : Trees) → NoneMixes (nodes_of_all xs) ↔ AreNoMix xs
   no_mixes none = (λ h. tt, λ h. tt)
-  no_mixes (more x xs) =
-      let p = none_mixes-append (all_nodes x) (nodes_of_all xs) in
-      let i = no_mix x in let j = no_mixes xs in
-      (λ h. let a = p.0 h in (i.0 a.0, j.0 a.1), λ h. p.1 (i.1 h.0, j.1 h.1))
+  no_mixes (more x xs) = simp (none_mixes-append, no_mix x, no_mixes xs) (λ h. h, λ h. h)
 
 mix_is_none : (t : Tree) → (mix t ≡ None) ↔ NoMix t
 mix_is_none t = (λ e. (no_mix t).0 (none_from_first 0 (all_nodes t) e), λ h. first_from_none 0 (all_nodes t) ((no_mix t).1 h))

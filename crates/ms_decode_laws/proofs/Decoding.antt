@@ -1,9 +1,10 @@
 -- What a Script is decoded to: the tree that the reader finds, where there is one.
-use Rattle.std.proofs.Common.{◌≡◌, ◌↔◌, ℕ, zero, suc, ◌+◌, ◌<◌, ◌≤◌, Bool, true, false, List, [], ◌∷◌, ◌++◌, length, map, reverse, append-nil, slice_index_or, All, Option, Some, None, Ok, if◌then◌else◌, refl, sym, ◌∙◌, ap, subst, arith}
+use Rattle.std.proofs.Common.{inl, inr, ◌≡◌, ◌↔◌, ℕ, zero, suc, ◌+◌, ◌<◌, ◌≤◌, Bool, true, List, [], ◌∷◌, ◌++◌, length, map, reverse, append-nil, slice_index_or, All, Option, Some, None, Ok, refl, sym, ◌∙◌, ap, subst, arith}
 use Rattle.std.specs.List.{find, Contains}
 use Rattle.std.specs.Str.{bytes_eq}
 use Rattle.std.proofs.lemmas.List.{length-append, reverse-reverse}
-use Rattle.std.proofs.lemmas.List.Elements.{All-head, All-tail}
+use Rattle.std.proofs.lemmas.Bool.{cases_Bool}
+use Rattle.std.proofs.lemmas.List.Elements.{All-contains}
 use Rattle.std.proofs.lemmas.Slice.Eq.{bytes_eq-Decides}
 use Rattle.def_hash.specs.Hash.{hash160}
 use Rattle.def_script.specs.Bytes.{Bytes}
@@ -50,30 +51,20 @@ module _ (X : Type 0) (p : X → Bool) where
   found_passes [] y e = cc
   found_passes (x ∷ xs) y e = grind (arith, found_passes xs y)
 
-  at_on : (x : X) (xs : List X) (b : Bool) → p x ≡ b → (z : X) × (find p xs ≡ Some z) → (z : X) × (find p (x ∷ xs) ≡ Some z)
-  at_on x xs true q next = (x, rw q refl)
-  at_on x xs false q next = (next.0, rw q next.1)
-
   found_at : (xs : List X) (k : ℕ) (d : X) → k < length xs → p (slice_index_or xs k d) ≡ true → (z : X) × (find p xs ≡ Some z)
   found_at [] k d below e = absurd (omega (arith, below))
   found_at (x ∷ xs) zero d below e = (x, rw e refl)
-  found_at (x ∷ xs) (suc k) d below e = at_on x xs (p x) refl (found_at xs k d (omega (arith, below)) e)
-
-  in_on : (x y : X) (xs : List X) (b : Bool) → (if b then Some x else find p xs) ≡ Some y → (find p xs ≡ Some y → Contains xs y) → Contains (x ∷ xs) y
-  in_on x y xs true e next = let same : x ≡ y = cc in (0, omega arith, same)
-  in_on x y xs false e next = let r = next e in let below = r.1 in (suc r.0, omega (arith, below), r.2)
+  found_at (x ∷ xs) (suc k) d below e = elim (cases_Bool (p x)) [
+    | inl q ↦ (x, rw q refl)
+    | inr q ↦ (let r = found_at xs k d (omega (arith, below)) e in (r.0, rw q r.1))
+  ]
 
   pub found_in : (xs : List X) (y : X) → find p xs ≡ Some y → Contains xs y
   found_in [] y e = cc
-  found_in (x ∷ xs) y e = in_on x y xs (p x) e (found_in xs y)
-
-  all_on : (Q : X → Type 0) (x y : X) (xs : List X) (b : Bool) → Q x → (if b then Some x else find p xs) ≡ Some y → (find p xs ≡ Some y → Q y) → Q y
-  all_on Q x y xs true h e next = let same : x ≡ y = cc in subst Q same h
-  all_on Q x y xs false h e next = next e
-
-  found_all : (Q : X → Type 0) (xs : List X) (y : X) → All Q xs → find p xs ≡ Some y → Q y
-  found_all Q [] y all e = cc
-  found_all Q (x ∷ xs) y all e = all_on Q x y xs (p x) (All-head Q x xs all) e (found_all Q xs y (All-tail Q x xs all))
+  found_in (x ∷ xs) y e = elim (cases_Bool (p x)) [
+    | inl q ↦ (let f = rw q at e in let same : x ≡ y = cc in (0, omega arith, same))
+    | inr q ↦ (let r = found_in xs y (rw q at e) in let below = r.1 in (suc r.0, omega (arith, below), r.2))
+  ]
 
 -- the first listed key with the HASH160 of a key, or else that key
 abbrev or_key : Option Key → Key → Key
@@ -108,7 +99,7 @@ first_from_listed keys k all h =
     let same : hash160 r.0 ≡ hash160 k = found_hash keys (hash160 k) r.0 found in
     record {
       first = subst (λ (z : Key). first_with keys (hash160 z) ≡ Some z) (sym is) (ap (first_with keys) same ∙ found);
-      key = subst IsKey (sym is) (found_all Key p IsKey keys r.0 all found);
+      key = subst IsKey (sym is) (All-contains IsKey keys r.0 all (found_in Key p keys r.0 found));
     }
 
 mutual
@@ -280,11 +271,9 @@ map_injective [] [] e = refl
 map_injective [] (j ∷ b) e = cc
 map_injective (i ∷ a) [] e = cc
 map_injective (i ∷ a) (j ∷ b) e =
-    let first : item_of i ≡ item_of j = cc in
-    let rest : map item_of a ≡ map item_of b = cc in
-    let p = item_injective i j first in
-    let q = map_injective a b rest in
-    λ k. p k ∷ q k
+    let p = item_injective i j (cc) in
+    let q = map_injective a b (cc) in
+    cc
 
 -- so these are the instructions of a tree with this Script
 emit_of : (keys : List Key) (script : Bytes) (t : Tree) (is : List Instruction) → items script ≡ map item_of is → IsReading keys script t → emit t ≡ is

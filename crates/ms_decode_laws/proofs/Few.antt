@@ -4,7 +4,7 @@ use Rattle.def_script.specs.declared.Op.TheVariants as op
 use Rattle.def_script.specs.Instruction.{Instruction, push, code}
 use Rattle.def_tree.specs.declared.Two.TheVariants as kind
 use Rattle.def_tree.specs.declared.Wrapper.TheVariants as wrapper
-use Rattle.def_tree.specs.Tree.{Tree, Trees, Key, just_0, just_1, pk_k, pk_h, older, after, hash, and_or, two, thresh, multi, wrap, none, more}
+use Rattle.def_tree.specs.Tree.{Tree, Trees, Key, and_or, two, thresh, multi, wrap, none, more}
 use Rattle.def_tree.specs.Size.{measure, measure_of}
 use Rattle.def_emit.specs.Emit.{push_number}
 use Rattle.ms_decode_laws.proofs.Onto.{back, fused, onto, onto_sum, onto_added}
@@ -28,30 +28,21 @@ length-back (key ∷ keys) l = omega (arith, length-back keys (push key ∷ l))
 
 mutual
   pub few_of : (t : Tree) (l : List Instruction) → Few (measure t) l (onto t l)
-  few_of just_0 l = record { few = omega arith }
-  few_of just_1 l = record { few = omega arith }
-  few_of (pk_k key) l = record { few = omega arith }
-  few_of (pk_h key) l = record { few = omega arith }
-  few_of (older n) l = record { few = omega arith }
-  few_of (after n) l = record { few = omega arith }
-  few_of (hash kind value) l = record { few = omega arith }
   few_of (and_or x y z) l =
       record { few = omega (arith, (few_of x l).few, (few_of z (code op.NotIf ∷ onto x l)).few, (few_of y (code op.Else ∷ onto z (code op.NotIf ∷ onto x l))).few) }
-  few_of (two kind.AndV x y) l = record { few = omega (arith, (few_of x l).few, (few_of y (onto x l)).few) }
-  few_of (two kind.AndB x y) l = record { few = omega (arith, (few_of x l).few, (few_of y (onto x l)).few) }
-  few_of (two kind.OrB x y) l = record { few = omega (arith, (few_of x l).few, (few_of y (onto x l)).few) }
   few_of (two kind.OrC x y) l = record { few = omega (arith, (few_of x l).few, (few_of y (code op.NotIf ∷ onto x l)).few) }
   few_of (two kind.OrD x y) l = record { few = omega (arith, (few_of x l).few, (few_of y (code op.NotIf ∷ code op.IfDup ∷ onto x l)).few) }
   few_of (two kind.OrI x y) l = record { few = omega (arith, (few_of x (code op.If ∷ l)).few, (few_of y (code op.Else ∷ onto x (code op.If ∷ l))).few) }
+  few_of (two b x y) l = record { few = omega (arith, (few_of x l).few, (few_of y (onto x l)).few) }
   few_of (thresh k xs) l = record { few = omega (arith, few_sum xs l) }
   few_of (multi k keys) l = record { few = omega (arith, length-back keys (push_number k ∷ l)) }
   few_of (wrap wrapper.A x) l = record { few = omega (arith, (few_of x (code op.ToAltStack ∷ l)).few) }
   few_of (wrap wrapper.S x) l = record { few = omega (arith, (few_of x (code op.Swap ∷ l)).few) }
-  few_of (wrap wrapper.C x) l = record { few = omega (arith, (few_of x l).few) }
   few_of (wrap wrapper.D x) l = record { few = omega (arith, (few_of x (code op.If ∷ code op.Dup ∷ l)).few) }
   few_of (wrap wrapper.V x) l = fused_few (measure x) l (onto x l) (few_of x l)
   few_of (wrap wrapper.J x) l = record { few = omega (arith, (few_of x (code op.If ∷ code op.ZeroNotEqual ∷ code op.Size ∷ l)).few) }
-  few_of (wrap wrapper.N x) l = record { few = omega (arith, (few_of x l).few) }
+  few_of (wrap w x) l = record { few = omega (arith, (few_of x l).few) }
+  few_of leaf l = record { few = omega arith }
 
   few_sum : (xs : Trees) (l : List Instruction) → measure_of xs + 3 * length l ≤ 3 * length (onto_sum xs l)
   few_sum none l = omega arith

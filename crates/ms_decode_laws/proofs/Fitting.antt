@@ -6,12 +6,13 @@ use Rattle.def_hash.specs.Hash.{hash160}
 use Rattle.def_script.specs.Bytes.{Bytes}
 use Rattle.def_script.specs.Numbers.{natural_bytes}
 use Rattle.def_script.proofs.Decoding.{number_is_read_back}
+use Rattle.def_tree.specs.declared.Two.{Two}
 use Rattle.def_tree.specs.declared.Two.TheVariants as kind
+use Rattle.def_tree.specs.declared.Wrapper.{Wrapper}
 use Rattle.def_tree.specs.declared.Wrapper.TheVariants as wrapper
 use Rattle.def_tree.specs.Tree.{Tree, Trees, Key, just_0, just_1, pk_k, pk_h, older, after, hash, and_or, two, thresh, multi, wrap, none, more}
 use Rattle.def_tree.specs.Size.{measure, measure_of, depth, depth_of}
 use Rattle.def_tree.specs.Range.{IsKey, IsWritable, AreWritable, MOST_MEASURE, MOST_DEPTH, TEN_DIGITS}
-use Rattle.def_types.specs.declared.Base.{Base}
 use Rattle.def_types.specs.declared.Base.TheVariants.{B, V, K, W}
 use Rattle.def_types.specs.Typed.{type_of, IsTyped, AreTyped}
 use Rattle.def_types.proofs.Rows.{corr_rows}
@@ -78,14 +79,18 @@ as_side find t w s = record {
   side = λ e. s;
 }
 
-b_not_w : (b : Base) → b ≡ B → b ≢ W
-b_not_w b e = λ h. let f : B ≡ W = sym e ∙ h in cc
+-- of a node that fits, a child that is typed and nested does
+wrapped_fits : (find : Bytes → Option Key) (w : Wrapper) (x : Tree) → Fit find (wrap w x) → IsTyped x → RightNested x → Fit find x
+wrapped_fits find w x h typed nested = record {
+  typed = typed; nested = nested; writable = h.writable; found = h.found; deep = omega (arith, h.deep); large = omega (arith, h.large) }
 
-v_not_w : (b : Base) → b ≡ V → b ≢ W
-v_not_w b e = λ h. let f : V ≡ W = sym e ∙ h in cc
+first_fits : (find : Bytes → Option Key) (b : Two) (x y : Tree) → Fit find (two b x y) → IsTyped x → RightNested x → Fit find x
+first_fits find b x y h typed nested = record {
+  typed = typed; nested = nested; writable = h.writable.0; found = h.found.0; deep = omega (arith, h.deep); large = omega (arith, h.large) }
 
-k_not_w : (b : Base) → b ≡ K → b ≢ W
-k_not_w b e = λ h. let f : K ≡ W = sym e ∙ h in cc
+second_fits : (find : Bytes → Option Key) (b : Two) (x y : Tree) → Fit find (two b x y) → IsTyped y → RightNested y → Fit find y
+second_fits find b x y h typed nested = record {
+  typed = typed; nested = nested; writable = h.writable.1; found = h.found.1; deep = omega (arith, h.deep); large = omega (arith, h.large) }
 
 module _ (find : Bytes → Option Key) where
   fit : (t : Tree) → Fit find t → fits t ≡ true
@@ -108,40 +113,34 @@ module _ (find : Bytes → Option Key) where
         let b = parses y (record { typed = f.1; nested = h.nested.1; writable = h.writable.1; found = h.found.1; deep = omega (arith, h.deep); large = omega (arith, h.large) }) in
         let c = parses z (record { typed = f.2; nested = h.nested.2; writable = h.writable.2; found = h.found.2; deep = omega (arith, h.deep); large = omega (arith, h.large) }) in
         as_one find (and_or x y z) f.7
-        (and_or_one x y z (a.one (d_no_and_v x f.4) (b_not_w _ f.3)) (b.row f.7) (c.row (not_w _ _ (sym f.6) f.7)) (fit (and_or x y z) h))
+        (and_or_one x y z (a.one (d_no_and_v x f.4) (not_w _ B f.3 (λ e. cc))) (b.row f.7) (c.row (not_w _ _ (sym f.6) f.7)) (fit (and_or x y z) h))
     parses (two kind.AndV x y) h =
         let f = typed-and_v x y h.typed in
-        let a = parses x (record { typed = f.0; nested = h.nested.1; writable = h.writable.0; found = h.found.0; deep = omega (arith, h.deep); large = omega (arith, h.large) }) in
-        let b = parses y (record { typed = f.1; nested = h.nested.2; writable = h.writable.1; found = h.found.1; deep = omega (arith, h.deep); large = omega (arith, h.large) }) in
+        let a = parses x (first_fits find _ x y h f.0 h.nested.1) in let b = parses y (second_fits find _ x y h f.1 h.nested.2) in
         record {
           one = λ e w. cc;
-          row = λ w. and_v_row x y (a.one h.nested.0 (v_not_w _ f.2)) (b.row f.3) (fit (two kind.AndV x y) h);
+          row = λ w. and_v_row x y (a.one h.nested.0 (not_w _ V f.2 (λ e. cc))) (b.row f.3) (fit (two kind.AndV x y) h);
           side = λ e. absurd (f.3 e);
         }
     parses (two kind.AndB x y) h =
         let f = typed-and_b x y h.typed in
-        let a = parses x (record { typed = f.0; nested = h.nested.1; writable = h.writable.0; found = h.found.0; deep = omega (arith, h.deep); large = omega (arith, h.large) }) in
-        let b = parses y (record { typed = f.1; nested = h.nested.2; writable = h.writable.1; found = h.found.1; deep = omega (arith, h.deep); large = omega (arith, h.large) }) in
-        as_one find (two kind.AndB x y) (λ e. cc) (and_b_one x y (a.one h.nested.0 (b_not_w _ f.2)) (b.side f.3) (fit (two kind.AndB x y) h))
+        let a = parses x (first_fits find _ x y h f.0 h.nested.1) in let b = parses y (second_fits find _ x y h f.1 h.nested.2) in
+        as_one find (two kind.AndB x y) (λ e. cc) (and_b_one x y (a.one h.nested.0 (not_w _ B f.2 (λ e. cc))) (b.side f.3) (fit (two kind.AndB x y) h))
     parses (two kind.OrB x y) h =
         let f = typed-or_b x y h.typed in
-        let a = parses x (record { typed = f.0; nested = h.nested.0; writable = h.writable.0; found = h.found.0; deep = omega (arith, h.deep); large = omega (arith, h.large) }) in
-        let b = parses y (record { typed = f.1; nested = h.nested.1; writable = h.writable.1; found = h.found.1; deep = omega (arith, h.deep); large = omega (arith, h.large) }) in
-        as_one find (two kind.OrB x y) (λ e. cc) (or_b_one x y (a.one (d_no_and_v x f.3) (b_not_w _ f.2)) (b.side f.4) (fit (two kind.OrB x y) h))
+        let a = parses x (first_fits find _ x y h f.0 h.nested.0) in let b = parses y (second_fits find _ x y h f.1 h.nested.1) in
+        as_one find (two kind.OrB x y) (λ e. cc) (or_b_one x y (a.one (d_no_and_v x f.3) (not_w _ B f.2 (λ e. cc))) (b.side f.4) (fit (two kind.OrB x y) h))
     parses (two kind.OrC x y) h =
         let f = typed-or_c x y h.typed in
-        let a = parses x (record { typed = f.0; nested = h.nested.0; writable = h.writable.0; found = h.found.0; deep = omega (arith, h.deep); large = omega (arith, h.large) }) in
-        let b = parses y (record { typed = f.1; nested = h.nested.1; writable = h.writable.1; found = h.found.1; deep = omega (arith, h.deep); large = omega (arith, h.large) }) in
-        as_one find (two kind.OrC x y) (λ e. cc) (or_c_one x y (a.one (d_no_and_v x f.3) (b_not_w _ f.2)) (b.row (v_not_w _ f.5)) (fit (two kind.OrC x y) h))
+        let a = parses x (first_fits find _ x y h f.0 h.nested.0) in let b = parses y (second_fits find _ x y h f.1 h.nested.1) in
+        as_one find (two kind.OrC x y) (λ e. cc) (or_c_one x y (a.one (d_no_and_v x f.3) (not_w _ B f.2 (λ e. cc))) (b.row (not_w _ V f.5 (λ e. cc))) (fit (two kind.OrC x y) h))
     parses (two kind.OrD x y) h =
         let f = typed-or_d x y h.typed in
-        let a = parses x (record { typed = f.0; nested = h.nested.0; writable = h.writable.0; found = h.found.0; deep = omega (arith, h.deep); large = omega (arith, h.large) }) in
-        let b = parses y (record { typed = f.1; nested = h.nested.1; writable = h.writable.1; found = h.found.1; deep = omega (arith, h.deep); large = omega (arith, h.large) }) in
-        as_one find (two kind.OrD x y) (λ e. cc) (or_d_one x y (a.one (d_no_and_v x f.3) (b_not_w _ f.2)) (b.row (b_not_w _ f.5)) (fit (two kind.OrD x y) h))
+        let a = parses x (first_fits find _ x y h f.0 h.nested.0) in let b = parses y (second_fits find _ x y h f.1 h.nested.1) in
+        as_one find (two kind.OrD x y) (λ e. cc) (or_d_one x y (a.one (d_no_and_v x f.3) (not_w _ B f.2 (λ e. cc))) (b.row (not_w _ B f.5 (λ e. cc))) (fit (two kind.OrD x y) h))
     parses (two kind.OrI x y) h =
         let f = typed-or_i x y h.typed in
-        let a = parses x (record { typed = f.0; nested = h.nested.0; writable = h.writable.0; found = h.found.0; deep = omega (arith, h.deep); large = omega (arith, h.large) }) in
-        let b = parses y (record { typed = f.1; nested = h.nested.1; writable = h.writable.1; found = h.found.1; deep = omega (arith, h.deep); large = omega (arith, h.large) }) in
+        let a = parses x (first_fits find _ x y h f.0 h.nested.0) in let b = parses y (second_fits find _ x y h f.1 h.nested.1) in
         as_one find (two kind.OrI x y) f.3 (or_i_one x y (a.row f.3) (b.row (not_w _ _ (sym f.2) f.3)) (fit (two kind.OrI x y) h))
     parses (thresh k none) h = absurd (typed-thresh_none k h.typed)
     parses (thresh k (more x xs)) h =
@@ -149,7 +148,7 @@ module _ (find : Bytes → Option Key) where
         let a = parses x (record { typed = f.0; nested = h.nested.0; writable = h.writable.2.0; found = h.found.0; deep = omega (arith, h.deep); large = omega (arith, h.large) }) in
         let b = parse_sides xs (record { typed = f.1; nested = h.nested.1; writable = h.writable.2.1; found = h.found.1; deep = omega (arith, h.deep); large = omega (arith, h.large) }) f.7 in
         as_one find (thresh k (more x xs)) (λ e. cc)
-        (thresh_one k x xs (natural_read k h.writable.0) (a.one (d_no_and_v x f.5) (b_not_w _ f.4)) b (fit (thresh k (more x xs)) h))
+        (thresh_one k x xs (natural_read k h.writable.0) (a.one (d_no_and_v x f.5) (not_w _ B f.4 (λ e. cc))) b (fit (thresh k (more x xs)) h))
     parses (multi k keys) h =
         let f = typed-multi k keys h.typed in
         let some : nat_le 1 (length keys) ≡ true = le-leb _ _ (omega (arith, f.0, f.1)) in
@@ -159,32 +158,32 @@ module _ (find : Bytes → Option Key) where
         (multi_one k keys (natural_read k h.writable.0) (natural_read (length keys) (omega (arith, f.2))) range (keys_read keys h.writable.2) (fit (multi k keys) h))
     parses (wrap wrapper.A x) h =
         let f = typed-wrap_a x h.typed in
-        let a = parses x (record { typed = f.0; nested = h.nested; writable = h.writable; found = h.found; deep = omega (arith, h.deep); large = omega (arith, h.large) }) in
-        as_side find (wrap wrapper.A x) refl (a_side x (a.row (b_not_w _ f.1)) (fit (wrap wrapper.A x) h))
+        let a = parses x (wrapped_fits find wrapper.A x h f.0 h.nested) in
+        as_side find (wrap wrapper.A x) refl (a_side x (a.row (not_w _ B f.1 (λ e. cc))) (fit (wrap wrapper.A x) h))
     parses (wrap wrapper.S x) h =
         let f = typed-wrap_s x h.typed in
-        let a = parses x (record { typed = f.0; nested = h.nested; writable = h.writable; found = h.found; deep = omega (arith, h.deep); large = omega (arith, h.large) }) in
-        as_side find (wrap wrapper.S x) refl (s_side x (a.row (b_not_w _ f.1)) (fit (wrap wrapper.S x) h))
+        let a = parses x (wrapped_fits find wrapper.S x h f.0 h.nested) in
+        as_side find (wrap wrapper.S x) refl (s_side x (a.row (not_w _ B f.1 (λ e. cc))) (fit (wrap wrapper.S x) h))
     parses (wrap wrapper.C x) h =
         let f = typed-wrap_c x h.typed in
-        let a = parses x (record { typed = f.0; nested = h.nested.1; writable = h.writable; found = h.found; deep = omega (arith, h.deep); large = omega (arith, h.large) }) in
-        as_one find (wrap wrapper.C x) (λ e. cc) (c_one x (a.one h.nested.0 (k_not_w _ f.1)) (fit (wrap wrapper.C x) h))
+        let a = parses x (wrapped_fits find wrapper.C x h f.0 h.nested.1) in
+        as_one find (wrap wrapper.C x) (λ e. cc) (c_one x (a.one h.nested.0 (not_w _ K f.1 (λ e. cc))) (fit (wrap wrapper.C x) h))
     parses (wrap wrapper.D x) h =
         let f = typed-wrap_d x h.typed in
-        let a = parses x (record { typed = f.0; nested = h.nested; writable = h.writable; found = h.found; deep = omega (arith, h.deep); large = omega (arith, h.large) }) in
-        as_one find (wrap wrapper.D x) (λ e. cc) (d_one x (a.row (v_not_w _ f.1)) (fit (wrap wrapper.D x) h))
+        let a = parses x (wrapped_fits find wrapper.D x h f.0 h.nested) in
+        as_one find (wrap wrapper.D x) (λ e. cc) (d_one x (a.row (not_w _ V f.1 (λ e. cc))) (fit (wrap wrapper.D x) h))
     parses (wrap wrapper.V x) h =
         let f = typed-wrap_v x h.typed in
-        let a = parses x (record { typed = f.0; nested = h.nested.1; writable = h.writable; found = h.found; deep = omega (arith, h.deep); large = omega (arith, h.large) }) in
-        as_one find (wrap wrapper.V x) (λ e. cc) (v_one x (a.one h.nested.0 (b_not_w _ f.1)) (fit (wrap wrapper.V x) h))
+        let a = parses x (wrapped_fits find wrapper.V x h f.0 h.nested.1) in
+        as_one find (wrap wrapper.V x) (λ e. cc) (v_one x (a.one h.nested.0 (not_w _ B f.1 (λ e. cc))) (fit (wrap wrapper.V x) h))
     parses (wrap wrapper.J x) h =
         let f = typed-wrap_j x h.typed in
-        let a = parses x (record { typed = f.0; nested = h.nested; writable = h.writable; found = h.found; deep = omega (arith, h.deep); large = omega (arith, h.large) }) in
-        as_one find (wrap wrapper.J x) (λ e. cc) (j_one x (a.row (b_not_w _ f.1)) (fit (wrap wrapper.J x) h))
+        let a = parses x (wrapped_fits find wrapper.J x h f.0 h.nested) in
+        as_one find (wrap wrapper.J x) (λ e. cc) (j_one x (a.row (not_w _ B f.1 (λ e. cc))) (fit (wrap wrapper.J x) h))
     parses (wrap wrapper.N x) h =
         let f = typed-wrap_n x h.typed in
-        let a = parses x (record { typed = f.0; nested = h.nested.1; writable = h.writable; found = h.found; deep = omega (arith, h.deep); large = omega (arith, h.large) }) in
-        as_one find (wrap wrapper.N x) (λ e. cc) (n_one x (a.one h.nested.0 (b_not_w _ f.1)) (fit (wrap wrapper.N x) h))
+        let a = parses x (wrapped_fits find wrapper.N x h f.0 h.nested.1) in
+        as_one find (wrap wrapper.N x) (λ e. cc) (n_one x (a.one h.nested.0 (not_w _ B f.1 (λ e. cc))) (fit (wrap wrapper.N x) h))
 
     parse_sides : (xs : Trees) → AreFit find xs → OthersFit xs → Sides find xs
     parse_sides none h o = no_side

@@ -83,26 +83,17 @@ count_pushes (key ∷ keys) l = count_pushes keys (push key ∷ l)
 
 mutual
   pub ops-onto : (t : Tree) → IsTyped t → RightNested t → (l : List Instruction) → opcode_count (onto t l) ≡ ops t + opcode_count l
-  ops-onto just_0 h n l = omega arith
-  ops-onto just_1 h n l = omega arith
-  ops-onto (pk_k key) h n l = omega arith
-  ops-onto (pk_h key) h n l = omega arith
-  ops-onto (older k) h n l = omega arith
-  ops-onto (after k) h n l = omega arith
-  ops-onto (hash kind value) h n l = omega arith
   ops-onto (and_or x y z) h n l =
       omega (arith, ops-onto x h.0 n.0 l, ops-onto z h.2 n.2 (code op.NotIf ∷ onto x l), ops-onto y h.1 n.1 (code op.Else ∷ onto z (code op.NotIf ∷ onto x l)))
-  ops-onto (two kind.AndV x y) h n l = omega (arith, ops-onto x h.0 n.1 l, ops-onto y h.1 n.2 (onto x l))
-  ops-onto (two kind.AndB x y) h n l = omega (arith, ops-onto x h.0 n.1 l, ops-onto y h.1 n.2 (onto x l))
   ops-onto (two kind.OrB x y) h n l = omega (arith, ops-onto x h.0 n.0 l, ops-onto y h.1 n.1 (onto x l))
   ops-onto (two kind.OrC x y) h n l = omega (arith, ops-onto x h.0 n.0 l, ops-onto y h.1 n.1 (code op.NotIf ∷ onto x l))
   ops-onto (two kind.OrD x y) h n l = omega (arith, ops-onto x h.0 n.0 l, ops-onto y h.1 n.1 (code op.NotIf ∷ code op.IfDup ∷ onto x l))
   ops-onto (two kind.OrI x y) h n l = omega (arith, ops-onto x h.0 n.0 (code op.If ∷ l), ops-onto y h.1 n.1 (code op.Else ∷ onto x (code op.If ∷ l)))
+  ops-onto (two b x y) h n l = omega (arith, ops-onto x h.0 n.1 l, ops-onto y h.1 n.2 (onto x l))
   ops-onto (thresh k xs) h n l = omega (arith, ops_sum-onto xs h.0 n l)
   ops-onto (multi k keys) h n l = omega (arith, count_pushes keys (push_number k ∷ l))
   ops-onto (wrap wrapper.A x) h n l = omega (arith, ops-onto x h.0 n (code op.ToAltStack ∷ l))
   ops-onto (wrap wrapper.S x) h n l = omega (arith, ops-onto x h.0 n (code op.Swap ∷ l))
-  ops-onto (wrap wrapper.C x) h n l = omega (arith, ops-onto x h.0 n.1 l)
   ops-onto (wrap wrapper.D x) h n l = omega (arith, ops-onto x h.0 n (code op.If ∷ code op.Dup ∷ l))
   ops-onto (wrap wrapper.V x) h n l =
       let f = typed-wrap_v x h in
@@ -114,7 +105,8 @@ mutual
       moved_sum : (f o p q r : ℕ) → f ≡ o + r → o ≡ p + q → f ≡ p + r + q
       moved_sum f o p q r e d = omega arith
   ops-onto (wrap wrapper.J x) h n l = omega (arith, ops-onto x h.0 n (code op.If ∷ code op.ZeroNotEqual ∷ code op.Size ∷ l))
-  ops-onto (wrap wrapper.N x) h n l = omega (arith, ops-onto x h.0 n.1 l)
+  ops-onto (wrap w x) h n l = omega (arith, ops-onto x h.0 n.1 l)
+  ops-onto leaf h n l = omega arith
 
   ops_sum-onto : (xs : Trees) → AreTyped xs → AreRightNested xs → (l : List Instruction) → opcode_count (onto_sum xs l) ≡ ops_sum xs + opcode_count l
   ops_sum-onto none h n l = omega arith
@@ -143,82 +135,22 @@ pub record Low (t : Tree) : Type 0 where
   w_big : (type_of t).base ≡ W → small t ≡ false
 
 low_one : (t : Tree) → depth t ≤ ops t + 1 → ((type_of t).base ≡ V → 1 ≤ ops t) → ((type_of t).base ≢ W) → Low t
-low_one t d v w = record {
-  four = omega arith;
-  four_small = λ s. omega arith;
-  three = λ n. omega arith;
-  three_small = λ n s. omega arith;
-  two_k = λ n k. omega arith;
-  two_d = λ h. omega arith;
-  two_fused = λ h. omega arith;
-  one = λ n h s. d;
-  v_op = v;
-  w_op = λ e. absurd (w e);
-  w_big = λ e. absurd (w e);
-}
+low_one t d v w = grind arith
 
 low_two : (t : Tree) → depth t ≤ ops t + 2 → (small t ≡ true → depth t ≤ ops t + 1) → 1 ≤ ops t → ((type_of t).base ≢ W) → Low t
-low_two t d s v w = record {
-  four = omega arith;
-  four_small = λ h. omega arith;
-  three = λ n. omega arith;
-  three_small = λ n h. d;
-  two_k = λ n k. d;
-  two_d = λ h. d;
-  two_fused = λ h. d;
-  one = λ n h e. s e;
-  v_op = λ e. v;
-  w_op = λ e. absurd (w e);
-  w_big = λ e. absurd (w e);
-}
+low_two t d s v w = grind arith
 
 -- a type V
 low_v : (t : Tree) → (type_of t).base ≡ V → (type_of t).d ≡ false → fuses t ≡ false → depth t ≤ ops t + 3 → (small t ≡ true → depth t ≤ ops t + 2) → 1 ≤ ops t → Low t
-low_v t b no_d no_f d s v = record {
-  four = omega arith;
-  four_small = λ h. d;
-  three = λ n. d;
-  three_small = λ n h. s h;
-  two_k = λ n k. cc;
-  two_d = λ h. cc;
-  two_fused = λ h. cc;
-  one = λ n h e. absurd (h b);
-  v_op = λ e. v;
-  w_op = λ e. v;
-  w_big = λ e. cc;
-}
+low_v t b no_d no_f d s v = grind arith
 
 -- a type W
 low_w : (t : Tree) → (type_of t).base ≡ W → small t ≡ false → fuses t ≡ false → depth t ≤ ops t + 3 → ((type_of t).d ≡ true → depth t ≤ ops t + 2) → 1 ≤ ops t → Low t
-low_w t b no_s no_f d e v = record {
-  four = omega arith;
-  four_small = λ h. d;
-  three = λ n. d;
-  three_small = λ n h. cc;
-  two_k = λ n k. cc;
-  two_d = e;
-  two_fused = λ h. cc;
-  one = λ n h s. cc;
-  v_op = λ h. v;
-  w_op = λ h. v;
-  w_big = λ h. no_s;
-}
+low_w t b no_s no_f d e v = grind arith
 
 -- a type B on which no VERIFY is fused
 low_b : (t : Tree) → (type_of t).base ≡ B → fuses t ≡ false → depth t ≤ ops t + 3 → (small t ≡ true → depth t ≤ ops t + 1) → ((type_of t).d ≡ true → depth t ≤ ops t + 2) → Low t
-low_b t b no_f d s e = record {
-  four = omega arith;
-  four_small = λ h. d;
-  three = λ n. d;
-  three_small = λ n h. let k = s h in omega (arith, k);
-  two_k = λ n k. cc;
-  two_d = e;
-  two_fused = λ h. cc;
-  one = λ n h a. s a;
-  v_op = λ h. cc;
-  w_op = λ h. cc;
-  w_big = λ h. cc;
-}
+low_b t b no_f d s e = grind arith
 
 -- which parts take no argument or one
 and_or_small : (xz xo yz yo zz zo : Bool) → ((xz && yz && zz) || ((xz && yo && zo) || (xo && yz && zz))) ≡ true → ((yz || yo) ≡ true) × ((zz || zo) ≡ true)

@@ -20,7 +20,7 @@ use Rattle.def_sane.specs.Scaffolding.Most.{both, either, counted, most_sat, mos
 use Rattle.std.specs.Prelude.{Some}
 use Rattle.def_decode.specs.Nested.{RightNested, AreRightNested, EachHashed, EachHashedOf}
 use Rattle.ms_decode_laws.proofs.Onto.{fused, onto, onto_sum, onto_added}
-use Rattle.ms_decode_laws.proofs.Moves.{Moves, out, Moved, moved, c_moves, v_moves, n_moves, and_b_moves, and_v_moves}
+use Rattle.ms_decode_laws.proofs.Moves.{Moves, out, moved, c_moves, v_moves, n_moves, and_b_moves, and_v_moves}
 use Rattle.def_script.proofs.KeyLemmas.{key_length}
 
 -- every `and_v` moved outwards, and `g` of each `pk_h` key
@@ -70,25 +70,22 @@ module _ (P : Key → Type 0) (g : Key → Key) (same_hash : (k : Key) → hash1
   abbrev Found : Key → Type 0
   Found k = P (g k) × IsKey (g k)
 
-  -- a move of a tree that is nested already
-  by_move : (f : Tree → Tree) (row : Ty → Row Ty) (x n : Tree) → Moves P f row → IsNest P x n → AllHold (row (type_of x)).needs → Moved P f row n
-  by_move f row x n m i needs =
-      moved P f row m n i.typed (subst (λ (ty : Ty). AllHold (row ty).needs) (sym i.type) needs) i.nested i.writable i.hashed
-
-  -- with what it says of the tree before
-  wrapped : (w : Wrapper) (x n : Tree) → IsNest P x n → Moved P (λ t. wrap w t) (wrap_row w) n → most_sat (wrap w n) ≡ most_sat (wrap w x)
-      → most_dsat (wrap w n) ≡ most_dsat (wrap w x) → ((l : List Instruction) → onto (wrap w n) l ≡ onto (wrap w x) l)
-      → IsNest P (wrap w x) (out (λ t. wrap w t) n)
-  wrapped w x n i m sat dsat order = record {
-    type = m.type ∙ ap (λ (ty : Ty). (wrap_row w ty).gives) i.type;
-    typed = m.typed;
-    nested = m.nested;
-    writable = m.writable;
-    hashed = m.hashed;
-    sat = m.sat ∙ sat;
-    dsat = m.dsat ∙ dsat;
-    order = λ l. m.order l ∙ order l;
-  }
+  -- what is put around a tree that is nested already is moved outwards
+  around : (f : Tree → Tree) (row : Ty → Row Ty) (t x n : Tree) → Moves P f row → IsNest P x n → AllHold (row (type_of x)).needs
+      → (row (type_of x)).gives ≡ type_of t → most_sat (f n) ≡ most_sat t → most_dsat (f n) ≡ most_dsat t
+      → ((l : List Instruction) → onto (f n) l ≡ onto t l) → IsNest P t (out f n)
+  around f row t x n moves i needs type sat dsat order =
+      let m = moved P f row moves n i.typed (subst (λ (ty : Ty). AllHold (row ty).needs) (sym i.type) needs) i.nested i.writable i.hashed in
+      record {
+        type = m.type ∙ ap (λ (ty : Ty). (row ty).gives) i.type ∙ type;
+        typed = m.typed;
+        nested = m.nested;
+        writable = m.writable;
+        hashed = m.hashed;
+        sat = m.sat ∙ sat;
+        dsat = m.dsat ∙ dsat;
+        order = λ l. m.order l ∙ order l;
+      }
 
   -- a wrapper that stays where it is
   kept : (w : Wrapper) (x n : Tree) → IsNest P x n → AllHold (wrap_row w (type_of x)).needs → RightNested (wrap w n) → most_sat (wrap w n)
@@ -161,41 +158,19 @@ module _ (P : Key → Type 0) (g : Key → Key) (same_hash : (k : Key) → hash1
     is_nest (two kind.AndV x y) h w e =
         let i = is_nest x h.0 w.0 e.0 in
         let j = is_nest y h.1 w.1 e.1 in
-        let needs : AllHold (two_row kind.AndV (type_of x) (type_of (nest g y))).needs = subst (λ (ty : Ty). AllHold (two_row kind.AndV (type_of x) ty).needs) (sym j.type) h.2 in
-        let types : (two_row kind.AndV (type_of (nest g x)) (type_of (nest g y))).gives ≡ (two_row kind.AndV (type_of x) (type_of y)).gives = λ k. (two_row kind.AndV (i.type k) (j.type k)).gives in
-        let sats : both (most_sat (nest g y)) (most_sat (nest g x)) ≡ both (most_sat y) (most_sat x) = λ k. both (j.sat k) (i.sat k) in
-        let dsats : both (most_dsat (nest g y)) (most_dsat (nest g x)) ≡ both (most_dsat y) (most_dsat x) = λ k. both (j.dsat k) (i.dsat k) in
-        let m = by_move (λ (t : Tree). two kind.AndV t (nest g y)) (λ (ty : Ty). two_row kind.AndV ty (type_of (nest g y))) x (nest g x)
-        (and_v_moves P (nest g y) j.typed j.nested j.writable j.hashed) i needs in
-        record {
-          type = m.type ∙ types;
-          typed = m.typed;
-          nested = m.nested;
-          writable = m.writable;
-          hashed = m.hashed;
-          sat = m.sat ∙ sats;
-          dsat = m.dsat;
-          order = λ l. m.order l ∙ j.order (onto (nest g x) l) ∙ ap (onto y) (i.order l);
-        }
+        around (λ (t : Tree). two kind.AndV t (nest g y)) (λ (ty : Ty). two_row kind.AndV ty (type_of (nest g y))) (two kind.AndV x y) x (nest g x)
+        (and_v_moves P (nest g y) j.typed j.nested j.writable j.hashed) i
+        (subst (λ (ty : Ty). AllHold (two_row kind.AndV (type_of x) ty).needs) (sym j.type) h.2)
+        (λ k. (two_row kind.AndV (type_of x) (j.type k)).gives) (λ k. both (j.sat k) (i.sat k)) refl
+        (λ l. j.order (onto (nest g x) l) ∙ ap (onto y) (i.order l))
     is_nest (two kind.AndB x y) h w e =
         let i = is_nest x h.0 w.0 e.0 in
         let j = is_nest y h.1 w.1 e.1 in
-        let needs : AllHold (two_row kind.AndB (type_of x) (type_of (nest g y))).needs = subst (λ (ty : Ty). AllHold (two_row kind.AndB (type_of x) ty).needs) (sym j.type) h.2 in
-        let types : (two_row kind.AndB (type_of (nest g x)) (type_of (nest g y))).gives ≡ (two_row kind.AndB (type_of x) (type_of y)).gives = λ k. (two_row kind.AndB (i.type k) (j.type k)).gives in
-        let sats : both (most_sat (nest g y)) (most_sat (nest g x)) ≡ both (most_sat y) (most_sat x) = λ k. both (j.sat k) (i.sat k) in
-        let dsats : both (most_dsat (nest g y)) (most_dsat (nest g x)) ≡ both (most_dsat y) (most_dsat x) = λ k. both (j.dsat k) (i.dsat k) in
-        let m = by_move (λ (t : Tree). two kind.AndB t (nest g y)) (λ (ty : Ty). two_row kind.AndB ty (type_of (nest g y))) x (nest g x)
-        (and_b_moves P (nest g y) j.typed j.nested j.writable j.hashed) i needs in
-        record {
-          type = m.type ∙ types;
-          typed = m.typed;
-          nested = m.nested;
-          writable = m.writable;
-          hashed = m.hashed;
-          sat = m.sat ∙ sats;
-          dsat = m.dsat ∙ dsats;
-          order = λ l. m.order l ∙ ap (λ o. code op.BoolAnd ∷ o) (j.order (onto (nest g x) l) ∙ ap (onto y) (i.order l));
-        }
+        around (λ (t : Tree). two kind.AndB t (nest g y)) (λ (ty : Ty). two_row kind.AndB ty (type_of (nest g y))) (two kind.AndB x y) x (nest g x)
+        (and_b_moves P (nest g y) j.typed j.nested j.writable j.hashed) i
+        (subst (λ (ty : Ty). AllHold (two_row kind.AndB (type_of x) ty).needs) (sym j.type) h.2)
+        (λ k. (two_row kind.AndB (type_of x) (j.type k)).gives) (λ k. both (j.sat k) (i.sat k)) (λ k. both (j.dsat k) (i.dsat k))
+        (λ l. ap (λ o. code op.BoolAnd ∷ o) (j.order (onto (nest g x) l) ∙ ap (onto y) (i.order l)))
     is_nest (two kind.OrB x z) h w e =
         let i = is_nest x h.0 w.0 e.0 in
         let j = is_nest z h.1 w.1 e.1 in
@@ -244,19 +219,20 @@ module _ (P : Key → Type 0) (g : Key → Key) (same_hash : (k : Key) → hash1
         kept wrapper.S x (nest g x) i h.1 i.nested i.sat i.dsat (λ l. i.order (code op.Swap ∷ l))
     is_nest (wrap wrapper.C x) h w e =
         let i = is_nest x h.0 w e in
-        wrapped wrapper.C x (nest g x) i (by_move (λ (t : Tree). wrap wrapper.C t) (wrap_row wrapper.C) x (nest g x) (c_moves P) i h.1) i.sat i.dsat (λ l. ap (λ o. code op.CheckSig ∷ o) (i.order l))
+        around (λ (t : Tree). wrap wrapper.C t) (wrap_row wrapper.C) (wrap wrapper.C x) x (nest g x) (c_moves P) i h.1 refl i.sat i.dsat
+        (λ l. ap (λ o. code op.CheckSig ∷ o) (i.order l))
     is_nest (wrap wrapper.D x) h w e =
         let i = is_nest x h.0 w e in
         kept wrapper.D x (nest g x) i h.1 i.nested (λ k. both (i.sat k) (Some one)) refl (λ l. ap (λ o. code op.EndIf ∷ o) (i.order (code op.If ∷ code op.Dup ∷ l)))
     is_nest (wrap wrapper.V x) h w e =
         let i = is_nest x h.0 w e in
-        wrapped wrapper.V x (nest g x) i (by_move (λ (t : Tree). wrap wrapper.V t) (wrap_row wrapper.V) x (nest g x) (v_moves P) i h.1) i.sat refl (λ l. ap fused (i.order l))
+        around (λ (t : Tree). wrap wrapper.V t) (wrap_row wrapper.V) (wrap wrapper.V x) x (nest g x) (v_moves P) i h.1 refl i.sat refl (λ l. ap fused (i.order l))
     is_nest (wrap wrapper.J x) h w e =
         let i = is_nest x h.0 w e in
         kept wrapper.J x (nest g x) i h.1 i.nested i.sat refl (λ l. ap (λ o. code op.EndIf ∷ o) (i.order (code op.If ∷ code op.ZeroNotEqual ∷ code op.Size ∷ l)))
     is_nest (wrap wrapper.N x) h w e =
         let i = is_nest x h.0 w e in
-        wrapped wrapper.N x (nest g x) i (by_move (λ (t : Tree). wrap wrapper.N t) (wrap_row wrapper.N) x (nest g x) (n_moves P) i h.1) i.sat i.dsat
+        around (λ (t : Tree). wrap wrapper.N t) (wrap_row wrapper.N) (wrap wrapper.N x) x (nest g x) (n_moves P) i h.1 refl i.sat i.dsat
         (λ l. ap (λ o. code op.ZeroNotEqual ∷ o) (i.order l))
     is_nest leaf h w e = record { type = refl; typed = h; nested = tt; writable = w; hashed = tt; sat = refl; dsat = refl; order = λ l. refl }
 

@@ -73,67 +73,23 @@ fused_back : (i : Instruction) (l is : List Instruction) → fused (back (i ∷ 
 fused_back i [] is = fused_last i is
 fused_back i (j ∷ l) is = fused_back j l (i ∷ is)
 
--- two parts, of which each is backwards
-joined : (a b is m n : List Instruction) → n ≡ back a is → m ≡ back b n → m ≡ back (a ++ b) is
-joined a b is m n e d = d ∙ ap (back b) e ∙ sym (back_append a b is)
-
 mutual
   pub onto_back : (t : Tree) (is : List Instruction) → onto t is ≡ back (emit t) is
-  onto_back (and_or x y z) is =
-      let a = onto x is in
-      let b = onto z (code op.NotIf ∷ a) in
-      let c = onto y (code op.Else ∷ b) in
-      let first : b ≡ back (emit x ++ (code op.NotIf ∷ emit z)) is = joined (emit x) (code op.NotIf ∷ emit z) is b a (onto_back x is) (onto_back z (code op.NotIf ∷ a)) in
-      let second : c ≡ back (emit x ++ (code op.NotIf ∷ emit z) ++ (code op.Else ∷ emit y)) is =
-      joined (emit x ++ (code op.NotIf ∷ emit z)) (code op.Else ∷ emit y) is c b first (onto_back y (code op.Else ∷ b)) in
-      joined (emit x ++ (code op.NotIf ∷ emit z) ++ (code op.Else ∷ emit y)) (code op.EndIf ∷ []) is (code op.EndIf ∷ c) c second refl
-  onto_back (two kind.AndV x y) is = joined (emit x) (emit y) is (onto y (onto x is)) (onto x is) (onto_back x is) (onto_back y (onto x is))
-  onto_back (two kind.AndB x y) is =
-      joined (emit x ++ emit y) (code op.BoolAnd ∷ []) is (code op.BoolAnd ∷ onto y (onto x is)) (onto y (onto x is))
-      (joined (emit x) (emit y) is (onto y (onto x is)) (onto x is) (onto_back x is) (onto_back y (onto x is))) refl
-  onto_back (two kind.OrB x z) is =
-      joined (emit x ++ emit z) (code op.BoolOr ∷ []) is (code op.BoolOr ∷ onto z (onto x is)) (onto z (onto x is))
-      (joined (emit x) (emit z) is (onto z (onto x is)) (onto x is) (onto_back x is) (onto_back z (onto x is))) refl
-  onto_back (two kind.OrC x z) is =
-      let b = onto z (code op.NotIf ∷ onto x is) in
-      joined (emit x ++ (code op.NotIf ∷ emit z)) (code op.EndIf ∷ []) is (code op.EndIf ∷ b) b
-      (joined (emit x) (code op.NotIf ∷ emit z) is b (onto x is) (onto_back x is) (onto_back z (code op.NotIf ∷ onto x is))) refl
-  onto_back (two kind.OrD x z) is =
-      let b = onto z (code op.NotIf ∷ code op.IfDup ∷ onto x is) in
-      joined (emit x ++ (code op.IfDup ∷ code op.NotIf ∷ emit z)) (code op.EndIf ∷ []) is (code op.EndIf ∷ b) b
-      (joined (emit x) (code op.IfDup ∷ code op.NotIf ∷ emit z) is b (onto x is) (onto_back x is) (onto_back z (code op.NotIf ∷ code op.IfDup ∷ onto x is))) refl
-  onto_back (two kind.OrI x z) is =
-      let a = onto x (code op.If ∷ is) in
-      let b = onto z (code op.Else ∷ a) in
-      joined ((code op.If ∷ emit x) ++ (code op.Else ∷ emit z)) (code op.EndIf ∷ []) is (code op.EndIf ∷ b) b
-      (joined (code op.If ∷ emit x) (code op.Else ∷ emit z) is b a (onto_back x (code op.If ∷ is)) (onto_back z (code op.Else ∷ a))) refl
-  onto_back (thresh k xs) is =
-      joined (emit_sum xs) (push_number k ∷ code op.Equal ∷ []) is (code op.Equal ∷ push_number k ∷ onto_sum xs is) (onto_sum xs is) (onto_sum_back xs is) refl
-  onto_back (multi k keys) is =
-      let b = back (map push keys) (push_number k ∷ is) in
-      joined (push_number k ∷ map push keys) (push_number (length keys) ∷ code op.CheckMultiSig ∷ []) is (code op.CheckMultiSig ∷ push_number (length keys) ∷ b) b refl refl
-  onto_back (wrap wrapper.A x) is =
-      let b = onto x (code op.ToAltStack ∷ is) in
-      joined (code op.ToAltStack ∷ emit x) (code op.FromAltStack ∷ []) is (code op.FromAltStack ∷ b) b (onto_back x (code op.ToAltStack ∷ is)) refl
-  onto_back (wrap wrapper.S x) is = onto_back x (code op.Swap ∷ is)
-  onto_back (wrap wrapper.C x) is = joined (emit x) (code op.CheckSig ∷ []) is (code op.CheckSig ∷ onto x is) (onto x is) (onto_back x is) refl
-  onto_back (wrap wrapper.D x) is =
-      let b = onto x (code op.If ∷ code op.Dup ∷ is) in
-      joined (code op.Dup ∷ code op.If ∷ emit x) (code op.EndIf ∷ []) is (code op.EndIf ∷ b) b (onto_back x (code op.If ∷ code op.Dup ∷ is)) refl
+  onto_back (and_or x y z) is = simp (back_append, onto_back x, onto_back y, onto_back z)
+  onto_back (two kind.AndV x y) is = simp (back_append, onto_back x, onto_back y)
+  onto_back (two b x y) is = simp (back_append, onto_back x, onto_back y)
+  onto_back (thresh k xs) is = simp (back_append, onto_sum_back xs)
+  onto_back (multi k keys) is = simp back_append
   onto_back (wrap wrapper.V x) is =
       let h = has_first x in
       ap fused (onto_back x is) ∙ ap (λ l. fused (back l is)) h.whole ∙ fused_back h.first h.rest is ∙ ap (λ l. back (verified l) is) (sym h.whole)
-  onto_back (wrap wrapper.J x) is =
-      let b = onto x (code op.If ∷ code op.ZeroNotEqual ∷ code op.Size ∷ is) in
-      joined (code op.Size ∷ code op.ZeroNotEqual ∷ code op.If ∷ emit x) (code op.EndIf ∷ []) is (code op.EndIf ∷ b) b (onto_back x (code op.If ∷ code op.ZeroNotEqual ∷ code op.Size ∷ is)) refl
-  onto_back (wrap wrapper.N x) is = joined (emit x) (code op.ZeroNotEqual ∷ []) is (code op.ZeroNotEqual ∷ onto x is) (onto x is) (onto_back x is) refl
+  onto_back (wrap w x) is = simp (back_append, onto_back x)
   onto_back leaf is = refl
 
   onto_sum_back : (xs : Trees) (is : List Instruction) → onto_sum xs is ≡ back (emit_sum xs) is
   onto_sum_back none is = refl
-  onto_sum_back (more x xs) is = joined (emit x) (emit_added xs) is (onto_added xs (onto x is)) (onto x is) (onto_back x is) (onto_added_back xs (onto x is))
+  onto_sum_back (more x xs) is = simp (back_append, onto_back x, onto_added_back xs)
 
   onto_added_back : (xs : Trees) (is : List Instruction) → onto_added xs is ≡ back (emit_added xs) is
   onto_added_back none is = refl
-  onto_added_back (more x xs) is =
-      joined (emit x) (code op.Add ∷ emit_added xs) is (onto_added xs (code op.Add ∷ onto x is)) (onto x is) (onto_back x is) (onto_added_back xs (code op.Add ∷ onto x is))
+  onto_added_back (more x xs) is = simp (back_append, onto_back x, onto_added_back xs)
