@@ -35,60 +35,42 @@ Bounded high few (Some m) None = ⊥
 Bounded high few (Some m) (Some t) = IsBounded high few m t
 
 weaker : (h h' f f' : ℕ) (o : Option Highest) (p : Option Takes) → h ≤ h' → f ≤ f' → Bounded h f o p → Bounded h' f' o p
-weaker h h' f f' None None i j b = tt
-weaker h h' f f' None (Some t) i j b = b
-weaker h h' f f' (Some m) None i j b = b
 weaker h h' f f' (Some m) (Some t) i j b = record { same = b.same; high = omega (arith, b.high, i); few = omega (arith, b.few, j) }
+weaker h h' f f' o p i j b = search
 
 -- one and then the other
 bounded_both : (l h h' f f' high few : ℕ) (o o' : Option Highest) (p p' : Option Takes) → h ≤ high → l + h' ≤ high → f + f' ≤ few → Bounded h f o p
     → Bounded h' f' o' p' → Bounded high few (both l o o') (most.both p' p)
-bounded_both l h h' f f' high few None o' None None i j k a b = tt
-bounded_both l h h' f f' high few None o' None (Some t) i j k a b = tt
-bounded_both l h h' f f' high few None o' (Some t) p' i j k a b = absurd a
-bounded_both l h h' f f' high few (Some m) o' None p' i j k a b = absurd a
-bounded_both l h h' f f' high few (Some m) None (Some t) None i j k a b = tt
-bounded_both l h h' f f' high few (Some m) None (Some t) (Some t') i j k a b = absurd b
-bounded_both l h h' f f' high few (Some m) (Some m') (Some t) None i j k a b = absurd b
 bounded_both l h h' f f' high few (Some m) (Some m') (Some t) (Some t') i j k a b = record {
   same = omega (arith, a.same, b.same);
   high = omega (arith, a.high, b.high, i, j);
   few = omega (arith, a.few, b.few, k);
 }
+bounded_both l h h' f f' high few o o' p p' i j k a b = grind arith
 
 bounded_either : (high few : ℕ) (o o' : Option Highest) (p p' : Option Takes) → Bounded high few o p → Bounded high few o' p' → Bounded high few (either o o') (most.either p p')
-bounded_either high few None o' None p' a b = b
-bounded_either high few None o' (Some t) p' a b = absurd a
-bounded_either high few (Some m) o' None p' a b = absurd a
-bounded_either high few (Some m) None (Some t) None a b = a
-bounded_either high few (Some m) None (Some t) (Some t') a b = absurd b
-bounded_either high few (Some m) (Some m') (Some t) None a b = absurd b
 bounded_either high few (Some m) (Some m') (Some t) (Some t') a b = record {
   same = omega (arith, a.same, b.same);
   high = omega (arith, a.high, b.high);
   few = omega (arith, a.few, b.few);
 }
+bounded_either high few o o' p p' a b = grind arith
 
 -- with a moment at which there are a few elements
 bounded_at_least : (n high few : ℕ) (o : Option Highest) (p : Option Takes) → n ≤ high → Bounded high few o p → Bounded high few (at_least n o) p
-bounded_at_least n high few None p le b = b
-bounded_at_least n high few (Some m) None le b = b
 bounded_at_least n high few (Some m) (Some t) le b = record { same = b.same; high = omega (arith, b.high, le); few = b.few }
+bounded_at_least n high few o p le b = search
 
 -- behind steps that take no item
 bounded_begun : (h h' f f' : ℕ) (o : Option Highest) (p : Option Takes) → h ≤ h' → 1 ≤ h' → f ≤ f' → Bounded h f o p → Bounded h' f' (both 0 (only 0 1) o) p
-bounded_begun h h' f f' None None i j k b = tt
-bounded_begun h h' f f' None (Some t) i j k b = b
-bounded_begun h h' f f' (Some m) None i j k b = b
 bounded_begun h h' f f' (Some m) (Some t) i j k b = record { same = omega (arith, b.same); high = omega (arith, b.high, i, j); few = omega (arith, b.few, k) }
+bounded_begun h h' f f' o p i j k b = search
 
 -- behind an item
 bounded_taken : (l height h h' f f' : ℕ) (t : Takes) (o : Option Highest) (p : Option Takes) → t.items ≡ 1 → height ≤ 1 + h' → l + h ≤ h' → 1 + f ≤ f'
     → Bounded h f o p → Bounded h' f' (both l (only 1 height) o) (most.both p (Some t))
-bounded_taken l height h h' f f' t None None one i j k b = tt
-bounded_taken l height h h' f f' t None (Some u) one i j k b = absurd b
-bounded_taken l height h h' f f' t (Some m) None one i j k b = absurd b
 bounded_taken l height h h' f f' t (Some m) (Some u) one i j k b = record { same = omega (arith, b.same, one); high = omega (arith, b.high, i, j); few = omega (arith, b.few, one, k) }
+bounded_taken l height h h' f f' t o p one i j k b = grind arith
 
 -- a key that a CHECKSIG is still wanted for takes one item more
 abbrev more_of : Base → ℕ
@@ -236,15 +218,13 @@ mutual
 -- of a tree
 few_items : (high few : ℕ) (o : Option Highest) (p : Option Takes) → Bounded high few o p → number_of (λ t. t.items) p ≤ few + number_of (λ t. t.keys) p
 few_items high few None None b = omega arith
-few_items high few None (Some t) b = absurd b
-few_items high few (Some m) None b = absurd b
 few_items high few (Some m) (Some t) b = b.few
+few_items high few o p b = absurd b
 
 low_height : (high few : ℕ) (o : Option Highest) (p : Option Takes) → Bounded high few o p → height_of_option o ≤ number_of (λ t. t.items) p + high
 low_height high few None None b = omega arith
-low_height high few None (Some t) b = absurd b
-low_height high few (Some m) None b = absurd b
 low_height high few (Some m) (Some t) b = omega (arith, b.high, b.same)
+low_height high few o p b = absurd b
 
 pub items_are_within_ops : ItemsAreWithinOps
 items_are_within_ops tree typed base =

@@ -103,42 +103,33 @@ then_highest l m left P Q (Some a) (Some b) sum x y =
         (then g.0 j.0, (g.0, j.0, g.1, j.1, refl), omega (arith, peak_then l g.0 j.0 (x.leaves g.0 g.1), g.2, j.2, y.low j.0 j.1, former))
 
 -- of either
-le_left : (m n k : ℕ) → m ≤ n → m ≤ max n k
-le_left m n k h = omega arith
+greater : (number : Way → ℕ) (P Q : Way → Type 0) (a b : ℕ) → (w : Way) × P w × (number w ≡ a) → (w : Way) × Q w × (number w ≡ b)
+    → (w : Way) × Either P Q w × (number w ≡ max a b)
+greater number P Q a b x y = elim (cases_lt a b) [
+  | inl below ↦ (y.0, inr y.1, omega (arith, y.2, below))
+  | inr above ↦ (x.0, inl x.1, omega (arith, x.2, above))
+]
 
-le_right : (m n k : ℕ) → m ≤ k → m ≤ max n k
-le_right m n k h = omega arith
-
-greater_items : (P Q : Way → Type 0) (a b n : ℕ) → n ≡ max a b → (w : Way) × P w × (w.items ≡ a) → (w : Way) × Q w × (w.items ≡ b) → (a < b) ⊎ (b ≤ a) → (w : Way) × Either P Q w × (w.items ≡ n)
-greater_items P Q a b n is x y (inl below) = (y.0, inr y.1, let e : y.0.items ≡ b = y.2 in omega arith)
-greater_items P Q a b n is x y (inr above) = (x.0, inl x.1, let e : x.0.items ≡ a = x.2 in omega arith)
-
-greater_height : (P Q : Way → Type 0) (a b n : ℕ) → n ≡ max a b → (w : Way) × P w × (peak w ≡ a) → (w : Way) × Q w × (peak w ≡ b) → (a < b) ⊎ (b ≤ a) → (w : Way) × Either P Q w × (peak w ≡ n)
-greater_height P Q a b n is x y (inl below) = (y.0, inr y.1, let e : peak y.0 ≡ b = y.2 in omega arith)
-greater_height P Q a b n is x y (inr above) = (x.0, inl x.1, let e : peak x.0 ≡ a = x.2 in omega arith)
+-- the same ways
+same_ways : (left : ℕ) (P Q : Way → Type 0) (o : Option Highest) → ((w : Way) → P w → Q w) → ((w : Way) → Q w → P w) → IsHighest left P o → IsHighest left Q o
+same_ways left P Q None to from x = λ w q. x w (from w q)
+same_ways left P Q (Some m) to from x = record {
+  leaves = λ w q. x.leaves w (from w q);
+  items = (x.items.0, to x.items.0 x.items.1, x.items.2);
+  few = λ w q. x.few w (from w q);
+  height = (x.height.0, to x.height.0 x.height.1, x.height.2);
+  low = λ w q. x.low w (from w q);
+}
 
 pub either_highest : (left : ℕ) (P Q : Way → Type 0) (o p : Option Highest) → IsHighest left P o → IsHighest left Q p → IsHighest left (Either P Q) (either o p)
-either_highest left P Q None None x y = λ w h. elim h [ inl a ↦ x w a | inr b ↦ y w b ]
-either_highest left P Q None (Some b) x y = record {
-  leaves = λ w h. elim h [ inl a ↦ absurd (x w a) | inr q ↦ y.leaves w q ];
-  items = (y.items.0, inr y.items.1, y.items.2);
-  few = λ w h. elim h [ inl a ↦ absurd (x w a) | inr q ↦ y.few w q ];
-  height = (y.height.0, inr y.height.1, y.height.2);
-  low = λ w h. elim h [ inl a ↦ absurd (x w a) | inr q ↦ y.low w q ];
-}
-either_highest left P Q (Some a) None x y = record {
-  leaves = λ w h. elim h [ inl p ↦ x.leaves w p | inr b ↦ absurd (y w b) ];
-  items = (x.items.0, inl x.items.1, x.items.2);
-  few = λ w h. elim h [ inl p ↦ x.few w p | inr b ↦ absurd (y w b) ];
-  height = (x.height.0, inl x.height.1, x.height.2);
-  low = λ w h. elim h [ inl p ↦ x.low w p | inr b ↦ absurd (y w b) ];
-}
+either_highest left P Q None p x y = same_ways left Q (Either P Q) p (λ w q. inr q) (λ w h. elim h [ inl a ↦ absurd (x w a) | inr q ↦ q ]) y
+either_highest left P Q (Some a) None x y = same_ways left P (Either P Q) (Some a) (λ w p. inl p) (λ w h. elim h [ inl p ↦ p | inr b ↦ absurd (y w b) ]) x
 either_highest left P Q (Some a) (Some b) x y = record {
   leaves = λ w h. elim h [ inl p ↦ x.leaves w p | inr q ↦ y.leaves w q ];
-  items = greater_items P Q a.items b.items (max a.items b.items) refl x.items y.items (cases_lt a.items b.items);
-  few = λ w h. elim h [ inl p ↦ le_left w.items a.items b.items (x.few w p) | inr q ↦ le_right w.items a.items b.items (y.few w q) ];
-  height = greater_height P Q a.height b.height (max a.height b.height) refl x.height y.height (cases_lt a.height b.height);
-  low = λ w h. elim h [ inl p ↦ le_left (peak w) a.height b.height (x.low w p) | inr q ↦ le_right (peak w) a.height b.height (y.low w q) ];
+  items = greater (λ w. w.items) P Q a.items b.items x.items y.items;
+  few = λ w h. elim h [ inl p ↦ omega (arith, x.few w p) | inr q ↦ omega (arith, y.few w q) ];
+  height = greater peak P Q a.height b.height x.height y.height;
+  low = λ w h. elim h [ inl p ↦ omega (arith, x.low w p) | inr q ↦ omega (arith, y.low w q) ];
 }
 
 -- a way and further steps
