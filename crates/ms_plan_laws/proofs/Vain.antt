@@ -390,7 +390,8 @@ module _ (assets : Assets) (are : AreAssets assets) (pairs : Pairs) where
         let rest = rest_only x xs set t.2 only in
         elim (Contains-append_cases (taken assets x) (taken_of_children assets xs set) missing.0 missing.1) [
           | inl i ↦ elim h [
-            | inl a ↦ absurd (vain x t.0 j.above j.right (only_left (taken assets x) (taken_of_children assets xs set) (keys x) (keys_of_all xs) t.2 (children_in assets xs set) only) (missing.0, i, missing.2) a.2.1 a.2.3)
+            | inl a ↦ absurd (vain x t.0 j.above j.right (only_left (taken assets x) (taken_of_children assets xs set) (keys x) (keys_of_all xs) t.2 (children_in assets xs set) only)
+                (missing.0, i, missing.2) a.2.1 a.2.3)
             | inr a ↦ (let r = few_parts xs t.1 set j.below j.left others rest n a.0 a.2 in omega (arith, r))
           ]
           | inr i ↦ elim h [

@@ -21,7 +21,7 @@ use Rattle.ms_sat.specs.declared.rule.Rule.{Rule}
 use Rattle.ms_sat.specs.declared.rule.Rule.TheVariants.{Cheapest, Strict}
 use Rattle.ms_sat.specs.declared.way.Seen.{Seen}
 use Rattle.ms_sat.specs.Rule.{stack_by, free_by, first_of}
-use Rattle.ms_sat.specs.Scaffolding.Way.{tree_of, sat_of, dsat_of, is_free, nodes_of_ways}
+use Rattle.ms_sat.specs.Scaffolding.Way.{tree_of, sat_of, dsat_of, is_free, nodes_of_ways, IsRowOf}
 use Rattle.ms_sat.proofs.Keys.{both-nothing}
 
 -- a tree with this row, by this rule: what satisfies it, and whether without a signature
@@ -107,14 +107,6 @@ two_fewer other x z = (omega arith, omega arith)
 wrap_fewer : (w : Wrapper) (x : Seen) → IsFewer (nodes (model.wrap w (tree_of x))) (wrap_row table w (known x))
 wrap_fewer wrapper.A x = (omega arith, omega arith)
 wrap_fewer other x = (omega arith, omega arith)
-
--- the ways of the row are those of a tree, by each rule
-pub record IsRowOf (t : model.Tree) (row : rust.Row Seen) : Type 0 where
-  pub sat : (rule : Rule) (assets : Assets) → stack_by rule assets t ≡ sat_of rule assets row.sat
-  pub free : (rule : Rule) (assets : Assets) → is_some (free_by rule assets t) ≡ is_free rule assets row.sat
-  pub dsat : (rule : Rule) (assets : Assets) → dissatisfaction t ≡ dsat_of rule assets row.dsat
-  pub fewer_sat : nodes_of_ways row.sat < nodes t
-  pub fewer_dsat : nodes_of_ways row.dsat < nodes t
 
 row_of : (t : model.Tree) (row : rust.Row Seen) (of : Row (Ways Seen) (Ways Seen)) → IsRow row of → ((rule : Rule) (assets : Assets) → IsSat rule assets t of.sat)
     → ((rule : Rule) (assets : Assets) → dissatisfaction t ≡ dsat_of rule assets of.dsat) → IsFewer (nodes t) of → IsRowOf t row

@@ -9,13 +9,13 @@ ghost use Rattle.def_assets.specs.Assets.{AreAssets, Assets as Held};
 ghost use Rattle.def_tree.specs.Nodes.{all_nodes, nodes_of_all};
 ghost use Rattle.ms_tree.specs.Shape.{shape, shapes, trees_of, leaf_shape};
 ghost use Rattle.ms_sat.specs.declared.rule.Rule.{Rule as By};
-ghost use Rattle.ms_sat.specs.Scaffolding.Costs.{weight_of as stack_weight, sum_of};
+ghost use Rattle.ms_sat.specs.Scaffolding.Costs.{sum_of};
 ghost use Rattle.ms_choice.specs.Numbers.{IsLight, IsLightOption};
 ghost use Rattle.ms_sat.specs.Scaffolding.Children.{IsReady};
 ghost use Rattle.ms_sat.specs.Rule.{has_key};
 ghost use Rattle.ms_choice.specs.declared.slot.Slot.{Slot};
-ghost use Rattle.ms_sat.specs.Scaffolding.Table.{IsWeighed, AreEntries, Weighs, Adds, below};
-ghost use Rattle.ms_sat.specs.Scaffolding.Way.{AreSeen, sat_of, dsat_of, is_free};
+ghost use Rattle.ms_sat.specs.Scaffolding.Table.{IsWeighed, AreEntries, Chooses, Weighs, Adds, below};
+ghost use Rattle.ms_sat.specs.Scaffolding.Way.{IsRowOf, IsSeenRow};
 ghost use Rattle.ms_sat.specs.Scaffolding.Count.{IsBounded, AreFew, AreTold, CountsIn};
 
 use crate::rule::Rule;
@@ -293,11 +293,8 @@ fn weigh_wrap(wrapper: Wrapper, x: &Tree<'_>, table: &[Entry]) -> Weighed
 
 /// What is weighed of a fragment that has this row.
 fn weigh_row(row: Row<Seen<'_>>) -> Weighed
-    requires tables { (rule : By) × (assets : Held) × AreSeen rule assets row.sat × AreSeen rule assets row.dsat }
-    ensures sat { (rule : By) (assets : Held) → AreSeen rule assets row.entry.sat → result.costs.sat ≡ stack_weight (sat_of rule assets row.entry.sat) }
-    ensures dsat { (rule : By) (assets : Held) → AreSeen rule assets row.entry.dsat → result.costs.dsat ≡ stack_weight (dsat_of rule assets row.entry.dsat) }
-    ensures free { (rule : By) (assets : Held) → AreSeen rule assets row.entry.sat → result.free ≡ is_free rule assets row.entry.sat }
-    ensures choice { result.choice ≡ None }
+    requires { (rule : By) × (assets : Held) × IsSeenRow rule assets row }
+    ensures { (rule : By) (assets : Held) (t : Model) → IsRowOf t row.entry → IsSeenRow rule assets row.entry → Chooses rule assets t None → IsWeighed rule assets t result }
 {
     let sat = price_of_sat(&row.sat);
     Weighed {

@@ -1,19 +1,16 @@
 //! The ways to satisfy and to dissatisfy the fragments with children, where it is known what was weighed of these.
-ghost use Rattle.std.specs.Prelude.{◌≡◌, ◌+◌, ◌<◌, ◌≤◌, ◌++◌, List, length, is_some, true, None, Some, IfSome};
+ghost use Rattle.std.specs.Prelude.{◌≡◌, ◌+◌, ◌≤◌, ◌++◌, List, length, true, None, Some, IfSome};
 ghost use Rattle.def_tree.specs.Range.{IsInRange};
-ghost use Rattle.def_tree.specs.Size.{nodes};
 ghost use Rattle.def_tree.specs.Tree as tree;
 ghost use Rattle.def_tree.specs.Tree.{Tree as Model};
 ghost use Rattle.def_assets.specs.Assets.{Assets as Held};
-ghost use Rattle.def_choice.specs.Cheapest.{dissatisfaction};
 ghost use Rattle.ms_sat.specs.declared.rule.Rule.{Rule};
-ghost use Rattle.ms_sat.specs.Rule.{stack_by, free_by};
 ghost use Rattle.def_tree.specs.Nodes.{all_nodes};
 ghost use Rattle.ms_tree.specs.Shape.{shape};
 ghost use Rattle.ms_sat.specs.Scaffolding.Costs.{weight_of};
 ghost use Rattle.ms_choice.specs.Numbers.{IsLight, IsLightOption};
 ghost use Rattle.ms_sat.specs.Scaffolding.Table.{IsWeighed, AreEntries, EndsWith, below};
-ghost use Rattle.ms_sat.specs.Scaffolding.Way.{tree_of, stack_of_part, free_of_part, stack_of_way, free_of_way, sat_of, dsat_of, is_free, nodes_of_way, nodes_of_ways, IsSeen, SeesTwo, IsSeenPart, IsSeenWay, AreSeen, HasTable, HaveTables, IsPriceOf, comes_first, Satisfies, Dissatisfies};
+ghost use Rattle.ms_sat.specs.Scaffolding.Way.{tree_of, stack_of_part, free_of_part, stack_of_way, free_of_way, sat_of, dsat_of, is_free, nodes_of_way, nodes_of_ways, IsSeen, IsSeenRow, IsRowOf, SeesTwo, IsSeenPart, IsSeenWay, AreSeen, HasTable, HaveTables, IsPriceOf, comes_first, Satisfies, Dissatisfies};
 
 use crate::cost::{both, is_former};
 use crate::table::{Entry, Weighed};
@@ -214,39 +211,24 @@ impl Price {
 
 /// The ways of an `andor`.
 pub fn row_of_and_or<'t>(x: Seen<'t>, y: Seen<'t>, z: Seen<'t>) -> Row<Seen<'t>>
-    ensures sat { (rule : Rule) (assets : Held) → stack_by rule assets (tree.and_or (tree_of x.entry) (tree_of y.entry) (tree_of z.entry)) ≡ sat_of rule assets result.sat }
-    ensures free { (rule : Rule) (assets : Held) → is_some (free_by rule assets (tree.and_or (tree_of x.entry) (tree_of y.entry) (tree_of z.entry))) ≡ is_free rule assets result.sat }
-    ensures dsat { (rule : Rule) (assets : Held) → dissatisfaction (tree.and_or (tree_of x.entry) (tree_of y.entry) (tree_of z.entry)) ≡ dsat_of rule assets result.dsat }
-    ensures fewer_sat { nodes_of_ways result.sat < nodes (tree.and_or (tree_of x.entry) (tree_of y.entry) (tree_of z.entry)) }
-    ensures fewer_dsat { nodes_of_ways result.dsat < nodes (tree.and_or (tree_of x.entry) (tree_of y.entry) (tree_of z.entry)) }
-    ensures seen_sat { (rule : Rule) (assets : Held) → IsSeen rule assets x.entry → IsSeen rule assets y.entry → IsSeen rule assets z.entry → AreSeen rule assets result.sat }
-    ensures seen_dsat { (rule : Rule) (assets : Held) → IsSeen rule assets x.entry → IsSeen rule assets y.entry → IsSeen rule assets z.entry → AreSeen rule assets result.dsat }
+    ensures row { IsRowOf (tree.and_or (tree_of x.entry) (tree_of y.entry) (tree_of z.entry)) result }
+    ensures seen { (rule : Rule) (assets : Held) → IsSeen rule assets x.entry → IsSeen rule assets y.entry → IsSeen rule assets z.entry → IsSeenRow rule assets result }
 {
     and_or(x, y, z)
 }
 
 /// The ways of a fragment of two parts.
 pub fn row_of_two<'t>(kind: Two, x: Seen<'t>, z: Seen<'t>) -> Row<Seen<'t>>
-    ensures sat { (rule : Rule) (assets : Held) → stack_by rule assets (tree.two kind (tree_of x.entry) (tree_of z.entry)) ≡ sat_of rule assets result.sat }
-    ensures free { (rule : Rule) (assets : Held) → is_some (free_by rule assets (tree.two kind (tree_of x.entry) (tree_of z.entry))) ≡ is_free rule assets result.sat }
-    ensures dsat { (rule : Rule) (assets : Held) → dissatisfaction (tree.two kind (tree_of x.entry) (tree_of z.entry)) ≡ dsat_of rule assets result.dsat }
-    ensures fewer_sat { nodes_of_ways result.sat < nodes (tree.two kind (tree_of x.entry) (tree_of z.entry)) }
-    ensures fewer_dsat { nodes_of_ways result.dsat < nodes (tree.two kind (tree_of x.entry) (tree_of z.entry)) }
-    ensures seen_sat { (rule : Rule) (assets : Held) → IsSeen rule assets x.entry → IsSeen rule assets z.entry → AreSeen rule assets result.sat }
-    ensures seen_dsat { (rule : Rule) (assets : Held) → IsSeen rule assets x.entry → IsSeen rule assets z.entry → AreSeen rule assets result.dsat }
+    ensures row { IsRowOf (tree.two kind (tree_of x.entry) (tree_of z.entry)) result }
+    ensures seen { (rule : Rule) (assets : Held) → IsSeen rule assets x.entry → IsSeen rule assets z.entry → IsSeenRow rule assets result }
 {
     two(kind, x, z)
 }
 
 /// The ways of a fragment behind a wrapper.
 pub fn row_of_wrap<'t>(wrapper: Wrapper, x: Seen<'t>) -> Row<Seen<'t>>
-    ensures sat { (rule : Rule) (assets : Held) → stack_by rule assets (tree.wrap wrapper (tree_of x.entry)) ≡ sat_of rule assets result.sat }
-    ensures free { (rule : Rule) (assets : Held) → is_some (free_by rule assets (tree.wrap wrapper (tree_of x.entry))) ≡ is_free rule assets result.sat }
-    ensures dsat { (rule : Rule) (assets : Held) → dissatisfaction (tree.wrap wrapper (tree_of x.entry)) ≡ dsat_of rule assets result.dsat }
-    ensures fewer_sat { nodes_of_ways result.sat < nodes (tree.wrap wrapper (tree_of x.entry)) }
-    ensures fewer_dsat { nodes_of_ways result.dsat < nodes (tree.wrap wrapper (tree_of x.entry)) }
-    ensures seen_sat { (rule : Rule) (assets : Held) → IsSeen rule assets x.entry → AreSeen rule assets result.sat }
-    ensures seen_dsat { (rule : Rule) (assets : Held) → IsSeen rule assets x.entry → AreSeen rule assets result.dsat }
+    ensures row { IsRowOf (tree.wrap wrapper (tree_of x.entry)) result }
+    ensures seen { (rule : Rule) (assets : Held) → IsSeen rule assets x.entry → IsSeenRow rule assets result }
 {
     wrap(wrapper, x)
 }

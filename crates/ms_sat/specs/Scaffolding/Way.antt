@@ -1,5 +1,5 @@
 -- What the ways to satisfy or dissatisfy a fragment push.
-use Rattle.std.specs.Prelude.{◌≡◌, ℕ, ◌+◌, max, Bool, false, ◌||◌, ◌&&◌, not, List, [], ◌∷◌, is_some, Option, Some, None}
+use Rattle.std.specs.Prelude.{◌≡◌, ℕ, ◌+◌, ◌<◌, max, Bool, false, ◌||◌, ◌&&◌, not, List, [], ◌∷◌, is_some, Option, Some, None}
 use Rattle.def_machine.specs.Stacks.{Stack}
 use Rattle.def_tree.specs.Tree as model
 use Rattle.def_tree.specs.Size.{nodes}
@@ -12,6 +12,7 @@ use Rattle.ms_sat.specs.declared.rule.Rule.{Rule}
 use Rattle.ms_sat.specs.declared.way.Seen.{Seen}
 use Rattle.ms_sat.specs.declared.way.Price.{Price}
 use Rattle.ms_rows.specs.declared.ways.Part.{Part}
+use Rattle.ms_rows.specs.declared.ways.Row.{Row}
 use Rattle.ms_rows.specs.declared.ways.Way.{Way}
 use Rattle.ms_rows.specs.declared.ways.Ways.{Ways}
 use Rattle.ms_rows.specs.declared.ways.Ways.TheVariants.{Never, Only, Either}
@@ -118,6 +119,18 @@ AreSeen rule assets ways = InWays (IsSeen rule assets) ways
 -- by some rule and assets
 abbrev pub HaveTables : Ways Seen → Type 0
 HaveTables ways = (rule : Rule) × (assets : Assets) × AreSeen rule assets ways
+
+-- the ways of a row are those of a tree, by each rule, and go over fewer nodes
+pub record IsRowOf (t : model.Tree) (row : Row Seen) : Type 0 where
+  pub sat : (rule : Rule) (assets : Assets) → stack_by rule assets t ≡ sat_of rule assets row.sat
+  pub free : (rule : Rule) (assets : Assets) → is_some (free_by rule assets t) ≡ is_free rule assets row.sat
+  pub dsat : (rule : Rule) (assets : Assets) → dissatisfaction t ≡ dsat_of rule assets row.dsat
+  pub fewer_sat : nodes_of_ways row.sat < nodes t
+  pub fewer_dsat : nodes_of_ways row.dsat < nodes t
+
+-- its trees have their tables
+abbrev pub IsSeenRow : Rule → Assets → Row Seen → Type 0
+IsSeenRow rule assets row = AreSeen rule assets row.sat × AreSeen rule assets row.dsat
 
 -- what a way weighs, and whether it has a free stack
 pub record IsPriceOf (stack free_stack : Option Stack) (price : Price) : Type 0 where

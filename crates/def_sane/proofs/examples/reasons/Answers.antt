@@ -7,7 +7,8 @@ use Rattle.def_hash.specs.Hash.{hash160}
 use Rattle.def_types.proofs.Rows.{corr_rows, mall_rows}
 
 pub returns : goal.returns
-unfolding corr_rows mall_rows first_words schedule sha_rounds sha_compress sha_hash_after sha_digest_bytes sha256 block_words step left_line right_line combined compress hash_after digest_bytes ripemd160 hash160
+unfolding corr_rows mall_rows first_words schedule sha_rounds sha_compress sha_hash_after sha_digest_bytes sha256 block_words step left_line
+    right_line combined compress hash_after digest_bytes ripemd160 hash160
 returns c = record {
   sane_ones = (refl, refl, refl, refl, refl, refl, refl);
   one_needs_no_signature = (refl, refl);

@@ -30,10 +30,10 @@ dissatisfy-returns-in-AndOr t c =
     let entries = subst (λ s. AreEntries rule assets (below s) c.below-below.result.now) shows (c.below-below.ensures rule assets c.requires.1) in
     let z = c.see_last.ensures.seen rule assets xs entries in
     let xy = c.see_two.ensures.seen rule assets (c.see_last.ensures.before rule assets xs entries) in
-    let ways = c.row_of_and_or.ensures.seen_dsat rule assets xy.0 xy.1 z in
+    let ways = (c.row_of_and_or.ensures.seen rule assets xy.0 xy.1 z).1 in
     let same : model.and_or (tree_of c.see_two.result.0) (tree_of c.see_two.result.1) (tree_of c.see_last.result.1) ≡ tree_of c.args.seen =
     (λ i. model.and_or (c.see_two.ensures.x i) (c.see_two.ensures.z i) (c.see_last.ensures.tree i)) ∙ sym shows in
-    let is = sym (c.row_of_and_or.ensures.dsat rule assets) ∙ ap dissatisfaction same in
+    let is = sym (c.row_of_and_or.ensures.row.dsat rule assets) ∙ ap dissatisfaction same in
     on_ok c.push_dissatisfying.result _ _
     (λ pushed. subst (λ o. IsPushed o c.args.stack.now c.push_dissatisfying.new.stack) is (pushed rule ways)) c.push_dissatisfying.ensures
 
@@ -44,10 +44,10 @@ dissatisfy-returns-in-Two t c =
     let shows = c.in-Two.ensures.shows in
     let entries = subst (λ s. AreEntries rule assets (below s) c.below-below.result.now) shows (c.below-below.ensures rule assets c.requires.1) in
     let xz = c.see_two-in-Two.ensures.seen rule assets entries in
-    let ways = c.row_of_two.ensures.seen_dsat rule assets xz.0 xz.1 in
+    let ways = (c.row_of_two.ensures.seen rule assets xz.0 xz.1).1 in
     let same : model.two c.in-Two.kind (tree_of c.see_two-in-Two.result.0) (tree_of c.see_two-in-Two.result.1) ≡ tree_of c.args.seen =
     (λ i. model.two c.in-Two.kind (c.see_two-in-Two.ensures.x i) (c.see_two-in-Two.ensures.z i)) ∙ sym shows in
-    let is = sym (c.row_of_two.ensures.dsat rule assets) ∙ ap dissatisfaction same in
+    let is = sym (c.row_of_two.ensures.row.dsat rule assets) ∙ ap dissatisfaction same in
     on_ok c.push_dissatisfying-in-Two.result _ _
     (λ pushed. subst (λ o. IsPushed o c.args.stack.now c.push_dissatisfying-in-Two.new.stack) is (pushed rule ways)) c.push_dissatisfying-in-Two.ensures
 
@@ -57,8 +57,8 @@ dissatisfy-returns-in-Wrap t c =
     let assets = c.args.assets.now in
     let shows = c.in-Wrap.ensures.shows in
     let entries = subst (λ s. AreEntries rule assets (below s) c.below-below.result.now) shows (c.below-below.ensures rule assets c.requires.1) in
-    let ways = c.row_of_wrap.ensures.seen_dsat rule assets (record { in_range = c.in-Wrap.ensures.in_range; entries = entries }) in
-    let is = sym (c.row_of_wrap.ensures.dsat rule assets) ∙ ap dissatisfaction (sym shows) in
+    let ways = (c.row_of_wrap.ensures.seen rule assets (record { in_range = c.in-Wrap.ensures.in_range; entries = entries })).1 in
+    let is = sym (c.row_of_wrap.ensures.row.dsat rule assets) ∙ ap dissatisfaction (sym shows) in
     on_ok c.push_dissatisfying-in-Wrap.result _ _
     (λ pushed. subst (λ o. IsPushed o c.args.stack.now c.push_dissatisfying-in-Wrap.new.stack) is (pushed rule ways)) c.push_dissatisfying-in-Wrap.ensures
 
