@@ -44,4 +44,3 @@ module _ (a b : ℕ) where
       of_lighter (λ p. Above i (c ∷ cs) (suc k) p.0) (extend true c.sat (choose cs k)) (extend false c.dsat (choose cs (suc k)))
       (satisfied c.sat c.dsat i cs k (choose cs k) (choice_above (suc i) cs k))
       (dissatisfied c.sat c.dsat i cs (suc k) (choose cs (suc k)) (choice_above (suc i) cs (suc k)))
-

@@ -40,8 +40,13 @@ lightest_is [] zero = refl
 lightest_is [] (suc k) = refl
 lightest_is (c ∷ cs) zero = rw (least-put false c.dsat (picks cs zero), lightest_is cs zero)
 lightest_is (c ∷ cs) (suc k) =
-    rw (least-append (put true c.sat (picks cs k)) (put false c.dsat (picks cs (suc k))), least-put true c.sat (picks cs k),
-    least-put false c.dsat (picks cs (suc k)), lightest_is cs k, lightest_is cs (suc k))
+    rw (
+      least-append (put true c.sat (picks cs k)) (put false c.dsat (picks cs (suc k))),
+      least-put true c.sat (picks cs k),
+      least-put false c.dsat (picks cs (suc k)),
+      lightest_is cs k,
+      lightest_is cs (suc k),
+    )
 
 -- ---- the greatest
 
@@ -80,8 +85,13 @@ greatest_is [] zero = refl
 greatest_is [] (suc k) = refl
 greatest_is (c ∷ cs) zero = rw (most-put false c.dsat (picks cs zero), greatest_is cs zero)
 greatest_is (c ∷ cs) (suc k) =
-    rw (most-append (put true c.sat (picks cs k)) (put false c.dsat (picks cs (suc k))), most-put true c.sat (picks cs k),
-    most-put false c.dsat (picks cs (suc k)), greatest_is cs k, greatest_is cs (suc k))
+    rw (
+      most-append (put true c.sat (picks cs k)) (put false c.dsat (picks cs (suc k))),
+      most-put true c.sat (picks cs k),
+      most-put false c.dsat (picks cs (suc k)),
+      greatest_is cs k,
+      greatest_is cs (suc k),
+    )
 
 -- where there is no greatest there is no choice
 pub none_least : (ps : List Pick) → most ps ≡ None → least ps ≡ None

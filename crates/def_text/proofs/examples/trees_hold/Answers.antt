@@ -11,7 +11,7 @@ pub returns : goal.returns
 unfolding hex_on_literals
 returns c = record {
   pk = text_whole 70 (text_pk refl);
-  or_d =     text_whole 168
+  or_d = text_whole 168
       (text_two OrD 75 167 (text_pk refl)
       (text_two AndV 155 166 (text_letters (letter_of_wrapper V) [] (text_pkh refl)) (text_older refl)));
   sugar = text_whole 5 (text_letters letter_l [] (text_letters letter_t [] text_1));

@@ -131,34 +131,19 @@ of_thresh-returns-clause-dsat t c =
     ap (λ ys. greatest (children_in n ys) 0) (take_all i xs c.loop-child-test.false) ∙
     sym (parts_chosen n xs 0))
 
-pub of_and_or-returns-clause-sat : goal.of_and_or-returns-clause-sat
-of_and_or-returns-clause-sat t c =
-    c.of_row.ensures.sat ∙
-    (most_and_or _ _ _ _ (shape c.args.x.now) (shape c.args.y.now) (shape c.args.z.now) c.and_or.ensures
-    c.most-x.ensures.sat c.most-x.ensures.dsat c.most-y.ensures.sat c.most-y.ensures.dsat c.most-z.ensures.sat c.most-z.ensures.dsat).sat
+pub of_and_or-returns : goal.of_and_or-returns
+of_and_or-returns t c =
+    let row = most_and_or _ _ _ _ (shape c.args.x.now) (shape c.args.y.now) (shape c.args.z.now) c.and_or.ensures
+    c.most-x.ensures.sat c.most-x.ensures.dsat c.most-y.ensures.sat c.most-y.ensures.dsat c.most-z.ensures.sat c.most-z.ensures.dsat in
+    record { sat = c.of_row.ensures.sat ∙ row.sat; dsat = c.of_row.ensures.dsat ∙ row.dsat }
 
-pub of_and_or-returns-clause-dsat : goal.of_and_or-returns-clause-dsat
-of_and_or-returns-clause-dsat t c =
-    c.of_row.ensures.dsat ∙
-    (most_and_or _ _ _ _ (shape c.args.x.now) (shape c.args.y.now) (shape c.args.z.now) c.and_or.ensures
-    c.most-x.ensures.sat c.most-x.ensures.dsat c.most-y.ensures.sat c.most-y.ensures.dsat c.most-z.ensures.sat c.most-z.ensures.dsat).dsat
+pub of_two-returns : goal.of_two-returns
+of_two-returns t c =
+    let row = most_two c.args.kind _ _ _ (shape c.args.x.now) (shape c.args.z.now) c.two.ensures
+    c.most-x.ensures.sat c.most-x.ensures.dsat c.most-z.ensures.sat c.most-z.ensures.dsat in
+    record { sat = c.of_row.ensures.sat ∙ row.sat; dsat = c.of_row.ensures.dsat ∙ row.dsat }
 
-pub of_two-returns-clause-sat : goal.of_two-returns-clause-sat
-of_two-returns-clause-sat t c =
-    c.of_row.ensures.sat ∙
-    (most_two c.args.kind _ _ _ (shape c.args.x.now) (shape c.args.z.now) c.two.ensures c.most-x.ensures.sat c.most-x.ensures.dsat c.most-z.ensures.sat c.most-z.ensures.dsat).sat
-
-pub of_two-returns-clause-dsat : goal.of_two-returns-clause-dsat
-of_two-returns-clause-dsat t c =
-    c.of_row.ensures.dsat ∙
-    (most_two c.args.kind _ _ _ (shape c.args.x.now) (shape c.args.z.now) c.two.ensures c.most-x.ensures.sat c.most-x.ensures.dsat c.most-z.ensures.sat c.most-z.ensures.dsat).dsat
-
-pub of_wrap-returns-clause-sat : goal.of_wrap-returns-clause-sat
-of_wrap-returns-clause-sat t c =
-    c.of_row.ensures.sat ∙
-    (most_wrap c.args.wrapper _ _ (shape c.args.x.now) c.wrap.ensures c.most-x.ensures.sat c.most-x.ensures.dsat).sat
-
-pub of_wrap-returns-clause-dsat : goal.of_wrap-returns-clause-dsat
-of_wrap-returns-clause-dsat t c =
-    c.of_row.ensures.dsat ∙
-    (most_wrap c.args.wrapper _ _ (shape c.args.x.now) c.wrap.ensures c.most-x.ensures.sat c.most-x.ensures.dsat).dsat
+pub of_wrap-returns : goal.of_wrap-returns
+of_wrap-returns t c =
+    let row = most_wrap c.args.wrapper _ _ (shape c.args.x.now) c.wrap.ensures c.most-x.ensures.sat c.most-x.ensures.dsat in
+    record { sat = c.of_row.ensures.sat ∙ row.sat; dsat = c.of_row.ensures.dsat ∙ row.dsat }

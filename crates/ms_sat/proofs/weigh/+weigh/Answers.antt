@@ -145,40 +145,21 @@ tally_of-loop-child-preserved t c =
       place = omega (arith, c.add_costs.ensures.place, c.loop-child.invariant.place);
     }
 
-pub of_and_or-returns-clause-sat : goal.of_and_or-returns-clause-sat
-of_and_or-returns-clause-sat t c =
-    c.of_row.ensures.sat ∙
-    (weighs_and_or c.args.assets.now _ _ _ _ (shape c.args.x.now) (shape c.args.y.now) (shape c.args.z.now) c.and_or.ensures
+pub of_and_or-returns : goal.of_and_or-returns
+of_and_or-returns t c =
+    let row = weighs_and_or c.args.assets.now _ _ _ _ (shape c.args.x.now) (shape c.args.y.now) (shape c.args.z.now) c.and_or.ensures
     (record { sat = c.weigh-x.ensures.sat; dsat = c.weigh-x.ensures.dsat }) (record { sat = c.weigh-y.ensures.sat; dsat = c.weigh-y.ensures.dsat })
-    (record { sat = c.weigh-z.ensures.sat; dsat = c.weigh-z.ensures.dsat })).sat
+    (record { sat = c.weigh-z.ensures.sat; dsat = c.weigh-z.ensures.dsat }) in
+    record { sat = c.of_row.ensures.sat ∙ row.sat; dsat = c.of_row.ensures.dsat ∙ row.dsat }
 
-pub of_and_or-returns-clause-dsat : goal.of_and_or-returns-clause-dsat
-of_and_or-returns-clause-dsat t c =
-    c.of_row.ensures.dsat ∙
-    (weighs_and_or c.args.assets.now _ _ _ _ (shape c.args.x.now) (shape c.args.y.now) (shape c.args.z.now) c.and_or.ensures
-    (record { sat = c.weigh-x.ensures.sat; dsat = c.weigh-x.ensures.dsat }) (record { sat = c.weigh-y.ensures.sat; dsat = c.weigh-y.ensures.dsat })
-    (record { sat = c.weigh-z.ensures.sat; dsat = c.weigh-z.ensures.dsat })).dsat
+pub of_two-returns : goal.of_two-returns
+of_two-returns t c =
+    let row = weighs_two c.args.assets.now c.args.kind _ _ _ (shape c.args.x.now) (shape c.args.z.now) c.two.ensures
+    (record { sat = c.weigh-x.ensures.sat; dsat = c.weigh-x.ensures.dsat }) (record { sat = c.weigh-z.ensures.sat; dsat = c.weigh-z.ensures.dsat }) in
+    record { sat = c.of_row.ensures.sat ∙ row.sat; dsat = c.of_row.ensures.dsat ∙ row.dsat }
 
-pub of_two-returns-clause-sat : goal.of_two-returns-clause-sat
-of_two-returns-clause-sat t c =
-    c.of_row.ensures.sat ∙
-    (weighs_two c.args.assets.now c.args.kind _ _ _ (shape c.args.x.now) (shape c.args.z.now) c.two.ensures
-    (record { sat = c.weigh-x.ensures.sat; dsat = c.weigh-x.ensures.dsat }) (record { sat = c.weigh-z.ensures.sat; dsat = c.weigh-z.ensures.dsat })).sat
-
-pub of_two-returns-clause-dsat : goal.of_two-returns-clause-dsat
-of_two-returns-clause-dsat t c =
-    c.of_row.ensures.dsat ∙
-    (weighs_two c.args.assets.now c.args.kind _ _ _ (shape c.args.x.now) (shape c.args.z.now) c.two.ensures
-    (record { sat = c.weigh-x.ensures.sat; dsat = c.weigh-x.ensures.dsat }) (record { sat = c.weigh-z.ensures.sat; dsat = c.weigh-z.ensures.dsat })).dsat
-
-pub of_wrap-returns-clause-sat : goal.of_wrap-returns-clause-sat
-of_wrap-returns-clause-sat t c =
-    c.of_row.ensures.sat ∙
-    (weighs_wrap c.args.assets.now c.args.wrapper _ _ (shape c.args.x.now) c.wrap.ensures
-    (record { sat = c.weigh-x.ensures.sat; dsat = c.weigh-x.ensures.dsat })).sat
-
-pub of_wrap-returns-clause-dsat : goal.of_wrap-returns-clause-dsat
-of_wrap-returns-clause-dsat t c =
-    c.of_row.ensures.dsat ∙
-    (weighs_wrap c.args.assets.now c.args.wrapper _ _ (shape c.args.x.now) c.wrap.ensures
-    (record { sat = c.weigh-x.ensures.sat; dsat = c.weigh-x.ensures.dsat })).dsat
+pub of_wrap-returns : goal.of_wrap-returns
+of_wrap-returns t c =
+    let row = weighs_wrap c.args.assets.now c.args.wrapper _ _ (shape c.args.x.now) c.wrap.ensures
+    (record { sat = c.weigh-x.ensures.sat; dsat = c.weigh-x.ensures.dsat }) in
+    record { sat = c.of_row.ensures.sat ∙ row.sat; dsat = c.of_row.ensures.dsat ∙ row.dsat }
