@@ -1,8 +1,8 @@
 -- Kinds of locks that are met together.
-use Rattle.std.proofs.Common.{◌≡◌, Bool, true, false, ◌&&◌, ◌||◌, Option, Some, None, refl, sym, inl, inr}
+use Rattle.std.proofs.Common.{◌≡◌, Bool, true, false, ◌||◌, Option, Some, None, arith}
 use Rattle.std.specs.Bool.{⊤}
 use Rattle.std.specs.List.{list_any}
-use Rattle.std.proofs.lemmas.Bool.{false≢true, or_cases, or_parts, or_left, or_right}
+use Rattle.std.proofs.lemmas.Bool.{false≢true, or_parts}
 use Rattle.def_tree.specs.Tree.{Trees, none, more}
 use Rattle.def_sane.specs.Locks.{Kinds, union, conflict, kinds, kinds_of_all, kinds_of_each}
 
@@ -22,26 +22,17 @@ Used (Some true) time height = time ≡ true
 Used (Some false) time height = height ≡ true
 
 used_wider : (c : Option Bool) (t h t' h' : Bool) → (t ≡ true → t' ≡ true) → (h ≡ true → h' ≡ true) → Used c t h → Used c t' h'
-used_wider None t h t' h' f g u = tt
-used_wider (Some true) t h t' h' f g u = f u
-used_wider (Some false) t h t' h' f g u = g u
+used_wider c t h t' h' f g u = grind arith
 
 used_both : (c d : Option Bool) (t h t' h' : Bool) → Used c t h → Used d t' h' → Used (first_of_two c d) (t || t') (h || h')
-used_both None d t h t' h' u v = used_wider d t' h' _ _ (or_right t t') (or_right h h') v
-used_both (Some x) d t h t' h' u v = used_wider (Some x) t h _ _ (or_left t t') (or_left h h') u
+used_both c d t h t' h' u v = grind arith
 
 fits_first : (c d : Option Bool) (b : Bool) → Fits (first_of_two c d) b → Fits c b
-fits_first None d b f = tt
-fits_first (Some x) d b f = f
+fits_first c d b f = grind arith
 
 -- none of one is a time where the other has a height, nor the other way round
 fits_second : (c d : Option Bool) (b t h t' h' : Bool) → Used c t h → Used d t' h' → (t ≡ true → h' ≡ true → ⊥) → (h ≡ true → t' ≡ true → ⊥) → Fits (first_of_two c d) b → Fits d b
-fits_second None d b t h t' h' u v one two f = f
-fits_second (Some x) None b t h t' h' u v one two f = tt
-fits_second (Some true) (Some true) b t h t' h' u v one two f = f
-fits_second (Some true) (Some false) b t h t' h' u v one two f = absurd (one u v)
-fits_second (Some false) (Some true) b t h t' h' u v one two f = absurd (two u v)
-fits_second (Some false) (Some false) b t h t' h' u v one two f = f
+fits_second c d b t h t' h' u v one two f = grind arith
 
 -- the kinds of one are among those of the other
 pub record Below (a b : Kinds) : Type 0 where
@@ -51,41 +42,16 @@ pub record Below (a b : Kinds) : Type 0 where
   pub ah : a.absolute_height ≡ true → b.absolute_height ≡ true
 
 pub below_left : (a b : Kinds) → Below a (union a b)
-below_left a b = record {
-  rt = or_left a.relative_time b.relative_time;
-  rh = or_left a.relative_height b.relative_height;
-  at = or_left a.absolute_time b.absolute_time;
-  ah = or_left a.absolute_height b.absolute_height;
-}
+below_left a b = grind arith
 
 pub below_right : (a b : Kinds) → Below b (union a b)
-below_right a b = record {
-  rt = or_right a.relative_time b.relative_time;
-  rh = or_right a.relative_height b.relative_height;
-  at = or_right a.absolute_time b.absolute_time;
-  ah = or_right a.absolute_height b.absolute_height;
-}
-
-or_assoc : (a b c : Bool) → (a || b) ≡ true → (a || (b || c)) ≡ true
-or_assoc true b c e = refl
-or_assoc false true c e = refl
-or_assoc false false c e = absurd (false≢true e)
+below_right a b = grind arith
 
 pub below_first_two : (a b c : Kinds) → Below (union a b) (union a (union b c))
-below_first_two a b c = record {
-  rt = or_assoc a.relative_time b.relative_time c.relative_time;
-  rh = or_assoc a.relative_height b.relative_height c.relative_height;
-  at = or_assoc a.absolute_time b.absolute_time c.absolute_time;
-  ah = or_assoc a.absolute_height b.absolute_height c.absolute_height;
-}
+below_first_two a b c = grind arith
 
 pub below_last : (a b c : Kinds) → Below c (union a (union b c))
-below_last a b c = record {
-  rt = λ e. or_right a.relative_time (b.relative_time || c.relative_time) (or_right b.relative_time c.relative_time e);
-  rh = λ e. or_right a.relative_height (b.relative_height || c.relative_height) (or_right b.relative_height c.relative_height e);
-  at = λ e. or_right a.absolute_time (b.absolute_time || c.absolute_time) (or_right b.absolute_time c.absolute_time e);
-  ah = λ e. or_right a.absolute_height (b.absolute_height || c.absolute_height) (or_right b.absolute_height c.absolute_height e);
-}
+below_last a b c = grind arith
 
 -- no conflict, kind by kind
 pub record Agree (a b : Kinds) : Type 0 where
@@ -94,31 +60,18 @@ pub record Agree (a b : Kinds) : Type 0 where
   pub at : a.absolute_time ≡ true → b.absolute_height ≡ true → ⊥
   pub ah : a.absolute_height ≡ true → b.absolute_time ≡ true → ⊥
 
-not_both : (x y : Bool) → (x && y) ≡ false → x ≡ true → y ≡ true → ⊥
-not_both true true e f g = false≢true (sym e)
-not_both true false e f g = false≢true g
-not_both false y e f g = false≢true f
-
 pub agree : (a b : Kinds) → conflict a b ≡ false → Agree a b
-agree a b e =
-    let one = or_parts (((a.relative_time && b.relative_height) || (a.relative_height && b.relative_time)) || (a.absolute_time && b.absolute_height)) (a.absolute_height && b.absolute_time) e in
-    let two = or_parts ((a.relative_time && b.relative_height) || (a.relative_height && b.relative_time)) (a.absolute_time && b.absolute_height) one.0 in
-    let three = or_parts (a.relative_time && b.relative_height) (a.relative_height && b.relative_time) two.0 in
-    record { rt = not_both _ _ three.0; rh = not_both _ _ three.1; at = not_both _ _ two.1; ah = not_both _ _ one.1 }
+agree a b e = grind arith
+
+agree_more : (a b c : Kinds) → Agree a b → Agree a c → Agree a (union b c)
+agree_more a b c h t = grind arith
 
 -- with none of these, so not with all
 pub agree_all : (a : Kinds) (xs : Trees) → list_any (conflict a) (kinds_of_each xs) ≡ false → Agree a (kinds_of_all xs)
 agree_all a none e = record { rt = λ f g. false≢true g; rh = λ f g. false≢true g; at = λ f g. false≢true g; ah = λ f g. false≢true g }
 agree_all a (more x xs) e =
     let p = or_parts (conflict a (kinds x)) (list_any (conflict a) (kinds_of_each xs)) e in
-    let h = agree a (kinds x) p.0 in
-    let t = agree_all a xs p.1 in
-    record {
-      rt = λ f g. elim (or_cases _ _ g) [ inl i ↦ h.rt f i | inr i ↦ t.rt f i ];
-      rh = λ f g. elim (or_cases _ _ g) [ inl i ↦ h.rh f i | inr i ↦ t.rh f i ];
-      at = λ f g. elim (or_cases _ _ g) [ inl i ↦ h.at f i | inr i ↦ t.at f i ];
-      ah = λ f g. elim (or_cases _ _ g) [ inl i ↦ h.ah f i | inr i ↦ t.ah f i ];
-    }
+    agree_more a (kinds x) (kinds_of_all xs) (agree a (kinds x) p.0) (agree_all a xs p.1)
 
 -- kinds of a set that are wanted, under which something holds
 pub record Chosen (k : Kinds) (P : (relative absolute : Bool) → Type 0) : Type 0 where

@@ -49,13 +49,4 @@ older_held n absolute =
 
 pub after_held : (n : ℕ) (relative : Bool) → n < 2 ^ 31 → after_holds n (latest relative (is_absolute_time n)) ≡ true
 unfolding after_holds
-after_held n true h =
-    elim (cases_Bool (is_absolute_time n)) [
-      | inl t ↦ rw t (grind (arith, nat_tests))
-      | inr f ↦ rw f (grind (arith, nat_tests))
-    ]
-after_held n false h =
-    elim (cases_Bool (is_absolute_time n)) [
-      | inl t ↦ rw t (grind (arith, nat_tests))
-      | inr f ↦ rw f (grind (arith, nat_tests))
-    ]
+after_held n relative h = grind (arith, nat_tests)

@@ -2,7 +2,7 @@
 use Rattle.std.proofs.Common.{◌≡◌, ℕ, ◌+◌, ◌<◌, ◌≤◌, nat_le, Bool, true, false, ◌&&◌, ◌||◌, List, [], ◌∷◌, length, map, refl, sym, ◌∙◌, ap, subst, inl, inr, arith, if◌then◌else◌}
 use Rattle.std.specs.Bool.{⊤}
 use Rattle.std.proofs.Math.Bool.{and-false}
-use Rattle.std.proofs.lemmas.Bool.{or_cases, cases_Bool, ltb-true, false≢true, and_parts}
+use Rattle.std.proofs.lemmas.Bool.{cases_Bool, ltb-true, false≢true, and_parts}
 use Rattle.std.proofs.lemmas.Bool.Decides.{nat_tests}
 use Rattle.def_tree.specs.declared.Two.TheVariants as kind
 use Rattle.def_tree.specs.declared.Wrapper.TheVariants as wrapper
@@ -34,10 +34,10 @@ any_neither : (a b : Bool) → a ≡ false → b ≡ false → (a || (b || false
 any_neither a b e f = rw (e, f)
 
 one_of_both : (a b s t : Bool) → (s ≡ true → a ≡ false) → (t ≡ true → b ≡ false) → (s || t) ≡ true → (a && (b && true)) ≡ false
-one_of_both a b s t f g h = elim (or_cases s t h) [ inl e ↦ all_first a b (f e) | inr e ↦ all_second a b (g e) ]
+one_of_both a b s t f g h = grind arith
 
 each_of_both : (a b s t : Bool) → (s ≡ true → a ≡ false) → (t ≡ true → b ≡ false) → (s && t) ≡ true → (a || (b || false)) ≡ false
-each_of_both a b s t f g h = let e = and_parts s t h in any_neither a b (f e.0) (g e.1)
+each_of_both a b s t f g h = grind arith
 
 abbrev IsK : Base → Type 0
 IsK K = ⊤
@@ -72,8 +72,7 @@ module _ (facts : Facts) (unsigned : (key : Key) → facts.signs key ≡ false) 
   too_few k n h = grind (arith, nat_tests)
 
   one_more : (b : Bool) (m n : ℕ) → m ≤ n → (if b then 1 else 0) + m ≤ 1 + n
-  one_more true m n h = omega arith
-  one_more false m n h = omega arith
+  one_more b m n h = grind arith
 
   mutual
     unfolding mall_rows

@@ -2,7 +2,7 @@
 use Rattle.std.proofs.Common.{◌≡◌, ℕ, zero, suc, ◌+◌, ◌<◌, ◌≤◌, nat_le, Bool, true, false, not, ◌&&◌, ◌||◌, ◌⊎◌, List, [], ◌∷◌, ◌++◌, map, Option, Some, None, refl, sym, ◌∙◌, ap, inl, inr, arith, lit<, ◌^◌, if◌then◌else◌}
 use Rattle.std.specs.Prelude.{unwrap_or}
 use Rattle.std.specs.List.{list_any, position_from}
-use Rattle.std.proofs.lemmas.Bool.{false≢true, cases_Bool, or_parts, and_parts, leb-true, le-leb}
+use Rattle.std.proofs.lemmas.Bool.{false≢true, cases_Bool, or_parts, leb-true, le-leb}
 use Rattle.std.proofs.lemmas.Bool.Decides.{nat_tests}
 use Rattle.std.proofs.lemmas.Option.{none-some}
 use Rattle.std.proofs.lemmas.List.Folds.{list_any-append}
@@ -54,12 +54,10 @@ module _ (signers : List Key) where
   Met t x y = is_true (one x y) (plain t) ≡ true
 
   all_two : (a b : Bool) → (a && (b && true)) ≡ true → (a ≡ true) × (b ≡ true)
-  all_two a b e = let p = and_parts a (b && true) e in (p.0, (and_parts b true p.1).0)
+  all_two a b e = grind arith
 
   any_two : (a b : Bool) → (a || (b || false)) ≡ true → (a ≡ true) ⊎ (b ≡ true)
-  any_two true b e = inl refl
-  any_two false true e = inr refl
-  any_two false false e = absurd (false≢true e)
+  any_two a b e = grind arith
 
   -- keys sign alike
   keys_alike : (x y : Bool) (keys : List Key) → truths (one x y) (policies_of (map policy.key keys)) ≡ truths every (policies_of (map policy.key keys))
@@ -67,25 +65,19 @@ module _ (signers : List Key) where
   keys_alike x y (key ∷ keys) = ap (λ bs. every.signs key ∷ bs) (keys_alike x y keys)
 
   more_true : (b c : Bool) (m n : ℕ) → (b ≡ true → c ≡ true) → m ≤ n → (if b then 1 else 0) + m ≤ (if c then 1 else 0) + n
-  more_true true true m n f h = omega arith
-  more_true true false m n f h = absurd (false≢true (f refl))
-  more_true false true m n f h = omega arith
-  more_true false false m n f h = omega arith
+  more_true b c m n f h = grind arith
 
   one_true : (b : Bool) (m : ℕ) → b ≡ true → 1 ≤ (if b then 1 else 0) + m
-  one_true b m e = rw e (omega arith)
+  one_true b m e = grind arith
 
   still_one : (b : Bool) (m : ℕ) → 1 ≤ m → 1 ≤ (if b then 1 else 0) + m
-  still_one true m h = omega arith
-  still_one false m h = omega (arith, h)
+  still_one b m h = grind arith
 
   of_others : (b : Bool) (m : ℕ) → b ≡ false → 1 ≤ (if b then 1 else 0) + m → 1 ≤ m
-  of_others true m e h = absurd (false≢true (sym e))
-  of_others false m e h = omega (arith, h)
+  of_others b m e h = grind arith
 
   used_own : (b : Bool) → Used (Some b) b (not b)
-  used_own true = refl
-  used_own false = refl
+  used_own b = grind arith
 
   -- so many children are met
   abbrev AsMany : Trees → Bool → Bool → Type 0
@@ -210,16 +202,13 @@ module _ (signers : List Key) where
         ]
 
 fits_wanted : (o : Option Bool) → Fits o (unwrap_or o false)
-fits_wanted None = tt
-fits_wanted (Some x) = refl
+fits_wanted o = grind arith
 
 sequence_fits : (x y : Bool) → (latest x y).sequence < 2 ^ 32
-sequence_fits true y = lit< tt
-sequence_fits false y = lit< tt
+sequence_fits x y = grind arith
 
 locktime_fits : (x y : Bool) → (latest x y).locktime < 2 ^ 32
-locktime_fits x true = lit< tt
-locktime_fits x false = lit< tt
+locktime_fits x y = grind arith
 
 pub one_transaction_meets : OneTransactionMeets
 one_transaction_meets tree signers writable sane e =

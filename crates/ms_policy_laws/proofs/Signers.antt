@@ -1,5 +1,5 @@
 -- How many of some keys assets sign with, and that there are so many signatures in order.
-use Rattle.std.proofs.Common.{◌≡◌, ℕ, zero, suc, ◌+◌, ◌≤◌, Bool, List, [], ◌∷◌, ◌++◌, length, map, reverse, Option, Some, None, refl, ◌∙◌, ap, inl, inr, arith}
+use Rattle.std.proofs.Common.{◌≡◌, ℕ, zero, suc, ◌+◌, ◌≤◌, Bool, List, [], ◌∷◌, ◌++◌, length, map, reverse, Option, Some, None, refl, ap, inl, inr, arith}
 use Rattle.std.specs.Option.{is_some}
 use Rattle.std.proofs.lemmas.List.{map-append, reverse-append}
 use Rattle.def_script.specs.Bytes.{Bytes}
@@ -13,7 +13,7 @@ use Rattle.def_policy.specs.Truth.{how_many}
 -- how many are true in two lists
 pub how_many-append : (a b : List Bool) → how_many (a ++ b) ≡ how_many a + how_many b
 how_many-append [] b = omega arith
-how_many-append (x ∷ a) b = let h = how_many-append a b in omega arith
+how_many-append (x ∷ a) b = omega (arith, how_many-append a b)
 
 module _ (assets : Assets) where
   -- whether there is a signature of a key
@@ -28,10 +28,8 @@ module _ (assets : Assets) where
   pub signers-reverse : (keys : List Key) → signers (reverse keys) ≡ signers keys
   signers-reverse [] = refl
   signers-reverse (key ∷ keys) =
-      let turned : reverse (key ∷ keys) ≡ reverse keys ++ key ∷ [] = reverse-append (key ∷ []) keys in
-      let split = how_many-append (map signs (reverse keys)) (signs key ∷ []) in
-      let rest = signers-reverse keys in
-      ap signers turned ∙ ap how_many (map-append signs (reverse keys) (key ∷ [])) ∙ omega arith
+      rw (reverse-append (key ∷ []) keys, map-append signs (reverse keys) (key ∷ []))
+      (omega (arith, how_many-append (map signs (reverse keys)) (signs key ∷ []), signers-reverse keys))
 
   -- so many signatures of keys, in their order
   pub record SomeSigs (keys : List Key) (n : ℕ) : Type 0 where
