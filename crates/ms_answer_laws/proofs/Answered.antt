@@ -1,10 +1,10 @@
 -- The answer, computed: a text is read by the machine that reads tokens one after the other.
-use Rattle.std.proofs.Common.{◌≡◌, ◌≤◌, inl, inr, Bool, true, false, nat_lt, if◌then◌else◌, List, [], Option, Some, None, All, map, length, refl, subst}
+use Rattle.std.proofs.Common.{◌≡◌, ◌≤◌, inl, inr, Bool, true, nat_lt, if◌then◌else◌, List, [], Option, Some, None, All, map, length, refl, subst, arith}
 use Rattle.std.specs.Prelude.{⊤}
 use Rattle.std.specs.Char.{is_ascii}
 use Rattle.std.specs.List.{list_all}
 use Rattle.std.specs.Str.{IsUtf8}
-use Rattle.std.proofs.lemmas.Bool.{ltb-true, ltb-false}
+use Rattle.std.proofs.lemmas.Bool.{ltb-true, ltb-false, cond_both}
 use Rattle.def_script.specs.Bytes.{Bytes}
 use Rattle.def_text.specs.declared.TextFault.TheVariants.{TooLong, Syntax, TooDeep}
 use Rattle.def_tree.specs.Tree.{Key, Tree}
@@ -47,12 +47,9 @@ short_reading text (syntax_outcome at) short reports = (short, reports)
 short_reading text (deep_outcome at) short reports = (short, reports)
 
 pub has_reading : (text : Bytes) → IsUtf8 text → HasReading text (reading_of text)
-has_reading text utf8 = go (nat_lt MOST_BYTES (length text)) refl
-  where
-    go : (b : Bool) → nat_lt MOST_BYTES (length text) ≡ b → HasReading text (if b then refused TooLong
-        else reading_by (outcome START (tokens text)))
-    go true e = ltb-true MOST_BYTES (length text) e
-    go false e = short_reading text (outcome START (tokens text)) (ltb-false MOST_BYTES (length text) e) (report text utf8)
+has_reading text utf8 =
+    cond_both (nat_lt MOST_BYTES (length text)) _ _ (HasReading text) (ltb-true MOST_BYTES (length text))
+    (λ e. short_reading text (outcome START (tokens text)) (ltb-false MOST_BYTES (length text) e) (report text utf8))
 
 -- ---- commands
 
@@ -62,12 +59,10 @@ OnText P (script rules text) = P text
 OnText P (check rules text) = P text
 OnText P (satisfy rules text) = P text
 OnText P (satisfy_malleable rules text) = P text
-OnText P run = ⊤
-OnText P (gen n) = ⊤
 OnText P (policy text) = P text
 OnText P (plan text) = P text
 OnText P (audit text) = P text
-OnText P (decode digits keys) = ⊤
+OnText P command = ⊤
 
 -- the reply to a Script
 abbrev pub decided_reply : Option Tree → Reply
@@ -150,18 +145,10 @@ are_ascii_words None = true
 are_ascii_words (Some command) = is_ascii_text command
 
 ascii_text : (command : Command) → is_ascii_text command ≡ true → OnText IsUtf8 command
-ascii_text (script rules text) ascii = ascii_is_utf8 text ascii
-ascii_text (check rules text) ascii = ascii_is_utf8 text ascii
-ascii_text (satisfy rules text) ascii = ascii_is_utf8 text ascii
-ascii_text (satisfy_malleable rules text) ascii = ascii_is_utf8 text ascii
-ascii_text (policy text) ascii = ascii_is_utf8 text ascii
-ascii_text (plan text) ascii = ascii_is_utf8 text ascii
-ascii_text (audit text) ascii = ascii_is_utf8 text ascii
-ascii_text command ascii = tt
+ascii_text command ascii = grind (arith, ascii_is_utf8)
 
 ascii_words : (o : Option Command) → are_ascii_words o ≡ true → OnWords IsUtf8 o
-ascii_words None ascii = tt
-ascii_words (Some command) ascii = ascii_text command ascii
+ascii_words o ascii = grind (arith, ascii_text)
 
 pub answered : {words : List Bytes} {source : Bytes} {status : Status} {report : Bytes} → are_ascii_words (command_of words) ≡ true
     → reply_to_words source (command_of words) ≡ reply status report → Answer words source status report

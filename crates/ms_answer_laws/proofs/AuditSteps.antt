@@ -1,7 +1,8 @@
 -- The steps of an audit: the walk finds them, and there are no others.
-use Rattle.std.proofs.Common.{◌≡◌, ℕ, Bool, true, false, if◌then◌else◌, List, [], Ok, Err, refl, sym, ◌∙◌, ap, subst, nat_lt, length}
+use Rattle.std.proofs.Common.{◌≡◌, inl, inr, ℕ, true, if◌then◌else◌, List, [], Ok, Err, refl, sym, ◌∙◌, ap, subst, nat_lt, length}
 use Rattle.std.specs.Prelude.{Result, unwrap_or}
 use Rattle.std.specs.Str.{bytes_eq}
+use Rattle.std.proofs.lemmas.Bool.{cases_Bool}
 use Rattle.std.proofs.lemmas.Slice.Eq.{bytes_eq-Decides}
 use Rattle.def_script.specs.Bytes.{Bytes}
 use Rattle.def_machine.specs.Stacks.{Pairs}
@@ -18,7 +19,7 @@ use Rattle.def_audit.specs.declared.Step.{Step}
 use Rattle.def_audit.specs.Derives.{Derives}
 use Rattle.ms_audit_laws.proofs.WalkTrees.{walk_is_trail, trail_is_unique, accepted_has_trail}
 use Rattle.def_answer.specs.declared.status.Status.TheVariants as status
-use Rattle.def_answer.specs.Lines.{wrong_script_line, file_too_long_line, file_line}
+use Rattle.def_answer.specs.Lines.{file_too_long_line, file_line}
 use Rattle.def_answer.specs.Reply.{reply, given_by, audited_reply, witness_reply, audit_reply, with_file, MOST_FILE}
 use Rattle.def_answer.specs.Answer.{AreSteps}
 use Rattle.ms_answer_laws.specs.Laws.{walked, steps_in, WalkedAreSteps}
@@ -44,15 +45,12 @@ one_outcome tree offsets given stack a b (refused fault place) is same = refl
 one_witness : (tree : Tree) (offsets : List ℕ) (file : RunFile) (a b : List Step)
     → ((ops peak : ℕ) (checks : Pairs) → run (given_by file) (script_of tree) file.stack ≡ accepted ops peak checks → a ≡ b)
     → witness_reply offsets a tree file ≡ witness_reply offsets b tree file
-one_witness tree offsets file a b same = go (bytes_eq file.script (script_of tree)) refl
-  where
-    go : (c : Bool) → bytes_eq file.script (script_of tree) ≡ c
-        → (if c then audited_reply offsets a (run (given_by file) file.script file.stack) else reply status.NotAccepted wrong_script_line)
-        ≡ (if c then audited_reply offsets b (run (given_by file) file.script file.stack) else reply status.NotAccepted wrong_script_line)
-    go true e =
-        let is = (bytes_eq-Decides file.script (script_of tree)).0 e in
-        one_outcome tree offsets (given_by file) file.stack a b (run (given_by file) file.script file.stack) (ap (λ s. run (given_by file) s file.stack) (sym is)) same
-    go false e = refl
+one_witness tree offsets file a b same = elim (cases_Bool (bytes_eq file.script (script_of tree))) [
+  | inl e ↦
+      let is = (bytes_eq-Decides file.script (script_of tree)).0 e in
+      rw (e, is) (one_outcome tree offsets (given_by file) file.stack a b (run (given_by file) (script_of tree) file.stack) refl same)
+  | inr e ↦ rw e refl
+]
 
 one_file : (offsets : List ℕ) (tree : Tree) (read : Result RunFile AssetFault) (a b : List Step)
     → ((file : RunFile) → read ≡ Ok file → witness_reply offsets a tree file ≡ witness_reply offsets b tree file)

@@ -15,7 +15,7 @@ use Rattle.def_script.specs.Item.{Item}
 use Rattle.def_script.specs.Item as item
 use Rattle.def_script.specs.Items.{items}
 use Rattle.def_script.specs.Laws.{item_of}
-use Rattle.def_tree.specs.Tree.{Key, Tree, Trees, just_0, just_1, pk_k, pk_h, older, after, hash, and_or, two, thresh, multi, wrap, none, more}
+use Rattle.def_tree.specs.Tree.{Key, Tree, Trees, pk_k, pk_h, older, after, hash, and_or, two, thresh, multi, wrap, none, more}
 use Rattle.def_tree.specs.Range.{IsKey, IsDigest, IsWritable, AreWritable, TEN_DIGITS, count}
 use Rattle.def_emit.specs.Emit.{emit, script_of}
 use Rattle.def_emit.proofs.Short.{items-script_of}
@@ -58,8 +58,6 @@ some_tell n = Decides-like _ (λ h. omega (arith, h)) (λ h. omega (arith, h)) (
 
 abbrev mutual
   pub writable : Tree → Bool
-  writable just_0 = true
-  writable just_1 = true
   writable (pk_k key) = is_key_bytes key
   writable (pk_h key) = is_key_bytes key
   writable (older n) = nat_lt n TEN_DIGITS
@@ -70,6 +68,7 @@ abbrev mutual
   writable (thresh k xs) = nat_lt k TEN_DIGITS && nat_lt 0 (count xs) && writable_each xs
   writable (multi k keys) = nat_lt k TEN_DIGITS && nat_lt 0 (length keys) && list_all is_key_bytes keys
   writable (wrap wrapper x) = writable x
+  writable leaf = true
 
   pub writable_each : Trees → Bool
   writable_each none = true
@@ -81,8 +80,6 @@ all_three a b c p q r = Decides-like _ (λ h. (h.0.0, h.0.1, h.1)) (λ h. ((h.0,
 
 mutual
   writable_tells : (t : Tree) → Decides (writable t) (IsWritable t)
-  writable_tells just_0 = (λ e. tt, λ h. refl)
-  writable_tells just_1 = (λ e. tt, λ h. refl)
   writable_tells (pk_k key) = key_tells key
   writable_tells (pk_h key) = key_tells key
   writable_tells (older n) = Decides-ltb n TEN_DIGITS
@@ -93,6 +90,7 @@ mutual
   writable_tells (thresh k xs) = all_three _ _ _ (Decides-ltb k TEN_DIGITS) (some_tell (count xs)) (writable_each_tells xs)
   writable_tells (multi k keys) = all_three _ _ _ (Decides-ltb k TEN_DIGITS) (some_tell (length keys)) (keys_tell keys)
   writable_tells (wrap wrapper x) = writable_tells x
+  writable_tells leaf = (λ e. tt, λ h. refl)
 
   writable_each_tells : (ts : Trees) → Decides (writable_each ts) (AreWritable ts)
   writable_each_tells none = (λ e. tt, λ h. refl)
@@ -137,8 +135,7 @@ mutual
 -- ---- readings
 
 pub none_tells : {A : Type 0} (o : Option A) → Decides (is_none o) (o ≡ None)
-none_tells None = (λ e. refl, λ h. refl)
-none_tells (Some x) = (λ e. cc e, λ h. cc h)
+none_tells o = grind arith
 
 abbrev pub is_reading : List Key → Bytes → Tree → Bool
 is_reading keys script t = (is_none (first_unfit_valid t) && writable t) && (each_listed keys t && bytes_eq (script_of t) script)
@@ -185,12 +182,10 @@ unfoldable pub decided : List Key → Bytes → Option Tree
 decided keys script = if_reading keys script (found_in keys script)
 
 some_true : {A : Type 0} (b : Bool) (x y : A) → (if b then Some x else None) ≡ Some y → (b ≡ true) × (x ≡ y)
-some_true true x y e = (refl, cc e)
-some_true false x y e = cc e
+some_true b x y e = grind arith
 
 none_false : {A : Type 0} (b : Bool) (x : A) → (if b then Some x else None) ≡ None → b ≡ false
-none_false true x e = cc e
-none_false false x e = refl
+none_false b x e = grind arith
 
 pub decided_is : (keys : List Key) (script : Bytes) (t : Tree) → All IsKey keys → decided keys script ≡ Some t → IsDecoded keys script t
 unfolding decided

@@ -1,5 +1,5 @@
 -- The statuses of answers.
-use Rattle.std.proofs.Common.{◌≡◌, inl, inr, ℕ, Bool, true, false, nat_lt, if◌then◌else◌, List, Option, Some, None, Result, Ok, Err, length, refl, sym, subst}
+use Rattle.std.proofs.Common.{◌≡◌, inl, inr, ℕ, Bool, true, false, nat_lt, if◌then◌else◌, List, Option, Some, None, Result, Ok, Err, length, refl, sym, subst, arith}
 use Rattle.std.proofs.lemmas.Bool.{lt-ltb}
 use Rattle.std.specs.Str.{bytes_eq}
 use Rattle.def_script.specs.Bytes.{Bytes}
@@ -128,9 +128,7 @@ module _ (ws : List Bytes) where
   words_status source r (inr h) = subst (OfStatus StatusOf) (sym h.1) tt
 
   is_answered : (s : Status) → StatusOf s → IsAnswered s
-  is_answered status.NoReading h = tt
-  is_answered status.NotAccepted h = tt
-  is_answered s h = h
+  is_answered s h = grind arith
 
 pub answers_have_status : AnswersHaveStatus
 answers_have_status ws source s p h = is_answered ws s (words_status ws source (reply s p) h.replies)

@@ -1,10 +1,10 @@
 -- The command of some words, found.
-use Rattle.std.proofs.Common.{◌≡◌, ℕ, zero, suc, ◌+◌, ◌-◌, ◌%◌, ◌==◌, ◌≤◌, ◌<◌, length, is_some, IsSome, Bool, true, false, ◌&&◌, nat_eq, if◌then◌else◌, List, [], ◌∷◌, Option, Some, None, codes, decimal, find, option_map, refl, sym, ap, subst, ◌∙◌, arith, slice_index_or}
+use Rattle.std.proofs.Common.{◌≡◌, inl, inr, ℕ, zero, suc, ◌+◌, ◌-◌, ◌%◌, ◌==◌, ◌≤◌, ◌<◌, length, is_some, IsSome, Bool, true, false, ◌&&◌, nat_eq, if◌then◌else◌, List, [], ◌∷◌, Option, Some, None, codes, decimal, find, option_map, refl, sym, ap, subst, ◌∙◌, arith, slice_index_or}
 use Rattle.std.specs.Bool.{Decides}
 use Rattle.std.specs.List.{list_all, range_with_len}
 use Rattle.std.specs.Fmt.{digits}
 use Rattle.std.specs.Str.{bytes_eq}
-use Rattle.std.proofs.lemmas.Bool.{eqb-true, and_parts}
+use Rattle.std.proofs.lemmas.Bool.{eqb-true, and_parts, cases_Bool}
 use Rattle.std.proofs.lemmas.Bool.Decides.{Decides-and, Decides-eqb, Decides-by_and}
 use Rattle.std.proofs.lemmas.List.Sums.{AllPass-from_list_all, list_all-from_AllPass}
 use Rattle.hex.specs.Hex.{is_hex_digit}
@@ -99,19 +99,12 @@ children_found n some few =
 
 pub command_found : (command : Command) → IsCommand command → command_of (words_of command) ≡ Some command
 command_found (script Policy text) h = refl
-command_found (script Consensus text) h = refl
 command_found (check Policy text) h = refl
-command_found (check Consensus text) h = refl
 command_found (satisfy Policy text) h = refl
-command_found (satisfy Consensus text) h = refl
 command_found (satisfy_malleable Policy text) h = refl
-command_found (satisfy_malleable Consensus text) h = refl
-command_found run h = refl
 command_found (gen n) h = ap (option_map gen) (children_found n h.0 h.1)
-command_found (policy text) h = refl
-command_found (plan text) h = refl
-command_found (audit text) h = refl
 command_found (decode digits keys) h = rw ((script_and_keys_tell digits keys).1 h)
+command_found command h = refl
 
 -- ---- and its words are those
 
@@ -122,8 +115,7 @@ is_word word wanted e = (bytes_eq-Decides word wanted).0 e
 -- a command that is found in one branch or the other
 branch : (words : List Bytes) (c : Command) (b : Bool) (x y : Option Command) → (b ≡ true → x ≡ Some c → IsForm words c) → (y ≡ Some c → IsForm words c)
     → (if b then x else y) ≡ Some c → IsForm words c
-branch words c true x y here there e = here refl e
-branch words c false x y here there e = there e
+branch words c b x y here there e = grind arith
 
 -- a command that is found by its first word
 named : (first name : Bytes) (words : List Bytes) (d c : Command) → name ∷ words ≡ words_of d → IsCommand d → bytes_eq first name ≡ true
@@ -135,12 +127,10 @@ named first name words d c same in_range is e =
 -- what is found in a range is in it, and passes
 found_in : (p : ℕ → Bool) (a count n : ℕ) → find p (range_with_len a count) ≡ Some n → (p n ≡ true) × (a ≤ n) × (n < a + count)
 found_in p a zero n e = cc e
-found_in p a (suc count) n e = go (p a) refl (found_in p (a + 1) count n) e
-  where
-    go : (b : Bool) → p a ≡ b → (find p (range_with_len (a + 1) count) ≡ Some n → (p n ≡ true) × (a + 1 ≤ n) × (n < a + 1 + count))
-        → (if b then Some a else find p (range_with_len (a + 1) count)) ≡ Some n → (p n ≡ true) × (a ≤ n) × (n < a + suc count)
-    go true q rest e = let same : a ≡ n = cc e in (subst (λ m. p m ≡ true) same q, omega arith, omega arith)
-    go false q rest e = let found = rest e in (found.0, omega arith, omega arith)
+found_in p a (suc count) n e = elim (cases_Bool (p a)) [
+  | inl q ↦ let same : a ≡ n = cc (rw q at e) in (rw same at q, omega arith, omega arith)
+  | inr q ↦ let found = found_in p (a + 1) count n (rw q at e) in (found.0, omega arith, omega arith)
+]
 
 children_is : (word : Bytes) (n : ℕ) → children_of word ≡ Some n → (word ≡ decimal n) × (1 ≤ n) × (n ≤ 30)
 unfolding children_of

@@ -1,9 +1,8 @@
 -- The generated trees are sane.
-use Rattle.std.proofs.Common.{◌≡◌, ℕ, zero, suc, ◌+◌, ◌%◌, ◌≤◌, Bool, true, false, ◌&&◌, ◌==◌, nat_le, is_none, if◌then◌else◌, Option, Some, None, Result, Ok, Err, length, refl, ap, arith}
+use Rattle.std.proofs.Common.{◌≡◌, ℕ, zero, suc, ◌+◌, ◌≤◌, Bool, true, false, ◌&&◌, nat_le, is_none, Option, Some, None, Result, Ok, Err, length, refl, ap, arith}
 use Rattle.std.specs.Prelude.{⊤}
 use Rattle.std.proofs.lemmas.Bool.{leb-true, le-ltb, and_parts}
-use Rattle.def_tree.specs.declared.Wrapper.TheVariants.{S}
-use Rattle.def_tree.specs.Tree.{Tree, Trees, wrap, none, more}
+use Rattle.def_tree.specs.Tree.{Tree, Trees, none, more}
 use Rattle.def_tree.specs.Range.{count}
 use Rattle.def_types.specs.declared.Ty.{Ty}
 use Rattle.def_types.specs.declared.Mall.{Mall}
@@ -18,7 +17,7 @@ use Rattle.def_sane.specs.Keys.{repeated_key}
 use Rattle.def_sane.specs.Limits.{limits_of}
 use Rattle.def_sane.specs.Scaffolding.Most.{both, either, most_sat, most_dsat, most_parts, number_of}
 use Rattle.def_sane.specs.Unfit.{broken_rule, wrong_top, malleable, no_signature, mixed_locks, repeated, IsValid, IsSane}
-use Rattle.def_answer.specs.Generated.{threshold_of, pk_child, hash_child, child, generated_children, generated_tree}
+use Rattle.def_answer.specs.Generated.{threshold_of, child, generated_children, generated_tree}
 use Rattle.ms_answer_laws.specs.Laws.{GeneratedIsSane}
 use Rattle.ms_answer_laws.proofs.Decided.{none_tells}
 use Rattle.ms_answer_laws.proofs.Computing.{answers_on_literals}
@@ -36,12 +35,7 @@ record IsSmall (x : Tree) : Type 0 where
   dsat : TakesSome 1 (most_dsat x)
 
 child_is_small : (i : ℕ) → IsSmall (child i)
-child_is_small i = go (i == 0) (i % 3 == 0)
-  where
-    go : (a b : Bool) → IsSmall (if a then pk_child i else if b then hash_child i else wrap S (pk_child i))
-    go true b = record { sat = (refl, refl); dsat = (refl, refl) }
-    go false true = record { sat = (refl, refl); dsat = (refl, refl) }
-    go false false = record { sat = (refl, refl); dsat = (refl, refl) }
+child_is_small i = grind arith
 
 abbrev AreSmall : Trees → Type 0
 AreSmall none = ⊤
@@ -52,16 +46,10 @@ children_are_small zero i = tt
 children_are_small (suc n) i = (child_is_small i, children_are_small n (i + 1))
 
 both_take : (m k : ℕ) (a b : Option Takes) → TakesSome m a → TakesSome k b → TakesSome (m + k) (both a b)
-both_take m k None b h l = tt
-both_take m k (Some a) None h l = tt
-both_take m k (Some a) (Some b) h l =
-    let left = h in let right = l in (omega (arith, left.0, right.0), omega (arith, left.1, right.1))
+both_take m k a b h l = grind arith
 
 either_takes : (m : ℕ) (a b : Option Takes) → TakesSome m a → TakesSome m b → TakesSome m (either a b)
-either_takes m None b h l = l
-either_takes m (Some a) None h l = h
-either_takes m (Some a) (Some b) h l =
-    let left = h in let right = l in (omega (arith, left.0, right.0), omega (arith, left.1, right.1))
+either_takes m a b h l = grind arith
 
 parts_take : (xs : Trees) (k : ℕ) → AreSmall xs → TakesSome (count xs) (most_parts xs k)
 parts_take none zero h = (refl, refl)
@@ -109,17 +97,14 @@ fit_30 = ((((((((((fit_20, refl), refl), refl), refl), refl), refl), refl), refl
 -- ---- no reason stands against it
 
 no_broken_rule : (r : Result Ty RuleAt) → type_fits r ≡ true → (broken_rule r ≡ None) × (wrong_top r ≡ None)
-no_broken_rule (Ok ty) e = (refl, rw e)
-no_broken_rule (Err at) e = cc e
+no_broken_rule r e = grind arith
 
 not_malleable : (r : Result Mall RuleAt) → mall_fits r ≡ true → (malleable r ≡ None) × (no_signature r ≡ None)
-not_malleable (Ok m) e = (refl, rw e)
-not_malleable (Err at) e = cc e
+not_malleable r e = grind arith
 
 few_items : (m : ℕ) (o : Option Takes) → TakesSome m o → m ≤ 100 → (number_of (λ t. t.items) o ≤ 100)
     × (number_of (λ t. t.keys) o ≡ 0)
-few_items m None h few = (omega arith, refl)
-few_items m (Some t) h few = let takes = h in (omega (arith, takes.0), takes.1)
+few_items m o h few = grind arith
 
 sane_tree : (tree : Tree) (m : ℕ) → fits tree ≡ true → TakesSome m (most_sat tree) → m ≤ 100 → IsSane tree
 sane_tree tree m e takes few =

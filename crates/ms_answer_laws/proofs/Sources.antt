@@ -1,5 +1,5 @@
 -- What needs the source, and what comes without it.
-use Rattle.std.proofs.Common.{◌≡◌, inl, inr, ℕ, ◌<◌, Bool, true, false, List, length, Option, Some, None, All, refl, sym, ap, subst, ◌∙◌}
+use Rattle.std.proofs.Common.{◌≡◌, inl, inr, ℕ, ◌<◌, Bool, true, false, List, length, Option, Some, None, All, refl, sym, ap, subst, ◌∙◌, arith}
 use Rattle.std.specs.Prelude.{is_none}
 use Rattle.std.specs.Char.{is_ascii}
 use Rattle.std.specs.List.{list_all}
@@ -30,8 +30,7 @@ use Rattle.ms_answer_laws.proofs.Unique.{one_form, one_reading, text_of_form}
 
 same_refusal : (reason : Option Unfit) (offsets : List ℕ) (f g : Reply) → ¬ (reason ≡ None) →
     unless_unfit reason offsets f ≡ unless_unfit reason offsets g
-same_refusal None offsets f g some = absurd (some refl)
-same_refusal (Some unfit) offsets f g some = refl
+same_refusal reason offsets f g some = grind arith
 
 same_without : (text : Bytes) (reason : Tree → Option Unfit) (f g : Tree → Reply) (r : Reading) → ¬ Passes reason text →
     HasReading text r → text_reply reason f r ≡ text_reply reason g r
