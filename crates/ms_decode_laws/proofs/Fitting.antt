@@ -81,34 +81,16 @@ as_side find t w s = record {
 
 -- of a node that fits, a child that is typed and nested does
 wrapped_fits : (find : Bytes → Option Key) (w : Wrapper) (x : Tree) → Fit find (wrap w x) → IsTyped x → RightNested x → Fit find x
-wrapped_fits find w x h typed nested = record {
-  typed = typed;
-  nested = nested;
-  writable = h.writable;
-  found = h.found;
-  deep = omega (arith, h.deep);
-  large = omega (arith, h.large);
-}
+wrapped_fits find w x h typed nested =
+    record { typed = typed; nested = nested; writable = h.writable; found = h.found; deep = omega (arith, h.deep); large = omega (arith, h.large) }
 
 first_fits : (find : Bytes → Option Key) (b : Two) (x y : Tree) → Fit find (two b x y) → IsTyped x → RightNested x → Fit find x
-first_fits find b x y h typed nested = record {
-  typed = typed;
-  nested = nested;
-  writable = h.writable.0;
-  found = h.found.0;
-  deep = omega (arith, h.deep);
-  large = omega (arith, h.large);
-}
+first_fits find b x y h typed nested =
+    record { typed = typed; nested = nested; writable = h.writable.0; found = h.found.0; deep = omega (arith, h.deep); large = omega (arith, h.large) }
 
 second_fits : (find : Bytes → Option Key) (b : Two) (x y : Tree) → Fit find (two b x y) → IsTyped y → RightNested y → Fit find y
-second_fits find b x y h typed nested = record {
-  typed = typed;
-  nested = nested;
-  writable = h.writable.1;
-  found = h.found.1;
-  deep = omega (arith, h.deep);
-  large = omega (arith, h.large);
-}
+second_fits find b x y h typed nested =
+    record { typed = typed; nested = nested; writable = h.writable.1; found = h.found.1; deep = omega (arith, h.deep); large = omega (arith, h.large) }
 
 module _ (find : Bytes → Option Key) where
   fit : (t : Tree) → Fit find t → fits t ≡ true
