@@ -6,7 +6,7 @@ use Rattle.std.specs.Str.{bytes_eq}
 use Rattle.std.proofs.Math.Seq.{take-append_seam}
 use Rattle.std.proofs.lemmas.List.{length-append}
 use Rattle.std.proofs.lemmas.List.Folds.{list_any-append}
-use Rattle.std.proofs.lemmas.Slice.Eq.{bytes_eq-Decides}
+use Rattle.std.proofs.lemmas.Cmp.{nat_list_eq_equiv}
 use Rattle.def_script.specs.Bytes.{Bytes}
 use Rattle.def_machine.specs.Stacks.{Pairs}
 use Rattle.def_assets.specs.Assets.{same_key, same_pair}
@@ -63,13 +63,7 @@ module _ {A : Type 0} (same : A → A → Bool) (symm : (x y : A) → same x y �
 -- ---- byte strings and pairs
 
 bytes_symm : (a b : Bytes) → bytes_eq a b ≡ bytes_eq b a
-bytes_symm a b = go (bytes_eq a b) (bytes_eq b a) refl refl
-  where
-    go : (c d : Bool) → bytes_eq a b ≡ c → bytes_eq b a ≡ d → c ≡ d
-    go true true p q = refl
-    go true false p q = sym ((bytes_eq-Decides b a).1 (sym ((bytes_eq-Decides a b).0 p))) ∙ q
-    go false true p q = sym p ∙ (bytes_eq-Decides a b).1 (sym ((bytes_eq-Decides b a).0 q))
-    go false false p q = refl
+bytes_symm = nat_list_eq_equiv.symm
 
 key_symm : (these those : Bytes × Bytes) → same_key these those ≡ same_key those these
 key_symm these those = bytes_symm these.0 those.0
