@@ -1,6 +1,7 @@
 -- A Script number that was spelled is read back.
 use Rattle.std.proofs.Common.{◌≡◌, ℕ, zero, suc, ◌+◌, ◌*◌, ◌/◌, ◌%◌, ◌^◌, ◌<◌, ◌≤◌, ◌⊎◌, nat_lt, nat_le, ◌==◌, not, Bool, true, false, ℤ, pos, negsuc, neg_ℤ, [], ◌∷◌, length, Ok, inl, inr, arith, refl, sym, ◌∙◌, ap, lit≤, if◌then◌else◌}
-use Rattle.std.proofs.lemmas.Bool.{cases_Bool, cases_lt, le-ltb, lt-ltb, ltb-true, ltb-false, le-leb, lt-leb, leb-true, leb-false, eqb-false, ne_eqb, or_cases, or_left, or_right, not-true, not_from_false}
+use Rattle.std.proofs.lemmas.Bool.{cases_Bool, cases_lt, le-ltb, lt-ltb, ltb-true, ltb-false, le-leb, leb-true, leb-false, eqb-false, ne_eqb, or_cases, or_left, or_right, not-true, not_from_false}
+use Rattle.std.proofs.lemmas.Bool.Decides.{nat_tests}
 use Rattle.def_script.specs.Bytes.{Bytes, IsBytes}
 use Rattle.def_script.specs.Numbers.{sign_bit, signed_bytes, number_bytes}
 use Rattle.def_script.specs.Decode.{magnitude, is_negative, is_minimal, number, num_decode, truth, is_nonzero}
@@ -8,25 +9,20 @@ use Rattle.def_script.specs.Laws.{NumberIsReadBack, NumberHasOneSpelling, Nonzer
 
 -- a byte before others
 magnitude-more : (b : ℕ) (bytes : Bytes) → 1 ≤ length bytes → magnitude (b ∷ bytes) ≡ b + 256 * magnitude bytes
-magnitude-more b [] some = absurd (omega arith)
-magnitude-more b (c ∷ bytes) some = refl
+magnitude-more b bytes some = grind arith
 
 is_negative-more : (b : ℕ) (bytes : Bytes) → 1 ≤ length bytes → is_negative (b ∷ bytes) ≡ is_negative bytes
-is_negative-more b [] some = absurd (omega arith)
-is_negative-more b (c ∷ bytes) some = refl
+is_negative-more b bytes some = grind arith
 
 is_minimal-more : (b c : ℕ) (bytes : Bytes) → 1 ≤ length bytes → is_minimal (b ∷ c ∷ bytes) ≡ is_minimal (c ∷ bytes)
-is_minimal-more b c [] some = absurd (omega arith)
-is_minimal-more b c (d ∷ bytes) some = refl
+is_minimal-more b c bytes some = grind arith
 
 -- a last byte
 last-magnitude : (negative : Bool) (n : ℕ) → n < 128 → (n + sign_bit negative) % 128 ≡ n
-last-magnitude true n low = omega arith
-last-magnitude false n low = omega arith
+last-magnitude negative n low = grind arith
 
 last-sign : (negative : Bool) (n : ℕ) → n < 128 → nat_le 128 (n + sign_bit negative) ≡ negative
-last-sign true n low = le-leb _ _ (omega arith)
-last-sign false n low = lt-leb _ _ (omega arith)
+last-sign negative n low = grind (arith, nat_tests)
 
 -- what is left over has room in one byte fewer
 rest-fits : (room n : ℕ) → n < 128 * 256 ^ suc room → n / 256 < 128 * 256 ^ room
@@ -35,20 +31,11 @@ rest-fits room n low =
     omega arith
 
 signed_bytes-some : (room : ℕ) (negative : Bool) (n : ℕ) → 1 ≤ length (signed_bytes (suc room) negative n)
-signed_bytes-some room negative n =
-    elim (cases_Bool (nat_lt n 128)) [
-      | inl last ↦ rw last (lit≤ tt)
-      | inr more ↦ rw more (omega arith)
-    ]
+signed_bytes-some room negative n = grind arith
 
 length-signed_bytes : (most : ℕ) (negative : Bool) (n : ℕ) → length (signed_bytes most negative n) ≤ most
 length-signed_bytes zero negative n = lit≤ tt
-length-signed_bytes (suc most) negative n =
-    let rest = length-signed_bytes most negative (n / 256) in
-    elim (cases_Bool (nat_lt n 128)) [
-      | inl last ↦ rw last (omega arith)
-      | inr more ↦ rw more (omega arith)
-    ]
+length-signed_bytes (suc most) negative n = grind (arith, length-signed_bytes most negative)
 
 magnitude-signed_bytes : (room : ℕ) (negative : Bool) (n : ℕ) → n < 128 * 256 ^ room → magnitude (signed_bytes (suc room) negative n) ≡ n
 magnitude-signed_bytes zero negative n low =
@@ -176,8 +163,7 @@ magnitude-some b (c ∷ bytes) minimal = elim (rest-matters b c bytes minimal) [
 
 number_bytes-signed : (negative : Bool) (n : ℕ) → 0 < n → number_bytes (if negative then neg_ℤ (pos n) else pos n) ≡ signed_bytes 5 negative n
 number_bytes-signed negative zero some = absurd (omega arith)
-number_bytes-signed true (suc n) some = refl
-number_bytes-signed false (suc n) some = refl
+number_bytes-signed negative (suc n) some = grind arith
 
 number-spelled : (bytes : Bytes) → length bytes ≤ 5 → IsBytes bytes → is_minimal bytes ≡ true → number_bytes (number bytes) ≡ bytes
 number-spelled [] room are minimal = refl
@@ -221,8 +207,7 @@ truth-minimal b (c ∷ d ∷ bytes) minimal = or_right (not (b == 0)) (truth (c 
 
 is_nonzero-signed : (negative : Bool) (n : ℕ) → 0 < n → is_nonzero (if negative then neg_ℤ (pos n) else pos n) ≡ true
 is_nonzero-signed negative zero some = absurd (omega arith)
-is_nonzero-signed true (suc n) some = refl
-is_nonzero-signed false (suc n) some = refl
+is_nonzero-signed negative (suc n) some = grind arith
 
 truth-number : (bytes : Bytes) → is_minimal bytes ≡ true → truth bytes ≡ is_nonzero (number bytes)
 truth-number [] minimal = refl

@@ -1,5 +1,5 @@
 -- A CompactSize that was spelled is read back.
-use Rattle.std.proofs.Common.{◌≡◌, ℕ, zero, suc, ◌+◌, ◌^◌, ◌<◌, ◌≤◌, nat_lt, ◌==◌, true, false, List, [], ◌∷◌, ◌++◌, length, drop, Ok, inl, inr, arith, refl, sym, subst, ap}
+use Rattle.std.proofs.Common.{◌≡◌, ℕ, zero, suc, ◌+◌, ◌^◌, ◌<◌, ◌≤◌, nat_lt, ◌==◌, true, false, List, [], ◌∷◌, ◌++◌, length, drop, take, Ok, inl, inr, arith, refl, sym, subst, ap}
 use Rattle.std.proofs.lemmas.Bool.{cases_Bool, ltb-false, eqb-true, eqb-false, lt-ltb, le-ltb}
 use Rattle.def_script.specs.Bytes.{Bytes, IsBytes}
 use Rattle.std.proofs.lemmas.Nat.{from_le_bytes-to_le_bytes_2, from_le_bytes-to_le_bytes_4, from_le_bytes-to_le_bytes_8, le_bytes_2, le_bytes_4, le_bytes_8}
@@ -45,18 +45,17 @@ read_wide-reads width least rest read e =
       ]
     ]
 
-no_bytes : IsBytes []
-no_bytes i = omega arith
-
-more_bytes : (b : ℕ) (bytes : Bytes) → b < 256 → IsBytes bytes → IsBytes (b ∷ bytes)
-more_bytes b bytes low rest zero = low
-more_bytes b bytes low rest (suc i) = rest i
+front_bytes : (n : ℕ) (bytes : Bytes) → IsBytes bytes → IsBytes (take n bytes)
+front_bytes zero bytes are i = omega arith
+front_bytes (suc n) [] are i = omega arith
+front_bytes (suc n) (b ∷ bytes) are zero = are 0
+front_bytes (suc n) (b ∷ bytes) are (suc i) = front_bytes n bytes (λ k. are (suc k)) i
 
 wide_2-spelling : (rest : Bytes) (read : ℕ × ℕ) → IsBytes rest → read_wide w16 0xfd rest ≡ Ok read → (0xfd ∷ rest) ≡ size_bytes read.0 ++ drop read.1 (0xfd ∷ rest)
 unfolding size_bytes
 wide_2-spelling (a ∷ b ∷ tail) read bytes e =
     let reads = read_wide-reads w16 0xfd (a ∷ b ∷ tail) read e in
-    let spelled : to_le_bytes w16 (from_le_bytes w16 (a ∷ b ∷ [])) ≡ a ∷ b ∷ [] = le_bytes_2 (a ∷ b ∷ []) _ refl (more_bytes a (b ∷ []) (bytes 0) (more_bytes b [] (bytes 1) no_bytes)) refl in
+    let spelled : to_le_bytes w16 (from_le_bytes w16 (a ∷ b ∷ [])) ≡ a ∷ b ∷ [] = le_bytes_2 (a ∷ b ∷ []) _ refl (front_bytes 2 (a ∷ b ∷ tail) bytes) refl in
     let bounds : (a < 256) × (b < 256) = (bytes 0, bytes 1) in
     let over_0 : nat_lt (from_le_bytes w16 (a ∷ b ∷ [])) 0xfd ≡ false = le-ltb _ _ (omega arith) in
     let within : nat_lt (from_le_bytes w16 (a ∷ b ∷ [])) (2 ^ 16) ≡ true = lt-ltb _ _ (omega arith) in
@@ -68,9 +67,8 @@ wide_4-spelling : (rest : Bytes) (read : ℕ × ℕ) → IsBytes rest → read_w
 unfolding size_bytes
 wide_4-spelling (a ∷ b ∷ c ∷ d ∷ tail) read bytes e =
     let reads = read_wide-reads w32 (2 ^ 16) (a ∷ b ∷ c ∷ d ∷ tail) read e in
-    let spelled : to_le_bytes w32 (from_le_bytes w32 (a ∷ b ∷ c ∷ d ∷ [])) ≡ a ∷ b ∷ c ∷ d
-    ∷ [] = le_bytes_4 (a ∷ b ∷ c ∷ d ∷ []) _ refl (more_bytes a (b ∷ c ∷ d ∷ []) (bytes 0)
-    (more_bytes b (c ∷ d ∷ []) (bytes 1) (more_bytes c (d ∷ []) (bytes 2) (more_bytes d [] (bytes 3) no_bytes)))) refl in
+    let spelled : to_le_bytes w32 (from_le_bytes w32 (a ∷ b ∷ c ∷ d ∷ [])) ≡ a ∷ b ∷ c ∷ d ∷ [] =
+    le_bytes_4 (a ∷ b ∷ c ∷ d ∷ []) _ refl (front_bytes 4 (a ∷ b ∷ c ∷ d ∷ tail) bytes) refl in
     let bounds : (a < 256) × (b < 256) × (c < 256) × (d < 256) = (bytes 0, bytes 1, bytes 2, bytes 3) in
     let over_0 : nat_lt (from_le_bytes w32 (a ∷ b ∷ c ∷ d ∷ [])) 0xfd ≡ false = le-ltb _ _ (omega arith) in
     let over_1 : nat_lt (from_le_bytes w32 (a ∷ b ∷ c ∷ d ∷ [])) (2 ^ 16) ≡ false = le-ltb _ _ (omega arith) in
@@ -83,13 +81,8 @@ wide_8-spelling : (rest : Bytes) (read : ℕ × ℕ) → IsBytes rest → read_w
 unfolding size_bytes
 wide_8-spelling (b0 ∷ b1 ∷ b2 ∷ b3 ∷ b4 ∷ b5 ∷ b6 ∷ b7 ∷ tail) read bytes e =
     let reads = read_wide-reads w64 (2 ^ 32) (b0 ∷ b1 ∷ b2 ∷ b3 ∷ b4 ∷ b5 ∷ b6 ∷ b7 ∷ tail) read e in
-    let spelled : to_le_bytes w64 (from_le_bytes w64 (b0 ∷ b1 ∷ b2 ∷ b3 ∷ b4 ∷ b5 ∷ b6 ∷ b7 ∷ [])) ≡ b0 ∷ b1 ∷ b2 ∷ b3 ∷ b4 ∷ b5 ∷ b6 ∷ b7
-    ∷ [] = le_bytes_8 (b0 ∷ b1 ∷ b2 ∷ b3 ∷ b4 ∷ b5 ∷ b6 ∷ b7 ∷ []) _ refl
-    (more_bytes b0 (b1 ∷ b2 ∷ b3 ∷ b4 ∷ b5 ∷ b6 ∷ b7 ∷ []) (bytes 0)
-    (more_bytes b1 (b2 ∷ b3 ∷ b4 ∷ b5 ∷ b6 ∷ b7 ∷ []) (bytes 1)
-    (more_bytes b2 (b3 ∷ b4 ∷ b5 ∷ b6 ∷ b7 ∷ []) (bytes 2)
-    (more_bytes b3 (b4 ∷ b5 ∷ b6 ∷ b7 ∷ []) (bytes 3) (more_bytes b4 (b5 ∷ b6 ∷ b7 ∷ []) (bytes 4)
-    (more_bytes b5 (b6 ∷ b7 ∷ []) (bytes 5) (more_bytes b6 (b7 ∷ []) (bytes 6) (more_bytes b7 [] (bytes 7) no_bytes)))))))) refl in
+    let spelled : to_le_bytes w64 (from_le_bytes w64 (b0 ∷ b1 ∷ b2 ∷ b3 ∷ b4 ∷ b5 ∷ b6 ∷ b7 ∷ [])) ≡ b0 ∷ b1 ∷ b2 ∷ b3 ∷ b4 ∷ b5 ∷ b6 ∷ b7 ∷ [] =
+    le_bytes_8 (b0 ∷ b1 ∷ b2 ∷ b3 ∷ b4 ∷ b5 ∷ b6 ∷ b7 ∷ []) _ refl (front_bytes 8 (b0 ∷ b1 ∷ b2 ∷ b3 ∷ b4 ∷ b5 ∷ b6 ∷ b7 ∷ tail) bytes) refl in
     let bounds : (b0 < 256) × (b1 < 256) × (b2 < 256) × (b3 < 256) × (b4 < 256) × (b5 < 256) × (b6 < 256) × (b7 < 256) = (bytes 0, bytes 1, bytes 2, bytes 3, bytes 4, bytes 5, bytes 6, bytes 7) in
     let over_0 : nat_lt (from_le_bytes w64 (b0 ∷ b1 ∷ b2 ∷ b3 ∷ b4 ∷ b5 ∷ b6 ∷ b7 ∷ [])) 0xfd ≡ false = le-ltb _ _ (omega arith) in
     let over_1 : nat_lt (from_le_bytes w64 (b0 ∷ b1 ∷ b2 ∷ b3 ∷ b4 ∷ b5 ∷ b6 ∷ b7 ∷ [])) (2 ^ 16) ≡ false = le-ltb _ _ (omega arith) in
