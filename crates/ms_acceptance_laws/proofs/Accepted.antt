@@ -1,5 +1,5 @@
 -- The interpreter accepts the canonical satisfactions of a valid miniscript; and what it accepts are satisfactions.
-use Rattle.std.proofs.Common.{◌≡◌, ℕ, ◌+◌, ◌^◌, ◌<◌, ◌≤◌, nat_le, Bool, true, false, List, [], ◌∷◌, ◌++◌, length, reverse, All, Ok, refl, sym, ◌∙◌, ap, subst, ◌⊎◌, inl, inr, arith}
+use Rattle.std.proofs.Common.{◌≡◌, ℕ, ◌+◌, ◌^◌, ◌<◌, ◌≤◌, nat_le, IsTrue, Bool, true, false, List, [], ◌∷◌, ◌++◌, length, reverse, All, Ok, refl, sym, ◌∙◌, ap, subst, ◌⊎◌, inl, inr, arith}
 use Rattle.std.specs.List.{list_all}
 use Rattle.std.proofs.lemmas.Bool.{leb-true, false≢true, and_parts, cases_Bool}
 use Rattle.std.proofs.lemmas.List.{append-nil, reverse-reverse, length-reverse}
@@ -48,7 +48,7 @@ use Rattle.ms_acceptance_laws.proofs.ForwardTrees.{sat_ends}
 use Rattle.ms_acceptance_laws.proofs.BackwardBases.{Back, BackB, logged, Took}
 use Rattle.ms_acceptance_laws.proofs.BackwardTrees.{inverts}
 use Rattle.ms_acceptance_laws.proofs.UnlimitedMachine.{reached, free_steps}
-use Rattle.ms_acceptance_laws.proofs.RowWays.{SatWay, sat_formal, sat_one, has_sat}
+use Rattle.ms_acceptance_laws.proofs.RowWays.{sat_way, sat_formal, has_sat}
 use Rattle.ms_acceptance_laws.proofs.RunHeights.{IsLow}
 use Rattle.ms_acceptance_laws.proofs.SimplePaths.{Path}
 use Rattle.ms_acceptance_laws.proofs.TreePaths.{sat_path}
@@ -62,7 +62,8 @@ pub satisfied : (s : Setting) (t : Tree) → IsWritable t → IsWithinConsensus 
     × (den s.given t w ≡ Ok (left (v ∷ []) (sat_log s t w r))) × (truth v ≡ true)
 satisfied s t writable consensus w short r =
     let e : EndsB (type_of t).u true (den s.given t) w [] (sat_log s t w r) =
-    subst (λ b. Ends s.given.table b (type_of t).u true (den s.given t) w [] (sat_log s t w r)) consensus.base (sat_ends s t writable consensus.typed (few_children t consensus) w [] short r) in
+    subst (λ b. Ends s.given.table b (type_of t).u true (den s.given t) w [] (sat_log s t w r)) consensus.base
+    ((sat_ends s t writable consensus.typed (few_children t consensus) w short r).ends []) in
     let value = e.1 in
     (e.0, ap (den s.given t) (sym (append-nil w)) ∙ e.2, ap truth value.is ∙ truth-natural value.number value.small ∙ value.truth)
 
@@ -98,10 +99,8 @@ pub record Accepts (tree : Tree) (limits : Limits) (assets : Assets) (table : Pa
       (sat_log (canonical_with assets table) tree (reverse stack) r).checks
   pub few_ops : opcode_count (emit tree) + (sat_log (canonical_with assets table) tree (reverse stack) r).keys ≤ limits.ops
   pub low : (height : ℕ) → IsHeight tree height → peak ≤ height
-  pub way : Way
-  pub is : SatWay (canonical_with assets table) tree (reverse stack) r way
-  pub items : length stack ≡ way.items
-  pub course : peak ≡ height_of_way.peak way
+  pub items : length stack ≡ (sat_way (canonical_with assets table) tree (reverse stack) r).items
+  pub course : peak ≡ height_of_way.peak (sat_way (canonical_with assets table) tree (reverse stack) r)
 
 -- no way is higher than the height
 below_height : (tree : Tree) (h : ℕ) → IsHeight tree h → (way : Way) → FormalSat tree way → peak way ≤ h
@@ -109,26 +108,24 @@ below_height tree h (inl g) way formal = g.3 way formal
 below_height tree h (inr g) way formal = absurd (g.0 way formal)
 
 -- how high the stacks get: as high as on a formal satisfaction with as many items
-record HasPeak (s : Setting) (tree : Tree) (w : Stack) (r : (row s tree).sat w) : Type 0 where
-  pub way : Way
-  pub is : SatWay s tree w r way
+record HasPeak (s : Setting) (tree : Tree) (w : Stack) (way : Way) : Type 0 where
   pub items : length w ≡ way.items
   pub low : IsLow s.given (emit tree) (first w) (peak way)
   pub high : (t : State) → free_steps s.given (emit tree) (first w) ≡ Ok t → (n : ℕ) → IsLow s.given (emit tree) (first w) n → peak way ≤ n
   pub below : (h : ℕ) → IsHeight tree h → peak way ≤ h
 
-has_peak : (s : Setting) → s.all_rows ≡ false → (tree : Tree) → IsWritable tree → IsWithinConsensus tree → (w : Stack) → Short w → (r : (row s tree).sat w) → HasPeak s tree w r
+has_peak : (s : Setting) → s.all_rows ≡ false → (tree : Tree) → IsWritable tree → IsWithinConsensus tree → (w : Stack) → Short w → (r : (row s tree).sat w)
+    → HasPeak s tree w (sat_way s tree w r)
 has_peak s canonical tree writable consensus w short r =
+    let no_more : IsTrue s.all_rows → ⊥ = λ i. false≢true (sym canonical ∙ i) in
     let path =
-    subst (λ (b : Base). Path s.given b (emit tree) (SatWay s tree w r) w) consensus.base
-    (sat_path s (λ i. false≢true (sym canonical ∙ i)) tree writable consensus.typed (few_children tree consensus) w short r) in
+    subst (λ (b : Base). Path s.given b (emit tree) (sat_way s tree w r) w) consensus.base
+    (sat_path s no_more tree writable consensus.typed (few_children tree consensus) w short r) in
     record {
-      way = path.way;
-      is = path.formal;
       items = path.items;
-      low = (path.keeps []).low (first w) refl (sym (append-nil w)) (peak path.way) (omega (arith, path.items));
+      low = (path.keeps []).low (first w) refl (sym (append-nil w)) (peak (sat_way s tree w r)) (omega (arith, path.items));
       high = λ t e n h. let top = (path.keeps []).high (first w) t refl (sym (append-nil w)) e n h in omega (arith, top, path.items);
-      below = λ h is. below_height tree h is path.way (sat_formal s tree w r path.way path.formal);
+      below = λ h is. below_height tree h is (sat_way s tree w r) (sat_formal s no_more tree w r);
     }
 
 -- every row of a canonical satisfaction tells what its run logs
@@ -146,7 +143,7 @@ accepts_row tree limits assets table stack writable consensus are_limits are sat
     let top = has_peak s refl tree writable consensus w short r in
     let height = height_is_computed tree consensus.typed in
     let done =
-    accepted_run s.given tree w (left (ends.0 ∷ []) (sat_log s tree w r)) ends.0 (peak top.way) writable consensus.size
+    accepted_run s.given tree w (left (ends.0 ∷ []) (sat_log s tree w r)) ends.0 (peak (sat_way s tree w r)) writable consensus.size
     (All-weaker (λ item. length item ≤ MAX_SIGNATURE_SIZE) (λ item. length item ≤ 520) (λ item h. omega (arith, h)) w sized.short) ends.1 refl ends.2
     (omega (arith, few, most, consensus.ops)) top.low
     (omega (arith, top.below (height_of tree) height, height_is_low tree consensus.typed consensus.base consensus.ops (height_of tree) height)) in
@@ -155,8 +152,6 @@ accepts_row tree limits assets table stack writable consensus are_limits are sat
       run = ap (run s.given (script_of tree)) (sym (reverse-reverse stack)) ∙ done.2;
       few_ops = few;
       low = λ h is. omega (arith, done.1, top.below h is);
-      way = top.way;
-      is = top.is;
       items = omega (arith, top.items, length-reverse stack);
       course = let most = top.high (reached (first w) (opcode_count (emit tree)) (left (ends.0 ∷ []) (sat_log s tree w r)))
           (does_first s.given tree w (left (ends.0 ∷ []) (sat_log s tree w r)) ends.1) done.0 done.3 in omega (arith, most, done.1);
@@ -197,28 +192,28 @@ with_peak outcome ops p q checks e same = e ∙ ap (λ (n : ℕ). accepted ops n
 pub canonical_has_course : CanonicalHasCourse
 canonical_has_course tree assets table stack writable valid are holds sat =
     let a = accepts tree (limits_of tree) assets table stack writable (valid_consensus tree valid) (limits_are_computed tree) are holds sat in
-    record { way = a.way; formal = sat_formal _ tree (reverse stack) _ a.way a.is; items = a.items; ops = _; checks = _; run = with_peak _ _ a.peak _ _ a.run a.course }
+    record {
+      way = _;
+      formal = sat_formal _ false≢true tree (reverse stack) _;
+      items = a.items;
+      ops = _;
+      checks = _;
+      run = with_peak _ _ a.peak _ _ a.run a.course;
+    }
 
 -- with all that a miniscript can take each formal satisfaction is run
 module _ (tree : Tree) (assets : Assets) (way : Way) (writable : IsWritable tree) (valid : IsValidUnder Consensus tree) (are : AreAssets assets) where
-  run_by : (stack : List Bytes) (r : (row (canonical assets) tree).sat (reverse stack)) → SatWay (canonical assets) tree (reverse stack) r way →
+  run_by : (stack : List Bytes) (r : (row (canonical assets) tree).sat (reverse stack)) → way ≡ sat_way (canonical assets) tree (reverse stack) r →
       IsRun tree assets way.items (peak way)
-  run_by stack r is =
+  run_by stack r same =
       let a = accepts_row tree (limits_of tree) assets assets.pairs stack writable (valid_consensus tree valid) (limits_are_computed tree) are r r in
-      let same : a.way ≡ way = sat_one (canonical assets) tree (reverse stack) r a.way way a.is is in
-      record {
-        stack = stack;
-        sat = r;
-        items = a.items ∙ ap (λ (v : Way). v.items) same;
-        ops = _;
-        checks = _;
-        run = with_peak _ _ a.peak _ _ a.run (a.course ∙ ap peak same);
-      }
+      rw same (record { stack = stack; sat = r; items = a.items; ops = _; checks = _; run = with_peak _ _ a.peak _ _ a.run a.course })
 
   formal_is_run : HasAll assets tree → FormalSat tree way → IsRun tree assets way.items (peak way)
   formal_is_run all formal =
       let h = has_sat assets tree writable (valid_consensus tree valid).typed all way formal in
-      let P : Stack → Type 0 = λ w. (r : (row (canonical assets) tree).sat w) → SatWay (canonical assets) tree w r way → IsRun tree assets way.items (peak way) in
+      let P : Stack → Type 0 = λ w. (r : (row (canonical assets) tree).sat w) → way ≡ sat_way (canonical assets) tree w r → IsRun tree assets way.items
+      (peak way) in
       subst P (reverse-reverse h.0) (run_by (reverse h.0)) h.1 h.2
 
 pub each_formal_is_run : EachFormalIsRun

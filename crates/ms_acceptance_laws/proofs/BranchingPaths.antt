@@ -17,8 +17,9 @@ use Rattle.def_types.specs.declared.Base.TheVariants.{B, V, K, W}
 use Rattle.def_emit.specs.Emit.{push_number, hash_opcode}
 use Rattle.def_satisfaction.specs.Rows.{EMPTY, ONE, HasTop}
 use Rattle.def_height.specs.Course.{up, down, Course, rise}
-use Rattle.def_height.specs.Formal.{Way, then, Is, Then, Followed}
+use Rattle.def_height.specs.Formal.{Way, then}
 use Rattle.def_height.proofs.Courses.{ups, downs, rise_append, rise_ends}
+use Rattle.ms_acceptance_laws.proofs.RowWays.{is, followed}
 use Rattle.ms_acceptance_laws.proofs.StackEffects.{Left, Effect, both, plain, silent, pushes, left}
 use Rattle.ms_acceptance_laws.proofs.StackValues.{zero_not_equal-natural}
 use Rattle.ms_acceptance_laws.proofs.ForwardBases.{Beside, Short, split}
@@ -31,15 +32,9 @@ use Rattle.ms_acceptance_laws.proofs.RunHeights.{low_first, low_behind}
 use Rattle.ms_acceptance_laws.proofs.WithinCourse.{Keeps, Follows, does_follow, one_follows, parted, then_keeps, keeps_pushes, keeps_from}
 use Rattle.ms_acceptance_laws.proofs.UntakenBranches.{Still}
 use Rattle.ms_acceptance_laws.proofs.BranchCourses.{else_taken, else_passed, only_taken, only_passed}
-use Rattle.ms_acceptance_laws.proofs.SimplePaths.{Path, Child, v_not_w, followed, followed_path, on_follows, path_keeps, both_items, unit_then, unit_end, begun_path, led_path, is_path}
+use Rattle.ms_acceptance_laws.proofs.SimplePaths.{Path, Child, b_not_w, k_not_w, v_not_w, followed_path, on_follows, path_keeps, both_items, unit_then, unit_end, begun_path, led_path, is_path}
 use Rattle.ms_row_laws.proofs.RunLog.{quiet}
 use Rattle.ms_row_laws.proofs.Outcomes.{bind_split, same_ok}
-
-pub b_not_w : B ≢ W
-b_not_w e = cc
-
-pub k_not_w : K ≢ W
-k_not_w e = cc
 
 -- single opcodes
 module _ (given : Given) (m : Stack) where
@@ -79,7 +74,8 @@ unfolding size equal verify
 measured x m e = rw e refl
 
 pub hash_path : (given : Given) (kind : HashKind) (value x : Bytes) (w : Stack) → length x ≡ 32 → w ≡ x ∷ [] →
-    Path given B (code op.Size ∷ push_number 32 ∷ code op.EqualVerify ∷ code (hash_opcode kind) ∷ push value ∷ code op.Equal ∷ []) (Is 1 (up 1 ∷ up 1 ∷ down 2 ∷ up 0 ∷ up 1 ∷ down 1 ∷ [])) w
+    Path given B (code op.Size ∷ push_number 32 ∷ code op.EqualVerify ∷ code (hash_opcode kind) ∷ push value ∷ code op.Equal ∷ [])
+    (is 1 (up 1 ∷ up 1 ∷ down 2 ∷ up 0 ∷ up 1 ∷ down 1 ∷ [])) w
 hash_path given kind value x w long e =
     is_path B 1 (up 1 ∷ up 1 ∷ down 2 ∷ up 0 ∷ up 1 ∷ down 1 ∷ []) w b_not_w (ap length e) _
     (λ rest. keeps_from (ap (λ (v : Stack). v ++ rest) e)
@@ -92,7 +88,7 @@ hash_path given kind value x w long e =
 
 -- `pk_h`
 pub pk_h_path : (given : Given) (value other : Bytes) (w above below : Stack) → w ≡ above ++ below → above ≡ other ∷ [] → length below ≡ 1 →
-    Path given K (code op.Dup ∷ code op.Hash160 ∷ push value ∷ code op.EqualVerify ∷ []) (Is 2 (up 1 ∷ up 0 ∷ up 1 ∷ down 2 ∷ [])) w
+    Path given K (code op.Dup ∷ code op.Hash160 ∷ push value ∷ code op.EqualVerify ∷ []) (is 2 (up 1 ∷ up 0 ∷ up 1 ∷ down 2 ∷ [])) w
 pk_h_path given value other w above below e i one =
     is_path K 2 (up 1 ∷ up 0 ∷ up 1 ∷ down 2 ∷ []) w k_not_w (both_items w above below 1 1 2 e (ap length i) one refl) _
     (λ rest. keeps_from (ap (λ (v : Stack). v ++ rest) (e ∙ ap (λ (v : Stack). v ++ below) i))
@@ -100,93 +96,98 @@ pk_h_path given value other w above below e i one =
     (then_keeps (hash_follows given (other ∷ (below ++ rest)) hash_kind.Hash160 other) (keeps_pushes given (value ∷ []) (code op.EqualVerify ∷ []) (up 1 ∷ down 2 ∷ []) _ refl refl))))
 
 -- `andor`
-pub and_or_true_path : {given : Given} {base : Base} {cx cy cz : List Instruction} {P Q : Way → Type 0} {above below : Stack} → (h : Effect) (w : Stack) → (base ≢ W) → w ≡ above ++ below →
-    Child given B true true cx P above → Path given base cy Q below → Does given cz h → Still given cz →
-    Path given base (cx ++ (code op.NotIf ∷ (cz ++ code op.Else ∷ (cy ++ code op.EndIf ∷ [])))) (Then (Followed P (down 1 ∷ [])) Q) w
-and_or_true_path {given} {base} {cx} {cy} {cz} {P} {Q} {above} {below} h w n e x y does still =
-    unit_then base Q w below n e x (down 1 ∷ []) y.way y.formal y.items _ (λ rest. else_passed given false true y.way.course (below ++ rest) cz cy h refl does still (path_keeps n y rest))
+pub and_or_true_path : {given : Given} {base : Base} {cx cy cz : List Instruction} {x y : Way} {above below : Stack} → (h : Effect) (w : Stack) → (base ≢ W)
+    → w ≡ above ++ below →
+    Child given B true true cx x above → Path given base cy y below → Does given cz h → Still given cz →
+    Path given base (cx ++ (code op.NotIf ∷ (cz ++ code op.Else ∷ (cy ++ code op.EndIf ∷ [])))) (then (followed x (down 1 ∷ [])) y) w
+and_or_true_path {given} {base} {cy = cy} {cz = cz} {y = y} {below = below} h w n e p q does still =
+    unit_then base w below n e p (down 1 ∷ []) y q.items _
+    (λ rest. else_passed given false true y.course (below ++ rest) cz cy h refl does still (path_keeps n q rest))
 
-pub and_or_false_path : {given : Given} {base : Base} {u b : Bool} {cx cy cz : List Instruction} {P Q : Way → Type 0} {above below : Stack} → (w : Stack) → (base ≢ W) → w ≡ above ++ below →
-    Child given B true false cx P above → Child given base u b cz Q below → Still given cy →
-    Path given base (cx ++ (code op.NotIf ∷ (cz ++ code op.Else ∷ (cy ++ code op.EndIf ∷ [])))) (Then (Followed P (down 1 ∷ [])) Q) w
-and_or_false_path {given} {base} {u} {b} {cx} {cy} {cz} {P} {Q} {above} {below} w n e x z still =
-    unit_then base Q w below n e x (down 1 ∷ []) z.way z.formal z.items _
-    (λ rest.
-    let f = on_follows base u b given cz z.way.course below n z.follows rest in
-    else_taken given false false z.way.course (below ++ rest) cz cy f.0 refl f.1 still)
+pub and_or_false_path : {given : Given} {base : Base} {u b : Bool} {cx cy cz : List Instruction} {x z : Way} {above below : Stack} → (w : Stack) → (base ≢ W)
+    → w ≡ above ++ below →
+    Child given B true false cx x above → Child given base u b cz z below → Still given cy →
+    Path given base (cx ++ (code op.NotIf ∷ (cz ++ code op.Else ∷ (cy ++ code op.EndIf ∷ [])))) (then (followed x (down 1 ∷ [])) z) w
+and_or_false_path {given} {base} {cy = cy} {cz = cz} {z = z} {below = below} w n e p q still =
+    unit_then base w below n e p (down 1 ∷ []) z q.items _
+    (λ rest. let f = on_follows n q rest in else_taken given false false z.course (below ++ rest) cz cy f.0 refl f.1 still)
 
 -- `or_c`
-pub or_c_true_path : {given : Given} {cx cz : List Instruction} {P : Way → Type 0} {w : Stack} → Child given B true true cx P w → Still given cz →
-    Path given V (cx ++ (code op.NotIf ∷ (cz ++ code op.EndIf ∷ []))) (Followed P (down 1 ∷ [])) w
-or_c_true_path {given} {cz = cz} x still = unit_end V v_not_w x (down 1 ∷ []) _ (λ rest. only_passed given false true [] rest cz refl refl still)
+pub or_c_true_path : {given : Given} {cx cz : List Instruction} {x : Way} {w : Stack} → Child given B true true cx x w → Still given cz →
+    Path given V (cx ++ (code op.NotIf ∷ (cz ++ code op.EndIf ∷ []))) (followed x (down 1 ∷ [])) w
+or_c_true_path {given} {cz = cz} p still = unit_end V v_not_w p (down 1 ∷ []) _ (λ rest. only_passed given false true [] rest cz refl refl still)
 
-pub or_c_false_path : {given : Given} {cx cz : List Instruction} {P Q : Way → Type 0} {above below : Stack} → (w : Stack) → w ≡ above ++ below
-    → Child given B true false cx P above → Path given V cz Q below →
-    Path given V (cx ++ (code op.NotIf ∷ (cz ++ code op.EndIf ∷ []))) (Then (Followed P (down 1 ∷ [])) Q) w
-or_c_false_path {given} {cz = cz} {Q = Q} {below = below} w e x z =
-    unit_then V Q w below v_not_w e x (down 1 ∷ []) z.way z.formal z.items _ (λ rest. only_taken given false false z.way.course (below ++ rest) cz refl (z.keeps rest))
+pub or_c_false_path : {given : Given} {cx cz : List Instruction} {x z : Way} {above below : Stack} → (w : Stack) → w ≡ above ++ below
+    → Child given B true false cx x above → Path given V cz z below →
+    Path given V (cx ++ (code op.NotIf ∷ (cz ++ code op.EndIf ∷ []))) (then (followed x (down 1 ∷ [])) z) w
+or_c_false_path {given} {cz = cz} {z = z} {below = below} w e p q =
+    unit_then V w below v_not_w e p (down 1 ∷ []) z q.items _ (λ rest. only_taken given false false z.course (below ++ rest) cz refl (q.keeps rest))
 
 -- `or_d`
-pub or_d_true_path : {given : Given} {cx cz : List Instruction} {P : Way → Type 0} {w : Stack} → Child given B true true cx P w → Still given cz →
-    Path given B (cx ++ (code op.IfDup ∷ code op.NotIf ∷ (cz ++ code op.EndIf ∷ []))) (Followed P (up 1 ∷ down 1 ∷ [])) w
-or_d_true_path {given} {cz = cz} x still =
-    unit_end B b_not_w x (up 1 ∷ down 1 ∷ []) _ (λ rest. then_keeps (if_dup_one_follows given rest) (only_passed given false true [] (ONE ∷ rest) cz refl refl still))
+pub or_d_true_path : {given : Given} {cx cz : List Instruction} {x : Way} {w : Stack} → Child given B true true cx x w → Still given cz →
+    Path given B (cx ++ (code op.IfDup ∷ code op.NotIf ∷ (cz ++ code op.EndIf ∷ []))) (followed x (up 1 ∷ down 1 ∷ [])) w
+or_d_true_path {given} {cz = cz} p still =
+    unit_end B b_not_w p (up 1 ∷ down 1 ∷ []) _
+    (λ rest. then_keeps (if_dup_one_follows given rest) (only_passed given false true [] (ONE ∷ rest) cz refl refl still))
 
-pub or_d_false_path : {given : Given} {cx cz : List Instruction} {P Q : Way → Type 0} {above below : Stack} → (w : Stack) → w ≡ above ++ below
-    → Child given B true false cx P above → Path given B cz Q below →
-    Path given B (cx ++ (code op.IfDup ∷ code op.NotIf ∷ (cz ++ code op.EndIf ∷ []))) (Then (Followed P (up 0 ∷ down 1 ∷ [])) Q) w
-or_d_false_path {given} {cz = cz} {Q = Q} {below = below} w e x z =
-    unit_then B Q w below b_not_w e x (up 0 ∷ down 1 ∷ []) z.way z.formal z.items _
-    (λ rest. then_keeps (if_dup_empty_follows given (below ++ rest)) (only_taken given false false z.way.course (below ++ rest) cz refl (z.keeps rest)))
+pub or_d_false_path : {given : Given} {cx cz : List Instruction} {x z : Way} {above below : Stack} → (w : Stack) → w ≡ above ++ below
+    → Child given B true false cx x above → Path given B cz z below →
+    Path given B (cx ++ (code op.IfDup ∷ code op.NotIf ∷ (cz ++ code op.EndIf ∷ []))) (then (followed x (up 0 ∷ down 1 ∷ [])) z) w
+or_d_false_path {given} {cz = cz} {z = z} {below = below} w e p q =
+    unit_then B w below b_not_w e p (up 0 ∷ down 1 ∷ []) z q.items _
+    (λ rest. then_keeps (if_dup_empty_follows given (below ++ rest)) (only_taken given false false z.course (below ++ rest) cz refl (q.keeps rest)))
 
 -- `or_i`
-pub or_i_true_path : {given : Given} {base : Base} {u b : Bool} {cx cz : List Instruction} {P : Way → Type 0} {below : Stack} → (w above : Stack) → (base ≢ W) → w ≡ above ++ below → above ≡ ONE ∷ [] →
-    Child given base u b cx P below → Still given cz → Path given base (code op.If ∷ (cx ++ code op.Else ∷ (cz ++ code op.EndIf ∷ []))) (Then (Is 1 (down 1 ∷ [])) P) w
-or_i_true_path {given} {base} {u} {b} {cx} {cz} {P} {below} w above n e i x still =
-    begun_path base P w above below ONE n e i (down 1 ∷ []) x.way x.formal x.items _
-    (λ rest.
-    let f = on_follows base u b given cx x.way.course below n x.follows rest in
-    else_taken given true true x.way.course (below ++ rest) cx cz f.0 refl f.1 still)
+pub or_i_true_path : {given : Given} {base : Base} {u b : Bool} {cx cz : List Instruction} {x : Way} {below : Stack} → (w above : Stack) → (base ≢ W)
+    → w ≡ above ++ below → above ≡ ONE ∷ [] →
+    Child given base u b cx x below → Still given cz → Path given base (code op.If ∷ (cx ++ code op.Else ∷ (cz ++ code op.EndIf ∷ [])))
+    (then (is 1 (down 1 ∷ [])) x) w
+or_i_true_path {given} {base} {cx = cx} {cz = cz} {x = x} {below = below} w above n e i p still =
+    begun_path base w above below ONE n e i (down 1 ∷ []) x p.items _
+    (λ rest. let f = on_follows n p rest in else_taken given true true x.course (below ++ rest) cx cz f.0 refl f.1 still)
 
-pub or_i_false_path : {given : Given} {base : Base} {cx cz : List Instruction} {Q : Way → Type 0} {below : Stack} → (f : Effect) (w above : Stack) → (base ≢ W)
+pub or_i_false_path : {given : Given} {base : Base} {cx cz : List Instruction} {z : Way} {below : Stack} → (f : Effect) (w above : Stack) → (base ≢ W)
     → w ≡ above ++ below → above ≡ EMPTY ∷ [] →
-    Path given base cz Q below → Does given cx f → Still given cx → Path given base (code op.If ∷ (cx ++ code op.Else ∷ (cz ++ code op.EndIf ∷ []))) (Then (Is 1 (down 1 ∷ [])) Q) w
-or_i_false_path {given} {base} {cx} {cz} {Q} {below} f w above n e i z does still =
-    begun_path base Q w above below EMPTY n e i (down 1 ∷ []) z.way z.formal z.items _ (λ rest. else_passed given true false z.way.course (below ++ rest) cx cz f refl does still (path_keeps n z rest))
+    Path given base cz z below → Does given cx f → Still given cx → Path given base (code op.If ∷ (cx ++ code op.Else ∷ (cz ++ code op.EndIf ∷ [])))
+    (then (is 1 (down 1 ∷ [])) z) w
+or_i_false_path {given} {base} {cx} {cz} {z} {below} f w above n e i p does still =
+    begun_path base w above below EMPTY n e i (down 1 ∷ []) z p.items _
+    (λ rest. else_passed given true false z.course (below ++ rest) cx cz f refl does still (path_keeps n p rest))
 
 -- `d:X`
-pub wrap_d_sat_path : {given : Given} {cx : List Instruction} {P : Way → Type 0} {below : Stack} → (w above : Stack) → w ≡ above ++ below → above ≡ ONE ∷ [] → below ≡ [] → Path given V cx P below →
-    Path given B (code op.Dup ∷ code op.If ∷ (cx ++ code op.EndIf ∷ [])) (Then (Is 1 (up 1 ∷ down 1 ∷ [])) P) w
-wrap_d_sat_path {given} {cx} {P} {below} w above e i none x =
-    begun_path B P w above below ONE b_not_w e i (up 1 ∷ down 1 ∷ []) x.way x.formal x.items _
+pub wrap_d_sat_path : {given : Given} {cx : List Instruction} {x : Way} {below : Stack} → (w above : Stack) → w ≡ above ++ below → above ≡ ONE ∷ []
+    → below ≡ [] → Path given V cx x below →
+    Path given B (code op.Dup ∷ code op.If ∷ (cx ++ code op.EndIf ∷ [])) (then (is 1 (up 1 ∷ down 1 ∷ [])) x) w
+wrap_d_sat_path {given} {cx} {x} {below} w above e i none p =
+    begun_path B w above below ONE b_not_w e i (up 1 ∷ down 1 ∷ []) x p.items _
     (λ rest.
     then_keeps (dup_follows given (below ++ rest) ONE)
-    (only_taken given true true x.way.course (ONE ∷ (below ++ rest)) cx refl
-    (keeps_from (ap (λ (v : Stack). ONE ∷ (v ++ rest)) none ∙ sym (ap (λ (v : Stack). v ++ (ONE ∷ rest)) none)) (x.keeps (ONE ∷ rest)))))
+    (only_taken given true true x.course (ONE ∷ (below ++ rest)) cx refl
+    (keeps_from (ap (λ (v : Stack). ONE ∷ (v ++ rest)) none ∙ sym (ap (λ (v : Stack). v ++ (ONE ∷ rest)) none)) (p.keeps (ONE ∷ rest)))))
 
 pub wrap_d_dsat_path : {given : Given} {cx : List Instruction} → (w : Stack) → w ≡ EMPTY ∷ [] → Still given cx →
-    Path given B (code op.Dup ∷ code op.If ∷ (cx ++ code op.EndIf ∷ [])) (Is 1 (up 1 ∷ down 1 ∷ [])) w
+    Path given B (code op.Dup ∷ code op.If ∷ (cx ++ code op.EndIf ∷ [])) (is 1 (up 1 ∷ down 1 ∷ [])) w
 wrap_d_dsat_path {given} {cx} w e still =
     is_path B 1 (up 1 ∷ down 1 ∷ []) w b_not_w (ap length e) _
     (λ rest. keeps_from (ap (λ (v : Stack). v ++ rest) e) (then_keeps (dup_follows given rest EMPTY) (only_passed given true false [] (EMPTY ∷ rest) cx refl refl still)))
 
 -- `j:X`
-pub wrap_j_sat_path : {given : Given} {cx : List Instruction} {P : Way → Type 0} {w : Stack} → HasTop w → Short w → Path given B cx P w →
-    Path given B (code op.Size ∷ code op.ZeroNotEqual ∷ code op.If ∷ (cx ++ code op.EndIf ∷ [])) (Then (Is 0 (up 1 ∷ up 0 ∷ down 1 ∷ [])) P) w
-wrap_j_sat_path {given} {cx} {P} {w} (top, m, is, some) short x =
-    let s : Short (top ∷ m) = subst Short is short in
-    led_path B P w b_not_w (up 1 ∷ up 0 ∷ down 1 ∷ []) x.way x.formal x.items _
+pub wrap_j_sat_path : {given : Given} {cx : List Instruction} {x : Way} {w : Stack} → HasTop w → Short w → Path given B cx x w →
+    Path given B (code op.Size ∷ code op.ZeroNotEqual ∷ code op.If ∷ (cx ++ code op.EndIf ∷ [])) (then (is 0 (up 1 ∷ up 0 ∷ down 1 ∷ [])) x) w
+wrap_j_sat_path {given} {cx} {x} {w} (top, m, same, some) short p =
+    let s : Short (top ∷ m) = subst Short same short in
+    led_path B w b_not_w (up 1 ∷ up 0 ∷ down 1 ∷ []) x p.items _
     (λ rest.
-    let e : w ++ rest ≡ top ∷ (m ++ rest) = ap (λ (v : Stack). v ++ rest) is in
+    let e : w ++ rest ≡ top ∷ (m ++ rest) = ap (λ (v : Stack). v ++ rest) same in
     keeps_from e
     (then_keeps (size_follows given (m ++ rest) top)
     (then_keeps
     (nonzero_follows given (top ∷ (m ++ rest)) (natural_bytes (length top)) true
     (zero_not_equal-natural (length top) (top ∷ (m ++ rest)) s.0 ∙ ap (λ (c : Bool). Ok (bool_bytes c ∷ top ∷ (m ++ rest))) (some_length top some)))
-    (only_taken given true true x.way.course (top ∷ (m ++ rest)) cx refl (keeps_from (sym e) (x.keeps rest))))))
+    (only_taken given true true x.course (top ∷ (m ++ rest)) cx refl (keeps_from (sym e) (p.keeps rest))))))
 
 pub wrap_j_dsat_path : {given : Given} {cx : List Instruction} → (w : Stack) → w ≡ EMPTY ∷ [] → Still given cx →
-    Path given B (code op.Size ∷ code op.ZeroNotEqual ∷ code op.If ∷ (cx ++ code op.EndIf ∷ [])) (Is 1 (up 1 ∷ up 0 ∷ down 1 ∷ [])) w
+    Path given B (code op.Size ∷ code op.ZeroNotEqual ∷ code op.If ∷ (cx ++ code op.EndIf ∷ [])) (is 1 (up 1 ∷ up 0 ∷ down 1 ∷ [])) w
 wrap_j_dsat_path {given} {cx} w e still =
     is_path B 1 (up 1 ∷ up 0 ∷ down 1 ∷ []) w b_not_w (ap length e) _
     (λ rest. keeps_from (ap (λ (v : Stack). v ++ rest) e)
@@ -207,45 +208,41 @@ aside_step given s t x m live is h =
     rw live (ap (λ (main : Stack). to_alt_stack main s.alt >>= λ stacks. Ok (record (one_more s) { main = stacks.0; alt = stacks.1 })) is) in
     subst (λ (v : State). IsAside s v x m) (same_ok u t (sym step ∙ h)) (record { main = refl; alt = refl; branches = refl })
 
-pub wrap_a_path : {given : Given} {cx : List Instruction} {P : Way → Type 0} {w : Stack} → Path given B cx P w →
-    Path given W (code op.ToAltStack ∷ (cx ++ code op.FromAltStack ∷ [])) (Then (Is 0 (up 0 ∷ [])) (Followed P (up 0 ∷ []))) w
-wrap_a_path {given} {cx} {P} {w} p = record {
-  way = then (record { items = 0; course = up 0 ∷ [] }) (followed p.way (up 0 ∷ []));
-  formal = (record { items = 0; course = up 0 ∷ [] }, followed p.way (up 0 ∷ []), refl, (p.way, record { items = 0; course = up 0 ∷ [] }, p.formal, refl, refl), refl);
+pub wrap_a_path : {given : Given} {cx : List Instruction} {v : Way} {w : Stack} → Path given B cx v w →
+    Path given W (code op.ToAltStack ∷ (cx ++ code op.FromAltStack ∷ [])) (then (is 0 (up 0 ∷ [])) (followed v (up 0 ∷ []))) w
+wrap_a_path {given} {cx} {v} {w} p = record {
   items = omega (arith, p.items);
   keeps = λ x rest. record {
-    low = λ s live is n h. (
+    low = λ s live at n h. (
       omega (arith, h),
       λ t e.
-          let o = aside_step given s t x (w ++ rest) live is e in
+          let o = aside_step given s t x (w ++ rest) live at e in
           low_behind given cx (code op.FromAltStack ∷ []) t n refl
           ((p.keeps rest).low t (ap all_taken o.branches ∙ live) o.main n
-          (omega (arith, h, rise_append p.way.course (up 0 ∷ []), ap length is, ap length o.main, ap length o.alt))),
+          (omega (arith, h, rise_append v.course (up 0 ∷ []), ap length at, ap length o.main, ap length o.alt))),
     );
-    high = λ s t live is e n h.
+    high = λ s t live at e n h.
         let u = bind_split (free_step given (code op.ToAltStack) s) _ t e in
-        let o = aside_step given s u.0 x (w ++ rest) live is u.1 in
-        let v = parted given cx (code op.FromAltStack ∷ []) u.0 t u.2 in
-        let top = (p.keeps rest).high u.0 v.0 (ap all_taken o.branches ∙ live) o.main v.1 n (low_first given cx (code op.FromAltStack ∷ []) u.0 n (h.1 u.0 u.1)) in
-        omega (arith, top, rise_append p.way.course (up 0 ∷ []), rise_ends p.way.course, ap length is, ap length o.main, ap length o.alt);
+        let o = aside_step given s u.0 x (w ++ rest) live at u.1 in
+        let r = parted given cx (code op.FromAltStack ∷ []) u.0 t u.2 in
+        let top = (p.keeps rest).high u.0 r.0 (ap all_taken o.branches ∙ live) o.main r.1 n
+        (low_first given cx (code op.FromAltStack ∷ []) u.0 n (h.1 u.0 u.1)) in
+        omega (arith, top, rise_append v.course (up 0 ∷ []), rise_ends v.course, ap length at, ap length o.main, ap length o.alt);
   };
 }
 
 -- `s:X`
-pub wrap_s_path : {given : Given} {cx : List Instruction} {P : Way → Type 0} {w : Stack} → (item : Bytes) → w ≡ item ∷ [] → Path given B cx P w
-    → Path given W (code op.Swap ∷ cx) (Then (Is 0 (up 0 ∷ [])) P) w
-wrap_s_path {given} {cx} {P} {w} item e p = record {
-  way = then (record { items = 0; course = up 0 ∷ [] }) p.way;
-  formal = (record { items = 0; course = up 0 ∷ [] }, p.way, refl, p.formal, refl);
+pub wrap_s_path : {given : Given} {cx : List Instruction} {v : Way} {w : Stack} → (item : Bytes) → w ≡ item ∷ [] → Path given B cx v w
+    → Path given W (code op.Swap ∷ cx) (then (is 0 (up 0 ∷ [])) v) w
+wrap_s_path {given} item e p = record {
   items = omega (arith, p.items);
   keeps = λ x rest. keeps_from (ap (λ (v : Stack). x ∷ (v ++ rest)) e) (then_keeps (swap_follows given rest x item) (keeps_from (sym (ap (λ (v : Stack). v ++ (x ∷ rest)) e)) (p.keeps (x ∷ rest))));
 }
 
 -- the first child of a threshold, and those behind it
-pub first_path : {given : Given} {b : Bool} {cx c : List Instruction} {P Q : Way → Type 0} {above below : Stack} → (w : Stack) → w ≡ above ++ below →
-    Child given B true b cx P above → Path given W c Q below → Path given B (cx ++ c) (Then (Followed P []) Q) w
-first_path {given} {b} {cx} {c} {P} {Q} {above} {below} w e x y =
-    unit_then B Q w below b_not_w e x [] y.way y.formal y.items c (λ rest. y.keeps (bool_bytes b) rest)
+pub first_path : {given : Given} {b : Bool} {cx c : List Instruction} {x y : Way} {above below : Stack} → (w : Stack) → w ≡ above ++ below →
+    Child given B true b cx x above → Path given W c y below → Path given B (cx ++ c) (then (followed x []) y) w
+first_path {b = b} {c = c} {y = y} {below = below} w e p q = unit_then B w below b_not_w e p [] y q.items c (λ rest. q.keeps (bool_bytes b) rest)
 
 -- ADD leaves one element of two
 two_on : (x v : Bytes) (s r : Stack) → Beside x v s r → (y : Bytes) × (z : Bytes) × (r ≡ y ∷ z ∷ s)
@@ -299,33 +296,30 @@ add_keeps given d course y x m p = record {
 }
 
 -- a further child, and those behind it
-pub added_path : {given : Given} {u b : Bool} {cx c : List Instruction} {P Q : Way → Type 0} {above below : Stack} → (w : Stack) → w ≡ above ++ below →
-    Child given W u b cx P above → Path given W c Q below → Path given W (cx ++ code op.Add ∷ c) (Then (Followed P (down 1 ∷ [])) Q) w
-added_path {given} {u} {b} {cx} {c} {P} {Q} {above} {below} w e x y = record {
-  way = then (followed x.way (down 1 ∷ [])) y.way;
-  formal = (followed x.way (down 1 ∷ []), y.way, (x.way, record { items = 0; course = down 1 ∷ [] }, x.formal, refl, refl), y.formal, refl);
-  items = both_items w above below x.way.items y.way.items (x.way.items + 0 + y.way.items) e x.items y.items (omega arith);
+pub added_path : {given : Given} {u b : Bool} {cx c : List Instruction} {x y : Way} {above below : Stack} → (w : Stack) → w ≡ above ++ below →
+    Child given W u b cx x above → Path given W c y below → Path given W (cx ++ code op.Add ∷ c) (then (followed x (down 1 ∷ [])) y) w
+added_path {given} {cx = cx} {c = c} {x = x} {y = y} {above = above} {below = below} w e p q = record {
+  items = both_items w above below x.items y.items (x.items + 0 + y.items) e p.items q.items (omega arith);
   keeps = λ a rest.
-      let i = x.follows a (below ++ rest) in
+      let i = p.follows a (below ++ rest) in
       let two = two_on a i.0 (below ++ rest) i.1 i.2 in
       keeps_from (ap (λ (v : Stack). a ∷ v) (split w above below rest e))
-      (subst (λ (course : Course). Keeps given (cx ++ code op.Add ∷ c) course (a ∷ (above ++ (below ++ rest)))) (sym (append_assoc x.way.course (down 1 ∷ []) y.way.course))
-      (then_keeps i.3 (keeps_from two.2 (add_keeps given c y.way.course two.0 two.1 (below ++ rest) (λ z. y.keeps z rest)))));
+      (subst (λ (course : Course). Keeps given (cx ++ code op.Add ∷ c) course (a ∷ (above ++ (below ++ rest))))
+      (sym (append_assoc x.course (down 1 ∷ []) y.course))
+      (then_keeps i.3 (keeps_from two.2 (add_keeps given c y.course two.0 two.1 (below ++ rest) (λ z. q.keeps z rest)))));
 }
 
 -- no children
-pub none_path : (given : Given) (w : Stack) → w ≡ [] → Path given W [] (Is 0 []) w
+pub none_path : (given : Given) (w : Stack) → w ≡ [] → Path given W [] (is 0 []) w
 none_path given w e = record {
-  way = record { items = 0; course = [] };
-  formal = refl;
   items = ap length e;
-  keeps = λ x rest. record { low = λ s live is n h. omega (arith, h); high = λ s t live is e n h. omega (arith, h) };
+  keeps = λ x rest. record { low = λ s live at n h. omega (arith, h); high = λ s t live at e n h. omega (arith, h) };
 }
 
 -- and the comparison with the number of those that must be satisfied
-pub thresh_path : {given : Given} {c : List Instruction} {P : Way → Type 0} {w : Stack} → (k : ℕ) (p : Path given B c P w)
-    → ((rest : Stack) → (v : Bytes) × Follows given c p.way.course (w ++ rest) (v ∷ rest)) →
-    Path given B (c ++ push_number k ∷ code op.Equal ∷ []) (Followed P (up 1 ∷ down 1 ∷ [])) w
-thresh_path {given} {P = P} {w = w} k p follows =
-    followed_path B P p.way w (up 1 ∷ down 1 ∷ []) _ b_not_w p.formal p.items
+pub thresh_path : {given : Given} {c : List Instruction} {v : Way} {w : Stack} → (k : ℕ) (p : Path given B c v w)
+    → ((rest : Stack) → (top : Bytes) × Follows given c v.course (w ++ rest) (top ∷ rest)) →
+    Path given B (c ++ push_number k ∷ code op.Equal ∷ []) (followed v (up 1 ∷ down 1 ∷ [])) w
+thresh_path {given} {v = v} {w = w} k p follows =
+    followed_path B v w (up 1 ∷ down 1 ∷ []) _ b_not_w p.items
     (λ rest. then_keeps (follows rest).1 (keeps_pushes given (natural_bytes k ∷ []) (code op.Equal ∷ []) (up 1 ∷ down 1 ∷ []) _ refl refl))

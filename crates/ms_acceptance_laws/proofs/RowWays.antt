@@ -1,10 +1,11 @@
 -- The way that a row of the satisfaction table takes: the formal satisfaction that a stack is by it.
-use Rattle.std.proofs.Common.{◌≡◌, ℕ, zero, suc, ◌+◌, ◌≤◌, List, [], ◌∷◌, ◌++◌, length, reverse, replicate, All, refl, sym, ◌∙◌, subst, inl, inr, ◌⊎◌, arith}
+use Rattle.std.proofs.Common.{◌≡◌, ℕ, zero, suc, ◌+◌, ◌≤◌, IsTrue, List, [], ◌∷◌, ◌++◌, length, reverse, replicate, All, refl, sym, ◌∙◌, ap, subst, inl, inr, ◌⊎◌, arith}
 use Rattle.std.proofs.lemmas.List.{length-reverse}
 use Rattle.std.proofs.lemmas.List.Elements.{All-head, All-tail}
 use Rattle.def_script.specs.Bytes.{Bytes}
 use Rattle.def_machine.specs.Stacks.{Stack}
 use Rattle.def_tree.specs.declared.Two.TheVariants as kind
+use Rattle.def_tree.specs.declared.Wrapper.{Wrapper}
 use Rattle.def_tree.specs.declared.Wrapper.TheVariants as wrapper
 use Rattle.def_tree.specs.Tree.{Tree, Trees, Key, just_0, just_1, pk_k, pk_h, older, after, hash, and_or, two, thresh, multi, wrap, none, more}
 use Rattle.def_tree.specs.Range.{IsWritable, AreWritable}
@@ -16,207 +17,148 @@ use Rattle.def_satisfaction.specs.Setting.{Setting}
 use Rattle.def_satisfaction.specs.Satisfaction.{canonical}
 use Rattle.def_satisfaction.specs.Rows.{EMPTY, ONE, ZEROS, AreSignatures, row, parts}
 use Rattle.def_height.specs.Course.{up, down, Course}
-use Rattle.def_height.specs.Formal.{Way, then, Never, Is, Then, Followed, FormalSat, FormalDsat, FormalParts}
+use Rattle.def_height.specs.Formal.{Way, then, Is, Then, Followed, FormalSat, FormalDsat, FormalParts}
 use Rattle.def_promises.specs.Courses.{Signs, HasAll, HaveAll}
 use Rattle.ms_row_laws.proofs.KeyLists.{all_reversed}
 
--- w is the way of a stack by this row
-abbrev mutual
-  pub SatWay : (s : Setting) (tree : Tree) (stack : Stack) → (row s tree).sat stack → Way → Type 0
-  SatWay s just_0 w r = Never
-  SatWay s (and_or x y z) w (inl r) = Then (Followed (SatWay s x r.1 r.3) (down 1 ∷ [])) (SatWay s y r.0 r.2)
-  SatWay s (and_or x y z) w (inr r) = Then (Followed (DsatWay s x r.1 r.3) (down 1 ∷ [])) (SatWay s z r.0 r.2)
-  SatWay s (two kind.AndV x y) w r = Then (SatWay s x r.1 r.3) (SatWay s y r.0 r.2)
-  SatWay s (two kind.AndB x y) w r = Followed (Then (SatWay s x r.1 r.3) (SatWay s y r.0 r.2)) (down 1 ∷ [])
-  SatWay s (two kind.OrB x z) w (inl r) = Followed (Then (SatWay s x r.1 r.3) (DsatWay s z r.0 r.2)) (down 1 ∷ [])
-  SatWay s (two kind.OrB x z) w (inr (inl r)) = Followed (Then (DsatWay s x r.1 r.3) (SatWay s z r.0 r.2)) (down 1 ∷ [])
-  SatWay s (two kind.OrB x z) w (inr (inr r)) = Never
-  SatWay s (two kind.OrC x z) w (inl r) = Followed (SatWay s x w r) (down 1 ∷ [])
-  SatWay s (two kind.OrC x z) w (inr r) = Then (Followed (DsatWay s x r.1 r.3) (down 1 ∷ [])) (SatWay s z r.0 r.2)
-  SatWay s (two kind.OrD x z) w (inl r) = Followed (SatWay s x w r) (up 1 ∷ down 1 ∷ [])
-  SatWay s (two kind.OrD x z) w (inr r) = Then (Followed (DsatWay s x r.1 r.3) (up 0 ∷ down 1 ∷ [])) (SatWay s z r.0 r.2)
-  SatWay s (two kind.OrI x z) w (inl r) = Then (Is 1 (down 1 ∷ [])) (SatWay s x r.0 r.2)
-  SatWay s (two kind.OrI x z) w (inr r) = Then (Is 1 (down 1 ∷ [])) (SatWay s z r.0 r.2)
-  SatWay s (thresh k xs) w r = Followed (PartsWay s [] xs k w r) (up 1 ∷ down 1 ∷ [])
-  SatWay s (wrap wrapper.A x) w r = Then (Is 0 (up 0 ∷ [])) (Followed (SatWay s x w r) (up 0 ∷ []))
-  SatWay s (wrap wrapper.S x) w r = Then (Is 0 (up 0 ∷ [])) (SatWay s x w r)
-  SatWay s (wrap wrapper.C x) w r = Followed (SatWay s x w r) (down 1 ∷ [])
-  SatWay s (wrap wrapper.D x) w r = Then (Is 1 (up 1 ∷ down 1 ∷ [])) (SatWay s x r.0 r.2)
-  SatWay s (wrap wrapper.V x) w r = Followed (SatWay s x w r) (down 1 ∷ [])
-  SatWay s (wrap wrapper.J x) w r = Then (Is 0 (up 1 ∷ up 0 ∷ down 1 ∷ [])) (SatWay s x w r)
-  SatWay s (wrap wrapper.N x) w r = Followed (SatWay s x w r) (up 0 ∷ [])
-  SatWay s tree w r = FormalSat tree
+-- so many items, and these steps
+abbrev pub is : (items : ℕ) → Course → Way
+is items course = record { items = items; course = course }
 
-  pub DsatWay : (s : Setting) (tree : Tree) (stack : Stack) → (row s tree).dsat stack → Way → Type 0
-  DsatWay s just_0 w r = FormalDsat just_0
-  DsatWay s (pk_k key) w r = FormalDsat (pk_k key)
-  DsatWay s (pk_h key) w r = FormalDsat (pk_h key)
-  DsatWay s (hash kind value) w (inl r) = FormalDsat (hash kind value)
-  DsatWay s (and_or x y z) w (inl r) = Then (Followed (DsatWay s x r.1 r.3) (down 1 ∷ [])) (DsatWay s z r.0 r.2)
-  DsatWay s (two kind.AndB x y) w (inl r) = Followed (Then (DsatWay s x r.1 r.3) (DsatWay s y r.0 r.2)) (down 1 ∷ [])
-  DsatWay s (two kind.OrB x z) w r = Followed (Then (DsatWay s x r.1 r.3) (DsatWay s z r.0 r.2)) (down 1 ∷ [])
-  DsatWay s (two kind.OrD x z) w r = Then (Followed (DsatWay s x r.1 r.3) (up 0 ∷ down 1 ∷ [])) (DsatWay s z r.0 r.2)
-  DsatWay s (two kind.OrI x z) w (inl r) = Then (Is 1 (down 1 ∷ [])) (DsatWay s x r.0 r.2)
-  DsatWay s (two kind.OrI x z) w (inr r) = Then (Is 1 (down 1 ∷ [])) (DsatWay s z r.0 r.2)
-  DsatWay s (thresh k xs) w (inl r) = Followed (PartsWay s [] xs 0 w r) (up 1 ∷ down 1 ∷ [])
-  DsatWay s (multi k keys) w r = FormalDsat (multi k keys)
-  DsatWay s (wrap wrapper.A x) w r = Then (Is 0 (up 0 ∷ [])) (Followed (DsatWay s x w r) (up 0 ∷ []))
-  DsatWay s (wrap wrapper.S x) w r = Then (Is 0 (up 0 ∷ [])) (DsatWay s x w r)
-  DsatWay s (wrap wrapper.C x) w r = Followed (DsatWay s x w r) (down 1 ∷ [])
-  DsatWay s (wrap wrapper.D x) w r = FormalDsat (wrap wrapper.D x)
-  DsatWay s (wrap wrapper.J x) w (inl r) = FormalDsat (wrap wrapper.J x)
-  DsatWay s (wrap wrapper.N x) w r = Followed (DsatWay s x w r) (up 0 ∷ [])
-  DsatWay s tree w r = Never
+-- further steps behind a way
+abbrev pub followed : Way → Course → Way
+followed a steps = then a (is 0 steps)
+
+-- the way of a row without children
+abbrev pub leaf_way : Tree → Way
+leaf_way (pk_k key) = is 1 (up 1 ∷ [])
+leaf_way (pk_h key) = is 2 (up 1 ∷ up 0 ∷ up 1 ∷ down 2 ∷ [])
+leaf_way (older n) = is 0 (up 1 ∷ up 0 ∷ [])
+leaf_way (after n) = is 0 (up 1 ∷ up 0 ∷ [])
+leaf_way (hash kind value) = is 1 (up 1 ∷ up 1 ∷ down 2 ∷ up 0 ∷ up 1 ∷ down 1 ∷ [])
+leaf_way (multi k keys) = is (k + 1) (replicate (length keys + 2) (up 1) ++ down (length keys + k + 2) ∷ [])
+leaf_way (wrap wrapper.D x) = is 1 (up 1 ∷ down 1 ∷ [])
+leaf_way (wrap wrapper.J x) = is 1 (up 1 ∷ up 0 ∷ down 1 ∷ [])
+leaf_way tree = is 0 (up 1 ∷ [])
+
+-- that of a wrapper, from that of its child
+abbrev pub wrap_way : Wrapper → Way → Way
+wrap_way wrapper.A v = then (is 0 (up 0 ∷ [])) (followed v (up 0 ∷ []))
+wrap_way wrapper.S v = then (is 0 (up 0 ∷ [])) v
+wrap_way wrapper.D v = then (is 1 (up 1 ∷ down 1 ∷ [])) v
+wrap_way wrapper.J v = then (is 0 (up 1 ∷ up 0 ∷ down 1 ∷ [])) v
+wrap_way wrapper.N v = followed v (up 0 ∷ [])
+wrap_way letter v = followed v (down 1 ∷ [])
+
+-- the way of a stack by this row, where the row is canonical
+abbrev mutual
+  pub sat_way : (s : Setting) (tree : Tree) (w : Stack) → (row s tree).sat w → Way
+  sat_way s (and_or x y z) w (inl r) = then (followed (sat_way s x r.1 r.3) (down 1 ∷ [])) (sat_way s y r.0 r.2)
+  sat_way s (and_or x y z) w (inr r) = then (followed (dsat_way s x r.1 r.3) (down 1 ∷ [])) (sat_way s z r.0 r.2)
+  sat_way s (two kind.AndV x y) w r = then (sat_way s x r.1 r.3) (sat_way s y r.0 r.2)
+  sat_way s (two kind.AndB x y) w r = followed (then (sat_way s x r.1 r.3) (sat_way s y r.0 r.2)) (down 1 ∷ [])
+  sat_way s (two kind.OrB x z) w (inl r) = followed (then (sat_way s x r.1 r.3) (dsat_way s z r.0 r.2)) (down 1 ∷ [])
+  sat_way s (two kind.OrB x z) w (inr (inl r)) = followed (then (dsat_way s x r.1 r.3) (sat_way s z r.0 r.2)) (down 1 ∷ [])
+  sat_way s (two kind.OrC x z) w (inl r) = followed (sat_way s x w r) (down 1 ∷ [])
+  sat_way s (two kind.OrC x z) w (inr r) = then (followed (dsat_way s x r.1 r.3) (down 1 ∷ [])) (sat_way s z r.0 r.2)
+  sat_way s (two kind.OrD x z) w (inl r) = followed (sat_way s x w r) (up 1 ∷ down 1 ∷ [])
+  sat_way s (two kind.OrD x z) w (inr r) = then (followed (dsat_way s x r.1 r.3) (up 0 ∷ down 1 ∷ [])) (sat_way s z r.0 r.2)
+  sat_way s (two kind.OrI x z) w (inl r) = then (is 1 (down 1 ∷ [])) (sat_way s x r.0 r.2)
+  sat_way s (two kind.OrI x z) w (inr r) = then (is 1 (down 1 ∷ [])) (sat_way s z r.0 r.2)
+  sat_way s (thresh k xs) w r = followed (parts_way s [] xs k w r) (up 1 ∷ down 1 ∷ [])
+  sat_way s (wrap wrapper.D x) w r = wrap_way wrapper.D (sat_way s x r.0 r.2)
+  sat_way s (wrap letter x) w r = wrap_way letter (sat_way s x w r)
+  sat_way s tree w r = leaf_way tree
+
+  pub dsat_way : (s : Setting) (tree : Tree) (w : Stack) → (row s tree).dsat w → Way
+  dsat_way s (and_or x y z) w (inl r) = then (followed (dsat_way s x r.1 r.3) (down 1 ∷ [])) (dsat_way s z r.0 r.2)
+  dsat_way s (two kind.AndB x y) w (inl r) = followed (then (dsat_way s x r.1 r.3) (dsat_way s y r.0 r.2)) (down 1 ∷ [])
+  dsat_way s (two kind.OrB x z) w r = followed (then (dsat_way s x r.1 r.3) (dsat_way s z r.0 r.2)) (down 1 ∷ [])
+  dsat_way s (two kind.OrD x z) w r = then (followed (dsat_way s x r.1 r.3) (up 0 ∷ down 1 ∷ [])) (dsat_way s z r.0 r.2)
+  dsat_way s (two kind.OrI x z) w (inl r) = then (is 1 (down 1 ∷ [])) (dsat_way s x r.0 r.2)
+  dsat_way s (two kind.OrI x z) w (inr r) = then (is 1 (down 1 ∷ [])) (dsat_way s z r.0 r.2)
+  dsat_way s (thresh k xs) w (inl r) = followed (parts_way s [] xs 0 w r) (up 1 ∷ down 1 ∷ [])
+  dsat_way s (wrap wrapper.A x) w r = wrap_way wrapper.A (dsat_way s x w r)
+  dsat_way s (wrap wrapper.S x) w r = wrap_way wrapper.S (dsat_way s x w r)
+  dsat_way s (wrap wrapper.C x) w r = wrap_way wrapper.C (dsat_way s x w r)
+  dsat_way s (wrap wrapper.N x) w r = wrap_way wrapper.N (dsat_way s x w r)
+  dsat_way s tree w r = leaf_way tree
 
   -- of the children of a threshold, n of them satisfied
-  pub PartsWay : (s : Setting) (first : Course) (xs : Trees) (n : ℕ) (stack : Stack) → parts s xs n stack → Way → Type 0
-  PartsWay s first none n w r = Is 0 []
-  PartsWay s first (more x xs) n w (inl r) = Then (Followed (SatWay s x r.2.1 r.2.3) first) (PartsWay s (down 1 ∷ []) xs r.0 r.2.0 r.2.2)
-  PartsWay s first (more x xs) n w (inr r) = Then (Followed (DsatWay s x r.1 r.3) first) (PartsWay s (down 1 ∷ []) xs n r.0 r.2)
+  pub parts_way : (s : Setting) (first : Course) (xs : Trees) (n : ℕ) (w : Stack) → parts s xs n w → Way
+  parts_way s first none n w r = is 0 []
+  parts_way s first (more x xs) n w (inl r) = then (followed (sat_way s x r.2.1 r.2.3) first) (parts_way s (down 1 ∷ []) xs r.0 r.2.0 r.2.2)
+  parts_way s first (more x xs) n w (inr r) = then (followed (dsat_way s x r.1 r.3) first) (parts_way s (down 1 ∷ []) xs n r.0 r.2)
 
--- such a way is a formal one
-then_formal : {P Q P' Q' : Way → Type 0} → ((v : Way) → P v → P' v) → ((v : Way) → Q v → Q' v) → (v : Way) → Then P Q v → Then P' Q' v
-then_formal f g v h = (h.0, h.1, f h.0 h.2, g h.1 h.3, h.4)
+-- one way and then another, of these kinds
+formed : {P Q : Way → Type 0} (a b : Way) → P a → Q b → Then P Q (then a b)
+formed a b p q = (a, b, p, q, refl)
 
-followed_formal : {P P' Q : Way → Type 0} → ((v : Way) → P v → P' v) → (v : Way) → Then P Q v → Then P' Q v
-followed_formal f = then_formal f (λ v h. h)
-
-led_formal : {P Q Q' : Way → Type 0} → ((v : Way) → Q v → Q' v) → (v : Way) → Then P Q v → Then P Q' v
-led_formal g = then_formal (λ v h. h) g
-
-no_parts : (first : Course) (n : ℕ) → n ≡ 0 → (v : Way) → Is 0 [] v → FormalParts first none n v
-no_parts first zero e v h = h
-no_parts first (suc n) e v h = absurd (omega (arith, e))
+-- and further steps
+ended : {P : Way → Type 0} {steps : Course} (a : Way) → P a → Followed P steps (followed a steps)
+ended {steps = steps} a p = formed a (is 0 steps) p refl
 
 no_more_parts : (first : Course) (x : Tree) (xs : Trees) (n : ℕ) (v : Way) → Then (Followed (FormalDsat x) first) (FormalParts (down 1 ∷ []) xs n) v → FormalParts first (more x xs) n v
 no_more_parts first x xs zero v h = h
 no_more_parts first x xs (suc n) v h = inr h
 
-one_more_part : (first : Course) (x : Tree) (xs : Trees) (n m : ℕ) → n ≡ suc m → (v : Way) → Then (Followed (FormalSat x) first) (FormalParts (down 1 ∷ []) xs m) v → FormalParts first (more x xs) n v
-one_more_part first x xs n m e v h = subst (λ (k : ℕ). FormalParts first (more x xs) k v) (sym e) (inl h)
+module _ (s : Setting) (no_more : IsTrue s.all_rows → ⊥) where
+  mutual
+    -- the way of a canonical row is a formal one
+    pub sat_formal : (tree : Tree) (w : Stack) (r : (row s tree).sat w) → FormalSat tree (sat_way s tree w r)
+    sat_formal just_0 w r = absurd r
+    sat_formal (and_or x y z) w (inl r) = inl (formed _ _ (ended _ (sat_formal x r.1 r.3)) (sat_formal y r.0 r.2))
+    sat_formal (and_or x y z) w (inr r) = inr (formed _ _ (ended _ (dsat_formal x r.1 r.3)) (sat_formal z r.0 r.2))
+    sat_formal (two kind.AndV x y) w r = formed _ _ (sat_formal x r.1 r.3) (sat_formal y r.0 r.2)
+    sat_formal (two kind.AndB x y) w r = ended _ (formed _ _ (sat_formal x r.1 r.3) (sat_formal y r.0 r.2))
+    sat_formal (two kind.OrB x z) w (inl r) = inl (ended _ (formed _ _ (sat_formal x r.1 r.3) (dsat_formal z r.0 r.2)))
+    sat_formal (two kind.OrB x z) w (inr (inl r)) = inr (ended _ (formed _ _ (dsat_formal x r.1 r.3) (sat_formal z r.0 r.2)))
+    sat_formal (two kind.OrB x z) w (inr (inr r)) = absurd (no_more r.0)
+    sat_formal (two kind.OrI x z) w (inl r) = inl (formed _ _ refl (sat_formal x r.0 r.2))
+    sat_formal (two kind.OrI x z) w (inr r) = inr (formed _ _ refl (sat_formal z r.0 r.2))
+    sat_formal (two which x z) w (inl r) = inl (ended _ (sat_formal x w r))
+    sat_formal (two which x z) w (inr r) = inr (formed _ _ (ended _ (dsat_formal x r.1 r.3)) (sat_formal z r.0 r.2))
+    sat_formal (thresh k xs) w r = ended _ (parts_formal [] xs k w r)
+    sat_formal (wrap wrapper.A x) w r = formed _ _ refl (ended _ (sat_formal x w r))
+    sat_formal (wrap wrapper.S x) w r = formed _ _ refl (sat_formal x w r)
+    sat_formal (wrap wrapper.D x) w r = formed _ _ refl (sat_formal x r.0 r.2)
+    sat_formal (wrap wrapper.J x) w r = formed _ _ refl (sat_formal x w r)
+    sat_formal (wrap letter x) w r = ended _ (sat_formal x w r)
+    sat_formal tree w r = refl
 
-mutual
-  pub sat_formal : (s : Setting) (tree : Tree) (stack : Stack) (r : (row s tree).sat stack) (v : Way) → SatWay s tree stack r v → FormalSat tree v
-  sat_formal s just_0 w r v h = absurd h
-  sat_formal s (and_or x y z) w (inl r) v h = inl (then_formal (followed_formal (sat_formal s x r.1 r.3)) (sat_formal s y r.0 r.2) v h)
-  sat_formal s (and_or x y z) w (inr r) v h = inr (then_formal (followed_formal (dsat_formal s x r.1 r.3)) (sat_formal s z r.0 r.2) v h)
-  sat_formal s (two kind.AndV x y) w r v h = then_formal (sat_formal s x r.1 r.3) (sat_formal s y r.0 r.2) v h
-  sat_formal s (two kind.AndB x y) w r v h = followed_formal (then_formal (sat_formal s x r.1 r.3) (sat_formal s y r.0 r.2)) v h
-  sat_formal s (two kind.OrB x z) w (inl r) v h = inl (followed_formal (then_formal (sat_formal s x r.1 r.3) (dsat_formal s z r.0 r.2)) v h)
-  sat_formal s (two kind.OrB x z) w (inr (inl r)) v h = inr (followed_formal (then_formal (dsat_formal s x r.1 r.3) (sat_formal s z r.0 r.2)) v h)
-  sat_formal s (two kind.OrB x z) w (inr (inr r)) v h = absurd h
-  sat_formal s (two kind.OrC x z) w (inl r) v h = inl (followed_formal (sat_formal s x w r) v h)
-  sat_formal s (two kind.OrC x z) w (inr r) v h = inr (then_formal (followed_formal (dsat_formal s x r.1 r.3)) (sat_formal s z r.0 r.2) v h)
-  sat_formal s (two kind.OrD x z) w (inl r) v h = inl (followed_formal (sat_formal s x w r) v h)
-  sat_formal s (two kind.OrD x z) w (inr r) v h = inr (then_formal (followed_formal (dsat_formal s x r.1 r.3)) (sat_formal s z r.0 r.2) v h)
-  sat_formal s (two kind.OrI x z) w (inl r) v h = inl (led_formal (sat_formal s x r.0 r.2) v h)
-  sat_formal s (two kind.OrI x z) w (inr r) v h = inr (led_formal (sat_formal s z r.0 r.2) v h)
-  sat_formal s (thresh k xs) w r v h = followed_formal (parts_formal s [] xs k w r) v h
-  sat_formal s (wrap wrapper.A x) w r v h = led_formal (followed_formal (sat_formal s x w r)) v h
-  sat_formal s (wrap wrapper.S x) w r v h = led_formal (sat_formal s x w r) v h
-  sat_formal s (wrap wrapper.C x) w r v h = followed_formal (sat_formal s x w r) v h
-  sat_formal s (wrap wrapper.D x) w r v h = led_formal (sat_formal s x r.0 r.2) v h
-  sat_formal s (wrap wrapper.V x) w r v h = followed_formal (sat_formal s x w r) v h
-  sat_formal s (wrap wrapper.J x) w r v h = led_formal (sat_formal s x w r) v h
-  sat_formal s (wrap wrapper.N x) w r v h = followed_formal (sat_formal s x w r) v h
-  sat_formal s tree w r v h = h
+    pub dsat_formal : (tree : Tree) (w : Stack) (r : (row s tree).dsat w) → FormalDsat tree (dsat_way s tree w r)
+    dsat_formal just_0 w r = refl
+    dsat_formal (pk_k key) w r = refl
+    dsat_formal (pk_h key) w r = refl
+    dsat_formal (hash kind value) w r = refl
+    dsat_formal (and_or x y z) w (inl r) = formed _ _ (ended _ (dsat_formal x r.1 r.3)) (dsat_formal z r.0 r.2)
+    dsat_formal (and_or x y z) w (inr r) = absurd (no_more r.0)
+    dsat_formal (two kind.AndV x y) w r = absurd (no_more r.0)
+    dsat_formal (two kind.AndB x y) w (inl r) = ended _ (formed _ _ (dsat_formal x r.1 r.3) (dsat_formal y r.0 r.2))
+    dsat_formal (two kind.AndB x y) w (inr r) = absurd (no_more r.0)
+    dsat_formal (two kind.OrB x z) w r = ended _ (formed _ _ (dsat_formal x r.1 r.3) (dsat_formal z r.0 r.2))
+    dsat_formal (two kind.OrD x z) w r = formed _ _ (ended _ (dsat_formal x r.1 r.3)) (dsat_formal z r.0 r.2)
+    dsat_formal (two kind.OrI x z) w (inl r) = inl (formed _ _ refl (dsat_formal x r.0 r.2))
+    dsat_formal (two kind.OrI x z) w (inr r) = inr (formed _ _ refl (dsat_formal z r.0 r.2))
+    dsat_formal (thresh k xs) w (inl r) = ended _ (parts_formal [] xs 0 w r)
+    dsat_formal (thresh k xs) w (inr r) = absurd (no_more r.0)
+    dsat_formal (multi k keys) w r = refl
+    dsat_formal (wrap wrapper.A x) w r = formed _ _ refl (ended _ (dsat_formal x w r))
+    dsat_formal (wrap wrapper.S x) w r = formed _ _ refl (dsat_formal x w r)
+    dsat_formal (wrap wrapper.C x) w r = ended _ (dsat_formal x w r)
+    dsat_formal (wrap wrapper.D x) w r = refl
+    dsat_formal (wrap wrapper.J x) w (inl r) = refl
+    dsat_formal (wrap wrapper.J x) w (inr r) = absurd (no_more r.0)
+    dsat_formal (wrap wrapper.N x) w r = ended _ (dsat_formal x w r)
+    dsat_formal tree w r = absurd r
 
-  pub dsat_formal : (s : Setting) (tree : Tree) (stack : Stack) (r : (row s tree).dsat stack) (v : Way) → DsatWay s tree stack r v → FormalDsat tree v
-  dsat_formal s just_0 w r v h = h
-  dsat_formal s (pk_k key) w r v h = h
-  dsat_formal s (pk_h key) w r v h = h
-  dsat_formal s (hash kind value) w (inl r) v h = h
-  dsat_formal s (and_or x y z) w (inl r) v h = then_formal (followed_formal (dsat_formal s x r.1 r.3)) (dsat_formal s z r.0 r.2) v h
-  dsat_formal s (two kind.AndB x y) w (inl r) v h = followed_formal (then_formal (dsat_formal s x r.1 r.3) (dsat_formal s y r.0 r.2)) v h
-  dsat_formal s (two kind.OrB x z) w r v h = followed_formal (then_formal (dsat_formal s x r.1 r.3) (dsat_formal s z r.0 r.2)) v h
-  dsat_formal s (two kind.OrD x z) w r v h = then_formal (followed_formal (dsat_formal s x r.1 r.3)) (dsat_formal s z r.0 r.2) v h
-  dsat_formal s (two kind.OrI x z) w (inl r) v h = inl (led_formal (dsat_formal s x r.0 r.2) v h)
-  dsat_formal s (two kind.OrI x z) w (inr r) v h = inr (led_formal (dsat_formal s z r.0 r.2) v h)
-  dsat_formal s (thresh k xs) w (inl r) v h = followed_formal (parts_formal s [] xs 0 w r) v h
-  dsat_formal s (multi k keys) w r v h = h
-  dsat_formal s (wrap wrapper.A x) w r v h = led_formal (followed_formal (dsat_formal s x w r)) v h
-  dsat_formal s (wrap wrapper.S x) w r v h = led_formal (dsat_formal s x w r) v h
-  dsat_formal s (wrap wrapper.C x) w r v h = followed_formal (dsat_formal s x w r) v h
-  dsat_formal s (wrap wrapper.D x) w r v h = h
-  dsat_formal s (wrap wrapper.J x) w (inl r) v h = h
-  dsat_formal s (wrap wrapper.N x) w r v h = followed_formal (dsat_formal s x w r) v h
-  dsat_formal s tree w r v h = absurd h
-
-  pub parts_formal : (s : Setting) (first : Course) (xs : Trees) (n : ℕ) (stack : Stack) (r : parts s xs n stack) (v : Way) → PartsWay s first xs n stack r v → FormalParts first xs n v
-  parts_formal s first none n w r v h = no_parts first n r.0 v h
-  parts_formal s first (more x xs) n w (inl r) v h =
-      one_more_part first x xs n r.0 r.1 v
-      (then_formal (followed_formal (sat_formal s x r.2.1 r.2.3)) (parts_formal s (down 1 ∷ []) xs r.0 r.2.0 r.2.2) v h)
-  parts_formal s first (more x xs) n w (inr r) v h =
-      no_more_parts first x xs n v
-      (then_formal (followed_formal (dsat_formal s x r.1 r.3)) (parts_formal s (down 1 ∷ []) xs n r.0 r.2) v h)
-
--- a row has one way at most
-abbrev One : (Way → Type 0) → Type 0
-One P = (u v : Way) → P u → P v → u ≡ v
-
-never_one : One Never
-never_one u v h k = absurd h
-
-is_one : {items : ℕ} {course : Course} → One (Is items course)
-is_one u v h k = h ∙ sym k
-
-then_one : {P Q : Way → Type 0} → One P → One Q → One (Then P Q)
-then_one p q u v h k = h.4 ∙ (λ i. then (p h.0 k.0 h.2 k.2 i) (q h.1 k.1 h.3 k.3 i)) ∙ sym k.4
-
-mutual
-  pub sat_one : (s : Setting) (tree : Tree) (stack : Stack) (r : (row s tree).sat stack) → One (SatWay s tree stack r)
-  sat_one s just_0 w r = never_one
-  sat_one s (and_or x y z) w (inl r) = then_one (then_one (sat_one s x r.1 r.3) is_one) (sat_one s y r.0 r.2)
-  sat_one s (and_or x y z) w (inr r) = then_one (then_one (dsat_one s x r.1 r.3) is_one) (sat_one s z r.0 r.2)
-  sat_one s (two kind.AndV x y) w r = then_one (sat_one s x r.1 r.3) (sat_one s y r.0 r.2)
-  sat_one s (two kind.AndB x y) w r = then_one (then_one (sat_one s x r.1 r.3) (sat_one s y r.0 r.2)) is_one
-  sat_one s (two kind.OrB x z) w (inl r) = then_one (then_one (sat_one s x r.1 r.3) (dsat_one s z r.0 r.2)) is_one
-  sat_one s (two kind.OrB x z) w (inr (inl r)) = then_one (then_one (dsat_one s x r.1 r.3) (sat_one s z r.0 r.2)) is_one
-  sat_one s (two kind.OrB x z) w (inr (inr r)) = never_one
-  sat_one s (two kind.OrC x z) w (inl r) = then_one (sat_one s x w r) is_one
-  sat_one s (two kind.OrC x z) w (inr r) = then_one (then_one (dsat_one s x r.1 r.3) is_one) (sat_one s z r.0 r.2)
-  sat_one s (two kind.OrD x z) w (inl r) = then_one (sat_one s x w r) is_one
-  sat_one s (two kind.OrD x z) w (inr r) = then_one (then_one (dsat_one s x r.1 r.3) is_one) (sat_one s z r.0 r.2)
-  sat_one s (two kind.OrI x z) w (inl r) = then_one is_one (sat_one s x r.0 r.2)
-  sat_one s (two kind.OrI x z) w (inr r) = then_one is_one (sat_one s z r.0 r.2)
-  sat_one s (thresh k xs) w r = then_one (parts_one s [] xs k w r) is_one
-  sat_one s (wrap wrapper.A x) w r = then_one is_one (then_one (sat_one s x w r) is_one)
-  sat_one s (wrap wrapper.S x) w r = then_one is_one (sat_one s x w r)
-  sat_one s (wrap wrapper.C x) w r = then_one (sat_one s x w r) is_one
-  sat_one s (wrap wrapper.D x) w r = then_one is_one (sat_one s x r.0 r.2)
-  sat_one s (wrap wrapper.V x) w r = then_one (sat_one s x w r) is_one
-  sat_one s (wrap wrapper.J x) w r = then_one is_one (sat_one s x w r)
-  sat_one s (wrap wrapper.N x) w r = then_one (sat_one s x w r) is_one
-  sat_one s tree w r = is_one
-
-  dsat_one : (s : Setting) (tree : Tree) (stack : Stack) (r : (row s tree).dsat stack) → One (DsatWay s tree stack r)
-  dsat_one s just_0 w r = is_one
-  dsat_one s (pk_k key) w r = is_one
-  dsat_one s (pk_h key) w r = is_one
-  dsat_one s (hash kind value) w (inl r) = is_one
-  dsat_one s (and_or x y z) w (inl r) = then_one (then_one (dsat_one s x r.1 r.3) is_one) (dsat_one s z r.0 r.2)
-  dsat_one s (two kind.AndB x y) w (inl r) = then_one (then_one (dsat_one s x r.1 r.3) (dsat_one s y r.0 r.2)) is_one
-  dsat_one s (two kind.OrB x z) w r = then_one (then_one (dsat_one s x r.1 r.3) (dsat_one s z r.0 r.2)) is_one
-  dsat_one s (two kind.OrD x z) w r = then_one (then_one (dsat_one s x r.1 r.3) is_one) (dsat_one s z r.0 r.2)
-  dsat_one s (two kind.OrI x z) w (inl r) = then_one is_one (dsat_one s x r.0 r.2)
-  dsat_one s (two kind.OrI x z) w (inr r) = then_one is_one (dsat_one s z r.0 r.2)
-  dsat_one s (thresh k xs) w (inl r) = then_one (parts_one s [] xs 0 w r) is_one
-  dsat_one s (multi k keys) w r = is_one
-  dsat_one s (wrap wrapper.A x) w r = then_one is_one (then_one (dsat_one s x w r) is_one)
-  dsat_one s (wrap wrapper.S x) w r = then_one is_one (dsat_one s x w r)
-  dsat_one s (wrap wrapper.C x) w r = then_one (dsat_one s x w r) is_one
-  dsat_one s (wrap wrapper.D x) w r = is_one
-  dsat_one s (wrap wrapper.J x) w (inl r) = is_one
-  dsat_one s (wrap wrapper.N x) w r = then_one (dsat_one s x w r) is_one
-  dsat_one s tree w r = never_one
-
-  parts_one : (s : Setting) (first : Course) (xs : Trees) (n : ℕ) (stack : Stack) (r : parts s xs n stack) → One (PartsWay s first xs n stack r)
-  parts_one s first none n w r = is_one
-  parts_one s first (more x xs) n w (inl r) =
-      then_one (then_one (sat_one s x r.2.1 r.2.3) is_one) (parts_one s (down 1 ∷ []) xs r.0 r.2.0 r.2.2)
-  parts_one s first (more x xs) n w (inr r) =
-      then_one (then_one (dsat_one s x r.1 r.3) is_one) (parts_one s (down 1 ∷ []) xs n r.0 r.2)
+    pub parts_formal : (first : Course) (xs : Trees) (n : ℕ) (w : Stack) (r : parts s xs n w) → FormalParts first xs n (parts_way s first xs n w r)
+    parts_formal first none n w r = subst (λ (k : ℕ). FormalParts first none k (is 0 [])) (sym r.0) refl
+    parts_formal first (more x xs) n w (inl r) =
+        subst (λ (k : ℕ). FormalParts first (more x xs) k (parts_way s first (more x xs) n w (inl r))) (sym r.1)
+        (inl (formed _ _ (ended _ (sat_formal x r.2.1 r.2.3)) (parts_formal (down 1 ∷ []) xs r.0 r.2.0 r.2.2)))
+    parts_formal first (more x xs) n w (inr r) =
+        no_more_parts first x xs n _ (formed _ _ (ended _ (dsat_formal x r.1 r.3)) (parts_formal (down 1 ∷ []) xs n r.0 r.2))
 
 -- signatures of the first keys of a list
 signed : (assets : Assets) (keys : List Key) (k : ℕ) → k ≤ length keys → All (Signs assets) keys → (sigs : Stack) × (length sigs ≡ k) × AreSignatures assets.pairs keys sigs
@@ -232,46 +174,40 @@ module _ (assets : Assets) where
   abbrev s : Setting
   s = canonical assets
 
-  abbrev Has : (A : Stack → Type 0) → ((stack : Stack) → A stack → Way → Type 0) → Way → Type 0
-  Has A P v = (stack : Stack) × (r : A stack) × P stack r v
+  -- a stack with a row whose way is v
+  abbrev pub Has : (A : Stack → Type 0) → ((stack : Stack) → A stack → Way) → Way → Type 0
+  Has A f v = (stack : Stack) × (r : A stack) × (v ≡ f stack r)
 
-  abbrev pub HasSat : Tree → Way → Type 0
-  HasSat tree = Has (row s tree).sat (SatWay s tree)
+  has_then : {A B : Stack → Type 0} {f : (stack : Stack) → A stack → Way} {g : (stack : Stack) → B stack → Way} {X Y : Way → Type 0} →
+      ((v : Way) → X v → Has A f v) → ((v : Way) → Y v → Has B g v) → (v : Way) → Then X Y v → Has (Both B A) (λ stack r. then (f r.1 r.3) (g r.0 r.2)) v
+  has_then {f = f} x y v h =
+      let i = x h.0 h.2 in
+      let j = y h.1 h.3 in
+      (i.0 ++ j.0, (j.0, i.0, j.1, i.1, refl), h.4 ∙ ap (λ a. then a h.1) i.2 ∙ ap (then (f i.0 i.1)) j.2)
 
-  abbrev HasDsat : Tree → Way → Type 0
-  HasDsat tree = Has (row s tree).dsat (DsatWay s tree)
+  has_followed : {A : Stack → Type 0} {f : (stack : Stack) → A stack → Way} {X : Way → Type 0} {steps : Course} →
+      ((v : Way) → X v → Has A f v) → (v : Way) → Followed X steps v → Has A (λ stack r. followed (f stack r) steps) v
+  has_followed {f = f} x v h = let i = x h.0 h.2 in (i.0, i.1, h.4 ∙ ap (λ a. then a h.1) i.2 ∙ ap (then (f i.0 i.1)) h.3)
 
-  abbrev HasParts : Course → Trees → ℕ → Way → Type 0
-  HasParts first xs n = Has (parts s xs n) (PartsWay s first xs n)
+  has_led : {A : Stack → Type 0} {f : (stack : Stack) → A stack → Way} {Y : Way → Type 0} {n : ℕ} {steps : Course} →
+      ((v : Way) → Y v → Has A f v) → (v : Way) → Then (Is n steps) Y v → Has A (λ stack r. then (is n steps) (f stack r)) v
+  has_led {n = n} {steps = steps} y v h = let i = y h.1 h.3 in (i.0, i.1, h.4 ∙ ap (λ a. then a h.1) h.2 ∙ ap (then (is n steps)) i.2)
 
-  has_then : {A B : Stack → Type 0} {P : (stack : Stack) → A stack → Way → Type 0} {Q : (stack : Stack) → B stack → Way → Type 0} {X Y : Way → Type 0} →
-      ((v : Way) → X v → Has A P v) → ((v : Way) → Y v → Has B Q v) → (v : Way) → Then X Y v → Has (Both B A) (λ stack r. Then (P r.1 r.3) (Q r.0 r.2)) v
-  has_then f g v h =
-      let i = f h.0 h.2 in
-      let j = g h.1 h.3 in
-      (i.0 ++ j.0, (j.0, i.0, j.1, i.1, refl), (h.0, h.1, i.2, j.2, h.4))
-
-  has_followed : {A : Stack → Type 0} {P : (stack : Stack) → A stack → Way → Type 0} {X Y : Way → Type 0} →
-      ((v : Way) → X v → Has A P v) → (v : Way) → Then X Y v → Has A (λ stack r. Then (P stack r) Y) v
-  has_followed f v h = let i = f h.0 h.2 in (i.0, i.1, (h.0, h.1, i.2, h.3, h.4))
-
-  has_led : {A : Stack → Type 0} {P : (stack : Stack) → A stack → Way → Type 0} {X Y : Way → Type 0} →
-      ((v : Way) → Y v → Has A P v) → (v : Way) → Then X Y v → Has A (λ stack r. Then X (P stack r)) v
-  has_led f v h = let i = f h.1 h.3 in (i.0, i.1, (h.0, h.1, h.2, i.2, h.4))
-
-  has_behind : {A : Stack → Type 0} {P : (stack : Stack) → A stack → Way → Type 0} {X Y : Way → Type 0} →
-      (item : Bytes) → ((v : Way) → Y v → Has A P v) → (v : Way) → Then X Y v → Has (Both A (Item item)) (λ stack r. Then X (P r.0 r.2)) v
-  has_behind item f v h = let i = f h.1 h.3 in (item ∷ i.0, (i.0, item ∷ [], i.1, refl, refl), (h.0, h.1, h.2, i.2, h.4))
+  has_behind : {A : Stack → Type 0} {f : (stack : Stack) → A stack → Way} {Y : Way → Type 0} {steps : Course} (item : Bytes) →
+      ((v : Way) → Y v → Has A f v) → (v : Way) → Then (Is 1 steps) Y v → Has (Both A (Item item)) (λ stack r. then (is 1 steps) (f r.0 r.2)) v
+  has_behind item y v h = let i = has_led y v h in (item ∷ i.0, (i.0, item ∷ [], i.1, refl, refl), i.2)
 
   -- one of two rows
-  first_row : {A B : Stack → Type 0} (P : (stack : Stack) → A stack ⊎ B stack → Type 0) → (stack : Stack) × (r : A stack) × P stack (inl r) → (stack : Stack) × (r : A stack ⊎ B stack) × P stack r
-  first_row P i = (i.0, inl i.1, i.2)
+  first_row : {A B : Stack → Type 0} {f : (stack : Stack) → A stack ⊎ B stack → Way} {v : Way} → Has A (λ stack r. f stack (inl r)) v
+      → Has (λ stack. A stack ⊎ B stack) f v
+  first_row i = (i.0, inl i.1, i.2)
 
-  second_row : {A B : Stack → Type 0} (P : (stack : Stack) → A stack ⊎ B stack → Type 0) → (stack : Stack) × (r : B stack) × P stack (inr r) → (stack : Stack) × (r : A stack ⊎ B stack) × P stack r
-  second_row P i = (i.0, inr i.1, i.2)
+  second_row : {A B : Stack → Type 0} {f : (stack : Stack) → A stack ⊎ B stack → Way} {v : Way} → Has B (λ stack r. f stack (inr r)) v
+      → Has (λ stack. A stack ⊎ B stack) f v
+  second_row i = (i.0, inr i.1, i.2)
 
   mutual
-    pub has_sat : (tree : Tree) → IsWritable tree → IsTyped tree → HasAll assets tree → (v : Way) → FormalSat tree v → HasSat tree v
+    pub has_sat : (tree : Tree) → IsWritable tree → IsTyped tree → HasAll assets tree → (v : Way) → FormalSat tree v → Has (row s tree).sat (sat_way s tree) v
     has_sat just_0 w t a v h = absurd h
     has_sat just_1 w t a v h = ([], refl, h)
     has_sat (pk_k key) w t a v h = (a.0 ∷ [], (a.0, a.1, refl), h)
@@ -279,18 +215,16 @@ module _ (assets : Assets) where
     has_sat (older n) w t a v h = ([], (a, refl), h)
     has_sat (after n) w t a v h = ([], (a, refl), h)
     has_sat (hash kind value) w t a v h = (a.0 ∷ [], (a.0, (a.2, a.1), refl), h)
-    has_sat (and_or x y z) w t a v (inl h) = first_row _ (has_then (has_followed (has_sat x w.0 t.0 a.0)) (has_sat y w.1 t.1 a.1) v h)
-    has_sat (and_or x y z) w t a v (inr h) = second_row _ (has_then (has_followed (has_dsat x w.0 t.0 a.0)) (has_sat z w.2 t.2 a.2) v h)
+    has_sat (and_or x y z) w t a v (inl h) = first_row (has_then (has_followed (has_sat x w.0 t.0 a.0)) (has_sat y w.1 t.1 a.1) v h)
+    has_sat (and_or x y z) w t a v (inr h) = second_row (has_then (has_followed (has_dsat x w.0 t.0 a.0)) (has_sat z w.2 t.2 a.2) v h)
     has_sat (two kind.AndV x y) w t a v h = has_then (has_sat x w.0 t.0 a.0) (has_sat y w.1 t.1 a.1) v h
     has_sat (two kind.AndB x y) w t a v h = has_followed (has_then (has_sat x w.0 t.0 a.0) (has_sat y w.1 t.1 a.1)) v h
-    has_sat (two kind.OrB x z) w t a v (inl h) = first_row _ (has_followed (has_then (has_sat x w.0 t.0 a.0) (has_dsat z w.1 t.1 a.1)) v h)
-    has_sat (two kind.OrB x z) w t a v (inr h) = second_row _ (first_row _ (has_followed (has_then (has_dsat x w.0 t.0 a.0) (has_sat z w.1 t.1 a.1)) v h))
-    has_sat (two kind.OrC x z) w t a v (inl h) = first_row _ (has_followed (has_sat x w.0 t.0 a.0) v h)
-    has_sat (two kind.OrC x z) w t a v (inr h) = second_row _ (has_then (has_followed (has_dsat x w.0 t.0 a.0)) (has_sat z w.1 t.1 a.1) v h)
-    has_sat (two kind.OrD x z) w t a v (inl h) = first_row _ (has_followed (has_sat x w.0 t.0 a.0) v h)
-    has_sat (two kind.OrD x z) w t a v (inr h) = second_row _ (has_then (has_followed (has_dsat x w.0 t.0 a.0)) (has_sat z w.1 t.1 a.1) v h)
-    has_sat (two kind.OrI x z) w t a v (inl h) = first_row _ (has_behind ONE (has_sat x w.0 t.0 a.0) v h)
-    has_sat (two kind.OrI x z) w t a v (inr h) = second_row _ (has_behind EMPTY (has_sat z w.1 t.1 a.1) v h)
+    has_sat (two kind.OrB x z) w t a v (inl h) = first_row (has_followed (has_then (has_sat x w.0 t.0 a.0) (has_dsat z w.1 t.1 a.1)) v h)
+    has_sat (two kind.OrB x z) w t a v (inr h) = second_row (first_row (has_followed (has_then (has_dsat x w.0 t.0 a.0) (has_sat z w.1 t.1 a.1)) v h))
+    has_sat (two kind.OrI x z) w t a v (inl h) = first_row (has_behind ONE (has_sat x w.0 t.0 a.0) v h)
+    has_sat (two kind.OrI x z) w t a v (inr h) = second_row (has_behind EMPTY (has_sat z w.1 t.1 a.1) v h)
+    has_sat (two which x z) w t a v (inl h) = first_row (has_followed (has_sat x w.0 t.0 a.0) v h)
+    has_sat (two which x z) w t a v (inr h) = second_row (has_then (has_followed (has_dsat x w.0 t.0 a.0)) (has_sat z w.1 t.1 a.1) v h)
     has_sat (thresh k xs) w t a v h = has_followed (have_parts [] xs w.2 t.0 a k) v h
     has_sat (multi k keys) w t a v h =
         let f = typed-multi k keys t in
@@ -298,24 +232,22 @@ module _ (assets : Assets) where
         (i.0 ++ EMPTY ∷ [], (EMPTY ∷ [], i.0, refl, (i.1, i.2), refl), h)
     has_sat (wrap wrapper.A x) w t a v h = has_led (has_followed (has_sat x w t.0 a)) v h
     has_sat (wrap wrapper.S x) w t a v h = has_led (has_sat x w t.0 a) v h
-    has_sat (wrap wrapper.C x) w t a v h = has_followed (has_sat x w t.0 a) v h
     has_sat (wrap wrapper.D x) w t a v h = has_behind ONE (has_sat x w t.0 a) v h
-    has_sat (wrap wrapper.V x) w t a v h = has_followed (has_sat x w t.0 a) v h
     has_sat (wrap wrapper.J x) w t a v h = has_led (has_sat x w t.0 a) v h
-    has_sat (wrap wrapper.N x) w t a v h = has_followed (has_sat x w t.0 a) v h
+    has_sat (wrap letter x) w t a v h = has_followed (has_sat x w t.0 a) v h
 
-    has_dsat : (tree : Tree) → IsWritable tree → IsTyped tree → HasAll assets tree → (v : Way) → FormalDsat tree v → HasDsat tree v
+    has_dsat : (tree : Tree) → IsWritable tree → IsTyped tree → HasAll assets tree → (v : Way) → FormalDsat tree v → Has (row s tree).dsat (dsat_way s tree) v
     has_dsat just_0 w t a v h = ([], refl, h)
     has_dsat (pk_k key) w t a v h = (EMPTY ∷ [], refl, h)
     has_dsat (pk_h key) w t a v h = (key ∷ EMPTY ∷ [], (key, w.form, refl, refl, (EMPTY ∷ [], key ∷ [], refl, refl, refl)), h)
     has_dsat (hash kind value) w t a v h = (ZEROS ∷ [], inl (a.3, refl), h)
-    has_dsat (and_or x y z) w t a v h = first_row _ (has_then (has_followed (has_dsat x w.0 t.0 a.0)) (has_dsat z w.2 t.2 a.2) v h)
-    has_dsat (two kind.AndB x y) w t a v h = first_row _ (has_followed (has_then (has_dsat x w.0 t.0 a.0) (has_dsat y w.1 t.1 a.1)) v h)
+    has_dsat (and_or x y z) w t a v h = first_row (has_then (has_followed (has_dsat x w.0 t.0 a.0)) (has_dsat z w.2 t.2 a.2) v h)
+    has_dsat (two kind.AndB x y) w t a v h = first_row (has_followed (has_then (has_dsat x w.0 t.0 a.0) (has_dsat y w.1 t.1 a.1)) v h)
     has_dsat (two kind.OrB x z) w t a v h = has_followed (has_then (has_dsat x w.0 t.0 a.0) (has_dsat z w.1 t.1 a.1)) v h
     has_dsat (two kind.OrD x z) w t a v h = has_then (has_followed (has_dsat x w.0 t.0 a.0)) (has_dsat z w.1 t.1 a.1) v h
-    has_dsat (two kind.OrI x z) w t a v (inl h) = first_row _ (has_behind ONE (has_dsat x w.0 t.0 a.0) v h)
-    has_dsat (two kind.OrI x z) w t a v (inr h) = second_row _ (has_behind EMPTY (has_dsat z w.1 t.1 a.1) v h)
-    has_dsat (thresh k xs) w t a v h = first_row _ (has_followed (have_parts [] xs w.2 t.0 a 0) v h)
+    has_dsat (two kind.OrI x z) w t a v (inl h) = first_row (has_behind ONE (has_dsat x w.0 t.0 a.0) v h)
+    has_dsat (two kind.OrI x z) w t a v (inr h) = second_row (has_behind EMPTY (has_dsat z w.1 t.1 a.1) v h)
+    has_dsat (thresh k xs) w t a v h = first_row (has_followed (have_parts [] xs w.2 t.0 a 0) v h)
     has_dsat (multi k keys) w t a v h = (replicate (k + 1) EMPTY, refl, h)
     has_dsat (wrap wrapper.A x) w t a v h = has_led (has_followed (has_dsat x w t.0 a)) v h
     has_dsat (wrap wrapper.S x) w t a v h = has_led (has_dsat x w t.0 a) v h
@@ -325,11 +257,12 @@ module _ (assets : Assets) where
     has_dsat (wrap wrapper.N x) w t a v h = has_followed (has_dsat x w t.0 a) v h
     has_dsat tree w t a v h = absurd h
 
-    have_parts : (first : Course) (xs : Trees) → AreWritable xs → AreTyped xs → HaveAll assets xs → (n : ℕ) (v : Way) → FormalParts first xs n v → HasParts first xs n v
+    have_parts : (first : Course) (xs : Trees) → AreWritable xs → AreTyped xs → HaveAll assets xs → (n : ℕ) (v : Way) → FormalParts first xs n v
+        → Has (parts s xs n) (parts_way s first xs n) v
     have_parts first none w t a zero v h = ([], (refl, refl), h)
     have_parts first none w t a (suc n) v h = absurd h
-    have_parts first (more x xs) w t a zero v h = second_row _ (has_then (has_followed (has_dsat x w.0 t.0 a.0)) (have_parts (down 1 ∷ []) xs w.1 t.1 a.1 0) v h)
+    have_parts first (more x xs) w t a zero v h = second_row (has_then (has_followed (has_dsat x w.0 t.0 a.0)) (have_parts (down 1 ∷ []) xs w.1 t.1 a.1 0) v h)
     have_parts first (more x xs) w t a (suc n) v (inl h) =
         let i = has_then (has_followed (has_sat x w.0 t.0 a.0)) (have_parts (down 1 ∷ []) xs w.1 t.1 a.1 n) v h in (i.0, inl (n, refl, i.1), i.2)
     have_parts first (more x xs) w t a (suc n) v (inr h) =
-        second_row _ (has_then (has_followed (has_dsat x w.0 t.0 a.0)) (have_parts (down 1 ∷ []) xs w.1 t.1 a.1 (suc n)) v h)
+        second_row (has_then (has_followed (has_dsat x w.0 t.0 a.0)) (have_parts (down 1 ∷ []) xs w.1 t.1 a.1 (suc n)) v h)

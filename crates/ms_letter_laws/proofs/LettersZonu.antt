@@ -42,8 +42,9 @@ non_zero node typed given mode stack n =
 pub unit_value : (node : Tree) → IsWritable node → IsTyped node → Few node → UnitValue node (type_of node)
 unit_value node writable typed few given stack below s place base u sat short live main =
     let log = sat_log (full given any) node (reverse stack) sat in
+    let items = short_items 520 (omega arith) (reverse stack) (all_reversed (λ item. length item ≤ 520) stack short) in
     let e : EndsB true true (den given node) (reverse stack) below log =
     subst (λ a. Ends given.table B a true (den given node) (reverse stack) below log) u
     (subst (λ c. Ends given.table c (type_of node).u true (den given node) (reverse stack) below log) base
-    (sat_ends (full given any) node writable typed few (reverse stack) below (short_items 520 (omega arith) (reverse stack) (all_reversed (λ item. length item ≤ 520) stack short)) sat)) in
+    ((sat_ends (full given any) node writable typed few (reverse stack) items sat).ends below)) in
     stop_or_leave given node s place (left (ONE ∷ below) _) writable live (ap (den given node) main ∙ unit_ends true (den given node) (reverse stack) below _ e)
