@@ -8,9 +8,9 @@ use Rattle.def_tree.specs.Tree.{Tree, Trees, and_or, two, thresh, wrap, none, mo
 use Rattle.def_satisfaction.specs.Setting.{Setting}
 use Rattle.def_satisfaction.specs.Rows.{row, parts, AreSignatures}
 use Rattle.ms_row_laws.proofs.RowLogs.{dsat_log, parts_log, multi_log, sat_log}
+use Rattle.ms_row_laws.proofs.KeyLists.{Among, among_left, among_right}
 use Rattle.ms_strict_laws.proofs.PairSets.{both_none, HasPair, pair_left, pair_right, has_one, Inside, inside_both, second_inside, first_inside, own_inside, none_inside}
 use Rattle.std.proofs.lemmas.Bool.{false≢true}
-use Rattle.std.proofs.lemmas.List.Elements.{Contains-append_left, Contains-append_right}
 use Rattle.def_script.specs.Bytes.{Bytes}
 use Rattle.def_tree.specs.Range.{IsKey, IsWritable, AreWritable}
 use Rattle.def_types.specs.Typed.{IsTyped, AreTyped}
@@ -69,23 +69,28 @@ both_free F G c d w below above e (inl f) (inl g) = inl (below, above, f, g, e)
 both_free F G c d w below above e f (inr pair) = inr (pair_left d c pair)
 both_free F G c d w below above e (inr pair) g = inr (pair_right d c pair)
 
-pub either_left : (P Q R : Type 0) → P ⊎ R → (P ⊎ Q) ⊎ R
-either_left P Q R (inl p) = inl (inl p)
-either_left P Q R (inr r) = inr r
+pub then_free : {P Q R : Type 0} → (P → Q) → P ⊎ R → Q ⊎ R
+then_free f (inl p) = inl (f p)
+then_free f (inr r) = inr r
 
-pub either_right : (P Q R : Type 0) → Q ⊎ R → (P ⊎ Q) ⊎ R
-either_right P Q R (inl q) = inl (inr q)
-either_right P Q R (inr r) = inr r
+-- a stack is free or has a pair, and the keys of its pairs are among these
+pub record Told (F : Type 0) (own : List Key) (c : Pairs) : Type 0 where
+  pub free : F ⊎ HasPair c
+  pub inside : Inside c own
 
-pub then_free : (P Q R : Type 0) → (P → Q) → P ⊎ R → Q ⊎ R
-then_free P Q R f (inl p) = inl (f p)
-then_free P Q R f (inr r) = inr r
+told_as : {F G : Type 0} {a b : List Key} {c : Pairs} → (F → G) → Among a b → Told F a c → Told G b c
+told_as f among x = record { free = then_free f x.free; inside = λ key sig h. among key (x.inside key sig h) }
 
-on_left : (c : Pairs) (ks ls : List Key) → Inside c ks → Inside c (ks ++ ls)
-on_left c ks ls f k s h = Contains-append_left ks ls k (f k s h)
+both_told : {F G A B : StackSet} {a b : List Key} {c d : Pairs} (w : Stack) (r : Both B A w) → Told (G r.1) a c → Told (F r.0) b d
+    → Told (Both F G w) (a ++ b) (c ++ d)
+both_told {a = a} {b = b} w r x y = record { free = both_free _ _ _ _ w r.0 r.1 r.4 y.free x.free; inside = inside_both a b _ _ x.inside y.inside }
 
-on_right : (c : Pairs) (ks ls : List Key) → Inside c ls → Inside c (ks ++ ls)
-on_right c ks ls f k s h = Contains-append_right ks ls k (f k s h)
+-- beside a free stack without pairs
+second_told : {F G A B : StackSet} {b : List Key} {c d : Pairs} (w : Stack) (r : Both B A w) → G r.1 → c ≡ [] → Told (F r.0) b d → Told (Both F G w) b (c ++ d)
+second_told {b = b} w r g quiet y = record { free = both_free _ _ _ _ w r.0 r.1 r.4 y.free (inl g); inside = second_inside _ _ b quiet y.inside }
+
+first_told : {F G A B : StackSet} {a : List Key} {c d : Pairs} (w : Stack) (r : Both B A w) → Told (G r.1) a c → F r.0 → d ≡ [] → Told (Both F G w) a (c ++ d)
+first_told {a = a} w r x f quiet = record { free = both_free _ _ _ _ w r.0 r.1 r.4 (inl f) x.free; inside = first_inside _ _ a quiet x.inside }
 
 module _ (assets : Assets) where
   -- the pairs that are logged
@@ -159,78 +164,48 @@ module _ (assets : Assets) where
         let b = both_quiet (parts_quiet xs t.1 n f.0 f.2) (quiet_still x f.1 f.3) in (inr (f.0, f.1, b.0, b.1, f.4), b.2)
 
   mutual
-    pub free_or_pair : (tree : Tree) → IsWritable tree → IsTyped tree → (w : Stack) (r : (signed_row assets tree).sat w) → (free_row assets tree).sat w ⊎ HasPair (checks tree w r)
-    free_or_pair just_0 k t w r = absurd r
-    free_or_pair (pk_k key) k t w r = inr (key, r.0, has_one key r.0)
-    free_or_pair (pk_h key) k t w r = let g = r.4.2 in inr (r.0, g.0, has_one r.0 g.0)
-    free_or_pair (and_or x y z) k t w (inl r) =
-        either_left _ _ _ (both_free _ _ _ _ w r.0 r.1 r.4 (free_or_pair y k.1 t.1 r.0 r.2) (free_or_pair x k.0 t.0 r.1 r.3))
-    free_or_pair (and_or x y z) k t w (inr r) =
-        either_right _ _ _ (both_free _ _ _ _ w r.0 r.1 r.4 (free_or_pair z k.2 t.2 r.0 r.2) (inl (free_dsat assets x r.1 r.3)))
-    free_or_pair (two kind.AndV x y) k t w r = both_free _ _ _ _ w r.0 r.1 r.4 (free_or_pair y k.1 t.1 r.0 r.2) (free_or_pair x k.0 t.0 r.1 r.3)
-    free_or_pair (two kind.AndB x y) k t w r = both_free _ _ _ _ w r.0 r.1 r.4 (free_or_pair y k.1 t.1 r.0 r.2) (free_or_pair x k.0 t.0 r.1 r.3)
-    free_or_pair (two kind.OrB x z) k t w (inl r) =
-        either_left _ _ _ (both_free _ _ _ _ w r.0 r.1 r.4 (inl (free_dsat assets z r.0 r.2)) (free_or_pair x k.0 t.0 r.1 r.3))
-    free_or_pair (two kind.OrB x z) k t w (inr (inl r)) =
-        either_right _ _ _ (either_left _ _ _
-        (both_free _ _ _ _ w r.0 r.1 r.4 (free_or_pair z k.1 t.1 r.0 r.2) (inl (free_dsat assets x r.1 r.3))))
-    free_or_pair (two kind.OrB x z) k t w (inr (inr r)) = absurd (false≢true r.0)
-    free_or_pair (two kind.OrI x z) k t w (inl r) =
-        either_left _ _ _ (both_free _ _ _ [] w r.0 r.1 r.4 (free_or_pair x k.0 t.0 r.0 r.2) (inl r.3))
-    free_or_pair (two kind.OrI x z) k t w (inr r) =
-        either_right _ _ _ (both_free _ _ _ [] w r.0 r.1 r.4 (free_or_pair z k.1 t.1 r.0 r.2) (inl r.3))
-    free_or_pair (two which x z) k t w (inl r) = either_left _ _ _ (free_or_pair x k.0 t.0 w r)
-    free_or_pair (two which x z) k t w (inr r) =
-        either_right _ _ _ (both_free _ _ _ _ w r.0 r.1 r.4 (free_or_pair z k.1 t.1 r.0 r.2) (inl (free_dsat assets x r.1 r.3)))
-    free_or_pair (thresh n xs) k t w r = parts_or_pair xs k.2 t.0 n w r
-    free_or_pair (multi n keys) k t w r = let i = typed-multi n keys t in inr (multi_pair n keys r.1 k.2 i.0 r.3.0 r.3.1)
-    free_or_pair (wrap wrapper.D x) k t w r = both_free _ _ _ [] w r.0 r.1 r.4 (free_or_pair x k t.0 r.0 r.2) (inl r.3)
-    free_or_pair (wrap letter x) k t w r = free_or_pair x k t.0 w r
-    free_or_pair tree k t w r = inl r
+    pub told : (tree : Tree) → IsWritable tree → IsTyped tree → (w : Stack) (r : (signed_row assets tree).sat w)
+        → Told ((free_row assets tree).sat w) (keys tree) (checks tree w r)
+    told just_0 k t w r = absurd r
+    told (pk_k key) k t w r = record { free = inr (key, r.0, has_one key r.0); inside = own_inside key r.0 }
+    told (pk_h key) k t w r = record {
+      free = inr (r.0, r.4.2.0, has_one r.0 r.4.2.0);
+      inside = subst (λ own. Inside (checks (pk_h key) w r) (own ∷ [])) r.3 (own_inside r.0 r.4.2.0);
+    }
+    told (and_or x y z) k t w (inl r) =
+        told_as (λ f. inl f) (among_left (keys x ++ keys y) (keys z)) (both_told w r (told x k.0 t.0 r.1 r.3) (told y k.1 t.1 r.0 r.2))
+    told (and_or x y z) k t w (inr r) =
+        told_as (λ f. inr f) (among_right (keys x ++ keys y) (keys z))
+        (second_told w r (free_dsat assets x r.1 r.3) (dsat_quiet x r.1 r.3) (told z k.2 t.2 r.0 r.2))
+    told (two kind.AndV x y) k t w r = both_told w r (told x k.0 t.0 r.1 r.3) (told y k.1 t.1 r.0 r.2)
+    told (two kind.AndB x y) k t w r = both_told w r (told x k.0 t.0 r.1 r.3) (told y k.1 t.1 r.0 r.2)
+    told (two kind.OrB x z) k t w (inl r) =
+        told_as (λ f. inl f) (among_left (keys x) (keys z)) (first_told w r (told x k.0 t.0 r.1 r.3) (free_dsat assets z r.0 r.2) (dsat_quiet z r.0 r.2))
+    told (two kind.OrB x z) k t w (inr (inl r)) =
+        told_as (λ f. inr (inl f)) (among_right (keys x) (keys z))
+        (second_told w r (free_dsat assets x r.1 r.3) (dsat_quiet x r.1 r.3) (told z k.1 t.1 r.0 r.2))
+    told (two kind.OrB x z) k t w (inr (inr r)) = absurd (false≢true r.0)
+    told (two kind.OrI x z) k t w (inl r) = told_as (λ f. inl (r.0, r.1, f, r.3, r.4)) (among_left (keys x) (keys z)) (told x k.0 t.0 r.0 r.2)
+    told (two kind.OrI x z) k t w (inr r) = told_as (λ f. inr (r.0, r.1, f, r.3, r.4)) (among_right (keys x) (keys z)) (told z k.1 t.1 r.0 r.2)
+    told (two which x z) k t w (inl r) = told_as (λ f. inl f) (among_left (keys x) (keys z)) (told x k.0 t.0 w r)
+    told (two which x z) k t w (inr r) =
+        told_as (λ f. inr f) (among_right (keys x) (keys z))
+        (second_told w r (free_dsat assets x r.1 r.3) (dsat_quiet x r.1 r.3) (told z k.1 t.1 r.0 r.2))
+    told (thresh n xs) k t w r = told_parts xs k.2 t.0 n w r
+    told (multi n own) k t w r = record {
+      free = inr (multi_pair n own r.1 k.2 (typed-multi n own t).0 r.3.0 r.3.1);
+      inside = λ key sig h.
+          contains-reverse own key (matched_inside (reverse own) r.1 (checks (multi n own) w r) (matched_log assets.pairs own r.1 k.2 r.3.1) key sig h);
+    }
+    told (wrap wrapper.D x) k t w r = told_as (λ f. (r.0, r.1, f, r.3, r.4)) (λ key i. i) (told x k t.0 r.0 r.2)
+    told (wrap letter x) k t w r = told x k t.0 w r
+    told tree k t w r = record { free = inl r; inside = none_inside [] }
 
-    parts_or_pair : (xs : Trees) → AreWritable xs → AreTyped xs → (n : ℕ) (w : Stack) (r : parts (canonical assets) xs n w) →
-        parts (canonical (unsigned assets)) xs n w ⊎ HasPair (parts_checks xs n w r)
-    parts_or_pair none k t n w r = inl r
-    parts_or_pair (more x xs) k t n w (inl r) =
-        let g = r.2 in
-        then_free _ _ _ (λ f. inl (r.0, r.1, f))
-        (both_free _ _ _ _ w g.0 g.1 g.4 (parts_or_pair xs k.1 t.1 r.0 g.0 g.2) (free_or_pair x k.0 t.0 g.1 g.3))
-    parts_or_pair (more x xs) k t n w (inr r) =
-        either_right _ _ _ (both_free _ _ _ _ w r.0 r.1 r.4 (parts_or_pair xs k.1 t.1 n r.0 r.2) (inl (free_dsat assets x r.1 r.3)))
-
-  mutual
-    -- the keys of the pairs that are logged are the miniscript's
-    pub keys_within : (tree : Tree) → IsWritable tree → (w : Stack) (r : (signed_row assets tree).sat w) → Inside (checks tree w r) (keys tree)
-    keys_within just_0 k w r = absurd r
-    keys_within (pk_k key) k w r = own_inside key r.0
-    keys_within (pk_h key) k w r = subst (λ own. Inside (checks (pk_h key) w r) (own ∷ [])) r.3 (own_inside r.0 r.4.2.0)
-    keys_within (and_or x y z) k w (inl r) =
-        on_left _ (keys x ++ keys y) (keys z) (inside_both (keys x) (keys y) _ _ (keys_within x k.0 r.1 r.3) (keys_within y k.1 r.0 r.2))
-    keys_within (and_or x y z) k w (inr r) =
-        on_right _ (keys x ++ keys y) (keys z) (second_inside _ _ (keys z) (dsat_quiet x r.1 r.3) (keys_within z k.2 r.0 r.2))
-    keys_within (two kind.AndV x y) k w r = inside_both (keys x) (keys y) _ _ (keys_within x k.0 r.1 r.3) (keys_within y k.1 r.0 r.2)
-    keys_within (two kind.AndB x y) k w r = inside_both (keys x) (keys y) _ _ (keys_within x k.0 r.1 r.3) (keys_within y k.1 r.0 r.2)
-    keys_within (two kind.OrB x z) k w (inl r) =
-        on_left _ (keys x) (keys z) (first_inside _ _ (keys x) (dsat_quiet z r.0 r.2) (keys_within x k.0 r.1 r.3))
-    keys_within (two kind.OrB x z) k w (inr (inl r)) =
-        on_right _ (keys x) (keys z) (second_inside _ _ (keys z) (dsat_quiet x r.1 r.3) (keys_within z k.1 r.0 r.2))
-    keys_within (two kind.OrB x z) k w (inr (inr r)) = absurd (false≢true r.0)
-    keys_within (two kind.OrI x z) k w (inl r) = on_left _ (keys x) (keys z) (keys_within x k.0 r.0 r.2)
-    keys_within (two kind.OrI x z) k w (inr r) = on_right _ (keys x) (keys z) (keys_within z k.1 r.0 r.2)
-    keys_within (two which x z) k w (inl r) = on_left _ (keys x) (keys z) (keys_within x k.0 w r)
-    keys_within (two which x z) k w (inr r) =
-        on_right _ (keys x) (keys z) (second_inside _ _ (keys z) (dsat_quiet x r.1 r.3) (keys_within z k.1 r.0 r.2))
-    keys_within (thresh n xs) k w r = keys_of_parts xs k.2 n w r
-    keys_within (multi n own) k w r =
-        λ key sig h. contains-reverse own key (matched_inside (reverse own) r.1 (checks (multi n own) w r) (matched_log assets.pairs own r.1 k.2 r.3.1) key sig h)
-    keys_within (wrap wrapper.D x) k w r = keys_within x k r.0 r.2
-    keys_within (wrap letter x) k w r = keys_within x k w r
-    keys_within tree k w r = none_inside []
-
-    pub keys_of_parts : (xs : Trees) → AreWritable xs → (n : ℕ) (w : Stack) (r : parts (canonical assets) xs n w) → Inside (parts_checks xs n w r) (keys_of_all xs)
-    keys_of_parts none k n w r = none_inside []
-    keys_of_parts (more x xs) k n w (inl r) =
-        let g = r.2 in
-        inside_both (keys x) (keys_of_all xs) _ _ (keys_within x k.0 g.1 g.3) (keys_of_parts xs k.1 r.0 g.0 g.2)
-    keys_of_parts (more x xs) k n w (inr r) =
-        on_right _ (keys x) (keys_of_all xs) (second_inside _ _ (keys_of_all xs) (dsat_quiet x r.1 r.3) (keys_of_parts xs k.1 n r.0 r.2))
+    pub told_parts : (xs : Trees) → AreWritable xs → AreTyped xs → (n : ℕ) (w : Stack) (r : parts (canonical assets) xs n w) →
+        Told (parts (canonical (unsigned assets)) xs n w) (keys_of_all xs) (parts_checks xs n w r)
+    told_parts none k t n w r = record { free = inl r; inside = none_inside [] }
+    told_parts (more x xs) k t n w (inl (m, e, r)) =
+        told_as (λ f. inl (m, e, f)) (λ key i. i) (both_told w r (told x k.0 t.0 r.1 r.3) (told_parts xs k.1 t.1 m r.0 r.2))
+    told_parts (more x xs) k t n w (inr r) =
+        told_as (λ f. inr f) (among_right (keys x) (keys_of_all xs))
+        (second_told w r (free_dsat assets x r.1 r.3) (dsat_quiet x r.1 r.3) (told_parts xs k.1 t.1 n r.0 r.2))

@@ -9,6 +9,7 @@ use Rattle.def_tree.specs.declared.Two.TheVariants as kind
 use Rattle.def_tree.specs.declared.Wrapper.TheVariants as wrapper
 use Rattle.def_tree.specs.Tree.{Tree, Trees, Key, just_0, pk_k, pk_h, and_or, two, thresh, multi, wrap, none, more}
 use Rattle.def_tree.specs.Range.{IsWritable, AreWritable}
+use Rattle.def_satisfaction.specs.StackSet.{StackSet, Both}
 use Rattle.def_satisfaction.specs.Setting.{Setting}
 use Rattle.def_satisfaction.specs.Rows.{AreSignatures, row, parts}
 use Rattle.ms_row_laws.proofs.RowLogs.{sat_log, dsat_log, parts_log, found_in, check_log}
@@ -86,117 +87,85 @@ multi_kept table other keys sigs are h good =
     let all = good_tries table (reverse keys) sigs [] (reversed_forms keys are) h in
     found_signs table other (reverse keys) sigs [] all.0 all.1 (subst (λ t. AreGood other (found_in t)) all.1 good)
 
-module _ (s : Setting) (table : Pairs) where
-  mutual
-    pub sat_kept : (t : Tree) → IsWritable t → (w : Stack) (r : (row s t).sat w) → AreGood table (sat_log s t w r).checks → (row (with_table s table) t).sat w
-    sat_kept (pk_k key) k w r h = (r.0, good_one table key r.0 h, r.2)
-    sat_kept (pk_h key) k w r h = (r.0, r.1, r.2, r.3, (r.4.0, r.4.1, (r.4.2.0, good_one table r.0 r.4.2.0 h, r.4.2.2), r.4.3, r.4.4))
-    sat_kept (and_or x y z) k w (inl r) h = inl (r.0, r.1, sat_kept y k.1 r.0 r.2 (good_right table _ _ h), sat_kept x k.0 r.1 r.3 (good_left table _ _ h), r.4)
-    sat_kept (and_or x y z) k w (inr r) h =
-        inr (r.0, r.1, sat_kept z k.2 r.0 r.2 (good_right table _ _ h), dsat_kept x k.0 r.1 r.3 (good_left table _ _ h), r.4)
-    sat_kept (two kind.AndV x y) k w r h = (r.0, r.1, sat_kept y k.1 r.0 r.2 (good_right table _ _ h), sat_kept x k.0 r.1 r.3 (good_left table _ _ h), r.4)
-    sat_kept (two kind.AndB x y) k w r h = (r.0, r.1, sat_kept y k.1 r.0 r.2 (good_right table _ _ h), sat_kept x k.0 r.1 r.3 (good_left table _ _ h), r.4)
-    sat_kept (two kind.OrB x z) k w (inl r) h =
-        inl (r.0, r.1, dsat_kept z k.1 r.0 r.2 (good_right table _ _ h), sat_kept x k.0 r.1 r.3 (good_left table _ _ h), r.4)
-    sat_kept (two kind.OrB x z) k w (inr (inl r)) h =
-        inr (inl (r.0, r.1, sat_kept z k.1 r.0 r.2 (good_right table _ _ h), dsat_kept x k.0 r.1 r.3 (good_left table _ _ h), r.4))
-    sat_kept (two kind.OrB x z) k w (inr (inr (fact, r))) h =
-        inr (inr (fact, (r.0, r.1, sat_kept z k.1 r.0 r.2 (good_right table _ _ h), sat_kept x k.0 r.1 r.3 (good_left table _ _ h), r.4)))
-    sat_kept (two kind.OrI x z) k w (inl r) h = inl (r.0, r.1, sat_kept x k.0 r.0 r.2 h, r.3, r.4)
-    sat_kept (two kind.OrI x z) k w (inr r) h = inr (r.0, r.1, sat_kept z k.1 r.0 r.2 h, r.3, r.4)
-    sat_kept (two which x z) k w (inl r) h = inl (sat_kept x k.0 w r h)
-    sat_kept (two which x z) k w (inr r) h =
-        inr (r.0, r.1, sat_kept z k.1 r.0 r.2 (good_right table _ _ h), dsat_kept x k.0 r.1 r.3 (good_left table _ _ h), r.4)
-    sat_kept (thresh n xs) k w r h = parts_kept xs k.2 n w r h
-    sat_kept (multi n keys) k w r h = (r.0, r.1, r.2, (r.3.0, multi_kept s.given.table table keys r.1 (forms keys k.2) r.3.1 h), r.4)
-    sat_kept (wrap wrapper.D x) k w r h = (r.0, r.1, sat_kept x k r.0 r.2 h, r.3, r.4)
-    sat_kept (wrap letter x) k w r h = sat_kept x k w r h
-    sat_kept tree k w r h = r
-
-    pub dsat_kept : (t : Tree) → IsWritable t → (w : Stack) (r : (row s t).dsat w) → AreGood table (dsat_log s t w r).checks → (row (with_table s table) t).dsat w
-    dsat_kept (and_or x y z) k w (inl r) h =
-        inl (r.0, r.1, dsat_kept z k.2 r.0 r.2 (good_right table _ _ h), dsat_kept x k.0 r.1 r.3 (good_left table _ _ h), r.4)
-    dsat_kept (and_or x y z) k w (inr (fact, r)) h =
-        inr (fact, (r.0, r.1, dsat_kept y k.1 r.0 r.2 (good_right table _ _ h), sat_kept x k.0 r.1 r.3 (good_left table _ _ h), r.4))
-    dsat_kept (two kind.AndV x y) k w (fact, r) h =
-        (fact, (r.0, r.1, dsat_kept y k.1 r.0 r.2 (good_right table _ _ h), sat_kept x k.0 r.1 r.3 (good_left table _ _ h), r.4))
-    dsat_kept (two kind.AndB x y) k w (inl r) h =
-        inl (r.0, r.1, dsat_kept y k.1 r.0 r.2 (good_right table _ _ h), dsat_kept x k.0 r.1 r.3 (good_left table _ _ h), r.4)
-    dsat_kept (two kind.AndB x y) k w (inr (fact, inl r)) h =
-        inr (fact, inl (r.0, r.1, sat_kept y k.1 r.0 r.2 (good_right table _ _ h), dsat_kept x k.0 r.1 r.3 (good_left table _ _ h), r.4))
-    dsat_kept (two kind.AndB x y) k w (inr (fact, inr r)) h =
-        inr (fact, inr (r.0, r.1, dsat_kept y k.1 r.0 r.2 (good_right table _ _ h), sat_kept x k.0 r.1 r.3 (good_left table _ _ h), r.4))
-    dsat_kept (two kind.OrC x z) k w r h = r
-    dsat_kept (two kind.OrI x z) k w (inl r) h = inl (r.0, r.1, dsat_kept x k.0 r.0 r.2 h, r.3, r.4)
-    dsat_kept (two kind.OrI x z) k w (inr r) h = inr (r.0, r.1, dsat_kept z k.1 r.0 r.2 h, r.3, r.4)
-    dsat_kept (two which x z) k w r h = (r.0, r.1, dsat_kept z k.1 r.0 r.2 (good_right table _ _ h), dsat_kept x k.0 r.1 r.3 (good_left table _ _ h), r.4)
-    dsat_kept (thresh n xs) k w (inl r) h = inl (parts_kept xs k.2 0 w r h)
-    dsat_kept (thresh n xs) k w (inr (fact, r)) h = inr (fact, (r.0, r.1, r.2, parts_kept xs k.2 r.0 w r.3 h))
-    dsat_kept (wrap wrapper.D x) k w r h = r
-    dsat_kept (wrap wrapper.V x) k w r h = r
-    dsat_kept (wrap wrapper.J x) k w (inl r) h = inl r
-    dsat_kept (wrap wrapper.J x) k w (inr (fact, r)) h = inr (fact, (r.0, dsat_kept x k w r.1 h))
-    dsat_kept (wrap letter x) k w r h = dsat_kept x k w r h
-    dsat_kept tree k w r h = r
-
-    pub parts_kept : (xs : Trees) → AreWritable xs → (n : ℕ) (w : Stack) (r : parts s xs n w) → AreGood table (parts_log s xs n w r).checks → parts (with_table s table) xs n w
-    parts_kept none k n w r h = r
-    parts_kept (more x xs) k n w (inl (m, e, r)) h =
-        inl (m, e, (r.0, r.1, parts_kept xs k.1 m r.0 r.2 (good_right table _ _ h), sat_kept x k.0 r.1 r.3 (good_left table _ _ h), r.4))
-    parts_kept (more x xs) k n w (inr r) h =
-        inr (r.0, r.1, parts_kept xs k.1 n r.0 r.2 (good_right table _ _ h), dsat_kept x k.0 r.1 r.3 (good_left table _ _ h), r.4)
-
 multi_good : (table : Pairs) (keys : List Key) (sigs : Stack) → All (λ key. IsTrue (is_key key)) keys → AreSignatures table (reverse keys) sigs
     → AreGood table (found_in (tries table (reverse keys) sigs []))
 multi_good table keys sigs are h =
     let all = good_tries table (reverse keys) sigs [] (reversed_forms keys are) h in
     subst (λ t. AreGood table (found_in t)) (sym all.1) (found_good table (reverse keys) sigs [] all.0 all.1 (good_none table))
 
--- what is logged is good
-module _ (s : Setting) where
+-- the pairs are good, and where another table has them too it has X
+pub record Kept (own table pairs : Pairs) (X : Type 0) : Type 0 where
+  pub good : AreGood own pairs
+  pub kept : AreGood table pairs → X
+
+module _ (s : Setting) (table : Pairs) where
+  abbrev Keeps : Pairs → Type 0 → Type 0
+  Keeps = Kept s.given.table table
+
+  kept_as : {c : Pairs} {X Y : Type 0} → (X → Y) → Keeps c X → Keeps c Y
+  kept_as f x = record { good = x.good; kept = λ h. f (x.kept h) }
+
+  unlogged : {X : Type 0} → X → Keeps [] X
+  unlogged x = record { good = good_none s.given.table; kept = λ h. x }
+
+  -- of two children
+  both_kept : {c d : Pairs} {P Q A B : StackSet} (w : Stack) (r : Both B A w) → Keeps c (P r.1) → Keeps d (Q r.0) → Keeps (c ++ d) (Both Q P w)
+  both_kept {c} {d} w r x y = record {
+    good = good_both s.given.table c d x.good y.good;
+    kept = λ h. (r.0, r.1, y.kept (good_right table c d h), x.kept (good_left table c d h), r.4);
+  }
+
   mutual
-    pub sat_good : (t : Tree) → IsWritable t → (w : Stack) (r : (row s t).sat w) → AreGood s.given.table (sat_log s t w r).checks
-    sat_good just_0 k w r = absurd r
-    sat_good (pk_k key) k w r = good_alone s.given.table key r.0 r.1
-    sat_good (pk_h key) k w r = good_alone s.given.table r.0 r.4.2.0 r.4.2.1
-    sat_good (and_or x y z) k w (inl r) = good_both s.given.table _ _ (sat_good x k.0 r.1 r.3) (sat_good y k.1 r.0 r.2)
-    sat_good (and_or x y z) k w (inr r) = good_both s.given.table _ _ (dsat_good x k.0 r.1 r.3) (sat_good z k.2 r.0 r.2)
-    sat_good (two kind.AndV x y) k w r = good_both s.given.table _ _ (sat_good x k.0 r.1 r.3) (sat_good y k.1 r.0 r.2)
-    sat_good (two kind.AndB x y) k w r = good_both s.given.table _ _ (sat_good x k.0 r.1 r.3) (sat_good y k.1 r.0 r.2)
-    sat_good (two kind.OrB x z) k w (inl r) = good_both s.given.table _ _ (sat_good x k.0 r.1 r.3) (dsat_good z k.1 r.0 r.2)
-    sat_good (two kind.OrB x z) k w (inr (inl r)) = good_both s.given.table _ _ (dsat_good x k.0 r.1 r.3) (sat_good z k.1 r.0 r.2)
-    sat_good (two kind.OrB x z) k w (inr (inr (fact, r))) = good_both s.given.table _ _ (sat_good x k.0 r.1 r.3) (sat_good z k.1 r.0 r.2)
-    sat_good (two kind.OrI x z) k w (inl r) = sat_good x k.0 r.0 r.2
-    sat_good (two kind.OrI x z) k w (inr r) = sat_good z k.1 r.0 r.2
-    sat_good (two which x z) k w (inl r) = sat_good x k.0 w r
-    sat_good (two which x z) k w (inr r) = good_both s.given.table _ _ (dsat_good x k.0 r.1 r.3) (sat_good z k.1 r.0 r.2)
-    sat_good (thresh n xs) k w r = parts_good xs k.2 n w r
-    sat_good (multi n keys) k w r = multi_good s.given.table keys r.1 (forms keys k.2) r.3.1
-    sat_good (wrap wrapper.D x) k w r = sat_good x k r.0 r.2
-    sat_good (wrap letter x) k w r = sat_good x k w r
-    sat_good tree k w r = good_none s.given.table
+    -- what is logged along a row is good, and where another table has it the stack is one of that row there
+    pub sat_kept : (t : Tree) → IsWritable t → (w : Stack) (r : (row s t).sat w) → Keeps (sat_log s t w r).checks ((row (with_table s table) t).sat w)
+    sat_kept just_0 k w r = absurd r
+    sat_kept (pk_k key) k w r = record { good = good_alone s.given.table key r.0 r.1; kept = λ h. (r.0, good_one table key r.0 h, r.2) }
+    sat_kept (pk_h key) k w r = record {
+      good = good_alone s.given.table r.0 r.4.2.0 r.4.2.1;
+      kept = λ h. (r.0, r.1, r.2, r.3, (r.4.0, r.4.1, (r.4.2.0, good_one table r.0 r.4.2.0 h, r.4.2.2), r.4.3, r.4.4));
+    }
+    sat_kept (and_or x y z) k w (inl r) = kept_as (λ q. inl q) (both_kept w r (sat_kept x k.0 r.1 r.3) (sat_kept y k.1 r.0 r.2))
+    sat_kept (and_or x y z) k w (inr r) = kept_as (λ q. inr q) (both_kept w r (dsat_kept x k.0 r.1 r.3) (sat_kept z k.2 r.0 r.2))
+    sat_kept (two kind.AndV x y) k w r = both_kept w r (sat_kept x k.0 r.1 r.3) (sat_kept y k.1 r.0 r.2)
+    sat_kept (two kind.AndB x y) k w r = both_kept w r (sat_kept x k.0 r.1 r.3) (sat_kept y k.1 r.0 r.2)
+    sat_kept (two kind.OrB x z) k w (inl r) = kept_as (λ q. inl q) (both_kept w r (sat_kept x k.0 r.1 r.3) (dsat_kept z k.1 r.0 r.2))
+    sat_kept (two kind.OrB x z) k w (inr (inl r)) = kept_as (λ q. inr (inl q)) (both_kept w r (dsat_kept x k.0 r.1 r.3) (sat_kept z k.1 r.0 r.2))
+    sat_kept (two kind.OrB x z) k w (inr (inr (fact, r))) = kept_as (λ q. inr (inr (fact, q))) (both_kept w r (sat_kept x k.0 r.1 r.3) (sat_kept z k.1 r.0 r.2))
+    sat_kept (two kind.OrI x z) k w (inl r) = kept_as (λ q. inl (r.0, r.1, q, r.3, r.4)) (sat_kept x k.0 r.0 r.2)
+    sat_kept (two kind.OrI x z) k w (inr r) = kept_as (λ q. inr (r.0, r.1, q, r.3, r.4)) (sat_kept z k.1 r.0 r.2)
+    sat_kept (two which x z) k w (inl r) = kept_as (λ q. inl q) (sat_kept x k.0 w r)
+    sat_kept (two which x z) k w (inr r) = kept_as (λ q. inr q) (both_kept w r (dsat_kept x k.0 r.1 r.3) (sat_kept z k.1 r.0 r.2))
+    sat_kept (thresh n xs) k w r = parts_kept xs k.2 n w r
+    sat_kept (multi n keys) k w r = record {
+      good = multi_good s.given.table keys r.1 (forms keys k.2) r.3.1;
+      kept = λ h. (r.0, r.1, r.2, (r.3.0, multi_kept s.given.table table keys r.1 (forms keys k.2) r.3.1 h), r.4);
+    }
+    sat_kept (wrap wrapper.D x) k w r = kept_as (λ q. (r.0, r.1, q, r.3, r.4)) (sat_kept x k r.0 r.2)
+    sat_kept (wrap letter x) k w r = sat_kept x k w r
+    sat_kept tree k w r = unlogged r
 
-    pub dsat_good : (t : Tree) → IsWritable t → (w : Stack) (r : (row s t).dsat w) → AreGood s.given.table (dsat_log s t w r).checks
-    dsat_good (and_or x y z) k w (inl r) = good_both s.given.table _ _ (dsat_good x k.0 r.1 r.3) (dsat_good z k.2 r.0 r.2)
-    dsat_good (and_or x y z) k w (inr (fact, r)) = good_both s.given.table _ _ (sat_good x k.0 r.1 r.3) (dsat_good y k.1 r.0 r.2)
-    dsat_good (two kind.AndV x y) k w (fact, r) = good_both s.given.table _ _ (sat_good x k.0 r.1 r.3) (dsat_good y k.1 r.0 r.2)
-    dsat_good (two kind.AndB x y) k w (inl r) = good_both s.given.table _ _ (dsat_good x k.0 r.1 r.3) (dsat_good y k.1 r.0 r.2)
-    dsat_good (two kind.AndB x y) k w (inr (fact, inl r)) = good_both s.given.table _ _ (dsat_good x k.0 r.1 r.3) (sat_good y k.1 r.0 r.2)
-    dsat_good (two kind.AndB x y) k w (inr (fact, inr r)) = good_both s.given.table _ _ (sat_good x k.0 r.1 r.3) (dsat_good y k.1 r.0 r.2)
-    dsat_good (two kind.OrC x z) k w r = good_none s.given.table
-    dsat_good (two kind.OrI x z) k w (inl r) = dsat_good x k.0 r.0 r.2
-    dsat_good (two kind.OrI x z) k w (inr r) = dsat_good z k.1 r.0 r.2
-    dsat_good (two which x z) k w r = good_both s.given.table _ _ (dsat_good x k.0 r.1 r.3) (dsat_good z k.1 r.0 r.2)
-    dsat_good (thresh n xs) k w (inl r) = parts_good xs k.2 0 w r
-    dsat_good (thresh n xs) k w (inr (fact, r)) = parts_good xs k.2 r.0 w r.3
-    dsat_good (wrap wrapper.D x) k w r = good_none s.given.table
-    dsat_good (wrap wrapper.V x) k w r = good_none s.given.table
-    dsat_good (wrap wrapper.J x) k w (inl r) = good_none s.given.table
-    dsat_good (wrap wrapper.J x) k w (inr (fact, r)) = dsat_good x k w r.1
-    dsat_good (wrap letter x) k w r = dsat_good x k w r
-    dsat_good tree k w r = good_none s.given.table
+    dsat_kept : (t : Tree) → IsWritable t → (w : Stack) (r : (row s t).dsat w) → Keeps (dsat_log s t w r).checks ((row (with_table s table) t).dsat w)
+    dsat_kept (and_or x y z) k w (inl r) = kept_as (λ q. inl q) (both_kept w r (dsat_kept x k.0 r.1 r.3) (dsat_kept z k.2 r.0 r.2))
+    dsat_kept (and_or x y z) k w (inr (fact, r)) = kept_as (λ q. inr (fact, q)) (both_kept w r (sat_kept x k.0 r.1 r.3) (dsat_kept y k.1 r.0 r.2))
+    dsat_kept (two kind.AndV x y) k w (fact, r) = kept_as (λ q. (fact, q)) (both_kept w r (sat_kept x k.0 r.1 r.3) (dsat_kept y k.1 r.0 r.2))
+    dsat_kept (two kind.AndB x y) k w (inl r) = kept_as (λ q. inl q) (both_kept w r (dsat_kept x k.0 r.1 r.3) (dsat_kept y k.1 r.0 r.2))
+    dsat_kept (two kind.AndB x y) k w (inr (fact, inl r)) = kept_as (λ q. inr (fact, inl q)) (both_kept w r (dsat_kept x k.0 r.1 r.3) (sat_kept y k.1 r.0 r.2))
+    dsat_kept (two kind.AndB x y) k w (inr (fact, inr r)) = kept_as (λ q. inr (fact, inr q)) (both_kept w r (sat_kept x k.0 r.1 r.3) (dsat_kept y k.1 r.0 r.2))
+    dsat_kept (two kind.OrC x z) k w r = unlogged r
+    dsat_kept (two kind.OrI x z) k w (inl r) = kept_as (λ q. inl (r.0, r.1, q, r.3, r.4)) (dsat_kept x k.0 r.0 r.2)
+    dsat_kept (two kind.OrI x z) k w (inr r) = kept_as (λ q. inr (r.0, r.1, q, r.3, r.4)) (dsat_kept z k.1 r.0 r.2)
+    dsat_kept (two which x z) k w r = both_kept w r (dsat_kept x k.0 r.1 r.3) (dsat_kept z k.1 r.0 r.2)
+    dsat_kept (thresh n xs) k w (inl r) = kept_as (λ q. inl q) (parts_kept xs k.2 0 w r)
+    dsat_kept (thresh n xs) k w (inr (fact, r)) = kept_as (λ q. inr (fact, (r.0, r.1, r.2, q))) (parts_kept xs k.2 r.0 w r.3)
+    dsat_kept (wrap wrapper.D x) k w r = unlogged r
+    dsat_kept (wrap wrapper.V x) k w r = unlogged r
+    dsat_kept (wrap wrapper.J x) k w (inl r) = unlogged (inl r)
+    dsat_kept (wrap wrapper.J x) k w (inr (fact, r)) = kept_as (λ q. inr (fact, (r.0, q))) (dsat_kept x k w r.1)
+    dsat_kept (wrap letter x) k w r = dsat_kept x k w r
+    dsat_kept tree k w r = unlogged r
 
-    parts_good : (xs : Trees) → AreWritable xs → (n : ℕ) (w : Stack) (r : parts s xs n w) → AreGood s.given.table (parts_log s xs n w r).checks
-    parts_good none k n w r = good_none s.given.table
-    parts_good (more x xs) k n w (inl (m, e, r)) = good_both s.given.table _ _ (sat_good x k.0 r.1 r.3) (parts_good xs k.1 m r.0 r.2)
-    parts_good (more x xs) k n w (inr r) = good_both s.given.table _ _ (dsat_good x k.0 r.1 r.3) (parts_good xs k.1 n r.0 r.2)
+    parts_kept : (xs : Trees) → AreWritable xs → (n : ℕ) (w : Stack) (r : parts s xs n w)
+        → Keeps (parts_log s xs n w r).checks (parts (with_table s table) xs n w)
+    parts_kept none k n w r = unlogged r
+    parts_kept (more x xs) k n w (inl (m, e, r)) = kept_as (λ q. inl (m, e, q)) (both_kept w r (sat_kept x k.0 r.1 r.3) (parts_kept xs k.1 m r.0 r.2))
+    parts_kept (more x xs) k n w (inr r) = kept_as (λ q. inr q) (both_kept w r (dsat_kept x k.0 r.1 r.3) (parts_kept xs k.1 n r.0 r.2))

@@ -26,7 +26,7 @@ use Rattle.ms_row_laws.proofs.RowLogs.{sat_log}
 use Rattle.ms_row_laws.proofs.ConsensusLimits.{IsWithinConsensus, valid_consensus}
 use Rattle.ms_acceptance_laws.proofs.Accepted.{accounted, accepts_row, accepted_short, satisfied}
 use Rattle.ms_acceptance_laws.proofs.ScriptRuns.{run_accepted}
-use Rattle.ms_strict_laws.proofs.OwnPairsSuffice.{sat_good, sat_kept}
+use Rattle.ms_strict_laws.proofs.OwnPairsSuffice.{sat_kept}
 use Rattle.ms_strict_laws.proofs.PairSets.{Has, has_left, has_right, has_one, first_or_later}
 use Rattle.ms_strict_laws.proofs.MultisigPairs.{Covered, covered_itself}
 use Rattle.ms_row_laws.proofs.RowTops.{good_is_some}
@@ -85,8 +85,8 @@ against tree assets table stack checks writable consensus unique other others is
     kept : (r : (row (under assets table) tree).sat (reverse other)) → ((key sig : Bytes) → Has others key sig → Has checks key sig) → (row (under assets checks) tree).sat (reverse other)
     kept r all =
         let same = same_checks tree assets table other others writable consensus is r in
-        sat_kept (under assets table) checks tree writable (reverse other) r
-        (λ key sig h. good_there key sig (all key sig (subst (λ c. Has c key sig) same h)) (sat_good (under assets table) tree writable (reverse other) r key sig h))
+        let k = sat_kept (under assets table) checks tree writable (reverse other) r in
+        k.kept (λ key sig h. good_there key sig (all key sig (subst (λ c. Has c key sig) same h)) (k.good key sig h))
       where
         good_there : (key sig : Bytes) → Has checks key sig → IsTrue (is_good table key sig) → IsTrue (is_good checks key sig)
         good_there key sig held good = rw (good_is_some table key sig good, held) refl

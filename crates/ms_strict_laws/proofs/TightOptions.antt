@@ -31,6 +31,7 @@ use Rattle.ms_strict_laws.proofs.CanonicalExists.{HasAssets, Gives, free_sat}
 use Rattle.ms_strict_laws.proofs.CanonicalChecks.{quiet_dsat}
 use Rattle.ms_strict_laws.proofs.MultisigPairs.{Covered, Matched, matched_inside, matched_only}
 use Rattle.ms_strict_laws.proofs.UniqueUnderPairs.{NoneOf, Sole, none_of, both_sole, item_sole, more_keys, first_sole, second_sole}
+use Rattle.ms_acceptance_laws.proofs.ForwardFragments.{or_turned}
 use Rattle.ms_row_laws.proofs.KeyLists.{Disjoint, first_in, distinct_parts, distinct_reverse, Among, among_left, among_right}
 use Rattle.ms_strict_laws.proofs.PairSets.{first_or_later, in_none, Inside, has_cases, own_inside}
 
@@ -108,10 +109,6 @@ module _ (assets : Assets) where
   clash : (table : Pairs) (x z : Tree) → Fits x → Fits z → NoneOf table (keys z) → ((mall_of x).s || (mall_of z).s) ≡ true → HasOne (row bare x).sat → HasOne (row (under assets table) z).sat → ⊥
   clash table x z f g h e p q =
       elim (or_cases (mall_of x).s (mall_of z).s e) [ inl a ↦ not_free x f a p.0 p.1 | inr b ↦ not_sat table z g h b q.0 q.1 ]
-
-  clash_other : (table : Pairs) (x z : Tree) → Fits x → Fits z → NoneOf table (keys x) → ((mall_of x).s || (mall_of z).s) ≡ true → HasOne (row (under assets table) x).sat → HasOne (row bare z).sat → ⊥
-  clash_other table x z f g h e p q =
-      elim (or_cases (mall_of x).s (mall_of z).s e) [ inl a ↦ not_sat table x f h a p.0 p.1 | inr b ↦ not_free z g b q.0 q.1 ]
 
   -- the sets of a fragment under a table
   abbrev pub Sats : Tree → Pairs → StackSet
@@ -206,19 +203,24 @@ turned a b apart key i j = apart key j i
 
 module _ (assets : Assets) where
   -- of two options, the other one's child isn't satisfied
-  no_second : (x z : Tree) (checks : Pairs) (table : Pairs) → Fits x → Fits z → Disjoint (keys x) (keys z) → ((mall_of x).s || (mall_of z).s) ≡ true
-      → Inside checks (keys x) → (HasOne (row (bare assets) z).sat → HasOne (row (bare assets) x).sat) → Covered table (keys x ++ keys z) checks
+  no_other : (x z : Tree) (checks table : Pairs) (own : List Key) → Fits x → Fits z → Disjoint (keys x) (keys z) → Among (keys z) own
+      → ((mall_of x).s || (mall_of z).s) ≡ true
+      → Inside checks (keys x) → (HasOne (row (bare assets) z).sat → HasOne (row (bare assets) x).sat) → Covered table own checks
       → IsEmpty (Sats assets z table)
-  no_second x z checks table f g apart e inside free c v q =
-      let h = none_of table (keys x ++ keys z) (keys x) (keys z) checks inside apart (among_right (keys x) (keys z)) c in
+  no_other x z checks table own f g apart among e inside free c v q =
+      let h = none_of table own (keys x) (keys z) checks inside apart among c in
       clash assets table x z f g h e (free (freed assets table z g h v q)) (v, q)
 
-  no_first : (x z : Tree) (checks : Pairs) (table : Pairs) → Fits x → Fits z → Disjoint (keys x) (keys z) → ((mall_of x).s || (mall_of z).s) ≡ true
+  no_second : (x z : Tree) (checks table : Pairs) → Fits x → Fits z → Disjoint (keys x) (keys z) → ((mall_of x).s || (mall_of z).s) ≡ true
+      → Inside checks (keys x) → (HasOne (row (bare assets) z).sat → HasOne (row (bare assets) x).sat) → Covered table (keys x ++ keys z) checks
+      → IsEmpty (Sats assets z table)
+  no_second x z checks table f g apart e = no_other x z checks table _ f g apart (among_right (keys x) (keys z)) e
+
+  no_first : (x z : Tree) (checks table : Pairs) → Fits x → Fits z → Disjoint (keys x) (keys z) → ((mall_of x).s || (mall_of z).s) ≡ true
       → Inside checks (keys z) → (HasOne (row (bare assets) x).sat → HasOne (row (bare assets) z).sat) → Covered table (keys x ++ keys z) checks
       → IsEmpty (Sats assets x table)
-  no_first x z checks table f g apart e inside free c v q =
-      let h = none_of table (keys x ++ keys z) (keys z) (keys x) checks inside (turned (keys x) (keys z) apart) (among_left (keys x) (keys z)) c in
-      clash_other assets table x z f g h e (v, q) (free (freed assets table x f h v q))
+  no_first x z checks table f g apart e =
+      no_other z x checks table _ g f (turned (keys x) (keys z) apart) (among_left (keys x) (keys z)) (or_turned (mall_of z).s (mall_of x).s ∙ e)
 
   free_other : (t : Tree) → Fits t → (mall_of t).e ≡ true → HasOne (row (bare assets) t).dsat
   free_other t f e = free_dsat (bare assets) t f.writable f.safe e

@@ -23,7 +23,7 @@ use Rattle.ms_row_laws.proofs.UniqueDissatisfaction.{free_dsat as has_dsat}
 use Rattle.ms_strict_laws.proofs.UnsignedStacks.{signs}
 use Rattle.ms_strict_laws.proofs.StrictChoiceExists.{one_or_none}
 use Rattle.ms_strict_laws.proofs.PairSets.{HasPair, IsWithin, Fewer, Apart, has_right, apart_none, apart_turned, apart_inside, fewer_none, fewer_within, within_right, fewer_left, fewer_right, has_cases, in_none}
-use Rattle.ms_strict_laws.proofs.CanonicalChecks.{checks, dsat_checks, parts_checks, dsat_quiet, free_quiet, both_free, either_left, either_right, free_or_pair, keys_within, keys_of_parts}
+use Rattle.ms_strict_laws.proofs.CanonicalChecks.{checks, dsat_checks, parts_checks, dsat_quiet, free_quiet, both_free, then_free, told, told_parts}
 use Rattle.ms_row_laws.proofs.KeyLists.{Disjoint, distinct_parts}
 
 third : {P Q R : Type 0} → P ⊎ Q → P ⊎ (Q ⊎ R)
@@ -146,7 +146,7 @@ module _ (assets : Assets) (are : AreAssets assets) where
         inr (g.0, d.0, g.2, d.1, refl),
         fewer_left _ _ _
             (fewer_none (dsat_checks assets x d.0 d.1) (checks assets x g.1 g.3) (dsat_quiet assets x d.0 d.1)
-            (elim (free_or_pair assets x k t g.1 g.3) [ inl f ↦ absurd (signs assets x t s g.1 f) | inr pair ↦ pair ]))
+            (elim (told assets x k t g.1 g.3).free [ inl f ↦ absurd (signs assets x t s g.1 f) | inr pair ↦ pair ]))
             apart,
       )
   down_here x xs k t m e n w r apart others false s many =
@@ -162,7 +162,7 @@ module _ (assets : Assets) (are : AreAssets assets) where
       let f = and_parts (mall_of x).e (list_all (λ y. y.e) (malls_of xs)) e in
       let p = distinct_parts (keys x) (keys_of_all xs) d in
       down_here x xs k.0 t.0 m.0 f.0 n w r
-      (apart_inside _ _ (keys x) (keys_of_all xs) (keys_within assets x k.0 g.1 g.3) (keys_of_parts assets xs k.1 r.0 g.0 g.2) p.2)
+      (apart_inside _ _ (keys x) (keys_of_all xs) (told assets x k.0 t.0 g.1 g.3).inside (told_parts assets xs k.1 t.1 r.0 g.0 g.2).inside p.2)
       (down xs k.1 t.1 m.1 f.1 p.1 r.0 g.0 g.2) (mall_of x).s refl many
   down (more x xs) k t m e d n w (inr r) many =
       let f = and_parts (mall_of x).e (list_all (λ y. y.e) (malls_of xs)) e in
@@ -175,13 +175,13 @@ module _ (assets : Assets) (are : AreAssets assets) where
       fewer_others false h = omega (arith, h)
 
   -- of two children, both satisfied, or one dissatisfied
-  both_satisfied : (x y : Tree) → IsWritable x → IsWritable y → Disjoint (keys x) (keys y) → (w : Stack) (r : Both (sat y) (sat x) w) →
+  both_satisfied : (x y : Tree) → IsWritable x → IsTyped x → IsWritable y → IsTyped y → Disjoint (keys x) (keys y) → (w : Stack) (r : Both (sat y) (sat x) w) →
       TightSat assets y r.0 ⊎ Lesser y (checks assets y r.0 r.2) → TightSat assets x r.1 ⊎ Lesser x (checks assets x r.1 r.3) →
       Both (TightSat assets y) (TightSat assets x) w ⊎
       LesserIn (Both (sat y) (sat x)) (both_checks (sat y) (sat x) (checks assets y) (checks assets x)) (checks assets x r.1 r.3 ++ checks assets y r.0 r.2)
-  both_satisfied x y kx ky apart w r a b =
+  both_satisfied x y kx tx ky ty apart w r a b =
       beats_both (sat y) (sat x) (TightSat assets y) (TightSat assets x) (checks assets y) (checks assets x) w r a b
-      (apart_inside _ _ (keys x) (keys y) (keys_within assets x kx r.1 r.3) (keys_within assets y ky r.0 r.2) apart)
+      (apart_inside _ _ (keys x) (keys y) (told assets x kx tx r.1 r.3).inside (told assets y ky ty r.0 r.2).inside apart)
 
   lower_satisfied : (x z : Tree) (w : Stack) (r : Both (sat z) (dsat x) w) → TightSat assets z r.0 ⊎ Lesser z (checks assets z r.0 r.2) →
       Both (TightSat assets z) (dsat x) w ⊎
@@ -216,52 +216,52 @@ module _ (assets : Assets) (are : AreAssets assets) where
     beats (and_or x y z) k t m d w (inl r) =
         let p = distinct_parts (keys x ++ keys y) (keys z) d in
         let q = distinct_parts (keys x) (keys y) p.0 in
-        either_left _ _ _ (settled (and_or x y z) k t _ _ _ _ _
-        (both_satisfied x y k.0 k.1 q.2 w r (beats y k.1 t.1 m.1 q.1 r.0 r.2) (beats x k.0 t.0 m.0 q.0 r.1 r.3)) (λ b. (b.0, inl b.1, b.2))
-        (both_free _ _ _ _ w r.0 r.1 r.4 (free_or_pair assets y k.1 t.1 r.0 r.2) (free_or_pair assets x k.0 t.0 r.1 r.3)) (λ e. e))
+        then_free (λ p. inl p) (settled (and_or x y z) k t _ _ _ _ _
+        (both_satisfied x y k.0 t.0 k.1 t.1 q.2 w r (beats y k.1 t.1 m.1 q.1 r.0 r.2) (beats x k.0 t.0 m.0 q.0 r.1 r.3)) (λ b. (b.0, inl b.1, b.2))
+        (both_free _ _ _ _ w r.0 r.1 r.4 (told assets y k.1 t.1 r.0 r.2).free (told assets x k.0 t.0 r.1 r.3).free) (λ e. e))
     beats (and_or x y z) k t m d w (inr r) =
         let p = distinct_parts (keys x ++ keys y) (keys z) d in
-        either_right _ _ _ (settled (and_or x y z) k t _ _ _ _ _
+        then_free (λ p. inr p) (settled (and_or x y z) k t _ _ _ _ _
         (lower_satisfied x z w r (beats z k.2 t.2 m.2 p.1 r.0 r.2)) (λ b. (b.0, inr b.1, b.2))
-        (both_free _ _ _ _ w r.0 r.1 r.4 (free_or_pair assets z k.2 t.2 r.0 r.2) (inl (free_dsat assets x r.1 r.3))) (λ e. e))
+        (both_free _ _ _ _ w r.0 r.1 r.4 (told assets z k.2 t.2 r.0 r.2).free (inl (free_dsat assets x r.1 r.3))) (λ e. e))
     beats (two kind.AndV x y) k t m d w r =
         let q = distinct_parts (keys x) (keys y) d in
-        both_satisfied x y k.0 k.1 q.2 w r (beats y k.1 t.1 m.1 q.1 r.0 r.2) (beats x k.0 t.0 m.0 q.0 r.1 r.3)
+        both_satisfied x y k.0 t.0 k.1 t.1 q.2 w r (beats y k.1 t.1 m.1 q.1 r.0 r.2) (beats x k.0 t.0 m.0 q.0 r.1 r.3)
     beats (two kind.AndB x y) k t m d w r =
         let q = distinct_parts (keys x) (keys y) d in
-        both_satisfied x y k.0 k.1 q.2 w r (beats y k.1 t.1 m.1 q.1 r.0 r.2) (beats x k.0 t.0 m.0 q.0 r.1 r.3)
+        both_satisfied x y k.0 t.0 k.1 t.1 q.2 w r (beats y k.1 t.1 m.1 q.1 r.0 r.2) (beats x k.0 t.0 m.0 q.0 r.1 r.3)
     beats (two kind.OrB x z) k t m d w (inl r) =
         let q = distinct_parts (keys x) (keys z) d in
-        either_left _ _ _ (settled (two kind.OrB x z) k t _ _ _ _ _
+        then_free (λ p. inl p) (settled (two kind.OrB x z) k t _ _ _ _ _
         (beats_both (dsat z) (sat x) (dsat z) (TightSat assets x) (dsat_checks assets z) (checks assets x) w r (inl r.2) (beats x k.0 t.0 m.0 q.0 r.1 r.3)
         (apart_turned _ _ (apart_none _ (checks assets x r.1 r.3) (dsat_quiet assets z r.0 r.2)))) (λ b. (b.0, inl b.1, b.2))
-        (both_free _ _ _ _ w r.0 r.1 r.4 (inl (free_dsat assets z r.0 r.2)) (free_or_pair assets x k.0 t.0 r.1 r.3)) (λ e. (e.0, third e.1)))
+        (both_free _ _ _ _ w r.0 r.1 r.4 (inl (free_dsat assets z r.0 r.2)) (told assets x k.0 t.0 r.1 r.3).free) (λ e. (e.0, third e.1)))
     beats (two kind.OrB x z) k t m d w (inr (inl r)) =
         let q = distinct_parts (keys x) (keys z) d in
-        either_right _ _ _ (settled (two kind.OrB x z) k t _ _ _ _ _
+        then_free (λ p. inr p) (settled (two kind.OrB x z) k t _ _ _ _ _
         (lower_satisfied x z w r (beats z k.1 t.1 m.1 q.1 r.0 r.2)) (λ b. (b.0, inr (inl b.1), b.2))
-        (both_free _ _ _ _ w r.0 r.1 r.4 (free_or_pair assets z k.1 t.1 r.0 r.2) (inl (free_dsat assets x r.1 r.3))) (λ e. (e.0, third e.1)))
+        (both_free _ _ _ _ w r.0 r.1 r.4 (told assets z k.1 t.1 r.0 r.2).free (inl (free_dsat assets x r.1 r.3))) (λ e. (e.0, third e.1)))
     beats (two kind.OrB x z) k t m d w (inr (inr r)) = absurd (false≢true r.0)
     beats (two kind.OrI x z) k t m d w (inl r) =
         let q = distinct_parts (keys x) (keys z) d in
-        either_left _ _ _ (settled (two kind.OrI x z) k t _ _ _ _ _
+        then_free (λ p. inl p) (settled (two kind.OrI x z) k t _ _ _ _ _
         (under_item x ONE w r (beats x k.0 t.0 m.0 q.0 r.0 r.2)) (λ b. (b.0, inl b.1, b.2))
-        (both_free _ _ _ [] w r.0 r.1 r.4 (free_or_pair assets x k.0 t.0 r.0 r.2) (inl r.3)) (λ e. e))
+        (both_free _ _ _ [] w r.0 r.1 r.4 (told assets x k.0 t.0 r.0 r.2).free (inl r.3)) (λ e. e))
     beats (two kind.OrI x z) k t m d w (inr r) =
         let q = distinct_parts (keys x) (keys z) d in
-        either_right _ _ _ (settled (two kind.OrI x z) k t _ _ _ _ _
+        then_free (λ p. inr p) (settled (two kind.OrI x z) k t _ _ _ _ _
         (under_item z EMPTY w r (beats z k.1 t.1 m.1 q.1 r.0 r.2)) (λ b. (b.0, inr b.1, b.2))
-        (both_free _ _ _ [] w r.0 r.1 r.4 (free_or_pair assets z k.1 t.1 r.0 r.2) (inl r.3)) (λ e. e))
+        (both_free _ _ _ [] w r.0 r.1 r.4 (told assets z k.1 t.1 r.0 r.2).free (inl r.3)) (λ e. e))
     beats (two which x z) k t m d w (inl r) =
         let q = distinct_parts (keys x) (keys z) d in
-        either_left _ _ _ (settled (two which x z) k t _ _ _ _ _
+        then_free (λ p. inl p) (settled (two which x z) k t _ _ _ _ _
         (beats x k.0 t.0 m.0 q.0 w r) (λ b. (b.0, inl b.1, b.2))
-        (free_or_pair assets x k.0 t.0 w r) (λ e. e))
+        (told assets x k.0 t.0 w r).free (λ e. e))
     beats (two which x z) k t m d w (inr r) =
         let q = distinct_parts (keys x) (keys z) d in
-        either_right _ _ _ (settled (two which x z) k t _ _ _ _ _
+        then_free (λ p. inr p) (settled (two which x z) k t _ _ _ _ _
         (lower_satisfied x z w r (beats z k.1 t.1 m.1 q.1 r.0 r.2)) (λ b. (b.0, inr b.1, b.2))
-        (both_free _ _ _ _ w r.0 r.1 r.4 (free_or_pair assets z k.1 t.1 r.0 r.2) (inl (free_dsat assets x r.1 r.3))) (λ e. e))
+        (both_free _ _ _ _ w r.0 r.1 r.4 (told assets z k.1 t.1 r.0 r.2).free (inl (free_dsat assets x r.1 r.3))) (λ e. e))
     beats (thresh n xs) k t m d w r =
         let most = leb-true (count_not_s (malls_of xs)) n m.1.1.0 in
         at_threshold xs k.2 t.0 m.0 m.1.0 d n w r most (beats_parts xs k.2 t.0 m.0 d n w r)
@@ -276,9 +276,9 @@ module _ (assets : Assets) (are : AreAssets assets) where
         let g = r.2 in
         let p = distinct_parts (keys x) (keys_of_all xs) d in
         with_satisfied x xs n w r
-        (settled x k.0 t.0 _ _ _ _ _ (beats x k.0 t.0 m.0 p.0 g.1 g.3) (λ b. b) (free_or_pair assets x k.0 t.0 g.1 g.3) (λ e. e))
+        (settled x k.0 t.0 _ _ _ _ _ (beats x k.0 t.0 m.0 p.0 g.1 g.3) (λ b. b) (told assets x k.0 t.0 g.1 g.3).free (λ e. e))
         (beats_parts xs k.1 t.1 m.1 p.1 r.0 g.0 g.2)
-        (apart_inside _ _ (keys x) (keys_of_all xs) (keys_within assets x k.0 g.1 g.3) (keys_of_parts assets xs k.1 r.0 g.0 g.2) p.2)
+        (apart_inside _ _ (keys x) (keys_of_all xs) (told assets x k.0 t.0 g.1 g.3).inside (told_parts assets xs k.1 t.1 r.0 g.0 g.2).inside p.2)
     beats_parts (more x xs) k t m d n w (inr r) =
         let p = distinct_parts (keys x) (keys_of_all xs) d in
         with_dissatisfied x xs t.0 n w r (one_or_none _ _ (free_best assets are x k.0)) (beats_parts xs k.1 t.1 m.1 p.1 n r.0 r.2)
