@@ -69,9 +69,6 @@ union-append above below = record {
 union-above : (above : List Key) → Union above [] above
 union-above above = record { cases = λ k i. inl i; of_below = λ k i. absurd (no_element k i); of_above = λ k i. i }
 
-union-below : (below : List Key) → Union below below []
-union-below below = record { cases = λ k i. inr i; of_below = λ k i. i; of_above = λ k i. absurd (no_element k i) }
-
 union-cons : (key : Key) (keys : List Key) → Union (key ∷ keys) (key ∷ []) keys
 union-cons key keys = record {
   cases = λ k i. elim (first_or_other key keys k i) [ inl e ↦ inr (subst (Contains (key ∷ [])) (sym e) (first_in key [])) | inr j ↦ inl j ];
@@ -192,100 +189,78 @@ module _ (assets : Assets) (pairs : Pairs) where
         (union-cons key (keys_of_set own set)) (same_item key) (same_signers own set)
     same_signers (key ∷ own) (false ∷ set) = same_signers own set
 
+    -- the same keys, and stacks that differ in their signatures alone
+    record Part (one other : List Key) (m n : Option Stack) : Type 0 where
+      keys : one ≡ other
+      same : Same one m n
+
     abbrev Alike : Tree → Type 0
-    Alike t = (taken assets t ≡ taken there t) × Same (taken assets t) (strict_of assets t) (strict_of there t)
+    Alike t = Part (taken assets t) (taken there t) (strict_of assets t) (strict_of there t)
 
-    -- below, and on top
-    under : (x : Tree) (d : Option Stack) → Alike x → Same (taken assets x ++ []) (both d (strict_of assets x)) (both d (strict_of there x))
-    under x d h = same_both _ [] (taken assets x) d (strict_of assets x) d (strict_of there x) (union-append (taken assets x) []) (same_plain d) h.1
+    plain : (d : Option Stack) → Part [] [] d d
+    plain d = record { keys = refl; same = same_plain d }
 
-    over : (x : Tree) (d : Option Stack) → Alike x → Same (taken assets x) (both (strict_of assets x) d) (both (strict_of there x) d)
-    over x d h = same_both (taken assets x) (taken assets x) [] (strict_of assets x) d (strict_of there x) d (union-below (taken assets x)) h.1 (same_plain d)
-
-    together : (x y : Tree) → Alike x → Alike y → Same (taken assets x ++ taken assets y) (both (strict_of assets y) (strict_of assets x)) (both (strict_of there y) (strict_of there x))
-    together x y h k =
-        same_both _ (taken assets y) (taken assets x) (strict_of assets y) (strict_of assets x) (strict_of there y) (strict_of there x)
-        (union-append (taken assets x) (taken assets y)) k.1 h.1
-
-    both_taken : (x y : Tree) → Alike x → Alike y → (taken assets x ++ taken assets y) ≡ (taken there x ++ taken there y)
-    both_taken x y h k = ap (λ l. l ++ taken assets y) h.0 ∙ ap (λ l. taken there x ++ l) k.0
+    -- one stack on top of another
+    on_top : {kb lb ka la : List Key} {b b' a a' : Option Stack} → Part kb lb b b' → Part ka la a a' → Part (ka ++ kb) (la ++ lb) (both b a) (both b' a')
+    on_top {kb} {lb} {ka} {la} {b} {b'} {a} {a'} p q = record {
+      keys = ap (λ l. l ++ kb) q.keys ∙ ap (λ l. la ++ l) p.keys;
+      same = same_both _ kb ka b a b' a' (union-append ka kb) p.same q.same;
+    }
 
     -- one of two options
-    one_taken : (kx kz lx lz : List Key) (f g a b a' b' : Option Stack) → kx ≡ lx → kz ≡ lz → Same kx a a' → Same kz b b' →
-        ((if takes_former f g a b then kx else kz) ≡ (if takes_former f g a' b' then lx else lz)) ×
-        Same (if takes_former f g a b then kx else kz) (free_first f g a b) (free_first f g a' b')
-    one_taken kx kz lx lz f g a b a' b' e i p q =
-        (if_same _ _ kx kz lx lz (same_takes kx kz f g a b a' b' p q) e i, same_first kx kz f g a b a' b' p q)
+    one_taken : {kx kz lx lz : List Key} {a b a' b' : Option Stack} (f g : Option Stack) → Part kx lx a a' → Part kz lz b b' →
+        Part (if takes_former f g a b then kx else kz) (if takes_former f g a' b' then lx else lz) (free_first f g a b) (free_first f g a' b')
+    one_taken {kx} {kz} {lx} {lz} {a} {b} {a'} {b'} f g p q = record {
+      keys = if_same _ _ kx kz lx lz (same_takes kx kz f g a b a' b' p.same q.same) p.keys q.keys;
+      same = same_first kx kz f g a b a' b' p.same q.same;
+    }
 
     mutual
-      pub same_strict : (t : Tree) → Alike t
-      same_strict just_0 = (refl, tt)
-      same_strict just_1 = (refl, same_plain (Some []))
-      same_strict (pk_k key) = (refl, same_item key)
-      same_strict (pk_h key) = (
-        refl,
-        same_both (key ∷ []) (key ∷ []) [] (item (sig_of assets key)) (Some (key ∷ [])) (item (sig_of there key)) (Some (key ∷ []))
-            (union-below (key ∷ [])) (same_item key) (same_plain (Some (key ∷ []))),
-      )
-      same_strict (and_or x y z) =
-          one_taken (taken assets x ++ taken assets y) (taken assets z) (taken there x ++ taken there y) (taken there z)
-          (both (free assets y) (free assets x)) (both (free assets z) (dissatisfaction x))
-          (both (strict_of assets y) (strict_of assets x)) (both (strict_of assets z) (dissatisfaction x))
-          (both (strict_of there y) (strict_of there x)) (both (strict_of there z) (dissatisfaction x))
-          (both_taken x y (same_strict x) (same_strict y)) (same_strict z).0 (together x y (same_strict x) (same_strict y)) (over z (dissatisfaction x) (same_strict z))
-      same_strict (two kind.AndV x y) = (both_taken x y (same_strict x) (same_strict y), together x y (same_strict x) (same_strict y))
-      same_strict (two kind.AndB x y) = (both_taken x y (same_strict x) (same_strict y), together x y (same_strict x) (same_strict y))
-      same_strict (two kind.OrB x z) =
-          one_taken (taken assets x ++ []) (taken assets z) (taken there x ++ []) (taken there z)
-          (both (dissatisfaction z) (free assets x)) (both (free assets z) (dissatisfaction x))
-          (both (dissatisfaction z) (strict_of assets x)) (both (strict_of assets z) (dissatisfaction x))
-          (both (dissatisfaction z) (strict_of there x)) (both (strict_of there z) (dissatisfaction x))
-          (ap (λ l. l ++ []) (same_strict x).0) (same_strict z).0 (under x (dissatisfaction z) (same_strict x)) (over z (dissatisfaction x) (same_strict z))
-      same_strict (two kind.OrI x z) =
-          one_taken (taken assets x) (taken assets z) (taken there x) (taken there z)
-          (both (free assets x) (Some (ONE ∷ []))) (both (free assets z) (Some (EMPTY ∷ [])))
-          (both (strict_of assets x) (Some (ONE ∷ []))) (both (strict_of assets z) (Some (EMPTY ∷ [])))
-          (both (strict_of there x) (Some (ONE ∷ []))) (both (strict_of there z) (Some (EMPTY ∷ [])))
-          (same_strict x).0 (same_strict z).0 (over x (Some (ONE ∷ [])) (same_strict x)) (over z (Some (EMPTY ∷ [])) (same_strict z))
-      same_strict (two which x z) =
-          one_taken (taken assets x) (taken assets z) (taken there x) (taken there z)
-          (free assets x) (both (free assets z) (dissatisfaction x))
-          (strict_of assets x) (both (strict_of assets z) (dissatisfaction x))
-          (strict_of there x) (both (strict_of there z) (dissatisfaction x))
-          (same_strict x).0 (same_strict z).0 (same_strict x).1 (over z (dissatisfaction x) (same_strict z))
-      same_strict (thresh k xs) =
+      alike : (t : Tree) → Alike t
+      alike just_0 = record { keys = refl; same = tt }
+      alike just_1 = record { keys = refl; same = same_plain (Some []) }
+      alike (pk_k key) = record { keys = refl; same = same_item key }
+      alike (pk_h key) = on_top (record { keys = refl; same = same_item key }) (plain (Some (key ∷ [])))
+      alike (and_or x y z) =
+          one_taken (both (free assets y) (free assets x)) (both (free assets z) (dissatisfaction x))
+          (on_top (alike y) (alike x)) (on_top (alike z) (plain (dissatisfaction x)))
+      alike (two kind.AndV x y) = on_top (alike y) (alike x)
+      alike (two kind.AndB x y) = on_top (alike y) (alike x)
+      alike (two kind.OrB x z) =
+          one_taken (both (dissatisfaction z) (free assets x)) (both (free assets z) (dissatisfaction x))
+          (on_top (plain (dissatisfaction z)) (alike x)) (on_top (alike z) (plain (dissatisfaction x)))
+      alike (two kind.OrI x z) =
+          one_taken (both (free assets x) (Some (ONE ∷ []))) (both (free assets z) (Some (EMPTY ∷ [])))
+          (on_top (alike x) (plain (Some (ONE ∷ [])))) (on_top (alike z) (plain (Some (EMPTY ∷ []))))
+      alike (two which x z) = one_taken (free assets x) (both (free assets z) (dissatisfaction x)) (alike x) (on_top (alike z) (plain (dissatisfaction x)))
+      alike (thresh k xs) =
           let listed = filter (has_all (free_children assets xs)) (sets (count xs) k) in
-          let s = same_sets (taken_of_children assets xs) (stack_of (strict_children assets xs)) (stack_of (strict_children there xs)) (λ set. (same_children xs set).1) listed in
-          let e : listed ≡ filter (has_all (free_children there xs)) (sets (count xs) k) = ap (λ l. filter (has_all l) (sets (count xs) k)) (free_same xs) in (
-            (same_children xs (children_taken assets k xs)).0 ∙
-                ap (taken_of_children there xs) (s.0 ∙ ap (set_taken (stack_of (strict_children there xs))) e),
-            subst (λ l. Same (taken assets (thresh k xs)) (strict_of assets (thresh k xs)) (least (map (stack_of (strict_children there xs)) l))) e s.1,
-          )
-      same_strict (multi k own) =
-          let s = same_sets (keys_of_set own) (signatures_of assets own) (signatures_of there own) (same_signers own) (sets (length own) k) in (
-            ap (keys_of_set own) s.0,
-            same_both _ [] (keys_of_set own (signers_taken assets k own)) (Some (EMPTY ∷ [])) (signatures assets k own) (Some (EMPTY ∷ [])) (signatures there k own)
-                (union-above (keys_of_set own (signers_taken assets k own))) (same_plain (Some (EMPTY ∷ []))) s.1,
-          )
-      same_strict (wrap wrapper.D x) = ((same_strict x).0, over x (Some (ONE ∷ [])) (same_strict x))
-      same_strict (wrap letter x) = same_strict x
-      same_strict tree = (refl, same_plain _)
+          let s = same_sets (taken_of_children assets xs) (stack_of (strict_children assets xs)) (stack_of (strict_children there xs)) (λ set. (children xs set).same) listed in
+          let e : listed ≡ filter (has_all (free_children there xs)) (sets (count xs) k) = ap (λ l. filter (has_all l) (sets (count xs) k)) (free_same xs) in
+          record {
+            keys = (children xs (children_taken assets k xs)).keys ∙
+                ap (taken_of_children there xs) (s.0 ∙ ap (set_taken (stack_of (strict_children there xs))) e);
+            same = subst (λ l. Same (taken assets (thresh k xs)) (strict_of assets (thresh k xs)) (least (map (stack_of (strict_children there xs)) l))) e s.1;
+          }
+      alike (multi k own) =
+          let s = same_sets (keys_of_set own) (signatures_of assets own) (signatures_of there own) (same_signers own) (sets (length own) k) in
+          record {
+            keys = ap (keys_of_set own) s.0;
+            same =
+                same_both _ [] (keys_of_set own (signers_taken assets k own)) (Some (EMPTY ∷ [])) (signatures assets k own) (Some (EMPTY ∷ [])) (signatures there k own)
+                (union-above (keys_of_set own (signers_taken assets k own))) (same_plain (Some (EMPTY ∷ []))) s.1;
+          }
+      alike (wrap wrapper.D x) = on_top (alike x) (plain (Some (ONE ∷ [])))
+      alike (wrap letter x) = alike x
+      alike tree = plain _
 
-      same_children : (xs : Trees) (set : List Bool) → (taken_of_children assets xs set ≡ taken_of_children there xs set) ×
-          Same (taken_of_children assets xs set) (stack_of (strict_children assets xs) set) (stack_of (strict_children there xs) set)
-      same_children none [] = (refl, same_plain (Some []))
-      same_children none (b ∷ set) = (refl, tt)
-      same_children (more x xs) [] = (refl, tt)
-      same_children (more x xs) (true ∷ set) =
-          let h = same_strict x in
-          let r = same_children xs set in (
-            ap (λ l. l ++ taken_of_children assets xs set) h.0 ∙ ap (λ l. taken there x ++ l) r.0,
-            same_both _ (taken_of_children assets xs set) (taken assets x) (stack_of (strict_children assets xs) set) (strict_of assets x) (stack_of (strict_children there xs) set) (strict_of there x)
-                (union-append (taken assets x) (taken_of_children assets xs set)) r.1 h.1,
-          )
-      same_children (more x xs) (false ∷ set) =
-          let r = same_children xs set in (
-            r.0,
-            same_both _ (taken_of_children assets xs set) [] (stack_of (strict_children assets xs) set) (dissatisfaction x) (stack_of (strict_children there xs) set) (dissatisfaction x)
-                (union-below (taken_of_children assets xs set)) r.1 (same_plain (dissatisfaction x)),
-          )
+      children : (xs : Trees) (set : List Bool) → Part (taken_of_children assets xs set) (taken_of_children there xs set) (stack_of (strict_children assets xs) set)
+          (stack_of (strict_children there xs) set)
+      children none [] = plain (Some [])
+      children none (b ∷ set) = plain None
+      children (more x xs) [] = plain None
+      children (more x xs) (true ∷ set) = on_top (children xs set) (alike x)
+      children (more x xs) (false ∷ set) = on_top (children xs set) (plain (dissatisfaction x))
+
+    pub same_strict : (t : Tree) → (taken assets t ≡ taken there t) × Same (taken assets t) (strict_of assets t) (strict_of there t)
+    same_strict t = ((alike t).keys, (alike t).same)

@@ -28,7 +28,7 @@ use Rattle.ms_strict_laws.proofs.UnchangeableIsTight.{tight_if_non_malleable}
 use Rattle.def_plan.specs.Lengths.{Lengths, AreLengths, length_of, IsLike, IsEstimate, estimated}
 use Rattle.def_plan.specs.Taken.{taken}
 use Rattle.def_plan.specs.Plan.{Plan, plan_with, plan_of, NoneIsExact, Suffices, WeighsAtMost, IsLeast, AsksListed, AsksNoneInVain, AsksInOrder, IsPartOf}
-use Rattle.def_plan.specs.Laws.{IsInput, NoneHolds, LengthsDecideAll, SufficesAlways, WeighsAtMostAlways, LeastAlways, ListedAlways, NoneInVainEver, InOrderAlways}
+use Rattle.def_plan.specs.Laws.{IsInput, LengthsDecideAll}
 use Rattle.ms_plan_laws.proofs.Moved.{with_pairs, tight_moved}
 use Rattle.ms_plan_laws.proofs.Enough.{taken_enough}
 use Rattle.ms_plan_laws.proofs.Vain.{vain}
@@ -109,48 +109,49 @@ lengths_decide tree assets table input other are estimate =
 length_of_some : (o : Option Bytes) (n : ℕ) → option_map length o ≡ Some n → (g : Bytes) × (o ≡ Some g) × (length g ≡ n)
 length_of_some o n h = grind arith
 
-module _ (tree : Tree) (assets : Assets) (table : Lengths) (input : IsInput tree assets table) where
+module _ (tree : Tree) (assets : Assets) (table : Lengths) where
   abbrev F : Assets
   F = estimated assets table
 
-  is_estimate : IsEstimate assets table F
-  is_estimate = (estimate_exists assets table input.held input.lengths).0
+  module _ (input : IsInput tree assets table) where
+    is_estimate : IsEstimate assets table F
+    is_estimate = (estimate_exists assets table input.held input.lengths).0
 
-  are_assets : AreAssets F
-  are_assets = (estimate_exists assets table input.held input.lengths).1
+    are_assets : AreAssets F
+    are_assets = (estimate_exists assets table input.held input.lengths).1
 
-  sane : IsSaneUnder Consensus tree
-  sane = sane_under_consensus Policy tree input.sane
+    sane : IsSaneUnder Consensus tree
+    sane = sane_under_consensus Policy tree input.sane
 
-  -- a listed key has a signature of its length
-  listed : (key : Key) (n : ℕ) → length_of table key ≡ Some n → (g : Bytes) × (sig_of F key ≡ Some g) × (length g ≡ n)
-  listed key n h = length_of_some (sig_of F key) n (sym (length_is assets table input.lengths F is_estimate key) ∙ h)
+    -- a listed key has a signature of its length
+    listed : (key : Key) (n : ℕ) → length_of table key ≡ Some n → (g : Bytes) × (sig_of F key ≡ Some g) × (length g ≡ n)
+    listed key n h = length_of_some (sig_of F key) n (sym (length_is assets table input.lengths F is_estimate key) ∙ h)
 
-  of_length : (key : Key) (sig : Bytes) → sig_of F key ≡ Some sig → length_of table key ≡ Some (length sig)
-  of_length key sig h = length_is assets table input.lengths F is_estimate key ∙ ap (option_map length) h
+    of_length : (key : Key) (sig : Bytes) → sig_of F key ≡ Some sig → length_of table key ≡ Some (length sig)
+    of_length key sig h = length_is assets table input.lengths F is_estimate key ∙ ap (option_map length) h
 
-  pub none_is_exact : NoneIsExact tree assets table (plan_of tree assets table)
-  none_is_exact other are like sign = (
-    λ none stack sat.
-        let t = tight_of_canonical tree other stack input.writable sane are sat in
-        let v = tight_beside other F are are_assets (like_both assets other F like is_estimate.like) ⊥
-        (λ key sig h.
-        let n = some_or_none (length_of table key) ((sign key).0 (some_is _ sig h)) in
-        let g = listed key n.0 n.1 in
-        (g.0, g.1, λ never. absurd never)) tree t.0 t.1 in
-        let s = lightest_of_tight tree F v.0 input.writable sane are_assets v.1 in
-        none-some s.0 (sym (none_planned tree F none) ∙ s.1),
-    λ never. none_or_some (plan_of tree assets table) (λ plan h.
-        let p = plan_is tree F plan h in
-        let t = strict_is_tight tree F (reverse p.stack) input.writable are_assets (ap (option_map reverse) p.strict) in
-        let v = tight_beside F other are_assets are (like_both assets F other is_estimate.like like) ⊥
-        (λ key sig h.
-        let g = some_or_none (sig_of other key) ((sign key).1 (some_is _ (length sig) (of_length key sig h))) in
-        (g.0, g.1, λ never. absurd never)) tree (reverse p.stack) t in
-        never v.0 (tight_is_canonical tree other v.0 v.1)),
-  )
+    pub none_holds : NoneIsExact tree assets table (plan_of tree assets table)
+    none_holds other are like sign = (
+      λ none stack sat.
+          let t = tight_of_canonical tree other stack input.writable sane are sat in
+          let v = tight_beside other F are are_assets (like_both assets other F like is_estimate.like) ⊥
+          (λ key sig h.
+          let n = some_or_none (length_of table key) ((sign key).0 (some_is _ sig h)) in
+          let g = listed key n.0 n.1 in
+          (g.0, g.1, λ never. absurd never)) tree t.0 t.1 in
+          let s = lightest_of_tight tree F v.0 input.writable sane are_assets v.1 in
+          none-some s.0 (sym (none_planned tree F none) ∙ s.1),
+      λ never. none_or_some (plan_of tree assets table) (λ plan h.
+          let p = plan_is tree F plan h in
+          let t = strict_is_tight tree F (reverse p.stack) input.writable are_assets (ap (option_map reverse) p.strict) in
+          let v = tight_beside F other are_assets are (like_both assets F other is_estimate.like like) ⊥
+          (λ key sig h.
+          let g = some_or_none (sig_of other key) ((sign key).1 (some_is _ (length sig) (of_length key sig h))) in
+          (g.0, g.1, λ never. absurd never)) tree (reverse p.stack) t in
+          never v.0 (tight_is_canonical tree other v.0 v.1)),
+    )
 
-  module _ (plan : Plan) (found : plan_of tree assets table ≡ Some plan) where
+  module _ (plan : Plan) (input : IsInput tree assets table) (found : plan_of tree assets table ≡ Some plan) where
     is : IsPlan tree F plan
     is = plan_is tree F plan found
 
@@ -159,41 +160,41 @@ module _ (tree : Tree) (assets : Assets) (table : Lengths) (input : IsInput tree
         ((key : Key) → Contains plan.keys key → (sig : Bytes) → sig_of F key ≡ Some sig → (g : Bytes) × (sig_of other key ≡ Some g) × (Light → length g ≤ length sig)) →
         (v : List Bytes) × Tight tree other v × (Light → weight v ≤ plan.weight)
     tight_there other are like Light signed =
-        let x = taken_enough Light F other.pairs are_assets tree input.writable
+        let x = taken_enough Light F other.pairs (are_assets input) tree input.writable
         (λ key i sig h.
         let g = signed key (subst (λ ks. Contains ks key) (sym is.keys) i) sig h in
         (g.0, held_is_good other are key g.0 g.1, g.2)) is.stack is.strict in (
           reverse x.0,
-          subst (λ a. TightSat a tree (reverse (reverse x.0))) (sym (like_with F other (like_both assets F other is_estimate.like like)))
+          subst (λ a. TightSat a tree (reverse (reverse x.0))) (sym (like_with F other (like_both assets F other (is_estimate input).like like)))
               (subst (TightSat (with_pairs F other.pairs) tree) (sym (reverse-reverse x.0)) x.1),
           λ light. let a = x.2 light in let c = is.weight in omega (arith, a, c, weight-reverse x.0),
         )
 
-    pub suffices : Suffices tree assets plan
-    suffices other are like sign =
+    pub suffices_always : Suffices tree assets plan
+    suffices_always other are like sign =
         let t = tight_there other are like ⊥
         (λ key i sig h. let g = some_or_none (sig_of other key) (sign key i) in (g.0, g.1, λ never. absurd never)) in
-        let s = lightest_of_tight tree other t.0 input.writable sane are t.1 in
+        let s = lightest_of_tight tree other t.0 input.writable (sane input) are t.1 in
         some_is _ s.0 s.1
 
-    pub weighs_at_most : WeighsAtMost tree assets table plan
-    weighs_at_most other are like sign =
+    pub weighs_at_most_always : WeighsAtMost tree assets table plan
+    weighs_at_most_always other are like sign =
         let t = tight_there other are like ⊤ short in
-        let s = lightest_of_tight tree other t.0 input.writable sane are t.1 in
+        let s = lightest_of_tight tree other t.0 input.writable (sane input) are t.1 in
         (s.0, s.1, let a = t.2 tt in let b = s.2 in omega (arith, a, b))
       where
         short : (key : Key) → Contains plan.keys key → (sig : Bytes) → sig_of F key ≡ Some sig → (g : Bytes) × (sig_of other key ≡ Some g) × (⊤ → length g ≤ length sig)
         short key i sig h =
             let n = sign key i in
-            let l = same_Some n.0 (length sig) (sym n.2 ∙ of_length key sig h) in
+            let l = same_Some n.0 (length sig) (sym n.2 ∙ of_length input key sig h) in
             let m = n.4 in
             (n.1, n.3, λ light. omega (arith, l, m))
 
-    pub is_least : IsLeast tree assets table plan
-    is_least other stack are fits sat unchanged =
-        let t = tight_if_non_malleable tree other stack input.writable sane are sat unchanged in
-        let v = tight_beside other F are are_assets (like_both assets other F fits.like is_estimate.like) ⊤ shorter tree stack t in
-        let s = lightest_of_tight tree F v.0 input.writable sane are_assets v.1 in
+    pub least_always : IsLeast tree assets table plan
+    least_always other stack are fits sat unchanged =
+        let t = tight_if_non_malleable tree other stack input.writable (sane input) are sat unchanged in
+        let v = tight_beside other F are (are_assets input) (like_both assets other F fits.like (is_estimate input).like) ⊤ shorter tree stack t in
+        let s = lightest_of_tight tree F v.0 input.writable (sane input) (are_assets input) v.1 in
         let e = same_Some s.0 (reverse is.stack) (sym s.1 ∙ ap (option_map reverse) is.strict) in
         let w : weight s.0 ≡ weight (reverse is.stack) = ap weight e in
         let a = v.2 tt in
@@ -204,23 +205,20 @@ module _ (tree : Tree) (assets : Assets) (table : Lengths) (input : IsInput tree
         shorter : (key sig : Bytes) → sig_of other key ≡ Some sig → (g : Bytes) × (sig_of F key ≡ Some g) × (⊤ → length g ≤ length sig)
         shorter key sig h =
             let n = fits.pairs key sig (held_of other key sig h) in
-            let g = listed key n.0 n.1 in
+            let g = listed input key n.0 n.1 in
             let l = g.2 in
             let m = n.2 in
             (g.0, g.1, λ light. omega (arith, l, m))
 
-    pub asks_listed : AsksListed table plan
-    asks_listed key i = go (strict_of F tree) is.strict (same_strict F F.pairs (λ k. refl) tree).1
-      where
-        go : (o : Option Stack) → o ≡ Some is.stack → Same F F.pairs (taken F tree) o o → IsSome (length_of table key)
-        go None e h = absurd (none-some is.stack e)
-        go (Some w) e h =
-            let f = h.full key (subst (λ ks. Contains ks key) is.keys i) in
-            some_is _ (length f.0) (of_length key f.0 f.3)
+    pub listed_always : AsksListed table plan
+    listed_always key i =
+        let h = rw is.strict at (same_strict F F.pairs (λ k. refl) tree).1 in
+        let f = h.full key (subst (λ ks. Contains ks key) is.keys i) in
+        some_is _ (length f.0) (of_length input key f.0 f.3)
 
-    pub asks_none_in_vain : AsksNoneInVain tree assets plan
-    asks_none_in_vain key other stack i are like sign sat =
-        vain F are_assets other.pairs tree (fits_of tree input.writable input.sane) is.stack is.strict
+    pub none_in_vain_ever : AsksNoneInVain tree assets plan
+    none_in_vain_ever key other stack i are like sign sat =
+        vain F (are_assets input) other.pairs tree (fits_of tree input.writable input.sane) is.stack is.strict
         (λ k sig own good. subst (λ ks. Contains ks k) is.keys ((sign k).0 (signs k sig good)).0) (
           key,
           subst (λ ks. Contains ks key) is.keys i,
@@ -229,33 +227,12 @@ module _ (tree : Tree) (assets : Assets) (table : Lengths) (input : IsInput tree
             | inr bad ↦ bad
           ],
         )
-        (reverse stack) (subst (λ a. Sat tree a stack) (like_with F other (like_both assets F other is_estimate.like like)) sat)
+        (reverse stack) (subst (λ a. Sat tree a stack) (like_with F other (like_both assets F other (is_estimate input).like like)) sat)
       where
         signs : (k : Key) (sig : Bytes) → is_good other.pairs k sig ≡ true → IsSome (sig_of other k)
         signs k sig good = let held = good_is_held other k sig good in some_is _ held.0 held.1
 
-    pub asks_in_order : AsksInOrder tree plan
-    asks_in_order =
+    pub in_order_always : AsksInOrder tree plan
+    in_order_always =
         let part = subst (λ ks. IsPartOf ks (keys tree)) (sym is.keys) (taken_part F tree) in
         record { order = part; once = part_distinct plan.keys (keys tree) part (fits_of tree input.writable input.sane).distinct }
-
-pub none_holds : NoneHolds
-none_holds = none_is_exact
-
-pub suffices_always : SufficesAlways
-suffices_always tree assets table plan input found = suffices tree assets table input plan found
-
-pub weighs_at_most_always : WeighsAtMostAlways
-weighs_at_most_always tree assets table plan input found = weighs_at_most tree assets table input plan found
-
-pub least_always : LeastAlways
-least_always tree assets table plan input found = is_least tree assets table input plan found
-
-pub listed_always : ListedAlways
-listed_always tree assets table plan input found = asks_listed tree assets table input plan found
-
-pub none_in_vain_ever : NoneInVainEver
-none_in_vain_ever tree assets table plan input found = asks_none_in_vain tree assets table input plan found
-
-pub in_order_always : InOrderAlways
-in_order_always tree assets table plan input found = asks_in_order tree assets table input plan found
