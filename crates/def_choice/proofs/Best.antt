@@ -1,7 +1,7 @@
 -- How right choices are joined.
-use Rattle.std.proofs.Common.{◌≡◌, ◌≤◌, nat_lt, Bool, true, false, [], ◌∷◌, ◌++◌, reverse, Option, Some, None, refl, sym, ◌∙◌, ap, subst, inl, inr, arith, if◌then◌else◌}
+use Rattle.std.proofs.Common.{◌≡◌, ◌≤◌, nat_lt, [], ◌∷◌, ◌++◌, reverse, Option, Some, None, refl, sym, ◌∙◌, ap, subst, inl, inr, arith}
 use Rattle.std.specs.Option.{option_map}
-use Rattle.std.proofs.lemmas.Bool.Decides.{nat_tests}
+use Rattle.std.proofs.lemmas.Bool.{cases_Bool, ltb-true, ltb-false}
 use Rattle.std.proofs.lemmas.List.{reverse-reverse}
 use Rattle.std.proofs.lemmas.Option.{none-some, same_Some}
 use Rattle.def_machine.specs.Stacks.{Stack}
@@ -29,6 +29,13 @@ best_as P Q m to from best = record {
   lightest = λ w h. best.lightest w (from w h);
 }
 
+-- what is chosen weighs no more than any
+least_of : (P : StackSet) (v : Stack) → IsLightest P (Some v) → (w : Stack) → P w → weight v ≤ weight w
+least_of P v best w h =
+    let k = best.lightest w h in
+    let e : weight k.0 ≡ weight v = ap weight (same_Some k.0 v (sym k.1)) in
+    omega (arith, e, k.2)
+
 -- one on top of the other
 pub best_both : (P Q : StackSet) (a b : Option Stack) → IsLightest P a → IsLightest Q b → IsLightest (Both P Q) (both a b)
 best_both P Q None b p q = record {
@@ -42,27 +49,9 @@ best_both P Q (Some a) None p q = record {
 best_both P Q (Some a) (Some b) p q = record {
   is = λ w h. (a, b, p.is a refl, q.is b refl, sym (same_Some (b ++ a) w h));
   lightest = λ w h.
-      let k = p.lightest h.0 h.2 in
-      let l = q.lightest h.1 h.3 in
-      let e : weight k.0 ≡ weight a = ap weight (same_Some k.0 a (sym k.1)) in
-      let f : weight l.0 ≡ weight b = ap weight (same_Some l.0 b (sym l.1)) in
       let g : weight w ≡ weight (h.1 ++ h.0) = ap weight h.4 in
-      (b ++ a, refl, omega (arith, e, f, g, k.2, l.2, weight-append b a, weight-append h.1 h.0));
+      (b ++ a, refl, omega (arith, g, least_of P a p h.0 h.2, least_of Q b q h.1 h.3, weight-append b a, weight-append h.1 h.0));
 }
-
--- the lighter of two
-chosen : (test : Bool) (v w : Stack) → (test ≡ true → weight w ≤ weight v) → (test ≡ false → weight v ≤ weight w) → (z : Stack)
-    × ((if test then Some w else Some v) ≡ Some z) × (weight z ≤ weight v) × (weight z ≤ weight w)
-chosen true v w if_true if_false = (w, refl, if_true refl, omega arith)
-chosen false v w if_true if_false = (v, refl, omega arith, if_false refl)
-
-lighter_than_both : (v w : Stack) → (z : Stack) × (lighter (Some v) (Some w) ≡ Some z) × (weight z ≤ weight v) × (weight z ≤ weight w)
-lighter_than_both v w =
-    chosen (nat_lt (weight w) (weight v)) v w (λ h. grind (arith, nat_tests)) (λ h. grind (arith, nat_tests))
-
-one_of_two : (test : Bool) (P Q : StackSet) (v w z : Stack) → P v → Q w → (if test then Some w else Some v) ≡ Some z → Either P Q z
-one_of_two true P Q v w z p q h = inr (subst Q (same_Some w z h) q)
-one_of_two false P Q v w z p q h = inl (subst P (same_Some v z h) p)
 
 pub best_lighter : (P Q : StackSet) (a b : Option Stack) → IsLightest P a → IsLightest Q b → IsLightest (Either P Q) (lighter a b)
 best_lighter P Q None b p q = record {
@@ -73,18 +62,16 @@ best_lighter P Q (Some v) None p q = record {
   is = λ w h. inl (p.is w h);
   lightest = λ w h. elim h [ inl i ↦ p.lightest w i | inr i ↦ (let k = q.lightest w i in absurd (none-some k.0 k.1)) ];
 }
-best_lighter P Q (Some v) (Some w) p q = record {
-  is = λ z h. one_of_two (nat_lt (weight w) (weight v)) P Q v w z (p.is v refl) (q.is w refl) h;
-  lightest = λ z h.
-      let c = lighter_than_both v w in (
-        c.0,
-        c.1,
-        elim h [
-          | inl i ↦ (let k = p.lightest z i in let e : weight k.0 ≡ weight v = ap weight (same_Some k.0 v (sym k.1)) in omega (arith, e, k.2, c.2))
-          | inr i ↦ (let k = q.lightest z i in let e : weight k.0 ≡ weight w = ap weight (same_Some k.0 w (sym k.1)) in omega (arith, e, k.2, c.3))
-        ],
-      );
-}
+best_lighter P Q (Some v) (Some w) p q = elim (cases_Bool (nat_lt (weight w) (weight v))) [
+  | inl less ↦ rw less (record {
+    is = λ z h. inr (q.is z h);
+    lightest = λ z h. (w, refl, elim h [ inl i ↦ omega (arith, least_of P v p z i, ltb-true (weight w) (weight v) less) | inr i ↦ least_of Q w q z i ]);
+  })
+  | inr more ↦ rw more (record {
+    is = λ z h. inl (p.is z h);
+    lightest = λ z h. (v, refl, elim h [ inl i ↦ least_of P v p z i | inr i ↦ omega (arith, least_of Q w q z i, ltb-false (weight w) (weight v) more) ]);
+  })
+]
 
 pub lighter-none : (a : Option Stack) → lighter a None ≡ a
 lighter-none None = refl

@@ -1,5 +1,5 @@
 -- The first of least weight over all sets: those with the first position, and those without it.
-use Rattle.std.proofs.Common.{◌≡◌, ℕ, zero, suc, ◌+◌, nat_lt, Bool, true, false, List, [], ◌∷◌, ◌++◌, map, Option, Some, None, refl, sym, ◌∙◌, ap, subst, inl, inr, arith, if◌then◌else◌}
+use Rattle.std.proofs.Common.{◌≡◌, ℕ, zero, suc, ◌+◌, List, [], ◌∷◌, ◌++◌, map, Option, Some, None, refl, sym, ◌∙◌, ap, subst, inl, inr, arith}
 use Rattle.std.specs.Option.{option_map}
 use Rattle.std.proofs.lemmas.Bool.Decides.{nat_tests}
 use Rattle.std.proofs.lemmas.List.{map-append}
@@ -15,30 +15,8 @@ use Rattle.def_choice.proofs.Weights.{weight-append}
 use Rattle.def_choice.proofs.Best.{best_as, best_both, best_lighter}
 
 -- the lighter of three, joined either way
--- what a test of weights chooses
-by_test : (u v : Stack) (test b : Bool) → test ≡ b → (if test then Some v else Some u) ≡ (if b then Some v else Some u)
-by_test u v test b e = ap (λ t. if t then Some v else Some u) e
-
 lighter-assoc : (a b c : Option Stack) → lighter (lighter a b) c ≡ lighter a (lighter b c)
-lighter-assoc None b c = refl
-lighter-assoc (Some u) None c = refl
-lighter-assoc (Some u) (Some v) None = go (nat_lt (weight v) (weight u))
-  where
-    go : (test : Bool) → lighter (if test then Some v else Some u) None ≡ (if test then Some v else Some u)
-    go true = refl
-    go false = refl
-lighter-assoc (Some u) (Some v) (Some w) = go (nat_lt (weight v) (weight u)) (nat_lt (weight w) (weight v)) refl refl
-  where
-    go : (b c : Bool) → nat_lt (weight v) (weight u) ≡ b → nat_lt (weight w) (weight v) ≡ c →
-        lighter (if b then Some v else Some u) (Some w) ≡ lighter (Some u) (if c then Some w else Some v)
-    go true true e f =
-        let g : nat_lt (weight w) (weight u) ≡ true = grind (arith, nat_tests) in
-        by_test v w _ _ f ∙ sym (by_test u w _ _ g)
-    go true false e f = by_test v w _ _ f ∙ sym (by_test u v _ _ e)
-    go false true e f = refl
-    go false false e f =
-        let g : nat_lt (weight w) (weight u) ≡ false = grind (arith, nat_tests) in
-        by_test u w _ _ g ∙ sym (by_test u v _ _ e)
+lighter-assoc a b c = grind (arith, nat_tests)
 
 pub least-append : (xs ys : List (Option Stack)) → least (xs ++ ys) ≡ lighter (least xs) (least ys)
 least-append [] ys = refl
@@ -47,17 +25,7 @@ least-append (x ∷ xs) ys = ap (lighter x) (least-append xs ys) ∙ sym (lighte
 -- the same weight is added to each
 lighter-map : (g : Stack → Stack) (c : ℕ) → ((v : Stack) → weight (g v) ≡ weight v + c) → (a b : Option Stack) →
     lighter (option_map g a) (option_map g b) ≡ option_map g (lighter a b)
-lighter-map g c adds None b = refl
-lighter-map g c adds (Some u) None = refl
-lighter-map g c adds (Some u) (Some v) =
-    let p : weight (g v) ≡ weight v + c = adds v in
-    let q : weight (g u) ≡ weight u + c = adds u in
-    let e : nat_lt (weight (g v)) (weight (g u)) ≡ nat_lt (weight v) (weight u) = grind (arith, nat_tests) in
-    by_test (g u) (g v) _ _ e ∙ go (nat_lt (weight v) (weight u))
-  where
-    go : (test : Bool) → (if test then Some (g v) else Some (g u)) ≡ option_map g (if test then Some v else Some u)
-    go true = refl
-    go false = refl
+lighter-map g c adds a b = grind (arith, nat_tests, adds)
 
 module _ {A : Type 0} where
   least-map : (g : Stack → Stack) (c : ℕ) → ((v : Stack) → weight (g v) ≡ weight v + c) → (f : A → Option Stack) (xs : List A) →
@@ -113,17 +81,8 @@ counted sat dsat others (suc k) = lighter (both (others k) sat) (both (others (s
 
 pub least_counted : (c : Child) (cs : List Child) (n k : ℕ) →
     least (map (stack_of (c ∷ cs)) (sets (suc n) k)) ≡ counted c.sat c.dsat (λ j. least (map (stack_of cs) (sets n j))) k
-least_counted c cs n zero =
-    least-map_map (stack_of (c ∷ cs)) (λ set. false ∷ set) (sets n zero) ∙ least-above (stack_of cs) c.dsat (sets n zero)
-least_counted c cs n (suc k) =
-    let with_it : List (List Bool) = map (λ set. true ∷ set) (sets n k) in
-    let without : List (List Bool) = map (λ set. false ∷ set) (sets n (suc k)) in
-    ap least (map-append (stack_of (c ∷ cs)) with_it without) ∙
-    least-append (map (stack_of (c ∷ cs)) with_it) (map (stack_of (c ∷ cs)) without) ∙
-    ap (λ o. lighter o (least (map (stack_of (c ∷ cs)) without)))
-    (least-map_map (stack_of (c ∷ cs)) (λ set. true ∷ set) (sets n k) ∙ least-above (stack_of cs) c.sat (sets n k)) ∙
-    ap (lighter (both (least (map (stack_of cs) (sets n k))) c.sat))
-    (least-map_map (stack_of (c ∷ cs)) (λ set. false ∷ set) (sets n (suc k)) ∙ least-above (stack_of cs) c.dsat (sets n (suc k)))
+least_counted c cs n zero = simp (least-map_map, least-above)
+least_counted c cs n (suc k) = simp (map-append, least-append, least-map_map, least-above)
 
 suc_same : (m n : ℕ) → suc m ≡ suc n → m ≡ n
 suc_same m n h = cc

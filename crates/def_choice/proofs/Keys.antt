@@ -1,5 +1,5 @@
 -- The signatures of a `multi`: the first of least weight over all sets of keys.
-use Rattle.std.proofs.Common.{◌≡◌, ℕ, zero, suc, Bool, true, false, List, [], ◌∷◌, ◌++◌, length, map, reverse, Option, Some, None, refl, sym, ◌∙◌, ap, subst, ◌⊎◌, inl, inr, IsTrue, arith}
+use Rattle.std.proofs.Common.{◌≡◌, ℕ, zero, suc, false, List, [], ◌∷◌, ◌++◌, length, reverse, Option, Some, None, refl, sym, ◌∙◌, ap, subst, ◌⊎◌, inl, inr, IsTrue, arith}
 use Rattle.std.proofs.lemmas.List.{map-append, length-append, reverse-append}
 use Rattle.std.proofs.lemmas.Option.{none-some, same_Some}
 use Rattle.def_script.specs.Bytes.{Bytes}
@@ -12,7 +12,7 @@ use Rattle.def_satisfaction.specs.StackSet.{StackSet, Both, Either}
 use Rattle.def_satisfaction.specs.Rows.{AreSignatures, Signatures, Signature}
 use Rattle.def_satisfaction.specs.Satisfaction.{canonical}
 use Rattle.def_choice.specs.Sets.{sets}
-use Rattle.def_choice.specs.Least.{item, both, lighter, least}
+use Rattle.def_choice.specs.Least.{item, both, lighter}
 use Rattle.def_choice.specs.Lightest.{IsLightest}
 use Rattle.def_choice.specs.Cheapest.{signatures_of, signatures}
 use Rattle.def_choice.proofs.Best.{none_best, one_best, best_as, best_both, best_lighter}
@@ -131,15 +131,8 @@ module _ (assets : Assets) (are : AreAssets assets) where
       let e : signatures assets zero (key ∷ keys) ≡ signatures assets zero keys = least-map_map (signatures_of assets (key ∷ keys)) (λ set. false ∷ set) (sets (length keys) zero) in
       rw e (best_as (S zero keys) (S zero (key ∷ keys)) (signatures assets zero keys) (none_to key keys) (none_from key keys) (keys_best keys zero))
   keys_best (key ∷ keys) (suc k) =
-      let f : List Bool → Option Stack = signatures_of assets (key ∷ keys) in
-      let with_it : List (List Bool) = map (λ set. true ∷ set) (sets (length keys) k) in
-      let without : List (List Bool) = map (λ set. false ∷ set) (sets (length keys) (suc k)) in
       let e : signatures assets (suc k) (key ∷ keys) ≡ lighter (both (item (sig_of assets key)) (signatures assets k keys)) (signatures assets (suc k) keys) =
-      ap least (map-append f with_it without) ∙
-      least-append (map f with_it) (map f without) ∙
-      ap (λ o. lighter o (least (map f without)))
-      (least-map_map f (λ set. true ∷ set) (sets (length keys) k) ∙ least-below (item (sig_of assets key)) (signatures_of assets keys) (sets (length keys) k)) ∙
-      ap (lighter (both (item (sig_of assets key)) (signatures assets k keys))) (least-map_map f (λ set. false ∷ set) (sets (length keys) (suc k)))
+      simp (map-append, least-append, least-map_map, least-below)
       in
       rw e
       (best_as _ (S (suc k) (key ∷ keys)) _ (more_to k key keys) (more_from k key keys)

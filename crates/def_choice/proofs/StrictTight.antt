@@ -1,5 +1,5 @@
 -- The strict choice is tight.
-use Rattle.std.proofs.Common.{◌≡◌, ℕ, zero, suc, ◌+◌, Bool, true, false, List, [], ◌∷◌, ◌++◌, map, filter, nat_lt, Option, Some, None, is_some, refl, sym, ◌∙◌, ap, inl, inr, if◌then◌else◌}
+use Rattle.std.proofs.Common.{◌≡◌, ℕ, zero, suc, ◌+◌, Bool, true, false, List, [], ◌∷◌, ◌++◌, map, filter, nat_lt, Option, Some, None, is_some, refl, sym, ◌∙◌, ap, inl, inr, if◌then◌else◌, arith}
 use Rattle.std.proofs.Math.Numerals.{add-one}
 use Rattle.std.proofs.lemmas.List.{map-append}
 use Rattle.std.proofs.lemmas.List.Elements.{filter-append, All-nil}
@@ -80,12 +80,7 @@ free_first_tight F G P Q None None o p ff gg oo pp of pg w h =
 -- the sets with every wanted position: those with the first one, and, unless it is wanted, those without it
 filter-map : {A B : Type 0} (test : B → Bool) (g : A → B) (xs : List A) → filter test (map g xs) ≡ map g (filter (λ x. test (g x)) xs)
 filter-map test g [] = refl
-filter-map test g (x ∷ xs) = go (test (g x)) (filter-map test g xs)
-  where
-    go : (b : Bool) → filter test (map g xs) ≡ map g (filter (λ y. test (g y)) xs) →
-        (if b then g x ∷ filter test (map g xs) else filter test (map g xs)) ≡ map g (if b then x ∷ filter (λ y. test (g y)) xs else filter (λ y. test (g y)) xs)
-    go true e = ap (λ v. g x ∷ v) e
-    go false e = e
+filter-map test g (x ∷ xs) = grind (arith, filter-map test g xs)
 
 filter-none : {A : Type 0} (xs : List A) → filter (λ x. false) xs ≡ []
 filter-none [] = refl
@@ -109,34 +104,18 @@ choice cs wanted n k = least (map (stack_of cs) (filter (has_all wanted) (sets n
 left_out : (c : Child) (cs : List Child) (wanted : Bool) (rest : List Bool) (xs : List (List Bool)) →
     least (map (stack_of (c ∷ cs)) (filter (has_all (wanted ∷ rest)) (map (λ set. false ∷ set) xs))) ≡
     both (least (map (stack_of cs) (filter (has_all rest) xs))) (if wanted then None else c.dsat)
-left_out c cs true rest xs =
-    ap (λ l. least (map (stack_of (c ∷ cs)) l)) (none_without rest xs) ∙ sym (both-none (least (map (stack_of cs) (filter (has_all rest) xs))))
-left_out c cs false rest xs =
-    ap (λ l. least (map (stack_of (c ∷ cs)) l)) (without_first rest xs) ∙
-    least-map_map (stack_of (c ∷ cs)) (λ set. false ∷ set) (filter (has_all rest) xs) ∙
-    least-above (stack_of cs) c.dsat (filter (has_all rest) xs)
+left_out c cs true rest xs = simp (none_without, both-none)
+left_out c cs false rest xs = simp (without_first, least-map_map, least-above)
 
 taken_in : (c : Child) (cs : List Child) (wanted : Bool) (rest : List Bool) (xs : List (List Bool)) →
     least (map (stack_of (c ∷ cs)) (filter (has_all (wanted ∷ rest)) (map (λ set. true ∷ set) xs))) ≡
     both (least (map (stack_of cs) (filter (has_all rest) xs))) c.sat
-taken_in c cs wanted rest xs =
-    ap (λ l. least (map (stack_of (c ∷ cs)) l)) (with_first wanted rest xs) ∙
-    least-map_map (stack_of (c ∷ cs)) (λ set. true ∷ set) (filter (has_all rest) xs) ∙
-    least-above (stack_of cs) c.sat (filter (has_all rest) xs)
+taken_in c cs wanted rest xs = simp (with_first, least-map_map, least-above)
 
 pub choice_counted : (c : Child) (cs : List Child) (wanted : Bool) (rest : List Bool) (n k : ℕ) →
     choice (c ∷ cs) (wanted ∷ rest) (suc n) k ≡ counted c.sat (if wanted then None else c.dsat) (choice cs rest n) k
 choice_counted c cs wanted rest n zero = left_out c cs wanted rest (sets n zero)
-choice_counted c cs wanted rest n (suc k) =
-    let test = has_all (wanted ∷ rest) in
-    let f = stack_of (c ∷ cs) in
-    let xs : List (List Bool) = map (λ set. true ∷ set) (sets n k) in
-    let ys : List (List Bool) = map (λ set. false ∷ set) (sets n (suc k)) in
-    ap (λ l. least (map f l)) (filter-append test xs ys) ∙
-    ap least (map-append f (filter test xs) (filter test ys)) ∙
-    least-append (map f (filter test xs)) (map f (filter test ys)) ∙
-    ap (λ o. lighter o (least (map f (filter test ys)))) (taken_in c cs wanted rest (sets n k)) ∙
-    ap (lighter (both (choice cs rest n k) c.sat)) (left_out c cs wanted rest (sets n (suc k)))
+choice_counted c cs wanted rest n (suc k) = simp (filter-append, map-append, least-append, taken_in, left_out)
 
 -- each child by what is chosen for it
 gives_counted : (x : Row) (others : ℕ → StackSet) (sat dsat : Option Stack) (choice : ℕ → Option Stack) →

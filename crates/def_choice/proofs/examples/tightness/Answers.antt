@@ -48,7 +48,7 @@ no_preimage : HasOne (free_row without_preimage (sha256 hash_1)).sat → ⊥
 no_preimage h = none-some h.1.0 h.1.1.1
 
 free_branch : (free_row with_preimage key_or_hash).sat (EMPTY ∷ preimage_1 ∷ [])
-free_branch = inr (preimage_1 ∷ [], EMPTY ∷ [], hash_free, refl, refl)
+free_branch = inr (_, _, hash_free, refl, refl)
 
 no_free_branch : (w : Stack) → (free_row without_preimage key_or_hash).sat w → ⊥
 no_free_branch w (inl h) = key_needs_one without_preimage (h.0, h.2)
@@ -62,7 +62,7 @@ returns-clause-hash_needs_none c = ((preimage_1 ∷ EMPTY ∷ [], free_branch), 
 
 pub returns-clause-lock_needs_none : goal.returns-clause-lock_needs_none
 unfolding computing
-returns-clause-lock_needs_none c = ((EMPTY ∷ [], inr ([], EMPTY ∷ [], (refl, refl), refl, refl)), λ h. go _ h.1)
+returns-clause-lock_needs_none c = ((EMPTY ∷ [], inr (_, _, (refl, refl), refl, refl)), λ h. go _ h.1)
   where
     go : (w : Stack) → (free_row (with_sequence 143 (pair_a ∷ [])) (or_d (pk key_a) (older 144))).sat w → ⊥
     go w (inl h) = key_needs_one (with_sequence 143 (pair_a ∷ [])) (w, h)
@@ -70,50 +70,39 @@ returns-clause-lock_needs_none c = ((EMPTY ∷ [], inr ([], EMPTY ∷ [], (refl,
 
 pub returns-clause-branches : goal.returns-clause-branches
 returns-clause-branches c = record {
-  preimage = inr ((preimage_1 ∷ [], EMPTY ∷ [], hash_tight, refl, refl), λ one. free_branch_only);
-  canonical = inl (sig_a ∷ [], ONE ∷ [], signature_of_a with_preimage refl, refl, refl);
+  preimage = inr ((_, _, hash_tight, refl, refl), λ one. free_branch_only);
+  canonical = inl (_, _, signature_of_a with_preimage refl, refl, refl);
   signature = go;
-  alone = inl ((sig_a ∷ [], ONE ∷ [], signature_of_a without_preimage refl, refl, refl), λ one. absurd (no_free_branch one.0 one.1));
+  alone = inl ((_, _, signature_of_a without_preimage refl, refl, refl), λ one. absurd (no_free_branch one.0 one.1));
 }
   where
     free_branch_only : Both (free_row with_preimage (sha256 hash_1)).sat (Is EMPTY) (EMPTY ∷ preimage_1 ∷ [])
-    free_branch_only = (preimage_1 ∷ [], EMPTY ∷ [], hash_free, refl, refl)
+    free_branch_only = (_, _, hash_free, refl, refl)
 
     go : Tight key_or_hash with_preimage (sig_a ∷ ONE ∷ []) → ⊥
-    go (inl h) = let free = h.1 (EMPTY ∷ preimage_1 ∷ [], free_branch) in key_needs_one with_preimage (free.0, free.2)
+    go (inl h) = let free = h.1 (_, free_branch) in key_needs_one with_preimage (free.0, free.2)
     go (inr h) = let o = h.0 in begins_otherwise ONE EMPTY (sig_a ∷ []) o.0 o.1 (λ e. never_empty 1 [] (sym e)) o.3 o.4
 
 pub returns-clause-children : goal.returns-clause-children
 returns-clause-children c = record {
   preimage =
       inr (
-        preimage_1 ∷ [],
-        EMPTY ∷ [],
-        inl (0, refl, ([], preimage_1 ∷ [], (refl, refl), (hash_tight, λ one. hash_free), refl)),
+        _,
+        _,
+        inl (0, refl, (_, _, (refl, refl), (hash_tight, λ one. hash_free), refl)),
         (key_needs_one with_preimage, refl),
         refl,
       );
-  canonical =
-      inl (
-        0,
-        refl,
-        (
-          ZEROS ∷ [],
-          sig_a ∷ [],
-          inr ([], ZEROS ∷ [], (refl, refl), inl (zeros_miss, refl), refl),
-          signature_of_a with_preimage refl,
-          refl,
-        ),
-      );
+  canonical = inl (0, refl, (_, _, inr (_, _, (refl, refl), inl (zeros_miss, refl), refl), signature_of_a with_preimage refl, refl));
   signature = go;
   alone =
       inl (
         0,
         refl,
         (
-          ZEROS ∷ [],
-          sig_a ∷ [],
-          inr ([], ZEROS ∷ [], (refl, refl), (no_preimage, inl (zeros_miss, refl)), refl),
+          _,
+          _,
+          inr (_, _, (refl, refl), (no_preimage, inl (zeros_miss, refl)), refl),
           (signature_of_a without_preimage refl, λ one. absurd (key_needs_one without_preimage one)),
           refl,
         ),
@@ -122,7 +111,7 @@ returns-clause-children c = record {
   where
     hash_left : (n : ℕ) (w : Stack) → 1 ≡ suc n → TightParts with_preimage (trees (a (sha256 hash_1) ∷ [])) n w → ⊥
     hash_left zero w e (inl h) = absurd (let i = h.1 in omega (arith, i))
-    hash_left zero w e (inr h) = h.3.0 (preimage_1 ∷ [], hash_free)
+    hash_left zero w e (inr h) = h.3.0 (_, hash_free)
     hash_left (suc n) w e h = absurd (omega (arith, e))
 
     go : Tight one_of_two with_preimage (ZEROS ∷ sig_a ∷ []) → ⊥
@@ -144,7 +133,7 @@ returns-clause-other_signs c = record {
   accepted = record { ops = 5; peak = 2; run = refl };
   other = record { ops = 5; peak = 3; run = refl };
   new = (key_b, sig_b, refl, false≢true);
-  known = λ fresh. fresh.1 (inr (sig_b ∷ [], EMPTY ∷ [], (sig_b, refl, refl), refl, refl));
+  known = λ fresh. fresh.1 (inr (_, _, (sig_b, refl, refl), refl, refl));
   not_held = go;
 }
   where
