@@ -34,48 +34,39 @@ pub record AreWithin (n d : ℕ) (xs : List Policy) : Type 0 where
 -- both of policies as parts, and of parts before a list
 of_policies : (xs : List Policy) → (size_of (policies_of xs) ≡ sizes xs) × (depth_of (policies_of xs) ≡ depths xs)
 of_policies [] = (refl, refl)
-of_policies (x ∷ xs) = let h = of_policies xs in (omega arith, omega arith)
+of_policies (x ∷ xs) = omega (arith, of_policies xs)
 
 appended : (parts : Policies) (xs : List Policy) →
     (sizes (list_of parts ++ xs) ≡ size_of parts + sizes xs) × (depths (list_of parts ++ xs) ≡ max (depth_of parts) (depths xs))
-appended none xs = (omega arith, omega arith)
-appended (more x parts) xs = let h = appended parts xs in (omega arith, omega arith)
+appended none xs = omega arith
+appended (more x parts) xs = omega (arith, appended parts xs)
 
 of_joining : (how : Join) (parts : Policies) → (size (joining how parts) ≡ size_of parts + 1) × (depth (joining how parts) ≡ depth_of parts + 1)
 of_joining join.All parts = (refl, refl)
 of_joining join.Any parts = (refl, refl)
 
 opened_within : (how : Join) (xs : List Policy) → AreWithin (sizes xs) (depths xs) (flat_map (opened how) xs)
-opened_within join.All (all parts ∷ xs) =
-    let h = opened_within join.All xs in
-    let e = appended parts (flat_map (opened join.All) xs) in
-    record { sizes = omega arith; depths = omega arith }
-opened_within join.Any (any parts ∷ xs) =
-    let h = opened_within join.Any xs in
-    let e = appended parts (flat_map (opened join.Any) xs) in
-    record { sizes = omega arith; depths = omega arith }
-opened_within how [] = record { sizes = omega arith; depths = omega arith }
-opened_within how (x ∷ xs) = let h = opened_within how xs in record { sizes = omega arith; depths = omega arith }
+opened_within join.All (all parts ∷ xs) = omega (arith, opened_within join.All xs, appended parts (flat_map (opened join.All) xs))
+opened_within join.Any (any parts ∷ xs) = omega (arith, opened_within join.Any xs, appended parts (flat_map (opened join.Any) xs))
+opened_within how [] = omega arith
+opened_within how (x ∷ xs) = omega (arith, opened_within how xs)
 
 -- what is made of several parts
 abbrev pub BelowOne : List Policy → Policy → Type 0
 BelowOne xs = Within (sizes xs + 1) (depths xs + 1)
 
 wider : (xs ys : List Policy) (p : Policy) → AreWithin (sizes ys) (depths ys) xs → BelowOne xs p → BelowOne ys p
-wider xs ys p w h = record { size = omega arith; depth = omega arith }
+wider xs ys p w h = omega arith
 
 gathered_within : (how : Join) (xs : List Policy) → BelowOne xs (gathered how xs)
-gathered_within join.All [] = record { size = omega arith; depth = omega arith }
-gathered_within join.Any [] = record { size = omega arith; depth = omega arith }
-gathered_within how (x ∷ []) = record { size = omega arith; depth = omega arith }
-gathered_within how (x ∷ y ∷ xs) =
-    let a = of_joining how (policies_of (x ∷ y ∷ xs)) in
-    let b = of_policies (x ∷ y ∷ xs) in
-    record { size = omega arith; depth = omega arith }
+gathered_within join.All [] = omega arith
+gathered_within join.Any [] = omega arith
+gathered_within how (x ∷ []) = omega arith
+gathered_within how (x ∷ y ∷ xs) = omega (arith, of_joining how (policies_of (x ∷ y ∷ xs)), of_policies (x ∷ y ∷ xs))
 
 decisive_within : (how : Join) (xs : List Policy) → BelowOne xs (decisive how)
-decisive_within join.All xs = record { size = omega arith; depth = omega arith }
-decisive_within join.Any xs = record { size = omega arith; depth = omega arith }
+decisive_within join.All xs = omega arith
+decisive_within join.Any xs = omega arith
 
 joined_within : (how : Join) (xs : List Policy) → BelowOne xs (joined how xs)
 joined_within how xs =
@@ -84,9 +75,9 @@ joined_within how xs =
 
 -- those that are neither Always nor Never
 left_within : (xs : List Policy) → AreWithin (sizes xs) (depths xs) (filter (λ part. not (is_always part || is_never part)) xs)
-left_within [] = record { sizes = omega arith; depths = omega arith }
-left_within (never ∷ xs) = let h = left_within xs in record { sizes = omega arith; depths = omega arith }
-left_within (x ∷ xs) = let h = left_within xs in record { sizes = omega arith; depths = omega arith }
+left_within [] = omega arith
+left_within (never ∷ xs) = omega (arith, left_within xs)
+left_within (x ∷ xs) = omega (arith, left_within xs)
 
 threshold_within : (k : ℕ) (xs : List Policy) → BelowOne xs (threshold k xs)
 threshold_within k xs =
@@ -94,34 +85,22 @@ threshold_within k xs =
     let w = left_within xs in
     let a = of_policies rest in
     chosen_cases (BelowOne xs) _ rest
-    (λ e. record { size = omega arith; depth = omega arith })
-    (λ e. record { size = omega arith; depth = omega arith })
+    (λ e. omega arith)
+    (λ e. omega arith)
     (λ e. wider rest xs _ w (joined_within join.Any rest))
     (λ e. wider rest xs _ w (joined_within join.All rest))
-    (record { size = omega arith; depth = omega arith })
+    (omega arith)
 
 mutual
   pub simple_within : (x : Policy) → Within (size x) (depth x) (simple x)
-  simple_within (all parts) =
-      let e = each_within parts in
-      let h = joined_within join.All (simple_each parts) in
-      record { size = omega arith; depth = omega arith }
-  simple_within (any parts) =
-      let e = each_within parts in
-      let h = joined_within join.Any (simple_each parts) in
-      record { size = omega arith; depth = omega arith }
-  simple_within (thresh k parts) =
-      let e = each_within parts in
-      let h = threshold_within k (simple_each parts) in
-      record { size = omega arith; depth = omega arith }
-  simple_within x = record { size = omega arith; depth = omega arith }
+  simple_within (all parts) = omega (arith, each_within parts, joined_within join.All (simple_each parts))
+  simple_within (any parts) = omega (arith, each_within parts, joined_within join.Any (simple_each parts))
+  simple_within (thresh k parts) = omega (arith, each_within parts, threshold_within k (simple_each parts))
+  simple_within x = omega arith
 
   each_within : (parts : Policies) → AreWithin (size_of parts) (depth_of parts) (simple_each parts)
-  each_within none = record { sizes = omega arith; depths = omega arith }
-  each_within (more x xs) =
-      let h = simple_within x in
-      let hs = each_within xs in
-      record { sizes = omega arith; depths = omega arith }
+  each_within none = omega arith
+  each_within (more x xs) = omega (arith, simple_within x, each_within xs)
 
 pub simple_is_smaller : SimpleIsSmaller
 simple_is_smaller policy = let h = simple_within policy in (h.size, h.depth)
@@ -129,31 +108,20 @@ simple_is_smaller policy = let h = simple_within policy in (h.size, h.depth)
 -- the keys of a `multi`
 of_keys : (keys : List Key) → (size_of (policies_of (map key keys)) ≡ length keys) × (depth_of (policies_of (map key keys)) ≤ 1)
 of_keys [] = (refl, omega arith)
-of_keys (k ∷ keys) = let h = of_keys keys in (omega arith, omega arith)
+of_keys (k ∷ keys) = omega (arith, of_keys keys)
 
 mutual
   plain_within : (t : Tree) → Within (2 * tree_size.measure t) (2 * tree_size.depth t) (plain t)
-  plain_within (tree.and_or x y z) =
-      let a = plain_within x in
-      let b = plain_within y in
-      let c = plain_within z in
-      record { size = omega arith; depth = omega arith }
-  plain_within (tree.two kind x y) =
-      let a = plain_within x in
-      let b = plain_within y in
-      let c = of_joining (join_of kind) (policies_of (plain x ∷ plain y ∷ [])) in
-      record { size = omega arith; depth = omega arith }
-  plain_within (tree.thresh k xs) = let h = plain_each_within xs in record { size = omega arith; depth = omega arith }
-  plain_within (tree.multi k keys) = let h = of_keys keys in record { size = omega arith; depth = omega arith }
-  plain_within (tree.wrap wrapper x) = let a = plain_within x in record { size = omega arith; depth = omega arith }
-  plain_within leaf = record { size = omega arith; depth = omega arith }
+  plain_within (tree.and_or x y z) = omega (arith, plain_within x, plain_within y, plain_within z)
+  plain_within (tree.two kind x y) = omega (arith, plain_within x, plain_within y, of_joining (join_of kind) (policies_of (plain x ∷ plain y ∷ [])))
+  plain_within (tree.thresh k xs) = omega (arith, plain_each_within xs)
+  plain_within (tree.multi k keys) = omega (arith, of_keys keys)
+  plain_within (tree.wrap wrapper x) = omega (arith, plain_within x)
+  plain_within leaf = omega arith
 
   plain_each_within : (xs : Trees) → (size_of (plain_each xs) ≤ 2 * tree_size.measure_of xs) × (depth_of (plain_each xs) ≤ 2 * tree_size.depth_of xs)
-  plain_each_within tree.none = (omega arith, omega arith)
-  plain_each_within (tree.more x xs) =
-      let a = plain_within x in
-      let b = plain_each_within xs in
-      (omega arith, omega arith)
+  plain_each_within tree.none = omega arith
+  plain_each_within (tree.more x xs) = omega (arith, plain_within x, plain_each_within xs)
 
 pub plain_is_small : PlainIsSmall
 plain_is_small t = let h = plain_within t in (h.size, h.depth)
