@@ -11,8 +11,7 @@ use Rattle.def_tree.specs.Range.{IsKey}
 use Rattle.def_assets.specs.Assets.{AreAssets, IsSignature, IsPreimage}
 use Rattle.def_satisfaction.proofs.Computing.{computing}
 use Rattle.def_satisfaction.proofs.Forms.{key_form, signature_form}
-use Rattle.def_satisfaction.specs.Samples.{preimage_1, preimage_2, preimage_3, pair_a, pair_b, pair_short_a, with_preimages, key_or_key}
-use Rattle.def_satisfaction.specs.Rows.{EMPTY, ONE}
+use Rattle.def_satisfaction.specs.Samples.{preimage_1, preimage_2, preimage_3, pair_a, pair_short_a, with_preimages, key_or_key}
 use Rattle.def_satisfaction.specs.Satisfaction.{Sat}
 use Rattle.def_satisfaction.specs.Examples.{both_signatures, two_of_one_key, ByPreimages, RightBranch, LeftBranch, ZerosAreNoMiss}
 
@@ -23,21 +22,13 @@ by_preimages = record {
     1,
     refl,
     (
-      sig_a ∷ EMPTY ∷ [],
-      preimage_1 ∷ preimage_2 ∷ preimage_3
-          ∷ [],
-      inl (0, refl, (EMPTY ∷ [], sig_a ∷ [], inr ([], EMPTY ∷ [], (refl, refl), refl, refl), (sig_a, refl, refl), refl)),
+      _,
+      _,
+      inl (0, refl, (_, _, inr (_, _, (refl, refl), refl, refl), (sig_a, refl, refl), refl)),
       (
-        preimage_2 ∷ preimage_3 ∷ [],
-        preimage_1 ∷ [],
-        (
-          preimage_3 ∷ [],
-          preimage_2
-              ∷ [],
-          ([], preimage_3 ∷ [], refl, (preimage_3, ((refl, refl), refl), refl), refl),
-          (preimage_2, ((refl, refl), refl), refl),
-          refl,
-        ),
+        _,
+        _,
+        (_, _, (_, _, refl, (preimage_3, ((refl, refl), refl), refl), refl), (preimage_2, ((refl, refl), refl), refl), refl),
         (preimage_1, ((refl, refl), refl), refl),
         refl,
       ),
@@ -45,7 +36,7 @@ by_preimages = record {
     ),
   );
   weight = refl;
-  checks = pair_a ∷ [];
+  checks = _;
   run = refl;
 }
 
@@ -53,24 +44,15 @@ pub right_branch : RightBranch
 unfolding computing
 right_branch = record {
   sat = (
-    EMPTY ∷ preimage_1 ∷ preimage_2 ∷ preimage_3 ∷ [],
-    sig_b
-        ∷ [],
+    _,
+    _,
     inr (
-      preimage_1 ∷ preimage_2 ∷ preimage_3 ∷ [],
-      EMPTY
-          ∷ [],
+      _,
+      _,
       (
-        preimage_2 ∷ preimage_3 ∷ [],
-        preimage_1 ∷ [],
-        (
-          preimage_3 ∷ [],
-          preimage_2
-              ∷ [],
-          (preimage_3, ((refl, refl), refl), refl),
-          (preimage_2, ((refl, refl), refl), refl),
-          refl,
-        ),
+        _,
+        _,
+        (_, _, (preimage_3, ((refl, refl), refl), refl), (preimage_2, ((refl, refl), refl), refl), refl),
         (preimage_1, ((refl, refl), refl), refl),
         refl,
       ),
@@ -81,16 +63,16 @@ right_branch = record {
     refl,
   );
   weight = refl;
-  checks = pair_b ∷ [];
+  checks = _;
   run = refl;
 }
 
 pub left_branch : LeftBranch
 unfolding computing
 left_branch = record {
-  sat = (ONE ∷ sig_a ∷ [], sig_b ∷ [], inl (sig_a ∷ [], ONE ∷ [], (sig_a, refl, refl), refl, refl), (sig_b, refl, refl), refl);
+  sat = (_, _, inl (_, _, (sig_a, refl, refl), refl, refl), (sig_b, refl, refl), refl);
   weight = refl;
-  checks = pair_b ∷ pair_a ∷ [];
+  checks = _;
   run = refl;
 }
 
