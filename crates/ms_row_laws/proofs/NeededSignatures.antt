@@ -56,17 +56,17 @@ pub record Needs (m : Mall) (r : Row) : Type 0 where
 no_signature : (s : Setting) (key : Key) → ((sig : Bytes) → is_good s.given.table key sig ≡ false) → IsEmpty (Signature s key)
 no_signature s key bad w r = false≢true (sym (bad r.0) ∙ r.1)
 
-below_none : {P Q : StackSet} → IsEmpty P → IsEmpty (Both P Q)
+pub below_none : {P Q : StackSet} → IsEmpty P → IsEmpty (Both P Q)
 below_none p w r = p r.0 r.2
 
-above_none : {P Q : StackSet} → IsEmpty Q → IsEmpty (Both P Q)
+pub above_none : {P Q : StackSet} → IsEmpty Q → IsEmpty (Both P Q)
 above_none q w r = q r.1 r.3
 
-either_none : {P Q : StackSet} → IsEmpty P → IsEmpty Q → IsEmpty (Either P Q)
+pub either_none : {P Q : StackSet} → IsEmpty P → IsEmpty Q → IsEmpty (Either P Q)
 either_none p q w (inl r) = p w r
 either_none p q w (inr r) = q w r
 
-if_none : {fact : Type 0} {P : StackSet} → IsEmpty P → IsEmpty (If fact P)
+pub if_none : {fact : Type 0} {P : StackSet} → IsEmpty P → IsEmpty (If fact P)
 if_none p w r = p w r.1
 
 and_or_needs : (s : Setting) (mx my mz : Mall) (x y z : Row) → Needs mx x → Needs my y → Needs mz z → Needs (mall.and_or_row mx my mz).gives (and_or_row (stacks s) x y z)

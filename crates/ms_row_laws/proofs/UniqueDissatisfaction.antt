@@ -13,11 +13,11 @@ use Rattle.def_types.specs.Malleable.{count_not_s}
 use Rattle.def_types.specs.Typed.{IsTyped, AreTyped, mall_of, malls_of, IsMallTyped, AreMallTyped}
 use Rattle.def_types.proofs.Rows.{mall_rows}
 use Rattle.def_sane.specs.Keys.{keys, keys_of_all}
-use Rattle.def_satisfaction.specs.StackSet.{StackSet, Both}
+use Rattle.def_satisfaction.specs.StackSet.{StackSet, Both, Either}
 use Rattle.def_satisfaction.specs.Setting.{Setting, CountsAsKey}
 use Rattle.def_satisfaction.specs.Rows.{EMPTY, ONE, row, parts}
 use Rattle.def_choice.specs.Tight.{HasOne}
-use Rattle.ms_row_laws.proofs.NeededSignatures.{NoKeys, none_left, none_right, counts_itself, needs, few_satisfied}
+use Rattle.ms_row_laws.proofs.NeededSignatures.{NoKeys, IsEmpty, below_none, above_none, either_none, if_none, none_left, none_right, counts_itself, needs, few_satisfied}
 
 pub one_both : (P Q : StackSet) → HasOne P → HasOne Q → HasOne (Both P Q)
 one_both P Q p q = (q.0 ++ p.0, (p.0, q.0, p.1, q.1, refl))
@@ -105,9 +105,20 @@ module _ (s : Setting) where
 pub free_dsat : (s : Setting) (t : Tree) → IsWritable t → IsMallTyped t → (mall_of t).e ≡ true → HasOne (row s t).dsat
 free_dsat s t k safe e = (the_dsat t, is_dsat s t k safe e)
 
--- of two parts each is the one that it can be
-both_are : (w above below a b : Stack) → w ≡ above ++ below → above ≡ a → below ≡ b → w ≡ a ++ b
-both_are w above below a b e i j = e ∙ ap (λ v. v ++ below) i ∙ ap (λ v. a ++ v) j
+-- every stack of the set is this one
+abbrev Only : StackSet → Stack → Type 0
+Only P a = (w : Stack) → P w → w ≡ a
+
+both_only : {P Q : StackSet} (a b : Stack) → Only P b → Only Q a → Only (Both P Q) (a ++ b)
+both_only a b p q w r = r.4 ∙ ap (λ v. v ++ r.0) (q r.1 r.3) ∙ ap (λ v. a ++ v) (p r.0 r.2)
+
+first_only : {P Q : StackSet} {a : Stack} → Only P a → IsEmpty Q → Only (Either P Q) a
+first_only p q w (inl r) = p w r
+first_only p q w (inr r) = absurd (q w r)
+
+second_only : {P Q : StackSet} {a : Stack} → IsEmpty P → Only Q a → Only (Either P Q) a
+second_only p q w (inl r) = absurd (p w r)
+second_only p q w (inr r) = q w r
 
 none_not_s : (ms : List Mall) → all_s ms ≡ true → count_not_s ms ≡ 0
 none_not_s [] e = refl
@@ -123,82 +134,66 @@ module _ (s : Setting) (own : OwnKeys s) where
   mutual
     unfolding mall_rows
 
-    only_dsat : (tree : Tree) → IsTyped tree → IsMallTyped tree → NoKeys s (keys tree) → (mall_of tree).e ≡ true → (w : Stack) → (row s tree).dsat w → w ≡ the_dsat tree
-    only_dsat just_0 typed safe h e w r = r
-    only_dsat (pk_k key) typed safe h e w r = r
-    only_dsat (pk_h key) typed safe h e w r =
-        both_are w r.4.1 r.4.0 (key ∷ []) (EMPTY ∷ []) r.4.4 (r.4.3 ∙ ap (λ other. other ∷ []) (own key r.0 r.3)) r.4.2
-    only_dsat (and_or x y z) typed safe h e w (inl r) =
-        let p = and_parts (mall_of z).e ((mall_of x).s || (mall_of y).f) e in
-        let h_x = none_left s (keys x) (keys y) (none_left s (keys x ++ keys y) (keys z) h) in
-        both_are w r.1 r.0 _ _ r.4
-        (only_dsat x typed.0 safe.0 h_x safe.3.0 r.1 r.3)
-        (only_dsat z typed.2 safe.2 (none_right s (keys x ++ keys y) (keys z) h) p.0 r.0 r.2)
-    only_dsat (and_or x y z) typed safe h e w (inr (fact, r)) =
+    only_dsat : (tree : Tree) → IsTyped tree → IsMallTyped tree → NoKeys s (keys tree) → (mall_of tree).e ≡ true → Only (row s tree).dsat (the_dsat tree)
+    only_dsat just_0 typed safe h e = λ w r. r
+    only_dsat (pk_k key) typed safe h e = λ w r. r
+    only_dsat (pk_h key) typed safe h e =
+        λ w r. both_only (key ∷ []) (EMPTY ∷ []) (λ v i. i) (λ v i. i ∙ ap (λ other. other ∷ []) (own key r.0 r.3)) w r.4
+    only_dsat (and_or x y z) typed safe h e =
         let p = and_parts (mall_of z).e ((mall_of x).s || (mall_of y).f) e in
         let h_xy = none_left s (keys x ++ keys y) (keys z) h in
-        let i = needs s x typed.0 (none_left s (keys x) (keys y) h_xy) in
+        let h_x = none_left s (keys x) (keys y) h_xy in
+        let i = needs s x typed.0 h_x in
         let j = needs s y typed.1 (none_right s (keys x) (keys y) h_xy) in
-        absurd (elim (or_cases (mall_of x).s (mall_of y).f p.1) [ inl a ↦ i.sat a r.1 r.3 | inr a ↦ j.dsat a r.0 r.2 ])
-    only_dsat (two kind.AndB x y) typed safe h e w (inl r) =
+        first_only
+        (both_only _ _ (only_dsat z typed.2 safe.2 (none_right s (keys x ++ keys y) (keys z) h) p.0) (only_dsat x typed.0 safe.0 h_x safe.3.0))
+        (if_none (elim (or_cases (mall_of x).s (mall_of y).f p.1) [ inl a ↦ above_none (i.sat a) | inr a ↦ below_none (j.dsat a) ]))
+    only_dsat (two kind.AndB x y) typed safe h e =
         let p = and_b_e (mall_of x).e (mall_of y).e (mall_of x).s (mall_of y).s e in
-        both_are w r.1 r.0 _ _ r.4
-        (only_dsat x typed.0 safe.0 (none_left s (keys x) (keys y) h) p.0 r.1 r.3)
-        (only_dsat y typed.1 safe.1 (none_right s (keys x) (keys y) h) p.1 r.0 r.2)
-    only_dsat (two kind.AndB x y) typed safe h e w (inr (fact, r)) =
-        let p = and_b_e (mall_of x).e (mall_of y).e (mall_of x).s (mall_of y).s e in
-        let i = needs s x typed.0 (none_left s (keys x) (keys y) h) in
-        let j = needs s y typed.1 (none_right s (keys x) (keys y) h) in
-        absurd (elim r [ inl a ↦ j.sat p.3 a.0 a.2 | inr a ↦ i.sat p.2 a.1 a.3 ])
-    only_dsat (two kind.OrB x z) typed safe h e w r =
+        let h_x = none_left s (keys x) (keys y) h in
+        let h_y = none_right s (keys x) (keys y) h in
+        let i = needs s x typed.0 h_x in
+        let j = needs s y typed.1 h_y in
+        first_only (both_only _ _ (only_dsat y typed.1 safe.1 h_y p.1) (only_dsat x typed.0 safe.0 h_x p.0))
+        (if_none (either_none (below_none (j.sat p.3)) (above_none (i.sat p.2))))
+    only_dsat (two kind.OrB x z) typed safe h e =
         let p = and_parts (mall_of x).e (mall_of z).e safe.2.0 in
-        both_are w r.1 r.0 _ _ r.4
-        (only_dsat x typed.0 safe.0 (none_left s (keys x) (keys z) h) p.0 r.1 r.3)
-        (only_dsat z typed.1 safe.1 (none_right s (keys x) (keys z) h) p.1 r.0 r.2)
-    only_dsat (two kind.OrD x z) typed safe h e w r =
-        both_are w r.1 r.0 _ _ r.4
-        (only_dsat x typed.0 safe.0 (none_left s (keys x) (keys z) h) safe.2.0 r.1 r.3)
-        (only_dsat z typed.1 safe.1 (none_right s (keys x) (keys z) h) e r.0 r.2)
-    only_dsat (two kind.OrI x z) typed safe h e w r =
+        both_only _ _ (only_dsat z typed.1 safe.1 (none_right s (keys x) (keys z) h) p.1) (only_dsat x typed.0 safe.0 (none_left s (keys x) (keys z) h) p.0)
+    only_dsat (two kind.OrD x z) typed safe h e =
+        both_only _ _ (only_dsat z typed.1 safe.1 (none_right s (keys x) (keys z) h) e) (only_dsat x typed.0 safe.0 (none_left s (keys x) (keys z) h) safe.2.0)
+    only_dsat (two kind.OrI x z) typed safe h e =
         let h_x = none_left s (keys x) (keys z) h in
         let h_z = none_right s (keys x) (keys z) h in
+        let i = needs s x typed.0 h_x in
+        let k = needs s z typed.1 h_z in
         elim (cases_Bool ((mall_of x).e && (mall_of z).f)) [
           | inl a ↦
               let p = and_parts (mall_of x).e (mall_of z).f a in
-              let k = needs s z typed.1 h_z in
-              rw a (elim r [
-                | inl q ↦ both_are w q.1 q.0 (ONE ∷ []) _ q.4 q.3 (only_dsat x typed.0 safe.0 h_x p.0 q.0 q.2)
-                | inr q ↦ absurd (k.dsat p.1 q.0 q.2)
-              ])
+              rw a (first_only (both_only (ONE ∷ []) _ (only_dsat x typed.0 safe.0 h_x p.0) (λ w r. r)) (below_none (k.dsat p.1)))
           | inr b ↦
               let p = and_parts (mall_of z).e (mall_of x).f (or_second _ _ b e) in
-              let i = needs s x typed.0 h_x in
-              rw b (elim r [
-                | inl q ↦ absurd (i.dsat p.1 q.0 q.2)
-                | inr q ↦ both_are w q.1 q.0 (EMPTY ∷ []) _ q.4 q.3 (only_dsat z typed.1 safe.1 h_z p.0 q.0 q.2)
-              ])
+              rw b (second_only (below_none (i.dsat p.1)) (both_only (EMPTY ∷ []) _ (only_dsat z typed.1 safe.1 h_z p.0) (λ w r. r)))
         ]
-    only_dsat (thresh k xs) typed safe h e w (inl r) = only_none xs typed.0 safe.0 h safe.1.0 w r
-    only_dsat (thresh k xs) typed safe h e w (inr (fact, (n, some, other, r))) =
-        let few = few_satisfied s xs typed.0 h n w r in
+    only_dsat (thresh k xs) typed safe h e =
+        first_only (only_none xs typed.0 safe.0 h safe.1.0)
+        (λ w r.
+        let few = few_satisfied s xs typed.0 h r.1.0 w r.1.3 in
         let l = none_not_s (malls_of xs) e in
-        absurd (some (omega arith))
-    only_dsat (multi k keys) typed safe h e w r = r
-    only_dsat (wrap wrapper.D x) typed safe h e w r = r
-    only_dsat (wrap wrapper.V x) typed safe h e w r = absurd (false≢true e)
-    only_dsat (wrap wrapper.J x) typed safe h e w (inl r) = r
-    only_dsat (wrap wrapper.J x) typed safe h e w (inr (fact, (top, r))) = let i = needs s x typed.0 h in absurd (i.dsat e w r)
-    only_dsat (wrap letter x) typed safe h e w r = only_dsat x typed.0 safe.0 h e w r
-    only_dsat tree typed safe h e w r = absurd (false≢true e)
+        r.1.1 (omega arith))
+    only_dsat (multi k keys) typed safe h e = λ w r. r
+    only_dsat (wrap wrapper.D x) typed safe h e = λ w r. r
+    only_dsat (wrap wrapper.V x) typed safe h e = absurd (false≢true e)
+    only_dsat (wrap wrapper.J x) typed safe h e = let i = needs s x typed.0 h in first_only (λ w r. r) (if_none (λ w r. i.dsat e w r.1))
+    only_dsat (wrap letter x) typed safe h e = only_dsat x typed.0 safe.0 h e
+    only_dsat tree typed safe h e = absurd (false≢true e)
 
-    only_none : (xs : Trees) → AreTyped xs → AreMallTyped xs → NoKeys s (keys_of_all xs) → all_e (malls_of xs) ≡ true → (w : Stack) → parts s xs 0 w → w ≡ none_satisfied xs
-    only_none none typed safe h e w r = r.1
-    only_none (more x xs) typed safe h e w (inl r) = absurd (omega (arith, r.1))
-    only_none (more x xs) typed safe h e w (inr r) =
+    only_none : (xs : Trees) → AreTyped xs → AreMallTyped xs → NoKeys s (keys_of_all xs) → all_e (malls_of xs) ≡ true → Only (parts s xs 0) (none_satisfied xs)
+    only_none none typed safe h e = λ w r. r.1
+    only_none (more x xs) typed safe h e =
         let p = and_parts (mall_of x).e (all_e (malls_of xs)) e in
-        both_are w r.1 r.0 _ _ r.4
-        (only_dsat x typed.0 safe.0 (none_left s (keys x) (keys_of_all xs) h) p.0 r.1 r.3)
-        (only_none xs typed.1 safe.1 (none_right s (keys x) (keys_of_all xs) h) p.1 r.0 r.2)
+        second_only (λ w r. absurd (omega (arith, r.1)))
+        (both_only _ _ (only_none xs typed.1 safe.1 (none_right s (keys x) (keys_of_all xs) h) p.1)
+        (only_dsat x typed.0 safe.0 (none_left s (keys x) (keys_of_all xs) h) p.0))
 
 -- a stack of the one set is the same as each of the other
 abbrev pub AreOne : StackSet → StackSet → Type 0

@@ -63,28 +63,20 @@ sized-as S P Q w m n f e p = record {
   short = p.short;
 }
 
+-- what is known of the items that a row takes
+sized-is : (S : Type 0) (t : Takes) (w : Stack) → length w ≡ t.items → 0 ≡ t.keys → (S → weight w ≤ t.weight) → (S → AreShort w) → SizedIf S (Is t) w 0
+sized-is S t w items keys light short = record { takes = t; formal = refl; items = items; keys = keys; light = light; short = short }
+
 sized-nothing : (S : Type 0) (w : Stack) → w ≡ [] → SizedIf S (Is nothing) w 0
-sized-nothing S w e = record {
-  takes = nothing;
-  formal = refl;
-  items = ap length e;
-  keys = refl;
-  light = λ s. let h : weight w ≡ 0 = ap weight e in omega (arith, h);
-  short = λ s. All-same IsShort w [] e (All-nil IsShort);
-}
+sized-nothing S w e =
+    sized-is S nothing w (ap length e) refl (λ s. let h : weight w ≡ 0 = ap weight e in omega (arith, h)) (λ s. All-same IsShort w [] e (All-nil IsShort))
 
 -- an item of n bytes or less
 sized-one : (S : Type 0) (n : ℕ) (x : Bytes) (w : Stack) → n ≤ MAX_SIGNATURE_SIZE → (S → length x ≤ n) → w ≡ x ∷ [] → SizedIf S (Is (item n)) w 0
-sized-one S n x w few short e = record {
-  takes = item n;
-  formal = refl;
-  items = ap length e;
-  keys = refl;
-  light = λ s. let h : weight w ≡ 1 + length x + 0 = ap weight e in let l = short s in omega (arith, h, l);
-  short = λ s.
-      let l = short s in
-      All-same IsShort w (x ∷ []) e (All-cons IsShort x [] (omega (arith, few, l)) (All-nil IsShort));
-}
+sized-one S n x w few short e =
+    sized-is S (item n) w (ap length e) refl
+    (λ s. let h : weight w ≡ 1 + length x + 0 = ap weight e in let l = short s in omega (arith, h, l))
+    (λ s. let l = short s in All-same IsShort w (x ∷ []) e (All-cons IsShort x [] (omega (arith, few, l)) (All-nil IsShort)))
 
 -- one below and one above
 sized-both : (S : Type 0) (P Q : Takes → Type 0) (w below above : Stack) (m n k : ℕ) → w ≡ above ++ below → k ≡ n + m →
@@ -133,28 +125,18 @@ weight-short (x ∷ w) h =
 
 -- short items, so many
 sized-signatures : (S : Type 0) (k : ℕ) (w : Stack) → length w ≡ k → (S → AreShort w) → SizedIf S (Is (same_items k MAX_SIGNATURE_SIZE)) w 0
-sized-signatures S k w e short = record {
-  takes = same_items k MAX_SIGNATURE_SIZE;
-  formal = refl;
-  items = e;
-  keys = refl;
-  light = λ s. omega (arith, e, weight-short w (short s));
-  short = short;
-}
+sized-signatures S k w e short =
+    sized-is S (same_items k MAX_SIGNATURE_SIZE) w e refl (λ s. omega (arith, e, weight-short w (short s))) short
 
 weight-empties : (n : ℕ) → weight (replicate n EMPTY) ≡ n
 weight-empties zero = refl
 weight-empties (suc n) = let h = weight-empties n in omega (arith, h)
 
 sized-empties : (S : Type 0) (n : ℕ) (w : Stack) → w ≡ replicate n EMPTY → SizedIf S (Is (same_items n 0)) w 0
-sized-empties S n w e = record {
-  takes = same_items n 0;
-  formal = refl;
-  items = ap length e ∙ length-replicate n EMPTY;
-  keys = refl;
-  light = λ s. let h : weight w ≡ weight (replicate n EMPTY) = ap weight e in omega (arith, h, weight-empties n);
-  short = λ s. All-same IsShort w (replicate n EMPTY) e (All-replicate IsShort n EMPTY (omega arith));
-}
+sized-empties S n w e =
+    sized-is S (same_items n 0) w (ap length e ∙ length-replicate n EMPTY) refl
+    (λ s. let h : weight w ≡ weight (replicate n EMPTY) = ap weight e in omega (arith, h, weight-empties n))
+    (λ s. All-same IsShort w (replicate n EMPTY) e (All-replicate IsShort n EMPTY (omega arith)))
 
 -- of the children of a threshold
 sized-satisfied : (S : Type 0) (x : Tree) (xs : Trees) (n m : ℕ) (w : Stack) (k : ℕ) → n ≡ suc m → SizedIf S (Both (FormalParts xs m) (FormalSat x)) w k →
