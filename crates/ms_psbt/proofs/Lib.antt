@@ -5,7 +5,6 @@ mod Places
 mod Placing
 mod Reading
 mod Repeating
-mod Shapes
 mod Sizes
 mod Skipping
 mod Sourcing

@@ -1,36 +1,21 @@
 -- Where the maps of inputs stand, and which bytes they are.
-use Rattle.std.proofs.Common.{◌≡◌, ℕ, zero, suc, min, ◌+◌, ◌-◌, ◌^◌, ◌<◌, ◌≤◌, Bool, true, false, cond, List, [], ◌∷◌, ◌++◌, length, length-append, take, drop, get_or, Option, Some, None, Result, Ok, Err, refl, sym, ap, subst, ◌∙◌, append_assoc, arith}
-use Rattle.std.proofs.lemmas.Bool.{eqb-true}
+use Rattle.std.proofs.Common.{◌≡◌, ℕ, zero, suc, min, ◌+◌, ◌-◌, ◌^◌, ◌<◌, ◌≤◌, true, List, [], ◌∷◌, ◌++◌, length, length-append, take, drop, get_or, Some, None, Ok, refl, sym, ap, ◌∙◌, append_assoc, arith}
 use Rattle.std.proofs.lemmas.List.{length-drop, length-take, take_at, drop_at}
 use Rattle.std.proofs.lemmas.List.Concat.{flat_map-cons}
 use Rattle.std.proofs.lemmas.Slice.Eq.{bytes_eq-Decides}
 use Rattle.std.specs.List.{flat_map}
-use Rattle.std.specs.Prelude.{◌==◌, slice_get}
+use Rattle.std.specs.Prelude.{slice_get}
 use Rattle.def_script.specs.Bytes.{Bytes, IsBytes}
-use Rattle.def_psbt.specs.declared.PsbtFault.{PsbtFault}
-use Rattle.def_psbt.specs.declared.PsbtFault.TheVariants.{RepeatedKey, KeyForm}
-use Rattle.def_psbt.specs.declared.Refusal.{Refusal}
 use Rattle.def_psbt.specs.Forms.{is_unsigned}
 use Rattle.def_psbt.specs.Laws.{IsSoundMap}
-use Rattle.def_psbt.specs.Listed.{Form, passes, no_data, is_typed, stands, form_fault, shape_fault, pair_fault, global_form}
-use Rattle.def_psbt.specs.Map.{Pair, Map, type_of, data_of, magic, pair_text, map_text}
-use Rattle.def_psbt.specs.Reading.{◌>>=◌, map_at, maps_at, pair_of_type}
+use Rattle.def_psbt.specs.Listed.{Form, shape_fault, pair_fault, global_form}
+use Rattle.def_psbt.specs.Map.{Pair, Map, type_of, magic, pair_text, map_text}
+use Rattle.def_psbt.specs.Reading.{map_at, maps_at, pair_of_type}
 use Rattle.def_psbt.specs.Source.{has_magic}
 use Rattle.def_psbt.specs.TransactionReading.{transaction_of}
 use Rattle.def_psbt.proofs.Reading.{From, pairs_from}
-use Rattle.def_script.specs.Sizes.{read_size}
 use Rattle.ms_psbt.specs.Scaffolding.Kept.{places_of}
-use Rattle.ms_psbt.specs.Scaffolding.Walks.{starts_behind, starts_from}
-
-pub bind_ok : {A B : Type 0} (r : Result A Refusal) (f : A → Result B Refusal) (y : B) → (r >>= f) ≡ Ok y → (x : A) × (r ≡ Ok x) × (f x ≡ Ok y)
-bind_ok (Ok x) f y e = (x, refl, e)
-bind_ok (Err refusal) f y e = absurd cc
-
-abbrev pub done : {A : Type 0} → A → Result A Refusal
-done x = Ok x
-
-pub ok_is : {A : Type 0} (x y : A) → done x ≡ done y → x ≡ y
-ok_is x y e = cc
+use Rattle.ms_psbt.specs.Scaffolding.Walks.{starts_from}
 
 -- ---- what was read ends behind its bytes
 
@@ -52,36 +37,28 @@ begins_inside psbt at map next h =
 
 module _ (forms : ℕ → Form) (psbt : Bytes) (fits : IsBytes psbt) (small : length psbt < 2 ^ 64) where
   map_then : (count at : ℕ) (maps : List Map × ℕ) → maps_at forms psbt (suc count) at ≡ Ok maps
-      → (m : Map × ℕ) × (map_at forms psbt at ≡ Ok m) × ((r : List Map × ℕ) × (maps_at forms psbt count m.1 ≡ Ok r) × ((m.0 ∷ r.0, r.1) ≡ maps))
+      → (m : Map × ℕ) × (map_at forms psbt at ≡ Ok m) × (r : List Map × ℕ) × (maps_at forms psbt count m.1 ≡ Ok r) × ((m.0 ∷ r.0, r.1) ≡ maps)
   unfolding maps_at
-  map_then count at maps e =
-      let m = bind_ok (map_at forms psbt at) (λ map. maps_at forms psbt count map.1 >>= λ maps. Ok (map.0 ∷ maps.0, maps.1)) maps e in
-      let r = bind_ok (maps_at forms psbt count m.0.1) (λ maps. Ok (m.0.0 ∷ maps.0, maps.1)) maps m.2 in
-      (m.0, m.1, (r.0, r.1, ok_is (m.0.0 ∷ r.0.0, r.0.1) maps r.2))
+  map_then count at maps e = grind arith
 
   map_is : (at : ℕ) (m : Map × ℕ) → map_at forms psbt at ≡ Ok m → From psbt at (map_text m.0) m.1
   map_is at m e = (pairs_from forms psbt (suc (length psbt)) [] at m fits small e).0
 
   next_inside : (count at : ℕ) (maps : List Map × ℕ) → maps_at forms psbt count at ≡ Ok maps → maps.1 ≤ length psbt → at ≤ length psbt
   unfolding maps_at
-  next_inside zero at maps e h = subst (λ (n : ℕ). n ≤ length psbt) (ap (λ (r : List Map × ℕ). r.1) (sym (ok_is ([], at) maps e))) h
+  next_inside zero at maps e h = grind arith
   next_inside (suc count) at maps e h = let m = map_then count at maps e in begins_inside psbt at m.0.0 m.0.1 (map_is at m.0 m.1)
 
   pub places_are : (count at : ℕ) (maps : List Map × ℕ) → maps_at forms psbt count at ≡ Ok maps → maps.1 ≤ length psbt → starts_from forms psbt count at ++ maps.1 ∷ [] ≡ places_of at maps.0
   unfolding maps_at starts_from
-  places_are zero at maps e h =
-      subst (λ (r : List Map × ℕ). r.1 ∷ [] ≡ places_of at r.0) (ok_is ([], at) maps e) refl
+  places_are zero at maps e h = grind arith
   places_are (suc count) at maps e h =
       let m = map_then count at maps e in
-      let r = m.2 in
-      let is = m.1 in
-      let end : r.0.1 ≡ maps.1 = ap (λ (x : List Map × ℕ). x.1) r.2 in
-      let inside : r.0.1 ≤ length psbt = omega arith in
-      let next : m.0.1 ≡ at + length (map_text m.0.0) =
-      ends_behind psbt at m.0.0 m.0.1 (map_is at m.0 is) (begins_inside psbt at m.0.0 m.0.1 (map_is at m.0 is)) (next_inside count m.0.1 r.0 r.1 inside) in
-      let others : starts_from forms psbt count m.0.1 ++ r.0.1 ∷ [] ≡ places_of m.0.1 r.0.0 = places_are count m.0.1 r.0 r.1 inside in
-      subst (λ (x : List Map × ℕ). (at ∷ starts_behind (map_at forms psbt at) (starts_from forms psbt count)) ++ x.1 ∷ [] ≡ places_of at x.0) r.2
-      (rw is (ap (λ (xs : List ℕ). at ∷ xs) (others ∙ ap (λ (n : ℕ). places_of n r.0.0) next)))
+      let from = map_is at m.0 m.1 in
+      let inside = next_inside count m.0.1 m.2 m.3 (rw (← m.4) at h) in
+      let next = ends_behind psbt at m.0.0 m.0.1 from (begins_inside psbt at m.0.0 m.0.1 from) inside in
+      let others = places_are count m.0.1 m.2 m.3 (rw (← m.4) at h) in
+      grind (arith, m.1, m.4, next, others)
 
 -- ---- the bytes of a map at its place
 
@@ -103,45 +80,36 @@ many_places at (map ∷ maps) = ap suc (many_places (at + length (map_text map))
 pub last_place : (at : ℕ) (maps : List Map) → get_or (places_of at maps) (length maps) 0 ≡ at + length (flat_map map_text maps)
 last_place at [] = omega arith
 last_place at (map ∷ maps) =
-    let long : length (flat_map map_text (map ∷ maps)) ≡ length (map_text map) + length (flat_map map_text maps) = ap length (flat_map-cons map_text map maps)
-    ∙ length-append (map_text map) (flat_map map_text maps) in
-    let last = last_place (at + length (map_text map)) maps in
-    omega arith
+    omega (
+      arith,
+      last_place (at + length (map_text map)) maps,
+      ap length (flat_map-cons map_text map maps),
+      length-append (map_text map)
+          (flat_map map_text maps),
+    )
 
 map_first : (front : Bytes) (map : Map) (back : Bytes) (maps : List Map) → MapAt (front ++ (map_text map ++ back)) (length front) (length front + length (map_text map)) (map ∷ maps) zero
 map_first front map back maps =
-    let rest : drop (length front) (front ++ (map_text map ++ back)) ≡ map_text map ++ back = drop_at front (map_text map ++ back) (length front) refl in
     let size : length front + length (map_text map) - length front ≡ length (map_text map) = omega arith in
     record {
       map = map;
       is = refl;
       up = omega arith;
       inside = omega (arith, length-append front (map_text map ++ back), length-append (map_text map) back);
-      text = rw (rest, size) (take_at (map_text map) back (length (map_text map)) refl);
+      text = rw (drop_at front (map_text map ++ back) (length front) refl, size) (take_at (map_text map) back (length (map_text map)) refl);
     }
 
 pub map_place : (front : Bytes) (maps : List Map) (back : Bytes) (k : ℕ) → k < length maps
     → MapAt (front ++ (flat_map map_text maps ++ back)) (get_or (places_of (length front) maps) k 0) (get_or (places_of (length front) maps) (suc k) 0) maps k
 map_place front [] back k inside = absurd (omega arith)
 map_place front (map ∷ maps) back zero inside =
-    let cons : flat_map map_text (map ∷ maps) ++ back ≡ map_text map ++ (flat_map map_text maps ++ back) =
-    ap (λ (x : Bytes). x ++ back) (flat_map-cons map_text map maps) ∙ append_assoc (map_text map) (flat_map map_text maps) back in
-    let text : front ++ (map_text map ++ (flat_map map_text maps ++ back)) ≡ front ++ (flat_map map_text (map ∷ maps) ++ back) = ap (λ (x : Bytes). front ++ x) (sym cons) in
-    let to : length front + length (map_text map) ≡ get_or (places_of (length front + length (map_text map)) maps) 0 0 = sym (first_place (length front + length (map_text map)) maps) in
-    subst (λ (n : ℕ). MapAt (front ++ (flat_map map_text (map ∷ maps) ++ back)) (length front) n (map ∷ maps) zero) to
-    (subst (λ (b : Bytes). MapAt b (length front) (length front + length (map_text map)) (map ∷ maps) zero) text (map_first front map (flat_map map_text maps ++ back) maps))
+    rw (first_place (length front + length (map_text map)) maps, flat_map-cons map_text map maps, append_assoc (map_text map) (flat_map map_text maps) back)
+    (map_first front map (flat_map map_text maps ++ back) maps)
 map_place front (map ∷ maps) back (suc k) inside =
-    let cons : flat_map map_text (map ∷ maps) ++ back ≡ map_text map ++ (flat_map map_text maps ++ back) =
-    ap (λ (x : Bytes). x ++ back) (flat_map-cons map_text map maps) ∙ append_assoc (map_text map) (flat_map map_text maps) back in
     let text : (front ++ map_text map) ++ (flat_map map_text maps ++ back) ≡ front ++ (flat_map map_text (map ∷ maps) ++ back) =
-    append_assoc front (map_text map) (flat_map map_text maps ++ back) ∙ ap (λ (x : Bytes). front ++ x) (sym cons) in
-    let later : length (front ++ map_text map) ≡ length front + length (map_text map) = length-append front (map_text map) in
-    let m = map_place (front ++ map_text map) maps back k (omega arith) in
-    let there : MapAt (front ++ (flat_map map_text (map ∷ maps) ++ back)) (get_or (places_of (length front + length (map_text map)) maps) k 0)
-    (get_or (places_of (length front + length (map_text map)) maps) (suc k) 0) maps k =
-    subst (λ (n : ℕ). MapAt (front ++ (flat_map map_text (map ∷ maps) ++ back)) (get_or (places_of n maps) k 0) (get_or (places_of n maps) (suc k) 0) maps k) later
-    (subst (λ (b : Bytes). MapAt b (get_or (places_of (length (front ++ map_text map)) maps) k 0) (get_or (places_of (length (front ++ map_text map)) maps) (suc k) 0) maps k) text m) in
-    record { map = there.map; is = there.is; up = there.up; inside = there.inside; text = there.text }
+    simp append_assoc in
+    let m = rw (length-append front (map_text map), text) at (map_place (front ++ map_text map) maps back k (omega arith)) in
+    record { map = m.map; is = m.is; up = m.up; inside = m.inside; text = m.text }
 
 -- ---- the transaction
 
@@ -157,34 +125,9 @@ pub sound_of_type : (forms : ℕ → Form) (type : ℕ) (before map : Map) (pair
     → (type_of pair.key ≡ type) × (shape_fault forms pair ≡ None)
 unfolding pair_fault
 sound_of_type forms type before [] pair sound e = absurd cc
-sound_of_type forms type before (first ∷ map) pair sound e = go (λ e. sound_of_type forms type (before ++ first ∷ []) map pair sound.1 e) (type_of first.key == type) refl e
-  where
-    unrepeated : (b : Bool) (fault : Option PsbtFault) → cond b (Some RepeatedKey) fault ≡ None → fault ≡ None
-    unrepeated true fault e = absurd cc
-    unrepeated false fault e = e
-
-    some_is : (x y : Pair) → Some x ≡ Some y → x ≡ y
-    some_is x y e = cc
-
-    go : (pair_of_type type map ≡ Some pair → (type_of pair.key ≡ type) × (shape_fault forms pair ≡ None)) → (b : Bool) → (type_of first.key == type) ≡ b
-        → cond b (Some first) (pair_of_type type map) ≡ Some pair → (type_of pair.key ≡ type) × (shape_fault forms pair ≡ None)
-    go again true is e =
-        subst (λ (p : Pair). (type_of p.key ≡ type) × (shape_fault forms p ≡ None)) (some_is first pair e)
-        (eqb-true _ _ is, unrepeated (stands first.key before) (shape_fault forms first) sound.0.fault)
-    go again false is e = again e
+sound_of_type forms type before (first ∷ map) pair sound e = let again = sound_of_type forms type (before ++ first ∷ []) map pair sound.1 in grind
+    (arith, again, sound.0.fault)
 
 pub unsigned_value : (pair : Pair) → type_of pair.key ≡ 0 → shape_fault global_form pair ≡ None → is_unsigned (transaction_of pair.value) ≡ true
 unfolding shape_fault global_form
-unsigned_value pair z e = typed (is_typed (read_size pair.key)) e
-  where
-    passed : (b : Bool) → passes b ≡ None → b ≡ true
-    passed true e = refl
-    passed false e = absurd cc
-
-    formed : (b : Bool) → cond b (passes (is_unsigned (transaction_of pair.value))) (Some KeyForm) ≡ None → is_unsigned (transaction_of pair.value) ≡ true
-    formed true e = passed (is_unsigned (transaction_of pair.value)) e
-    formed false e = absurd cc
-
-    typed : (b : Bool) → cond b (form_fault (global_form (type_of pair.key)) pair) (Some KeyForm) ≡ None → is_unsigned (transaction_of pair.value) ≡ true
-    typed true e = formed (no_data (data_of pair.key)) (rw z at e)
-    typed false e = absurd cc
+unsigned_value pair z e = grind arith

@@ -1,8 +1,8 @@
-use Rattle.std.proofs.Common.{◌≡◌, ◌+◌, ◌-◌, ◌++◌, subst, sym}
+use Rattle.std.proofs.Common.{arith}
+use Rattle.std.proofs.lemmas.Grind.{common_steps}
 use Rattle.std.proofs.lemmas.Result.{err_from_is_err_and}
 use Rattle.ms_psbt.specs.Scaffolding.Kinds.{forms_of}
-use Rattle.ms_psbt.specs.Scaffolding.Walks.{starts_from}
-use Rattle.ms_psbt.proofs.Walking.{maps_more, starts_more, maps_stop, maps_done, starts_done}
+use Rattle.ms_psbt.proofs.Walking.{maps_next, starts_next, maps_stop, maps_done, starts_done}
 use Rattle.ms_psbt.proofs.maps.maps_end.Goals as goal
 
 pub returns-in_err-at-clause-reading : goal.returns-in_err-at-clause-reading
@@ -13,17 +13,12 @@ returns-in_err-at-clause-reading c =
 
 pub loop-preserved : goal.loop-preserved
 loop-preserved c =
-    let forms = forms_of c.args.kind in
-    let psbt = c.args.psbt.now in (
-      c.in_ok-at.ensures.within,
-      maps_more forms psbt c.args.count c.loop.counter c.loop.at c.in_ok-at.at _ c.loop-test.true c.in_ok-at.ensures.reading c.loop.invariant.1,
-      subst (λ xs. xs ++ starts_from (forms_of c.args.kind) c.args.psbt.now (c.args.count - (c.loop.counter + 1)) c.in_ok-at.at ≡ c.args.starts.now.items
-          ++ starts_from (forms_of c.args.kind) c.args.psbt.now c.args.count c.args.from) (sym c.in_ok-push.ensures.items)
-          (starts_more forms psbt c.args.count c.loop.counter c.loop.at c.in_ok-at.at c.loop.starts.items _ c.loop-test.true c.in_ok-at.ensures.reading c.loop.invariant.2),
-    )
+    let maps = maps_next (forms_of c.args.kind) c.args.psbt.now c.args.count c.loop.counter c.loop.at in
+    let starts = starts_next (forms_of c.args.kind) c.args.psbt.now c.args.count c.loop.counter c.loop.at c.in_ok-at.at in
+    grind (arith, common_steps, maps, starts)
 
 pub returns-clause-reading : goal.returns-clause-reading
-returns-clause-reading c = maps_done (forms_of c.args.kind) c.args.psbt.now c.args.count c.loop.counter c.loop.at _ c.loop-test.false c.loop.invariant.1
+returns-clause-reading c = grind (arith, maps_done (forms_of c.args.kind) c.args.psbt.now c.args.count c.loop.counter c.loop.at)
 
 pub returns-clause-starts : goal.returns-clause-starts
-returns-clause-starts c = starts_done (forms_of c.args.kind) c.args.psbt.now c.args.count c.loop.counter c.loop.at c.loop.starts.items _ c.loop-test.false c.loop.invariant.2
+returns-clause-starts c = grind (arith, common_steps, starts_done (forms_of c.args.kind) c.args.psbt.now c.args.count c.loop.counter c.loop.at)

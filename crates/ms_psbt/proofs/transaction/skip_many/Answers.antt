@@ -1,14 +1,13 @@
-use Rattle.ms_psbt.specs.Scaffolding.Skips.{skip_of, skips}
-use Rattle.ms_psbt.proofs.Skipping.{skips_on, skips_none, skips_done}
+use Rattle.std.proofs.Common.{arith}
+use Rattle.ms_psbt.specs.Scaffolding.Skips.{skip_of}
+use Rattle.ms_psbt.proofs.Skipping.{skips_next, skips_done}
 use Rattle.ms_psbt.proofs.transaction.skip_many.Goals as goal
 
 pub returns-in_err-rest : goal.returns-in_err-rest
-returns-in_err-rest c = rw c.from_residual.ensures (skips_none (skip_of c.args.kind) c.args.count c.loop.counter c.loop.rest.now
-    (skips (skip_of c.args.kind) c.args.count c.args.bytes.now) c.loop-test.true c.in_err-rest.ensures c.loop.invariant)
+returns-in_err-rest c = grind (arith, skips_next (skip_of c.args.kind) c.args.count c.loop.counter)
 
 pub loop-preserved : goal.loop-preserved
-loop-preserved c = skips_on (skip_of c.args.kind) c.args.count c.loop.counter c.loop.rest.now c.in_ok-rest.rest.now
-    (skips (skip_of c.args.kind) c.args.count c.args.bytes.now) c.loop-test.true c.in_ok-rest.ensures c.loop.invariant
+loop-preserved c = grind (arith, skips_next (skip_of c.args.kind) c.args.count c.loop.counter)
 
 pub returns : goal.returns
-returns c = skips_done (skip_of c.args.kind) c.args.count c.loop.counter c.loop.rest.now (skips (skip_of c.args.kind) c.args.count c.args.bytes.now) c.loop-test.false c.loop.invariant
+returns c = grind (arith, skips_done (skip_of c.args.kind) c.args.count c.loop.counter)

@@ -4,19 +4,18 @@ use Rattle.ms_psbt.proofs.Holding.{places_count}
 use Rattle.ms_psbt.proofs.psbt.Psbt.input_count.Goals as goal
 
 pub overflow_sub-result : goal.overflow_sub-result
-overflow_sub-result c =
-    let count = places_count c.self.inside.bytes.now c.self.inside.transaction.now c.self.inside.places.items c.self.invariant in
-    omega (arith, c.self.inside.places.ok.0)
+overflow_sub-result c = omega (arith, places_count c.self.invariant, c.self.inside.places.ok.0)
 
 pub returns-clause-maps : goal.returns-clause-maps
-returns-clause-maps c =
-    let count = places_count c.self.inside.bytes.now c.self.inside.transaction.now c.self.inside.places.items c.self.invariant in
-    let same = ap (λ (p : Psbt). length p.inputs) c.self.view_is in
-    omega (arith, c.self.inside.places.ok.0)
+returns-clause-maps c = omega (arith, places_count c.self.invariant, c.self.inside.places.ok.0, ap (λ (p : Psbt). length p.inputs) c.self.view_is)
 
 pub returns-clause-inputs : goal.returns-clause-inputs
 returns-clause-inputs c =
-    let count = places_count c.self.inside.bytes.now c.self.inside.transaction.now c.self.inside.places.items c.self.invariant in
-    let each = c.self.invariant.sound.each_input in
-    let same = ap (λ (p : Psbt). length p.transaction.inputs) c.self.view_is in
-    omega (arith, c.self.inside.places.ok.0)
+    omega (
+      arith,
+      places_count c.self.invariant,
+      c.self.inside.places.ok.0,
+      c.self.invariant.sound.each_input,
+      ap
+          (λ (p : Psbt). length p.transaction.inputs) c.self.view_is,
+    )
