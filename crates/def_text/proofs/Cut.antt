@@ -98,13 +98,11 @@ here at bytes t e c = record {
 
 -- what joins the tokens behind the first joins them all
 inner_join : (u : Token) (us : List Token) (q : Bool) → (ends_word (u ∷ us) && q) ≡ false → (ends_word us && q) ≡ false
-inner_join u [] q j = refl
-inner_join u (v ∷ vs) q j = j
+inner_join u us q j = grind arith
 
 other_first : (u v : Token) (us : List Token) (q : Bool) → is_word u ≡ is_word v → (ends_word (u ∷ us) && q) ≡ false →
     (ends_word (v ∷ us) && q) ≡ false
-other_first u v [] q e j = rw (← e) j
-other_first u v (w ∷ ws) q e j = j
+other_first u v us q e j = grind arith
 
 -- whether a word begins the tokens
 data FirstWord (ts : List Token) : Type 0 where
@@ -148,10 +146,7 @@ module _ (at b : ℕ) (bs : Bytes) (inner : (us : List Token) (t : Token) (after
       let e : s ≡ u = cc in
       let c : Cut (at + 1) bs us t = inner us t after (cc) in
       further us (u ∷ us) t c (rw (← e) n, c.no_end)
-      (λ later j.
-      same (tokens_from (at + 1) (c.front ++ later))
-      ∙ (ap (λ r. s ∷ r) (c.same later (inner_join u us (starts_word (tokens_from (offset t) later)) j))
-      ∙ ap (λ r. r ∷ (us ++ tokens_from (offset t) later)) e))
+      (λ later j. cc (same (tokens_from (at + 1) (c.front ++ later)), c.same later (inner_join u us (starts_word (tokens_from (offset t) later)) j)))
 
   cut_joined : (n : ℕ) (w : Bytes) (ts : List Token) → tokens_from (at + 1) bs ≡ word n w ∷ ts → goes_on b ≡ false →
       ((ts : List Token) → byte_before at b ts ≡ word_before at b ts) → (us : List Token) (t : Token) (after : List Token) →
@@ -163,11 +158,10 @@ module _ (at b : ℕ) (bs : Bytes) (inner : (us : List Token) (t : Token) (after
       let tail : ts ≡ us ++ t ∷ after = cc in
       let c : Cut (at + 1) bs (word n w ∷ us) t = inner (word n w ∷ us) t after (k ∙ ap (λ r. word n w ∷ r) tail) in
       further (word n w ∷ us) (u ∷ us) t c (ap is_end (sym e), c.no_end.1)
-      (λ later j.
-      same (tokens_from (at + 1) (c.front ++ later))
-      ∙ (ap (word_before at b)
-      (c.same later (other_first u (word n w) us (starts_word (tokens_from (offset t) later)) (ap is_word (sym e)) j))
-      ∙ ap (λ r. r ∷ (us ++ tokens_from (offset t) later)) e))
+      (λ later j. cc (
+        same (tokens_from (at + 1) (c.front ++ later)),
+        c.same later (other_first u (word n w) us (starts_word (tokens_from (offset t) later)) (ap is_word (sym e)) j),
+      ))
 
   cut_alone : starts_word (tokens_from (at + 1) bs) ≡ false → goes_on b ≡ false →
       ((ts : List Token) → byte_before at b ts ≡ word_before at b ts) → (us : List Token) (t : Token) (after : List Token) →
@@ -179,12 +173,11 @@ module _ (at b : ℕ) (bs : Bytes) (inner : (us : List Token) (t : Token) (after
       let tail : tokens_from (at + 1) bs ≡ us ++ t ∷ after = cc in
       let c : Cut (at + 1) bs us t = inner us t after tail in
       further us (u ∷ us) t c (ap is_end (sym e), c.no_end)
-      (λ later j.
-      same (tokens_from (at + 1) (c.front ++ later))
-      ∙ (ap (word_before at b) (c.same later (inner_join u us (starts_word (tokens_from (offset t) later)) j))
-      ∙ (alone at b (us ++ tokens_from (offset t) later)
-      (unjoined at b u us (tokens_from (at + 1) bs) (tokens_from (offset t) later) e f t after tail j)
-      ∙ ap (λ r. r ∷ (us ++ tokens_from (offset t) later)) e)))
+      (λ later j. cc (
+        same (tokens_from (at + 1) (c.front ++ later)),
+        c.same later (inner_join u us (starts_word (tokens_from (offset t) later)) j),
+        alone at b (us ++ tokens_from (offset t) later) (unjoined at b u us (tokens_from (at + 1) bs) (tokens_from (offset t) later) e f t after tail j),
+      ))
 
   cut_word : FirstWord (tokens_from (at + 1) bs) → goes_on b ≡ false →
       ((ts : List Token) → byte_before at b ts ≡ word_before at b ts) → (us : List Token) (t : Token) (after : List Token) →

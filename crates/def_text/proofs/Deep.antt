@@ -6,7 +6,7 @@ use Rattle.def_script.specs.Bytes.{Bytes}
 use Rattle.def_text.specs.Token.{Token, word, tokens}
 use Rattle.def_text.specs.Word.{is_fragment_name}
 use Rattle.def_text.specs.Refusal.{MOST_WRITTEN_DEPTH, MayBegin, is_run, levels_of, enclosing, IsDeep}
-use Rattle.def_text.specs.Scaffolding.Reader.{form_0, Head, named, run, neither, head_of, begin, Want, expression, Frame, State, START, step, behind, is_deep_head, is_deep_word, is_deep}
+use Rattle.def_text.specs.Scaffolding.Reader.{form_0, Head, named, run, neither, head_of, begin, expression, Frame, State, START, step, behind, is_deep_head, is_deep_word, is_deep}
 use Rattle.def_text.proofs.Levels.{HeadSays, head_says}
 use Rattle.def_text.proofs.Viable.{may_begin, begins_expression}
 use Rattle.def_text.proofs.Counted.{enclosing_is}
@@ -39,15 +39,11 @@ pub record DeepWord (s : State) (t : Token) : Type 0 where
   pub next : State
   pub steps : step s t ≡ Some next
 
-deep_word : (want : Want) (fs : List Frame) (os : List ℕ) (b : ℕ) (v : Bytes) → is_deep_word want v fs ≡ true →
-    DeepWord (want, fs, os) (word b v)
-deep_word expression fs os b v h =
+pub deep_token : (s : State) (t : Token) → is_deep s t ≡ true → DeepWord s t
+deep_token (expression, fs, os) (word b v) h =
     let (n, e) = head_steps (head_of v) b fs os h in
     record { a = b; w = v; is = refl; wanted = refl; deep = h; next = n; steps = e }
-deep_word want fs os b v h = absurd (cc)
-
-pub deep_token : (s : State) (t : Token) → is_deep s t ≡ true → DeepWord s t
-deep_token s (word b v) h = deep_word s.0 s.1 s.2 b v h
+deep_token s (word b v) h = absurd (cc)
 deep_token s t h = absurd (cc)
 
 wanted_behind : (us : List Token) (s : State) → s.0 ≡ expression → behind START us ≡ Some s →

@@ -31,7 +31,6 @@ run_no_name : (w : Bytes) (l : Letter) (ls : List Letter) (o : Option Form) → 
 run_no_name w l ls None e h = refl
 run_no_name w l ls (Some form) e h =
     let k : letters_of w ≡ None = ap letters_of (named_is w form FORMS e) ∙ name_no_run form in
-    let clash : None ≡ Some (l ∷ ls) = sym k ∙ h in
     absurd (cc)
 
 -- ---- letters
@@ -68,18 +67,10 @@ pub record HeadSays (w : Bytes) (head : Head) : Type 0 where
   pub begun : (is_fragment_name w || is_run w) ≡ is_begun head
   pub levels : levels_of w ≡ head_levels head
 
-name_says : (w : Bytes) (form : Form) → is_fragment_name w ≡ true → HeadSays w (named form)
-name_says w form n = record {
-  begun = ap (λ b. b || is_run w) n;
-  levels = ap (λ b. if b then 1 else (if is_run w then length w else 0)) n;
-}
-
-other_says : (w : Bytes) (r : Bool) → is_fragment_name w ≡ false → is_run w ≡ r →
-    ((is_fragment_name w || is_run w) ≡ r) × (levels_of w ≡ (if r then length w else 0))
-other_says w r n e = (
-  ap (λ b. b || is_run w) n ∙ e,
-  ap (λ b. if b then 1 else (if is_run w then length w else 0)) n ∙ ap (λ b. if b then length w else 0) e,
-)
+-- by the tests of a word
+by_tests : (w : Bytes) (f r : Bool) → is_fragment_name w ≡ f → is_run w ≡ r →
+    ((is_fragment_name w || is_run w) ≡ (f || r)) × (levels_of w ≡ (if f then 1 else if r then length w else 0))
+by_tests w f r n e = (cc, cc)
 
 run_is_run : (w : Bytes) (l : Letter) (ls : List Letter) → w ≡ letter_word (l ∷ ls) →
     (is_run w ≡ true) × (length w ≡ length (l ∷ ls))
@@ -96,12 +87,14 @@ says : (w : Bytes) (o : Option (List Letter)) (p : Option Form) → letters_of w
     HeadSays w (head_from o p)
 says w (Some (l ∷ ls)) p h e =
     let (is, n) = run_is_run w l ls (word_is w (l ∷ ls) h) in
-    let (begun, levels) = other_says w true (name_is_found w ∙ (ap is_some e ∙ run_no_name w l ls p e h)) is in
+    let (begun, levels) = by_tests w false true (name_is_found w ∙ (ap is_some e ∙ run_no_name w l ls p e h)) is in
     record { begun = begun; levels = levels ∙ n }
 says w (Some []) p h e = empty_says w (word_is w [] h)
-says w None (Some form) h e = name_says w form (name_is_found w ∙ ap is_some e)
+says w None (Some form) h e =
+    let (begun, levels) = by_tests w true false (name_is_found w ∙ ap is_some e) (no_run w h) in
+    record { begun = begun; levels = levels }
 says w None None h e =
-    let (begun, levels) = other_says w false (name_is_found w ∙ ap is_some e) (no_run w h) in
+    let (begun, levels) = by_tests w false false (name_is_found w ∙ ap is_some e) (no_run w h) in
     record { begun = begun; levels = levels }
 
 pub head_says : (w : Bytes) → HeadSays w (head_of w)

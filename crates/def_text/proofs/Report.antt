@@ -5,7 +5,7 @@ use Rattle.std.specs.Str.{IsUtf8}
 use Rattle.def_script.specs.Bytes.{Bytes}
 use Rattle.def_text.specs.Token.{Token, offset, tokens}
 use Rattle.def_text.specs.Spells.{SpellsText}
-use Rattle.def_text.specs.Refusal.{IsViable, IsDeep, NoneDeep, SyntaxAt, DeepAt}
+use Rattle.def_text.specs.Refusal.{IsDeep, NoneDeep, SyntaxAt, DeepAt}
 use Rattle.def_text.specs.Scaffolding.Reader.{State, START, step, behind, is_deep, Outcome, tree_outcome, syntax_outcome, deep_outcome, last_outcome, next_outcome, outcome}
 use Rattle.def_text.proofs.Cut.{nothing_behind}
 use Rattle.def_text.proofs.Completion.{is_finished}
@@ -81,27 +81,15 @@ module _ (text : Bytes) (utf8 : IsUtf8 text) where
     none_deep = none;
   }
 
-  -- tokens that the machine doesn't take begin no spelled text
-  not_viable : (us : List Token) (s : State) (t : Token) → behind START us ≡ Some s → step s t ≡ None → ¬ IsViable (us ++ t ∷ [])
-  not_viable us s t goes stops v =
-      let (n, e) = viable_goes v in
-      let clash : None ≡ Some n = sym (go_on us s None t goes stops) ∙ e in
-      cc
-
   report_syntax : (us : List Token) (s : State) (t : Token) (ts : List Token) → tokens text ≡ us ++ t ∷ ts →
       behind START us ≡ Some s → NoneDeep us →
       step s t ≡ None → SyntaxAt text (offset t)
   report_syntax us s t ts split goes none stops = record {
     place = record { before = us; token = t; after = ts; split = split; there = refl };
     begins = front_viable text us (t ∷ ts) s utf8 split goes;
-    ends = not_viable us s t goes stops;
+    ends = λ v. let (n, e) = viable_goes v in cc (go_on us s None t goes stops);
     none_deep = none;
   }
-
-  not_deep : (us : List Token) (s : State) (t : Token) → behind START us ≡ Some s → is_deep s t ≡ false → ¬ IsDeep us t
-  not_deep us s t goes f deep =
-      let clash : false ≡ true = sym f ∙ deep_machine us t s goes deep in
-      cc
 
   report_next : (us : List Token) (s : State) (t : Token) (ts : List Token) → tokens text ≡ us ++ t ∷ ts →
       behind START us ≡ Some s → NoneDeep us →
@@ -112,7 +100,7 @@ module _ (text : Bytes) (utf8 : IsUtf8 text) where
   report_next us s t ts split goes none others true o f e = report_deep us s t ts split goes none (deep_token s t f)
   report_next us s t ts split goes none others false None f e = report_syntax us s t ts split goes none e
   report_next us s t ts split goes none others false (Some n) f e =
-      others (us ++ t ∷ []) n (one_more us t ts split) (go_on us s (Some n) t goes e) (none_deep-behind us t none (not_deep us s t goes f))
+      others (us ++ t ∷ []) n (one_more us t ts split) (go_on us s (Some n) t goes e) (none_deep-behind us t none (λ deep. cc (deep_machine us t s goes deep)))
 
   report_from : (ts us : List Token) (s : State) → tokens text ≡ us ++ ts → behind START us ≡ Some s → NoneDeep us →
       Reports text (outcome s ts)

@@ -26,9 +26,6 @@ use Rattle.def_text.specs.Spells.{Spells, text_0, text_1, text_pk_k, text_pk_h, 
 
 -- ---- keys and hash values
 
-tested : (b : Bool) (v bytes : Bytes) → (if b then Some v else None) ≡ Some bytes → (b ≡ true) × (v ≡ bytes)
-tested b v bytes = grind arith
-
 -- what a word of hexadecimal digits spells was decoded, and passed the test
 decoded : (test : Bytes → Bool) (r : Result (List ℕ) FromHexError) (bytes : Bytes) →
     option_and_then (λ (v : Bytes). if test v then Some v else None) (result_ok r) ≡ Some bytes →

@@ -133,11 +133,13 @@ module _ (find : Bytes → Option Key) where
     parses (two kind.OrC x y) h =
         let f = typed-or_c x y h.typed in
         let a = parses x (first_fits find _ x y h f.0 h.nested.0) in let b = parses y (second_fits find _ x y h f.1 h.nested.1) in
-        as_one find (two kind.OrC x y) (λ e. cc) (or_c_one x y (a.one (d_no_and_v x f.3) (not_w _ B f.2 (λ e. cc))) (b.row (not_w _ V f.5 (λ e. cc))) (fit (two kind.OrC x y) h))
+        as_one find (two kind.OrC x y) (λ e. cc)
+        (or_c_one x y (a.one (d_no_and_v x f.3) (not_w _ B f.2 (λ e. cc))) (b.row (not_w _ V f.5 (λ e. cc))) (fit (two kind.OrC x y) h))
     parses (two kind.OrD x y) h =
         let f = typed-or_d x y h.typed in
         let a = parses x (first_fits find _ x y h f.0 h.nested.0) in let b = parses y (second_fits find _ x y h f.1 h.nested.1) in
-        as_one find (two kind.OrD x y) (λ e. cc) (or_d_one x y (a.one (d_no_and_v x f.3) (not_w _ B f.2 (λ e. cc))) (b.row (not_w _ B f.5 (λ e. cc))) (fit (two kind.OrD x y) h))
+        as_one find (two kind.OrD x y) (λ e. cc)
+        (or_d_one x y (a.one (d_no_and_v x f.3) (not_w _ B f.2 (λ e. cc))) (b.row (not_w _ B f.5 (λ e. cc))) (fit (two kind.OrD x y) h))
     parses (two kind.OrI x y) h =
         let f = typed-or_i x y h.typed in
         let a = parses x (first_fits find _ x y h f.0 h.nested.0) in let b = parses y (second_fits find _ x y h f.1 h.nested.1) in

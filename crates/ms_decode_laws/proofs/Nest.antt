@@ -226,7 +226,8 @@ module _ (P : Key → Type 0) (g : Key → Key) (same_hash : (k : Key) → hash1
         kept wrapper.D x (nest g x) i h.1 i.nested (λ k. both (i.sat k) (Some one)) refl (λ l. ap (λ o. code op.EndIf ∷ o) (i.order (code op.If ∷ code op.Dup ∷ l)))
     is_nest (wrap wrapper.V x) h w e =
         let i = is_nest x h.0 w e in
-        around (λ (t : Tree). wrap wrapper.V t) (wrap_row wrapper.V) (wrap wrapper.V x) x (nest g x) (v_moves P) i h.1 refl i.sat refl (λ l. ap fused (i.order l))
+        around (λ (t : Tree). wrap wrapper.V t) (wrap_row wrapper.V) (wrap wrapper.V x) x (nest g x) (v_moves P) i h.1 refl i.sat refl
+        (λ l. ap fused (i.order l))
     is_nest (wrap wrapper.J x) h w e =
         let i = is_nest x h.0 w e in
         kept wrapper.J x (nest g x) i h.1 i.nested i.sat refl (λ l. ap (λ o. code op.EndIf ∷ o) (i.order (code op.If ∷ code op.ZeroNotEqual ∷ code op.Size ∷ l)))

@@ -6,7 +6,8 @@ use Rattle.def_hash.specs.Ripemd.{block_words, step, left_line, right_line, comb
 use Rattle.def_hash.specs.Hash.{hash160}
 
 pub returns : goal.returns
-unfolding first_words schedule sha_rounds sha_compress sha_hash_after sha_digest_bytes sha256 block_words step left_line right_line combined compress hash_after digest_bytes ripemd160 hash160
+unfolding first_words schedule sha_rounds sha_compress sha_hash_after sha_digest_bytes sha256 block_words step left_line right_line combined compress
+    hash_after digest_bytes ripemd160 hash160
 returns c = record {
   key_limits = refl;
   chain_limits = refl;

@@ -11,7 +11,12 @@ returns c = record {
   constants = ((read_as _ _ _ refl refl refl, refl), (read_as _ _ _ refl refl refl, refl));
   keys = ((read_as _ _ _ refl refl refl, refl), (read_as _ _ _ refl refl refl, refl));
   locks = ((read_as _ _ _ refl refl refl, refl), (read_as _ _ _ refl refl refl, refl));
-  hashes = ((read_as _ _ _ refl refl refl, refl), (read_as _ _ _ refl refl refl, refl), (read_as _ _ _ refl refl refl, refl), (read_as _ _ _ refl refl refl, refl));
+  hashes = (
+    (read_as _ _ _ refl refl refl, refl),
+    (read_as _ _ _ refl refl refl, refl),
+    (read_as _ _ _ refl refl refl, refl),
+    (read_as _ _ _ refl refl refl, refl),
+  );
   multi = (read_as _ _ _ refl refl refl, refl);
   andor = (read_as _ _ _ refl refl refl, refl);
   pairs = (
