@@ -170,34 +170,20 @@ thresh_back given k x xs range few first others m end l e =
     )
 
 multi_took : (given : Given) (k : ℕ) (keys : List Key) (m end : Stack) (l : Log) → Tried given.table keys k m end l → BackB true (of_tree given (multi k keys)) m end l
-multi_took given k keys m end l t = go t.passed refl
+multi_took given k keys m end l t = (
+  t.passed,
+  t.sigs ++ EMPTY ∷ [],
+  t.rest,
+  bool_bytes t.passed,
+  t.at ∙ sym (append_assoc t.sigs (EMPTY ∷ []) t.rest),
+  t.main,
+  bool_value true t.passed,
+  go t.passed refl,
+)
   where
-    at : m ≡ (t.sigs ++ EMPTY ∷ []) ++ t.rest
-    at = t.at ∙ sym (append_assoc t.sigs (EMPTY ∷ []) t.rest)
-
-    go : (b : Bool) → t.passed ≡ b → BackB true (of_tree given (multi k keys)) m end l
-    go true e =
-        let p = t.signed e in (
-          true,
-          t.sigs ++ EMPTY ∷ [],
-          t.rest,
-          bool_bytes true,
-          at,
-          t.main ∙ ap (λ c. bool_bytes c ∷ t.rest) e,
-          bool_value true true,
-          ((EMPTY ∷ [], t.sigs, refl, (t.count, p.0), refl), sym p.1),
-        )
-    go false e =
-        let p = t.unsigned e in (
-          false,
-          t.sigs ++ EMPTY ∷ [],
-          t.rest,
-          bool_bytes false,
-          at,
-          t.main ∙ ap (λ c. bool_bytes c ∷ t.rest) e,
-          bool_value true false,
-          (ap (λ v. v ++ EMPTY ∷ []) p.0 ∙ sym (empties_split k), sym p.1),
-        )
+    go : (b : Bool) → t.passed ≡ b → Took (of_tree given (multi k keys)) b (t.sigs ++ EMPTY ∷ []) l
+    go true e = let p = t.signed e in ((EMPTY ∷ [], t.sigs, refl, (t.count, p.0), refl), sym p.1)
+    go false e = let p = t.unsigned e in (ap (λ v. v ++ EMPTY ∷ []) p.0 ∙ sym (empties_split k), sym p.1)
 
 -- by another name of its base type, and of u
 as_base : (given : Given) (t : Tree) (c : Base) → (type_of t).base ≡ c → Inverts given.table (type_of t).base (type_of t).u (den given t) (of_tree given t) →
@@ -221,53 +207,36 @@ mutual
   inverts given (hash kind value) k typed few = hash_back given kind value
   inverts given (and_or x y z) k typed few =
       let p = typed-and_or x y z typed in
-      and_or_back given.table (type_of y).base ((type_of y).u && (type_of z).u) (type_of y).u (type_of z).u (den given x) (den given y) (den given z)
-      (of_tree given x) (of_tree given y) (of_tree given z) (of_tree given (and_or x y z)) p.7
-      (λ e. (and_parts (type_of y).u (type_of z).u e).0) (λ e. (and_parts (type_of y).u (type_of z).u e).1)
-      (and_or_rows given x y z) (and_or_others given x y z)
-      (as_unit given x B p.3 p.5 (inverts given x k.0 p.0 few.0))
-      (inverts given y k.1 p.1 few.1)
-      (as_base given z _ (sym p.6) (inverts given z k.2 p.2 few.2))
+      and_or_back given.table _ _ _ _ (den given x) (den given y) (den given z) (of_tree given x) (of_tree given y) (of_tree given z) _ p.7
+      (λ e. (and_parts (type_of y).u (type_of z).u e).0) (λ e. (and_parts (type_of y).u (type_of z).u e).1) (and_or_rows given x y z)
+      (and_or_others given x y z)
+      (as_unit given x B p.3 p.5 (inverts given x k.0 p.0 few.0)) (inverts given y k.1 p.1 few.1) (as_base given z _ (sym p.6) (inverts given z k.2 p.2 few.2))
   inverts given (two kind.AndV x y) k typed few =
       let p = typed-and_v x y typed in
-      and_v_back given.table (type_of y).base (type_of y).u (den given x) (den given y) (of_tree given x) (of_tree given y) (of_tree given (two kind.AndV x y)) p.3
-      (and_v_rows given x y)
-      (as_base given x V p.2 (inverts given x k.0 p.0 few.0))
-      (inverts given y k.1 p.1 few.1)
+      and_v_back given.table _ _ (den given x) (den given y) (of_tree given x) (of_tree given y) _ p.3 (and_v_rows given x y)
+      (as_base given x V p.2 (inverts given x k.0 p.0 few.0)) (inverts given y k.1 p.1 few.1)
   inverts given (two kind.AndB x y) k typed few =
       let p = typed-and_b x y typed in
-      and_b_back (type_of x).u (type_of y).u true (den given x) (den given y) (of_tree given x) (of_tree given y) (of_tree given (two kind.AndB x y))
-      (and_b_rows given x y)
-      (as_base given x B p.2 (inverts given x k.0 p.0 few.0))
-      (as_base given y W p.3 (inverts given y k.1 p.1 few.1))
+      and_b_back _ _ true (den given x) (den given y) (of_tree given x) (of_tree given y) _ (and_b_rows given x y)
+      (as_base given x B p.2 (inverts given x k.0 p.0 few.0)) (as_base given y W p.3 (inverts given y k.1 p.1 few.1))
   inverts given (two kind.OrB x z) k typed few =
       let p = typed-or_b x z typed in
-      or_b_back (type_of x).u (type_of z).u true (den given x) (den given z) (of_tree given x) (of_tree given z) (of_tree given (two kind.OrB x z))
-      (or_b_rows given x z)
-      (as_base given x B p.2 (inverts given x k.0 p.0 few.0))
-      (as_base given z W p.4 (inverts given z k.1 p.1 few.1))
+      or_b_back _ _ true (den given x) (den given z) (of_tree given x) (of_tree given z) _ (or_b_rows given x z)
+      (as_base given x B p.2 (inverts given x k.0 p.0 few.0)) (as_base given z W p.4 (inverts given z k.1 p.1 few.1))
   inverts given (two kind.OrC x z) k typed few =
       let p = typed-or_c x z typed in
-      or_c_back given.table (den given x) (den given z) (of_tree given x) (of_tree given z) (of_tree given (two kind.OrC x z))
-      (λ w l r. (inl r.0, r.1))
+      or_c_back given.table (den given x) (den given z) (of_tree given x) (of_tree given z) (of_tree given (two kind.OrC x z)) (λ w l r. (inl r.0, r.1))
       (λ above below k l r q. (inr (below, above, q.0, r.0, refl), logs_same _ _ k l r.1 q.1))
-      (as_unit given x B p.2 p.4 (inverts given x k.0 p.0 few.0))
-      (as_base given z V p.5 (inverts given z k.1 p.1 few.1))
+      (as_unit given x B p.2 p.4 (inverts given x k.0 p.0 few.0)) (as_base given z V p.5 (inverts given z k.1 p.1 few.1))
   inverts given (two kind.OrD x z) k typed few =
       let p = typed-or_d x z typed in
-      or_d_back given.table (type_of z).u (den given x) (den given z) (of_tree given x) (of_tree given z) (of_tree given (two kind.OrD x z))
-      (λ w l r. (inl r.0, r.1))
-      (or_d_others given x z)
-      (as_unit given x B p.2 p.4 (inverts given x k.0 p.0 few.0))
-      (as_base given z B p.5 (inverts given z k.1 p.1 few.1))
+      or_d_back given.table _ (den given x) (den given z) (of_tree given x) (of_tree given z) _ (λ w l r. (inl r.0, r.1)) (or_d_others given x z)
+      (as_unit given x B p.2 p.4 (inverts given x k.0 p.0 few.0)) (as_base given z B p.5 (inverts given z k.1 p.1 few.1))
   inverts given (two kind.OrI x z) k typed few =
       let p = typed-or_i x z typed in
-      or_i_back given.table (type_of x).base ((type_of x).u && (type_of z).u) (type_of x).u (type_of z).u (den given x) (den given z)
-      (of_tree given x) (of_tree given z) (of_tree given (two kind.OrI x z)) p.3
-      (λ e. (and_parts (type_of x).u (type_of z).u e).0) (λ e. (and_parts (type_of x).u (type_of z).u e).1)
-      (or_i_rows given x z) (or_i_others given x z)
-      (inverts given x k.0 p.0 few.0)
-      (as_base given z _ (sym p.2) (inverts given z k.1 p.1 few.1))
+      or_i_back given.table _ _ _ _ (den given x) (den given z) (of_tree given x) (of_tree given z) _ p.3
+      (λ e. (and_parts (type_of x).u (type_of z).u e).0) (λ e. (and_parts (type_of x).u (type_of z).u e).1) (or_i_rows given x z) (or_i_others given x z)
+      (inverts given x k.0 p.0 few.0) (as_base given z _ (sym p.2) (inverts given z k.1 p.1 few.1))
   inverts given (thresh k none) writable typed few = absurd (typed-thresh_none k typed)
   inverts given (thresh k (more x xs)) writable typed few =
       let p = typed-thresh k x xs typed in
@@ -278,29 +247,25 @@ mutual
       let p = typed-multi k keys typed in
       multi_took given k keys m end l (multi_tried given.table keys k m end l p.2 p.1 e))
   inverts given (wrap wrapper.A x) k typed few =
-      let p = typed-wrap_a x typed in
-      wrap_a_back (type_of x).u (den given x) (of_tree given x) (as_base given x B p.1 (inverts given x k p.0 few))
+      wrap_a_back (type_of x).u (den given x) (of_tree given x) (as_base given x B (typed-wrap_a x typed).1 (inverts given x k typed.0 few))
   inverts given (wrap wrapper.S x) k typed few =
       let p = typed-wrap_s x typed in
       wrap_s_back (type_of x).u (den given x) (of_tree given x) (one_long given x p.0 p.2) (as_base given x B p.1 (inverts given x k p.0 few))
   inverts given (wrap wrapper.C x) k typed few =
-      let p = typed-wrap_c x typed in
-      wrap_c_back given.table (den given x) (of_tree given x) (as_base given x K p.1 (inverts given x k p.0 few))
+      wrap_c_back given.table (den given x) (of_tree given x) (as_base given x K (typed-wrap_c x typed).1 (inverts given x k typed.0 few))
   inverts given (wrap wrapper.D x) k typed few =
       let p = typed-wrap_d x typed in
       wrap_d_back (den given x) (of_tree given x) (of_tree given (wrap wrapper.D x))
       (λ w l r. (takes_none (every given) x p.2).sat w r.0) (λ l r. (([], ONE ∷ [], r.0, refl, refl), r.1)) (refl, refl)
       (as_base given x V p.1 (inverts given x k p.0 few))
   inverts given (wrap wrapper.V x) k typed few =
-      let p = typed-wrap_v x typed in
-      wrap_v_back (type_of x).u (den given x) (of_tree given x) (as_base given x B p.1 (inverts given x k p.0 few))
+      wrap_v_back (type_of x).u (den given x) (of_tree given x) (as_base given x B (typed-wrap_v x typed).1 (inverts given x k typed.0 few))
   inverts given (wrap wrapper.J x) k typed few =
       let p = typed-wrap_j x typed in
       wrap_j_back (type_of x).u (den given x) (of_tree given x) (of_tree given (wrap wrapper.J x)) (item_long given x p.0 p.2) (wrap_j_rows given x) (inl refl, refl)
       (as_base given x B p.1 (inverts given x k p.0 few))
   inverts given (wrap wrapper.N x) k typed few =
-      let p = typed-wrap_n x typed in
-      wrap_n_back (type_of x).u (den given x) (of_tree given x) (as_base given x B p.1 (inverts given x k p.0 few))
+      wrap_n_back (type_of x).u (den given x) (of_tree given x) (as_base given x B (typed-wrap_n x typed).1 (inverts given x k typed.0 few))
 
   parts_back : (given : Given) (xs : Trees) → AreWritable xs → AreTyped xs → OthersFit xs → AllFew xs → (a : ℕ) (m end : Stack) (l : Log)
       → a + count xs < 2 ^ 31 → den_added given xs (natural_bytes a ∷ m) ≡ Ok (left end l) → PartsBack given xs a m end l

@@ -1,6 +1,7 @@
 -- The machine with its limits makes the steps of the machine without them, or stops at a limit.
-use Rattle.std.proofs.Common.{◌≡◌, ℕ, ◌+◌, ◌<◌, ◌||◌, ◌⊎◌, inl, inr, max, nat_lt, Bool, true, false, [], ◌∷◌, ◌++◌, length, Ok, Err, refl, sym, ◌∙◌, ap, IsTrue, add-zero, ltb-true, le-ltb, arith}
+use Rattle.std.proofs.Common.{◌≡◌, ℕ, ◌+◌, ◌<◌, ◌||◌, ◌⊎◌, inl, inr, max, nat_lt, Bool, true, false, Option, [], ◌∷◌, ◌++◌, length, Ok, Err, refl, sym, ◌∙◌, ap, IsTrue, add-zero, ltb-true, le-ltb, arith}
 use Rattle.std.proofs.lemmas.Bool.{cases_Bool}
+use Rattle.def_script.specs.Bytes.{Bytes}
 use Rattle.def_script.specs.declared.Op.{Op}
 use Rattle.def_script.specs.declared.Op.TheVariants as op
 use Rattle.def_script.specs.Instruction.{Instruction, push, code}
@@ -15,98 +16,60 @@ use Rattle.def_machine.specs.Effects.{verify}
 use Rattle.def_machine.specs.MultiSig.{count, within_op_limit, some_off, one_off, tries, verdict, null_dummy, check_multi_sig}
 use Rattle.def_machine.specs.Machine.{Given, State, on_main, on_multi, act, only_if, is_branching, is_live, pushed, carry_out, settle, step, height}
 use Rattle.def_promises.specs.Limited.{is_limit}
-use Rattle.ms_acceptance_laws.proofs.StackEffects.{Left}
+use Rattle.ms_acceptance_laws.proofs.StackEffects.{Left, left}
 use Rattle.ms_acceptance_laws.proofs.TreeEffects.{checks_multi_sig}
 use Rattle.ms_acceptance_laws.proofs.UnlimitedMachine.{reached, affect, free_act, free_step, one_more}
 use Rattle.ms_acceptance_laws.proofs.PeakUnseen.{peaked}
 use Rattle.ms_acceptance_laws.proofs.OpcodeGrowth.{verify_grows}
 use Rattle.ms_acceptance_laws.proofs.StepRises.{main_climbs, code_climbs}
+use Rattle.ms_row_laws.proofs.RunLog.{log_of}
 use Rattle.ms_row_laws.proofs.Outcomes.{bind_split, same_ok, no_fault, bind_same}
-
--- CHECKMULTISIG behind the number of keys
-abbrev after_count : {A : Type 0} → Pairs → ℕ × Stack → (Stack → Pairs → OrFault A) → OrFault A
-after_count table n next = do
-  keys ← some_off n.0 n.1
-  m ← count n.0 fault.SigCount keys.1
-  sigs ← some_off m.0 m.1
-  extra ← one_off sigs.1
-  tried ← tries table keys.0 sigs.0 []
-  passed ← verdict sigs.0 tried
-  empty ← null_dummy extra.0
-  next (bool_bytes passed.0 ∷ extra.1) passed.1
-
-through : {A B C : Type 0} (r : OrFault A) (f : A → OrFault C) (g : A → OrFault B) (k : B → OrFault C) → ((a : A) → f a ≡ (g a >>= k)) → (r >>= f) ≡ ((r >>= g) >>= k)
-through (Ok a) f g k same = same a
-through (Err e) f g k same = refl
-
--- what is done with its result may be done inside
-after_count-then : {A B : Type 0} (table : Pairs) (n : ℕ × Stack) (next : Stack → Pairs → OrFault A) (k : A → OrFault B) →
-    after_count table n (λ main found. next main found >>= k) ≡ (after_count table n next >>= k)
-after_count-then table n next k =
-    through (some_off n.0 n.1) _ _ k (λ keys.
-    through (count n.0 fault.SigCount keys.1) _ _ k (λ m.
-    through (some_off m.0 m.1) _ _ k (λ sigs.
-    through (one_off sigs.1) _ _ k (λ extra.
-    through (tries table keys.0 sigs.0 []) _ _ k (λ tried.
-    through (verdict sigs.0 tried) _ _ k (λ passed.
-    through (null_dummy extra.0) _ _ k (λ empty. refl)))))))
 
 -- with a count of opcodes and the checks passed before
 abbrev multi_after : (ops : ℕ) → Pairs → Left → OrFault (Stack × ℕ × Pairs)
 multi_after ops checks left = within_op_limit (ops + left.log.keys) >>= λ total. Ok (left.main, total, checks ++ left.log.checks)
 
-abbrev multi_left : ℕ → Stack × Pairs → Left
-multi_left keys found = record { main = found.0; log = record { keys = keys; checks = found.1 } }
+-- from the steps of one form of CHECKMULTISIG, what both forms find
+both_find : (table : Pairs) (main : Stack) (ops : ℕ) (checks : Pairs) (n : ℕ × Stack) (keys : Stack × Stack) (m : ℕ × Stack) (sigs : Stack × Stack)
+    (extra : Bytes × Stack) (tried : Option Pairs) (passed : Bool × Pairs) (empty : Bytes)
+    → count MAX_PUBKEYS_PER_MULTISIG fault.KeyCount main ≡ Ok n → some_off n.0 n.1 ≡ Ok keys → count n.0 fault.SigCount keys.1 ≡ Ok m → some_off m.0 m.1 ≡ Ok sigs → one_off sigs.1 ≡ Ok extra → tries table keys.0 sigs.0 [] ≡ Ok tried
+    → verdict sigs.0 tried ≡ Ok passed → null_dummy extra.0 ≡ Ok empty
+    → let found = left (bool_bytes passed.0 ∷ extra.1) (log_of n.0 passed.1) in
+    (checks_multi_sig table main ≡ Ok found) × (check_multi_sig table main ops checks ≡ multi_after ops checks found)
+unfolding checks_multi_sig check_multi_sig
+both_find table main ops checks n keys m sigs extra tried passed empty a b c d e f g h =
+    (rw (a, b, c, d, e, f, g, h) refl, rw a (bind_same (within_op_limit (ops + n.0)) _ _ (λ total. rw (b, c, d, e, f, g, h) refl)))
 
-abbrev found_after : Pairs → ℕ × Stack → OrFault (Stack × Pairs)
-found_after table n = after_count table n (λ main found. Ok (main, found))
-
--- both forms of CHECKMULTISIG find the same
-free_form : (table : Pairs) (main : Stack) →
-    checks_multi_sig table main ≡ (count MAX_PUBKEYS_PER_MULTISIG fault.KeyCount main >>= λ n. found_after table n >>= λ found. Ok (multi_left n.0 found))
+multi_counted : (table : Pairs) (main : Stack) (ops : ℕ) (checks : Pairs) (end : Left) → checks_multi_sig table main ≡ Ok end
+    → check_multi_sig table main ops checks ≡ multi_after ops checks end
 unfolding checks_multi_sig
-free_form table main =
-    bind_same (count MAX_PUBKEYS_PER_MULTISIG fault.KeyCount main) _ _
-    (λ n. after_count-then table n (λ main found. Ok (main, found)) (λ found. Ok (multi_left n.0 found)))
-
-full_form : (table : Pairs) (main : Stack) (ops : ℕ) (checks : Pairs) →
-    check_multi_sig table main ops checks
-    ≡ (count MAX_PUBKEYS_PER_MULTISIG fault.KeyCount main >>= λ n. within_op_limit (ops + n.0) >>= λ total. found_after table n >>= λ found. Ok (found.0, total, checks ++ found.1))
-unfolding check_multi_sig
-full_form table main ops checks =
-    bind_same (count MAX_PUBKEYS_PER_MULTISIG fault.KeyCount main) _ _
-    (λ n. bind_same (within_op_limit (ops + n.0)) _ _
-    (λ total. after_count-then table n (λ main found. Ok (main, found)) (λ found. Ok (found.0, total, checks ++ found.1))))
-
-multi_counted : (table : Pairs) (main : Stack) (ops : ℕ) (checks : Pairs) (left : Left) → checks_multi_sig table main ≡ Ok left → check_multi_sig table main ops checks ≡ multi_after ops checks left
-multi_counted table main ops checks left h =
-    full_form table main ops checks ∙ go (count MAX_PUBKEYS_PER_MULTISIG fault.KeyCount main) (sym (free_form table main) ∙ h)
-  where
-    same : (n : ℕ × Stack) (found : Stack × Pairs) → found_after table n ≡ Ok found →
-        (within_op_limit (ops + n.0) >>= λ total. found_after table n >>= λ found. Ok (found.0, total, checks ++ found.1)) ≡ multi_after ops checks (multi_left n.0 found)
-    same n found e = bind_same (within_op_limit (ops + n.0)) _ _ (λ total. ap (λ (r : OrFault (Stack × Pairs)). r >>= λ found. Ok (found.0, total, checks ++ found.1)) e)
-
-    go : (r : OrFault (ℕ × Stack)) → (r >>= λ n. found_after table n >>= λ found. Ok (multi_left n.0 found)) ≡ Ok left →
-        (r >>= λ n. within_op_limit (ops + n.0) >>= λ total. found_after table n >>= λ found. Ok (found.0, total, checks ++ found.1)) ≡ multi_after ops checks left
-    go (Ok n) e =
-        let found = bind_split (found_after table n) _ left e in
-        same n found.0 found.1 ∙ ap (multi_after ops checks) (same_ok (multi_left n.0 found.0) left found.2)
-    go (Err fault) e = absurd cc
+multi_counted table main ops checks end h =
+    let n = bind_split (count MAX_PUBKEYS_PER_MULTISIG fault.KeyCount main) _ end h in
+    let keys = bind_split (some_off n.0.0 n.0.1) _ end n.2 in
+    let m = bind_split (count n.0.0 fault.SigCount keys.0.1) _ end keys.2 in
+    let sigs = bind_split (some_off m.0.0 m.0.1) _ end m.2 in
+    let extra = bind_split (one_off sigs.0.1) _ end sigs.2 in
+    let tried = bind_split (tries table keys.0.0 sigs.0.0 []) _ end extra.2 in
+    let passed = bind_split (verdict sigs.0.0 tried.0) _ end tried.2 in
+    let empty = bind_split (null_dummy extra.0.0) _ end passed.2 in
+    (both_find table main ops checks _ _ _ _ _ _ _ _ n.1 keys.1 m.1 sigs.1 extra.1 tried.1 passed.1 empty.1).1 ∙ ap (multi_after ops checks)
+    (same_ok _ end empty.2)
 
 -- and conversely
 multi_found : (table : Pairs) (main : Stack) (ops : ℕ) (checks : Pairs) (out : Stack × ℕ × Pairs) → check_multi_sig table main ops checks ≡ Ok out →
-    (left : Left) × (checks_multi_sig table main ≡ Ok left)
+    (end : Left) × (checks_multi_sig table main ≡ Ok end)
+unfolding check_multi_sig
 multi_found table main ops checks out h =
-    go (count MAX_PUBKEYS_PER_MULTISIG fault.KeyCount main) (free_form table main) (sym (full_form table main ops checks) ∙ h)
-  where
-    go : (r : OrFault (ℕ × Stack)) → checks_multi_sig table main ≡ (r >>= λ n. found_after table n >>= λ found. Ok (multi_left n.0 found)) →
-        (r >>= λ n. within_op_limit (ops + n.0) >>= λ total. found_after table n >>= λ found. Ok (found.0, total, checks ++ found.1)) ≡ Ok out →
-        (left : Left) × (checks_multi_sig table main ≡ Ok left)
-    go (Ok n) form e =
-        let total = bind_split (within_op_limit (ops + n.0)) _ out e in
-        let found = bind_split (found_after table n) _ out total.2 in
-        (multi_left n.0 found.0, form ∙ ap (λ (r : OrFault (Stack × Pairs)). r >>= λ found. Ok (multi_left n.0 found)) found.1)
-    go (Err fault) form e = absurd cc
+    let n = bind_split (count MAX_PUBKEYS_PER_MULTISIG fault.KeyCount main) _ out h in
+    let total = bind_split (within_op_limit (ops + n.0.0)) _ out n.2 in
+    let keys = bind_split (some_off n.0.0 n.0.1) _ out total.2 in
+    let m = bind_split (count n.0.0 fault.SigCount keys.0.1) _ out keys.2 in
+    let sigs = bind_split (some_off m.0.0 m.0.1) _ out m.2 in
+    let extra = bind_split (one_off sigs.0.1) _ out sigs.2 in
+    let tried = bind_split (tries table keys.0.0 sigs.0.0 []) _ out extra.2 in
+    let passed = bind_split (verdict sigs.0.0 tried.0) _ out tried.2 in
+    let empty = bind_split (null_dummy extra.0.0) _ out passed.2 in
+    (_, (both_find table main ops checks _ _ _ _ _ _ _ _ n.1 keys.1 m.1 sigs.1 extra.1 tried.1 passed.1 empty.1).0)
 
 -- a count of opcodes
 counted_or : (n : ℕ) → (within_op_limit n ≡ Ok n) ⊎ ((within_op_limit n ≡ Err fault.OpCount) × (MAX_OPS_PER_SCRIPT < n))
