@@ -3,7 +3,7 @@ use Rattle.std.proofs.Common.{ℕ, [], ◌∷◌, ◌++◌, All, Contains}
 use Rattle.std.proofs.lemmas.List.Elements.{All-nil, All-cons, All-append, All-push, All-contains}
 use Rattle.def_tree.specs.declared.Two.{Two}
 use Rattle.def_tree.specs.declared.Wrapper.{Wrapper}
-use Rattle.def_tree.specs.Tree.{Tree, Trees, just_0, just_1, pk_k, pk_h, older, after, hash, and_or, two, thresh, multi, wrap, none, more}
+use Rattle.def_tree.specs.Tree.{Tree, Trees, and_or, two, thresh, wrap, none, more}
 use Rattle.def_tree.specs.Range.{IsWritable, AreWritable}
 use Rattle.def_types.specs.Typed.{IsTyped, AreTyped}
 use Rattle.def_tree.specs.Nodes.{all_nodes, nodes_of_all}
@@ -22,13 +22,6 @@ module _ (P : Tree → Type 0) (Q : Trees → Type 0) (h : IsInherited P Q) wher
 
   mutual
     nodes_have : (t : Tree) → P t → All P (all_nodes t)
-    nodes_have just_0 p = alone just_0 p
-    nodes_have just_1 p = alone just_1 p
-    nodes_have (pk_k key) p = alone (pk_k key) p
-    nodes_have (pk_h key) p = alone (pk_h key) p
-    nodes_have (older n) p = alone (older n) p
-    nodes_have (after n) p = alone (after n) p
-    nodes_have (hash kind value) p = alone (hash kind value) p
     nodes_have (and_or x y z) p =
         let q = h.three x y z p in
         All-push P (all_nodes x ++ all_nodes y ++ all_nodes z) (and_or x y z)
@@ -39,8 +32,8 @@ module _ (P : Tree → Type 0) (Q : Trees → Type 0) (h : IsInherited P Q) wher
         All-push P (all_nodes x ++ all_nodes y) (two kind x y)
         (All-append P (all_nodes x) (all_nodes y) (nodes_have x q.0) (nodes_have y q.1)) p
     nodes_have (thresh k xs) p = All-push P (nodes_of_all xs) (thresh k xs) (all_have xs (h.all k xs p)) p
-    nodes_have (multi k keys) p = alone (multi k keys) p
     nodes_have (wrap wrapper x) p = All-push P (all_nodes x) (wrap wrapper x) (nodes_have x (h.one wrapper x p)) p
+    nodes_have leaf p = alone leaf p
 
     all_have : (xs : Trees) → Q xs → All P (nodes_of_all xs)
     all_have none q = All-nil P

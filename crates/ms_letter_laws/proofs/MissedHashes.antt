@@ -8,7 +8,7 @@ use Rattle.def_script.specs.Bytes.{Bytes, IsBytes}
 use Rattle.def_machine.specs.Stacks.{Stack}
 use Rattle.def_tree.specs.declared.Two.TheVariants as kind
 use Rattle.def_tree.specs.declared.Wrapper.TheVariants as wrapper
-use Rattle.def_tree.specs.Tree.{Tree, Trees, just_0, just_1, pk_k, pk_h, older, after, hash, and_or, two, thresh, multi, wrap, none, more}
+use Rattle.def_tree.specs.Tree.{Tree, Trees, just_0, pk_k, pk_h, hash, and_or, two, thresh, multi, wrap, none, more}
 use Rattle.def_tree.specs.Range.{IsWritable, AreWritable}
 use Rattle.def_types.specs.Typed.{type_of, IsTyped, AreTyped}
 use Rattle.def_types.proofs.Rows.{corr_rows}
@@ -44,15 +44,12 @@ module _ (s : Setting) (all : IsTrue s.all_rows) where
 
     pub missed_dsat : (t : Tree) → IsWritable t → IsTyped t → (type_of t).d ≡ true → AreMissed (all_nodes t) → HasBytes (row s t).dsat
     missed_dsat just_0 k typed e h = ([], All-nil IsBytes, refl)
-    missed_dsat just_1 k typed e h = absurd (false≢true e)
     missed_dsat (pk_k key) k typed e h = (EMPTY ∷ [], one_item EMPTY empty_bytes, refl)
     missed_dsat (pk_h key) k typed e h = (
       key ∷ EMPTY ∷ [],
       All-cons IsBytes key (EMPTY ∷ []) k.bytes (one_item EMPTY empty_bytes),
       (key, k.form, refl, counts_itself s.mode key, (EMPTY ∷ [], key ∷ [], refl, refl, refl)),
     )
-    missed_dsat (older n) k typed e h = absurd (false≢true e)
-    missed_dsat (after n) k typed e h = absurd (false≢true e)
     missed_dsat (hash kind value) k typed e h = let m = h kind value (0, omega arith, refl) in (m.0 ∷ [], one_item m.0 m.1, inr (all, (m.0, m.2, refl)))
     missed_dsat (and_or x y z) k typed e h =
         let p = typed-and_or x y z typed in
@@ -62,7 +59,6 @@ module _ (s : Setting) (all : IsTrue s.all_rows) where
         (missed_dsat z k.2 p.2 e (missed_right (all_nodes x ++ all_nodes y) (all_nodes z) h_all))
         (missed_dsat x k.0 p.0 p.4 (missed_left (all_nodes x) (all_nodes y) h_xy)) in
         (one.0, one.1, inl one.2)
-    missed_dsat (two kind.AndV x y) k typed e h = absurd (false≢true e)
     missed_dsat (two kind.AndB x y) k typed e h =
         let p = and_parts (type_of x).d (type_of y).d e in
         let h_all = missed_left (all_nodes x ++ all_nodes y) (two kind.AndB x y ∷ []) h in
@@ -76,7 +72,6 @@ module _ (s : Setting) (all : IsTrue s.all_rows) where
         bytes_both _ _
         (missed_dsat z k.1 p.1 p.5 (missed_right (all_nodes x) (all_nodes z) h_all))
         (missed_dsat x k.0 p.0 p.3 (missed_left (all_nodes x) (all_nodes z) h_all))
-    missed_dsat (two kind.OrC x z) k typed e h = absurd (false≢true e)
     missed_dsat (two kind.OrD x z) k typed e h =
         let p = typed-or_d x z typed in
         let h_all = missed_left (all_nodes x ++ all_nodes z) (two kind.OrD x z ∷ []) h in
@@ -102,13 +97,11 @@ module _ (s : Setting) (all : IsTrue s.all_rows) where
         (missed_dsat x writable.2.0 p.0 p.5 (missed_left (all_nodes x) (nodes_of_all xs) h_all)) in
         (one.0, one.1, inl (inr one.2))
     missed_dsat (multi k own) writable typed e h = (replicate (k + 1) EMPTY, All-replicate IsBytes (k + 1) EMPTY empty_bytes, refl)
-    missed_dsat (wrap wrapper.A x) k typed e h = missed_dsat x k typed.0 e (missed_left (all_nodes x) (wrap wrapper.A x ∷ []) h)
-    missed_dsat (wrap wrapper.S x) k typed e h = missed_dsat x k typed.0 e (missed_left (all_nodes x) (wrap wrapper.S x ∷ []) h)
-    missed_dsat (wrap wrapper.C x) k typed e h = missed_dsat x k typed.0 e (missed_left (all_nodes x) (wrap wrapper.C x ∷ []) h)
     missed_dsat (wrap wrapper.D x) k typed e h = (EMPTY ∷ [], one_item EMPTY empty_bytes, refl)
-    missed_dsat (wrap wrapper.V x) k typed e h = absurd (false≢true e)
     missed_dsat (wrap wrapper.J x) k typed e h = (EMPTY ∷ [], one_item EMPTY empty_bytes, inl refl)
-    missed_dsat (wrap wrapper.N x) k typed e h = missed_dsat x k typed.0 e (missed_left (all_nodes x) (wrap wrapper.N x ∷ []) h)
+    missed_dsat (wrap wrapper.V x) k typed e h = absurd (false≢true e)
+    missed_dsat (wrap letter x) k typed e h = missed_dsat x k typed.0 e (missed_left (all_nodes x) (wrap letter x ∷ []) h)
+    missed_dsat tree k typed e h = absurd (false≢true e)
 
     -- all children of a threshold behind the first dissatisfied
     missed_none : (xs : Trees) → AreWritable xs → AreTyped xs → OthersFit xs → AreMissed (nodes_of_all xs) → HasBytes (parts s xs 0)
