@@ -32,7 +32,8 @@ multi_after ops checks left = within_op_limit (ops + left.log.keys) >>= λ total
 -- from the steps of one form of CHECKMULTISIG, what both forms find
 both_find : (table : Pairs) (main : Stack) (ops : ℕ) (checks : Pairs) (n : ℕ × Stack) (keys : Stack × Stack) (m : ℕ × Stack) (sigs : Stack × Stack)
     (extra : Bytes × Stack) (tried : Option Pairs) (passed : Bool × Pairs) (empty : Bytes)
-    → count MAX_PUBKEYS_PER_MULTISIG fault.KeyCount main ≡ Ok n → some_off n.0 n.1 ≡ Ok keys → count n.0 fault.SigCount keys.1 ≡ Ok m → some_off m.0 m.1 ≡ Ok sigs → one_off sigs.1 ≡ Ok extra → tries table keys.0 sigs.0 [] ≡ Ok tried
+    → count MAX_PUBKEYS_PER_MULTISIG fault.KeyCount main ≡ Ok n → some_off n.0 n.1 ≡ Ok keys → count n.0 fault.SigCount keys.1 ≡ Ok m
+    → some_off m.0 m.1 ≡ Ok sigs → one_off sigs.1 ≡ Ok extra → tries table keys.0 sigs.0 [] ≡ Ok tried
     → verdict sigs.0 tried ≡ Ok passed → null_dummy extra.0 ≡ Ok empty
     → let found = left (bool_bytes passed.0 ∷ extra.1) (log_of n.0 passed.1) in
     (checks_multi_sig table main ≡ Ok found) × (check_multi_sig table main ops checks ≡ multi_after ops checks found)

@@ -17,13 +17,18 @@ use Rattle.ms_audit_laws.specs.Walk.{Found, Walker, ends, with_step, forced, wal
 use Rattle.ms_audit_laws.proofs.Walks.{side, Taken, IsWalk, some_is, is_found, none_found, own, ends_follow, goes_follow, child_is_walk, same_steps, ends_split, goes_split}
 use Rattle.ms_audit_laws.proofs.WalkLeaves.{is_nothing, none_row, just_0_walk}
 
+-- a child alone
+alone_walk : (node : ℕ) (x : TrailRow) (w : Walker) (extra : Bool → Bool) → IsWalk x w →
+    IsWalk (record { dsat = Then (own node false (extra false)) x.dsat; sat = Then (own node true (extra true)) x.sat }) (walk_child node w (λ sat. ends (Some (sat, extra sat))))
+alone_walk node x w extra i =
+    let t : TrailRow = record { dsat = Then (own node false (extra false)) x.dsat; sat = Then (own node true (extra true)) x.sat } in
+    child_is_walk x t node w (λ sat. ends (Some (sat, extra sat))) i (ends_follow x t node true (Some (true, extra true)) (λ w s h. (s, h, refl)))
+    (ends_follow x t node false (Some (false, extra false)) (λ w s h. (s, h, refl)))
+    (λ taken steps h. ends_split true refl h) (λ taken steps h. ends_split false refl h)
+
 -- `a`, `s`, `c` and `n`
 pub wrap_walk : (node : ℕ) (x : TrailRow) (w : Walker) → IsWalk x w → IsWalk (wrap_trails node x) (walk_child node w passed)
-wrap_walk node x w i =
-    let t = wrap_trails node x in
-    child_is_walk x t node w passed i (ends_follow x t node true (Some (true, false)) (λ w s h. (s, h, refl)))
-    (ends_follow x t node false (Some (false, false)) (λ w s h. (s, h, refl)))
-    (λ taken steps h. ends_split true refl h) (λ taken steps h. ends_split false refl h)
+wrap_walk node x w i = alone_walk node x w (λ sat. false) i
 
 -- `v`
 pub wrap_v_walk : (node : ℕ) (x : TrailRow) (w : Walker) → IsWalk x w → IsWalk (wrap_v_trails node x) (walk_child node w (λ sat. ends (forced sat)))
@@ -183,20 +188,13 @@ wrap_d_walk node x w i =
 abbrev j_child : (node : ℕ) → TrailRow → TrailRow
 j_child node x = record { dsat = Then (own node false true) x.dsat; sat = Then (own node true false) x.sat }
 
-j_child_walk : (node : ℕ) (x : TrailRow) (w : Walker) → IsWalk x w → IsWalk (j_child node x) (walk_child node w (λ sat. ends (Some (sat, not sat))))
-j_child_walk node x w i =
-    let t = j_child node x in
-    child_is_walk x t node w (λ sat. ends (Some (sat, not sat))) i (ends_follow x t node true (Some (true, false)) (λ w s h. (s, h, refl)))
-    (ends_follow x t node false (Some (false, true)) (λ w s h. (s, h, refl)))
-    (λ taken steps h. ends_split true refl h) (λ taken steps h. ends_split false refl h)
-
 pub wrap_j_walk : (node : ℕ) (x : TrailRow) (w : Walker) → IsWalk x w → ((taken : Stack) (steps : List Step) → x.dsat taken steps → 1 ≤ length taken)
     → ((taken : Stack) (steps : List Step) → x.sat taken steps → HasTop taken) →
     IsWalk (wrap_j_trails node x) (unless_empty node (walk_child node w (λ sat. ends (Some (sat, not sat)))))
 wrap_j_walk node x w i long top = record { sound = sound; complete = complete }
   where
     inner : IsWalk (j_child node x) (walk_child node w (λ sat. ends (Some (sat, not sat))))
-    inner = j_child_walk node x w i
+    inner = alone_walk node x w not i
 
     has_top : (item : Bytes) (rest taken below : Stack) → is_empty item ≡ false → item ∷ rest ≡ taken ++ below → 1 ≤ length taken → HasTop taken
     has_top item rest [] below full e l = absurd (omega (arith, l))
