@@ -1,5 +1,5 @@
 -- The walk as the code goes it, over a child, and then over what follows.
-use Rattle.std.proofs.Common.{◌≡◌, ◌≢◌, ℕ, suc, ◌+◌, ◌<◌, ◌≤◌, ◌==◌, ◌⊎◌, Bool, true, false, List, [], ◌∷◌, ◌++◌, length, get_or, drop, Option, Some, None, Result, Ok, Err, refl, sym, ◌∙◌, ap, subst, inl, inr, arith, add-one, drop-cons, if◌then◌else◌}
+use Rattle.std.proofs.Common.{◌≡◌, ◌≢◌, ℕ, suc, ◌+◌, ◌<◌, ◌≤◌, ◌==◌, ◌⊎◌, not, Bool, true, false, List, [], ◌∷◌, ◌++◌, length, get_or, drop, Option, Some, None, Result, Ok, Err, refl, sym, ◌∙◌, ap, subst, inl, inr, arith, add-one, drop-cons, if◌then◌else◌}
 use Rattle.std.specs.Prelude.{IfOk}
 use Rattle.std.proofs.lemmas.Bool.{false≢true}
 use Rattle.std.proofs.lemmas.Option.{none-some}
@@ -10,20 +10,19 @@ use Rattle.def_machine.specs.Machine.{Given}
 use Rattle.def_tree.specs.declared.Two.{Two}
 use Rattle.def_tree.specs.declared.Two.TheVariants as kind
 use Rattle.def_tree.specs.declared.Wrapper.{Wrapper}
-use Rattle.def_tree.specs.declared.Wrapper.TheVariants as wrapper
 use Rattle.def_tree.specs.Tree.{Tree, Trees, two, thresh, wrap, more}
 use Rattle.def_tree.specs.Size.{nodes, nodes_of}
-use Rattle.def_satisfaction.specs.Rows.{ONE}
 use Rattle.def_audit.specs.declared.Step.{Step}
 use Rattle.ms_tree.specs.declared.tree.Leaf.{Leaf}
 use Rattle.ms_tree.specs.declared.tree.Leaf.TheVariants as leaf
 use Rattle.ms_tree.specs.declared.tree.Tree as code_tree
 use Rattle.ms_tree.specs.Shape.{leaf_shape, shape, shapes}
-use Rattle.ms_audit_laws.specs.Walk.{Found, Counted, Walker, Verdict, Next, ends, goes, with_step, next, go_on, walk_child, count_on, count_behind, count_verdict, forced, passed, walk, walk_all, after_and_v, after_and_b, after_or_b, after_or_c, after_or_d}
+use Rattle.ms_audit_laws.specs.Walk.{Found, Counted, Walker, Verdict, Next, ends, goes, with_step, next, go_on, walk_child, count_on, count_behind, count_verdict, walk, walk_all, after_and_v, after_and_b, after_or_b, after_or_c, after_or_d}
 use Rattle.ms_audit_laws.proofs.Walks.{some_is, own}
 use Rattle.ms_audit.specs.declared.course.Course.{Course}
 use Rattle.ms_audit.specs.declared.course.WalkStop.{WalkStop}
-use Rattle.ms_audit.specs.Scaffolding.Walking.{verdict_of_two, ends_two, below, behind, Finds, Ends, Walks, Selects, added, Counts}
+use Rattle.ms_audit.specs.Scaffolding.Parts.{is_dsat, verdict_of_and_or, verdict_of_two, verdict_of_wrap, ends_two}
+use Rattle.ms_audit.specs.Scaffolding.Walking.{below, behind, Finds, Ends, Walks, Passes, wrapped, Chooses, added, Counts}
 
 -- what was found behind the steps from before
 behind_some : (o : Option Found) (steps : List Step) (g : Found) → behind steps o ≡ Some g → (f : Found) × (o ≡ Some f) × (f.sat ≡ g.sat) × (steps ++ f.steps ≡ g.steps) × (f.rest ≡ g.rest)
@@ -87,17 +86,32 @@ finish given stack tree s b c result v e n l h = record {
 pub ends_by : (v w : Verdict) (b c : Course) (result : Result Bool WalkStop) → v ≡ w → Ends v b c result → Ends w b c result
 ends_by v w b c result e h = subst (λ v. Ends v b c result) e h
 
--- a fragment without children
-pub leaf_done : (given : Given) (stack : List Bytes) (tree : Tree) (s b c : Course) (result : Result Bool WalkStop) (v : Verdict) →
-    nodes tree ≡ 1 → b.steps.items ≡ s.steps.items → b.next ≡ s.next → b.left ≤ length stack →
-    walk given s.next tree (below stack s.left) ≡ with_step s.next v [] (below stack b.left) → Ends v b c result → Walks given stack tree s c result
-leaf_done given stack tree s b c result v one steps same l e h =
-    finish given stack tree s b c result v
-    (ap (behind s.steps.items) e
-    ∙ behind-with_step s.steps.items [] s.next v (below stack b.left)
-    ∙ ap (λ (t : List Step). with_step s.next v t (below stack b.left)) (append-nil s.steps.items ∙ sym steps)
-    ∙ ap (λ (n : ℕ). with_step n v b.steps.items (below stack b.left)) (sym same))
-    (omega (arith, one, same)) l h
+-- the next node is another one, where a child is passed over or none is
+pub stays : (a : Course) (next : ℕ) → a.next ≡ next → Passes a a next
+stays a next e = record { next = e; left = refl; steps = refl }
+
+passes_to : (a b : Course) (n m : ℕ) → n ≡ m → Passes a b n → Passes a b m
+passes_to a b n m e p = record { next = p.next ∙ e; left = p.left; steps = p.steps }
+
+passed_step : (stack : List Bytes) (a b : Course) (n : ℕ) (v : Verdict) → Passes a b n →
+    with_step n v a.steps.items (below stack a.left) ≡ with_step b.next v b.steps.items (below stack b.left)
+passed_step stack a b n v p =
+    ap (λ (m : ℕ). with_step m v a.steps.items (below stack a.left)) (sym p.next)
+    ∙ ap (λ (t : List Step). with_step b.next v t (below stack a.left)) (sym p.steps)
+    ∙ ap (λ (l : ℕ). with_step b.next v b.steps.items (below stack l)) (sym p.left)
+
+-- a fragment none of whose children takes part, from where an item was taken or none
+pub own_done : (given : Given) (stack : List Bytes) (tree : Tree) (s b d c : Course) (result : Result Bool WalkStop) (node : ℕ) (v : Verdict) →
+    b.steps.items ≡ s.steps.items → walk given s.next tree (below stack s.left) ≡ with_step node v [] (below stack b.left) → b.left ≤ length stack →
+    Passes b d node → node + 1 ≡ s.next + nodes tree → Ends v d c result → Walks given stack tree s c result
+own_done given stack tree s b d c result node v steps is l p n done =
+    finish given stack tree s d c result v
+    (ap (behind s.steps.items) is
+    ∙ behind-with_step s.steps.items [] node v (below stack b.left)
+    ∙ ap (λ (t : List Step). with_step node v t (below stack b.left)) (append-nil s.steps.items ∙ sym steps)
+    ∙ passed_step stack b d node v p)
+    (let at = p.next in omega (arith, at, n))
+    (let same = p.left in omega (arith, same, l)) done
 
 pub leaf_nodes : (l : Leaf) → nodes (leaf_shape l) ≡ 1
 leaf_nodes leaf.Zero = refl
@@ -108,48 +122,54 @@ leaf_nodes (leaf.Older n) = refl
 leaf_nodes (leaf.After n) = refl
 leaf_nodes (leaf.Hash value) = refl
 
--- a wrapper, or another node with one child that takes part, from where the child begins
-pub child_done : (given : Given) (stack : List Bytes) (tree x : Tree) (s a b c : Course) (result : Result Bool WalkStop) (sat : Bool) (node : ℕ) (follow : Bool → Next) (v : Verdict) →
+-- one child takes part, from where an item was taken or none, and `node` is the number of the fragment's own step
+child_done : (given : Given) (stack : List Bytes) (tree x : Tree) (s a b d c : Course) (result : Result Bool WalkStop) (sat : Bool) (node : ℕ) (follow : Bool → Next) (v : Verdict) →
     a.steps.items ≡ s.steps.items → walk given s.next tree (below stack s.left) ≡ walk_child node (walk given a.next x) follow (below stack a.left) →
-    Walks given stack x a b (Ok sat) → follow sat ≡ ends v → b.next ≡ node → node + 1 ≡ s.next + nodes tree → Ends v b c result → Walks given stack tree s c result
-child_done given stack tree x s a b c result sat node follow v steps is h f n m e =
-    finish given stack tree s b c result v
+    Walks given stack x a b (Ok sat) → follow sat ≡ ends v → Passes b d node → node + 1 ≡ s.next + nodes tree → Ends v d c result → Walks given stack tree s c result
+child_done given stack tree x s a b d c result sat node follow v steps is h f p n done =
+    finish given stack tree s d c result v
     (ap (λ (t : List Step). behind t (walk given s.next tree (below stack s.left))) (sym steps)
     ∙ ap (behind a.steps.items) is
     ∙ child_end node (walk given a.next x) follow a.steps.items (below stack a.left) sat b.steps.items (below stack b.left) v h.found f
-    ∙ ap (λ (k : ℕ). with_step k v b.steps.items (below stack b.left)) (sym n))
-    (omega (arith, n, m)) h.left e
+    ∙ passed_step stack b d node v p)
+    (let at = p.next in omega (arith, at, n))
+    (let same = p.left in let few = h.left in omega (arith, same, few)) done
 
--- `d`, below a selector
-pub wrap_d_done : (given : Given) (stack : List Bytes) (x : Tree) (s a b c : Course) (result : Result Bool WalkStop) (sat : Bool) →
-    below stack s.left ≡ ONE ∷ below stack a.left → a.steps.items ≡ s.steps.items → a.next ≡ s.next →
-    Walks given stack x a b (Ok sat) → Ends (forced sat) b c result → Walks given stack (wrap wrapper.D x) s c result
-wrap_d_done given stack x s a b c result sat top steps same h e =
-    let at : b.next ≡ a.next + nodes x = h.next in
-    child_done given stack (wrap wrapper.D x) x s a b c result sat (s.next + nodes x) (λ sat. ends (forced sat)) (forced sat) steps
-    (ap (walk given s.next (wrap wrapper.D x)) top
-    ∙ ap (λ (n : ℕ). walk_child (s.next + nodes x) (walk given n x) (λ sat. ends (forced sat)) (below stack a.left)) (sym same))
-    h refl (omega (arith, at, same)) (omega arith) e
+-- a wrapper whose child takes no part, or takes part
+pub wrap_empty_done : (given : Given) (stack : List Bytes) (w : Wrapper) (x : Tree) (s a d c : Course) (result : Result Bool WalkStop) (item : Option Bool) →
+    Chooses w (Ok item) (below stack s.left) (below stack a.left) → is_dsat item ≡ true → a.steps.items ≡ s.steps.items → a.next ≡ s.next →
+    a.left ≤ length stack → Passes a d (a.next + nodes x) → Ends (verdict_of_wrap w item None) d c result → Walks given stack (wrap w x) s c result
+wrap_empty_done given stack w x s a d c result item choice is steps same l p done =
+    own_done given stack (wrap w x) s a d c result (s.next + nodes x) (verdict_of_wrap w item None) steps
+    (choice given s.next x ∙ ap (λ (b : Bool). wrapped w item b (s.next + nodes x) (walk given s.next x) (below stack a.left)) is) l
+    (passes_to a d _ _ (omega (arith, same)) p) (omega arith) done
 
--- the other wrappers, over what the child takes
-pub wrap_done : (given : Given) (stack : List Bytes) (w : Wrapper) (x : Tree) (s b c : Course) (result : Result Bool WalkStop) (sat : Bool) (follow : Bool → Next) (v : Verdict) →
-    walk given s.next (wrap w x) (below stack s.left) ≡ walk_child (s.next + nodes x) (walk given s.next x) follow (below stack s.left) → follow sat ≡ ends v →
-    Walks given stack x s b (Ok sat) → Ends v b c result → Walks given stack (wrap w x) s c result
-wrap_done given stack w x s b c result sat follow v is f h e =
-    let at : b.next ≡ s.next + nodes x = h.next in
-    child_done given stack (wrap w x) x s s b c result sat (s.next + nodes x) follow v refl is h f at (omega arith) e
+pub wrap_done : (given : Given) (stack : List Bytes) (w : Wrapper) (x : Tree) (s a b c : Course) (result : Result Bool WalkStop) (item : Option Bool) (sat : Bool) →
+    Chooses w (Ok item) (below stack s.left) (below stack a.left) → is_dsat item ≡ false → a.steps.items ≡ s.steps.items → a.next ≡ s.next →
+    Walks given stack x a b (Ok sat) → Ends (verdict_of_wrap w item (Some sat)) b c result → Walks given stack (wrap w x) s c result
+wrap_done given stack w x s a b c result item sat choice is steps same h done =
+    child_done given stack (wrap w x) x s a b b c result sat (a.next + nodes x) (λ sat. ends (verdict_of_wrap w item (Some sat))) (verdict_of_wrap w item (Some sat)) steps
+    (choice given s.next x ∙ ap (λ (b : Bool). wrapped w item b (s.next + nodes x) (walk given s.next x) (below stack a.left)) is
+    ∙ ap (λ (n : ℕ). wrapped w item false (n + nodes x) (walk given n x) (below stack a.left)) (sym same))
+    h refl (stays b _ h.next) (omega (arith, same)) done
 
--- `a`, `s`, `c` and `n`
-pub passed_is : (given : Given) (n : ℕ) (w : Wrapper) (x : Tree) (s : Stack) → (w ≡ wrapper.A) ⊎ ((w ≡ wrapper.S) ⊎ ((w ≡ wrapper.C) ⊎ (w ≡ wrapper.N))) →
-    walk given n (wrap w x) s ≡ walk_child (n + nodes x) (walk given n x) passed s
-passed_is given n w x s (inl e) = rw e refl
-passed_is given n w x s (inr (inl e)) = rw e refl
-passed_is given n w x s (inr (inr (inl e))) = rw e refl
-passed_is given n w x s (inr (inr (inr e))) = rw e refl
+-- `andor`, where X is satisfied and where it isn't; `or_i`, where the first child is chosen and where the other one is
+module _ (sat : Bool) where
+  pub and_or_y : verdict_of_and_or (Some true) (Some sat) None ≡ Some (sat, not sat)
+  unfolding verdict_of_and_or
+  and_or_y = grind arith
 
-pub selected_one : (choice : Bool) (before after : Stack) → Selects (Ok choice) before after → choice ≡ true → before ≡ ONE ∷ after
-selected_one true before after h e = h
-selected_one false before after h e = absurd (false≢true e)
+  pub and_or_z : verdict_of_and_or (Some false) None (Some sat) ≡ Some (sat, false)
+  unfolding verdict_of_and_or
+  and_or_z = grind arith
+
+  pub or_i_x : verdict_of_two kind.OrI (Some true) (Some sat) None ≡ Some (sat, false)
+  unfolding verdict_of_two
+  or_i_x = grind arith
+
+  pub or_i_z : verdict_of_two kind.OrI (Some false) None (Some sat) ≡ Some (sat, false)
+  unfolding verdict_of_two
+  or_i_z = grind arith
 
 -- what follows the first of two children
 two_next : Two → Walker → Bool → Next
@@ -160,54 +180,76 @@ two_next kind.OrC w = after_or_c w
 two_next kind.OrD w = after_or_d w
 two_next kind.OrI w = λ first. ends None
 
+-- the verdict that follows a child, by what was found of another one
+abbrev verdict_in : Next → Bool → Verdict
+verdict_in (ends v) second = v
+verdict_in (goes w verdict) second = verdict second
+
+two_verdict : (k : Two) (w : Walker) (first second : Bool) → verdict_in (two_next k w first) second ≡ verdict_of_two k None (Some first) (Some second)
+unfolding two_next verdict_of_two
+two_verdict k w first second = grind arith
+
+same_next : (w : Walker) (f g : Bool → Verdict) → ((second : Bool) → f second ≡ g second) → goes w f ≡ goes w g
+same_next w f g h = λ i. goes w (λ second. h second i)
+
+two_ends : (k : Two) (w : Walker) (first : Bool) → ends_two k first ≡ true → two_next k w first ≡ ends (verdict_of_two k None (Some first) None)
+unfolding two_next verdict_of_two
+two_ends k w first e = grind (arith, e)
+
 two_goes : (k : Two) (w : Walker) (first : Bool) → k ≢ kind.OrI → ends_two k first ≡ false →
-    (two_next k w first ≡ goes w (verdict_of_two k first)) ⊎ ((two_next k w first ≡ ends None) × ((second : Bool) → verdict_of_two k first second ≡ None))
-unfolding two_next
-two_goes kind.AndV w true n e = inl refl
-two_goes kind.AndV w false n e = inr (refl, λ second. refl)
-two_goes kind.AndB w true n e = inl refl
-two_goes kind.AndB w false n e = inl refl
-two_goes kind.OrB w true n e = inl refl
-two_goes kind.OrB w false n e = inl refl
-two_goes kind.OrC w true n e = absurd cc
-two_goes kind.OrC w false n e = inl refl
-two_goes kind.OrD w true n e = absurd cc
-two_goes kind.OrD w false n e = inl refl
+    (two_next k w first ≡ goes w (λ second. verdict_of_two k None (Some first) (Some second)))
+    ⊎ ((two_next k w first ≡ ends None) × ((second : Bool) → verdict_of_two k None (Some first) (Some second) ≡ None))
+unfolding two_next verdict_of_two
+two_goes kind.AndV w true n e = inl (same_next w _ _ (two_verdict kind.AndV w true))
+two_goes kind.AndV w false n e = inr (refl, λ second. sym (two_verdict kind.AndV w false second))
+two_goes kind.AndB w true n e = inl (same_next w _ _ (two_verdict kind.AndB w true))
+two_goes kind.AndB w false n e = inl (same_next w _ _ (two_verdict kind.AndB w false))
+two_goes kind.OrB w true n e = inl (same_next w _ _ (two_verdict kind.OrB w true))
+two_goes kind.OrB w false n e = inl (same_next w _ _ (two_verdict kind.OrB w false))
 two_goes kind.OrI w first n e = absurd (n refl)
+two_goes other w true n e = absurd (false≢true (sym e))
+two_goes other w false n e = inl (same_next w _ _ (two_verdict other w false))
 
 two_is : (given : Given) (n : ℕ) (k : Two) (x z : Tree) (s : Stack) → k ≢ kind.OrI → walk given n (two k x z) s
     ≡ walk_child (n + nodes x + nodes z) (walk given n x) (two_next k (walk given (n + nodes x) z)) s
 unfolding two_next
-two_is given n kind.AndV x z s other = refl
-two_is given n kind.AndB x z s other = refl
-two_is given n kind.OrB x z s other = refl
-two_is given n kind.OrC x z s other = refl
-two_is given n kind.OrD x z s other = refl
-two_is given n kind.OrI x z s other = absurd (other refl)
+two_is given n kind.OrI x z s differs = absurd (differs refl)
+two_is given n other x z s differs = refl
 
--- both children of a fragment take part
+-- the first of two children is enough
+pub first_done : (given : Given) (stack : List Bytes) (k : Two) (x z : Tree) (s a d c : Course) (result : Result Bool WalkStop) (first : Bool) →
+    k ≢ kind.OrI → Walks given stack x s a (Ok first) → ends_two k first ≡ true → Passes a d (a.next + nodes z) →
+    Ends (verdict_of_two k None (Some first) None) d c result → Walks given stack (two k x z) s c result
+first_done given stack k x z s a d c result first differs h e p done =
+    let at : a.next ≡ s.next + nodes x = h.next in
+    child_done given stack (two k x z) x s s a d c result first (s.next + nodes x + nodes z) (two_next k (walk given (s.next + nodes x) z)) _
+    refl (two_is given s.next k x z (below stack s.left) differs) h (two_ends k (walk given (s.next + nodes x) z) first e)
+    (passes_to a d _ _ (omega (arith, at)) p) (omega arith) done
+
+-- both take part
 pub two_done : (given : Given) (stack : List Bytes) (k : Two) (x z : Tree) (s a b c : Course) (result : Result Bool WalkStop) (first second : Bool) →
     k ≢ kind.OrI → Walks given stack x s a (Ok first) → ends_two k first ≡ false → Walks given stack z a b (Ok second) →
-    Ends (verdict_of_two k first second) b c result → Walks given stack (two k x z) s c result
-two_done given stack k x z s a b c result first second other h e h2 ends_so =
+    Ends (verdict_of_two k None (Some first) (Some second)) b c result → Walks given stack (two k x z) s c result
+two_done given stack k x z s a b c result first second differs h e h2 done =
     let at : a.next ≡ s.next + nodes x = h.next in
     let end : b.next ≡ a.next + nodes z = h2.next in
     let node : b.next ≡ s.next + nodes x + nodes z = omega (arith, at, end) in
-    finish given stack (two k x z) s b c result (verdict_of_two k first second)
-    (ap (behind s.steps.items) (two_is given s.next k x z (below stack s.left) other)
-    ∙ elim (two_goes k (walk given (s.next + nodes x) z) first other e) [
+    let follow = two_next k (walk given (s.next + nodes x) z) in
+    finish given stack (two k x z) s b c result (verdict_of_two k None (Some first) (Some second))
+    (ap (behind s.steps.items) (two_is given s.next k x z (below stack s.left) differs)
+    ∙ elim (two_goes k (walk given (s.next + nodes x) z) first differs e) [
       | inl goes_on ↦
-          child_go (s.next + nodes x + nodes z) (walk given s.next x) (walk given (s.next + nodes x) z) (two_next k (walk given (s.next + nodes x) z))
-          (verdict_of_two k first) s.steps.items (below stack s.left)
+          child_go (s.next + nodes x + nodes z) (walk given s.next x) (walk given (s.next + nodes x) z) follow
+          (λ second. verdict_of_two k None (Some first) (Some second)) s.steps.items (below stack s.left)
           first a.steps.items (below stack a.left) second b.steps.items (below stack b.left) h.found goes_on
           (ap (λ (m : ℕ). behind a.steps.items (walk given m z (below stack a.left))) (sym at) ∙ h2.found)
       | inr stops ↦
-          child_end (s.next + nodes x + nodes z) (walk given s.next x) (two_next k (walk given (s.next + nodes x) z)) s.steps.items
+          child_end (s.next + nodes x + nodes z) (walk given s.next x) follow s.steps.items
           (below stack s.left) first a.steps.items (below stack a.left) None h.found stops.0
           ∙ ap (λ v. with_step (s.next + nodes x + nodes z) v b.steps.items (below stack b.left)) (sym (stops.1 second))
     ]
-    ∙ ap (λ (m : ℕ). with_step m (verdict_of_two k first second) b.steps.items (below stack b.left)) (sym node))
-    (omega (arith, node)) h2.left ends_so
+    ∙ passed_step stack b b (s.next + nodes x + nodes z) (verdict_of_two k None (Some first) (Some second)) (stays b _ node))
+    (omega (arith, node)) h2.left done
 
 -- a threshold
 added_some : (o : Option Counted) (steps : List Step) (g : Counted) → added 0 steps o ≡ Some g → (f : Counted) × (o ≡ Some f) × (f.count ≡ g.count) × (steps ++ f.steps ≡ g.steps) × (f.rest ≡ g.rest)

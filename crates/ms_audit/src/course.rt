@@ -2,7 +2,7 @@
 ghost use Rattle.std.specs.Prelude.{◌≡◌, ◌+◌, ◌<◌, ◌≤◌};
 ghost use Rattle.def_tree.specs.Range.{MOST_MEASURE, IsInRange};
 ghost use Rattle.def_tree.specs.Size.{nodes};
-ghost use Rattle.ms_audit.specs.Scaffolding.Walking.{verdict_of, Ends};
+ghost use Rattle.ms_audit.specs.Scaffolding.Walking.{verdict_of, Ends, Passes};
 ghost use Rattle.ms_audit.specs.declared.course.WalkStop.TheVariants.{Memory};
 ghost use Rattle.ms_tree.specs.Shape.{shape};
 
@@ -62,9 +62,7 @@ impl Course {
     pub fn skip(&mut self, child: &Tree<'_>)
         requires in_range { IsInRange (shape child.now) }
         requires room { self.old.next + nodes (shape child.now) ≤ MOST_MEASURE }
-        ensures next { self.new.next ≡ self.old.next + nodes (shape child.now) }
-        ensures left { self.new.left ≡ self.old.left }
-        ensures steps { self.new.steps.items ≡ self.old.steps.items }
+        ensures { Passes self.old self.new (self.old.next + nodes (shape child.now)) }
     {
         self.next += child.nodes();
     }

@@ -11,6 +11,7 @@ mod answer;
 mod auditing;
 mod checking;
 mod course;
+mod parts;
 mod row;
 mod spend;
 mod trail;

@@ -1,9 +1,8 @@
-//! The rows of the satisfaction table (BIP 379, satisfaction): which one a stack takes, by what was found on it.
+//! Which row of the satisfaction table (BIP 379, satisfaction) a stack takes: at fragments without children and at
+//! thresholds, by what was found on it.
 ghost use Rattle.std.specs.Prelude.{◌≡◌, false};
 ghost use Rattle.ms_audit_laws.specs.Walk.{forced as the_forced, sig_verdict, key_verdict, hash_verdict, multi_verdict, count_verdict};
-ghost use Rattle.ms_audit.specs.Scaffolding.Walking.{verdict_of, verdict_of_two, ends_two};
-
-use ms_tree::Two;
+ghost use Rattle.ms_audit.specs.Scaffolding.Walking.{verdict_of};
 
 /// A row that a stack takes.
 #[derive(Clone, Copy)]
@@ -92,42 +91,4 @@ pub fn of_count(met: bool, no_child: bool) -> Option<Row>
         sat: met,
         extra: !met && !no_child,
     })
-}
-
-/// Whether the first of two children satisfies the fragment alone.
-pub fn ends(kind: Two, first: bool) -> bool
-    ensures { result ≡ ends_two kind first }
-{
-    match kind {
-        Two::OrC | Two::OrD => first,
-        Two::AndV | Two::AndB | Two::OrB | Two::OrI => false,
-    }
-}
-
-/// Of a fragment with two children that both take part.
-pub fn of_two(kind: Two, first: bool, second: bool) -> Option<Row>
-    ensures { verdict_of result ≡ verdict_of_two kind first second }
-{
-    match kind {
-        Two::AndV => {
-            if first {
-                Some(Row {
-                    sat: second,
-                    extra: !second,
-                })
-            } else {
-                None
-            }
-        }
-        Two::AndB => Some(Row {
-            sat: first && second,
-            extra: first != second,
-        }),
-        Two::OrB => Some(Row {
-            sat: first || second,
-            extra: first && second,
-        }),
-        Two::OrC => forced(second),
-        Two::OrD | Two::OrI => Some(Row::canonical(second)),
-    }
 }

@@ -8,7 +8,7 @@ ghost use Rattle.def_machine.specs.Stacks.{is_empty};
 ghost use Rattle.def_script.specs.Key.{is_key};
 ghost use Rattle.def_tree.specs.Tree as tree;
 ghost use Rattle.ms_audit_laws.specs.Walk.{are_found as the_are_found};
-ghost use Rattle.ms_audit.specs.Scaffolding.Walking.{below, TakesAs, Pops, Selects};
+ghost use Rattle.ms_audit.specs.Scaffolding.Walking.{below, TakesAs, Pops, Selects, Chooses};
 ghost use Rattle.ms_hash.specs.Value.{kind_of, bytes_of};
 ghost use Rattle.ms_interp.specs.Answering.{given_by};
 ghost use Rattle.ms_oracle.specs.Sound.{table_of, IsSound};
@@ -19,7 +19,7 @@ use crate::row::{Row, forced, of_hash, of_key, of_multi, of_sig};
 use ms_hash::{HashVal, hash_of, hash160};
 use ms_oracle::{Locks, SigCheck};
 use ms_script::{Stack, is_key};
-use ms_tree::{Key, Leaf};
+use ms_tree::{Key, Leaf, Wrapper};
 
 /// A stack, the timelocks of its spending, and the check of its signatures.
 #[derive(Drop)]
@@ -65,6 +65,26 @@ impl<F: Fn(&[u8], &[u8]) -> bool> Spend<'_, F> {
             [1] => Ok(true),
             [] => Ok(false),
             _ => Err(WalkStop::NoRow),
+        }
+    }
+
+    /// Takes the item that chooses at a wrapper, where there is one: whether it is the byte 1. The other one is empty.
+    #[tactic(auto, unfolding(crate::specs::Scaffolding::Parts::verdict_of_wrap))]
+    pub fn choice(&self, wrapper: Wrapper, left: &mut usize) -> Result<Option<bool>, WalkStop>
+        requires { left.old ≤ length self.now.stack.now }
+        ensures item { Chooses wrapper result (below self.now.stack.now left.old) (below self.now.stack.now left.new) }
+        ensures left { left.new ≤ length self.now.stack.now }
+    {
+        match wrapper {
+            Wrapper::A | Wrapper::S | Wrapper::C | Wrapper::V | Wrapper::N => Ok(None),
+            Wrapper::D => Ok(Some(self.select(left)?)),
+            Wrapper::J => {
+                if !self.top(*left)?.is_empty() {
+                    return Ok(None);
+                }
+                *left -= 1;
+                Ok(Some(false))
+            }
         }
     }
 

@@ -12,7 +12,8 @@ ghost use Rattle.ms_oracle.specs.Sound.{table_of, IsSound};
 ghost use Rattle.ms_tree.specs.Shape.{shape, shapes};
 
 use crate::course::{Course, WalkStop};
-use crate::row::{Row, ends, forced, of_count, of_two};
+use crate::parts::{ends, is_empty, of_and_or, of_two, of_wrap};
+use crate::row::of_count;
 use crate::spend::Spend;
 use crate::trail::Trail;
 use ms_tree::{Tree, Two, View, Wrapper};
@@ -76,11 +77,11 @@ impl<F: Fn(&[u8], &[u8]) -> bool> Spend<'_, F> {
         if self.walk(x, course)? {
             let sat = self.walk(y, course)?;
             course.skip(z);
-            course.end(Some(Row { sat, extra: !sat }))
+            course.end(of_and_or(Some(true), Some(sat), None))
         } else {
             course.skip(y);
             let sat = self.walk(z, course)?;
-            course.end(Some(Row::canonical(sat)))
+            course.end(of_and_or(Some(false), None, Some(sat)))
         }
     }
 
@@ -101,10 +102,10 @@ impl<F: Fn(&[u8], &[u8]) -> bool> Spend<'_, F> {
         let first = self.walk(x, course)?;
         if ends(kind, first) {
             course.skip(z);
-            return course.end(Some(Row::canonical(true)));
+            return course.end(of_two(kind, None, Some(first), None));
         }
         let second = self.walk(z, course)?;
-        course.end(of_two(kind, first, second))
+        course.end(of_two(kind, None, Some(first), Some(second)))
     }
 
     #[cycle(walk)]
@@ -116,11 +117,11 @@ impl<F: Fn(&[u8], &[u8]) -> bool> Spend<'_, F> {
         if self.select(&mut course.left)? {
             let sat = self.walk(x, course)?;
             course.skip(z);
-            course.end(Some(Row::canonical(sat)))
+            course.end(of_two(Two::OrI, Some(true), Some(sat), None))
         } else {
             course.skip(x);
             let sat = self.walk(z, course)?;
-            course.end(Some(Row::canonical(sat)))
+            course.end(of_two(Two::OrI, Some(false), None, Some(sat)))
         }
     }
 
@@ -160,33 +161,13 @@ impl<F: Fn(&[u8], &[u8]) -> bool> Spend<'_, F> {
         requires sound { IsSound F.Fn self.now.sigs.now }
         ensures { Walks (given_by (table_of self.now.sigs.now) self.now.locks.now) self.now.stack.now (tree.wrap wrapper (shape x.now)) course.old course.new result }
     {
-        match wrapper {
-            Wrapper::A | Wrapper::S | Wrapper::C | Wrapper::N => {
-                let sat = self.walk(x, course)?;
-                course.end(Some(Row::canonical(sat)))
-            }
-            Wrapper::V => {
-                let sat = self.walk(x, course)?;
-                course.end(forced(sat))
-            }
-            Wrapper::D => {
-                if !self.select(&mut course.left)? {
-                    course.skip(x);
-                    return course.end(Some(Row::canonical(false)));
-                }
-                let sat = self.walk(x, course)?;
-                course.end(forced(sat))
-            }
-            Wrapper::J => {
-                if self.top(course.left)?.is_empty() {
-                    course.left -= 1;
-                    course.skip(x);
-                    return course.end(Some(Row::canonical(false)));
-                }
-                let sat = self.walk(x, course)?;
-                course.end(Some(Row { sat, extra: !sat }))
-            }
+        let item = self.choice(wrapper, &mut course.left)?;
+        if is_empty(item) {
+            course.skip(x);
+            return course.end(of_wrap(wrapper, item, None));
         }
+        let sat = self.walk(x, course)?;
+        course.end(of_wrap(wrapper, item, Some(sat)))
     }
 }
 

@@ -10,12 +10,10 @@ use Rattle.ms_tree.specs.Shape.{shape, shapes}
 use Rattle.ms_height.specs.declared.highest.Heights.{Heights}
 use Rattle.ms_height.specs.Scaffolding.Chosen.{chosen}
 use Rattle.ms_height.specs.Scaffolding.Kept.{heights_of, IsFitting}
+use Rattle.ms_height.specs.Scaffolding.Row.{highest_of}
 use Rattle.ms_height.specs.Scaffolding.Low.{IsLowHeights}
-use Rattle.ms_height.proofs.Bounds.{measure_positive, low_of, fits_of}
-
-pub few_children : (xs : List Tree) → length xs ≤ measure_of (shapes xs)
-few_children [] = omega arith
-few_children (x ∷ xs) = omega (arith, measure_positive (shape x), few_children xs)
+use Rattle.ms_sane.proofs.Children.{measure_positive, few_children}
+use Rattle.ms_height.proofs.Bounds.{low_of, fits_of}
 
 -- a child and as many others as there are have room
 pub measure_beside : (xs : List Tree) (i : ℕ) (d : Tree) → i < length xs → measure (shape (get_or xs i d)) + length xs ≤ measure_of (shapes xs) + 1
@@ -33,14 +31,14 @@ ready_at xs i x slots below at room =
 
 -- what holds of each child holds of all that children take
 all_heights : (P : Heights → Type 0) (xs : List Tree)
-    → ((i : ℕ) (d : Tree) → i < length xs → P (record { sat = highest_sat (shape (get_or xs i d)); dsat = highest_dsat (shape (get_or xs i d)) }))
+    → ((i : ℕ) (d : Tree) → i < length xs → P (highest_of (shape (get_or xs i d))))
     → All P (heights_of (shapes xs))
 all_heights P [] each i d below = absurd (omega (arith, below))
 all_heights P (x ∷ xs) each zero d below = each zero x (omega arith)
 all_heights P (x ∷ xs) each (suc i) d below = all_heights P xs (λ j y f. each (suc j) y (omega (arith, f))) i d (omega (arith, below))
 
 all_low : (xs : List Tree) → All (λ t. IsInRange (shape t)) xs → All (λ t. IsTyped (shape t)) xs → All IsLowHeights (heights_of (shapes xs))
-all_low xs range typed = all_heights IsLowHeights xs (λ i d below. low_of (shape (get_or xs i d)) _ (range i d below) (typed i d below) refl refl)
+all_low xs range typed = all_heights IsLowHeights xs (λ i d below. low_of (shape (get_or xs i d)) _ (range i d below) (typed i d below) refl)
 
 all_fit : (slots : ℕ) (xs : List Tree) → 2 * measure_of (shapes xs) + 2 ≤ length xs + slots → All (λ t. IsTyped (shape t)) xs → All (IsFitting slots) (heights_of (shapes xs))
 all_fit slots xs wide typed = all_heights (IsFitting slots) xs (λ i d below. fits_of slots (shape (get_or xs i d)) (omega (arith, wide, measure_beside xs i d below, below)) (typed i d below))

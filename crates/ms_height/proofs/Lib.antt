@@ -7,3 +7,4 @@ pub mod Marks
 pub mod Choices
 pub mod Exact
 pub mod Walks
+pub mod Rows

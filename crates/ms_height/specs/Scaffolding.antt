@@ -2,6 +2,7 @@
 pub mod Low
 pub mod Kept
 pub mod Ready
+pub mod Row
 pub mod Chosen
 pub mod Tops
 pub mod Choice

@@ -4,25 +4,27 @@ ghost use Rattle.def_tree.specs.Range.{MOST_MEASURE, IsInRange};
 ghost use Rattle.def_tree.specs.Size.{measure_of};
 ghost use Rattle.def_tree.specs.Tree as tree;
 ghost use Rattle.def_types.specs.Typed.{IsTyped};
-ghost use Rattle.def_height.specs.Scaffolding.Highest.{highest_sat, highest_dsat};
 ghost use Rattle.ms_tree.specs.Shape.{shape, shapes, leaf_shape};
 ghost use Rattle.ms_height.specs.Scaffolding.Kept.{heights_in, heights_of};
 ghost use Rattle.ms_height.specs.Scaffolding.Low.{IsLowHeights};
 ghost use Rattle.ms_height.specs.Scaffolding.Ready.{IsReady};
+ghost use Rattle.ms_height.specs.Scaffolding.Row.{highest_of};
 
-use crate::highest::{Heights, at_least, both, either, only};
+use crate::highest::{Heights, at_least, only};
 use crate::kept::slot_of;
+use crate::row::{Script, of_row};
 use crate::threshold::chosen;
 use ms_choice::Slot;
+use ms_rows::{Argument, and_or, two, wrap};
 use ms_tree::{Key, Leaf, Tree, Two, View, Wrapper};
 
 /// The greatest items and heights of the formal satisfactions and dissatisfactions of a tree, each number by
 /// itself.
 #[cycle(heights)]
+#[tactic(auto, using(crate::proofs::Bounds::low_of))]
 pub fn heights(tree: &Tree<'_>, slots: &mut [Slot]) -> Heights
     requires { IsReady (shape tree.now) (length slots.old) }
-    ensures sat { result.sat ≡ highest_sat (shape tree.now) }
-    ensures dsat { result.dsat ≡ highest_dsat (shape tree.now) }
+    ensures highest { result ≡ highest_of (shape tree.now) }
     ensures low { IsLowHeights result }
 {
     match tree.view() {
@@ -36,8 +38,7 @@ pub fn heights(tree: &Tree<'_>, slots: &mut [Slot]) -> Heights
 }
 
 fn of_leaf(leaf: Leaf) -> Heights
-    ensures sat { result.sat ≡ highest_sat (leaf_shape leaf) }
-    ensures dsat { result.dsat ≡ highest_dsat (leaf_shape leaf) }
+    ensures { result ≡ highest_of (leaf_shape leaf) }
 {
     match leaf {
         Leaf::Zero => Heights {
@@ -68,66 +69,46 @@ fn of_and_or(x: &Tree<'_>, y: &Tree<'_>, z: &Tree<'_>, slots: &mut [Slot]) -> He
     requires x { IsReady (shape x.now) (length slots.old) }
     requires y { IsReady (shape y.now) (length slots.old) }
     requires z { IsReady (shape z.now) (length slots.old) }
-    ensures sat { result.sat ≡ highest_sat (tree.and_or (shape x.now) (shape y.now) (shape z.now)) }
-    ensures dsat { result.dsat ≡ highest_dsat (tree.and_or (shape x.now) (shape y.now) (shape z.now)) }
+    ensures { result ≡ highest_of (tree.and_or (shape x.now) (shape y.now) (shape z.now)) }
 {
     let x = heights(x, slots);
     let y = heights(y, slots);
     let z = heights(z, slots);
-    Heights {
-        sat: either(both(0, x.sat, y.sat), both(0, x.dsat, z.sat)),
-        dsat: both(0, x.dsat, z.dsat),
-    }
+    of_row(
+        &Script::bare(),
+        &and_or(Argument::X, Argument::Y, Argument::Z),
+        &x,
+        &y,
+        &z,
+    )
 }
 
 #[cycle(heights)]
+#[tactic(auto, using(crate::proofs::Rows::two_reads))]
 fn of_two(kind: Two, x: &Tree<'_>, z: &Tree<'_>, slots: &mut [Slot]) -> Heights
     requires x { IsReady (shape x.now) (length slots.old) }
     requires z { IsReady (shape z.now) (length slots.old) }
-    ensures sat { result.sat ≡ highest_sat (tree.two kind (shape x.now) (shape z.now)) }
-    ensures dsat { result.dsat ≡ highest_dsat (tree.two kind (shape x.now) (shape z.now)) }
+    ensures { result ≡ highest_of (tree.two kind (shape x.now) (shape z.now)) }
 {
     let x = heights(x, slots);
     let z = heights(z, slots);
-    match kind {
-        Two::AndV => Heights {
-            sat: both(0, x.sat, z.sat),
-            dsat: None,
-        },
-        Two::AndB => Heights {
-            sat: both(1, x.sat, z.sat),
-            dsat: both(1, x.dsat, z.dsat),
-        },
-        Two::OrB => Heights {
-            sat: either(both(1, x.sat, z.dsat), both(1, x.dsat, z.sat)),
-            dsat: both(1, x.dsat, z.dsat),
-        },
-        Two::OrC => Heights {
-            sat: either(x.sat, both(0, x.dsat, z.sat)),
-            dsat: None,
-        },
-        Two::OrD => Heights {
-            sat: either(at_least(2, x.sat), both(0, x.dsat, z.sat)),
-            dsat: both(0, x.dsat, z.dsat),
-        },
-        Two::OrI => {
-            let choice = only(1, 1);
-            Heights {
-                sat: either(both(0, choice, x.sat), both(0, choice, z.sat)),
-                dsat: either(both(0, choice, x.dsat), both(0, choice, z.dsat)),
-            }
-        }
-    }
+    of_row(
+        &Script::of_two(kind),
+        &two(kind, Argument::X, Argument::Z),
+        &x,
+        &z,
+        &z,
+    )
 }
 
 #[cycle(heights)]
+#[tactic(auto, using(ms_sane::proofs::Children::few_children))]
 fn of_thresh(k: u64, children: &[Tree<'_>], slots: &mut [Slot]) -> Heights
     requires in_range { All (λ x. IsInRange (shape x)) children.now }
     requires typed { All (λ x. IsTyped (shape x)) children.now }
     requires few { measure_of (shapes children.now) ≤ MOST_MEASURE }
     requires room { 4 * measure_of (shapes children.now) + 4 ≤ length slots.old }
-    ensures sat { result.sat ≡ highest_sat (tree.thresh k (shapes children.now)) }
-    ensures dsat { result.dsat ≡ highest_dsat (tree.thresh k (shapes children.now)) }
+    ensures { result ≡ highest_of (tree.thresh k (shapes children.now)) }
 {
     let (sats, rest) = slots.split_at_mut(children.len());
     let (dsats, rest) = rest.split_at_mut(children.len());
@@ -158,8 +139,7 @@ fn keep_children(children: &[Tree<'_>], sats: &mut [Slot], dsats: &mut [Slot], r
 fn of_multi(k: u64, keys: &[Key]) -> Heights
     requires enough { k ≤ length keys.now }
     requires few { length keys.now ≤ MOST_MEASURE }
-    ensures sat { result.sat ≡ highest_sat (tree.multi k keys.now) }
-    ensures dsat { result.dsat ≡ highest_dsat (tree.multi k keys.now) }
+    ensures { result ≡ highest_of (tree.multi k keys.now) }
 {
     let of_each = only(k + 1, keys.len() as u64 + k + 3);
     Heights {
@@ -169,25 +149,17 @@ fn of_multi(k: u64, keys: &[Key]) -> Heights
 }
 
 #[cycle(heights)]
+#[tactic(auto, using(crate::proofs::Rows::wrap_reads))]
 fn of_wrap(wrapper: Wrapper, x: &Tree<'_>, slots: &mut [Slot]) -> Heights
     requires { IsReady (shape x.now) (length slots.old) }
-    ensures sat { result.sat ≡ highest_sat (tree.wrap wrapper (shape x.now)) }
-    ensures dsat { result.dsat ≡ highest_dsat (tree.wrap wrapper (shape x.now)) }
+    ensures { result ≡ highest_of (tree.wrap wrapper (shape x.now)) }
 {
     let x = heights(x, slots);
-    match wrapper {
-        Wrapper::A | Wrapper::S | Wrapper::C | Wrapper::N => x,
-        Wrapper::D => Heights {
-            sat: both(1, only(1, 2), x.sat),
-            dsat: only(1, 2),
-        },
-        Wrapper::V => Heights {
-            sat: x.sat,
-            dsat: None,
-        },
-        Wrapper::J => Heights {
-            sat: both(0, only(0, 1), x.sat),
-            dsat: only(1, 2),
-        },
-    }
+    of_row(
+        &Script::of_wrap(wrapper),
+        &wrap(wrapper, Argument::X),
+        &x,
+        &x,
+        &x,
+    )
 }

@@ -1,7 +1,7 @@
 //! Greatest items and heights, put together.
-ghost use Rattle.std.specs.Prelude.{◌≡◌, ◌<◌, ◌^◌};
+ghost use Rattle.std.specs.Prelude.{◌≡◌};
 ghost use Rattle.def_height.specs.Scaffolding.Highest as model;
-ghost use Rattle.ms_height.specs.Scaffolding.Low.{IsLow};
+ghost use Rattle.ms_height.specs.Scaffolding.Low.{IsStorable};
 
 use def_height::Highest;
 
@@ -22,16 +22,15 @@ pub fn only(items: u64, height: u64) -> Option<Highest>
 }
 
 /// One of the first, which leaves so many elements of those that it found, and then one of the second.
-pub fn both(left: u64, first: Option<Highest>, second: Option<Highest>) -> Option<Highest>
-    requires left { left < 2 ^ 32 }
-    requires first { IsLow first }
-    requires second { IsLow second }
+pub fn both(left: u32, first: Option<Highest>, second: Option<Highest>) -> Option<Highest>
+    requires first { IsStorable first }
+    requires second { IsStorable second }
     ensures { result ≡ model.both left first second }
 {
     match (first, second) {
         (Some(first), Some(second)) => Some(Highest {
             items: first.items + second.items,
-            height: (first.height + second.items).max(left + second.height),
+            height: (first.height + second.items).max(u64::from(left) + second.height),
         }),
         _ => None,
     }

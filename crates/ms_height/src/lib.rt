@@ -5,6 +5,7 @@ mod choice;
 mod heights;
 mod highest;
 mod kept;
+mod row;
 mod stacks;
 mod sums;
 mod tally;

@@ -25,15 +25,15 @@ in_two : {P : Type 0} (F : P → Type 0) (k : Two) (x z : P) → F x → F z →
 in_two F kind.AndV x z a c = ((c, a), tt)
 in_two F kind.AndB x z a c = ((c, a), (c, a))
 in_two F kind.OrB x z a c = (((c, a), (c, a)), (c, a))
-in_two F kind.OrC x z a c = (((a, tt), (c, a)), tt)
-in_two F kind.OrD x z a c = (((a, tt), (c, a)), (c, a))
+in_two F kind.OrC x z a c = ((a, (c, a)), tt)
+in_two F kind.OrD x z a c = ((a, (c, a)), (c, a))
 in_two F kind.OrI x z a c = (((a, tt), (c, tt)), ((a, tt), (c, tt)))
 
 in_wrap : {P : Type 0} (F : P → Type 0) (w : Wrapper) (x : P) → F x → InBoth F (wrap_row table w (known x))
-in_wrap F wrapper.D x a = ((a, tt), (tt, tt))
-in_wrap F wrapper.V x a = ((a, tt), tt)
-in_wrap F wrapper.J x a = ((a, tt), (tt, tt))
-in_wrap F other x a = ((a, tt), (a, tt))
+in_wrap F wrapper.D x a = ((a, tt), tt)
+in_wrap F wrapper.V x a = (a, tt)
+in_wrap F wrapper.J x a = (a, tt)
+in_wrap F other x a = (a, a)
 
 pub inside_and_or : {P : Type 0} (F : P → Type 0) (x y z : P) (row : rust.Row P) → IsRow row (and_or_row table (known x) (known y) (known z)) → F x → F y → F z → InRow F row
 inside_and_or F x y z row is a b c = in_row F row _ is (((b, a), (c, a)), (c, a))

@@ -10,13 +10,11 @@ use Rattle.ms_rows.specs.declared.ways.Row as rust
 use Rattle.ms_rows.specs.Written.{table, known, two_row, wrap_row, IsRow}
 use Rattle.ms_rows.specs.Reading.{Reader, ways_in}
 
--- what isn't canonical counts for nothing, and no item beside others is nothing
+-- what isn't canonical counts for nothing
 pub record IsCanonical {D S : Type 0} (t : Table D S) : Type 0 where
   pub extra : (n : S) → t.extra n ≡ t.no_dsat
   pub beside_dsat : (m : D) (n : S) → t.beside_dsat m n ≡ m
   pub beside : (m n : S) → t.beside m n ≡ m
-  pub alone : (m : S) → t.both m t.nothing_sat ≡ m
-  pub alone_dsat : (m : D) → t.both_dsat m t.nothing_dsat ≡ m
 
 -- the entries of a table, for satisfactions, and for dissatisfactions, in which no satisfaction stands
 abbrev pub reader_sat : {P D S : Type 0} → Table D S → (P → Row D S) → Reader P S
@@ -25,8 +23,8 @@ reader_sat t of = record {
   dsat = λ x. t.still (of x).dsat;
   one = t.one;
   empty = t.empty;
-  nothing = t.nothing_sat;
   never = t.no_sat;
+  alone = λ s. s;
   both = t.both;
   either = t.either;
 }
@@ -37,8 +35,8 @@ reader_dsat t of other = record {
   dsat = λ x. (of x).dsat;
   one = t.one_dsat;
   empty = t.empty_dsat;
-  nothing = t.nothing_dsat;
   never = t.no_dsat;
+  alone = λ d. d;
   both = t.both_dsat;
   either = t.either_dsat;
 }
@@ -51,8 +49,6 @@ module _ {P D S : Type 0} (t : Table D S) (canonical : IsCanonical t) (of : P �
 
   sat_two : (k : Two) (x z : P) → ways_in (reader_sat t of) (two_row table k (known x) (known z)).sat ≡ (two_row t k (of x) (of z)).sat
   sat_two kind.OrB x z = sym (ap (t.either (t.both (t.still (of z).dsat) (of x).sat)) (canonical.beside (t.both (of z).sat (t.still (of x).dsat)) (t.both (of z).sat (of x).sat)))
-  sat_two kind.OrC x z = ap (λ m. t.either m (t.both (of z).sat (t.still (of x).dsat))) (canonical.alone (of x).sat)
-  sat_two kind.OrD x z = ap (λ m. t.either m (t.both (of z).sat (t.still (of x).dsat))) (canonical.alone (of x).sat)
   sat_two other x z = refl
 
   dsat_two : (k : Two) (x z : P) → ways_in (reader_dsat t of other) (two_row table k (known x) (known z)).dsat ≡ (two_row t k (of x) (of z)).dsat
@@ -61,13 +57,12 @@ module _ {P D S : Type 0} (t : Table D S) (canonical : IsCanonical t) (of : P �
   dsat_two other x z = refl
 
   sat_wrap : (w : Wrapper) (x : P) → ways_in (reader_sat t of) (wrap_row table w (known x)).sat ≡ (wrap_row t w (of x)).sat
-  sat_wrap wrapper.D x = refl
-  sat_wrap other x = canonical.alone _
+  sat_wrap wrapper.A x = refl
+  sat_wrap other x = refl
 
   dsat_wrap : (w : Wrapper) (x : P) → ways_in (reader_dsat t of other) (wrap_row table w (known x)).dsat ≡ (wrap_row t w (of x)).dsat
-  dsat_wrap wrapper.V x = refl
-  dsat_wrap wrapper.J x = canonical.alone_dsat _ ∙ sym (canonical.beside_dsat _ _)
-  dsat_wrap other x = canonical.alone_dsat _
+  dsat_wrap wrapper.J x = sym (canonical.beside_dsat _ _)
+  dsat_wrap other x = refl
 
   -- of the rows of the fragments, where the children are trees
   tree_two : (k : Two) (x z : model.Tree) → row_of t (model.two k x z) ≡ two_row t k (row_of t x) (row_of t z)

@@ -6,21 +6,24 @@ use Rattle.def_tree.specs.declared.Wrapper.{Wrapper}
 use Rattle.def_tree.specs.declared.Wrapper.TheVariants as wrapper
 use Rattle.def_table.specs.Table.{Row, Table, and_v_row, and_b_row, or_b_row, or_c_row, or_d_row, or_i_row, wrap_d_row, wrap_v_row, wrap_j_row}
 use Rattle.ms_rows.specs.declared.ways.Part.{Part}
-use Rattle.ms_rows.specs.declared.ways.Part.TheVariants.{Sat, Dsat, One, Empty, Nothing}
+use Rattle.ms_rows.specs.declared.ways.Part.TheVariants.{Sat, Dsat, One, Empty}
+use Rattle.ms_rows.specs.declared.ways.Way.TheVariants.{Alone, Both}
 use Rattle.ms_rows.specs.declared.ways.Ways.{Ways}
 use Rattle.ms_rows.specs.declared.ways.Ways.TheVariants.{Never, Only, Either}
 use Rattle.ms_rows.specs.declared.ways.Row as rust
 
 -- a part alone
 abbrev pub alone : {P : Type 0} → Part P → Ways P
-alone part = Only (record { below = part; above = Nothing })
+alone part = Only (Alone part)
 
 -- two parts, the latter on top; either of two ways
 abbrev pub both : {P : Type 0} → (below above : Ways P) → Ways P
 both Never above = Never
-both (Only below) Never = Never
-both (Only below) (Only above) = Only (record { below = below.below; above = above.below })
-both (Only below) (Either former latter) = Never
+both (Only (Alone below)) Never = Never
+both (Only (Alone below)) (Only (Alone above)) = Only (Both below above)
+both (Only (Alone below)) (Only (Both lower upper)) = Never
+both (Only (Alone below)) (Either former latter) = Never
+both (Only (Both lower upper)) above = Never
 both (Either former latter) above = Never
 
 abbrev pub either : {P : Type 0} → (first second : Ways P) → Ways P
@@ -34,13 +37,13 @@ either (Either former latter) second = Never
 abbrev pub unwritten : {P : Type 0} → Row (Ways P) (Ways P)
 unwritten = record { dsat = Never; sat = Never }
 
--- the table of ways
+-- the table of ways; fragments without children have none here
 abbrev pub table : {P : Type 0} → Table (Ways P) (Ways P)
 table = record {
   no_dsat = Never;
   no_sat = Never;
-  nothing_dsat = alone Nothing;
-  nothing_sat = alone Nothing;
+  nothing_dsat = Never;
+  nothing_sat = Never;
   empty_dsat = alone Empty;
   one_dsat = alone One;
   empty = alone Empty;

@@ -4,6 +4,7 @@ ghost use Rattle.def_table.specs.Table as table;
 ghost use Rattle.ms_rows.specs.Written as written;
 ghost use Rattle.ms_rows.specs.Written.{known, IsRow};
 ghost use Rattle.ms_rows.specs.declared.ways.Part.TheVariants as parts;
+ghost use Rattle.ms_rows.specs.declared.ways.Way.TheVariants as way;
 ghost use Rattle.ms_rows.specs.declared.ways.Ways.TheVariants as ways;
 
 use crate::ways::{Part, Row, Way, Ways};
@@ -14,7 +15,7 @@ pub fn and_or<P: Copy>(x: P, y: P, z: P) -> Row<P>
     ensures { IsRow result (table.and_or_row written.table (known x) (known y) (known z)) }
 {
     Row {
-        sat: Ways::Either(both(Part::Sat(y), Part::Sat(x)), without_x(x, z)),
+        sat: Ways::Either(Way::Both(Part::Sat(y), Part::Sat(x)), without_x(x, z)),
         dsat: Ways::Only(neither(x, z)),
     }
 }
@@ -23,7 +24,7 @@ pub fn and_or<P: Copy>(x: P, y: P, z: P) -> Row<P>
 pub fn two<P: Copy>(kind: Two, x: P, z: P) -> Row<P>
     ensures { IsRow result (written.two_row written.table kind (known x) (known z)) }
 {
-    let with_both = both(Part::Sat(z), Part::Sat(x));
+    let with_both = Way::Both(Part::Sat(z), Part::Sat(x));
     match kind {
         Two::AndV => Row {
             sat: Ways::Only(with_both),
@@ -34,15 +35,15 @@ pub fn two<P: Copy>(kind: Two, x: P, z: P) -> Row<P>
             dsat: Ways::Only(neither(x, z)),
         },
         Two::OrB => Row {
-            sat: Ways::Either(both(Part::Dsat(z), Part::Sat(x)), without_x(x, z)),
+            sat: Ways::Either(Way::Both(Part::Dsat(z), Part::Sat(x)), without_x(x, z)),
             dsat: Ways::Only(neither(x, z)),
         },
         Two::OrC => Row {
-            sat: Ways::Either(alone(Part::Sat(x)), without_x(x, z)),
+            sat: Ways::Either(Way::Alone(Part::Sat(x)), without_x(x, z)),
             dsat: Ways::Never,
         },
         Two::OrD => Row {
-            sat: Ways::Either(alone(Part::Sat(x)), without_x(x, z)),
+            sat: Ways::Either(Way::Alone(Part::Sat(x)), without_x(x, z)),
             dsat: Ways::Only(neither(x, z)),
         },
         Two::OrI => Row {
@@ -56,15 +57,15 @@ pub fn two<P: Copy>(kind: Two, x: P, z: P) -> Row<P>
 pub fn wrap<P: Copy>(wrapper: Wrapper, x: P) -> Row<P>
     ensures { IsRow result (written.wrap_row written.table wrapper (known x)) }
 {
-    let sat = Ways::Only(alone(Part::Sat(x)));
+    let sat = Ways::Only(Way::Alone(Part::Sat(x)));
     match wrapper {
         Wrapper::A | Wrapper::S | Wrapper::C | Wrapper::N => Row {
             sat,
-            dsat: Ways::Only(alone(Part::Dsat(x))),
+            dsat: Ways::Only(Way::Alone(Part::Dsat(x))),
         },
         Wrapper::D => Row {
-            sat: Ways::Only(both(Part::Sat(x), Part::One)),
-            dsat: Ways::Only(alone(Part::Empty)),
+            sat: Ways::Only(Way::Both(Part::Sat(x), Part::One)),
+            dsat: Ways::Only(Way::Alone(Part::Empty)),
         },
         Wrapper::V => Row {
             sat,
@@ -72,42 +73,28 @@ pub fn wrap<P: Copy>(wrapper: Wrapper, x: P) -> Row<P>
         },
         Wrapper::J => Row {
             sat,
-            dsat: Ways::Only(alone(Part::Empty)),
+            dsat: Ways::Only(Way::Alone(Part::Empty)),
         },
     }
 }
 
-/// One part on top of another.
-fn both<P: Copy>(below: Part<P>, above: Part<P>) -> Way<P>
-    ensures { result ≡ record { below = below; above = above } }
-{
-    Way { below, above }
-}
-
-/// A part alone.
-fn alone<P: Copy>(part: Part<P>) -> Way<P>
-    ensures { result ≡ record { below = part; above = parts.Nothing } }
-{
-    both(part, Part::Nothing)
-}
-
 /// X is dissatisfied and Z satisfied.
 fn without_x<P: Copy>(x: P, z: P) -> Way<P>
-    ensures { result ≡ record { below = parts.Sat z; above = parts.Dsat x } }
+    ensures { result ≡ way.Both (parts.Sat z) (parts.Dsat x) }
 {
-    both(Part::Sat(z), Part::Dsat(x))
+    Way::Both(Part::Sat(z), Part::Dsat(x))
 }
 
 /// Both are dissatisfied.
 fn neither<P: Copy>(x: P, z: P) -> Way<P>
-    ensures { result ≡ record { below = parts.Dsat z; above = parts.Dsat x } }
+    ensures { result ≡ way.Both (parts.Dsat z) (parts.Dsat x) }
 {
-    both(Part::Dsat(z), Part::Dsat(x))
+    Way::Both(Part::Dsat(z), Part::Dsat(x))
 }
 
 /// The first part where the item on top is `1`, and the second one where it is empty.
 fn chosen<P: Copy>(first: Part<P>, second: Part<P>) -> Ways<P>
-    ensures { result ≡ ways.Either (record { below = first; above = parts.One }) (record { below = second; above = parts.Empty }) }
+    ensures { result ≡ ways.Either (way.Both first parts.One) (way.Both second parts.Empty) }
 {
-    Ways::Either(both(first, Part::One), both(second, Part::Empty))
+    Ways::Either(Way::Both(first, Part::One), Way::Both(second, Part::Empty))
 }

@@ -26,7 +26,7 @@ impl Argument {
     }
 }
 
-/// A part of a stack: what satisfies or dissatisfies a child, an item, or nothing.
+/// A part of a stack: what satisfies or dissatisfies a child, or an item.
 #[derive(Clone, Copy)]
 pub enum Part<P> {
     /// The satisfaction of a child.
@@ -37,17 +37,15 @@ pub enum Part<P> {
     One,
     /// The empty string, which takes the second branch.
     Empty,
-    /// No item.
-    Nothing,
 }
 
-/// One part on top of another.
+/// Of which parts a stack is made.
 #[derive(Clone, Copy)]
-pub struct Way<P> {
-    /// The part that lies below.
-    pub below: Part<P>,
-    /// The part on top of it.
-    pub above: Part<P>,
+pub enum Way<P> {
+    /// Of one part.
+    Alone(Part<P>),
+    /// Of two, the second one on top of the first.
+    Both(Part<P>, Part<P>),
 }
 
 /// The ways to do one thing, of which there are at most two.

@@ -2,17 +2,17 @@
 use Rattle.std.proofs.Common.{◌≡◌, ℕ, zero, suc, ◌+◌, ◌*◌, ◌^◌, ◌<◌, ◌≤◌, List, ◌&&◌, Option, Some, None, length, subst, sym, arith}
 use Rattle.std.specs.Prelude.{⊤, IsTrue, nat_le}
 use Rattle.std.proofs.lemmas.Bool.Decides.{nat_tests}
-use Rattle.def_tree.specs.declared.Two.TheVariants as kind
-use Rattle.def_tree.specs.Tree.{Key, Tree, Trees, pk_k, pk_h, older, after, hash, thresh, multi, none, more}
+use Rattle.def_tree.specs.Tree.{Key, Tree, Trees, multi, none, more}
 use Rattle.def_tree.specs.Range.{IsInRange}
 use Rattle.def_tree.specs.Size.{measure, measure_of}
 use Rattle.def_types.specs.Corr.{multi_row}
 use Rattle.def_types.specs.Typed.{IsTyped}
-use Rattle.def_sane.specs.Formal.{Takes, one, empty}
+use Rattle.def_sane.specs.Formal.{Takes}
 use Rattle.def_sane.specs.Scaffolding.Most.{both, either, most, most_sat, most_dsat, most_parts}
 use Rattle.ms_rows.proofs.Within.{AreWithin, IsBounded, within}
 use Rattle.ms_sane.specs.declared.takes.Most as rust
 use Rattle.ms_sane.specs.declared.takes.Takes as rust_takes
+use Rattle.ms_sane.specs.Scaffolding.Most.{IsMost}
 use Rattle.ms_sane.specs.Scaffolding.Takes.{taken, IsLightOption, IsLightMost}
 use Rattle.def_script.proofs.KeyLemmas.{key_length}
 
@@ -96,8 +96,10 @@ light_option n (Some t) p small is h =
     record { items = omega (arith, small, w.items); weight = omega (arith, small, w.weight); keys = omega (arith, small, w.keys) }
 
 -- so each number of a tree in range is below 2^32
-pub light_of : (t : Tree) (m : rust.Most) → IsInRange t → IsTyped t → taken m.sat ≡ most_sat t → taken m.dsat ≡ most_dsat t → IsLightMost m
-light_of t m range typed sat dsat = record {
-  sat = light_option (128 * measure t) m.sat (most_sat t) (omega (arith, range.measure)) sat (within most Within Within bounded t range.writable typed).1;
-  dsat = light_option (128 * measure t) m.dsat (most_dsat t) (omega (arith, range.measure)) dsat (within most Within Within bounded t range.writable typed).0;
-}
+pub light_of : (t : Tree) (m : rust.Most) → IsInRange t → IsTyped t → IsMost m t → IsLightMost m
+light_of t m range typed is =
+    let bound = within most Within Within bounded t range.writable typed in
+    record {
+      sat = light_option (128 * measure t) m.sat (most_sat t) (omega (arith, range.measure)) is.sat bound.1;
+      dsat = light_option (128 * measure t) m.dsat (most_dsat t) (omega (arith, range.measure)) is.dsat bound.0;
+    }

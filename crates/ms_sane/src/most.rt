@@ -1,13 +1,11 @@
 //! What the formal satisfactions of a tree take at most, without memory.
-ghost use Rattle.std.specs.Prelude.{◌≡◌, ◌≤◌, length, All};
-ghost use Rattle.def_tree.specs.Range.{MOST_MEASURE, IsInRange};
-ghost use Rattle.def_tree.specs.Size.{measure_of};
+ghost use Rattle.std.specs.Prelude.{◌≤◌, length};
+ghost use Rattle.def_tree.specs.Range.{MOST_MEASURE};
 ghost use Rattle.def_tree.specs.Tree as tree;
-ghost use Rattle.def_types.specs.Typed.{IsTyped};
-ghost use Rattle.def_sane.specs.Scaffolding.Most.{most_sat, most_dsat};
 ghost use Rattle.ms_tree.specs.Shape.{shape, shapes, leaf_shape};
-ghost use Rattle.ms_sane.specs.Scaffolding.Takes.{taken, IsLightMost};
-ghost use Rattle.ms_sane.specs.Scaffolding.Most.{IsReady};
+ghost use Rattle.ms_sane.specs.Scaffolding.Most.{IsMost};
+ghost use Rattle.ms_sane.specs.Scaffolding.Takes.{IsLightMost};
+ghost use Rattle.ms_sane.specs.Scaffolding.Ready.{IsReady, AreReady};
 
 use crate::row::of_row;
 use crate::takes::{Most, Takes, taken_of};
@@ -25,10 +23,10 @@ const PREIMAGE: u64 = 32;
 /// What the formal satisfactions and dissatisfactions of a tree take at most, each number by itself. Of
 /// the slots it writes at most as many as the tree has nodes.
 #[cycle(most)]
+#[tactic(auto, using(crate::proofs::Bounds::light_of, crate::proofs::Children::ready_children, crate::proofs::Bounds::multi_enough))]
 pub fn most(tree: &Tree<'_>, slots: &mut [Slot]) -> Most
     requires { IsReady (shape tree.now) (length slots.old) }
-    ensures sat { taken result.sat ≡ most_sat (shape tree.now) }
-    ensures dsat { taken result.dsat ≡ most_dsat (shape tree.now) }
+    ensures takes { IsMost result (shape tree.now) }
     ensures light { IsLightMost result }
 {
     match tree.view() {
@@ -42,8 +40,7 @@ pub fn most(tree: &Tree<'_>, slots: &mut [Slot]) -> Most
 }
 
 fn of_leaf(leaf: Leaf) -> Most
-    ensures sat { taken result.sat ≡ most_sat (leaf_shape leaf) }
-    ensures dsat { taken result.dsat ≡ most_dsat (leaf_shape leaf) }
+    ensures { IsMost result (leaf_shape leaf) }
 {
     match leaf {
         Leaf::Zero => Most {
@@ -73,12 +70,12 @@ fn of_leaf(leaf: Leaf) -> Most
 }
 
 #[cycle(most)]
+#[tactic(auto, using(crate::proofs::Rows::most_and_or))]
 fn of_and_or(x: &Tree<'_>, y: &Tree<'_>, z: &Tree<'_>, slots: &mut [Slot]) -> Most
     requires x { IsReady (shape x.now) (length slots.old) }
     requires y { IsReady (shape y.now) (length slots.old) }
     requires z { IsReady (shape z.now) (length slots.old) }
-    ensures sat { taken result.sat ≡ most_sat (tree.and_or (shape x.now) (shape y.now) (shape z.now)) }
-    ensures dsat { taken result.dsat ≡ most_dsat (tree.and_or (shape x.now) (shape y.now) (shape z.now)) }
+    ensures { IsMost result (tree.and_or (shape x.now) (shape y.now) (shape z.now)) }
 {
     let x = most(x, slots);
     let y = most(y, slots);
@@ -87,11 +84,11 @@ fn of_and_or(x: &Tree<'_>, y: &Tree<'_>, z: &Tree<'_>, slots: &mut [Slot]) -> Mo
 }
 
 #[cycle(most)]
+#[tactic(auto, using(crate::proofs::Rows::most_two))]
 fn of_two(kind: Two, x: &Tree<'_>, z: &Tree<'_>, slots: &mut [Slot]) -> Most
     requires x { IsReady (shape x.now) (length slots.old) }
     requires z { IsReady (shape z.now) (length slots.old) }
-    ensures sat { taken result.sat ≡ most_sat (tree.two kind (shape x.now) (shape z.now)) }
-    ensures dsat { taken result.dsat ≡ most_dsat (tree.two kind (shape x.now) (shape z.now)) }
+    ensures { IsMost result (tree.two kind (shape x.now) (shape z.now)) }
 {
     let x = most(x, slots);
     let z = most(z, slots);
@@ -99,13 +96,10 @@ fn of_two(kind: Two, x: &Tree<'_>, z: &Tree<'_>, slots: &mut [Slot]) -> Most
 }
 
 #[cycle(most)]
+#[tactic(auto, using(crate::proofs::Children::ready_behind, crate::proofs::Children::room_behind, ms_tree::proofs::Parts::nodes_at))]
 fn of_thresh(k: u64, children: &[Tree<'_>], slots: &mut [Slot]) -> Most
-    requires in_range { All (λ x. IsInRange (shape x)) children.now }
-    requires typed { All (λ x. IsTyped (shape x)) children.now }
-    requires few { measure_of (shapes children.now) ≤ MOST_MEASURE }
-    requires room { measure_of (shapes children.now) ≤ length slots.old }
-    ensures sat { taken result.sat ≡ most_sat (tree.thresh k (shapes children.now)) }
-    ensures dsat { taken result.dsat ≡ most_dsat (tree.thresh k (shapes children.now)) }
+    requires { AreReady children.now (length slots.old) }
+    ensures { IsMost result (tree.thresh k (shapes children.now)) }
 {
     let mut tally = Tally::new();
     for child in children {
@@ -120,8 +114,7 @@ fn of_thresh(k: u64, children: &[Tree<'_>], slots: &mut [Slot]) -> Most
 fn of_multi(k: u64, keys: &[Key]) -> Most
     requires enough { k ≤ length keys.now }
     requires few { length keys.now ≤ MOST_MEASURE }
-    ensures sat { taken result.sat ≡ most_sat (tree.multi k keys.now) }
-    ensures dsat { taken result.dsat ≡ most_dsat (tree.multi k keys.now) }
+    ensures { IsMost result (tree.multi k keys.now) }
 {
     let tried = Takes::tried(keys.len() as u64);
     let signatures = Takes::same_items(k, SIGNATURE);
@@ -132,10 +125,10 @@ fn of_multi(k: u64, keys: &[Key]) -> Most
 }
 
 #[cycle(most)]
+#[tactic(auto, using(crate::proofs::Rows::most_wrap))]
 fn of_wrap(wrapper: Wrapper, x: &Tree<'_>, slots: &mut [Slot]) -> Most
     requires { IsReady (shape x.now) (length slots.old) }
-    ensures sat { taken result.sat ≡ most_sat (tree.wrap wrapper (shape x.now)) }
-    ensures dsat { taken result.dsat ≡ most_dsat (tree.wrap wrapper (shape x.now)) }
+    ensures { IsMost result (tree.wrap wrapper (shape x.now)) }
 {
     let x = most(x, slots);
     of_row(&wrap(wrapper, Argument::X), &x, &x, &x)

@@ -9,7 +9,6 @@ use Rattle.def_machine.specs.Stacks.{Stack}
 use Rattle.def_hash.specs.declared.HashKind.{HashKind}
 use Rattle.def_hash.specs.Hash.{digest_of}
 use Rattle.std.specs.Str.{bytes_eq}
-use Rattle.def_tree.specs.declared.Two.TheVariants as kind
 use Rattle.def_tree.specs.Tree.{Key, Trees, none, more}
 use Rattle.def_tree.specs.Range.{MOST_MEASURE, count}
 use Rattle.def_assets.proofs.Shortest.{found_is_held}

@@ -1,5 +1,5 @@
 -- A child of a threshold more.
-use Rattle.std.proofs.Common.{◌≡◌, ℕ, ◌-◌, ◌≤◌, Bool, true, false, List, [], ◌∷◌, ◌++◌, length, map, Option, Some, None, is_some, refl, sym, ◌∙◌, ap, subst, arith, if◌then◌else◌}
+use Rattle.std.proofs.Common.{◌≡◌, ℕ, ◌-◌, ◌≤◌, Bool, true, false, List, [], ◌∷◌, ◌++◌, length, map, take, drop, Option, Some, None, is_some, refl, sym, ◌∙◌, ap, subst, arith, if◌then◌else◌}
 use Rattle.std.specs.Option.{option_map}
 use Rattle.std.proofs.lemmas.List.{map-append}
 use borrow.Rule.Slice.PartMut.{put_mid}
@@ -23,6 +23,7 @@ use Rattle.ms_sat.specs.Scaffolding.Table.{IsWeighed, IsFound}
 use Rattle.ms_sat.specs.declared.table.Children.{Children}
 use Rattle.ms_choice.specs.declared.children.Number.TheVariants.{First}
 use Rattle.ms_sat.specs.Scaffolding.Count.{AreFew, AreTold}
+use Rattle.ms_sane.proofs.Children.{length_behind}
 use Rattle.ms_choice.proofs.Tallies.{told_written as tally_written, fits_written}
 use Rattle.ms_sat.proofs.Weights.{weight_of-both}
 
@@ -90,11 +91,11 @@ found_weight costs cs k (Some choice) some = sym some.weight
 
 -- ---- what is written behind the slots of the free children changes nothing
 
-pub few_written : (c : Children) (slots written : List Slot) → length (put_mid c.tally.free (length slots - c.tally.free) slots written) ≡ length slots → AreFew c slots
+pub few_written : (c : Children) (slots written : List Slot) → length written ≡ length (take (length slots - c.tally.free) (drop c.tally.free slots)) → AreFew c slots
     → AreFew c (put_mid c.tally.free (length slots - c.tally.free) slots written)
-few_written c slots written long few =
+few_written c slots written same few =
     record {
-      tally = fits_written c.tally slots written (length slots - c.tally.free) long few.tally;
+      tally = fits_written c.tally slots written (length slots - c.tally.free) (length_behind c.tally.free slots written few.tally.room same) few.tally;
       forced = few.forced;
       stuck = few.stuck;
       free = few.free;

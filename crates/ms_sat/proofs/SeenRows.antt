@@ -13,7 +13,6 @@ use Rattle.def_table.specs.Table.{Row, and_or_row}
 use Rattle.def_assets.specs.Assets.{Assets}
 use Rattle.def_choice.specs.Least.{both, least}
 use Rattle.def_choice.specs.Cheapest.{cheapest_of, dissatisfaction}
-use Rattle.def_choice.specs.Strict.{strict_of}
 use Rattle.ms_rows.specs.declared.ways.Ways.{Ways}
 use Rattle.ms_rows.specs.declared.ways.Row as rust
 use Rattle.ms_rows.specs.Written.{table, known, two_row, wrap_row, IsRow}
@@ -22,7 +21,6 @@ use Rattle.ms_sat.specs.declared.rule.Rule.TheVariants.{Cheapest, Strict}
 use Rattle.ms_sat.specs.declared.way.Seen.{Seen}
 use Rattle.ms_sat.specs.Rule.{stack_by, free_by, first_of}
 use Rattle.ms_sat.specs.Scaffolding.Way.{tree_of, sat_of, dsat_of, is_free, nodes_of_ways, IsRowOf}
-use Rattle.ms_sat.proofs.Keys.{both-nothing}
 
 -- a tree with this row, by this rule: what satisfies it, and whether without a signature
 abbrev pub IsSat : Rule → Assets → model.Tree → Ways Seen → Type 0
@@ -43,48 +41,26 @@ none_above None = refl
 none_above (Some v) = refl
 
 module _ (assets : Assets) where
-  -- alone, and with nothing on top
-  alone : (rule : Rule) (x : Seen) → stack_by rule assets (tree_of x) ≡ both (stack_by rule assets (tree_of x)) (Some [])
-  alone rule x = sym (both-nothing (stack_by rule assets (tree_of x)))
-
-  alone_free : (rule : Rule) (x : Seen) → is_some (free_by rule assets (tree_of x)) ≡ is_some (both (free_by rule assets (tree_of x)) (Some []))
-  alone_free rule x = ap is_some (sym (both-nothing (free_by rule assets (tree_of x))))
-
-  alone_dsat : (x : Seen) → dissatisfaction (tree_of x) ≡ both (dissatisfaction (tree_of x)) (Some [])
-  alone_dsat x = sym (both-nothing (dissatisfaction (tree_of x)))
-
   and_or_sat : (rule : Rule) (x y z : Seen) → IsSat rule assets (model.and_or (tree_of x) (tree_of y) (tree_of z)) (and_or_row table (known x) (known y) (known z)).sat
   and_or_sat Cheapest x y z = (refl, refl)
   and_or_sat Strict x y z = (refl, some_least _ _)
 
-  -- where X is satisfied alone or else Z is
-  alone_or_other : (x z : Seen) → IsSat Strict assets (model.two kind.OrC (tree_of x) (tree_of z)) (two_row table kind.OrC (known x) (known z)).sat
-  alone_or_other x z =
-      let other = both (free_by Strict assets (tree_of z)) (dissatisfaction (tree_of x)) in
-      let rest = both (strict_of assets (tree_of z)) (dissatisfaction (tree_of x)) in
-      (λ i. first_of (alone_free Strict x i) (is_some other) (alone Strict x i) rest, some_least _ _ ∙ ap (λ b. b || is_some other) (alone_free Strict x))
-
   two_sat : (rule : Rule) (k : Two) (x z : Seen) → IsSat rule assets (model.two k (tree_of x) (tree_of z)) (two_row table k (known x) (known z)).sat
-  two_sat Cheapest kind.AndV x z = (refl, refl)
-  two_sat Cheapest kind.AndB x z = (refl, refl)
   two_sat Cheapest kind.OrB x z =
       let none = ap is_some (sym (none_above (dissatisfaction (tree_of z)))) in
       let former = both (dissatisfaction (tree_of z)) (cheapest_of assets (tree_of x)) in
       let latter = both (cheapest_of assets (tree_of z)) (dissatisfaction (tree_of x)) in
       (ap (λ b. first_of b false former latter) none, ap (λ b. b || false) none)
-  two_sat Cheapest kind.OrI x z = (refl, refl)
-  two_sat Cheapest other x z = (ap (λ o. least (o ∷ both (cheapest_of assets (tree_of z)) (dissatisfaction (tree_of x)) ∷ [])) (alone Cheapest x), refl)
-  two_sat Strict kind.OrB x z = (refl, some_least _ _)
-  two_sat Strict kind.OrC x z = alone_or_other x z
-  two_sat Strict kind.OrD x z = alone_or_other x z
-  two_sat Strict kind.OrI x z = (refl, some_least _ _)
-  two_sat Strict other x z = (refl, refl)
+  two_sat Cheapest other x z = (refl, refl)
+  two_sat Strict kind.AndV x z = (refl, refl)
+  two_sat Strict kind.AndB x z = (refl, refl)
+  two_sat Strict other x z = (refl, some_least _ _)
 
   wrap_sat : (rule : Rule) (w : Wrapper) (x : Seen) → IsSat rule assets (model.wrap w (tree_of x)) (wrap_row table w (known x)).sat
   wrap_sat Cheapest wrapper.D x = (refl, refl)
-  wrap_sat Cheapest other x = (alone Cheapest x, refl)
+  wrap_sat Cheapest other x = (refl, refl)
   wrap_sat Strict wrapper.D x = (refl, refl)
-  wrap_sat Strict other x = (alone Strict x, alone_free Strict x)
+  wrap_sat Strict other x = (refl, refl)
 
   two_dsat : (rule : Rule) (k : Two) (x z : Seen) → dissatisfaction (model.two k (tree_of x) (tree_of z)) ≡ dsat_of rule assets (two_row table k (known x) (known z)).dsat
   two_dsat rule kind.AndV x z = refl
@@ -92,9 +68,7 @@ module _ (assets : Assets) where
 
   wrap_dsat : (rule : Rule) (w : Wrapper) (x : Seen) → dissatisfaction (model.wrap w (tree_of x)) ≡ dsat_of rule assets (wrap_row table w (known x)).dsat
   wrap_dsat rule wrapper.D x = refl
-  wrap_dsat rule wrapper.V x = refl
-  wrap_dsat rule wrapper.J x = refl
-  wrap_dsat rule other x = alone_dsat x
+  wrap_dsat rule other x = refl
 
 -- the trees in the ways have fewer nodes than the fragment
 abbrev IsFewer : ℕ → Row (Ways Seen) (Ways Seen) → Type 0

@@ -1,33 +1,15 @@
 -- The children of a threshold, pushed from the last to the first.
-use Rattle.std.proofs.Common.{◌≡◌, ℕ, suc, ◌+◌, ◌-◌, ◌<◌, ◌≤◌, Bool, List, ◌∷◌, length, map, get_or, drop, All, sym, ◌∙◌, ap, subst, Option, arith, add-one, if◌then◌else◌}
+use Rattle.std.proofs.Common.{◌≡◌, ℕ, suc, ◌+◌, ◌-◌, ◌<◌, ◌≤◌, Bool, List, ◌∷◌, length, map, get_or, drop, sym, ◌∙◌, ap, subst, Option, arith, add-one, if◌then◌else◌}
 use Rattle.std.proofs.lemmas.List.{append-nil, drop_more, drop_all}
 use Rattle.def_script.specs.Bytes.{Bytes}
-use Rattle.def_tree.specs.Range.{IsInRange}
-use Rattle.def_tree.specs.Size.{measure_of}
-use Rattle.def_types.specs.Typed.{IsTyped}
-use Rattle.def_assets.specs.Assets.{Assets, AreAssets}
 use Rattle.def_choice.specs.Cheapest.{Child, stack_of}
 use Rattle.ms_tree.specs.declared.tree.Tree.{Tree}
-use Rattle.ms_tree.specs.Shape.{shape, shapes}
-use Rattle.ms_tree.proofs.Parts.{in_range_at}
 use Rattle.ms_choice.specs.declared.slot.Slot.{Slot}
-use Rattle.ms_sane.proofs.Children.{measure_at, typed_at}
 use Rattle.ms_choice.specs.declared.children.Costs.{Costs}
 use Rattle.ms_sat.specs.Scaffolding.Costs.{weight_of, costs_of, costs_of_child}
 use Rattle.ms_choice.specs.Marks.{takes, set_by}
-use Rattle.ms_sat.specs.Scaffolding.Children.{IsReady}
 use Rattle.ms_sat.specs.Scaffolding.Pushed.{IsPushed}
 use Rattle.ms_sat.proofs.Pushed.{pushed_both}
-
--- a child of a threshold has what the recursions need
-pub ready_at : (xs : List Tree) (i : ℕ) (x : Tree) (assets : Assets) (slots : ℕ) → i < length xs → x ≡ get_or xs i x
-    → All (λ t. IsInRange (shape t)) xs → All (λ t. IsTyped (shape t)) xs → AreAssets assets → measure_of (shapes xs) ≤ slots → IsReady (shape x) assets slots
-ready_at xs i x assets slots below at in_range typed are room = record {
-  in_range = in_range_at xs i x below at in_range;
-  typed = typed_at xs i x below at typed;
-  are = are;
-  room = omega (arith, measure_at xs i x below at, room);
-}
 
 module _ (child : Tree → Child) (last : Option Slot) where
   -- the children from a place on are pushed

@@ -8,7 +8,7 @@ use Rattle.def_choice.specs.Cheapest.{Child, dissatisfaction, all_dissatisfied, 
 use Rattle.ms_tree.specs.declared.tree.Tree.{Tree}
 use Rattle.ms_tree.specs.Shape.{shape, shapes}
 use Rattle.ms_choice.specs.declared.children.Costs.{Costs}
-use Rattle.ms_sat.specs.Scaffolding.Costs.{weight_of, costs_of_child, costs_of}
+use Rattle.ms_sat.specs.Scaffolding.Costs.{costs_of_child, costs_of, AreCosts}
 use Rattle.ms_sat.specs.Scaffolding.Choice.{chosen}
 use Rattle.ms_sat.specs.Scaffolding.Children.{child_of_tree, children_of}
 use Rattle.ms_sat.proofs.Chosen.{choose, chosen_is}
@@ -30,9 +30,8 @@ pub all_chosen : (assets : Assets) (xs : List Tree) → all_dissatisfied (shapes
 all_chosen assets xs = all_choose assets (shapes xs) ∙ ap (λ cs. choose cs 0) (children_are assets xs) ∙ sym (chosen_is (children_of assets xs) 0)
 
 -- the weights of a child
-pub costs_child : (assets : Assets) (x : Tree) (c : Costs) → c.sat ≡ weight_of (cheapest_of assets (shape x)) → c.dsat ≡ weight_of (dissatisfaction (shape x))
-    → c ≡ costs_of_child (child_of_tree assets (shape x))
-costs_child assets x c sat dsat = λ j. record { sat = sat j; dsat = dsat j }
+pub costs_child : (assets : Assets) (x : Tree) (c : Costs) → AreCosts assets (shape x) c → c ≡ costs_of_child (child_of_tree assets (shape x))
+costs_child assets x c is = λ j. record { sat = is.sat j; dsat = is.dsat j }
 
 -- a further child, with its weights
 pub costs_more : (child : Tree → Child) (xs : List Tree) (i : ℕ) (x : Tree) (c : Costs) → i < length xs → x ≡ get_or xs i x → c ≡ costs_of_child (child x)

@@ -211,8 +211,13 @@ fn push_way(way: Way<Seen<'_>>, assets: &Assets, stack: &mut Stack) -> Result<()
     requires { (rule : By) × IsSeenWay rule assets.now way }
     ensures { OnOk result ((rule : By) → IsSeenWay rule assets.now way.entry → IsPushed (stack_of_way rule assets.now way.entry) stack.old stack.new) }
 {
-    push_part(way.below, assets, stack)?;
-    push_part(way.above, assets, stack)
+    match way {
+        Way::Alone(part) => push_part(part, assets, stack),
+        Way::Both(below, above) => {
+            push_part(below, assets, stack)?;
+            push_part(above, assets, stack)
+        }
+    }
 }
 
 #[cycle(satisfy)]
@@ -225,7 +230,6 @@ fn push_part(part: Part<Seen<'_>>, assets: &Assets, stack: &mut Stack) -> Result
         Part::Dsat(x) => dissatisfy(x, assets, stack),
         Part::One => stack.push(&[1]),
         Part::Empty => stack.push(&[]),
-        Part::Nothing => Ok(()),
     }
 }
 

@@ -1,7 +1,6 @@
 //! What is weighed of a tree: of each of its nodes once, and kept in a table in the order of their numbers.
-ghost use Rattle.std.specs.Prelude.{◌≡◌, ◌+◌, ◌≤◌, ◌<◌, ◌++◌, [], List, length, All, if◌then◌else◌, None, IfOk, OnOk};
+ghost use Rattle.std.specs.Prelude.{◌≡◌, ◌+◌, ◌≤◌, ◌<◌, ◌++◌, [], List, length, if◌then◌else◌, None, IfOk, OnOk};
 ghost use Rattle.def_tree.specs.Range.{MOST_MEASURE, IsInRange};
-ghost use Rattle.def_tree.specs.Size.{measure_of};
 ghost use Rattle.def_tree.specs.Tree as tree;
 ghost use Rattle.def_tree.specs.Tree.{Tree as Model};
 ghost use Rattle.def_types.specs.Typed.{IsTyped};
@@ -11,7 +10,7 @@ ghost use Rattle.ms_tree.specs.Shape.{shape, shapes, trees_of, leaf_shape};
 ghost use Rattle.ms_sat.specs.declared.rule.Rule.{Rule as By};
 ghost use Rattle.ms_sat.specs.Scaffolding.Costs.{sum_of};
 ghost use Rattle.ms_choice.specs.Numbers.{IsLight, IsLightOption};
-ghost use Rattle.ms_sat.specs.Scaffolding.Children.{IsReady};
+ghost use Rattle.ms_sane.specs.Scaffolding.Ready.{IsReady, AreReady};
 ghost use Rattle.ms_sat.specs.Rule.{has_key};
 ghost use Rattle.ms_choice.specs.declared.slot.Slot.{Slot};
 ghost use Rattle.ms_sat.specs.Scaffolding.Table.{IsWeighed, AreEntries, Chooses, Weighs, Adds, below};
@@ -145,7 +144,8 @@ pub fn weigh_nodes(
     slots: &mut [Slot],
     table: &mut Vec<Entry>,
 ) -> Result<Weighed, AllocError>
-    requires { IsReady (shape tree.now) assets.now (length slots.old) }
+    requires ready { IsReady (shape tree.now) (length slots.old) }
+    requires are { AreAssets assets.now }
     ensures weighed { IfOk result (IsWeighed rule assets.now (shape tree.now)) }
     ensures light { IfOk result (λ weighed. IsLight weighed.costs) }
     ensures added { OnOk result (Adds rule assets.now (all_nodes (shape tree.now)) table.old.items table.new.items) }
@@ -159,6 +159,7 @@ pub fn weigh_nodes(
 
 /// Weighs a tree, and adds the nodes below its root.
 #[cycle(weigh_nodes)]
+#[tactic(auto, using(ms_sane::proofs::Bounds::multi_enough))]
 fn weigh_root(
     tree: &Tree<'_>,
     rule: Rule,
@@ -166,7 +167,8 @@ fn weigh_root(
     slots: &mut [Slot],
     table: &mut Vec<Entry>,
 ) -> Result<Weighed, AllocError>
-    requires { IsReady (shape tree.now) assets.now (length slots.old) }
+    requires ready { IsReady (shape tree.now) (length slots.old) }
+    requires are { AreAssets assets.now }
     ensures weighed { IfOk result (IsWeighed rule assets.now (shape tree.now)) }
     ensures added { OnOk result (Adds rule assets.now (below (shape tree.now)) table.old.items table.new.items) }
 {
@@ -194,6 +196,7 @@ fn weigh_root(
 }
 
 #[cycle(weigh_nodes)]
+#[tactic(auto, using(ms_sane::proofs::Children::room_behind))]
 fn weigh_thresh(
     k: u64,
     children: &[Tree<'_>],
@@ -202,11 +205,8 @@ fn weigh_thresh(
     slots: &mut [Slot],
     table: &mut Vec<Entry>,
 ) -> Result<Weighed, AllocError>
-    requires in_range { All (λ x. IsInRange (shape x)) children.now }
-    requires typed { All (λ x. IsTyped (shape x)) children.now }
+    requires ready { AreReady children.now (length slots.old) }
     requires are { AreAssets assets.now }
-    requires few { measure_of (shapes children.now) ≤ MOST_MEASURE }
-    requires room { measure_of (shapes children.now) ≤ length slots.old }
     requires some { 1 ≤ k }
     ensures weighed { IfOk result (IsWeighed rule assets.now (tree.thresh k (shapes children.now))) }
     ensures added { OnOk result (Adds rule assets.now (nodes_of_all (shapes children.now)) table.old.items table.new.items) }

@@ -1,5 +1,5 @@
 //! The ways to satisfy and to dissatisfy the fragments with children, where it is known what was weighed of these.
-ghost use Rattle.std.specs.Prelude.{◌≡◌, ◌+◌, ◌≤◌, ◌++◌, List, length, true, None, Some, IfSome};
+ghost use Rattle.std.specs.Prelude.{◌≡◌, ◌&&◌, ◌+◌, ◌≤◌, ◌++◌, List, length, true, None, Some, IfSome};
 ghost use Rattle.def_tree.specs.Range.{IsInRange};
 ghost use Rattle.def_tree.specs.Tree as tree;
 ghost use Rattle.def_tree.specs.Tree.{Tree as Model};
@@ -7,7 +7,7 @@ ghost use Rattle.def_assets.specs.Assets.{Assets as Held};
 ghost use Rattle.ms_sat.specs.declared.rule.Rule.{Rule};
 ghost use Rattle.def_tree.specs.Nodes.{all_nodes};
 ghost use Rattle.ms_tree.specs.Shape.{shape};
-ghost use Rattle.ms_sat.specs.Scaffolding.Costs.{weight_of};
+ghost use Rattle.ms_sat.specs.Scaffolding.Costs.{sum_of, weight_of};
 ghost use Rattle.ms_choice.specs.Numbers.{IsLight, IsLightOption};
 ghost use Rattle.ms_sat.specs.Scaffolding.Table.{IsWeighed, AreEntries, EndsWith, below};
 ghost use Rattle.ms_sat.specs.Scaffolding.Way.{tree_of, stack_of_part, free_of_part, stack_of_way, free_of_way, sat_of, dsat_of, is_free, nodes_of_way, nodes_of_ways, IsSeen, IsSeenRow, IsRowOf, SeesTwo, IsSeenPart, IsSeenWay, AreSeen, HasTable, HaveTables, IsPriceOf, comes_first, Satisfies, Dissatisfies};
@@ -96,23 +96,17 @@ fn price_of_part(part: &Part<Seen<'_>>) -> Price
         }
         Part::One => Price::of_item(&[1]),
         Part::Empty => Price::of_item(&[]),
-        Part::Nothing => Price {
-            weight: Some(0),
-            free: true,
-        },
     }
 }
 
-/// What both parts of a way weigh together, and whether neither needs a signature.
+/// What the parts of a way weigh together, and whether none needs a signature.
 fn price_of_way(way: &Way<Seen<'_>>) -> Price
     requires { (rule : Rule) × (assets : Held) × IsSeenWay rule assets way.now }
     ensures { (rule : Rule) (assets : Held) → IsSeenWay rule assets way.now → IsPriceOf (stack_of_way rule assets way.now) (free_of_way rule assets way.now) result }
 {
-    let below = price_of_part(&way.below);
-    let above = price_of_part(&way.above);
-    Price {
-        weight: both(below.weight, above.weight),
-        free: below.free && above.free,
+    match way {
+        Way::Alone(part) => price_of_part(part),
+        Way::Both(below, above) => price_of_part(below).with(&price_of_part(above)),
     }
 }
 
@@ -198,6 +192,19 @@ impl Price {
         Price {
             weight: Some(of_item(item)),
             free: true,
+        }
+    }
+
+    /// With the price of what lies on top.
+    fn with(&self, above: &Price) -> Price
+        requires below { IsLightOption self.now.weight }
+        requires above { IsLightOption above.now.weight }
+        ensures weight { result.weight ≡ sum_of self.now.weight above.now.weight }
+        ensures free { result.free ≡ (self.now.free && above.now.free) }
+    {
+        Price {
+            weight: both(self.weight, above.weight),
+            free: self.free && above.free,
         }
     }
 

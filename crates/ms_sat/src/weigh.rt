@@ -1,8 +1,8 @@
 //! The least weights of canonical satisfactions and dissatisfactions, without memory.
-ghost use Rattle.std.specs.Prelude.{◌≡◌, ◌+◌, ◌*◌, ◌≤◌, length, vec_len, All, reverse, if◌then◌else◌, Some, None};
+ghost use Rattle.std.specs.Prelude.{◌≡◌, ◌+◌, ◌*◌, ◌≤◌, length, vec_len, reverse, if◌then◌else◌, Some, None};
 ghost use Rattle.std.specs.Option.{option_map};
 ghost use Rattle.def_tree.specs.Range.{MOST_MEASURE, IsInRange};
-ghost use Rattle.def_tree.specs.Size.{measure, measure_of};
+ghost use Rattle.def_tree.specs.Size.{measure};
 ghost use Rattle.def_tree.specs.Tree as tree;
 ghost use Rattle.def_types.specs.Typed.{IsTyped};
 ghost use Rattle.def_assets.specs.Assets.{AreAssets, sig_of, known};
@@ -16,9 +16,10 @@ ghost use Rattle.def_choice.specs.Least.{item};
 ghost use Rattle.def_choice.specs.Cheapest.{cheapest, cheapest_of, dissatisfaction};
 ghost use Rattle.ms_hash.specs.Value.{kind_of, bytes_of};
 ghost use Rattle.ms_tree.specs.Shape.{shape, shapes, leaf_shape};
-ghost use Rattle.ms_sat.specs.Scaffolding.Costs.{weight_of, costs_of};
+ghost use Rattle.ms_sat.specs.Scaffolding.Costs.{weight_of, costs_of, AreCosts};
+ghost use Rattle.ms_sane.specs.Scaffolding.Ready.{IsReady, AreReady};
 ghost use Rattle.ms_choice.specs.Numbers.{number_in, IsLight};
-ghost use Rattle.ms_sat.specs.Scaffolding.Children.{IsReady, children_of, children_of_keys, length_of_key, lengths_of_keys};
+ghost use Rattle.ms_sat.specs.Scaffolding.Children.{children_of, children_of_keys, length_of_key, lengths_of_keys};
 ghost use Rattle.ms_sat.specs.Scaffolding.Table.{IsFound};
 ghost use Rattle.ms_choice.specs.Tally.{Fits, Tells};
 ghost use Rattle.ms_choice.specs.declared.children.Number.TheVariants.{First};
@@ -57,10 +58,21 @@ pub fn costs(tree: &Tree<'_>, assets: &Assets, work: &mut Work) -> Costs
 /// The least weights of a tree. Of the slots it writes at most as many as the tree's measure.
 #[cycle(weigh)]
 pub fn weigh(tree: &Tree<'_>, assets: &Assets, slots: &mut [Slot]) -> Costs
-    requires { IsReady (shape tree.now) assets.now (length slots.old) }
-    ensures sat { result.sat ≡ weight_of (cheapest_of assets.now (shape tree.now)) }
-    ensures dsat { result.dsat ≡ weight_of (dissatisfaction (shape tree.now)) }
+    requires ready { IsReady (shape tree.now) (length slots.old) }
+    requires are { AreAssets assets.now }
+    ensures costs { AreCosts assets.now (shape tree.now) result }
     ensures light { IsLight result }
+{
+    of_node(tree, assets, slots)
+}
+
+/// The same, by what the node is.
+#[cycle(weigh)]
+#[tactic(auto, using(ms_sane::proofs::Bounds::multi_enough))]
+fn of_node(tree: &Tree<'_>, assets: &Assets, slots: &mut [Slot]) -> Costs
+    requires ready { IsReady (shape tree.now) (length slots.old) }
+    requires are { AreAssets assets.now }
+    ensures { AreCosts assets.now (shape tree.now) result }
 {
     match tree.view() {
         View::Leaf(leaf) => of_leaf(leaf, assets),
@@ -164,11 +176,11 @@ fn zeros_hash_to(value: &HashVal) -> bool
 
 #[cycle(weigh)]
 fn of_and_or(x: &Tree<'_>, y: &Tree<'_>, z: &Tree<'_>, assets: &Assets, slots: &mut [Slot]) -> Costs
-    requires x { IsReady (shape x.now) assets.now (length slots.old) }
-    requires y { IsReady (shape y.now) assets.now (length slots.old) }
-    requires z { IsReady (shape z.now) assets.now (length slots.old) }
-    ensures sat { result.sat ≡ weight_of (cheapest_of assets.now (tree.and_or (shape x.now) (shape y.now) (shape z.now))) }
-    ensures dsat { result.dsat ≡ weight_of (dissatisfaction (tree.and_or (shape x.now) (shape y.now) (shape z.now))) }
+    requires x { IsReady (shape x.now) (length slots.old) }
+    requires y { IsReady (shape y.now) (length slots.old) }
+    requires z { IsReady (shape z.now) (length slots.old) }
+    requires are { AreAssets assets.now }
+    ensures { AreCosts assets.now (tree.and_or (shape x.now) (shape y.now) (shape z.now)) result }
 {
     let x = weigh(x, assets, slots);
     let y = weigh(y, assets, slots);
@@ -178,10 +190,10 @@ fn of_and_or(x: &Tree<'_>, y: &Tree<'_>, z: &Tree<'_>, assets: &Assets, slots: &
 
 #[cycle(weigh)]
 fn of_two(kind: Two, x: &Tree<'_>, z: &Tree<'_>, assets: &Assets, slots: &mut [Slot]) -> Costs
-    requires x { IsReady (shape x.now) assets.now (length slots.old) }
-    requires z { IsReady (shape z.now) assets.now (length slots.old) }
-    ensures sat { result.sat ≡ weight_of (cheapest_of assets.now (tree.two kind (shape x.now) (shape z.now))) }
-    ensures dsat { result.dsat ≡ weight_of (dissatisfaction (tree.two kind (shape x.now) (shape z.now))) }
+    requires x { IsReady (shape x.now) (length slots.old) }
+    requires z { IsReady (shape z.now) (length slots.old) }
+    requires are { AreAssets assets.now }
+    ensures { AreCosts assets.now (tree.two kind (shape x.now) (shape z.now)) result }
 {
     let x = weigh(x, assets, slots);
     let z = weigh(z, assets, slots);
@@ -190,13 +202,9 @@ fn of_two(kind: Two, x: &Tree<'_>, z: &Tree<'_>, assets: &Assets, slots: &mut [S
 
 #[cycle(weigh)]
 fn of_thresh(k: u64, children: &[Tree<'_>], assets: &Assets, slots: &mut [Slot]) -> Costs
-    requires in_range { All (λ x. IsInRange (shape x)) children.now }
-    requires typed { All (λ x. IsTyped (shape x)) children.now }
+    requires ready { AreReady children.now (length slots.old) }
     requires are { AreAssets assets.now }
-    requires few { measure_of (shapes children.now) ≤ MOST_MEASURE }
-    requires room { measure_of (shapes children.now) ≤ length slots.old }
-    ensures sat { result.sat ≡ weight_of (cheapest_of assets.now (tree.thresh k (shapes children.now))) }
-    ensures dsat { result.dsat ≡ weight_of (dissatisfaction (tree.thresh k (shapes children.now))) }
+    ensures { AreCosts assets.now (tree.thresh k (shapes children.now)) result }
 {
     let tally = tally_of(children, assets, slots);
     let dsat = first_of(tally.none_of());
@@ -226,12 +234,10 @@ pub fn weight_of_choice(choice: &Option<Choice>) -> Option<u64>
 
 /// The children of a threshold, counted in.
 #[cycle(weigh)]
-pub fn tally_of(children: &[Tree<'_>], assets: &Assets, slots: &mut [Slot]) -> Tally
-    requires in_range { All (λ x. IsInRange (shape x)) children.now }
-    requires typed { All (λ x. IsTyped (shape x)) children.now }
+#[tactic(auto, using(ms_sane::proofs::Children::ready_behind, ms_sane::proofs::Children::room_behind, ms_tree::proofs::Parts::nodes_at))]
+fn tally_of(children: &[Tree<'_>], assets: &Assets, slots: &mut [Slot]) -> Tally
+    requires ready { AreReady children.now (length slots.old) }
     requires are { AreAssets assets.now }
-    requires few { measure_of (shapes children.now) ≤ MOST_MEASURE }
-    requires room { measure_of (shapes children.now) ≤ length slots.old }
     ensures fits { Fits result slots.new }
     ensures told { Tells First (costs_of (children_of assets.now children.now)) result slots.new }
 {
@@ -326,9 +332,9 @@ fn length_of_signature(key: &Key, assets: &Assets) -> Option<u64>
 
 #[cycle(weigh)]
 fn of_wrap(wrapper: Wrapper, x: &Tree<'_>, assets: &Assets, slots: &mut [Slot]) -> Costs
-    requires { IsReady (shape x.now) assets.now (length slots.old) }
-    ensures sat { result.sat ≡ weight_of (cheapest_of assets.now (tree.wrap wrapper (shape x.now))) }
-    ensures dsat { result.dsat ≡ weight_of (dissatisfaction (tree.wrap wrapper (shape x.now))) }
+    requires ready { IsReady (shape x.now) (length slots.old) }
+    requires are { AreAssets assets.now }
+    ensures { AreCosts assets.now (tree.wrap wrapper (shape x.now)) result }
 {
     let x = weigh(x, assets, slots);
     of_row(&wrap(wrapper, Argument::X), &x, &x, &x)

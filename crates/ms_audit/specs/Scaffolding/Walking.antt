@@ -1,18 +1,18 @@
 -- The walk over a tree and a stack as the code goes it: with how many items are left, the number of the next node, and
 -- the steps from before.
-use Rattle.std.specs.Prelude.{◌≡◌, ℕ, ◌+◌, ◌≤◌, not, Bool, true, false, List, [], ◌∷◌, ◌++◌, length, reverse, take, Option, Some, None, Result, Ok, Err, IfOk}
+use Rattle.std.specs.Prelude.{◌≡◌, ℕ, ◌+◌, ◌≤◌, Bool, true, false, List, [], ◌∷◌, ◌++◌, length, reverse, take, Option, Some, None, Result, Ok, Err, IfOk}
 use Rattle.std.specs.Borrow.{Bor}
 use Rattle.def_script.specs.Bytes.{Bytes}
 use Rattle.def_machine.specs.Stacks.{Stack}
 use Rattle.def_machine.specs.Machine.{Given}
-use Rattle.def_tree.specs.Tree.{Tree, Trees}
+use Rattle.def_tree.specs.Tree.{Tree, Trees, wrap}
 use Rattle.def_tree.specs.Range.{MOST_MEASURE, IsInRange}
 use Rattle.def_tree.specs.Size.{nodes, nodes_of}
-use Rattle.def_tree.specs.declared.Two.{Two}
-use Rattle.def_tree.specs.declared.Two.TheVariants as kind
+use Rattle.def_tree.specs.declared.Wrapper.{Wrapper}
 use Rattle.def_satisfaction.specs.Rows.{EMPTY, ONE}
 use Rattle.def_audit.specs.declared.Step.{Step}
-use Rattle.ms_audit_laws.specs.Walk.{Found, Counted, Walker, Verdict, forced, with_step, by_selector, walk, walk_all}
+use Rattle.ms_audit_laws.specs.Walk.{Found, Counted, Walker, Verdict, with_step, by_selector, ends, walk_child, walk, walk_all}
+use Rattle.ms_audit.specs.Scaffolding.Parts.{is_dsat, verdict_of_wrap}
 use Rattle.ms_audit.specs.declared.row.Row.{Row}
 use Rattle.ms_audit.specs.declared.course.Course.{Course}
 use Rattle.ms_audit.specs.declared.course.WalkStop.{WalkStop}
@@ -22,24 +22,6 @@ use Rattle.ms_audit.specs.declared.course.WalkStop.TheVariants as stop
 abbrev pub verdict_of : Option Row → Verdict
 verdict_of None = None
 verdict_of (Some row) = Some (row.sat, row.extra)
-
--- the first of two children is satisfied, which is enough
-abbrev pub ends_two : Two → (first : Bool) → Bool
-ends_two kind.OrC first = first
-ends_two kind.OrD first = first
-ends_two other first = false
-
--- the verdict over two children that both take part
-abbrev pub verdict_of_two : Two → (first second : Bool) → Verdict
-verdict_of_two kind.AndV true second = Some (second, not second)
-verdict_of_two kind.AndV false second = None
-verdict_of_two kind.AndB true second = Some (second, not second)
-verdict_of_two kind.AndB false second = Some (false, second)
-verdict_of_two kind.OrB true second = Some (true, second)
-verdict_of_two kind.OrB false second = Some (second, false)
-verdict_of_two kind.OrC first second = forced second
-verdict_of_two kind.OrD first second = Some (second, false)
-verdict_of_two kind.OrI first second = Some (second, false)
 
 -- the items that are left of a stack, the top first
 abbrev pub below : (stack : List Bytes) → (left : ℕ) → Stack
@@ -72,6 +54,12 @@ pub record Ends (verdict : Verdict) (old new : Course) (result : Result Bool Wal
   pub next : IfOk result (λ sat. new.next ≡ old.next + 1)
   pub left : new.left ≡ old.left
 
+-- another node is the next one
+pub record Passes (old new : Course) (number : ℕ) : Type 0 where
+  pub next : new.next ≡ number
+  pub left : new.left ≡ old.left
+  pub steps : new.steps.items ≡ old.steps.items
+
 -- what a walk over a tree needs
 pub record IsReady (stack : List Bytes) (tree : Tree) (course : Course) : Type 0 where
   pub in_range : IsInRange tree
@@ -98,6 +86,18 @@ Selects (Ok true) before after = before ≡ ONE ∷ after
 Selects (Ok false) before after = before ≡ EMPTY ∷ after
 Selects (Err stop.NoRow) before after = (first other : Walker) → by_selector first other before ≡ None
 Selects (Err stop.Memory) before after = ⊥
+
+-- a wrapper below such an item, whose child takes no part where the item is empty
+abbrev pub wrapped : Wrapper → (item : Option Bool) → (empty : Bool) → (node : ℕ) → Walker → Walker
+wrapped w item true node child = with_step node (verdict_of_wrap w item None) []
+wrapped w item false node child = walk_child node child (λ sat. ends (verdict_of_wrap w item (Some sat)))
+
+-- the item that chooses at a wrapper is taken, where there is one
+abbrev pub Chooses : Wrapper → Result (Option Bool) WalkStop → (before after : Stack) → Type 0
+Chooses w (Ok item) before after =
+    (given : Given) (first : ℕ) (x : Tree) → walk given first (wrap w x) before ≡ wrapped w item (is_dsat item) (first + nodes x) (walk given first x) after
+Chooses w (Err stop.NoRow) before after = (given : Given) (first : ℕ) (x : Tree) → walk given first (wrap w x) before ≡ None
+Chooses w (Err stop.Memory) before after = ⊥
 
 -- what was counted, behind the steps from before
 abbrev pub added : (count : ℕ) → List Step → Option Counted → Option Counted

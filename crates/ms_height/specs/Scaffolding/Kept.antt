@@ -3,9 +3,9 @@ use Rattle.std.specs.Prelude.{ℕ, zero, suc, ◌<◌, ⊤, List, [], ◌∷◌,
 use Rattle.std.specs.Int.RustNames.{unsigned_abs}
 use Rattle.def_tree.specs.Tree.{Trees, none, more}
 use Rattle.def_height.specs.declared.Highest.{Highest}
-use Rattle.def_height.specs.Scaffolding.Highest.{highest_sat, highest_dsat}
 use Rattle.ms_choice.specs.declared.slot.Slot.{Slot}
 use Rattle.ms_height.specs.declared.highest.Heights.{Heights}
+use Rattle.ms_height.specs.Scaffolding.Row.{highest_of}
 
 -- nothing where the last number is 0
 abbrev pub kept_by : (place items height : ℕ) → Option Highest
@@ -28,7 +28,7 @@ heights_in (s ∷ ss) (d ∷ ds) = record { sat = kept_in s; dsat = kept_in d } 
 -- what children take
 abbrev pub heights_of : Trees → List Heights
 heights_of none = []
-heights_of (more x xs) = record { sat = highest_sat x; dsat = highest_dsat x } ∷ heights_of xs
+heights_of (more x xs) = highest_of x ∷ heights_of xs
 
 -- as many slots as these have a place for a child's items
 abbrev pub ItemsBelow : (slots : ℕ) → Option Highest → Type 0

@@ -1,24 +1,14 @@
--- What the recursions over a tree need, and what trees and keys are as children of a choice.
-use Rattle.std.specs.Prelude.{ℕ, ◌≤◌, List, [], length, map, Some}
+-- What trees and keys are as children of a choice.
+use Rattle.std.specs.Prelude.{List, [], length, map, Some}
 use Rattle.std.specs.Option.{option_map}
 use Rattle.def_tree.specs.Tree as model
 use Rattle.def_tree.specs.Tree.{Key}
-use Rattle.def_tree.specs.Range.{IsInRange}
-use Rattle.def_tree.specs.Size.{measure}
-use Rattle.def_types.specs.Typed.{IsTyped}
-use Rattle.def_assets.specs.Assets.{Assets, AreAssets, sig_of}
+use Rattle.def_assets.specs.Assets.{Assets, sig_of}
 use Rattle.def_choice.specs.Least.{item}
 use Rattle.def_choice.specs.Cheapest.{dissatisfaction, cheapest_of, Child}
 use Rattle.ms_tree.specs.declared.tree.Tree.{Tree}
 use Rattle.ms_tree.specs.Shape.{shape}
 use Rattle.ms_choice.specs.declared.children.Costs.{Costs}
-
--- the tree is in range, has a correctness type, and has room; the assets are such
-pub record IsReady (t : model.Tree) (assets : Assets) (slots : ℕ) : Type 0 where
-  pub in_range : IsInRange t
-  pub typed : IsTyped t
-  pub are : AreAssets assets
-  pub room : measure t ≤ slots
 
 abbrev pub child_of_tree : Assets → model.Tree → Child
 child_of_tree assets t = record { sat = cheapest_of assets t; dsat = dissatisfaction t }

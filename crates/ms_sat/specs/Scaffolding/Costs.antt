@@ -1,12 +1,15 @@
 -- What contracts see of weights.
-use Rattle.std.specs.Prelude.{ℕ, ◌+◌, min, List, map, Option, Some, None}
+use Rattle.std.specs.Prelude.{◌≡◌, ℕ, ◌+◌, min, List, map, Option, Some, None}
 use Rattle.std.specs.Option.{option_map}
 use Rattle.def_machine.specs.Stacks.{Stack}
 use Rattle.def_script.specs.Witness.{weight}
-use Rattle.def_choice.specs.Cheapest.{Child}
+use Rattle.def_tree.specs.Tree.{Tree}
+use Rattle.def_assets.specs.Assets.{Assets}
+use Rattle.def_choice.specs.Cheapest.{Child, cheapest_of, dissatisfaction}
 use Rattle.ms_choice.specs.declared.children.Costs.{Costs}
+use Rattle.ms_rows.specs.Reading.{Reader, by_letters, ways_in}
 use Rattle.ms_rows.specs.declared.ways.Argument.{Argument}
-use Rattle.ms_rows.specs.Reading.{Reader}
+use Rattle.ms_rows.specs.declared.ways.Row.{Row}
 
 -- the weight of both together
 abbrev pub sum_of : (below above : Option ℕ) → Option ℕ
@@ -31,15 +34,25 @@ costs_of_child child = record { sat = weight_of child.sat; dsat = weight_of chil
 abbrev pub costs_of : List Child → List Costs
 costs_of = map costs_of_child
 
--- what ways weigh, where the children weigh so much
-abbrev pub weights : (Argument → Costs) → Reader Argument (Option ℕ)
-weights costs = record {
-  sat = λ argument. (costs argument).sat;
-  dsat = λ argument. (costs argument).dsat;
+-- what ways weigh, by what the children weigh
+abbrev pub weights : Reader Costs (Option ℕ)
+weights = record {
+  sat = λ costs. costs.sat;
+  dsat = λ costs. costs.dsat;
   one = Some 2;
   empty = Some 1;
-  nothing = Some 0;
   never = None;
+  alone = λ weight. weight;
   both = sum_of;
   either = lesser;
 }
+
+-- what the ways of a row weigh, where the arguments with its letters weigh so much
+pub record IsOfRow (costs : Costs) (row : Row Argument) (x y z : Costs) : Type 0 where
+  pub sat : costs.sat ≡ ways_in (by_letters weights x y z) row.sat
+  pub dsat : costs.dsat ≡ ways_in (by_letters weights x y z) row.dsat
+
+-- what the lightest satisfaction of a tree weighs, and its lightest dissatisfaction
+pub record AreCosts (assets : Assets) (t : Tree) (costs : Costs) : Type 0 where
+  pub sat : costs.sat ≡ weight_of (cheapest_of assets t)
+  pub dsat : costs.dsat ≡ weight_of (dissatisfaction t)

@@ -33,8 +33,8 @@ stacks_over satisfying = record {
   dsat = λ x. dissatisfaction (tree_of x);
   one = Some (ONE ∷ []);
   empty = Some (EMPTY ∷ []);
-  nothing = Some [];
   never = None;
+  alone = λ stack. stack;
   both = both;
   either = λ former latter. least (former ∷ latter ∷ []);
 }
@@ -85,8 +85,8 @@ sizes = record {
   dsat = λ x. nodes (tree_of x);
   one = 0;
   empty = 0;
-  nothing = 0;
   never = 0;
+  alone = λ count. count;
   both = λ below above. below + above;
   either = max;
 }

@@ -1,15 +1,15 @@
-use Rattle.std.proofs.Common.{◌<◌, ◌∙◌, ap, subst, sym, arith, length}
+use Rattle.std.proofs.Common.{◌≡◌, ℕ, ◌<◌, ◌∙◌, ap, subst, arith, length}
 use Rattle.def_tree.specs.Tree as model
 use Rattle.def_tree.specs.Size.{nodes}
 use Rattle.def_types.proofs.Facts.{typed-multi}
-use Rattle.def_height.specs.Scaffolding.Highest.{at_least, highest_sat, highest_dsat}
-use Rattle.ms_tree.specs.Shape.{shape, shapes}
+use Rattle.def_height.specs.Scaffolding.Highest.{at_least, highest_parts}
+use Rattle.ms_tree.specs.Shape.{shapes}
 use Rattle.ms_tree.proofs.Parts.{nodes_at, in_range_at}
-use Rattle.ms_sane.proofs.Children.{typed_at, typed_children}
+use Rattle.ms_sane.proofs.Children.{few_children, typed_at, typed_children}
 use Rattle.ms_height.specs.Scaffolding.Chosen.{chosen}
+use Rattle.ms_height.specs.Scaffolding.Kept.{heights_in}
 use Rattle.ms_height.specs.Scaffolding.Ready.{IsReady}
-use Rattle.ms_height.proofs.Bounds.{low_of}
-use Rattle.ms_height.proofs.Children.{few_children, ready_at, low_kept, room_kept, chosen_parts}
+use Rattle.ms_height.proofs.Children.{ready_at, low_kept, room_kept, chosen_parts}
 use Rattle.ms_height.proofs.Keeping.{kept_more, kept_all}
 use Rattle.ms_height.proofs.heights.+heights.Goals as goal
 
@@ -27,46 +27,6 @@ heights-of_multi-requires-clause-enough t c =
     let ready = subst Ready c.in-Multi.ensures.shows c.requires in
     (typed-multi c.in-Multi.k c.in-Multi.keys.now ready.typed).1
 
-pub heights-returns-in-AndOr-clause-low : goal.heights-returns-in-AndOr-clause-low
-heights-returns-in-AndOr-clause-low t c =
-    low_of (shape c.args.tree.now) c.of_and_or.result c.requires.in_range c.requires.typed
-    (c.of_and_or.ensures.sat ∙ sym (ap highest_sat c.in-AndOr.ensures.shows))
-    (c.of_and_or.ensures.dsat ∙ sym (ap highest_dsat c.in-AndOr.ensures.shows))
-
-pub heights-returns-in-Two-clause-low : goal.heights-returns-in-Two-clause-low
-heights-returns-in-Two-clause-low t c =
-    low_of (shape c.args.tree.now) c.of_two.result c.requires.in_range c.requires.typed
-    (c.of_two.ensures.sat ∙ sym (ap highest_sat c.in-Two.ensures.shows))
-    (c.of_two.ensures.dsat ∙ sym (ap highest_dsat c.in-Two.ensures.shows))
-
-pub heights-returns-in-Thresh-clause-low : goal.heights-returns-in-Thresh-clause-low
-heights-returns-in-Thresh-clause-low t c =
-    low_of (shape c.args.tree.now) c.of_thresh.result c.requires.in_range c.requires.typed
-    (c.of_thresh.ensures.sat ∙ sym (ap highest_sat c.in-Thresh.ensures.shows))
-    (c.of_thresh.ensures.dsat ∙ sym (ap highest_dsat c.in-Thresh.ensures.shows))
-
-pub heights-returns-in-Multi-clause-low : goal.heights-returns-in-Multi-clause-low
-heights-returns-in-Multi-clause-low t c =
-    low_of (shape c.args.tree.now) c.of_multi.result c.requires.in_range c.requires.typed
-    (c.of_multi.ensures.sat ∙ sym (ap highest_sat c.in-Multi.ensures.shows))
-    (c.of_multi.ensures.dsat ∙ sym (ap highest_dsat c.in-Multi.ensures.shows))
-
-pub heights-returns-in-Wrap-clause-low : goal.heights-returns-in-Wrap-clause-low
-heights-returns-in-Wrap-clause-low t c =
-    low_of (shape c.args.tree.now) c.of_wrap.result c.requires.in_range c.requires.typed
-    (c.of_wrap.ensures.sat ∙ sym (ap highest_sat c.in-Wrap.ensures.shows))
-    (c.of_wrap.ensures.dsat ∙ sym (ap highest_dsat c.in-Wrap.ensures.shows))
-
-pub of_thresh-split_at_mut-sats-requires : goal.of_thresh-split_at_mut-sats-requires
-of_thresh-split_at_mut-sats-requires t c = omega (arith, few_children c.args.children.now, c.requires.room)
-
-pub of_thresh-split_at_mut-dsats-requires : goal.of_thresh-split_at_mut-dsats-requires
-of_thresh-split_at_mut-dsats-requires t c = omega (arith, few_children c.args.children.now, c.requires.room, c.split_at_mut-sats.ensures.back_len)
-
-pub of_thresh-chosen-requires-clause-few : goal.of_thresh-chosen-requires-clause-few
-of_thresh-chosen-requires-clause-few t c =
-    omega (arith, c.keep_children.auto.sats, c.split_at_mut-sats.ensures.front_len, few_children c.args.children.now, c.requires.few)
-
 pub of_thresh-chosen-requires-clause-low : goal.of_thresh-chosen-requires-clause-low
 of_thresh-chosen-requires-clause-low t c = low_kept c.args.children.now _ c.keep_children.ensures c.requires.in_range c.requires.typed
 
@@ -75,10 +35,6 @@ of_thresh-chosen-requires-clause-room t c =
     room_kept c.args.children.now _ (length c.keep_children.new.rest) c.keep_children.ensures
     (omega (arith, c.requires.room, c.split_at_mut-sats.ensures.back_len, c.split_at_mut-dsats.ensures.back_len, c.keep_children.auto.rest, few_children c.args.children.now))
     c.requires.typed
-
-pub of_thresh-chosen-requires-2-clause-few : goal.of_thresh-chosen-requires-2-clause-few
-of_thresh-chosen-requires-2-clause-few t c =
-    omega (arith, c.keep_children.auto.sats, c.split_at_mut-sats.ensures.front_len, few_children c.args.children.now, c.requires.few)
 
 pub of_thresh-chosen-requires-2-clause-low : goal.of_thresh-chosen-requires-2-clause-low
 of_thresh-chosen-requires-2-clause-low t c = low_kept c.args.children.now _ c.keep_children.ensures c.requires.in_range c.requires.typed
@@ -89,15 +45,14 @@ of_thresh-chosen-requires-2-clause-room t c =
     (omega (arith, c.requires.room, c.split_at_mut-sats.ensures.back_len, c.split_at_mut-dsats.ensures.back_len, c.keep_children.auto.rest, few_children c.args.children.now, c.chosen.auto.room))
     c.requires.typed
 
-pub of_thresh-returns-clause-sat : goal.of_thresh-returns-clause-sat
-of_thresh-returns-clause-sat t c =
-    c.at_least.ensures ∙
-    ap (at_least 2) (c.chosen.ensures ∙ ap (λ hs. chosen 1 hs c.args.k) c.keep_children.ensures ∙ ap (λ f. f c.args.k) (chosen_parts 1 (shapes c.args.children.now)))
-
-pub of_thresh-returns-clause-dsat : goal.of_thresh-returns-clause-dsat
-of_thresh-returns-clause-dsat t c =
-    c.at_least-2.ensures ∙
-    ap (at_least 2) (c.chosen-2.ensures ∙ ap (λ hs. chosen 1 hs 0) c.keep_children.ensures ∙ ap (λ f. f 0) (chosen_parts 1 (shapes c.args.children.now)))
+pub of_thresh-returns : goal.of_thresh-returns
+of_thresh-returns t c =
+    let xs = shapes c.args.children.now in
+    let parts : (k : ℕ) → chosen 1 (heights_in c.keep_children.new.sats c.keep_children.new.dsats) k ≡ highest_parts 1 xs k =
+    λ k. ap (λ hs. chosen 1 hs k) c.keep_children.ensures ∙ ap (λ f. f k) (chosen_parts 1 xs) in
+    let sat = c.at_least.ensures ∙ ap (at_least 2) (c.chosen.ensures ∙ parts c.args.k) in
+    let dsat = c.at_least-2.ensures ∙ ap (at_least 2) (c.chosen-2.ensures ∙ parts 0) in
+    λ i. record { sat = sat i; dsat = dsat i }
 
 pub keep_children-heights-child-requires : goal.keep_children-heights-child-requires
 keep_children-heights-child-requires t c =
@@ -122,7 +77,7 @@ keep_children-loop-index-preserved t c =
     record {
       kept = kept_more xs c.loop-index.index c.index-children-index.result c.loop-index.sats c.loop-index.dsats c.slot_of.result c.slot_of-in-loop-index.result below
           (omega (arith, below, c.loop-index.auto.sats, c.requires.sats)) (omega (arith, below, c.loop-index.auto.dsats, c.requires.dsats)) c.index-children-index.is
-          (c.slot_of.ensures ∙ c.heights-child.ensures.sat) (c.slot_of-in-loop-index.ensures ∙ c.heights-child.ensures.dsat) c.loop-index.invariant.kept;
+          (c.slot_of.ensures ∙ ap (λ h. h.sat) c.heights-child.ensures.highest) (c.slot_of-in-loop-index.ensures ∙ ap (λ h. h.dsat) c.heights-child.ensures.highest) c.loop-index.invariant.kept;
     }
 
 pub keep_children-returns : goal.keep_children-returns

@@ -13,7 +13,7 @@ use Rattle.ms_choice.specs.Marks.{set_by}
 use Rattle.ms_sat.specs.Scaffolding.Pushed.{IsPushed}
 use Rattle.ms_sat.specs.Rule.{stack_by, free_by, child_by, children_by}
 use Rattle.ms_sat.specs.Scaffolding.Table.{AreEntries, Chooses, IsFound, below}
-use Rattle.ms_sat.specs.Scaffolding.Way.{tree_of, stack_of_part}
+use Rattle.ms_sat.specs.Scaffolding.Way.{tree_of, stack_of_part, stack_of_way, IsSeenWay}
 use Rattle.ms_sat.proofs.Pushed.{on_ok, pushed_both}
 use Rattle.ms_sat.proofs.Counts.{child_costs}
 use Rattle.ms_sat.proofs.Rows.{last_entries, dissatisfied_less, pushed_unless, same_weighed}
@@ -76,13 +76,14 @@ push_dissatisfying-returns-in-Some t c =
     let way = c.in-Some.ensures.way rule c.args.assets.now seen in
     subst (λ o. IsPushed o c.args.stack.now c.push_way.new.stack) (sym way.stack) (pushed rule way.seen)) c.push_way.ensures
 
-pub push_way-returns : goal.push_way-returns
-push_way-returns t c =
+pub push_way-returns-in_ok-push_part-in-Both : goal.push_way-returns-in_ok-push_part-in-Both
+push_way-returns-in_ok-push_part-in-Both t c =
     let assets = c.args.assets.now in
-    on_ok c.push_part-2.result _ _
-    (λ pushed rule seen.
-    pushed_both (stack_of_part rule assets c.args.way.below) (stack_of_part rule assets c.args.way.above) c.args.stack.now c.push_part.new.stack c.push_part-2.new.stack
-    (c.in_ok-push_part.ensures rule seen.0) (pushed rule seen.1)) c.push_part-2.ensures
+    on_ok c.push_part-in-Both-2.result _ _
+    (λ pushed rule.
+    subst (λ way. IsSeenWay rule assets way → IsPushed (stack_of_way rule assets way) c.args.stack.now c.push_part-in-Both-2.new.stack) (sym c.in-Both.is) (λ seen.
+    pushed_both (stack_of_part rule assets c.in-Both.below) (stack_of_part rule assets c.in-Both.above) c.args.stack.now c.push_part-in-Both.new.stack
+    c.push_part-in-Both-2.new.stack (c.in_ok-push_part-in-Both.ensures rule seen.0) (pushed rule seen.1))) c.push_part-in-Both-2.ensures
 
 pub dissatisfy_all-see_last-requires-clause-table : goal.dissatisfy_all-see_last-requires-clause-table
 dissatisfy_all-see_last-requires-clause-table t c =
@@ -141,12 +142,7 @@ push_children-weighed-requires t c =
     (rule, assets, c.see_last.ensures.seen rule assets (nodes_of_all (shapes (take (p - 1) xs))) last)
 
 pub push_children-overflow_cast-place : goal.push_children-overflow_cast-place
-push_children-overflow_cast-place t c =
-    let xs = c.args.children.now in
-    let x = c.index-children-place.result in
-    let p = c.loop-place.place in
-    let few = few_children xs (p - 1) x (omega (arith, c.loop-place-test.true, c.loop-place.auto.place)) c.index-children-place.is in
-    omega (arith, few, c.requires.few)
+push_children-overflow_cast-place t c = omega (arith, few_children c.args.children.now, c.loop-place.auto.place, c.requires.few)
 
 pub push_children-satisfy-requires : goal.push_children-satisfy-requires
 push_children-satisfy-requires t c =

@@ -3,10 +3,9 @@ use Rattle.ms_tree.specs.Shape.{shape}
 use Rattle.ms_sat.proofs.Lightest.{typed_valid}
 use Rattle.ms_sat.proofs.satisfy.satisfaction.Goals as goal
 
-pub weigh_nodes-requires : goal.weigh_nodes-requires
-weigh_nodes-requires c = record {
+pub weigh_nodes-requires-clause-ready : goal.weigh_nodes-requires-clause-ready
+weigh_nodes-requires-clause-ready c = record {
   in_range = c.requires.in_range;
   typed = typed_valid (shape c.args.tree.now) c.requires.valid;
-  are = c.are_assets.ensures.held;
   room = omega (arith, c.deref_mut.ensures.len, c.requires.room);
 }

@@ -1,14 +1,11 @@
-use Rattle.std.proofs.Common.{◌≡◌, ◌-◌, ◌+◌, ◌++◌, ◌∷◌, [], length, map, take, drop, sym, ◌∙◌, ap, subst, arith, length-append, length-take, length-drop}
-use Rattle.def_tree.specs.Tree as model
+use Rattle.std.proofs.Common.{◌≡◌, ◌-◌, ◌+◌, ◌++◌, ◌∷◌, [], length, map, take, sym, ◌∙◌, ap, subst, arith, length-append}
 use Rattle.def_tree.specs.Size.{nodes}
 use Rattle.def_tree.specs.Nodes.{all_nodes, nodes_of_all}
+use Rattle.def_types.specs.Typed.{IsTyped}
 use Rattle.def_tree.proofs.NodeLists.{nodes_are_all}
 use Rattle.ms_tree.specs.Shape.{shape, shapes}
-use Rattle.ms_tree.proofs.Parts.{nodes_at, in_range_at}
-use Rattle.ms_sane.proofs.Bounds.{multi_enough}
-use Rattle.ms_sane.proofs.Children.{measure_at, few_children, typed_at, typed_children}
-use Rattle.ms_choice.proofs.Tallies.{length_written}
-use Rattle.ms_sat.specs.Scaffolding.Children.{IsReady}
+use Rattle.ms_tree.proofs.Parts.{nodes_at}
+use Rattle.ms_sane.proofs.Children.{ready_children, ready_behind}
 use Rattle.ms_sat.specs.Scaffolding.Count.{AreTold}
 use Rattle.ms_sat.specs.Scaffolding.Table.{Adds, below}
 use Rattle.ms_sat.proofs.Rows.{shape_more, nodes_more, same_weighed}
@@ -21,7 +18,7 @@ use Rattle.ms_sat.proofs.table.+weigh_nodes.Goals as goal
 pub weigh_nodes-returns-clause-light : goal.weigh_nodes-returns-clause-light
 weigh_nodes-returns-clause-light t c =
     let w = c.in_ok-weighed.ensures.weighed in
-    light_by c.args.rule c.args.assets.now (shape c.args.tree.now) c.in_ok-weighed.weighed.costs c.requires.in_range c.requires.typed c.requires.are w.sat w.dsat
+    light_by c.args.rule c.args.assets.now (shape c.args.tree.now) c.in_ok-weighed.weighed.costs c.requires.ready.in_range c.requires.ready.typed c.requires.are w.sat w.dsat
 
 pub weigh_nodes-returns-clause-added : goal.weigh_nodes-returns-clause-added
 weigh_nodes-returns-clause-added t c =
@@ -29,7 +26,7 @@ weigh_nodes-returns-clause-added t c =
     let assets = c.args.assets.now in
     let tree = shape c.args.tree.now in
     let w = c.in_ok-weighed.ensures.weighed in
-    let light = light_by rule assets tree c.in_ok-weighed.weighed.costs c.requires.in_range c.requires.typed c.requires.are w.sat w.dsat in
+    let light = light_by rule assets tree c.in_ok-weighed.weighed.costs c.requires.ready.in_range c.requires.ready.typed c.requires.are w.sat w.dsat in
     let long = added_length rule assets (below tree) c.args.table.now.items c.weigh_root.new.table.items c.in_ok-weighed.ensures.added in
     let all = ap length (root_last tree) in
     let nodes_are : c.len.result - c.len-start.result + 1 ≡ nodes tree =
@@ -69,28 +66,13 @@ weigh_root-weigh_two-requires-clause-table t c =
 pub weigh_root-weigh_thresh-requires : goal.weigh_root-weigh_thresh-requires
 weigh_root-weigh_thresh-requires t c =
     let shows = c.in-Thresh.ensures.shows in
-    let Ready : model.Tree → Type 0 = λ s. IsReady s c.args.assets.now (length c.args.slots.now) in
-    let ready = subst Ready shows c.requires in
-    let fewer = ap nodes shows in
-    let some = thresh_some c.in-Thresh.k (shapes c.in-Thresh.children.now) ready.typed in (
-      omega (arith, c.decreases, fewer),
-      (
-        c.in-Thresh.ensures.in_range.1,
-        (typed_children c.in-Thresh.children.now ready.typed.0, (ready.are, (omega (arith, ready.in_range.measure), (omega (arith, ready.room), some)))),
-      ),
-    )
+    let k = c.in-Thresh.k in
+    let xs = c.in-Thresh.children.now in
+    let some = thresh_some k (shapes xs) (subst IsTyped shows c.requires.ready.typed) in
+    (omega (arith, c.decreases, ap nodes shows), (ready_children _ k xs _ shows c.requires.ready, (c.requires.are, some)))
 
 pub weigh_root-weigh_multi-requires-clause-some : goal.weigh_root-weigh_multi-requires-clause-some
-weigh_root-weigh_multi-requires-clause-some t c =
-    let Ready : model.Tree → Type 0 = λ s. IsReady s c.args.assets.now (length c.args.slots.now) in
-    let ready = subst Ready c.in-Multi.ensures.shows c.requires in
-    multi_some c.in-Multi.k c.in-Multi.keys.now ready.typed
-
-pub weigh_root-weigh_multi-requires-clause-enough : goal.weigh_root-weigh_multi-requires-clause-enough
-weigh_root-weigh_multi-requires-clause-enough t c =
-    let Ready : model.Tree → Type 0 = λ s. IsReady s c.args.assets.now (length c.args.slots.now) in
-    let ready = subst Ready c.in-Multi.ensures.shows c.requires in
-    multi_enough c.in-Multi.k c.in-Multi.keys.now ready.typed
+weigh_root-weigh_multi-requires-clause-some t c = multi_some c.in-Multi.k c.in-Multi.keys.now (subst IsTyped c.in-Multi.ensures.shows c.requires.ready.typed)
 
 pub weigh_root-returns-in_ok-weigh_nodes-in-AndOr-3-clause-weighed : goal.weigh_root-returns-in_ok-weigh_nodes-in-AndOr-3-clause-weighed
 weigh_root-returns-in_ok-weigh_nodes-in-AndOr-3-clause-weighed t c =
@@ -153,44 +135,14 @@ weigh_thresh-loop-child-init t c = record {
 
 pub weigh_thresh-weigh_nodes-requires : goal.weigh_thresh-weigh_nodes-requires
 weigh_thresh-weigh_nodes-requires t c =
-    let xs = c.args.children.now in
-    let i = c.loop-child.child-index in
-    let few = nodes_at xs i c.child-item.result c.loop-child-test.true c.child-item.is in
-    let room = measure_at xs i c.child-item.result c.loop-child-test.true c.child-item.is in
-    let slots = c.loop-child.slots in
-    let free = c.loop-child.all.tally.free in (
-      omega (arith, c.decreases, few),
-      record {
-        in_range = in_range_at xs i c.child-item.result c.loop-child-test.true c.child-item.is c.requires.in_range;
-        typed = typed_at xs i c.child-item.result c.loop-child-test.true c.child-item.is c.requires.typed;
-        are = c.requires.are;
-        room = omega (arith, room, length-take (length slots - free) (drop free slots), length-drop free slots, c.loop-child.invariant.free, c.requires.room);
-      },
-    )
+    let x = c.child-item.result in
+    let fewer = nodes_at c.args.children.now c.loop-child.child-index x c.loop-child-test.true c.child-item.is in
+    let free = c.loop-child.invariant.free in
+    let ready = ready_behind _ _ c.requires.ready c.loop-child.slots c.loop-child.auto.slots _ x c.loop-child-test.true c.child-item.is _ free in
+    (omega (arith, c.decreases, fewer), (ready, c.requires.are))
 
 pub weigh_thresh-add-requires-clause-few : goal.weigh_thresh-add-requires-clause-few
-weigh_thresh-add-requires-clause-few t c =
-    let slots = c.loop-child.slots in
-    let free = c.loop-child.all.tally.free in
-    let part : length c.weigh_nodes.new.slots ≡ length slots - free =
-    omega (arith, c.weigh_nodes.auto.slots, length-take (length slots - free) (drop free slots), length-drop free slots) in
-    few_written c.loop-child.all slots c.weigh_nodes.new.slots
-    (length_written free slots c.weigh_nodes.new.slots c.loop-child.invariant.few.tally.room part) c.loop-child.invariant.few
-
-pub weigh_thresh-add-requires-clause-room : goal.weigh_thresh-add-requires-clause-room
-weigh_thresh-add-requires-clause-room t c =
-    let slots = c.loop-child.slots in
-    let free = c.loop-child.all.tally.free in
-    let few = few_children c.args.children.now c.loop-child.child-index c.child-item.result c.loop-child-test.true c.child-item.is in
-    let part : length c.weigh_nodes.new.slots ≡ length slots - free =
-    omega (arith, c.weigh_nodes.auto.slots, length-take (length slots - free) (drop free slots), length-drop free slots) in
-    let written = length_written free slots c.weigh_nodes.new.slots c.loop-child.invariant.few.tally.room part in
-    omega (arith, written, few, c.loop-child.invariant.free, c.requires.room)
-
-pub weigh_thresh-add-requires-clause-place : goal.weigh_thresh-add-requires-clause-place
-weigh_thresh-add-requires-clause-place t c =
-    let few = few_children c.args.children.now c.loop-child.child-index c.child-item.result c.loop-child-test.true c.child-item.is in
-    omega (arith, few, c.loop-child.invariant.place, c.requires.few)
+weigh_thresh-add-requires-clause-few t c = few_written c.loop-child.all c.loop-child.slots c.weigh_nodes.new.slots c.weigh_nodes.auto.slots c.loop-child.invariant.few
 
 pub weigh_thresh-loop-child-preserved : goal.weigh_thresh-loop-child-preserved
 weigh_thresh-loop-child-preserved t c =

@@ -7,26 +7,25 @@ use Rattle.ms_tree.specs.Shape.{shape}
 use Rattle.ms_sat.proofs.Lightest.{weight_of-reverse, least_weight, typed_valid}
 use Rattle.ms_sat.proofs.weigh.costs.Goals as goal
 
-pub weigh-requires : goal.weigh-requires
-weigh-requires c = record {
+pub weigh-requires-clause-ready : goal.weigh-requires-clause-ready
+weigh-requires-clause-ready c = record {
   in_range = c.requires.in_range;
   typed = typed_valid (shape c.args.tree.now) c.requires.valid;
-  are = c.are_assets.ensures.held;
   room = omega (arith, c.deref_mut.ensures.len, c.requires.room);
 }
 
 pub returns-clause-sat : goal.returns-clause-sat
-returns-clause-sat c = c.weigh.ensures.sat ∙ sym (weight_of-reverse (cheapest_of c.args.assets.now (shape c.args.tree.now)))
+returns-clause-sat c = c.weigh.ensures.costs.sat ∙ sym (weight_of-reverse (cheapest_of c.args.assets.now (shape c.args.tree.now)))
 
 pub returns-clause-dsat : goal.returns-clause-dsat
-returns-clause-dsat c = c.weigh.ensures.dsat ∙ sym (weight_of-reverse (dissatisfaction (shape c.args.tree.now)))
+returns-clause-dsat c = c.weigh.ensures.costs.dsat ∙ sym (weight_of-reverse (dissatisfaction (shape c.args.tree.now)))
 
 pub returns-clause-least_sat : goal.returns-clause-least_sat
 returns-clause-least_sat c =
     let t = shape c.args.tree.now in
     let assets = c.args.assets.now in
     least_weight (Sat t assets) (cheapest t assets) c.weigh.result.sat
-    (c.weigh.ensures.sat ∙ sym (weight_of-reverse (cheapest_of assets t)))
+    (c.weigh.ensures.costs.sat ∙ sym (weight_of-reverse (cheapest_of assets t)))
     (cheapest_is_lightest t assets c.requires.in_range.writable c.are_assets.ensures.held)
 
 pub returns-clause-least_dsat : goal.returns-clause-least_dsat
@@ -34,5 +33,5 @@ returns-clause-least_dsat c =
     let t = shape c.args.tree.now in
     let assets = c.args.assets.now in
     least_weight (Dsat t assets) (option_map reverse (dissatisfaction t)) c.weigh.result.dsat
-    (c.weigh.ensures.dsat ∙ sym (weight_of-reverse (dissatisfaction t)))
+    (c.weigh.ensures.costs.dsat ∙ sym (weight_of-reverse (dissatisfaction t)))
     (dissatisfaction_is_lightest t assets c.requires.in_range.writable)

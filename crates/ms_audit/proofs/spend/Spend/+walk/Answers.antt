@@ -1,13 +1,13 @@
-use Rattle.std.proofs.Common.{◌≡◌, ◌+◌, ◌∙◌, ap, sym, subst, refl, arith, Bool, false, Some, if◌then◌else◌}
+use Rattle.std.proofs.lemmas.Grind.{common_steps}
+use Rattle.std.proofs.Common.{◌≡◌, ◌+◌, ◌∙◌, ap, sym, subst, refl, arith, Bool, if◌then◌else◌}
 use Rattle.def_tree.specs.Tree as model
 use Rattle.ms_tree.specs.Shape.{shape, shapes}
 use Rattle.ms_tree.proofs.Parts.{nodes_at, in_range_at}
 use Rattle.ms_interp.specs.Answering.{given_by}
 use Rattle.ms_oracle.specs.Sound.{table_of}
-use Rattle.ms_audit_laws.specs.Walk.{forced, passed, ends}
-use Rattle.ms_audit.specs.declared.row.Row.{Row}
-use Rattle.ms_audit.specs.Scaffolding.Walking.{verdict_of, Walks}
-use Rattle.ms_audit.proofs.Courses.{ends_by, passed_is, few_counted, leaf_done, leaf_nodes, wrap_done, wrap_d_done, selected_one, two_done, thresh_done, count_step, nodes_left}
+use Rattle.ms_audit.specs.Scaffolding.Walking.{Walks}
+use Rattle.ms_audit.proofs.Courses.{ends_by, stays, few_counted, own_done, leaf_nodes, and_or_y, and_or_z, or_i_x}
+use Rattle.ms_audit.proofs.Courses.{or_i_z, first_done, two_done, wrap_empty_done, wrap_done, thresh_done, count_step, nodes_left}
 use Rattle.ms_audit.proofs.spend.Spend.+walk.Goals as goal
 use Rattle.ms_audit.proofs.spend.Spend.+walk.Goals.{count-then-branch, count-else-branch}
 
@@ -58,19 +58,13 @@ thresh-returns g t c =
     thresh_done _ _ c.args.k (shapes c.args.children.now) c.args.course.now _ c.end.new.self c.end.result c.in_ok-count.count c.in_ok-count.ensures
     (ends_by _ _ _ c.end.new.self c.end.result c.of_count.ensures c.end.ensures)
 
-pub two-returns : goal.two-returns
-two-returns g t c =
-    two_done _ _ c.args.kind (shape c.args.x.now) (shape c.args.z.now) c.args.course.now _ _ c.end-2.new.self c.end-2.result c.in_ok-first.first c.in_ok-second.second
-    c.requires.not_or_i c.in_ok-first.ensures (sym c.ends.ensures ∙ c.if-ends.false) c.in_ok-second.ensures
-    (ends_by _ _ _ c.end-2.new.self c.end-2.result c.of_two.ensures c.end-2.ensures)
-
 pub walk-returns-in_ok-row-in-Leaf : goal.walk-returns-in_ok-row-in-Leaf
 walk-returns-in_ok-row-in-Leaf g t c =
     let Goes : model.Tree → Type 0 = λ tree. Walks (given_by
     (table_of c.args.self.now.sigs.now) c.args.self.now.locks.now) c.args.self.now.stack.now tree c.args.course.now c.end.new.self c.end.result in
     subst Goes (sym c.in-Leaf.ensures.shows)
-    (leaf_done _ _ _ c.args.course.now _ c.end.new.self c.end.result _ (leaf_nodes c.in-Leaf.leaf) refl refl c.in_ok-row-in-Leaf.ensures.left
-    (c.in_ok-row-in-Leaf.ensures.row c.args.course.now.next) c.end.ensures)
+    (own_done _ _ _ c.args.course.now _ _ c.end.new.self c.end.result c.args.course.now.next _ refl (c.in_ok-row-in-Leaf.ensures.row c.args.course.now.next)
+    c.in_ok-row-in-Leaf.ensures.left (stays _ _ refl) (omega (arith, leaf_nodes c.in-Leaf.leaf)) c.end.ensures)
 
 pub walk-returns-in_ok-row-in-Multi : goal.walk-returns-in_ok-row-in-Multi
 walk-returns-in_ok-row-in-Multi g t c =
@@ -78,25 +72,48 @@ walk-returns-in_ok-row-in-Multi g t c =
     (table_of c.args.self.now.sigs.now) c.args.self.now.locks.now) c.args.self.now.stack.now tree c.args.course.now c.end-in-Multi.new.self
     c.end-in-Multi.result in
     subst Goes (sym c.in-Multi.ensures.shows)
-    (leaf_done _ _ _ c.args.course.now _ c.end-in-Multi.new.self c.end-in-Multi.result _ refl refl refl c.in_ok-row-in-Multi.ensures.left
-    (c.in_ok-row-in-Multi.ensures.row c.args.course.now.next) c.end-in-Multi.ensures)
+    (own_done _ _ _ c.args.course.now _ _ c.end-in-Multi.new.self c.end-in-Multi.result c.args.course.now.next _ refl
+    (c.in_ok-row-in-Multi.ensures.row c.args.course.now.next) c.in_ok-row-in-Multi.ensures.left (stays _ _ refl) refl c.end-in-Multi.ensures)
 
-pub wrap-returns-in_ok-sat-in-A : goal.wrap-returns-in_ok-sat-in-A
-wrap-returns-in_ok-sat-in-A g t c =
-    wrap_done _ _ c.args.wrapper (shape c.args.x.now) c.args.course.now _ c.end.new.self c.end.result c.in_ok-sat-in-A.sat passed (Some (c.in_ok-sat-in-A.sat, false))
-    (passed_is _ c.args.course.now.next c.args.wrapper (shape c.args.x.now) _ c.in-A.is) refl c.in_ok-sat-in-A.ensures
-    (ends_by _ _ _ c.end.new.self c.end.result (ap (λ (r : Row). verdict_of (Some r)) c.canonical.ensures) c.end.ensures)
+pub and_or-returns-in_ok-sat : goal.and_or-returns-in_ok-sat
+and_or-returns-in_ok-sat g t c =
+    let done = ends_by _ _ _ c.end.new.self c.end.result (c.of_and_or.ensures ∙ and_or_y c.in_ok-sat.sat) c.end.ensures in
+    grind (arith, common_steps, done)
 
-pub wrap-returns-in_ok-sat-in-V : goal.wrap-returns-in_ok-sat-in-V
-wrap-returns-in_ok-sat-in-V g t c =
-    rw c.in-V.is
-    (wrap_done _ _ _ (shape c.args.x.now) c.args.course.now _ c.end-in-V.new.self c.end-in-V.result c.in_ok-sat-in-V.sat (λ sat. ends (forced sat))
-    (forced c.in_ok-sat-in-V.sat) refl refl c.in_ok-sat-in-V.ensures
-    (ends_by _ _ _ c.end-in-V.new.self c.end-in-V.result c.forced.ensures c.end-in-V.ensures))
+pub and_or-returns-in_ok-sat-2 : goal.and_or-returns-in_ok-sat-2
+and_or-returns-in_ok-sat-2 g t c =
+    let done = ends_by _ _ _ c.end-else-branch.new.self c.end-else-branch.result (c.of_and_or-else-branch.ensures ∙ and_or_z c.in_ok-sat-2.sat) c.end-else-branch.ensures in
+    grind (arith, common_steps, done)
 
-pub wrap-returns-in_ok-sat-in-D : goal.wrap-returns-in_ok-sat-in-D
-wrap-returns-in_ok-sat-in-D g t c =
-    let one = selected_one _ _ _ c.in_ok-select-in-D.ensures.choice c.if-not-branch.false in
-    rw c.in-D.is
-    (wrap_d_done _ _ (shape c.args.x.now) c.args.course.now _ _ c.end-in-D.new.self c.end-in-D.result c.in_ok-sat-in-D.sat one refl refl c.in_ok-sat-in-D.ensures
-    (ends_by _ _ _ c.end-in-D.new.self c.end-in-D.result c.forced-in-D.ensures c.end-in-D.ensures))
+pub or_i-returns-in_ok-sat : goal.or_i-returns-in_ok-sat
+or_i-returns-in_ok-sat g t c =
+    let done = ends_by _ _ _ c.end.new.self c.end.result (c.of_two.ensures ∙ or_i_x c.in_ok-sat.sat) c.end.ensures in
+    grind (arith, common_steps, done)
+
+pub or_i-returns-in_ok-sat-2 : goal.or_i-returns-in_ok-sat-2
+or_i-returns-in_ok-sat-2 g t c =
+    let done = ends_by _ _ _ c.end-else-branch.new.self c.end-else-branch.result (c.of_two-else-branch.ensures ∙ or_i_z c.in_ok-sat-2.sat) c.end-else-branch.ensures in
+    grind (arith, common_steps, done)
+
+pub two-returns-then-ends : goal.two-returns-then-ends
+two-returns-then-ends g t c =
+    first_done _ _ c.args.kind (shape c.args.x.now) (shape c.args.z.now) c.args.course.now _ _ c.end.new.self c.end.result c.in_ok-first.first c.requires.not_or_i
+    c.in_ok-first.ensures (sym c.ends.ensures ∙ c.if-ends.true) c.skip.ensures (ends_by _ _ _ c.end.new.self c.end.result c.of_two.ensures c.end.ensures)
+
+pub two-returns : goal.two-returns
+two-returns g t c =
+    two_done _ _ c.args.kind (shape c.args.x.now) (shape c.args.z.now) c.args.course.now _ _ c.end-2.new.self c.end-2.result c.in_ok-first.first c.in_ok-second.second
+    c.requires.not_or_i c.in_ok-first.ensures (sym c.ends.ensures ∙ c.if-ends.false) c.in_ok-second.ensures
+    (ends_by _ _ _ c.end-2.new.self c.end-2.result c.of_two-2.ensures c.end-2.ensures)
+
+pub wrap-returns-then-is_empty : goal.wrap-returns-then-is_empty
+wrap-returns-then-is_empty g t c =
+    wrap_empty_done _ _ c.args.wrapper (shape c.args.x.now) c.args.course.now _ _ c.end.new.self c.end.result c.in_ok-item.item c.in_ok-item.ensures.item
+    (sym c.is_empty.ensures ∙ c.if-is_empty.true) refl refl c.in_ok-item.ensures.left c.skip.ensures
+    (ends_by _ _ _ c.end.new.self c.end.result c.of_wrap.ensures c.end.ensures)
+
+pub wrap-returns : goal.wrap-returns
+wrap-returns g t c =
+    wrap_done _ _ c.args.wrapper (shape c.args.x.now) c.args.course.now _ _ c.end-2.new.self c.end-2.result c.in_ok-item.item c.in_ok-sat.sat
+    c.in_ok-item.ensures.item (sym c.is_empty.ensures ∙ c.if-is_empty.false) refl refl c.in_ok-sat.ensures
+    (ends_by _ _ _ c.end-2.new.self c.end-2.result c.of_wrap-2.ensures c.end-2.ensures)
