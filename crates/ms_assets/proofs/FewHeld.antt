@@ -1,5 +1,5 @@
 -- That assets are few, and what they hold of its form.
-use Rattle.std.proofs.Common.{◌≡◌, ◌^◌, ◌<◌, nat_le, not, if◌then◌else◌, Bool, true, false, [], ◌∷◌, ◌++◌, Some, None, Ok, inl, inr, length, length-append, refl, sym, ◌∙◌, ap, arith}
+use Rattle.std.proofs.Common.{◌≡◌, ◌^◌, ◌<◌, nat_le, true, false, [], ◌∷◌, ◌++◌, Some, None, Ok, inl, inr, length, length-append, sym, ◌∙◌, ap, arith}
 use Rattle.std.specs.List.{list_any, IsDistinct}
 use Rattle.std.proofs.lemmas.Bool.{leb-true, and_parts}
 use Rattle.std.proofs.lemmas.Bool.Decides.{nat_tests}
@@ -15,7 +15,6 @@ use Rattle.def_files.specs.Refusals.{unless_any, given}
 use Rattle.def_files.specs.AssetFile.{is_signature, asset_refusals, assets_in, assets_of}
 use Rattle.def_files.specs.Laws.{AreFewAssets}
 use Rattle.def_files.proofs.Given.{asset_file_gives_assets}
-use Rattle.ms_assets.specs.declared.assets.AddStop.TheVariants as stop
 use Rattle.ms_assets.specs.Adding.{size_stop}
 use Rattle.ms_assets.specs.Parts.{IsOrMemory}
 use Rattle.ms_assets.proofs.SamePairs.{same_pair-laws}
@@ -56,12 +55,7 @@ added_few assets key sig few is_key is_sig new room =
 
 -- no reason of its length stops a signature
 size_passes : (assets : Assets) (sig : Bytes) → size_stop assets sig ≡ None → (is_signature sig ≡ true) × (nat_le 256 (length assets.pairs) ≡ false)
-size_passes assets sig = go (is_signature sig) (nat_le 256 (length assets.pairs))
-  where
-    go : (fits full : Bool) → (if not fits then Some stop.SigLength else if full then Some stop.TooMany else None) ≡ None → (fits ≡ true) × (full ≡ false)
-    go false full e = absurd (let no = e in cc)
-    go true true e = absurd (let no = e in cc)
-    go true false e = (refl, refl)
+size_passes assets sig passes = grind arith
 
 pub sized_few : (assets : Assets) (key sig : Bytes) → AreFewAssets assets → IsKey key → IsBytes sig → size_stop assets sig ≡ None → list_any (same_pair (key, sig)) assets.pairs ≡ false
     → AreFewAssets (record assets { pairs = assets.pairs ++ (key, sig) ∷ [] })

@@ -1,6 +1,7 @@
 -- Values of JSON as the definitions see them.
-use Rattle.std.proofs.Common.{◌≡◌, ℕ, Bool, true, false, if◌then◌else◌, List, [], ◌∷◌, Option, Some, None, option_map, map, refl, sym, ◌∙◌, ap}
+use Rattle.std.proofs.Common.{◌≡◌, ℕ, List, [], ◌∷◌, Option, Some, None, option_map, map, refl, sym, ◌∙◌, ap, inl, inr}
 use Rattle.std.specs.Str.{IsUtf8, is_utf8}
+use Rattle.std.proofs.lemmas.Bool.{cases_Bool}
 use Rattle.std.proofs.lemmas.Str.{IsUtf8-from_is_utf8, is_utf8-from_IsUtf8}
 use Rattle.serde_json.specs.Data.{Data}
 use Rattle.serde_json.specs.Find.{as_array}
@@ -13,11 +14,7 @@ pub reading_some : (bytes : List ℕ) (file : Data) → IsUtf8 bytes → read by
 reading_some bytes file utf8 e = rw (is_utf8-from_IsUtf8 bytes utf8) e
 
 pub reading_none : (bytes : List ℕ) → (IsUtf8 bytes → read bytes ≡ None) → reading bytes ≡ None
-reading_none bytes none = go (is_utf8 bytes) refl
-  where
-    go : (b : Bool) → is_utf8 bytes ≡ b → (if b then read bytes else None) ≡ None
-    go true e = none (IsUtf8-from_is_utf8 bytes e)
-    go false e = refl
+reading_none bytes none = elim (cases_Bool (is_utf8 bytes)) [ inl e ↦ rw e (none (IsUtf8-from_is_utf8 bytes e)) | inr e ↦ rw e refl ]
 
 elements_of_items : (ds : List Data) → elements_of (items_of ds) ≡ ds
 elements_of_items [] = refl

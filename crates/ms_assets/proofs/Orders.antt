@@ -1,10 +1,10 @@
 -- What the order of signatures finds is the shortest signature of a key, of several shortest the first; and one more
 -- signature keeps the order where it is put behind all that come before it.
-use Rattle.std.proofs.Common.{◌≡◌, ℕ, zero, suc, ◌+◌, ◌-◌, ◌<◌, ◌≤◌, ◌⊎◌, inl, inr, ⊎_elim, ◌||◌, Bool, true, false, nat_lt, if◌then◌else◌, is_some, List, [], ◌∷◌, ◌++◌, length, length-append, map, filter, get_or, take, Option, Some, None, option_map, Result, Ok, Err, is_ok, is_err, Bor, All, Contains, refl, sym, ◌∙◌, ap, subst, arith, zero-add, add-zero}
+use Rattle.std.proofs.Common.{◌≡◌, ℕ, zero, suc, ◌+◌, ◌-◌, ◌<◌, ◌≤◌, ◌⊎◌, inl, inr, ⊎_elim, Bool, true, false, nat_lt, if◌then◌else◌, is_some, List, [], ◌∷◌, ◌++◌, length, length-append, map, filter, get_or, take, Option, Some, None, option_map, Result, is_ok, is_err, Bor, All, Contains, refl, sym, ◌∙◌, ap, subst, arith, zero-add, add-zero}
 use Rattle.std.proofs.Math.Seq.{get_or-append_seam}
-use Rattle.std.proofs.lemmas.Bool.{cases_lt, ltb-true}
+use Rattle.std.proofs.lemmas.Bool.{cases_lt, cases_Bool, cond_both, false≢true, true_from_ne_false}
 use Rattle.std.proofs.lemmas.Bool.Decides.{nat_tests}
-use Rattle.std.proofs.lemmas.Cmp.{nat_list_cmp_total, nat_cmp_total, on_total, then_total, tied_itself, ranked}
+use Rattle.std.proofs.lemmas.Cmp.{nat_list_cmp_total, nat_cmp_total, on_total, then_total, tied_itself}
 use Rattle.std.proofs.lemmas.List.{get_or_append_left, take_more}
 use Rattle.std.proofs.lemmas.List.Edits.{length-insert, get_or-insert_below, get_or-insert_at, get_or-insert_above}
 use Rattle.std.proofs.lemmas.List.FromFn.{get_or-range_with_len, length-range_with_len}
@@ -15,10 +15,10 @@ use Rattle.std.specs.Cmp.{IsTotalOrder, IsStrictWeakOrder}
 use Rattle.std.specs.Cmp.Lexicographic.{slice_cmp}
 use Rattle.std.specs.List.{list_any, range_with_len, insert}
 use Rattle.std.specs.List.Sorted.{IsPermutation, IsPartitionedBy, IsPartitionPoint}
-use Rattle.std.specs.Ordering.{nat_cmp, ordering_then, ordering_reverse, is_lt, is_eq, MatchOrdering}
+use Rattle.std.specs.Ordering.{nat_cmp, ordering_then, ordering_reverse, is_lt, is_eq}
 use Rattle.std.specs.Str.{bytes_eq}
 use Rattle.std.specs.declared.cmp.Ordering.{Ordering}
-use Rattle.std.specs.declared.cmp.Ordering.TheVariants.{Less, Equal, Greater}
+use Rattle.std.specs.declared.cmp.Ordering.TheVariants.{Equal}
 use Rattle.def_script.specs.Bytes.{Bytes}
 use Rattle.def_machine.specs.Stacks.{Pairs}
 use Rattle.def_assets.specs.Assets.{sigs_with, shorter, shortest}
@@ -39,15 +39,9 @@ ranks_weak = ranks_by rank_cmp-total (λ (r : Rank). r)
 -- ---- places before a rank stand first
 
 pub partitioned : (table : Pairs) (order : List ℕ) (rank : Rank) → IsOrder table order → IsPartitionedBy (is_before table rank) order
-partitioned table order rank is i j d below inside before = go (is_before table rank (get_or order i d)) refl
-  where
-    far : is_lt (rank_cmp (rank_of table (get_or order j d)) (rank_of table (get_or order i d))) ≡ false
-    far = sorted_far _ (weak table) order is.sorted i j d below inside
-
-    go : (b : Bool) → is_before table rank (get_or order i d) ≡ b → is_before table rank (get_or order i d) ≡ true
-    go true e = e
-    go false e =
-        absurd (let no = ranks_weak.chain (rank_of table (get_or order j d)) (rank_of table (get_or order i d)) rank far e in let yes = before in cc)
+partitioned table order rank is i j d below inside before =
+    true_from_ne_false _ (λ no. false≢true (sym (ranks_weak.chain (rank_of table (get_or order j d)) (rank_of table (get_or order i d)) rank
+    (sorted_far _ (weak table) order is.sorted i j d below inside) no) ∙ before))
 
 -- ---- the shortest signature of a table
 
@@ -70,35 +64,22 @@ found_later pair table key (Some sig) h = (suc h.0, omega (arith, h.1), h.2, h.3
 shorter_found : (pair : Bytes × Bytes) (table : Pairs) (key : Bytes) (o : Option Bytes) → bytes_eq pair.0 key ≡ true → FoundAt table key o
     → FoundAt (pair ∷ table) key (Some (shorter pair.1 o))
 shorter_found pair table key None e h = (0, omega arith, e, refl)
-shorter_found pair table key (Some sig) e h = go (nat_lt (length sig) (length pair.1))
-  where
-    go : (b : Bool) → FoundAt (pair ∷ table) key (Some (if b then sig else pair.1))
-    go true = (suc h.0, omega (arith, h.1), h.2, h.3)
-    go false = (0, omega arith, e, refl)
+shorter_found pair table key (Some sig) e h =
+    cond_both (nat_lt (length sig) (length pair.1)) sig pair.1 (λ s. FoundAt (pair ∷ table) key (Some s)) (λ t. found_later pair table key (Some sig) h)
+    (λ f. (0, omega arith, e, refl))
 
 shortest_found : (table : Pairs) (key : Bytes) → FoundAt table key (shortest (sigs_with table key))
 shortest_found [] key = tt
-shortest_found (pair ∷ table) key = go (shortest_found table key) (bytes_eq pair.0 key) refl
-  where
-    go : FoundAt table key (shortest (sigs_with table key)) → (b : Bool) → bytes_eq pair.0 key ≡ b
-        → FoundAt (pair ∷ table) key (shortest (map (λ (p : Bytes × Bytes). p.1) (if b then pair ∷ filter (λ p. bytes_eq p.0 key) table else filter (λ p. bytes_eq p.0 key) table)))
-    go rest true e = shorter_found pair table key (shortest (sigs_with table key)) e rest
-    go rest false e = found_later pair table key (shortest (sigs_with table key)) rest
+shortest_found (pair ∷ table) key = elim (cases_Bool (bytes_eq pair.0 key)) [
+  | inl e ↦ rw e (shorter_found pair table key (shortest (sigs_with table key)) e (shortest_found table key))
+  | inr e ↦ rw e (found_later pair table key (shortest (sigs_with table key)) (shortest_found table key))
+]
 
 shorter_first : (former : Bytes) (o : Option Bytes) → ((sig : Bytes) → o ≡ Some sig → length former ≤ length sig) → shorter former o ≡ former
-shorter_first former None h = refl
-shorter_first former (Some sig) h = go (nat_lt (length sig) (length former)) refl
-  where
-    go : (b : Bool) → nat_lt (length sig) (length former) ≡ b → (if b then sig else former) ≡ former
-    go true e = absurd (let below = ltb-true (length sig) (length former) e in omega (arith, below, h sig refl))
-    go false e = refl
+shorter_first former o h = grind (arith, nat_tests)
 
 shorter_later : (former latter : Bytes) → length latter < length former → shorter former (Some latter) ≡ latter
-shorter_later former latter h = go (nat_lt (length latter) (length former)) refl
-  where
-    go : (b : Bool) → nat_lt (length latter) (length former) ≡ b → (if b then latter else former) ≡ latter
-    go true e = refl
-    go false e = absurd (let below = h in grind (arith, nat_tests))
+shorter_later former latter h = grind (arith, nat_tests)
 
 -- a found signature is no shorter than one that is no longer than all
 not_shorter : (table : Pairs) (key : Bytes) (size : ℕ)
@@ -145,22 +126,8 @@ shortest_none table key none = go (shortest (sigs_with table key)) (shortest_fou
 
 -- ---- one more signature behind the others
 
-shorter_twice : (first second third : Bytes) → shorter first (Some (shorter second (Some third))) ≡ shorter (shorter first (Some second)) (Some third)
-shorter_twice first second third =
-    go (nat_lt (length second) (length first)) (nat_lt (length third) (length second)) (nat_lt (length third) (length first)) refl refl refl
-  where
-    go : (a b c : Bool) → nat_lt (length second) (length first) ≡ a → nat_lt (length third) (length second) ≡ b → nat_lt (length third) (length first) ≡ c
-        → shorter first (Some (if b then third else second)) ≡ shorter (if a then second else first) (Some third)
-    go true true true e f g = rw (f, g) refl
-    go true true false e f g = absurd (grind (arith, nat_tests))
-    go true false c e f g = rw (e, f) refl
-    go false true c e f g = refl
-    go false false true e f g = absurd (grind (arith, nat_tests))
-    go false false false e f g = rw (e, g) refl
-
 with_shorter : (first : Bytes) (o : Option Bytes) (sig : Bytes) → shorter first (Some (shortest_with o sig)) ≡ shortest_with (Some (shorter first o)) sig
-with_shorter first None sig = refl
-with_shorter first (Some second) sig = shorter_twice first second sig
+with_shorter first o sig = grind (arith, nat_tests)
 
 -- the signature of one more pair, where it has the key
 abbrev pub also : Bool → Option Bytes → (sig : Bytes) → Option Bytes
@@ -168,24 +135,14 @@ also b o sig = if b then Some (shortest_with o sig) else o
 
 pub shortest_more : (table : Pairs) (pair : Bytes × Bytes) (key : Bytes)
     → shortest (sigs_with (table ++ pair ∷ []) key) ≡ also (bytes_eq pair.0 key) (shortest (sigs_with table key)) pair.1
-shortest_more [] pair key = go (bytes_eq pair.0 key)
+shortest_more [] pair key = elim (cases_Bool (bytes_eq pair.0 key)) [ inl e ↦ rw e refl | inr e ↦ rw e refl ]
+shortest_more (first ∷ table) pair key = elim (cases_Bool (bytes_eq first.0 key)) [
+  | inl e ↦ rw (e, shortest_more table pair key) (put (bytes_eq pair.0 key) (shortest (sigs_with table key)))
+  | inr e ↦ rw e (shortest_more table pair key)
+]
   where
-    go : (b : Bool) → shortest (map (λ (p : Bytes × Bytes). p.1) (if b then pair ∷ [] else [])) ≡ also b None pair.1
-    go true = refl
-    go false = refl
-shortest_more (first ∷ table) pair key = go (bytes_eq first.0 key) (shortest_more table pair key)
-  where
-    all : Bool → Pairs → List Bytes
-    all b pairs = map (λ (p : Bytes × Bytes). p.1) (if b then first ∷ filter (λ p. bytes_eq p.0 key) pairs else filter (λ p. bytes_eq p.0 key) pairs)
-
     put : (b : Bool) (o : Option Bytes) → Some (shorter first.1 (also b o pair.1)) ≡ also b (Some (shorter first.1 o)) pair.1
-    put true o = ap Some (with_shorter first.1 o pair.1)
-    put false o = refl
-
-    go : (b : Bool) → shortest (sigs_with (table ++ pair ∷ []) key) ≡ also (bytes_eq pair.0 key) (shortest (sigs_with table key)) pair.1
-        → shortest (all b (table ++ pair ∷ [])) ≡ also (bytes_eq pair.0 key) (shortest (all b table)) pair.1
-    go true rest = ap (λ o. Some (shorter first.1 o)) rest ∙ put (bytes_eq pair.0 key) (shortest (sigs_with table key))
-    go false rest = rest
+    put b o = grind (arith, with_shorter)
 
 -- what is found among one more pair of a table
 pub walked : (table : Pairs) (i : ℕ) (pair : Bytes × Bytes) (key : Bytes) (former latter : Option Bytes) (has : Bool) → i < length table → pair ≡ get_or table i pair
@@ -200,43 +157,21 @@ walked table i pair key former latter has inside is before same now =
 -- ---- what stands behind all that come before a key
 
 not_below_zero : (n : ℕ) → is_lt (nat_cmp n 0) ≡ false
-not_below_zero n = go (nat_cmp n 0) (ranked n 0 (nat_cmp n 0) refl)
-  where
-    go : (o : Ordering) → MatchOrdering o (n < 0) (n ≡ 0) (0 < n) → is_lt o ≡ false
-    go Less m = absurd (omega (arith, m))
-    go Equal m = refl
-    go Greater m = refl
+not_below_zero n = grind arith
 
 -- a rank of the key doesn't come before the key's first
 not_before : (keys sizes places : Ordering) → is_eq keys ≡ true → is_lt sizes ≡ false → is_lt places ≡ false → is_lt (ordering_then (ordering_then keys sizes) places) ≡ false
-not_before Less sizes places e f g = absurd (let no = e in cc)
-not_before Equal Less places e f g = absurd (let no = f in cc)
-not_before Equal Equal places e f g = g
-not_before Equal Greater places e f g = refl
-not_before Greater sizes places e f g = absurd (let no = e in cc)
+not_before keys sizes places e f g = grind arith
 
 -- neither key comes before the other
 both_ways : (there back : Ordering) → back ≡ ordering_reverse there → (sizes places sizes' places' : Ordering)
     → is_lt (ordering_then (ordering_then there sizes) places) ≡ false → is_lt (ordering_then (ordering_then back sizes') places') ≡ false → there ≡ Equal
-both_ways Less back e sizes places sizes' places' f g = absurd (let no = f in cc)
-both_ways Equal back e sizes places sizes' places' f g = refl
-both_ways Greater back e sizes places sizes' places' f g = absurd (let no = rw e at g in cc)
-
-not_less : (place place' : ℕ) (o : Ordering) → MatchOrdering o (place' < place) (place' ≡ place) (place < place') → is_lt o ≡ false → place ≤ place'
-not_less place place' Less m g = absurd (let no = g in cc)
-not_less place place' Equal m g = omega (arith, m)
-not_less place place' Greater m g = omega (arith, m)
+both_ways there back e sizes places sizes' places' f g = grind arith
 
 -- of ranks with one key that which doesn't come before the other
 no_earlier : (size place size' place' : ℕ) → is_lt (ordering_then (nat_cmp size' size) (nat_cmp place' place)) ≡ false
     → (size < size') ⊎ ((size ≡ size') × (place ≤ place'))
-no_earlier size place size' place' h = go (nat_cmp size' size) (ranked size' size (nat_cmp size' size) refl) h
-  where
-    go : (o : Ordering) → MatchOrdering o (size' < size) (size' ≡ size) (size < size') → is_lt (ordering_then o (nat_cmp place' place)) ≡ false
-        → (size < size') ⊎ ((size ≡ size') × (place ≤ place'))
-    go Less m g = absurd (let no = g in cc)
-    go Equal m g = inr (sym m, not_less place place' (nat_cmp place' place) (ranked place' place (nat_cmp place' place) refl) g)
-    go Greater m g = inl m
+no_earlier size place size' place' h = grind arith
 
 same_cmp : (held key : Bytes) → bytes_eq held key ≡ true → slice_cmp nat_cmp held key ≡ Equal
 same_cmp held key e = ap (slice_cmp nat_cmp held) (sym ((bytes_eq-Decides held key).0 e)) ∙ tied_itself nat_list_cmp_total held
@@ -315,13 +250,7 @@ module _ (table : Pairs) (order : List ℕ) (is : IsOrder table order) (key : By
 pub some_held : (table : Pairs) (key : Bytes) → is_some (shortest (sigs_with table key)) ≡ list_any (λ pair. bytes_eq key pair.0) table
 some_held [] key = refl
 some_held (pair ∷ table) key =
-    go (some_held table key) (bytes_eq pair.0 key) ∙ ap (λ b. b || list_any (λ pair. bytes_eq key pair.0) table) (bytes_eq-symm pair.0 key)
-  where
-    go : is_some (shortest (sigs_with table key)) ≡ list_any (λ pair. bytes_eq key pair.0) table → (b : Bool)
-        → is_some (shortest (map (λ (p : Bytes × Bytes). p.1) (if b then pair ∷ filter (λ p. bytes_eq p.0 key) table else filter (λ p. bytes_eq p.0 key) table)))
-        ≡ (b || list_any (λ pair. bytes_eq key pair.0) table)
-    go rest true = refl
-    go rest false = rest
+    rw (bytes_eq-symm key pair.0) (elim (cases_Bool (bytes_eq pair.0 key)) [ inl e ↦ rw e refl | inr e ↦ rw e (some_held table key) ])
 
 -- ---- one more signature
 
@@ -422,12 +351,10 @@ pub is_order : (table table' : Pairs) (order order' : List ℕ) → table' ≡ t
 is_order table table' order order' e f is = subst (λ t. IsOrder t order') (sym e) (subst (IsOrder table) (sym f) is)
 
 pub inserted : {T E : Type 0} (r : Result T E) (new old places : List ℕ) → is_err r ≡ false → places ≡ (if is_ok r then new else old) → places ≡ new
-inserted (Ok x) new old places e f = f
-inserted (Err x) new old places e f = absurd (let no = e in cc)
+inserted r new old places e f = grind arith
 
 pub some_seen : (o : Option (Bor Bytes)) → is_some o ≡ is_some (option_map (λ sig. sig.now) o)
-some_seen None = refl
-some_seen (Some sig) = refl
+some_seen o = grind arith
 
 pub not_within : (k n : ℕ) → false ≡ nat_lt k n → n ≤ k
 not_within k n e = let no = sym e in grind (arith, nat_tests)

@@ -1,5 +1,5 @@
 -- Refusals one after another.
-use Rattle.std.proofs.Common.{◌≡◌, ◌⊎◌, inl, inr, ℕ, ◌+◌, not, Bool, true, cond, List, [], ◌∷◌, Option, Some, None, option_map, Result, Err, map, refl, sym, ◌∙◌, ap}
+use Rattle.std.proofs.Common.{◌≡◌, ◌⊎◌, inl, inr, ℕ, ◌+◌, not, Bool, true, cond, List, [], ◌∷◌, Option, Some, None, option_map, Result, Err, map, refl, sym, ◌∙◌, ap, arith}
 use Rattle.std.specs.List.{position_from}
 use Rattle.std.proofs.lemmas.Iterator.Adapters.{position_from-zero}
 use Rattle.serde_json.specs.Data.{Data}
@@ -23,16 +23,10 @@ stops r rest value why some = sym (ap (λ o. unless_any (o ∷ rest) value) some
 -- nothing is refused by the first three of refusals, or one of them applies
 pub after_three : {A E : Type 0} (r s t : Option E) (rest : List (Option E)) (value : A) (answer : Result A E) → first (r ∷ s ∷ t ∷ []) ≡ None → answer
     ≡ unless_any rest value → answer ≡ unless_any (r ∷ s ∷ t ∷ rest) value
-after_three None None None rest value answer none e = e
-after_three None None (Some t) rest value answer none e = absurd (let no = none in cc)
-after_three None (Some s) t rest value answer none e = absurd (let no = none in cc)
-after_three (Some r) s t rest value answer none e = absurd (let no = none in cc)
+after_three r s t rest value answer none e = grind arith
 
 pub stops_in_three : {A E : Type 0} (r s t : Option E) (rest : List (Option E)) (value : A) (why : E) → first (r ∷ s ∷ t ∷ []) ≡ Some why → Err why ≡ unless_any (r ∷ s ∷ t ∷ rest) value
-stops_in_three None None None rest value why some = absurd (let no = some in cc)
-stops_in_three None None (Some t) rest value why some = let same = some in cc
-stops_in_three None (Some s) t rest value why some = let same = some in cc
-stops_in_three (Some r) s t rest value why some = let same = some in cc
+stops_in_three r s t rest value why some = grind arith
 
 -- the first element for which a test doesn't hold
 pub each_first : {A E : Type 0} (holds : A → Bool) (fault : ℕ → E) (xs : List A) → unless_each holds fault xs ≡ first_refused holds fault xs
@@ -58,12 +52,10 @@ object_none file said holds is = ap (λ b. unless b (fault.Shape member.Whole)) 
 -- ---- the place of the first element by another fault
 
 place_none : {E : Type 0} (fault : ℕ → E) (o : Option ℕ) → option_map list_fault.At o ≡ None → option_map fault o ≡ None
-place_none fault None e = refl
-place_none fault (Some i) e = let no = e in cc
+place_none fault o e = grind arith
 
 place_some : {E : Type 0} (fault : ℕ → E) (i : ℕ) (o : Option ℕ) → option_map list_fault.At o ≡ Some (list_fault.At i) → option_map fault o ≡ Some (fault i)
-place_some fault i None e = let no = e in cc
-place_some fault i (Some j) e = let same : j ≡ i = let is = e in cc in ap (λ k. Some (fault k)) same
+place_some fault i o e = grind arith
 
 -- none is refused
 pub at_none : {A E : Type 0} (holds : A → Bool) (fault : ℕ → E) (xs : List A) → first_refused holds list_fault.At xs ≡ None → first_refused holds fault xs ≡ None

@@ -11,8 +11,7 @@ use Rattle.ms_assets.specs.Parts.{repeated, repeats}
 use Rattle.ms_assets.proofs.Refusals.{each_first}
 
 cond_not_not : (b : Bool) (x y : Option ℕ) → cond (not (not b)) x y ≡ cond b x y
-cond_not_not true x y = refl
-cond_not_not false x y = refl
+cond_not_not b x y = grind arith
 
 module _ {A : Type 0} (same : A → A → Bool) where
   -- an element is the same as an earlier one

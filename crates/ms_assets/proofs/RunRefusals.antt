@@ -1,5 +1,5 @@
 -- The refusals of a run file in their order.
-use Rattle.std.proofs.Common.{◌≡◌, ℕ, nat_le, is_some, unwrap_or, List, [], ◌∷◌, Option, Some, None, Result, Err, ◌⊎◌, inl, inr, drop, sym, ◌∙◌, ap}
+use Rattle.std.proofs.Common.{◌≡◌, ℕ, is_some, Bool, true, refl, unwrap_or, List, [], ◌∷◌, Option, Some, None, Result, Err, ◌⊎◌, inl, inr, drop, sym, ◌∙◌, ap}
 use Rattle.std.proofs.lemmas.List.{length-map}
 use Rattle.serde_json.specs.Data.{Data}
 use Rattle.def_script.specs.Bytes.{Bytes}
@@ -8,13 +8,13 @@ use Rattle.def_machine.specs.Stacks.{Pairs}
 use Rattle.def_files.specs.declared.Member.TheVariants as member
 use Rattle.def_files.specs.declared.AssetFault.{AssetFault}
 use Rattle.def_files.specs.declared.AssetFault.TheVariants as fault
-use Rattle.def_files.specs.Json.{spelled}
+use Rattle.def_files.specs.Json.{spelled, is_object}
 use Rattle.def_files.specs.Parts.{locks, elements, is_pair, is_text, is_hex, is_hex_pair, key_of, sig_of, bytes_of, pairs, strings}
-use Rattle.def_files.specs.Refusals.{Refusal, unless, unless_any, no_object, no_list_of, no_version, no_sequence, no_locktime, no_hex, too_many, MOST_SIGNATURES}
-use Rattle.def_files.specs.RunFile.{RunFile, MOST_ELEMENTS, script_text, run_refusals, run_in}
+use Rattle.def_files.specs.Refusals.{Refusal, unless, unless_any, no_object, no_list_of, no_version, no_sequence, no_locktime, no_hex}
+use Rattle.def_files.specs.RunFile.{RunFile, script_text, run_refusals, run_in}
 use Rattle.ms_assets.specs.Parts.{first, first_refused, IsOrMemory}
 use Rattle.ms_assets.specs.Runs.{count_refusals}
-use Rattle.ms_assets.proofs.Refusals.{after, stops, after_three, stops_in_three, no_hex_first}
+use Rattle.ms_assets.proofs.Refusals.{after_three, stops_in_three, object_none, no_hex_first}
 
 abbrev pub value_of : Data → Result RunFile AssetFault
 value_of file = unless_any (run_refusals file) (run_in file)
@@ -36,30 +36,22 @@ pub record HasShapes (file : Data) : Type 0 where
   pub script : no_script file ≡ None
   pub witness : no_list_of is_text member.Witness file ≡ None
 
+pub shapes_are : (file : Data) (said : Bool) → said ≡ true → said ≡ is_object file → no_list_of is_pair member.Signatures file ≡ None
+    → no_script file ≡ None → no_list_of is_text member.Witness file ≡ None → HasShapes file
+shapes_are file said holds is signatures script witness =
+    record { object = object_none file said holds is; signatures = signatures; script = script; witness = witness }
+
 -- the shapes and the numbers are right
 pub record HasNumbers (file : Data) : Type 0 where
   pub shapes : HasShapes file
   pub numbers : first (no_version file ∷ no_sequence file ∷ no_locktime file ∷ []) ≡ None
 
 after_shapes : (file : Data) (answer : Result RunFile AssetFault) → HasShapes file → answer ≡ left_of 4 file → answer ≡ value_of file
-after_shapes file answer shapes e =
-    after (no_object file) (drop 1 (run_refusals file)) (run_in file) answer shapes.object
-    (after (no_list_of is_pair member.Signatures file) (drop 2 (run_refusals file)) (run_in file) answer shapes.signatures
-    (after (no_script file) (drop 3 (run_refusals file)) (run_in file) answer shapes.script
-    (after (no_list_of is_text member.Witness file) (drop 4 (run_refusals file)) (run_in file) answer shapes.witness e)))
+after_shapes file answer shapes e = rw (shapes.object, shapes.signatures, shapes.script, shapes.witness) e
 
 after_numbers : (file : Data) (answer : Result RunFile AssetFault) → HasNumbers file → answer ≡ left_of 7 file → answer ≡ value_of file
 after_numbers file answer has e =
     after_shapes file answer has.shapes (after_three (no_version file) (no_sequence file) (no_locktime file) (drop 7 (run_refusals file)) (run_in file) answer has.numbers e)
-
-after_pairs : (file : Data) (answer : Result RunFile AssetFault) → HasNumbers file → no_hex is_hex_pair member.Signatures file ≡ None → answer ≡ left_of 8 file → answer ≡ value_of file
-after_pairs file answer has signatures e =
-    after_numbers file answer has (after (no_hex is_hex_pair member.Signatures file) (drop 8 (run_refusals file)) (run_in file) answer signatures e)
-
-after_script : (file : Data) (answer : Result RunFile AssetFault) → HasNumbers file → no_hex is_hex_pair member.Signatures file ≡ None
-    → no_digits (script_text file) ≡ None → answer ≡ left_of 9 file → answer ≡ value_of file
-after_script file answer has signatures script e =
-    after_pairs file answer has signatures (after (no_digits (script_text file)) (drop 9 (run_refusals file)) (run_in file) answer script e)
 
 -- ---- where reading ends
 
@@ -73,23 +65,20 @@ pub pairs_end : (file : Data) (list : List Data) (why : AssetFault) (result : Re
     → (why ≡ fault.Memory) ⊎ (first_refused is_hex_pair (fault.Hex member.Signatures) list ≡ Some why) → result ≡ Err why → IsOrMemory (value_of file) result
 pairs_end file list why result has same (inl memory) e = inr (e ∙ ap Err memory)
 pairs_end file list why result has same (inr some) e =
-    inl (e ∙ after_numbers file (Err why) has (stops (no_hex is_hex_pair member.Signatures file) (drop 8 (run_refusals file)) (run_in file) why
-    (no_hex_first is_hex_pair member.Signatures file list (Some why) same some)))
+    inl (e ∙ after_numbers file (Err why) has (rw (no_hex_first is_hex_pair member.Signatures file list (Some why) same some) refl))
 
 pub digits_end : (file : Data) (text : Option Bytes) (why : AssetFault) (result : Result RunFile AssetFault) → HasNumbers file → no_hex is_hex_pair member.Signatures file ≡ None
     → text ≡ script_text file → (why ≡ fault.Memory) ⊎ (no_digits text ≡ Some why) → result ≡ Err why → IsOrMemory (value_of file) result
 digits_end file text why result has signatures same (inl memory) e = inr (e ∙ ap Err memory)
 digits_end file text why result has signatures same (inr some) e =
-    inl (e ∙ after_pairs file (Err why) has signatures (stops (no_digits (script_text file)) (drop 9 (run_refusals file)) (run_in file) why (ap no_digits (sym same) ∙ some)))
+    inl (e ∙ after_numbers file (Err why) has (rw (signatures, ap no_digits (sym same) ∙ some) refl))
 
 pub strings_end : (file : Data) (list : List Data) (why : AssetFault) (result : Result RunFile AssetFault) → HasNumbers file
     → no_hex is_hex_pair member.Signatures file ≡ None → no_digits (script_text file) ≡ None
     → list ≡ elements member.Witness file → (why ≡ fault.Memory) ⊎ (first_refused is_hex (fault.Hex member.Witness) list ≡ Some why) → result ≡ Err why → IsOrMemory (value_of file) result
 strings_end file list why result has signatures script same (inl memory) e = inr (e ∙ ap Err memory)
 strings_end file list why result has signatures script same (inr some) e =
-    inl (e ∙ after_script file (Err why) has signatures script
-    (stops (no_hex is_hex member.Witness file) (drop 10 (run_refusals file)) (run_in file) why
-    (no_hex_first is_hex member.Witness file list (Some why) same some)))
+    inl (e ∙ after_numbers file (Err why) has (rw (signatures, script, no_hex_first is_hex member.Witness file list (Some why) same some) refl))
 
 -- ---- what was read
 
@@ -105,18 +94,12 @@ pub record HasRead (file : Data) (code : Bytes) (texts : List Bytes) (found : Lo
 
 counts_same : (file : Data) → count_refusals (pairs file) (strings member.Witness file) ≡ drop 10 (run_refusals file)
 counts_same file =
-    ap (λ n. unless (nat_le n MOST_SIGNATURES) (fault.TooMany member.Signatures) ∷ drop 1 (count_refusals (pairs file) (strings member.Witness file)))
-    (length-map (elements member.Signatures file) (λ e. (key_of e, sig_of e)))
-    ∙ ap (λ n. too_many MOST_SIGNATURES member.Signatures file ∷ unless (nat_le n MOST_ELEMENTS) (fault.TooMany member.Witness) ∷ []) (length-map (elements member.Witness file) bytes_of)
+    let pair_of : Data → Bytes × Bytes = λ e. (key_of e, sig_of e) in
+    rw (length-map (elements member.Signatures file) pair_of, length-map (elements member.Witness file) bytes_of)
 
 -- then the numbers of elements tell
 pub read_done : (file : Data) (script : Bytes) (stack : List Bytes) (found : Locks) (read : Pairs) → HasRead file script stack found read
     → unless_any (count_refusals read stack) (record { script = script; stack = stack; locks = found; pairs = read }) ≡ value_of file
 read_done file script stack found read has =
-    let P : Bytes → List Bytes → Locks → Pairs → Result RunFile AssetFault = λ b s l p. unless_any (count_refusals p s) (record { script = b; stack = s; locks = l; pairs = p }) in
-    let answer = P script stack found read in
-    after_script file answer has.numbers has.signatures has.digits
-    (after (no_hex is_hex member.Witness file) (drop 10 (run_refusals file)) (run_in file) answer has.witness
-    (ap (λ o. P (unwrap_or o []) stack found read) has.script ∙ ap (λ s. P (run_in file).script s found read) has.stack
-    ∙ ap (λ l. P (run_in file).script (strings member.Witness file) l read) has.locks
-    ∙ ap (λ p. P (run_in file).script (strings member.Witness file) (locks file) p) has.pairs ∙ ap (λ rs. unless_any rs (run_in file)) (counts_same file)))
+    rw (ap (λ o. unwrap_or o []) has.script, has.stack, has.locks, has.pairs)
+    (after_numbers file _ has.numbers (rw (has.signatures, has.digits, has.witness) (ap (λ rs. unless_any rs (run_in file)) (counts_same file))))

@@ -1,6 +1,6 @@
 -- Byte strings and pairs that are the same.
-use Rattle.std.proofs.Common.{◌≡◌, Bool, true, false, ◌&&◌, ◌||◌, [], ◌∷◌, refl, sym, ◌∙◌, ap}
-use Rattle.std.proofs.lemmas.Bool.{and_parts}
+use Rattle.std.proofs.Common.{◌≡◌, Bool, true, false, ◌&&◌, ◌||◌, [], ◌∷◌, refl, sym, ◌∙◌, ap, arith}
+use Rattle.std.proofs.lemmas.Bool.{and_parts, or_parts}
 use Rattle.std.specs.Cmp.{IsEquivalence}
 use Rattle.std.specs.List.{list_any}
 use Rattle.std.specs.Str.{bytes_eq}
@@ -10,10 +10,7 @@ use Rattle.def_machine.specs.Stacks.{Pairs, member}
 use Rattle.def_assets.specs.Assets.{same_pair}
 
 same_bool : (a b : Bool) → (a ≡ true → b ≡ true) → (b ≡ true → a ≡ true) → a ≡ b
-same_bool true true p q = refl
-same_bool true false p q = sym (p refl)
-same_bool false true p q = q refl
-same_bool false false p q = refl
+same_bool a b p q = grind arith
 
 pub bytes_eq-symm : (x y : Bytes) → bytes_eq x y ≡ bytes_eq y x
 bytes_eq-symm x y =
@@ -31,15 +28,11 @@ same_pair-laws = record {
       ap (λ key. bytes_eq key z.0 && bytes_eq x.1 z.1) ((bytes_eq-Decides x.0 y.0).0 parts.0) ∙ ap (λ sig. bytes_eq y.0 z.0 && bytes_eq sig z.1) ((bytes_eq-Decides x.1 y.1).0 parts.1);
 }
 
-neither : (a b : Bool) → (a || b) ≡ false → (a ≡ false) × (b ≡ false)
-neither true b e = cc e
-neither false b e = (refl, e)
-
 -- where no pair has the key, none is the same
 pub no_key : (key sig : Bytes) (table : Pairs) → list_any (λ pair. bytes_eq key pair.0) table ≡ false → list_any (same_pair (key, sig)) table ≡ false
 no_key key sig [] e = refl
 no_key key sig (pair ∷ table) e =
-    let parts = neither (bytes_eq key pair.0) _ e in
+    let parts = or_parts (bytes_eq key pair.0) _ e in
     ap (λ b. (b && bytes_eq sig pair.1) || list_any (same_pair (key, sig)) table) parts.0 ∙ no_key key sig table parts.1
 
 -- a member is the same as a pair of the table

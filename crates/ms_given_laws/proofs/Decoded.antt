@@ -1,6 +1,6 @@
 -- What base64 gives consists of bytes, and is no longer; and so what a source gives.
-use Rattle.std.proofs.Common.{◌≡◌, ℕ, zero, suc, ◌+◌, ◌-◌, ◌*◌, ◌/◌, ◌%◌, ◌<◌, ◌≤◌, nat_lt, Bool, true, false, not, cond, [], ◌∷◌, length, drop, replicate, slice_index, Option, Some, None, Result, Ok, Err, inl, inr, refl, ap, subst, arith}
-use Rattle.std.proofs.lemmas.Bool.{ltb-false, eq-eqb}
+use Rattle.std.proofs.Common.{◌≡◌, ℕ, zero, suc, ◌+◌, ◌-◌, ◌*◌, ◌/◌, ◌%◌, ◌<◌, ◌≤◌, nat_lt, true, not, [], ◌∷◌, length, drop, replicate, slice_index, Option, None, Result, Ok, Err, ◌⊎◌, inl, inr, ◌∙◌, sym, refl, ap, subst, arith}
+use Rattle.std.proofs.lemmas.Bool.{cases_Bool, ltb-false, eq-eqb}
 use Rattle.std.proofs.lemmas.List.Filters.{length-filter_both}
 use Rattle.std.proofs.lemmas.List.{length-append, length-drop, get_or-drop}
 use Rattle.base64.specs.declared.decode.DecodeError.{DecodeError}
@@ -14,10 +14,8 @@ use Rattle.base64.proofs.Canonical.{IsScanned-scan}
 use Rattle.base64.proofs.RoundTrip.{length-encode_symbols}
 use Rattle.base64.proofs.EngineFacts.{decode_of_strict}
 use Rattle.def_script.specs.Bytes.{Bytes, IsBytes}
-use Rattle.def_psbt.specs.declared.Refusal.{Refusal}
-use Rattle.def_psbt.specs.declared.Refusal.TheVariants.{TooLong, Magic}
 use Rattle.def_psbt.specs.Map.{Psbt}
-use Rattle.def_psbt.specs.Reading.{◌>>=◌, read_psbt}
+use Rattle.def_psbt.specs.Reading.{read_psbt}
 use Rattle.def_psbt.specs.Source.{MAX_SOURCE_SIZE, has_magic, is_blank, without_blanks, decoded, psbt_bytes, psbt_of}
 use Rattle.ms_given_laws.proofs.BytesOf.{none, more, both, taken, kept}
 
@@ -30,8 +28,7 @@ group a b c d p q r s =
     more (a * 4 + b / 16) ((b % 16 * 16 + c / 4) ∷ (c % 4 * 64 + d) ∷ []) (omega arith) second
 
 or_none : (x y : Option DecodeError) → or_else x y ≡ None → (x ≡ None) × (y ≡ None)
-or_none None y h = (refl, h)
-or_none (Some e) y h = absurd cc
+or_none x y h = grind arith
 
 symbol : (dec s : Bytes) (i : ℕ) → IsDecodeTable dec → IsBytes s → symbol_error dec s i ≡ None → slice_index dec (slice_index s i) < 64
 symbol dec s i table bytes h =
@@ -76,15 +73,12 @@ suffix enc dec s pad at inv bytes short =
 
 -- ---- what is decoded
 
-outcome : (x : Option DecodeError) (d b : Bytes) → decode_outcome x d ≡ Ok b → (x ≡ None) × (d ≡ b)
-outcome None d b h = (refl, cc h)
-outcome (Some e) d b h = absurd cc
-
 decoded_is_bytes : (s b : Bytes) → IsBytes s → decode_of standard s ≡ Ok b → IsBytes b
 decoded_is_bytes s b bytes h =
     let dec : Bytes = standard.decode_table in
     let inv = are_tables_inverse standard.encode_table dec standard.padding.value standard.tables in
-    let o = outcome (decode_error dec standard.padding.value standard.config.decode_allow_trailing_bits standard.config.decode_padding_mode s) (decoded_bytes dec standard.padding.value s) b h in
+    let o = outcome (decode_error dec standard.padding.value standard.config.decode_allow_trailing_bits standard.config.decode_padding_mode s)
+    (decoded_bytes dec standard.padding.value s) h in
     let q : ℕ = groups_before_last (length s) in
     let e = or_none (lone_error dec standard.padding.value s) _ o.0 in
     let g = or_none (groups_error dec s q) _ e.1 in
@@ -92,6 +86,9 @@ decoded_is_bytes s b bytes h =
     (both (groups_bytes dec s q) (suffix_bytes dec standard.padding.value (4 * q) s)
     (groups dec s q (IsDecodeTable_from standard.encode_table dec inv) bytes g.0)
     (suffix standard.encode_table dec s standard.padding.value (4 * q) inv bytes (omega arith)))
+  where
+    outcome : (x : Option DecodeError) (d : Bytes) → decode_outcome x d ≡ Ok b → (x ≡ None) × (d ≡ b)
+    outcome x d h = grind arith
 
 decoded_is_shorter : (s b : Bytes) → IsBytes s → decode_of standard s ≡ Ok b → length b ≤ length s
 decoded_is_shorter s b bytes h =
@@ -110,38 +107,35 @@ pub record Begins (bytes : Bytes) (psbt : Psbt) : Type 0 where
   pub magic : has_magic bytes ≡ true
   pub read : read_psbt bytes ≡ Ok psbt
 
-bind_ok : {A B : Type 0} (r : Result A Refusal) (f : A → Result B Refusal) (y : B) → (r >>= f) ≡ Ok y → (x : A) × (r ≡ Ok x) × (f x ≡ Ok y)
-bind_ok (Ok x) f y e = (x, refl, e)
-bind_ok (Err refusal) f y e = absurd cc
+told : (r : Result Bytes DecodeError) (bytes : Bytes) → decoded r ≡ Ok bytes → (r ≡ Ok bytes) × (has_magic bytes ≡ true)
+told (Err fault) bytes e = absurd cc
+told (Ok b) bytes e = elim (cases_Bool (has_magic b)) [
+  | inl is ↦ (let same : b ≡ bytes = cc (rw is at e) in (ap Ok same, ap has_magic (sym same) ∙ is))
+  | inr other ↦ (let no = rw other at e in absurd cc)
+]
 
-abbrev IsGood : Bytes → Type 0
-IsGood b = IsBytes b × (length b ≤ MAX_SOURCE_SIZE) × (has_magic b ≡ true)
+-- the bytes are the source's, or what its base64 gives
+bytes_are : (source bytes : Bytes) → psbt_bytes source ≡ Ok bytes
+    → (length source ≤ MAX_SOURCE_SIZE) × (has_magic bytes ≡ true) × ((source ≡ bytes) ⊎ (decode_of standard (without_blanks source) ≡ Ok bytes))
+unfolding psbt_bytes
+bytes_are source bytes e = elim (cases_Bool (nat_lt MAX_SOURCE_SIZE (length source))) [
+  | inl big ↦ (let no = rw big at e in absurd cc)
+  | inr small ↦ elim (cases_Bool (has_magic source)) [
+    | inl is ↦ (let same : source ≡ bytes = cc (rw (small, is) at e) in (ltb-false _ _ small, ap has_magic (sym same) ∙ is, inl same))
+    | inr other ↦ (let t = told (decode_of standard (without_blanks source)) bytes (rw (small, other) at e) in (ltb-false _ _ small, t.1, inr t.0))
+  ]
+]
 
 pub from_source : (source : Bytes) (psbt : Psbt) → IsBytes source → psbt_of source ≡ Ok psbt → (bytes : Bytes) × Begins bytes psbt
-unfolding psbt_of psbt_bytes
+unfolding psbt_of
 from_source source psbt fits e =
-    let b = bind_ok (cond (nat_lt MAX_SOURCE_SIZE (length source)) (Err TooLong) (cond (has_magic source) (Ok source) (decoded (decode_of standard (without_blanks source))))) read_psbt psbt e in
-    let ok = short (nat_lt MAX_SOURCE_SIZE (length source)) refl b.0 b.1 in
-    (b.0, record { fits = ok.0; short = ok.1; magic = ok.2; read = b.2 })
-  where
-    magic_is : (b : Bytes) (t : Bool) → has_magic b ≡ t → (out : Bytes) → cond t (Ok b) (Err Magic) ≡ Ok out → (has_magic b ≡ true) × (b ≡ out)
-    magic_is b true is out h = (is, cc h)
-    magic_is b false is out h = absurd cc
-
-    by_base64 : (r : Result Bytes DecodeError) → decode_of standard (without_blanks source) ≡ r → length source ≤ MAX_SOURCE_SIZE → (out : Bytes) → decoded r ≡ Ok out → IsGood out
-    by_base64 (Err fault) is small out h = absurd cc
-    by_base64 (Ok b) is small out h =
-        let told = magic_is b (has_magic b) refl out h in
-        let blanks = kept (λ byte. not (is_blank byte)) source fits in
-        let few = length-filter_both (λ byte. not (is_blank byte)) (λ byte. not (not (is_blank byte))) (λ byte. refl) source in
-        let less = decoded_is_shorter (without_blanks source) b blanks is in
-        subst IsGood told.1 (decoded_is_bytes (without_blanks source) b blanks is, omega (arith, few, less, small), told.0)
-
-    by_magic : (t : Bool) → has_magic source ≡ t → length source ≤ MAX_SOURCE_SIZE → (out : Bytes) → cond t (Ok source) (decoded (decode_of standard (without_blanks source))) ≡ Ok out → IsGood out
-    by_magic true is small out h = let same : source ≡ out = cc h in subst IsGood same (fits, small, is)
-    by_magic false is small out h = by_base64 (decode_of standard (without_blanks source)) refl small out h
-
-    short : (t : Bool) → nat_lt MAX_SOURCE_SIZE (length source) ≡ t → (out : Bytes)
-        → cond t (Err TooLong) (cond (has_magic source) (Ok source) (decoded (decode_of standard (without_blanks source)))) ≡ Ok out → IsGood out
-    short true is out h = absurd cc
-    short false is out h = by_magic (has_magic source) refl (ltb-false _ _ is) out h
+    let b : (bytes : Bytes) × (psbt_bytes source ≡ Ok bytes) × (read_psbt bytes ≡ Ok psbt) = grind arith in
+    let are = bytes_are source b.0 b.1 in
+    elim are.2 [
+      | inl same ↦ (source, record { fits = fits; short = are.0; magic = ap has_magic same ∙ are.1; read = ap read_psbt same ∙ b.2 })
+      | inr is ↦
+          let blanks = kept (λ byte. not (is_blank byte)) source fits in
+          let few = length-filter_both (λ byte. not (is_blank byte)) (λ byte. not (not (is_blank byte))) (λ byte. refl) source in
+          let less = decoded_is_shorter (without_blanks source) b.0 blanks is in
+          (b.0, record { fits = decoded_is_bytes (without_blanks source) b.0 blanks is; short = omega (arith, few, less, are.0); magic = are.1; read = b.2 })
+    ]

@@ -1,8 +1,8 @@
 -- What the map of an input holds: keys, and assets.
-use Rattle.std.proofs.Common.{◌≡◌, ℕ, suc, ◌^◌, ◌<◌, ◌==◌, ◌&&◌, ◌||◌, nat_le, Bool, true, false, cond, List, [], ◌∷◌, ◌++◌, length, map, filter, drop, All, Option, Some, None, Ok, Err, inl, inr, refl, sym, ap, subst, ◌∙◌, append_assoc, arith}
+use Rattle.std.proofs.Common.{◌≡◌, ℕ, suc, ◌^◌, ◌<◌, ◌==◌, ◌||◌, Bool, true, false, List, [], ◌∷◌, ◌++◌, length, map, filter, All, None, Ok, Err, inl, inr, refl, sym, ap, subst, ◌∙◌, append_assoc, arith}
 use Rattle.std.specs.List.{AllByRecursion, IsDistinct}
 use Rattle.std.specs.Str.{bytes_eq}
-use Rattle.std.proofs.lemmas.Bool.{and_parts, or_parts, cases_Bool, eqb-true, leb-true, false_from_ne_true, false≢true}
+use Rattle.std.proofs.lemmas.Bool.{and_parts, or_parts, cases_Bool, eqb-true, false_from_ne_true, false≢true}
 use Rattle.std.proofs.lemmas.Slice.Eq.{bytes_eq-Decides}
 use Rattle.std.proofs.lemmas.List.Elements.{All-from_recursion, recursion_from_All}
 use Rattle.def_script.specs.Bytes.{Bytes, IsBytes}
@@ -12,11 +12,9 @@ use Rattle.def_script.proofs.Sizing.{size_has_one_spelling}
 use Rattle.def_tree.specs.Range.{IsKey}
 use Rattle.def_assets.specs.Assets.{IsSignature, IsPreimage, AreAssets, same_key}
 use Rattle.def_assets.proofs.Distinct.{distinct_pairs}
-use Rattle.def_psbt.specs.declared.PsbtFault.{PsbtFault}
-use Rattle.def_psbt.specs.declared.PsbtFault.TheVariants.{RepeatedKey, KeyForm}
-use Rattle.def_psbt.specs.Map.{Pair, Map, type_of, data_of, type_read, data_read}
-use Rattle.def_psbt.specs.Forms.{is_signature, is_der_sequence}
-use Rattle.def_psbt.specs.Listed.{Form, is_typed, stands, passes, form_fault, input_form, shape_fault, pair_fault}
+use Rattle.def_psbt.specs.Map.{Pair, Map, type_of, data_of, data_read}
+use Rattle.def_psbt.specs.Forms.{is_signature}
+use Rattle.def_psbt.specs.Listed.{Form, stands, passes, input_form, shape_fault, pair_fault}
 use Rattle.def_psbt.specs.Laws.{IsSoundMap}
 use Rattle.def_spend.specs.Fields.{PARTIAL_SIG, BIP32_DERIVATION, has_type, is_signed, signatures_in, has_key, keys_in, is_preimage_pair, preimages_in}
 use Rattle.def_spend.specs.Input.{Spend, assets_of}
@@ -43,11 +41,7 @@ data_bytes key fits = go (read_size key)
 
 -- a key with a type that isn't 0 is the type and its data
 pub key_is : (key : Bytes) (type : ℕ) → IsBytes key → type_of key ≡ suc type → key ≡ size_bytes (suc type) ++ data_of key
-key_is key type fits e = go (read_size key) refl e
-  where
-    go : (reading : SizeReading) → read_size key ≡ reading → type_read reading ≡ suc type → key ≡ size_bytes (suc type) ++ data_read reading key
-    go (Ok read) is e = size_has_one_spelling key read fits is ∙ ap (λ (n : ℕ). size_bytes n ++ drop read.1 key) e
-    go (Err fault) is e = absurd (omega (arith, e))
+key_is key type fits e = let spelled = size_has_one_spelling key in grind (arith, spelled, fits)
 
 pub keys_are : (fields : Map) → IsMapOfBytes fields → All IsKey (keys_in fields)
 keys_are fields fits =
@@ -59,13 +53,9 @@ keys_are fields fits =
 
 -- ---- the form of each pair
 
-not_again : (b : Bool) (fault : Option PsbtFault) → cond b (Some RepeatedKey) fault ≡ None → (b ≡ false) × (fault ≡ None)
-not_again true fault e = absurd cc
-not_again false fault e = (refl, e)
-
 pub fault_none : (forms : ℕ → Form) (before : Map) (pair : Pair) → pair_fault forms before pair ≡ None → (stands pair.key before ≡ false) × (shape_fault forms pair ≡ None)
 unfolding pair_fault
-fault_none forms before pair e = not_again (stands pair.key before) (shape_fault forms pair) e
+fault_none forms before pair e = grind arith
 
 -- a pair with nothing wrong by itself
 abbrev pub HasShape : (forms : ℕ → Form) → Pair → Type 0
@@ -75,17 +65,11 @@ pub shapes : (forms : ℕ → Form) (before map : Map) → IsSoundMap forms befo
 shapes forms before [] h = tt
 shapes forms before (pair ∷ map) h = ((fault_none forms before pair h.0.fault).1, shapes forms (before ++ pair ∷ []) map h.1)
 
-some_form : (b : Bool) (fault : Option PsbtFault) → cond b fault (Some KeyForm) ≡ None → (b ≡ true) × (fault ≡ None)
-some_form true fault e = (refl, e)
-some_form false fault e = absurd cc
-
 -- the form of the pair's type holds
 pub form_of : (forms : ℕ → Form) (pair : Pair) → HasShape forms pair
     → ((forms (type_of pair.key)).key (data_of pair.key) ≡ true) × ((forms (type_of pair.key)).value (data_of pair.key) pair.value ≡ None)
 unfolding shape_fault
-form_of forms pair e =
-    let typed = some_form (is_typed (read_size pair.key)) (form_fault (forms (type_of pair.key)) pair) e in
-    some_form ((forms (type_of pair.key)).key (data_of pair.key)) ((forms (type_of pair.key)).value (data_of pair.key) pair.value) typed.1
+form_of forms pair e = grind arith
 
 pub passed : (b : Bool) → passes b ≡ None → b ≡ true
 passed true e = refl
@@ -93,19 +77,12 @@ passed false e = absurd cc
 
 -- the value of a pair of the type of signatures is one
 pub signature_form : (pair : Pair) → HasShape input_form pair → has_type PARTIAL_SIG pair ≡ true → is_signature pair.value ≡ true
-unfolding input_form
-signature_form pair shape is =
-    let type : type_of pair.key ≡ 0x02 = eqb-true (type_of pair.key) 0x02 is in
-    passed (is_signature pair.value) (subst (λ (n : ℕ). (input_form n).value (data_of pair.key) pair.value ≡ None) type (form_of input_form pair shape).1)
+unfolding input_form shape_fault
+signature_form pair shape is = grind arith
 
 signature_is : (sig : Bytes) → IsBytes sig → is_signature sig ≡ true → IsSignature sig
 unfolding is_signature
-signature_is sig fits e =
-    let parts = and_parts (nat_le 9 (length sig) && nat_le (length sig) 73) (is_der_sequence sig) e in
-    let sizes = and_parts (nat_le 9 (length sig)) (nat_le (length sig) 73) parts.0 in
-    let low = leb-true 9 (length sig) sizes.0 in
-    let high = leb-true (length sig) 73 sizes.1 in
-    record { some = omega (arith, low); few = high; bytes = fits }
+signature_is sig fits e = record { some = grind arith; few = grind arith; bytes = fits }
 
 -- ---- no key signs twice
 

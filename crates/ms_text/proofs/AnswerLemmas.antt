@@ -1,5 +1,7 @@
 -- How what is read in steps is joined.
-use Rattle.std.proofs.Common.{◌≡◌, ℕ, ◌+◌, List, [], ◌∷◌, ◌++◌, Result, Err, sym, subst, ◌∙◌}
+use Rattle.std.proofs.Common.{◌≡◌, ℕ, ◌+◌, List, [], ◌∷◌, ◌++◌, Result, sym, subst, ◌∙◌}
+use Rattle.std.specs.Result.{IsErrAnd}
+use Rattle.std.proofs.lemmas.Result.{err_from_is_err_and}
 use Rattle.def_script.specs.Bytes.{Bytes}
 use Rattle.def_tree.specs.Tree.{Key}
 use Rattle.def_text.specs.Word.{key_of}
@@ -11,8 +13,8 @@ use Rattle.ms_text.proofs.StateLemmas.{takes_multi_key, takes_multi_next, key_ne
 use Rattle.ms_text.specs.Scaffolding.Place.{Refused, Answers, Takes, word_read, machine_from}
 
 -- a fault that is handed on
-pub refused : {A : Type 0} (o : Outcome) (r : Result A TextFault) (e y : TextFault) (next : A → Outcome) → r ≡ Err y → y ≡ e → Refused o e → Answers o r next
-refused o r e y next h k is = rw (h, k) is
+pub refused : {A : Type 0} (o : Outcome) (r : Result A TextFault) (e : TextFault) (next : A → Outcome) → IsErrAnd r (λ y. y ≡ e) → Refused o e → Answers o r next
+refused o r e next h is = let p = err_from_is_err_and r h in rw (p.1, p.2) is
 
 -- a fault behind what was read
 pub along : (o p : Outcome) (e : TextFault) → o ≡ p → Refused p e → Refused o e

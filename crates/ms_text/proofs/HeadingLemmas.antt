@@ -30,7 +30,6 @@ at_letter text at h = by_end (nat_lt at (length text)) refl
     by_end false e =
         let above : length text ≤ at = grind arith in
         let none : starts_letter (drop at text) ≡ false = ap starts_letter (drop_all at text above) in
-        let clash : false ≡ true = sym none ∙ h in
         absurd (cc)
 
 pub letter_is_word : (text : Bytes) (at : ℕ) → starts_letter (drop at text) ≡ true → starts_word (drop at text) ≡ true
@@ -91,5 +90,4 @@ not_letters text w at n after is longer whole more none = by_letters (letters_of
         let (below, _) = starts_at text n more in
         let letter : starts_letter (drop n text) ≡ true =
         ap starts_letter (drop-cons text n 0 below) ∙ ap is_some (ap (λ b. first_letter b LETTERS) (sym byte_is) ∙ here) in
-        let clash : true ≡ false = sym letter ∙ none in
         absurd (cc)

@@ -1,5 +1,5 @@
 -- Words that are keys, read before it is known where they end.
-use Rattle.std.proofs.Common.{◌≡◌, ℕ, zero, suc, ◌+◌, ◌-◌, ◌<◌, ◌≤◌, Bool, true, false, List, [], ◌∷◌, length, get_or, drop, take, Option, Some, None, Result, Ok, Err, refl, sym, ap, subst, ◌∙◌, arith, drop-cons, length-drop}
+use Rattle.std.proofs.Common.{◌≡◌, ℕ, zero, suc, ◌+◌, ◌-◌, ◌<◌, ◌≤◌, Bool, true, false, List, [], ◌∷◌, length, get_or, drop, take, Option, Some, None, Result, Ok, refl, sym, ap, subst, ◌∙◌, arith, drop-cons, length-drop}
 use Rattle.std.specs.Option.{option_map, option_and_then}
 use Rattle.std.specs.Result.{result_ok}
 use Rattle.std.specs.Prelude.{if◌then◌else◌, min}
@@ -37,23 +37,14 @@ all_word (b ∷ w) h =
     let (first, others) = and_parts (is_hex_digit b) (list_all is_hex_digit w) h in
     rw (hex_is_word b first, all_word w others) refl
 
-tested : (bytes key : Bytes) (b : Bool) → is_key bytes ≡ b → (if b then Some bytes else None) ≡ Some key → (bytes ≡ key) × (is_key key ≡ true)
-tested bytes key true e h = let same : bytes ≡ key = cc in (same, ap is_key (sym same) ∙ e)
-tested bytes key false e h = absurd (cc)
-
-abbrev of_decoded : Result Bytes FromHexError → Option Key
-of_decoded r = option_and_then (λ bytes. if is_key bytes then Some bytes else None) (result_ok r)
-
-key_decoded : (key : Key) (r : Result Bytes FromHexError) (w : Bytes) → decode_of w ≡ r → key_of w ≡ Some key → (decode_of w ≡ Ok key) × (is_key key ≡ true)
-key_decoded key (Ok bytes) w e h =
-    let k : (if is_key bytes then Some bytes else None) ≡ Some key = ap of_decoded (sym e) ∙ h in
-    let (same, is) = tested bytes key (is_key bytes) refl k in
-    (e ∙ ap Ok same, is)
-key_decoded key (Err f) w e h = let clash : None ≡ Some key = ap of_decoded (sym e) ∙ h in absurd (cc)
+-- what a word of hexadecimal digits spells was decoded, and is a key
+decoded : (r : Result (List ℕ) FromHexError) (key : Key) → option_and_then (λ (v : Bytes). if is_key v then Some v else None) (result_ok r) ≡ Some key →
+    (r ≡ Ok key) × (is_key key ≡ true)
+decoded r key = grind arith
 
 pub key_word : (w : Bytes) (key : Key) → key_of w ≡ Some key → (length w ≡ 66) × (list_all is_word_byte w ≡ true)
 key_word w key h =
-    let (e, is) = key_decoded key (decode_of w) w refl h in
+    let (e, is) = decoded (decode_of w) key h in
     let all = decode_of-ok w key e in
     let n = key_length key is in
     (omega (arith, all.2, n), all_word w (list_all-from_AllPass is_hex_digit w all.1))
@@ -141,8 +132,7 @@ module _ (text digits : Bytes) (at : ℕ) (p : IsPlace text at) (is : digits ≡
           let (long, _) = key_word w.bytes key e in
           let same : w.bytes ≡ digits = w.is ∙ (ap (λ k. take k (drop at text)) long ∙ sym is) in
           let whole : starts_word (drop (at + length digits) text) ≡ false = ap (λ v. starts_word (drop (at + length v) text)) (sym same) ∙ w.whole in
-          let clash : false ≡ true = sym whole ∙ bad key (ap key_of (sym same) ∙ e) in
-          absurd (cc)
+          absurd (cc (bad key (ap key_of (sym same) ∙ e)))
 
 -- ---- fragments of a key
 

@@ -2,15 +2,11 @@
 use Rattle.std.proofs.Common.{◌≡◌, ◌<◌, true, List, [], ◌∷◌, length, Option, Some, None, is_some, refl, sym, ap, ◌∙◌, arith}
 use Rattle.def_script.specs.Bytes.{Bytes}
 use Rattle.def_text.specs.Letter.{Letter, letter_byte}
-use Rattle.std.specs.Option.{option_map}
 use Rattle.std.proofs.lemmas.List.{length-map}
 use Rattle.hex.proofs.OnLiterals.{hex_on_literals}
-use Rattle.def_tree.specs.declared.Wrapper.TheVariants.{C}
-use Rattle.def_tree.specs.Tree.{pk_k, pk_h, hash, wrap}
-use Rattle.def_text.specs.Word.{number_of, key_of, hash_of}
-use Rattle.def_hash.specs.declared.HashKind.{HashKind}
+use Rattle.def_text.specs.Word.{number_of, key_of}
 use Rattle.def_hash.specs.declared.HashKind.TheVariants.{Sha256}
-use Rattle.def_text.specs.Scaffolding.Reader.{Leaf, leaf_pk_k, leaf_pk_h, leaf_pk, leaf_pkh, leaf_older, leaf_after, leaf_hash, leaf_of, FORMS, first_named, letters_of, head_from}
+use Rattle.def_text.specs.Scaffolding.Reader.{Leaf, leaf_hash, leaf_of, FORMS, first_named, letters_of, head_from}
 use Rattle.def_text.proofs.Words.{word_is}
 use Rattle.ms_text.specs.Scaffolding.Names.{IsLetters}
 
@@ -31,19 +27,11 @@ pub no_empty_key : key_of [] ≡ None
 unfolding hex_on_literals
 no_empty_key = refl
 
-no_empty_hash : (kind : HashKind) → hash_of kind [] ≡ None
-unfolding hex_on_literals
-no_empty_hash Sha256 = refl
-no_empty_hash kind = refl
-
 pub no_empty_leaf : (leaf : Leaf) → leaf_of leaf [] ≡ None
-no_empty_leaf leaf_pk_k = ap (option_map pk_k) no_empty_key
-no_empty_leaf leaf_pk_h = ap (option_map pk_h) no_empty_key
-no_empty_leaf leaf_pk = ap (option_map (λ key. wrap C (pk_k key))) no_empty_key
-no_empty_leaf leaf_pkh = ap (option_map (λ key. wrap C (pk_h key))) no_empty_key
-no_empty_leaf leaf_older = refl
-no_empty_leaf leaf_after = refl
-no_empty_leaf (leaf_hash kind) = ap (option_map (hash kind)) (no_empty_hash kind)
+unfolding hex_on_literals
+no_empty_leaf (leaf_hash Sha256) = refl
+no_empty_leaf (leaf_hash kind) = refl
+no_empty_leaf leaf = refl
 
 pub letters_are_long : (w : Bytes) (ls : List Letter) → letters_of w ≡ Some ls → length ls ≡ length w
 letters_are_long w ls h = sym (ap length (word_is w ls h) ∙ length-map ls letter_byte)

@@ -9,7 +9,6 @@ use Rattle.def_text.specs.Scaffolding.Reader.{joined, Pair, pair_two, pair_and_n
 use Rattle.def_script.specs.Bytes.{Bytes}
 use Rattle.ms_tree.specs.declared.tree.Tree.{Tree}
 use Rattle.ms_tree.specs.declared.tree.Leaf.{Leaf}
-use Rattle.ms_tree.specs.declared.tree.Leaf.TheVariants as leaf
 use Rattle.ms_tree.specs.Shape.{leaf_shape, shape, shapes}
 use Rattle.ms_text.specs.declared.forms.Part.{Part}
 use Rattle.ms_text.specs.declared.names.LeafName.{LeafName}
@@ -51,12 +50,10 @@ joined_writable (model.more y ys) x h k = (h.0, joined_writable ys x h.1 k)
 -- ---- a fragment of one word
 
 leaf_measure : (v : Leaf) → measure (leaf_shape v) ≡ 1
-leaf_measure leaf.Zero = refl
-leaf_measure v = refl
+leaf_measure v = grind arith
 
 leaf_depth : (v : Leaf) → depth (leaf_shape v) ≡ 1
-leaf_depth leaf.Zero = refl
-leaf_depth v = refl
+leaf_depth v = grind arith
 
 -- it is its leaf, or a wrapper on it
 record IsSmall (x y : model.Tree) : Type 0 where

@@ -1,11 +1,10 @@
 -- The first token at a place, and what a state makes of it.
-use Rattle.std.proofs.Common.{◌≡◌, ◌≢◌, ℕ, zero, suc, ◌-◌, ◌+◌, ◌==◌, ◌<◌, ◌≤◌, Bool, true, false, List, [], ◌∷◌, ◌++◌, length, drop, take, get_or, Option, Some, None, refl, sym, ap, ◌∙◌, subst, arith, drop-cons, add-one, length-drop}
+use Rattle.std.proofs.Common.{inl, inr, ◌≡◌, ◌≢◌, ℕ, zero, suc, ◌-◌, ◌+◌, ◌==◌, ◌<◌, ◌≤◌, Bool, true, false, List, [], ◌∷◌, ◌++◌, length, drop, take, get_or, Option, Some, None, refl, sym, ap, ◌∙◌, subst, arith, drop-cons, add-one, length-drop}
 use Rattle.std.specs.Option.{option_map}
 use Rattle.std.specs.List.{list_all}
 use Rattle.std.specs.Str.{byte}
-use Rattle.std.specs.Prelude.{nat_lt}
 use Rattle.std.proofs.lemmas.List.{drop_all, drop-drop, take-append-drop, length-take, get_or-drop}
-use Rattle.std.proofs.lemmas.Bool.{and_parts}
+use Rattle.std.proofs.lemmas.Bool.{and_parts, cases_lt, eq-eqb}
 use Rattle.def_text.proofs.Cut as cut
 use Rattle.def_text.proofs.PrintedWords.{word_byte}
 use Rattle.std.proofs.lemmas.Bool.{eqb-true}
@@ -36,12 +35,6 @@ goes read s next t ts us v h is e = ap (outcome s) is ∙ takes read s next t us
 pub stops : {A : Type 0} (read : Token → Option A) (s : State) (next : A → State) (t : Token) (ts us : List Token) (at : ℕ) → Takes read s next → ts ≡ t ∷ us →
     offset t ≡ at → read t ≡ None → outcome s ts ≡ syntax_outcome at
 stops read s next t ts us at h is there e = ap (outcome s) is ∙ (takes read s next t us None h e ∙ ap syntax_outcome there)
-
-below : (n m : ℕ) → nat_lt n m ≡ true → n < m
-below n m h = grind arith
-
-not_below : (n m : ℕ) → nat_lt n m ≡ false → m ≤ n
-not_below n m h = grind arith
 
 -- ---- the first token at a place
 
@@ -110,20 +103,16 @@ by_first read at b ts words marks others (first_mark mark.Comma h is n) = record
 by_first read at b ts words marks others (first_mark mark.Colon h is n) = record { token = colon at; later = ts; is = is; there = refl; none = marks mark.Colon h }
 by_first read at b ts words marks others (first_other is n) = record { token = other at; later = ts; is = is; there = refl; none = others }
 
-by_place : {A : Type 0} (read : Token → Option A) (text : Bytes) (at : ℕ) (within : Bool) → IsPlace text at → nat_lt at (length text) ≡ within →
+by_place : {A : Type 0} (read : Token → Option A) (text : Bytes) (at : ℕ) → IsPlace text at →
     (at < length text → Elsewhere read (byte_before at (get_or text at 0) (rest text (at + 1))) at) → read (end at) ≡ None →
     Elsewhere read (rest text at) at
-by_place read text at true p e inside outside = let h : at < length text = below at (length text) e in subst (λ ts. Elsewhere read ts at) (sym (rest_cons text at h)) (inside h)
-by_place read text at false p e inside outside =
-    let h : length text ≤ at = not_below at (length text) e in
-    record { token = end at; later = []; is = rest_end text at h; there = refl; none = outside }
+by_place read text at p inside outside = elim (cases_lt at (length text)) [
+  | inl h ↦ subst (λ ts. Elsewhere read ts at) (sym (rest_cons text at h)) (inside h)
+  | inr h ↦ record { token = end at; later = []; is = rest_end text at h; there = refl; none = outside }
+]
 
 other_mark : (m n : Mark) (at b : ℕ) → b ≢ mark_code m → b ≡ mark_code n → mark_read m (mark_token n at) ≡ None
-other_mark mark.Open mark.Open at b differs is = absurd (differs is)
-other_mark mark.Close mark.Close at b differs is = absurd (differs is)
-other_mark mark.Comma mark.Comma at b differs is = absurd (differs is)
-other_mark mark.Colon mark.Colon at b differs is = absurd (differs is)
-other_mark m n at b differs is = refl
+other_mark m n at b differs is = grind arith
 
 no_word_read : (m : Mark) (at : ℕ) (w : Bytes) → mark_read m (word at w) ≡ None
 no_word_read m at w = grind arith
@@ -133,21 +122,18 @@ no_other_read m at = (grind arith, grind arith)
 
 pub mark_elsewhere : (text : Bytes) (at : ℕ) (m : Mark) → IsPlace text at → (at < length text → get_or text at 0 ≢ mark_code m) → Elsewhere (mark_read m) (rest text at) at
 mark_elsewhere text at m p differs =
-    by_place (mark_read m) text at (nat_lt at (length text)) p refl
+    by_place (mark_read m) text at p
     (λ h. by_first (mark_read m) at (get_or text at 0) (rest text (at + 1)) (λ w _. no_word_read m at w) (λ n. other_mark m n at (get_or text at 0) (differs h)) (no_other_read m at).0
     (first_at at (get_or text at 0) (rest text (at + 1)) (begins text at p h)))
     (no_other_read m at).1
 
 other_separator : (n : Mark) (at b : ℕ) → b ≢ 44 → b ≢ 41 → b ≡ mark_code n → separator_read (mark_token n at) ≡ None
-other_separator mark.Open at b f g is = refl
-other_separator mark.Close at b f g is = absurd (g is)
-other_separator mark.Comma at b f g is = absurd (f is)
-other_separator mark.Colon at b f g is = refl
+other_separator n at b f g is = grind arith
 
 pub separator_elsewhere : (text : Bytes) (at : ℕ) → IsPlace text at → (at < length text → get_or text at 0 ≢ 44) → (at < length text → get_or text at 0 ≢ 41)
     → Elsewhere separator_read (rest text at) at
 separator_elsewhere text at p f g =
-    by_place separator_read text at (nat_lt at (length text)) p refl
+    by_place separator_read text at p
     (λ h. by_first separator_read at (get_or text at 0) (rest text (at + 1)) (λ w _. refl) (λ n. other_separator n at (get_or text at 0) (f h) (g h)) refl
     (first_at at (get_or text at 0) (rest text (at + 1)) (begins text at p h)))
     refl
@@ -180,26 +166,15 @@ place_behind_mark text at m p h e = place_behind text at p h (omega (arith, e, m
 -- ---- a byte at a place
 
 pub byte_at : (text : Bytes) (at b : ℕ) → begins_with b (drop at text) ≡ true → (at < length text) × (get_or text at 0 ≡ b)
-byte_at text at b h = byte_by (nat_lt at (length text)) refl
-  where
-    byte_by : (within : Bool) → nat_lt at (length text) ≡ within → (at < length text) × (get_or text at 0 ≡ b)
-    byte_by true e =
-        let l : at < length text = below at (length text) e in
-        (l, eqb-true (get_or text at 0) b (ap (begins_with b) (sym (drop-cons text at 0 l)) ∙ h))
-    byte_by false e =
-        let none : begins_with b (drop at text) ≡ false = ap (begins_with b) (drop_all at text (not_below at (length text) e)) in
-        let clash : false ≡ true = sym none ∙ h in
-        absurd (cc)
+byte_at text at b h = elim (cases_lt at (length text)) [
+  | inl l ↦ (l, eqb-true (get_or text at 0) b (ap (begins_with b) (sym (drop-cons text at 0 l)) ∙ h))
+  | inr none ↦ (let out : begins_with b (drop at text) ≡ false = ap (begins_with b) (drop_all at text none) in absurd (cc))
+]
 
 pub no_byte_at : (text : Bytes) (at b : ℕ) → begins_with b (drop at text) ≡ false → at < length text → get_or text at 0 ≢ b
 no_byte_at text at b h l is =
     let here : begins_with b (drop at text) ≡ (get_or text at 0 == b) = ap (begins_with b) (drop-cons text at 0 l) in
-    let same : (get_or text at 0 == b) ≡ true = eqb-along (get_or text at 0) b is in
-    let clash : false ≡ true = sym h ∙ (here ∙ same) in
-    cc
-  where
-    eqb-along : (m k : ℕ) → m ≡ k → (m == k) ≡ true
-    eqb-along m k e = grind arith
+    cc (eq-eqb (get_or text at 0) b is)
 
 -- ---- words
 
@@ -207,14 +182,10 @@ pub word_is_ascii : (b : ℕ) → is_word_byte b ≡ true → b < 128
 word_is_ascii b h = grind arith
 
 pub starts_at : (text : Bytes) (at : ℕ) → starts_word (drop at text) ≡ true → (at < length text) × (is_word_byte (get_or text at 0) ≡ true)
-starts_at text at h = starts_by text at (nat_lt at (length text)) refl h
-  where
-    starts_by : (text : Bytes) (at : ℕ) (within : Bool) → nat_lt at (length text) ≡ within → starts_word (drop at text) ≡ true → (at < length text) × (is_word_byte (get_or text at 0) ≡ true)
-    starts_by text at true e h = let l : at < length text = below at (length text) e in (l, ap starts_word (sym (drop-cons text at 0 l)) ∙ h)
-    starts_by text at false e h =
-        let none : starts_word (drop at text) ≡ false = ap starts_word (drop_all at text (not_below at (length text) e)) in
-        let clash : false ≡ true = sym none ∙ h in
-        absurd (cc)
+starts_at text at h = elim (cases_lt at (length text)) [
+  | inl l ↦ (l, ap starts_word (sym (drop-cons text at 0 l)) ∙ h)
+  | inr none ↦ (let out : starts_word (drop at text) ≡ false = ap starts_word (drop_all at text none) in absurd (cc))
+]
 
 pub all_more : (xs : Bytes) (k : ℕ) → k < length xs → list_all is_word_byte (take k xs) ≡ true → is_word_byte (get_or xs k 0) ≡ true →
     list_all is_word_byte (take (suc k) xs) ≡ true
@@ -244,22 +215,20 @@ no_word_mark : (m : Mark) (at : ℕ) → (is_word (mark_token m at) ≡ false) �
 no_word_mark m at = (grind arith, grind arith)
 
 no_word_by : (at b : ℕ) (ts : List Token) → is_word_byte b ≡ false → First at b ts → NoWord (byte_before at b ts) at
-no_word_by at b ts f (first_word h w later is) = let clash : true ≡ false = sym h ∙ f in absurd (cc)
+no_word_by at b ts f (first_word h w later is) = absurd (cc)
 no_word_by at b ts f (first_mark m h is _) =
     record { token = mark_token m at; later = ts; is = is; there = (no_word_mark m at).1; other = (no_word_mark m at).0 }
 no_word_by at b ts f (first_other is _) = record { token = other at; later = ts; is = is; there = refl; other = refl }
 
 -- no word stands where no byte of a word does
-no_word_within : (text : Bytes) (at : ℕ) (within : Bool) → IsPlace text at → nat_lt at (length text) ≡ within → starts_word (drop at text) ≡ false → NoWord (rest text at) at
-no_word_within text at true p e h =
-    let l : at < length text = below at (length text) e in
-    let f : is_word_byte (get_or text at 0) ≡ false = ap starts_word (sym (drop-cons text at 0 l)) ∙ h in
-    subst (λ ts. NoWord ts at) (sym (rest_cons text at l))
-    (no_word_by at (get_or text at 0) (rest text (at + 1)) f (first_at at (get_or text at 0) (rest text (at + 1)) (begins text at p l)))
-no_word_within text at false p e h = record { token = end at; later = []; is = rest_end text at (not_below at (length text) e); there = refl; other = refl }
-
 no_word : (text : Bytes) (at : ℕ) → IsPlace text at → starts_word (drop at text) ≡ false → NoWord (rest text at) at
-no_word text at p h = no_word_within text at (nat_lt at (length text)) p refl h
+no_word text at p h = elim (cases_lt at (length text)) [
+  | inl l ↦
+      let f : is_word_byte (get_or text at 0) ≡ false = ap starts_word (sym (drop-cons text at 0 l)) ∙ h in
+      subst (λ ts. NoWord ts at) (sym (rest_cons text at l))
+      (no_word_by at (get_or text at 0) (rest text (at + 1)) f (first_at at (get_or text at 0) (rest text (at + 1)) (begins text at p l)))
+  | inr out ↦ record { token = end at; later = []; is = rest_end text at out; there = refl; other = refl }
+]
 
 no_start : (ts : List Token) (at : ℕ) → NoWord ts at → cut.starts_word ts ≡ false
 no_start ts at n = ap cut.starts_word n.is ∙ (sym (same_word n.token) ∙ n.other)
@@ -306,7 +275,7 @@ no_word_value value t h = refl
 
 pub word_goes : {A : Type 0} (value : Bytes → Option A) (text : Bytes) (at : ℕ) (w : Bytes) (s : State) (next : A → State) (v : A) → value [] ≡ None → FirstWord text at w →
     value w ≡ Some v → Takes (word_read value) s next → machine_from s text at ≡ machine_from (next v) text (at + length w)
-word_goes value text at [] s next v empty first e t = let clash : None ≡ Some v = sym empty ∙ e in absurd (cc)
+word_goes value text at [] s next v empty first e t = absurd (cc)
 word_goes value text at (b ∷ w) s next v empty first e t =
     goes (word_read value) s next (word at (b ∷ w)) (rest text at) (rest text (at + length (b ∷ w))) v t first e
 
@@ -318,7 +287,7 @@ word_stops value text at (b ∷ w) s next first e t =
     stops (word_read value) s next (word at (b ∷ w)) (rest text at) (rest text (at + length (b ∷ w))) at t first refl e
 
 pub word_some : {A : Type 0} (value : Bytes → Option A) (w : Bytes) (v : A) → value [] ≡ None → value w ≡ Some v → 0 < length w
-word_some value [] v empty e = let clash : None ≡ Some v = sym empty ∙ e in absurd (cc)
+word_some value [] v empty e = absurd (cc)
 word_some value (b ∷ w) v empty e = omega arith
 
 -- what stands before the end of a text isn't the end

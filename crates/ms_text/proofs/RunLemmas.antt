@@ -10,7 +10,7 @@ use Rattle.def_tree.specs.Range.{IsWritable}
 use Rattle.def_text.specs.Token.{Token}
 use Rattle.def_text.proofs.Outcomes.{outcome-letter}
 use Rattle.def_script.specs.Bytes.{Bytes}
-use Rattle.def_tree.specs.declared.Wrapper.TheVariants.{A, S, C, D, V, J, N}
+use Rattle.def_tree.specs.declared.Wrapper.TheVariants.{A}
 use Rattle.def_text.specs.Letter.{Letter, letter_of_wrapper, letter_t, letter_l, letter_u, letter_byte, letter_tree}
 use Rattle.def_text.proofs.Words.{word_is}
 use Rattle.def_text.specs.Scaffolding.Reader.{Frame, LETTERS, first_letter, letters_of, letter_frame, colon_next, run_frames, run_offsets, offsets_before, offsets_behind, ended, outcome}
@@ -42,16 +42,9 @@ before_letter : (b a : ℕ) (l : Letter) (os : List ℕ) → first_letter b LETT
 before_letter b a l os h = rw (letter_is b l h) (before_byte l)
   where
     before_byte : (l : Letter) → (if letter_byte l == byte "l" then os ++ a ∷ [] else os) ≡ os ++ offsets_before l a
-    before_byte (letter_of_wrapper A) = sym (append-nil os)
-    before_byte (letter_of_wrapper S) = sym (append-nil os)
-    before_byte (letter_of_wrapper C) = sym (append-nil os)
-    before_byte (letter_of_wrapper D) = sym (append-nil os)
-    before_byte (letter_of_wrapper V) = sym (append-nil os)
-    before_byte (letter_of_wrapper J) = sym (append-nil os)
-    before_byte (letter_of_wrapper N) = sym (append-nil os)
-    before_byte letter_t = sym (append-nil os)
     before_byte letter_l = refl
-    before_byte letter_u = sym (append-nil os)
+    before_byte (letter_of_wrapper A) = sym (append-nil os)
+    before_byte l = sym (append-nil os)
 
 pub run_offsets_are_of : (w : Bytes) (ls : List Letter) (a : ℕ) (os : List ℕ) → letters_of w ≡ Some ls → run_offsets a ls os ≡ offsets_before_run a w os
 run_offsets_are_of [] ls a os h = let none : ls ≡ [] = cc in ap (λ ms. run_offsets a ms os) none
@@ -95,7 +88,6 @@ no_other_byte w i h below none = other_by (letters_of w) refl h
     other_by None e s = absurd (cc)
     other_by (Some ls) e s =
         let (l, here, more) = letter_at w ls i e below in
-        let clash : None ≡ Some l = none ∙ here in
         cc
 
 module _ (w : Bytes) (name : ℕ) (x y : Tree) (fs : List Frame) (os : List ℕ) (ls : List Letter) (ts : List Token) where

@@ -16,7 +16,7 @@ decoded_by n w bytes h =
 pub decoded_ok : (n : ℕ) (w : Bytes) (d : Result (List ℕ) FromHexError) (r : Result Unit FromHexError) (out : List ℕ) → decode_sized w n ≡ d →
     MatchResult d (λ bytes. (r ≡ Ok tt) × (out ≡ bytes)) (λ e. r ≡ Err e) → r ≡ Ok tt → DecodesTo n w (Some out)
 decoded_ok n w (Ok bytes) r out h m is = subst (λ b. DecodesTo n w (Some b)) (sym m.1) (decoded_by n w bytes h)
-decoded_ok n w (Err e) r out h m is = let clash : Err e ≡ Ok tt = sym m ∙ is in absurd (cc)
+decoded_ok n w (Err e) r out h m is = absurd (cc)
 
 pub decoded_err : (n : ℕ) (w : Bytes) (d : Result (List ℕ) FromHexError) (r : Result Unit FromHexError) (out : List ℕ) (e : FromHexError) → decode_sized w n ≡ d →
     MatchResult d (λ bytes. (r ≡ Ok tt) × (out ≡ bytes)) (λ e. r ≡ Err e) → r ≡ Err e → DecodesTo n w None

@@ -1,5 +1,4 @@
 use Rattle.std.proofs.Common.{sym, ap, ◌∙◌}
-use Rattle.std.proofs.lemmas.Result.{err_from_is_err_and}
 use Rattle.ms_text.specs.Scaffolding.Leaves.{leaf_tree, leaf_of_key}
 use Rattle.ms_text.specs.Scaffolding.Place.{machine_from}
 use Rattle.ms_text.proofs.AnswerLemmas.{refused}
@@ -8,8 +7,7 @@ use Rattle.ms_text.proofs.arguments.key_argument_at.Goals as goal
 
 pub returns-in_err-key-clause-reads : goal.returns-in_err-key-clause-reads
 returns-in_err-key-clause-reads c = λ s next t.
-    let p = err_from_is_err_and c.from_residual.result c.from_residual.ensures.1 in
-    refused _ _ _ _ _ p.1 p.2 (c.in_err-key.ensures.reads s (λ key. next (leaf_tree c.args.name (leaf_of_key c.args.name key))) (takes_of_key c.args.name s next c.requires.name t))
+    refused _ _ _ _ c.from_residual.ensures.1 (c.in_err-key.ensures.reads s (λ key. next (leaf_tree c.args.name (leaf_of_key c.args.name key))) (takes_of_key c.args.name s next c.requires.name t))
 
 pub returns-clause-reads : goal.returns-clause-reads
 returns-clause-reads c = λ s next t.

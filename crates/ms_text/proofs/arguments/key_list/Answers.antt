@@ -1,8 +1,6 @@
 use Rattle.std.proofs.Common.{rules, ◌≡◌, ◌+◌, [], ◌∷◌, ◌++◌, ap, ◌∙◌, length, length-append, arith}
 use Rattle.std.proofs.lemmas.List.Elements.{All-push}
-use Rattle.std.proofs.lemmas.Result.{err_from_is_err_and}
 use Rattle.def_tree.specs.Range.{IsKey}
-use Rattle.def_text.specs.Scaffolding.Reader.{multi_comma, multi_key, multi_next}
 use Rattle.ms_text.specs.declared.tokens.Separator.TheVariants as separator
 use Rattle.ms_text.specs.Scaffolding.Place.{machine_from}
 use Rattle.ms_text.proofs.AnswerLemmas.{refused, along, key_read, key_behind}
@@ -11,8 +9,7 @@ use Rattle.ms_text.proofs.arguments.key_list.Goals as goal
 
 pub returns-in_err-at-clause-reads : goal.returns-in_err-at-clause-reads
 returns-in_err-at-clause-reads c = λ k fs os.
-    let p = err_from_is_err_and c.from_residual.result c.from_residual.ensures.1 in
-    refused _ _ _ _ _ p.1 p.2 (c.in_err-at.ensures.reads (multi_comma k, fs, os) (multi_key k [], fs, os) (takes_multi_comma k fs os))
+    refused _ _ _ _ c.from_residual.ensures.1 (c.in_err-at.ensures.reads _ _ (takes_multi_comma k fs os))
 
 pub loop-keys-init : goal.loop-keys-init
 loop-keys-init c = record {
@@ -20,24 +17,21 @@ loop-keys-init c = record {
   measure = omega (arith, ap length c.new-keys.ensures.items, c.in_ok-at.ensures.next);
   writable = search rules;
   reads = λ k fs os.
-      rw c.new-keys.ensures.items (c.in_ok-at.ensures.reads (multi_comma k, fs, os) (multi_key k [], fs, os) (takes_multi_comma k fs os));
+      rw c.new-keys.ensures.items (c.in_ok-at.ensures.reads _ _ (takes_multi_comma k fs os));
 }
 
 pub returns-in_err-read-clause-reads : goal.returns-in_err-read-clause-reads
 returns-in_err-read-clause-reads c = λ k fs os.
-    let p = err_from_is_err_and c.from_residual-in_err-read.result c.from_residual-in_err-read.ensures.1 in
-    refused _ _ _ _ _ p.1 p.2 (along _ _ _ (c.loop-keys.invariant.reads k fs os)
-    (c.in_err-read.ensures.reads (multi_key k c.loop-keys.keys.items, fs, os) (λ key. (multi_next k (c.loop-keys.keys.items ++ key ∷ []), fs, os))
-    (takes_multi_key k c.loop-keys.keys.items fs os)))
+    refused _ _ _ _ c.from_residual-in_err-read.ensures.1 (along _ _ _ (c.loop-keys.invariant.reads k fs os)
+    (c.in_err-read.ensures.reads _ _ (takes_multi_key k c.loop-keys.keys.items fs os)))
 
 pub returns-in_err-found-clause-reads : goal.returns-in_err-found-clause-reads
 returns-in_err-found-clause-reads c = λ k fs os.
-    let p = err_from_is_err_and c.from_residual-in_err-found.result c.from_residual-in_err-found.ensures.1 in
     let keys = c.loop-keys.keys.items ++ c.in_ok-read.read.value ∷ [] in
-    refused _ _ _ _ _ p.1 p.2 (along _ _ _
+    refused _ _ _ _ c.from_residual-in_err-found.ensures.1 (along _ _ _
     (key_read c.args.text.now c.args.at c.loop-keys.at c.in_ok-read.read.end c.loop-keys.keys.items c.in_ok-read.read.value k fs os
     (c.loop-keys.invariant.reads k fs os) c.in_ok-read.ensures.reads)
-    (c.in_err-found.ensures.reads (multi_next k keys, fs, os) (key_next k keys fs os) (takes_multi_next k keys fs os)))
+    (c.in_err-found.ensures.reads _ _ (takes_multi_next k keys fs os)))
 
 pub returns-then-eq-clause-reads : goal.returns-then-eq-clause-reads
 returns-then-eq-clause-reads c = λ k fs os.

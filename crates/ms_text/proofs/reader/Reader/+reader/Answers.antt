@@ -1,5 +1,4 @@
 use Rattle.std.proofs.Common.{rules, ◌≡◌, ◌+◌, [], ◌∷◌, ◌++◌, ap, subst, sym, ◌∙◌, arith}
-use Rattle.std.proofs.lemmas.Result.{err_from_is_err_and}
 use Rattle.def_tree.specs.Tree.{thresh, more, none}
 use Rattle.def_text.specs.Scaffolding.Reader as machine
 use Rattle.ms_tree.specs.Shape.{shape, shapes}
@@ -19,32 +18,20 @@ use Rattle.ms_text.proofs.reader.Reader.+reader.Goals as goal
 
 pub pair_form-returns-in_err-x-clause-reads : goal.pair_form-returns-in_err-x-clause-reads
 pair_form-returns-in_err-x-clause-reads t c = λ fs l.
-    let p = err_from_is_err_and c.from_residual.result c.from_residual.ensures.1 in
-    refused _ _ _ _ _ p.1 p.2
-    (c.in_err-x.ensures.reads (machine.pair_open (pair_of c.args.pair) c.args.name, fs, c.args.offsets.now.items)
-    (machine.pair_first (pair_of c.args.pair) c.args.name ∷ fs) (takes_pair_open (pair_of c.args.pair) c.args.name fs c.args.offsets.now.items)
-    (omega (arith, l)))
+    refused _ _ _ _ c.from_residual.ensures.1
+    (c.in_err-x.ensures.reads _ _ (takes_pair_open (pair_of c.args.pair) c.args.name fs _) (omega (arith, l)))
 
 pub pair_form-returns-in_err-y-clause-reads : goal.pair_form-returns-in_err-y-clause-reads
 pair_form-returns-in_err-y-clause-reads t c = λ fs l.
-    let p = err_from_is_err_and c.from_residual-in_err-y.result c.from_residual-in_err-y.ensures.1 in
-    refused _ _ _ _ _ p.1 p.2 (along _ _ _
-    (c.in_ok-x.ensures.reads (machine.pair_open (pair_of c.args.pair) c.args.name, fs, c.args.offsets.now.items)
-    (machine.pair_first (pair_of c.args.pair) c.args.name ∷ fs) (takes_pair_open (pair_of c.args.pair) c.args.name fs c.args.offsets.now.items)
-    (omega (arith, l)))
-    (c.in_err-y.ensures.reads (machine.ended (shape c.in_ok-x.x.tree), machine.pair_first (pair_of c.args.pair) c.args.name ∷ fs, c.child.new.offsets.items)
-    (machine.pair_second (pair_of c.args.pair) (shape c.in_ok-x.x.tree) c.args.name ∷ fs)
-    (takes_pair_first (pair_of c.args.pair) (shape c.in_ok-x.x.tree) c.args.name fs c.child.new.offsets.items) (omega (arith, l))))
+    refused _ _ _ _ c.from_residual-in_err-y.ensures.1 (along _ _ _
+    (c.in_ok-x.ensures.reads _ _ (takes_pair_open (pair_of c.args.pair) c.args.name fs _) (omega (arith, l)))
+    (c.in_err-y.ensures.reads _ _ (takes_pair_first (pair_of c.args.pair) (shape c.in_ok-x.x.tree) c.args.name fs _) (omega (arith, l))))
 
 pub pair_form-returns-clause-reads : goal.pair_form-returns-clause-reads
 pair_form-returns-clause-reads t c = λ fs l.
     answers_along _ _ _ _
-    (c.in_ok-x.ensures.reads (machine.pair_open (pair_of c.args.pair) c.args.name, fs, c.args.offsets.now.items)
-    (machine.pair_first (pair_of c.args.pair) c.args.name ∷ fs) (takes_pair_open (pair_of c.args.pair) c.args.name fs c.args.offsets.now.items)
-    (omega (arith, l))
-    ∙ c.in_ok-y.ensures.reads (machine.ended (shape c.in_ok-x.x.tree), machine.pair_first (pair_of c.args.pair) c.args.name ∷ fs, c.child.new.offsets.items)
-    (machine.pair_second (pair_of c.args.pair) (shape c.in_ok-x.x.tree) c.args.name ∷ fs)
-    (takes_pair_first (pair_of c.args.pair) (shape c.in_ok-x.x.tree) c.args.name fs c.child.new.offsets.items) (omega (arith, l)))
+    (c.in_ok-x.ensures.reads _ _ (takes_pair_open (pair_of c.args.pair) c.args.name fs _) (omega (arith, l))
+    ∙ c.in_ok-y.ensures.reads _ _ (takes_pair_first (pair_of c.args.pair) (shape c.in_ok-x.x.tree) c.args.name fs _) (omega (arith, l)))
     (c.closed_pair.ensures.reads fs)
 
 pub pair_form-returns-clause-part : goal.pair_form-returns-clause-part
@@ -56,53 +43,27 @@ pair_form-returns-clause-part t c =
 
 pub and_or_form-returns-in_err-x-clause-reads : goal.and_or_form-returns-in_err-x-clause-reads
 and_or_form-returns-in_err-x-clause-reads t c = λ fs l.
-    let p = err_from_is_err_and c.from_residual.result c.from_residual.ensures.1 in
-    refused _ _ _ _ _ p.1 p.2
-    (c.in_err-x.ensures.reads (machine.andor_open c.args.name, fs, c.args.offsets.now.items) (machine.andor_first c.args.name ∷ fs)
-    (takes_andor_open c.args.name fs c.args.offsets.now.items) (omega (arith, l)))
+    refused _ _ _ _ c.from_residual.ensures.1 (c.in_err-x.ensures.reads _ _ (takes_andor_open c.args.name fs _) (omega (arith, l)))
 
 pub and_or_form-returns-in_err-y-clause-reads : goal.and_or_form-returns-in_err-y-clause-reads
 and_or_form-returns-in_err-y-clause-reads t c = λ fs l.
-    let p = err_from_is_err_and c.from_residual-in_err-y.result c.from_residual-in_err-y.ensures.1 in
-    refused _ _ _ _ _ p.1 p.2 (along _ _ _
-    (c.in_ok-x.ensures.reads (machine.andor_open c.args.name, fs, c.args.offsets.now.items) (machine.andor_first c.args.name ∷ fs)
-    (takes_andor_open c.args.name fs c.args.offsets.now.items) (omega (arith, l)))
-    (c.in_err-y.ensures.reads (machine.ended (shape c.in_ok-x.x.tree), machine.andor_first c.args.name ∷ fs, c.child.new.offsets.items)
-    (machine.andor_second (shape c.in_ok-x.x.tree) c.args.name ∷ fs) (takes_andor_first (shape c.in_ok-x.x.tree) c.args.name fs c.child.new.offsets.items)
-    (omega (arith, l))))
+    refused _ _ _ _ c.from_residual-in_err-y.ensures.1 (along _ _ _
+    (c.in_ok-x.ensures.reads _ _ (takes_andor_open c.args.name fs _) (omega (arith, l)))
+    (c.in_err-y.ensures.reads _ _ (takes_andor_first (shape c.in_ok-x.x.tree) c.args.name fs _) (omega (arith, l))))
 
 pub and_or_form-returns-in_err-z-clause-reads : goal.and_or_form-returns-in_err-z-clause-reads
 and_or_form-returns-in_err-z-clause-reads t c = λ fs l.
-    let p = err_from_is_err_and c.from_residual-in_err-z.result c.from_residual-in_err-z.ensures.1 in
-    refused _ _ _ _ _ p.1 p.2 (along _ _ _
-    (c.in_ok-x.ensures.reads (machine.andor_open c.args.name, fs, c.args.offsets.now.items) (machine.andor_first c.args.name ∷ fs)
-    (takes_andor_open c.args.name fs c.args.offsets.now.items) (omega (arith, l))
-    ∙ c.in_ok-y.ensures.reads (machine.ended (shape c.in_ok-x.x.tree), machine.andor_first c.args.name ∷ fs, c.child.new.offsets.items)
-    (machine.andor_second (shape c.in_ok-x.x.tree) c.args.name ∷ fs) (takes_andor_first (shape c.in_ok-x.x.tree) c.args.name fs c.child.new.offsets.items)
-    (omega (arith, l)))
-    (c.in_err-z.ensures.reads (
-      machine.ended (shape c.in_ok-y.y.tree),
-      machine.andor_second (shape c.in_ok-x.x.tree) c.args.name
-          ∷ fs,
-      c.child-2.new.offsets.items,
-    ) (machine.andor_third (shape c.in_ok-x.x.tree) (shape c.in_ok-y.y.tree) c.args.name ∷ fs)
-    (takes_andor_second (shape c.in_ok-x.x.tree) (shape c.in_ok-y.y.tree) c.args.name fs c.child-2.new.offsets.items) (omega (arith, l))))
+    refused _ _ _ _ c.from_residual-in_err-z.ensures.1 (along _ _ _
+    (c.in_ok-x.ensures.reads _ _ (takes_andor_open c.args.name fs _) (omega (arith, l))
+    ∙ c.in_ok-y.ensures.reads _ _ (takes_andor_first (shape c.in_ok-x.x.tree) c.args.name fs _) (omega (arith, l)))
+    (c.in_err-z.ensures.reads _ _ (takes_andor_second (shape c.in_ok-x.x.tree) (shape c.in_ok-y.y.tree) c.args.name fs _) (omega (arith, l))))
 
 pub and_or_form-returns-clause-reads : goal.and_or_form-returns-clause-reads
 and_or_form-returns-clause-reads t c = λ fs l.
     answers_along _ _ _ _
-    (c.in_ok-x.ensures.reads (machine.andor_open c.args.name, fs, c.args.offsets.now.items) (machine.andor_first c.args.name ∷ fs)
-    (takes_andor_open c.args.name fs c.args.offsets.now.items) (omega (arith, l))
-    ∙ c.in_ok-y.ensures.reads (machine.ended (shape c.in_ok-x.x.tree), machine.andor_first c.args.name ∷ fs, c.child.new.offsets.items)
-    (machine.andor_second (shape c.in_ok-x.x.tree) c.args.name ∷ fs) (takes_andor_first (shape c.in_ok-x.x.tree) c.args.name fs c.child.new.offsets.items)
-    (omega (arith, l))
-    ∙ c.in_ok-z.ensures.reads (
-      machine.ended (shape c.in_ok-y.y.tree),
-      machine.andor_second (shape c.in_ok-x.x.tree) c.args.name
-          ∷ fs,
-      c.child-2.new.offsets.items,
-    ) (machine.andor_third (shape c.in_ok-x.x.tree) (shape c.in_ok-y.y.tree) c.args.name ∷ fs)
-    (takes_andor_second (shape c.in_ok-x.x.tree) (shape c.in_ok-y.y.tree) c.args.name fs c.child-2.new.offsets.items) (omega (arith, l)))
+    (c.in_ok-x.ensures.reads _ _ (takes_andor_open c.args.name fs _) (omega (arith, l))
+    ∙ c.in_ok-y.ensures.reads _ _ (takes_andor_first (shape c.in_ok-x.x.tree) c.args.name fs _) (omega (arith, l))
+    ∙ c.in_ok-z.ensures.reads _ _ (takes_andor_second (shape c.in_ok-x.x.tree) (shape c.in_ok-y.y.tree) c.args.name fs _) (omega (arith, l)))
     (c.closed_and_or.ensures.reads fs)
 
 pub and_or_form-returns-clause-part : goal.and_or_form-returns-clause-part
@@ -115,9 +76,7 @@ and_or_form-returns-clause-part t c =
 
 pub child-returns-in_err-at-clause-reads : goal.child-returns-in_err-at-clause-reads
 child-returns-in_err-at-clause-reads t c = λ s fs takes l.
-    let p = err_from_is_err_and c.from_residual.result c.from_residual.ensures.1 in
-    refused _ _ _ _ _ p.1 p.2
-    (c.in_err-at.ensures.reads s (machine.expression, fs, c.args.offsets.now.items) takes)
+    refused _ _ _ _ c.from_residual.ensures.1 (c.in_err-at.ensures.reads s (machine.expression, fs, c.args.offsets.now.items) takes)
 
 pub child-returns-clause-reads : goal.child-returns-clause-reads
 child-returns-clause-reads t c = λ s fs takes l.
@@ -125,37 +84,26 @@ child-returns-clause-reads t c = λ s fs takes l.
 
 pub thresh_form-returns-in_err-at-clause-reads : goal.thresh_form-returns-in_err-at-clause-reads
 thresh_form-returns-in_err-at-clause-reads t c = λ fs l.
-    let p = err_from_is_err_and c.from_residual.result c.from_residual.ensures.1 in
-    refused _ _ _ _ _ p.1 p.2
-    (c.in_err-at.ensures.reads (machine.thresh_open c.args.name, fs, c.args.offsets.now.items)
-    (machine.thresh_number c.args.name, fs, c.args.offsets.now.items) (takes_thresh_open c.args.name fs c.args.offsets.now.items))
+    refused _ _ _ _ c.from_residual.ensures.1 (c.in_err-at.ensures.reads _ _ (takes_thresh_open c.args.name fs _))
 
 pub thresh_form-returns-in_err-k-clause-reads : goal.thresh_form-returns-in_err-k-clause-reads
 thresh_form-returns-in_err-k-clause-reads t c = λ fs l.
-    let p = err_from_is_err_and c.from_residual-in_err-k.result c.from_residual-in_err-k.ensures.1 in
-    refused _ _ _ _ _ p.1 p.2 (along _ _ _
-    (c.in_ok-at.ensures.reads (machine.thresh_open c.args.name, fs, c.args.offsets.now.items) (machine.thresh_number c.args.name, fs, c.args.offsets.now.items)
-    (takes_thresh_open c.args.name fs c.args.offsets.now.items))
-    (c.in_err-k.ensures.reads (machine.thresh_number c.args.name, fs, c.args.offsets.now.items)
-    (λ k. (machine.thresh_comma k c.args.name, fs, c.args.offsets.now.items)) (takes_thresh_number c.args.name fs c.args.offsets.now.items)))
+    refused _ _ _ _ c.from_residual-in_err-k.ensures.1 (along _ _ _
+    (c.in_ok-at.ensures.reads _ _ (takes_thresh_open c.args.name fs _))
+    (c.in_err-k.ensures.reads _ _ (takes_thresh_number c.args.name fs _)))
 
 pub thresh_form-returns-in_err-read-clause-reads : goal.thresh_form-returns-in_err-read-clause-reads
 thresh_form-returns-in_err-read-clause-reads t c = λ fs l.
-    let p = err_from_is_err_and c.from_residual-in_err-read.result c.from_residual-in_err-read.ensures.1 in
-    refused _ _ _ _ _ p.1 p.2 (along _ _ _
-    (c.in_ok-at.ensures.reads (machine.thresh_open c.args.name, fs, c.args.offsets.now.items) (machine.thresh_number c.args.name, fs, c.args.offsets.now.items)
-    (takes_thresh_open c.args.name fs c.args.offsets.now.items)
-    ∙ c.in_ok-k.ensures.reads (machine.thresh_number c.args.name, fs, c.args.offsets.now.items)
-    (λ k. (machine.thresh_comma k c.args.name, fs, c.args.offsets.now.items)) (takes_thresh_number c.args.name fs c.args.offsets.now.items))
+    refused _ _ _ _ c.from_residual-in_err-read.ensures.1 (along _ _ _
+    (c.in_ok-at.ensures.reads _ _ (takes_thresh_open c.args.name fs _)
+    ∙ c.in_ok-k.ensures.reads _ _ (takes_thresh_number c.args.name fs _))
     (c.in_err-read.ensures.reads c.in_ok-k.k.value c.args.name fs (omega arith)))
 
 pub thresh_form-returns-clause-reads : goal.thresh_form-returns-clause-reads
 thresh_form-returns-clause-reads t c = λ fs l.
     rw (c.in_ok-tree.ensures.tree, c.in_ok-add_offset.ensures.added)
-    (c.in_ok-at.ensures.reads (machine.thresh_open c.args.name, fs, c.args.offsets.now.items) (machine.thresh_number c.args.name, fs, c.args.offsets.now.items)
-    (takes_thresh_open c.args.name fs c.args.offsets.now.items)
-    ∙ c.in_ok-k.ensures.reads (machine.thresh_number c.args.name, fs, c.args.offsets.now.items)
-    (λ k. (machine.thresh_comma k c.args.name, fs, c.args.offsets.now.items)) (takes_thresh_number c.args.name fs c.args.offsets.now.items)
+    (c.in_ok-at.ensures.reads _ _ (takes_thresh_open c.args.name fs _)
+    ∙ c.in_ok-k.ensures.reads _ _ (takes_thresh_number c.args.name fs _)
     ∙ c.in_ok-read.ensures.reads c.in_ok-k.k.value c.args.name fs (omega arith))
 
 pub fragment-returns-in-Leaf-clause-part : goal.fragment-returns-in-Leaf-clause-part
@@ -187,25 +135,19 @@ expression-returns-else-word-depth-clause-reads t c = λ fs l.
 
 pub letters-returns-in_err-x-clause-reads : goal.letters-returns-in_err-x-clause-reads
 letters-returns-in_err-x-clause-reads t c = λ ls fs h l.
-    let p = err_from_is_err_and c.from_residual-in_err-x.result c.from_residual-in_err-x.ensures.1 in
-    refused _ _ _ _ _ p.1 p.2 (along _ _ _
+    refused _ _ _ _ c.from_residual-in_err-x.ensures.1 (along _ _ _
     (run_offsets_are c.args.run.now ls c.args.name fs c.args.offsets.now.items c.add_offsets_before.new.offsets.items c.args.self.now.text.now c.args.end h c.in_ok-add_offsets_before.ensures.added)
-    (c.in_err-x.ensures.reads (machine.colon_next, machine.run_frames c.args.name ls fs, c.add_offsets_before.new.offsets.items) (machine.run_frames c.args.name ls fs)
-    (takes_colon_next (machine.run_frames c.args.name ls fs) c.add_offsets_before.new.offsets.items) (omega (arith, run_is_long c.args.run.now ls c.args.name fs h, l))))
+    (c.in_err-x.ensures.reads _ _ (takes_colon_next (machine.run_frames c.args.name ls fs) _) (omega (arith, run_is_long c.args.run.now ls c.args.name fs h, l))))
 
 pub letters-returns-clause-reads : goal.letters-returns-clause-reads
 letters-returns-clause-reads t c = λ ls fs h l.
     run_offsets_are c.args.run.now ls c.args.name fs c.args.offsets.now.items c.add_offsets_before.new.offsets.items c.args.self.now.text.now c.args.end h c.in_ok-add_offsets_before.ensures.added
-    ∙ c.in_ok-x.ensures.reads (machine.colon_next, machine.run_frames c.args.name ls fs, c.add_offsets_before.new.offsets.items) (machine.run_frames c.args.name ls fs)
-    (takes_colon_next (machine.run_frames c.args.name ls fs) c.add_offsets_before.new.offsets.items) (omega (arith, run_is_long c.args.run.now ls c.args.name fs h, l))
+    ∙ c.in_ok-x.ensures.reads _ _ (takes_colon_next (machine.run_frames c.args.name ls fs) _) (omega (arith, run_is_long c.args.run.now ls c.args.name fs h, l))
     ∙ c.in_ok-tree.ensures.reads ls fs (rest c.args.self.now.text.now c.in_ok-x.x.end) h
 
 pub child_list-returns-in_err-at-clause-reads : goal.child_list-returns-in_err-at-clause-reads
 child_list-returns-in_err-at-clause-reads t c = λ k name fs l.
-    let p = err_from_is_err_and c.from_residual.result c.from_residual.ensures.1 in
-    refused _ _ _ _ _ p.1 p.2
-    (c.in_err-at.ensures.reads (machine.thresh_comma k name, fs, c.args.offsets.now.items)
-    (machine.expression, machine.thresh_child k none name ∷ fs, c.args.offsets.now.items) (takes_thresh_comma k name fs c.args.offsets.now.items))
+    refused _ _ _ _ c.from_residual.ensures.1 (c.in_err-at.ensures.reads _ _ (takes_thresh_comma k name fs _))
 
 pub child_list-loop-trees-init : goal.child_list-loop-trees-init
 child_list-loop-trees-init t c = record {
@@ -215,31 +157,21 @@ child_list-loop-trees-init t c = record {
   depth = rw c.new-trees.ensures.items (omega (arith, c.requires.depth));
   writable = rw c.new-trees.ensures.items tt;
   reads = λ k name fs l.
-      rw c.new-trees.ensures.items (c.in_ok-at.ensures.reads (machine.thresh_comma k name, fs, c.args.offsets.now.items)
-      (machine.expression, machine.thresh_child k none name ∷ fs, c.args.offsets.now.items) (takes_thresh_comma k name fs c.args.offsets.now.items));
+      rw c.new-trees.ensures.items (c.in_ok-at.ensures.reads _ _ (takes_thresh_comma k name fs _));
 }
 
 pub child_list-returns-in_err-x-clause-reads : goal.child_list-returns-in_err-x-clause-reads
 child_list-returns-in_err-x-clause-reads t c = λ k name fs l.
-    let p = err_from_is_err_and c.from_residual-in_err-x.result c.from_residual-in_err-x.ensures.1 in
-    refused _ _ _ _ _ p.1 p.2 (along _ _ _
+    refused _ _ _ _ c.from_residual-in_err-x.ensures.1 (along _ _ _
     (c.loop-trees.invariant.reads k name fs l)
     (c.in_err-x.ensures.reads (machine.thresh_child k (shapes c.loop-trees.trees.items) name ∷ fs) (omega (arith, l))))
 
 pub child_list-returns-in_err-found-clause-reads : goal.child_list-returns-in_err-found-clause-reads
 child_list-returns-in_err-found-clause-reads t c = λ k name fs l.
-    let p = err_from_is_err_and c.from_residual-in_err-found.result c.from_residual-in_err-found.ensures.1 in
-    refused _ _ _ _ _ p.1 p.2 (along _ _ _
+    refused _ _ _ _ c.from_residual-in_err-found.ensures.1 (along _ _ _
     (c.loop-trees.invariant.reads k name fs l
     ∙ c.in_ok-x.ensures.reads (machine.thresh_child k (shapes c.loop-trees.trees.items) name ∷ fs) (omega (arith, l)))
-    (c.in_err-found.ensures.reads (
-      machine.ended (shape c.in_ok-x.x.tree),
-      machine.thresh_child k (shapes c.loop-trees.trees.items) name
-          ∷ fs,
-      c.expression.new.offsets.items,
-    ) (child_next k (machine.joined (shapes c.loop-trees.trees.items)
-    (more (shape c.in_ok-x.x.tree) none)) name fs c.expression.new.offsets.items)
-    (takes_thresh_child k (shapes c.loop-trees.trees.items) (shape c.in_ok-x.x.tree) name fs c.expression.new.offsets.items)))
+    (c.in_err-found.ensures.reads _ _ (takes_thresh_child k (shapes c.loop-trees.trees.items) (shape c.in_ok-x.x.tree) name fs _)))
 
 pub child_list-returns-then-eq-clause-parts : goal.child_list-returns-then-eq-clause-parts
 child_list-returns-then-eq-clause-parts t c =
@@ -261,14 +193,7 @@ child_list-returns-then-eq-clause-reads t c = λ k name fs l.
     let last : c.in_ok-found.found ≡ separator.Close = search rules in
     c.loop-trees.invariant.reads k name fs l
     ∙ c.in_ok-x.ensures.reads (machine.thresh_child k (shapes c.loop-trees.trees.items) name ∷ fs) (omega (arith, l))
-    ∙ c.in_ok-found.ensures.reads (
-      machine.ended (shape c.in_ok-x.x.tree),
-      machine.thresh_child k (shapes c.loop-trees.trees.items) name
-          ∷ fs,
-      c.expression.new.offsets.items,
-    ) (child_next k (machine.joined (shapes c.loop-trees.trees.items)
-    (more (shape c.in_ok-x.x.tree) none)) name fs c.expression.new.offsets.items)
-    (takes_thresh_child k (shapes c.loop-trees.trees.items) (shape c.in_ok-x.x.tree) name fs c.expression.new.offsets.items)
+    ∙ c.in_ok-found.ensures.reads _ _ (takes_thresh_child k (shapes c.loop-trees.trees.items) (shape c.in_ok-x.x.tree) name fs _)
     ∙ ap (λ f. machine_from (child_next k (machine.joined (shapes c.loop-trees.trees.items)
     (more (shape c.in_ok-x.x.tree) none)) name fs c.expression.new.offsets.items f) c.args.self.now.text.now (c.in_ok-x.x.end + 1)) last
     ∙ ap (λ ts. machine_from (machine.ended (thresh k ts), fs, c.expression.new.offsets.items ++ name ∷ []) c.args.self.now.text.now (c.in_ok-x.x.end + 1)) (sym same)
@@ -287,14 +212,7 @@ child_list-loop-trees-preserved t c =
       reads = λ k name fs l.
           c.loop-trees.invariant.reads k name fs l
           ∙ c.in_ok-x.ensures.reads (machine.thresh_child k (shapes c.loop-trees.trees.items) name ∷ fs) (omega (arith, l))
-          ∙ c.in_ok-found.ensures.reads (
-            machine.ended (shape c.in_ok-x.x.tree),
-            machine.thresh_child k (shapes c.loop-trees.trees.items) name
-                ∷ fs,
-            c.expression.new.offsets.items,
-          ) (child_next k
-          (machine.joined (shapes c.loop-trees.trees.items) (more (shape c.in_ok-x.x.tree) none)) name fs c.expression.new.offsets.items)
-          (takes_thresh_child k (shapes c.loop-trees.trees.items) (shape c.in_ok-x.x.tree) name fs c.expression.new.offsets.items)
+          ∙ c.in_ok-found.ensures.reads _ _ (takes_thresh_child k (shapes c.loop-trees.trees.items) (shape c.in_ok-x.x.tree) name fs _)
           ∙ ap (λ f. machine_from (child_next k (machine.joined (shapes c.loop-trees.trees.items)
           (more (shape c.in_ok-x.x.tree) none)) name fs c.expression.new.offsets.items f) c.args.self.now.text.now (c.in_ok-x.x.end + 1)) another
           ∙ ap (λ ts. machine_from (machine.expression, machine.thresh_child k ts name ∷ fs, c.expression.new.offsets.items) c.args.self.now.text.now (c.in_ok-x.x.end + 1)) (sym same);

@@ -1,5 +1,4 @@
 use Rattle.std.proofs.Common.{◌++◌}
-use Rattle.std.proofs.lemmas.Result.{err_from_is_err_and}
 use Rattle.def_text.specs.Scaffolding.Reader.{leaf_offsets}
 use Rattle.ms_tree.specs.Shape.{shape}
 use Rattle.ms_text.specs.Scaffolding.Names.{leaf_of}
@@ -10,8 +9,7 @@ use Rattle.ms_text.proofs.reader.Reader.leaf_form.Goals as goal
 pub returns-in_err-argument-clause-reads : goal.returns-in_err-argument-clause-reads
 returns-in_err-argument-clause-reads c = λ fs.
     let os = c.args.offsets.now.items ++ leaf_offsets (leaf_of c.args.leaf) c.args.name in
-    let p = err_from_is_err_and c.from_residual.result c.from_residual.ensures.1 in
-    refused _ _ _ _ _ p.1 p.2 (c.in_err-argument.ensures.reads fs os)
+    refused _ _ _ _ c.from_residual.ensures.1 (c.in_err-argument.ensures.reads fs os)
 
 pub returns-clause-part : goal.returns-clause-part
 returns-clause-part c =
