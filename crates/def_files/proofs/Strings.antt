@@ -1,5 +1,5 @@
 -- What is read by two digits a byte is bytes.
-use Rattle.std.proofs.Common.{◌≡◌, List, [], Option, Some, None, Result, Ok, Err, All, refl, arith, unwrap_or, slice_index_or}
+use Rattle.std.proofs.Common.{◌≡◌, [], Option, Some, None, Result, Ok, Err, refl, arith, unwrap_or}
 use Rattle.std.specs.Result.{result_ok}
 use Rattle.hex.specs.Hex.{decode_of}
 use Rattle.hex.specs.declared.error.FromHexError.{FromHexError}
@@ -17,6 +17,3 @@ spelled-IsBytes (Some text) = go (decode_of text) refl
     go : (r : Result Bytes FromHexError) → decode_of text ≡ r → IsBytes (unwrap_or (result_ok r) [])
     go (Ok bytes) e = (decode_of-ok text bytes e).3
     go (Err fault) e = no_bytes
-
-pub all_are_bytes : {A : Type 0} (f : A → Option Bytes) (xs : List A) → All (λ x. IsBytes (unwrap_or (spelled (f x)) [])) xs
-all_are_bytes f xs k d h = spelled-IsBytes (f (slice_index_or xs k d))

@@ -1,11 +1,10 @@
 -- The keys that words spell.
-use Rattle.std.proofs.Common.{◌≡◌, true, List, [], ◌∷◌, Some, Ok, All, map, arith}
+use Rattle.std.proofs.Common.{◌≡◌, true, List, [], ◌∷◌, Ok, All, map, arith}
 use Rattle.std.specs.Prelude.{IsSome}
 use Rattle.std.proofs.lemmas.List.Elements.{All-nil, All-cons, All-head, All-tail}
 use Rattle.hex.specs.Hex.{decode_of}
 use Rattle.hex.proofs.HexLemmas.{decode_of-ok}
 use Rattle.def_script.specs.Bytes.{Bytes}
-use Rattle.def_tree.specs.Tree.{Key}
 use Rattle.def_tree.specs.Range.{IsKey}
 use Rattle.def_text.specs.Word.{key_of}
 use Rattle.def_script.specs.Key.{is_key}
@@ -17,10 +16,6 @@ key_from word bytes e passed = record { form = passed; bytes = (decode_of-ok wor
 
 spelled_key : (word : Bytes) → IsSome (key_of word) → IsKey (bytes_of word)
 spelled_key word h = grind (arith, key_from word)
-
--- the bytes of a key that a word spells
-pub bytes_of_key : (word : Bytes) (key : Key) → key_of word ≡ Some key → bytes_of word ≡ key
-bytes_of_key word key e = grind arith
 
 pub are_keys : (words : List Bytes) → All (λ word. IsSome (key_of word)) words → All IsKey (map bytes_of words)
 are_keys [] h = All-nil IsKey

@@ -1,5 +1,5 @@
 -- What is left of a stack, and what a walk takes of it.
-use Rattle.std.proofs.Common.{◌≡◌, ℕ, zero, suc, ◌+◌, ◌-◌, ◌<◌, ◌≤◌, ◌==◌, ◌⊎◌, Bool, true, false, List, [], ◌∷◌, length, reverse, take, drop, get_or, None, refl, sym, ◌∙◌, ap, inl, inr, arith, nat_eq, if◌then◌else◌}
+use Rattle.std.proofs.Common.{◌≡◌, ℕ, zero, suc, ◌+◌, ◌-◌, ◌<◌, ◌≤◌, ◌==◌, ◌⊎◌, Bool, true, false, List, [], ◌∷◌, length, reverse, take, drop, get_or, refl, sym, ◌∙◌, ap, inl, inr, arith, nat_eq, if◌then◌else◌}
 use Rattle.std.specs.List.{list_all}
 use Rattle.std.proofs.lemmas.Bool.{eq-eqb, ne_eqb}
 use Rattle.std.proofs.lemmas.List.{take_more, reverse-append}
@@ -46,20 +46,6 @@ drop_below stack top (suc k) few within =
     ∙ drop_below stack (top - 1) k (omega arith) (omega arith)
     ∙ ap (below stack) same
 
--- and where there aren't so many
-pub drop_short : (stack : List Bytes) (top k : ℕ) → top ≤ k → top ≤ length stack → drop k (below stack top) ≡ []
-drop_short stack top zero few within = let same : top ≡ 0 = omega arith in ap (below stack) same
-drop_short stack top (suc k) few within =
-    elim (cases_zero top) [
-      | inl none ↦ ap (λ n. drop (suc k) (below stack n)) none
-      | inr some ↦
-          ap (λ s. drop (suc k) s) (below_step stack top some within) ∙ drop_short stack (top - 1) k (omega arith) (omega arith)
-    ]
-  where
-    cases_zero : (n : ℕ) → (n ≡ 0) ⊎ (0 < n)
-    cases_zero zero = inl refl
-    cases_zero (suc n) = inr (omega arith)
-
 -- what `multi` takes
 pub multi_off : (given : Given) (node k : ℕ) (keys : List Key) (stack : List Bytes) (left : ℕ) → k < left → left ≤ length stack →
     walk_multi given node k keys (below stack left) ≡
@@ -72,9 +58,6 @@ multi_off given node k keys stack left some within =
     ap (λ n. walk_multi_off given node keys (take n (below stack left)) (drop k (below stack left))) same
     ∙ ap (walk_multi_off given node keys (take (left - (left - k)) (below stack left)))
     (drop_below stack left k (omega (arith, some)) within ∙ below_step stack (left - k) (omega (arith, some)) (omega (arith, some, within)))
-
-pub multi_short : (given : Given) (node k : ℕ) (keys : List Key) (stack : List Bytes) (left : ℕ) → left ≤ k → left ≤ length stack → walk_multi given node k keys (below stack left) ≡ None
-multi_short given node k keys stack left few within = ap (walk_multi_off given node keys (take k (below stack left))) (drop_short stack left k few within)
 
 -- a key is tried
 pub try_key : (table : Pairs) (keys : List Key) (stack : List Bytes) (count bottom end : ℕ) (good : Bool) (key sig : Bytes) → 0 < count → count ≤ length keys → bottom < end → end ≤ length stack →

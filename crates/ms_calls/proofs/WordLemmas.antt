@@ -110,10 +110,6 @@ no_more : (count i : ℕ) (rest : Bytes) → count ≤ i → rest ≢ [] → (mo
 no_more count i rest all some [] len is = some is
 no_more count i rest all some (w ∷ more) len is = let one : length more + 1 ≡ count - i = omega (arith, len) in omega (arith, one, all)
 
--- all words were read, and bytes are left
-pub bytes_left : (count i : ℕ) (bytes : Bytes) (words : List Bytes) (rest : Bytes) → count ≤ i → AreRead count i bytes words rest → rest ≢ [] → AreNoWords count bytes
-bytes_left count i bytes words rest all read some list are = let o = read.others list are in no_more count i rest all some o.0 o.1 o.2
-
 -- all words were read, and nothing is left
 pub all_read : (count i : ℕ) (bytes : Bytes) (words : List Bytes) (rest : Bytes) → i ≡ count → AreRead count i bytes words rest → rest ≡ [] → AreWords count bytes words
 all_read count i bytes words rest all read none = record {

@@ -14,18 +14,6 @@ use Rattle.ms_choice.proofs.Picks.{added, most_chosen}
 above_is : (a b s d : ℕ) → above a b (pos s -ℤ pos d) ≡ (s + b) - (d + a)
 above_is a b s d = omega (arith, ints)
 
-is_above_below : (a b s d : ℕ) → s + b ≤ d + a → is_above a b (pos s -ℤ pos d) ≡ 0
-is_above_below a b s d h = omega (arith, ints)
-
-is_above_above : (a b s d : ℕ) → d + a < s + b → is_above a b (pos s -ℤ pos d) ≡ 1
-is_above_above a b s d h = omega (arith, ints)
-
-is_reached_below : (a b s d : ℕ) → s + b < d + a → is_reached a b (pos s -ℤ pos d) ≡ 0
-is_reached_below a b s d h = omega (arith, ints)
-
-is_reached_above : (a b s d : ℕ) → d + a ≤ s + b → is_reached a b (pos s -ℤ pos d) ≡ 1
-is_reached_above a b s d h = omega (arith, ints)
-
 -- a fact of a choice, where there is one
 abbrev pub Whenever : {X : Type 0} → Option X → (X → Type 0) → Type 0
 Whenever None P = ⊤

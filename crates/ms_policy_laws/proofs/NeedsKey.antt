@@ -23,10 +23,6 @@ use Rattle.def_policy.specs.Keys.{KeysSuffice}
 use Rattle.def_policy.specs.Laws.{SaneWantsKey}
 use Rattle.def_policy.proofs.Truths.{simple_keeps_truth}
 
--- both of two, and one of them
-all_first : (a b : Bool) → a ≡ false → (a && (b && true)) ≡ false
-all_first a b e = rw e
-
 all_second : (a b : Bool) → b ≡ false → (a && (b && true)) ≡ false
 all_second a b e = rw e (and-false a)
 

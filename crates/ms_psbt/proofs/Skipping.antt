@@ -1,12 +1,12 @@
 -- Skipping parts comes to the same as reading them.
-use Rattle.std.proofs.Common.{◌≡◌, ℕ, zero, suc, ◌+◌, ◌-◌, ◌<◌, ◌≤◌, is_some, List, length, Option, Some, None, option_map, Bor, refl, sym, arith}
+use Rattle.std.proofs.Common.{◌≡◌, ℕ, zero, suc, ◌+◌, ◌-◌, ◌<◌, ◌≤◌, is_some, List, length, Option, Some, None, option_map, refl, sym, arith}
 use Rattle.def_script.specs.Bytes.{Bytes}
 use Rattle.def_psbt.specs.Transaction.{TransactionInput, TransactionOutput}
 use Rattle.def_psbt.specs.Part.{Part, ◌>>=◌, first_number, first_string, first_many, first_list, whole}
 use Rattle.def_psbt.specs.TransactionReading.{first_outpoint, first_input, first_output, first_sides, transaction_of, witnessed_transaction_of, first_witness}
 use Rattle.def_psbt.specs.Forms.{output_of, witness_of}
 use Rattle.ms_psbt.specs.declared.transaction.Kind.TheVariants as kind
-use Rattle.ms_psbt.specs.Seen.{IsPart, rest_of, counted_part}
+use Rattle.ms_psbt.specs.Seen.{rest_of, counted_part}
 use Rattle.ms_psbt.specs.Scaffolding.Skips.{skip_of, skips, list_skip, witness_skip, input_skip, output_skip, sides_skip, counts_read, counts_of, witnessed_skip, is_all}
 
 -- ---- many parts
@@ -80,7 +80,3 @@ skips_next skip count i bytes more = let one_more : count - i ≡ suc (count - (
 pub skips_done : (skip : Bytes → Option Bytes) (count i : ℕ) (bytes : Bytes) → count ≤ i → skips skip (count - i) bytes ≡ Some bytes
 unfolding skips
 skips_done skip count i bytes none = let no_more : count - i ≡ 0 = omega arith in rw no_more refl
-
--- the bytes behind a part, as a call gives them
-pub part_is : (result : Option (Bor Bytes)) (reading : Option Bytes) → IsPart (λ rest. rest.now) result reading → option_map (λ (rest : Bor Bytes). rest.now) result ≡ reading
-part_is result reading e = grind arith

@@ -7,7 +7,6 @@ use Rattle.std.proofs.lemmas.Nat.{le_bytes_4}
 use Rattle.std.proofs.lemmas.Slice.Eq.{bytes_eq-Decides}
 use Rattle.std.specs.Int.{Width, byte_len, w32, from_le_bytes}
 use Rattle.std.specs.List.{list_any, list_all}
-use Rattle.std.specs.List.Sorted.{IsStrictlyIncreasing}
 use Rattle.std.specs.Prelude.{IfOk, IfSome}
 use Rattle.std.specs.Str.{bytes_eq}
 use Rattle.def_script.specs.declared.SizeFault.{SizeFault}
@@ -201,14 +200,6 @@ pub unsigned_is : (bytes : Bytes) (o : Option Transaction) (places : List ℕ) (
 unsigned_is bytes o places r some h e =
     let seen = ap is_some e ∙ twice_seen keys.Outpoints bytes [] places in
     grind (arith, seen, none_before (map (key_at keys.Outpoints bytes) places))
-
-pub not_unsigned : (bytes : Bytes) (o : Option Transaction) → is_some o ≡ true → Places bytes o None → false ≡ is_unsigned o
-not_unsigned bytes o some h = grind arith
-
--- the places are in ascending order
-pub places_up : (bytes : Bytes) (o : Option Transaction) (places : List ℕ) → is_some o ≡ true → Places bytes o (Some places) → IsStrictlyIncreasing places
-places_up bytes None places some h = absurd cc
-places_up bytes (Some transaction) places some h = h.up
 
 -- a transaction that was counted is there
 pub counted_some : {A B : Type 0} (f : A → B) (o : Option A) (r : Option B) → r ≡ option_map f o → is_some r ≡ true → is_some o ≡ true

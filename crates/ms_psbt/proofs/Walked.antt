@@ -1,5 +1,5 @@
 -- A walk, step by step.
-use Rattle.std.proofs.Common.{◌≡◌, ℕ, zero, suc, ◌+◌, ◌<◌, ◌≤◌, List, [], ◌∷◌, ◌++◌, length, length-append, get_or, Result, Err, refl, append_assoc, arith}
+use Rattle.std.proofs.Common.{◌≡◌, ℕ, zero, suc, ◌+◌, ◌<◌, ◌≤◌, List, [], ◌∷◌, ◌++◌, length, length-append, get_or, Result, Err, append_assoc, arith}
 use Rattle.std.proofs.lemmas.Grind.{common_steps}
 use Rattle.std.proofs.lemmas.List.{append-nil}
 use Rattle.std.specs.List.Sorted.{IsStrictlyIncreasing}
@@ -34,9 +34,6 @@ pub record WalksOn (forms : ℕ → Form) (psbt : Bytes) (at : ℕ) (places : Li
   pub room : ℕ
   pub more : length psbt < at + room
   pub rest : behind_all places (walk_from forms psbt room at) ≡ total
-
-pub walk_starts : (forms : ℕ → Form) (psbt : Bytes) (at : ℕ) → WalksOn forms psbt at [] (walk_from forms psbt (suc (length psbt)) at)
-walk_starts forms psbt at = record { room = suc (length psbt); more = omega arith; rest = refl }
 
 module _ (forms : ℕ → Form) (psbt : Bytes) (at : ℕ) (places : List ℕ) (total : Walk) (inside : at ≤ length psbt) (on : WalksOn forms psbt at places total) where
   -- what the next step leaves

@@ -65,9 +65,6 @@ pub ended_at : {A : Type 0} (read : Read A) (end : ℕ) → end_of read ≡ Ok e
 ended_at (Ok (x, n)) end e = (x, cc)
 ended_at (Err refusal) end e = absurd cc
 
-pub refused_at : {A : Type 0} (read : Read A) (refusal : Refusal) → end_of read ≡ Err refusal → read ≡ Err refusal
-refused_at read refusal e = grind arith
-
 module _ (forms : ℕ → Form) (psbt : Bytes) (count i at : ℕ) where
   pub maps_next : i < count → end_of (maps_at forms psbt (count - i) at)
       ≡ (end_of (map_at forms psbt at) >>= λ next. end_of (maps_at forms psbt (count - (i + 1)) next))

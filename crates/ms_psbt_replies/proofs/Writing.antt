@@ -3,7 +3,7 @@ use Rattle.std.proofs.Common.{◌≡◌, ℕ, ◌+◌, ◌≤◌, ◌++◌, ◌&
 use Rattle.std.specs.List.{flat_map, list_all}
 use Rattle.std.proofs.lemmas.List.{flat_map_more, map_push}
 use Rattle.def_script.specs.Bytes.{Bytes}
-use Rattle.def_psbt.specs.Map.{Psbt, magic, map_text, psbt_text}
+use Rattle.def_psbt.specs.Map.{Psbt, magic, map_text}
 use Rattle.def_spend.specs.Input.{spends_of}
 use Rattle.def_spend.specs.Reading.{Input, HasReading, AreInputs}
 use Rattle.def_spend.specs.Finalized.{written_map}
@@ -49,11 +49,3 @@ pub all_written : (psbt : Psbt) (inputs : List Input) (count number : ℕ) (writ
     → count ≡ length psbt.transaction.inputs → count ≤ number → IsWritten psbt (take number inputs) written → IsWritten psbt inputs written
 all_written psbt inputs count number written are maps own past is =
     subst (λ (xs : List Input). IsWritten psbt xs written) (all_taken psbt inputs count number are maps own past) is
-
--- what is written, with the maps of outputs behind it, is the PSBT
-pub whole_text : (psbt : Psbt) (inputs : List Input) (before after : Bytes) → before ≡ (magic ++ map_text psbt.global) ++ flat_map map_text (map written_map inputs)
-    → after ≡ before ++ flat_map map_text psbt.outputs → after ≡ psbt_text psbt.global (map written_map inputs) psbt.outputs
-whole_text psbt inputs before after is e =
-    let maps = flat_map map_text (map written_map inputs) in
-    let rest = flat_map map_text psbt.outputs in
-    e ∙ ap (λ text. text ++ rest) is ∙ append_assoc (magic ++ map_text psbt.global) maps rest ∙ append_assoc magic (map_text psbt.global) (maps ++ rest)

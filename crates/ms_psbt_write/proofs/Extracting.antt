@@ -63,17 +63,6 @@ pub sides_joined : (before size inputs count outputs a b c after : Bytes) → a 
 sides_joined before size inputs count outputs a b c after p q r s =
     s ∙ ap (λ (x : Bytes). x ++ outputs) (r ∙ ap (λ (x : Bytes). x ++ count) (q ∙ ap (λ (x : Bytes). x ++ inputs) p)) ∙ simp append_assoc
 
-pub plain_joined : (version inputs outputs lock_time a b after : Bytes) → a ≡ version → b ≡ a ++ (inputs ++ outputs) → after ≡ b ++ lock_time → after ≡ version ++ (inputs ++ (outputs ++ lock_time))
-plain_joined version inputs outputs lock_time a b after p q r =
-    r ∙ ap (λ (x : Bytes). x ++ lock_time) (q ∙ ap (λ (x : Bytes). x ++ (inputs ++ outputs)) p) ∙ simp append_assoc
-
-pub witnessed_joined : (version inputs outputs witnesses lock_time a b c d after : Bytes) → a ≡ version → b ≡ a ++ 0x00 ∷ 0x01 ∷ [] → c ≡ b
-    ++ (inputs ++ outputs) → d ≡ c ++ witnesses → after ≡ d ++ lock_time
-    → after ≡ version ++ 0x00 ∷ 0x01 ∷ [] ++ inputs ++ outputs ++ witnesses ++ lock_time
-witnessed_joined version inputs outputs witnesses lock_time a b c d after p q r s t =
-    t ∙ ap (λ (x : Bytes). x ++ lock_time) (s ∙ ap (λ (x : Bytes). x ++ witnesses)
-    (r ∙ ap (λ (x : Bytes). x ++ (inputs ++ outputs)) (q ∙ ap (λ (x : Bytes). x ++ 0x00 ∷ 0x01 ∷ []) p))) ∙ simp append_assoc
-
 -- ---- the inputs and the outputs
 
 pub sides_are : (inputs : List TransactionInput) (maps : List Map) (outputs : List TransactionOutput) (n m : ℕ) (before a b c after : Bytes) → n ≡ length maps → n ≡ length inputs → m ≡ length outputs

@@ -76,10 +76,6 @@ module _ {X : Type 0} (P : X → Type 0) where
       go true rest = All-head P x xs all
       go false rest = rest
 
-within_item : (n : ℕ) (bytes : Option Bytes) → Found (λ b. length b ≤ n) bytes → Within (n + 1) (item bytes)
-within_item n None h = tt
-within_item n (Some bytes) h = omega (arith, h)
-
 -- a held signature, and a known preimage
 pub sig_within : (assets : Assets) → AreAssets assets → (key : Key) → Within 74 (item (sig_of assets key))
 sig_within assets are key = go (sig_of assets key) refl

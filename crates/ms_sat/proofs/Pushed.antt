@@ -9,17 +9,15 @@ use Rattle.def_machine.specs.Stacks.{Stack}
 use Rattle.def_script.specs.Witness.{weight}
 use Rattle.def_tree.specs.Tree.{Key}
 use Rattle.def_assets.specs.Assets.{Assets, sig_of}
-use Rattle.def_choice.specs.Least.{item, both, lighter, least}
+use Rattle.def_choice.specs.Least.{item, both}
 use Rattle.def_satisfaction.specs.Rows.{EMPTY}
 use Rattle.def_choice.specs.Cheapest.{stack_of, signatures}
 use Rattle.ms_choice.specs.declared.slot.Slot.{Slot}
 use Rattle.def_choice.proofs.Weights.{reverse-cons}
-use Rattle.def_choice.proofs.Best.{lighter-none}
-use Rattle.ms_sat.specs.Scaffolding.Costs.{weight_of}
 use Rattle.ms_sat.specs.Scaffolding.Choice.{chosen}
 use Rattle.ms_choice.specs.Marks.{takes, set_by}
 use Rattle.ms_sat.specs.Scaffolding.Children.{children_of_keys, lengths_of_keys}
-use Rattle.ms_sat.specs.Scaffolding.Pushed.{IsPushed, is_former}
+use Rattle.ms_sat.specs.Scaffolding.Pushed.{IsPushed}
 use Rattle.ms_sat.proofs.Keys.{signatures_are}
 
 -- one on top of the other
@@ -39,31 +37,6 @@ taken : (former latter : Stack) (test : Bool) → nat_le (weight former) (weight
     (if nat_lt (weight latter) (weight former) then Some latter else Some former) ≡ (if test then Some former else Some latter)
 taken former latter true e = let h : nat_lt (weight latter) (weight former) ≡ false = grind (arith, nat_tests) in ap (λ b. if b then Some latter else Some former) h
 taken former latter false e = let h : nat_lt (weight latter) (weight former) ≡ true = grind (arith, nat_tests) in ap (λ b. if b then Some latter else Some former) h
-
-least_taken : (former latter : Option Stack) → lighter former latter ≡ (if is_former (weight_of former) (weight_of latter) then former else latter)
-least_taken None latter = refl
-least_taken (Some former) None = refl
-least_taken (Some former) (Some latter) = taken former latter (nat_le (weight former) (weight latter)) refl
-
-pub least_is : (p q : Option ℕ) (former latter : Option Stack) (b : Bool) → p ≡ weight_of former → q ≡ weight_of latter → b ≡ is_former p q →
-    least (former ∷ latter ∷ []) ≡ (if b then former else latter)
-least_is p q former latter b e f g =
-    ap (lighter former) (lighter-none latter) ∙
-    least_taken former latter ∙
-    ap (λ test. if test then former else latter) (sym (g ∙ ap (λ n. is_former n q) e ∙ ap (is_former (weight_of former)) f))
-
--- so the one that is taken is the choice
-pub former_pushed : (p q : Option ℕ) (former latter : Option Stack) (b : Bool) (before after : List Bytes) → p ≡ weight_of former → q ≡ weight_of latter → b ≡ is_former p q →
-    b ≡ true → IsPushed former before after → IsPushed (least (former ∷ latter ∷ [])) before after
-former_pushed p q former latter b before after e f g is h =
-    let same : least (former ∷ latter ∷ []) ≡ former = least_is p q former latter b e f g ∙ ap (λ test. if test then former else latter) is in
-    subst (λ o. IsPushed o before after) (sym same) h
-
-pub latter_pushed : (p q : Option ℕ) (former latter : Option Stack) (b : Bool) (before after : List Bytes) → p ≡ weight_of former → q ≡ weight_of latter → b ≡ is_former p q →
-    b ≡ false → IsPushed latter before after → IsPushed (least (former ∷ latter ∷ [])) before after
-latter_pushed p q former latter b before after e f g is h =
-    let same : least (former ∷ latter ∷ []) ≡ latter = least_is p q former latter b e f g ∙ ap (λ test. if test then former else latter) is in
-    subst (λ o. IsPushed o before after) (sym same) h
 
 -- the signatures of those keys that stand at or before the last one
 abbrev pub signed : (last : Option Slot) → Assets → (place : ℕ) → List Key → Option Stack

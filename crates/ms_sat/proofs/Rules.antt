@@ -1,5 +1,5 @@
 -- What each rule chooses at a threshold, at keys and at leaves, and whether a signature is needed there.
-use Rattle.std.proofs.Common.{◌≡◌, ℕ, zero, suc, ◌≤◌, nat_le, Bool, true, false, List, [], ◌∷◌, length, map, reverse, Option, Some, None, is_some, refl, sym, inr, ◌∙◌, ap, arith, if◌then◌else◌, add-one}
+use Rattle.std.proofs.Common.{◌≡◌, ℕ, zero, suc, ◌≤◌, nat_le, false, List, [], ◌∷◌, length, map, reverse, Option, Some, None, is_some, refl, sym, inr, ◌∙◌, ap, arith, add-one}
 use Rattle.std.specs.Prelude.{◌&&◌, IsTrue}
 use Rattle.std.specs.Option.{option_map}
 use Rattle.std.proofs.lemmas.Bool.Decides.{nat_tests}
@@ -16,10 +16,8 @@ use Rattle.def_choice.specs.Cheapest.{Child, dissatisfaction, cheapest_of, cheap
 use Rattle.def_choice.specs.Strict.{free, free_children, strict_of, strict_children}
 use Rattle.def_choice.proofs.Counted.{counted}
 use Rattle.def_choice.proofs.StrictTight.{choice, choice_counted}
-use Rattle.ms_tree.specs.Shape.{shape, shapes, trees_of, leaf_shape}
+use Rattle.ms_tree.specs.Shape.{shape, shapes, trees_of}
 use Rattle.ms_tree.specs.declared.tree.Tree.{Tree}
-use Rattle.ms_tree.specs.declared.tree.Leaf.{Leaf}
-use Rattle.ms_tree.specs.declared.tree.Leaf.TheVariants as leaf
 use Rattle.ms_sat.specs.declared.rule.Rule.{Rule}
 use Rattle.ms_sat.specs.declared.rule.Rule.TheVariants.{Cheapest, Strict}
 use Rattle.ms_choice.specs.declared.kinds.KindCounts.{KindCounts}
@@ -29,7 +27,7 @@ use Rattle.ms_sat.specs.Scaffolding.Costs.{costs_of}
 use Rattle.ms_sat.specs.Scaffolding.Choice.{chosen}
 use Rattle.ms_choice.specs.Tally.{forced, over_free}
 use Rattle.ms_sat.specs.Scaffolding.Children.{child_of_tree, children_of_keys}
-use Rattle.ms_sat.specs.Rule.{stack_by, free_by, child_by, children_by, free_child_by, has_key}
+use Rattle.ms_sat.specs.Rule.{stack_by, free_by, child_by, children_by, free_child_by}
 use Rattle.ms_sat.proofs.Chosen.{choose, chosen_is, counted_same, one}
 use Rattle.ms_sat.proofs.Picked.{none_chosen, cannot_chosen, some_chosen}
 use Rattle.ms_sat.proofs.Bounds.{thresh_choose}
@@ -119,27 +117,6 @@ free_multi Strict assets k keys some =
     in
     let signed : signatures (unsigned assets) k keys ≡ None = signatures_are (unsigned assets) k keys ∙ ap (option_map reverse) none in
     sym (ap (λ o. is_some (both (Some (EMPTY ∷ [])) o)) signed)
-
--- a leaf is satisfied in the same way by each rule
-pub leaf_by : (rule : Rule) (assets : Assets) (l : Leaf) → stack_by rule assets (leaf_shape l) ≡ cheapest_of assets (leaf_shape l)
-leaf_by Cheapest assets l = refl
-leaf_by Strict assets leaf.Zero = refl
-leaf_by Strict assets leaf.One = refl
-leaf_by Strict assets (leaf.PkK key) = refl
-leaf_by Strict assets (leaf.PkH key) = refl
-leaf_by Strict assets (leaf.Older n) = refl
-leaf_by Strict assets (leaf.After n) = refl
-leaf_by Strict assets (leaf.Hash value) = refl
-
--- without a signature where it needs none
-pub leaf_free : (assets : Assets) (l : Leaf) (b : Bool) → has_key l ≡ b → is_some (free_by Strict assets (leaf_shape l)) ≡ (if b then false else is_some (cheapest_of assets (leaf_shape l)))
-leaf_free assets leaf.Zero b is = ap (λ t. if t then false else false) is
-leaf_free assets leaf.One b is = ap (λ t. if t then false else true) is
-leaf_free assets (leaf.PkK key) b is = ap (λ t. if t then false else is_some (cheapest_of assets (model.pk_k key))) is
-leaf_free assets (leaf.PkH key) b is = ap (λ t. if t then false else is_some (cheapest_of assets (model.pk_h key))) is
-leaf_free assets (leaf.Older n) b is = ap (λ t. if t then false else is_some (cheapest_of assets (model.older n))) is
-leaf_free assets (leaf.After n) b is = ap (λ t. if t then false else is_some (cheapest_of assets (model.after n))) is
-leaf_free assets (leaf.Hash value) b is = ap (λ t. if t then false else is_some (cheapest_of assets (leaf_shape (leaf.Hash value)))) is
 
 -- and so are keys
 pub multi_by : (rule : Rule) (assets : Assets) (k : ℕ) (keys : List Key) → stack_by rule assets (model.multi k keys) ≡ cheapest_of assets (model.multi k keys)

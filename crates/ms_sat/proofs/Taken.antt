@@ -1,6 +1,6 @@
 -- The children of a threshold, pushed from the last to the first.
 use Rattle.std.proofs.Common.{◌≡◌, ℕ, suc, ◌+◌, ◌-◌, ◌<◌, ◌≤◌, Bool, List, ◌∷◌, length, map, get_or, drop, sym, ◌∙◌, ap, subst, Option, arith, add-one, if◌then◌else◌}
-use Rattle.std.proofs.lemmas.List.{append-nil, drop_more, drop_all}
+use Rattle.std.proofs.lemmas.List.{drop_more}
 use Rattle.def_script.specs.Bytes.{Bytes}
 use Rattle.def_choice.specs.Cheapest.{Child, stack_of}
 use Rattle.ms_tree.specs.declared.tree.Tree.{Tree}
@@ -46,7 +46,3 @@ module _ (child : Tree → Child) (last : Option Slot) where
       let rest : FromOn (suc i) (drop (i + 1) xs) before now = subst (λ n. FromOn (suc i) (drop n xs) before now) (sym (add-one i)) others in
       let taken = is ∙ ap (λ d. takes last i d.sat d.dsat) costs in
       subst (λ ys. FromOn i ys before after) (sym opened) (from_cons i x (drop (i + 1) xs) b before now after rest taken k)
-
--- nothing behind the last child
-pub from_end : (child : Tree → Child) (last : Option Slot) (xs : List Tree) (stack : List Bytes) → FromOn child last (length xs) (drop (length xs) xs) stack stack
-from_end child last xs stack = subst (λ ys. FromOn child last (length xs) ys stack stack) (sym (drop_all (length xs) xs (omega arith))) (sym (append-nil stack))

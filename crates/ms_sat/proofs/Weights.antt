@@ -1,5 +1,5 @@
 -- What joined stacks, and the lighter of two, weigh.
-use Rattle.std.proofs.Common.{◌≡◌, ℕ, ◌<◌, ◌≤◌, nat_lt, min, Bool, true, false, [], ◌∷◌, Option, Some, None, refl, ap, arith, if◌then◌else◌}
+use Rattle.std.proofs.Common.{◌≡◌, ℕ, nat_lt, min, Bool, true, false, [], ◌∷◌, Option, Some, None, refl, ap, arith, if◌then◌else◌}
 use Rattle.std.proofs.lemmas.Bool.Decides.{nat_tests}
 use Rattle.def_machine.specs.Stacks.{Stack}
 use Rattle.def_script.specs.Witness.{weight}
@@ -32,21 +32,3 @@ least_weighs p q former latter e f =
     let h = weight_of-lighter former (lighter latter None) in
     let i : weight_of (lighter latter None) ≡ weight_of latter = ap weight_of (lighter-none latter) in
     cc
-
--- the former is kept where the latter weighs no less
-pub keeps_former : (former : Stack) (latter : Option Stack) → ((other : Stack) → latter ≡ Some other → weight former ≤ weight other) → lighter (Some former) latter ≡ Some former
-keeps_former former None h = refl
-keeps_former former (Some latter) h = go (nat_lt (weight latter) (weight former)) refl
-  where
-    go : (test : Bool) → nat_lt (weight latter) (weight former) ≡ test → (if test then Some latter else Some former) ≡ Some former
-    go true e = let k : weight former ≤ weight latter = h latter refl in absurd (grind (arith, nat_tests))
-    go false e = refl
-
--- the latter is taken where the former weighs more
-pub takes_latter : (former : Option Stack) (latter : Stack) → ((other : Stack) → former ≡ Some other → weight latter < weight other) → lighter former (Some latter) ≡ Some latter
-takes_latter None latter h = refl
-takes_latter (Some former) latter h = go (nat_lt (weight latter) (weight former)) refl
-  where
-    go : (test : Bool) → nat_lt (weight latter) (weight former) ≡ test → (if test then Some latter else Some former) ≡ Some latter
-    go true e = refl
-    go false e = let k : weight latter < weight former = h former refl in absurd (grind (arith, nat_tests))

@@ -1,6 +1,6 @@
 -- From the steps of an answer to the answer.
 use Rattle.std.proofs.Common.{◌≡◌, ◌≢◌, ◌≤◌, ℕ, List, [], Ok, Err, None, length, inl, inr, refl, sym, ap, subst, ◌∙◌}
-use Rattle.std.specs.Prelude.{⊤, Option, Result, IfOk, IsOk}
+use Rattle.std.specs.Prelude.{⊤, Option, Result}
 use Rattle.std.specs.Str.{IsUtf8}
 use Rattle.def_script.specs.Bytes.{Bytes}
 use Rattle.def_tree.specs.Tree.{Tree}
@@ -10,17 +10,15 @@ use Rattle.def_text.specs.declared.TextFault.TheVariants.{TooLong, Syntax, TooDe
 use Rattle.def_text.proofs.Complete.{one_tree}
 use Rattle.def_text.proofs.OneAnswer.{none_beside_tree}
 use Rattle.def_text.proofs.SpelledWritable.{spelled_writable}
-use Rattle.def_types.specs.Corr.{corr}
 use Rattle.def_sane.specs.declared.Unfit.{Unfit}
 use Rattle.def_sane.specs.Limits.{AreLimits}
 use Rattle.def_sane.specs.Unfit.{first_unfit, first_unfit_valid, first_unfit_under, first_unfit_valid_under}
 use Rattle.ms_io.specs.Faults.{Rose}
 use Rattle.def_answer.specs.Answer.{Replies}
 use Rattle.def_answer.specs.Reading.{read, refused}
-use Rattle.def_answer.specs.Reply.{Reply, reply, unless_unfit}
+use Rattle.def_answer.specs.Reply.{Reply, unless_unfit}
 use Rattle.ms_answer_laws.specs.Laws.{walked}
 use Rattle.def_answer.specs.Words.{Command, IsForm}
-use Rattle.def_answer.specs.declared.status.Status.TheVariants as status
 use Rattle.ms_answer_laws.proofs.AuditSteps.{walked_are_steps}
 use Rattle.ms_answer_laws.proofs.Unique.{one_form}
 use Rattle.ms_report.specs.declared.answer.Answer.{Answer}
@@ -38,8 +36,8 @@ use Rattle.ms_replies.specs.declared.fit.Demand.{Demand}
 use Rattle.ms_replies.specs.declared.fit.Demand.TheVariants as demand
 use Rattle.ms_replies.specs.declared.fit.Known.{Known}
 use Rattle.ms_replies.specs.declared.fit.Known.TheVariants as known
-use Rattle.ms_replies.specs.Fits.{reason_for, IsKnown, limits_in}
-use Rattle.msat_cli.specs.Scaffolding.Steps.{reason_of, reply_of, ReadsFor, Answers, AnswersWords, AnswersFile, AnswersTree, AsDone, IsRefusal, Ended}
+use Rattle.ms_replies.specs.Fits.{IsKnown, limits_in}
+use Rattle.msat_cli.specs.Scaffolding.Steps.{reason_of, reply_of, ReadsFor, Answers, AnswersWords, AnswersTree, IsRefusal, Ended}
 
 -- a step ends as another one does
 pub ended : (P Q : Reply → Type 0) (A B C D : Type 0) → ((r : Reply) → P r → Q r) → (A → C) → (B → D)
@@ -177,47 +175,11 @@ refused_ended kind text fault source F result utf8 refusal memory unread h =
 
 -- ---- trees that pass
 
--- what is known of a tree says that there is no reason against it
-pub fit_for : (demand : Demand) (tree : Tree) (known : Known) → IsKnown demand tree known → reason_for demand tree ≡ None
-fit_for (demand.Valid rules) tree (known.Valid valid) h = h.0
-fit_for (demand.Valid rules) tree (known.Sane sane) h = absurd h
-fit_for (demand.Sane rules) tree (known.Valid valid) h = absurd h
-fit_for (demand.Sane rules) tree (known.Sane sane) h = h.0
-
-pub known_typed : (demand : Demand) (tree : Tree) (known : Known) → IsKnown demand tree known → IsOk (corr tree)
-known_typed (demand.Valid rules) tree (known.Valid valid) h = subst IsOk (sym h.1) refl
-known_typed (demand.Valid rules) tree (known.Sane sane) h = absurd h
-known_typed (demand.Sane rules) tree (known.Valid valid) h = absurd h
-known_typed (demand.Sane rules) tree (known.Sane sane) h = subst IsOk (sym h.1) refl
-
 pub known_limits : (demand : Demand) (tree : Tree) (known : Known) → IsKnown demand tree known → AreLimits tree (limits_in known)
 known_limits (demand.Valid rules) tree (known.Valid valid) h = h.2
 known_limits (demand.Valid rules) tree (known.Sane sane) h = absurd h
 known_limits (demand.Sane rules) tree (known.Valid valid) h = absurd h
 known_limits (demand.Sane rules) tree (known.Sane sane) h = h.3
-
--- a report for which no file is read
-pub done_ended : {A E : Type 0} (kind : TextCommand) (tree : Tree) (offsets : List ℕ) (source : Side) (F : Type 0) (bytes : A → Bytes) (report : Result A E)
-    (result : Result Answer Stop) → reason_of kind tree ≡ None → ¬ ReadsFor kind tree → IsUnread source
-    → IfOk report (λ text. (held : Bytes) → reply status.Done (bytes text) ≡ reply_of kind held offsets tree)
-    → AsDone bytes report result → Ended (AnswersTree kind tree offsets source) F ⊤ result
-done_ended kind tree offsets source F bytes (Ok text) result fit needless unread same (answer, is, e) =
-    subst (Ended (AnswersTree kind tree offsets source) F ⊤) (sym is) (inl (record {
-      needless = needless;
-      unread = unread;
-      replies = λ held. e ∙ same held ∙ ap (λ o. unless_unfit o offsets (reply_of kind held offsets tree)) (sym fit);
-    }))
-done_ended kind tree offsets source F bytes (Err e) result fit needless unread same is =
-    subst (Ended (AnswersTree kind tree offsets source) F ⊤) (sym is) tt
-
--- a reply to the file
-pub file_ended : (kind : TextCommand) (tree : Tree) (offsets : List ℕ) (source : Side) (result : Result Answer Stop) → ReadsFor kind tree
-    → Ended (AnswersFile (λ bytes. reply_of kind bytes offsets tree) source) (Rose source.before source.now) ⊤ result
-    → Ended (AnswersTree kind tree offsets source) (ReadsFor kind tree × Rose source.before source.now) ⊤ result
-file_ended kind tree offsets source result reads h =
-    ended (AnswersFile (λ bytes. reply_of kind bytes offsets tree) source) (AnswersTree kind tree offsets source)
-    (Rose source.before source.now) ⊤ (ReadsFor kind tree × Rose source.before source.now) ⊤
-    (λ r file. inr (reads, file)) (λ rose. (reads, rose)) (λ m. m) result h
 
 -- ---- words
 

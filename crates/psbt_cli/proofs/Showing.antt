@@ -33,9 +33,6 @@ replied : (words : List Bytes) (command : Command) (source : Bytes) (s : Status)
     → Answer words source s report → RepliesToSource command (form_of source) (psbt_of source) (reply s report)
 replied words command source s report named a = subst (λ (c : Option Command). RepliesToWords c source (reply s report)) named a.replies
 
-abbrev Replied : Call → (made : Reply) → Type 0
-Replied call made = WritesSuch call (λ report. reply call.status report ≡ made)
-
 pub called : (command : Command) (call : Call) (source : Bytes) → Ends call → IsCalled command call source
     → WritesSuch call (λ report. RepliesToSource command (form_of source) (psbt_of source) (reply call.status report))
 called command call source ends is = go (answered call source ends is.told)
