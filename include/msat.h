@@ -18,7 +18,7 @@
  *   - malloc, realloc and free come from one allocator, and align blocks as the C standard says.
  *   - No call is made from a signal handler, nor in the child of a fork of a process that has several threads, before exec.
  *   - The stack of calls has 512 KiB left; a thread has 8 MiB by glibc, 2 MiB by Rust and 1 MiB by a JVM, where nothing else is told.
- *     At most 181 KiB were measured, over the longest and the deepest texts and files, and the tests fail above 256 KiB.
+ *     At most 187 KiB were measured, over the longest and the deepest texts and files, and the tests fail above 256 KiB.
  *
  * No state is kept between calls, so threads may call at once. Nothing is printed, no file is opened, and nothing that is
  * allocated is left. Bytes behind those that a call writes stay as they were, and so does what an answer doesn't speak of.
