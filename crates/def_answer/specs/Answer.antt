@@ -12,7 +12,7 @@ use Rattle.def_emit.specs.Emit.{script_of}
 use Rattle.def_files.specs.RunFile.{RunFile, run_of}
 use Rattle.def_sane.specs.declared.Rules.{Rules}
 use Rattle.def_sane.specs.declared.Unfit.{Unfit}
-use Rattle.def_sane.specs.Limits.{limits_of}
+use Rattle.def_sane.specs.TheLimits.{the_limits}
 use Rattle.def_sane.specs.Unfit.{first_unfit, first_unfit_valid, first_unfit_under, first_unfit_valid_under, IsValid}
 use Rattle.def_audit.specs.declared.Step.{Step}
 use Rattle.def_audit.specs.Derives.{Derives}
@@ -34,7 +34,7 @@ use Rattle.def_answer.specs.Reply.{Reply, reply, usage_reply, text_reply, satisf
 unfoldable pub gen_report : (n : ℕ) → (strict cheapest : List Bytes) → Bytes
 gen_report n strict cheapest =
     children_line n (threshold_of n)
-    ++ limits_line (limits_of (generated_tree n))
+    ++ limits_line (the_limits (generated_tree n))
     ++ strict_line strict (outcome_with (generated_tree n) (generated_assets n) strict)
     ++ cheapest_line cheapest
 

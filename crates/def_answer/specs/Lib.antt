@@ -2,6 +2,7 @@ pub mod Status
 pub mod Names
 pub mod Words
 pub mod Lines
+pub mod TheHeight
 pub mod Report
 pub mod Generated
 pub mod Reading

@@ -13,8 +13,8 @@ use Rattle.def_types.specs.Typed.{type_of, mall_of}
 use Rattle.def_emit.specs.Emit.{script_of}
 use Rattle.def_assets.specs.Assets.{Assets}
 use Rattle.def_sane.specs.declared.Rules.{Rules}
-use Rattle.def_sane.specs.Limits.{limits_of}
-use Rattle.def_height.specs.Height.{height_of}
+use Rattle.def_sane.specs.TheLimits.{the_limits}
+use Rattle.def_answer.specs.TheHeight.{the_height}
 use Rattle.def_satisfaction.specs.Satisfaction.{given_of}
 use Rattle.def_audit.specs.declared.Step.{Step}
 use Rattle.def_policy.specs.Policy.{Policy}
@@ -46,7 +46,7 @@ type_letters ty mall =
 
 -- the limits of a tree
 abbrev pub tree_limits_line : Rules → Tree → Bytes
-tree_limits_line rules tree = limits_line_under rules (limits_of tree) (height_of tree)
+tree_limits_line rules tree = limits_line_under rules (the_limits tree) (the_height tree)
 
 unfoldable pub check_report : Rules → Tree → Bytes
 check_report rules tree =

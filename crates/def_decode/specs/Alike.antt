@@ -6,7 +6,8 @@ use Rattle.def_tree.specs.Tree.{Key, Tree}
 use Rattle.def_types.specs.declared.Mall.{Mall}
 use Rattle.def_types.specs.Malleable.{mall}
 use Rattle.def_types.specs.Typed.{type_of}
-use Rattle.def_sane.specs.Limits.{limits_of}
+use Rattle.def_limits.specs.declared.Limits.{Limits}
+use Rattle.def_limits.specs.Limits.{AreLimits}
 use Rattle.def_sane.specs.Locks.{mix}
 use Rattle.def_sane.specs.Keys as tree_keys
 use Rattle.def_sane.specs.Unfit.{IsSane}
@@ -21,7 +22,7 @@ HasFirstKeys keys tree = EachHashed (λ key. first_with keys (hash160 key) ≡ S
 -- where the tree's `pk_h` keys are first ones, it has the tree's keys in their order, and is sane exactly where the tree is
 pub record IsAlike (keys : List Key) (tree reading : Tree) : Type 0 where
   pub type : type_of reading ≡ type_of tree
-  pub limits : limits_of reading ≡ limits_of tree
+  pub limits : (limits : Limits) → AreLimits reading limits ↔ AreLimits tree limits
   pub properties : (m : Mall) → (mall reading ≡ Ok m) ↔ (mall tree ≡ Ok m)
   pub locks : (mix reading ≡ None) ↔ (mix tree ≡ None)
   pub held : HasFirstKeys keys tree → tree_keys.keys reading ≡ tree_keys.keys tree

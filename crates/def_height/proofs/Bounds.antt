@@ -1,5 +1,5 @@
 -- How many items a tree takes and how high it is, by its opcodes.
-use Rattle.std.proofs.Common.{◌≡◌, ℕ, zero, suc, ◌+◌, ◌≤◌, Option, Some, None, refl, ap, arith}
+use Rattle.std.proofs.Common.{◌≡◌, ℕ, zero, suc, ◌+◌, ◌≤◌, Option, Some, None, refl, sym, ap, subst, arith}
 use Rattle.std.specs.Prelude.{⊤}
 use Rattle.def_tree.specs.declared.Two.TheVariants as kind
 use Rattle.def_tree.specs.declared.Wrapper.TheVariants as wrapper
@@ -10,15 +10,17 @@ use Rattle.def_types.specs.Typed.{type_of, IsTyped, AreTyped}
 use Rattle.def_types.proofs.Rows.{corr_rows}
 use Rattle.def_types.proofs.Facts.{typed-and_or, typed-and_v, typed-and_b, typed-or_b, typed-or_c, typed-or_d, typed-or_i, typed-thresh_none, typed-multi, typed-wrap_a, typed-wrap_s, typed-wrap_c, typed-wrap_d, typed-wrap_v, typed-wrap_j, typed-wrap_n, OthersFit}
 use Rattle.def_emit.specs.Emit.{emit, emit_sum, emit_added}
-use Rattle.def_sane.specs.Formal.{Takes, one, empty}
+use Rattle.def_limits.specs.declared.Limits.{Limits}
+use Rattle.def_limits.specs.Formal.{Takes, one, empty}
+use Rattle.def_limits.proofs.Greatest.{as_computed as limits_as_computed}
 use Rattle.def_script.specs.Instruction.{opcode_count}
-use Rattle.def_sane.specs.Scaffolding.Most as most
-use Rattle.def_sane.specs.Scaffolding.Most.{most_sat, most_dsat, most_parts, number_of}
+use Rattle.def_limits.specs.Scaffolding.Most as most
+use Rattle.def_limits.specs.Scaffolding.Most.{most_sat, most_dsat, most_parts, number_of}
 use Rattle.def_height.specs.declared.Highest.{Highest}
 use Rattle.def_height.specs.Scaffolding.Highest.{only, both, either, at_least, highest_sat, highest_dsat, highest_parts, height_of_option}
 use Rattle.def_height.specs.Laws.{ItemsAreWithinOps, HeightIsWithin, HeightIsLow}
 use Rattle.def_height.proofs.Heights.{AreFit, fit_children}
-use Rattle.def_height.proofs.Found.{height_is_unique}
+use Rattle.def_height.proofs.Found.{as_computed}
 use Rattle.def_height.proofs.Opcodes.{ops, opcodes_verified, ops_multi, ops_and_or, ops_and_v, ops_and_b, ops_or_b, ops_or_c, ops_or_d, ops_or_i, ops_thresh, ops_sum, ops_added, ops_a, ops_c, ops_d, ops_j, ops_n}
 
 -- as many items, at most so many elements more at once, and at most so many items more than keys
@@ -227,13 +229,15 @@ low_height high few (Some m) (Some t) b = omega (arith, b.high, b.same)
 low_height high few o p b = absurd b
 
 pub items_are_within_ops : ItemsAreWithinOps
-items_are_within_ops tree typed base =
-    omega (arith, few_items _ _ _ _ (sat_bounded tree typed), none_more tree B base)
+items_are_within_ops tree typed base limits are =
+    subst (λ (l : Limits). l.items ≤ l.ops) (sym (limits_as_computed tree limits are))
+    (omega (arith, few_items _ _ _ _ (sat_bounded tree typed), none_more tree B base))
 
 pub height_is_within : HeightIsWithin
-height_is_within tree typed h is =
-    omega (arith, height_is_unique tree typed h is, low_height _ _ _ _ (sat_bounded tree typed))
+height_is_within tree typed limits are h is =
+    subst (λ (l : Limits). h ≤ l.items + l.ops + 24) (sym (limits_as_computed tree limits are))
+    (omega (arith, as_computed tree h typed is, low_height _ _ _ _ (sat_bounded tree typed)))
 
 pub height_is_low : HeightIsLow
-height_is_low tree typed base few h is =
-    omega (arith, few, items_are_within_ops tree typed base, height_is_within tree typed h is)
+height_is_low tree typed base limits are few h is =
+    omega (arith, few, items_are_within_ops tree typed base limits are, height_is_within tree typed limits are h is)

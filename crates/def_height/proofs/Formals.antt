@@ -3,9 +3,9 @@ use Rattle.std.proofs.Common.{◌≡◌, ℕ, zero, suc, ◌+◌, [], ◌∷◌,
 use Rattle.def_tree.specs.declared.Two.TheVariants as kind
 use Rattle.def_tree.specs.declared.Wrapper.TheVariants as wrapper
 use Rattle.def_tree.specs.Tree.{Tree, Trees, just_0, pk_k, pk_h, hash, and_or, two, thresh, multi, wrap, none, more}
-use Rattle.def_sane.specs.Formal as sane
+use Rattle.def_limits.specs.Formal as formal
 use Rattle.def_script.specs.Signature.{MAX_SIGNATURE_SIZE}
-use Rattle.def_sane.specs.Formal.{Takes, nothing, item, same_items, tried, plus, PREIMAGE, empty, one}
+use Rattle.def_limits.specs.Formal.{Takes, nothing, item, same_items, tried, plus, PREIMAGE, empty, one}
 use Rattle.def_height.specs.Course.{down, Course}
 use Rattle.def_height.specs.Formal.{Way, then, Never, Is, Either, Then, Followed, FormalSat, FormalDsat, FormalParts}
 use Rattle.def_height.specs.Laws.{CoursesAreOfFormals, FormalsHaveCourses}
@@ -15,16 +15,16 @@ record AreAlike (P : Way → Type 0) (Q : Takes → Type 0) : Type 0 where
   pub takes : (w : Way) → P w → (t : Takes) × Q t × (t.items ≡ w.items)
   pub ways : (t : Takes) → Q t → (w : Way) × P w × (w.items ≡ t.items)
 
-alike_is : (items : ℕ) (course : Course) (a : Takes) → a.items ≡ items → AreAlike (Is items course) (sane.Is a)
+alike_is : (items : ℕ) (course : Course) (a : Takes) → a.items ≡ items → AreAlike (Is items course) (formal.Is a)
 alike_is items course a same = record {
   takes = λ w is. (a, refl, same ∙ sym (ap (λ (x : Way). x.items) is));
   ways = λ t is. (record { items = items; course = course }, refl, sym same ∙ sym (ap (λ (x : Takes). x.items) is));
 }
 
-alike_never : AreAlike Never sane.Never
+alike_never : AreAlike Never formal.Never
 alike_never = record { takes = λ w h. absurd h; ways = λ t h. absurd h }
 
-alike_then : {P Q : Way → Type 0} {R S : Takes → Type 0} → AreAlike P R → AreAlike Q S → AreAlike (Then P Q) (sane.Both S R)
+alike_then : {P Q : Way → Type 0} {R S : Takes → Type 0} → AreAlike P R → AreAlike Q S → AreAlike (Then P Q) (formal.Both S R)
 alike_then x y = record {
   takes = λ w is.
       let r = x.takes is.0 is.2 in let s = y.takes is.1 is.3 in
@@ -36,7 +36,7 @@ alike_then x y = record {
       (then p.0 q.0, (p.0, q.0, p.1, q.1, refl), omega (arith, e, p.2, q.2));
 }
 
-alike_either : {P Q : Way → Type 0} {R S : Takes → Type 0} → AreAlike P R → AreAlike Q S → AreAlike (Either P Q) (sane.Either R S)
+alike_either : {P Q : Way → Type 0} {R S : Takes → Type 0} → AreAlike P R → AreAlike Q S → AreAlike (Either P Q) (formal.Either R S)
 alike_either x y = record {
   takes = λ w h. elim h [ inl p ↦ (let r = x.takes w p in (r.0, inl r.1, r.2)) | inr q ↦ (let s = y.takes w q in (s.0, inr s.1, s.2)) ];
   ways = λ t h. elim h [ inl r ↦ (let p = x.ways t r in (p.0, inl p.1, p.2)) | inr s ↦ (let q = y.ways t s in (q.0, inr q.1, q.2)) ];
@@ -68,7 +68,7 @@ alike_led course x = record {
 }
 
 mutual
-  sat_alike : (t : Tree) → AreAlike (FormalSat t) (sane.FormalSat t)
+  sat_alike : (t : Tree) → AreAlike (FormalSat t) (formal.FormalSat t)
   sat_alike just_0 = alike_never
   sat_alike (pk_k key) = alike_is _ _ (item MAX_SIGNATURE_SIZE) refl
   sat_alike (pk_h key) = alike_is _ _ (plus (item MAX_SIGNATURE_SIZE) (item (length key))) refl
@@ -88,7 +88,7 @@ mutual
   sat_alike (wrap letter x) = alike_followed _ (sat_alike x)
   sat_alike tree = alike_is _ _ nothing refl
 
-  dsat_alike : (t : Tree) → AreAlike (FormalDsat t) (sane.FormalDsat t)
+  dsat_alike : (t : Tree) → AreAlike (FormalDsat t) (formal.FormalDsat t)
   dsat_alike just_0 = alike_is _ _ nothing refl
   dsat_alike (pk_k key) = alike_is _ _ empty refl
   dsat_alike (pk_h key) = alike_is _ _ (plus empty (item (length key))) refl
@@ -108,7 +108,7 @@ mutual
   dsat_alike (wrap letter x) = alike_followed _ (dsat_alike x)
   dsat_alike tree = alike_never
 
-  parts_alike : (first : Course) (xs : Trees) (k : ℕ) → AreAlike (FormalParts first xs k) (sane.FormalParts xs k)
+  parts_alike : (first : Course) (xs : Trees) (k : ℕ) → AreAlike (FormalParts first xs k) (formal.FormalParts xs k)
   parts_alike first none zero = alike_is _ _ nothing refl
   parts_alike first none (suc k) = alike_never
   parts_alike first (more x xs) zero = alike_then (alike_followed first (dsat_alike x)) (parts_alike (down 1 ∷ []) xs zero)

@@ -2,7 +2,7 @@
 use Rattle.def_tree.specs.Tree.{Tree, just_0, older}
 use Rattle.def_types.specs.Samples.{KEY_A, KEY_B, hash_value, pk, pkh, sha256, v, and_v, or_d, or_i}
 use Rattle.def_sane.specs.Allowed.{keys_101, keys_201, largest}
-use Rattle.def_sane.specs.Examples.{key_chain_of_three, two_of_three, hashes_or_keys, key_or_hashes, keys_and_lock, hash_or_key}
+use Rattle.def_limits.specs.Examples.{key_chain_of_three, two_of_three, hashes_or_keys, key_or_hashes, keys_and_lock, hash_or_key}
 use Rattle.def_height.specs.Height.{IsHeight}
 
 -- `pk(B)`: the signature and the key

@@ -4,7 +4,7 @@ ghost use Rattle.def_height.specs.Laws.{
   RiseIsGreatest,
   CoursesAreOfFormals,
   FormalsHaveCourses,
-  HeightIsComputed,
+  HeightExists,
   HeightIsUnique,
   ItemsAreWithinOps,
   HeightIsWithin,
@@ -22,9 +22,9 @@ pub fn formals()
     ensures have_courses { FormalsHaveCourses }
 {}
 
-/// The computed height is the height of a tree, and it has no other.
+/// A tree with a correctness type has a height, and no other.
 pub fn heights()
-    ensures computed { HeightIsComputed }
+    ensures exists { HeightExists }
     ensures unique { HeightIsUnique }
 {}
 

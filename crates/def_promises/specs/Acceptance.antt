@@ -8,8 +8,8 @@ use Rattle.def_tree.specs.Tree.{Tree}
 use Rattle.def_tree.specs.Range.{IsWritable}
 use Rattle.def_emit.specs.Emit.{script_of}
 use Rattle.def_assets.specs.Assets.{Assets, AreAssets}
-use Rattle.def_sane.specs.declared.Limits.{Limits}
-use Rattle.def_sane.specs.Limits.{AreLimits}
+use Rattle.def_limits.specs.declared.Limits.{Limits}
+use Rattle.def_limits.specs.Limits.{AreLimits}
 use Rattle.def_sane.specs.declared.Rules.TheVariants.{Consensus}
 use Rattle.def_sane.specs.Unfit.{IsValidUnder}
 use Rattle.def_height.specs.Height.{IsHeight}

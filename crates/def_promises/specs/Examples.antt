@@ -14,8 +14,8 @@ use Rattle.def_types.specs.Corr.{corr}
 use Rattle.def_types.specs.Malleable.{mall}
 use Rattle.def_types.specs.Samples.{pk, sha256, v, and_v}
 use Rattle.def_assets.specs.Assets.{Assets, AreAssets}
-use Rattle.def_sane.specs.declared.Limits.{Limits}
-use Rattle.def_sane.specs.Limits.{AreLimits}
+use Rattle.def_limits.specs.declared.Limits.{Limits}
+use Rattle.def_limits.specs.Limits.{AreLimits}
 use Rattle.def_tree.specs.Nodes.{all_nodes}
 use Rattle.def_sane.specs.declared.Rules.TheVariants.{Consensus}
 use Rattle.def_sane.specs.Unfit.{IsValidUnder, IsSaneUnder}

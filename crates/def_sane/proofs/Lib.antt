@@ -1,4 +1,4 @@
-pub mod Greatest
+pub mod TheLimits
 pub mod First
 pub mod FirstMix
 pub mod FirstRepeat

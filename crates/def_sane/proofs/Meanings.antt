@@ -15,14 +15,16 @@ use Rattle.def_sane.specs.declared.Rules.{Rules}
 use Rattle.def_sane.specs.declared.Rules.TheVariants.{Policy, Consensus}
 use Rattle.def_sane.specs.declared.Unfit.{Unfit}
 use Rattle.def_sane.specs.declared.Unfit.TheVariants as unfit
-use Rattle.def_sane.specs.Limits.{limits_of}
+use Rattle.def_limits.specs.declared.Limits.{Limits}
+use Rattle.def_limits.specs.Scaffolding.Most.{limits_of}
 use Rattle.def_sane.specs.Locks.{mix}
 use Rattle.def_sane.specs.Keys.{keys, AreDistinct, repeated_key}
 use Rattle.def_script.specs.Limits.{MAX_OPS_PER_SCRIPT}
 use Rattle.def_sane.specs.Unfit.{size_limit, are_too_many, MOST_SIZE, MOST_ITEMS, broken_rule, wrong_top, malleable, no_signature, mixed_locks, repeated, first_reason, IsValidUnder, IsSaneUnder, IsValid, IsSane, first_unfit_valid_by}
-use Rattle.def_sane.specs.Laws.{AreFewItems, IsValidWithin, ReasonsAreByLimits, ValidMeans, SaneMeans, ValidUnderConsensus, SaneUnderConsensus}
+use Rattle.def_sane.specs.Laws.{AreFewItems, IsValidWithin, ValidMeans, SaneMeans, ValidUnderConsensus, SaneUnderConsensus}
 use Rattle.def_sane.proofs.FirstRepeat.{none_is_repeated}
-use Rattle.def_sane.proofs.Greatest.{limits_are_unique}
+use Rattle.def_limits.proofs.Greatest.{limits_are_computed}
+use Rattle.def_sane.proofs.TheLimits.{reasons_are_by_limits}
 
 -- five reasons of which none applies
 none_of_five : (a b c d e : Option Unfit) → first_reason (a ∷ b ∷ c ∷ d ∷ e ∷ []) ≡ None ↔
@@ -59,10 +61,10 @@ b_from_none base = grind arith
 wrong_top-b : (ty : Ty) → ty.base ≡ B → wrong_top (Ok ty) ≡ None
 wrong_top-b ty e = rw e
 
-pub valid_means_under : (rules : Rules) (tree : Tree) → IsValidUnder rules tree ↔ IsValidWithin rules tree (limits_of tree)
-valid_means_under rules tree = (forth, back)
+means_by : (rules : Rules) (tree : Tree) (limits : Limits) → (first_unfit_valid_by rules tree limits ≡ None) ↔ IsValidWithin rules tree limits
+means_by rules tree limits = (forth, back)
   where
-    forth : IsValidUnder rules tree → IsValidWithin rules tree (limits_of tree)
+    forth : first_unfit_valid_by rules tree limits ≡ None → IsValidWithin rules tree limits
     forth valid =
         let none = (none_of_five _ _ _ _ _).0 valid in
         let typed = typed_from_none (corr tree) none.0 in
@@ -75,7 +77,7 @@ valid_means_under rules tree = (forth, back)
           few_items rules _ (not_told _ _ none.4),
         )
 
-    back : IsValidWithin rules tree (limits_of tree) → IsValidUnder rules tree
+    back : IsValidWithin rules tree limits → first_unfit_valid_by rules tree limits ≡ None
     back h =
         let typed : corr tree ≡ Ok (type_of tree) = (corr_is_typed tree (type_of tree)).1 (h.0, refl) in
         (none_of_five _ _ _ _ _).1 (
@@ -86,13 +88,14 @@ valid_means_under rules tree = (forth, back)
           within_items rules _ _ h.4,
         )
 
--- whatever limits a tree has are those that are computed
+-- whatever limits a tree has are those by which it is valid
 pub valid_means_within : ValidMeans
 valid_means_within rules tree limits are =
-    subst (λ l. IsValidUnder rules tree ↔ IsValidWithin rules tree l) (sym (limits_are_unique tree limits are)) (valid_means_under rules tree)
+    subst (λ reason. (reason ≡ None) ↔ IsValidWithin rules tree limits) (sym (reasons_are_by_limits rules tree limits are).0) (means_by rules tree limits)
 
-pub reasons_are_by_limits : ReasonsAreByLimits
-reasons_are_by_limits rules tree limits are = ap (first_unfit_valid_by rules tree) (sym (limits_are_unique tree limits are))
+-- by those that are computed
+pub valid_means_under : (rules : Rules) (tree : Tree) → IsValidUnder rules tree ↔ IsValidWithin rules tree (limits_of tree)
+valid_means_under rules tree = valid_means_within rules tree (limits_of tree) (limits_are_computed tree)
 
 -- of policy
 pub valid_means : (tree : Tree) →

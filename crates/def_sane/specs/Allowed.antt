@@ -7,7 +7,7 @@ use Rattle.def_sane.specs.declared.Rules.TheVariants.{Policy, Consensus}
 use Rattle.def_sane.specs.declared.Unfit.{Unfit}
 use Rattle.def_sane.specs.declared.Unfit.TheVariants as unfit
 use Rattle.def_sane.specs.Unfit.{IsSaneUnder, first_unfit_valid_under}
-use Rattle.def_sane.specs.Examples.{HasLimits}
+use Rattle.def_limits.specs.Examples.{HasLimits}
 use Rattle.def_sane.specs.Refusals.{numbered_key, numbered_keys, key_chain}
 
 -- this is the first reason against the tree's being valid under these rules

@@ -3,22 +3,23 @@ use Rattle.std.specs.Prelude.{◌≡◌, ◌↔◌, ℕ, ◌<◌, ◌≤◌, Non
 use Rattle.def_tree.specs.Tree.{Tree}
 use Rattle.def_types.specs.declared.Base.TheVariants.{B}
 use Rattle.def_types.specs.Typed.{type_of, IsTyped, mall_of, IsMallTyped}
-use Rattle.def_sane.specs.declared.Limits.{Limits}
+use Rattle.def_limits.specs.declared.Limits.{Limits}
 use Rattle.def_sane.specs.declared.Rules.{Rules}
 use Rattle.def_sane.specs.declared.Rules.TheVariants.{Policy, Consensus}
-use Rattle.def_sane.specs.Limits.{AreLimits, limits_of}
+use Rattle.def_limits.specs.Limits.{AreLimits}
+use Rattle.def_sane.specs.TheLimits.{the_limits}
 use Rattle.def_sane.specs.Locks.{Mixes, mix}
 use Rattle.def_sane.specs.Keys.{keys, Repeats, AreDistinct, repeated_key}
 use Rattle.def_script.specs.Limits.{MAX_OPS_PER_SCRIPT}
-use Rattle.def_sane.specs.Unfit.{size_limit, MOST_ITEMS, first_unfit_valid_by, first_unfit_valid_under, IsValidUnder, IsSaneUnder}
+use Rattle.def_sane.specs.Unfit.{size_limit, MOST_ITEMS, first_unfit_valid_by, first_unfit_by, first_unfit_valid_under, first_unfit_under, IsValidUnder, IsSaneUnder}
 
--- the computed limits are limits
-abbrev pub LimitsAreComputed : Type 0
-LimitsAreComputed = (tree : Tree) → AreLimits tree (limits_of tree)
+-- the limits of a tree are limits of it
+abbrev pub TheyAreLimits : Type 0
+TheyAreLimits = (tree : Tree) → AreLimits tree (the_limits tree)
 
--- a tree has no other limits
-abbrev pub LimitsAreUnique : Type 0
-LimitsAreUnique = (tree : Tree) (limits : Limits) → AreLimits tree limits → limits ≡ limits_of tree
+-- a tree has no others
+abbrev pub TheyAreTheOnly : Type 0
+TheyAreTheOnly = (tree : Tree) (limits : Limits) → AreLimits tree limits → limits ≡ the_limits tree
 
 -- `mix` is the first node that mixes, and there is none exactly where it is none
 abbrev pub MixIsFirst : Type 0
@@ -48,8 +49,9 @@ AreFewItems Consensus items = ⊤
 -- the reasons against a tree are those by its limits, of which it has no others
 abbrev pub ReasonsAreByLimits : Type 0
 ReasonsAreByLimits =
-    (rules : Rules) (tree : Tree) (limits : Limits) →
-    AreLimits tree limits → first_unfit_valid_under rules tree ≡ first_unfit_valid_by rules tree limits
+    (rules : Rules) (tree : Tree) (limits : Limits) → AreLimits tree limits →
+    (first_unfit_valid_under rules tree ≡ first_unfit_valid_by rules tree limits) ×
+    (first_unfit_under rules tree ≡ first_unfit_by rules tree limits)
 
 -- valid is a tree of type B within these limits
 abbrev pub IsValidWithin : Rules → Tree → Limits → Type 0

@@ -1,12 +1,9 @@
-pub mod Formal
-pub mod Limits
+pub mod TheLimits
 pub mod Laws
 pub mod Locks
 pub mod Keys
 pub mod Unfit
-pub mod Examples
 pub mod FirstNodes
 pub mod Refusals
 pub mod Allowed
 pub mod Scripts
-pub mod Scaffolding

@@ -6,7 +6,7 @@ use Rattle.def_types.specs.Samples.{KEY_A, KEY_B, hash_value, pk, pkh, sha256, a
 use Rattle.def_sane.specs.declared.Unfit.{Unfit}
 use Rattle.def_sane.specs.declared.Unfit.TheVariants as unfit
 use Rattle.def_sane.specs.Unfit.{IsSane, IsValid, first_unfit}
-use Rattle.def_sane.specs.Examples.{HasLimits, key_chain_of_three, two_of_three, hashes_or_keys, key_or_hashes, keys_and_lock, hash_or_key}
+use Rattle.def_limits.specs.Examples.{HasLimits, key_chain_of_three, two_of_three, hashes_or_keys, key_or_hashes, keys_and_lock, hash_or_key}
 
 -- this is the first reason against the tree
 abbrev pub IsRefused : Tree → Unfit → Type 0

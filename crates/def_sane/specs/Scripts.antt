@@ -5,7 +5,7 @@ use Rattle.def_script.specs.Bytes.{Bytes}
 use Rattle.def_tree.specs.Tree.{Key, just_0, just_1, older, after}
 use Rattle.def_types.specs.Samples.{KEY_A, KEY_B, KEY_C, hash_value, pk, pkh, and_v, or_b, or_d, s, v}
 use Rattle.def_emit.specs.Emit.{script_of}
-use Rattle.def_sane.specs.Examples.{key_chain_of_three, two_of_three, hashes_or_keys, keys_and_lock}
+use Rattle.def_limits.specs.Examples.{key_chain_of_three, two_of_three, hashes_or_keys, keys_and_lock}
 
 -- the push of a key
 abbrev pub push_key : Key → Bytes

@@ -8,14 +8,15 @@ use Rattle.def_types.specs.declared.Mall.{Mall}
 use Rattle.def_types.specs.declared.rule.RuleAt.{RuleAt}
 use Rattle.def_types.specs.Corr.{is_b, corr}
 use Rattle.def_types.specs.Malleable.{mall}
-use Rattle.def_sane.specs.declared.Limits.{Limits}
+use Rattle.def_limits.specs.declared.Limits.{Limits}
 use Rattle.def_sane.specs.declared.Rules.{Rules}
 use Rattle.def_sane.specs.declared.Rules.TheVariants.{Policy, Consensus}
 use Rattle.def_sane.specs.declared.Unfit.{Unfit}
 use Rattle.def_sane.specs.declared.Unfit.TheVariants as unfit
 use Rattle.def_sane.specs.declared.Valid.{Valid}
 use Rattle.def_sane.specs.declared.Sane.{Sane}
-use Rattle.def_sane.specs.Limits.{AreLimits, limits_of}
+use Rattle.def_limits.specs.Limits.{AreLimits}
+use Rattle.def_sane.specs.TheLimits.{the_limits}
 use Rattle.def_sane.specs.Locks.{mix}
 use Rattle.def_sane.specs.Keys.{repeated_key}
 
@@ -89,18 +90,22 @@ first_unfit_valid_by rules tree limits =
     broken_rule (corr tree) ∷ wrong_top (corr tree) ∷
     too_large rules limits ∷ too_many_ops limits ∷ too_many_items rules limits ∷ [])
 
+-- the first reason of 1 to 9
+abbrev pub first_unfit_by : Rules → Tree → Limits → Option Unfit
+first_unfit_by rules tree limits =
+    first_reason (
+    first_unfit_valid_by rules tree limits ∷ malleable (mall tree) ∷ no_signature (mall tree) ∷
+    mixed_locks (mix tree) ∷ repeated (repeated_key tree) ∷ [])
+
+-- the first reason of 1 to 5, and of 1 to 9, by the limits of the tree
 abbrev pub first_unfit_valid_under : Rules → Tree → Option Unfit
-first_unfit_valid_under rules tree = first_unfit_valid_by rules tree (limits_of tree)
+first_unfit_valid_under rules tree = first_unfit_valid_by rules tree (the_limits tree)
+
+abbrev pub first_unfit_under : Rules → Tree → Option Unfit
+first_unfit_under rules tree = first_unfit_by rules tree (the_limits tree)
 
 abbrev pub first_unfit_valid : Tree → Option Unfit
 first_unfit_valid tree = first_unfit_valid_under Policy tree
-
--- the first reason of 1 to 9
-abbrev pub first_unfit_under : Rules → Tree → Option Unfit
-first_unfit_under rules tree =
-    first_reason (
-    first_unfit_valid_under rules tree ∷ malleable (mall tree) ∷ no_signature (mall tree) ∷
-    mixed_locks (mix tree) ∷ repeated (repeated_key tree) ∷ [])
 
 abbrev pub first_unfit : Tree → Option Unfit
 first_unfit tree = first_unfit_under Policy tree

@@ -1,19 +1,5 @@
-//! Examples of limits, of sane miniscripts, and of refusals.
+//! Examples of Scripts, of sane miniscripts, and of refusals.
 
-ghost use Rattle.def_sane.specs.Examples.{
-  KeyLimits,
-  ChainLimits,
-  KeysLimits,
-  KeyHashLimits,
-  LockLimits,
-  ThresholdLimits,
-  EitherLimits,
-  LockedThresholdLimits,
-  HashThresholdLimits,
-  FourChildrenLimits,
-  EachByItself,
-  ZeroLimits,
-};
 ghost use Rattle.def_sane.specs.Allowed.{ManyKeys, MostKeys, Largest};
 ghost use Rattle.def_sane.specs.FirstNodes.{MixedOnes, UnmixedOnes, RepeatedOnes};
 ghost use Rattle.def_sane.specs.Scripts.{NumberScripts, KeyScript, ChainScript, KeysScript, KeyHashScript, LockScripts, EitherKeyScript, ThresholdScript, LockedThresholdScript};
@@ -47,22 +33,6 @@ pub fn scripts()
     ensures either_key_script { EitherKeyScript }
     ensures threshold_script { ThresholdScript }
     ensures locked_threshold_script { LockedThresholdScript }
-{}
-
-/// These miniscripts have these limits.
-pub fn limits()
-    ensures key_limits { KeyLimits }
-    ensures chain_limits { ChainLimits }
-    ensures keys_limits { KeysLimits }
-    ensures key_hash_limits { KeyHashLimits }
-    ensures lock_limits { LockLimits }
-    ensures threshold_limits { ThresholdLimits }
-    ensures either_limits { EitherLimits }
-    ensures locked_threshold_limits { LockedThresholdLimits }
-    ensures hash_threshold_limits { HashThresholdLimits }
-    ensures four_children_limits { FourChildrenLimits }
-    ensures each_by_itself { EachByItself }
-    ensures zero_limits { ZeroLimits }
 {}
 
 /// These miniscripts are sane, or have these reasons against them.

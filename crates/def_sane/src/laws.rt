@@ -1,8 +1,8 @@
 //! What the definitions imply.
 
 ghost use Rattle.def_sane.specs.Laws.{
-  LimitsAreComputed,
-  LimitsAreUnique,
+  TheyAreLimits,
+  TheyAreTheOnly,
   MixIsFirst,
   RepeatedIsFirst,
   NoneIsRepeated,
@@ -13,10 +13,10 @@ ghost use Rattle.def_sane.specs.Laws.{
   SaneUnderConsensus,
 };
 
-/// The computed limits are the limits of a tree, and it has no others.
+/// The limits of a tree are limits of it, and it has no others.
 pub fn limits()
-    ensures computed { LimitsAreComputed }
-    ensures unique { LimitsAreUnique }
+    ensures are { TheyAreLimits }
+    ensures only { TheyAreTheOnly }
 {}
 
 /// What is said of the first node is so.

@@ -1,24 +1,11 @@
-//! Definitions of a miniscript's limits, and of the reasons why it is refused.
+//! Definitions of valid and sane miniscripts, and of the reasons why one is refused.
 #![tactic(auto)]
 
 pub mod examples;
 pub mod laws;
 
+pub use def_limits::Limits;
 pub use def_types::{Mall, RuleAt, Ty};
-
-/// What a miniscript takes at most: the bytes of its Script, the opcodes that count in a run of it on a canonical
-/// satisfaction, and the items and the weight of one.
-#[derive(Clone, Copy, Debug, PartialEq, Eq)]
-pub struct Limits {
-    /// The bytes of its Script.
-    pub size: u64,
-    /// The opcodes that count in a run of its Script, with the keys of each `multi` that is executed.
-    pub ops: u64,
-    /// The items of a canonical satisfaction, without the Script.
-    pub items: u64,
-    /// The weight of a canonical satisfaction, in bytes: the sum over its items, without the Script, of 1 and the item's length.
-    pub weight: u64,
-}
 
 /// Whose limits hold: those of policy, within which nodes relay a transaction, or those of consensus alone, within
 /// which a block may hold it.

@@ -18,14 +18,16 @@ use Rattle.def_types.specs.declared.Base.{Base}
 use Rattle.def_types.specs.Typed.{type_of}
 use Rattle.def_emit.specs.Emit.{emit, script_of}
 use Rattle.def_assets.specs.Assets.{Assets, AreAssets, known}
-use Rattle.def_sane.specs.declared.Limits.{Limits}
-use Rattle.def_sane.specs.Limits.{AreLimits, limits_of}
+use Rattle.def_limits.specs.declared.Limits.{Limits}
+use Rattle.def_limits.specs.Limits.{AreLimits}
+use Rattle.def_limits.specs.Scaffolding.Most.{limits_of}
 use Rattle.def_script.specs.Instruction.{opcode_count}
 use Rattle.def_sane.specs.declared.Rules.TheVariants.{Consensus}
 use Rattle.def_sane.specs.Unfit.{IsValidUnder}
-use Rattle.def_sane.proofs.Greatest.{limits_are_unique, limits_are_computed}
+use Rattle.def_limits.proofs.Greatest.{limits_are_computed, as_computed as limits_as_computed}
 use Rattle.def_height.specs.Formal.{Way, FormalSat}
-use Rattle.def_height.specs.Height.{IsHeight, peak, height_of}
+use Rattle.def_height.specs.Height.{IsHeight, peak}
+use Rattle.def_height.specs.Scaffolding.Highest.{height_of}
 use Rattle.def_height.specs.Height as height_of_way
 use Rattle.def_height.proofs.Found.{height_is_computed}
 use Rattle.def_height.proofs.Bounds.{height_is_low}
@@ -139,14 +141,14 @@ accepts_row tree limits assets table stack writable consensus are_limits are sat
     let short = short_items 73 (omega arith) w sized.short in
     let ends = satisfied s tree writable consensus w short r in
     let few = few_ops tree limits s w writable are_limits refl r in
-    let most = ap (λ (l : Limits). l.ops) (limits_are_unique tree limits are_limits) in
+    let most = ap (λ (l : Limits). l.ops) (limits_as_computed tree limits are_limits) in
     let top = has_peak s refl tree writable consensus w short r in
     let height = height_is_computed tree consensus.typed in
     let done =
     accepted_run s.given tree w (left (ends.0 ∷ []) (sat_log s tree w r)) ends.0 (peak (sat_way s tree w r)) writable consensus.size
     (All-weaker (λ item. length item ≤ MAX_SIGNATURE_SIZE) (λ item. length item ≤ 520) (λ item h. omega (arith, h)) w sized.short) ends.1 refl ends.2
     (omega (arith, few, most, consensus.ops)) top.low
-    (omega (arith, top.below (height_of tree) height, height_is_low tree consensus.typed consensus.base consensus.ops (height_of tree) height)) in
+    (omega (arith, top.below (height_of tree) height, height_is_low tree consensus.typed consensus.base (limits_of tree) (limits_are_computed tree) consensus.ops (height_of tree) height)) in
     record {
       peak = done.0;
       run = ap (run s.given (script_of tree)) (sym (reverse-reverse stack)) ∙ done.2;

@@ -5,8 +5,12 @@ use Rattle.def_hash.specs.Hash.{hash256}
 use Rattle.def_types.proofs.Rows.{corr_rows, mall_rows}
 use Rattle.def_files.proofs.OnLiterals.{files_on_literals}
 use Rattle.def_satisfaction.proofs.Computing.{computing}
+use Rattle.def_limits.proofs.Greatest.{limits_exist}
+use Rattle.def_sane.specs.TheLimits.{the_limits}
+use Rattle.def_height.proofs.Found.{height_exists}
 use Rattle.def_plan.specs.PlanFile.{plan_file_of}
 use Rattle.def_policy.specs.LeastKeys.{least_keys}
+use Rattle.def_answer.specs.TheHeight.{the_height}
 use Rattle.def_answer.specs.Report.{script_report, check_report, satisfy_report, run_report, policy_report, plan_report, audit_report, decode_report}
 use Rattle.def_answer.specs.Answer.{gen_report, gen_reply}
 use Rattle.ms_decode_laws.specs.Scaffolding.Reader.{natural_of, fits}
@@ -15,5 +19,5 @@ use Rattle.ms_answer_laws.proofs.Forms.{children_of}
 
 unfoldable pub answers_on_literals : ⊤
 unfolding script_report check_report satisfy_report run_report policy_report plan_report audit_report plan_file_of decode_report decided natural_of fits
-    least_keys gen_report gen_reply computing hash256 corr_rows mall_rows files_on_literals children_of digits
+    the_limits limits_exist the_height height_exists least_keys gen_report gen_reply computing hash256 corr_rows mall_rows files_on_literals children_of digits
 answers_on_literals = tt

@@ -10,12 +10,13 @@ use Rattle.def_types.specs.declared.rule.RuleAt.{RuleAt}
 use Rattle.def_types.specs.Corr.{is_b, corr}
 use Rattle.def_types.specs.Malleable.{mall}
 use Rattle.def_emit.specs.Emit.{emit, script_of}
-use Rattle.def_sane.specs.Formal.{Takes}
+use Rattle.def_limits.specs.Formal.{Takes}
 use Rattle.def_script.specs.Instruction.{opcode_count}
 use Rattle.def_sane.specs.Locks.{mix}
 use Rattle.def_sane.specs.Keys.{repeated_key}
-use Rattle.def_sane.specs.Limits.{limits_of}
-use Rattle.def_sane.specs.Scaffolding.Most.{both, either, most_sat, most_dsat, most_parts, number_of}
+use Rattle.def_limits.specs.Scaffolding.Most.{both, either, most_sat, most_dsat, most_parts, number_of, limits_of}
+use Rattle.def_sane.specs.declared.Rules.TheVariants.{Policy}
+use Rattle.def_sane.proofs.TheLimits.{valid_by_computed}
 use Rattle.def_sane.specs.Unfit.{broken_rule, wrong_top, malleable, no_signature, mixed_locks, repeated, IsValid, IsSane}
 use Rattle.def_answer.specs.Generated.{threshold_of, child, generated_children, generated_tree}
 use Rattle.ms_answer_laws.specs.Laws.{GeneratedIsSane}
@@ -121,7 +122,7 @@ sane_tree tree m e takes few =
     let ops : (limits_of tree).ops ≤ 201 = let keys = items.1 in omega (arith, codes, keys) in
     let mixed = ap mixed_locks ((none_tells (mix tree)).0 p3.0) in
     let repeats = ap repeated ((none_tells (repeated_key tree)).0 p4.0) in
-    let valid : IsValid tree = rw (typed.0, typed.1, le-ltb 3600 _ size, le-ltb 201 _ ops, le-ltb 100 _ items.0) in
+    let valid : IsValid tree = valid_by_computed Policy tree (rw (typed.0, typed.1, le-ltb 3600 _ size, le-ltb 201 _ ops, le-ltb 100 _ items.0)) in
     rw (valid, signed.0, signed.1, mixed, repeats)
 
 pub generated_is_sane : GeneratedIsSane

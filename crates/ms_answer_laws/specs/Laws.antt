@@ -5,8 +5,10 @@ use Rattle.def_tree.specs.Range.{IsWritable}
 use Rattle.def_tree.specs.Tree.{Tree}
 use Rattle.def_assets.specs.Assets.{Assets, AreAssets}
 use Rattle.def_text.specs.Refusal.{TextReads}
+use Rattle.def_types.specs.Typed.{IsTyped}
 use Rattle.def_sane.specs.declared.Rules.{Rules}
 use Rattle.def_sane.specs.Unfit.{IsValid, IsSane}
+use Rattle.def_height.specs.Height.{IsHeight}
 use Rattle.def_files.specs.declared.AssetFault.{AssetFault}
 use Rattle.def_files.specs.RunFile.{RunFile, run_of}
 use Rattle.def_audit.specs.declared.Step.{Step}
@@ -18,6 +20,7 @@ use Rattle.def_answer.specs.declared.status.Status.TheVariants as status
 use Rattle.def_answer.specs.Words.{Command, audit, decode, MOST_GENERATED, IsForm, HasNoForm}
 use Rattle.def_answer.specs.Lines.{file_too_long_line}
 use Rattle.def_answer.specs.Generated.{generated_text, generated_tree, generated_assets}
+use Rattle.def_answer.specs.TheHeight.{the_height}
 use Rattle.def_answer.specs.Reply.{reply, MOST_FILE, satisfy_reply, given_by, run_reply, plan_reply, audit_reply}
 use Rattle.def_answer.specs.Answer.{AreSteps, Answer}
 use Rattle.def_answer.specs.Sources.{ReadsSource, IsOfSource, IsToFile}
@@ -146,3 +149,13 @@ GeneratedIsSatisfied =
     (n : ℕ) → 1 ≤ n → n ≤ MOST_GENERATED →
     IsSome (cheapest (generated_tree n) (generated_assets n))
     × IsSome (strict (generated_tree n) (generated_assets n))
+
+-- ---- the height that reports tell
+
+-- of a tree with a correctness type it is the height
+abbrev pub ItIsTheHeight : Type 0
+ItIsTheHeight = (tree : Tree) → IsTyped tree → IsHeight tree (the_height tree)
+
+-- and the tree has no other
+abbrev pub ItIsTheOnlyHeight : Type 0
+ItIsTheOnlyHeight = (tree : Tree) → IsTyped tree → (h : ℕ) → IsHeight tree h → h ≡ the_height tree

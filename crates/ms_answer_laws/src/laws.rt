@@ -20,6 +20,8 @@ ghost use Rattle.ms_answer_laws.specs.Laws.{
   GeneratedIsSane,
   GeneratedAreAssets,
   GeneratedIsSatisfied,
+  ItIsTheHeight,
+  ItIsTheOnlyHeight,
 };
 
 /// Words have one form or none, and words that are texts have exactly one answer.
@@ -55,4 +57,10 @@ pub fn generator()
     ensures sane { GeneratedIsSane }
     ensures assets { GeneratedAreAssets }
     ensures satisfied { GeneratedIsSatisfied }
+{}
+
+/// The height that reports tell is that of the tree.
+pub fn heights()
+    ensures is { ItIsTheHeight }
+    ensures only { ItIsTheOnlyHeight }
 {}

@@ -16,7 +16,7 @@ use Rattle.def_tree.specs.Range.{IsKey, IsWritable, AreWritable}
 use Rattle.def_emit.specs.Emit.{emit, emit_sum, emit_added}
 use Rattle.def_sane.specs.Keys.{keys, keys_of_all}
 use Rattle.def_sane.specs.Unfit.{IsSane}
-use Rattle.def_sane.proofs.Greatest.{limits_are_computed}
+use Rattle.def_limits.proofs.Greatest.{limits_are_computed}
 use Rattle.def_sane.proofs.Meanings.{sane_means, valid_means}
 
 -- how many bytes are pushed

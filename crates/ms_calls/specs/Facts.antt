@@ -6,9 +6,9 @@ use Rattle.def_types.specs.declared.Base.TheVariants as base
 use Rattle.def_types.specs.declared.Ty.{Ty}
 use Rattle.def_types.specs.declared.Mall.{Mall}
 use Rattle.def_types.specs.Typed.{type_of, mall_of}
-use Rattle.def_sane.specs.declared.Limits.{Limits}
-use Rattle.def_sane.specs.Limits.{limits_of}
-use Rattle.def_height.specs.Height.{height_of}
+use Rattle.def_limits.specs.declared.Limits.{Limits}
+use Rattle.def_sane.specs.TheLimits.{the_limits}
+use Rattle.def_answer.specs.TheHeight.{the_height}
 use Rattle.ms_calls.specs.declared.facts.Facts.{Facts}
 
 -- base types are numbered in the order B, V, K, W
@@ -38,4 +38,4 @@ facts_by ty mall limits height =
     }
 
 abbrev pub facts_of : Tree → Facts
-facts_of tree = facts_by (type_of tree) (mall_of tree) (limits_of tree) (height_of tree)
+facts_of tree = facts_by (type_of tree) (mall_of tree) (the_limits tree) (the_height tree)

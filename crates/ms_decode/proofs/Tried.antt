@@ -1,5 +1,5 @@
 -- A tree that was found is tried.
-use Rattle.std.proofs.Common.{◌≡◌, List, map, reverse, All, Option, Some, None, sym, ◌∙◌, ap, subst}
+use Rattle.std.proofs.Common.{◌≡◌, ◌<◌, List, length, map, reverse, All, Option, Some, None, sym, ◌∙◌, ap, subst, arith}
 use Rattle.std.specs.List.{Contains}
 use Rattle.std.specs.Str.{bytes_eq}
 use Rattle.def_hash.specs.Hash.{hash160}
@@ -10,7 +10,8 @@ use Rattle.def_tree.specs.Range.{IsKey, IsWritable}
 use Rattle.def_emit.specs.Emit.{emit}
 use Rattle.def_emit.proofs.Short.{items-script_of}
 use Rattle.def_sane.specs.declared.Unfit.{Unfit}
-use Rattle.def_sane.specs.Unfit.{first_unfit_valid}
+use Rattle.def_sane.specs.Unfit.{MOST_SIZE, first_unfit_valid}
+use Rattle.def_sane.proofs.Meanings.{valid_means}
 use Rattle.def_decode.specs.Alike.{IsLikeEach}
 use Rattle.def_decode.specs.Decoded.{first_with, IsReading, IsDecoded}
 use Rattle.ms_decode_laws.specs.Scaffolding.Reader.{read}
@@ -64,3 +65,10 @@ tried_none keys script t m not v h =
 -- nor is one that is unfit the Script's
 pub tried_unfit : (script : Bytes) (t : Tree) (unfit : Unfit) → first_unfit_valid t ≡ Some unfit → IsScriptOf t script → ⊥
 tried_unfit script t unfit e s = let both : None ≡ Some unfit = sym s.0 ∙ e in cc
+
+-- nor is there any of more bytes than are relayed
+pub too_large : (keys : List Key) (script : Bytes) → MOST_SIZE < length script → (t : Tree) → IsReading keys script t → ⊥
+too_large keys script over t h =
+    let few = ((valid_means t).0 h.valid).2 in
+    let same = ap length h.same in
+    omega (arith, over, few, same)

@@ -23,9 +23,10 @@ use Rattle.def_types.specs.Typed.{type_of, IsTyped, mall_of, IsMallTyped}
 use Rattle.def_types.proofs.Typing.{mall_is_non_malleable}
 use Rattle.def_emit.specs.Emit.{emit, script_of}
 use Rattle.def_emit.proofs.Short.{items-script_of}
-use Rattle.def_sane.specs.declared.Limits.{Limits}
-use Rattle.def_sane.specs.Limits.{limits_of}
-use Rattle.def_sane.specs.Scaffolding.Most.{most_sat, number_of}
+use Rattle.def_limits.specs.declared.Limits.{Limits}
+use Rattle.def_limits.specs.Limits.{AreLimits}
+use Rattle.def_limits.specs.Scaffolding.Most.{most_sat, number_of, limits_of}
+use Rattle.def_limits.proofs.Greatest.{as_computed, limits_by}
 use Rattle.def_sane.specs.Locks.{mix}
 use Rattle.def_sane.specs.Keys as held
 use Rattle.def_sane.specs.Keys.{AreDistinct}
@@ -133,6 +134,12 @@ same_limits t n e s = λ k. record {
   weight = number_of (λ t. t.weight) (s k);
 }
 
+same_greatest : (t n : Tree) → limits_of n ≡ limits_of t → (limits : Limits) → AreLimits n limits ↔ AreLimits t limits
+same_greatest t n same limits = (
+  λ are. limits_by t limits (sym same ∙ sym (as_computed n limits are)),
+  λ are. limits_by n limits (same ∙ sym (as_computed t limits are)),
+)
+
 -- the same malleability properties, and sane alike
 same_properties : (t n : Tree) → IsMallTyped n ↔ IsMallTyped t → mall_of n ≡ mall_of t → (m : Mall) → (mall n ≡ Ok m) ↔ (mall t ≡ Ok m)
 same_properties t n typed is m =
@@ -181,7 +188,7 @@ nest_is_decoded keys script t all h =
       };
       alike = record {
         type = i.type;
-        limits = l;
+        limits = same_greatest t n l;
         properties = same_properties t n (nest_typed (first_of keys) t) (nest_properties (first_of keys) t);
         locks = nest_mix (first_of keys) t;
         held = λ first. nest_keys (first_of keys) t (kept first);

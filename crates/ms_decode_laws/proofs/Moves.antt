@@ -12,8 +12,8 @@ use Rattle.def_types.specs.Row.{Row, AllHold}
 use Rattle.def_types.specs.Corr.{is_b, is_v, is_k, two_row, wrap_row}
 use Rattle.def_types.specs.Typed.{type_of, IsTyped}
 use Rattle.def_types.proofs.Rows.{corr_rows}
-use Rattle.def_sane.specs.Formal.{Takes}
-use Rattle.def_sane.specs.Scaffolding.Most.{both, most_sat, most_dsat}
+use Rattle.def_limits.specs.Formal.{Takes}
+use Rattle.def_limits.specs.Scaffolding.Most.{both, most_sat, most_dsat}
 use Rattle.def_decode.specs.Nested.{is_and_v, RightNested, EachHashed}
 use Rattle.ms_decode_laws.proofs.Onto.{onto}
 

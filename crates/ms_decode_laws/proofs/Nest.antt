@@ -15,8 +15,8 @@ use Rattle.def_types.specs.Corr.{and_or_row, two_row, thresh_row, wrap_row}
 use Rattle.def_types.specs.Typed.{type_of, types_of, IsTyped, AreTyped}
 use Rattle.def_emit.specs.Emit.{push_number}
 use Rattle.def_script.specs.Signature.{MAX_SIGNATURE_SIZE}
-use Rattle.def_sane.specs.Formal.{item, plus, empty, one}
-use Rattle.def_sane.specs.Scaffolding.Most.{both, either, counted, most_sat, most_dsat, most_parts}
+use Rattle.def_limits.specs.Formal.{item, plus, empty, one}
+use Rattle.def_limits.specs.Scaffolding.Most.{both, either, counted, most_sat, most_dsat, most_parts}
 use Rattle.std.specs.Prelude.{Some}
 use Rattle.def_decode.specs.Nested.{RightNested, AreRightNested, EachHashed, EachHashedOf}
 use Rattle.ms_decode_laws.proofs.Onto.{fused, onto, onto_sum, onto_added}

@@ -17,7 +17,7 @@ use Rattle.def_text.proofs.Complete.{one_tree}
 use Rattle.def_text.proofs.OneAnswer.{none_beside_tree}
 use Rattle.def_assets.specs.Assets.{Assets, AreAssets}
 use Rattle.def_files.specs.AssetFile.{is_signature}
-use Rattle.def_sane.specs.Limits.{limits_of}
+use Rattle.def_sane.specs.TheLimits.{the_limits}
 use Rattle.def_sane.specs.declared.Rules.TheVariants.{Policy, Consensus}
 use Rattle.def_sane.specs.Unfit.{IsSane, IsSaneUnder, IsValidUnder}
 use Rattle.def_sane.proofs.Meanings.{sane_means_under, sane_under_consensus}
@@ -151,7 +151,7 @@ found choice answer stack is some = ap (λ o. unwrap_or o []) (sym is ∙ some)
 
 -- the lines of the report, one after the other
 pub gen_lines : (n : ℕ) (tree : Tree) (assets : Assets) (children limits strict_text cheapest_text first second all : Bytes)
-    → tree ≡ generated_tree n → assets ≡ generated_assets n → children ≡ children_line n (threshold_of n) → limits ≡ limits_line (limits_of tree)
+    → tree ≡ generated_tree n → assets ≡ generated_assets n → children ≡ children_line n (threshold_of n) → limits ≡ limits_line (the_limits tree)
     → strict_text ≡ strict_line (unwrap_or (strict tree assets) []) (outcome_with tree assets (unwrap_or (strict tree assets) []))
     → cheapest_text ≡ cheapest_line (unwrap_or (cheapest tree assets) [])
     → first ≡ children ++ limits → second ≡ first ++ strict_text → all ≡ second ++ cheapest_text

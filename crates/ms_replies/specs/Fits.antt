@@ -1,7 +1,7 @@
 -- What a command asks of the tree of its text, and what is known of a tree that passes.
 use Rattle.std.specs.Prelude.{◌≡◌, ⊤, Option, Some}
 use Rattle.def_tree.specs.Tree.{Tree}
-use Rattle.def_sane.specs.declared.Limits.{Limits}
+use Rattle.def_limits.specs.declared.Limits.{Limits}
 use Rattle.def_sane.specs.declared.Rules.{Rules}
 use Rattle.def_sane.specs.declared.Rules.TheVariants.{Policy}
 use Rattle.def_sane.specs.declared.Unfit.{Unfit}

@@ -2,7 +2,7 @@
 ghost use Rattle.std.specs.Prelude.{◌≡◌, ◌*◌, ◌≤◌, IfOk, IsOk, vec_len};
 ghost use Rattle.std.specs.String.{string_bytes};
 ghost use Rattle.def_tree.specs.Range.{IsInRange};
-ghost use Rattle.def_sane.specs.Limits.{AreLimits};
+ghost use Rattle.def_limits.specs.Limits.{AreLimits};
 ghost use Rattle.def_sane.specs.declared.Rules.TheVariants.{Consensus};
 ghost use Rattle.def_tree.specs.Size.{measure};
 ghost use Rattle.def_types.specs.Corr.{corr};

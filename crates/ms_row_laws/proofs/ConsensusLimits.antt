@@ -6,8 +6,7 @@ use Rattle.def_types.specs.declared.Base.TheVariants.{B}
 use Rattle.def_types.specs.Typed.{type_of, IsTyped}
 use Rattle.def_emit.specs.Emit.{emit, script_of}
 use Rattle.def_script.specs.Instruction.{opcode_count}
-use Rattle.def_sane.specs.Limits.{limits_of}
-use Rattle.def_sane.specs.Scaffolding.Most.{most_sat, number_of}
+use Rattle.def_limits.specs.Scaffolding.Most.{most_sat, number_of, limits_of}
 use Rattle.def_sane.specs.declared.Rules.TheVariants.{Consensus}
 use Rattle.def_sane.specs.Unfit.{IsValidUnder}
 use Rattle.def_sane.proofs.Meanings.{valid_means_under}

@@ -12,7 +12,7 @@ use Rattle.def_tree.specs.declared.Two.TheVariants as kind
 use Rattle.def_tree.specs.declared.Wrapper.TheVariants as wrapper
 use Rattle.def_tree.specs.Tree.{Tree, Trees, Key, just_0, just_1, pk_k, pk_h, hash, and_or, two, thresh, multi, wrap, none, more}
 use Rattle.def_tree.specs.Range.{IsKey, IsWritable, AreWritable}
-use Rattle.def_sane.specs.Formal.{Takes, nothing, item, same_items, tried, plus, empty, Is, Both, Either, FormalSat, FormalDsat, FormalParts}
+use Rattle.def_limits.specs.Formal.{Takes, nothing, item, same_items, tried, plus, empty, Is, Both, Either, FormalSat, FormalDsat, FormalParts}
 use Rattle.def_satisfaction.specs.StackSet as stacks
 use Rattle.def_script.specs.Witness.{weight}
 use Rattle.def_satisfaction.specs.Setting.{Setting}
@@ -24,13 +24,14 @@ use Rattle.std.proofs.lemmas.Bool.{false≢true}
 use Rattle.std.specs.Prelude.{⊤}
 use Rattle.def_emit.specs.Emit.{emit}
 use Rattle.def_assets.specs.Assets.{Assets, AreAssets}
-use Rattle.def_sane.specs.declared.Limits.{Limits}
-use Rattle.def_sane.specs.Limits.{IsGreatest, AreLimits, limits_of}
+use Rattle.def_limits.specs.declared.Limits.{Limits}
+use Rattle.def_limits.specs.Limits.{IsGreatest, AreLimits}
+use Rattle.def_limits.specs.Scaffolding.Most.{limits_of}
 use Rattle.def_script.specs.Instruction.{opcode_count}
 use Rattle.def_sane.specs.declared.Rules.TheVariants.{Consensus}
 use Rattle.def_sane.specs.Unfit.{IsValidUnder}
-use Rattle.def_sane.proofs.Meanings.{valid_means_under}
-use Rattle.def_sane.proofs.Greatest.{limits_are_unique, limits_are_computed}
+use Rattle.def_sane.proofs.Meanings.{valid_means_within}
+use Rattle.def_limits.proofs.Greatest.{limits_are_computed}
 use Rattle.def_height.proofs.Bounds.{items_are_within_ops}
 use Rattle.def_satisfaction.specs.Satisfaction.{Sat, canonical}
 use Rattle.def_satisfaction.proofs.Held.{good_is_signature}
@@ -314,9 +315,9 @@ few_ops tree limits s w writable are_limits e r =
 -- the limits of a valid miniscript. It takes no more items than it has opcodes
 pub valid_limits : (tree : Tree) (limits : Limits) → IsValidUnder Consensus tree → AreLimits tree limits → (limits.size ≤ 10000) × (limits.ops ≤ 201) × (limits.items ≤ 201)
 valid_limits tree limits valid are =
-    let means = (valid_means_under Consensus tree).0 valid in
-    let few = items_are_within_ops tree means.0 means.1 in
-    rw (limits_are_unique tree limits are) (means.2, means.3, omega (arith, few, means.3))
+    let means = (valid_means_within Consensus tree limits are).0 valid in
+    let few = items_are_within_ops tree means.0 means.1 limits are in
+    (means.2, means.3, omega (arith, few, means.3))
 
 -- a canonical satisfaction of a valid miniscript is light
 pub light_stack : (tree : Tree) (assets : Assets) (stack : List Bytes) → IsWritable tree → IsValidUnder Consensus tree → AreAssets assets → Sat tree assets stack →

@@ -7,8 +7,8 @@ use Rattle.def_tree.specs.Range.{IsInRange}
 use Rattle.def_tree.specs.Size.{measure, measure_of}
 use Rattle.def_types.specs.Corr.{multi_row}
 use Rattle.def_types.specs.Typed.{IsTyped}
-use Rattle.def_sane.specs.Formal.{Takes}
-use Rattle.def_sane.specs.Scaffolding.Most.{both, either, most, most_sat, most_dsat, most_parts}
+use Rattle.def_limits.specs.Formal.{Takes}
+use Rattle.def_limits.specs.Scaffolding.Most.{both, either, most, most_sat, most_dsat, most_parts}
 use Rattle.ms_rows.proofs.Within.{AreWithin, IsBounded, within}
 use Rattle.ms_sane.specs.declared.takes.Most as rust
 use Rattle.ms_sane.specs.declared.takes.Takes as rust_takes

@@ -5,8 +5,8 @@ use Rattle.std.proofs.lemmas.List.{map_more}
 use Rattle.def_tree.specs.Tree as model
 use Rattle.def_tree.specs.Size.{measure, measure_of}
 use Rattle.def_types.specs.Typed.{IsTyped, AreTyped}
-use Rattle.def_sane.specs.Formal.{Takes, nothing, plus}
-use Rattle.def_sane.specs.Scaffolding.Most.{greater, both, either, counted, most_sat, most_dsat, most_parts}
+use Rattle.def_limits.specs.Formal.{Takes, nothing, plus}
+use Rattle.def_limits.specs.Scaffolding.Most.{greater, both, either, counted, most_sat, most_dsat, most_parts}
 use Rattle.ms_tree.specs.declared.tree.Tree.{Tree}
 use Rattle.ms_tree.specs.Shape.{shape, shapes}
 use Rattle.ms_tree.proofs.Parts.{children_in_range, in_range_at}

@@ -6,13 +6,14 @@ use Rattle.def_types.specs.declared.Ty.{Ty}
 use Rattle.def_types.specs.Corr.{corr}
 use Rattle.def_types.specs.Typed.{type_of}
 use Rattle.def_types.proofs.Typing.{corr_is_typed}
-use Rattle.def_sane.specs.declared.Limits.{Limits}
+use Rattle.def_limits.specs.declared.Limits.{Limits}
 use Rattle.def_sane.specs.declared.Rules.{Rules}
-use Rattle.def_sane.specs.Limits.{AreLimits, limits_of}
+use Rattle.def_limits.specs.Limits.{AreLimits}
+use Rattle.def_limits.specs.Scaffolding.Most.{limits_of}
 use Rattle.def_sane.specs.Laws.{AreFewItems}
 use Rattle.def_script.specs.Limits.{MAX_OPS_PER_SCRIPT}
 use Rattle.def_sane.specs.Unfit.{size_limit, are_too_many, IsKnownValidUnder}
-use Rattle.def_sane.proofs.Greatest.{limits_are_computed}
+use Rattle.def_limits.proofs.Greatest.{limits_are_computed}
 use Rattle.def_sane.proofs.Meanings.{few_items, valid_means_under}
 
 pub known_valid : (rules : Rules) (t : Tree) (ty : Ty) (limits : Limits) → Ok ty ≡ corr t → ty.base ≡ B → limits ≡ limits_of t

@@ -4,8 +4,8 @@ use Rattle.def_tree.specs.declared.Two.{Two}
 use Rattle.def_tree.specs.declared.Wrapper.{Wrapper}
 use Rattle.def_tree.specs.Tree as model
 use Rattle.def_table.specs.Table.{Row, and_or_row, row_of}
-use Rattle.def_sane.specs.Formal.{Takes}
-use Rattle.def_sane.specs.Scaffolding.Most.{most}
+use Rattle.def_limits.specs.Formal.{Takes}
+use Rattle.def_limits.specs.Scaffolding.Most.{most}
 use Rattle.ms_rows.specs.declared.ways.Row as rust
 use Rattle.ms_rows.specs.declared.ways.Argument.{Argument}
 use Rattle.ms_rows.specs.declared.ways.Argument.TheVariants.{X, Y, Z}

@@ -3,8 +3,8 @@ ghost use Rattle.std.specs.Prelude.{◌≡◌, ◌*◌, ◌≤◌, IsOk, vec_len
 ghost use Rattle.def_tree.specs.Range.{IsInRange};
 ghost use Rattle.def_tree.specs.Size.{measure};
 ghost use Rattle.def_types.specs.Corr.{corr};
-ghost use Rattle.def_sane.specs.Limits.{AreLimits, limits_of};
-ghost use Rattle.def_sane.specs.Scaffolding.Most.{number_of, most_sat};
+ghost use Rattle.def_limits.specs.Limits.{AreLimits};
+ghost use Rattle.def_limits.specs.Scaffolding.Most.{number_of, most_sat, limits_of};
 ghost use Rattle.ms_tree.specs.Shape.{shape};
 ghost use Rattle.ms_sane.specs.Scaffolding.Takes.{IsLight};
 ghost use Rattle.ms_sane.specs.Short.{IsExtent};
@@ -23,8 +23,7 @@ pub fn limits(tree: &Tree<'_>, work: &mut Work) -> Limits
     requires in_range { IsInRange (shape tree.now) }
     requires typed { IsOk (corr (shape tree.now)) }
     requires room { 4 * measure (shape tree.now) ≤ vec_len work.old.slots }
-    ensures limits { result ≡ limits_of (shape tree.now) }
-    ensures greatest { AreLimits (shape tree.now) result }
+    ensures limits { AreLimits (shape tree.now) result }
     ensures room { vec_len work.new.slots ≡ vec_len work.old.slots }
 {
     limits_from(script_extent(tree), tree, work)

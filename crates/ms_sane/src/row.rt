@@ -1,6 +1,6 @@
 //! What a row of the satisfaction table takes at most.
 ghost use Rattle.std.specs.Prelude.{Option};
-ghost use Rattle.def_sane.specs.Formal as formal;
+ghost use Rattle.def_limits.specs.Formal as formal;
 ghost use Rattle.ms_sane.specs.Scaffolding.Takes.{taken, IsLightMost, IsLightOption};
 ghost use Rattle.ms_sane.specs.Scaffolding.Most.{reader, IsOfRow};
 

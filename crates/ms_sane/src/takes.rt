@@ -1,7 +1,7 @@
 //! What satisfactions and dissatisfactions take at most.
 ghost use Rattle.std.specs.Prelude.{◌≡◌, ◌+◌, ◌<◌, ◌^◌};
-ghost use Rattle.def_sane.specs.Formal as formal;
-ghost use Rattle.def_sane.specs.Scaffolding.Most as most;
+ghost use Rattle.def_limits.specs.Formal as formal;
+ghost use Rattle.def_limits.specs.Scaffolding.Most as most;
 ghost use Rattle.std.specs.Option.{option_map};
 ghost use Rattle.ms_choice.specs.Numbers.{number_in, costs_in, IsLightEach, IsLightChild};
 ghost use Rattle.ms_choice.specs.declared.children.Number.{Number};

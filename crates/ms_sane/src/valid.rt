@@ -53,6 +53,7 @@ pub struct Short {
 /// What is known of a tree before its satisfactions are counted, or the first reason against it of those that ask for no
 /// more: a requirement of its type that is false, a top that isn't B, or a Script that is too large under these rules. It
 /// takes no working room.
+#[tactic(auto, using(def_sane::proofs::TheLimits::as_computed))]
 pub fn check_short(tree: &Tree<'_>, rules: Rules) -> Result<Short, Unfit>
     requires { IsInRange (shape tree.now) }
     ensures short { IfOk result (IsShortOf rules (shape tree.now)) }
@@ -106,6 +107,7 @@ pub fn check_valid_under(tree: &Tree<'_>, rules: Rules, work: &mut Work) -> Resu
 }
 
 /// The same of a tree of which so much is known.
+#[tactic(auto, using(def_sane::proofs::TheLimits::as_computed))]
 pub fn check_valid_of(
     short: Short,
     tree: &Tree<'_>,

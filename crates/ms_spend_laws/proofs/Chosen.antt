@@ -10,11 +10,12 @@ use Rattle.def_machine.specs.Machine.{Given}
 use Rattle.def_machine.specs.Program.{program_of}
 use Rattle.def_tree.specs.Tree.{Tree}
 use Rattle.def_emit.specs.Emit.{script_of}
-use Rattle.def_sane.specs.declared.Limits.{Limits}
+use Rattle.def_limits.specs.declared.Limits.{Limits}
 use Rattle.def_sane.specs.declared.Rules.TheVariants.{Consensus}
-use Rattle.def_sane.specs.Limits.{AreLimits, limits_of}
+use Rattle.def_limits.specs.Limits.{AreLimits}
+use Rattle.def_limits.specs.Scaffolding.Most.{limits_of}
 use Rattle.def_sane.specs.Unfit.{IsValidUnder}
-use Rattle.def_sane.proofs.Greatest.{limits_are_computed}
+use Rattle.def_limits.proofs.Greatest.{limits_are_computed}
 use Rattle.def_sane.proofs.Meanings.{sane_means_under}
 use Rattle.def_satisfaction.specs.Satisfaction.{Sat, Holds}
 use Rattle.def_choice.specs.NonMalleable.{NonMalleable, given_with}

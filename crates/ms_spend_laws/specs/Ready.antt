@@ -8,8 +8,8 @@ use Rattle.def_machine.specs.Program.{program_of}
 use Rattle.def_machine.specs.Run.{accepted}
 use Rattle.def_tree.specs.Tree.{Tree}
 use Rattle.def_emit.specs.Emit.{script_of}
-use Rattle.def_sane.specs.Limits.{AreLimits}
-use Rattle.def_sane.specs.declared.Limits.{Limits}
+use Rattle.def_limits.specs.Limits.{AreLimits}
+use Rattle.def_limits.specs.declared.Limits.{Limits}
 use Rattle.def_satisfaction.specs.Satisfaction.{Sat, Holds}
 use Rattle.def_choice.specs.Tight.{Tight}
 use Rattle.def_choice.specs.NonMalleable.{NonMalleable, given_with}

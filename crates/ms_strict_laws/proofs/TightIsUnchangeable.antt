@@ -10,10 +10,10 @@ use Rattle.def_tree.specs.Tree.{Tree}
 use Rattle.def_tree.specs.Range.{IsWritable}
 use Rattle.def_assets.specs.Assets.{Assets, known}
 use Rattle.def_sane.specs.Keys.{keys}
-use Rattle.def_sane.specs.Limits.{limits_of}
+use Rattle.def_limits.specs.Scaffolding.Most.{limits_of}
 use Rattle.def_sane.specs.declared.Rules.TheVariants.{Consensus}
 use Rattle.def_sane.proofs.Meanings.{valid_means_under, sane_means_under}
-use Rattle.def_sane.proofs.Greatest.{limits_are_computed}
+use Rattle.def_limits.proofs.Greatest.{limits_are_computed}
 use Rattle.def_satisfaction.specs.Setting.{only}
 use Rattle.def_satisfaction.specs.Rows.{row}
 use Rattle.def_satisfaction.specs.Satisfaction.{canonical, full}

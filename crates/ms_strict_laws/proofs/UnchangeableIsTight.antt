@@ -9,10 +9,10 @@ use Rattle.def_tree.specs.Range.{IsWritable}
 use Rattle.def_assets.specs.Assets.{Assets, AreAssets}
 use Rattle.def_emit.specs.Emit.{emit}
 use Rattle.def_script.specs.Instruction.{opcode_count}
-use Rattle.def_sane.specs.Limits.{limits_of}
+use Rattle.def_limits.specs.Scaffolding.Most.{limits_of}
 use Rattle.def_sane.specs.declared.Rules.TheVariants.{Consensus}
 use Rattle.def_sane.specs.Unfit.{IsSaneUnder}
-use Rattle.def_sane.proofs.Greatest.{limits_are_computed}
+use Rattle.def_limits.proofs.Greatest.{limits_are_computed}
 use Rattle.def_sane.proofs.Meanings.{valid_means_under, sane_means_under}
 use Rattle.def_satisfaction.specs.Setting.{Setting}
 use Rattle.def_satisfaction.specs.Rows.{row}

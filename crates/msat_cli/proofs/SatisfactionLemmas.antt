@@ -17,14 +17,14 @@ use Rattle.def_files.specs.AssetFile.{assets_of}
 use Rattle.def_files.specs.Laws.{AreFewAssets}
 use Rattle.def_files.proofs.Given.{asset_file_gives_assets}
 use Rattle.def_sane.specs.declared.Unfit.{Unfit}
-use Rattle.def_sane.specs.Limits.{limits_of}
+use Rattle.def_sane.specs.TheLimits.{the_limits}
+use Rattle.def_sane.proofs.TheLimits.{they_are_limits}
 use Rattle.def_sane.specs.declared.Rules.{Rules}
 use Rattle.def_sane.specs.declared.Rules.TheVariants.{Consensus}
 use Rattle.def_sane.specs.Unfit.{first_unfit_under, first_unfit_valid_under, IsValidUnder, IsSaneUnder}
-use Rattle.def_sane.proofs.Greatest.{limits_are_computed}
 use Rattle.def_sane.proofs.Meanings.{valid_means_under, sane_means_under, valid_under_consensus, sane_under_consensus}
-use Rattle.def_height.specs.Height.{height_of}
-use Rattle.def_height.proofs.Found.{height_is_computed}
+use Rattle.def_answer.specs.TheHeight.{the_height}
+use Rattle.def_answer.proofs.TheHeight.{it_is_height}
 use Rattle.def_script.specs.Witness.{weight}
 use Rattle.def_satisfaction.specs.Satisfaction.{given_of, Sat, Holds}
 use Rattle.def_choice.specs.NonMalleable.{given_with}
@@ -268,7 +268,7 @@ prints : (choice : Choice) (call : Call) (tree : Tree) (assets : Assets) (stack 
     → ShowsStack choice call tree assets stack → Prints (rules_by choice) call.sink tree assets stack
 prints choice call tree assets stack utf8 asked shown =
     let here = is_satisfied choice call tree assets stack utf8 asked shown in
-    let own = is_within tree assets stack here (limits_of tree) assets.pairs (limits_are_computed tree) (λ key sig held. held) in
+    let own = is_within tree assets stack here (the_limits tree) assets.pairs (they_are_limits tree) (λ key sig held. held) in
     record {
       ops = own.ops;
       peak = own.peak;
@@ -300,19 +300,19 @@ replays tree assets stack ops peak checks satisfies ran_so table holds =
 accepted_by_all : (rules : Rules) (sink : Side) (tree : Tree) (assets : Assets) (stack : List Bytes) → Satisfies tree assets stack
     → Prints rules sink tree assets stack → IsAcceptedByAll rules sink tree assets stack
 accepted_by_all rules sink tree assets stack satisfies printed =
-    let within : (table : Pairs) → Holds table assets → IsAcceptedWithin tree (limits_of tree) (given_with assets table) stack
-    = λ table holds. is_within tree assets stack satisfies (limits_of tree) table (limits_are_computed tree) holds in
+    let within : (table : Pairs) → Holds table assets → IsAcceptedWithin tree (the_limits tree) (given_with assets table) stack
+    = λ table holds. is_within tree assets stack satisfies (the_limits tree) table (they_are_limits tree) holds in
     let own = within assets.pairs (λ key sig held. held) in
     let same = same_counts own.ops own.peak printed.ops printed.peak own.checks printed.checks (sym own.run ∙ printed.run) in
-    let height = height_is_computed tree ((valid_means_under Consensus tree).0 satisfies.valid).0 in
+    let height = it_is_height tree ((valid_means_under Consensus tree).0 satisfies.valid).0 in
     record {
       prints = printed;
-      limits = limits_are_computed tree;
+      limits = they_are_limits tree;
       height = height;
-      few_ops = subst (λ n. n ≤ (limits_of tree).ops) same.0 own.few_ops;
+      few_ops = subst (λ n. n ≤ (the_limits tree).ops) same.0 own.few_ops;
       few_items = own.few_items;
       light = own.light;
-      low = subst (λ n. n ≤ height_of tree) same.1 (own.low (height_of tree) height);
+      low = subst (λ n. n ≤ the_height tree) same.1 (own.low (the_height tree) height);
       replayed = replays tree assets stack printed.ops printed.peak printed.checks satisfies printed.run;
       within = within;
     }

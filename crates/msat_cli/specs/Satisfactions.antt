@@ -18,8 +18,10 @@ use Rattle.def_sane.specs.declared.Rules.{Rules}
 use Rattle.def_sane.specs.declared.Unfit.{Unfit}
 use Rattle.def_assets.specs.Assets.{Assets}
 use Rattle.def_files.specs.AssetFile.{assets_of}
-use Rattle.def_sane.specs.Limits.{AreLimits, limits_of}
-use Rattle.def_height.specs.Height.{IsHeight, height_of}
+use Rattle.def_limits.specs.Limits.{AreLimits}
+use Rattle.def_sane.specs.TheLimits.{the_limits}
+use Rattle.def_height.specs.Height.{IsHeight}
+use Rattle.def_answer.specs.TheHeight.{the_height}
 use Rattle.def_satisfaction.specs.Satisfaction.{given_of, Sat, Holds}
 use Rattle.def_choice.specs.NonMalleable.{IsAccepted, Fresh, NonMalleable, given_with}
 use Rattle.def_choice.specs.Tight.{Tight}
@@ -129,14 +131,14 @@ ReplaysAs tree given stack ops peak =
 -- within the limits
 pub record IsAcceptedByAll (rules : Rules) (sink : Side) (tree : Tree) (assets : Assets) (stack : List Bytes) : Type 0 where
   pub prints : Prints rules sink tree assets stack
-  pub limits : AreLimits tree (limits_of tree)
-  pub height : IsHeight tree (height_of tree)
-  pub few_ops : prints.ops ≤ (limits_of tree).ops
-  pub few_items : length stack ≤ (limits_of tree).items
-  pub light : weight stack ≤ (limits_of tree).weight
-  pub low : prints.peak ≤ height_of tree
+  pub limits : AreLimits tree (the_limits tree)
+  pub height : IsHeight tree (the_height tree)
+  pub few_ops : prints.ops ≤ (the_limits tree).ops
+  pub few_items : length stack ≤ (the_limits tree).items
+  pub light : weight stack ≤ (the_limits tree).weight
+  pub low : prints.peak ≤ the_height tree
   pub replayed : (table : Pairs) → Holds table assets → ReplaysAs tree (given_with assets table) stack prints.ops prints.peak
-  pub within : (table : Pairs) → Holds table assets → IsAcceptedWithin tree (limits_of tree) (given_with assets table) stack
+  pub within : (table : Pairs) → Holds table assets → IsAcceptedWithin tree (the_limits tree) (given_with assets table) stack
 
 abbrev pub ShowsAccepted : Call → Type 0
 ShowsAccepted call = (choice : Choice) → ShowsSuch choice call (IsAcceptedByAll (rules_by choice) call.sink)

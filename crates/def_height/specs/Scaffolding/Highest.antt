@@ -94,3 +94,7 @@ abbrev mutual
 abbrev pub height_of_option : Option Highest → ℕ
 height_of_option None = 0
 height_of_option (Some a) = a.height
+
+-- the height of a tree that has a correctness type, as it is computed
+abbrev pub height_of : Tree → ℕ
+height_of tree = height_of_option (highest_sat tree)

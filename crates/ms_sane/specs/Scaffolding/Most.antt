@@ -1,8 +1,8 @@
 -- What trees take at most, what rows of the satisfaction table do, and what children are to a threshold.
 use Rattle.std.specs.Prelude.{◌≡◌, List, map, Option, Some, None}
 use Rattle.def_tree.specs.Tree as model
-use Rattle.def_sane.specs.Formal as formal
-use Rattle.def_sane.specs.Scaffolding.Most.{most_sat, most_dsat, both, either}
+use Rattle.def_limits.specs.Formal as formal
+use Rattle.def_limits.specs.Scaffolding.Most.{most_sat, most_dsat, both, either}
 use Rattle.ms_rows.specs.Reading.{Reader, by_letters, ways_in}
 use Rattle.ms_rows.specs.declared.ways.Argument.{Argument}
 use Rattle.ms_rows.specs.declared.ways.Row.{Row}

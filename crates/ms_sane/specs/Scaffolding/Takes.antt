@@ -4,7 +4,7 @@ use Rattle.std.specs.Option.{option_map}
 use Rattle.ms_choice.specs.declared.children.Number.{Number}
 use Rattle.ms_choice.specs.declared.children.Number.TheVariants.{First, Second, Third}
 use Rattle.ms_choice.specs.declared.children.Costs.{Costs}
-use Rattle.def_sane.specs.Formal as formal
+use Rattle.def_limits.specs.Formal as formal
 use Rattle.ms_sane.specs.declared.takes.Takes.{Takes}
 use Rattle.ms_sane.specs.declared.takes.Most.{Most}
 

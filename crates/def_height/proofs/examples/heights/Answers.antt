@@ -4,7 +4,7 @@ use Rattle.std.proofs.Common.{refl}
 use Rattle.def_tree.specs.Tree.{just_0}
 use Rattle.def_types.specs.Samples.{KEY_B, pk}
 use Rattle.def_sane.specs.Allowed.{keys_101, keys_201, largest}
-use Rattle.def_sane.specs.Examples.{key_chain_of_three, two_of_three, hashes_or_keys, key_or_hashes, keys_and_lock, hash_or_key}
+use Rattle.def_limits.specs.Examples.{key_chain_of_three, two_of_three, hashes_or_keys, key_or_hashes, keys_and_lock, hash_or_key}
 use Rattle.def_types.proofs.Rows.{corr_rows}
 use Rattle.def_height.specs.Examples.{key_or_key_hash, key_and_lock, key_or_two_hashes}
 use Rattle.def_height.proofs.Found.{height_by}

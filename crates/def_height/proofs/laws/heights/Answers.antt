@@ -1,5 +1,5 @@
 use Rattle.def_height.proofs.laws.heights.Goals as goal
-use Rattle.def_height.proofs.Found.{height_is_computed, height_is_unique}
+use Rattle.def_height.proofs.Found.{height_exists, height_is_unique}
 
 pub returns : goal.returns
-returns c = record { computed = height_is_computed; unique = height_is_unique }
+returns c = record { exists = height_exists; unique = height_is_unique }

@@ -17,10 +17,11 @@ use Rattle.def_tree.specs.Range.{IsKey, IsWritable}
 use Rattle.def_types.specs.Samples.{pk, or_i, sha256 as sha256_of}
 use Rattle.def_emit.specs.Emit.{script_of}
 use Rattle.def_assets.specs.Assets.{Assets, AreAssets, IsSignature, IsPreimage, known}
-use Rattle.def_sane.proofs.Greatest.{limits_are_computed}
+use Rattle.def_limits.proofs.Greatest.{limits_are_computed, limits_exist}
 use Rattle.def_sane.specs.declared.Rules.TheVariants.{Consensus}
+use Rattle.def_sane.specs.TheLimits.{the_limits}
 use Rattle.def_sane.proofs.Meanings.{valid_means_under}
-use Rattle.def_height.proofs.Found.{height_is_unique}
+use Rattle.def_height.proofs.Found.{as_computed}
 use Rattle.def_satisfaction.specs.Rows.{EMPTY, IsNoPreimageOf, row}
 use Rattle.def_satisfaction.specs.Setting.{any, only}
 use Rattle.def_satisfaction.specs.Satisfaction.{given_of, Sat, FullSat, full}
@@ -87,11 +88,11 @@ unfolding computing
 run_by_key = refl
 
 has_type : IsTyped key_and_key_or_hashes
-unfolding computing corr_rows mall_rows
+unfolding the_limits limits_exist computing corr_rows mall_rows
 has_type = let means = (valid_means_under Consensus key_and_key_or_hashes).0 refl in means.0
 
 pub returns-clause-acceptance : goal.returns-clause-acceptance
-unfolding computing corr_rows mall_rows
+unfolding the_limits limits_exist computing corr_rows mall_rows
 returns-clause-acceptance c =
     let r = right_branch in
     record {
@@ -110,7 +111,7 @@ returns-clause-acceptance c =
         few_ops = omega arith;
         few_items = omega arith;
         light = omega arith;
-        low = λ height is. let e : height ≡ 6 = height_is_unique key_and_key_or_hashes has_type height is in omega (arith, e);
+        low = λ height is. let e : height ≡ 6 = as_computed key_and_key_or_hashes height has_type is in omega (arith, e);
       };
     }
 
@@ -126,7 +127,7 @@ accepted_by_preimages : IsAccepted key_and_key_or_hashes (given_of keys_and_prei
 accepted_by_preimages = record { ops = 17; peak = 6; run = run_by_preimages }
 
 pub returns-clause-strict : goal.returns-clause-strict
-unfolding computing corr_rows mall_rows
+unfolding the_limits limits_exist computing corr_rows mall_rows
 returns-clause-strict c = record {
   sane = refl;
   chosen = refl;
@@ -213,7 +214,7 @@ fresh = (
 )
 
 pub returns-clause-nothing : goal.returns-clause-nothing
-unfolding computing corr_rows mall_rows
+unfolding the_limits limits_exist computing corr_rows mall_rows
 returns-clause-nothing c = record {
   assets = only_b_form;
   none = refl;
@@ -223,11 +224,11 @@ returns-clause-nothing c = record {
 }
 
 pub returns-clause-key_has_letters : goal.returns-clause-key_has_letters
-unfolding computing corr_rows mall_rows
+unfolding the_limits limits_exist computing corr_rows mall_rows
 returns-clause-key_has_letters c = (record { writable = key_a_form; valid = refl; among = (1, omega arith, refl); corr = refl; mall = refl }, (sig_a, refl, refl), refl)
 
 pub returns-clause-one_has_letters : goal.returns-clause-one_has_letters
-unfolding computing corr_rows mall_rows
+unfolding the_limits limits_exist computing corr_rows mall_rows
 returns-clause-one_has_letters c = (record { writable = tt; valid = refl; among = (0, omega arith, refl); corr = refl; mall = refl }, refl)
 
 chain_writable : (n : ℕ) → IsWritable (chain n)
@@ -235,7 +236,7 @@ chain_writable zero = key_a_form
 chain_writable (suc n) = (chain_writable n, tt)
 
 pub returns-clause-deep_has_letters : goal.returns-clause-deep_has_letters
-unfolding corr_rows mall_rows
+unfolding the_limits limits_exist corr_rows mall_rows
 returns-clause-deep_has_letters c = record {
   deep = omega arith;
   letters = record { writable = chain_writable 150; valid = refl; among = (451, omega arith, refl); corr = refl; mall = refl };

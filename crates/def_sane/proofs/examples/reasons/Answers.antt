@@ -5,9 +5,11 @@ use Rattle.sha2.specs.Sha256.{first_words, schedule, rounds as sha_rounds, compr
 use Rattle.def_hash.specs.Ripemd.{block_words, step, left_line, right_line, combined, compress, hash_after, digest_bytes, ripemd160}
 use Rattle.def_hash.specs.Hash.{hash160}
 use Rattle.def_types.proofs.Rows.{corr_rows, mall_rows}
+use Rattle.def_limits.proofs.Greatest.{limits_exist, limits_by}
+use Rattle.def_sane.specs.TheLimits.{the_limits}
 
 pub returns : goal.returns
-unfolding corr_rows mall_rows first_words schedule sha_rounds sha_compress sha_hash_after sha_digest_bytes sha256 block_words step left_line
+unfolding the_limits limits_exist corr_rows mall_rows first_words schedule sha_rounds sha_compress sha_hash_after sha_digest_bytes sha256 block_words step left_line
     right_line combined compress hash_after digest_bytes ripemd160 hash160
 returns c = record {
   sane_ones = (refl, refl, refl, refl, refl, refl, refl);
@@ -17,13 +19,13 @@ returns c = record {
   malleable_or = refl;
   malleable_threshold = (refl, refl);
   height_and_time = refl;
-  height_or_time_is_sane = (refl, refl);
+  height_or_time_is_sane = (refl, limits_by _ _ refl);
   same_key = refl;
   many_wrappers = refl;
-  most_items = (refl, refl);
+  most_items = (refl, limits_by _ _ refl);
   too_many_items = refl;
   most_ops = refl;
   too_many_ops = refl;
-  most_size = (refl, refl);
+  most_size = (refl, limits_by _ _ refl);
   too_large = refl;
 }

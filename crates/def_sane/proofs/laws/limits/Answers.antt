@@ -1,5 +1,5 @@
 use Rattle.def_sane.proofs.laws.limits.Goals as goal
-use Rattle.def_sane.proofs.Greatest.{limits_are_computed, limits_are_unique}
+use Rattle.def_sane.proofs.TheLimits.{they_are_limits, they_are_the_only}
 
 pub returns : goal.returns
-returns c = record { computed = limits_are_computed; unique = limits_are_unique }
+returns c = record { are = they_are_limits; only = they_are_the_only }

@@ -7,8 +7,11 @@ use Rattle.ms_decode.specs.Scaffolding.Keys.{keys_of}
 use Rattle.ms_decode.specs.Scaffolding.Parts.{made}
 use Rattle.ms_decode.specs.Scaffolding.States.{backwards}
 use Rattle.ms_decode.proofs.Dups.{read_same}
-use Rattle.ms_decode.proofs.Tried.{no_codes, may_be}
+use Rattle.ms_decode.proofs.Tried.{no_codes, too_large, may_be}
 use Rattle.ms_decode.proofs.decoding.read.Goals as goal
+
+pub returns-then-script-gt-MOST_SIZE : goal.returns-then-script-gt-MOST_SIZE
+returns-then-script-gt-MOST_SIZE c = too_large c.args.keys.now c.args.script.now c.if-script-gt-MOST_SIZE.true
 
 pub returns-in_default : goal.returns-in_default
 returns-in_default c =

@@ -1,5 +1,5 @@
 use Rattle.std.proofs.Common.{◌∙◌, arith, ap, sym}
-use Rattle.def_sane.specs.declared.Limits.{Limits}
+use Rattle.def_limits.specs.declared.Limits.{Limits}
 use Rattle.ms_tree.specs.Shape.{shape}
 use Rattle.ms_sane.proofs.Known.{known_valid}
 use Rattle.ms_sane.proofs.valid.check_valid_of.Goals as goal

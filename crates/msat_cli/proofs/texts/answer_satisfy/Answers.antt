@@ -1,5 +1,5 @@
 use Rattle.std.proofs.Common.{sym, subst}
-use Rattle.def_sane.specs.Limits.{AreLimits}
+use Rattle.def_limits.specs.Limits.{AreLimits}
 use Rattle.ms_tree.specs.Shape.{shape}
 use Rattle.ms_replies.specs.Fits.{demand_by}
 use Rattle.msat_cli.proofs.StepLemmas.{known_limits}

@@ -3,9 +3,8 @@ use Rattle.std.specs.Prelude.{◌≡◌, ℕ, ◌+◌, ◌≤◌, ◌⊎◌, len
 use Rattle.def_script.specs.Instruction.{opcode_count}
 use Rattle.def_tree.specs.Tree.{Tree}
 use Rattle.def_emit.specs.Emit.{emit, script_of}
-use Rattle.def_sane.specs.declared.Limits.{Limits}
-use Rattle.def_sane.specs.Formal.{FormalSat}
-use Rattle.def_sane.specs.Scaffolding.Most.{most_sat, number_of}
+use Rattle.def_limits.specs.declared.Limits.{Limits}
+use Rattle.def_limits.specs.Formal.{FormalSat}
 
 -- n is the greatest of a number over all of P, or 0 where P has none
 abbrev pub IsGreatest : {A : Type 0} → (P : A → Type 0) → (number : A → ℕ) → (n : ℕ) → Type 0
@@ -19,12 +18,3 @@ pub record AreLimits (tree : Tree) (limits : Limits) : Type 0 where
   pub ops : (keys : ℕ) × IsGreatest (FormalSat tree) (λ t. t.keys) keys × (limits.ops ≡ opcode_count (emit tree) + keys)
   pub items : IsGreatest (FormalSat tree) (λ t. t.items) limits.items
   pub weight : IsGreatest (FormalSat tree) (λ t. t.weight) limits.weight
-
--- the limits of the tree: the only ones of which that is said, by the laws `limits`. How they are computed is scaffolding
-abbrev pub limits_of : Tree → Limits
-limits_of tree = record {
-  size = length (script_of tree);
-  ops = opcode_count (emit tree) + number_of (λ t. t.keys) (most_sat tree);
-  items = number_of (λ t. t.items) (most_sat tree);
-  weight = number_of (λ t. t.weight) (most_sat tree);
-}

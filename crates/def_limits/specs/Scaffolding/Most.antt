@@ -2,8 +2,11 @@
 use Rattle.std.specs.Prelude.{ℕ, zero, suc, ◌+◌, max, List, [], ◌∷◌, Option, Some, None, length}
 use Rattle.def_tree.specs.Tree.{Tree, Trees}
 use Rattle.def_table.specs.Table.{Row, Table, row_of, rows_of}
-use Rattle.def_sane.specs.Formal.{Takes, nothing, item, same_items, tried, plus, PREIMAGE, empty, one}
+use Rattle.def_emit.specs.Emit.{emit, script_of}
+use Rattle.def_limits.specs.declared.Limits.{Limits}
+use Rattle.def_limits.specs.Formal.{Takes, nothing, item, same_items, tried, plus, PREIMAGE, empty, one}
 use Rattle.def_script.specs.Signature.{MAX_SIGNATURE_SIZE}
+use Rattle.def_script.specs.Instruction.{opcode_count}
 
 -- the greater of each number
 abbrev pub greater : Takes → Takes → Takes
@@ -79,3 +82,12 @@ most_parts xs = parts_most (rows_of most xs)
 abbrev pub number_of : (Takes → ℕ) → Option Takes → ℕ
 number_of number None = 0
 number_of number (Some t) = number t
+
+-- the limits of a tree, as they are computed
+abbrev pub limits_of : Tree → Limits
+limits_of tree = record {
+  size = length (script_of tree);
+  ops = opcode_count (emit tree) + number_of (λ t. t.keys) (most_sat tree);
+  items = number_of (λ t. t.items) (most_sat tree);
+  weight = number_of (λ t. t.weight) (most_sat tree);
+}

@@ -1,13 +1,13 @@
 -- Limits of some miniscripts.
-use Rattle.std.specs.Prelude.{◌≡◌, ℕ, [], ◌∷◌}
+use Rattle.std.specs.Prelude.{ℕ, [], ◌∷◌}
 use Rattle.def_tree.specs.Tree.{Tree, just_0, just_1, older, thresh, multi}
 use Rattle.def_types.specs.Samples.{KEY_A, KEY_B, KEY_C, hash_value, pk, pkh, sha256, a, s, v, j, l, n, and_v, or_d, or_i, trees}
-use Rattle.def_sane.specs.Limits.{limits_of}
+use Rattle.def_limits.specs.Limits.{AreLimits}
 
 -- the tree has these limits
 abbrev pub HasLimits : Tree → (size ops items weight : ℕ) → Type 0
 HasLimits tree size ops items weight =
-    limits_of tree ≡ record { size = size; ops = ops; items = items; weight = weight }
+    AreLimits tree (record { size = size; ops = ops; items = items; weight = weight })
 
 -- `pk(B)`
 abbrev pub KeyLimits : Type 0

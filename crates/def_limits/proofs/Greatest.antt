@@ -1,17 +1,17 @@
 -- The limits of a tree, from what its formal satisfactions take at most.
-use Rattle.std.proofs.Common.{◌≡◌, ℕ, zero, suc, ◌+◌, max, ◌<◌, ◌≤◌, ◌⊎◌, Option, Some, None, length, refl, sym, ◌∙◌, ap, inl, inr, arith}
+use Rattle.std.proofs.Common.{◌≡◌, ℕ, zero, suc, ◌+◌, max, ◌<◌, ◌≤◌, ◌⊎◌, Option, Some, None, length, refl, sym, ◌∙◌, ap, inl, inr, subst, arith}
 use Rattle.std.proofs.lemmas.Bool.{cases_lt}
 use Rattle.def_tree.specs.declared.Two.TheVariants as kind
 use Rattle.def_tree.specs.declared.Wrapper.TheVariants as wrapper
 use Rattle.def_tree.specs.Tree.{Tree, Trees, just_0, pk_k, pk_h, hash, and_or, two, thresh, multi, wrap, none, more}
-use Rattle.def_sane.specs.Formal.{Takes, nothing, item, same_items, tried, plus, PREIMAGE, empty, one, Never, Is, Both, Either, FormalSat, FormalDsat, FormalParts}
+use Rattle.def_limits.specs.Formal.{Takes, nothing, item, same_items, tried, plus, PREIMAGE, empty, one, Never, Is, Both, Either, FormalSat, FormalDsat, FormalParts}
 use Rattle.def_script.specs.Signature.{MAX_SIGNATURE_SIZE}
-use Rattle.def_sane.specs.Scaffolding.Most.{greater, both, either, most_sat, most_dsat, most_parts, number_of}
+use Rattle.def_limits.specs.Scaffolding.Most.{greater, both, either, most_sat, most_dsat, most_parts, number_of, limits_of}
 use Rattle.def_emit.specs.Emit.{emit}
-use Rattle.def_sane.specs.declared.Limits.{Limits}
-use Rattle.def_sane.specs.Limits.{IsGreatest, limits_of}
+use Rattle.def_limits.specs.declared.Limits.{Limits}
+use Rattle.def_limits.specs.Limits.{IsGreatest, AreLimits}
 use Rattle.def_script.specs.Instruction.{opcode_count}
-use Rattle.def_sane.specs.Laws.{LimitsAreComputed, LimitsAreUnique}
+use Rattle.def_limits.specs.Laws.{LimitsExist, LimitsAreUnique}
 
 module _ (number : Takes → ℕ) (of_plus : (a b : Takes) → number (plus a b) ≡ number a + number b) (of_greater : (a b : Takes) → number (greater a b) ≡ max (number a) (number b)) where
   -- m is the most of P: none where P has none
@@ -134,7 +134,8 @@ greatest_weight = greatest_of (λ t. t.weight) (λ a b. refl) (λ a b. refl)
 greatest_keys : (tree : Tree) → IsGreatest (FormalSat tree) (λ t. t.keys) (number_of (λ t. t.keys) (most_sat tree))
 greatest_keys = greatest_of (λ t. t.keys) (λ a b. refl) (λ a b. refl)
 
-pub limits_are_computed : LimitsAreComputed
+-- what is computed are limits
+pub limits_are_computed : (tree : Tree) → AreLimits tree (limits_of tree)
 limits_are_computed tree = record {
   size = refl;
   ops = (number_of (λ t. t.keys) (most_sat tree), greatest_keys tree, refl);
@@ -154,9 +155,22 @@ one_greatest P number m n (inr a) (inr b) = a.1 ∙ sym b.1
 same_limits : (a b : Limits) → a.size ≡ b.size → a.ops ≡ b.ops → a.items ≡ b.items → a.weight ≡ b.weight → a ≡ b
 same_limits a b size ops items weight = λ i. record { size = size i; ops = ops i; items = items i; weight = weight i }
 
+-- so a tree has limits
+unfoldable pub limits_exist : LimitsExist
+limits_exist tree = (limits_of tree, limits_are_computed tree)
+
+-- and no others
 pub limits_are_unique : LimitsAreUnique
-limits_are_unique tree limits are =
-    same_limits limits (limits_of tree) are.size
-    (are.ops.2 ∙ ap (λ keys. opcode_count (emit tree) + keys) (one_greatest _ _ _ _ are.ops.1 (greatest_keys tree)))
-    (one_greatest _ _ _ _ are.items (greatest_items tree))
-    (one_greatest _ _ _ _ are.weight (greatest_weight tree))
+limits_are_unique tree limits others are they =
+    same_limits limits others (are.size ∙ sym they.size)
+    (are.ops.2 ∙ ap (λ keys. opcode_count (emit tree) + keys) (one_greatest _ _ _ _ are.ops.1 they.ops.1) ∙ sym they.ops.2)
+    (one_greatest _ _ _ _ are.items they.items)
+    (one_greatest _ _ _ _ are.weight they.weight)
+
+-- limits are those that are computed
+pub as_computed : (tree : Tree) (limits : Limits) → AreLimits tree limits → limits ≡ limits_of tree
+as_computed tree limits are = limits_are_unique tree limits (limits_of tree) are (limits_are_computed tree)
+
+-- and where those compute to some, they are these
+pub limits_by : (tree : Tree) (limits : Limits) → limits_of tree ≡ limits → AreLimits tree limits
+limits_by tree limits is = subst (AreLimits tree) is (limits_are_computed tree)
