@@ -4,7 +4,7 @@ ghost use Rattle.std.specs.Prelude.{◌≡◌, ◌||◌, nat_lt, [], ◌∷◌, 
 ghost use Rattle.std.specs.Int.{w32, from_le_bytes};
 ghost use Rattle.def_spend.specs.Fields.{asked};
 ghost use Rattle.def_spend.specs.Reading.{has_byte as the_has_byte, has_item as the_has_item};
-ghost use Rattle.def_spend.specs.States.{has_other_type as the_has_other_type, is_sighash_wrong as the_is_sighash_wrong};
+ghost use Rattle.def_spend.specs.States.{has_other_type as the_has_other_type, is_sighash_wrong as the_is_sighash_wrong, MOST_HELD as the_most_held};
 ghost use Rattle.def_psbt.specs.Map.{type_of, data_of};
 ghost use Rattle.def_script.specs.Bytes.{Bytes};
 ghost use Rattle.ms_fields.specs.Adding.{added, with_key, first_of as the_first_of};
@@ -213,7 +213,7 @@ impl<'a> Fields<'a> {
 
     /// Whether there are over 256 signatures or over 256 preimages. Takes no memory.
     pub fn are_too_many(&self) -> bool
-        ensures { result ≡ (nat_lt 256 (length self.now.pairs) || nat_lt 256 (length self.now.preimages)) }
+        ensures { result ≡ (nat_lt the_most_held (length self.now.pairs) || nat_lt the_most_held (length self.now.preimages)) }
     {
         self.pairs.len() > MOST_HELD || self.preimages.len() > MOST_HELD
     }
