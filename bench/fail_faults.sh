@@ -7,8 +7,8 @@
 # For this a small library in C stands before the program's `malloc`, `realloc`, `read` and `write`: it counts their calls from the
 # start of the program, fails one of them, and gives 16 bytes a read and takes 10 bytes a write. Then the same by means of the shell
 # alone: a full and a closed standard output, and a directory and nothing as standard input. Prints a table, and ends with 1 where a run
-# says anything else, or where a program can't be built or run. Wants cc and glibc, and builds `msat` and `msat-psbt` where they aren't
-# built; keeps nothing. Usage: bench/fail_faults.sh
+# says anything else, or where a program can't be built or run. Wants cc and glibc, and has ./prove build `msat` and `msat-psbt` where
+# they aren't built; keeps nothing. Usage: bench/fail_faults.sh
 top=$(cd "$(dirname "$0")/.." && pwd)
 work=$(mktemp -d) || exit 1
 trap 'rm -rf "$work"' EXIT
@@ -84,7 +84,8 @@ ssize_t write(int file, const void *bytes, size_t count) {
 ssize_t __write(int file, const void *bytes, size_t count) { return write(file, bytes, count); }
 C
 ${CC:-cc} -O2 -shared -fPIC -o "$work/fail.so" "$work/fail.c" || stop "the library that fails calls isn't built"
-[ "$("$top/msat" gen 30)" = "$(cat "$top/crates/msat/stdout")" ] || stop "msat isn't built, or gen 30 prints something else"
+"$top/prove" || stop "the programs aren't proved and built"
+[ "$("$top/msat" gen 30)" = "$(cat "$top/crates/msat/stdout")" ] || stop "gen 30 prints something else"
 program=$top/crates/msat/out/msat
 wrong=0
 
@@ -269,7 +270,7 @@ echo "| \`run\`, $files files | 0, 3 or 8 | $all_allocations | $all_made_good | 
 
 # The other program, over the cases of PSBTs.
 printf cHNidP8BAAoCAAAAAAAAAAAAAA== >"$work/psbt"
-"$top/msat-psbt" hashes <"$work/psbt" || stop "msat-psbt isn't built"
+"$top/msat-psbt" hashes <"$work/psbt" || stop "msat-psbt refuses a PSBT without inputs"
 program=$top/crates/msat_psbt/out/msat_psbt
 for folder in "$top"/examples/psbt/*/; do
     words=$(cat "$folder/words")

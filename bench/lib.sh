@@ -23,9 +23,9 @@ wants() {
     done
 }
 
-# Sets `program` to the product, which is built where it isn't.
+# Sets `program` to the product, which is proved and built where it isn't.
 product() {
-    [ "$("$top/msat" script 1)" = 51 ] || stop "msat isn't built"
+    "$top/prove" msat || stop "msat isn't proved and built"
     program=$top/crates/msat/out/msat
 }
 

@@ -6,7 +6,7 @@
 . "$(dirname "$0")/lib.sh"
 wants valgrind rustc python3
 program=$top/crates/msat_psbt/out/msat_psbt
-printf 'cHNidP8BAAoCAAAAAAAAAAAAAA==' | "$top/msat-psbt" hashes || stop "msat-psbt isn't built"
+"$top/prove" msat-psbt || stop "msat-psbt isn't proved and built"
 plain psbt_baseline
 input=$work/psbt
 
