@@ -1,3 +1,4 @@
+# SPDX-License-Identifier: MIT
 # Completion of msat-explain's words for bash.
 _msat_explain() {
     local word=${COMP_WORDS[COMP_CWORD]}

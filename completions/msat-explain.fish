@@ -1,3 +1,4 @@
+# SPDX-License-Identifier: MIT
 # Completion of msat-explain's words for fish.
 complete -c msat-explain -f
 complete -c msat-explain -s f -l file -r -F -d 'a file that holds the condition'

@@ -1,3 +1,4 @@
+# SPDX-License-Identifier: MIT
 # Completion of msat-psbt's words for bash. The PSBT comes on standard input.
 _msat_psbt() {
     local word=${COMP_WORDS[COMP_CWORD]}

@@ -1,3 +1,4 @@
+# SPDX-License-Identifier: MIT
 # Completion of msat-psbt's words for fish. The PSBT comes on standard input.
 complete -c msat-psbt -f
 complete -c msat-psbt -n __fish_use_subcommand -a finalize -d 'the PSBT with each input that is Ready made final'

@@ -1,3 +1,4 @@
+# SPDX-License-Identifier: MIT
 # Completion of msat's words for bash. A TEXT is written by hand, or by "$(cat FILE)".
 _msat() {
     local word=${COMP_WORDS[COMP_CWORD]}

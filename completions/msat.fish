@@ -1,3 +1,4 @@
+# SPDX-License-Identifier: MIT
 # Completion of msat's words for fish. A TEXT is written by hand, or by "(cat FILE)".
 complete -c msat -f
 complete -c msat -n __fish_use_subcommand -a script -d 'the Script of a valid text'

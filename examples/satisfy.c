@@ -1,4 +1,5 @@
-/* Prints what `msat satisfy TEXT` prints for an asset file, by a call of the library.
+/* SPDX-License-Identifier: MIT
+ * Prints what `msat satisfy TEXT` prints for an asset file, by a call of the library.
  * Usage: satisfy TEXT ASSET-FILE */
 #include <msat.h>
 #include <stdio.h>

@@ -1,4 +1,5 @@
 #!/usr/bin/env python3
+# SPDX-License-Identifier: MIT
 """Prints the witness of a text and an asset file, item by item, by a call of the library.
 
 Usage: satisfy.py TEXT ASSET-FILE

@@ -1,3 +1,4 @@
+// SPDX-License-Identifier: MIT
 //! Prints what `msat satisfy TEXT` prints for an asset file, by a call of the library.
 //! Usage: satisfy TEXT ASSET-FILE
 

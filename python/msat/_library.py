@@ -1,3 +1,4 @@
+# SPDX-License-Identifier: MIT
 """The shared object, by ctypes: the one place that knows what C is called, and with which types."""
 
 import ctypes

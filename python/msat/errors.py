@@ -1,3 +1,4 @@
+# SPDX-License-Identifier: MIT
 """Why a call gives no result: an exception for each kind of refusal, with its parts as fields."""
 
 from typing import Optional

@@ -1,3 +1,4 @@
+# SPDX-License-Identifier: MIT
 """PSBTs (BIP 174, version 0) whose inputs spend P2WSH outputs of sane miniscripts: finalized, inspected, extracted, and what their
 signatures sign.
 

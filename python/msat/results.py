@@ -1,3 +1,4 @@
+# SPDX-License-Identifier: MIT
 """What the calls give, and what they are given."""
 
 import json

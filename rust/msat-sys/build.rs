@@ -1,3 +1,4 @@
+// SPDX-License-Identifier: MIT
 //! Finds libmsat: in the folder that `MSAT_LIB_DIR` names, or by pkg-config. With `MSAT_STATIC=1` the archive is linked, and
 //! otherwise the shared object.
 

@@ -1,3 +1,4 @@
+# SPDX-License-Identifier: MIT
 """msat-explain: a condition as a person looks at it. Every number and every verdict is a call of msat's library; what is Python here,
 the reading of what was pasted, the counting of ways and the drawing, is tested and not proved.
 

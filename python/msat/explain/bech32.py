@@ -1,3 +1,4 @@
+# SPDX-License-Identifier: MIT
 """Addresses of segwit outputs: bech32 (BIP 173) for version 0, and bech32m (BIP 350) for the later ones.
 
 >>> address("tb", 0, bytes.fromhex("1863143c14c5166804bd19203356da136c985678cd4d27a1b8c6329604903262"))

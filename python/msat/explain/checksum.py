@@ -1,3 +1,4 @@
+# SPDX-License-Identifier: MIT
 """The checksum behind a descriptor's `#` (BIP 380).
 
 >>> checksum("raw(deadbeef)")

@@ -1,3 +1,4 @@
+# SPDX-License-Identifier: MIT
 """The words of `msat-explain`, which is `python3 -m msat` too."""
 
 import argparse

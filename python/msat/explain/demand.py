@@ -1,3 +1,4 @@
+# SPDX-License-Identifier: MIT
 """What a condition demands, read from the line that `policy` prints."""
 
 import re

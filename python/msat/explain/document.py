@@ -1,3 +1,4 @@
+# SPDX-License-Identifier: MIT
 """An explanation or a refusal as a document of JSON, which schema/explain.json describes."""
 
 from typing import Union

@@ -1,3 +1,4 @@
+# SPDX-License-Identifier: MIT
 """The pictures of a page, as SVG: the tree, and the ways over the keys and preimages that they take. Their colours are the page's."""
 
 from html import escape

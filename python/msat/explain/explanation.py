@@ -1,3 +1,4 @@
+# SPDX-License-Identifier: MIT
 """What there is to say of a condition. Each number and each verdict is a call of the library; the ways come of the policy that it
 prints, and what each weighs, and that it is one, is asked of `satisfy` with exactly its keys and preimages."""
 

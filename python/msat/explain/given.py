@@ -1,3 +1,4 @@
+# SPDX-License-Identifier: MIT
 """What a person pastes, made into the text that the library is asked: white space, `wsh(..)` and a checksum are taken off, names
 get digits, and a Script is read back. Each byte of that text knows which character it comes of, so that a mark stands there."""
 

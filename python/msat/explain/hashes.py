@@ -1,3 +1,4 @@
+# SPDX-License-Identifier: MIT
 """The hash functions of hash locks, as Script has them. RIPEMD-160 is written out, since Python over some builds of OpenSSL has none."""
 
 import hashlib

@@ -1,3 +1,4 @@
+# SPDX-License-Identifier: MIT
 """What an asset file makes possible: the witness that `satisfy` writes with each item named, how its run goes, and what is missing
 on each way."""
 

@@ -1,3 +1,4 @@
+# SPDX-License-Identifier: MIT
 """The type letters of each node, each by a question to the library.
 
 The library tells the letters of a whole sane text alone. So a letter of a part is asked by a text around it which is refused for

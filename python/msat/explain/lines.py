@@ -1,3 +1,4 @@
+# SPDX-License-Identifier: MIT
 """A Script as lines, each with the node of the text that wrote it.
 
 The bytes are the library's. Which opcodes each fragment writes is BIP 379's table, by their names; a Script that it doesn't fit

@@ -1,3 +1,4 @@
+# SPDX-License-Identifier: MIT
 """Timelocks: which of them hold with another one, what has to be set in the transaction for them, and how a person says them."""
 
 from dataclasses import dataclass

@@ -1,3 +1,4 @@
+# SPDX-License-Identifier: MIT
 """An explanation or a refusal as one page of HTML, without a script and without any outside resource."""
 
 import re

@@ -1,3 +1,4 @@
+# SPDX-License-Identifier: MIT
 """Why something is refused, for a person: the rule in a sentence, and what to do.
 
 The tables stand here: docs/USE.md has the one of what to do, and docs/FORMATS.md the rules of the types, row by row, which

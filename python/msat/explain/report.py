@@ -1,3 +1,4 @@
+# SPDX-License-Identifier: MIT
 """An explanation or a refusal as text for a terminal."""
 
 import unicodedata

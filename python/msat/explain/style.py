@@ -1,3 +1,4 @@
+# SPDX-License-Identifier: MIT
 """How a page looks: in light and in dark, on a phone and in print."""
 
 STYLE = """

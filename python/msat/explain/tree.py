@@ -1,3 +1,4 @@
+# SPDX-License-Identifier: MIT
 """The tree of a text, as it is written: with its sugar, and with the place of each name and letter, by which refusals and audits
 name nodes. The text is one that the library has read, so nothing is tested here."""
 

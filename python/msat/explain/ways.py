@@ -1,3 +1,4 @@
+# SPDX-License-Identifier: MIT
 """The ways to spend: each least set of keys, preimages and locks that meets a demand, counted without being made, and made one by
 one where they are wanted.
 

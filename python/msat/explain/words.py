@@ -1,3 +1,4 @@
+# SPDX-License-Identifier: MIT
 """What the parts of an explanation are called: one wording for the text, the page and the file of JSON."""
 
 from typing import Iterator, Optional

@@ -1,3 +1,4 @@
+// SPDX-License-Identifier: MIT
 //! The calls of `libmsat` as `msat.h` declares them. The crate `msat` has safe ones above these.
 //!
 //! What C owes in a call is what Rust's `&[T]` and `&mut T` owe, of values that were written before; the header says it whole.

@@ -1,3 +1,4 @@
+// SPDX-License-Identifier: MIT
 //! The calls, each over buffers of its own.
 
 use crate::error::Error;

@@ -1,3 +1,4 @@
+// SPDX-License-Identifier: MIT
 //! Why a call gives no result.
 
 use crate::names;

@@ -1,3 +1,4 @@
+// SPDX-License-Identifier: MIT
 //! A Miniscript satisfier for P2WSH outputs, over its proved library.
 //!
 //! Each call is one call of the library, which is proved to answer what msat's definitions say. What is Rust here, the buffers

@@ -1,3 +1,4 @@
+// SPDX-License-Identifier: MIT
 //! What the numbers of `struct msat_reason` stand for: kinds from 1, rules and members from 0, in the order of the header.
 
 use crate::error::{Error, FileFault, FileRefusal, Member, Rule, RunFault, RunRefusal, TextFault, TextRefusal, Unfit};

@@ -1,3 +1,4 @@
+// SPDX-License-Identifier: MIT
 //! The calls against the reports of the examples, whose folder `MSAT_EXAMPLES` names, and against one another.
 
 use msat::{
