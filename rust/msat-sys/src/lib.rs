@@ -19,6 +19,10 @@ pub const MSAT_NOT_ACCEPTED: u32 = 9;
 pub const MSAT_NO_READING: u32 = 10;
 pub const MSAT_UNREADABLE: u32 = 11;
 
+/// The codes of `msat_psbt_answer` that have names of their own.
+pub const MSAT_PSBT_REFUSED: u32 = 3;
+pub const MSAT_PSBT_OPEN: u32 = 4;
+
 /// The version that these declarations are of, as `msat_version` tells that of the library.
 pub const MSAT_VERSION_NUMBER: u32 = 1_000_000;
 

@@ -249,8 +249,8 @@ pub fn plan(text: &str, known: &Known) -> Result<Plan, Error> {
     }
     // No key is asked that isn't among those that can sign.
     asked.truncate(needed);
-    let (keys, _) = asked.as_chunks::<33>();
-    Ok(Plan { keys: keys.to_vec(), weight })
+    let keys = asked.chunks_exact(33).filter_map(|it| it.try_into().ok());
+    Ok(Plan { keys: keys.collect(), weight })
 }
 
 /// The run of a script on a stack, where the interpreter accepts it.

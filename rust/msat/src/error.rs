@@ -12,6 +12,8 @@ pub enum Error {
     Text(TextRefusal),
     /// The file is refused, or the assets, what is known or the run for what a file with the same would be.
     File(FileRefusal),
+    /// The PSBT is refused.
+    Psbt(PsbtRefusal),
     /// There is no canonical satisfaction with what is held, or no plan.
     NoSatisfaction,
     /// The interpreter refuses a script.
@@ -66,6 +68,7 @@ pub enum Unfit {
 
 /// Why a file is refused, and which member and element of it, where the refusal names one.
 #[derive(Clone, Copy, Debug, PartialEq, Eq, Hash)]
+#[non_exhaustive]
 pub struct FileRefusal {
     pub fault: FileFault,
     pub member: Option<Member>,
@@ -91,6 +94,7 @@ pub enum FileFault {
 
 /// The fault of a run, and the instruction that met it, from 0; the number of instructions for a fault of the end.
 #[derive(Clone, Copy, Debug, PartialEq, Eq, Hash)]
+#[non_exhaustive]
 pub struct RunRefusal {
     pub fault: RunFault,
     pub place: u32,
@@ -123,6 +127,33 @@ pub enum RunFault {
     CleanStack,
     EvalFalse,
     WrongScript,
+}
+
+/// Why a PSBT is refused, and the byte of it, from 0, where the refusal has a place.
+#[derive(Clone, Copy, Debug, PartialEq, Eq, Hash)]
+#[non_exhaustive]
+pub struct PsbtRefusal {
+    pub fault: PsbtFault,
+    pub place: Option<u64>,
+}
+
+/// Why a PSBT is refused. docs/FORMATS.md says when each comes.
+#[derive(Clone, Copy, Debug, PartialEq, Eq, Hash)]
+#[non_exhaustive]
+pub enum PsbtFault {
+    TooLong,
+    NotBase64,
+    Magic,
+    Truncated,
+    Size,
+    RepeatedKey,
+    KeyForm,
+    ValueForm,
+    Version,
+    NoTransaction,
+    Trailing,
+    /// One that this version doesn't know.
+    Other,
 }
 
 /// A member of a file.
@@ -190,6 +221,7 @@ impl fmt::Display for Error {
         match self {
             Error::Text(refusal) => write!(f, "refused text {refusal}"),
             Error::File(refusal) => write!(f, "refused file {refusal}"),
+            Error::Psbt(refusal) => write!(f, "refused psbt {refusal}"),
             Error::NoSatisfaction => f.write_str("no satisfaction"),
             Error::Script(refusal) => write!(f, "refused script {refusal}"),
             Error::NotAccepted(refusal) => write!(f, "not accepted {refusal}"),
@@ -235,6 +267,15 @@ impl fmt::Display for RunRefusal {
         match self.fault {
             RunFault::WrongScript => f.write_str("WrongScript"),
             fault => write!(f, "{fault:?} at {}", self.place),
+        }
+    }
+}
+
+impl fmt::Display for PsbtRefusal {
+    fn fmt(&self, f: &mut fmt::Formatter<'_>) -> fmt::Result {
+        match self.place {
+            Some(place) => write!(f, "{:?} at {place}", self.fault),
+            None => write!(f, "{:?}", self.fault),
         }
     }
 }

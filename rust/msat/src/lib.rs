@@ -19,15 +19,19 @@
 mod calls;
 mod error;
 mod names;
+pub mod psbt;
 
 pub use calls::{
     answer, audit, check, decode, least_weight, plan, policy, psbt_answer, run, satisfy, satisfy_malleable, script, version,
     witness, witness_malleable,
 };
-pub use error::{Error, FileFault, FileRefusal, Member, Rule, RunFault, RunRefusal, TextFault, TextRefusal, Unfit};
+pub use error::{
+    Error, FileFault, FileRefusal, Member, PsbtFault, PsbtRefusal, Rule, RunFault, RunRefusal, TextFault, TextRefusal, Unfit,
+};
 
 /// By which limits a text is held.
 #[derive(Clone, Copy, Debug, Default, PartialEq, Eq, Hash)]
+#[non_exhaustive]
 pub enum Rules {
     /// Those of policy, within which nodes relay a spend.
     #[default]
@@ -38,6 +42,7 @@ pub enum Rules {
 
 /// A base type of BIP 379.
 #[derive(Clone, Copy, Debug, PartialEq, Eq, Hash)]
+#[non_exhaustive]
 pub enum Base {
     B,
     V,
@@ -118,6 +123,7 @@ impl Default for Known {
 /// The keys to ask for a signature, in the order of the nodes and, in a `multi`, of its positions; and what the satisfaction weighs
 /// at most then, where none of theirs is longer than estimated.
 #[derive(Clone, Debug, PartialEq, Eq, Hash)]
+#[non_exhaustive]
 pub struct Plan {
     pub keys: Vec<[u8; 33]>,
     pub weight: u64,
@@ -148,6 +154,7 @@ impl Default for Run {
 
 /// A run that is accepted: its opcodes, the most elements that the stacks held, and the good signatures that it passed, in order.
 #[derive(Clone, Debug, PartialEq, Eq, Hash)]
+#[non_exhaustive]
 pub struct Accepted {
     pub ops: u32,
     pub peak: u32,
@@ -156,6 +163,7 @@ pub struct Accepted {
 
 /// A node that takes part in a satisfaction.
 #[derive(Clone, Copy, Debug, PartialEq, Eq, Hash)]
+#[non_exhaustive]
 pub struct Step {
     /// The byte of the text where its name or letter stands.
     pub place: u32,
@@ -167,6 +175,7 @@ pub struct Step {
 
 /// How a stack that is accepted satisfies a text: what its run counted, by which rows, children first, and whether all are canonical.
 #[derive(Clone, Debug, PartialEq, Eq, Hash)]
+#[non_exhaustive]
 pub struct Audit {
     pub ops: u32,
     pub peak: u32,

@@ -1,7 +1,9 @@
 // SPDX-License-Identifier: MIT
 //! What the numbers of `struct msat_reason` stand for: kinds from 1, rules and members from 0, in the order of the header.
 
-use crate::error::{Error, FileFault, FileRefusal, Member, Rule, RunFault, RunRefusal, TextFault, TextRefusal, Unfit};
+use crate::error::{
+    Error, FileFault, FileRefusal, Member, PsbtFault, Rule, RunFault, RunRefusal, TextFault, TextRefusal, Unfit,
+};
 use msat_sys::{
     MSAT_FILE_REFUSED, MSAT_NO_MEMORY, MSAT_NO_READING, MSAT_NO_SATISFACTION, MSAT_NOT_ACCEPTED, MSAT_SCRIPT_REFUSED,
     MSAT_TEXT_REFUSED, MSAT_UNREADABLE, MSAT_USAGE, msat_outcome, msat_reason,
@@ -88,6 +90,31 @@ const MEMBERS: [(Member, &str); 10] = [
     (Member::Format, "format"),
     (Member::Keys, "keys"),
 ];
+
+/// The faults of PSBTs.
+const PSBT_FAULTS: [PsbtFault; 11] = [
+    PsbtFault::TooLong,
+    PsbtFault::NotBase64,
+    PsbtFault::Magic,
+    PsbtFault::Truncated,
+    PsbtFault::Size,
+    PsbtFault::RepeatedKey,
+    PsbtFault::KeyForm,
+    PsbtFault::ValueForm,
+    PsbtFault::Version,
+    PsbtFault::NoTransaction,
+    PsbtFault::Trailing,
+];
+
+/// The rule that a report calls so.
+pub(crate) fn rule(name: &str) -> Option<Rule> {
+    RULES.into_iter().find(|it| format!("{it:?}") == name)
+}
+
+/// The fault of a PSBT that a report calls so.
+pub(crate) fn psbt_fault(name: &str) -> Option<PsbtFault> {
+    PSBT_FAULTS.into_iter().find(|it| format!("{it:?}") == name)
+}
 
 pub(crate) fn of_member(member: Member) -> &'static str {
     MEMBERS.iter().find(|it| it.0 == member).map_or("", |it| it.1)

@@ -2,8 +2,7 @@
 //! The calls against the reports of the examples, whose folder `MSAT_EXAMPLES` names, and against one another.
 
 use msat::{
-    Assets, Error, Estimate, FileFault, FileRefusal, Known, Member, Rule, Rules, Run, RunFault, RunRefusal, Signature, Step,
-    TextFault, TextRefusal, Unfit,
+    Assets, Error, Estimate, FileFault, Known, Member, Rule, Rules, Run, RunFault, Signature, TextFault, TextRefusal, Unfit,
 };
 use std::env;
 use std::fs;
@@ -181,22 +180,25 @@ fn assets_give_what_a_file_with_the_same_gives() {
 
 #[test]
 fn refused_assets_are_named() {
-    let file = |fault, member, element| Err(Error::File(FileRefusal { fault, member, element }));
     let mut twice = held(71);
     twice.signatures.push(twice.signatures[0].clone());
     let mut other = held(71);
     other.signatures.push(Signature { key: [4; 33], bytes: vec![1] });
     let many = Assets { preimages: vec![[0; 32]; 257], ..Assets::default() };
     for (assets, wanted) in [
-        (held(0), file(FileFault::SigLength, None, Some(0))),
-        (held(74), file(FileFault::SigLength, None, Some(0))),
-        (twice, file(FileFault::RepeatedKey, None, Some(1))),
-        (other, file(FileFault::KeyForm, None, Some(1))),
-        (many, file(FileFault::TooMany, Some(Member::Preimages), None)),
-        (Assets::default(), Err(Error::NoSatisfaction)),
+        (held(0), Some((FileFault::SigLength, None, Some(0)))),
+        (held(74), Some((FileFault::SigLength, None, Some(0)))),
+        (twice, Some((FileFault::RepeatedKey, None, Some(1)))),
+        (other, Some((FileFault::KeyForm, None, Some(1)))),
+        (many, Some((FileFault::TooMany, Some(Member::Preimages), None))),
+        (Assets::default(), None),
     ] {
-        assert_eq!(msat::satisfy(&text_of_key(), &assets, Rules::Policy), wanted);
-        assert_eq!(msat::witness(&text_of_key(), file_of(&assets).as_bytes(), Rules::Policy), wanted);
+        let refused = msat::satisfy(&text_of_key(), &assets, Rules::Policy).expect_err("a refusal");
+        assert_eq!(Err(&refused), msat::witness(&text_of_key(), file_of(&assets).as_bytes(), Rules::Policy).as_ref());
+        match refused {
+            Error::File(it) => assert_eq!(Some((it.fault, it.member, it.element)), wanted),
+            other => assert_eq!((other, wanted), (Error::NoSatisfaction, None)),
+        }
     }
 }
 
@@ -233,9 +235,11 @@ fn plans_ask_for_the_shortest_signatures() {
     let one = Known { keys: known.keys[..1].to_vec(), ..Known::default() };
     assert_eq!(msat::plan(&text, &one), Err(Error::NoSatisfaction));
     let long = Known { keys: vec![Estimate { key: KEY, length: 74 }], ..Known::default() };
-    let refused = FileRefusal { fault: FileFault::Length, member: None, element: Some(0) };
-    assert_eq!(msat::plan(&text, &long), Err(Error::File(refused)));
-    assert_eq!(Error::File(refused).to_string(), "refused file Length 0");
+    let refused = msat::plan(&text, &long).expect_err("a refusal");
+    assert_eq!(refused.to_string(), "refused file Length 0");
+    assert!(
+        matches!(refused, Error::File(it) if it.fault == FileFault::Length && it.member.is_none() && it.element == Some(0))
+    );
 }
 
 #[test]
@@ -246,13 +250,13 @@ fn runs_have_their_outcome() {
     let accepted = msat::run(&run).expect("a run");
     assert_eq!((accepted.ops, accepted.peak, accepted.checks), (1, 2, signatures));
     let unsigned = Run { signatures: Vec::new(), ..run.clone() };
-    let fault = Error::Script(RunRefusal { fault: RunFault::NullFail, place: 1 });
-    assert_eq!(fault.to_string(), "refused script NullFail at 1");
-    assert_eq!(msat::run(&unsigned), Err(fault));
+    let refused = msat::run(&unsigned).expect_err("a refusal");
+    assert_eq!(refused.to_string(), "refused script NullFail at 1");
+    assert!(matches!(refused, Error::Script(it) if it.fault == RunFault::NullFail && it.place == 1));
     let audit = msat::audit(&text_of_key(), &run).expect("an audit");
-    let step = Step { place: 0, satisfied: true, extra: false };
-    assert_eq!((audit.ops, audit.peak, audit.steps, audit.canonical), (1, 2, vec![step, step], true));
-    let wrong = Error::NotAccepted(RunRefusal { fault: RunFault::WrongScript, place: 0 });
+    let steps: Vec<_> = audit.steps.iter().map(|it| (it.place, it.satisfied, it.extra)).collect();
+    assert_eq!((audit.ops, audit.peak, steps, audit.canonical), (1, 2, vec![(0, true, false); 2], true));
+    let wrong = msat::audit("older(9)", &run).expect_err("a refusal");
     assert_eq!(wrong.to_string(), "not accepted WrongScript");
-    assert_eq!(msat::audit("older(9)", &run), Err(wrong));
+    assert!(matches!(wrong, Error::NotAccepted(it) if it.fault == RunFault::WrongScript));
 }
