@@ -94,9 +94,10 @@ enum {
 uint32_t msat_psbt_answer(size_t count, const char *words, size_t words_len, const void *source, size_t source_len, char *report,
                           size_t report_len, size_t *needed);
 
-/* Why a text, a file, or arrays in its place are refused, as plain numbers. What isn't named at its kind is 0. */
+/* Why a text, a file, or arrays in its place are refused, as plain numbers. What isn't named at its kind is 0. It is written by the
+ * codes MSAT_TEXT_REFUSED and MSAT_FILE_REFUSED alone; after any other code it is as it was before the call. */
 struct msat_reason {
-    uint32_t kind;   /* one of the kinds below, or 0 where there is none */
+    uint32_t kind;   /* one of the kinds below */
     uint32_t rule;   /* the requirement that is false, one of MSAT_RULE_..; of a file its member, one of MSAT_MEMBER_.. */
     uint32_t place;  /* the byte of the text, or the element of the file's list, from 0 */
     uint64_t number; /* what the size, the opcodes or the items come to */
@@ -433,8 +434,14 @@ static inline uintptr_t msat_address(const void *at) {
 #endif
 }
 
-/* A buffer is there, unless its length is 0. */
-#define MSAT_IS_BUFFER(at, len) ((at) != NULL || (len) == 0)
+/* So many things of this size are there, unless there are none; they are no more than half of what a pointer can name, as with any
+ * object, and don't go around the end of memory. */
+#define MSAT_ARE_THERE(at, count, size) \
+    (((at) != NULL || (count) == 0) && (count) <= SIZE_MAX / 2 / (size) && msat_address(at) <= UINTPTR_MAX - (count) * (size))
+/* A buffer is there. */
+#define MSAT_IS_BUFFER(at, len) MSAT_ARE_THERE(at, len, 1)
+/* An array is there, and aligned. */
+#define MSAT_ARE_LENGTHS(at, count) (MSAT_ARE_THERE(at, count, sizeof *(at)) && msat_address(at) % sizeof *(at) == 0)
 /* A value is there, and aligned as values of its size may have to be. */
 #define MSAT_IS_VALUE(at) ((at) != NULL && msat_address(at) % (sizeof *(at) < 8 ? sizeof *(at) : 8) == 0)
 /* Two ranges of bytes have none in common. */
@@ -504,8 +511,7 @@ static inline uint32_t msat_witness_asserted(bool malleable, bool consensus, con
                                              struct msat_reason *reason) {
     size_t told = lengths_len * sizeof *lengths;
     assert(MSAT_IS_BUFFER(text, text_len) && MSAT_IS_BUFFER(file, file_len));
-    assert(MSAT_IS_BUFFER(bytes, bytes_len) && MSAT_IS_BUFFER(lengths, lengths_len));
-    assert(msat_address(lengths) % sizeof *lengths == 0 && lengths_len <= SIZE_MAX / sizeof *lengths);
+    assert(MSAT_IS_BUFFER(bytes, bytes_len) && MSAT_ARE_LENGTHS(lengths, lengths_len));
     assert(MSAT_IS_VALUE(needed) && MSAT_IS_VALUE(count) && MSAT_IS_VALUE(reason));
     assert(MSAT_IS_APART(bytes, bytes_len, text, text_len, file, file_len));
     assert(MSAT_IS_APART(bytes, bytes_len, lengths, told, reason, sizeof *reason));
@@ -530,10 +536,8 @@ static inline uint32_t msat_satisfy_asserted(bool malleable, bool consensus, con
                                              struct msat_reason *reason) {
     size_t told = lengths_len * sizeof *lengths, given = signature_count * sizeof *signature_lengths;
     assert(MSAT_IS_BUFFER(text, text_len) && MSAT_IS_BUFFER(keys, keys_len) && MSAT_IS_BUFFER(signatures, signatures_len));
-    assert(MSAT_IS_BUFFER(signature_lengths, signature_count) && MSAT_IS_BUFFER(preimages, preimages_len));
-    assert(MSAT_IS_BUFFER(bytes, bytes_len) && MSAT_IS_BUFFER(lengths, lengths_len));
-    assert(msat_address(lengths) % sizeof *lengths == 0 && lengths_len <= SIZE_MAX / sizeof *lengths);
-    assert(msat_address(signature_lengths) % sizeof *lengths == 0 && signature_count <= SIZE_MAX / sizeof *lengths);
+    assert(MSAT_ARE_LENGTHS(signature_lengths, signature_count) && MSAT_IS_BUFFER(preimages, preimages_len));
+    assert(MSAT_IS_BUFFER(bytes, bytes_len) && MSAT_ARE_LENGTHS(lengths, lengths_len));
     assert(MSAT_IS_VALUE(needed) && MSAT_IS_VALUE(count) && MSAT_IS_VALUE(reason));
     assert(MSAT_IS_OUT(bytes, bytes_len) && MSAT_IS_OUT(lengths, told) && MSAT_IS_OUT(needed, sizeof *needed));
     assert(MSAT_IS_OUT(count, sizeof *count) && MSAT_IS_OUT(reason, sizeof *reason));
@@ -546,10 +550,6 @@ static inline uint32_t msat_satisfy_asserted(bool malleable, bool consensus, con
                         signature_lengths, signature_count, preimages, preimages_len, bytes, bytes_len, needed, lengths, lengths_len,
                         count, reason);
 }
-
-/* An array of lengths is there and aligned, and has no more of them than memory could hold. */
-#define MSAT_ARE_LENGTHS(at, count) \
-    (MSAT_IS_BUFFER(at, count) && msat_address(at) % sizeof *(at) == 0 && (count) <= SIZE_MAX / sizeof *(at))
 
 static inline uint32_t msat_plan_asserted(const char *text, size_t text_len, uint32_t version, uint32_t sequence, uint32_t locktime,
                                           const uint8_t *keys, size_t keys_len, const size_t *signature_lengths,
@@ -613,8 +613,7 @@ static inline uint32_t msat_audit_asserted(const char *text, size_t text_len, ui
     assert(MSAT_IS_BUFFER(text, text_len) && MSAT_IS_BUFFER(script, script_len) && MSAT_IS_BUFFER(items, items_len));
     assert(MSAT_ARE_LENGTHS(item_lengths, item_count) && MSAT_IS_BUFFER(keys, keys_len) && MSAT_IS_BUFFER(signatures, signatures_len));
     assert(MSAT_ARE_LENGTHS(signature_lengths, signature_count));
-    assert(MSAT_IS_BUFFER(steps, steps_len) && steps_len <= SIZE_MAX / sizeof *steps);
-    assert(msat_address(steps) % sizeof steps->place == 0 && canonical != NULL);
+    assert(MSAT_ARE_THERE(steps, steps_len, sizeof *steps) && msat_address(steps) % sizeof steps->place == 0 && canonical != NULL);
     assert(outcome != NULL && msat_address(outcome) % sizeof outcome->ops == 0);
     assert(MSAT_IS_VALUE(count) && MSAT_IS_VALUE(reason));
     assert(MSAT_IS_RUN_OUT(steps, told) && MSAT_IS_RUN_OUT(count, sizeof *count) && MSAT_IS_RUN_OUT(canonical, sizeof *canonical));

@@ -4,6 +4,7 @@
  *        calls arrays              satisfactions, plans, runs and audits by what lies in arrays, and arrays that are refused
  *        calls words               words that can't be read, and NULL with the length 0
  *        calls names               the version, and the names of refusals, rules and members
+ *        calls reasons             of calls that aren't refused by one, which leave it as it was
  *        calls demands             calls that break a demand of the header, which a debug build stops
  *        calls threads FOLDER..    eight threads at once, with stacks of 512 KiB, with the same answers
  *        calls random COUNT SEED FOLDER..    calls over random inputs, made of the examples
@@ -677,6 +678,58 @@ static void try_words(void) {
         fail("another answer", "no words");
 }
 
+/* ---- a reason is written where a call is refused by it, and nowhere else */
+
+static void try_reasons(void) {
+    static const char text[] = "older(9)", sane[] = "pk(020101010101010101010101010101010101010101010101010101010101010101)";
+    static const uint8_t script[] = {0x51, 0x51};
+    const struct msat_reason before = {91, 92, 93, 94};
+    uint8_t bytes[128] = {0};
+    char policy[128] = {0};
+    size_t numbers[8] = {0};
+    uint64_t weight = 0;
+    bool is_canonical = false;
+    struct msat_facts facts = {0};
+    struct msat_outcome outcome = {0};
+    struct msat_step step = {0};
+    for (int which = 0; which < 10; which++) {
+        struct msat_reason reason = before;
+        uint32_t code = 0, wanted = MSAT_DONE;
+        switch (which) {
+        case 0: code = msat_script(false, text, 8, bytes, 128, numbers, &reason); break;
+        case 1: code = msat_check(false, sane, sizeof sane - 1, &facts, &reason); break;
+        case 2: code = msat_policy(sane, sizeof sane - 1, policy, 128, numbers, &weight, &reason); break;
+        case 3: code = msat_least_weight(false, text, 8, "{}", 2, &weight, &reason), wanted = MSAT_NO_SATISFACTION; break;
+        case 4:
+            code = msat_witness(true, false, text, 8, "{}", 2, bytes, 128, numbers, numbers + 1, 4, numbers + 5, &reason);
+            wanted = MSAT_NO_SATISFACTION;
+            break;
+        case 5:
+            code = msat_satisfy(true, false, text, 8, 2, 9, 0, NULL, 0, NULL, 0, NULL, 0, NULL, 0, bytes, 128, numbers, numbers + 1, 4, numbers + 5, &reason);
+            break;
+        case 6:
+            code = msat_plan(sane, sizeof sane - 1, 2, 0, 0, NULL, 0, NULL, 0, NULL, 0, bytes, 128, numbers, &weight, &reason);
+            wanted = MSAT_NO_SATISFACTION;
+            break;
+        case 7:
+            code = msat_run(2, 0, 0, script, 2, NULL, 0, NULL, 0, NULL, 0, NULL, 0, NULL, 0, bytes, 128, numbers, numbers + 1, 4, numbers + 5, &outcome, &reason);
+            wanted = MSAT_SCRIPT_REFUSED;
+            break;
+        case 8:
+            code = msat_audit(text, 8, 2, 0, 0, script, 2, NULL, 0, NULL, 0, NULL, 0, NULL, 0, NULL, 0, &step, 1, numbers, &is_canonical, &outcome, &reason);
+            wanted = MSAT_NOT_ACCEPTED;
+            break;
+        case 9: code = msat_check(false, "\xff", 1, &facts, &reason), wanted = MSAT_UNREADABLE; break;
+        }
+        char name[20];
+        snprintf(name, sizeof name, "reason %d", which);
+        if (code != wanted)
+            fail("another code", name);
+        if (reason.kind != before.kind || reason.rule != before.rule || reason.place != before.place || reason.number != before.number)
+            fail("a reason is written where there is none", name);
+    }
+}
+
 /* ---- demands */
 
 static void break_demand(int which) {
@@ -688,6 +741,7 @@ static void break_demand(int which) {
     struct msat_outcome outcome = {0};
     struct msat_step step = {0};
     struct msat_reason reason = {0};
+    bool is_canonical = false;
     switch (which) {
     case 0: msat_answer(1, NULL, 1, NULL, 0, bytes, 1, numbers); break;
     case 1: msat_answer(0, bytes, 2, NULL, 0, bytes + 1, 1, numbers); break;
@@ -705,11 +759,63 @@ static void break_demand(int which) {
     case 13: msat_plan(bytes, 1, 2, 0, 0, NULL, 0, NULL, 0, NULL, 0, raw, 1, numbers, &weight, &reason); break;
     case 14: msat_run(2, 0, 0, raw, 1, NULL, 0, NULL, 0, NULL, 0, NULL, 0, NULL, 0, raw + 1, 8, numbers, numbers, 4, numbers + 4, &outcome, &reason); break;
     case 15: msat_audit(bytes, 1, 2, 0, 0, NULL, 0, NULL, 0, NULL, 0, NULL, 0, NULL, 0, NULL, 0, &step, 1, numbers, &step.sat, &outcome, &reason); break;
+    /* lengths that no object has */
+    case 16: msat_answer(1, bytes, (size_t)-1, NULL, 0, bytes + 8, 8, numbers); break;
+    case 17: msat_answer(1, bytes, 2, bytes, (size_t)-1, bytes + 8, 8, numbers); break;
+    case 18: msat_answer(1, bytes, 2, NULL, 0, bytes + 8, (size_t)-1, numbers); break;
+    case 19: msat_psbt_answer(1, bytes, (size_t)-1, NULL, 0, bytes + 8, 8, numbers); break;
+    case 20: msat_psbt_answer(1, bytes, 2, bytes, (size_t)-1, bytes + 8, 8, numbers); break;
+    case 21: msat_psbt_answer(1, bytes, 2, NULL, 0, bytes + 8, (size_t)-1, numbers); break;
+    case 22: msat_script(false, bytes, (size_t)-1, raw + 8, 8, numbers, &reason); break;
+    case 23: msat_script(false, bytes, 1, raw + 8, (size_t)-1, numbers, &reason); break;
+    case 24: msat_check(false, bytes, (size_t)-1, &facts, &reason); break;
+    case 25: msat_least_weight(false, bytes, (size_t)-1, NULL, 0, &weight, &reason); break;
+    case 26: msat_least_weight(false, bytes, 1, bytes, (size_t)-1, &weight, &reason); break;
+    case 27: msat_witness(false, false, bytes, (size_t)-1, NULL, 0, raw + 8, 8, numbers, numbers + 1, 4, numbers + 5, &reason); break;
+    case 28: msat_witness(false, false, bytes, 1, bytes, (size_t)-1, raw + 8, 8, numbers, numbers + 1, 4, numbers + 5, &reason); break;
+    case 29: msat_witness(false, false, bytes, 1, NULL, 0, raw + 8, (size_t)-1, numbers, numbers + 1, 4, numbers + 5, &reason); break;
+    case 30: msat_witness(false, false, bytes, 1, NULL, 0, raw + 8, 8, numbers, numbers + 1, (size_t)-1, numbers + 5, &reason); break;
+    case 31: msat_witness(false, false, bytes, 1, NULL, 0, raw + 8, 8, numbers, numbers + 1, (size_t)-1 / 8, numbers + 5, &reason); break;
+    case 32: msat_satisfy(false, false, bytes, (size_t)-1, 2, 0, 0, raw + 16, 0, raw + 16, 0, numbers + 6, 0, raw + 16, 0, raw + 8, 8, numbers, numbers + 1, 4, numbers + 5, &reason); break;
+    case 33: msat_satisfy(false, false, bytes, 1, 2, 0, 0, raw + 16, (size_t)-1, raw + 16, 0, numbers + 6, 0, raw + 16, 0, raw + 8, 8, numbers, numbers + 1, 4, numbers + 5, &reason); break;
+    case 34: msat_satisfy(false, false, bytes, 1, 2, 0, 0, raw + 16, 0, raw + 16, (size_t)-1, numbers + 6, 0, raw + 16, 0, raw + 8, 8, numbers, numbers + 1, 4, numbers + 5, &reason); break;
+    case 35: msat_satisfy(false, false, bytes, 1, 2, 0, 0, raw + 16, 0, raw + 16, 0, numbers + 6, (size_t)-1, raw + 16, 0, raw + 8, 8, numbers, numbers + 1, 4, numbers + 5, &reason); break;
+    case 36: msat_satisfy(false, false, bytes, 1, 2, 0, 0, raw + 16, 0, raw + 16, 0, numbers + 6, 0, raw + 16, (size_t)-1, raw + 8, 8, numbers, numbers + 1, 4, numbers + 5, &reason); break;
+    case 37: msat_satisfy(false, false, bytes, 1, 2, 0, 0, raw + 16, 0, raw + 16, 0, numbers + 6, 0, raw + 16, 0, raw + 8, (size_t)-1, numbers, numbers + 1, 4, numbers + 5, &reason); break;
+    case 38: msat_satisfy(false, false, bytes, 1, 2, 0, 0, raw + 16, 0, raw + 16, 0, numbers + 6, 0, raw + 16, 0, raw + 8, 8, numbers, numbers + 1, (size_t)-1, numbers + 5, &reason); break;
+    case 39: msat_plan(bytes, (size_t)-1, 2, 0, 0, raw + 16, 0, numbers + 6, 0, raw + 16, 0, raw + 8, 8, numbers, &weight, &reason); break;
+    case 40: msat_plan(bytes, 1, 2, 0, 0, raw + 16, (size_t)-1, numbers + 6, 0, raw + 16, 0, raw + 8, 8, numbers, &weight, &reason); break;
+    case 41: msat_plan(bytes, 1, 2, 0, 0, raw + 16, 0, numbers + 6, (size_t)-1, raw + 16, 0, raw + 8, 8, numbers, &weight, &reason); break;
+    case 42: msat_plan(bytes, 1, 2, 0, 0, raw + 16, 0, numbers + 6, 0, raw + 16, (size_t)-1, raw + 8, 8, numbers, &weight, &reason); break;
+    case 43: msat_plan(bytes, 1, 2, 0, 0, raw + 16, 0, numbers + 6, 0, raw + 16, 0, raw + 8, (size_t)-1, numbers, &weight, &reason); break;
+    case 44: msat_run(2, 0, 0, raw, (size_t)-1, raw + 16, 0, numbers + 6, 0, raw + 16, 0, raw + 16, 0, numbers + 6, 0, raw + 8, 8, numbers, numbers + 1, 4, numbers + 5, &outcome, &reason); break;
+    case 45: msat_run(2, 0, 0, raw, 1, raw + 16, (size_t)-1, numbers + 6, 0, raw + 16, 0, raw + 16, 0, numbers + 6, 0, raw + 8, 8, numbers, numbers + 1, 4, numbers + 5, &outcome, &reason); break;
+    case 46: msat_run(2, 0, 0, raw, 1, raw + 16, 0, numbers + 6, (size_t)-1, raw + 16, 0, raw + 16, 0, numbers + 6, 0, raw + 8, 8, numbers, numbers + 1, 4, numbers + 5, &outcome, &reason); break;
+    case 47: msat_run(2, 0, 0, raw, 1, raw + 16, 0, numbers + 6, 0, raw + 16, (size_t)-1, raw + 16, 0, numbers + 6, 0, raw + 8, 8, numbers, numbers + 1, 4, numbers + 5, &outcome, &reason); break;
+    case 48: msat_run(2, 0, 0, raw, 1, raw + 16, 0, numbers + 6, 0, raw + 16, 0, raw + 16, (size_t)-1, numbers + 6, 0, raw + 8, 8, numbers, numbers + 1, 4, numbers + 5, &outcome, &reason); break;
+    case 49: msat_run(2, 0, 0, raw, 1, raw + 16, 0, numbers + 6, 0, raw + 16, 0, raw + 16, 0, numbers + 6, (size_t)-1, raw + 8, 8, numbers, numbers + 1, 4, numbers + 5, &outcome, &reason); break;
+    case 50: msat_run(2, 0, 0, raw, 1, raw + 16, 0, numbers + 6, 0, raw + 16, 0, raw + 16, 0, numbers + 6, 0, raw + 8, (size_t)-1, numbers, numbers + 1, 4, numbers + 5, &outcome, &reason); break;
+    case 51: msat_run(2, 0, 0, raw, 1, raw + 16, 0, numbers + 6, 0, raw + 16, 0, raw + 16, 0, numbers + 6, 0, raw + 8, 8, numbers, numbers + 1, (size_t)-1, numbers + 5, &outcome, &reason); break;
+    case 52: msat_audit(bytes, (size_t)-1, 2, 0, 0, raw, 1, raw + 16, 0, numbers + 6, 0, raw + 16, 0, raw + 16, 0, numbers + 6, 0, &step, 1, numbers, &is_canonical, &outcome, &reason); break;
+    case 53: msat_audit(bytes, 1, 2, 0, 0, raw, (size_t)-1, raw + 16, 0, numbers + 6, 0, raw + 16, 0, raw + 16, 0, numbers + 6, 0, &step, 1, numbers, &is_canonical, &outcome, &reason); break;
+    case 54: msat_audit(bytes, 1, 2, 0, 0, raw, 1, raw + 16, (size_t)-1, numbers + 6, 0, raw + 16, 0, raw + 16, 0, numbers + 6, 0, &step, 1, numbers, &is_canonical, &outcome, &reason); break;
+    case 55: msat_audit(bytes, 1, 2, 0, 0, raw, 1, raw + 16, 0, numbers + 6, (size_t)-1, raw + 16, 0, raw + 16, 0, numbers + 6, 0, &step, 1, numbers, &is_canonical, &outcome, &reason); break;
+    case 56: msat_audit(bytes, 1, 2, 0, 0, raw, 1, raw + 16, 0, numbers + 6, 0, raw + 16, (size_t)-1, raw + 16, 0, numbers + 6, 0, &step, 1, numbers, &is_canonical, &outcome, &reason); break;
+    case 57: msat_audit(bytes, 1, 2, 0, 0, raw, 1, raw + 16, 0, numbers + 6, 0, raw + 16, 0, raw + 16, (size_t)-1, numbers + 6, 0, &step, 1, numbers, &is_canonical, &outcome, &reason); break;
+    case 58: msat_audit(bytes, 1, 2, 0, 0, raw, 1, raw + 16, 0, numbers + 6, 0, raw + 16, 0, raw + 16, 0, numbers + 6, (size_t)-1, &step, 1, numbers, &is_canonical, &outcome, &reason); break;
+    case 59: msat_audit(bytes, 1, 2, 0, 0, raw, 1, raw + 16, 0, numbers + 6, 0, raw + 16, 0, raw + 16, 0, numbers + 6, 0, &step, (size_t)-1, numbers, &is_canonical, &outcome, &reason); break;
+    case 60: msat_policy(bytes, (size_t)-1, bytes + 8, 8, numbers, &weight, &reason); break;
+    case 61: msat_policy(bytes, 1, bytes + 8, (size_t)-1, numbers, &weight, &reason); break;
+    case 62: msat_decode(raw, (size_t)-1, raw + 16, 0, bytes + 8, 8, numbers); break;
+    case 63: msat_decode(raw, 1, raw + 16, (size_t)-1, bytes + 8, 8, numbers); break;
+    case 64: msat_decode(raw, 1, raw + 16, 0, bytes + 8, (size_t)-1, numbers); break;
     }
 }
 
+enum { DEMANDS = 65 };
+
 static void try_demands(void) {
-    for (int which = 0; which < 16; which++) {
+    for (int which = 0; which < DEMANDS; which++) {
         pid_t child = fork();
         if (child == 0) {
             if (!freopen("/dev/null", "w", stderr))
@@ -888,6 +994,8 @@ int main(int argc, char **argv) {
         try_arrays(), try_plans(), try_runs();
     else if (strcmp(what, "names") == 0)
         try_names();
+    else if (strcmp(what, "reasons") == 0)
+        try_reasons();
     else if (strcmp(what, "demands") == 0)
         try_demands();
     else if (all.count == 0)

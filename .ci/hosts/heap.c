@@ -1,6 +1,7 @@
 /* Measures what a call takes at most, of the stack and of the heap, over texts and files that ask for the most: long ones, deep ones,
- * and files of as many small values as they may have. Prints both, and ends with 1 where either is over what the header tells.
- * Usage: heap MOST-STACK MOST-HEAP    in bytes
+ * and files of as many small values as they may have; and over PSBTs. Prints both, of the heap for PSBTs apart, and ends with 1 where one
+ * is over what the header tells.
+ * Usage: heap MOST-STACK MOST-HEAP MOST-HEAP-OF-PSBTS PSBT..    in bytes, and files of PSBTs
  * Built with -Wl,--wrap=malloc,--wrap=realloc,--wrap=free, and over the archive. */
 #include <malloc.h>
 #include <msat.h>
@@ -10,7 +11,7 @@
 #include <string.h>
 #include <sys/mman.h>
 
-enum { STACK = 1 << 20, ROOM = 1 << 21 };
+enum { STACK = 1 << 20, ROOM = 1 << 21, PSBT_ROOM = 1 << 26 };
 
 static size_t held, most;
 void *__real_malloc(size_t size);
@@ -263,6 +264,31 @@ static void write_text(int which) {
     }
 }
 
+/* Each command with a PSBT. */
+static void ask_psbt(const char *name) {
+    static const char *const commands[] = {"finalize", "inspect", "extract", "hashes"};
+    static char source[(1 << 24) + 1], answer[PSBT_ROOM];
+    FILE *given = fopen(name, "rb");
+    if (!given)
+        exit(2);
+    size_t length = fread(source, 1, sizeof source, given);
+    fclose(given);
+    for (size_t i = 0; i < 4; i++) {
+        size_t needed = 0;
+        uint32_t code = msat_psbt_answer(1, commands[i], strlen(commands[i]) + 1, source, length, answer, sizeof answer, &needed);
+        if (code == MSAT_NO_MEMORY)
+            exit(2);
+        if (getenv("HEAP_SHOWS"))
+            printf("heap: %s %s of %zu bytes answers %u\n", commands[i], name, length, code);
+    }
+}
+
+static void *ask_psbts(void *given) {
+    for (char **name = given; *name; name++)
+        ask_psbt(*name);
+    return NULL;
+}
+
 static void *ask(void *given) {
     (void)given;
     for (int i = 0; i < 12; i++)
@@ -275,23 +301,35 @@ static void *ask(void *given) {
     return NULL;
 }
 
-int main(int argc, char **argv) {
-    if (argc != 3)
-        return 2;
-    uint8_t *stack = mmap(NULL, STACK, PROT_READ | PROT_WRITE, MAP_PRIVATE | MAP_ANONYMOUS | MAP_STACK, -1, 0);
+/* How much of a stack was touched by a thread that does this, from its lower end. */
+static size_t stack_of(void *(*work)(void *), void *given) {
+    static uint8_t *stack;
+    if (!stack)
+        stack = mmap(NULL, STACK, PROT_READ | PROT_WRITE, MAP_PRIVATE | MAP_ANONYMOUS | MAP_STACK, -1, 0);
     if (stack == MAP_FAILED)
-        return 2;
+        exit(2);
     memset(stack, 0xa5, STACK);
-    fill_arrays();
     pthread_attr_t attributes;
     pthread_t thread;
     pthread_attr_init(&attributes);
-    if (pthread_attr_setstack(&attributes, stack, STACK) != 0 || pthread_create(&thread, &attributes, ask, NULL) != 0)
-        return 2;
+    if (pthread_attr_setstack(&attributes, stack, STACK) != 0 || pthread_create(&thread, &attributes, work, given) != 0)
+        exit(2);
     pthread_join(thread, NULL);
     size_t untouched = 0;
     while (untouched < STACK && stack[untouched] == 0xa5)
         untouched++;
-    printf("heap: a call takes at most %zu bytes of stack and %zu of heap\n", (size_t)STACK - untouched, most);
-    return STACK - untouched > strtoull(argv[1], NULL, 10) || most > strtoull(argv[2], NULL, 10);
+    return STACK - untouched;
+}
+
+int main(int argc, char **argv) {
+    if (argc < 4)
+        return 2;
+    fill_arrays();
+    size_t stack = stack_of(ask, NULL), heap = most;
+    printf("heap: a call takes at most %zu bytes of stack and %zu of heap\n", stack, heap);
+    most = held;
+    size_t psbt_stack = stack_of(ask_psbts, argv + 4);
+    printf("heap: with a PSBT at most %zu bytes of stack and %zu of heap\n", psbt_stack, most);
+    size_t most_stack = strtoull(argv[1], NULL, 10);
+    return stack > most_stack || psbt_stack > most_stack || heap > strtoull(argv[2], NULL, 10) || most > strtoull(argv[3], NULL, 10);
 }

@@ -1,6 +1,7 @@
 // Prints what `msat satisfy TEXT` prints for an asset file, from C++, and compares it with the calls without a report.
 // Usage: satisfy TEXT ASSET-FILE
 #include <msat.h>
+#include <msat_psbt.h>
 
 #include <cstring>
 #include <fstream>
@@ -59,6 +60,11 @@ int main(int argc, char **argv) {
         std::strcmp(msat_run_fault_name(outcome.fault), "WrongScript") != 0 || canonical)
         return 99;
     if (std::strcmp(msat_rule_name(MSAT_RULE_AND_VX), "AndVX") != 0 || msat_version() != MSAT_VERSION_NUMBER)
+        return 99;
+    const std::string told = "psbt inputs 0 outputs 0 version 2 locktime 0 txid 00\nfee 0 proved\n";
+    msat_psbt_reader reader = {told.data(), told.size(), MSAT_PSBT_NO_INPUT};
+    msat_psbt_line line;
+    if (!msat_psbt_next(&reader, &line) || line.version != 2 || !msat_psbt_next(&reader, &line) || line.known != MSAT_PSBT_PROVED)
         return 99;
     return static_cast<int>(code);
 }

@@ -35,7 +35,22 @@ from .errors import (
     file_line,
     text_line,
 )
-from .psbt import NoCurve, NotFinal, PsbtRefused, extract, finalize, hashes, inspect, verify
+from .psbt import (
+    Check,
+    Fee,
+    Hashes,
+    Input,
+    Inspection,
+    NoCurve,
+    NotFinal,
+    Output,
+    PsbtRefused,
+    extract,
+    finalize,
+    hashes,
+    inspect,
+    verify,
+)
 from .results import (
     Accepted,
     Assets,
@@ -62,10 +77,11 @@ __all__ = [
     "TextRefused", "Unreadable", "Usage", "answer", "audit", "check", "decode", "facts", "least_weight", "plan", "policy", "report",
     "run", "satisfy", "script", "witness",
     # of PSBTs
-    "NoCurve", "NotFinal", "PsbtRefused", "extract", "finalize", "hashes", "inspect", "verify",
+    "Check", "Fee", "Hashes", "Input", "Inspection", "NoCurve", "NotFinal", "Output", "PsbtRefused", "extract", "finalize", "hashes",
+    "inspect", "verify",
 ]  # fmt: skip
 
-__version__ = "1.0.0"
+__version__ = ".".join(map(str, _library.version()))  # of the library that is loaded
 
 
 def answer(words: Sequence[str], source: File = b"") -> tuple[int, str]:

@@ -49,25 +49,35 @@ class Step(ctypes.Structure):
 
 def places(package: Path) -> list[Path]:
     """Where the shared object of a package may lie, whose folder this is: beside it, and where `./install` has put both, in the
-    folder `lib` of the prefix. No other place is looked at, so that nothing is loaded that others could have put there.
+    folder `lib` of the prefix or, as on Debian, in `lib/x86_64-linux-gnu`. No other place is looked at, so that nothing is loaded that
+    others could have put there.
 
-    >>> [str(place) for place in places(Path("/usr/local/lib/python3.11/dist-packages/msat"))]
-    ['/usr/local/lib/python3.11/dist-packages/msat/libmsat.so.1', '/usr/local/lib/libmsat.so.1']
+    >>> [str(place) for place in places(Path("/usr/lib/python3/dist-packages/msat"))]
+    ['/usr/lib/python3/dist-packages/msat/libmsat.so.1', '/usr/lib/libmsat.so.1', '/usr/lib/x86_64-linux-gnu/libmsat.so.1']
     >>> [str(place) for place in places(Path("/tmp/checkout/python/msat"))]
     ['/tmp/checkout/python/msat/libmsat.so.1']
     """
     installed = any(package.match(f"lib/python3*/{name}/msat") for name in ("dist-packages", "site-packages"))
-    return [folder / NAME for folder in (package, *(package.parents[2:3] if installed else ()))]
+    libraries = (package.parents[2], package.parents[2] / "x86_64-linux-gnu") if installed else ()
+    return [folder / NAME for folder in (package, *libraries)]
 
 
 def _load() -> ctypes.CDLL:
+    """The shared object, with each call that this package makes. ImportError where it isn't there, can't be loaded or lacks one."""
     told = os.environ.get("MSAT_LIBRARY")
     tried = [Path(told)] if told else places(Path(__file__).resolve().parent)
-    for place in tried:
-        if place.exists():
-            return ctypes.CDLL(str(place))
-    names = ", ".join(map(str, tried))
-    raise ImportError(f"msat: {NAME} isn't there ({names}): ./install puts it there, and MSAT_LIBRARY names another place")
+    place = next((it for it in tried if it.exists()), None)
+    if place is None:
+        names = ", ".join(map(str, tried))
+        raise ImportError(f"msat: {NAME} isn't there ({names}): ./install puts it there, and MSAT_LIBRARY names another place")
+    try:
+        library = ctypes.CDLL(str(place))
+        for name, types in _CALLS.items():
+            getattr(library, name).restype = ctypes.c_uint32
+            getattr(library, name).argtypes = types
+    except (OSError, AttributeError) as error:
+        raise ImportError(f"msat: {place} can't be loaded as the library that this package is for: {error}") from error
+    return library
 
 
 _READ = [ctypes.c_char_p, ctypes.c_size_t]
@@ -100,9 +110,6 @@ _CALLS: dict[str, list] = {
 }
 
 _library = _load()
-for _name, _types in _CALLS.items():
-    getattr(_library, _name).restype = ctypes.c_uint32
-    getattr(_library, _name).argtypes = _types
 
 
 def version() -> tuple[int, int, int]:
