@@ -4,7 +4,7 @@
 import ctypes
 import os
 from pathlib import Path
-from typing import Callable, Optional, Sequence
+from typing import Any, Callable, Optional, Sequence
 
 NAME = "libmsat.so.1"
 DONE = 0
@@ -87,7 +87,7 @@ _SIZE = ctypes.POINTER(ctypes.c_size_t)
 _REASON = ctypes.POINTER(Reason)
 _OUTCOME = ctypes.POINTER(Outcome)
 _RUN = [*3 * [ctypes.c_uint32], *_READ, *_READ, *_SIZES, *_READ, *_READ, *_SIZES]  # the locks, the script, the stack, the good pairs
-_CALLS: dict[str, list] = {
+_CALLS: dict[str, list[Any]] = {
     "msat_version": [],
     "msat_answer": [ctypes.c_size_t, *_READ, *_READ, *_BYTES, _SIZE],
     "msat_psbt_answer": [ctypes.c_size_t, *_READ, *_READ, *_BYTES, _SIZE],
@@ -210,7 +210,7 @@ def run(
     outcome, lent = Outcome(), _run(locks, script, stack, pairs)
 
     def call(*out: object) -> int:
-        return _library.msat_run(*lent, *out[:-1], ctypes.byref(outcome), out[-1])
+        return int(_library.msat_run(*lent, *out[:-1], ctypes.byref(outcome), out[-1]))
 
     code, items, reason = _items(room, most, call)
     return code, items, outcome, reason
@@ -232,7 +232,7 @@ def audit(
         most = count.value
 
 
-def _run(locks: tuple[int, int, int], script: bytes, stack: Sequence[bytes], pairs: Sequence[tuple[bytes, bytes]]) -> tuple:
+def _run(locks: tuple[int, int, int], script: bytes, stack: Sequence[bytes], pairs: Sequence[tuple[bytes, bytes]]) -> tuple[object, ...]:
     """What msat_run and msat_audit are given of a run."""
     items, keys, signatures = b"".join(stack), b"".join(key for key, _ in pairs), b"".join(sig for _, sig in pairs)
     lengths = (ctypes.c_size_t * len(stack))(*map(len, stack))

@@ -15,7 +15,7 @@ class MsatError(Exception):
         super().__init__(report.strip() or type(self).__name__)
         self.report = report
 
-    def __reduce__(self) -> tuple:
+    def __reduce__(self) -> tuple[object, ...]:
         """Copies and pickles are made of what it was made of."""
         return type(self), (self.report,)
 
@@ -38,7 +38,7 @@ class Refused(MsatError):
         self.place = place
         self.number = number
 
-    def __reduce__(self) -> tuple:
+    def __reduce__(self) -> tuple[object, ...]:
         """Copies and pickles are made of what it was made of."""
         return type(self), (self.report, self.name, self.subject, self.place, self.number)
 

@@ -22,7 +22,7 @@ __all__ = [
 ]  # fmt: skip
 
 Psbt = Union[str, bytes]
-P = TypeVar("P", str, bytes)
+P = TypeVar("P", str, bytes, Psbt)
 
 
 class PsbtRefused(Refused):
@@ -36,7 +36,7 @@ class NotFinal(MsatError):
         super().__init__(report)
         self.input = input
 
-    def __reduce__(self) -> tuple:
+    def __reduce__(self) -> tuple[object, ...]:
         """Copies and pickles are made of what it was made of."""
         return type(self), (self.report, self.input)
 
@@ -455,8 +455,8 @@ def _input(lines: list[str]) -> Input:
         amount=amount,
         is_proved=is_proved,
         signatures=tuple(_signature(value) for value in told.get("signature", [])),
-        text=told.get("text", [None])[0],
-        policy=told.get("policy", [None])[0],
+        text=next(iter(told.get("text", [])), None),
+        policy=next(iter(told.get("policy", [])), None),
         weight=next((int(words[0]) for words in weights if len(words) == 1), None),
         asked=tuple(bytes.fromhex(key) for key in told.get("ask", [])),
         most=next((int(words[1]) for words in weights if len(words) == 2), None),
