@@ -3,7 +3,7 @@
 
 import re
 from dataclasses import dataclass
-from typing import Iterator, Union
+from typing import Callable, Iterator, Union
 
 _WORD = re.compile(r"[a-z0-9]+")
 
@@ -18,6 +18,18 @@ class Atom:
     def is_lock(self) -> bool:
         return self.kind in ("older", "after")
 
+    @property
+    def digits(self) -> str:
+        """Those of a key or of a hash value."""
+        assert isinstance(self.value, str)
+        return self.value
+
+    @property
+    def operand(self) -> int:
+        """That of a timelock."""
+        assert isinstance(self.value, int)
+        return self.value
+
 
 @dataclass(frozen=True)
 class Gate:
@@ -31,19 +43,26 @@ Demand = Union[Atom, Gate]
 NEVER = Gate(1, ())
 
 
+def _word(text: str, at: int) -> str:
+    """The word that begins here."""
+    found = _WORD.match(text, at)
+    assert found is not None
+    return found[0]
+
+
 def _read(text: str, at: int) -> tuple[Demand, int]:
     """The demand that begins here, and the place behind it."""
-    name = _WORD.match(text, at)[0]
+    name = _word(text, at)
     at += len(name)
     if name in ("never", "always"):
         return Gate(int(name == "never"), ()), at
     at += 1
     if name not in ("all", "any", "thresh"):
-        value = _WORD.match(text, at)[0]
+        value = _word(text, at)
         return Atom(name, int(value) if name in ("older", "after") else value), at + len(value) + 1
     need = 0
     if name == "thresh":
-        number = _WORD.match(text, at)[0]
+        number = _word(text, at)
         need, at = int(number), at + len(number) + 1
     parts = []
     while text[at - 1] != ")":
@@ -71,7 +90,7 @@ def atoms(wanted: Demand) -> Iterator[Atom]:
             yield from atoms(part)
 
 
-def said(wanted: Demand, name_of) -> str:
+def said(wanted: Demand, name_of: Callable[[Atom], str]) -> str:
     """The demand with names: `name_of` gives that of an atom."""
     if isinstance(wanted, Atom):
         return name_of(wanted)

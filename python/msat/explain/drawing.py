@@ -75,7 +75,7 @@ def _class_of(node: Node) -> str:
 def ways(shown: Explanation) -> str:
     """The ways that are shown, a row each, over the keys and preimages, a column each: a dot where the way takes it. What has to be
     waited for stands above its ways."""
-    spending = shown.spending
+    spending = shown.spent
     name_of = shown.given.name_of
     columns = [("key", it) for it in shown.keys] + [("hash", value) for _, value in shown.hashes]
     names = [short(name_of(value), 18) for _, value in columns]

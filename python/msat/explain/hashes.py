@@ -2,6 +2,7 @@
 """The hash functions of hash locks, as Script has them. RIPEMD-160 is written out, since Python over some builds of OpenSSL has none."""
 
 import hashlib
+from typing import Callable
 
 # For each of the five rounds of both lines: which word of the block each step takes, and by how many bits it turns.
 _WORDS = (
@@ -16,14 +17,14 @@ _ADDED = (
     (0x00000000, 0x5A827999, 0x6ED9EBA1, 0x8F1BBCDC, 0xA953FD4E),
     (0x50A28BE6, 0x5C4DD124, 0x6D703EF3, 0x7A6D76E9, 0x00000000),
 )
-_MIXES = (
+_MIXES: tuple[Callable[[int, int, int], int], ...] = (
     lambda x, y, z: x ^ y ^ z,
     lambda x, y, z: (x & y) | (~x & z),
     lambda x, y, z: (x | ~y) ^ z,
     lambda x, y, z: (x & z) | (y & ~z),
     lambda x, y, z: x ^ (y | ~z),
 )
-_START = (0x67452301, 0xEFCDAB89, 0x98BADCFE, 0x10325476, 0xC3D2E1F0)
+_START: tuple[int, ...] = (0x67452301, 0xEFCDAB89, 0x98BADCFE, 0x10325476, 0xC3D2E1F0)
 _MASK = 0xFFFFFFFF
 
 
@@ -32,7 +33,7 @@ def _turned(value: int, bits: int) -> int:
     return (value << bits | value >> (32 - bits)) & _MASK
 
 
-def _line(line: int, state: tuple, words: list) -> tuple:
+def _line(line: int, state: tuple[int, ...], words: list[int]) -> tuple[int, ...]:
     """One of the two lines of a block, of five rounds each."""
     a, b, c, d, e = state
     for turn in range(5):
@@ -63,7 +64,7 @@ def sha256(data: bytes) -> bytes:
 
 
 # The functions by the names of their fragments, and how many bytes each gives.
-FUNCTIONS = {
+FUNCTIONS: dict[str, Callable[[bytes], bytes]] = {
     "sha256": sha256,
     "hash256": lambda data: sha256(sha256(data)),
     "ripemd160": ripemd160,

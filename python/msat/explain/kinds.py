@@ -96,7 +96,7 @@ def _letters(node: Node) -> str:
 
 def ask(root: Node) -> None:
     """Gives each node its letters."""
-    known: dict[tuple, str] = {}
+    known: dict[tuple[object, ...], str] = {}
 
     def visit(node: Node) -> None:
         for child in node.children:

@@ -85,11 +85,8 @@ def instructions(script: bytes) -> list[tuple[int, bytes, str, Optional[bytes]]]
 def _written(node: Node) -> Iterator[tuple[str, Node, Optional[Node]]]:
     """What a node writes, each with the node and the `v` that it comes of."""
     if node.is_letter and node.name == "v":
-        last = None
-        for it in _written(node.children[0]):
-            if last:
-                yield last
-            last = it
+        *before, last = _written(node.children[0])
+        yield from before
         if last[0] in _FUSED:
             yield last[0] + "VERIFY", last[1], node
         else:

@@ -203,7 +203,7 @@ def advice(report: str) -> str:
         names = re.findall(r"`([^`]*)`", reports)
         first = names[0] if names else ""
         for name in names:
-            whole = name if name == first else re.match(r"refused \w+ ", first)[0] + name
+            whole = name if name == first else "".join(re.findall(r"^refused \w+ ", first)) + name
             words = [word for word in whole.split() if not re.fullmatch(r"[A-Z]|NAME|FAULT|at", word)]
             if report.split()[: len(words)] == words:
                 return plain(said).replace("byte P", "the mark").replace(" Or see --malleable below", "")
@@ -247,7 +247,7 @@ def _broken(refused: msat.TextRefused, node: Node) -> str:
         kinds.ask(child)
         parts.append(f"{name} is {child.kind}" if name else f"the child is {child.kind}")
     form = f"{node.name}:X" if node.is_letter else f"{node.name}({_form_of(node)})"
-    wanted = required(refused.subject)
+    wanted = required(refused.subject or "")
     meant = "; ".join(f"{it} {LETTERS[it]}" for it in dict.fromkeys(re.findall(r"\b[A-Za-z]\b", wanted)) if it in LETTERS)
     here = f" Here {', '.join(parts[:8])}{' ..' if len(parts) > 8 else ''}." if parts else ""
     return f"{form} requires: {wanted}.{here}" + (f" ({meant}.)" if meant else "")
