@@ -1,0 +1,7 @@
+pub mod Modular
+pub mod Curve
+pub mod Point
+pub mod Key
+pub mod Ecdsa
+pub mod Judgement
+pub mod Examples
