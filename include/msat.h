@@ -85,11 +85,13 @@ uint32_t msat_answer(size_t count, const char *words, size_t words_len, const vo
 
 /* Answers the words of a command line, as `msat-psbt` does where its standard input holds `source`: one word of `finalize`,
  * `inspect`, `extract` and `hashes`. The source is a PSBT (BIP 174), its bytes or their base64, of at most 16,777,216 bytes; the rest is
- * as in msat_answer, and the report of `finalize` has whatever bytes a PSBT has. MSAT_DONE comes where no input stays open, MSAT_PSBT_OPEN
- * where one does, and MSAT_PSBT_REFUSED where the source is none, with why. */
+ * as in msat_answer, and the report of `finalize` has whatever bytes a PSBT has. MSAT_PSBT_REFUSED comes where the source is none, with why.
+ * Of any other source `finalize` answers MSAT_DONE where all inputs are final then, and else MSAT_PSBT_OPEN; `inspect` MSAT_DONE where all
+ * are Final or Ready, and else MSAT_PSBT_OPEN; `extract` MSAT_DONE with the transaction, and MSAT_PSBT_OPEN where an input isn't Final or
+ * there are no inputs; `hashes` always MSAT_DONE. */
 enum {
     MSAT_PSBT_REFUSED = 3, /* the source is no PSBT that is read, and why is told */
-    MSAT_PSBT_OPEN = 4     /* some input stays open; what was asked for was given all the same, but for `extract` */
+    MSAT_PSBT_OPEN = 4     /* of `finalize`, `inspect` and `extract`, as above; what the first two were asked for was given all the same */
 };
 uint32_t msat_psbt_answer(size_t count, const char *words, size_t words_len, const void *source, size_t source_len, char *report,
                           size_t report_len, size_t *needed);
