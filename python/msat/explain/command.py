@@ -6,12 +6,12 @@ import json
 import os
 import re
 import sys
-from typing import NoReturn, Optional, Sequence
+from typing import NoReturn, Optional, Sequence, Union
 
 import msat
 
 from . import refusals, report
-from .explanation import explain
+from .explanation import Explanation, explain
 from .given import Unfit, read
 from .refusals import Refusal
 
@@ -24,6 +24,7 @@ exit status: 0 explained; 1 other words; 2 the text was refused; 3 a file was re
 5 a file can't be read; 6 something can't be written; 7 memory was wanting; 10 the Script can't be read back"""
 DONE, USAGE, TEXT, FILE, NO_SATISFACTION, READING, WRITING, NO_MEMORY, NO_READING = 0, 1, 2, 3, 4, 5, 6, 7, 10
 VERSION = "1.0"
+Found = Union[Explanation, Refusal]
 _KEY = re.compile(r"0[23][0-9a-fA-F]{64}")
 _DIGITS = re.compile(r"([0-9a-fA-F]{2})+")
 
@@ -75,7 +76,7 @@ def _text(options: argparse.Namespace) -> str:
     if (options.text is None) == (options.file is None):
         raise Stop(USAGE, "a TEXT, or -f FILE, or - for standard input: one of them\n" + parser().format_usage().rstrip())
     if options.text is not None and options.text != "-":
-        return options.text
+        return str(options.text)
     return _read_file(options.file or "-").decode(errors="surrogateescape")
 
 
@@ -108,7 +109,7 @@ def _keys(options: argparse.Namespace) -> tuple[dict[str, str], tuple[str, ...]]
     return digits, tuple(keys)
 
 
-def answer(raw: str, digits: dict[str, str], keys: tuple[str, ...] = (), *, consensus: bool = False, assets: Optional[bytes] = None):
+def answer(raw: str, digits: dict[str, str], keys: tuple[str, ...] = (), *, consensus: bool = False, assets: Optional[bytes] = None) -> Found:
     """The explanation of what was given, or its refusal."""
     given = None
     try:
@@ -117,6 +118,7 @@ def answer(raw: str, digits: dict[str, str], keys: tuple[str, ...] = (), *, cons
     except Unfit as unfit:
         return refusals.of_input(unfit, raw)
     except msat.TextRefused as refused:
+        assert given is not None
         return refusals.of_text(refused, given)
     except msat.Unreadable as error:
         return refusals.of_error(error, TEXT, "The text isn't UTF-8, or has a NUL.", raw)
@@ -126,13 +128,13 @@ def answer(raw: str, digits: dict[str, str], keys: tuple[str, ...] = (), *, cons
         return refusals.of_error(error, NO_READING, "The Script isn't read back as a condition.", raw)
 
 
-def _status(found) -> int:
+def _status(found: Found) -> int:
     if isinstance(found, Refusal):
         return found.status
     return NO_SATISFACTION if found.held and not found.held.spend else DONE
 
 
-def _printed(found, options: argparse.Namespace) -> str:
+def _printed(found: Found, options: argparse.Namespace) -> str:
     if options.json:
         from .document import document
 
@@ -141,7 +143,7 @@ def _printed(found, options: argparse.Namespace) -> str:
     return report.refused(found, color) if isinstance(found, Refusal) else report.explained(found, color)
 
 
-def _write_page(found, name: str) -> None:
+def _write_page(found: Found, name: str) -> None:
     from .page import page
 
     try:

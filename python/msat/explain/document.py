@@ -1,7 +1,7 @@
 # SPDX-License-Identifier: MIT
 """An explanation or a refusal as a document of JSON, which schema/explain.json describes."""
 
-from typing import Union
+from typing import Any, Union
 
 from . import words
 from .explanation import Explanation, Group, Held, Opening, Priced
@@ -11,12 +11,14 @@ from .refusals import Refusal
 from .report import marked
 from .tree import Node
 
+Document = dict[str, Any]
 
-def document(found: Union[Explanation, Refusal]) -> dict:
+
+def document(found: Union[Explanation, Refusal]) -> Document:
     return _refusal(found) if isinstance(found, Refusal) else _explanation(found)
 
 
-def _refusal(found: Refusal) -> dict:
+def _refusal(found: Refusal) -> Document:
     line, column = marked(found.shown, found.place) if found.place is not None else (None, None)
     return {
         "refusal": {
@@ -26,9 +28,9 @@ def _refusal(found: Refusal) -> dict:
     }  # fmt: skip
 
 
-def _explanation(found: Explanation) -> dict:
+def _explanation(found: Explanation) -> Document:
     given, checked, is_real = found.given, found.checked, not found.given.standins
-    document_ = {
+    document_: Document = {
         "text": given.text,
         "form": checked.text,
         "notes": list(given.done),
@@ -53,7 +55,7 @@ def _explanation(found: Explanation) -> dict:
     return document_
 
 
-def _node(node: Node, found: Explanation) -> dict:
+def _node(node: Node, found: Explanation) -> Document:
     return {
         "name": node.name + ":" * node.is_letter,
         "place": node.place,
@@ -64,7 +66,7 @@ def _node(node: Node, found: Explanation) -> dict:
     }
 
 
-def _line(line: Line, found: Explanation) -> dict:
+def _line(line: Line, found: Explanation) -> Document:
     is_real = not found.given.standins
     return {
         "at": line.at,
@@ -75,11 +77,11 @@ def _line(line: Line, found: Explanation) -> dict:
     }
 
 
-def _locks(locks: Locks) -> dict:
+def _locks(locks: Locks) -> Document:
     return {"sequence": locks.older, "locktime": locks.after, "when": said(locks), "set": said_fields(locks)}
 
 
-def _way(it: Priced) -> dict:
+def _way(it: Priced) -> Document:
     return {
         "keys": list(it.way.keys),
         "preimages": [{"function": atom.kind, "value": atom.value} for atom in it.way.hashes],
@@ -90,16 +92,16 @@ def _way(it: Priced) -> dict:
     }
 
 
-def _group(it: Group) -> dict:
+def _group(it: Group) -> Document:
     return {"keys": list(it.keys), "ways": [_way(way) for way in it.ways]}
 
 
-def _opening(it: Opening) -> dict:
+def _opening(it: Opening) -> Document:
     return {"locks": _locks(it.locks), "ways": it.count, "shown": list(it.shown), "keys": it.keys}
 
 
-def _spending(found: Explanation) -> dict:
-    it = found.spending
+def _spending(found: Explanation) -> Document:
+    it = found.spent
     return {
         "policy": it.policy,
         "named": found.said_policy(),
@@ -115,7 +117,7 @@ def _spending(found: Explanation) -> dict:
     }
 
 
-def _held(held: Held, found: Explanation) -> dict:
+def _held(held: Held, found: Explanation) -> Document:
     missing = [
         {
             "keys": list(it.keys),

@@ -2,7 +2,7 @@
 """What there is to say of a condition. Each number and each verdict is a call of the library; the ways come of the policy that it
 prints, and what each weighs, and that it is one, is asked of `satisfy` with exactly its keys and preimages."""
 
-from dataclasses import dataclass
+from dataclasses import dataclass, replace
 from itertools import combinations, product
 from typing import Optional
 
@@ -112,8 +112,14 @@ class Explanation:
         """What is asked for, in a word."""
         if atom.is_lock():
             return f"{atom.kind}({atom.value})"
-        name = self.given.name_of(atom.value)
+        name = self.given.name_of(atom.digits)
         return name if atom.kind == "key" else f"{atom.kind}({name})"
+
+    @property
+    def spent(self) -> Spending:
+        """How it is spent, where that is known: not of a condition beyond the limits of policy."""
+        assert self.spending is not None
+        return self.spending
 
     def said_policy(self) -> str:
         return said(demand(self.spending.policy), self.said_atom) if self.spending else ""
@@ -176,8 +182,8 @@ class _Prices:
 
     def assets(self, keys: tuple[str, ...], hashes: tuple[Atom, ...], locks: Locks) -> Assets:
         signatures = tuple(Signature(bytes.fromhex(key), bytes([0x30]) * SIGNATURE) for key in keys)
-        preimages = tuple(self.known[it.kind, it.value] for it in hashes)
-        return Assets(signatures=signatures, preimages=preimages, **locks.fields())
+        preimages = tuple(self.known[it.kind, it.digits] for it in hashes)
+        return replace(Assets(signatures=signatures, preimages=preimages), **locks.fields())
 
     def of(self, way: Way) -> Priced:
         if way not in self.priced:
@@ -196,8 +202,8 @@ class _Prices:
 
 def _latest(wanted: Demand) -> list[Locks]:
     """The locks of a transaction that waits for all that one can wait for: of each unit the latest."""
-    operands = {kind: {it.value for it in atoms(wanted) if it.kind == kind} for kind in ("older", "after")}
-    last = {kind: [unit[-1] for unit in levels(kind, values)] or [None] for kind, values in operands.items()}
+    operands = {kind: {it.operand for it in atoms(wanted) if it.kind == kind} for kind in ("older", "after")}
+    last: dict[str, list[Optional[int]]] = {kind: [unit[-1] for unit in levels(kind, values)] or [None] for kind, values in operands.items()}
     return [Locks(older, after) for older, after in product(last["older"], last["after"])]
 
 

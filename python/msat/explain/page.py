@@ -6,7 +6,7 @@ from html import escape
 from typing import Iterable, Sequence, Union
 
 from . import drawing, words
-from .explanation import Explanation
+from .explanation import Explanation, Held
 from .locks import said, said_fields
 from .refusals import Refusal
 from .report import marked, printable
@@ -108,7 +108,7 @@ def _sections(found: Explanation) -> Iterable[tuple[str, str, str]]:
     spending = found.spending
     yield "keys", "Keys and hashes", _keys(found)
     yield "ways", "Ways to spend", _ways(found) if spending else "<p>Not told: only the limits of consensus take this condition.</p>"
-    yield "held", "With the asset file", _held(found) if found.held else ""
+    yield "held", "With the asset file", _held(found, found.held) if found.held else ""
     yield "time", "As time passes", _time(found) if spending else ""
     yield "able", "What one key and two keys can do", _able(found) if spending else ""
     yield "tree", "Tree", _tree(found)
@@ -126,7 +126,7 @@ def _keys(found: Explanation) -> str:
 
 
 def _ways(found: Explanation) -> str:
-    spending = found.spending
+    spending = found.spent
     rows = []
     for at, it in enumerate(spending.shown, 1):
         names = words.way_of(it.way, found, with_locks=False)
@@ -147,14 +147,14 @@ def _ways(found: Explanation) -> str:
 
 def _time(found: Explanation) -> str:
     rows = []
-    for it in found.spending.openings:
+    for it in found.spent.openings:
         fewest = "" if it.keys is None else words.count(it.keys, "key is", "keys are") + " enough"
         rows.append((cell(said(it.locks)), words.count(it.count, "way"), fewest))
     return table("what opens when, and the least number of keys that are enough by then, with every preimage", ("When", "Opens", "Keys"), rows)
 
 
 def _able(found: Explanation) -> str:
-    spending = found.spending
+    spending = found.spent
 
     def rows(pairs: list[tuple[str, str]]) -> list[tuple[str, str]]:
         return [(cell(names), cell(times)) for names, times in pairs]
@@ -217,8 +217,8 @@ def _address(found: Explanation) -> str:
     return table("compare it with the one that your wallet shows", ("Where", "Address"), [*rows, ("program", _code(found.checked.program.hex()))])
 
 
-def _held(found: Explanation) -> str:
-    held, spend = found.held, found.held.spend
+def _held(found: Explanation, held: Held) -> str:
+    spend = held.spend
     shown = found.spending.shown if found.spending else ()
     pairs = enumerate(zip(shown, held.missing), 1)
     rows = [(str(at), cell(words.way_of(it.way, found)), cell(words.missing_of(lack, found))) for at, (it, lack) in pairs]

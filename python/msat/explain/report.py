@@ -5,7 +5,7 @@ import unicodedata
 from typing import Iterable, Sequence
 
 from . import words
-from .explanation import Explanation
+from .explanation import Explanation, Held, Opening
 from .locks import Locks, said, said_fields
 from .refusals import Refusal
 from .tree import Node
@@ -136,7 +136,7 @@ def explained(shown: Explanation, color: bool) -> str:
         paper.title("Ways to spend")
         paper.add("  Not told: only the limits of consensus take this condition, and `policy` goes by those of policy.")
     if shown.held:
-        _held(paper, shown)
+        _held(paper, shown, shown.held)
     return paper.text()
 
 
@@ -167,7 +167,7 @@ def _limits(paper: Paper, shown: Explanation) -> None:
 
 
 def _spending(paper: Paper, shown: Explanation) -> None:
-    spending = shown.spending
+    spending = shown.spent
     paper.title("Policy")
     paper.add("  " + printable(shown.said_policy()))
     paper.add(f"  {words.keys_of(spending.keys)}".rstrip() + ", with every preimage and when all locks hold")
@@ -191,7 +191,7 @@ def _band(locks: Locks) -> str:
     return said(locks) + ("" if locks.is_none() else f": set {said_fields(locks)}")
 
 
-def _opening_row(opening, count: int) -> tuple[str, str, str]:
+def _opening_row(opening: Opening, count: int) -> tuple[str, str, str]:
     numbers = [str(at + 1) for at in opening.shown]
     named = f": {', '.join(numbers)}" if len(numbers) == opening.count and len(numbers) <= 16 else ""
     fewest = "" if opening.keys is None else f"{words.count(opening.keys, 'key is', 'keys are')} enough"
@@ -199,7 +199,7 @@ def _opening_row(opening, count: int) -> tuple[str, str, str]:
 
 
 def _together(paper: Paper, shown: Explanation) -> None:
-    spending = shown.spending
+    spending = shown.spent
     if not spending.pairs:
         return
     paper.title("Each two keys", f"what they can do beyond each of them alone, of {words.count(spending.pairs, 'pair')}")
@@ -209,8 +209,7 @@ def _together(paper: Paper, shown: Explanation) -> None:
         paper.add(f"  {'the other ' if rows else ''}{words.count(spending.idle, 'pair')}: nothing more")
 
 
-def _held(paper: Paper, shown: Explanation) -> None:
-    held = shown.held
+def _held(paper: Paper, shown: Explanation, held: Held) -> None:
     paper.title("With the asset file", "" if held.spend else paper.styled("no satisfaction", "bad"))
     paper.table(
         [(str(at), words.way_of(it.way, shown), "lacks " + words.missing_of(lack, shown) if not lack.is_nothing() else "open now")

@@ -10,7 +10,7 @@ in any setting just below it: with a lower lock, or without one of the hashes. S
 from collections import Counter
 from dataclasses import dataclass
 from itertools import islice, product
-from typing import Iterator, Optional
+from typing import Any, Iterator, Optional
 
 from .demand import Atom, Demand, atoms
 from .locks import Locks, levels
@@ -29,7 +29,7 @@ class Setting:
     hashes: frozenset[Atom] = frozenset()
 
     def gives(self, atom: Atom) -> bool:
-        return self.locks.holds(atom.kind, atom.value) if atom.is_lock() else atom in self.hashes
+        return self.locks.holds(atom.kind, atom.operand) if atom.is_lock() else atom in self.hashes
 
 
 @dataclass(frozen=True)
@@ -43,6 +43,7 @@ class Way:
 
 Truth = tuple[bool, ...]
 Choice = tuple[Truth, int]
+End = tuple[int, tuple[int, ...], int]
 
 
 @dataclass
@@ -51,12 +52,12 @@ class _Part:
     sets of what is left make the first meet it, by which of the settings they meet it in and by their number of keys."""
 
     plain: Truth
-    counts: Counter
+    counts: Counter[Choice]
     atom: Optional[Atom] = None
     need: int = 0
     parts: tuple["_Part", ...] = ()
     # Of the parts from each place on: how many choices come to so many taken, to so many met by setting, with so many keys.
-    tails: tuple[Counter, ...] = ()
+    tails: tuple[Counter[End], ...] = ()
 
 
 class _Count:
@@ -64,7 +65,7 @@ class _Count:
 
     def __init__(self, free: frozenset[Atom], most_keys: int):
         self.free, self.most_keys = free, most_keys
-        self.known: dict[tuple, _Part] = {}
+        self.known: dict[tuple[Any, ...], _Part] = {}
 
     def part(self, wanted: Demand, settings: tuple[Setting, ...]) -> _Part:
         if isinstance(wanted, Atom):
@@ -84,20 +85,20 @@ class _Count:
         if (atom, plain) not in self.known:
             keys = int(atom.kind == "key")
             is_choice = is_free and keys <= self.most_keys
-            counts = Counter({((True,) * len(settings), keys): 1} if is_choice else {})
+            counts: Counter[Choice] = Counter({((True,) * len(settings), keys): 1} if is_choice else {})
             self.known[atom, plain] = _Part(plain, counts, atom)
         return self.known[atom, plain]
 
     def choices(self, found: _Part) -> None:
         """Counts from the last part to the first, and keeps the counts, by which sets are made without a dead end."""
         short = found.need - sum(part.plain[0] for part in found.parts)
-        tails = [Counter({(0, (0,) * len(found.plain), 0): 1})]
+        tails: list[Counter[End]] = [Counter({(0, (0,) * len(found.plain), 0): 1})]
         for part in reversed(found.parts):
-            tail: Counter = Counter()
+            tail: Counter[End] = Counter()
             for (taken, met, keys), times in tails[-1].items():
                 for is_taken, truth, added, count in _options(part):
                     if keys + added <= self.most_keys and taken + is_taken <= short:
-                        tail[taken + is_taken, tuple(map(sum, zip(met, truth))), keys + added] += times * count
+                        tail[taken + is_taken, tuple(a + b for a, b in zip(met, truth)), keys + added] += times * count
             tails.append(tail)
         found.tails = tuple(reversed(tails))
         for (taken, met, keys), times in found.tails[0].items():
@@ -126,7 +127,7 @@ def _sets(part: _Part, wanted: Choice) -> Iterator[tuple[Atom, ...]]:
         yield from _tail_sets(part, 0, end)
 
 
-def _tail_sets(part: _Part, at: int, end: tuple) -> Iterator[tuple[Atom, ...]]:
+def _tail_sets(part: _Part, at: int, end: End) -> Iterator[tuple[Atom, ...]]:
     """The sets from the part at this place on that come to this end."""
     if at == len(part.parts):
         yield ()
@@ -136,7 +137,7 @@ def _tail_sets(part: _Part, at: int, end: tuple) -> Iterator[tuple[Atom, ...]]:
         left = (taken - is_taken, tuple(a - b for a, b in zip(met, truth)), keys - added)
         if part.tails[at + 1].get(left, 0) == 0:
             continue
-        firsts = _sets(part.parts[at], (truth, added)) if is_taken else [()]
+        firsts = _sets(part.parts[at], (truth, added)) if is_taken else iter([()])
         for first in firsts:
             for rest in _tail_sets(part, at + 1, left):
                 yield first + rest
@@ -156,7 +157,7 @@ class Ways:
     def __init__(self, wanted: Demand, most_keys: int = 1 << 30):
         self.order = {atom: at for at, atom in reversed(list(enumerate(atoms(wanted))))}
         times = Counter(atoms(wanted))
-        locks = {kind: levels(kind, {it.value for it in times if it.kind == kind}) for kind in ("older", "after")}
+        locks = {kind: levels(kind, {it.operand for it in times if it.kind == kind}) for kind in ("older", "after")}
         repeated = [it for it, count in times.items() if not it.is_lock() and count > 1]
         free = frozenset(it for it in times if not it.is_lock() and it not in repeated)
         self.found: list[tuple[Setting, _Part, list[Choice]]] = []
@@ -175,7 +176,7 @@ class Ways:
 
     def openings(self) -> list[Opening]:
         """How many ways each setting of the locks opens, in their order."""
-        counts: Counter = Counter()
+        counts: Counter[Locks] = Counter()
         for setting, part, choices in self.found:
             counts[setting.locks] += sum(part.counts[choice] for choice in choices)
         return [Opening(locks, count) for locks, count in counts.items()]
@@ -201,17 +202,19 @@ class Ways:
     def _of(self, setting: Setting, part: _Part, choices: list[Choice]) -> Iterator[Way]:
         for choice in choices:
             for chosen in _sets(part, choice):
-                hashes = sorted((it for it in (*setting.hashes, *chosen) if it.kind != "key"), key=self.order.get)
-                keys = sorted((it for it in chosen if it.kind == "key"), key=self.order.get)
-                yield Way(tuple(it.value for it in keys), tuple(hashes), setting.locks)
+                hashes = sorted((it for it in (*setting.hashes, *chosen) if it.kind != "key"), key=self.order.__getitem__)
+                keys = sorted((it for it in chosen if it.kind == "key"), key=self.order.__getitem__)
+                yield Way(tuple(it.digits for it in keys), tuple(hashes), setting.locks)
 
 
 def _settings(locks: dict[str, list[list[int]]], repeated: list[Atom]) -> Iterator[tuple[Setting, ...]]:
     """Each setting, with those just below it behind it: the locks that wait for less come first."""
-    below = {kind: {None: None, **{it: prior for unit in units for prior, it in zip([None, *unit], unit)}} for kind, units in locks.items()}
-    subsets = list(product(*(((), (it,)) for it in repeated))) if len(repeated) <= MOST_REPEATED else [()]
-    for older, after, subset in product(below["older"], below["after"], sorted(subsets, key=lambda it: len(sum(it, ())))):
-        hashes = frozenset(sum(subset, ()))
+    below: dict[str, dict[Optional[int], Optional[int]]] = {kind: {None: None} for kind in locks}
+    for kind, units in locks.items():
+        below[kind].update({it: prior for unit in units for prior, it in zip([None, *unit], unit)})
+    few = repeated if len(repeated) <= MOST_REPEATED else []
+    subsets = [frozenset(it for it, is_known in zip(few, known) if is_known) for known in product((False, True), repeat=len(few))]
+    for older, after, hashes in product(below["older"], below["after"], sorted(subsets, key=len)):
         lower = [] if older is None else [Setting(Locks(below["older"][older], after), hashes)]
         lower += [] if after is None else [Setting(Locks(older, below["after"][after]), hashes)]
         lower += [Setting(Locks(older, after), hashes - {it}) for it in repeated if it in hashes]
@@ -222,7 +225,7 @@ def fewest(wanted: Demand, locks: Locks) -> Optional[int]:
     """The least number of keys that meet a demand with these locks and every preimage; None where none do."""
     if isinstance(wanted, Atom):
         if wanted.is_lock():
-            return 0 if locks.holds(wanted.kind, wanted.value) else None
+            return 0 if locks.holds(wanted.kind, wanted.operand) else None
         return int(wanted.kind == "key")
     found = sorted(it for it in (fewest(part, locks) for part in wanted.parts) if it is not None)
     return sum(found[: wanted.need]) if len(found) >= wanted.need else None

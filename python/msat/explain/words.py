@@ -99,7 +99,7 @@ def way_of(way: Way, shown: Explanation, with_locks: bool = True) -> str:
 
     The locks stand behind it: `alice and bob, from height 5 on`.
     """
-    names = [shown.given.name_of(it) for it in way.keys] + [f"the preimage of {shown.given.name_of(it.value)}" for it in way.hashes]
+    names = [shown.given.name_of(it) for it in way.keys] + [f"the preimage of {shown.given.name_of(it.digits)}" for it in way.hashes]
     locks = f", {said(way.locks)}" if with_locks and not way.locks.is_none() else ""
     return (listed(names) or "no signature") + locks
 
@@ -109,7 +109,7 @@ def missing_of(missing: Missing, shown: Explanation) -> str:
     if missing.is_nothing():
         return "nothing: open now"
     name_of = shown.given.name_of
-    parts = [f"the signature of {name_of(it)}" for it in missing.keys] + [f"the preimage of {name_of(it.value)}" for it in missing.hashes]
+    parts = [f"the signature of {name_of(it)}" for it in missing.keys] + [f"the preimage of {name_of(it.digits)}" for it in missing.hashes]
     return listed(parts + ([] if missing.locks.is_none() else [said_fields(missing.locks)]))
 
 
@@ -132,7 +132,7 @@ def digits_of(value: str, shown: Explanation) -> str:
 
 def more_of(shown: Explanation) -> str:
     """How many ways there are besides those that are shown."""
-    spending = shown.spending
+    spending = shown.spent
     more = spending.count - len(spending.shown)
     least = "" if spending.is_all else "at least "
     return f"and {least}{more:,} more" if more or least else ""
@@ -142,19 +142,19 @@ def times_of(ways: tuple[Priced, ...], shown: Explanation) -> str:
     """When some keys are enough, and with which preimages."""
     parts = []
     for it in ways[:8]:
-        names = [f"the preimage of {shown.given.name_of(atom.value)}" for atom in it.way.hashes]
+        names = [f"the preimage of {shown.given.name_of(atom.digits)}" for atom in it.way.hashes]
         parts.append(said(it.way.locks) + (f" with {listed(names)}" if names else ""))
     return "; ".join(parts + ([f"and {len(ways) - 8} more"] if len(ways) > 8 else []))
 
 
 def together_rows(shown: Explanation) -> list[tuple[str, str]]:
     """What each two keys can do beyond each of them alone."""
-    return [(listed([shown.given.name_of(it) for it in group.keys]), times_of(group.ways, shown)) for group in shown.spending.together]
+    return [(listed([shown.given.name_of(it) for it in group.keys]), times_of(group.ways, shown)) for group in shown.spent.together]
 
 
 def alone_rows(shown: Explanation) -> list[tuple[str, str]]:
     """What each key can do alone, and in one row those that can do nothing."""
-    groups = shown.spending.alone
+    groups = shown.spent.alone
     rows = [(shown.given.name_of(group.keys[0]), times_of(group.ways, shown)) for group in groups if group.ways]
     idle = [shown.given.name_of(group.keys[0]) for group in groups if not group.ways]
     return rows + ([(listed(idle), "nothing, at any time")] if idle else [])
