@@ -1,5 +1,5 @@
 -- The promises speak of something: what they presuppose is met, here by some miniscripts each.
-use Rattle.std.specs.Prelude.{◌≡◌, ◌≢◌, ◌<◌, ℕ, zero, suc, true, false, List, [], ◌∷◌, Contains, Some, None, Ok}
+use Rattle.std.specs.Prelude.{◌≡◌, ◌≢◌, ◌<◌, ℕ, zero, suc, true, false, List, [], ◌∷◌, Contains, Some, None, Ok, replicate}
 use Rattle.def_script.specs.Bytes.{Bytes}
 use Rattle.def_machine.specs.Samples.{key_a, sig_a, sig_b}
 use Rattle.def_machine.specs.Stacks.{Pairs}
@@ -15,6 +15,7 @@ use Rattle.def_types.specs.Malleable.{mall}
 use Rattle.def_types.specs.Samples.{pk, sha256, v, and_v}
 use Rattle.def_assets.specs.Assets.{Assets, AreAssets}
 use Rattle.def_limits.specs.declared.Limits.{Limits}
+use Rattle.def_limits.specs.Formal.{item, FormalSat}
 use Rattle.def_limits.specs.Limits.{AreLimits}
 use Rattle.def_tree.specs.Nodes.{all_nodes}
 use Rattle.def_sane.specs.declared.Rules.TheVariants.{Consensus}
@@ -28,6 +29,7 @@ use Rattle.def_choice.specs.NonMalleable.{IsAccepted, HasNewPair, Fresh, NonMall
 use Rattle.def_promises.specs.Acceptance.{IsAcceptedWithin}
 use Rattle.def_promises.specs.Courses.{HasAll}
 use Rattle.def_promises.specs.Letters.{HashesCanBeMissed}
+use Rattle.def_promises.specs.Reached.{HasLongest}
 
 -- `and_v(v:pk(B),or_i(pk(A),and_v(v:sha256(h1),and_v(v:sha256(h2),sha256(h3)))))`: by the key A and by the
 -- preimages
@@ -54,6 +56,18 @@ pub record AcceptanceIsMet : Type 0 where
 -- of the runs of all formal satisfactions: the assets have all that the miniscript can take
 abbrev pub AllIsMet : Type 0
 AllIsMet = HasAll keys_and_preimages key_and_key_or_hashes
+
+-- of the limits: the assets have all that `pk(A)` can take, with a signature of 73 bytes, which its formal satisfaction takes
+abbrev pub longest_key_a : Assets
+longest_key_a = with_preimages [] ((key_a, replicate 73 0xaa) ∷ [])
+
+pub record LongestIsMet : Type 0 where
+  pub writable : IsWritable (pk key_a)
+  pub valid : IsValidUnder Consensus (pk key_a)
+  pub assets : AreAssets longest_key_a
+  pub all : HasAll longest_key_a (pk key_a)
+  pub longest : HasLongest longest_key_a
+  pub formal : FormalSat (pk key_a) (item 73)
 
 -- of the strict choice: the miniscript is sane, there is a strict choice, and another stack is accepted,
 -- which passes a check more

@@ -2,5 +2,6 @@ pub mod Limited
 pub mod Acceptance
 pub mod Letters
 pub mod Promises
-pub mod Examples
 pub mod Courses
+pub mod Reached
+pub mod Examples

@@ -3,6 +3,7 @@
 ghost use Rattle.def_promises.specs.Examples.{
   AcceptanceIsMet,
   AllIsMet,
+  LongestIsMet,
   StrictIsMet,
   KeyCanBeChanged,
   NothingIsMet,
@@ -16,6 +17,7 @@ ghost use Rattle.def_promises.specs.Examples.{
 pub fn instances()
     ensures acceptance { AcceptanceIsMet }
     ensures all { AllIsMet }
+    ensures longest { LongestIsMet }
     ensures strict { StrictIsMet }
     ensures key_can_be_changed { KeyCanBeChanged }
     ensures nothing { NothingIsMet }

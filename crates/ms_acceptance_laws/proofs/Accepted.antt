@@ -19,7 +19,8 @@ use Rattle.def_types.specs.Typed.{type_of}
 use Rattle.def_emit.specs.Emit.{emit, script_of}
 use Rattle.def_assets.specs.Assets.{Assets, AreAssets, known}
 use Rattle.def_limits.specs.declared.Limits.{Limits}
-use Rattle.def_limits.specs.Limits.{AreLimits}
+use Rattle.def_limits.specs.Formal.{Takes, FormalSat as FormalTakes}
+use Rattle.def_limits.specs.Limits.{IsGreatest, AreLimits}
 use Rattle.def_limits.specs.Scaffolding.Most.{limits_of}
 use Rattle.def_script.specs.Instruction.{opcode_count}
 use Rattle.def_sane.specs.declared.Rules.TheVariants.{Consensus}
@@ -39,7 +40,10 @@ use Rattle.def_satisfaction.proofs.Wider.{IsWider, row_within}
 use Rattle.def_choice.specs.NonMalleable.{IsAccepted, given_with}
 use Rattle.def_promises.specs.Acceptance.{IsAcceptedWithin, CanonicalIsAccepted, InversionHolds}
 use Rattle.def_promises.specs.Courses.{CanonicalHasCourse, HasAll, IsRun, EachFormalIsRun, HeightIsReached}
+use Rattle.def_promises.specs.Reached.{HasLongest, IsTaken, EachFormalIsTaken, LimitsAreReached}
 use Rattle.def_promises.specs.Limited.{StopsAtLimit}
+use Rattle.def_script.specs.Witness.{weight}
+use Rattle.def_choice.proofs.Weights.{weight-reverse}
 use Rattle.def_satisfaction.proofs.EqualParts.{first_same, rest_same}
 use Rattle.ms_acceptance_laws.proofs.TreeEffects.{den}
 use Rattle.ms_row_laws.proofs.RowLogs.{sat_log}
@@ -51,6 +55,7 @@ use Rattle.ms_acceptance_laws.proofs.BackwardBases.{Back, BackB, logged, Took}
 use Rattle.ms_acceptance_laws.proofs.BackwardTrees.{inverts}
 use Rattle.ms_acceptance_laws.proofs.UnlimitedMachine.{reached, free_steps}
 use Rattle.ms_acceptance_laws.proofs.RowWays.{sat_way, sat_formal, has_sat}
+use Rattle.ms_acceptance_laws.proofs.RowTakes.{taken_sat}
 use Rattle.ms_acceptance_laws.proofs.RunHeights.{IsLow}
 use Rattle.ms_acceptance_laws.proofs.SimplePaths.{Path}
 use Rattle.ms_acceptance_laws.proofs.TreePaths.{sat_path}
@@ -225,6 +230,54 @@ pub height_is_reached : HeightIsReached
 height_is_reached tree assets height writable valid are all way formal (inl g) =
     (g.0.items, subst (IsRun tree assets g.0.items) g.2 (formal_is_run tree assets g.0 writable valid are all g.1))
 height_is_reached tree assets height writable valid are all way formal (inr g) = absurd (g.0 way formal)
+
+-- and with signatures of the greatest length, each is taken exactly
+module _ (tree : Tree) (assets : Assets) (takes : Takes) (writable : IsWritable tree) (valid : IsValidUnder Consensus tree) (are : AreAssets assets) where
+  taken_by : (stack : List Bytes) → length stack ≡ takes.items → weight stack ≡ takes.weight → (r : (row (canonical assets) tree).sat (reverse stack)) →
+      (sat_log (canonical assets) tree (reverse stack) r).keys ≡ takes.keys → IsTaken tree assets takes
+  taken_by stack items light r keys =
+      let a = accepts_row tree (limits_of tree) assets assets.pairs stack writable (valid_consensus tree valid) (limits_are_computed tree) are r r in
+      record {
+        stack = stack;
+        sat = r;
+        items = items;
+        light = light;
+        peak = a.peak;
+        checks = _;
+        run = a.run ∙ ap (λ n. accepted (opcode_count (emit tree) + n) a.peak (sat_log (canonical assets) tree (reverse stack) r).checks) keys;
+      }
+
+  formal_is_taken : HasAll assets tree → HasLongest assets → FormalTakes tree takes → IsTaken tree assets takes
+  formal_is_taken all long formal =
+      let h = taken_sat assets long tree writable (valid_consensus tree valid).typed all takes formal in
+      let P : Stack → Type 0 = λ w. (r : (row (canonical assets) tree).sat w) → (sat_log (canonical assets) tree w r).keys ≡ takes.keys → IsTaken tree assets takes in
+      subst P (reverse-reverse h.stack)
+      (taken_by (reverse h.stack) (omega (arith, length-reverse h.stack, h.items)) (omega (arith, weight-reverse h.stack, h.light))) h.row h.keys
+
+pub each_formal_is_taken : EachFormalIsTaken
+each_formal_is_taken tree assets takes writable valid are all long formal = formal_is_taken tree assets takes writable valid are all long formal
+
+-- the formal satisfaction with the greatest number
+greatest : (P : Takes → Type 0) (number : Takes → ℕ) (n : ℕ) → IsGreatest P number n → (t : Takes) → P t → (u : Takes) × P u × (number u ≡ n)
+greatest P number n (inl g) t h = (g.0, g.1, g.2)
+greatest P number n (inr g) t h = absurd (g.0 t h)
+
+pub limits_are_reached : LimitsAreReached
+limits_are_reached tree assets limits writable valid are all long are_limits takes formal =
+    let longest = greatest (FormalTakes tree) (λ t. t.items) limits.items are_limits.items takes formal in
+    let heaviest = greatest (FormalTakes tree) (λ t. t.weight) limits.weight are_limits.weight takes formal in
+    let busiest = greatest (FormalTakes tree) (λ t. t.keys) are_limits.ops.0 are_limits.ops.1 takes formal in
+    record {
+      longest = longest.0;
+      longest_taken = formal_is_taken tree assets longest.0 writable valid are all long longest.1;
+      items = longest.2;
+      heaviest = heaviest.0;
+      heaviest_taken = formal_is_taken tree assets heaviest.0 writable valid are all long heaviest.1;
+      weight = heaviest.2;
+      busiest = busiest.0;
+      busiest_taken = formal_is_taken tree assets busiest.0 writable valid are all long busiest.1;
+      ops = ap (λ n. opcode_count (emit tree) + n) busiest.2 ∙ sym are_limits.ops.2;
+    }
 
 -- the row of an accepted stack, and the pairs that its run found good
 pub record Accounted (tree : Tree) (given : Given) (stack : List Bytes) (checks : Pairs) : Type 0 where

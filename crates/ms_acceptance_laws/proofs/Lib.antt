@@ -30,6 +30,7 @@ pub mod BranchCourses
 pub mod SimplePaths
 pub mod BranchingPaths
 pub mod RowWays
+pub mod RowTakes
 pub mod TreePaths
 pub mod LimitedSteps
 pub mod LimitedInstructions

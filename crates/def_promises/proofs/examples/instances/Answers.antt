@@ -1,11 +1,12 @@
 -- The examples: what the promises presuppose is met.
 use Rattle.def_promises.proofs.examples.instances.Goals as goal
-use Rattle.std.proofs.Common.{◌≡◌, ◌≢◌, ℕ, zero, suc, ◌&&◌, not, List, [], ◌∷◌, length, refl, sym, ◌∙◌, ap, subst, ◌⊎◌, inl, inr, IsTrue, All, arith}
+use Rattle.std.proofs.Common.{◌≡◌, ◌≢◌, ℕ, zero, suc, ◌&&◌, ◌||◌, not, Bool, true, false, replicate, List, [], ◌∷◌, length, refl, sym, ◌∙◌, ap, subst, ◌⊎◌, inl, inr, IsTrue, All, arith}
 use Rattle.std.specs.List.{IsDistinct}
 use Rattle.std.specs.Str.{bytes_eq}
 use Rattle.std.proofs.lemmas.List.Elements.{All-nil, All-from_recursion}
 use Rattle.std.proofs.lemmas.Option.{none-some}
-use Rattle.std.proofs.lemmas.Bool.{false≢true}
+use Rattle.std.proofs.lemmas.Bool.{false≢true, and_parts}
+use Rattle.std.proofs.lemmas.Slice.Eq.{bytes_eq-Decides}
 use Rattle.def_script.specs.Bytes.{Bytes, IsBytes}
 use Rattle.def_machine.specs.Samples.{key_a, key_b, sig_a, sig_b}
 use Rattle.def_machine.specs.Stacks.{Stack, Pairs, member, is_empty}
@@ -31,7 +32,8 @@ use Rattle.def_satisfaction.proofs.Computed.{right_branch, left_branch}
 use Rattle.def_satisfaction.proofs.Canonical.{sat_is_full_sat, only_is_any}
 use Rattle.def_satisfaction.proofs.OfBytes.{sat_is_of_bytes}
 use Rattle.def_choice.specs.NonMalleable.{IsAccepted, HasNewPair, Fresh, IsTableOfBytes, given_with}
-use Rattle.def_promises.specs.Examples.{by_key, by_preimages, only_key_b, chain}
+use Rattle.def_promises.specs.Examples.{by_key, by_preimages, longest_key_a, only_key_b, chain}
+use Rattle.def_promises.specs.Reached.{HasLongest}
 use Rattle.def_satisfaction.proofs.EqualParts.{first_same}
 use Rattle.def_satisfaction.proofs.Forms.{bytes, never_both, one_of_both, key_form, digest_form, signature_form, preimage_form}
 
@@ -273,3 +275,41 @@ returns-clause-all c = (
     ),
   ),
 )
+
+-- a signature of 73 bytes
+signature_long : IsSignature (replicate 73 0xaa)
+signature_long = signature_form (replicate 73 0xaa) refl refl refl
+
+longest_form : AreAssets longest_key_a
+unfolding computing IsDistinct
+longest_form = record {
+  keys = All-from_recursion (λ pair. IsKey pair.0) ((key_a, replicate 73 0xaa) ∷ []) (key_a_form, tt);
+  signatures = All-from_recursion (λ pair. IsSignature pair.1) ((key_a, replicate 73 0xaa) ∷ []) (signature_long, tt);
+  distinct = (tt, tt);
+  preimages = All-nil IsPreimage;
+  version = omega arith;
+  sequence = omega arith;
+  locktime = omega arith;
+}
+
+or_none : (b : Bool) → (b || false) ≡ true → b ≡ true
+or_none true e = refl
+or_none false e = e
+
+-- the one signature that is held
+only_long : HasLongest longest_key_a
+only_long key sig h =
+    let held = and_parts (not (is_empty sig)) (member longest_key_a.pairs key sig) h in
+    let both = and_parts (bytes_eq key_a key) (bytes_eq (replicate 73 0xaa) sig) (or_none (bytes_eq key_a key && bytes_eq (replicate 73 0xaa) sig) held.1) in
+    ap length (sym ((bytes_eq-Decides (replicate 73 0xaa) sig).0 both.1))
+
+pub returns-clause-longest : goal.returns-clause-longest
+unfolding the_limits limits_exist computing corr_rows mall_rows
+returns-clause-longest c = record {
+  writable = key_a_form;
+  valid = refl;
+  assets = longest_form;
+  all = (replicate 73 0xaa, refl);
+  longest = only_long;
+  formal = refl;
+}
