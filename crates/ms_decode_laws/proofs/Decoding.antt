@@ -9,12 +9,12 @@ use Rattle.std.proofs.lemmas.Slice.Eq.{bytes_eq-Decides}
 use Rattle.def_hash.specs.Hash.{hash160}
 use Rattle.def_script.specs.Bytes.{Bytes}
 use Rattle.def_script.specs.Instruction.{Instruction, push, code, opcode_count}
-use Rattle.def_script.specs.Spell.{sized_push, byte_push, spell_one, spell}
+use Rattle.def_script.specs.Spell.{spell_one, spell}
 use Rattle.def_script.specs.Items.{items}
 use Rattle.def_script.specs.Laws.{item_of}
 use Rattle.def_tree.specs.Tree.{Tree, Trees, Key, pk_h, and_or, two, thresh, wrap, none, more}
 use Rattle.def_tree.specs.Size.{measure, depth}
-use Rattle.def_tree.specs.Range.{IsKey, MOST_MEASURE, MOST_DEPTH}
+use Rattle.def_tree.specs.Range.{IsKey, MOST_MEASURE}
 use Rattle.def_types.specs.declared.Base.TheVariants.{B, W}
 use Rattle.def_types.specs.declared.Ty.{Ty}
 use Rattle.def_types.specs.declared.Mall.{Mall}
@@ -45,6 +45,7 @@ use Rattle.ms_decode_laws.proofs.Alike.{nest_properties, nest_typed, nest_mix, n
 use Rattle.ms_decode_laws.proofs.Low.{ops-onto, low}
 use Rattle.ms_decode_laws.proofs.Few.{few_of}
 use Rattle.ms_decode_laws.proofs.Fitting.{Fit, parses}
+use Rattle.ms_decode_laws.proofs.PrintedSize.{some_spelled}
 
 -- the first element that passes a test
 module _ (X : Type 0) (p : X → Bool) where
@@ -207,22 +208,10 @@ pub each_is_decoded : EachIsDecoded
 each_is_decoded keys script t all h = nest_is_decoded keys script t all h
 
 -- every instruction takes a byte
-sized_some : (bytes : Bytes) → 1 ≤ length (sized_push bytes)
-sized_some bytes = grind arith
-
-byte_some : (b : ℕ) → 1 ≤ length (byte_push b)
-byte_some b = grind (arith, sized_some)
-
-spell_some : (i : Instruction) → 1 ≤ length (spell_one i)
-spell_some (push []) = omega arith
-spell_some (push (b ∷ [])) = byte_some b
-spell_some (push bytes) = sized_some bytes
-spell_some (code op) = omega arith
-
 length-spell : (l : List Instruction) → length l ≤ length (spell l)
 length-spell [] = omega arith
 length-spell (i ∷ l) =
-    let a = spell_some i in
+    let a = some_spelled i in
     let b = length-spell l in
     let c : length (spell_one i ++ spell l) ≡ length (spell_one i) + length (spell l) = length-append (spell_one i) (spell l) in
     omega (arith, a, b, c)
@@ -236,9 +225,9 @@ count-back [] is = omega arith
 count-back (push bytes ∷ l) is = omega (arith, count-back l (push bytes ∷ is))
 count-back (code op ∷ l) is = omega (arith, count-back l (code op ∷ is))
 
--- such a tree is neither too deep nor too large
-deep_within : (t : Tree) → IsTyped t → RightNested t → opcode_count (emit t) ≤ MAX_OPS_PER_SCRIPT → depth t ≤ MOST_DEPTH
-deep_within t h n o =
+-- such a tree is neither deep nor too large
+pub depth_within : (t : Tree) → IsTyped t → RightNested t → opcode_count (emit t) ≤ MAX_OPS_PER_SCRIPT → depth t ≤ MAX_OPS_PER_SCRIPT + 4
+depth_within t h n o =
     let a = (low t h n).four in
     let b = ops-onto t h n [] in
     let c : opcode_count (onto t []) ≡ opcode_count (back (emit t) []) = ap opcode_count (onto_back t []) in
@@ -263,7 +252,7 @@ decoded_is_read keys script t h =
       nested = h.nested;
       writable = h.reading.writable;
       found = h.first;
-      deep = deep_within t v.0 h.nested o;
+      deep = let d = depth_within t v.0 h.nested o in omega (arith, d);
       large = large_within t v.2;
     } in
     ap (read (first_with keys)) (sym (onto_reverse t))

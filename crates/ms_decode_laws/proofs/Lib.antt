@@ -8,3 +8,6 @@ pub mod Few
 pub mod Fitting
 pub mod Alike
 pub mod Decoding
+pub mod ShallowText
+pub mod PrintedSize
+pub mod ReadText

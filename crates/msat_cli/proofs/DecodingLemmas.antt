@@ -3,6 +3,7 @@ use Rattle.std.proofs.Common.{◌≡◌, List, [], map, inl, inr, refl, sym, ap,
 use Rattle.std.specs.Io.KnownBytes.{Appends}
 use Rattle.def_script.specs.Bytes.{Bytes}
 use Rattle.ms_decode_laws.proofs.Decoding.{each_is_decoded, decoded_is_alike}
+use Rattle.ms_decode_laws.proofs.ReadText.{decoded_is_read_back}
 use Rattle.def_answer.specs.declared.status.Status.TheVariants as status
 use Rattle.def_answer.specs.Answer.{bytes_of, decode_reply, no_reading_reply, RepliesToScript, Replies, RepliesToWords, Answer}
 use Rattle.def_answer.specs.Lines.{no_reading_line}
@@ -51,6 +52,7 @@ prints_tree call digits words report form is w (inl h) = record {
   tree = h.0;
   decoded = h.1;
   alike = decoded_is_alike (map bytes_of words) (bytes_of digits) h.0 (are_keys words form.in_range.1) h.1;
+  read = decoded_is_read_back (map bytes_of words) (bytes_of digits) h.0 h.1;
   written = subst (Appends call.sink.old call.sink.new) (ap (λ (r : Reply). r.report) h.2) w;
 }
 prints_tree call digits words report form is w (inr h) =

@@ -6,6 +6,7 @@ use Rattle.def_tree.specs.Tree.{Key, Tree}
 use Rattle.def_text.specs.Print.{printed}
 use Rattle.def_decode.specs.Decoded.{IsReading, IsDecoded}
 use Rattle.def_decode.specs.Alike.{IsLikeEach}
+use Rattle.ms_decode_laws.specs.Printed.{PrintIsRead}
 use Rattle.def_answer.specs.declared.status.Status.TheVariants as status
 use Rattle.def_answer.specs.Answer.{bytes_of}
 use Rattle.def_answer.specs.Lines.{line}
@@ -14,11 +15,12 @@ use Rattle.ms_io.specs.Sides.{Side}
 use Rattle.msat_cli.specs.Ends.{Call, EndsAs}
 
 -- what the sink got: the printed form of the tree that the Script is decoded to, which is like each that it can be read as, and
--- so sane exactly where one with the same keys is
+-- so sane exactly where one with the same keys is; and this text is read as the tree
 pub record PrintsTree (sink : Side) (keys : List Key) (script : Bytes) : Type 0 where
   pub tree : Tree
   pub decoded : IsDecoded keys script tree
   pub alike : IsLikeEach keys script tree
+  pub read : PrintIsRead tree
   pub written : Appends sink.old sink.new (line (codes "text " ++ printed tree))
 
 -- or that it can't be read
