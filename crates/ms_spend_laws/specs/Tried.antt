@@ -14,7 +14,8 @@ use Rattle.def_spend.specs.States.{is_sighash_wrong, are_too_many, state_of}
 use Rattle.ms_given_laws.specs.Given.{OfEachInput}
 
 -- the input isn't final, and spends the program of its witness script, which is read as a sane miniscript; its signatures
--- are of the asked type, and there aren't too many signatures or preimages
+-- are of the asked type, which is one of the six hash types where there is a signature, and there aren't too many signatures or
+-- preimages
 pub record IsTried (input : Input) (tree : Tree) (script : Bytes) : Type 0 where
   pub spends : witness_script input.spend ≡ Ok script
   pub read : input.tree ≡ Some tree
