@@ -1,6 +1,6 @@
 #!/usr/bin/env python3
 """Tries the Python module msat.psbt, and the library below it: each row of examples/psbt/ by the library's call, byte for byte; what the
-classes say of the folders there; signatures that are good and that aren't; and that bad ones are left out before anything is decided.
+classes say of the folders there; signatures that are good and that aren't; and that bad ones count for nothing, and nothing is lost.
 Without libsecp256k1 the last two are passed over by a line that says so. Ends with 1 where anything differs.
 """
 import base64
@@ -171,14 +171,25 @@ def pair(key, value):
     return rows.sized(key) + rows.sized(value)
 
 
+TWO_OF_THREE = b"\x52" + b"".join(map(rows.sized, KEYS)) + b"\x53\xae"
+
+
+def psbt_of(script, *inputs, sequence=0):
+    """A PSBT of inputs with this witness script, each with further pairs."""
+    spent = (100_000).to_bytes(8, "little") + rows.sized(b"\0\x20" + hashlib.sha256(script).digest())
+    outpoints = [bytes(31) + bytes([i]) + bytes(5) + sequence.to_bytes(4, "little") for i in range(len(inputs))]
+    unsigned = b"\2\0\0\0" + bytes([len(inputs)]) + b"".join(outpoints) + bytes(5)
+    utxo = pair(b"\1", spent) + pair(b"\5", script)
+    return b"psbt\xff" + pair(b"\0", unsigned) + b"\0" + b"".join(utxo + pairs + b"\0" for pairs in inputs)
+
+
+def signed(*signatures):
+    return b"".join(pair(b"\2" + key, sig) for key, sig in signatures)
+
+
 def signed_psbt(signatures, inputs=2):
     """A PSBT of inputs of two of the three keys; only the last one has these pairs of keys and signatures."""
-    script = b"\x52" + b"".join(map(rows.sized, KEYS)) + b"\x53\xae"
-    spent = (100_000).to_bytes(8, "little") + rows.sized(b"\0\x20" + hashlib.sha256(script).digest())
-    unsigned = b"\2\0\0\0" + bytes([inputs]) + b"".join(bytes(31) + bytes([i]) + bytes(9) for i in range(inputs)) + bytes(5)
-    utxo = pair(b"\1", spent) + pair(b"\5", script)
-    pairs = b"".join(pair(b"\2" + key, sig) for key, sig in signatures)
-    return b"psbt\xff" + pair(b"\0", unsigned) + b"\0" + (inputs - 1) * (utxo + b"\0") + utxo + pairs + b"\0"
+    return psbt_of(TWO_OF_THREE, *(inputs - 1) * [b""], signed(*signatures))
 
 
 def try_leaving_out():
@@ -203,8 +214,57 @@ def try_leaving_out():
     unchecked = psbt.finalize(signed_psbt([good[0], (KEYS[1], der(1, 1) + b"\1"), good[2]]), verify=False)
     if der(1, 1) + b"\1" not in unchecked:
         fault("without verify the shortest signatures aren't taken")
-    if psbt.finalize(signed_psbt([(KEYS[1], high)])) != signed_psbt([]):
-        fault("an input that stays open keeps a bad signature")
+
+
+def kept_forms(source):
+    """A PSBT as bytes, as base64 in one line and in several, and what it has to be where nothing of it becomes final."""
+    text = base64.b64encode(source).decode()
+    yield source, source
+    yield text, text
+    yield "\n".join(text[i : i + 64] for i in range(0, len(text), 64)), text
+    yield text.encode(), text.encode() + b"\n"
+
+
+def try_nothing_lost():
+    """Inputs that stay open come out byte for byte as they went in, with their bad signatures, also beside one that becomes final."""
+    digest = psbt.hashes(signed_psbt([]))[-1].hash
+    good = [(key, signature(secret, digest) + b"\1") for secret, key in enumerate(KEYS, 1)]
+    bad = [(key, signature(secret, digest, is_high=True) + b"\1") for secret, key in enumerate(KEYS, 1)]
+    derived = b"".join(pair(b"\6" + key, b"\1\2\3\4" + bytes(8)) for key in KEYS)
+    for pairs in (signed(bad[1]), signed(good[0], bad[1]), signed(*bad), signed(bad[2]) + derived, derived + signed(bad[0], good[1]) + pair(b"\xfc\1", b"kept")):
+        for source, wanted in kept_forms(psbt_of(TWO_OF_THREE, b"", pairs)):
+            if psbt.finalize(source) != wanted:
+                fault(f"finalize changes an input that stays open: {pairs.hex()}")
+    digest = psbt.hashes(psbt_of(TWO_OF_THREE, *3 * [b""]))[1].hash
+    good = [(key, signature(secret, digest) + b"\1") for secret, key in enumerate(KEYS, 1)]
+    _, (empty, final, _), _ = psbt._maps(psbt.finalize(psbt_of(TWO_OF_THREE, b"", signed(good[0], good[2]), b""), verify=False))
+    for open_ in (signed(*bad), derived + signed(bad[1]), b""):
+        start, (came, _, _), end = psbt._maps(psbt_of(TWO_OF_THREE, open_, b"", open_))
+        wanted = start + came + final + came + end
+        source = psbt_of(TWO_OF_THREE, open_, signed(good[0], bad[1], good[2]), open_)
+        if final == empty or psbt.finalize(source) != wanted or psbt.finalize(wanted) != wanted:
+            fault(f"beside an input that becomes final another one changes: {open_.hex()}")
+
+
+def try_known_keys():
+    """or_d(pk(A),and_v(v:pkh(B),older(144))): the key B is told by a bad signature alone, and is known all the same."""
+    a, b = KEYS[:2]
+    hashed = b"\x76\xa9" + rows.sized(rows.CALLS["hash160"](b)) + b"\x88\xad"
+    script = rows.sized(a) + b"\xac\x73\x64" + hashed + b"\2\x90\0\xb2\x68"
+    digest = psbt.hashes(psbt_of(script, pair(b"\6" + b, bytes(4)), sequence=144))[0].hash
+    good = [(key, signature(secret, digest) + b"\1") for secret, key in enumerate((a, b), 1)]
+    bad = [(key, signature(secret, digest, is_high=True) + b"\1") for secret, key in enumerate((a, b), 1)]
+    for pairs, wanted in ((signed(good[0], bad[1]), good[0]), (signed(bad[0], good[1]), good[1]), (signed(bad[1], good[0]), good[0])):
+        source = psbt_of(script, pairs, sequence=144)
+        final = psbt.finalize(source)
+        if [it.state for it in psbt.inspect(source).inputs] != ["Ready"] or [it.state for it in psbt.inspect(final).inputs] != ["Final"]:
+            fault(f"with a bad signature the input isn't made final: {psbt.inspect(final)}")
+        if final != psbt.finalize(psbt_of(script, signed(wanted) + pair(b"\6" + b, bytes(4)), sequence=144), verify=False):
+            fault("the input is made final with another witness, or keeps what was made up")
+    for pairs in (signed(bad[1]), signed(*bad)):
+        source = psbt_of(script, pairs, sequence=144)
+        if psbt.finalize(source) != source:
+            fault("an input that stays open has lost a key")
 
 
 def try_edges():
@@ -225,6 +285,8 @@ try_edges()
 try:
     try_signatures()
     try_leaving_out()
+    try_nothing_lost()
+    try_known_keys()
 except psbt.NoCurve as missing:
     print(f"{missing}: signatures aren't tried")
 failed = doctest.testmod(psbt, optionflags=doctest.IGNORE_EXCEPTION_DETAIL).failed

@@ -3,8 +3,8 @@
 signatures sign.
 
 A PSBT is bytes, or a str of base64, and what comes out is of the same kind. What is asked is answered by the proved library, as the
-program msat-psbt answers it; what is Python here, the reading of reports into classes, the check of signatures and the leaving out of
-those that aren't good, is tested and not proved. Signatures are checked by libsecp256k1, which is looked for when one is checked.
+program msat-psbt answers it; what is Python here, the reading of reports into classes, the check of signatures, and that those which
+aren't good don't count, is tested and not proved. Signatures are checked by libsecp256k1, which is looked for when one is checked.
 """
 
 import base64
@@ -151,19 +151,23 @@ def source_bytes(psbt: Psbt) -> bytes:
 
 
 def finalize(psbt: P, verify: bool = True) -> P:
-    """The PSBT with each input that is Ready made final, in the form in which it came. Which inputs stay open, `inspect` tells.
+    """The PSBT with each input that is Ready by its good signatures made final, in the form in which it came. All other inputs come out
+    byte for byte as they went in, with their bad signatures: they aren't Final, but `inspect`, which looks at no signature, may tell
+    one as Ready.
 
-    Signatures that aren't good are left out of it before anything is decided, so that none of them is chosen where good ones are
-    enough; without `verify` no signature is looked at, a bad one may be chosen, and what isn't needed is cleared: keep the PSBT until
-    the transaction is accepted. Raises NoCurve where there are signatures, and libsecp256k1 isn't there to tell.
+    A signature that isn't good counts for nothing, so that it is chosen nowhere; its key stays known, as one without a signature.
+    Without `verify` no signature is looked at, a bad one may be chosen, and what isn't needed is cleared: keep the PSBT until the
+    transaction is accepted. Raises NoCurve where there are signatures, and libsecp256k1 isn't there to tell.
 
     >>> finalize("cHNidP8BAAoCAAAAAAAAAAAAAA==")
     'cHNidP8BAAoCAAAAAAAAAAAAAA=='
     """
     source = source_bytes(psbt)
-    if verify:
-        source = _without(source, {(check.input, check.key) for check in checks(source) if not check.is_good()})
-    return _of_kind(psbt, _answered("finalize", source, (0, 4))[1])
+    bad: dict[int, set[bytes]] = {}
+    for check in checks(source) if verify else ():
+        if not check.is_good():
+            bad.setdefault(check.input, set()).add(check.key)
+    return _of_kind(psbt, _finalized_without(source, bad) if bad else _answered("finalize", source, (0, 4))[1])
 
 
 def extract(psbt: P) -> P:
@@ -291,37 +295,49 @@ class _Curve:
 _FOR_CHECKS = 0x0101
 
 
-# ---- a PSBT without some of its signatures. The library has read it before, so it is whole and in form.
+# ---- a PSBT of which some signatures don't count. The library has read it before, so it is whole and in form.
 
 _MAGIC = b"psbt\xff"
 
 
-def _without(source: bytes, signatures: set[tuple[int, bytes]]) -> bytes:
-    """The PSBT, in the form in which it came, without these signatures: by the number of the input, and the key."""
-    if not signatures:
-        return source
-    if source.startswith(_MAGIC):
-        return b"".join(_kept(source, signatures))
-    return base64.b64encode(b"".join(_kept(base64.b64decode(source), signatures)))
+def _finalized_without(source: bytes, bad: dict[int, set[bytes]]) -> bytes:
+    """What `finalize` writes where the signatures of these keys don't count, by the number of the input: the library is asked of the
+    PSBT without them, and each input that it leaves open is put back as it came."""
+    is_base64 = not source.startswith(_MAGIC)
+    start, came, end = _maps(base64.b64decode(source) if is_base64 else source)
+    asked = [_without(one, bad[number]) if number in bad else one for number, one in enumerate(came)]
+    _, answered, _ = _maps(_answered("finalize", start + b"".join(asked) + end, (0, 4))[1])
+    written = b"".join(old if made == given else made for old, given, made in zip(came, asked, answered))
+    return base64.b64encode(start + written + end) + b"\n" if is_base64 else start + written + end
 
 
-def _kept(psbt: bytes, left_out: set[tuple[int, bytes]]) -> Iterator[bytes]:
-    """The pieces of a PSBT that stay."""
-    at, inputs = len(_MAGIC), 0
+def _without(one: bytes, keys: set[bytes]) -> bytes:
+    """The map of an input without the signatures of these keys. Each key stays known by its derivation; where it has none, one without
+    a path stands in the signature's place."""
+    told = {key for _, _, key, _ in _pairs(one, 0)}
+    parts = []
+    for start, end, key, _ in _pairs(one, 0):
+        if key[:1] != b"\2" or key[1:] not in keys:
+            parts.append(one[start:end])
+        elif b"\6" + key[1:] not in told:
+            parts.append(bytes([len(key)]) + b"\6" + key[1:] + b"\4" + bytes(4))
+    return b"".join(parts) + b"\0"
+
+
+def _maps(psbt: bytes) -> tuple[bytes, list[bytes], bytes]:
+    """What stands before the maps of inputs, each of them with the 00 at its end, and what stands behind them."""
+    at, count = len(_MAGIC), 0
     for _, end, key, value in _pairs(psbt, at):
         at = end
         if key == b"\0":
-            inputs, _ = _size(psbt, value + 4)
-    yield psbt[: at + 1]
-    at += 1
-    for number in range(inputs):
-        for start, end, key, _ in _pairs(psbt, at):
+            count, _ = _size(psbt, value + 4)
+    places = [at + 1]
+    for _ in range(count):
+        at = places[-1]
+        for _, end, _, _ in _pairs(psbt, at):
             at = end
-            if key[:1] != b"\2" or (number, key[1:]) not in left_out:
-                yield psbt[start:end]
-        yield b"\0"
-        at += 1
-    yield psbt[at:]
+        places.append(at + 1)
+    return psbt[: places[0]], [psbt[start:end] for start, end in zip(places, places[1:])], psbt[places[-1] :]
 
 
 def _pairs(psbt: bytes, at: int) -> Iterator[tuple[int, int, bytes, int]]:
