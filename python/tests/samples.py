@@ -114,3 +114,60 @@ def mangled(text: str, chance: random.Random) -> str:
     if form == 7:
         return text.replace("pkh", "pk").replace("and_v", chance.choice(("and", "and_b", "or_i")))
     return "".join(chance.choice("abv:()0123,pk_ \n") for _ in range(chance.randrange(40)))
+
+
+class Many:
+    """Makes conditions that have many ways: lists and thresholds of keys, of keys with preimages, and of preimages and timelocks beside keys, one
+    or several of them, joined. Keys are new ones each time; hash values come from few, so that some stand several times."""
+
+    def __init__(self, seed: int):
+        self.random = random.Random(seed)
+        self.count = 0
+        self.hashes = self.random.randint(1, 9)
+
+    def key(self) -> str:
+        self.count += 1
+        return f"k{self.count}"
+
+    def digest(self) -> str:
+        return f"{self.random.choice(('sha256', 'sha256', 'hash160'))}(h{self.random.randrange(self.hashes)})"
+
+    def lock(self) -> str:
+        return self.random.choice((f"older({self.random.choice(LOCKS[:5])})", f"after({self.random.choice(TIMES[:3])})"))
+
+    def least(self, low: int, high: int) -> int:
+        """Few, many, or all of them."""
+        return min(high, max(low, self.random.choice((1, 2, 2, 2, 3, high // 2, high - 1, high, self.random.randint(low, high)))))
+
+    def part(self, most: int) -> str:
+        """A part of at most so many children that can be dissatisfied, without a dissatisfaction that somebody else could make."""
+        count = self.random.randint(2, most)
+        form = self.random.randrange(4)
+        if form == 0:
+            return f"multi({self.least(1, min(count, 20))},{','.join(self.key() for _ in range(min(count, 20)))})"
+        if form == 1:
+            return f"thresh({self.least(1, count)},pk({self.key()}){''.join(f',s:pk({self.key()})' for _ in range(count - 1))})"
+        more = [f",aj:and_v(v:pk({self.key()}),{self.digest()})" for _ in range(self.random.randint(1, count))]
+        free = [f",sln:{self.lock()}" if self.random.randrange(2) else f",altv:{self.digest()}" for _ in range(count // 3 * (form == 3))]
+        keys = "".join(f",s:pk({self.key()})" for _ in range(self.random.randint(0, count)))
+        children = keys.count(",s:") + len(more) + len(free) + 1
+        return f"thresh({self.least(len(free) + 1, children)},pk({self.key()}){keys}{''.join(more + free)})"
+
+    def twice(self, hashes: int) -> str:
+        """Keys with preimages, each of which two keys want."""
+        both = "".join(2 * f",aj:and_v(v:pk({{}}),sha256(h{at}))" for at in range(hashes))
+        return f"thresh({self.least(1, 2 * hashes)},pk({self.key()}){both.format(*(self.key() for _ in range(2 * hashes)))})"
+
+    def text(self) -> str:
+        form = self.random.randrange(20)
+        if form == 19:
+            return self.twice(self.random.randint(4, 8))
+        form %= 6
+        if form < 3:
+            return self.part(self.random.choice((5, 12, 20)))
+        if form == 3:
+            return f"or_i({self.part(12)},{self.part(12)})"
+        if form == 4:
+            return f"or_i({self.part(6)},or_i(and_v(v:{self.part(6)},{self.lock()}),{self.part(6)}))"
+        keys = ",".join(self.key() for _ in range(self.random.randint(2, 14)))
+        return f"or_d(multi({self.least(1, keys.count(',') + 1)},{keys}),and_v(v:{self.part(8)},{self.lock()}))"

@@ -23,7 +23,6 @@ STATUSES = """\
 exit status: 0 explained; 1 other words; 2 the text was refused; 3 a file was refused; 4 the asset file makes no satisfaction;
 5 a file can't be read; 6 something can't be written; 7 memory was wanting; 10 the Script can't be read back"""
 DONE, USAGE, TEXT, FILE, NO_SATISFACTION, READING, WRITING, NO_MEMORY, NO_READING = 0, 1, 2, 3, 4, 5, 6, 7, 10
-VERSION = "1.0"
 Found = Union[Explanation, Refusal]
 _KEY = re.compile(r"0[23][0-9a-fA-F]{64}")
 _DIGITS = re.compile(r"([0-9a-fA-F]{2})+")
@@ -58,7 +57,7 @@ def parser() -> argparse.ArgumentParser:
     found.add_argument("--consensus", action="store_true", help="by the limits of consensus, not by those of policy")
     of_color = "whether the text is coloured; auto: on a terminal"
     found.add_argument("--color", choices=("auto", "always", "never"), default="auto", help=of_color)
-    found.add_argument("--version", action="version", version=f"msat-explain {VERSION}")
+    found.add_argument("--version", action="version", version=f"msat-explain {msat.__version__}")
     return found
 
 

@@ -34,6 +34,7 @@ def _explanation(found: Explanation) -> Document:
         "text": given.text,
         "form": checked.text,
         "notes": list(given.done),
+        "warnings": list(words.warnings(found)),
         "standins": list(given.standins),
         "names": {it: given.name_of(it) for it in (*found.keys, *(value for _, value in found.hashes))},
         "keys": list(found.keys),
@@ -93,7 +94,7 @@ def _way(it: Priced) -> Document:
 
 
 def _group(it: Group) -> Document:
-    return {"keys": list(it.keys), "ways": [_way(way) for way in it.ways]}
+    return {"keys": list(it.keys), "ways": [_way(way) for way in it.ways], "count": it.count}
 
 
 def _opening(it: Opening) -> Document:
@@ -113,6 +114,7 @@ def _spending(found: Explanation) -> Document:
         "alone": [_group(group) for group in it.alone],
         "together": [_group(group) for group in it.together],
         "pairs": it.pairs,
+        "able": it.able,
         "idle": it.idle,
     }
 

@@ -2,6 +2,7 @@
 """What there is to say of a condition. Each number and each verdict is a call of the library; the ways come of the policy that it
 prints, and what each weighs, and that it is one, is asked of `satisfy` with exactly its keys and preimages."""
 
+from collections import Counter
 from dataclasses import dataclass, replace
 from itertools import combinations, product
 from typing import Optional
@@ -23,7 +24,9 @@ from .ways import Way, Ways, fewest
 SIGNATURE = 72
 # How many ways are shown, of all, and of those with one or two keys.
 MOST_WAYS = 64
-# How many pairs of keys are asked one by one whether they can do anything.
+# How many ways of one key, and how many of two, are looked at to tell which keys and which pairs have one.
+MOST_LOOKED = 5000
+# How many pairs of keys that have none are asked one by one whether they can do anything.
 MOST_PAIRS = 120
 
 
@@ -60,17 +63,20 @@ class Opening:
 
 @dataclass(frozen=True)
 class Group:
-    """One key, or two: the ways that want these and no other one."""
+    """One key, or two: the ways that want these and no other one. `count` is how many there are, of which `ways` are shown; None where
+    not all ways of so few keys were looked at."""
 
     keys: tuple[str, ...]
     ways: tuple[Priced, ...]
+    count: Optional[int]
 
 
 @dataclass(frozen=True)
 class Spending:
     """How the condition is spent: its policy, the least number of keys, the ways that are shown, how many there are (at least so
-    many where `is_all` is false), what opens when, and what one key and two keys can do. `pairs` is how many pairs there are, and
-    `idle` how many of them can do no more than each of the two alone; None where they weren't asked."""
+    many where `is_all` is false), what opens when, and what one key and two keys can do. `pairs` is how many pairs there are, `able` how
+    many of them can do more than each of the two alone, of which `together` shows some, and `idle` how many can do no more; None where
+    they weren't looked at, or not asked."""
 
     policy: str
     keys: Optional[int]
@@ -81,6 +87,7 @@ class Spending:
     alone: tuple[Group, ...]
     together: tuple[Group, ...]
     pairs: int
+    able: Optional[int]
     idle: Optional[int]
 
 
@@ -217,41 +224,58 @@ def _spending(text: str, keys: tuple[str, ...], consensus: bool) -> Spending:
         Opening(it.locks, it.count, tuple(at for at, way in enumerate(shown) if way.way.locks == it.locks), fewest(wanted, it.locks))
         for it in ways.openings()
     )
-    alone, together = _groups(wanted, printed.keys, keys, prices)
-    pairs = len(keys) * (len(keys) - 1) // 2
+    few = _few(wanted, printed.keys)
+    alone = _groups(few, [(key,) for key in keys], max(MOST_WAYS, len(keys)), prices)
+    together = _groups(few, [it for it in few.ways if len(it) == 2], MOST_WAYS, prices)
+    able = sum(len(it) == 2 for it in few.ways) if few.is_all else None
     return Spending(
-        printed.policy, printed.keys, shown, ways.count, ways.is_all, openings, alone, together, pairs,
-        _idle(wanted, printed.keys, keys, prices, alone, together),
+        printed.policy, printed.keys, shown, ways.count, ways.is_all, openings, alone, tuple(it for it in together if it.ways),
+        len(keys) * (len(keys) - 1) // 2, able, _idle(few, wanted, printed.keys, keys, prices),
     )  # fmt: skip
 
 
-def _groups(wanted: Demand, least: Optional[int], keys: tuple[str, ...], prices: _Prices) -> tuple[tuple[Group, ...], tuple[Group, ...]]:
-    """What each key can do alone, and each two keys together that can do anything more. `least` keys have to sign at least."""
-    found: dict[tuple[str, ...], list[Priced]] = {(key,): [] for key in keys}
-    few = Ways(wanted, 2) if least is not None and least <= 2 else None
-    for way in [*few.first(MOST_WAYS, 1), *few.first(MOST_WAYS, 2)] if few else ():
-        found.setdefault(way.keys, []).append(prices.of(way))
-    groups = [Group(keys, tuple(ways)) for keys, ways in found.items()]
-    return tuple(it for it in groups if len(it.keys) == 1), tuple(it for it in groups if len(it.keys) == 2)
+@dataclass(frozen=True)
+class _Few:
+    """The ways of one key and of two, by their keys, and whether all of them were looked at."""
+
+    ways: dict[tuple[str, ...], list[Way]]
+    is_all: bool
 
 
-def _idle(
-    wanted: Demand, least: Optional[int], keys: tuple[str, ...], prices: _Prices, alone: tuple[Group, ...], together: tuple[Group, ...]
-) -> Optional[int]:
-    """How many pairs can do no more than each of the two alone: all, where the library says that more keys have to sign. Else the
-    library is asked of each pair and key that can do nothing at all; None where these are too many."""
-    pairs = list(combinations(keys, 2))
+def _few(wanted: Demand, least: Optional[int]) -> _Few:
+    """The ways of one key and of two, where the library says that `least` keys have to sign at least."""
     if least is None or least > 2:
-        return len(pairs)
-    if len(pairs) > MOST_PAIRS:
+        return _Few({}, True)
+    ways = Ways(wanted, 2)
+    found: dict[tuple[str, ...], list[Way]] = {}
+    for number in (1, 2):
+        for way in ways.first(MOST_LOOKED, number):
+            found.setdefault(way.keys, []).append(way)
+    return _Few(found, ways.is_all and all(ways.count_of(number) <= MOST_LOOKED for number in (1, 2)))
+
+
+def _groups(few: _Few, some: list[tuple[str, ...]], most: int, prices: _Prices) -> tuple[Group, ...]:
+    """A group for each of these keys. So many ways are shown: of each group the first one, then of each the second, and so on."""
+    ways = [few.ways.get(keys, []) for keys in some]
+    turns = sorted((turn, at) for at, its in enumerate(ways) for turn in range(len(its)))
+    shown = Counter(at for _, at in turns[:most])
+    counts = [len(its) if few.is_all else None for its in ways]
+    return tuple(Group(keys, tuple(map(prices.of, ways[at][: shown[at]])), counts[at]) for at, keys in enumerate(some))
+
+
+def _idle(few: _Few, wanted: Demand, least: Optional[int], keys: tuple[str, ...], prices: _Prices) -> Optional[int]:
+    """How many pairs can do no more than each of the two alone: all, where the library says that more keys have to sign. Else the
+    library is asked of each pair and key that can do nothing at all; None where not all ways were looked at, or these are too many."""
+    able = {frozenset(it) for it in few.ways}
+    idle = [pair for pair in combinations(keys, 2) if frozenset(pair) not in able]
+    if least is None or least > 2:
+        return len(idle)
+    unable = [some for some in (*idle, *((key,) for key in keys)) if not any(frozenset((key,)) in able for key in some)]
+    if not few.is_all or sum(len(some) == 2 for some in unable) > MOST_PAIRS:
         return None
     hashes = tuple(dict.fromkeys(it for it in atoms(wanted) if not it.is_lock() and it.kind != "key"))
-    able = {group.keys for group in (*alone, *together) if group.ways}
-    idle = [pair for pair in pairs if pair not in able]
-    for some in (*idle, *((key,) for key in keys)):
-        is_known = any((key,) in able for key in some)
-        if not is_known and any(prices.is_enough(some, hashes, locks) for locks in _latest(wanted)):
-            raise AssertionError("the library finds a way that isn't among those of the policy")
+    if any(prices.is_enough(some, hashes, locks) for some in unable for locks in _latest(wanted)):
+        raise AssertionError("the library finds a way that isn't among those of the policy")
     return len(idle)
 
 

@@ -10,6 +10,8 @@ SECONDS = 1 << 22
 COUNT = 0xFFFF
 # From here on nLockTime and the operand of `after` are times, and below heights.
 TIMES = 500_000_000
+# The time of Bitcoin's first block: no test network has an earlier one.
+FIRST_BLOCK = 1231006505
 # What an asset file has where it doesn't say: no lock holds with it.
 NO_SEQUENCE = 4294967294
 
@@ -87,6 +89,28 @@ def said_after(value: int) -> str:
     if value < TIMES:
         return f"height {value:,}"
     return (datetime(1970, 1, 1, tzinfo=timezone.utc) + timedelta(seconds=value)).strftime("%Y-%m-%d %H:%M:%S UTC")
+
+
+def weaker(kind: str, operand: int) -> str:
+    """How a timelock waits for less than its number seems to say; nothing where it waits for what it says.
+
+    >>> weaker("older", 65535), weaker("older", SECONDS + 1), weaker("after", 1700000000), weaker("after", 1)
+    ('', '', '', '')
+    >>> weaker("older", 65536)
+    'waits for nothing, and holds at once: only bits 0 to 15 and 22 of its number count (BIP 68)'
+    >>> weaker("older", 65536 + 144)
+    'waits for 144 blocks (about 24 hours) and no longer: only bits 0 to 15 and 22 of its number count (BIP 68)'
+    >>> weaker("after", 500000000)
+    'waits for nothing, and holds at once: it is a time before the first block, 1985-11-05 00:53:20 UTC'
+    """
+    if kind == "after":
+        is_past = TIMES <= operand < FIRST_BLOCK
+        return f"waits for nothing, and holds at once: it is a time before the first block, {said_after(operand)}" if is_past else ""
+    bits = older_bits(operand)
+    if bits == operand and bits & COUNT:
+        return ""
+    counted = "only bits 0 to 15 and 22 of its number count (BIP 68)"
+    return f"waits for {said_older(bits)} and no longer: {counted}" if bits & COUNT else f"waits for nothing, and holds at once: {counted}"
 
 
 def said(locks: Locks) -> str:

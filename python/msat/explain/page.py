@@ -91,6 +91,7 @@ def _explanation(found: Explanation) -> tuple[str, str]:
     sections = [(name, title, body) for name, title, body in _sections(found) if body]
     links = "".join(f'<li><a href="#{name}">{title}</a></li>' for name, title, _ in sections)
     notes = "".join(f'<p class="note">{safe(note)}</p>' for note in words.notes(found))
+    notes += "".join(f'<p class="note"><strong class="bad">Warning:</strong> {safe(warning)}.</p>' for warning in words.warnings(found))
     bodies = "".join(
         f'<section id="{name}" aria-labelledby="{name}-title"><h2 id="{name}-title">{title}</h2>{body}</section>'
         for name, title, body in sections
@@ -149,7 +150,8 @@ def _time(found: Explanation) -> str:
     rows = []
     for it in found.spent.openings:
         fewest = "" if it.keys is None else words.count(it.keys, "key is", "keys are") + " enough"
-        rows.append((cell(said(it.locks)), words.count(it.count, "way"), fewest))
+        least = "" if found.spent.is_all else "at least "
+        rows.append((cell(said(it.locks)), least + words.count(it.count, "way"), fewest))
     return table("what opens when, and the least number of keys that are enough by then, with every preimage", ("When", "Opens", "Keys"), rows)
 
 
@@ -162,9 +164,8 @@ def _able(found: Explanation) -> str:
     parts = [table("what each key can do alone", ("Key", "Enough"), rows(words.alone_rows(found)))]
     if spending.together:
         parts.append(table("what two keys can do beyond each of them alone", ("Keys", "Enough"), rows(words.together_rows(found))))
-    if spending.idle:
-        other = "the other " if spending.together else ""
-        parts.append(f"<p>{(other + words.count(spending.idle, 'pair')).capitalize()} of keys: nothing more.</p>")
+    if spending.pairs:
+        parts += [f"<p>{other[0].upper()}{other[1:]}.</p>" for other in words.other_pairs(spending)]
     return "".join(parts)
 
 

@@ -5,7 +5,7 @@ import unicodedata
 from typing import Iterable, Sequence
 
 from . import words
-from .explanation import Explanation, Held, Opening
+from .explanation import Explanation, Held, Opening, Spending
 from .locks import Locks, said, said_fields
 from .refusals import Refusal
 from .tree import Node
@@ -144,6 +144,8 @@ def _head(paper: Paper, shown: Explanation) -> None:
     paper.add(paper.styled("Sane", "good") + f": type {shown.checked.type}, {words.allowed_of(shown.limits[0])} bytes of Script")
     for note in words.notes(shown):
         paper.add(paper.styled("Note", "note") + f": {note}")
+    for warning in words.warnings(shown):
+        paper.add(paper.styled("Warning", "bad") + f": {warning}")
     for title, values in (("Keys", [("", it) for it in shown.keys]), ("Hashes", shown.hashes)):
         if values:
             paper.title(title)
@@ -181,7 +183,7 @@ def _spending(paper: Paper, shown: Explanation) -> None:
     if words.more_of(shown):
         paper.add("  " + words.more_of(shown))
     paper.title("As time passes")
-    paper.table([_opening_row(it, len(spending.shown)) for it in spending.openings], ("name",))
+    paper.table([_opening_row(it, spending) for it in spending.openings], ("name",))
     paper.title("Each key alone")
     paper.table(words.alone_rows(shown), ("name",))
     _together(paper, shown)
@@ -191,11 +193,11 @@ def _band(locks: Locks) -> str:
     return said(locks) + ("" if locks.is_none() else f": set {said_fields(locks)}")
 
 
-def _opening_row(opening: Opening, count: int) -> tuple[str, str, str]:
+def _opening_row(opening: Opening, spending: Spending) -> tuple[str, str, str]:
     numbers = [str(at + 1) for at in opening.shown]
     named = f": {', '.join(numbers)}" if len(numbers) == opening.count and len(numbers) <= 16 else ""
     fewest = "" if opening.keys is None else f"{words.count(opening.keys, 'key is', 'keys are')} enough"
-    return said(opening.locks), f"{words.count(opening.count, 'way')} open{'s' if opening.count == 1 else ''}{named}", fewest
+    return said(opening.locks), words.opening_of(opening, spending) + named, fewest
 
 
 def _together(paper: Paper, shown: Explanation) -> None:
@@ -203,10 +205,9 @@ def _together(paper: Paper, shown: Explanation) -> None:
     if not spending.pairs:
         return
     paper.title("Each two keys", f"what they can do beyond each of them alone, of {words.count(spending.pairs, 'pair')}")
-    rows = words.together_rows(shown)
-    paper.table(rows, ("name",))
-    if spending.idle:
-        paper.add(f"  {'the other ' if rows else ''}{words.count(spending.idle, 'pair')}: nothing more")
+    paper.table(words.together_rows(shown), ("name",))
+    for other in words.other_pairs(spending):
+        paper.add("  " + other)
 
 
 def _held(paper: Paper, shown: Explanation, held: Held) -> None:

@@ -174,6 +174,10 @@ class Ways:
                 self.found.append((settings[0], part, sorted(only_here, key=lambda choice: choice[1])))
         self.count = sum(part.counts[choice] for _, part, choices in self.found for choice in choices)
 
+    def count_of(self, keys: int) -> int:
+        """How many ways have so many keys."""
+        return sum(part.counts[choice] for _, part, choices in self.found for choice in choices if choice[1] == keys)
+
     def openings(self) -> list[Opening]:
         """How many ways each setting of the locks opens, in their order."""
         counts: Counter[Locks] = Counter()

@@ -4,10 +4,10 @@
 from typing import Iterator, Optional
 
 from . import hashes
-from .explanation import Explanation, Limit, Priced
+from .explanation import Explanation, Group, Limit, Opening, Spending
 from .held import Missing
 from .lines import Line, number
-from .locks import SECONDS, said, said_after, said_fields, said_older
+from .locks import SECONDS, said, said_after, said_fields, said_older, weaker
 from .tree import Node
 from .ways import Way
 
@@ -138,26 +138,48 @@ def more_of(shown: Explanation) -> str:
     return f"and {least}{more:,} more" if more or least else ""
 
 
-def times_of(ways: tuple[Priced, ...], shown: Explanation) -> str:
+def opening_of(opening: Opening, spending: Spending) -> str:
+    """How many ways open with some locks."""
+    least = "" if spending.is_all else "at least "
+    return f"{least}{count(opening.count, 'way')} open{'s' if opening.count == 1 else ''}"
+
+
+def times_of(group: Group, shown: Explanation) -> str:
     """When some keys are enough, and with which preimages."""
     parts = []
-    for it in ways[:8]:
+    for it in group.ways[:8]:
         names = [f"the preimage of {shown.given.name_of(atom.digits)}" for atom in it.way.hashes]
         parts.append(said(it.way.locks) + (f" with {listed(names)}" if names else ""))
-    return "; ".join(parts + ([f"and {len(ways) - 8} more"] if len(ways) > 8 else []))
+    if group.count is None:
+        return "; ".join((*parts, "and perhaps more"))
+    return "; ".join(parts + ([f"and {group.count - len(parts):,} more"] if group.count > len(parts) else []))
 
 
 def together_rows(shown: Explanation) -> list[tuple[str, str]]:
     """What each two keys can do beyond each of them alone."""
-    return [(listed([shown.given.name_of(it) for it in group.keys]), times_of(group.ways, shown)) for group in shown.spent.together]
+    return [(listed([shown.given.name_of(it) for it in group.keys]), times_of(group, shown)) for group in shown.spent.together]
+
+
+def other_pairs(spending: Spending) -> list[str]:
+    """What there is to say of the pairs that aren't shown."""
+    if spending.able is None:
+        return ["of other pairs nothing is known, since not all ways were looked at"]
+    said_, more = [], spending.able - len(spending.together)
+    if more > 0:
+        said_.append(f"{count(more, 'pair')} more can do something")
+    if spending.idle:
+        said_.append(f"{'the other ' if spending.together else ''}{count(spending.idle, 'pair')}: nothing more")
+    return said_
 
 
 def alone_rows(shown: Explanation) -> list[tuple[str, str]]:
-    """What each key can do alone, and in one row those that can do nothing."""
+    """What each key can do alone, and in one row those that can do nothing, or of which that isn't known."""
     groups = shown.spent.alone
-    rows = [(shown.given.name_of(group.keys[0]), times_of(group.ways, shown)) for group in groups if group.ways]
-    idle = [shown.given.name_of(group.keys[0]) for group in groups if not group.ways]
-    return rows + ([(listed(idle), "nothing, at any time")] if idle else [])
+    rows = [(shown.given.name_of(group.keys[0]), times_of(group, shown)) for group in groups if group.ways]
+    for verdict, number in (("nothing, at any time", 0), ("not known, since not all ways were looked at", None)):
+        names = [shown.given.name_of(group.keys[0]) for group in groups if not group.ways and group.count == number]
+        rows += [(listed(names), verdict)] if names else []
+    return rows
 
 
 def notes(shown: Explanation) -> Iterator[str]:
@@ -166,3 +188,14 @@ def notes(shown: Explanation) -> Iterator[str]:
         yield done + "."
     if shown.given.standins:
         yield STANDINS.format(names=listed(list(shown.given.standins)))
+
+
+def warnings(shown: Explanation) -> Iterator[str]:
+    """What makes a condition something else than it looks like: that nobody can spend, and timelocks that wait for less than they seem to."""
+    if shown.spending and shown.spending.policy == "never":
+        yield "nobody can spend by this condition, whoever signs: its policy is `never`, and what is paid to it is lost"
+    locks = dict.fromkeys((node.name, int(node.arguments[0])) for node in shown.root.walk() if node.name in ("older", "after"))
+    for kind, operand in locks:
+        why = weaker(kind, operand)
+        if why:
+            yield f"{kind}({operand}) {why}"
