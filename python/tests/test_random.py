@@ -53,7 +53,7 @@ def fault(schema: dict, value, at: str = "") -> str:
             found = "" if re.search(said.replace("$", r"\Z"), value) else f"{at}: not like {said}"
         elif word == "minimum":
             found = "" if value >= said else f"{at}: too little"
-        elif word not in ("$schema", "$defs", "title", "description", "properties"):
+        elif word not in ("$schema", "$comment", "$defs", "title", "description", "properties"):
             raise AssertionError(f"the keyword {word} isn't known here")
         if found:
             return found

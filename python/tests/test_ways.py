@@ -11,7 +11,7 @@ import samples
 import msat
 from msat.explain import given, hashes
 from msat.explain.command import answer
-from msat.explain.demand import demand
+from msat.explain.demand import Atom, demand
 from msat.explain.explanation import MOST_WAYS, _Prices, explain
 from msat.explain.locks import COUNT, SECONDS, TIMES, Locks, levels
 from msat.explain.ways import Ways
@@ -58,7 +58,7 @@ class BruteForce(unittest.TestCase):
         for older, after in itertools.product(choices["older"], choices["after"]):
             for keys in subsets(found.keys):
                 for values in subsets(prices.known):
-                    atoms = tuple(type("Hash", (), {"kind": kind, "value": value}) for kind, value in values)
+                    atoms = tuple(Atom(kind, value) for kind, value in values)
                     if prices.is_enough(tuple(keys), atoms, Locks(older, after)):
                         taken.append((keys, values, Locks(older, after)))
         return least(taken)
