@@ -23,8 +23,9 @@
  * No state is kept between calls, so threads may call at once. Nothing is printed, no file is opened, and nothing that is
  * allocated is left. Bytes behind those that a call writes stay as they were, and so does what an answer doesn't speak of.
  * Most memory is taken for files: one of 1,048,576 bytes, the longest that is read, takes up to 133 MiB of heap where it is full of
- * small values; longer ones are refused at once. Texts, arrays and a file with all that may be held take up to 6 MiB. A PSBT of
- * 16,777,216 bytes takes up to 156 MiB, by `inspect` of outputs with the largest amounts, and 99 KiB of the stack.
+ * small values; longer ones are refused at once. Texts, arrays and a file with all that may be held take up to 6 MiB. Of the PSBTs of
+ * 16,777,216 bytes that were tried, one of many inputs whose scripts want 99 keys each takes the most: 232 MiB, by `inspect`. They take
+ * up to 99 KiB of the stack.
  *
  * A satisfaction is canonical where BIP 379's table makes it by rows that it doesn't mark as non-canonical, with what is held:
  * its signatures, for a hash the first of its preimages that has it, for a key hash the condition's own key, and 32 zero
