@@ -1,0 +1,5 @@
+pub mod PowerBits
+pub mod Affines
+pub mod Roots
+pub mod Bytes
+pub mod Checks

@@ -1,0 +1,13 @@
+-- What the addition of a point and an affine one finds out first.
+use Rattle.std.specs.Prelude.{◌≡◌, ℕ, ◌+◌, ◌*◌, ◌%◌, ◌<◌}
+use Rattle.def_curve.specs.Curve.{p}
+use Rattle.ms_point.specs.Standing.{StandAt}
+
+-- H and R are the differences of the x and of the y of two points, times Z ^ 2 and times Z ^ 3, and H isn't 0
+pub record Crosses (X Y Z H R x y x' y' : ℕ) : Type 0 where
+  pub first : StandAt X Y Z x y
+  pub x_below : x' < p
+  pub y_below : y' < p
+  pub h_some : 0 < H
+  pub h_is : (H + X) % p ≡ x' * (Z * Z) % p
+  pub r_is : (R + Y) % p ≡ y' * (Z * Z * Z) % p
