@@ -85,7 +85,7 @@ ADVICE = (
     (
         "`no satisfaction`",
         "4",
-        "a signature, a key that can sign or a preimage is missing, or a timelock doesn't hold with these three numbers; or a hash would have to be dissatisfied whose preimage is 32 zero bytes",
+        "a signature, a key that can sign or a preimage is missing, or a timelock doesn't hold with these three numbers. Or a hash would have to be dissatisfied whose preimage is 32 zero bytes",
     ),
     (
         "`not accepted WrongScript`",
