@@ -24,8 +24,8 @@
  * allocated is left. Bytes behind those that a call writes stay as they were, and so does what an answer doesn't speak of.
  * Most memory is taken for files: one of 1,048,576 bytes, the longest that is read, takes up to 133 MiB of heap where it is full of
  * small values; longer ones are refused at once. Texts, arrays and a file with all that may be held take up to 6 MiB. Of the PSBTs of
- * 16,777,216 bytes that were tried, one of many inputs whose scripts want 99 keys each takes the most: 232 MiB, by `inspect`. They take
- * up to 99 KiB of the stack.
+ * 16,777,216 bytes whose heap was measured, one of many inputs whose scripts want 99 keys each took the most: 232 MiB, by `inspect`. Of
+ * the stack those of the tests took at most 99 KiB.
  *
  * A satisfaction is canonical where BIP 379's table makes it by rows that it doesn't mark as non-canonical, with what is held:
  * its signatures, for a hash the first of its preimages that has it, for a key hash the condition's own key, and 32 zero
