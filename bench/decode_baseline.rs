@@ -4,7 +4,7 @@
 
 #[allow(dead_code)]
 #[path = "check_baseline.rs"]
-mod check_baseline;
+pub mod check_baseline;
 #[allow(dead_code)]
 #[path = "hash_baseline.rs"]
 mod hash_baseline;
@@ -59,7 +59,7 @@ fn number(bytes: &[u8]) -> Option<u64> {
     fits.then(|| bytes.iter().rev().fold(0, |sum, byte| sum << 8 | u64::from(*byte)))
 }
 
-fn key_of(bytes: &[u8]) -> Option<Key> {
+pub fn key_of(bytes: &[u8]) -> Option<Key> {
     let key: Key = bytes.try_into().ok()?;
     (key[0] == 2 || key[0] == 3).then_some(key)
 }
@@ -215,7 +215,7 @@ impl<'s> Reader<'s> {
     }
 }
 
-fn decode(script: &[u8], keys: &[Key]) -> Option<Tree> {
+pub fn decode(script: &[u8], keys: &[Key]) -> Option<Tree> {
     if script.len() > 3_600 {
         return None;
     }

@@ -253,7 +253,7 @@ fn highest_choice(k: usize, children: &[(Option<Highest>, Option<Highest>)]) -> 
 }
 
 /// None where the text is refused.
-fn check(text: &str, by_consensus: bool) -> Option<String> {
+pub fn check(text: &str, by_consensus: bool) -> Option<String> {
     let mut valid = if by_consensus { valid_by_consensus(text)? } else { valid(text)? };
     if by_consensus {
         valid.height = Some(highest(&valid.tree).0.map_or(0, |x| x.height));
@@ -266,7 +266,7 @@ fn check(text: &str, by_consensus: bool) -> Option<String> {
 // The asset file.
 
 /// Of a number only the whole ones of 32 bits are kept.
-enum Value {
+pub enum Value {
     Number(u32),
     Text(String),
     List(Vec<Value>),
@@ -276,14 +276,14 @@ enum Value {
 
 impl Value {
     /// The last member of this name.
-    fn member(&self, name: &str) -> Option<&Value> {
+    pub fn member(&self, name: &str) -> Option<&Value> {
         match self {
             Value::Object(members) => members.iter().rev().find(|(key, _)| key == name).map(|(_, value)| value),
             _ => None,
         }
     }
 
-    fn text(&self) -> Option<&str> {
+    pub fn text(&self) -> Option<&str> {
         match self {
             Value::Text(text) => Some(text),
             _ => None,
@@ -470,7 +470,7 @@ fn ripemd(message: &[u8]) -> Digest {
 }
 
 /// None where the file is refused, here and in what follows.
-fn object_of(file: &[u8]) -> Option<Value> {
+pub fn object_of(file: &[u8]) -> Option<Value> {
     if file.len() > 1_048_576 {
         return None;
     }
@@ -812,8 +812,8 @@ fn file() -> Vec<u8> {
     file
 }
 
-/// None where the text or the file is refused; Some(None) where there is no satisfaction.
-fn satisfy(text: &str, is_strict: bool) -> Option<Option<String>> {
+/// None where the text or the file is refused; Some(None) where there is no satisfaction. The file is read by the closure.
+pub fn satisfy(text: &str, is_strict: bool, file: impl FnOnce() -> Vec<u8>) -> Option<Option<String>> {
     let valid = valid(text)?;
     if is_strict && !is_sane(&valid.tree) {
         return None;
@@ -951,8 +951,8 @@ fn main() {
         ["check", text] => check(text, false).map(Some),
         ["check", "--consensus", text] => check(text, true).map(Some),
         ["plan", text] => plan(text),
-        ["--malleable", text] => satisfy(text, false),
-        [text] => satisfy(text, true),
+        ["--malleable", text] => satisfy(text, false, file),
+        [text] => satisfy(text, true, file),
         _ => panic!("a text"),
     };
     match answer {

@@ -22,10 +22,10 @@
  *
  * No state is kept between calls, so threads may call at once. Nothing is printed, no file is opened, and nothing that is
  * allocated is left. Bytes behind those that a call writes stay as they were, and so does what an answer doesn't speak of.
- * Most memory is taken for files: one of 1,048,576 bytes, the longest that is read, takes up to 133 MiB of heap where it is full of
- * small values; longer ones are refused at once. Texts, arrays and a file with all that may be held take up to 6 MiB. Of the PSBTs of
- * 16,777,216 bytes whose heap was measured, one of many inputs whose scripts want 99 keys each took the most: 232 MiB, by `inspect`. Of
- * the stack those of the tests took at most 99 KiB.
+ * Most memory is taken for files: one of 1,048,576 bytes, the longest that is read, takes up to 133 MiB of heap where it is full of small
+ * values; longer ones are refused at once. A line of questions takes as much, and all their answers are held besides. Texts, arrays and a
+ * file with all that may be held take up to 6 MiB. Of the PSBTs of 16,777,216 bytes whose heap was measured, one of many inputs whose
+ * scripts want 99 keys each took the most: 232 MiB, by `inspect`. Of the stack those of the tests took at most 158 KiB.
  *
  * A satisfaction is canonical where BIP 379's table makes it by rows that it doesn't mark as non-canonical, with what is held:
  * its signatures, for a hash the first of its preimages that has it, for a key hash the condition's own key, and 32 zero
@@ -80,13 +80,16 @@ enum {
  * report   room for the report. Its beginning is written as far as there is room.
  * needed   how many bytes the whole report has. Where that is over `report_len`, call again with so much room.
  *
+ * For the one word `lines` the source is questions, one a line, and the report their answers, one a line. Its code is MSAT_DONE, whatever
+ * the answers are, or MSAT_NO_MEMORY where there is none for their report; an answer that wanted memory has the status 7 in its line.
+ *
  * MSAT_NO_MEMORY and MSAT_UNREADABLE leave `report` and `*needed` as they were, every other code comes with a report.
  */
 uint32_t msat_answer(size_t count, const char *words, size_t words_len, const void *source, size_t source_len, char *report,
                      size_t report_len, size_t *needed);
 
 /* Answers the words of a command line, as `msat-psbt` does where its standard input holds `source`: one word of `finalize`,
- * `inspect`, `extract` and `hashes`. The source is a PSBT (BIP 174), its bytes or their base64, of at most 16,777,216 bytes; the rest is
+ * `inspect`, `extract` and `hashes`. The source is a PSBT (BIP 174, BIP 370), its bytes or their base64, of at most 16,777,216 bytes; the rest is
  * as in msat_answer, and the report of `finalize` has whatever bytes a PSBT has. MSAT_PSBT_REFUSED comes where the source is none, with why.
  * Of any other source `finalize` answers MSAT_DONE where all inputs are final then, and else MSAT_PSBT_OPEN; `inspect` MSAT_DONE where all
  * are Final or Ready, and else MSAT_PSBT_OPEN; `extract` MSAT_DONE with the transaction, and MSAT_PSBT_OPEN where an input isn't Final or
@@ -239,8 +242,8 @@ struct msat_step {
     bool extra;     /* by a row of BIP 379's table that isn't canonical */
 };
 
-/* The functions below are asked by a text and give numbers and bytes, without a report. `consensus` holds the text to the
- * limits of consensus, and not to those of policy. Each answers
+/* The functions below give numbers and bytes, without a report. msat_run and msat_decode tell themselves what they answer. All others are
+ * asked by a text, which `consensus` holds to the limits of consensus, and not to those of policy, and each of them answers
  *
  *   MSAT_DONE              what was asked for was given;
  *   MSAT_TEXT_REFUSED      and `*reason` says why: a text that isn't valid for msat_script, msat_least_weight, and msat_witness and
@@ -292,10 +295,11 @@ uint32_t msat_witness(bool malleable, bool consensus, const char *text, size_t t
  * signature_lengths             how many bytes each has. A key may stand with several; the shortest is taken.
  * preimages                     preimages of 32 bytes, one after the other
  *
- * Arrays are refused as an asset file of format 2 with the same is, with MSAT_FILE_REFUSED: before all else by MSAT_SHAPE of
- * MSAT_MEMBER_SIGNATURES where there aren't 33 bytes of keys for each length, or the lengths don't add up to `signatures_len`; by
- * MSAT_SHAPE of MSAT_MEMBER_PREIMAGES where these aren't 32 bytes each; by MSAT_TOO_MANY over 256 of either; and then by
- * MSAT_KEY_FORM, MSAT_SIG_LENGTH or MSAT_FILE_REPEATED_KEY, of which the first that applies anywhere is told, at its first place.
+ * Arrays are refused for what an asset file of format 2 is, with MSAT_FILE_REFUSED and the first of these that applies, at its first
+ * place: MSAT_SHAPE of MSAT_MEMBER_SIGNATURES where there aren't 33 bytes of keys for each length, or the lengths don't add up to
+ * `signatures_len`; MSAT_SHAPE of MSAT_MEMBER_PREIMAGES where these aren't 32 bytes each; MSAT_TOO_MANY of MSAT_MEMBER_SIGNATURES, and then
+ * of MSAT_MEMBER_PREIMAGES, over 256 of them; MSAT_KEY_FORM; MSAT_SIG_LENGTH; MSAT_FILE_REPEATED_KEY, where a signature stands twice with
+ * its key.
  */
 uint32_t msat_satisfy(bool malleable, bool consensus, const char *text, size_t text_len, uint32_t version, uint32_t sequence,
                       uint32_t locktime, const uint8_t *keys, size_t keys_len, const uint8_t *signatures, size_t signatures_len,
@@ -323,12 +327,12 @@ uint32_t msat_policy(const char *text, size_t text_len, char *policy, size_t pol
  * weight                        in bytes: for each item 1 and its length, the Script aside, where the signatures of these keys have
  *                               the estimated lengths
  *
- * Signatures of the keys to ask are enough, of whatever lengths and whoever else signs; where none is longer than estimated msat_satisfy
- * gives a satisfaction of at most this weight, and without one of them those of the others make none. MSAT_NO_SATISFACTION comes where
- * the signatures of all keys aren't enough. Arrays are refused as a plan file with the same is, with MSAT_FILE_REFUSED: by MSAT_SHAPE of
- * MSAT_MEMBER_KEYS where there aren't 33 bytes of keys for each length; by MSAT_SHAPE of MSAT_MEMBER_PREIMAGES where these aren't 32
- * bytes each; by MSAT_TOO_MANY over 256 of either; and then by MSAT_KEY_FORM, MSAT_LENGTH or MSAT_FILE_REPEATED_KEY, of which the first
- * that applies anywhere is told, at its first place.
+ * With the same three numbers and preimages signatures of the keys to ask are enough, of whatever lengths and whoever else signs; where
+ * none of them is longer than estimated msat_satisfy gives a satisfaction of at most this weight, and without one of them those of the
+ * others make none. MSAT_NO_SATISFACTION comes where the signatures of all keys aren't enough. Arrays are refused for what a plan file is,
+ * with MSAT_FILE_REFUSED and the first of these that applies, at its first place: MSAT_SHAPE of MSAT_MEMBER_KEYS where there aren't 33 bytes
+ * of keys for each length; MSAT_SHAPE of MSAT_MEMBER_PREIMAGES where these aren't 32 bytes each; MSAT_TOO_MANY of MSAT_MEMBER_KEYS, and then
+ * of MSAT_MEMBER_PREIMAGES, over 256 of them; MSAT_KEY_FORM; MSAT_LENGTH; MSAT_FILE_REPEATED_KEY, where a key stands twice.
  */
 uint32_t msat_plan(const char *text, size_t text_len, uint32_t version, uint32_t sequence, uint32_t locktime, const uint8_t *keys,
                    size_t keys_len, const size_t *signature_lengths, size_t signature_count, const uint8_t *preimages,
@@ -342,7 +346,7 @@ uint32_t msat_plan(const char *text, size_t text_len, uint32_t version, uint32_t
  * items                         the items of the stack, bottom first, one after the other, without the script
  * item_lengths                  how many bytes each has
  * keys, signatures              the signatures that are good, one after the other, and the key of each, of 33 bytes. No signature is
- *                               computed: one is good exactly where it stands here with its key.
+ *                               computed: one is good exactly where it stands here with its key, and isn't empty.
  * signature_lengths             how many bytes each has
  * bytes, needed                 room for the pairs that an accepted run found good, in order, each key before its signature, one
  *                               after the other, as far as there is room, and how many bytes all have
@@ -382,7 +386,8 @@ uint32_t msat_audit(const char *text, size_t text_len, uint32_t version, uint32_
 
 /* The text, valid by the limits of policy, that a Script is read back as: its beginning is written to `text`, and `*needed` is its
  * whole length. `keys` are compressed keys of 33 bytes, one after the other: those that the Script's hashes of keys may be of.
- * The answer is MSAT_DONE; MSAT_NO_READING where no such text has this Script; MSAT_USAGE where the keys are none; or MSAT_NO_MEMORY.
+ * The answer is MSAT_DONE; MSAT_NO_READING where no such text has this Script; MSAT_USAGE where what lies in `keys` isn't whole compressed
+ * keys, of which there may be none; or MSAT_NO_MEMORY.
  * After all but MSAT_DONE nothing was written. */
 uint32_t msat_decode(const uint8_t *script, size_t script_len, const uint8_t *keys, size_t keys_len, char *text, size_t text_len,
                      size_t *needed);

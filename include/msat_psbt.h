@@ -1,16 +1,17 @@
 /* msat: what msat_psbt_answer reports for `inspect` and `hashes`, and why it refuses, read line by line.
  * SPDX-License-Identifier: MIT
  *
- *     struct msat_psbt_reader reader = {report, needed, MSAT_PSBT_NO_INPUT};
+ *     struct msat_psbt_reader reader = {report, needed, MSAT_PSBT_NO_INPUT}; // a report that was had whole
  *     struct msat_psbt_line line;
  *     while (msat_psbt_next(&reader, &line))
  *         if (line.kind == MSAT_PSBT_LINE_INPUT && line.state == MSAT_PSBT_STATE_READY)
  *             ..
  *
  * No memory is taken, nothing is kept, no byte outside the report is read, and pieces of a line are pointers into it. Any bytes may be
- * read: each line that isn't one of these, to the byte, comes as MSAT_PSBT_LINE_OTHER. This is C, tested on every report of
- * examples/psbt and on broken ones, and nothing of it is proved. Within 1.x what is named here stays; new kinds, states and faults may
- * come. docs/FORMATS.md (msat(5)) says what each line means.
+ * read: a line that hasn't the words, numbers and digits of one of these, in their one spelling, comes as MSAT_PSBT_LINE_OTHER. How many
+ * digits an id, a key or a hash has, what stands behind the name of a state, and which refusals have a place isn't looked at. This is C,
+ * tested on every report of examples/psbt and on broken ones, and nothing of it is proved. Within 1.x what is named here stays; new
+ * kinds, states and faults may come. docs/FORMATS.md (msat(5)) says what each line means.
  */
 #ifndef MSAT_PSBT_H
 #define MSAT_PSBT_H
@@ -35,7 +36,7 @@ enum {
     MSAT_PSBT_LINE_FEE,       /* known; amount, is_large and digits, its decimal digits, where it is claimed or proved */
     MSAT_PSBT_LINE_INPUT,     /* number, state; text: the words of the state, with the reason of Unfit */
     MSAT_PSBT_LINE_OUTPOINT,  /* id, number: the index, sequence */
-    MSAT_PSBT_LINE_AMOUNT,    /* known; amount where it is claimed or proved */
+    MSAT_PSBT_LINE_AMOUNT,    /* known; amount, and digits, its decimal digits, where it is claimed or proved */
     MSAT_PSBT_LINE_UNCHECKED,
     MSAT_PSBT_LINE_SIGNATURE, /* key, type */
     MSAT_PSBT_LINE_TEXT,      /* text: the miniscript */
@@ -44,7 +45,7 @@ enum {
     MSAT_PSBT_LINE_ASK,       /* key: whose signature is to be asked */
     MSAT_PSBT_LINE_MOST,      /* amount: what the satisfaction weighs at most then */
     MSAT_PSBT_LINE_NO_PLAN,
-    MSAT_PSBT_LINE_SIGN,      /* of `hashes`. type, hash: what a signature of the asked type signs */
+    MSAT_PSBT_LINE_SIGN,      /* of `hashes`. type, hash: what a signature of the asked type signs, empty where that is none */
     MSAT_PSBT_LINE_CHECK,     /* of `hashes`. key, digits: the signature, hash: what it has to sign, empty where its type is none */
     MSAT_PSBT_LINE_NOT_FINAL, /* of `extract`. number: the first input that isn't final */
     MSAT_PSBT_LINE_REFUSED,   /* fault; text: its name; has_place, number: the byte of the PSBT */
@@ -87,7 +88,10 @@ enum {
     MSAT_PSBT_FAULT_VALUE_FORM,
     MSAT_PSBT_FAULT_VERSION,
     MSAT_PSBT_FAULT_NO_TRANSACTION,
-    MSAT_PSBT_FAULT_TRAILING
+    MSAT_PSBT_FAULT_TRAILING,
+    MSAT_PSBT_FAULT_EXCLUDED,
+    MSAT_PSBT_FAULT_REPEATED_OUTPOINT,
+    MSAT_PSBT_FAULT_LOCK_TIME
 };
 
 #define MSAT_PSBT_NO_INPUT UINT64_MAX
@@ -182,7 +186,7 @@ static inline const char *msat_psbt_state_name(uint32_t state) {
 static inline const char *msat_psbt_fault_name(uint32_t fault) {
     static const char *const names[] = {
         "TooLong", "NotBase64", "Magic", "Truncated", "Size", "RepeatedKey", "KeyForm", "ValueForm", "Version", "NoTransaction",
-        "Trailing"};
+        "Trailing", "Excluded", "RepeatedOutpoint", "LockTime"};
     return fault >= 1 && fault - 1 < sizeof names / sizeof names[0] ? names[fault - 1] : NULL;
 }
 

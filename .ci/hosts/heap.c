@@ -1,7 +1,7 @@
 /* Measures what a call takes at most, of the stack and of the heap, over texts and files that ask for the most: long ones, deep ones,
- * and files of as many small values as they may have; and over PSBTs. Prints both, of the heap for PSBTs apart, and ends with 1 where one
- * is over what the header tells.
- * Usage: heap MOST-STACK MOST-HEAP MOST-HEAP-OF-PSBTS PSBT..    in bytes, and files of PSBTs
+ * and files of as many small values as they may have; and over PSBTs. Prints both, of the heap for each PSBT apart, and ends with 1 where
+ * one is over what the header tells.
+ * Usage: heap MOST-STACK MOST-HEAP [MOST-HEAP-OF-THIS PSBT]..    in bytes, and files of PSBTs
  * Built with -Wl,--wrap=malloc,--wrap=realloc,--wrap=free, and over the archive. */
 #include <malloc.h>
 #include <msat.h>
@@ -283,9 +283,16 @@ static void ask_psbt(const char *name) {
     }
 }
 
+static bool is_over;
+
+/* Each PSBT, behind the most of the heap that it may take. */
 static void *ask_psbts(void *given) {
-    for (char **name = given; *name; name++)
-        ask_psbt(*name);
+    for (char **word = given; *word; word += 2) {
+        size_t before = most = held;
+        ask_psbt(word[1]);
+        printf("heap: with %s at most %zu bytes of heap\n", word[1], most - before);
+        is_over = is_over || most - before > strtoull(word[0], NULL, 10);
+    }
     return NULL;
 }
 
@@ -322,14 +329,13 @@ static size_t stack_of(void *(*work)(void *), void *given) {
 }
 
 int main(int argc, char **argv) {
-    if (argc < 4)
+    if (argc < 3 || argc % 2 == 0)
         return 2;
     fill_arrays();
     size_t stack = stack_of(ask, NULL), heap = most;
     printf("heap: a call takes at most %zu bytes of stack and %zu of heap\n", stack, heap);
-    most = held;
-    size_t psbt_stack = stack_of(ask_psbts, argv + 4);
-    printf("heap: with a PSBT at most %zu bytes of stack and %zu of heap\n", psbt_stack, most);
+    size_t psbt_stack = stack_of(ask_psbts, argv + 3);
+    printf("heap: with a PSBT at most %zu bytes of stack\n", psbt_stack);
     size_t most_stack = strtoull(argv[1], NULL, 10);
-    return stack > most_stack || psbt_stack > most_stack || heap > strtoull(argv[2], NULL, 10) || most > strtoull(argv[3], NULL, 10);
+    return is_over || stack > most_stack || psbt_stack > most_stack || heap > strtoull(argv[2], NULL, 10);
 }

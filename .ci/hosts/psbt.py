@@ -174,13 +174,23 @@ def pair(key, value):
 TWO_OF_THREE = b"\x52" + b"".join(map(rows.sized, KEYS)) + b"\x53\xae"
 
 
+# The version of the PSBTs that are made.
+version = 0
+
+
 def psbt_of(script, *inputs, sequence=0):
     """A PSBT of inputs with this witness script, each with further pairs."""
     spent = (100_000).to_bytes(8, "little") + rows.sized(b"\0\x20" + hashlib.sha256(script).digest())
-    outpoints = [bytes(31) + bytes([i]) + bytes(5) + sequence.to_bytes(4, "little") for i in range(len(inputs))]
-    unsigned = b"\2\0\0\0" + bytes([len(inputs)]) + b"".join(outpoints) + bytes(5)
+    ids = [bytes(31) + bytes([i]) for i in range(len(inputs))]
+    sequence = sequence.to_bytes(4, "little")
     utxo = pair(b"\1", spent) + pair(b"\5", script)
-    return b"psbt\xff" + pair(b"\0", unsigned) + b"\0" + b"".join(utxo + pairs + b"\0" for pairs in inputs)
+    if version == 0:
+        unsigned = b"\2\0\0\0" + bytes([len(inputs)]) + b"".join(one + bytes(5) + sequence for one in ids) + bytes(5)
+        return b"psbt\xff" + pair(b"\0", unsigned) + b"\0" + b"".join(utxo + pairs + b"\0" for pairs in inputs)
+    counts = pair(b"\4", bytes([len(inputs)])) + pair(b"\5", b"\0")
+    fields = [pair(b"\x0e", one) + pair(b"\x0f", bytes(4)) + pair(b"\x10", sequence) for one in ids]
+    maps = b"".join(own + utxo + pairs + b"\0" for own, pairs in zip(fields, inputs))
+    return b"psbt\xff" + pair(b"\2", b"\2\0\0\0") + counts + pair(b"\xfb", b"\2\0\0\0") + b"\0" + maps
 
 
 def signed(*signatures):
@@ -239,8 +249,8 @@ def try_nothing_lost():
     good = [(key, signature(secret, digest) + b"\1") for secret, key in enumerate(KEYS, 1)]
     _, (empty, final, _), _ = psbt._maps(psbt.finalize(psbt_of(TWO_OF_THREE, b"", signed(good[0], good[2]), b""), verify=False))
     for open_ in (signed(*bad), derived + signed(bad[1]), b""):
-        start, (came, _, _), end = psbt._maps(psbt_of(TWO_OF_THREE, open_, b"", open_))
-        wanted = start + came + final + came + end
+        start, (first, _, last), end = psbt._maps(psbt_of(TWO_OF_THREE, open_, b"", open_))
+        wanted = start + first + final + last + end
         source = psbt_of(TWO_OF_THREE, open_, signed(good[0], bad[1], good[2]), open_)
         if final == empty or psbt.finalize(source) != wanted or psbt.finalize(wanted) != wanted:
             fault(f"beside an input that becomes final another one changes: {open_.hex()}")
@@ -284,9 +294,10 @@ try_classes()
 try_edges()
 try:
     try_signatures()
-    try_leaving_out()
-    try_nothing_lost()
-    try_known_keys()
+    for version in (0, 2):
+        try_leaving_out()
+        try_nothing_lost()
+        try_known_keys()
 except psbt.NoCurve as missing:
     print(f"{missing}: signatures aren't tried")
 failed = doctest.testmod(psbt, optionflags=doctest.IGNORE_EXCEPTION_DETAIL).failed

@@ -20,6 +20,7 @@ Syntax 3
 from typing import NoReturn, Optional, Sequence
 
 from . import _library
+from ._many import ask_all
 from .errors import (
     FileRefused,
     MsatError,
@@ -74,7 +75,7 @@ from .results import (
 __all__ = [
     "Accepted", "Assets", "Audit", "Checked", "Estimate", "Facts", "File", "FileRefused", "Limits", "MsatError", "NoReading",
     "NoSatisfaction", "NotAccepted", "Plan", "Policy", "Refused", "Replay", "Run", "Satisfaction", "ScriptRefused", "Signature", "Step",
-    "TextRefused", "Unreadable", "Usage", "answer", "audit", "check", "decode", "facts", "least_weight", "plan", "policy", "report",
+    "TextRefused", "Unreadable", "Usage", "answer", "ask_all", "audit", "check", "decode", "facts", "least_weight", "plan", "policy", "report",
     "run", "satisfy", "script", "witness",
     # of PSBTs
     "Check", "Fee", "Hashes", "Input", "Inspection", "NoCurve", "NotFinal", "Output", "PsbtRefused", "extract", "finalize", "hashes",
@@ -95,6 +96,11 @@ def answer(words: Sequence[str], source: File = b"") -> tuple[int, str]:
     (1, 'refused usage\\n')
     >>> answer(["script", "\\udcff"])
     (11, '')
+
+    The one word `lines` answers many questions in one call, one a line, and other threads run meanwhile.
+
+    >>> answer(["lines"], b'{"id": 1, "words": ["script", "1"]}\\n{}')[1].split("\\n")
+    ['{"id":1,"status":0,"report":"51\\\\n"}', '{"status":12,"report":"refused line Shape words\\\\n"}', '']
     """
     if any("\0" in word for word in words):
         return _library.UNREADABLE, ""

@@ -1,5 +1,5 @@
 # SPDX-License-Identifier: MIT
-"""PSBTs (BIP 174, version 0) whose inputs spend P2WSH outputs of sane miniscripts: finalized, inspected, extracted, and what their
+"""PSBTs (BIP 174, BIP 370) whose inputs spend P2WSH outputs of sane miniscripts: finalized, inspected, extracted, and what their
 signatures sign.
 
 A PSBT is bytes, or a str of base64, and what comes out is of the same kind. What is asked is answered by the proved library, as the
@@ -299,6 +299,9 @@ _FOR_CHECKS = 0x0101
 
 _MAGIC = b"psbt\xff"
 
+# Where the number of inputs stands: in version 0 in the transaction behind its version, in version 2 by itself.
+_COUNTED = {b"\0": 4, b"\4": 0}
+
 
 def _finalized_without(source: bytes, bad: dict[int, set[bytes]]) -> bytes:
     """What `finalize` writes where the signatures of these keys don't count, by the number of the input: the library is asked of the
@@ -329,8 +332,8 @@ def _maps(psbt: bytes) -> tuple[bytes, list[bytes], bytes]:
     at, count = len(_MAGIC), 0
     for _, end, key, value in _pairs(psbt, at):
         at = end
-        if key == b"\0":
-            count, _ = _size(psbt, value + 4)
+        if key in _COUNTED:
+            count, _ = _size(psbt, value + _COUNTED[key])
     places = [at + 1]
     for _ in range(count):
         at = places[-1]

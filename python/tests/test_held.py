@@ -41,6 +41,20 @@ class Held(unittest.TestCase):
             ["empty: what CHECKMULTISIG takes besides", "signature of alice", "signature of carol"],
         )
 
+    def test_signatures_of_the_same_bytes(self):
+        same = json.dumps({"signatures": [{"key": key, "sig": 71 * "30"} for key in (A, B, C)]}).encode()
+        self.assertEqual(
+            self.names("and_v(v:pk(alice),multi(2,bob,carol))", same),
+            ["empty: what CHECKMULTISIG takes besides", "signature of bob", "signature of carol", "signature of alice"],
+        )
+
+    def test_items_are_named_by_consensus_too(self):
+        found = answer("or_d(pk(alice),pkh(bob))", NAMES, consensus=True, assets=file(B))
+        self.assertEqual(
+            [it.name for it in found.held.spend.items],
+            ["signature of bob", "the key bob, whose hash the Script has", "empty: no signature of alice"],
+        )
+
     def test_branches_and_preimages(self):
         preimage = bytes(31) + b"\1"
         digest = samples.hashes.sha256(preimage).hex()

@@ -3,6 +3,7 @@
 import os
 import subprocess
 import sys
+import tempfile
 import unittest
 
 import samples  # noqa: F401
@@ -54,6 +55,10 @@ class Reading(unittest.TestCase):
     def test_what_is_no_name(self):
         for word in ("02", "1", "", A + "00", 64 * "a"):
             self.assertEqual(read(f"pk({word})", {}).text, f"pk({word})")
+
+    def test_digits_make_a_name_of_other_words_alone(self):
+        self.assertEqual(read("pk(@0)", {"@0": A}).text, f"pk({A})")
+        self.assertEqual(read(f"pk({A})", {A: B}).text, f"pk({A})")
 
     def test_script(self):
         text = f"or_d(pk({A}),and_v(v:pkh({B}),older(144)))"
@@ -134,6 +139,40 @@ class Program(unittest.TestCase):
         package = subprocess.run([sys.executable, "-m", "msat", *words], env=environment, **given)
         self.assertEqual((whole.returncode, whole.stderr), (0, b""))
         self.assertEqual((package.returncode, package.stdout), (0, whole.stdout))
+
+    def ended(self, words: str, **given) -> tuple[int, bytes, bytes]:
+        done = subprocess.run(["sh", "-c", f'"$0" {words}', samples.TOP / "msat-explain"], capture_output=True, **given)
+        return done.returncode, done.stdout, done.stderr
+
+    def test_files_are_refused_with_3(self):
+        with tempfile.TemporaryDirectory() as folder:
+            for said in ('{"a":"0"}', '{"a":5}', "[]", "{", "\udcff"):
+                path = os.path.join(folder, "keys")
+                with open(path, "wb") as file:
+                    file.write(said.encode(errors="surrogateescape"))
+                self.assertEqual(self.ended(f"'pk(a)' --keys {path}")[:2], (3, b""), said)
+        self.assertEqual(self.ended("'pk(a)' --key a=0")[:2], (1, b""))
+
+    def test_a_page_of_what_is_not_utf_8(self):
+        with tempfile.TemporaryDirectory() as folder:
+            for text in (b"pk(a\xff)", b"pk(\xff)"):
+                page = os.path.join(folder, "page.html")
+                done = subprocess.run([samples.TOP / "msat-explain", text, "--html", page], capture_output=True)
+                self.assertEqual((done.returncode in (0, 2), done.stderr), (True, b""))
+                with open(page, encoding="utf-8") as file:
+                    self.assertTrue(file.read().endswith("</html>\n"))
+
+    def test_closed_and_full_streams(self):
+        for words, status in (("- <&-", 5), ("'pk(a)' >&-", 6), ("'pk(a)' >/dev/full", 6), ("--help >/dev/full", 6), ("--version >/dev/full", 6)):
+            found = self.ended(words)
+            self.assertEqual(found[0], status, words)
+            self.assertNotIn(b"Traceback", found[2])
+
+    def test_a_name_moves_no_cursor(self):
+        done = subprocess.run([samples.TOP / "msat-explain", "pk(a\x1b[31m)"], capture_output=True)
+        self.assertEqual((done.returncode, b"\x1b" in done.stdout), (0, False))
+        done = subprocess.run([samples.TOP / "msat-explain", "pk(a)#\x1b[31m"], capture_output=True)
+        self.assertEqual((done.returncode, b"\x1b" in done.stdout), (2, False))
 
     def test_a_reader_that_goes_away(self):
         program = subprocess.Popen([samples.TOP / "msat-explain", f"pk({A})"], stdout=subprocess.PIPE, stderr=subprocess.PIPE)

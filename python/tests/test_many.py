@@ -144,6 +144,15 @@ class Cut(unittest.TestCase):
                 for warning in warned:
                     self.assertIn(f"\nWarning: {warning}", said)
 
+    def test_that_nobody_can_spend_by_consensus_alone(self):
+        lists = [f"multi(1,{','.join(f'k{number}_{at}' for at in range(20))})" for number in range(6)]
+        any_of_them = lists[0]
+        for it in lists[1:]:
+            any_of_them = f"or_i({it},{any_of_them})"
+        found = command.answer(f"and_v(v:{any_of_them},0)", {}, consensus=True)
+        self.assertIsNone(found.spending)
+        self.assertIn("\nWarning: nobody can spend", explained(found, False))
+
 
 if __name__ == "__main__":
     unittest.main()

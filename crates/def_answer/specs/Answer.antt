@@ -1,7 +1,7 @@
 -- The program's answer: for each list of words and each content of the source a status and a report. The
 -- words come first, then the text, the reasons against its tree, the file, and the satisfaction, the run, the plan or
 -- the audit.
-use Rattle.std.specs.Prelude.{◌≡◌, ◌⊎◌, ℕ, ◌++◌, true, ⊤, List, [], map, Option, unwrap_or, Ok}
+use Rattle.std.specs.Prelude.{◌≡◌, ◌⊎◌, ℕ, true, ⊤, List, [], map, Option, unwrap_or, Ok}
 use Rattle.std.specs.Result.{result_unwrap_or}
 use Rattle.hex.specs.Hex.{decode_of}
 use Rattle.def_script.specs.Bytes.{Bytes}
@@ -12,31 +12,26 @@ use Rattle.def_emit.specs.Emit.{script_of}
 use Rattle.def_files.specs.RunFile.{RunFile, run_of}
 use Rattle.def_sane.specs.declared.Rules.{Rules}
 use Rattle.def_sane.specs.declared.Unfit.{Unfit}
-use Rattle.def_sane.specs.TheLimits.{the_limits}
 use Rattle.def_sane.specs.Unfit.{first_unfit, first_unfit_valid, first_unfit_under, first_unfit_valid_under, IsValid}
 use Rattle.def_audit.specs.declared.Step.{Step}
 use Rattle.def_audit.specs.Derives.{Derives}
 use Rattle.def_choice.specs.Cheapest.{cheapest}
 use Rattle.def_choice.specs.Strict.{strict}
+use Rattle.def_answer.specs.Satisfy.{chosen_by, reason_by}
 use Rattle.def_decode.specs.Decoded.{IsReading, IsDecoded}
 use Rattle.def_answer.specs.declared.status.Status.{Status}
 use Rattle.def_answer.specs.declared.status.Status.TheVariants as status
-use Rattle.def_answer.specs.Words.{Command, script, check, satisfy, satisfy_malleable, gen, policy, plan, audit, decode, IsForm, HasNoForm}
+use Rattle.def_answer.specs.Words.{Command, script, check, satisfy, gen, policy, plan, audit, decode, IsForm, HasNoForm}
 use Rattle.def_answer.specs.Words as words
-use Rattle.def_answer.specs.Lines.{limits_line, no_reading_line}
-use Rattle.def_answer.specs.Report.{script_report, check_report, policy_report, decode_report, outcome_with, children_line, strict_line, cheapest_line}
-use Rattle.def_answer.specs.Generated.{threshold_of, generated_tree, generated_assets}
+use Rattle.def_answer.specs.Generated.{generated_tree, generated_assets}
 use Rattle.def_answer.specs.Reading.{Reading, HasReading}
 use Rattle.def_answer.specs.Reading as reading
+use Rattle.def_answer.specs.Script.{script_report}
+use Rattle.def_answer.specs.Check.{check_report}
+use Rattle.def_answer.specs.Gen.{gen_report}
+use Rattle.def_answer.specs.Policy.{policy_report}
+use Rattle.def_answer.specs.Decode.{decode_report, no_reading_line}
 use Rattle.def_answer.specs.Reply.{Reply, reply, usage_reply, text_reply, satisfy_reply, given_by, run_reply, plan_reply, audit_reply}
-
--- what `gen` prints, from its two satisfactions
-unfoldable pub gen_report : (n : ℕ) → (strict cheapest : List Bytes) → Bytes
-gen_report n strict cheapest =
-    children_line n (threshold_of n)
-    ++ limits_line (the_limits (generated_tree n))
-    ++ strict_line strict (outcome_with (generated_tree n) (generated_assets n) strict)
-    ++ cheapest_line cheapest
 
 -- the generated tree can always be satisfied
 unfoldable pub gen_reply : (n : ℕ) → Reply
@@ -102,8 +97,7 @@ RepliesToAudit text source r =
 abbrev pub Replies : Command → (source : Bytes) → Reply → Type 0
 Replies (script rules text) source r = RepliesToText text (first_unfit_valid_under rules) script_reply r
 Replies (check rules text) source r = RepliesToText text (first_unfit_under rules) (check_reply rules) r
-Replies (satisfy rules text) source r = RepliesToText text (first_unfit_under rules) (satisfy_reply rules strict source) r
-Replies (satisfy_malleable rules text) source r = RepliesToText text (first_unfit_valid_under rules) (satisfy_reply rules cheapest source) r
+Replies (satisfy choice rules text) source r = RepliesToText text (reason_by choice rules) (satisfy_reply rules (chosen_by choice) source) r
 Replies words.run source r = r ≡ run_reply source
 Replies (gen n) source r = r ≡ gen_reply n
 Replies (policy text) source r = RepliesToText text first_unfit policy_reply r

@@ -1,24 +1,25 @@
--- The lines of refusals, and those that several reports share. Bytes are printed as lower-case digits,
+-- The lines that reports of several commands have, and how long a file may be. Bytes are printed as lower-case digits,
 -- numbers in decimal.
 use Rattle.std.specs.Prelude.{ℕ, List, [], ◌∷◌, ◌++◌, codes, decimal, slice_index}
 use Rattle.hex.specs.Hex.{encode_lower}
 use Rattle.def_script.specs.Bytes.{Bytes}
-use Rattle.def_machine.specs.declared.ScriptFault.{ScriptFault}
+use Rattle.def_machine.specs.Program.{program_of}
+use Rattle.def_tree.specs.Tree.{Tree}
 use Rattle.def_text.specs.declared.TextFault.{TextFault}
 use Rattle.def_text.specs.declared.TextFault.TheVariants as text_fault
+use Rattle.def_types.specs.declared.rule.Rule.{Rule}
+use Rattle.def_types.specs.declared.rule.Rule.TheVariants as rule
 use Rattle.def_limits.specs.declared.Limits.{Limits}
 use Rattle.def_sane.specs.declared.Rules.{Rules}
 use Rattle.def_sane.specs.declared.Rules.TheVariants.{Policy, Consensus}
 use Rattle.def_sane.specs.declared.Unfit.{Unfit}
 use Rattle.def_sane.specs.declared.Unfit.TheVariants as unfit
-use Rattle.def_files.specs.declared.AssetFault.{AssetFault}
-use Rattle.def_files.specs.declared.AssetFault.TheVariants as file_fault
-use Rattle.def_files.specs.Json.{member_name}
-use Rattle.def_plan.specs.declared.PlanFault.{PlanFault}
-use Rattle.def_plan.specs.declared.PlanFault.TheVariants as plan_fault
-use Rattle.def_plan.specs.Names.{plan_member_name}
-use Rattle.def_answer.specs.Names.{rule_name, script_fault_name}
-use Rattle.def_machine.specs.Program.{program_of}
+use Rattle.def_sane.specs.TheLimits.{the_limits}
+use Rattle.def_answer.specs.TheHeight.{the_height}
+
+-- how many bytes a file may have
+abbrev pub MOST_FILE : ℕ
+MOST_FILE = 1048576
 
 -- a line ends with a line feed
 abbrev pub line : Bytes → Bytes
@@ -45,23 +46,58 @@ abbrev pub limits_line_under : Rules → Limits → (height : ℕ) → Bytes
 limits_line_under Policy limits height = limits_line limits
 limits_line_under Consensus limits height = line (limits_text limits ++ codes " height " ++ decimal height)
 
--- ---- refusals
+-- the limits of a tree
+abbrev pub tree_limits_line : Rules → Tree → Bytes
+tree_limits_line rules tree = limits_line_under rules (the_limits tree) (the_height tree)
 
-abbrev pub usage_line : Bytes
-usage_line = line (codes "refused usage")
+-- ---- refusals of texts
 
-abbrev pub no_satisfaction_line : Bytes
-no_satisfaction_line = line (codes "no satisfaction")
-
-abbrev pub no_reading_line : Bytes
-no_reading_line = line (codes "no reading")
-
--- of a text; a place is a byte offset. Want of memory has no line
+-- a place is a byte offset. Want of memory has no line
 abbrev pub text_line : TextFault → Bytes
 text_line text_fault.TooLong = line (codes "refused text TooLong")
 text_line (text_fault.Syntax at) = line (codes "refused text Syntax at " ++ decimal at)
 text_line (text_fault.TooDeep at) = line (codes "refused text TooDeep at " ++ decimal at)
 text_line text_fault.Memory = []
+
+-- the name of a rule
+abbrev pub rule_name : Rule → Bytes
+rule_name rule.OlderRange = codes "OlderRange"
+rule_name rule.AfterRange = codes "AfterRange"
+rule_name rule.AndOrX = codes "AndOrX"
+rule_name rule.AndOrYZ = codes "AndOrYZ"
+rule_name rule.AndVX = codes "AndVX"
+rule_name rule.AndVY = codes "AndVY"
+rule_name rule.AndBX = codes "AndBX"
+rule_name rule.AndBY = codes "AndBY"
+rule_name rule.OrBX = codes "OrBX"
+rule_name rule.OrBZ = codes "OrBZ"
+rule_name rule.OrCX = codes "OrCX"
+rule_name rule.OrCZ = codes "OrCZ"
+rule_name rule.OrDX = codes "OrDX"
+rule_name rule.OrDZ = codes "OrDZ"
+rule_name rule.OrIXZ = codes "OrIXZ"
+rule_name rule.ThreshRange = codes "ThreshRange"
+rule_name rule.ThreshFirst = codes "ThreshFirst"
+rule_name rule.ThreshOther = codes "ThreshOther"
+rule_name rule.MultiRange = codes "MultiRange"
+rule_name rule.WrapA = codes "WrapA"
+rule_name rule.WrapS = codes "WrapS"
+rule_name rule.WrapC = codes "WrapC"
+rule_name rule.WrapD = codes "WrapD"
+rule_name rule.WrapV = codes "WrapV"
+rule_name rule.WrapJ = codes "WrapJ"
+rule_name rule.WrapN = codes "WrapN"
+rule_name rule.AndOrE = codes "AndOrE"
+rule_name rule.AndOrS = codes "AndOrS"
+rule_name rule.OrBE = codes "OrBE"
+rule_name rule.OrBS = codes "OrBS"
+rule_name rule.OrCE = codes "OrCE"
+rule_name rule.OrCS = codes "OrCS"
+rule_name rule.OrDE = codes "OrDE"
+rule_name rule.OrDS = codes "OrDS"
+rule_name rule.OrIS = codes "OrIS"
+rule_name rule.ThreshE = codes "ThreshE"
+rule_name rule.ThreshS = codes "ThreshS"
 
 -- of a tree, whose nodes have these offsets
 abbrev pub offset_of : (offsets : List ℕ) → (node : ℕ) → Bytes
@@ -79,45 +115,3 @@ unfit_line offsets (unfit.Malleable at) =
 unfit_line offsets unfit.NoSignature = line (codes "refused text NoSignature")
 unfit_line offsets (unfit.MixedLocks node) = line (codes "refused text MixedLocks at " ++ offset_of offsets node)
 unfit_line offsets (unfit.RepeatedKey node) = line (codes "refused text RepeatedKey at " ++ offset_of offsets node)
-
--- of a file: the refusal's name, the member and the place, as far as it has them
-abbrev pub file_too_long_line : Bytes
-file_too_long_line = line (codes "refused file TooLong")
-
-abbrev pub file_line : AssetFault → Bytes
-file_line file_fault.NotJson = line (codes "refused file NotJson")
-file_line (file_fault.Shape m) = line (codes "refused file Shape " ++ member_name m)
-file_line (file_fault.Number m) = line (codes "refused file Number " ++ member_name m)
-file_line (file_fault.Hex m i) = line (codes "refused file Hex " ++ member_name m ++ codes " " ++ decimal i)
-file_line (file_fault.KeyForm i) = line (codes "refused file KeyForm " ++ decimal i)
-file_line (file_fault.SigLength i) = line (codes "refused file SigLength " ++ decimal i)
-file_line (file_fault.PreimageLength i) = line (codes "refused file PreimageLength " ++ decimal i)
-file_line (file_fault.TooMany m) = line (codes "refused file TooMany " ++ member_name m)
-file_line (file_fault.RepeatedKey i) = line (codes "refused file RepeatedKey " ++ decimal i)
-file_line file_fault.Memory = []
-
--- of a plan file
-abbrev pub plan_file_line : PlanFault → Bytes
-plan_file_line plan_fault.NotJson = line (codes "refused file NotJson")
-plan_file_line (plan_fault.Shape m) = line (codes "refused file Shape " ++ plan_member_name m)
-plan_file_line (plan_fault.Number m) = line (codes "refused file Number " ++ plan_member_name m)
-plan_file_line (plan_fault.Hex m i) = line (codes "refused file Hex " ++ plan_member_name m ++ codes " " ++ decimal i)
-plan_file_line (plan_fault.KeyForm i) = line (codes "refused file KeyForm " ++ decimal i)
-plan_file_line (plan_fault.Length i) = line (codes "refused file Length " ++ decimal i)
-plan_file_line (plan_fault.PreimageLength i) = line (codes "refused file PreimageLength " ++ decimal i)
-plan_file_line (plan_fault.TooMany m) = line (codes "refused file TooMany " ++ plan_member_name m)
-plan_file_line (plan_fault.RepeatedKey i) = line (codes "refused file RepeatedKey " ++ decimal i)
-plan_file_line plan_fault.Memory = []
-
--- of a script, at the instruction of this number
-abbrev pub script_refused_line : ScriptFault → (place : ℕ) → Bytes
-script_refused_line fault place =
-    line (codes "refused script " ++ script_fault_name fault ++ codes " at " ++ decimal place)
-
--- of a stack that doesn't satisfy a text: the file has another script, or the interpreter refuses the run
-abbrev pub wrong_script_line : Bytes
-wrong_script_line = line (codes "not accepted WrongScript")
-
-abbrev pub not_accepted_line : ScriptFault → (place : ℕ) → Bytes
-not_accepted_line fault place =
-    line (codes "not accepted " ++ script_fault_name fault ++ codes " at " ++ decimal place)

@@ -1,7 +1,8 @@
 -- What the program replies to a text, a file, a run, a plan and an audit: a status and a report.
-use Rattle.std.specs.Prelude.{ℕ, nat_lt, List, length, if◌then◌else◌, Option, Some, None, Result, Ok, Err}
+use Rattle.std.specs.Prelude.{ℕ, nat_lt, List, length, codes, if◌then◌else◌, Option, Some, None, Result, Ok, Err}
 use Rattle.std.specs.Str.{bytes_eq}
 use Rattle.def_script.specs.Bytes.{Bytes}
+use Rattle.def_machine.specs.Stacks.{member}
 use Rattle.def_machine.specs.Machine.{Given}
 use Rattle.def_machine.specs.Run.{Outcome, accepted, refused, run}
 use Rattle.def_tree.specs.Tree.{Tree}
@@ -16,10 +17,14 @@ use Rattle.def_plan.specs.Plan.{Plan, plan_of}
 use Rattle.def_plan.specs.PlanFile.{plan_file_of}
 use Rattle.def_answer.specs.declared.status.Status.{Status}
 use Rattle.def_answer.specs.declared.status.Status.TheVariants as status
-use Rattle.def_answer.specs.Lines.{usage_line, no_satisfaction_line, text_line, unfit_line, file_too_long_line, file_line, plan_file_line, wrong_script_line, not_accepted_line}
+use Rattle.def_answer.specs.Lines.{line, text_line, unfit_line, MOST_FILE}
+use Rattle.def_answer.specs.Files.{file_too_long_line, file_line}
 use Rattle.def_answer.specs.Reading.{Reading}
 use Rattle.def_answer.specs.Reading as reading
-use Rattle.def_answer.specs.Report.{satisfy_report, run_report, plan_report, audit_report}
+use Rattle.def_answer.specs.Satisfy.{satisfy_report}
+use Rattle.def_answer.specs.Run.{run_report}
+use Rattle.def_answer.specs.Plan.{plan_file_line, plan_report}
+use Rattle.def_answer.specs.Audit.{wrong_script_line, not_accepted_line, audit_report}
 
 pub record Reply : Type 0 where
   pub status : Status
@@ -27,6 +32,9 @@ pub record Reply : Type 0 where
 
 abbrev pub reply : Status → (report : Bytes) → Reply
 reply status report = record { status = status; report = report }
+
+abbrev pub usage_line : Bytes
+usage_line = line (codes "refused usage")
 
 abbrev pub usage_reply : Reply
 usage_reply = reply status.Usage usage_line
@@ -45,10 +53,6 @@ text_reply first_reason next (reading.refused fault) = reply status.TextRefused 
 
 -- ---- files
 
--- how many bytes a file may have
-abbrev pub MOST_FILE : ℕ
-MOST_FILE = 1048576
-
 -- the refusal, whose line this is, or else what comes next
 abbrev pub with_file : {A E : Type 0} → (line : E → Bytes) → (next : A → Reply) → Result A E → Reply
 with_file line next (Ok file) = next file
@@ -62,6 +66,9 @@ file_reply line file_of next source =
     else with_file line next (file_of source)
 
 -- ---- satisfactions and runs
+
+abbrev pub no_satisfaction_line : Bytes
+no_satisfaction_line = line (codes "no satisfaction")
 
 -- the stack that was chosen, if there is one
 abbrev pub chosen_reply : Rules → Tree → Assets → Option (List Bytes) → Reply
@@ -78,7 +85,7 @@ outcome_reply (refused fault place) = reply status.ScriptRefused (run_report (re
 
 -- under the locks and the good pairs of a run file
 abbrev pub given_by : RunFile → Given
-given_by file = record { table = file.pairs; locks = file.locks }
+given_by file = record { checker = member file.pairs; locks = file.locks }
 
 abbrev pub run_reply : (source : Bytes) → Reply
 run_reply source = file_reply file_line run_of (λ file. outcome_reply (run (given_by file) file.script file.stack)) source

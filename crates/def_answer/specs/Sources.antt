@@ -4,10 +4,11 @@ use Rattle.def_script.specs.Bytes.{Bytes}
 use Rattle.def_tree.specs.Tree.{Tree}
 use Rattle.def_text.specs.Refusal.{TextReads}
 use Rattle.def_sane.specs.declared.Unfit.{Unfit}
-use Rattle.def_sane.specs.Unfit.{first_unfit, first_unfit_valid, first_unfit_under, first_unfit_valid_under}
+use Rattle.def_sane.specs.Unfit.{first_unfit, first_unfit_valid}
 use Rattle.def_answer.specs.declared.status.Status.{Status}
 use Rattle.def_answer.specs.declared.status.Status.TheVariants as status
-use Rattle.def_answer.specs.Words.{Command, script, check, satisfy, satisfy_malleable, run, gen, policy, plan, audit, decode, IsForm}
+use Rattle.def_answer.specs.Satisfy.{reason_by}
+use Rattle.def_answer.specs.Words.{Command, script, check, satisfy, run, gen, policy, plan, audit, decode, IsForm}
 
 -- the text is read as a tree, and there is no reason against it
 abbrev pub Passes : (first_reason : Tree → Option Unfit) → (text : Bytes) → Type 0
@@ -18,8 +19,7 @@ Passes first_reason text =
 abbrev pub NeedsSource : Command → Type 0
 NeedsSource (script rules text) = ⊥
 NeedsSource (check rules text) = ⊥
-NeedsSource (satisfy rules text) = Passes (first_unfit_under rules) text
-NeedsSource (satisfy_malleable rules text) = Passes (first_unfit_valid_under rules) text
+NeedsSource (satisfy choice rules text) = Passes (reason_by choice rules) text
 NeedsSource run = ⊤
 NeedsSource (gen n) = ⊥
 NeedsSource (policy text) = ⊥

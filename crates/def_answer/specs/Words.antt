@@ -5,17 +5,16 @@ use Rattle.hex.specs.Hex.{is_hex_digit}
 use Rattle.def_script.specs.Bytes.{Bytes}
 use Rattle.def_text.specs.Word.{key_of}
 use Rattle.def_sane.specs.declared.Rules.{Rules}
-use Rattle.def_sane.specs.declared.Rules.TheVariants.{Policy, Consensus}
+use Rattle.def_choice.specs.declared.choice.Choice.{Choice}
+use Rattle.def_answer.specs.Satisfy.{rules_words, satisfy_words}
 
 pub data Command : Type 0 where
   -- the Script of a text that is valid under these rules
   script : (rules : Rules) → (text : Bytes) → Command
   -- what is known of a text that is sane under these rules
   check : (rules : Rules) → (text : Bytes) → Command
-  -- the strict satisfaction of a text that is sane under these rules, with an asset file
-  satisfy : (rules : Rules) → (text : Bytes) → Command
-  -- the cheapest satisfaction of a text that is valid under these rules, with an asset file
-  satisfy_malleable : (rules : Rules) → (text : Bytes) → Command
+  -- the satisfaction that is chosen so, of a text that is sane or valid under these rules, with an asset file
+  satisfy : (choice : Choice) → (rules : Rules) → (text : Bytes) → Command
   -- a run of a script on a stack, with a run file
   run : Command
   -- a large text that is made from a number, and its satisfactions
@@ -29,17 +28,11 @@ pub data Command : Type 0 where
   -- the text that a Script is read back as, with the keys that its hashes of keys may have
   decode : (digits : Bytes) → (keys : List Bytes) → Command
 
--- the rules of consensus are asked for by a word, those of policy by none
-abbrev pub rules_words : Rules → List Bytes
-rules_words Policy = []
-rules_words Consensus = codes "--consensus" ∷ []
-
 -- the words of a command
 abbrev pub words_of : Command → List Bytes
 words_of (script rules text) = codes "script" ∷ (rules_words rules ++ text ∷ [])
 words_of (check rules text) = codes "check" ∷ (rules_words rules ++ text ∷ [])
-words_of (satisfy rules text) = codes "satisfy" ∷ (rules_words rules ++ text ∷ [])
-words_of (satisfy_malleable rules text) = codes "satisfy" ∷ codes "--malleable" ∷ (rules_words rules ++ text ∷ [])
+words_of (satisfy choice rules text) = satisfy_words choice rules text
 words_of run = codes "run" ∷ []
 words_of (gen n) = codes "gen" ∷ decimal n ∷ []
 words_of (policy text) = codes "policy" ∷ text ∷ []
@@ -59,8 +52,7 @@ IsHex digits = (length digits % 2 ≡ 0) × AllPass is_hex_digit digits
 abbrev pub IsCommand : Command → Type 0
 IsCommand (script rules text) = ⊤
 IsCommand (check rules text) = ⊤
-IsCommand (satisfy rules text) = ⊤
-IsCommand (satisfy_malleable rules text) = ⊤
+IsCommand (satisfy choice rules text) = ⊤
 IsCommand run = ⊤
 IsCommand (gen n) = (1 ≤ n) × (n ≤ MOST_GENERATED)
 IsCommand (policy text) = ⊤

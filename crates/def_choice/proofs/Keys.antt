@@ -3,7 +3,7 @@ use Rattle.std.proofs.Common.{◌≡◌, ℕ, zero, suc, false, List, [], ◌∷
 use Rattle.std.proofs.lemmas.List.{map-append, length-append, reverse-append}
 use Rattle.std.proofs.lemmas.Option.{none-some, same_Some}
 use Rattle.def_script.specs.Bytes.{Bytes}
-use Rattle.def_machine.specs.Stacks.{Stack, Pairs}
+use Rattle.def_machine.specs.Stacks.{Stack, Checker, member}
 use Rattle.def_machine.specs.MultiSig.{is_good}
 use Rattle.def_tree.specs.Tree.{Key}
 use Rattle.def_assets.specs.Assets.{Assets, AreAssets, sig_of}
@@ -37,56 +37,56 @@ pub signature_best : (assets : Assets) → AreAssets assets → (key : Key) → 
 signature_best assets are key = signature_of assets are key (sig_of assets key) refl
 
 -- a further key, which is passed over
-passed : (table : Pairs) (key : Key) (keys : List Key) (sigs : Stack) → AreSignatures table keys sigs → AreSignatures table (key ∷ keys) sigs
-passed table key keys [] h = tt
-passed table key keys (sig ∷ sigs) h = inr h
+passed : (checker : Checker) (key : Key) (keys : List Key) (sigs : Stack) → AreSignatures checker keys sigs → AreSignatures checker (key ∷ keys) sigs
+passed checker key keys [] h = tt
+passed checker key keys (sig ∷ sigs) h = inr h
 
 -- one more key behind the others
-record LastSigned (table : Pairs) (keys : List Key) (key : Key) (sigs : Stack) : Type 0 where
+record LastSigned (checker : Checker) (keys : List Key) (key : Key) (sigs : Stack) : Type 0 where
   rest : Stack
   sig : Bytes
-  good : IsTrue (is_good table key sig)
-  before : AreSignatures table keys rest
+  good : IsTrue (is_good checker key sig)
+  before : AreSignatures checker keys rest
   whole : sigs ≡ rest ++ sig ∷ []
 
-last_or_not : (table : Pairs) (keys : List Key) (key : Key) (sigs : Stack) → AreSignatures table (keys ++ key ∷ []) sigs →
-    AreSignatures table keys sigs ⊎ LastSigned table keys key sigs
-last_or_not table keys key [] h = inl h
-last_or_not table [] key (sig ∷ []) (inl h) = inr (record { rest = []; sig = sig; good = h.0; before = tt; whole = refl })
-last_or_not table [] key (sig ∷ g ∷ sigs) (inl h) = absurd h.1
-last_or_not table [] key (sig ∷ sigs) (inr h) = absurd h
-last_or_not table (k ∷ keys) key (sig ∷ sigs) (inl h) =
-    elim (last_or_not table keys key sigs h.1) [
+last_or_not : (checker : Checker) (keys : List Key) (key : Key) (sigs : Stack) → AreSignatures checker (keys ++ key ∷ []) sigs →
+    AreSignatures checker keys sigs ⊎ LastSigned checker keys key sigs
+last_or_not checker keys key [] h = inl h
+last_or_not checker [] key (sig ∷ []) (inl h) = inr (record { rest = []; sig = sig; good = h.0; before = tt; whole = refl })
+last_or_not checker [] key (sig ∷ g ∷ sigs) (inl h) = absurd h.1
+last_or_not checker [] key (sig ∷ sigs) (inr h) = absurd h
+last_or_not checker (k ∷ keys) key (sig ∷ sigs) (inl h) =
+    elim (last_or_not checker keys key sigs h.1) [
       | inl i ↦ inl (inl (h.0, i))
       | inr l ↦ inr (record { rest = sig ∷ l.rest; sig = l.sig; good = l.good; before = inl (h.0, l.before); whole = ap (λ v. sig ∷ v) l.whole })
     ]
-last_or_not table (k ∷ keys) key (sig ∷ sigs) (inr h) =
-    elim (last_or_not table keys key (sig ∷ sigs) h) [
+last_or_not checker (k ∷ keys) key (sig ∷ sigs) (inr h) =
+    elim (last_or_not checker keys key (sig ∷ sigs) h) [
       | inl i ↦ inl (inr i)
-      | inr l ↦ inr (record { rest = l.rest; sig = l.sig; good = l.good; before = passed table k keys l.rest l.before; whole = l.whole })
+      | inr l ↦ inr (record { rest = l.rest; sig = l.sig; good = l.good; before = passed checker k keys l.rest l.before; whole = l.whole })
     ]
 
-with_last : (table : Pairs) (keys : List Key) (key : Key) (sigs : Stack) (sig : Bytes) → IsTrue (is_good table key sig) → AreSignatures table keys sigs →
-    AreSignatures table (keys ++ key ∷ []) (sigs ++ sig ∷ [])
-with_last table [] key [] sig good h = inl (good, tt)
-with_last table [] key (g ∷ sigs) sig good h = absurd h
-with_last table (k ∷ keys) key [] sig good h = inr (with_last table keys key [] sig good tt)
-with_last table (k ∷ keys) key (g ∷ sigs) sig good (inl h) = inl (h.0, with_last table keys key sigs sig good h.1)
-with_last table (k ∷ keys) key (g ∷ sigs) sig good (inr h) = inr (with_last table keys key (g ∷ sigs) sig good h)
+with_last : (checker : Checker) (keys : List Key) (key : Key) (sigs : Stack) (sig : Bytes) → IsTrue (is_good checker key sig) → AreSignatures checker keys sigs →
+    AreSignatures checker (keys ++ key ∷ []) (sigs ++ sig ∷ [])
+with_last checker [] key [] sig good h = inl (good, tt)
+with_last checker [] key (g ∷ sigs) sig good h = absurd h
+with_last checker (k ∷ keys) key [] sig good h = inr (with_last checker keys key [] sig good tt)
+with_last checker (k ∷ keys) key (g ∷ sigs) sig good (inl h) = inl (h.0, with_last checker keys key sigs sig good h.1)
+with_last checker (k ∷ keys) key (g ∷ sigs) sig good (inr h) = inr (with_last checker keys key (g ∷ sigs) sig good h)
 
-pub without_last : (table : Pairs) (keys : List Key) (key : Key) (sigs : Stack) → AreSignatures table keys sigs → AreSignatures table (keys ++ key ∷ []) sigs
-without_last table keys key [] h = tt
-without_last table [] key (g ∷ sigs) h = absurd h
-without_last table (k ∷ keys) key (g ∷ sigs) (inl h) = inl (h.0, without_last table keys key sigs h.1)
-without_last table (k ∷ keys) key (g ∷ sigs) (inr h) = inr (without_last table keys key (g ∷ sigs) h)
+pub without_last : (checker : Checker) (keys : List Key) (key : Key) (sigs : Stack) → AreSignatures checker keys sigs → AreSignatures checker (keys ++ key ∷ []) sigs
+without_last checker keys key [] h = tt
+without_last checker [] key (g ∷ sigs) h = absurd h
+without_last checker (k ∷ keys) key (g ∷ sigs) (inl h) = inl (h.0, without_last checker keys key sigs h.1)
+without_last checker (k ∷ keys) key (g ∷ sigs) (inr h) = inr (without_last checker keys key (g ∷ sigs) h)
 
-no_signatures : (table : Pairs) (keys : List Key) (sigs : Stack) → length sigs ≡ 0 → AreSignatures table keys sigs
-no_signatures table keys [] h = tt
-no_signatures table keys (sig ∷ sigs) h = absurd (omega arith)
+no_signatures : (checker : Checker) (keys : List Key) (sigs : Stack) → length sigs ≡ 0 → AreSignatures checker keys sigs
+no_signatures checker keys [] h = tt
+no_signatures checker keys (sig ∷ sigs) h = absurd (omega arith)
 
-no_key : (table : Pairs) (k : ℕ) (sigs : Stack) → length sigs ≡ suc k → AreSignatures table [] sigs → ⊥
-no_key table k [] h are = omega arith
-no_key table k (sig ∷ sigs) h are = are
+no_key : (checker : Checker) (k : ℕ) (sigs : Stack) → length sigs ≡ suc k → AreSignatures checker [] sigs → ⊥
+no_key checker k [] h are = omega arith
+no_key checker k (sig ∷ sigs) h are = are
 
 empty_is : (sigs : Stack) → length sigs ≡ 0 → sigs ≡ []
 empty_is [] h = refl
@@ -101,23 +101,23 @@ module _ (assets : Assets) (are : AreAssets assets) where
   S k keys = Signatures (canonical assets) k keys
 
   none_to : (key : Key) (keys : List Key) (w : Stack) → S 0 keys w → S 0 (key ∷ keys) w
-  none_to key keys w h = (h.0, no_signatures assets.pairs (reverse (key ∷ keys)) w h.0)
+  none_to key keys w h = (h.0, no_signatures (member assets.pairs) (reverse (key ∷ keys)) w h.0)
 
   none_from : (key : Key) (keys : List Key) (w : Stack) → S 0 (key ∷ keys) w → S 0 keys w
-  none_from key keys w h = (h.0, no_signatures assets.pairs (reverse keys) w h.0)
+  none_from key keys w h = (h.0, no_signatures (member assets.pairs) (reverse keys) w h.0)
 
   more_to : (k : ℕ) (key : Key) (keys : List Key) (w : Stack) → Either (Both (Signature (canonical assets) key) (S k keys)) (S (suc k) keys) w → S (suc k) (key ∷ keys) w
   more_to k key keys w (inl (below, above, s, h, e)) =
       let whole : w ≡ above ++ s.0 ∷ [] = e ∙ ap (λ v. above ++ v) s.2 in
       let long : length w ≡ length (above ++ s.0 ∷ []) = ap length whole in (
         omega (arith, h.0, long, length-append above (s.0 ∷ [])),
-        rw (turned key keys, whole) (with_last assets.pairs (reverse keys) key above s.0 s.1 h.1),
+        rw (turned key keys, whole) (with_last (member assets.pairs) (reverse keys) key above s.0 s.1 h.1),
       )
-  more_to k key keys w (inr h) = (h.0, rw (turned key keys) (without_last assets.pairs (reverse keys) key w h.1))
+  more_to k key keys w (inr h) = (h.0, rw (turned key keys) (without_last (member assets.pairs) (reverse keys) key w h.1))
 
   more_from : (k : ℕ) (key : Key) (keys : List Key) (w : Stack) → S (suc k) (key ∷ keys) w → Either (Both (Signature (canonical assets) key) (S k keys)) (S (suc k) keys) w
   more_from k key keys w h =
-      elim (last_or_not assets.pairs (reverse keys) key w (subst (λ ks. AreSignatures assets.pairs ks w) (turned key keys) h.1)) [
+      elim (last_or_not (member assets.pairs) (reverse keys) key w (subst (λ ks. AreSignatures (member assets.pairs) ks w) (turned key keys) h.1)) [
         | inl i ↦ inr (h.0, i)
         | inr l ↦
             let long : length w ≡ length (l.rest ++ l.sig ∷ []) = ap length l.whole in
@@ -126,7 +126,7 @@ module _ (assets : Assets) (are : AreAssets assets) where
 
   pub keys_best : (keys : List Key) (k : ℕ) → IsLightest (S k keys) (signatures assets k keys)
   keys_best [] zero = one_best (S zero []) [] (refl, tt) (λ v h. empty_is v h.0)
-  keys_best [] (suc k) = none_best (S (suc k) []) (λ w h. no_key assets.pairs k w h.0 h.1)
+  keys_best [] (suc k) = none_best (S (suc k) []) (λ w h. no_key (member assets.pairs) k w h.0 h.1)
   keys_best (key ∷ keys) zero =
       let e : signatures assets zero (key ∷ keys) ≡ signatures assets zero keys = least-map_map (signatures_of assets (key ∷ keys)) (λ set. false ∷ set) (sets (length keys) zero) in
       rw e (best_as (S zero keys) (S zero (key ∷ keys)) (signatures assets zero keys) (none_to key keys) (none_from key keys) (keys_best keys zero))

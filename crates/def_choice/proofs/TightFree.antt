@@ -3,7 +3,7 @@
 use Rattle.std.proofs.Common.{◌≡◌, ℕ, ◌≤◌, true, List, [], ◌∷◌, length, reverse, refl, ap, inl, inr, arith}
 use Rattle.std.proofs.lemmas.Bool.{false≢true}
 use Rattle.def_script.specs.Bytes.{Bytes}
-use Rattle.def_machine.specs.Stacks.{Stack}
+use Rattle.def_machine.specs.Stacks.{Stack, member}
 use Rattle.def_machine.specs.MultiSig.{is_good}
 use Rattle.def_tree.specs.declared.Two.TheVariants as kind
 use Rattle.def_tree.specs.declared.Wrapper.TheVariants as wrapper
@@ -59,17 +59,17 @@ module _ (assets : Assets) where
   free_dsat tree = dsat_within (canonical assets) (canonical (unsigned assets)) false≢true (λ key other h. h) tree
 
 -- no signature is good under no table
-bare_good : (key sig : Bytes) → is_good [] key sig ≡ true → ⊥
+bare_good : (key sig : Bytes) → is_good (member []) key sig ≡ true → ⊥
 bare_good key [] h = false≢true h
 bare_good key (b ∷ sig) h = false≢true h
 
-bare_signatures : (keys : List Key) (sigs : Stack) → AreSignatures [] keys sigs → sigs ≡ []
+bare_signatures : (keys : List Key) (sigs : Stack) → AreSignatures (member []) keys sigs → sigs ≡ []
 bare_signatures keys [] h = refl
 bare_signatures [] (sig ∷ sigs) h = absurd h
 bare_signatures (key ∷ keys) (sig ∷ sigs) (inl h) = absurd (bare_good key sig h.0)
 bare_signatures (key ∷ keys) (sig ∷ sigs) (inr h) = bare_signatures keys (sig ∷ sigs) h
 
-none_signed : (keys : List Key) (sigs : Stack) → length sigs ≡ 0 → AreSignatures [] keys sigs
+none_signed : (keys : List Key) (sigs : Stack) → length sigs ≡ 0 → AreSignatures (member []) keys sigs
 none_signed keys [] h = tt
 none_signed keys (sig ∷ sigs) h = absurd (omega arith)
 

@@ -1,7 +1,7 @@
 -- Which satisfactions nobody can change (BIP 379, malleability).
 use Rattle.std.specs.Prelude.{◌≡◌, ◌≢◌, ◌⊎◌, ℕ, IsTrue, List, All}
 use Rattle.def_script.specs.Bytes.{Bytes, IsBytes}
-use Rattle.def_machine.specs.Stacks.{Pairs, member}
+use Rattle.def_machine.specs.Stacks.{Pairs, Checker, member}
 use Rattle.def_machine.specs.Machine.{Given}
 use Rattle.def_machine.specs.Run.{run, accepted}
 use Rattle.def_tree.specs.Tree.{Tree}
@@ -20,16 +20,16 @@ pub record IsAccepted (tree : Tree) (given : Given) (stack : List Bytes) (checks
 abbrev pub HasNewPair : (these those : Pairs) → Type 0
 HasNewPair these those = (key : Bytes) × (sig : Bytes) × IsTrue (member these key sig) × ¬ IsTrue (member those key sig)
 
--- the locks of the assets, with a table of signatures
-abbrev pub given_with : Assets → (table : Pairs) → Given
-given_with assets table = record { table = table; locks = assets.locks }
+-- the locks of the assets, with signatures that are good
+abbrev pub given_with : Assets → (checker : Checker) → Given
+given_with assets checker = record { checker = checker; locks = assets.locks }
 
 -- the stack has a preimage that isn't the known one, or a key with the hash of a miniscript's key: it is a
 -- satisfaction, but not where only the known preimages and the miniscript's own keys count
-abbrev pub Fresh : Tree → Assets → (table : Pairs) → (stack : List Bytes) → Type 0
-Fresh tree assets table stack =
-    FullSat tree (given_with assets table) any stack ×
-    ¬ FullSat tree (given_with assets table) (only (known assets)) stack
+abbrev pub Fresh : Tree → Assets → (checker : Checker) → (stack : List Bytes) → Type 0
+Fresh tree assets checker stack =
+    FullSat tree (given_with assets checker) any stack ×
+    ¬ FullSat tree (given_with assets checker) (only (known assets)) stack
 
 -- the keys and the signatures of a table consist of bytes
 abbrev pub IsTableOfBytes : Pairs → Type 0
@@ -39,8 +39,8 @@ IsTableOfBytes table = All (λ pair. IsBytes pair.0 × IsBytes pair.1) table
 -- bytes that is accepted passes a check that this one doesn't, or is fresh
 abbrev pub NonMalleable : Tree → Assets → (stack : List Bytes) → Type 0
 NonMalleable tree assets stack =
-    (table : Pairs) → IsTableOfBytes table → Holds table assets →
-    (checks : Pairs) × IsAccepted tree (given_with assets table) stack checks ×
+    (table : Pairs) → IsTableOfBytes table → Holds (member table) assets →
+    (checks : Pairs) × IsAccepted tree (given_with assets (member table)) stack checks ×
     ((other : List Bytes) (others : Pairs) → All IsBytes other →
-    IsAccepted tree (given_with assets table) other others → other ≢ stack →
-    HasNewPair others checks ⊎ Fresh tree assets table other)
+    IsAccepted tree (given_with assets (member table)) other others → other ≢ stack →
+    HasNewPair others checks ⊎ Fresh tree assets (member table) other)

@@ -1,7 +1,7 @@
 -- Satisfactions that need no signature, tight ones and others, and a table with more signatures than the assets. Stacks
 -- stand bottom first.
 use Rattle.std.specs.Prelude.{[], ◌∷◌}
-use Rattle.def_machine.specs.Stacks.{Pairs}
+use Rattle.def_machine.specs.Stacks.{Pairs, member}
 use Rattle.def_machine.specs.Samples.{key_a, key_b, sig_a, sig_b}
 use Rattle.def_tree.specs.Tree.{Tree, older, thresh}
 use Rattle.def_types.specs.Samples.{pk, sha256, a, or_d, or_i, trees}
@@ -62,10 +62,10 @@ larger = pair_a ∷ pair_b ∷ []
 
 pub record OtherSigns : Type 0 where
   pub bytes : IsTableOfBytes larger
-  pub holds : Holds larger without_preimage
+  pub holds : Holds (member larger) without_preimage
   pub chosen : BothChoose either_key without_preimage (sig_a ∷ [])
-  pub accepted : IsAccepted either_key (given_with without_preimage larger) (sig_a ∷ []) (pair_a ∷ [])
-  pub other : IsAccepted either_key (given_with without_preimage larger) (sig_b ∷ EMPTY ∷ []) (pair_b ∷ [])
+  pub accepted : IsAccepted either_key (given_with without_preimage (member larger)) (sig_a ∷ []) (pair_a ∷ [])
+  pub other : IsAccepted either_key (given_with without_preimage (member larger)) (sig_b ∷ EMPTY ∷ []) (pair_b ∷ [])
   pub new : HasNewPair (pair_b ∷ []) (pair_a ∷ [])
-  pub known : ¬ Fresh either_key without_preimage larger (sig_b ∷ EMPTY ∷ [])
+  pub known : ¬ Fresh either_key without_preimage (member larger) (sig_b ∷ EMPTY ∷ [])
   pub not_held : ¬ Sat either_key without_preimage (sig_b ∷ EMPTY ∷ [])

@@ -11,7 +11,7 @@ use Rattle.def_script.specs.Decode.{num_decode, truth, is_nonzero}
 use Rattle.def_machine.specs.declared.ScriptFault.TheVariants as fault
 use Rattle.def_script.specs.Limits.{MAX_NUMBER_SIZE, MAX_LOCK_SIZE}
 use Rattle.def_machine.specs.Faults.{OrFault, ◌>>=◌}
-use Rattle.def_machine.specs.Stacks.{Stack, Pairs, member, is_empty, bool_bytes}
+use Rattle.def_machine.specs.Stacks.{Stack, Pairs, Checker, is_empty, bool_bytes}
 use Rattle.def_script.specs.Key.{is_key}
 
 -- VERIFY takes the top, which must be true
@@ -120,13 +120,13 @@ hash kind (x ∷ s) = Ok (digest_of kind x ∷ s)
 -- CHECKSIG takes the key and the signature below it, with the checks passed so far: the key must
 -- have its form, an empty signature fails and asks nothing, and another must pass (BIP 146,
 -- NULLFAIL)
-unfoldable pub check_sig : Pairs → Stack → Pairs → OrFault (Stack × Pairs)
-check_sig table [] checks = Err fault.StackUnderflow
-check_sig table (key ∷ []) checks = Err fault.StackUnderflow
-check_sig table (key ∷ sig ∷ s) checks =
+unfoldable pub check_sig : Checker → Stack → Pairs → OrFault (Stack × Pairs)
+check_sig checker [] checks = Err fault.StackUnderflow
+check_sig checker (key ∷ []) checks = Err fault.StackUnderflow
+check_sig checker (key ∷ sig ∷ s) checks =
     if not (is_key key) then Err fault.KeyForm
     else if is_empty sig then Ok (bool_bytes false ∷ s, checks)
-    else if member table key sig then Ok (bool_bytes true ∷ s, checks ++ (key, sig) ∷ [])
+    else if checker key sig then Ok (bool_bytes true ∷ s, checks ++ (key, sig) ∷ [])
     else Err fault.NullFail
 
 -- a lock isn't negative

@@ -15,13 +15,13 @@ use Rattle.def_machine.specs.declared.ScriptFault.TheVariants as fault
 use Rattle.def_script.specs.Limits.{MAX_SCRIPT_ELEMENT_SIZE, MAX_STACK_SIZE}
 use Rattle.def_machine.specs.Locks.{after_holds, older_holds}
 use Rattle.def_machine.specs.Faults.{OrFault, ◌>>=◌}
-use Rattle.def_machine.specs.Stacks.{Stack, Pairs}
+use Rattle.def_machine.specs.Stacks.{Stack, Pairs, Checker}
 use Rattle.def_machine.specs.Effects.{verify, condition, to_alt_stack, from_alt_stack, if_dup, dup, swap, size, equal, zero_not_equal, add, bool_and, bool_or, hash, check_sig, lock}
 use Rattle.def_machine.specs.MultiSig.{within_op_limit, check_multi_sig}
 
--- what a run is given: the pairs of key and signature that are good, and the locks
+-- what a run is given: which pairs of key and signature are good, and the locks
 pub record Given : Type 0 where
-  pub table : Pairs
+  pub checker : Checker
   pub locks : Locks
 
 pub record State : Type 0 where
@@ -112,10 +112,10 @@ act given op.Ripemd160 s = on_main (hash kind.Ripemd160) s
 act given op.Sha256 s = on_main (hash kind.Sha256) s
 act given op.Hash160 s = on_main (hash kind.Hash160) s
 act given op.Hash256 s = on_main (hash kind.Hash256) s
-act given op.CheckSig s = on_checks (check_sig given.table) s
-act given op.CheckSigVerify s = on_checks (check_sig given.table) s >>= on_main verify
-act given op.CheckMultiSig s = on_multi (check_multi_sig given.table) s
-act given op.CheckMultiSigVerify s = on_multi (check_multi_sig given.table) s >>= on_main verify
+act given op.CheckSig s = on_checks (check_sig given.checker) s
+act given op.CheckSigVerify s = on_checks (check_sig given.checker) s >>= on_main verify
+act given op.CheckMultiSig s = on_multi (check_multi_sig given.checker) s
+act given op.CheckMultiSigVerify s = on_multi (check_multi_sig given.checker) s >>= on_main verify
 act given op.Cltv s = on_main (lock (λ n. after_holds n given.locks)) s
 act given op.Csv s = on_main (lock (λ n. older_holds n given.locks)) s
 
@@ -147,7 +147,7 @@ fault_of unread.Truncated = fault.Truncated
 fault_of unread.Unsupported = fault.Unsupported
 
 -- an item is carried out: it must be readable, a push must not be too long, and an opcode is
--- within_op_limit, also where the branches aren't taken
+-- counted, also where the branches aren't taken
 unfoldable pub carry_out : Given → Item → State → OrFault State
 carry_out given (item.fault e) s = Err (fault_of e)
 carry_out given (item.push bytes minimal) s =

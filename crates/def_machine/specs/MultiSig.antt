@@ -7,7 +7,7 @@ use Rattle.def_machine.specs.declared.ScriptFault.{ScriptFault}
 use Rattle.def_machine.specs.declared.ScriptFault.TheVariants as fault
 use Rattle.def_script.specs.Limits.{MAX_OPS_PER_SCRIPT, MAX_PUBKEYS_PER_MULTISIG}
 use Rattle.def_machine.specs.Faults.{OrFault, ◌>>=◌}
-use Rattle.def_machine.specs.Stacks.{Stack, Pairs, member, is_empty, bool_bytes}
+use Rattle.def_machine.specs.Stacks.{Stack, Pairs, Checker, is_empty, bool_bytes}
 use Rattle.def_script.specs.Key.{is_key}
 use Rattle.def_machine.specs.Effects.{one_number}
 
@@ -44,18 +44,18 @@ one_try false false good next = Err fault.KeyForm
 one_try false true good next = next good
 
 -- the pair is good: an empty signature is never asked for
-abbrev pub is_good : Pairs → (key sig : Bytes) → Bool
-is_good table key sig = not (is_empty sig) && member table key sig
+abbrev pub is_good : Checker → (key sig : Bytes) → Bool
+is_good checker key sig = not (is_empty sig) && checker key sig
 
 -- the tries, each of the first key left with the first signature left. A try passes the key, and a
 -- good one the signature too. They give the pairs found good, in the order in which they were
 -- found, where no signature is left
-unfoldable pub tries : Pairs → (keys sigs : Stack) → (found : Pairs) → OrFault (Option Pairs)
-tries table keys [] found = Ok (Some found)
-tries table [] (sig ∷ sigs) found = Ok None
-tries table (key ∷ keys) (sig ∷ sigs) found =
-    one_try (nat_lt (length (key ∷ keys)) (length (sig ∷ sigs))) (is_key key) (is_good table key sig)
-    (λ good. tries table keys (if good then sigs else sig ∷ sigs) (if good then found ++ (key, sig) ∷ [] else found))
+unfoldable pub tries : Checker → (keys sigs : Stack) → (found : Pairs) → OrFault (Option Pairs)
+tries checker keys [] found = Ok (Some found)
+tries checker [] (sig ∷ sigs) found = Ok None
+tries checker (key ∷ keys) (sig ∷ sigs) found =
+    one_try (nat_lt (length (key ∷ keys)) (length (sig ∷ sigs))) (is_key key) (is_good checker key sig)
+    (λ good. tries checker keys (if good then sigs else sig ∷ sigs) (if good then found ++ (key, sig) ∷ [] else found))
 
 -- whether the tries passed, and the pairs found good; after a failure all signatures must be empty
 unfoldable pub verdict : (sigs : Stack) → Option Pairs → OrFault (Bool × Pairs)
@@ -68,15 +68,15 @@ null_dummy extra = if is_empty extra then Ok extra else Err fault.NullDummy
 
 -- CHECKMULTISIG takes the number of keys, the keys, the number of signatures, the signatures and
 -- one element more, with the number of opcodes and the checks passed so far
-unfoldable pub check_multi_sig : Pairs → Stack → (ops : ℕ) → (checks : Pairs) → OrFault (Stack × ℕ × Pairs)
-check_multi_sig table main ops checks = do
+unfoldable pub check_multi_sig : Checker → Stack → (ops : ℕ) → (checks : Pairs) → OrFault (Stack × ℕ × Pairs)
+check_multi_sig checker main ops checks = do
   n ← count MAX_PUBKEYS_PER_MULTISIG fault.KeyCount main
   total ← within_op_limit (ops + n.0)
   keys ← some_off n.0 n.1
   m ← count n.0 fault.SigCount keys.1
   sigs ← some_off m.0 m.1
   extra ← one_off sigs.1
-  tried ← tries table keys.0 sigs.0 []
+  tried ← tries checker keys.0 sigs.0 []
   passed ← verdict sigs.0 tried
   empty ← null_dummy extra.0
   Ok (bool_bytes passed.0 ∷ extra.1, total, checks ++ passed.1)

@@ -3,7 +3,7 @@ use Rattle.std.specs.Prelude.{ℕ, [], ◌∷◌, replicate}
 use Rattle.def_hash.specs.Hex.{from_hex}
 use Rattle.def_script.specs.Bytes.{Bytes}
 use Rattle.def_machine.specs.declared.Locks.{Locks}
-use Rattle.def_machine.specs.Stacks.{Pairs}
+use Rattle.def_machine.specs.Stacks.{Pairs, member}
 use Rattle.def_machine.specs.Machine.{Given}
 
 abbrev pub key_a : Bytes
@@ -34,14 +34,14 @@ abbrev pub plain_locks : Locks
 plain_locks = record { version = 2; sequence = 0xfffffffe; locktime = 0 }
 
 abbrev pub with_table : Pairs → Given
-with_table table = record { table = table; locks = plain_locks }
+with_table table = record { checker = member table; locks = plain_locks }
 
 abbrev pub with_sequence : ℕ → Pairs → Given
-with_sequence sequence table = record { table = table; locks = record plain_locks { sequence = sequence } }
+with_sequence sequence table = record { checker = member table; locks = record plain_locks { sequence = sequence } }
 
 -- no good signature
 abbrev pub with_locks : Locks → Given
-with_locks locks = record { table = []; locks = locks }
+with_locks locks = record { checker = member []; locks = locks }
 
 abbrev pub nothing : Given
 nothing = with_locks plain_locks

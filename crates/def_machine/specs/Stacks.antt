@@ -1,4 +1,4 @@
--- Stacks of byte strings, and tables of signatures.
+-- Stacks of byte strings, and which signatures are good.
 use Rattle.std.specs.Prelude.{◌&&◌, Bool, true, false, List, [], ◌∷◌, if◌then◌else◌}
 use Rattle.std.specs.List.{list_any}
 use Rattle.std.specs.Str.{bytes_eq}
@@ -12,8 +12,12 @@ Stack = List Bytes
 abbrev pub Pairs : Type 0
 Pairs = List (Bytes × Bytes)
 
--- a table holds the pair
-abbrev pub member : Pairs → (key sig : Bytes) → Bool
+-- which pairs of a key and a signature are good (Bitcoin Core: `BaseSignatureChecker` in script/interpreter.h)
+abbrev pub Checker : Type 0
+Checker = (key sig : Bytes) → Bool
+
+-- those that a table holds: a table is a checker too
+abbrev pub member : Pairs → Checker
 member table key sig = list_any (λ pair. bytes_eq pair.0 key && bytes_eq pair.1 sig) table
 
 -- the string is empty

@@ -25,7 +25,8 @@ use Rattle.def_satisfaction.specs.Satisfaction.{full}
 use Rattle.def_satisfaction.proofs.Wider.{Within}
 use Rattle.def_choice.specs.NonMalleable.{given_with}
 use Rattle.def_choice.proofs.Weights.{contains-reverse}
-use Rattle.def_promises.specs.Promises.{HasUnknownPreimage, HasOtherKey, FreshHasItem}
+use Rattle.def_promises.specs.Promises.{FreshHasItem}
+use Rattle.def_promises.specs.Accepted.{HasUnknownPreimage, HasOtherKey}
 
 -- an item of a stack by a fragment of a list
 record Unknown (assets : Assets) (nodes : List Tree) (stack : Stack) : Type 0 where
@@ -239,6 +240,6 @@ shown tree assets given stack (inr o) = inr (record {
 })
 
 pub fresh_has_item : FreshHasItem
-fresh_has_item tree assets table stack fresh =
-    let given = given_with assets table in
+fresh_has_item tree assets checker stack fresh =
+    let given = given_with assets checker in
     elim ((splits assets given (all_nodes tree) tree (λ t h. h)).sat (reverse stack) fresh.0) [ inl i ↦ absurd (fresh.1 i) | inr i ↦ shown tree assets given stack i ]

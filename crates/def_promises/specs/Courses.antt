@@ -1,7 +1,7 @@
 -- How high the stacks get while a canonical satisfaction is run.
 use Rattle.std.specs.Prelude.{◌≡◌, ℕ, ⊤, IsTrue, List, All, length, Some}
 use Rattle.def_script.specs.Bytes.{Bytes}
-use Rattle.def_machine.specs.Stacks.{Pairs}
+use Rattle.def_machine.specs.Stacks.{Pairs, Checker, member}
 use Rattle.def_machine.specs.Machine.{Given}
 use Rattle.def_machine.specs.Run.{run, accepted}
 use Rattle.def_machine.specs.Locks.{older_holds, after_holds}
@@ -27,17 +27,17 @@ pub record HasCourse (tree : Tree) (given : Given) (stack : List Bytes) : Type 0
   pub checks : Pairs
   pub run : run given (script_of tree) stack ≡ accepted ops (peak way) checks
 
--- a canonical satisfaction of a miniscript that is valid under consensus has such a course, under every table that holds
--- the assets' pairs
+-- a canonical satisfaction of a miniscript that is valid under consensus has such a course, where the assets' signatures
+-- are good, whatever others are
 abbrev pub CanonicalHasCourse : Type 0
 CanonicalHasCourse =
-    (tree : Tree) (assets : Assets) (table : Pairs) (stack : List Bytes) →
-    IsWritable tree → IsValidUnder Consensus tree → AreAssets assets → Holds table assets →
-    Sat tree assets stack → HasCourse tree (given_with assets table) stack
+    (tree : Tree) (assets : Assets) (checker : Checker) (stack : List Bytes) →
+    IsWritable tree → IsValidUnder Consensus tree → AreAssets assets → Holds checker assets →
+    Sat tree assets stack → HasCourse tree (given_with assets checker) stack
 
 -- the assets hold a signature of this key
 abbrev pub Signs : Assets → Key → Type 0
-Signs assets key = (sig : Bytes) × IsTrue (is_good assets.pairs key sig)
+Signs assets key = (sig : Bytes) × IsTrue (is_good (member assets.pairs) key sig)
 
 -- the assets have all that a miniscript can take: a signature of each key, and the preimage of each hash, whose value isn't
 -- that of 32 zero bytes; and they meet each timelock

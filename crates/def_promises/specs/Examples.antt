@@ -2,7 +2,7 @@
 use Rattle.std.specs.Prelude.{◌≡◌, ◌≢◌, ◌<◌, ℕ, zero, suc, true, false, List, [], ◌∷◌, Contains, Some, None, Ok, replicate}
 use Rattle.def_script.specs.Bytes.{Bytes}
 use Rattle.def_machine.specs.Samples.{key_a, sig_a, sig_b}
-use Rattle.def_machine.specs.Stacks.{Pairs}
+use Rattle.def_machine.specs.Stacks.{Pairs, member}
 use Rattle.def_machine.specs.Machine.{Given}
 use Rattle.def_tree.specs.Tree.{Tree, just_1}
 use Rattle.def_tree.specs.Range.{MOST_DEPTH, IsWritable}
@@ -26,7 +26,7 @@ use Rattle.def_satisfaction.specs.Satisfaction.{given_of, Sat, FullSat, FullDsat
 use Rattle.def_satisfaction.specs.Samples.{pair_a, pair_b, preimage_1, preimage_2, preimage_3, hash_1, with_preimages, key_and_key_or_hashes, keys_and_preimages}
 use Rattle.def_choice.specs.Strict.{strict}
 use Rattle.def_choice.specs.NonMalleable.{IsAccepted, HasNewPair, Fresh, NonMalleable, given_with}
-use Rattle.def_promises.specs.Acceptance.{IsAcceptedWithin}
+use Rattle.def_promises.specs.Accepted.{IsAcceptedWithin}
 use Rattle.def_promises.specs.Courses.{HasAll}
 use Rattle.def_promises.specs.Letters.{HashesCanBeMissed}
 use Rattle.def_promises.specs.Reached.{HasLongest}
@@ -48,7 +48,7 @@ pub record AcceptanceIsMet : Type 0 where
   pub valid : IsValidUnder Consensus key_and_key_or_hashes
   pub are_limits : AreLimits key_and_key_or_hashes limits
   pub assets : AreAssets keys_and_preimages
-  pub holds : Holds keys_and_preimages.pairs keys_and_preimages
+  pub holds : Holds (member keys_and_preimages.pairs) keys_and_preimages
   pub sat : Sat key_and_key_or_hashes keys_and_preimages by_preimages
   pub full : FullSat key_and_key_or_hashes (given_of keys_and_preimages) any by_preimages
   pub accepted : IsAcceptedWithin key_and_key_or_hashes limits (given_of keys_and_preimages) by_preimages
@@ -94,8 +94,8 @@ pub record NothingIsMet : Type 0 where
   pub assets : AreAssets only_key_b
   pub none : strict key_and_key_or_hashes only_key_b ≡ None
   pub checks : Pairs
-  pub accepted : IsAccepted key_and_key_or_hashes (given_with only_key_b only_key_b.pairs) by_preimages checks
-  pub fresh : Fresh key_and_key_or_hashes only_key_b only_key_b.pairs by_preimages
+  pub accepted : IsAccepted key_and_key_or_hashes (given_with only_key_b (member only_key_b.pairs)) by_preimages checks
+  pub fresh : Fresh key_and_key_or_hashes only_key_b (member only_key_b.pairs) by_preimages
 
 -- of the letters: `pk(A)` is Bonduse, and has a satisfaction and a dissatisfaction
 abbrev pub given_a : Given

@@ -6,7 +6,7 @@ use Rattle.def_hash.specs.declared.HashKind.{HashKind}
 use Rattle.def_script.specs.Bytes.{Bytes, IsBytes}
 use Rattle.def_machine.specs.declared.Locks.{Locks}
 use Rattle.def_script.specs.Limits.{MAX_SCRIPT_ELEMENT_SIZE}
-use Rattle.def_machine.specs.Stacks.{Stack, is_empty}
+use Rattle.def_machine.specs.Stacks.{Stack, is_empty, member}
 use Rattle.def_machine.specs.Machine.{Given, State, is_live}
 use Rattle.def_tree.specs.Tree.{Tree, hash}
 use Rattle.def_tree.specs.Range.{IsWritable}
@@ -26,7 +26,7 @@ use Rattle.def_promises.specs.Limited.{StopFrom, LeaveFrom}
 
 -- no signature at all
 abbrev pub without_signatures : Locks → Given
-without_signatures locks = record { table = []; locks = locks }
+without_signatures locks = record { checker = member []; locks = locks }
 
 -- z, zero-arg: every satisfaction and dissatisfaction has no item
 abbrev pub ZeroArg : Tree → Ty → Type 0

@@ -1,4 +1,5 @@
 pub mod Limited
+pub mod Accepted
 pub mod Acceptance
 pub mod Letters
 pub mod Promises

@@ -1,62 +1,26 @@
 -- What is promised of the strict choice, beside the laws of choices: that it exists wherever it can, that nobody
 -- can change it, and that no lighter one can't be changed either. It is promised of every miniscript that is sane by
 -- the limits of consensus, and so of each that is sane by those of policy.
-use Rattle.std.specs.Prelude.{◌≡◌, ◌≢◌, ◌↔◌, ◌≤◌, ◌⊎◌, IsTrue, List, Contains, Some, None}
-use Rattle.def_hash.specs.declared.HashKind.{HashKind}
-use Rattle.def_hash.specs.Hash.{hash160}
+use Rattle.std.specs.Prelude.{◌≡◌, ◌↔◌, ◌≤◌, ◌⊎◌, List, Some, None}
 use Rattle.def_script.specs.Bytes.{Bytes}
-use Rattle.def_machine.specs.Stacks.{Pairs}
-use Rattle.def_script.specs.Key.{is_key}
-use Rattle.def_tree.specs.Tree.{Tree, Key, pk_h, hash}
+use Rattle.def_machine.specs.Stacks.{Pairs, Checker, member}
+use Rattle.def_tree.specs.Tree.{Tree}
 use Rattle.def_tree.specs.Range.{IsWritable}
-use Rattle.def_assets.specs.Assets.{Assets, AreAssets, known}
-use Rattle.def_tree.specs.Nodes.{all_nodes}
+use Rattle.def_assets.specs.Assets.{Assets, AreAssets}
 use Rattle.def_sane.specs.declared.Rules.TheVariants.{Consensus}
 use Rattle.def_sane.specs.Unfit.{IsSaneUnder}
 use Rattle.def_script.specs.Witness.{weight}
-use Rattle.def_satisfaction.specs.Rows.{IsPreimageOf}
-use Rattle.def_satisfaction.specs.Satisfaction.{Sat, Holds}
+use Rattle.def_satisfaction.specs.Satisfaction.{Sat}
 use Rattle.def_choice.specs.Strict.{strict}
 use Rattle.def_choice.specs.Tight.{Tight}
-use Rattle.def_choice.specs.NonMalleable.{IsAccepted, HasNewPair, Fresh, NonMalleable, given_with}
-
--- the stack has a preimage of a hash of the miniscript that isn't the known one
-pub record HasUnknownPreimage (tree : Tree) (assets : Assets) (stack : List Bytes) : Type 0 where
-  pub kind : HashKind
-  pub value : Bytes
-  pub preimage : Bytes
-  pub fragment : Contains (all_nodes tree) (hash kind value)
-  pub item : Contains stack preimage
-  pub preimage_of : IsPreimageOf kind value preimage
-  pub unknown : known assets kind value ≢ Some preimage
-
--- the stack has another key with the hash of a key of the miniscript
-pub record HasOtherKey (tree : Tree) (stack : List Bytes) : Type 0 where
-  pub key : Key
-  pub other : Key
-  pub fragment : Contains (all_nodes tree) (pk_h key)
-  pub item : Contains stack other
-  pub form : IsTrue (is_key other)
-  pub hash : hash160 other ≡ hash160 key
-  pub differs : other ≢ key
+use Rattle.def_choice.specs.NonMalleable.{IsAccepted, Fresh, NonMalleable, given_with}
+use Rattle.def_promises.specs.Accepted.{HasUnknownPreimage, HasOtherKey, Unchangeable}
 
 -- what makes a stack fresh
 abbrev pub FreshHasItem : Type 0
 FreshHasItem =
-    (tree : Tree) (assets : Assets) (table : Pairs) (stack : List Bytes) →
-    Fresh tree assets table stack → HasUnknownPreimage tree assets stack ⊎ HasOtherKey tree stack
-
--- more than `NonMalleable`: under every table that holds the pairs of the assets, also one of numbers that are no
--- bytes, the stack is accepted; and every other stack that is accepted, of bytes or not, passes a check that this one
--- doesn't, or is fresh and has an unknown preimage or a substitute key
-abbrev pub Unchangeable : Tree → Assets → (stack : List Bytes) → Type 0
-Unchangeable tree assets stack =
-    (table : Pairs) → Holds table assets →
-    (checks : Pairs) × IsAccepted tree (given_with assets table) stack checks ×
-    ((other : List Bytes) (others : Pairs) →
-    IsAccepted tree (given_with assets table) other others → other ≢ stack →
-    HasNewPair others checks ⊎
-    (Fresh tree assets table other × (HasUnknownPreimage tree assets other ⊎ HasOtherKey tree other)))
+    (tree : Tree) (assets : Assets) (checker : Checker) (stack : List Bytes) →
+    Fresh tree assets checker stack → HasUnknownPreimage tree assets stack ⊎ HasOtherKey tree stack
 
 abbrev pub UnchangeableIsNonMalleable : Type 0
 UnchangeableIsNonMalleable =
@@ -90,8 +54,8 @@ NothingToAccept =
     (tree : Tree) (assets : Assets) (stack : List Bytes) (checks : Pairs) →
     IsWritable tree → IsSaneUnder Consensus tree → AreAssets assets →
     strict tree assets ≡ None →
-    IsAccepted tree (given_with assets assets.pairs) stack checks →
-    Fresh tree assets assets.pairs stack
+    IsAccepted tree (given_with assets (member assets.pairs)) stack checks →
+    Fresh tree assets (member assets.pairs) stack
 
 -- a canonical satisfaction can't be changed exactly where it is tight
 abbrev pub TightIsNonMalleable : Type 0

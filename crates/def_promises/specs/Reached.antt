@@ -4,7 +4,7 @@ use Rattle.def_script.specs.Bytes.{Bytes}
 use Rattle.def_script.specs.Instruction.{opcode_count}
 use Rattle.def_script.specs.Signature.{MAX_SIGNATURE_SIZE}
 use Rattle.def_script.specs.Witness.{weight}
-use Rattle.def_machine.specs.Stacks.{Pairs}
+use Rattle.def_machine.specs.Stacks.{Pairs, member}
 use Rattle.def_machine.specs.MultiSig.{is_good}
 use Rattle.def_machine.specs.Run.{run, accepted}
 use Rattle.def_tree.specs.Tree.{Tree}
@@ -21,7 +21,7 @@ use Rattle.def_promises.specs.Courses.{HasAll}
 
 -- each signature that the assets hold with a key has as many bytes as one can have
 abbrev pub HasLongest : Assets → Type 0
-HasLongest assets = (key sig : Bytes) → IsTrue (is_good assets.pairs key sig) → length sig ≡ MAX_SIGNATURE_SIZE
+HasLongest assets = (key sig : Bytes) → IsTrue (is_good (member assets.pairs) key sig) → length sig ≡ MAX_SIGNATURE_SIZE
 
 -- some canonical satisfaction has exactly so many items and this weight, and its run is accepted and counts the opcodes of the
 -- Script and so many keys

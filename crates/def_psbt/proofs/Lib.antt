@@ -1,3 +1,4 @@
+pub mod Counting
 mod OnLiterals
 pub mod Reading
 mod Writing

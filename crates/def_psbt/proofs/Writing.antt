@@ -11,9 +11,10 @@ use Rattle.def_script.specs.Witness.{sized}
 use Rattle.def_script.proofs.Sizing.{size_is_read_back}
 use Rattle.def_psbt.specs.declared.PsbtFault.TheVariants.{RepeatedKey, KeyForm}
 use Rattle.def_psbt.specs.Map.{Pair, Map, type_of, pair_text, map_text, magic, psbt_text}
-use Rattle.def_psbt.specs.Listed.{Form, is_typed, stands, form_fault, global_form, input_form, output_form, shape_fault, pair_fault}
-use Rattle.def_psbt.specs.Reading.{Read, size_at, bytes_at, string_at, pair_at, sound_pair_at, pairs_at, map_at, maps_at, read_psbt}
-use Rattle.def_psbt.specs.Laws.{IsSoundMap, WrittenIsReadBack}
+use Rattle.def_psbt.specs.Fields.{version_of}
+use Rattle.def_psbt.specs.Listed.{Form, is_typed, stands, form_fault, global_form, shape_fault, pair_fault}
+use Rattle.def_psbt.specs.Reading.{Read, size_at, bytes_at, string_at, pair_at, sound_pair_at, pairs_at, map_at, Rules, input_rules, output_rules, whole_map_at, maps_at, input_count, output_count, read_psbt}
+use Rattle.def_psbt.specs.Laws.{IsSoundMap, IsWholeMap, WrittenIsReadBack}
 
 -- what stands at a place, to the end
 pub record Here (psbt : Bytes) (at : ℕ) (tail : Bytes) : Type 0 where
@@ -138,16 +139,22 @@ map_here forms psbt map at rest h sound =
     let long : length (map_text map) ≡ length (flat_map pair_text map) + 1 = length-append (flat_map pair_text map) (0x00 ∷ []) in
     pairs_here forms psbt map (suc (length psbt)) [] at rest h sound (omega (arith, few_pairs map))
 
-maps_here : (forms : ℕ → Form) (psbt : Bytes) (maps : List Map) (at : ℕ) (rest : Bytes) → Here psbt at (flat_map map_text maps ++ rest) → AllByRecursion (λ map. IsSoundMap forms [] map) maps
-    → maps_at forms psbt (length maps) at ≡ Ok (maps, at + length (flat_map map_text maps))
+whole_here : (rules : Rules) (psbt : Bytes) (map : Map) (at : ℕ) (rest : Bytes) → Here psbt at (map_text map ++ rest) → IsWholeMap rules map
+    → whole_map_at rules psbt at ≡ Ok (map, at + length (map_text map))
+whole_here rules psbt map at rest h whole =
+    let needed = whole.needed in
+    rw (map_here rules.forms psbt map at rest h whole.sound, needed) refl
+
+maps_here : (rules : Rules) (psbt : Bytes) (maps : List Map) (at : ℕ) (rest : Bytes) → Here psbt at (flat_map map_text maps ++ rest) → AllByRecursion (IsWholeMap rules) maps
+    → maps_at rules psbt (length maps) at ≡ Ok (maps, at + length (flat_map map_text maps))
 unfolding maps_at
-maps_here forms psbt [] at rest h sound = let none : at + 0 ≡ at = omega arith in ap (λ (n : ℕ). let y : Read (List Map) = Ok ([], n) in y) (sym none)
-maps_here forms psbt (map ∷ maps) at rest h sound =
+maps_here rules psbt [] at rest h sound = let none : at + 0 ≡ at = omega arith in ap (λ (n : ℕ). let y : Read (List Map) = Ok ([], n) in y) (sym none)
+maps_here rules psbt (map ∷ maps) at rest h sound =
     let cons : flat_map map_text (map ∷ maps) ≡ map_text map ++ flat_map map_text maps = flat_map-cons map_text map maps in
     let first : Here psbt at (map_text map ++ (flat_map map_text maps ++ rest)) =
     subst (Here psbt at) (ap (λ (x : Bytes). x ++ rest) cons ∙ append_assoc (map_text map) (flat_map map_text maps) rest) h in
-    let read = map_here forms psbt map at (flat_map map_text maps ++ rest) first sound.0 in
-    let others = maps_here forms psbt maps (at + length (map_text map)) rest (next psbt at (map_text map) (flat_map map_text maps ++ rest) first) sound.1 in
+    let read = whole_here rules psbt map at (flat_map map_text maps ++ rest) first sound.0 in
+    let others = maps_here rules psbt maps (at + length (map_text map)) rest (next psbt at (map_text map) (flat_map map_text maps ++ rest) first) sound.1 in
     let long : at + length (map_text map) + length (flat_map map_text maps)
     ≡ at + length (flat_map map_text (map ∷ maps)) = omega (arith, ap length cons, length-append (map_text map) (flat_map map_text maps)) in
     rw (read, others) (ap (λ (n : ℕ). let y : Read (List Map) = Ok (map ∷ maps, n) in y) long)
@@ -155,6 +162,7 @@ maps_here forms psbt (map ∷ maps) at rest h sound =
 pub written_is_read_back : WrittenIsReadBack
 unfolding read_psbt
 written_is_read_back psbt sound =
+    let version = version_of psbt.global in
     let inputs_text = flat_map map_text psbt.inputs in
     let outputs_text = flat_map map_text psbt.outputs in
     let text = psbt_text psbt.global psbt.inputs psbt.outputs in
@@ -162,21 +170,24 @@ written_is_read_back psbt sound =
     record { rest = refl; inside = omega (arith, length-append magic (map_text psbt.global ++ (flat_map map_text psbt.inputs ++ flat_map map_text psbt.outputs))) } in
     let global = map_here global_form text psbt.global 5 (inputs_text ++ outputs_text) start sound.global in
     let at_inputs = next text 5 (map_text psbt.global) (inputs_text ++ outputs_text) start in
-    let inputs = maps_here input_form text psbt.inputs (5 + length (map_text psbt.global)) outputs_text at_inputs (recursion_from_All (λ map. IsSoundMap input_form [] map) psbt.inputs sound.inputs) in
-    let inputs_are : maps_at input_form text (length psbt.transaction.inputs) (5 + length (map_text psbt.global))
+    let inputs = maps_here (input_rules version) text psbt.inputs (5 + length (map_text psbt.global)) outputs_text at_inputs
+    (recursion_from_All (IsWholeMap (input_rules version)) psbt.inputs sound.inputs) in
+    let inputs_are : maps_at (input_rules (version_of psbt.global)) text (input_count sound.outline) (5 + length (map_text psbt.global))
     ≡ Ok (psbt.inputs, 5 + length (map_text psbt.global) + length (flat_map map_text psbt.inputs)) =
-    ap (λ (n : ℕ). maps_at input_form text n (5 + length (map_text psbt.global))) (sym sound.each_input) ∙ inputs in
+    ap (λ (n : ℕ). maps_at (input_rules version) text n (5 + length (map_text psbt.global))) (sym sound.each_input) ∙ inputs in
     let at_outputs : Here (psbt_text psbt.global psbt.inputs psbt.outputs) (5 + length (map_text psbt.global) + length (flat_map map_text psbt.inputs)) (flat_map map_text psbt.outputs ++ []) =
     subst (Here text (5 + length (map_text psbt.global) + length inputs_text)) (sym (append-nil outputs_text)) (next text (5 + length (map_text psbt.global)) inputs_text outputs_text at_inputs) in
-    let outputs = maps_here output_form text psbt.outputs (5 + length (map_text psbt.global) + length inputs_text) [] at_outputs
-    (recursion_from_All (λ map. IsSoundMap output_form [] map) psbt.outputs sound.outputs) in
-    let outputs_are : maps_at output_form text (length psbt.transaction.outputs) (5 + length (map_text psbt.global) + length inputs_text)
+    let outputs = maps_here (output_rules version) text psbt.outputs (5 + length (map_text psbt.global) + length inputs_text) [] at_outputs
+    (recursion_from_All (IsWholeMap (output_rules version)) psbt.outputs sound.outputs) in
+    let outputs_are : maps_at (output_rules (version_of psbt.global)) text (output_count sound.outline) (5 + length (map_text psbt.global) + length inputs_text)
     ≡ Ok (psbt.outputs, 5 + length (map_text psbt.global) + length (flat_map map_text psbt.inputs) + length (flat_map map_text psbt.outputs)) =
-    ap (λ (n : ℕ). maps_at output_form text n (5 + length (map_text psbt.global) + length inputs_text)) (sym sound.each_output) ∙ outputs in
+    ap (λ (n : ℕ). maps_at (output_rules version) text n (5 + length (map_text psbt.global) + length inputs_text)) (sym sound.each_output) ∙ outputs in
     let at_end = next text (5 + length (map_text psbt.global) + length inputs_text) outputs_text [] at_outputs in
     let nothing : length text - (5 + length (map_text psbt.global) + length inputs_text + length outputs_text) ≡ 0 = sym (length-drop _ text) ∙ ap length at_end.rest in
-    let ended : nat_lt (length text) (length text) ≡ false = le-ltb _ _ (omega arith) in
+    let allowed = sound.allowed in
+    let said = sound.said in
+    let joined = sound.joined in
     let transaction = sound.transaction in
     let last : nat_lt (5 + length (map_text psbt.global) + length (flat_map map_text psbt.inputs) + length (flat_map map_text psbt.outputs))
     (length (psbt_text psbt.global psbt.inputs psbt.outputs)) ≡ false = le-ltb _ _ (omega arith) in
-    rw (global, transaction, inputs_are, outputs_are, last) refl
+    rw (global, allowed, said, inputs_are, outputs_are, last, joined, ← transaction) refl

@@ -1,7 +1,7 @@
 -- Examples of PSBTs and of refusals; keys, signatures and amounts are made up, and the ids of the
 -- transactions and the digests are those of other programs.
 use Prim.Native.String.{String}
-use Rattle.std.specs.Prelude.{◌≡◌, ℕ, [], ◌∷◌, ◌++◌, length, reverse, codes, Option, Some, None, Result, Ok, Err}
+use Rattle.std.specs.Prelude.{◌≡◌, ℕ, [], ◌∷◌, ◌++◌, length, replicate, reverse, codes, Option, Some, None, Result, Ok, Err}
 use Rattle.def_hash.specs.Hex.{from_hex}
 use Rattle.def_script.specs.Bytes.{Bytes}
 use Rattle.def_psbt.specs.declared.PsbtFault.TheVariants as fault
@@ -137,3 +137,73 @@ ValueRefusals =
     × (Refuses (from_hex "70736274ff010053020000000105050505050505050505050505050505050505050505050505050505050505050000000001510100000001905f010000000000160014070707070707070707070707070707070707070700000000000000") (At fault.ValueForm 5))
     × (Refuses (unsigned_with "01000000" ++ from_hex "220202010101010101010101010101010101010101010101010101010101010101010147aaaaaaaaaaaaaaaaaaaaaaaaaaaaaaaaaaaaaaaaaaaaaaaaaaaaaaaaaaaaaaaaaaaaaaaaaaaaaaaaaaaaaaaaaaaaaaaaaaaaaaaaaaaaaaaaaaaaaaaaaaaaaaaaaaaaaaaaaaaaaa0000") (At fault.ValueForm 91))
     × (Refuses (unsigned_with "01000000" ++ SPENT ++ WITNESS_SCRIPT ++ from_hex "220202010101010101010101010101010101010101010101010101010101010101010101010000") (At fault.ValueForm 245))
+
+-- ---- version 2 (BIP 370)
+
+-- BIP 370's test vector "1 input, 2 output updated PSBTv2"
+abbrev pub UPDATED : Bytes
+UPDATED = from_hex "70736274ff01020402000000010401010105010201fb0402000000000100520200000001c1aa256e214b96a1822f93de42bff3b5f3ff8d0519306e3515d7515a5e805b120000000000ffffffff0118c69a3b00000000160014b0a3af144208412693ca7d166852b52db0aef06e0000000001011f18c69a3b00000000160014b0a3af144208412693ca7d166852b52db0aef06e010e200b0ad921419c1c8719735d72dc739f9ea9e0638d1fe4c1eef0f9944084815fc8010f040000000000220202d601f84846a6755f776be00e3d9de8fb10acc935fb83c45fb0162d4cad5ab79218f69d873e540000800100008000000080000000002a0000000103080008af2f000000000104160014c430f64c4756da310dbd1a085572ef299926272c00220202e36fbff53dd534070cf8fd396614680f357a9b85db7340bf1cfa745d2ad7b34018f69d873e54000080010000800000008001000000640000000103088bbdeb0b0000000001041600144dd193ac964a56ac1b9e1cca8454fe2f474f851300"
+
+-- it has the transaction of the same vector's id
+abbrev pub UpdatedIsRead : Type 0
+UpdatedIsRead = Reads UPDATED UPDATED 1 2 "a788e535663f0ea63284364eeacd42aeea6abf4b8cc5c6acb8c4a870d2564275"
+
+-- the magic, and of the global map the version of the transaction, the number of inputs, one output and the version of the PSBT
+abbrev pub later_with : (inputs : ℕ) → Bytes
+later_with inputs = from_hex "70736274ff010204020000000104" ++ (0x01 ∷ inputs ∷ []) ++ from_hex "0105010101fb0402000000"
+
+-- the map of an input whose outpoint's id is this byte 32 times, with the sequence number fffffffe and other pairs
+abbrev pub later_input : (id : ℕ) → (pairs : String) → Bytes
+later_input id pairs = from_hex "010e20" ++ replicate 32 id ++ from_hex "010f0400000000011004feffffff" ++ from_hex pairs ++ 0x00 ∷ []
+
+-- the map of the output
+abbrev pub LATER_OUTPUT : Bytes
+LATER_OUTPUT = from_hex "010308905f0100000000000104160014070707070707070707070707070707070707070700"
+
+-- the same transaction as that of empty maps in version 0
+abbrev pub LaterIsRead : Type 0
+LaterIsRead =
+    let later = later_with 1 ++ from_hex "00" ++ later_input 0x05 "" ++ LATER_OUTPUT in
+    Reads later later 1 1 "fc13434055c19a48ec006f9c4951550f5ba2013f0cb368a52d5ca429a73223ec"
+
+-- the lock time of the global map where no input has one; the greatest height; the height where the input that has either has both; the
+-- time where one input has no height
+abbrev pub LockTimes : Type 0
+LockTimes =
+    let fallback = later_with 1 ++ from_hex "01030461ae0a0000" ++ later_input 0x05 "" ++ LATER_OUTPUT in
+    let greatest = later_with 3 ++ from_hex "0103040500000000" ++ later_input 0x05 "01120460ae0a00" ++ later_input 0x06 "01120461ae0a00" ++ later_input 0x07 "" ++ LATER_OUTPUT in
+    let height = later_with 2 ++ from_hex "00" ++ later_input 0x05 "01110400f1536501120461ae0a00" ++ later_input 0x06 "" ++ LATER_OUTPUT in
+    let time = later_with 2 ++ from_hex "00" ++ later_input 0x05 "01110400f1536501120461ae0a00" ++ later_input 0x06 "01110401f15365" ++ LATER_OUTPUT in
+    Reads fallback fallback 1 1 "3ea69159ac9557b83578138c1e386641bfa3bc5ac32f8ef05e3da773cb2539c2"
+    × Reads greatest greatest 3 1 "f21e529e358e67e14130c8ee38cf3312b1e3f51e2804321b660a1eff439b307d"
+    × Reads height height 2 1 "be7d5d1a526c43e9e5719c37de8c0a2859f968bfab8425a91039fb130b450461"
+    × Reads time time 2 1 "b5d947b1e231438325e24429d5d46ac34c718c574ef19302074670487c5081ec"
+
+-- a transaction beside the fields of version 2; the number of inputs, a sequence number and an amount in version 0
+abbrev pub VersionRefusals : Type 0
+VersionRefusals =
+    (Refuses (later_with 1 ++ from_hex "010029020000000001905f010000000000160014070707070707070707070707070707070707070700000000" ++ 0x00 ∷ []) (At fault.Version 20))
+    × (Refuses (from_hex "70736274ff01000a02000000000000000000" ++ from_hex "01040100" ++ 0x00 ∷ []) (At fault.Excluded 18))
+    × (Refuses (unsigned_with "feffffff" ++ from_hex "01100400000000" ++ from_hex "0000") (At fault.Excluded 91))
+    × (Refuses (unsigned_with "feffffff" ++ from_hex "00" ++ from_hex "0103080000000000000000" ++ 0x00 ∷ []) (At fault.Excluded 92))
+
+-- no version of the transaction; no index of an outpoint; no amount
+abbrev pub NeededRefusals : Type 0
+NeededRefusals =
+    (Refuses (from_hex "70736274ff0104010001050100" ++ from_hex "01fb040200000000") (At fault.NoTransaction 20))
+    × (Refuses (later_with 1 ++ from_hex "00010e20" ++ replicate 32 0x05 ++ from_hex "00") (At fault.NoTransaction 63))
+    × (Refuses (later_with 1 ++ from_hex "00" ++ later_input 0x05 "" ++ from_hex "01040000") (At fault.NoTransaction 81))
+
+-- an outpoint that stands twice; a time alone behind a height alone; a height that is a time; a time that is a height
+abbrev pub JoinedRefusals : Type 0
+JoinedRefusals =
+    (Refuses (later_with 2 ++ from_hex "00" ++ later_input 0x05 "" ++ later_input 0x05 "" ++ LATER_OUTPUT) (At fault.RepeatedOutpoint 78))
+    × (Refuses (later_with 3 ++ from_hex "00" ++ later_input 0x05 "01120461ae0a00" ++ later_input 0x06 "" ++ later_input 0x07 "01110400f15365" ++ LATER_OUTPUT) (At fault.LockTime 135))
+    × (Refuses (later_with 1 ++ from_hex "00" ++ later_input 0x05 "0112040065cd1d" ++ LATER_OUTPUT) (At fault.ValueForm 77))
+    × (Refuses (later_with 1 ++ from_hex "00" ++ later_input 0x05 "011104ff64cd1d" ++ LATER_OUTPUT) (At fault.ValueForm 77))
+
+-- the redeem script of an output whose key has data; a derivation of an output without a key
+abbrev pub OutputRefusals : Type 0
+OutputRefusals =
+    (Refuses (unsigned_with "feffffff" ++ from_hex "00" ++ from_hex "0200000151" ++ 0x00 ∷ []) (At fault.KeyForm 92))
+    × (Refuses (unsigned_with "feffffff" ++ from_hex "00" ++ from_hex "010204deadbeef" ++ 0x00 ∷ []) (At fault.KeyForm 92))

@@ -1,12 +1,13 @@
 -- The forms of keys and values (BIP 174, "Specification"; BIP 66 for signatures).
-use Rattle.std.specs.Prelude.{suc, ◌%◌, ◌==◌, ◌&&◌, ◌||◌, not, nat_lt, nat_le, Bool, false, List, [], ◌∷◌, length, map, slice_index, if◌then◌else◌, is_some, Option, Some, None}
+use Rattle.std.specs.Prelude.{ℕ, suc, ◌%◌, ◌==◌, ◌&&◌, ◌||◌, not, nat_lt, nat_le, Bool, false, List, [], ◌∷◌, length, map, slice_index, if◌then◌else◌, is_some, Option, Some, None}
+use Rattle.std.specs.Int.{w32, from_le_bytes}
 use Rattle.std.specs.List.{list_any, list_all}
 use Rattle.std.specs.Str.{bytes_eq}
 use Rattle.def_script.specs.Bytes.{Bytes}
 use Rattle.def_script.specs.Key.{is_key}
 use Rattle.def_script.specs.Signature.{MAX_SIGNATURE_SIZE}
 use Rattle.def_psbt.specs.Transaction.{Transaction, TransactionInput, TransactionOutput, outpoint_text}
-use Rattle.def_psbt.specs.Part.{Part, ◌>>=◌, first_bytes, whole}
+use Rattle.def_psbt.specs.Part.{Part, ◌>>=◌, first_bytes, first_size, whole}
 use Rattle.def_psbt.specs.TransactionReading.{first_output, first_witness}
 
 -- a public key: 33 bytes that begin with 02 or 03, or 65 that begin with 04
@@ -73,3 +74,19 @@ witness_of bytes = whole (first_witness bytes)
 -- 4 bytes, and 4 more for each step of a path
 abbrev pub is_derivation : Bytes → Bool
 is_derivation bytes = nat_le 4 (length bytes) && (length bytes % 4 == 0)
+
+-- ---- the fields of version 2 (BIP 370, "Specification")
+
+-- a size and nothing else
+abbrev pub is_size : Bytes → Bool
+is_size bytes = is_some (whole (first_size bytes))
+
+-- a lock time that is a time, and one that is a height (BIP 65: a time is from 500,000,000 on)
+abbrev pub LOCKTIME_THRESHOLD : ℕ
+LOCKTIME_THRESHOLD = 500000000
+
+abbrev pub is_time : Bytes → Bool
+is_time bytes = (length bytes == 4) && nat_le LOCKTIME_THRESHOLD (from_le_bytes w32 bytes)
+
+abbrev pub is_height : Bytes → Bool
+is_height bytes = (length bytes == 4) && nat_lt 0 (from_le_bytes w32 bytes) && nat_lt (from_le_bytes w32 bytes) LOCKTIME_THRESHOLD

@@ -1,5 +1,5 @@
--- The types that are listed, and what is wrong with a pair of a map (BIP 174, "Specification").
-use Rattle.std.specs.Prelude.{ℕ, ◌==◌, nat_le, Bool, true, false, length, if◌then◌else◌, is_some, Option, Some, None, Ok, Err}
+-- The types that are listed, and what is wrong with a pair of a map (BIP 174 and BIP 370, "Specification").
+use Rattle.std.specs.Prelude.{ℕ, ◌==◌, ◌||◌, nat_le, Bool, true, false, length, if◌then◌else◌, is_some, Option, Some, None, Ok, Err}
 use Rattle.std.specs.List.{list_any}
 use Rattle.std.specs.Int.{w32, from_le_bytes}
 use Rattle.std.specs.Str.{bytes_eq}
@@ -9,10 +9,12 @@ use Rattle.def_hash.specs.Hash.{digest_of, digest_length}
 use Rattle.def_script.specs.Bytes.{Bytes}
 use Rattle.def_script.specs.Sizes.{SizeReading, read_size}
 use Rattle.def_psbt.specs.declared.PsbtFault.{PsbtFault}
-use Rattle.def_psbt.specs.declared.PsbtFault.TheVariants.{RepeatedKey, KeyForm, ValueForm, Version}
+use Rattle.def_psbt.specs.declared.PsbtFault.TheVariants.{RepeatedKey, KeyForm, ValueForm, Version, Excluded}
+use Rattle.def_psbt.specs.declared.PsbtVersion.{PsbtVersion}
+use Rattle.def_psbt.specs.declared.PsbtVersion.TheVariants as version
 use Rattle.def_psbt.specs.Map.{Pair, Map, type_of, data_of}
 use Rattle.def_psbt.specs.TransactionReading.{transaction_of, network_transaction_of}
-use Rattle.def_psbt.specs.Forms.{is_public_key, is_signature, is_unsigned, output_of, witness_of, is_derivation}
+use Rattle.def_psbt.specs.Forms.{is_public_key, is_signature, is_unsigned, output_of, witness_of, is_derivation, is_size, is_time, is_height}
 
 -- the form of a type: which data its keys have, and what is wrong with a value under such data
 pub record Form : Type 0 where
@@ -47,22 +49,43 @@ preimage kind = record {
 abbrev pub unlisted : Form
 unlisted = record { key = λ data_bytes. true; value = λ data_bytes value. None }
 
--- a version of 4 bytes, low byte first, which is 0
+-- keys without data, and a value of so many bytes
+abbrev pub sized_plain : (size : ℕ) → Form
+sized_plain size = plain (λ value. length value == size)
+
+-- a version of 4 bytes, low byte first, which is 0 or 2
+abbrev pub is_version : ℕ → Bool
+is_version number = (number == 0) || (number == 2)
+
 abbrev pub version_fault : Bytes → Option PsbtFault
 version_fault value =
-    if length value == 4 then (if from_le_bytes w32 value == 0 then None else Some Version)
+    if length value == 4 then (if is_version (from_le_bytes w32 value) then None else Some Version)
     else Some ValueForm
 
--- the types of the global map
+-- a type that stands in version 2 alone: in version 0 a pair with nothing wrong by its form is excluded
+abbrev pub or_excluded : Option PsbtFault → Option PsbtFault
+or_excluded None = Some Excluded
+or_excluded (Some fault) = Some fault
+
+abbrev pub later : PsbtVersion → Form → Form
+later version.Zero form = record form { value = λ data_bytes value. or_excluded (form.value data_bytes value) }
+later version.Two form = form
+
+-- the types of the global map. Which of them stand in the PSBT's version is known only where the map ends
 unfoldable pub global_form : (type : ℕ) → Form
 global_form type =
     if type == 0x00 then plain (λ value. is_unsigned (transaction_of value))
+    else if type == 0x02 then sized_plain 4
+    else if type == 0x03 then sized_plain 4
+    else if type == 0x04 then plain is_size
+    else if type == 0x05 then plain is_size
+    else if type == 0x06 then sized_plain 1
     else if type == 0xfb then record { key = no_data; value = λ data_bytes value. version_fault value }
     else unlisted
 
 -- the types of a map of an input
-unfoldable pub input_form : (type : ℕ) → Form
-input_form type =
+unfoldable pub input_form : PsbtVersion → (type : ℕ) → Form
+input_form version type =
     if type == 0x00 then plain (λ value. is_some (network_transaction_of value))
     else if type == 0x01 then plain (λ value. is_some (output_of value))
     else if type == 0x02 then keyed is_signature
@@ -76,11 +99,22 @@ input_form type =
     else if type == 0x0b then preimage kind.Sha256
     else if type == 0x0c then preimage kind.Hash160
     else if type == 0x0d then preimage kind.Hash256
+    else if type == 0x0e then later version (sized_plain 32)
+    else if type == 0x0f then later version (sized_plain 4)
+    else if type == 0x10 then later version (sized_plain 4)
+    else if type == 0x11 then later version (plain is_time)
+    else if type == 0x12 then later version (plain is_height)
     else unlisted
 
--- no type of a map of an output is listed
-abbrev pub output_form : (type : ℕ) → Form
-output_form type = unlisted
+-- the types of a map of an output
+unfoldable pub output_form : PsbtVersion → (type : ℕ) → Form
+output_form version type =
+    if type == 0x00 then plain (λ value. true)
+    else if type == 0x01 then plain (λ value. true)
+    else if type == 0x02 then keyed is_derivation
+    else if type == 0x03 then later version (sized_plain 8)
+    else if type == 0x04 then later version (plain (λ value. true))
+    else unlisted
 
 -- the type inside a key is whole and in its shortest spelling
 abbrev pub is_typed : SizeReading → Bool

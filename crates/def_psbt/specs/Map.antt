@@ -1,6 +1,7 @@
 -- The maps of a PSBT, and their bytes (BIP 174, "Specification").
-use Rattle.std.specs.Prelude.{ℕ, List, [], ◌∷◌, ◌++◌, drop, Ok, Err}
-use Rattle.std.specs.List.{flat_map}
+use Rattle.std.specs.Prelude.{ℕ, ◌==◌, Bool, List, [], ◌∷◌, ◌++◌, drop, find, is_some, Option, Ok, Err}
+use Rattle.std.specs.List.{flat_map, list_all}
+use Rattle.std.specs.Option.{option_map}
 use Rattle.def_script.specs.Bytes.{Bytes}
 use Rattle.def_script.specs.Sizes.{SizeReading, read_size}
 use Rattle.def_script.specs.Witness.{sized}
@@ -30,7 +31,18 @@ type_of key = type_read (read_size key)
 abbrev pub data_of : (key : Bytes) → Bytes
 data_of key = data_read (read_size key) key
 
--- what a PSBT holds: the global map and the transaction that is in it, a map for each of its inputs,
+-- the pair of a type whose keys have no data, and its value
+abbrev pub pair_of_type : (type : ℕ) → Map → Option Pair
+pair_of_type type map = find (λ (pair : Pair). type_of pair.key == type) map
+
+abbrev pub value_of_type : (type : ℕ) → Map → Option Bytes
+value_of_type type map = option_map (λ (pair : Pair). pair.value) (pair_of_type type map)
+
+-- a pair of each of these types stands in a map
+abbrev pub has_types : (types : List ℕ) → Map → Bool
+has_types types map = list_all (λ type. is_some (pair_of_type type map)) types
+
+-- what a PSBT holds: the global map, the transaction that its maps give, a map for each of its inputs,
 -- and one for each of its outputs
 pub record Psbt : Type 0 where
   pub global : Map

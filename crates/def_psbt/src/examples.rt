@@ -12,6 +12,13 @@ ghost use Rattle.def_psbt.specs.Examples.{
   SizeRefusals,
   PairRefusals,
   ValueRefusals,
+  UpdatedIsRead,
+  LaterIsRead,
+  LockTimes,
+  VersionRefusals,
+  NeededRefusals,
+  JoinedRefusals,
+  OutputRefusals,
 };
 
 /// The definitions read these PSBTs.
@@ -31,4 +38,19 @@ pub fn refusals()
     ensures size { SizeRefusals }
     ensures pair { PairRefusals }
     ensures value { ValueRefusals }
+{}
+
+/// The definitions read these PSBTs of version 2.
+pub fn later_readings()
+    ensures updated { UpdatedIsRead }
+    ensures bare { LaterIsRead }
+    ensures lock_times { LockTimes }
+{}
+
+/// The definitions refuse these sources by the rules of version 2.
+pub fn later_refusals()
+    ensures version { VersionRefusals }
+    ensures needed { NeededRefusals }
+    ensures joined { JoinedRefusals }
+    ensures output { OutputRefusals }
 {}

@@ -1,8 +1,17 @@
-//! Definitions of PSBTs (BIP 174, version 0): transactions, maps, and how their bytes are read and refused.
+//! Definitions of PSBTs (BIP 174, version 0; BIP 370, version 2): transactions, maps, and how their bytes are read and refused.
 #![tactic(auto)]
 
 pub mod examples;
 pub mod laws;
+
+/// The version of a PSBT.
+#[derive(Clone, Copy, Debug, PartialEq, Eq)]
+pub enum PsbtVersion {
+    /// Version 0 (BIP 174), whose global map has the transaction.
+    Zero,
+    /// Version 2 (BIP 370), whose maps have the fields of the transaction.
+    Two,
+}
 
 /// Why the bytes of a PSBT are refused at one of them.
 #[derive(Clone, Copy, Debug, PartialEq, Eq)]
@@ -17,12 +26,18 @@ pub enum PsbtFault {
     KeyForm,
     /// The value of a listed type hasn't its form.
     ValueForm,
-    /// The global version isn't 0.
+    /// The global version isn't 0 or 2, or it is 2 and the global map has a transaction.
     Version,
-    /// The global map has no transaction.
+    /// A type that stands in version 2 alone stands in version 0.
+    Excluded,
+    /// A type that has to stand in a map doesn't: in version 0 the transaction, in version 2 a field of it.
     NoTransaction,
     /// Bytes follow the last map.
     Trailing,
+    /// An input of version 2 has the outpoint of one before it.
+    RepeatedOutpoint,
+    /// Neither a time nor a height serves all inputs of version 2 that ask for a lock time.
+    LockTime,
 }
 
 /// Why a source is refused.

@@ -11,7 +11,7 @@ use Rattle.def_spend.specs.Fields.{last_byte}
 use Rattle.def_spend.specs.Amount.{Amount}
 use Rattle.def_spend.specs.Amount as amount
 use Rattle.def_answer.specs.Lines.{line}
-use Rattle.def_answer.specs.Report.{item_digits}
+use Rattle.def_answer.specs.Satisfy.{item_digits}
 use Rattle.def_psbt_answer.specs.Names.{fault_name, state_name}
 
 -- ---- refusals

@@ -7,7 +7,7 @@ use Rattle.def_psbt.specs.declared.PsbtFault.{PsbtFault}
 use Rattle.def_psbt.specs.declared.PsbtFault.TheVariants as fault
 use Rattle.def_spend.specs.declared.State.{State}
 use Rattle.def_spend.specs.declared.State.TheVariants as state
-use Rattle.def_answer.specs.Names.{rule_name}
+use Rattle.def_answer.specs.Lines.{rule_name}
 
 abbrev pub fault_name : PsbtFault → Bytes
 fault_name fault.Truncated = codes "Truncated"
@@ -16,8 +16,11 @@ fault_name fault.RepeatedKey = codes "RepeatedKey"
 fault_name fault.KeyForm = codes "KeyForm"
 fault_name fault.ValueForm = codes "ValueForm"
 fault_name fault.Version = codes "Version"
+fault_name fault.Excluded = codes "Excluded"
 fault_name fault.NoTransaction = codes "NoTransaction"
 fault_name fault.Trailing = codes "Trailing"
+fault_name fault.RepeatedOutpoint = codes "RepeatedOutpoint"
+fault_name fault.LockTime = codes "LockTime"
 
 -- why a miniscript isn't sane, without the place. One that was read is valid, so the first five don't come
 abbrev pub unfit_name : Unfit → Bytes

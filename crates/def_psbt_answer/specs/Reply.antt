@@ -9,7 +9,8 @@ use Rattle.def_psbt.specs.Source.{has_magic}
 use Rattle.def_spend.specs.Reading.{Input}
 use Rattle.def_spend.specs.States.{state_of, is_final, is_ready}
 use Rattle.def_spend.specs.Finalized.{network_text}
-use Rattle.def_answer.specs.Lines.{line, usage_line}
+use Rattle.def_answer.specs.Lines.{line}
+use Rattle.def_answer.specs.Reply.{usage_line}
 use Rattle.def_psbt_answer.specs.declared.status.Status.{Status}
 use Rattle.def_psbt_answer.specs.declared.status.Status.TheVariants as status
 use Rattle.def_psbt_answer.specs.declared.words.Command.{Command}

@@ -22,7 +22,9 @@ use Rattle.def_spend.specs.States.{state_of, is_read, is_sane, is_final, stack_o
 use Rattle.def_spend.specs.Asking.{plan_with, unsigned_keys}
 use Rattle.def_spend.specs.Finalized.{finalized}
 use Rattle.def_answer.specs.Lines.{line}
-use Rattle.def_answer.specs.Report.{decode_report, policy_of, ask_line, weight_line as most_weight_line}
+use Rattle.def_answer.specs.Decode.{decode_report}
+use Rattle.def_answer.specs.Policy.{policy_of}
+use Rattle.def_answer.specs.Plan.{ask_line, weight_line as most_weight_line}
 use Rattle.def_psbt_answer.specs.declared.words.Form.{Form}
 use Rattle.def_psbt_answer.specs.declared.words.Form.TheVariants as form
 use Rattle.def_psbt_answer.specs.Lines.{psbt_line, output_lines, input_line, outpoint_line, amount_line, unchecked_line, signature_line, policy_line, weight_line, no_plan_line, sign_line, check_line}

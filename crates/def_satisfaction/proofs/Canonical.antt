@@ -3,7 +3,7 @@ use Rattle.std.proofs.Common.{◌&&◌, not, Bool, true, false, reverse, Option,
 use Rattle.std.proofs.lemmas.Bool.{false≢true}
 use Rattle.def_hash.specs.declared.HashKind.{HashKind}
 use Rattle.def_script.specs.Bytes.{Bytes}
-use Rattle.def_machine.specs.Stacks.{Pairs, is_empty, member}
+use Rattle.def_machine.specs.Stacks.{Checker, is_empty, member}
 use Rattle.def_machine.specs.Machine.{Given}
 use Rattle.def_machine.specs.MultiSig.{is_good}
 use Rattle.def_assets.specs.Assets.{Assets, known, unsigned}
@@ -18,12 +18,12 @@ is_good-of : (full : Bool) (here there : Bool) → (IsTrue here → IsTrue there
 is_good-of true here there more h = h
 is_good-of false here there more h = more h
 
-pub held : (assets : Assets) (table : Pairs) → Holds table assets → (key sig : Bytes) → IsTrue (is_good assets.pairs key sig) → IsTrue (is_good table key sig)
-held assets table holds key sig h = is_good-of (is_empty sig) (member assets.pairs key sig) (member table key sig) (holds key sig) h
+pub held : (assets : Assets) (checker : Checker) → Holds checker assets → (key sig : Bytes) → IsTrue (is_good (member assets.pairs) key sig) → IsTrue (is_good checker key sig)
+held assets checker holds key sig h = is_good-of (is_empty sig) (member assets.pairs key sig) (checker key sig) (holds key sig) h
 
-sat_is_wider : (assets : Assets) (table : Pairs) → Holds table assets → IsWider (canonical assets) (full (record { table = table; locks = assets.locks }) (only (known assets)))
-sat_is_wider assets table holds = record {
-  signatures = held assets table holds;
+sat_is_wider : (assets : Assets) (checker : Checker) → Holds checker assets → IsWider (canonical assets) (full (record { checker = checker; locks = assets.locks }) (only (known assets)))
+sat_is_wider assets checker holds = record {
+  signatures = held assets checker holds;
   older = λ n h. h;
   after = λ n h. h;
   preimages = λ kind value preimage h. h;
@@ -32,8 +32,8 @@ sat_is_wider assets table holds = record {
 }
 
 pub sat_is_full_sat : SatIsFullSat
-sat_is_full_sat tree assets table stack holds sat =
-    (row_within _ _ (sat_is_wider assets table holds) tree).sat (reverse stack) sat
+sat_is_full_sat tree assets checker stack holds sat =
+    (row_within _ _ (sat_is_wider assets checker holds) tree).sat (reverse stack) sat
 
 only_is_any_wider : (given : Given) (known : HashKind → Bytes → Option Bytes) → IsWider (full given (only known)) (full given any)
 only_is_any_wider given known = record {
@@ -51,8 +51,8 @@ only_is_any tree given known stack =
     (w.sat (reverse stack), w.dsat (reverse stack))
 
 pub dsat_is_full_dsat : DsatIsFullDsat
-dsat_is_full_dsat tree assets table stack dsat =
-    dsat_within (canonical assets) (full (record { table = table; locks = assets.locks }) (only (known assets))) false≢true (λ key other h. h) tree (reverse stack) dsat
+dsat_is_full_dsat tree assets checker stack dsat =
+    dsat_within (canonical assets) (full (record { checker = checker; locks = assets.locks }) (only (known assets))) false≢true (λ key other h. h) tree (reverse stack) dsat
 
 pub dsat_needs_no_signature : DsatNeedsNoSignature
 dsat_needs_no_signature tree assets stack = (

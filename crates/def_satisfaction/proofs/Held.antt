@@ -39,19 +39,19 @@ filled [] h = absurd (omega arith)
 filled (b ∷ sig) h = refl
 
 -- the signature of a key is good with it, and beside each that is good with the key it is no longer
-pub held_is_good : (assets : Assets) → AreAssets assets → (key sig : Bytes) → sig_of assets key ≡ Some sig → is_good assets.pairs key sig ≡ true
+pub held_is_good : (assets : Assets) → AreAssets assets → (key sig : Bytes) → sig_of assets key ≡ Some sig → is_good (member assets.pairs) key sig ≡ true
 held_is_good assets are key sig h =
     let i = found_is_held assets.pairs key sig h in
     let s : IsSignature sig = All-contains (λ pair. IsSignature pair.1) assets.pairs (key, sig) are.signatures i in
     rw (filled sig s.some, in_member assets.pairs key sig i) refl
 
-good_in : (assets : Assets) (key sig : Bytes) → is_good assets.pairs key sig ≡ true → Contains assets.pairs (key, sig)
+good_in : (assets : Assets) (key sig : Bytes) → is_good (member assets.pairs) key sig ≡ true → Contains assets.pairs (key, sig)
 good_in assets key sig h = member_in assets.pairs key sig (and_parts (not (is_empty sig)) (member assets.pairs key sig) h).1
 
-pub good_is_held : (assets : Assets) (key sig : Bytes) → is_good assets.pairs key sig ≡ true → (held : Bytes) × (sig_of assets key ≡ Some held) × (length held ≤ length sig)
+pub good_is_held : (assets : Assets) (key sig : Bytes) → is_good (member assets.pairs) key sig ≡ true → (held : Bytes) × (sig_of assets key ≡ Some held) × (length held ≤ length sig)
 good_is_held assets key sig h = held_is_found assets.pairs key sig (good_in assets key sig h)
 
-pub good_is_signature : (assets : Assets) → AreAssets assets → (key sig : Bytes) → is_good assets.pairs key sig ≡ true → IsSignature sig
+pub good_is_signature : (assets : Assets) → AreAssets assets → (key sig : Bytes) → is_good (member assets.pairs) key sig ≡ true → IsSignature sig
 good_is_signature assets are key sig h = All-contains (λ pair. IsSignature pair.1) assets.pairs (key, sig) are.signatures (good_in assets key sig h)
 
 -- a known preimage is one

@@ -4,7 +4,7 @@ use Rattle.std.proofs.lemmas.Bool.{false≢true}
 use Rattle.std.proofs.lemmas.List.{reverse-reverse, reverse-append}
 use Rattle.std.proofs.lemmas.List.Elements.{All-nil, All-cons, All-head, All-tail, All-same, All-append, All-replicate}
 use Rattle.def_script.specs.Bytes.{Bytes, IsBytes}
-use Rattle.def_machine.specs.Stacks.{Stack}
+use Rattle.def_machine.specs.Stacks.{Stack, member}
 use Rattle.def_machine.specs.MultiSig.{is_good}
 use Rattle.def_tree.specs.declared.Two.TheVariants as kind
 use Rattle.def_tree.specs.declared.Wrapper.TheVariants as wrapper
@@ -94,13 +94,13 @@ module _ (assets : Assets) where
     none_bytes (more x xs) w = either_bytes _ _ (λ stack h. absurd (omega (arith, h.1))) (both_bytes _ _ (none_bytes xs w.1) (dsat_bytes x w.0))
 
 module _ (assets : Assets) (are : AreAssets assets) where
-  good_bytes : (key sig : Bytes) → IsTrue (is_good assets.pairs key sig) → IsBytes sig
+  good_bytes : (key sig : Bytes) → IsTrue (is_good (member assets.pairs) key sig) → IsBytes sig
   good_bytes key sig h = let is = good_is_signature assets are key sig h in is.bytes
 
   signature_bytes : (key : Key) → OfBytes (Signature (canonical assets) key)
   signature_bytes key stack h = is_bytes h.0 (good_bytes key h.0 h.1) stack h.2
 
-  signatures_bytes : (keys : List Key) (sigs : Stack) → AreSignatures assets.pairs keys sigs → All IsBytes sigs
+  signatures_bytes : (keys : List Key) (sigs : Stack) → AreSignatures (member assets.pairs) keys sigs → All IsBytes sigs
   signatures_bytes keys [] h = All-nil IsBytes
   signatures_bytes [] (sig ∷ sigs) h = absurd h
   signatures_bytes (key ∷ keys) (sig ∷ sigs) (inl h) = All-cons IsBytes sig sigs (good_bytes key sig h.0) (signatures_bytes keys sigs h.1)

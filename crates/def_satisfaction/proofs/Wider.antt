@@ -23,7 +23,7 @@ pub record IsWithin (x y : Row) : Type 0 where
 
 -- what counts in the setting s counts in t
 pub record IsWider (s t : Setting) : Type 0 where
-  pub signatures : (key sig : Bytes) → IsTrue (is_good s.given.table key sig) → IsTrue (is_good t.given.table key sig)
+  pub signatures : (key sig : Bytes) → IsTrue (is_good s.given.checker key sig) → IsTrue (is_good t.given.checker key sig)
   pub older : (n : ℕ) → IsTrue (older_holds n s.given.locks) → IsTrue (older_holds n t.given.locks)
   pub after : (n : ℕ) → IsTrue (after_holds n s.given.locks) → IsTrue (after_holds n t.given.locks)
   pub preimages : (kind : HashKind) (value preimage : Bytes) → CountsAsPreimage s.mode kind value preimage → CountsAsPreimage t.mode kind value preimage
@@ -51,7 +51,7 @@ module _ (s t : Setting) (wider : IsWider s t) where
   signature_within : (key : Key) → Within (Signature s key) (Signature t key)
   signature_within key stack h = (h.0, wider.signatures key h.0 h.1, h.2)
 
-  are_signatures_within : (keys : List Key) (sigs : Stack) → AreSignatures s.given.table keys sigs → AreSignatures t.given.table keys sigs
+  are_signatures_within : (keys : List Key) (sigs : Stack) → AreSignatures s.given.checker keys sigs → AreSignatures t.given.checker keys sigs
   are_signatures_within keys [] h = h
   are_signatures_within [] (sig ∷ sigs) h = h
   are_signatures_within (key ∷ keys) (sig ∷ sigs) (inl h) = inl (wider.signatures key sig h.0, are_signatures_within keys sigs h.1)

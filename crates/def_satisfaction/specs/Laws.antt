@@ -2,7 +2,7 @@
 use Rattle.std.specs.Prelude.{◌↔◌, Option, List, All}
 use Rattle.def_hash.specs.declared.HashKind.{HashKind}
 use Rattle.def_script.specs.Bytes.{Bytes, IsBytes}
-use Rattle.def_machine.specs.Stacks.{Pairs}
+use Rattle.def_machine.specs.Stacks.{Checker}
 use Rattle.def_machine.specs.Machine.{Given}
 use Rattle.def_tree.specs.Tree.{Tree}
 use Rattle.def_tree.specs.Range.{IsWritable}
@@ -10,20 +10,20 @@ use Rattle.def_assets.specs.Assets.{Assets, AreAssets, known, unsigned}
 use Rattle.def_satisfaction.specs.Setting.{any, only}
 use Rattle.def_satisfaction.specs.Satisfaction.{Sat, Dsat, FullSat, FullDsat, Holds}
 
--- a canonical satisfaction is a satisfaction under every table that holds the pairs of the assets, also
+-- a canonical satisfaction is a satisfaction where the assets' signatures are good, whatever others are, also
 -- where only the known preimages count
 abbrev pub SatIsFullSat : Type 0
 SatIsFullSat =
-    (tree : Tree) (assets : Assets) (table : Pairs) (stack : List Bytes) → Holds table assets →
+    (tree : Tree) (assets : Assets) (checker : Checker) (stack : List Bytes) → Holds checker assets →
     Sat tree assets stack →
-    FullSat tree (record { table = table; locks = assets.locks }) (only (known assets)) stack
+    FullSat tree (record { checker = checker; locks = assets.locks }) (only (known assets)) stack
 
--- a canonical dissatisfaction is one under every table
+-- a canonical dissatisfaction is one whatever signatures are good
 abbrev pub DsatIsFullDsat : Type 0
 DsatIsFullDsat =
-    (tree : Tree) (assets : Assets) (table : Pairs) (stack : List Bytes) →
+    (tree : Tree) (assets : Assets) (checker : Checker) (stack : List Bytes) →
     Dsat tree assets stack →
-    FullDsat tree (record { table = table; locks = assets.locks }) (only (known assets)) stack
+    FullDsat tree (record { checker = checker; locks = assets.locks }) (only (known assets)) stack
 
 -- what counts where only some preimages and keys do counts where any do
 abbrev pub OnlyIsAny : Type 0

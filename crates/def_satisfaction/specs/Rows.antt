@@ -4,7 +4,7 @@ use Rattle.std.specs.Prelude.{◌≡◌, ◌≢◌, ℕ, suc, ◌+◌, ◌⊎◌
 use Rattle.def_hash.specs.declared.HashKind.{HashKind}
 use Rattle.def_hash.specs.Hash.{digest_of, hash160}
 use Rattle.def_script.specs.Bytes.{Bytes}
-use Rattle.def_machine.specs.Stacks.{Stack, Pairs, is_empty}
+use Rattle.def_machine.specs.Stacks.{Stack, Checker, is_empty}
 use Rattle.def_script.specs.Key.{is_key}
 use Rattle.def_machine.specs.Locks.{older_holds, after_holds}
 use Rattle.def_machine.specs.MultiSig.{is_good}
@@ -32,9 +32,9 @@ ONE = 0x01 ∷ []
 abbrev pub ZEROS : Bytes
 ZEROS = replicate 32 0x00
 
--- a signature of the key: a string that isn't empty and that the table holds with it
+-- a signature of the key: a string that isn't empty and is good with it
 abbrev pub Signature : Setting → Key → StackSet
-Signature s key = Element (λ sig. IsTrue (is_good s.given.table key sig))
+Signature s key = Element (λ sig. IsTrue (is_good s.given.checker key sig))
 
 -- `pk_k(key)`
 abbrev pub pk_k_row : Setting → Key → Row
@@ -98,15 +98,15 @@ thresh_row s k parts = record {
 }
 
 -- these are signatures of keys of the list, in their order: each key has one, or is passed over
-abbrev pub AreSignatures : Pairs → List Key → List Bytes → Type 0
-AreSignatures table keys [] = ⊤
-AreSignatures table [] (sig ∷ sigs) = ⊥
-AreSignatures table (key ∷ keys) (sig ∷ sigs) =
-    (IsTrue (is_good table key sig) × AreSignatures table keys sigs) ⊎ AreSignatures table keys (sig ∷ sigs)
+abbrev pub AreSignatures : Checker → List Key → List Bytes → Type 0
+AreSignatures checker keys [] = ⊤
+AreSignatures checker [] (sig ∷ sigs) = ⊥
+AreSignatures checker (key ∷ keys) (sig ∷ sigs) =
+    (IsTrue (is_good checker key sig) × AreSignatures checker keys sigs) ⊎ AreSignatures checker keys (sig ∷ sigs)
 
 -- k signatures in the order of the keys; the last key's stands on top
 abbrev pub Signatures : Setting → (k : ℕ) → List Key → StackSet
-Signatures s k keys sigs = (length sigs ≡ k) × AreSignatures s.given.table (reverse keys) sigs
+Signatures s k keys sigs = (length sigs ≡ k) × AreSignatures s.given.checker (reverse keys) sigs
 
 -- `multi(k,key1,..,keyn)`
 abbrev pub multi_row : Setting → (k : ℕ) → List Key → Row

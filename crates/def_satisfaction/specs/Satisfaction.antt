@@ -2,7 +2,7 @@
 -- witness, its top last.
 use Rattle.std.specs.Prelude.{IsTrue, true, false, List, reverse}
 use Rattle.def_script.specs.Bytes.{Bytes}
-use Rattle.def_machine.specs.Stacks.{Pairs, member}
+use Rattle.def_machine.specs.Stacks.{Checker, member}
 use Rattle.def_machine.specs.Machine.{Given}
 use Rattle.def_tree.specs.Tree.{Tree}
 use Rattle.def_assets.specs.Assets.{Assets, known}
@@ -11,7 +11,7 @@ use Rattle.def_satisfaction.specs.Rows.{row}
 
 -- the locks and signatures of assets, as a run is given them
 abbrev pub given_of : Assets → Given
-given_of assets = record { table = assets.pairs; locks = assets.locks }
+given_of assets = record { checker = member assets.pairs; locks = assets.locks }
 
 -- the canonical rows, with what the assets hold
 abbrev pub canonical : Assets → Setting
@@ -24,7 +24,7 @@ Sat tree assets stack = (row (canonical assets) tree).sat (reverse stack)
 abbrev pub Dsat : Tree → Assets → (stack : List Bytes) → Type 0
 Dsat tree assets stack = (row (canonical assets) tree).dsat (reverse stack)
 
--- all rows, with a table of signatures and locks
+-- all rows, with signatures that are good, and locks
 abbrev pub full : Given → Mode → Setting
 full given mode = record { given = given; mode = mode; all_rows = true }
 
@@ -35,6 +35,6 @@ FullSat tree given mode stack = (row (full given mode) tree).sat (reverse stack)
 abbrev pub FullDsat : Tree → Given → Mode → (stack : List Bytes) → Type 0
 FullDsat tree given mode stack = (row (full given mode) tree).dsat (reverse stack)
 
--- a table of signatures holds every pair of the assets
-abbrev pub Holds : (table : Pairs) → Assets → Type 0
-Holds table assets = (key sig : Bytes) → IsTrue (member assets.pairs key sig) → IsTrue (member table key sig)
+-- every pair of the assets is good
+abbrev pub Holds : (checker : Checker) → Assets → Type 0
+Holds checker assets = (key sig : Bytes) → IsTrue (member assets.pairs key sig) → IsTrue (checker key sig)

@@ -22,7 +22,7 @@ CountsAsKey any key other = ⊤
 CountsAsKey (only known) key other = other ≡ key
 
 pub record Setting : Type 0 where
-  -- the table of signatures, and the locks
+  -- which signatures are good, and the locks
   pub given : Given
   pub mode : Mode
   -- whether the rows of the satisfaction table count that aren't canonical

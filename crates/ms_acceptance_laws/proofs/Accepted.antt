@@ -8,7 +8,7 @@ use Rattle.def_script.specs.Bytes.{Bytes}
 use Rattle.def_script.specs.Signature.{MAX_SIGNATURE_SIZE}
 use Rattle.def_script.specs.Decode.{truth}
 use Rattle.def_script.specs.Limits.{MAX_SCRIPT_ELEMENT_SIZE}
-use Rattle.def_machine.specs.Stacks.{Stack, Pairs}
+use Rattle.def_machine.specs.Stacks.{Stack, Pairs, Checker, member}
 use Rattle.def_machine.specs.Machine.{Given, State}
 use Rattle.def_machine.specs.declared.ScriptFault.{ScriptFault}
 use Rattle.def_machine.specs.Run.{Outcome, run, accepted, refused}
@@ -38,7 +38,8 @@ use Rattle.def_satisfaction.specs.Satisfaction.{canonical, full, Sat, FullSat, H
 use Rattle.def_satisfaction.proofs.Canonical.{held}
 use Rattle.def_satisfaction.proofs.Wider.{IsWider, row_within}
 use Rattle.def_choice.specs.NonMalleable.{IsAccepted, given_with}
-use Rattle.def_promises.specs.Acceptance.{IsAcceptedWithin, CanonicalIsAccepted, InversionHolds}
+use Rattle.def_promises.specs.Acceptance.{CanonicalIsAccepted, InversionHolds}
+use Rattle.def_promises.specs.Accepted.{IsAcceptedWithin}
 use Rattle.def_promises.specs.Courses.{CanonicalHasCourse, HasAll, IsRun, EachFormalIsRun, HeightIsReached}
 use Rattle.def_promises.specs.Reached.{HasLongest, IsTaken, EachFormalIsTaken, LimitsAreReached}
 use Rattle.def_promises.specs.Limited.{StopsAtLimit}
@@ -69,18 +70,18 @@ pub satisfied : (s : Setting) (t : Tree) → IsWritable t → IsWithinConsensus 
     × (den s.given t w ≡ Ok (left (v ∷ []) (sat_log s t w r))) × (truth v ≡ true)
 satisfied s t writable consensus w short r =
     let e : EndsB (type_of t).u true (den s.given t) w [] (sat_log s t w r) =
-    subst (λ b. Ends s.given.table b (type_of t).u true (den s.given t) w [] (sat_log s t w r)) consensus.base
+    subst (λ b. Ends s.given.checker b (type_of t).u true (den s.given t) w [] (sat_log s t w r)) consensus.base
     ((sat_ends s t writable consensus.typed (few_children t consensus) w short r).ends []) in
     let value = e.1 in
     (e.0, ap (den s.given t) (sym (append-nil w)) ∙ e.2, ap truth value.is ∙ truth-natural value.number value.small ∙ value.truth)
 
 -- the canonical rows, under a table that holds the assets' pairs
-abbrev pub canonical_with : Assets → Pairs → Setting
-canonical_with assets table = record { given = given_with assets table; mode = only (known assets); all_rows = false }
+abbrev pub canonical_with : Assets → Checker → Setting
+canonical_with assets checker = record { given = given_with assets checker; mode = only (known assets); all_rows = false }
 
-pub with_is_wider : (assets : Assets) (table : Pairs) → Holds table assets → IsWider (canonical assets) (canonical_with assets table)
-with_is_wider assets table holds = record {
-  signatures = held assets table holds;
+pub with_is_wider : (assets : Assets) (checker : Checker) → Holds checker assets → IsWider (canonical assets) (canonical_with assets checker)
+with_is_wider assets checker holds = record {
+  signatures = held assets checker holds;
   older = λ n h. h;
   after = λ n h. h;
   preimages = λ kind value preimage h. h;
@@ -88,8 +89,8 @@ with_is_wider assets table holds = record {
   rows = λ h. h;
 }
 
-pub sat_with : (tree : Tree) (assets : Assets) (table : Pairs) (w : Stack) → Holds table assets → (row (canonical assets) tree).sat w → (row (canonical_with assets table) tree).sat w
-sat_with tree assets table w holds sat = (row_within _ _ (with_is_wider assets table holds) tree).sat w sat
+pub sat_with : (tree : Tree) (assets : Assets) (checker : Checker) (w : Stack) → Holds checker assets → (row (canonical assets) tree).sat w → (row (canonical_with assets checker) tree).sat w
+sat_with tree assets checker w holds sat = (row_within _ _ (with_is_wider assets checker holds) tree).sat w sat
 
 -- short items
 pub short_items : (most : ℕ) → most < 2 ^ 31 → (w : Stack) → All (λ item. length item ≤ most) w → Short w
@@ -99,15 +100,15 @@ short_items most low (x ∷ w) h =
     (omega (arith, i, low), short_items most low w (All-tail (λ item. length item ≤ most) x w h))
 
 -- a canonical satisfaction's run, with what it passes
-pub record Accepts (tree : Tree) (limits : Limits) (assets : Assets) (table : Pairs) (stack : List Bytes) (r : (row (canonical_with assets table) tree).sat (reverse stack)) : Type 0 where
+pub record Accepts (tree : Tree) (limits : Limits) (assets : Assets) (checker : Checker) (stack : List Bytes) (r : (row (canonical_with assets checker) tree).sat (reverse stack)) : Type 0 where
   pub peak : ℕ
-  pub run : run (given_with assets table) (script_of tree) stack
-      ≡ accepted (opcode_count (emit tree) + (sat_log (canonical_with assets table) tree (reverse stack) r).keys) peak
-      (sat_log (canonical_with assets table) tree (reverse stack) r).checks
-  pub few_ops : opcode_count (emit tree) + (sat_log (canonical_with assets table) tree (reverse stack) r).keys ≤ limits.ops
+  pub run : run (given_with assets checker) (script_of tree) stack
+      ≡ accepted (opcode_count (emit tree) + (sat_log (canonical_with assets checker) tree (reverse stack) r).keys) peak
+      (sat_log (canonical_with assets checker) tree (reverse stack) r).checks
+  pub few_ops : opcode_count (emit tree) + (sat_log (canonical_with assets checker) tree (reverse stack) r).keys ≤ limits.ops
   pub low : (height : ℕ) → IsHeight tree height → peak ≤ height
-  pub items : length stack ≡ (sat_way (canonical_with assets table) tree (reverse stack) r).items
-  pub course : peak ≡ height_of_way.peak (sat_way (canonical_with assets table) tree (reverse stack) r)
+  pub items : length stack ≡ (sat_way (canonical_with assets checker) tree (reverse stack) r).items
+  pub course : peak ≡ height_of_way.peak (sat_way (canonical_with assets checker) tree (reverse stack) r)
 
 -- no way is higher than the height
 below_height : (tree : Tree) (h : ℕ) → IsHeight tree h → (way : Way) → FormalSat tree way → peak way ≤ h
@@ -136,11 +137,11 @@ has_peak s canonical tree writable consensus w short r =
     }
 
 -- every row of a canonical satisfaction tells what its run logs
-pub accepts_row : (tree : Tree) (limits : Limits) (assets : Assets) (table : Pairs) (stack : List Bytes) → IsWritable tree → IsWithinConsensus tree
-    → AreLimits tree limits → AreAssets assets → Sat tree assets stack → (r : (row (canonical_with assets table) tree).sat (reverse stack))
-    → Accepts tree limits assets table stack r
-accepts_row tree limits assets table stack writable consensus are_limits are sat r =
-    let s = canonical_with assets table in
+pub accepts_row : (tree : Tree) (limits : Limits) (assets : Assets) (checker : Checker) (stack : List Bytes) → IsWritable tree → IsWithinConsensus tree
+    → AreLimits tree limits → AreAssets assets → Sat tree assets stack → (r : (row (canonical_with assets checker) tree).sat (reverse stack))
+    → Accepts tree limits assets checker stack r
+accepts_row tree limits assets checker stack writable consensus are_limits are sat r =
+    let s = canonical_with assets checker in
     let w = reverse stack in
     let sized = sized_sat assets are tree writable w sat in
     let short = short_items 73 (omega arith) w sized.short in
@@ -164,18 +165,18 @@ accepts_row tree limits assets table stack writable consensus are_limits are sat
           (does_first s.given tree w (left (ends.0 ∷ []) (sat_log s tree w r)) ends.1) done.0 done.3 in omega (arith, most, done.1);
     }
 
-pub accepts : (tree : Tree) (limits : Limits) (assets : Assets) (table : Pairs) (stack : List Bytes) → IsWritable tree → IsWithinConsensus tree
-    → AreLimits tree limits → AreAssets assets → (holds : Holds table assets) → (sat : Sat tree assets stack)
-    → Accepts tree limits assets table stack (sat_with tree assets table (reverse stack) holds sat)
-accepts tree limits assets table stack writable consensus are_limits are holds sat =
-    accepts_row tree limits assets table stack writable consensus are_limits are sat (sat_with tree assets table (reverse stack) holds sat)
+pub accepts : (tree : Tree) (limits : Limits) (assets : Assets) (checker : Checker) (stack : List Bytes) → IsWritable tree → IsWithinConsensus tree
+    → AreLimits tree limits → AreAssets assets → (holds : Holds checker assets) → (sat : Sat tree assets stack)
+    → Accepts tree limits assets checker stack (sat_with tree assets checker (reverse stack) holds sat)
+accepts tree limits assets checker stack writable consensus are_limits are holds sat =
+    accepts_row tree limits assets checker stack writable consensus are_limits are sat (sat_with tree assets checker (reverse stack) holds sat)
 
 -- a canonical satisfaction is accepted, within the limits and the height, with no word on the number of its items
-pub accepted_in_consensus : (tree : Tree) (limits : Limits) (assets : Assets) (table : Pairs) (stack : List Bytes) → IsWritable tree → IsWithinConsensus tree
-    → AreLimits tree limits → AreAssets assets → Holds table assets →
-    Sat tree assets stack → IsAcceptedWithin tree limits (given_with assets table) stack
-accepted_in_consensus tree limits assets table stack writable consensus are_limits are holds sat =
-    let a = accepts tree limits assets table stack writable consensus are_limits are holds sat in
+pub accepted_in_consensus : (tree : Tree) (limits : Limits) (assets : Assets) (checker : Checker) (stack : List Bytes) → IsWritable tree → IsWithinConsensus tree
+    → AreLimits tree limits → AreAssets assets → Holds checker assets →
+    Sat tree assets stack → IsAcceptedWithin tree limits (given_with assets checker) stack
+accepted_in_consensus tree limits assets checker stack writable consensus are_limits are holds sat =
+    let a = accepts tree limits assets checker stack writable consensus are_limits are holds sat in
     let within = within_limits tree limits assets stack writable are_limits are sat in
     record {
       ops = _;
@@ -189,16 +190,16 @@ accepted_in_consensus tree limits assets table stack writable consensus are_limi
     }
 
 pub canonical_is_accepted : CanonicalIsAccepted
-canonical_is_accepted tree limits assets table stack writable valid are_limits are holds sat =
-    accepted_in_consensus tree limits assets table stack writable (valid_consensus tree valid) are_limits are holds sat
+canonical_is_accepted tree limits assets checker stack writable valid are_limits are holds sat =
+    accepted_in_consensus tree limits assets checker stack writable (valid_consensus tree valid) are_limits are holds sat
 
 -- its peak is that of a formal satisfaction
 with_peak : (outcome : Outcome) (ops p q : ℕ) (checks : Pairs) → outcome ≡ accepted ops p checks → p ≡ q → outcome ≡ accepted ops q checks
 with_peak outcome ops p q checks e same = e ∙ ap (λ (n : ℕ). accepted ops n checks) same
 
 pub canonical_has_course : CanonicalHasCourse
-canonical_has_course tree assets table stack writable valid are holds sat =
-    let a = accepts tree (limits_of tree) assets table stack writable (valid_consensus tree valid) (limits_are_computed tree) are holds sat in
+canonical_has_course tree assets checker stack writable valid are holds sat =
+    let a = accepts tree (limits_of tree) assets checker stack writable (valid_consensus tree valid) (limits_are_computed tree) are holds sat in
     record {
       way = _;
       formal = sat_formal _ false≢true tree (reverse stack) _;
@@ -213,7 +214,7 @@ module _ (tree : Tree) (assets : Assets) (way : Way) (writable : IsWritable tree
   run_by : (stack : List Bytes) (r : (row (canonical assets) tree).sat (reverse stack)) → way ≡ sat_way (canonical assets) tree (reverse stack) r →
       IsRun tree assets way.items (peak way)
   run_by stack r same =
-      let a = accepts_row tree (limits_of tree) assets assets.pairs stack writable (valid_consensus tree valid) (limits_are_computed tree) are r r in
+      let a = accepts_row tree (limits_of tree) assets (member assets.pairs) stack writable (valid_consensus tree valid) (limits_are_computed tree) are r r in
       rw same (record { stack = stack; sat = r; items = a.items; ops = _; checks = _; run = with_peak _ _ a.peak _ _ a.run a.course })
 
   formal_is_run : HasAll assets tree → FormalSat tree way → IsRun tree assets way.items (peak way)
@@ -236,7 +237,7 @@ module _ (tree : Tree) (assets : Assets) (takes : Takes) (writable : IsWritable 
   taken_by : (stack : List Bytes) → length stack ≡ takes.items → weight stack ≡ takes.weight → (r : (row (canonical assets) tree).sat (reverse stack)) →
       (sat_log (canonical assets) tree (reverse stack) r).keys ≡ takes.keys → IsTaken tree assets takes
   taken_by stack items light r keys =
-      let a = accepts_row tree (limits_of tree) assets assets.pairs stack writable (valid_consensus tree valid) (limits_are_computed tree) are r r in
+      let a = accepts_row tree (limits_of tree) assets (member assets.pairs) stack writable (valid_consensus tree valid) (limits_are_computed tree) are r r in
       record {
         stack = stack;
         sat = r;
@@ -288,7 +289,7 @@ pub accounted : (tree : Tree) (given : Given) (stack : List Bytes) (checks : Pai
 accounted tree given stack checks writable consensus is =
     let a = run_accepted given tree stack is.ops is.peak checks writable is.run in
     let b : BackB (type_of tree).u (logged (full given any) tree) (reverse stack) a.0.main a.0.log =
-    subst (λ c. Back given.table c (type_of tree).u (logged (full given any) tree) (reverse stack) a.0.main a.0.log) consensus.base
+    subst (λ c. Back given.checker c (type_of tree).u (logged (full given any) tree) (reverse stack) a.0.main a.0.log) consensus.base
     (inverts given tree writable consensus.typed (few_children tree consensus) (reverse stack) a.0.main a.0.log a.2) in
     let at : a.1 ∷ [] ≡ b.3 ∷ b.2 = sym a.3 ∙ b.5 in
     let none : b.2 ≡ [] = sym (rest_same a.1 b.3 [] b.2 at) in

@@ -4,7 +4,7 @@ use Rattle.std.proofs.lemmas.Bool.{eqb-true, cases_Bool}
 use Rattle.std.proofs.lemmas.List.{append_assoc}
 use Rattle.def_script.specs.Bytes.{Bytes}
 use Rattle.def_machine.specs.Faults.{OrFault}
-use Rattle.def_machine.specs.Stacks.{Stack, Pairs}
+use Rattle.def_machine.specs.Stacks.{Stack, Checker}
 use Rattle.def_script.specs.Key.{is_key}
 use Rattle.def_machine.specs.Effects.{condition}
 use Rattle.def_machine.specs.MultiSig.{is_good}
@@ -43,31 +43,31 @@ abbrev pub BackV : Logged → (m end : Stack) → Log → Type 0
 BackV R m end l = (w : Stack) × (m ≡ w ++ end) × R.sat w l
 
 -- where a signature stands below the key
-abbrev pub TakesSig : Pairs → Logged → (m : Stack) → Log → (key sig : Bytes) → (s : Stack) → Type 0
-TakesSig table R m l key sig s =
+abbrev pub TakesSig : Checker → Logged → (m : Stack) → Log → (key sig : Bytes) → (s : Stack) → Type 0
+TakesSig checker R m l key sig s =
     (w : Stack) × (m ≡ w ++ s) ×
-    (IsTrue (is_good table key sig) → R.sat w (then_log l (check_log key sig))) × (sig ≡ [] → R.dsat w l)
+    (IsTrue (is_good checker key sig) → R.sat w (then_log l (check_log key sig))) × (sig ≡ [] → R.dsat w l)
 
-abbrev pub BackK : Pairs → Logged → (m end : Stack) → Log → Type 0
-BackK table R m end l =
+abbrev pub BackK : Checker → Logged → (m end : Stack) → Log → Type 0
+BackK checker R m end l =
     (key : Bytes) × (below : Stack) × (end ≡ key ∷ below) ×
-    ((sig : Bytes) (s : Stack) → below ≡ sig ∷ s → IsTrue (is_key key) → TakesSig table R m l key sig s)
+    ((sig : Bytes) (s : Stack) → below ≡ sig ∷ s → IsTrue (is_key key) → TakesSig checker R m l key sig s)
 
 abbrev pub BackW : (u : Bool) → Logged → (m end : Stack) → Log → Type 0
 BackW u R m end l =
     (b : Bool) × (x : Bytes) × (w : Stack) × (s : Stack) × (v : Bytes) × (m ≡ x ∷ (w ++ s)) × Beside x v s end × Value u b v × Took R b w l
 
-abbrev pub Back : Pairs → Base → (u : Bool) → Logged → (m end : Stack) → Log → Type 0
-Back table B u R m end l = BackB u R m end l
-Back table V u R m end l = BackV R m end l
-Back table K u R m end l = BackK table R m end l
-Back table W u R m end l = BackW u R m end l
+abbrev pub Back : Checker → Base → (u : Bool) → Logged → (m end : Stack) → Log → Type 0
+Back checker B u R m end l = BackB u R m end l
+Back checker V u R m end l = BackV R m end l
+Back checker K u R m end l = BackK checker R m end l
+Back checker W u R m end l = BackW u R m end l
 
-pub weaken_back : (table : Pairs) (c : Base) (u t : Bool) (R : Logged) (m end : Stack) (l : Log) → (t ≡ true → u ≡ true) → Back table c u R m end l → Back table c t R m end l
-weaken_back table B u t R m end l h r = (r.0, r.1, r.2, r.3, r.4, r.5, weaker u t r.0 r.3 h r.6, r.7)
-weaken_back table V u t R m end l h r = r
-weaken_back table K u t R m end l h r = r
-weaken_back table W u t R m end l h r = (r.0, r.1, r.2, r.3, r.4, r.5, r.6, weaker u t r.0 r.4 h r.7, r.8)
+pub weaken_back : (checker : Checker) (c : Base) (u t : Bool) (R : Logged) (m end : Stack) (l : Log) → (t ≡ true → u ≡ true) → Back checker c u R m end l → Back checker c t R m end l
+weaken_back checker B u t R m end l h r = (r.0, r.1, r.2, r.3, r.4, r.5, weaker u t r.0 r.3 h r.6, r.7)
+weaken_back checker V u t R m end l h r = r
+weaken_back checker K u t R m end l h r = r
+weaken_back checker W u t R m end l h r = (r.0, r.1, r.2, r.3, r.4, r.5, r.6, weaker u t r.0 r.4 h r.7, r.8)
 
 -- a log that begins with what was logged before
 pub record Keeps (k : Log → Log) : Type 0 where
@@ -83,13 +83,13 @@ pub onto : (m above s w rest : Stack) → m ≡ above ++ s → s ≡ w ++ rest �
 onto m above s w rest e i = e ∙ ap (λ v. above ++ v) i ∙ sym (append_assoc above w rest)
 
 -- from a stack below which the part `above` was taken before
-pub prepend : (table : Pairs) (c : Base) (u : Bool) (R S : Logged) (k : Log → Log) (m above s end : Stack) (l : Log) → (c ≢ W) → Keeps k → m ≡ above ++ s
-    → ((b : Bool) (w : Stack) (n : Log) → Took S b w n → Took R b (above ++ w) (k n)) → Back table c u S s end l → Back table c u R m end (k l)
-prepend table B u R S k m above s end l n keeps e take r =
+pub prepend : (checker : Checker) (c : Base) (u : Bool) (R S : Logged) (k : Log → Log) (m above s end : Stack) (l : Log) → (c ≢ W) → Keeps k → m ≡ above ++ s
+    → ((b : Bool) (w : Stack) (n : Log) → Took S b w n → Took R b (above ++ w) (k n)) → Back checker c u S s end l → Back checker c u R m end (k l)
+prepend checker B u R S k m above s end l n keeps e take r =
     (r.0, above ++ r.1, r.2, r.3, onto m above s r.1 r.2 e r.4, r.5, r.6, take r.0 r.1 l r.7)
-prepend table V u R S k m above s end l n keeps e take r =
+prepend checker V u R S k m above s end l n keeps e take r =
     (above ++ r.0, onto m above s r.0 end e r.1, take true r.0 l r.2)
-prepend table K u R S k m above s end l n keeps e take r = (
+prepend checker K u R S k m above s end l n keeps e take r = (
   r.0,
   r.1,
   r.2,
@@ -100,7 +100,7 @@ prepend table K u R S k m above s end l n keeps e take r = (
     λ none. take false t.0 l (t.3 none),
   )),
 )
-prepend table W u R S k m above s end l n keeps e take r = absurd (n refl)
+prepend checker W u R S k m above s end l n keeps e take r = absurd (n refl)
 
 -- one effect after the other went on: both did
 pub record Between (f g : Effect) (m end : Stack) (l : Log) : Type 0 where

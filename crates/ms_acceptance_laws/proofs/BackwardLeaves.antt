@@ -46,7 +46,7 @@ just_1_back given m end l e =
 one_log : (l : Log) (key sig : Bytes) → l ≡ quiet → check_log key sig ≡ then_log l (check_log key sig)
 one_log l key sig e = sym (ap (λ q. then_log q (check_log key sig)) e ∙ quiet_left (check_log key sig))
 
-pub pk_k_back : (given : Given) (key : Key) (m end : Stack) (l : Log) → den given (pk_k key) m ≡ Ok (left end l) → BackK given.table (logged (full given any) (pk_k key)) m end l
+pub pk_k_back : (given : Given) (key : Key) (m end : Stack) (l : Log) → den given (pk_k key) m ≡ Ok (left end l) → BackK given.checker (logged (full given any) (pk_k key)) m end l
 pk_k_back given key m end l e =
     let p = pushed key m end l e in (
       key,
@@ -115,7 +115,7 @@ equal_verified x y s end l e =
       | inr differs ↦ absurd (no_fault _ (left end l) (rw differs at e))
     ]
 
-pub pk_h_back : (given : Given) (key : Key) (m end : Stack) (l : Log) → den given (pk_h key) m ≡ Ok (left end l) → BackK given.table (logged (full given any) (pk_h key)) m end l
+pub pk_h_back : (given : Given) (key : Key) (m end : Stack) (l : Log) → den given (pk_h key) m ≡ Ok (left end l) → BackK given.checker (logged (full given any) (pk_h key)) m end l
 unfolding dup hash_top
 pk_h_back given key [] end l e = absurd (no_fault _ (left end l) e)
 pk_h_back given key (other ∷ rest) end l e =

@@ -7,7 +7,7 @@ use Rattle.std.proofs.lemmas.List.{take-append-drop, length-take, length-reverse
 use Rattle.def_script.specs.Bytes.{Bytes}
 use Rattle.def_script.specs.Numbers.{natural_bytes}
 use Rattle.def_machine.specs.Faults.{OrFault, ◌>>=◌}
-use Rattle.def_machine.specs.Stacks.{Stack, Pairs, is_empty, bool_bytes}
+use Rattle.def_machine.specs.Stacks.{Stack, Pairs, Checker, is_empty, bool_bytes}
 use Rattle.def_machine.specs.Effects.{add, equal}
 use Rattle.def_machine.specs.MultiSig.{some_off, one_off, tries, verdict, null_dummy}
 use Rattle.def_tree.specs.Tree.{Key}
@@ -98,19 +98,19 @@ compared f k m end l e =
     }
 
 -- CHECKMULTISIG behind its two numbers and its keys
-abbrev multi_tail : Pairs → (keys : Stack) → (n k : ℕ) → Stack → OrFault Left
-multi_tail table keys n k m =
+abbrev multi_tail : Checker → (keys : Stack) → (n k : ℕ) → Stack → OrFault Left
+multi_tail checker keys n k m =
     some_off k m >>= λ sigs.
     one_off sigs.1 >>= λ extra.
-    tries table keys sigs.0 [] >>= λ tried.
+    tries checker keys sigs.0 [] >>= λ tried.
     verdict sigs.0 tried >>= λ passed.
     null_dummy extra.0 >>= λ empty.
     Ok (left (bool_bytes passed.0 ∷ extra.1) (log_of n passed.1))
 
-multi_starts : (table : Pairs) (keys m : Stack) (k : ℕ) → length keys ≤ 20 → k ≤ length keys
-    → checks_multi_sig table (natural_bytes (length keys) ∷ (reverse keys ++ (natural_bytes k ∷ m))) ≡ multi_tail table (reverse keys) (length keys) k m
+multi_starts : (checker : Checker) (keys m : Stack) (k : ℕ) → length keys ≤ 20 → k ≤ length keys
+    → checks_multi_sig checker (natural_bytes (length keys) ∷ (reverse keys ++ (natural_bytes k ∷ m))) ≡ multi_tail checker (reverse keys) (length keys) k m
 unfolding checks_multi_sig
-multi_starts table keys m k few low =
+multi_starts checker keys m k few low =
     rw (
       count_run 20 (length keys) _ (reverse keys ++ (natural_bytes k ∷ m)) few (omega arith),
       some_off_run (reverse keys) (natural_bytes k ∷ m) (length keys) (length-reverse keys),
@@ -142,14 +142,14 @@ no_dummy [] y e = refl
 no_dummy (b ∷ x) y e = absurd (no_fault _ y e)
 
 -- what CHECKMULTISIG found, and where
-pub record Tried (table : Pairs) (keys : List Key) (k : ℕ) (m end : Stack) (l : Log) : Type 0 where
+pub record Tried (checker : Checker) (keys : List Key) (k : ℕ) (m end : Stack) (l : Log) : Type 0 where
   pub sigs : Stack
   pub rest : Stack
   pub passed : Bool
   pub at : m ≡ sigs ++ (EMPTY ∷ rest)
   pub count : length sigs ≡ k
   pub main : end ≡ bool_bytes passed ∷ rest
-  pub signed : passed ≡ true → AreSignatures table (reverse keys) sigs × (l ≡ multi_log table keys sigs)
+  pub signed : passed ≡ true → AreSignatures checker (reverse keys) sigs × (l ≡ multi_log checker keys sigs)
   pub unsigned : passed ≡ false → (sigs ≡ replicate k EMPTY) × (l ≡ log_of (length keys) [])
 
 -- the verdict: all pairs that were found, or only empty strings
@@ -163,11 +163,11 @@ verdict_is sigs None v e =
       | inr some ↦ absurd (no_fault _ v (rw some at e))
     ]
 
-tried_back : (table : Pairs) (keys : List Key) (k : ℕ) (m end : Stack) (l : Log) → multi_tail table (reverse keys) (length keys) k m ≡ Ok (left end l) → Tried table keys k m end l
-tried_back table keys k m end l e =
+tried_back : (checker : Checker) (keys : List Key) (k : ℕ) (m end : Stack) (l : Log) → multi_tail checker (reverse keys) (length keys) k m ≡ Ok (left end l) → Tried checker keys k m end l
+tried_back checker keys k m end l e =
     let a = bind_split (some_off k m) _ (left end l) e in
     let b = bind_split (one_off a.0.1) _ (left end l) a.2 in
-    let c = bind_split (tries table (reverse keys) a.0.0 []) _ (left end l) b.2 in
+    let c = bind_split (tries checker (reverse keys) a.0.0 []) _ (left end l) b.2 in
     let d = bind_split (verdict a.0.0 c.0) _ (left end l) c.2 in
     let f = bind_split (null_dummy b.0.0) _ (left end l) d.2 in
     let off = taken_off k m a.0 a.1 in
@@ -184,7 +184,7 @@ tried_back table keys k m end l e =
         count = off.1;
         main = sym (ap (λ z. z.main) same) ∙ ap (λ v. bool_bytes v.0 ∷ b.0.1) p.2;
         signed = λ i. (
-          tries_signs table (reverse keys) a.0.0 [] p.0 (c.1 ∙ ap ok_found p.1),
+          tries_signs checker (reverse keys) a.0.0 [] p.0 (c.1 ∙ ap ok_found p.1),
           sym (ap (λ z. z.log) same) ∙ ap (λ v. log_of (length keys) v.1) p.2 ∙ ap (λ t. log_of (length keys) (found_in t)) (sym (c.1 ∙ ap ok_found p.1)),
         );
         unsigned = λ i. absurd (true≢false i);
@@ -201,12 +201,13 @@ tried_back table keys k m end l e =
       }
     ]
 
-pub multi_tried : (table : Pairs) (keys : List Key) (k : ℕ) (m end : Stack) (l : Log) → length keys ≤ 20 → k ≤ length keys → multi_effect table k keys m ≡ Ok (left end l) → Tried table keys k m end l
-multi_tried table keys k m end l few low e =
-    let first = pushed_on (natural_bytes k) (both (pushes_all keys) (both (pushes (natural_bytes (length keys))) (checks_multi_sig table))) m end l e in
-    let p = between (pushes_all keys) (both (pushes (natural_bytes (length keys))) (checks_multi_sig table)) (natural_bytes k ∷ m) end l first in
+pub multi_tried : (checker : Checker) (keys : List Key) (k : ℕ) (m end : Stack) (l : Log) → length keys ≤ 20 → k ≤ length keys → multi_effect checker k keys m ≡ Ok (left end l)
+    → Tried checker keys k m end l
+multi_tried checker keys k m end l few low e =
+    let first = pushed_on (natural_bytes k) (both (pushes_all keys) (both (pushes (natural_bytes (length keys))) (checks_multi_sig checker))) m end l e in
+    let p = between (pushes_all keys) (both (pushes (natural_bytes (length keys))) (checks_multi_sig checker)) (natural_bytes k ∷ m) end l first in
     let same = same_ok (left (reverse keys ++ (natural_bytes k ∷ m)) quiet) (left p.mid p.first) (sym (pushed_all keys (natural_bytes k ∷ m)) ∙ p.before) in
     let log : l ≡ p.second = p.log ∙ ap (λ j. then_log j p.second) (sym (ap (λ z. z.log) same)) ∙ quiet_left p.second in
-    let last = pushed_on (natural_bytes (length keys)) (checks_multi_sig table) p.mid end p.second p.after in
-    tried_back table keys k m end l
-    (sym (multi_starts table keys m k few low) ∙ ap (λ v. checks_multi_sig table (natural_bytes (length keys) ∷ v)) (ap (λ z. z.main) same) ∙ last ∙ ap (λ j. Ok (left end j)) (sym log))
+    let last = pushed_on (natural_bytes (length keys)) (checks_multi_sig checker) p.mid end p.second p.after in
+    tried_back checker keys k m end l
+    (sym (multi_starts checker keys m k few low) ∙ ap (λ v. checks_multi_sig checker (natural_bytes (length keys) ∷ v)) (ap (λ z. z.main) same) ∙ last ∙ ap (λ j. Ok (left end j)) (sym log))

@@ -147,8 +147,9 @@ abbrev PartsInvert : Given → Trees → Type 0
 PartsInvert given xs =
     (a : ℕ) (m end : Stack) (l : Log) → a + count xs < 2 ^ 31 → den_added given xs (natural_bytes a ∷ m) ≡ Ok (left end l) → PartsBack given xs a m end l
 
-thresh_back : (given : Given) (k : ℕ) (x : Tree) (xs : Trees) → k ≤ count (more x xs) → count (more x xs) < 2 ^ 30 → Inverts given.table B true (den given x) (of_tree given x) → PartsInvert given xs →
-    Inverts given.table B true (den given (thresh k (more x xs))) (of_tree given (thresh k (more x xs)))
+thresh_back : (given : Given) (k : ℕ) (x : Tree) (xs : Trees) → k ≤ count (more x xs) → count (more x xs) < 2 ^ 30 → Inverts given.checker B true (den given x) (of_tree given x)
+    → PartsInvert given xs →
+    Inverts given.checker B true (den given (thresh k (more x xs))) (of_tree given (thresh k (more x xs)))
 thresh_back given k x xs range few first others m end l e =
     let c = compared (den_sum given (more x xs)) k m end l e in
     let f = first_back (of_tree given x) (den given x) (den_added given xs) m c.mid l first c.before in
@@ -169,7 +170,7 @@ thresh_back given k x xs range few first others m end l e =
       thresh_took given k b.n (more x xs) b.w l (omega arith) (omega arith) b.row b.log,
     )
 
-multi_took : (given : Given) (k : ℕ) (keys : List Key) (m end : Stack) (l : Log) → Tried given.table keys k m end l → BackB true (of_tree given (multi k keys)) m end l
+multi_took : (given : Given) (k : ℕ) (keys : List Key) (m end : Stack) (l : Log) → Tried given.checker keys k m end l → BackB true (of_tree given (multi k keys)) m end l
 multi_took given k keys m end l t = (
   t.passed,
   t.sigs ++ EMPTY ∷ [],
@@ -186,18 +187,18 @@ multi_took given k keys m end l t = (
     go false e = let p = t.unsigned e in (ap (λ v. v ++ EMPTY ∷ []) p.0 ∙ sym (empties_split k), sym p.1)
 
 -- by another name of its base type, and of u
-as_base : (given : Given) (t : Tree) (c : Base) → (type_of t).base ≡ c → Inverts given.table (type_of t).base (type_of t).u (den given t) (of_tree given t) →
-    Inverts given.table c (type_of t).u (den given t) (of_tree given t)
-as_base given t c e h = subst (λ a. Inverts given.table a (type_of t).u (den given t) (of_tree given t)) e h
+as_base : (given : Given) (t : Tree) (c : Base) → (type_of t).base ≡ c → Inverts given.checker (type_of t).base (type_of t).u (den given t) (of_tree given t) →
+    Inverts given.checker c (type_of t).u (den given t) (of_tree given t)
+as_base given t c e h = subst (λ a. Inverts given.checker a (type_of t).u (den given t) (of_tree given t)) e h
 
-as_unit : (given : Given) (t : Tree) (c : Base) → (type_of t).base ≡ c → (type_of t).u ≡ true → Inverts given.table (type_of t).base (type_of t).u (den given t) (of_tree given t) →
-    Inverts given.table c true (den given t) (of_tree given t)
-as_unit given t c e i h = subst (λ v. Inverts given.table c v (den given t) (of_tree given t)) i (as_base given t c e h)
+as_unit : (given : Given) (t : Tree) (c : Base) → (type_of t).base ≡ c → (type_of t).u ≡ true → Inverts given.checker (type_of t).base (type_of t).u (den given t) (of_tree given t) →
+    Inverts given.checker c true (den given t) (of_tree given t)
+as_unit given t c e i h = subst (λ v. Inverts given.checker c v (den given t) (of_tree given t)) i (as_base given t c e h)
 
 mutual
   unfolding corr_rows
 
-  pub inverts : (given : Given) (t : Tree) → IsWritable t → IsTyped t → Few t → Inverts given.table (type_of t).base (type_of t).u (den given t) (of_tree given t)
+  pub inverts : (given : Given) (t : Tree) → IsWritable t → IsTyped t → Few t → Inverts given.checker (type_of t).base (type_of t).u (den given t) (of_tree given t)
   inverts given just_0 k typed few = just_0_back given
   inverts given just_1 k typed few = just_1_back given
   inverts given (pk_k key) k typed few = pk_k_back given key
@@ -207,13 +208,13 @@ mutual
   inverts given (hash kind value) k typed few = hash_back given kind value
   inverts given (and_or x y z) k typed few =
       let p = typed-and_or x y z typed in
-      and_or_back given.table _ _ _ _ (den given x) (den given y) (den given z) (of_tree given x) (of_tree given y) (of_tree given z) _ p.7
+      and_or_back given.checker _ _ _ _ (den given x) (den given y) (den given z) (of_tree given x) (of_tree given y) (of_tree given z) _ p.7
       (λ e. (and_parts (type_of y).u (type_of z).u e).0) (λ e. (and_parts (type_of y).u (type_of z).u e).1) (and_or_rows given x y z)
       (and_or_others given x y z)
       (as_unit given x B p.3 p.5 (inverts given x k.0 p.0 few.0)) (inverts given y k.1 p.1 few.1) (as_base given z _ (sym p.6) (inverts given z k.2 p.2 few.2))
   inverts given (two kind.AndV x y) k typed few =
       let p = typed-and_v x y typed in
-      and_v_back given.table _ _ (den given x) (den given y) (of_tree given x) (of_tree given y) _ p.3 (and_v_rows given x y)
+      and_v_back given.checker _ _ (den given x) (den given y) (of_tree given x) (of_tree given y) _ p.3 (and_v_rows given x y)
       (as_base given x V p.2 (inverts given x k.0 p.0 few.0)) (inverts given y k.1 p.1 few.1)
   inverts given (two kind.AndB x y) k typed few =
       let p = typed-and_b x y typed in
@@ -225,16 +226,16 @@ mutual
       (as_base given x B p.2 (inverts given x k.0 p.0 few.0)) (as_base given z W p.4 (inverts given z k.1 p.1 few.1))
   inverts given (two kind.OrC x z) k typed few =
       let p = typed-or_c x z typed in
-      or_c_back given.table (den given x) (den given z) (of_tree given x) (of_tree given z) (of_tree given (two kind.OrC x z)) (λ w l r. (inl r.0, r.1))
+      or_c_back given.checker (den given x) (den given z) (of_tree given x) (of_tree given z) (of_tree given (two kind.OrC x z)) (λ w l r. (inl r.0, r.1))
       (λ above below k l r q. (inr (below, above, q.0, r.0, refl), logs_same _ _ k l r.1 q.1))
       (as_unit given x B p.2 p.4 (inverts given x k.0 p.0 few.0)) (as_base given z V p.5 (inverts given z k.1 p.1 few.1))
   inverts given (two kind.OrD x z) k typed few =
       let p = typed-or_d x z typed in
-      or_d_back given.table _ (den given x) (den given z) (of_tree given x) (of_tree given z) _ (λ w l r. (inl r.0, r.1)) (or_d_others given x z)
+      or_d_back given.checker _ (den given x) (den given z) (of_tree given x) (of_tree given z) _ (λ w l r. (inl r.0, r.1)) (or_d_others given x z)
       (as_unit given x B p.2 p.4 (inverts given x k.0 p.0 few.0)) (as_base given z B p.5 (inverts given z k.1 p.1 few.1))
   inverts given (two kind.OrI x z) k typed few =
       let p = typed-or_i x z typed in
-      or_i_back given.table _ _ _ _ (den given x) (den given z) (of_tree given x) (of_tree given z) _ p.3
+      or_i_back given.checker _ _ _ _ (den given x) (den given z) (of_tree given x) (of_tree given z) _ p.3
       (λ e. (and_parts (type_of x).u (type_of z).u e).0) (λ e. (and_parts (type_of x).u (type_of z).u e).1) (or_i_rows given x z) (or_i_others given x z)
       (inverts given x k.0 p.0 few.0) (as_base given z _ (sym p.2) (inverts given z k.1 p.1 few.1))
   inverts given (thresh k none) writable typed few = absurd (typed-thresh_none k typed)
@@ -245,14 +246,14 @@ mutual
       (parts_back given xs writable.2.1 p.1 p.7 few.1.1)
   inverts given (multi k keys) writable typed few = λ m end l e. (
       let p = typed-multi k keys typed in
-      multi_took given k keys m end l (multi_tried given.table keys k m end l p.2 p.1 e))
+      multi_took given k keys m end l (multi_tried given.checker keys k m end l p.2 p.1 e))
   inverts given (wrap wrapper.A x) k typed few =
       wrap_a_back (type_of x).u (den given x) (of_tree given x) (as_base given x B (typed-wrap_a x typed).1 (inverts given x k typed.0 few))
   inverts given (wrap wrapper.S x) k typed few =
       let p = typed-wrap_s x typed in
       wrap_s_back (type_of x).u (den given x) (of_tree given x) (one_long given x p.0 p.2) (as_base given x B p.1 (inverts given x k p.0 few))
   inverts given (wrap wrapper.C x) k typed few =
-      wrap_c_back given.table (den given x) (of_tree given x) (as_base given x K (typed-wrap_c x typed).1 (inverts given x k typed.0 few))
+      wrap_c_back given.checker (den given x) (of_tree given x) (as_base given x K (typed-wrap_c x typed).1 (inverts given x k typed.0 few))
   inverts given (wrap wrapper.D x) k typed few =
       let p = typed-wrap_d x typed in
       wrap_d_back (den given x) (of_tree given x) (of_tree given (wrap wrapper.D x))

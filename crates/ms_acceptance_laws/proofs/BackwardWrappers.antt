@@ -6,7 +6,7 @@ use Rattle.std.proofs.lemmas.List.{nil_from_length}
 use Rattle.def_script.specs.Bytes.{Bytes}
 use Rattle.def_script.specs.Numbers.{natural_bytes, signed_bytes}
 use Rattle.def_script.specs.Decode.{is_nonzero, truth}
-use Rattle.def_machine.specs.Stacks.{Stack, Pairs, member, is_empty, bool_bytes}
+use Rattle.def_machine.specs.Stacks.{Stack, Checker, is_empty, bool_bytes}
 use Rattle.def_script.specs.Key.{is_key}
 use Rattle.def_machine.specs.Effects.{dup, swap, size, verify, zero_not_equal, one_number, operand, check_sig}
 use Rattle.def_machine.specs.MultiSig.{is_good}
@@ -67,36 +67,36 @@ wrap_s_back u f R one h (x ∷ y ∷ m) end l e =
     )
 
 -- `c`
-check_back : (table : Pairs) (key : Bytes) (below end : Stack) (l : Log) → checks_sig table (key ∷ below) ≡ Ok (left end l) → (sig : Bytes) × (s : Stack)
+check_back : (checker : Checker) (key : Bytes) (below end : Stack) (l : Log) → checks_sig checker (key ∷ below) ≡ Ok (left end l) → (sig : Bytes) × (s : Stack)
     × (below ≡ sig ∷ s) × IsTrue (is_key key) × (((sig ≡ []) × (end ≡ EMPTY ∷ s) × (l ≡ quiet))
-    ⊎ (IsTrue (is_good table key sig) × (end ≡ ONE ∷ s) × (l ≡ check_log key sig)))
+    ⊎ (IsTrue (is_good checker key sig) × (end ≡ ONE ∷ s) × (l ≡ check_log key sig)))
 unfolding check_sig
-check_back table key [] end l e = absurd (no_fault _ (left end l) e)
-check_back table key (sig ∷ s) end l e =
+check_back checker key [] end l e = absurd (no_fault _ (left end l) e)
+check_back checker key (sig ∷ s) end l e =
     elim (cases_Bool (is_key key)) [
       | inl form ↦ (sig, s, refl, form, go sig form e)
       | inr formless ↦ absurd (no_fault _ (left end l) (rw formless at e))
     ]
   where
-    go : (sig : Bytes) → is_key key ≡ true → checks_sig table (key ∷ sig ∷ s) ≡ Ok (left end l) → ((sig ≡ []) × (end ≡ EMPTY ∷ s) × (l ≡ quiet))
-        ⊎ (IsTrue (is_good table key sig) × (end ≡ ONE ∷ s) × (l ≡ check_log key sig))
+    go : (sig : Bytes) → is_key key ≡ true → checks_sig checker (key ∷ sig ∷ s) ≡ Ok (left end l) → ((sig ≡ []) × (end ≡ EMPTY ∷ s) × (l ≡ quiet))
+        ⊎ (IsTrue (is_good checker key sig) × (end ≡ ONE ∷ s) × (l ≡ check_log key sig))
     go [] form e =
         let p = same_ok (left (EMPTY ∷ s) quiet) (left end l) (rw form at e) in
         inl (refl, sym (ap (λ z. z.main) p), sym (ap (λ z. z.log) p))
     go (b ∷ sig) form e =
-        elim (cases_Bool (member table key (b ∷ sig))) [
+        elim (cases_Bool (checker key (b ∷ sig))) [
           | inl held ↦
               let p = same_ok (left (ONE ∷ s) (check_log key (b ∷ sig))) (left end l) (rw (form, held) at e) in
               inr (held, sym (ap (λ z. z.main) p), sym (ap (λ z. z.log) p))
           | inr unheld ↦ absurd (no_fault _ (left end l) (rw (form, unheld) at e))
         ]
 
-pub wrap_c_back : (table : Pairs) (f : Effect) (R : Logged) → ((m end : Stack) (l : Log) → f m ≡ Ok (left end l) → BackK table R m end l)
-    → (m end : Stack) (l : Log) → both f (checks_sig table) m ≡ Ok (left end l) → BackB true R m end l
-wrap_c_back table f R h m end l e =
-    let p = between f (checks_sig table) m end l e in
+pub wrap_c_back : (checker : Checker) (f : Effect) (R : Logged) → ((m end : Stack) (l : Log) → f m ≡ Ok (left end l) → BackK checker R m end l)
+    → (m end : Stack) (l : Log) → both f (checks_sig checker) m ≡ Ok (left end l) → BackB true R m end l
+wrap_c_back checker f R h m end l e =
+    let p = between f (checks_sig checker) m end l e in
     let i = h m p.mid p.first p.before in
-    let c = check_back table i.0 i.1 end p.second (ap (checks_sig table) (sym i.2) ∙ p.after) in
+    let c = check_back checker i.0 i.1 end p.second (ap (checks_sig checker) (sym i.2) ∙ p.after) in
     let t = i.3 c.0 c.1 c.2 c.3 in
     elim c.4 [
       | inl none ↦ (

@@ -7,7 +7,7 @@ use Rattle.def_script.specs.Bytes.{Bytes}
 use Rattle.def_script.specs.Numbers.{natural_bytes}
 use Rattle.def_script.specs.Decode.{is_nonzero}
 use Rattle.def_machine.specs.Faults.{OrFault}
-use Rattle.def_machine.specs.Stacks.{Stack, Pairs, bool_bytes}
+use Rattle.def_machine.specs.Stacks.{Stack, Checker, bool_bytes}
 use Rattle.def_script.specs.Key.{is_key}
 use Rattle.def_machine.specs.Effects.{condition}
 use Rattle.def_machine.specs.MultiSig.{is_good}
@@ -37,9 +37,9 @@ abbrev pub Beside : (x v : Bytes) → (s r : Stack) → Type 0
 Beside x v s r = (r ≡ x ∷ v ∷ s) ⊎ (r ≡ v ∷ x ∷ s)
 
 -- a key with its signature, or with the empty string; l is the log with the check of both
-abbrev pub Checked : Pairs → (b : Bool) → (key sig : Bytes) → (m l : Log) → Type 0
-Checked table true key sig m l = IsTrue (is_good table key sig) × (l ≡ then_log m (check_log key sig))
-Checked table false key sig m l = (sig ≡ []) × (l ≡ m)
+abbrev pub Checked : Checker → (b : Bool) → (key sig : Bytes) → (m l : Log) → Type 0
+Checked checker true key sig m l = IsTrue (is_good checker key sig) × (l ≡ then_log m (check_log key sig))
+Checked checker false key sig m l = (sig ≡ []) × (l ≡ m)
 
 abbrev pub EndsB : (u b : Bool) → Effect → (w s : Stack) → Log → Type 0
 EndsB u b f w s l = (v : Bytes) × Value u b v × (f (w ++ s) ≡ Ok (left (v ∷ s) l))
@@ -47,21 +47,21 @@ EndsB u b f w s l = (v : Bytes) × Value u b v × (f (w ++ s) ≡ Ok (left (v �
 abbrev pub EndsV : (b : Bool) → Effect → (w s : Stack) → Log → Type 0
 EndsV b f w s l = (b ≡ true) × (f (w ++ s) ≡ Ok (left s l))
 
-abbrev pub EndsK : Pairs → (b : Bool) → Effect → (w s : Stack) → Log → Type 0
-EndsK table b f w s l =
+abbrev pub EndsK : Checker → (b : Bool) → Effect → (w s : Stack) → Log → Type 0
+EndsK checker b f w s l =
     (key : Bytes) × (sig : Bytes) × (m : Log) × IsTrue (is_key key) ×
-    (f (w ++ s) ≡ Ok (left (key ∷ sig ∷ s) m)) × Checked table b key sig m l
+    (f (w ++ s) ≡ Ok (left (key ∷ sig ∷ s) m)) × Checked checker b key sig m l
 
 abbrev pub EndsW : (u b : Bool) → Effect → (w s : Stack) → Log → Type 0
 EndsW u b f w s l =
     (x : Bytes) → (v : Bytes) × (r : Stack) × Value u b v × Beside x v s r × (f (x ∷ (w ++ s)) ≡ Ok (left r l))
 
 -- from the stack w on top of s, with u of the type; b is true for a satisfaction
-abbrev pub Ends : Pairs → Base → (u b : Bool) → Effect → (w s : Stack) → Log → Type 0
-Ends table B u b f w s l = EndsB u b f w s l
-Ends table V u b f w s l = EndsV b f w s l
-Ends table K u b f w s l = EndsK table b f w s l
-Ends table W u b f w s l = EndsW u b f w s l
+abbrev pub Ends : Checker → Base → (u b : Bool) → Effect → (w s : Stack) → Log → Type 0
+Ends checker B u b f w s l = EndsB u b f w s l
+Ends checker V u b f w s l = EndsV b f w s l
+Ends checker K u b f w s l = EndsK checker b f w s l
+Ends checker W u b f w s l = EndsW u b f w s l
 
 -- a value that need be u no more
 pub weaker : (u t b : Bool) (v : Bytes) → (t ≡ true → u ≡ true) → Value u b v → Value t b v
@@ -73,11 +73,11 @@ weaker u t b v h value = record {
   unit = λ e. value.unit (h e);
 }
 
-pub weaken : (table : Pairs) (c : Base) (u t b : Bool) (f : Effect) (w s : Stack) (l : Log) → (t ≡ true → u ≡ true) → Ends table c u b f w s l → Ends table c t b f w s l
-weaken table B u t b f w s l h e = (e.0, weaker u t b e.0 h e.1, e.2)
-weaken table V u t b f w s l h e = e
-weaken table K u t b f w s l h e = e
-weaken table W u t b f w s l h e = λ x. (let i = e x in (i.0, i.1, weaker u t b i.0 h i.2, i.3, i.4))
+pub weaken : (checker : Checker) (c : Base) (u t b : Bool) (f : Effect) (w s : Stack) (l : Log) → (t ≡ true → u ≡ true) → Ends checker c u b f w s l → Ends checker c t b f w s l
+weaken checker B u t b f w s l h e = (e.0, weaker u t b e.0 h e.1, e.2)
+weaken checker V u t b f w s l h e = e
+weaken checker K u t b f w s l h e = e
+weaken checker W u t b f w s l h e = λ x. (let i = e x in (i.0, i.1, weaker u t b i.0 h i.2, i.3, i.4))
 
 -- one effect after the other
 pub both_ok : (f g : Effect) (main mid end : Stack) (l m : Log) → f main ≡ Ok (left mid l) → g mid ≡ Ok (left end m) → both f g main ≡ Ok (left end (then_log l m))
@@ -95,29 +95,29 @@ joined f g w above below rest mid end l m e i j =
 pub relog : (r : OrFault Left) (end : Stack) (k l : Log) → k ≡ l → r ≡ Ok (left end k) → r ≡ Ok (left end l)
 relog r end k l i e = e ∙ ap (λ m. Ok (left end m)) i
 
-checked_behind : (table : Pairs) (b : Bool) (key sig : Bytes) (l m n : Log) → Checked table b key sig m n → Checked table b key sig (then_log l m) (then_log l n)
-checked_behind table true key sig l m n h = (h.0, ap (then_log l) h.1 ∙ sym (then_log_assoc l m (check_log key sig)))
-checked_behind table false key sig l m n h = (h.0, ap (then_log l) h.1)
+checked_behind : (checker : Checker) (b : Bool) (key sig : Bytes) (l m n : Log) → Checked checker b key sig m n → Checked checker b key sig (then_log l m) (then_log l n)
+checked_behind checker true key sig l m n h = (h.0, ap (then_log l) h.1 ∙ sym (then_log_assoc l m (check_log key sig)))
+checked_behind checker false key sig l m n h = (h.0, ap (then_log l) h.1)
 
 -- a first part leaves the stack on which the second goes on
-pub after : (table : Pairs) (c : Base) (u b : Bool) (f k g : Effect) (w above below rest mid : Stack) (l m : Log) → (c ≢ W) → w ≡ above ++ below
-    → f (above ++ (below ++ rest)) ≡ Ok (left mid l) → k mid ≡ g (below ++ rest) → Ends table c u b g below rest m
-    → Ends table c u b (both f k) w rest (then_log l m)
-after table B u b f k g w above below rest mid l m n e i same h =
+pub after : (checker : Checker) (c : Base) (u b : Bool) (f k g : Effect) (w above below rest mid : Stack) (l m : Log) → (c ≢ W) → w ≡ above ++ below
+    → f (above ++ (below ++ rest)) ≡ Ok (left mid l) → k mid ≡ g (below ++ rest) → Ends checker c u b g below rest m
+    → Ends checker c u b (both f k) w rest (then_log l m)
+after checker B u b f k g w above below rest mid l m n e i same h =
     (h.0, h.1, joined f k w above below rest mid (h.0 ∷ rest) l m e i (same ∙ h.2))
-after table V u b f k g w above below rest mid l m n e i same h =
+after checker V u b f k g w above below rest mid l m n e i same h =
     (h.0, joined f k w above below rest mid rest l m e i (same ∙ h.1))
-after table K u b f k g w above below rest mid l m n e i same h =
-    (h.0, h.1, then_log l h.2, h.3, joined f k w above below rest mid (h.0 ∷ h.1 ∷ rest) l h.2 e i (same ∙ h.4), checked_behind table b h.0 h.1 l h.2 m h.5)
-after table W u b f k g w above below rest mid l m n e i same h = absurd (n refl)
+after checker K u b f k g w above below rest mid l m n e i same h =
+    (h.0, h.1, then_log l h.2, h.3, joined f k w above below rest mid (h.0 ∷ h.1 ∷ rest) l h.2 e i (same ∙ h.4), checked_behind checker b h.0 h.1 l h.2 m h.5)
+after checker W u b f k g w above below rest mid l m n e i same h = absurd (n refl)
 
 -- the same effect from another stack
-pub instead : (table : Pairs) (c : Base) (u b : Bool) (k g : Effect) (w below rest : Stack) (l : Log) → (c ≢ W) → k (w ++ rest) ≡ g (below ++ rest)
-    → Ends table c u b g below rest l → Ends table c u b k w rest l
-instead table B u b k g w below rest l n same h = (h.0, h.1, same ∙ h.2)
-instead table V u b k g w below rest l n same h = (h.0, same ∙ h.1)
-instead table K u b k g w below rest l n same h = (h.0, h.1, h.2, h.3, same ∙ h.4, h.5)
-instead table W u b k g w below rest l n same h = absurd (n refl)
+pub instead : (checker : Checker) (c : Base) (u b : Bool) (k g : Effect) (w below rest : Stack) (l : Log) → (c ≢ W) → k (w ++ rest) ≡ g (below ++ rest)
+    → Ends checker c u b g below rest l → Ends checker c u b k w rest l
+instead checker B u b k g w below rest l n same h = (h.0, h.1, same ∙ h.2)
+instead checker V u b k g w below rest l n same h = (h.0, same ∙ h.1)
+instead checker K u b k g w below rest l n same h = (h.0, h.1, h.2, h.3, same ∙ h.4, h.5)
+instead checker W u b k g w below rest l n same h = absurd (n refl)
 
 -- a branch
 pub choose_one : (f g : Effect) (m : Stack) → choose f g (ONE ∷ m) ≡ f m

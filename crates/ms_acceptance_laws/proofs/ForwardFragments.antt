@@ -7,7 +7,7 @@ use Rattle.def_script.specs.Bytes.{Bytes}
 use Rattle.def_script.specs.Numbers.{natural_bytes}
 use Rattle.def_script.specs.Decode.{is_nonzero}
 use Rattle.def_machine.specs.Faults.{OrFault, ◌>>=◌}
-use Rattle.def_machine.specs.Stacks.{Stack, Pairs, member, is_empty, bool_bytes}
+use Rattle.def_machine.specs.Stacks.{Stack, Checker, is_empty, bool_bytes}
 use Rattle.def_script.specs.Key.{is_key}
 use Rattle.def_machine.specs.Effects.{dup, if_dup, swap, size, verify, zero_not_equal, bool_and, bool_or, check_sig}
 use Rattle.def_machine.specs.MultiSig.{is_good}
@@ -27,20 +27,20 @@ pub unit_ends : (b : Bool) (f : Effect) (w s : Stack) (l : Log) → EndsB true b
 unit_ends b f w s l h = h.2 ∙ ap (λ v. Ok (left (v ∷ s) l)) (unit_value b h.0 h.1)
 
 -- `and_v`
-pub and_v_ends : (table : Pairs) (c : Base) (u b : Bool) (f g : Effect) (w above below rest : Stack) (l m : Log) → (c ≢ W) → w ≡ above ++ below
-    → EndsV true f above (below ++ rest) l → Ends table c u b g below rest m → Ends table c u b (both f g) w rest (then_log l m)
-and_v_ends table c u b f g w above below rest l m n e x y = after table c u b f g g w above below rest (below ++ rest) l m n e x.1 refl y
+pub and_v_ends : (checker : Checker) (c : Base) (u b : Bool) (f g : Effect) (w above below rest : Stack) (l m : Log) → (c ≢ W) → w ≡ above ++ below
+    → EndsV true f above (below ++ rest) l → Ends checker c u b g below rest m → Ends checker c u b (both f g) w rest (then_log l m)
+and_v_ends checker c u b f g w above below rest l m n e x y = after checker c u b f g g w above below rest (below ++ rest) l m n e x.1 refl y
 
 -- `andor`: behind a satisfied X, and behind a dissatisfied one
-pub and_or_true : (table : Pairs) (c : Base) (u b : Bool) (f g h : Effect) (w above below rest : Stack) (l m : Log) → (c ≢ W) → w ≡ above ++ below
-    → EndsB true true f above (below ++ rest) l → Ends table c u b g below rest m → Ends table c u b (both f (choose g h)) w rest (then_log l m)
-and_or_true table c u b f g h w above below rest l m n e x y =
-    after table c u b f (choose g h) g w above below rest (ONE ∷ (below ++ rest)) l m n e (unit_ends true f above (below ++ rest) l x) (choose_one g h (below ++ rest)) y
+pub and_or_true : (checker : Checker) (c : Base) (u b : Bool) (f g h : Effect) (w above below rest : Stack) (l m : Log) → (c ≢ W) → w ≡ above ++ below
+    → EndsB true true f above (below ++ rest) l → Ends checker c u b g below rest m → Ends checker c u b (both f (choose g h)) w rest (then_log l m)
+and_or_true checker c u b f g h w above below rest l m n e x y =
+    after checker c u b f (choose g h) g w above below rest (ONE ∷ (below ++ rest)) l m n e (unit_ends true f above (below ++ rest) l x) (choose_one g h (below ++ rest)) y
 
-pub and_or_false : (table : Pairs) (c : Base) (u b : Bool) (f g h : Effect) (w above below rest : Stack) (l m : Log) → (c ≢ W) → w ≡ above ++ below
-    → EndsB true false f above (below ++ rest) l → Ends table c u b h below rest m → Ends table c u b (both f (choose g h)) w rest (then_log l m)
-and_or_false table c u b f g h w above below rest l m n e x z =
-    after table c u b f (choose g h) h w above below rest (EMPTY ∷ (below ++ rest)) l m n e (unit_ends false f above (below ++ rest) l x) (choose_empty g h (below ++ rest)) z
+pub and_or_false : (checker : Checker) (c : Base) (u b : Bool) (f g h : Effect) (w above below rest : Stack) (l m : Log) → (c ≢ W) → w ≡ above ++ below
+    → EndsB true false f above (below ++ rest) l → Ends checker c u b h below rest m → Ends checker c u b (both f (choose g h)) w rest (then_log l m)
+and_or_false checker c u b f g h w above below rest l m n e x z =
+    after checker c u b f (choose g h) h w above below rest (EMPTY ∷ (below ++ rest)) l m n e (unit_ends false f above (below ++ rest) l x) (choose_empty g h (below ++ rest)) z
 
 -- `or_c` with X satisfied
 pub or_c_true : (f h : Effect) (w rest : Stack) (l : Log) → EndsB true true f w rest l → EndsV true (both f (choose silent h)) w rest l
@@ -79,15 +79,15 @@ or_d_false u b f h w above below rest l m e x z = (
 )
 
 -- `or_i`
-pub or_i_true : (table : Pairs) (c : Base) (u b : Bool) (f g : Effect) (w above below rest : Stack) (l : Log) → (c ≢ W) → above ≡ ONE ∷ [] → w ≡ above ++ below
-    → Ends table c u b f below rest l → Ends table c u b (choose f g) w rest l
-or_i_true table c u b f g w above below rest l n i e x =
-    instead table c u b (choose f g) f w below rest l n (ap (λ v. choose f g (v ++ rest)) (e ∙ ap (λ v. v ++ below) i) ∙ choose_one f g (below ++ rest)) x
+pub or_i_true : (checker : Checker) (c : Base) (u b : Bool) (f g : Effect) (w above below rest : Stack) (l : Log) → (c ≢ W) → above ≡ ONE ∷ [] → w ≡ above ++ below
+    → Ends checker c u b f below rest l → Ends checker c u b (choose f g) w rest l
+or_i_true checker c u b f g w above below rest l n i e x =
+    instead checker c u b (choose f g) f w below rest l n (ap (λ v. choose f g (v ++ rest)) (e ∙ ap (λ v. v ++ below) i) ∙ choose_one f g (below ++ rest)) x
 
-pub or_i_false : (table : Pairs) (c : Base) (u b : Bool) (f g : Effect) (w above below rest : Stack) (l : Log) → (c ≢ W) → above ≡ EMPTY ∷ [] → w ≡ above
-    ++ below → Ends table c u b g below rest l → Ends table c u b (choose f g) w rest l
-or_i_false table c u b f g w above below rest l n i e z =
-    instead table c u b (choose f g) g w below rest l n (ap (λ v. choose f g (v ++ rest)) (e ∙ ap (λ v. v ++ below) i) ∙ choose_empty f g (below ++ rest)) z
+pub or_i_false : (checker : Checker) (c : Base) (u b : Bool) (f g : Effect) (w above below rest : Stack) (l : Log) → (c ≢ W) → above ≡ EMPTY ∷ [] → w ≡ above
+    ++ below → Ends checker c u b g below rest l → Ends checker c u b (choose f g) w rest l
+or_i_false checker c u b f g w above below rest l n i e z =
+    instead checker c u b (choose f g) g w below rest l n (ap (λ v. choose f g (v ++ rest)) (e ∙ ap (λ v. v ++ below) i) ∙ choose_empty f g (below ++ rest)) z
 
 -- an opcode that takes two truth values, in one order or the other
 pub record Takes2 (op : Stack → OrFault Stack) (with_op : Bool → Bool → Bool) : Type 0 where
@@ -162,29 +162,29 @@ wrap_s_ends u b f w rest l item e h x =
     )
 
 -- CHECKSIG
-pub good_check : (table : Pairs) (key sig : Bytes) (s : Stack) → IsTrue (is_key key) → IsTrue (is_good table key sig) → checks_sig table (key ∷ sig ∷ s)
+pub good_check : (checker : Checker) (key sig : Bytes) (s : Stack) → IsTrue (is_key key) → IsTrue (is_good checker key sig) → checks_sig checker (key ∷ sig ∷ s)
     ≡ Ok (left (bool_bytes true ∷ s) (check_log key sig))
 unfolding check_sig
-good_check table key sig s form good =
-    rw (form, good_is_some table key sig good, (and_parts (not (is_empty sig)) (member table key sig) good).1) refl
+good_check checker key sig s form good =
+    rw (form, good_is_some checker key sig good, (and_parts (not (is_empty sig)) (checker key sig) good).1) refl
 
-pub empty_check : (table : Pairs) (key : Bytes) (s : Stack) → IsTrue (is_key key) → checks_sig table (key ∷ [] ∷ s) ≡ Ok (left (bool_bytes false ∷ s) quiet)
+pub empty_check : (checker : Checker) (key : Bytes) (s : Stack) → IsTrue (is_key key) → checks_sig checker (key ∷ [] ∷ s) ≡ Ok (left (bool_bytes false ∷ s) quiet)
 unfolding check_sig
-empty_check table key s form = rw form refl
+empty_check checker key s form = rw form refl
 
-pub wrap_c_ends : (table : Pairs) (b : Bool) (f : Effect) (w rest : Stack) (l : Log) → EndsK table b f w rest l → EndsB true b (both f (checks_sig table)) w rest l
-wrap_c_ends table true f w rest l h = (
+pub wrap_c_ends : (checker : Checker) (b : Bool) (f : Effect) (w rest : Stack) (l : Log) → EndsK checker b f w rest l → EndsB true b (both f (checks_sig checker)) w rest l
+wrap_c_ends checker true f w rest l h = (
   ONE,
   bool_value true true,
   relog _ (ONE ∷ rest) (then_log h.2 (check_log h.0 h.1)) l (sym h.5.1)
-      (both_ok f (checks_sig table) (w ++ rest) (h.0 ∷ h.1 ∷ rest) (ONE ∷ rest) h.2 (check_log h.0 h.1) h.4 (good_check table h.0 h.1 rest h.3 h.5.0)),
+      (both_ok f (checks_sig checker) (w ++ rest) (h.0 ∷ h.1 ∷ rest) (ONE ∷ rest) h.2 (check_log h.0 h.1) h.4 (good_check checker h.0 h.1 rest h.3 h.5.0)),
 )
-wrap_c_ends table false f w rest l h = (
+wrap_c_ends checker false f w rest l h = (
   EMPTY,
   bool_value true false,
   relog _ (EMPTY ∷ rest) (then_log h.2 quiet) l (quiet_right h.2 ∙ sym h.5.1)
-      (both_ok f (checks_sig table) (w ++ rest) (h.0 ∷ h.1 ∷ rest) (EMPTY ∷ rest) h.2 quiet h.4
-      (ap (λ sig. checks_sig table (h.0 ∷ sig ∷ rest)) h.5.0 ∙ empty_check table h.0 rest h.3)),
+      (both_ok f (checks_sig checker) (w ++ rest) (h.0 ∷ h.1 ∷ rest) (EMPTY ∷ rest) h.2 quiet h.4
+      (ap (λ sig. checks_sig checker (h.0 ∷ sig ∷ rest)) h.5.0 ∙ empty_check checker h.0 rest h.3)),
 )
 
 -- DUP IF [X] ENDIF, where X takes nothing

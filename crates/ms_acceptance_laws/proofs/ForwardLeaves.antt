@@ -56,23 +56,23 @@ pub hash_run : (given : Given) (kind : HashKind) (value x : Bytes) (s : Stack) �
 unfolding size hash_top equal verify
 hash_run given kind value x s e = rw e refl
 
-pub just_0_ends : (s : Setting) (w rest : Stack) → w ≡ [] → Ends s.given.table B true false (den s.given just_0) w rest quiet
+pub just_0_ends : (s : Setting) (w rest : Stack) → w ≡ [] → Ends s.given.checker B true false (den s.given just_0) w rest quiet
 just_0_ends s w rest e = ([], bool_value true false, pushed_on_none [] w rest e)
 
-pub just_1_ends : (s : Setting) (w rest : Stack) → w ≡ [] → Ends s.given.table B true true (den s.given just_1) w rest quiet
+pub just_1_ends : (s : Setting) (w rest : Stack) → w ≡ [] → Ends s.given.checker B true true (den s.given just_1) w rest quiet
 just_1_ends s w rest e = (ONE, bool_value true true, pushed_on_none ONE w rest e)
 
-pub pk_k_sat_ends : (s : Setting) (key : Key) (w rest : Stack) → IsKey key → (r : (row s (pk_k key)).sat w) → Ends s.given.table K true true (den s.given (pk_k key)) w rest (check_log key r.0)
+pub pk_k_sat_ends : (s : Setting) (key : Key) (w rest : Stack) → IsKey key → (r : (row s (pk_k key)).sat w) → Ends s.given.checker K true true (den s.given (pk_k key)) w rest (check_log key r.0)
 pk_k_sat_ends s key w rest k r =
     (key, r.0, quiet, k.form, ap (λ v. pushes key (v ++ rest)) r.2, (r.1, sym (quiet_left (check_log key r.0))))
 
-pub pk_k_dsat_ends : (s : Setting) (key : Key) (w rest : Stack) → IsKey key → w ≡ EMPTY ∷ [] → Ends s.given.table K true false (den s.given (pk_k key)) w rest quiet
+pub pk_k_dsat_ends : (s : Setting) (key : Key) (w rest : Stack) → IsKey key → w ≡ EMPTY ∷ [] → Ends s.given.checker K true false (den s.given (pk_k key)) w rest quiet
 pk_k_dsat_ends s key w rest k e = (key, [], quiet, k.form, ap (λ v. pushes key (v ++ rest)) e, (refl, refl))
 
 pk_h_stack : (other sig : Bytes) (w above below rest : Stack) → below ≡ sig ∷ [] → above ≡ other ∷ [] → w ≡ above ++ below → w ++ rest ≡ other ∷ sig ∷ rest
 pk_h_stack other sig w above below rest e i j = ap (λ v. v ++ rest) (j ∙ ap (λ v. v ++ below) i ∙ ap (λ v. other ∷ v) e)
 
-pub pk_h_sat_ends : (s : Setting) (key : Key) (w rest : Stack) → (r : (row s (pk_h key)).sat w) → Ends s.given.table K true true (den s.given (pk_h key)) w rest (check_log r.0 r.4.2.0)
+pub pk_h_sat_ends : (s : Setting) (key : Key) (w rest : Stack) → (r : (row s (pk_h key)).sat w) → Ends s.given.checker K true true (den s.given (pk_h key)) w rest (check_log r.0 r.4.2.0)
 pk_h_sat_ends s key w rest r =
     let e = pk_h_stack r.0 r.4.2.0 w r.4.1 r.4.0 rest r.4.2.2 r.4.3 r.4.4 in (
       r.0,
@@ -83,17 +83,17 @@ pk_h_sat_ends s key w rest r =
       (r.4.2.1, sym (quiet_left (check_log r.0 r.4.2.0))),
     )
 
-pub pk_h_dsat_ends : (s : Setting) (key : Key) (w rest : Stack) → (row s (pk_h key)).dsat w → Ends s.given.table K true false (den s.given (pk_h key)) w rest quiet
+pub pk_h_dsat_ends : (s : Setting) (key : Key) (w rest : Stack) → (row s (pk_h key)).dsat w → Ends s.given.checker K true false (den s.given (pk_h key)) w rest quiet
 pk_h_dsat_ends s key w rest r =
     let e = pk_h_stack r.0 [] w r.4.1 r.4.0 rest r.4.2 r.4.3 r.4.4 in
     (r.0, [], quiet, r.1, ap (den s.given (pk_h key)) e ∙ pk_h_run s.given key r.0 ([] ∷ rest) r.2, (refl, refl))
 
-pub older_ends : (s : Setting) (n : ℕ) (w rest : Stack) → IsTyped (older n) → (row s (older n)).sat w → Ends s.given.table B false true (den s.given (older n)) w rest quiet
+pub older_ends : (s : Setting) (n : ℕ) (w rest : Stack) → IsTyped (older n) → (row s (older n)).sat w → Ends s.given.checker B false true (den s.given (older n)) w rest quiet
 older_ends s n w rest typed r =
     let p = typed-older n typed in
     (natural_bytes n, number_value n p.0 p.1, locked_run (λ m. older_holds m s.given.locks) n w rest r.1 p.1 r.0)
 
-pub after_ends : (s : Setting) (n : ℕ) (w rest : Stack) → IsTyped (after n) → (row s (after n)).sat w → Ends s.given.table B false true (den s.given (after n)) w rest quiet
+pub after_ends : (s : Setting) (n : ℕ) (w rest : Stack) → IsTyped (after n) → (row s (after n)).sat w → Ends s.given.checker B false true (den s.given (after n)) w rest quiet
 after_ends s n w rest typed r =
     let p = typed-after n typed in
     (natural_bytes n, number_value n p.0 p.1, locked_run (λ m. after_holds m s.given.locks) n w rest r.1 p.1 r.0)
@@ -106,11 +106,12 @@ hash_ends given kind value x b w rest l e i =
 differ : (x y : Bytes) → x ≢ y → bytes_eq x y ≡ false
 differ x y h = elim (cases_Bool (bytes_eq x y)) [ inl e ↦ absurd (h ((bytes_eq-Decides x y).0 e)) | inr e ↦ e ]
 
-pub hash_sat_ends : (s : Setting) (kind : HashKind) (value : Bytes) (w rest : Stack) → (row s (hash kind value)).sat w → Ends s.given.table B true true (den s.given (hash kind value)) w rest quiet
+pub hash_sat_ends : (s : Setting) (kind : HashKind) (value : Bytes) (w rest : Stack) → (row s (hash kind value)).sat w → Ends s.given.checker B true true (den s.given (hash kind value)) w rest quiet
 hash_sat_ends s kind value w rest r =
     hash_ends s.given kind value r.0 true w rest r.1.0.0 r.2 (ap (λ d. bytes_eq d value) r.1.0.1 ∙ bytes_eq-same value)
 
-pub hash_dsat_ends : (s : Setting) (kind : HashKind) (value : Bytes) (w rest : Stack) → (row s (hash kind value)).dsat w → Ends s.given.table B true false (den s.given (hash kind value)) w rest quiet
+pub hash_dsat_ends : (s : Setting) (kind : HashKind) (value : Bytes) (w rest : Stack) → (row s (hash kind value)).dsat w
+    → Ends s.given.checker B true false (den s.given (hash kind value)) w rest quiet
 hash_dsat_ends s kind value w rest (inl r) =
     hash_ends s.given kind value _ false w rest r.0.0 r.1 (differ _ value r.0.1)
 hash_dsat_ends s kind value w rest (inr r) =

@@ -7,7 +7,7 @@ use Rattle.def_script.specs.Bytes.{Bytes}
 use Rattle.def_script.specs.Numbers.{natural_bytes}
 use Rattle.def_script.specs.Key.{is_key}
 use Rattle.def_machine.specs.declared.ScriptFault.{ScriptFault}
-use Rattle.def_machine.specs.Stacks.{Stack, Pairs, bool_bytes}
+use Rattle.def_machine.specs.Stacks.{Stack, Pairs, Checker, bool_bytes}
 use Rattle.def_machine.specs.MultiSig.{count, some_off, one_off, tries, verdict, null_dummy}
 use Rattle.def_tree.specs.Tree.{Key}
 use Rattle.def_choice.proofs.Weights.{reverse-cons}
@@ -40,12 +40,12 @@ some_off_run xs rest n e =
     (rw (le-ltb (length (xs ++ rest)) (length xs) (omega arith), take-append_seam xs rest, drop-append_seam xs rest) refl)
 
 -- the whole
-multi_run : (table : Pairs) (keys sigs rest : Stack) (k : ℕ) (t : Option Pairs) (b : Bool) (found : Pairs) → length keys ≤ 20 → k ≤ length keys → length sigs
-    ≡ k → tries table (reverse keys) sigs [] ≡ Ok t → verdict sigs t ≡ Ok (b, found)
-    → checks_multi_sig table (natural_bytes (length keys) ∷ (reverse keys ++ (natural_bytes k ∷ (sigs ++ (EMPTY ∷ rest)))))
+multi_run : (checker : Checker) (keys sigs rest : Stack) (k : ℕ) (t : Option Pairs) (b : Bool) (found : Pairs) → length keys ≤ 20 → k ≤ length keys → length sigs
+    ≡ k → tries checker (reverse keys) sigs [] ≡ Ok t → verdict sigs t ≡ Ok (b, found)
+    → checks_multi_sig checker (natural_bytes (length keys) ∷ (reverse keys ++ (natural_bytes k ∷ (sigs ++ (EMPTY ∷ rest)))))
     ≡ Ok (left (bool_bytes b ∷ rest) (log_of (length keys) found))
 unfolding checks_multi_sig one_off null_dummy
-multi_run table keys sigs rest k t b found few low e tried passed =
+multi_run checker keys sigs rest k t b found few low e tried passed =
     let n = length-reverse keys in
     rw (
       count_run 20 (length keys) _ (reverse keys ++ (natural_bytes k ∷ (sigs ++ (EMPTY ∷ rest)))) few (omega arith),
@@ -68,43 +68,43 @@ verdict_found sigs found = refl
 stack_is : (sigs w below rest : Stack) → below ≡ EMPTY ∷ [] → w ≡ sigs ++ below → w ++ rest ≡ sigs ++ (EMPTY ∷ rest)
 stack_is sigs w below rest i e = ap (λ v. v ++ rest) (e ∙ ap (λ v. sigs ++ v) i) ∙ append_assoc sigs (EMPTY ∷ []) rest
 
-abbrev pub multi_effect : Pairs → (k : ℕ) → List Key → Effect
-multi_effect table k keys = both (pushes (natural_bytes k)) (both (pushes_all keys) (both (pushes (natural_bytes (length keys))) (checks_multi_sig table)))
+abbrev pub multi_effect : Checker → (k : ℕ) → List Key → Effect
+multi_effect checker k keys = both (pushes (natural_bytes k)) (both (pushes_all keys) (both (pushes (natural_bytes (length keys))) (checks_multi_sig checker)))
 
-multi_steps : (table : Pairs) (k : ℕ) (keys : List Key) (m end : Stack) (l : Log)
-    → checks_multi_sig table (natural_bytes (length keys) ∷ (reverse keys ++ (natural_bytes k ∷ m))) ≡ Ok (left end l) → multi_effect table k keys m
+multi_steps : (checker : Checker) (k : ℕ) (keys : List Key) (m end : Stack) (l : Log)
+    → checks_multi_sig checker (natural_bytes (length keys) ∷ (reverse keys ++ (natural_bytes k ∷ m))) ≡ Ok (left end l) → multi_effect checker k keys m
     ≡ Ok (left end l)
-multi_steps table k keys m end l e =
+multi_steps checker k keys m end l e =
     let third = relog _ end (then_log quiet l) l (quiet_left l)
-    (both_ok (pushes (natural_bytes (length keys))) (checks_multi_sig table) (reverse keys ++ (natural_bytes k ∷ m))
+    (both_ok (pushes (natural_bytes (length keys))) (checks_multi_sig checker) (reverse keys ++ (natural_bytes k ∷ m))
     (natural_bytes (length keys) ∷ (reverse keys ++ (natural_bytes k ∷ m))) end quiet l refl e) in
     let second = relog _ end (then_log quiet l) l (quiet_left l)
-    (both_ok (pushes_all keys) (both (pushes (natural_bytes (length keys))) (checks_multi_sig table)) (natural_bytes k ∷ m)
+    (both_ok (pushes_all keys) (both (pushes (natural_bytes (length keys))) (checks_multi_sig checker)) (natural_bytes k ∷ m)
     (reverse keys ++ (natural_bytes k ∷ m)) end quiet l (pushed_all keys (natural_bytes k ∷ m)) third) in
     relog _ end (then_log quiet l) l (quiet_left l)
-    (both_ok (pushes (natural_bytes k)) (both (pushes_all keys) (both (pushes (natural_bytes (length keys))) (checks_multi_sig table))) m (natural_bytes k ∷ m) end quiet l refl second)
+    (both_ok (pushes (natural_bytes k)) (both (pushes_all keys) (both (pushes (natural_bytes (length keys))) (checks_multi_sig checker))) m (natural_bytes k ∷ m) end quiet l refl second)
 
-pub multi_sat_ends : (table : Pairs) (k : ℕ) (keys : List Key) (sigs w below rest : Stack) → length keys ≤ 20 → k ≤ length keys
-    → All (λ key. IsTrue (is_key key)) keys → below ≡ EMPTY ∷ [] → w ≡ sigs ++ below → length sigs ≡ k → AreSignatures table (reverse keys) sigs
-    → EndsB true true (multi_effect table k keys) w rest (multi_log table keys sigs)
-multi_sat_ends table k keys sigs w below rest few low forms i e n h =
-    let all = good_tries table (reverse keys) sigs [] (reversed_forms keys forms) h in
-    let run = multi_run table keys sigs rest k (Some all.0) true all.0 few low n all.1 (verdict_found sigs all.0) in (
+pub multi_sat_ends : (checker : Checker) (k : ℕ) (keys : List Key) (sigs w below rest : Stack) → length keys ≤ 20 → k ≤ length keys
+    → All (λ key. IsTrue (is_key key)) keys → below ≡ EMPTY ∷ [] → w ≡ sigs ++ below → length sigs ≡ k → AreSignatures checker (reverse keys) sigs
+    → EndsB true true (multi_effect checker k keys) w rest (multi_log checker keys sigs)
+multi_sat_ends checker k keys sigs w below rest few low forms i e n h =
+    let all = good_tries checker (reverse keys) sigs [] (reversed_forms keys forms) h in
+    let run = multi_run checker keys sigs rest k (Some all.0) true all.0 few low n all.1 (verdict_found sigs all.0) in (
       bool_bytes true,
       bool_value true true,
-      ap (multi_effect table k keys) (stack_is sigs w below rest i e)
-          ∙ multi_steps table k keys (sigs ++ (EMPTY ∷ rest)) (bool_bytes true ∷ rest) (log_of (length keys) all.0) run
+      ap (multi_effect checker k keys) (stack_is sigs w below rest i e)
+          ∙ multi_steps checker k keys (sigs ++ (EMPTY ∷ rest)) (bool_bytes true ∷ rest) (log_of (length keys) all.0) run
           ∙ ap (λ t. Ok (left (bool_bytes true ∷ rest) (log_of (length keys) (found_in t)))) (sym all.1),
     )
 
-pub multi_dsat_ends : (table : Pairs) (k : ℕ) (keys : List Key) (w rest : Stack) → 1 ≤ k → length keys ≤ 20 → k ≤ length keys
-    → All (λ key. IsTrue (is_key key)) keys → w ≡ replicate (k + 1) EMPTY → EndsB true false (multi_effect table k keys) w rest (log_of (length keys) [])
-multi_dsat_ends table zero keys w rest some few low forms e = absurd (omega arith)
-multi_dsat_ends table (suc k) keys w rest some few low forms e =
-    let tried = empty_tries table (reverse keys) k [] (reversed_forms keys forms) in
-    let run = multi_run table keys (replicate (suc k) EMPTY) rest (suc k) None false [] few low (length-replicate (suc k) EMPTY) tried (verdict_empty (suc k)) in (
+pub multi_dsat_ends : (checker : Checker) (k : ℕ) (keys : List Key) (w rest : Stack) → 1 ≤ k → length keys ≤ 20 → k ≤ length keys
+    → All (λ key. IsTrue (is_key key)) keys → w ≡ replicate (k + 1) EMPTY → EndsB true false (multi_effect checker k keys) w rest (log_of (length keys) [])
+multi_dsat_ends checker zero keys w rest some few low forms e = absurd (omega arith)
+multi_dsat_ends checker (suc k) keys w rest some few low forms e =
+    let tried = empty_tries checker (reverse keys) k [] (reversed_forms keys forms) in
+    let run = multi_run checker keys (replicate (suc k) EMPTY) rest (suc k) None false [] few low (length-replicate (suc k) EMPTY) tried (verdict_empty (suc k)) in (
       bool_bytes false,
       bool_value true false,
-      ap (multi_effect table (suc k) keys) (stack_is (replicate (suc k) EMPTY) w (EMPTY ∷ []) rest refl (e ∙ empties_split (suc k)))
-          ∙ multi_steps table (suc k) keys (replicate (suc k) EMPTY ++ (EMPTY ∷ rest)) (bool_bytes false ∷ rest) (log_of (length keys) []) run,
+      ap (multi_effect checker (suc k) keys) (stack_is (replicate (suc k) EMPTY) w (EMPTY ∷ []) rest refl (e ∙ empties_split (suc k)))
+          ∙ multi_steps checker (suc k) keys (replicate (suc k) EMPTY ++ (EMPTY ∷ rest)) (bool_bytes false ∷ rest) (log_of (length keys) []) run,
     )

@@ -49,30 +49,30 @@ v_not_w e = cc
 
 -- from the stack w on top of any other the Script of t goes on; b is true for a satisfaction
 pub record Goes (s : Setting) (t : Tree) (b : Bool) (w : Stack) (l : Log) : Type 0 where
-  pub ends : (rest : Stack) → Ends s.given.table (type_of t).base (type_of t).u b (den s.given t) w rest l
+  pub ends : (rest : Stack) → Ends s.given.checker (type_of t).base (type_of t).u b (den s.given t) w rest l
 
 going : {s : Setting} {t : Tree} {b : Bool} {w : Stack} {l : Log}
-    → ((rest : Stack) → Ends s.given.table (type_of t).base (type_of t).u b (den s.given t) w rest l) → Goes s t b w l
+    → ((rest : Stack) → Ends s.given.checker (type_of t).base (type_of t).u b (den s.given t) w rest l) → Goes s t b w l
 going h = record { ends = h }
 
 module _ (s : Setting) where
   -- by another name of its base type, and with u
   based : {t : Tree} {b : Bool} {w : Stack} {l : Log} (base : Base) → (type_of t).base ≡ base → Goes s t b w l → (rest : Stack)
-      → Ends s.given.table base (type_of t).u b (den s.given t) w rest l
-  based {t} {b} {w} {l} base e h rest = subst (λ c. Ends s.given.table c (type_of t).u b (den s.given t) w rest l) e (h.ends rest)
+      → Ends s.given.checker base (type_of t).u b (den s.given t) w rest l
+  based {t} {b} {w} {l} base e h rest = subst (λ c. Ends s.given.checker c (type_of t).u b (den s.given t) w rest l) e (h.ends rest)
 
   unit : {t : Tree} {b : Bool} {w : Stack} {l : Log} (base : Base) → (type_of t).base ≡ base → (type_of t).u ≡ true → Goes s t b w l → (rest : Stack)
-      → Ends s.given.table base true b (den s.given t) w rest l
-  unit {t} {b} {w} {l} base e i h rest = subst (λ u. Ends s.given.table base u b (den s.given t) w rest l) i (based base e h rest)
+      → Ends s.given.checker base true b (den s.given t) w rest l
+  unit {t} {b} {w} {l} base e i h rest = subst (λ u. Ends s.given.checker base u b (den s.given t) w rest l) i (based base e h rest)
 
   -- a value with u of two branches is one with u of each
   left_weak : {x : Tree} {b : Bool} {w : Stack} {l : Log} (z : Tree) → Goes s x b w l → (rest : Stack)
-      → Ends s.given.table (type_of x).base ((type_of x).u && (type_of z).u) b (den s.given x) w rest l
-  left_weak {x} {b} z h rest = weaken s.given.table _ _ _ b _ _ _ _ (λ e. (and_parts (type_of x).u (type_of z).u e).0) (h.ends rest)
+      → Ends s.given.checker (type_of x).base ((type_of x).u && (type_of z).u) b (den s.given x) w rest l
+  left_weak {x} {b} z h rest = weaken s.given.checker _ _ _ b _ _ _ _ (λ e. (and_parts (type_of x).u (type_of z).u e).0) (h.ends rest)
 
   right_weak : {z : Tree} {b : Bool} {w : Stack} {l : Log} (x : Tree) → (type_of x).base ≡ (type_of z).base → Goes s z b w l → (rest : Stack)
-      → Ends s.given.table (type_of x).base ((type_of x).u && (type_of z).u) b (den s.given z) w rest l
-  right_weak {z} {b} x e h rest = weaken s.given.table _ _ _ b _ _ _ _ (λ e. (and_parts (type_of x).u (type_of z).u e).1) (based _ (sym e) h rest)
+      → Ends s.given.checker (type_of x).base ((type_of x).u && (type_of z).u) b (den s.given z) w rest l
+  right_weak {z} {b} x e h rest = weaken s.given.checker _ _ _ b _ _ _ _ (λ e. (and_parts (type_of x).u (type_of z).u e).1) (based _ (sym e) h rest)
 
   -- two children, the stack of the first on top
   module _ {w above below : Stack} (e : w ≡ above ++ below) where
@@ -81,14 +81,14 @@ module _ (s : Setting) where
     unfolding corr_rows
     and_or_first x y z b typed i j =
         let p = typed-and_or x y z typed in
-        going (λ rest. and_or_true s.given.table _ _ b _ _ (den s.given z) w above below _ _ _ p.7 e (unit B p.3 p.5 i (below ++ rest)) (left_weak z j rest))
+        going (λ rest. and_or_true s.given.checker _ _ b _ _ (den s.given z) w above below _ _ _ p.7 e (unit B p.3 p.5 i (below ++ rest)) (left_weak z j rest))
 
     and_or_second : {l m : Log} (x y z : Tree) (b : Bool) → IsTyped (and_or x y z) → Goes s x false above l → Goes s z b below m
         → Goes s (and_or x y z) b w (then_log l m)
     unfolding corr_rows
     and_or_second x y z b typed i j =
         let p = typed-and_or x y z typed in
-        going (λ rest. and_or_false s.given.table _ _ b _ (den s.given y) _ w above below _ _ _ p.7 e (unit B p.3 p.5 i (below ++ rest))
+        going (λ rest. and_or_false s.given.checker _ _ b _ (den s.given y) _ w above below _ _ _ p.7 e (unit B p.3 p.5 i (below ++ rest))
         (right_weak y p.6 j rest))
 
     and_v_goes : {l m : Log} (x y : Tree) (b : Bool) → IsTyped (two kind.AndV x y) → Goes s x true above l → Goes s y b below m
@@ -96,7 +96,7 @@ module _ (s : Setting) where
     unfolding corr_rows
     and_v_goes x y b typed i j =
         let p = typed-and_v x y typed in
-        going (λ rest. and_v_ends s.given.table _ _ b (den s.given x) (den s.given y) w above below _ _ _ p.3 e (based V p.2 i (below ++ rest)) (j.ends rest))
+        going (λ rest. and_v_ends s.given.checker _ _ b (den s.given x) (den s.given y) w above below _ _ _ p.3 e (based V p.2 i (below ++ rest)) (j.ends rest))
 
     and_b_goes : {l m : Log} (x y : Tree) (a b : Bool) → IsTyped (two kind.AndB x y) → Goes s x a above l → Goes s y b below m
         → Goes s (two kind.AndB x y) (a && b) w (then_log l m)
@@ -122,13 +122,13 @@ module _ (s : Setting) where
     or_i_first : {m : Log} (x z : Tree) (b : Bool) → IsTyped (two kind.OrI x z) → above ≡ ONE ∷ [] → Goes s x b below m → Goes s (two kind.OrI x z) b w m
     unfolding corr_rows
     or_i_first x z b typed is i =
-        going (λ rest. or_i_true s.given.table _ _ b _ (den s.given z) w above below _ _ (typed-or_i x z typed).3 is e (left_weak z i rest))
+        going (λ rest. or_i_true s.given.checker _ _ b _ (den s.given z) w above below _ _ (typed-or_i x z typed).3 is e (left_weak z i rest))
 
     or_i_second : {m : Log} (x z : Tree) (b : Bool) → IsTyped (two kind.OrI x z) → above ≡ EMPTY ∷ [] → Goes s z b below m → Goes s (two kind.OrI x z) b w m
     unfolding corr_rows
     or_i_second x z b typed is j =
         let p = typed-or_i x z typed in
-        going (λ rest. or_i_false s.given.table _ _ b (den s.given x) _ w above below _ _ p.3 is e (right_weak x p.2 j rest))
+        going (λ rest. or_i_false s.given.checker _ _ b (den s.given x) _ w above below _ _ p.3 is e (right_weak x p.2 j rest))
 
   -- not so many children satisfied as must be
   unmet : (k : ℕ) (x : Tree) (xs : Trees) → IsTyped (thresh k (more x xs)) → Few (thresh k (more x xs)) → (n : ℕ) (w : Stack) (r : parts s (more x xs) n w)
@@ -174,7 +174,7 @@ module _ (s : Setting) where
         let p = typed-or_c x z typed in
         record {
           ends = λ rest.
-              and_or_false s.given.table V false true (den s.given x) silent (den s.given z) w r.1 r.0 rest _ _ v_not_w r.4
+              and_or_false s.given.checker V false true (den s.given x) silent (den s.given z) w r.1 r.0 rest _ _ v_not_w r.4
               (unit B p.2 p.4 (over (dsat_ends x k.0 typed.0 few.0) w short r) (r.0 ++ rest))
               (based V p.5 (under (sat_ends z k.1 typed.1 few.1) w short r) rest);
         }
@@ -191,7 +191,7 @@ module _ (s : Setting) where
         (sum_ends k (more x xs) writable typed few k w short r rest))
     sat_ends (multi k keys) writable typed few w short r =
         let p = typed-multi k keys typed in
-        going (λ rest. multi_sat_ends s.given.table k keys r.1 w r.0 rest p.2 p.1 (forms keys writable.2) r.2 r.4 r.3.0 r.3.1)
+        going (λ rest. multi_sat_ends s.given.checker k keys r.1 w r.0 rest p.2 p.1 (forms keys writable.2) r.2 r.4 r.3.0 r.3.1)
     sat_ends (wrap wrapper.A x) k typed few w short r =
         going (λ rest. wrap_a_ends (type_of x).u true (den s.given x) w rest _ (based B (typed-wrap_a x typed).1 (sat_ends x k typed.0 few w short r) rest))
     sat_ends (wrap wrapper.S x) k typed few w short r =
@@ -199,7 +199,7 @@ module _ (s : Setting) where
         let item = one_item w ((takes_one s x p.0 p.2).sat w r) in
         going (λ rest. wrap_s_ends (type_of x).u true (den s.given x) w rest _ item.0 item.1 (based B p.1 (sat_ends x k p.0 few w short r)))
     sat_ends (wrap wrapper.C x) k typed few w short r =
-        going (λ rest. wrap_c_ends s.given.table true (den s.given x) w rest _ (based K (typed-wrap_c x typed).1 (sat_ends x k typed.0 few w short r) rest))
+        going (λ rest. wrap_c_ends s.given.checker true (den s.given x) w rest _ (based K (typed-wrap_c x typed).1 (sat_ends x k typed.0 few w short r) rest))
     sat_ends (wrap wrapper.D x) k typed few w short r =
         let p = typed-wrap_d x typed in
         let i = under (sat_ends x k p.0 few) w short r in
@@ -243,7 +243,7 @@ module _ (s : Setting) where
         unmet k x xs typed few r.0 w r.3 r.2 (sum_ends k (more x xs) writable typed few r.0 w short r.3)
     dsat_ends (multi k keys) writable typed few w short r =
         let p = typed-multi k keys typed in
-        going (λ rest. multi_dsat_ends s.given.table k keys w rest p.0 p.2 p.1 (forms keys writable.2) r)
+        going (λ rest. multi_dsat_ends s.given.checker k keys w rest p.0 p.2 p.1 (forms keys writable.2) r)
     dsat_ends (wrap wrapper.A x) k typed few w short r =
         going (λ rest. wrap_a_ends (type_of x).u false (den s.given x) w rest _ (based B (typed-wrap_a x typed).1 (dsat_ends x k typed.0 few w short r) rest))
     dsat_ends (wrap wrapper.S x) k typed few w short r =
@@ -251,7 +251,7 @@ module _ (s : Setting) where
         let item = one_item w ((takes_one s x p.0 p.2).dsat w r) in
         going (λ rest. wrap_s_ends (type_of x).u false (den s.given x) w rest _ item.0 item.1 (based B p.1 (dsat_ends x k p.0 few w short r)))
     dsat_ends (wrap wrapper.C x) k typed few w short r =
-        going (λ rest. wrap_c_ends s.given.table false (den s.given x) w rest _ (based K (typed-wrap_c x typed).1 (dsat_ends x k typed.0 few w short r) rest))
+        going (λ rest. wrap_c_ends s.given.checker false (den s.given x) w rest _ (based K (typed-wrap_c x typed).1 (dsat_ends x k typed.0 few w short r) rest))
     dsat_ends (wrap wrapper.D x) k typed few w short r = going (λ rest. wrap_d_dsat_ends (den s.given x) w rest r)
     dsat_ends (wrap wrapper.J x) k typed few w short (inl r) = going (λ rest. wrap_j_empty_ends (type_of x).u (den s.given x) w rest r)
     dsat_ends (wrap wrapper.J x) k typed few w short (inr (fact, r)) =

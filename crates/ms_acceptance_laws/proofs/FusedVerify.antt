@@ -60,12 +60,12 @@ last_closes given (code op.Equal) s =
     ]
 last_closes given (code op.CheckSig) s =
     elim (cases_Bool (is_live s)) [
-      | inl live ↦ rw live (after_live given (check_sig given.table s.main s.checks) (λ left. record (one_more s) { main = left.0; checks = left.1 }) (λ left. live))
+      | inl live ↦ rw live (after_live given (check_sig given.checker s.main s.checks) (λ left. record (one_more s) { main = left.0; checks = left.1 }) (λ left. live))
       | inr dead ↦ rw (dead, dead) refl
     ]
 last_closes given (code op.CheckMultiSig) s =
     elim (cases_Bool (is_live s)) [
-      | inl live ↦ rw live (after_live given (checks_multi_sig given.table s.main) (λ left. reached (one_more s) 0 left) (λ left. live))
+      | inl live ↦ rw live (after_live given (checks_multi_sig given.checker s.main) (λ left. reached (one_more s) 0 left) (λ left. live))
       | inr dead ↦ rw (dead, dead) refl
     ]
 last_closes given (code other) s = unfused given (code other) s

@@ -11,7 +11,7 @@ use Rattle.def_machine.specs.declared.ScriptFault.{ScriptFault}
 use Rattle.def_machine.specs.declared.ScriptFault.TheVariants as fault
 use Rattle.def_machine.specs.Faults.{OrFault, ◌>>=◌}
 use Rattle.def_script.specs.Limits.{MAX_PUBKEYS_PER_MULTISIG, MAX_OPS_PER_SCRIPT, MAX_STACK_SIZE}
-use Rattle.def_machine.specs.Stacks.{Stack, Pairs, bool_bytes}
+use Rattle.def_machine.specs.Stacks.{Stack, Pairs, Checker, bool_bytes}
 use Rattle.def_machine.specs.Effects.{verify}
 use Rattle.def_machine.specs.MultiSig.{count, within_op_limit, some_off, one_off, tries, verdict, null_dummy, check_multi_sig}
 use Rattle.def_machine.specs.Machine.{Given, State, on_main, on_multi, act, only_if, is_branching, is_live, pushed, carry_out, settle, step, height}
@@ -30,47 +30,47 @@ abbrev multi_after : (ops : ℕ) → Pairs → Left → OrFault (Stack × ℕ ×
 multi_after ops checks left = within_op_limit (ops + left.log.keys) >>= λ total. Ok (left.main, total, checks ++ left.log.checks)
 
 -- from the steps of one form of CHECKMULTISIG, what both forms find
-both_find : (table : Pairs) (main : Stack) (ops : ℕ) (checks : Pairs) (n : ℕ × Stack) (keys : Stack × Stack) (m : ℕ × Stack) (sigs : Stack × Stack)
+both_find : (checker : Checker) (main : Stack) (ops : ℕ) (checks : Pairs) (n : ℕ × Stack) (keys : Stack × Stack) (m : ℕ × Stack) (sigs : Stack × Stack)
     (extra : Bytes × Stack) (tried : Option Pairs) (passed : Bool × Pairs) (empty : Bytes)
     → count MAX_PUBKEYS_PER_MULTISIG fault.KeyCount main ≡ Ok n → some_off n.0 n.1 ≡ Ok keys → count n.0 fault.SigCount keys.1 ≡ Ok m
-    → some_off m.0 m.1 ≡ Ok sigs → one_off sigs.1 ≡ Ok extra → tries table keys.0 sigs.0 [] ≡ Ok tried
+    → some_off m.0 m.1 ≡ Ok sigs → one_off sigs.1 ≡ Ok extra → tries checker keys.0 sigs.0 [] ≡ Ok tried
     → verdict sigs.0 tried ≡ Ok passed → null_dummy extra.0 ≡ Ok empty
     → let found = left (bool_bytes passed.0 ∷ extra.1) (log_of n.0 passed.1) in
-    (checks_multi_sig table main ≡ Ok found) × (check_multi_sig table main ops checks ≡ multi_after ops checks found)
+    (checks_multi_sig checker main ≡ Ok found) × (check_multi_sig checker main ops checks ≡ multi_after ops checks found)
 unfolding checks_multi_sig check_multi_sig
-both_find table main ops checks n keys m sigs extra tried passed empty a b c d e f g h =
+both_find checker main ops checks n keys m sigs extra tried passed empty a b c d e f g h =
     (rw (a, b, c, d, e, f, g, h) refl, rw a (bind_same (within_op_limit (ops + n.0)) _ _ (λ total. rw (b, c, d, e, f, g, h) refl)))
 
-multi_counted : (table : Pairs) (main : Stack) (ops : ℕ) (checks : Pairs) (end : Left) → checks_multi_sig table main ≡ Ok end
-    → check_multi_sig table main ops checks ≡ multi_after ops checks end
+multi_counted : (checker : Checker) (main : Stack) (ops : ℕ) (checks : Pairs) (end : Left) → checks_multi_sig checker main ≡ Ok end
+    → check_multi_sig checker main ops checks ≡ multi_after ops checks end
 unfolding checks_multi_sig
-multi_counted table main ops checks end h =
+multi_counted checker main ops checks end h =
     let n = bind_split (count MAX_PUBKEYS_PER_MULTISIG fault.KeyCount main) _ end h in
     let keys = bind_split (some_off n.0.0 n.0.1) _ end n.2 in
     let m = bind_split (count n.0.0 fault.SigCount keys.0.1) _ end keys.2 in
     let sigs = bind_split (some_off m.0.0 m.0.1) _ end m.2 in
     let extra = bind_split (one_off sigs.0.1) _ end sigs.2 in
-    let tried = bind_split (tries table keys.0.0 sigs.0.0 []) _ end extra.2 in
+    let tried = bind_split (tries checker keys.0.0 sigs.0.0 []) _ end extra.2 in
     let passed = bind_split (verdict sigs.0.0 tried.0) _ end tried.2 in
     let empty = bind_split (null_dummy extra.0.0) _ end passed.2 in
-    (both_find table main ops checks _ _ _ _ _ _ _ _ n.1 keys.1 m.1 sigs.1 extra.1 tried.1 passed.1 empty.1).1 ∙ ap (multi_after ops checks)
+    (both_find checker main ops checks _ _ _ _ _ _ _ _ n.1 keys.1 m.1 sigs.1 extra.1 tried.1 passed.1 empty.1).1 ∙ ap (multi_after ops checks)
     (same_ok _ end empty.2)
 
 -- and conversely
-multi_found : (table : Pairs) (main : Stack) (ops : ℕ) (checks : Pairs) (out : Stack × ℕ × Pairs) → check_multi_sig table main ops checks ≡ Ok out →
-    (end : Left) × (checks_multi_sig table main ≡ Ok end)
+multi_found : (checker : Checker) (main : Stack) (ops : ℕ) (checks : Pairs) (out : Stack × ℕ × Pairs) → check_multi_sig checker main ops checks ≡ Ok out →
+    (end : Left) × (checks_multi_sig checker main ≡ Ok end)
 unfolding check_multi_sig
-multi_found table main ops checks out h =
+multi_found checker main ops checks out h =
     let n = bind_split (count MAX_PUBKEYS_PER_MULTISIG fault.KeyCount main) _ out h in
     let total = bind_split (within_op_limit (ops + n.0.0)) _ out n.2 in
     let keys = bind_split (some_off n.0.0 n.0.1) _ out total.2 in
     let m = bind_split (count n.0.0 fault.SigCount keys.0.1) _ out keys.2 in
     let sigs = bind_split (some_off m.0.0 m.0.1) _ out m.2 in
     let extra = bind_split (one_off sigs.0.1) _ out sigs.2 in
-    let tried = bind_split (tries table keys.0.0 sigs.0.0 []) _ out extra.2 in
+    let tried = bind_split (tries checker keys.0.0 sigs.0.0 []) _ out extra.2 in
     let passed = bind_split (verdict sigs.0.0 tried.0) _ out tried.2 in
     let empty = bind_split (null_dummy extra.0.0) _ out passed.2 in
-    (_, (both_find table main ops checks _ _ _ _ _ _ _ _ n.1 keys.1 m.1 sigs.1 extra.1 tried.1 passed.1 empty.1).0)
+    (_, (both_find checker main ops checks _ _ _ _ _ _ _ _ n.1 keys.1 m.1 sigs.1 extra.1 tried.1 passed.1 empty.1).0)
 
 -- a count of opcodes
 counted_or : (n : ℕ) → (within_op_limit n ≡ Ok n) ⊎ ((within_op_limit n ≡ Err fault.OpCount) × (MAX_OPS_PER_SCRIPT < n))
@@ -81,23 +81,23 @@ counted_or n = elim (cases_Bool (nat_lt MAX_OPS_PER_SCRIPT n)) [ inl e ↦ inr (
 abbrev OrTooMany : OrFault State → State → Type 0
 OrTooMany r t = (r ≡ Ok t) ⊎ ((r ≡ Err fault.OpCount) × (MAX_OPS_PER_SCRIPT < t.ops))
 
-multi_bounded : (table : Pairs) (s t : State) → affect (checks_multi_sig table) s ≡ Ok t → OrTooMany (on_multi (check_multi_sig table) s) t
-multi_bounded table s t h =
-    let left = bind_split (checks_multi_sig table s.main) _ t h in
-    go left.0 (multi_counted table s.main s.ops s.checks left.0 left.1) (same_ok (reached s 0 left.0) t left.2) (counted_or (s.ops + left.0.log.keys))
+multi_bounded : (checker : Checker) (s t : State) → affect (checks_multi_sig checker) s ≡ Ok t → OrTooMany (on_multi (check_multi_sig checker) s) t
+multi_bounded checker s t h =
+    let left = bind_split (checks_multi_sig checker s.main) _ t h in
+    go left.0 (multi_counted checker s.main s.ops s.checks left.0 left.1) (same_ok (reached s 0 left.0) t left.2) (counted_or (s.ops + left.0.log.keys))
   where
-    go : (left : Left) → check_multi_sig table s.main s.ops s.checks ≡ multi_after s.ops s.checks left → reached s 0 left ≡ t →
+    go : (left : Left) → check_multi_sig checker s.main s.ops s.checks ≡ multi_after s.ops s.checks left → reached s 0 left ≡ t →
         (within_op_limit (s.ops + left.log.keys) ≡ Ok (s.ops + left.log.keys)) ⊎ ((within_op_limit (s.ops + left.log.keys) ≡ Err fault.OpCount) × (MAX_OPS_PER_SCRIPT < s.ops + left.log.keys)) →
-        OrTooMany (on_multi (check_multi_sig table) s) t
+        OrTooMany (on_multi (check_multi_sig checker) s) t
     go left e same (inl few) = inl (rw (e, few, ← same, add-zero s.ops) refl)
     go left e same (inr many) = inr (rw (e, many.0) refl, rw (← same) (omega (arith, many.1)))
 
 act_bounded : (given : Given) (op : Op) (s t : State) → free_act given op s ≡ Ok t → OrTooMany (act given op s) t
 unfolding act
-act_bounded given op.CheckMultiSig s t h = multi_bounded given.table s t h
+act_bounded given op.CheckMultiSig s t h = multi_bounded given.checker s t h
 act_bounded given op.CheckMultiSigVerify s t h =
-    let u = bind_split (affect (checks_multi_sig given.table) s) (on_main verify) t h in
-    elim (multi_bounded given.table s u.0 u.1) [
+    let u = bind_split (affect (checks_multi_sig given.checker) s) (on_main verify) t h in
+    elim (multi_bounded given.checker s u.0 u.1) [
       | inl few ↦ inl (rw few u.2)
       | inr many ↦ let climb = main_climbs verify 0 verify_grows u.0 t u.2 in inr (rw (many.0) refl, omega (arith, many.1, climb.ops))
     ]
@@ -142,12 +142,12 @@ step_bounded given i s t short h = go (carry_bounded given i s t short h) (settl
     go (inl few) (inr high) = inr (record { fault = fault.StackSize; limit = refl; stops = rw few (high.0); why = inr high.1 })
     go (inr many) r = inr (record { fault = fault.OpCount; limit = refl; stops = rw (many.0) refl; why = inl many.1 })
 
-multi_free : (table : Pairs) (s t : State) → on_multi (check_multi_sig table) s ≡ Ok t → affect (checks_multi_sig table) s ≡ Ok t
-multi_free table s t h =
-    let out = bind_split (check_multi_sig table s.main s.ops s.checks) _ t h in
-    let left = multi_found table s.main s.ops s.checks out.0 out.1 in
-    let affected : affect (checks_multi_sig table) s ≡ Ok (reached s 0 left.0) = rw left.1 refl in
-    elim (multi_bounded table s (reached s 0 left.0) affected) [
+multi_free : (checker : Checker) (s t : State) → on_multi (check_multi_sig checker) s ≡ Ok t → affect (checks_multi_sig checker) s ≡ Ok t
+multi_free checker s t h =
+    let out = bind_split (check_multi_sig checker s.main s.ops s.checks) _ t h in
+    let left = multi_found checker s.main s.ops s.checks out.0 out.1 in
+    let affected : affect (checks_multi_sig checker) s ≡ Ok (reached s 0 left.0) = rw left.1 refl in
+    elim (multi_bounded checker s (reached s 0 left.0) affected) [
       | inl few ↦ affected ∙ (sym few ∙ h)
       | inr many ↦ absurd (no_fault _ t (sym (many.0) ∙ h))
     ]
@@ -155,10 +155,10 @@ multi_free table s t h =
 -- conversely, what is carried out is a step of the machine without limits
 act_free : (given : Given) (op : Op) (s t : State) → act given op s ≡ Ok t → free_act given op s ≡ Ok t
 unfolding act
-act_free given op.CheckMultiSig s t h = multi_free given.table s t h
+act_free given op.CheckMultiSig s t h = multi_free given.checker s t h
 act_free given op.CheckMultiSigVerify s t h =
-    let u = bind_split (on_multi (check_multi_sig given.table) s) (on_main verify) t h in
-    ap (λ (r : OrFault State). r >>= on_main verify) (multi_free given.table s u.0 u.1) ∙ u.2
+    let u = bind_split (on_multi (check_multi_sig given.checker) s) (on_main verify) t h in
+    ap (λ (r : OrFault State). r >>= on_main verify) (multi_free given.checker s u.0 u.1) ∙ u.2
 act_free given other s t h = h
 
 pub carry_free : (given : Given) (i : Instruction) (s t : State) → carry_out given (item_of i) s ≡ Ok t → free_step given i s ≡ Ok t

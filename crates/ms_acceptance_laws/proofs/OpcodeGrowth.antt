@@ -7,7 +7,7 @@ use Rattle.def_machine.specs.declared.ScriptFault.{ScriptFault}
 use Rattle.def_machine.specs.declared.ScriptFault.TheVariants as fault
 use Rattle.def_machine.specs.Faults.{OrFault, ◌>>=◌}
 use Rattle.def_script.specs.Limits.{MAX_PUBKEYS_PER_MULTISIG}
-use Rattle.def_machine.specs.Stacks.{Stack, Pairs, is_empty, member, bool_bytes}
+use Rattle.def_machine.specs.Stacks.{Stack, Pairs, Checker, is_empty, bool_bytes}
 use Rattle.def_script.specs.Key.{is_key}
 use Rattle.def_machine.specs.Effects.{verify, condition, if_dup, dup, swap, size, equal, operand, non_negative, one_number, two_numbers, zero_not_equal, add, bool_and, bool_or, hash, check_sig, lock}
 use Rattle.def_machine.specs.MultiSig.{count, within, some_off, one_off, tries, verdict, null_dummy}
@@ -126,11 +126,11 @@ condition_takes ([] ∷ s) top h = omega (arith, ap (λ (t : Bool × Stack). len
 condition_takes ((b ∷ []) ∷ s) top h = omega (arith, ap (λ (t : Bool × Stack). length t.1) (if_held (b == 1) (true, s) top _ h))
 condition_takes ((b ∷ c ∷ bytes) ∷ s) top h = absurd cc
 
-pub check_sig_takes : (table : Pairs) (main : Stack) (checks : Pairs) (left : Stack × Pairs) → check_sig table main checks ≡ Ok left → length left.0 ≤ length main
+pub check_sig_takes : (checker : Checker) (main : Stack) (checks : Pairs) (left : Stack × Pairs) → check_sig checker main checks ≡ Ok left → length left.0 ≤ length main
 unfolding check_sig
-check_sig_takes table [] checks left h = absurd cc
-check_sig_takes table (key ∷ []) checks left h = absurd cc
-check_sig_takes table (key ∷ sig ∷ s) checks left h = go (not (is_key key)) (is_empty sig) (member table key sig) h
+check_sig_takes checker [] checks left h = absurd cc
+check_sig_takes checker (key ∷ []) checks left h = absurd cc
+check_sig_takes checker (key ∷ sig ∷ s) checks left h = go (not (is_key key)) (is_empty sig) (checker key sig) h
   where
     is_left : (x : Bytes) (found : Pairs) → sure (x ∷ s, found) ≡ Ok left → length left.0 ≤ suc (suc (length s))
     is_left x found h = omega (arith, ap length (ap (λ (t : Stack × Pairs). t.0) (same_ok (x ∷ s, found) left h)))
@@ -165,20 +165,20 @@ unfolding one_off
 one_off_takes [] taken h = absurd cc
 one_off_takes (x ∷ s) taken h = omega (arith, ap length (ap (λ (t : Bytes × Stack). t.1) (same_ok (x, s) taken h)))
 
-after_sigs : (table : Pairs) (keys sigs : Stack) (n : ℕ) (extra : Bytes × Stack) (left : Left) →
-    (tries table keys sigs [] >>= λ tried. verdict sigs tried >>= λ passed. null_dummy extra.0 >>= λ empty.
+after_sigs : (checker : Checker) (keys sigs : Stack) (n : ℕ) (extra : Bytes × Stack) (left : Left) →
+    (tries checker keys sigs [] >>= λ tried. verdict sigs tried >>= λ passed. null_dummy extra.0 >>= λ empty.
     Ok (record { main = bool_bytes passed.0 ∷ extra.1; log = record { keys = n; checks = passed.1 } })) ≡ Ok left →
     length left.main ≡ length extra.1 + 1
-after_sigs table keys sigs n extra left h =
-    let tried = bind_split (tries table keys sigs []) _ left h in
+after_sigs checker keys sigs n extra left h =
+    let tried = bind_split (tries checker keys sigs []) _ left h in
     let passed = bind_split (verdict sigs tried.0) _ left tried.2 in
     let empty = bind_split (null_dummy extra.0) _ left passed.2 in
     let same = same_ok (record { main = bool_bytes passed.0.0 ∷ extra.1; log = record { keys = n; checks = passed.0.1 } }) left empty.2 in
     omega (arith, ap (λ (l : Left). length l.main) same)
 
-pub checks_multi_sig_takes : (table : Pairs) (main : Stack) (left : Left) → checks_multi_sig table main ≡ Ok left → length left.main ≤ length main
+pub checks_multi_sig_takes : (checker : Checker) (main : Stack) (left : Left) → checks_multi_sig checker main ≡ Ok left → length left.main ≤ length main
 unfolding checks_multi_sig
-checks_multi_sig_takes table main left h =
+checks_multi_sig_takes checker main left h =
     let n = bind_split (count MAX_PUBKEYS_PER_MULTISIG fault.KeyCount main) _ left h in
     let keys = bind_split (some_off n.0.0 n.0.1) _ left n.2 in
     let m = bind_split (count n.0.0 fault.SigCount keys.0.1) _ left keys.2 in
@@ -191,5 +191,5 @@ checks_multi_sig_takes table main left h =
       count_takes n.0.0 fault.SigCount keys.0.1 m.0 m.1,
       some_off_takes m.0.0 m.0.1 sigs.0 sigs.1,
       one_off_takes sigs.0.1 extra.0 extra.1,
-      after_sigs table keys.0.0 sigs.0.0 n.0.0 extra.0 left extra.2,
+      after_sigs checker keys.0.0 sigs.0.0 n.0.0 extra.0 left extra.2,
     )

@@ -37,8 +37,8 @@ module _ (p : ℕ) where
   act_peak given op.If s = opens (is_live s) true s
   act_peak given op.NotIf s = opens (is_live s) false s
   act_peak given op.EqualVerify s = verified (on_main equal s) _ (main equal s)
-  act_peak given op.CheckSigVerify s = verified (on_checks (check_sig given.table) s) _ (after _ _)
-  act_peak given op.CheckMultiSigVerify s = verified (affect (checks_multi_sig given.table) s) _ (after _ _)
+  act_peak given op.CheckSigVerify s = verified (on_checks (check_sig given.checker) s) _ (after _ _)
+  act_peak given op.CheckMultiSigVerify s = verified (affect (checks_multi_sig given.checker) s) _ (after _ _)
   act_peak given other s = after _ _
 
   only_peak : (live : Bool) (f : State → OrFault State) (s : State) → f (peaked p s) ≡ with_peak p (f s) → only_if live f (peaked p s) ≡ with_peak p (only_if live f s)

@@ -5,7 +5,7 @@ use Rattle.std.proofs.lemmas.List.{length-append, length-replicate, length-rever
 use Rattle.def_script.specs.Bytes.{Bytes}
 use Rattle.def_script.specs.Signature.{MAX_SIGNATURE_SIZE}
 use Rattle.def_script.specs.Witness.{weight}
-use Rattle.def_machine.specs.Stacks.{Stack}
+use Rattle.def_machine.specs.Stacks.{Stack, member}
 use Rattle.def_tree.specs.declared.Two.TheVariants as kind
 use Rattle.def_tree.specs.declared.Wrapper.TheVariants as wrapper
 use Rattle.def_tree.specs.Tree.{Tree, Trees, Key, just_0, just_1, pk_k, pk_h, older, after, hash, and_or, two, thresh, multi, wrap, none, more}
@@ -94,7 +94,7 @@ module _ (assets : Assets) (long : HasLongest assets) where
   s = canonical assets
 
   -- what signatures weigh
-  weight-signatures : (keys : List Key) (sigs : Stack) → AreSignatures assets.pairs keys sigs → weight sigs ≡ length sigs * (1 + MAX_SIGNATURE_SIZE)
+  weight-signatures : (keys : List Key) (sigs : Stack) → AreSignatures (member assets.pairs) keys sigs → weight sigs ≡ length sigs * (1 + MAX_SIGNATURE_SIZE)
   weight-signatures keys [] h = refl
   weight-signatures [] (sig ∷ sigs) h = absurd h
   weight-signatures (key ∷ keys) (sig ∷ sigs) (inl h) =

@@ -3,7 +3,7 @@ use Rattle.std.proofs.Common.{◌≡◌, ℕ, zero, suc, ◌+◌, ◌≤◌, IsT
 use Rattle.std.proofs.lemmas.List.{length-reverse}
 use Rattle.std.proofs.lemmas.List.Elements.{All-head, All-tail}
 use Rattle.def_script.specs.Bytes.{Bytes}
-use Rattle.def_machine.specs.Stacks.{Stack}
+use Rattle.def_machine.specs.Stacks.{Stack, member}
 use Rattle.def_tree.specs.declared.Two.TheVariants as kind
 use Rattle.def_tree.specs.declared.Wrapper.{Wrapper}
 use Rattle.def_tree.specs.declared.Wrapper.TheVariants as wrapper
@@ -161,7 +161,7 @@ module _ (s : Setting) (no_more : IsTrue s.all_rows → ⊥) where
         no_more_parts first x xs n _ (formed _ _ (ended _ (dsat_formal x r.1 r.3)) (parts_formal (down 1 ∷ []) xs n r.0 r.2))
 
 -- signatures of the first keys of a list
-pub signed : (assets : Assets) (keys : List Key) (k : ℕ) → k ≤ length keys → All (Signs assets) keys → (sigs : Stack) × (length sigs ≡ k) × AreSignatures assets.pairs keys sigs
+pub signed : (assets : Assets) (keys : List Key) (k : ℕ) → k ≤ length keys → All (Signs assets) keys → (sigs : Stack) × (length sigs ≡ k) × AreSignatures (member assets.pairs) keys sigs
 signed assets keys zero few all = ([], refl, tt)
 signed assets [] (suc k) few all = absurd (omega (arith, few))
 signed assets (key ∷ keys) (suc k) few all =

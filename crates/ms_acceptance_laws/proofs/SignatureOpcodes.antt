@@ -4,7 +4,7 @@ use Rattle.def_script.specs.declared.Op.TheVariants as op
 use Rattle.def_script.specs.Instruction.{code}
 use Rattle.def_machine.specs.declared.ScriptFault.TheVariants as fault
 use Rattle.def_machine.specs.Faults.{OrFault, ◌>>=◌}
-use Rattle.def_machine.specs.Stacks.{Stack, Pairs, member, is_empty, bool_bytes}
+use Rattle.def_machine.specs.Stacks.{Stack, Pairs, Checker, is_empty, bool_bytes}
 use Rattle.def_script.specs.Key.{is_key}
 use Rattle.def_machine.specs.Effects.{check_sig, equal, verify}
 use Rattle.def_machine.specs.Machine.{Given, State, act, on_main}
@@ -18,11 +18,11 @@ use Rattle.ms_acceptance_laws.proofs.BranchMoves.{Moves, then_moves, plain_moves
 abbrev behind_checks : Pairs → Stack × Pairs → OrFault (Stack × Pairs)
 behind_checks checks left = Ok (left.0, checks ++ left.1)
 
-pub check_sig-behind : (table : Pairs) (main : Stack) (checks : Pairs) → check_sig table main checks ≡ (check_sig table main [] >>= behind_checks checks)
+pub check_sig-behind : (checker : Checker) (main : Stack) (checks : Pairs) → check_sig checker main checks ≡ (check_sig checker main [] >>= behind_checks checks)
 unfolding check_sig
-check_sig-behind table [] checks = refl
-check_sig-behind table (key ∷ []) checks = refl
-check_sig-behind table (key ∷ sig ∷ s) checks = go (not (is_key key)) (is_empty sig) (member table key sig)
+check_sig-behind checker [] checks = refl
+check_sig-behind checker (key ∷ []) checks = refl
+check_sig-behind checker (key ∷ sig ∷ s) checks = go (not (is_key key)) (is_empty sig) (checker key sig)
   where
     checked : (bad empty good : Bool) → Pairs → OrFault (Stack × Pairs)
     checked bad empty good before =
@@ -37,20 +37,20 @@ check_sig-behind table (key ∷ sig ∷ s) checks = go (not (is_key key)) (is_em
     go false false true = refl
     go false false false = refl
 
-check_sig-affects : (given : Given) (s : State) → free_act given op.CheckSig s ≡ affect (checks_sig given.table) s
+check_sig-affects : (given : Given) (s : State) → free_act given op.CheckSig s ≡ affect (checks_sig given.checker) s
 unfolding act
-check_sig-affects given s = rw (check_sig-behind given.table s.main s.checks) (go (check_sig given.table s.main []))
+check_sig-affects given s = rw (check_sig-behind given.checker s.main s.checks) (go (check_sig given.checker s.main []))
   where
     go : (r : OrFault (Stack × Pairs)) →
         ((r >>= behind_checks s.checks) >>= λ left. Ok (record s { main = left.0; checks = left.1 })) ≡ ((r >>= with_checks) >>= λ left. Ok (reached s 0 left))
     go (Ok left) = rw (add-zero s.ops, add-zero s.ops) refl
     go (Err e) = refl
 
-pub check_sig_does : (given : Given) → Does given (code op.CheckSig ∷ []) (checks_sig given.table)
-check_sig_does given = effect_does given op.CheckSig (checks_sig given.table) refl (check_sig-affects given)
+pub check_sig_does : (given : Given) → Does given (code op.CheckSig ∷ []) (checks_sig given.checker)
+check_sig_does given = effect_does given op.CheckSig (checks_sig given.checker) refl (check_sig-affects given)
 
-pub check_multi_sig_does : (given : Given) → Does given (code op.CheckMultiSig ∷ []) (checks_multi_sig given.table)
-check_multi_sig_does given = effect_does given op.CheckMultiSig (checks_multi_sig given.table) refl (λ s. refl)
+pub check_multi_sig_does : (given : Given) → Does given (code op.CheckMultiSig ∷ []) (checks_multi_sig given.checker)
+check_multi_sig_does given = effect_does given op.CheckMultiSig (checks_multi_sig given.checker) refl (λ s. refl)
 
 pub equal_verify_does : (given : Given) → Does given (code op.EqualVerify ∷ []) (both (plain equal) (plain verify))
 unfolding act

@@ -49,7 +49,7 @@ beside_length x v s r (inr e) = omega (arith, ap length e)
 
 -- from what a fragment leaves
 pub child_of : (given : Given) (base : Base) (u b : Bool) (c : List Instruction) (f : Effect) (v : Way) (w : Stack) (log : Log) → Does given c f →
-    ((rest : Stack) → Ends given.table base u b f w rest log) → v.items + ups v.course ≡ left_of base + downs v.course →
+    ((rest : Stack) → Ends given.checker base u b f w rest log) → v.items + ups v.course ≡ left_of base + downs v.course →
     Path given base c v w → Child given base u b c v w
 child_of given B u b c f v w log does ends leaves p = record {
   items = p.items;

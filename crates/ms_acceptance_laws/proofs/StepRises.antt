@@ -5,7 +5,7 @@ use Rattle.def_script.specs.declared.Op.{Op}
 use Rattle.def_script.specs.declared.Op.TheVariants as op
 use Rattle.def_script.specs.Instruction.{Instruction, push, code}
 use Rattle.def_machine.specs.Faults.{OrFault, ◌>>=◌}
-use Rattle.def_machine.specs.Stacks.{Stack, Pairs}
+use Rattle.def_machine.specs.Stacks.{Stack, Checker}
 use Rattle.def_machine.specs.Locks.{after_holds, older_holds}
 use Rattle.def_machine.specs.Effects.{verify, condition, to_alt_stack, from_alt_stack, if_dup, dup, swap, size, equal, zero_not_equal, add, bool_and, bool_or, hash, check_sig, lock}
 use Rattle.def_machine.specs.Machine.{Given, State, on_main, on_both, on_checks, on_branches, opened, open_branch, turned, closed, act, only_if, is_branching, is_live, height}
@@ -37,15 +37,15 @@ branches_climb f s t h =
     let b = bind_split (f s.branches) _ t h in
     leads_to s (record s { branches = b.0 }) t 0 (omega arith) (omega arith) b.2
 
-check_sig_climbs : (table : Pairs) (s t : State) → on_checks (check_sig table) s ≡ Ok t → Climbs s t 0
-check_sig_climbs table s t h =
-    let l = bind_split (check_sig table s.main s.checks) _ t h in
-    leads_to s (record s { main = l.0.0; checks = l.0.1 }) t 0 (omega arith) (omega (arith, check_sig_takes table s.main s.checks l.0 l.1)) l.2
+check_sig_climbs : (checker : Checker) (s t : State) → on_checks (check_sig checker) s ≡ Ok t → Climbs s t 0
+check_sig_climbs checker s t h =
+    let l = bind_split (check_sig checker s.main s.checks) _ t h in
+    leads_to s (record s { main = l.0.0; checks = l.0.1 }) t 0 (omega arith) (omega (arith, check_sig_takes checker s.main s.checks l.0 l.1)) l.2
 
-check_multi_sig_climbs : (table : Pairs) (s t : State) → affect (checks_multi_sig table) s ≡ Ok t → Climbs s t 0
-check_multi_sig_climbs table s t h =
-    let l = bind_split (checks_multi_sig table s.main) _ t h in
-    leads_to s (reached s 0 l.0) t 0 (omega arith) (omega (arith, checks_multi_sig_takes table s.main l.0 l.1)) l.2
+check_multi_sig_climbs : (checker : Checker) (s t : State) → affect (checks_multi_sig checker) s ≡ Ok t → Climbs s t 0
+check_multi_sig_climbs checker s t h =
+    let l = bind_split (checks_multi_sig checker s.main) _ t h in
+    leads_to s (reached s 0 l.0) t 0 (omega arith) (omega (arith, checks_multi_sig_takes checker s.main l.0 l.1)) l.2
 
 opened_climbs : (live wanted : Bool) (s t : State) → opened live wanted s ≡ Ok t → Climbs s t 0
 opened_climbs true wanted s t h =
@@ -97,10 +97,10 @@ act_climbs given op.Ripemd160 s t h = main_climbs (hash kind.Ripemd160) 0 (hash_
 act_climbs given op.Sha256 s t h = main_climbs (hash kind.Sha256) 0 (hash_grows kind.Sha256) s t h
 act_climbs given op.Hash160 s t h = main_climbs (hash kind.Hash160) 0 (hash_grows kind.Hash160) s t h
 act_climbs given op.Hash256 s t h = main_climbs (hash kind.Hash256) 0 (hash_grows kind.Hash256) s t h
-act_climbs given op.CheckSig s t h = check_sig_climbs given.table s t h
-act_climbs given op.CheckSigVerify s t h = verified_climbs (on_checks (check_sig given.table) s) s t (check_sig_climbs given.table s) h
-act_climbs given op.CheckMultiSig s t h = check_multi_sig_climbs given.table s t h
-act_climbs given op.CheckMultiSigVerify s t h = verified_climbs (affect (checks_multi_sig given.table) s) s t (check_multi_sig_climbs given.table s) h
+act_climbs given op.CheckSig s t h = check_sig_climbs given.checker s t h
+act_climbs given op.CheckSigVerify s t h = verified_climbs (on_checks (check_sig given.checker) s) s t (check_sig_climbs given.checker s) h
+act_climbs given op.CheckMultiSig s t h = check_multi_sig_climbs given.checker s t h
+act_climbs given op.CheckMultiSigVerify s t h = verified_climbs (affect (checks_multi_sig given.checker) s) s t (check_multi_sig_climbs given.checker s) h
 act_climbs given op.Cltv s t h = main_climbs (lock (λ n. after_holds n given.locks)) 0 (lock_grows (λ n. after_holds n given.locks)) s t h
 act_climbs given op.Csv s t h = main_climbs (lock (λ n. older_holds n given.locks)) 0 (lock_grows (λ n. older_holds n given.locks)) s t h
 

@@ -8,7 +8,7 @@ use Rattle.def_machine.specs.declared.ScriptFault.TheVariants as fault
 use Rattle.def_script.specs.Limits.{MAX_PUBKEYS_PER_MULTISIG}
 use Rattle.def_machine.specs.Locks.{after_holds, older_holds}
 use Rattle.def_machine.specs.Faults.{OrFault, ◌>>=◌}
-use Rattle.def_machine.specs.Stacks.{Stack, Pairs, bool_bytes}
+use Rattle.def_machine.specs.Stacks.{Stack, Pairs, Checker, bool_bytes}
 use Rattle.def_machine.specs.Effects.{verify, if_dup, dup, swap, size, equal, zero_not_equal, add, bool_and, bool_or, hash, check_sig, lock}
 use Rattle.def_machine.specs.MultiSig.{count, some_off, one_off, tries, verdict, null_dummy}
 use Rattle.def_machine.specs.Machine.{Given}
@@ -21,18 +21,18 @@ use Rattle.ms_acceptance_laws.proofs.StackEffects.{Left, Effect, both, silent, p
 abbrev pub with_checks : Stack × Pairs → OrFault Left
 with_checks left = Ok (record { main = left.0; log = record { keys = 0; checks = left.1 } })
 
-abbrev pub checks_sig : Pairs → Effect
-checks_sig table main = check_sig table main [] >>= with_checks
+abbrev pub checks_sig : Checker → Effect
+checks_sig checker main = check_sig checker main [] >>= with_checks
 
 -- CHECKMULTISIG, as `check_multi_sig` of the machine without a count of opcodes
-unfoldable pub checks_multi_sig : Pairs → Effect
-checks_multi_sig table main = do
+unfoldable pub checks_multi_sig : Checker → Effect
+checks_multi_sig checker main = do
   n ← count MAX_PUBKEYS_PER_MULTISIG fault.KeyCount main
   keys ← some_off n.0 n.1
   m ← count n.0 fault.SigCount keys.1
   sigs ← some_off m.0 m.1
   extra ← one_off sigs.1
-  tried ← tries table keys.0 sigs.0 []
+  tried ← tries checker keys.0 sigs.0 []
   passed ← verdict sigs.0 tried
   empty ← null_dummy extra.0
   Ok (record { main = bool_bytes passed.0 ∷ extra.1; log = record { keys = n.0; checks = passed.1 } })
@@ -63,10 +63,10 @@ abbrev mutual
   den given (two kind.OrI x y) = choose (den given x) (den given y)
   den given (thresh k xs) = both (den_sum given xs) (both (pushes (natural_bytes k)) (plain equal))
   den given (multi k keys) =
-      both (pushes (natural_bytes k)) (both (pushes_all keys) (both (pushes (natural_bytes (length keys))) (checks_multi_sig given.table)))
+      both (pushes (natural_bytes k)) (both (pushes_all keys) (both (pushes (natural_bytes (length keys))) (checks_multi_sig given.checker)))
   den given (wrap wrapper.A x) = aside (den given x)
   den given (wrap wrapper.S x) = both (plain swap) (den given x)
-  den given (wrap wrapper.C x) = both (den given x) (checks_sig given.table)
+  den given (wrap wrapper.C x) = both (den given x) (checks_sig given.checker)
   den given (wrap wrapper.D x) = both (plain dup) (choose (den given x) silent)
   den given (wrap wrapper.V x) = both (den given x) (plain verify)
   den given (wrap wrapper.J x) = both (plain size) (both (plain zero_not_equal) (choose (den given x) silent))

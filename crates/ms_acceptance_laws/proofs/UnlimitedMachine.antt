@@ -20,8 +20,8 @@ affect f s = f s.main >>= λ left. Ok (reached s 0 left)
 
 -- what each opcode does: the keys of a multisignature are counted without a limit
 abbrev pub free_act : Given → Op → State → OrFault State
-free_act given op.CheckMultiSig s = affect (checks_multi_sig given.table) s
-free_act given op.CheckMultiSigVerify s = affect (checks_multi_sig given.table) s >>= on_main verify
+free_act given op.CheckMultiSig s = affect (checks_multi_sig given.checker) s
+free_act given op.CheckMultiSigVerify s = affect (checks_multi_sig given.checker) s >>= on_main verify
 free_act given other s = act given other s
 
 abbrev pub push_on : Bytes → State → OrFault State

@@ -17,10 +17,9 @@ use Rattle.def_text.proofs.Report.{Reports, report}
 use Rattle.def_text.proofs.SpelledWritable.{spelled_writable}
 use Rattle.def_audit.specs.declared.Step.{Step}
 use Rattle.def_sane.specs.Unfit.{first_unfit, first_unfit_valid, first_unfit_under, first_unfit_valid_under}
-use Rattle.def_choice.specs.Cheapest.{cheapest}
-use Rattle.def_choice.specs.Strict.{strict}
+use Rattle.def_answer.specs.Satisfy.{chosen_by, reason_by}
 use Rattle.def_answer.specs.declared.status.Status.{Status}
-use Rattle.def_answer.specs.Words.{Command, script, check, satisfy, satisfy_malleable, run, gen, policy, plan, audit, decode, IsCommand}
+use Rattle.def_answer.specs.Words.{Command, script, check, satisfy, run, gen, policy, plan, audit, decode, IsCommand}
 use Rattle.def_answer.specs.Reading.{Reading, read, refused, HasReading}
 use Rattle.def_answer.specs.Reply.{Reply, reply, usage_reply, text_reply, satisfy_reply, run_reply, plan_reply, audit_reply}
 use Rattle.ms_answer_laws.proofs.Decided.{decided, decided_is, decided_not}
@@ -57,8 +56,7 @@ has_reading text utf8 =
 abbrev pub OnText : (Bytes → Type 0) → Command → Type 0
 OnText P (script rules text) = P text
 OnText P (check rules text) = P text
-OnText P (satisfy rules text) = P text
-OnText P (satisfy_malleable rules text) = P text
+OnText P (satisfy choice rules text) = P text
 OnText P (policy text) = P text
 OnText P (plan text) = P text
 OnText P (audit text) = P text
@@ -88,8 +86,7 @@ has_steps text source (refused fault) has = tt
 abbrev pub reply_to : (source : Bytes) → Command → Reply
 reply_to source (script rules text) = text_reply (first_unfit_valid_under rules) script_reply (reading_of text)
 reply_to source (check rules text) = text_reply (first_unfit_under rules) (check_reply rules) (reading_of text)
-reply_to source (satisfy rules text) = text_reply (first_unfit_under rules) (satisfy_reply rules strict source) (reading_of text)
-reply_to source (satisfy_malleable rules text) = text_reply (first_unfit_valid_under rules) (satisfy_reply rules cheapest source) (reading_of text)
+reply_to source (satisfy choice rules text) = text_reply (reason_by choice rules) (satisfy_reply rules (chosen_by choice) source) (reading_of text)
 reply_to source run = run_reply source
 reply_to source (gen n) = gen_reply n
 reply_to source (policy text) = text_reply first_unfit policy_reply (reading_of text)
@@ -101,8 +98,7 @@ reply_to source (decode digits keys) = decided_reply (decided (map bytes_of keys
 replies_to : (command : Command) (source : Bytes) → IsCommand command → OnText IsUtf8 command → Replies command source (reply_to source command)
 replies_to (script rules text) source is utf8 = (reading_of text, has_reading text utf8, refl)
 replies_to (check rules text) source is utf8 = (reading_of text, has_reading text utf8, refl)
-replies_to (satisfy rules text) source is utf8 = (reading_of text, has_reading text utf8, refl)
-replies_to (satisfy_malleable rules text) source is utf8 = (reading_of text, has_reading text utf8, refl)
+replies_to (satisfy choice rules text) source is utf8 = (reading_of text, has_reading text utf8, refl)
 replies_to run source is utf8 = refl
 replies_to (gen n) source is utf8 = refl
 replies_to (policy text) source is utf8 = (reading_of text, has_reading text utf8, refl)
@@ -133,8 +129,7 @@ replies_to_words words source utf8 = go (command_of words) refl utf8
 abbrev pub is_ascii_text : Command → Bool
 is_ascii_text (script rules text) = list_all is_ascii text
 is_ascii_text (check rules text) = list_all is_ascii text
-is_ascii_text (satisfy rules text) = list_all is_ascii text
-is_ascii_text (satisfy_malleable rules text) = list_all is_ascii text
+is_ascii_text (satisfy choice rules text) = list_all is_ascii text
 is_ascii_text (policy text) = list_all is_ascii text
 is_ascii_text (plan text) = list_all is_ascii text
 is_ascii_text (audit text) = list_all is_ascii text

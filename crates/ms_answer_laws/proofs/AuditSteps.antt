@@ -19,8 +19,9 @@ use Rattle.def_audit.specs.declared.Step.{Step}
 use Rattle.def_audit.specs.Derives.{Derives}
 use Rattle.ms_audit_laws.proofs.WalkTrees.{walk_is_trail, trail_is_unique, accepted_has_trail}
 use Rattle.def_answer.specs.declared.status.Status.TheVariants as status
-use Rattle.def_answer.specs.Lines.{file_too_long_line, file_line}
-use Rattle.def_answer.specs.Reply.{reply, given_by, audited_reply, witness_reply, audit_reply, with_file, MOST_FILE}
+use Rattle.def_answer.specs.Lines.{MOST_FILE}
+use Rattle.def_answer.specs.Files.{file_too_long_line, file_line}
+use Rattle.def_answer.specs.Reply.{reply, given_by, audited_reply, witness_reply, audit_reply, with_file}
 use Rattle.def_answer.specs.Answer.{AreSteps}
 use Rattle.ms_answer_laws.specs.Laws.{walked, steps_in, WalkedAreSteps}
 

@@ -11,8 +11,16 @@ use Rattle.def_height.proofs.Found.{height_exists}
 use Rattle.def_plan.specs.PlanFile.{plan_file_of}
 use Rattle.def_policy.specs.LeastKeys.{least_keys}
 use Rattle.def_answer.specs.TheHeight.{the_height}
-use Rattle.def_answer.specs.Report.{script_report, check_report, satisfy_report, run_report, policy_report, plan_report, audit_report, decode_report}
-use Rattle.def_answer.specs.Answer.{gen_report, gen_reply}
+use Rattle.def_answer.specs.Script.{script_report}
+use Rattle.def_answer.specs.Check.{check_report}
+use Rattle.def_answer.specs.Satisfy.{satisfy_report}
+use Rattle.def_answer.specs.Run.{run_report}
+use Rattle.def_answer.specs.Policy.{policy_report}
+use Rattle.def_answer.specs.Plan.{plan_report}
+use Rattle.def_answer.specs.Audit.{audit_report}
+use Rattle.def_answer.specs.Decode.{decode_report}
+use Rattle.def_answer.specs.Answer.{gen_reply}
+use Rattle.def_answer.specs.Gen.{gen_report}
 use Rattle.ms_decode_laws.specs.Scaffolding.Reader.{natural_of, fits}
 use Rattle.ms_answer_laws.proofs.Decided.{decided}
 use Rattle.ms_answer_laws.proofs.Forms.{children_of}

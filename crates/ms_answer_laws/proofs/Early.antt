@@ -10,21 +10,23 @@ use Rattle.def_assets.specs.Assets.{Assets}
 use Rattle.def_sane.specs.declared.Rules.{Rules}
 use Rattle.def_sane.specs.declared.Unfit.{Unfit}
 use Rattle.def_sane.specs.Unfit.{first_unfit, first_unfit_valid, first_unfit_under, first_unfit_valid_under}
-use Rattle.def_choice.specs.Cheapest.{cheapest}
-use Rattle.def_choice.specs.Strict.{strict}
 use Rattle.def_files.specs.AssetFile.{assets_of}
 use Rattle.def_files.specs.RunFile.{run_of}
 use Rattle.def_audit.specs.declared.Step.{Step}
 use Rattle.def_plan.specs.Plan.{plan_of}
 use Rattle.def_plan.specs.PlanFile.{plan_file_of}
+use Rattle.def_answer.specs.Satisfy.{chosen_by, reason_by}
 use Rattle.def_answer.specs.declared.status.Status.{Status}
 use Rattle.def_answer.specs.declared.status.Status.TheVariants as status
-use Rattle.def_answer.specs.Words.{IsForm, Command, script, check, satisfy, satisfy_malleable, gen, policy, plan, audit, decode}
+use Rattle.def_answer.specs.Words.{IsForm, Command, script, check, satisfy, gen, policy, plan, audit, decode}
 use Rattle.def_answer.specs.Words as words
-use Rattle.def_answer.specs.Lines.{file_too_long_line, file_line, plan_file_line, wrong_script_line}
+use Rattle.def_answer.specs.Lines.{MOST_FILE}
+use Rattle.def_answer.specs.Files.{file_too_long_line, file_line}
+use Rattle.def_answer.specs.Plan.{plan_file_line}
+use Rattle.def_answer.specs.Audit.{wrong_script_line}
 use Rattle.def_answer.specs.Reading.{Reading, HasReading}
 use Rattle.def_answer.specs.Reading as reading
-use Rattle.def_answer.specs.Reply.{Reply, reply, unless_unfit, text_reply, with_file, MOST_FILE, file_reply, chosen_reply, satisfy_reply, outcome_reply, given_by, run_reply, audited_reply, witness_reply, audit_reply, planned_reply, plan_reply}
+use Rattle.def_answer.specs.Reply.{Reply, reply, unless_unfit, text_reply, with_file, file_reply, chosen_reply, satisfy_reply, outcome_reply, given_by, run_reply, audited_reply, witness_reply, audit_reply, planned_reply, plan_reply}
 use Rattle.def_answer.specs.Answer.{script_reply, check_reply, policy_reply, gen_reply, RepliesToText, offsets_of, RepliesToAudit, Replies, RepliesToWords}
 use Rattle.def_answer.specs.Sources.{Passes}
 use Rattle.ms_answer_laws.specs.Laws.{IsAnswered, AnswersHaveStatus, NoReadingIsOfDecode, NotAcceptedIsOfAudit, LongAssetFile, LongRunFile, LongPlanFile, LongAuditFile}
@@ -107,12 +109,9 @@ module _ (ws : List Bytes) where
   unfolding gen_reply
   reply_status (script rules text) source r form h = text_status StatusOf text (first_unfit_valid_under rules) script_reply r tt (λ passes. tt) h
   reply_status (check rules text) source r form h = text_status StatusOf text (first_unfit_under rules) (check_reply rules) r tt (λ passes. tt) h
-  reply_status (satisfy rules text) source r form h =
-      text_status StatusOf text (first_unfit_under rules) (satisfy_reply rules strict source) r tt
-      (λ passes. satisfy_status StatusOf rules strict source passes.0 tt tt tt) h
-  reply_status (satisfy_malleable rules text) source r form h =
-      text_status StatusOf text (first_unfit_valid_under rules) (satisfy_reply rules cheapest source) r tt
-      (λ passes. satisfy_status StatusOf rules cheapest source passes.0 tt tt tt) h
+  reply_status (satisfy choice rules text) source r form h =
+      text_status StatusOf text (reason_by choice rules) (satisfy_reply rules (chosen_by choice) source) r tt
+      (λ passes. satisfy_status StatusOf rules (chosen_by choice) source passes.0 tt tt tt) h
   reply_status words.run source r form h = subst (OfStatus StatusOf) (sym h) (run_status StatusOf source tt tt tt)
   reply_status (gen n) source r form h = subst (OfStatus StatusOf) (sym h) tt
   reply_status (policy text) source r form h = text_status StatusOf text first_unfit policy_reply r tt (λ passes. tt) h

@@ -13,7 +13,8 @@ use Rattle.std.proofs.lemmas.Slice.Eq.{bytes_eq-Decides}
 use Rattle.def_script.specs.Bytes.{Bytes}
 use Rattle.def_text.specs.Word.{key_of}
 use Rattle.def_sane.specs.declared.Rules.TheVariants.{Policy, Consensus}
-use Rattle.def_answer.specs.Words.{Command, script, check, satisfy, satisfy_malleable, run, gen, policy, plan, audit, decode, words_of, MOST_GENERATED, IsCommand, IsForm, HasNoForm}
+use Rattle.def_choice.specs.declared.choice.Choice.TheVariants.{Strict, Cheapest}
+use Rattle.def_answer.specs.Words.{Command, script, check, satisfy, run, gen, policy, plan, audit, decode, words_of, MOST_GENERATED, IsCommand, IsForm, HasNoForm}
 
 -- the number of 1 to 30 that a word spells
 unfoldable pub children_of : Bytes → Option ℕ
@@ -26,7 +27,7 @@ abbrev pub two_words : (first second : Bytes) → Option Command
 two_words first second =
     if bytes_eq first (codes "script") then Some (script Policy second)
     else if bytes_eq first (codes "check") then Some (check Policy second)
-    else if bytes_eq first (codes "satisfy") then Some (satisfy Policy second)
+    else if bytes_eq first (codes "satisfy") then Some (satisfy Strict Policy second)
     else if bytes_eq first (codes "gen") then option_map gen (children_of second)
     else if bytes_eq first (codes "policy") then Some (policy second)
     else if bytes_eq first (codes "plan") then Some (plan second)
@@ -37,19 +38,19 @@ abbrev pub consensus_words : (first text : Bytes) → Option Command
 consensus_words first text =
     if bytes_eq first (codes "script") then Some (script Consensus text)
     else if bytes_eq first (codes "check") then Some (check Consensus text)
-    else if bytes_eq first (codes "satisfy") then Some (satisfy Consensus text)
+    else if bytes_eq first (codes "satisfy") then Some (satisfy Strict Consensus text)
     else None
 
 abbrev pub three_words : (first second third : Bytes) → Option Command
 three_words first second third =
-    if bytes_eq first (codes "satisfy") && bytes_eq second (codes "--malleable") then Some (satisfy_malleable Policy third)
+    if bytes_eq first (codes "satisfy") && bytes_eq second (codes "--malleable") then Some (satisfy Cheapest Policy third)
     else if bytes_eq second (codes "--consensus") then consensus_words first third
     else None
 
 abbrev pub four_words : (first second third fourth : Bytes) → Option Command
 four_words first second third fourth =
     if bytes_eq first (codes "satisfy") && (bytes_eq second (codes "--malleable") && bytes_eq third (codes "--consensus")) then
-    Some (satisfy_malleable Consensus fourth)
+    Some (satisfy Cheapest Consensus fourth)
     else None
 
 abbrev pub are_script_and_keys : (digits : Bytes) → (keys : List Bytes) → Bool
@@ -100,8 +101,8 @@ children_found n some few =
 pub command_found : (command : Command) → IsCommand command → command_of (words_of command) ≡ Some command
 command_found (script Policy text) h = refl
 command_found (check Policy text) h = refl
-command_found (satisfy Policy text) h = refl
-command_found (satisfy_malleable Policy text) h = refl
+command_found (satisfy Strict Policy text) h = refl
+command_found (satisfy Cheapest Policy text) h = refl
 command_found (gen n) h = ap (option_map gen) (children_found n h.0 h.1)
 command_found (decode digits keys) h = rw ((script_and_keys_tell digits keys).1 h)
 command_found command h = refl
@@ -148,7 +149,7 @@ two_form : (first second : Bytes) (c : Command) → two_words first second ≡ S
 two_form first second c =
     branch _ c _ _ _ (named first (codes "script") _ (script Policy second) c refl tt) (
     branch _ c _ _ _ (named first (codes "check") _ (check Policy second) c refl tt) (
-    branch _ c _ _ _ (named first (codes "satisfy") _ (satisfy Policy second) c refl tt) (
+    branch _ c _ _ _ (named first (codes "satisfy") _ (satisfy Strict Policy second) c refl tt) (
     branch _ c _ _ _ (gen_form first second (children_of second) c refl) (
     branch _ c _ _ _ (named first (codes "policy") _ (policy second) c refl tt) (
     branch _ c _ _ _ (named first (codes "plan") _ (plan second) c refl tt) (
@@ -158,13 +159,13 @@ consensus_form : (first third : Bytes) (c : Command) → consensus_words first t
 consensus_form first third c =
     branch _ c _ _ _ (named first (codes "script") _ (script Consensus third) c refl tt) (
     branch _ c _ _ _ (named first (codes "check") _ (check Consensus third) c refl tt) (
-    branch _ c _ _ _ (named first (codes "satisfy") _ (satisfy Consensus third) c refl tt) (λ e. cc e)))
+    branch _ c _ _ _ (named first (codes "satisfy") _ (satisfy Strict Consensus third) c refl tt) (λ e. cc e)))
 
 three_form : (first second third : Bytes) (c : Command) → three_words first second third ≡ Some c → IsForm (first ∷ second ∷ third ∷ []) c
 three_form first second third c =
     branch _ c _ _ _ (λ is e.
     let both = and_parts (bytes_eq first (codes "satisfy")) (bytes_eq second (codes "--malleable")) is in
-    rw (is_word second (codes "--malleable") both.1) (named first (codes "satisfy") _ (satisfy_malleable Policy third) c refl tt both.0 e)) (
+    rw (is_word second (codes "--malleable") both.1) (named first (codes "satisfy") _ (satisfy Cheapest Policy third) c refl tt both.0 e)) (
     branch _ c _ _ _ (λ is e. rw (is_word second (codes "--consensus") is) (consensus_form first third c e)) (λ e. cc e))
 
 four_form : (first second third fourth : Bytes) (c : Command) → four_words first second third fourth ≡ Some c →
@@ -174,7 +175,7 @@ four_form first second third fourth c =
     let both = and_parts (bytes_eq first (codes "satisfy")) _ is in
     let more = and_parts (bytes_eq second (codes "--malleable")) (bytes_eq third (codes "--consensus")) both.1 in
     rw (is_word second (codes "--malleable") more.0, is_word third (codes "--consensus") more.1)
-    (named first (codes "satisfy") _ (satisfy_malleable Consensus fourth) c refl tt both.0 e)) (λ e. cc e)
+    (named first (codes "satisfy") _ (satisfy Cheapest Consensus fourth) c refl tt both.0 e)) (λ e. cc e)
 
 several_form : (first second : Bytes) (more : List Bytes) (c : Command) → several_words first second more ≡ Some c → IsForm (first ∷ second ∷ more) c
 several_form first second [] c e = two_form first second c e

@@ -10,13 +10,13 @@ use Rattle.def_text.proofs.Completion.{ascii_is_utf8}
 use Rattle.def_sane.specs.declared.Unfit.{Unfit}
 use Rattle.def_sane.specs.Unfit.{first_unfit, first_unfit_valid, first_unfit_under, first_unfit_valid_under}
 use Rattle.def_audit.specs.declared.Step.{Step}
-use Rattle.def_choice.specs.Cheapest.{cheapest}
-use Rattle.def_choice.specs.Strict.{strict}
+use Rattle.def_answer.specs.Satisfy.{chosen_by, reason_by}
 use Rattle.def_answer.specs.declared.status.Status.{Status}
 use Rattle.def_answer.specs.declared.status.Status.TheVariants as status
-use Rattle.def_answer.specs.Words.{Command, script, check, satisfy, satisfy_malleable, run, gen, policy, plan, audit, decode}
+use Rattle.def_answer.specs.Words.{Command, script, check, satisfy, run, gen, policy, plan, audit, decode}
 use Rattle.def_answer.specs.Reading.{Reading, read, refused, HasReading}
-use Rattle.def_answer.specs.Reply.{Reply, reply, unless_unfit, text_reply, MOST_FILE, satisfy_reply, plan_reply, audit_reply}
+use Rattle.def_answer.specs.Reply.{Reply, reply, unless_unfit, text_reply, satisfy_reply, plan_reply, audit_reply}
+use Rattle.def_answer.specs.Lines.{MOST_FILE}
 use Rattle.def_answer.specs.Answer.{script_reply, check_reply, policy_reply, gen_reply, RepliesToText, AreSteps, HasSteps, offsets_of, RepliesToAudit, Replies, RepliesToWords}
 use Rattle.def_answer.specs.Sources.{Passes, NeedsSource, ReadsSource, IsOfSource, IsToFile}
 use Rattle.ms_answer_laws.specs.Laws.{AnswerWithoutSource, StatusWithoutSource, StatusWithSource}
@@ -59,10 +59,8 @@ audit_without text source other r never (reading, steps, has, are, e) = (
 -- ---- replies without the source
 
 reply_without : (c : Command) (source other : Bytes) (r : Reply) → ¬ NeedsSource c → Replies c source r → Replies c other r
-reply_without (satisfy rules text) source other r never h =
-    text_without text (first_unfit_under rules) (satisfy_reply rules strict source) (satisfy_reply rules strict other) r never h
-reply_without (satisfy_malleable rules text) source other r never h =
-    text_without text (first_unfit_valid_under rules) (satisfy_reply rules cheapest source) (satisfy_reply rules cheapest other) r never h
+reply_without (satisfy choice rules text) source other r never h =
+    text_without text (reason_by choice rules) (satisfy_reply rules (chosen_by choice) source) (satisfy_reply rules (chosen_by choice) other) r never h
 reply_without run source other r never h = absurd (never tt)
 reply_without (plan text) source other r never h = text_without text first_unfit (plan_reply source) (plan_reply other) r never h
 reply_without (audit text) source other r never h = audit_without text source other r never h
@@ -78,10 +76,8 @@ other_status (script rules text) source r never h =
     text_status IsOther text (first_unfit_valid_under rules) script_reply r (λ s. s) (λ passes s. s) h
 other_status (check rules text) source r never h =
     text_status IsOther text (first_unfit_under rules) (check_reply rules) r (λ s. s) (λ passes s. s) h
-other_status (satisfy rules text) source r never h =
-    text_status IsOther text (first_unfit_under rules) (satisfy_reply rules strict source) r (λ s. s) (λ passes. absurd (never passes)) h
-other_status (satisfy_malleable rules text) source r never h =
-    text_status IsOther text (first_unfit_valid_under rules) (satisfy_reply rules cheapest source) r (λ s. s) (λ passes. absurd (never passes)) h
+other_status (satisfy choice rules text) source r never h =
+    text_status IsOther text (reason_by choice rules) (satisfy_reply rules (chosen_by choice) source) r (λ s. s) (λ passes. absurd (never passes)) h
 other_status run source r never h = absurd (never tt)
 other_status (gen n) source r never h = subst (OfStatus IsOther) (sym h) (λ s. s)
 other_status (policy text) source r never h = text_status IsOther text first_unfit policy_reply r (λ s. s) (λ passes s. s) h
@@ -131,12 +127,9 @@ passed_audit text source r utf8 passes (reading, steps, has, are, e) =
 
 file_status : (c : Command) (source : Bytes) (r : Reply) → OnText IsUtf8 c → NeedsSource c → Replies c source r →
     OfStatus IsToFile r
-file_status (satisfy rules text) source r utf8 needs h =
-    subst (OfStatus IsToFile) (sym (passed_text text (first_unfit_under rules) (satisfy_reply rules strict source) r utf8 needs h))
-    (satisfy_status IsToFile rules strict source needs.0 tt tt tt)
-file_status (satisfy_malleable rules text) source r utf8 needs h =
-    subst (OfStatus IsToFile) (sym (passed_text text (first_unfit_valid_under rules) (satisfy_reply rules cheapest source) r utf8 needs h))
-    (satisfy_status IsToFile rules cheapest source needs.0 tt tt tt)
+file_status (satisfy choice rules text) source r utf8 needs h =
+    subst (OfStatus IsToFile) (sym (passed_text text (reason_by choice rules) (satisfy_reply rules (chosen_by choice) source) r utf8 needs h))
+    (satisfy_status IsToFile rules (chosen_by choice) source needs.0 tt tt tt)
 file_status run source r utf8 needs h = subst (OfStatus IsToFile) (sym h) (run_status IsToFile source tt tt tt)
 file_status (plan text) source r utf8 needs h =
     subst (OfStatus IsToFile) (sym (passed_text text first_unfit (plan_reply source) r utf8 needs h))
@@ -149,12 +142,9 @@ file_status c source r utf8 needs h = absurd needs
 -- a file that is too long is refused, whatever it says
 pub long_file : (c : Command) (source : Bytes) (r : Reply) → OnText IsUtf8 c → NeedsSource c → MOST_FILE < length source →
     Replies c source r → r.status ≡ status.FileRefused
-long_file (satisfy rules text) source r utf8 needs long h =
+long_file (satisfy choice rules text) source r utf8 needs long h =
     ap (λ (r : Reply). r.status)
-    (passed_text text (first_unfit_under rules) (satisfy_reply rules strict source) r utf8 needs h ∙ long_asset_file rules strict source needs.0 long)
-long_file (satisfy_malleable rules text) source r utf8 needs long h =
-    ap (λ (r : Reply). r.status)
-    (passed_text text (first_unfit_valid_under rules) (satisfy_reply rules cheapest source) r utf8 needs h ∙ long_asset_file rules cheapest source needs.0 long)
+    (passed_text text (reason_by choice rules) (satisfy_reply rules (chosen_by choice) source) r utf8 needs h ∙ long_asset_file rules (chosen_by choice) source needs.0 long)
 long_file run source r utf8 needs long h = ap (λ (r : Reply). r.status) (h ∙ long_run_file source long)
 long_file (plan text) source r utf8 needs long h =
     ap (λ (r : Reply). r.status) (passed_text text first_unfit (plan_reply source) r utf8 needs h ∙ long_plan_file source needs.0 long)

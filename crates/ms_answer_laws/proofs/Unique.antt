@@ -10,9 +10,9 @@ use Rattle.def_sane.specs.declared.Rules.TheVariants.{Policy, Consensus}
 use Rattle.def_sane.specs.declared.Unfit.{Unfit}
 use Rattle.def_sane.specs.Unfit.{first_unfit, first_unfit_valid, first_unfit_under, first_unfit_valid_under}
 use Rattle.def_audit.specs.declared.Step.{Step}
-use Rattle.def_choice.specs.Cheapest.{cheapest}
-use Rattle.def_choice.specs.Strict.{strict}
-use Rattle.def_answer.specs.Words.{Command, script, check, satisfy, satisfy_malleable, run, gen, policy, plan, audit, decode, words_of, IsForm, HasNoForm}
+use Rattle.def_choice.specs.declared.choice.Choice.TheVariants.{Strict, Cheapest}
+use Rattle.def_answer.specs.Satisfy.{chosen_by, reason_by}
+use Rattle.def_answer.specs.Words.{Command, script, check, satisfy, run, gen, policy, plan, audit, decode, words_of, IsForm, HasNoForm}
 use Rattle.def_answer.specs.Reading.{Reading, read, refused, HasReading}
 use Rattle.def_answer.specs.Reply.{Reply, reply, unless_unfit, text_reply, satisfy_reply, plan_reply, audit_reply}
 use Rattle.def_answer.specs.Answer.{script_reply, check_reply, policy_reply, decode_reply, bytes_of, RepliesToScript, RepliesToText, HasSteps, offsets_of, RepliesToAudit, Replies, RepliesToWords}
@@ -39,10 +39,10 @@ text_of_words P (script Policy text) h = h 1 [] (omega arith)
 text_of_words P (script Consensus text) h = h 2 [] (omega arith)
 text_of_words P (check Policy text) h = h 1 [] (omega arith)
 text_of_words P (check Consensus text) h = h 2 [] (omega arith)
-text_of_words P (satisfy Policy text) h = h 1 [] (omega arith)
-text_of_words P (satisfy Consensus text) h = h 2 [] (omega arith)
-text_of_words P (satisfy_malleable Policy text) h = h 2 [] (omega arith)
-text_of_words P (satisfy_malleable Consensus text) h = h 3 [] (omega arith)
+text_of_words P (satisfy Strict Policy text) h = h 1 [] (omega arith)
+text_of_words P (satisfy Strict Consensus text) h = h 2 [] (omega arith)
+text_of_words P (satisfy Cheapest Policy text) h = h 2 [] (omega arith)
+text_of_words P (satisfy Cheapest Consensus text) h = h 3 [] (omega arith)
 text_of_words P (policy text) h = h 1 [] (omega arith)
 text_of_words P (plan text) h = h 1 [] (omega arith)
 text_of_words P (audit text) h = h 1 [] (omega arith)
@@ -92,9 +92,7 @@ one_audit_reply text source a b utf8 (r, p, has, h, e) (s, q, has_s, k, f) =
 pub one_reply : (c : Command) (source : Bytes) (a b : Reply) → OnText IsUtf8 c → Replies c source a → Replies c source b → a ≡ b
 one_reply (script rules text) source a b utf8 h k = one_text_reply text (first_unfit_valid_under rules) script_reply a b utf8 h k
 one_reply (check rules text) source a b utf8 h k = one_text_reply text (first_unfit_under rules) (check_reply rules) a b utf8 h k
-one_reply (satisfy rules text) source a b utf8 h k = one_text_reply text (first_unfit_under rules) (satisfy_reply rules strict source) a b utf8 h k
-one_reply (satisfy_malleable rules text) source a b utf8 h k =
-    one_text_reply text (first_unfit_valid_under rules) (satisfy_reply rules cheapest source) a b utf8 h k
+one_reply (satisfy choice rules text) source a b utf8 h k = one_text_reply text (reason_by choice rules) (satisfy_reply rules (chosen_by choice) source) a b utf8 h k
 one_reply run source a b utf8 h k = h ∙ sym k
 one_reply (gen n) source a b utf8 h k = h ∙ sym k
 one_reply (policy text) source a b utf8 h k = one_text_reply text first_unfit policy_reply a b utf8 h k

@@ -18,10 +18,11 @@ use Rattle.ms_audit_laws.specs.Walk.{trail_of}
 use Rattle.def_answer.specs.declared.status.Status.{Status}
 use Rattle.def_answer.specs.declared.status.Status.TheVariants as status
 use Rattle.def_answer.specs.Words.{Command, audit, decode, MOST_GENERATED, IsForm, HasNoForm}
-use Rattle.def_answer.specs.Lines.{file_too_long_line}
+use Rattle.def_answer.specs.Lines.{MOST_FILE}
+use Rattle.def_answer.specs.Files.{file_too_long_line}
 use Rattle.def_answer.specs.Generated.{generated_text, generated_tree, generated_assets}
 use Rattle.def_answer.specs.TheHeight.{the_height}
-use Rattle.def_answer.specs.Reply.{reply, MOST_FILE, satisfy_reply, given_by, run_reply, plan_reply, audit_reply}
+use Rattle.def_answer.specs.Reply.{reply, satisfy_reply, given_by, run_reply, plan_reply, audit_reply}
 use Rattle.def_answer.specs.Answer.{AreSteps, Answer}
 use Rattle.def_answer.specs.Sources.{ReadsSource, IsOfSource, IsToFile}
 

@@ -2,7 +2,7 @@
 use Rattle.std.specs.Prelude.{◌<◌, length, List, [], ◌∷◌, ◌++◌, codes}
 use Rattle.def_script.specs.Bytes.{Bytes}
 use Rattle.def_answer.specs.declared.status.Status.TheVariants as status
-use Rattle.def_answer.specs.Reply.{MOST_FILE}
+use Rattle.def_answer.specs.Lines.{MOST_FILE}
 use Rattle.def_answer.specs.Answer.{Answer}
 use Rattle.def_answer.specs.Samples.{A, SIG_A, file, number, signature, signatures, strings, nothing, times, lines}
 

@@ -10,7 +10,7 @@ ghost use Rattle.ms_arrays.specs.Pieces.{KEY_SIZE as THE_KEY_SIZE, entries_at};
 ghost use Rattle.ms_arrays.specs.ArrayPlan.{entry_refusals};
 
 use crate::cutting::KEY_SIZE;
-use ms_plan::{KeyLen, KeyLens, PlanFault};
+use ms_plan_file::{KeyLen, KeyLens, PlanFault};
 use ms_script::{Blob, is_key, is_signature_size};
 use ms_tree::Key;
 use std::alloc::{AllocError, Global};

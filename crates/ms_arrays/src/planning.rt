@@ -9,7 +9,7 @@ use crate::cutting::{KEY_SIZE, PREIMAGE_SIZE, add_preimages};
 use crate::entries::{Entry, check_entries, read_entries, table_of};
 use ms_assets::{Assets, MOST_PREIMAGES};
 use ms_oracle::Locks;
-use ms_plan::{MOST_KEYS, PlanFault, PlanFile, PlanMember};
+use ms_plan_file::{MOST_KEYS, PlanFault, PlanFile, PlanMember};
 use std::alloc::{AllocError, Global};
 use std::marker::Model;
 

@@ -9,7 +9,7 @@ ghost use Rattle.ms_asking.specs.Asked.{asked_plan as the_asked_plan};
 ghost use Rattle.ms_tree.specs.Shape.{shape};
 
 use crate::lengths::lengths_of;
-use ms_assets::Assets;
+use ms_held::Assets;
 use ms_plan::{Estimate, Keys, Plan, length_in, plan};
 use ms_tree::{Key, Tree};
 use std::alloc::{AllocError, Global};

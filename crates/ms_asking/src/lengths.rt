@@ -7,9 +7,9 @@ ghost use Rattle.def_spend.specs.Asking.{lengths_of as the_lengths_of};
 ghost use Rattle.ms_asking.specs.Scaffolding.Lengths.{entry_of as the_entry_of};
 ghost use Rattle.ms_tree.specs.Shape.{shape, shapes, leaf_shape};
 
-use ms_assets::Assets;
+use ms_bytes::MAX_SIGNATURE_SIZE;
+use ms_held::Assets;
 use ms_plan::{KeyLen, KeyLens};
-use ms_script::MAX_SIGNATURE_SIZE;
 use ms_tree::{Key, Leaf, Tree, View};
 use std::alloc::{AllocError, Global};
 

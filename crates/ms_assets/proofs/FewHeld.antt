@@ -1,71 +1,15 @@
--- That assets are few, and what they hold of its form.
-use Rattle.std.proofs.Common.{◌≡◌, ◌^◌, ◌<◌, nat_le, true, false, [], ◌∷◌, ◌++◌, Some, None, Ok, inl, inr, length, length-append, sym, ◌∙◌, ap, arith}
-use Rattle.std.specs.List.{list_any, IsDistinct}
-use Rattle.std.proofs.lemmas.Bool.{leb-true, and_parts}
-use Rattle.std.proofs.lemmas.Bool.Decides.{nat_tests}
-use Rattle.std.proofs.lemmas.List.Elements.{All-push}
-use Rattle.std.proofs.lemmas.Map.Keys.{IsDistinct-push}
+-- That the assets of a file are few, and what they hold of its form.
+use Rattle.std.proofs.Common.{◌≡◌, Some, Ok, inl, inr, sym, ◌∙◌, ap}
 use Rattle.serde_json.specs.Data.{Data}
-use Rattle.def_script.specs.Bytes.{Bytes, IsBytes}
-use Rattle.def_machine.specs.declared.Locks.{Locks}
-use Rattle.def_tree.specs.Range.{IsKey}
-use Rattle.def_assets.specs.Assets.{Assets, IsSignature, same_pair}
+use Rattle.def_script.specs.Bytes.{Bytes}
+use Rattle.def_assets.specs.Assets.{Assets}
 use Rattle.def_files.specs.Json.{reading}
 use Rattle.def_files.specs.Refusals.{unless_any, given}
-use Rattle.def_files.specs.AssetFile.{is_signature, asset_refusals, assets_in, assets_of}
+use Rattle.def_files.specs.AssetFile.{asset_refusals, assets_in, assets_of}
 use Rattle.def_files.specs.Laws.{AreFewAssets}
 use Rattle.def_files.proofs.Given.{asset_file_gives_assets}
-use Rattle.ms_assets.specs.Adding.{size_stop}
 use Rattle.ms_assets.specs.Parts.{IsOrMemory}
-use Rattle.ms_assets.proofs.SamePairs.{same_pair-laws}
 
-pub none_few : (locks : Locks) → locks.version < 2 ^ 32 → locks.sequence < 2 ^ 32 → locks.locktime < 2 ^ 32 → AreFewAssets (record { locks = locks; pairs = []; preimages = [] })
-unfolding IsDistinct
-none_few locks version sequence locktime = record {
-  held = record {
-    keys = λ k d h. absurd (omega arith);
-    signatures = λ k d h. absurd (omega arith);
-    distinct = tt;
-    preimages = λ k d h. absurd (omega arith);
-    version = version;
-    sequence = sequence;
-    locktime = locktime;
-  };
-  signatures = omega arith;
-  preimages = omega arith;
-}
-
--- with one more signature, which isn't held with its key
-pub added_few : (assets : Assets) (key sig : Bytes) → AreFewAssets assets → IsKey key → IsSignature sig → list_any (same_pair (key, sig)) assets.pairs ≡ false → length assets.pairs < 256
-    → AreFewAssets (record assets { pairs = assets.pairs ++ (key, sig) ∷ [] })
-added_few assets key sig few is_key is_sig new room =
-    record {
-      held = record {
-        keys = All-push (λ pair. IsKey pair.0) assets.pairs (key, sig) few.held.keys is_key;
-        signatures = All-push (λ pair. IsSignature pair.1) assets.pairs (key, sig) few.held.signatures is_sig;
-        distinct = IsDistinct-push same_pair-laws assets.pairs (key, sig) few.held.distinct new;
-        preimages = few.held.preimages;
-        version = few.held.version;
-        sequence = few.held.sequence;
-        locktime = few.held.locktime;
-      };
-      signatures = let e = length-append assets.pairs ((key, sig) ∷ []) in omega arith;
-      preimages = few.preimages;
-    }
-
--- no reason of its length stops a signature
-size_passes : (assets : Assets) (sig : Bytes) → size_stop assets sig ≡ None → (is_signature sig ≡ true) × (nat_le 256 (length assets.pairs) ≡ false)
-size_passes assets sig passes = grind arith
-
-pub sized_few : (assets : Assets) (key sig : Bytes) → AreFewAssets assets → IsKey key → IsBytes sig → size_stop assets sig ≡ None → list_any (same_pair (key, sig)) assets.pairs ≡ false
-    → AreFewAssets (record assets { pairs = assets.pairs ++ (key, sig) ∷ [] })
-sized_few assets key sig few is_key bytes passes new =
-    let p = size_passes assets sig passes in
-    let parts = and_parts (nat_le 1 (length sig)) (nat_le (length sig) 73) p.0 in
-    let fits : IsSignature sig = record { some = leb-true 1 (length sig) parts.0; few = leb-true (length sig) 73 parts.1; bytes = bytes } in
-    added_few assets key sig few is_key fits new (let not_full = p.1 in grind (arith, nat_tests))
-
--- what a file gives
 pub file_few : (bytes : Bytes) (file : Data) (assets : Assets) → reading bytes ≡ Some file → IsOrMemory (unless_any (asset_refusals file) (assets_in file)) (Ok assets) → AreFewAssets assets
 unfolding assets_of
 file_few bytes file assets read (inl e) = asset_file_gives_assets bytes assets (ap (given (λ f. unless_any (asset_refusals f) (assets_in f))) read ∙ sym e)

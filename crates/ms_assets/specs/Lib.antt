@@ -1,5 +1,3 @@
-pub mod Adding
-pub mod Digests
 pub mod Parts
 pub mod Runs
 pub mod Scaffolding

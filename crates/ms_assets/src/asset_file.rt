@@ -7,16 +7,14 @@ ghost use Rattle.def_files.specs.Refusals.{unless_any};
 ghost use Rattle.ms_assets.specs.Scaffolding.Seen.{parts_seen};
 ghost use Rattle.ms_assets.specs.Parts.{first_refused, ReadsOr, ReadsOrMemory, IsOrMemory, value_refusals};
 
-use crate::assets::{Assets, MOST_PREIMAGES, MOST_SIGNATURES};
 use crate::checking::{check_keys, check_repeats, check_signatures};
 use crate::list_fault::ListFault;
 use crate::members::{pair_list, read_format, read_json, read_locks, text_list};
-use crate::preimage::Preimage;
-use crate::signatures::Signatures;
 use crate::texts::{read_pairs, read_strings};
 use def_files::{AssetFault, Format, Member};
+use ms_bytes::Stack;
+use ms_held::{Assets, MOST_PREIMAGES, MOST_SIGNATURES, Preimage, Signatures};
 use ms_oracle::{Locks, Pairs};
-use ms_script::Stack;
 use serde_json::Value;
 use std::alloc::Global;
 
@@ -35,7 +33,7 @@ pub fn read_assets(alloc: Global, bytes: &[u8]) -> Result<Assets, AssetFault>
 {
     let file = read_json(alloc, bytes, AssetFault::NotJson, AssetFault::Memory)?;
     let parts = assets_in(alloc, &file)?;
-    Ok(Assets::from_parts(parts))
+    Ok(Assets::of_parts(parts.locks, parts.pairs, parts.preimages))
 }
 
 /// The parts of assets, before it is known that they are few and have their form.

@@ -8,8 +8,8 @@ ghost use Rattle.def_files.specs.Parts.{same_under};
 ghost use Rattle.ms_assets.specs.Parts.{first_refused, Reads, repeats};
 
 use def_files::{AssetFault, Format};
+use ms_bytes::{is_key, is_signature_size};
 use ms_oracle::SigPair;
-use ms_script::{is_key, is_signature_size};
 
 /// Refuses the first key that hasn't its form. There are fewer than 2^32 pairs.
 pub fn check_keys(pairs: &[SigPair]) -> Result<(), AssetFault>

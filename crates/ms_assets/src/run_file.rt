@@ -8,12 +8,12 @@ ghost use Rattle.def_files.specs.Refusals.{unless, unless_any};
 ghost use Rattle.ms_assets.specs.Parts.{Reads, ReadsOrMemory, IsOrMemory};
 ghost use Rattle.ms_assets.specs.Runs.{run_seen, count_refusals};
 
-use crate::assets::MOST_SIGNATURES;
 use crate::members::{pair_list, read_json, read_locks, text_at, text_list};
 use crate::texts::{read_pairs, read_strings, spelled};
 use def_files::{AssetFault, Member};
+use ms_bytes::{Blob, Stack};
+use ms_held::MOST_SIGNATURES;
 use ms_oracle::{Locks, Pairs};
-use ms_script::{Blob, Stack};
 use serde_json::Value;
 use std::alloc::Global;
 

@@ -10,8 +10,8 @@ use crate::list_fault::ListFault;
 use crate::members::text_at;
 use def_files::{AssetFault, Member};
 use hex::FromHexError;
+use ms_bytes::{Blob, Stack};
 use ms_oracle::{Pairs, SigPair};
-use ms_script::{Blob, Stack};
 use serde_json::Value;
 use std::alloc::{AllocError, Global};
 

@@ -277,7 +277,7 @@ thresh_done given stack k xs s b c result count h e =
 abbrev some_counted : Counted → Option Counted
 some_counted c = Some c
 
--- one child more is count_behind, or isn't
+-- one child more is counted, or isn't
 counted_some : (n total : ℕ) (steps first after later : List Step) (rest : Stack) → n ≡ total → steps ++ first ≡ after →
     some_counted (record { count = n; steps = steps ++ (first ++ later); rest = rest }) ≡ some_counted (record { count = total; steps = after ++ later; rest = rest })
 counted_some n total steps first after later rest e t =

@@ -4,7 +4,7 @@ use Rattle.std.specs.List.{list_all}
 use Rattle.std.proofs.lemmas.Bool.{eq-eqb, ne_eqb}
 use Rattle.std.proofs.lemmas.List.{take_more, reverse-append}
 use Rattle.def_script.specs.Bytes.{Bytes}
-use Rattle.def_machine.specs.Stacks.{Stack, Pairs, is_empty}
+use Rattle.def_machine.specs.Stacks.{Stack, Checker, is_empty}
 use Rattle.def_machine.specs.MultiSig.{is_good}
 use Rattle.def_tree.specs.Tree.{Key}
 use Rattle.def_machine.specs.Machine.{Given}
@@ -50,7 +50,7 @@ drop_below stack top (suc k) few within =
 pub multi_off : (given : Given) (node k : ℕ) (keys : List Key) (stack : List Bytes) (left : ℕ) → k < left → left ≤ length stack →
     walk_multi given node k keys (below stack left) ≡
     with_step node (multi_verdict (is_empty (get_or stack (left - k - 1) []))
-    (are_found given.table (reverse keys) (take (left - (left - k)) (below stack left))) (list_all is_empty (take (left - (left - k)) (below stack left))))
+    (are_found given.checker (reverse keys) (take (left - (left - k)) (below stack left))) (list_all is_empty (take (left - (left - k)) (below stack left))))
     []
     (below stack (left - k - 1))
 multi_off given node k keys stack left some within =
@@ -60,34 +60,35 @@ multi_off given node k keys stack left some within =
     (drop_below stack left k (omega (arith, some)) within ∙ below_step stack (left - k) (omega (arith, some)) (omega (arith, some, within)))
 
 -- a key is tried
-pub try_key : (table : Pairs) (keys : List Key) (stack : List Bytes) (count bottom end : ℕ) (good : Bool) (key sig : Bytes) → 0 < count → count ≤ length keys → bottom < end → end ≤ length stack →
-    key ≡ get_or keys (count - 1) [] → sig ≡ get_or stack (end - 1) [] → is_good table key sig ≡ good →
-    are_found table (reverse (take count keys)) (between stack bottom end) ≡
-    are_found table (reverse (take (count - 1) keys)) (between stack bottom (if good then end - 1 else end))
-try_key table keys stack count bottom end good key sig some within many there key_is sig_is good_is =
+pub try_key : (checker : Checker) (keys : List Key) (stack : List Bytes) (count bottom end : ℕ) (good : Bool) (key sig : Bytes) → 0 < count → count ≤ length keys → bottom < end → end ≤ length stack →
+    key ≡ get_or keys (count - 1) [] → sig ≡ get_or stack (end - 1) [] → is_good checker key sig ≡ good →
+    are_found checker (reverse (take count keys)) (between stack bottom end) ≡
+    are_found checker (reverse (take (count - 1) keys)) (between stack bottom (if good then end - 1 else end))
+try_key checker keys stack count bottom end good key sig some within many there key_is sig_is good_is =
     let key_first : reverse (take count keys) ≡ key ∷ reverse (take (count - 1) keys) = rw key_is (last_first keys count [] some within) in
     let sig_first : between stack bottom end ≡ sig ∷ between stack bottom (end - 1) = rw sig_is (between_step stack bottom end many there) in
-    ap (λ ks. are_found table ks (between stack bottom end)) key_first
-    ∙ ap (are_found table (key ∷ reverse (take (count - 1) keys))) sig_first
+    ap (λ ks. are_found checker ks (between stack bottom end)) key_first
+    ∙ ap (are_found checker (key ∷ reverse (take (count - 1) keys))) sig_first
     ∙ go good good_is sig_first
   where
-    go : (good : Bool) → is_good table key sig ≡ good → between stack bottom end ≡ sig ∷ between stack bottom (end - 1) →
-        are_found table (key ∷ reverse (take (count - 1) keys)) (sig ∷ between stack bottom (end - 1))
-        ≡ are_found table (reverse (take (count - 1) keys)) (between stack bottom (if good then end - 1 else end))
+    go : (good : Bool) → is_good checker key sig ≡ good → between stack bottom end ≡ sig ∷ between stack bottom (end - 1) →
+        are_found checker (key ∷ reverse (take (count - 1) keys)) (sig ∷ between stack bottom (end - 1))
+        ≡ are_found checker (reverse (take (count - 1) keys)) (between stack bottom (if good then end - 1 else end))
     go true e first = rw e refl
-    go false e first = rw e (ap (are_found table (reverse (take (count - 1) keys))) (sym first))
+    go false e first = rw e (ap (are_found checker (reverse (take (count - 1) keys))) (sym first))
 
 -- no signature is left
-pub none_left : (table : Pairs) (keys : List Key) (stack : List Bytes) (bottom end : ℕ) → end ≤ bottom → are_found table keys (between stack bottom end) ≡ true
-none_left table keys stack bottom end none = ap (are_found table keys) (between_none stack bottom end none) ∙ nothing keys
+pub none_left : (checker : Checker) (keys : List Key) (stack : List Bytes) (bottom end : ℕ) → end ≤ bottom → are_found checker keys (between stack bottom end) ≡ true
+none_left checker keys stack bottom end none = ap (are_found checker keys) (between_none stack bottom end none) ∙ nothing keys
   where
-    nothing : (keys : List Key) → are_found table keys [] ≡ true
+    nothing : (keys : List Key) → are_found checker keys [] ≡ true
     nothing [] = refl
     nothing (key ∷ keys) = refl
 
 -- and no key
-pub no_key : (table : Pairs) (keys : List Key) (stack : List Bytes) (bottom end : ℕ) → bottom < end → end ≤ length stack → are_found table (reverse (take 0 keys)) (between stack bottom end) ≡ false
-no_key table keys stack bottom end some within = ap (are_found table []) (between_step stack bottom end some within)
+pub no_key : (checker : Checker) (keys : List Key) (stack : List Bytes) (bottom end : ℕ) → bottom < end → end ≤ length stack
+    → are_found checker (reverse (take 0 keys)) (between stack bottom end) ≡ false
+no_key checker keys stack bottom end some within = ap (are_found checker []) (between_step stack bottom end some within)
 
 pub empty_step : (stack : List Bytes) (bottom end : ℕ) (e : Bool) → bottom < end → end ≤ length stack → is_empty (get_or stack (end - 1) []) ≡ e
     → list_all is_empty (between stack bottom end) ≡ (if e then list_all is_empty (between stack bottom (end - 1)) else false)
@@ -100,17 +101,17 @@ empty_is [] = refl
 empty_is (b ∷ bytes) = sym (ne_eqb (length (b ∷ bytes)) 0 (λ e. absurd (omega (arith, e))))
 
 -- the tries came to an end
-pub tried_all : (table : Pairs) (keys : List Key) (stack : List Bytes) (count bottom end : ℕ) → count ≤ 0 → bottom ≤ end → end ≤ length stack →
-    are_found table (reverse (take count keys)) (between stack bottom end) ≡ nat_eq end bottom
-tried_all table keys stack count bottom end none low high =
+pub tried_all : (checker : Checker) (keys : List Key) (stack : List Bytes) (count bottom end : ℕ) → count ≤ 0 → bottom ≤ end → end ≤ length stack →
+    are_found checker (reverse (take count keys)) (between stack bottom end) ≡ nat_eq end bottom
+tried_all checker keys stack count bottom end none low high =
     elim (le_cases end bottom) [
       | inl gone ↦
           let same : end ≡ bottom = omega (arith, gone, low) in
-          none_left table (reverse (take count keys)) stack bottom end gone ∙ sym (eq-eqb end bottom same)
+          none_left checker (reverse (take count keys)) stack bottom end gone ∙ sym (eq-eqb end bottom same)
       | inr some ↦
           let zero_keys : count ≡ 0 = omega (arith, none) in
-          ap (λ n. are_found table (reverse (take n keys)) (between stack bottom end)) zero_keys
-          ∙ no_key table keys stack bottom end some high ∙ sym (ne_eqb end bottom (λ e. absurd (omega (arith, e, some))))
+          ap (λ n. are_found checker (reverse (take n keys)) (between stack bottom end)) zero_keys
+          ∙ no_key checker keys stack bottom end some high ∙ sym (ne_eqb end bottom (λ e. absurd (omega (arith, e, some))))
     ]
   where
     le_cases : (a b : ℕ) → (a ≤ b) ⊎ (b < a)

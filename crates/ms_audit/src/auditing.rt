@@ -11,7 +11,6 @@ ghost use Rattle.def_tree.specs.Range.{IsInRange};
 ghost use Rattle.ms_audit.specs.Answering.{Audits};
 ghost use Rattle.ms_audit_laws.specs.Laws.{IsCanonicalWhereSat};
 ghost use Rattle.ms_interp.specs.Answering.{given_by};
-ghost use Rattle.ms_oracle.specs.Sound.{table_of, IsSound};
 ghost use Rattle.ms_tree.specs.Shape.{shape};
 
 use crate::answer::{Audit, AuditStop};
@@ -19,7 +18,7 @@ use crate::spend::Spend;
 use crate::trail::Trail;
 use ms_emit::script_bytes;
 use ms_interp::run;
-use ms_oracle::{Locks, SigCheck};
+use ms_oracle::{Locks, SignatureChecker};
 use ms_script::Stack;
 use ms_tree::Tree;
 use std::alloc::{AllocError, Global};
@@ -36,20 +35,20 @@ use std::alloc::{AllocError, Global};
 ///
 /// Of a stack that is a canonical satisfaction by what some assets hold, whose signatures are good and which have these
 /// locks, all steps are by canonical rows.
-pub fn audit<F: Fn(&[u8], &[u8]) -> bool>(
+pub fn audit<C: SignatureChecker>(
     alloc: Global,
     tree: &Tree<'_>,
     stack: &Stack,
     locks: &Locks,
-    sigs: &SigCheck<'_, F>,
+    sigs: &C,
 ) -> Result<Audit, AuditStop>
     requires in_range { IsInRange (shape tree.now) }
     requires valid { IsValidUnder Consensus (shape tree.now) }
     requires few { length stack.now ≤ 2147483648 }
-    requires sound { IsSound F.Fn sigs.now }
-    ensures outcome { Audits result (the_run (given_by (table_of sigs.now) locks.now) (script_of (shape tree.now)) stack.now) }
-    ensures derives { IfOk result (λ audit. Derives (shape tree.now) (given_by (table_of sigs.now) locks.now) true audit.trail stack.now) }
-    ensures canonical { IfOk result (λ audit. IsCanonicalWhereSat (shape tree.now) (given_by (table_of sigs.now) locks.now) stack.now audit.trail) }
+    requires sound { C.IsSound sigs.now }
+    ensures outcome { Audits result (the_run (given_by (C.checker sigs.now) locks.now) (script_of (shape tree.now)) stack.now) }
+    ensures derives { IfOk result (λ audit. Derives (shape tree.now) (given_by (C.checker sigs.now) locks.now) true audit.trail stack.now) }
+    ensures canonical { IfOk result (λ audit. IsCanonicalWhereSat (shape tree.now) (given_by (C.checker sigs.now) locks.now) stack.now audit.trail) }
 {
     let script = script_bytes(alloc, tree)?;
     let report = run(alloc, script.as_slice(), stack, locks, sigs)?;
@@ -58,14 +57,14 @@ pub fn audit<F: Fn(&[u8], &[u8]) -> bool>(
     Ok(Audit { trail, report })
 }
 
-impl<F: Fn(&[u8], &[u8]) -> bool> Spend<'_, F> {
+impl<C: SignatureChecker> Spend<'_, C> {
     /// The steps of a stack that is accepted.
     fn accepted_trail(&self, alloc: Global, tree: &Tree<'_>) -> Result<Trail, AllocError>
         requires in_range { IsInRange (shape tree.now) }
         requires valid { IsValidUnder Consensus (shape tree.now) }
-        requires sound { IsSound F.Fn self.now.sigs.now }
-        requires accepted { (checks : Pairs) × IsAccepted (shape tree.now) (given_by (table_of self.now.sigs.now) self.now.locks.now) self.now.stack.now checks }
-        ensures { IfOk result (λ trail. Derives (shape tree.now) (given_by (table_of self.now.sigs.now) self.now.locks.now) true trail self.now.stack.now) }
+        requires sound { C.IsSound self.now.sigs.now }
+        requires accepted { (checks : Pairs) × IsAccepted (shape tree.now) (given_by (C.checker self.now.sigs.now) self.now.locks.now) self.now.stack.now checks }
+        ensures { IfOk result (λ trail. Derives (shape tree.now) (given_by (C.checker self.now.sigs.now) self.now.locks.now) true trail self.now.stack.now) }
     {
         match self.trail(alloc, tree)? {
             Some(trail) => Ok(trail),

@@ -6,12 +6,11 @@ ghost use Rattle.def_sane.specs.Unfit.{IsValidUnder};
 ghost use Rattle.def_tree.specs.Range.{IsInRange};
 ghost use Rattle.ms_audit.specs.Answering.{IsAcceptedUnlessLimited};
 ghost use Rattle.ms_interp.specs.Answering.{given_by};
-ghost use Rattle.ms_oracle.specs.Sound.{table_of, IsSound};
 ghost use Rattle.ms_tree.specs.Shape.{shape};
 
 use crate::spend::Spend;
 use def_audit::Step;
-use ms_oracle::{Locks, SigCheck};
+use ms_oracle::{Locks, SignatureChecker};
 use ms_script::Stack;
 use ms_tree::Tree;
 use std::alloc::{AllocError, Global};
@@ -22,20 +21,20 @@ use std::alloc::{AllocError, Global};
 ///
 /// Where it answers true, the interpreter accepts the stack, or refuses it at one of its own limits: an element of over
 /// 520 bytes, over 201 opcodes, or over 1,000 elements.
-pub fn check_trail<F: Fn(&[u8], &[u8]) -> bool>(
+pub fn check_trail<C: SignatureChecker>(
     alloc: Global,
     tree: &Tree<'_>,
     trail: &[Step],
     stack: &Stack,
     locks: &Locks,
-    sigs: &SigCheck<'_, F>,
+    sigs: &C,
 ) -> Result<bool, AllocError>
     requires in_range { IsInRange (shape tree.now) }
     requires valid { IsValidUnder Consensus (shape tree.now) }
     requires few { length stack.now ≤ 2147483648 }
-    requires sound { IsSound F.Fn sigs.now }
-    ensures derives { IfOk result (λ yes. IsTrue yes ↔ Derives (shape tree.now) (given_by (table_of sigs.now) locks.now) true trail.now stack.now) }
-    ensures accepted { IfOk result (λ yes. IsTrue yes → IsAcceptedUnlessLimited (shape tree.now) (given_by (table_of sigs.now) locks.now) stack.now) }
+    requires sound { C.IsSound sigs.now }
+    ensures derives { IfOk result (λ yes. IsTrue yes ↔ Derives (shape tree.now) (given_by (C.checker sigs.now) locks.now) true trail.now stack.now) }
+    ensures accepted { IfOk result (λ yes. IsTrue yes → IsAcceptedUnlessLimited (shape tree.now) (given_by (C.checker sigs.now) locks.now) stack.now) }
 {
     let spend = Spend { stack, locks, sigs };
     Ok(match spend.trail(alloc, tree)? {

@@ -11,28 +11,27 @@ ghost use Rattle.ms_audit_laws.specs.Walk.{are_found as the_are_found};
 ghost use Rattle.ms_audit.specs.Scaffolding.Walking.{below, TakesAs, Pops, Selects, Chooses};
 ghost use Rattle.ms_hash.specs.Value.{kind_of, bytes_of};
 ghost use Rattle.ms_interp.specs.Answering.{given_by};
-ghost use Rattle.ms_oracle.specs.Sound.{table_of, IsSound};
 ghost use Rattle.ms_tree.specs.Shape.{leaf_shape};
 
 use crate::course::WalkStop;
 use crate::row::{Row, forced, of_hash, of_key, of_multi, of_sig};
 use ms_hash::{HashVal, hash_of, hash160};
-use ms_oracle::{Locks, SigCheck};
+use ms_oracle::{Locks, SignatureChecker};
 use ms_script::{Stack, is_key};
 use ms_tree::{Key, Leaf, Wrapper};
 
 /// A stack, the timelocks of its spending, and the check of its signatures.
 #[derive(Drop)]
-pub struct Spend<'t, F: Fn(&[u8], &[u8]) -> bool> {
+pub struct Spend<'t, C: SignatureChecker> {
     /// The stack, bottom first.
     pub stack: &'t Stack,
     /// The values that timelocks are compared with.
     pub locks: &'t Locks,
     /// The check that answers for the good signatures.
-    pub sigs: &'t SigCheck<'t, F>,
+    pub sigs: &'t C,
 }
 
-impl<F: Fn(&[u8], &[u8]) -> bool> Spend<'_, F> {
+impl<C: SignatureChecker> Spend<'_, C> {
     /// The top of what is left of the stack.
     pub fn top(&self, left: usize) -> Result<&[u8], WalkStop>
         requires { left ≤ length self.now.stack.now }
@@ -90,9 +89,9 @@ impl<F: Fn(&[u8], &[u8]) -> bool> Spend<'_, F> {
 
     /// What a fragment without children takes.
     pub fn leaf(&self, leaf: Leaf, left: &mut usize) -> Result<Option<Row>, WalkStop>
-        requires sound { IsSound F.Fn self.now.sigs.now }
+        requires sound { C.IsSound self.now.sigs.now }
         requires left { left.old ≤ length self.now.stack.now }
-        ensures row { TakesAs (given_by (table_of self.now.sigs.now) self.now.locks.now) self.now.stack.now (leaf_shape leaf) left.old left.new result }
+        ensures row { TakesAs (given_by (C.checker self.now.sigs.now) self.now.locks.now) self.now.stack.now (leaf_shape leaf) left.old left.new result }
         ensures left { left.new ≤ length self.now.stack.now }
     {
         match leaf {
@@ -107,9 +106,9 @@ impl<F: Fn(&[u8], &[u8]) -> bool> Spend<'_, F> {
     }
 
     fn pk_k(&self, key: &Key, left: &mut usize) -> Result<Option<Row>, WalkStop>
-        requires sound { IsSound F.Fn self.now.sigs.now }
+        requires sound { C.IsSound self.now.sigs.now }
         requires left { left.old ≤ length self.now.stack.now }
-        ensures row { TakesAs (given_by (table_of self.now.sigs.now) self.now.locks.now) self.now.stack.now (tree.pk_k key.now) left.old left.new result }
+        ensures row { TakesAs (given_by (C.checker self.now.sigs.now) self.now.locks.now) self.now.stack.now (tree.pk_k key.now) left.old left.new result }
         ensures left { left.new ≤ length self.now.stack.now }
     {
         let sig = self.pop(left)?;
@@ -117,9 +116,9 @@ impl<F: Fn(&[u8], &[u8]) -> bool> Spend<'_, F> {
     }
 
     fn pk_h(&self, key: &Key, left: &mut usize) -> Result<Option<Row>, WalkStop>
-        requires sound { IsSound F.Fn self.now.sigs.now }
+        requires sound { C.IsSound self.now.sigs.now }
         requires left { left.old ≤ length self.now.stack.now }
-        ensures row { TakesAs (given_by (table_of self.now.sigs.now) self.now.locks.now) self.now.stack.now (tree.pk_h key.now) left.old left.new result }
+        ensures row { TakesAs (given_by (C.checker self.now.sigs.now) self.now.locks.now) self.now.stack.now (tree.pk_h key.now) left.old left.new result }
         ensures left { left.new ≤ length self.now.stack.now }
     {
         let other = self.pop(left)?;
@@ -134,7 +133,7 @@ impl<F: Fn(&[u8], &[u8]) -> bool> Spend<'_, F> {
 
     fn hash(&self, value: &HashVal, left: &mut usize) -> Result<Option<Row>, WalkStop>
         requires left { left.old ≤ length self.now.stack.now }
-        ensures row { TakesAs (given_by (table_of self.now.sigs.now) self.now.locks.now) self.now.stack.now (tree.hash (kind_of value.now) (bytes_of value.now)) left.old left.new result }
+        ensures row { TakesAs (given_by (C.checker self.now.sigs.now) self.now.locks.now) self.now.stack.now (tree.hash (kind_of value.now) (bytes_of value.now)) left.old left.new result }
         ensures left { left.new ≤ length self.now.stack.now }
     {
         let item = self.pop(left)?;
@@ -148,9 +147,9 @@ impl<F: Fn(&[u8], &[u8]) -> bool> Spend<'_, F> {
 
     /// What `multi(k,key1,..,keyn)` takes: as many signatures as it asks for, and one item more.
     pub fn multi(&self, k: u64, keys: &[Key], left: &mut usize) -> Result<Option<Row>, WalkStop>
-        requires sound { IsSound F.Fn self.now.sigs.now }
+        requires sound { C.IsSound self.now.sigs.now }
         requires left { left.old ≤ length self.now.stack.now }
-        ensures row { TakesAs (given_by (table_of self.now.sigs.now) self.now.locks.now) self.now.stack.now (tree.multi k keys.now) left.old left.new result }
+        ensures row { TakesAs (given_by (C.checker self.now.sigs.now) self.now.locks.now) self.now.stack.now (tree.multi k keys.now) left.old left.new result }
         ensures left { left.new ≤ length self.now.stack.now }
     {
         let top = *left;
@@ -170,10 +169,10 @@ impl<F: Fn(&[u8], &[u8]) -> bool> Spend<'_, F> {
     /// Whether the items between two places are signatures of the keys, each of the first key left that takes it.
     /// Signatures and keys are tried from the last one.
     fn are_found(&self, keys: &[Key], bottom: usize, top: usize) -> bool
-        requires sound { IsSound F.Fn self.now.sigs.now }
+        requires sound { C.IsSound self.now.sigs.now }
         requires bottom { bottom ≤ top }
         requires top { top ≤ length self.now.stack.now }
-        ensures { result ≡ the_are_found (table_of self.now.sigs.now) (reverse keys.now) (take (top - bottom) (below self.now.stack.now top)) }
+        ensures { result ≡ the_are_found (C.checker self.now.sigs.now) (reverse keys.now) (take (top - bottom) (below self.now.stack.now top)) }
     {
         let mut end = top;
         let mut count = keys.len();
@@ -207,8 +206,8 @@ impl<F: Fn(&[u8], &[u8]) -> bool> Spend<'_, F> {
 
     /// Whether the signature is good for the key; an empty one is never asked for.
     fn is_good(&self, key: &[u8], sig: &[u8]) -> bool
-        requires { IsSound F.Fn self.now.sigs.now }
-        ensures { result ≡ the_is_good (table_of self.now.sigs.now) key.now sig.now }
+        requires { C.IsSound self.now.sigs.now }
+        ensures { result ≡ the_is_good (C.checker self.now.sigs.now) key.now sig.now }
     {
         !sig.is_empty() && self.sigs.ask(key, sig)
     }

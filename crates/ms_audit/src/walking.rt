@@ -8,7 +8,6 @@ ghost use Rattle.def_tree.specs.declared.Two.TheVariants.{OrI};
 ghost use Rattle.ms_audit_laws.specs.Walk.{trail_of};
 ghost use Rattle.ms_audit.specs.Scaffolding.Walking.{IsReady, Walks, Counts};
 ghost use Rattle.ms_interp.specs.Answering.{given_by};
-ghost use Rattle.ms_oracle.specs.Sound.{table_of, IsSound};
 ghost use Rattle.ms_tree.specs.Shape.{shape, shapes};
 
 use crate::course::{Course, WalkStop};
@@ -16,15 +15,16 @@ use crate::parts::{ends, is_empty, of_and_or, of_two, of_wrap};
 use crate::row::of_count;
 use crate::spend::Spend;
 use crate::trail::Trail;
+use ms_oracle::SignatureChecker;
 use ms_tree::{Tree, Two, View, Wrapper};
 use std::alloc::{AllocError, Global};
 
-impl<F: Fn(&[u8], &[u8]) -> bool> Spend<'_, F> {
+impl<C: SignatureChecker> Spend<'_, C> {
     /// The steps by which the stack satisfies a tree, where it does.
     pub fn trail(&self, alloc: Global, tree: &Tree<'_>) -> Result<Option<Trail>, AllocError>
         requires in_range { IsInRange (shape tree.now) }
-        requires sound { IsSound F.Fn self.now.sigs.now }
-        ensures { IfOk result (λ found. found ≡ trail_of (shape tree.now) (given_by (table_of self.now.sigs.now) self.now.locks.now) self.now.stack.now) }
+        requires sound { C.IsSound self.now.sigs.now }
+        ensures { IfOk result (λ found. found ≡ trail_of (shape tree.now) (given_by (C.checker self.now.sigs.now) self.now.locks.now) self.now.stack.now) }
     {
         let mut course = Course {
             left: self.stack.len(),
@@ -42,8 +42,8 @@ impl<F: Fn(&[u8], &[u8]) -> bool> Spend<'_, F> {
     #[cycle(walk)]
     fn walk(&self, tree: &Tree<'_>, course: &mut Course) -> Result<bool, WalkStop>
         requires ready { IsReady self.now.stack.now (shape tree.now) course.old }
-        requires sound { IsSound F.Fn self.now.sigs.now }
-        ensures { Walks (given_by (table_of self.now.sigs.now) self.now.locks.now) self.now.stack.now (shape tree.now) course.old course.new result }
+        requires sound { C.IsSound self.now.sigs.now }
+        ensures { Walks (given_by (C.checker self.now.sigs.now) self.now.locks.now) self.now.stack.now (shape tree.now) course.old course.new result }
     {
         match tree.view() {
             View::Leaf(leaf) => {
@@ -71,8 +71,8 @@ impl<F: Fn(&[u8], &[u8]) -> bool> Spend<'_, F> {
         course: &mut Course,
     ) -> Result<bool, WalkStop>
         requires ready { IsReady self.now.stack.now (tree.and_or (shape x.now) (shape y.now) (shape z.now)) course.old }
-        requires sound { IsSound F.Fn self.now.sigs.now }
-        ensures { Walks (given_by (table_of self.now.sigs.now) self.now.locks.now) self.now.stack.now (tree.and_or (shape x.now) (shape y.now) (shape z.now)) course.old course.new result }
+        requires sound { C.IsSound self.now.sigs.now }
+        ensures { Walks (given_by (C.checker self.now.sigs.now) self.now.locks.now) self.now.stack.now (tree.and_or (shape x.now) (shape y.now) (shape z.now)) course.old course.new result }
     {
         if self.walk(x, course)? {
             let sat = self.walk(y, course)?;
@@ -95,9 +95,9 @@ impl<F: Fn(&[u8], &[u8]) -> bool> Spend<'_, F> {
         course: &mut Course,
     ) -> Result<bool, WalkStop>
         requires ready { IsReady self.now.stack.now (tree.two kind (shape x.now) (shape z.now)) course.old }
-        requires sound { IsSound F.Fn self.now.sigs.now }
+        requires sound { C.IsSound self.now.sigs.now }
         requires not_or_i { kind ≢ OrI }
-        ensures { Walks (given_by (table_of self.now.sigs.now) self.now.locks.now) self.now.stack.now (tree.two kind (shape x.now) (shape z.now)) course.old course.new result }
+        ensures { Walks (given_by (C.checker self.now.sigs.now) self.now.locks.now) self.now.stack.now (tree.two kind (shape x.now) (shape z.now)) course.old course.new result }
     {
         let first = self.walk(x, course)?;
         if ends(kind, first) {
@@ -111,8 +111,8 @@ impl<F: Fn(&[u8], &[u8]) -> bool> Spend<'_, F> {
     #[cycle(walk)]
     fn or_i(&self, x: &Tree<'_>, z: &Tree<'_>, course: &mut Course) -> Result<bool, WalkStop>
         requires ready { IsReady self.now.stack.now (tree.two OrI (shape x.now) (shape z.now)) course.old }
-        requires sound { IsSound F.Fn self.now.sigs.now }
-        ensures { Walks (given_by (table_of self.now.sigs.now) self.now.locks.now) self.now.stack.now (tree.two OrI (shape x.now) (shape z.now)) course.old course.new result }
+        requires sound { C.IsSound self.now.sigs.now }
+        ensures { Walks (given_by (C.checker self.now.sigs.now) self.now.locks.now) self.now.stack.now (tree.two OrI (shape x.now) (shape z.now)) course.old course.new result }
     {
         if self.select(&mut course.left)? {
             let sat = self.walk(x, course)?;
@@ -130,8 +130,8 @@ impl<F: Fn(&[u8], &[u8]) -> bool> Spend<'_, F> {
         requires children { All (λ x. IsInRange (shape x)) children.now }
         requires room { course.old.next + nodes (tree.thresh k (shapes children.now)) ≤ MOST_MEASURE }
         requires left { course.old.left ≤ length self.now.stack.now }
-        requires sound { IsSound F.Fn self.now.sigs.now }
-        ensures { Walks (given_by (table_of self.now.sigs.now) self.now.locks.now) self.now.stack.now (tree.thresh k (shapes children.now)) course.old course.new result }
+        requires sound { C.IsSound self.now.sigs.now }
+        ensures { Walks (given_by (C.checker self.now.sigs.now) self.now.locks.now) self.now.stack.now (tree.thresh k (shapes children.now)) course.old course.new result }
     {
         let count = self.count(children, course)?;
         course.end(of_count(count == k, count == 0))
@@ -143,8 +143,8 @@ impl<F: Fn(&[u8], &[u8]) -> bool> Spend<'_, F> {
         requires children { All (λ x. IsInRange (shape x)) children.now }
         requires room { course.old.next + nodes_of (shapes children.now) ≤ MOST_MEASURE }
         requires left { course.old.left ≤ length self.now.stack.now }
-        requires sound { IsSound F.Fn self.now.sigs.now }
-        ensures { Counts (given_by (table_of self.now.sigs.now) self.now.locks.now) self.now.stack.now (shapes children.now) course.old course.new result }
+        requires sound { C.IsSound self.now.sigs.now }
+        ensures { Counts (given_by (C.checker self.now.sigs.now) self.now.locks.now) self.now.stack.now (shapes children.now) course.old course.new result }
     {
         let mut count = 0;
         for child in children {
@@ -158,8 +158,8 @@ impl<F: Fn(&[u8], &[u8]) -> bool> Spend<'_, F> {
     #[cycle(walk)]
     fn wrap(&self, wrapper: Wrapper, x: &Tree<'_>, course: &mut Course) -> Result<bool, WalkStop>
         requires ready { IsReady self.now.stack.now (tree.wrap wrapper (shape x.now)) course.old }
-        requires sound { IsSound F.Fn self.now.sigs.now }
-        ensures { Walks (given_by (table_of self.now.sigs.now) self.now.locks.now) self.now.stack.now (tree.wrap wrapper (shape x.now)) course.old course.new result }
+        requires sound { C.IsSound self.now.sigs.now }
+        ensures { Walks (given_by (C.checker self.now.sigs.now) self.now.locks.now) self.now.stack.now (tree.wrap wrapper (shape x.now)) course.old course.new result }
     {
         let item = self.choice(wrapper, &mut course.left)?;
         if is_empty(item) {

@@ -3,7 +3,7 @@
 use Rattle.std.proofs.Common.{◌≡◌, ℕ, ◌+◌, not, Bool, true, false, List, [], ◌∷◌, ◌++◌, reverse, refl, sym, ◌∙◌, ap, subst, inl, inr}
 use Rattle.std.proofs.lemmas.Bool.{false≢true, and_parts, and_from}
 use Rattle.def_script.specs.Bytes.{Bytes}
-use Rattle.def_machine.specs.Stacks.{Stack, Pairs}
+use Rattle.def_machine.specs.Stacks.{Stack, Checker}
 use Rattle.def_tree.specs.declared.Two.{Two}
 use Rattle.def_tree.specs.declared.Two.TheVariants as kind
 use Rattle.def_tree.specs.declared.Wrapper.TheVariants as wrapper
@@ -102,7 +102,7 @@ module _ {b : Bool} where
     to = λ stack h. let r = (both (j h.0) i.sat).to stack h.2 in (r.0, (h.0, h.1, r.1), λ e. (h.0, h.1, r.2 e), r.3);
   }) (both (j n) i.dsat)
 
-module _ (assets : Assets) (table : Pairs) (holds : Holds table assets) (b : Bool) where
+module _ (assets : Assets) (checker : Checker) (holds : Holds checker assets) (b : Bool) where
   -- the canonical rows, or all of them
   abbrev s : Setting
   s = record (canonical assets) { all_rows = b }
@@ -111,11 +111,11 @@ module _ (assets : Assets) (table : Pairs) (holds : Holds table assets) (b : Boo
   c = canonical assets
 
   abbrev t : Setting
-  t = full (given_with assets table) any
+  t = full (given_with assets checker) any
 
   wider : IsWider s t
   wider = record {
-    signatures = held assets table holds;
+    signatures = held assets checker holds;
     older = λ n h. h;
     after = λ n h. h;
     preimages = λ kind value preimage h. tt;
@@ -196,9 +196,9 @@ module _ (assets : Assets) (table : Pairs) (holds : Holds table assets) (b : Boo
       → KeepsRow b x (record { dsat = Canonical node false t.dsat; sat = Canonical node true t.sat }) y
   wrap_kept node x y t i = record { dsat = own i.dsat; sat = own i.sat }
 
-  two_kept : (first : ℕ) (kind : Two) (x y : Tree) → KeepsRow b (row s x) (trails (given_with assets table) first x) (row c x) →
-      KeepsRow b (row s y) (trails (given_with assets table) (first + nodes x) y) (row c y) →
-      KeepsRow b (row s (two kind x y)) (trails (given_with assets table) first (two kind x y)) (row c (two kind x y))
+  two_kept : (first : ℕ) (kind : Two) (x y : Tree) → KeepsRow b (row s x) (trails (given_with assets checker) first x) (row c x) →
+      KeepsRow b (row s y) (trails (given_with assets checker) (first + nodes x) y) (row c y) →
+      KeepsRow b (row s (two kind x y)) (trails (given_with assets checker) first (two kind x y)) (row c (two kind x y))
   two_kept first kind.AndV x y i j = record {
     dsat = extra_row _ (both j.dsat i.sat);
     sat = own (both j.sat i.sat);
@@ -219,7 +219,7 @@ module _ (assets : Assets) (table : Pairs) (holds : Holds table assets) (b : Boo
   }
 
   mutual
-    pub row_kept : (first : ℕ) (tree : Tree) → KeepsRow b (row s tree) (trails (given_with assets table) first tree) (row c tree)
+    pub row_kept : (first : ℕ) (tree : Tree) → KeepsRow b (row s tree) (trails (given_with assets checker) first tree) (row c tree)
     row_kept first (pk_h key) =
         let w = row_within s t wider (pk_h key) in record { dsat = key_kept key first false _ _ w.dsat; sat = key_kept key first true _ _ w.sat }
     row_kept first (hash k value) = hash_kept first k value
@@ -245,12 +245,12 @@ module _ (assets : Assets) (table : Pairs) (holds : Holds table assets) (b : Boo
     row_kept first (wrap wrapper x) = wrap_kept _ _ _ _ (row_kept first x)
     row_kept first leaf = leaf_kept first leaf _ (all_same _)
 
-    parts_kept : (first : ℕ) (xs : Trees) (n : ℕ) → Keeps b (parts s xs n) (trails_of (given_with assets table) first xs n) (parts c xs n)
+    parts_kept : (first : ℕ) (xs : Trees) (n : ℕ) → Keeps b (parts s xs n) (trails_of (given_with assets checker) first xs n) (parts c xs n)
     parts_kept first none n = record { to = λ stack h. ([], (h.0, (h.1, refl)), λ e. h, λ e. refl) }
     parts_kept first (more x xs) n = parts_of _ _ _ _ _ _ (row_kept first x) (parts_kept (first + nodes x) xs) n
 
 pub canonical_is_sat : CanonicalIsSat
-canonical_is_sat tree assets table steps stack valid holds trail no_extra sat =
-    let r = (row_kept assets table holds true 0 tree).sat.to (reverse stack) sat in
-    let one = trail_is_unique tree (given_with assets table) steps r.0 stack valid trail r.1 in
+canonical_is_sat tree assets checker steps stack valid holds trail no_extra sat =
+    let r = (row_kept assets checker holds true 0 tree).sat.to (reverse stack) sat in
+    let one = trail_is_unique tree (given_with assets checker) steps r.0 stack valid trail r.1 in
     r.2 (subst (λ s. is_canonical s ≡ true) one no_extra)

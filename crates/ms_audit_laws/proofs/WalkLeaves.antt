@@ -9,7 +9,7 @@ use Rattle.std.proofs.Math.Seq.{take-append_seam, drop-append_seam}
 use Rattle.def_hash.specs.declared.HashKind.{HashKind}
 use Rattle.def_hash.specs.Hash.{digest_of, hash160}
 use Rattle.def_script.specs.Bytes.{Bytes}
-use Rattle.def_machine.specs.Stacks.{Stack, Pairs, is_empty}
+use Rattle.def_machine.specs.Stacks.{Stack, Checker, is_empty}
 use Rattle.def_script.specs.Key.{is_key}
 use Rattle.def_machine.specs.Machine.{Given}
 use Rattle.def_machine.specs.MultiSig.{is_good}
@@ -89,13 +89,13 @@ pk_k_walk given node key =
     is_walk (pk_k_trails_of given node key) (walk_pk_k given node key) sound
     (λ taken steps rest h.
     ap (λ w. walk_pk_k given node key (w ++ rest)) h.1.0.2
-    ∙ leaf_done node true false h.0 steps rest (sig_verdict (is_good given.table key h.1.0.0) (is_empty h.1.0.0))
+    ∙ leaf_done node true false h.0 steps rest (sig_verdict (is_good given.checker key h.1.0.0) (is_empty h.1.0.0))
     (ap (λ g. sig_verdict g (is_empty h.1.0.0)) h.1.0.1) h.1.1 h.2)
     (λ taken steps rest h.
     ap (λ w. walk_pk_k given node key (w ++ rest)) h.1.0
-    ∙ leaf_done node false false h.0 steps rest (sig_verdict (is_good given.table key EMPTY) (is_empty EMPTY)) refl h.1.1 h.2)
+    ∙ leaf_done node false false h.0 steps rest (sig_verdict (is_good given.checker key EMPTY) (is_empty EMPTY)) refl h.1.1 h.2)
   where
-    fits : (top : Bytes) (good empty : Bool) → is_good given.table key top ≡ good → is_empty top ≡ empty → Fits (pk_k_trails_of given node key) node (top ∷ []) (sig_verdict good empty)
+    fits : (top : Bytes) (good empty : Bool) → is_good given.checker key top ≡ good → is_empty top ≡ empty → Fits (pk_k_trails_of given node key) node (top ∷ []) (sig_verdict good empty)
     fits top true empty g e = ([], ((top, g, refl), refl), refl)
     fits top false true g e = ([], (ap (λ x. x ∷ []) (is_nothing top e), refl), refl)
     fits top false false g e = tt
@@ -103,8 +103,8 @@ pk_k_walk given node key =
     sound : (stack : Stack) (f : Found) → walk_pk_k given node key stack ≡ Some f → Taken (pk_k_trails_of given node key) stack f
     sound [] f e = none_found _ f e
     sound (top ∷ rest) f e =
-        leaf_sound (pk_k_trails_of given node key) node (sig_verdict (is_good given.table key top) (is_empty top)) (top ∷ rest) (top ∷ []) rest f refl
-        (fits top (is_good given.table key top) (is_empty top) refl refl) e
+        leaf_sound (pk_k_trails_of given node key) node (sig_verdict (is_good given.checker key top) (is_empty top)) (top ∷ rest) (top ∷ []) rest f refl
+        (fits top (is_good given.checker key top) (is_empty top) refl refl) e
 
 -- a set that is canonical with this item on top
 with_top_fits : (item : Bytes) (node : ℕ) (sat : Bool) (P : StackSet) (top : Bytes) (rest : Stack) (is : Bool) → bytes_eq top item ≡ is → P (top ∷ rest)
@@ -143,7 +143,7 @@ pk_h_trails_of given node key = pk_h_trails node key (pk_h_row (full given any) 
 
 abbrev pk_h_verdict_of : Given → Key → (other sig : Bytes) → Verdict
 pk_h_verdict_of given key other sig =
-    key_verdict (is_key other && bytes_eq (hash160 other) (hash160 key)) (bytes_eq other key) (is_good given.table other sig) (is_empty sig)
+    key_verdict (is_key other && bytes_eq (hash160 other) (hash160 key)) (bytes_eq other key) (is_good given.checker other sig) (is_empty sig)
 
 pub pk_h_walk : (given : Given) (node : ℕ) (key : Key) → IsWalk (pk_h_trails node key (pk_h_row (full given any) key)) (walk_pk_h given node key)
 pk_h_walk given node key =
@@ -157,7 +157,7 @@ pk_h_walk given node key =
     let whole = two_items other sig taken b.0 b.1 b.2.2 b.3 b.4 in
     ap (λ w. walk_pk_h given node key (w ++ rest)) whole
     ∙ leaf_done node true (not c.is) [] steps rest (pk_h_verdict_of given key other sig)
-    (ap (λ f. key_verdict f (bytes_eq other key) (is_good given.table other sig) (is_empty sig)) (fit_true other r.1 r.2)
+    (ap (λ f. key_verdict f (bytes_eq other key) (is_good given.checker other sig) (is_empty sig)) (fit_true other r.1 r.2)
     ∙ ap (λ g. key_verdict true (bytes_eq other key) g (is_empty sig)) b.2.1
     ∙ ap (λ (i : Bool). Some (true, not i)) (c.decides other (sig ∷ []) whole)) refl c.are)
     (λ taken steps rest h.
@@ -172,7 +172,7 @@ pk_h_walk given node key =
     ∙ ap (λ (i : Bool). Some (false, not i)) (c.decides other (EMPTY ∷ []) whole)) refl c.are)
   where
     fits : (other sig : Bytes) (fit is good empty : Bool) → (is_key other && bytes_eq (hash160 other) (hash160 key)) ≡ fit → bytes_eq other key ≡ is
-        → is_good given.table other sig ≡ good → is_empty sig ≡ empty →
+        → is_good given.checker other sig ≡ good → is_empty sig ≡ empty →
         Fits (pk_h_trails_of given node key) node (other ∷ sig ∷ []) (key_verdict fit is good empty)
     fits other sig false is good empty f i g e = tt
     fits other sig true is true empty f i g e =
@@ -247,36 +247,36 @@ hash_walk given node kind value =
     missed taken (inr h) = h.1
 
 -- the first key left that takes a signature may have it
-found_are : (table : Pairs) (keys : List Key) (sigs : Stack) → are_found table keys sigs ≡ true → AreSignatures table keys sigs
-found_are table keys [] e = nothing keys
+found_are : (checker : Checker) (keys : List Key) (sigs : Stack) → are_found checker keys sigs ≡ true → AreSignatures checker keys sigs
+found_are checker keys [] e = nothing keys
   where
-    nothing : (keys : List Key) → AreSignatures table keys []
+    nothing : (keys : List Key) → AreSignatures checker keys []
     nothing [] = tt
     nothing (key ∷ keys) = tt
-found_are table [] (sig ∷ sigs) e = absurd (false≢true e)
-found_are table (key ∷ keys) (sig ∷ sigs) e =
-    elim (cases_Bool (is_good table key sig)) [
-      | inl good ↦ inl (good, found_are table keys sigs (rw good at e))
-      | inr bad ↦ inr (found_are table keys (sig ∷ sigs) (rw bad at e))
+found_are checker [] (sig ∷ sigs) e = absurd (false≢true e)
+found_are checker (key ∷ keys) (sig ∷ sigs) e =
+    elim (cases_Bool (is_good checker key sig)) [
+      | inl good ↦ inl (good, found_are checker keys sigs (rw good at e))
+      | inr bad ↦ inr (found_are checker keys (sig ∷ sigs) (rw bad at e))
     ]
 
-are_are_found : (table : Pairs) (keys : List Key) (sigs : Stack) → AreSignatures table keys sigs → are_found table keys sigs ≡ true
-are_are_found table keys [] h = nothing keys
+are_are_found : (checker : Checker) (keys : List Key) (sigs : Stack) → AreSignatures checker keys sigs → are_found checker keys sigs ≡ true
+are_are_found checker keys [] h = nothing keys
   where
-    nothing : (keys : List Key) → are_found table keys [] ≡ true
+    nothing : (keys : List Key) → are_found checker keys [] ≡ true
     nothing [] = refl
     nothing (key ∷ keys) = refl
-are_are_found table [] (sig ∷ sigs) h = absurd h
-are_are_found table (key ∷ keys) (sig ∷ sigs) h =
-    elim (cases_Bool (is_good table key sig)) [
-      | inl good ↦ rw good (are_are_found table keys sigs (rest_good table key sig keys sigs h))
-      | inr bad ↦ rw bad (are_are_found table keys (sig ∷ sigs) (rest_bad table key sig keys sigs bad h))
+are_are_found checker [] (sig ∷ sigs) h = absurd h
+are_are_found checker (key ∷ keys) (sig ∷ sigs) h =
+    elim (cases_Bool (is_good checker key sig)) [
+      | inl good ↦ rw good (are_are_found checker keys sigs (rest_good checker key sig keys sigs h))
+      | inr bad ↦ rw bad (are_are_found checker keys (sig ∷ sigs) (rest_bad checker key sig keys sigs bad h))
     ]
 
 -- empty strings are no signatures
-empties_not_found : (table : Pairs) (keys : List Key) (n : ℕ) → are_found table keys (replicate (suc n) EMPTY) ≡ false
-empties_not_found table [] n = refl
-empties_not_found table (key ∷ keys) n = empties_not_found table keys n
+empties_not_found : (checker : Checker) (keys : List Key) (n : ℕ) → are_found checker keys (replicate (suc n) EMPTY) ≡ false
+empties_not_found checker [] n = refl
+empties_not_found checker (key ∷ keys) n = empties_not_found checker keys n
 
 -- so many items off a stack
 cut_length : (k : ℕ) (stack : Stack) (dummy : Bytes) (rest : Stack) → drop k stack ≡ dummy ∷ rest → length (take k stack) ≡ k
@@ -299,21 +299,21 @@ multi_walk given node k keys some =
     ap (λ w. walk_multi given node k keys (w ++ rest)) (b.4 ∙ ap (λ w. sigs ++ w) b.2)
     ∙ ap (walk_multi given node k keys) (append_assoc sigs (EMPTY ∷ []) rest)
     ∙ off sigs (EMPTY ∷ rest) b.3.0
-    ∙ leaf_done node true false h.0 steps rest (multi_verdict true (are_found given.table (reverse keys) sigs) (list_all is_empty sigs))
-    (ap (λ f. multi_verdict true f (list_all is_empty sigs)) (are_are_found given.table (reverse keys) sigs b.3.1)) h.1.1 h.2)
+    ∙ leaf_done node true false h.0 steps rest (multi_verdict true (are_found given.checker (reverse keys) sigs) (list_all is_empty sigs))
+    (ap (λ f. multi_verdict true f (list_all is_empty sigs)) (are_are_found given.checker (reverse keys) sigs b.3.1)) h.1.1 h.2)
     (λ taken steps rest h.
     let sigs : Stack = replicate k EMPTY in
     ap (λ w. walk_multi given node k keys (w ++ rest)) (h.1.0 ∙ empties_split k)
     ∙ ap (walk_multi given node k keys) (append_assoc sigs (EMPTY ∷ []) rest)
     ∙ off sigs (EMPTY ∷ rest) (length-replicate k EMPTY)
-    ∙ leaf_done node false false h.0 steps rest (multi_verdict true (are_found given.table (reverse keys) sigs) (list_all is_empty sigs))
+    ∙ leaf_done node false false h.0 steps rest (multi_verdict true (are_found given.checker (reverse keys) sigs) (list_all is_empty sigs))
     (ap (λ f. multi_verdict true f (list_all is_empty sigs)) (none_of_empties k some) ∙ ap (multi_verdict true false) (all_empty k)) h.1.1 h.2)
   where
-    fits : (sigs : Stack) (dummy : Bytes) → length sigs ≡ k → (d found empty : Bool) → is_empty dummy ≡ d → are_found given.table (reverse keys) sigs ≡ found → list_all is_empty sigs ≡ empty →
+    fits : (sigs : Stack) (dummy : Bytes) → length sigs ≡ k → (d found empty : Bool) → is_empty dummy ≡ d → are_found given.checker (reverse keys) sigs ≡ found → list_all is_empty sigs ≡ empty →
         Fits (multi_trails_of given node k keys) node (sigs ++ dummy ∷ []) (multi_verdict d found empty)
     fits sigs dummy l false found empty d f e = tt
     fits sigs dummy l true true empty d f e =
-        ([], ((dummy ∷ [], sigs, ap (λ x. x ∷ []) (is_nothing dummy d), (l, found_are given.table (reverse keys) sigs f), refl), refl), refl)
+        ([], ((dummy ∷ [], sigs, ap (λ x. x ∷ []) (is_nothing dummy d), (l, found_are given.checker (reverse keys) sigs f), refl), refl), refl)
     fits sigs dummy l true false true d f e = (
       [],
       (ap (λ x. sigs ++ x ∷ []) (is_nothing dummy d) ∙ ap (λ w. w ++ EMPTY ∷ []) (all_empties sigs e ∙ ap (λ n. replicate n EMPTY) l) ∙ sym (empties_split k), refl),
@@ -325,7 +325,7 @@ multi_walk given node k keys some =
         → walk_multi_off given node keys sigs d ≡ Some f → Taken (multi_trails_of given node k keys) stack f
     off_sound stack sigs [] f p l e = none_found _ f e
     off_sound stack sigs (dummy ∷ rest) f p l e =
-        leaf_sound (multi_trails_of given node k keys) node (multi_verdict (is_empty dummy) (are_found given.table (reverse keys) sigs) (list_all is_empty sigs)) stack (sigs ++ dummy ∷ []) rest f
+        leaf_sound (multi_trails_of given node k keys) node (multi_verdict (is_empty dummy) (are_found given.checker (reverse keys) sigs) (list_all is_empty sigs)) stack (sigs ++ dummy ∷ []) rest f
         (p ∙ sym (append_assoc sigs (dummy ∷ []) rest)) (fits sigs dummy (l dummy rest refl) _ _ _ refl refl refl) e
 
     sound : (stack : Stack) (f : Found) → walk_multi given node k keys stack ≡ Some f → Taken (multi_trails_of given node k keys) stack f
@@ -336,6 +336,6 @@ multi_walk given node k keys some =
         subst (λ n. walk_multi given node n keys (sigs ++ below) ≡ walk_multi_off given node keys sigs below) l
         (rw (take-append_seam sigs below, drop-append_seam sigs below) refl)
 
-    none_of_empties : (k : ℕ) → 1 ≤ k → are_found given.table (reverse keys) (replicate k EMPTY) ≡ false
+    none_of_empties : (k : ℕ) → 1 ≤ k → are_found given.checker (reverse keys) (replicate k EMPTY) ≡ false
     none_of_empties zero some = absurd (omega arith)
-    none_of_empties (suc n) some = empties_not_found given.table (reverse keys) n
+    none_of_empties (suc n) some = empties_not_found given.checker (reverse keys) n

@@ -2,7 +2,7 @@
 use Rattle.std.specs.Prelude.{◌≡◌, ◌↔◌, ◌⊎◌, not, IsTrue, Bool, true, List, Some}
 use Rattle.std.specs.List.{list_all}
 use Rattle.def_script.specs.Bytes.{Bytes}
-use Rattle.def_machine.specs.Stacks.{Pairs}
+use Rattle.def_machine.specs.Stacks.{Pairs, Checker}
 use Rattle.def_machine.specs.Machine.{Given}
 use Rattle.def_tree.specs.Tree.{Tree}
 use Rattle.def_tree.specs.Range.{IsWritable}
@@ -47,25 +47,25 @@ TrailIsAccepted =
 abbrev pub is_canonical : List Step → Bool
 is_canonical steps = list_all (λ step. not step.extra) steps
 
--- steps by canonical rows alone, under a table that holds the signatures of assets, are those of a canonical satisfaction,
--- where the assets' own signatures, the known preimages and the miniscript's own keys are enough for the stack
+-- steps by canonical rows alone, where the signatures of assets are good, are those of a canonical satisfaction, where
+-- the assets' own signatures, the known preimages and the miniscript's own keys are enough for the stack
 abbrev pub CanonicalIsSat : Type 0
 CanonicalIsSat =
-    (tree : Tree) (assets : Assets) (table : Pairs) (steps : List Step) (stack : List Bytes) → IsValidUnder Consensus tree → Holds table assets →
-    Derives tree (given_with assets table) true steps stack → IsTrue (is_canonical steps) →
+    (tree : Tree) (assets : Assets) (checker : Checker) (steps : List Step) (stack : List Bytes) → IsValidUnder Consensus tree → Holds checker assets →
+    Derives tree (given_with assets checker) true steps stack → IsTrue (is_canonical steps) →
     FullSat tree (given_of assets) (only (known assets)) stack → Sat tree assets stack
 
--- a canonical satisfaction has steps by canonical rows alone, under each table that holds the assets' signatures
+-- a canonical satisfaction has steps by canonical rows alone, where the assets' signatures are good, whatever others are
 abbrev pub SatHasCanonicalSteps : Type 0
 SatHasCanonicalSteps =
-    (tree : Tree) (assets : Assets) (table : Pairs) (stack : List Bytes) → Holds table assets → Sat tree assets stack →
-    (steps : List Step) × Derives tree (given_with assets table) true steps stack × IsTrue (is_canonical steps)
+    (tree : Tree) (assets : Assets) (checker : Checker) (stack : List Bytes) → Holds checker assets → Sat tree assets stack →
+    (steps : List Step) × Derives tree (given_with assets checker) true steps stack × IsTrue (is_canonical steps)
 
--- a stack that is a canonical satisfaction, by assets with these locks whose signatures the table holds, has these steps
+-- a stack that is a canonical satisfaction, by assets with these locks whose signatures are good, has these steps
 -- by canonical rows alone
 abbrev pub IsCanonicalWhereSat : Tree → Given → (stack : List Bytes) → List Step → Type 0
 IsCanonicalWhereSat tree given stack steps =
-    (assets : Assets) → assets.locks ≡ given.locks → Holds given.table assets → Sat tree assets stack → IsTrue (is_canonical steps)
+    (assets : Assets) → assets.locks ≡ given.locks → Holds given.checker assets → Sat tree assets stack → IsTrue (is_canonical steps)
 
 -- and over a miniscript that is valid under consensus it has no others
 abbrev pub SatIsCanonical : Type 0

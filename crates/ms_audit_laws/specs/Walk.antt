@@ -6,7 +6,7 @@ use Rattle.std.specs.Str.{bytes_eq}
 use Rattle.def_hash.specs.declared.HashKind.{HashKind}
 use Rattle.def_hash.specs.Hash.{digest_of, hash160}
 use Rattle.def_script.specs.Bytes.{Bytes}
-use Rattle.def_machine.specs.Stacks.{Stack, Pairs, is_empty}
+use Rattle.def_machine.specs.Stacks.{Stack, Checker, is_empty}
 use Rattle.def_script.specs.Key.{is_key}
 use Rattle.def_machine.specs.Locks.{older_holds, after_holds}
 use Rattle.def_machine.specs.Machine.{Given}
@@ -65,7 +65,7 @@ sig_verdict false false = None
 -- `pk_k(key)`
 abbrev pub walk_pk_k : Given → (node : ℕ) → Key → Walker
 walk_pk_k given node key [] = None
-walk_pk_k given node key (top ∷ rest) = with_step node (sig_verdict (is_good given.table key top) (is_empty top)) [] rest
+walk_pk_k given node key (top ∷ rest) = with_step node (sig_verdict (is_good given.checker key top) (is_empty top)) [] rest
 
 -- a key with the hash, which may be the fragment's own
 abbrev pub key_verdict : (fits own good empty : Bool) → Verdict
@@ -80,7 +80,7 @@ walk_pk_h given node key [] = None
 walk_pk_h given node key (other ∷ []) = None
 walk_pk_h given node key (other ∷ sig ∷ rest) =
     with_step node
-    (key_verdict (is_key other && bytes_eq (hash160 other) (hash160 key)) (bytes_eq other key) (is_good given.table other sig) (is_empty sig)) []
+    (key_verdict (is_key other && bytes_eq (hash160 other) (hash160 key)) (bytes_eq other key) (is_good given.checker other sig) (is_empty sig)) []
     rest
 
 -- what has no dissatisfaction
@@ -101,11 +101,11 @@ walk_hash node kind value (top ∷ rest) =
     with_step node (hash_verdict (length top == 32) (bytes_eq (digest_of kind top) value) (bytes_eq top ZEROS)) [] rest
 
 -- each signature is that of the first key left that takes it
-abbrev pub are_found : Pairs → List Key → List Bytes → Bool
-are_found table keys [] = true
-are_found table [] (sig ∷ sigs) = false
-are_found table (key ∷ keys) (sig ∷ sigs) =
-    if is_good table key sig then are_found table keys sigs else are_found table keys (sig ∷ sigs)
+abbrev pub are_found : Checker → List Key → List Bytes → Bool
+are_found checker keys [] = true
+are_found checker [] (sig ∷ sigs) = false
+are_found checker (key ∷ keys) (sig ∷ sigs) =
+    if is_good checker key sig then are_found checker keys sigs else are_found checker keys (sig ∷ sigs)
 
 abbrev pub multi_verdict : (dummy found empty : Bool) → Verdict
 multi_verdict false found empty = None
@@ -117,7 +117,7 @@ multi_verdict true false false = None
 abbrev pub walk_multi_off : Given → (node : ℕ) → List Key → (sigs : Stack) → Walker
 walk_multi_off given node keys sigs [] = None
 walk_multi_off given node keys sigs (dummy ∷ rest) =
-    with_step node (multi_verdict (is_empty dummy) (are_found given.table (reverse keys) sigs) (list_all is_empty sigs)) [] rest
+    with_step node (multi_verdict (is_empty dummy) (are_found given.checker (reverse keys) sigs) (list_all is_empty sigs)) [] rest
 
 abbrev pub walk_multi : Given → (node : ℕ) → (k : ℕ) → List Key → Walker
 walk_multi given node k keys stack = walk_multi_off given node keys (take k stack) (drop k stack)

@@ -15,7 +15,7 @@ use Rattle.def_audit.specs.Derives.{Derives}
 use Rattle.ms_answer_laws.specs.Laws.{steps_found}
 use Rattle.def_answer.specs.Reply.{given_by}
 use Rattle.ms_audit_laws.proofs.WalkTrees.{walk_is_trail}
-use Rattle.ms_replies.specs.Choices.{outcome_for}
+use Rattle.ms_replies.specs.Runs.{outcome_for}
 use Rattle.ms_calls.specs.Audited.{audited}
 
 -- the steps are those that the walk finds

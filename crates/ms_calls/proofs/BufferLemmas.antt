@@ -1,8 +1,8 @@
--- What holds of the answer to words that lie in a buffer, of any program, where the source and the sink lie in memory.
-use Rattle.std.proofs.Common.{◌≡◌, ◌≢◌, ◌⊎◌, ℕ, List, [], ◌++◌, Some, inl, inr, sym, ap, subst, ◌∙◌}
-use Rattle.std.specs.Prelude.{Option, All, IsUtf8}
+-- What holds of the answer to words that lie in a buffer, of any program.
+use Rattle.std.proofs.Common.{◌≡◌, ◌≢◌, ◌⊎◌, ℕ, List, inl, inr, subst}
+use Rattle.std.specs.Prelude.{All, IsUtf8}
 use Rattle.def_script.specs.Bytes.{Bytes}
-use Rattle.ms_io.specs.Endings.{AnswersWith, WritesAnswerOf, call}
+use Rattle.ms_io.specs.Endings.{AnswersWith}
 use Rattle.ms_calls.specs.Words.{AreWords, HoldsOfAnswer}
 use Rattle.ms_calls.proofs.WordLemmas.{one_list}
 
@@ -18,14 +18,6 @@ pub holds_of_answer : {S : Type 0} (IsAnswer : AnswersWith S) → HaveOneAnswer 
 holds_of_answer IsAnswer one count bytes source words s p code IsSo are answer so others t q are_too other given =
     let same = one words source s t p q are.utf8 answer (subst (λ l. IsAnswer l source t q) (one_list count bytes others words are_too are) other) in
     subst (λ r. IsSo t r) same.1 (subst (λ u. IsSo u p) same.0 so)
-
--- a report that was written to an empty sink is that of the answer to what the source held
-pub answer_written : {S : Type 0} (IsAnswer : AnswersWith S) (words : List Bytes) (held source sunk report : Bytes) (s : S) (left : Option Bytes) (b n k m : ℕ)
-    → held ≡ source → sunk ≡ []
-    → WritesAnswerOf IsAnswer (call words (record { old = Some held; new = left; before = b; now = n }) (record { old = Some sunk; new = Some report; before = k; now = m }) s)
-    → IsAnswer words source s report
-answer_written IsAnswer words held source sunk report s left b n k m same none w =
-    subst (λ r. IsAnswer words source s r) (sym (w.2 ∙ ap (λ l. l ++ w.0) none)) (subst (λ h. IsAnswer words h s w.0) (sym w.1.1 ∙ same) w.1.2)
 
 -- a code that is neither of those without an answer
 pub other_code : (n : ℕ) → n ≢ 11 → n ≢ 7 → (n ≡ 11) ⊎ (n ≡ 7) → ⊥

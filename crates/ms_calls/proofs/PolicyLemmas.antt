@@ -7,7 +7,7 @@ use Rattle.def_policy.specs.Policy.{Policy}
 use Rattle.def_policy.specs.Keys.{AreLeastKeys}
 use Rattle.def_policy.specs.Print.{printed}
 use Rattle.def_policy.specs.LeastKeys.{least_keys}
-use Rattle.def_answer.specs.Report.{policy_of}
+use Rattle.def_answer.specs.Policy.{policy_of}
 use Rattle.def_policy.proofs.LeastKeys.{least_keys_are_least, one_least}
 use Rattle.ms_calls.specs.Demanded.{Demanded, number_of_keys, demanded}
 

@@ -14,11 +14,6 @@ use Rattle.ms_calls.specs.declared.stopping.Stop.TheVariants as stop
 use Rattle.ms_calls.specs.Reasons.{code_of_fault, code_of_reason}
 use Rattle.ms_calls.specs.TextReply.{TextReply, text_refused, text_given, unless_unfit}
 use Rattle.ms_calls.specs.Stops.{Finds, FindsOf, StopsReading, StopsFitting}
-use Rattle.ms_replies.specs.declared.fit.Demand.{Demand}
-use Rattle.ms_replies.specs.declared.fit.Demand.TheVariants as demand
-use Rattle.ms_replies.specs.declared.fit.Known.{Known}
-use Rattle.ms_replies.specs.declared.fit.Known.TheVariants as known
-use Rattle.ms_replies.specs.Fits.{reason_for, IsKnown}
 
 finds_of : {A : Type 0} (text : Bytes) (given : Reading → TextReply A) (result : Result A Stop) → IsUtf8 text
     → ((reading : Reading) → HasReading text reading → Finds (given reading) result) → (result ≡ Err stop.Unreadable → ⊥) → FindsOf text given result
@@ -66,12 +61,6 @@ pub finds_of_stop : {A : Type 0} (text : Bytes) (first_reason : Tree → Option 
 finds_of_stop text first_reason next s stops = finds_of_no_reading text (text_given first_reason next) s (λ fault. refl) stops
 
 -- ---- what is asked of a tree
-
-pub passed : (demand : Demand) (tree : Tree) (known : Known) → IsKnown demand tree known → reason_for demand tree ≡ None
-passed (demand.Valid rules) tree (known.Valid valid) h = h.0
-passed (demand.Valid rules) tree (known.Sane sane) h = absurd h
-passed (demand.Sane rules) tree (known.Valid valid) h = absurd h
-passed (demand.Sane rules) tree (known.Sane sane) h = h.0
 
 -- a tree that doesn't pass
 pub finds_of_misfit : {A : Type 0} (reason : Option Unfit) (offsets : List ℕ) (next : TextReply A) (s : Stop) → StopsFitting reason offsets s

@@ -12,7 +12,7 @@ use Rattle.def_files.specs.RunFile.{RunFile}
 use Rattle.def_audit.specs.declared.Step.{Step}
 use Rattle.ms_answer_laws.specs.Laws.{steps_found}
 use Rattle.def_answer.specs.Reading.{Reading, read, refused as not_read}
-use Rattle.ms_replies.specs.Choices.{outcome_for}
+use Rattle.ms_replies.specs.Runs.{outcome_for}
 use Rattle.ms_arrays.specs.ArrayRun.{RunArrays, run_of_arrays}
 use Rattle.ms_calls.specs.declared.outcome.RunOutcome.{RunOutcome}
 use Rattle.ms_calls.specs.declared.outcome.PlacedStep.{PlacedStep}

@@ -6,7 +6,7 @@ use Rattle.def_policy.specs.Print.{printed}
 use Rattle.def_sane.specs.Unfit.{first_unfit}
 use Rattle.def_policy.specs.LeastKeys.{least_keys}
 use Rattle.def_answer.specs.Reading.{Reading}
-use Rattle.def_answer.specs.Report.{policy_of}
+use Rattle.def_answer.specs.Policy.{policy_of}
 use Rattle.ms_calls.specs.TextReply.{TextReply, told, text_refused, file_refused, no_satisfaction, text_given}
 
 pub record Demanded : Type 0 where

@@ -1,6 +1,7 @@
 -- What the calls for other languages give.
 pub mod Buffers
 pub mod Words
+pub mod Lines
 pub mod Facts
 pub mod Reasons
 pub mod Items

@@ -8,7 +8,7 @@ use Rattle.def_machine.specs.Stacks.{Pairs}
 use Rattle.def_machine.specs.Run.{Outcome, accepted, refused}
 use Rattle.def_files.specs.declared.AssetFault.{AssetFault}
 use Rattle.def_files.specs.RunFile.{RunFile}
-use Rattle.ms_replies.specs.Choices.{outcome_of}
+use Rattle.ms_replies.specs.Runs.{outcome_of}
 use Rattle.ms_arrays.specs.ArrayRun.{RunArrays, run_of_arrays}
 use Rattle.ms_calls.specs.declared.outcome.RunOutcome.{RunOutcome}
 use Rattle.ms_calls.specs.Items.{Joined, joined}

@@ -15,7 +15,7 @@ use Rattle.def_plan.specs.declared.PlanFault.TheVariants as plan_fault
 use Rattle.ms_calls.specs.Reasons.{code_of_fault, code_of_reason, code_of_file, code_of_plan_file}
 use Rattle.def_files.specs.RunFile.{RunFile}
 use Rattle.ms_assets.specs.declared.run_file.RunFile.{RunFile as ReadFile}
-use Rattle.ms_replies.specs.Choices.{file_seen}
+use Rattle.ms_replies.specs.Runs.{file_seen}
 use Rattle.ms_calls.specs.TextReply.{TextReply, told, text_refused, file_refused, no_satisfaction, with_file}
 
 -- a step found what is given, unless memory was wanting

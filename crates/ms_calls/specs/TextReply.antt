@@ -13,10 +13,10 @@ use Rattle.def_sane.specs.Unfit.{first_unfit_under, first_unfit_valid_under}
 use Rattle.def_script.specs.Witness.{weight}
 use Rattle.def_choice.specs.Cheapest.{cheapest}
 use Rattle.def_answer.specs.Reading.{Reading, read, refused, HasReading}
-use Rattle.def_answer.specs.Reply.{MOST_FILE}
-use Rattle.ms_words.specs.declared.words.Choice.{Choice}
-use Rattle.ms_words.specs.declared.words.Choice.TheVariants as choice
-use Rattle.ms_replies.specs.Choices.{chosen_by, reason_by}
+use Rattle.def_answer.specs.Lines.{MOST_FILE}
+use Rattle.def_choice.specs.declared.choice.Choice.{Choice}
+use Rattle.def_choice.specs.declared.choice.Choice.TheVariants as choice
+use Rattle.def_answer.specs.Satisfy.{chosen_by, reason_by}
 use Rattle.ms_calls.specs.declared.reason.Reason.{Reason}
 use Rattle.ms_calls.specs.declared.facts.Facts.{Facts}
 use Rattle.ms_calls.specs.Buffers.{written_over}
@@ -82,9 +82,9 @@ rules_for true = Consensus
 rules_for false = Policy
 
 -- how a satisfaction is chosen: the strict one of a sane text, or the cheapest one of a valid text, which may be malleable
-abbrev pub choice_for : (malleable consensus : Bool) → Choice
-choice_for false consensus = choice.Strict (rules_for consensus)
-choice_for true consensus = choice.Cheapest (rules_for consensus)
+abbrev pub choice_for : (malleable : Bool) → Choice
+choice_for false = choice.Strict
+choice_for true = choice.Cheapest
 
 -- the reason against a tree, or else what comes next
 abbrev pub unless_unfit : {A : Type 0} → Option Unfit → (offsets : List ℕ) → TextReply A → TextReply A
@@ -141,22 +141,22 @@ chosen_given choice file tree =
     file_given (λ assets. where_one (option_map (witness_items tree) (choice tree assets))) file
 
 -- those of the satisfaction of a text
-abbrev pub witness_given : Choice → (file : Bytes) → Reading → TextReply Joined
-witness_given choice file = text_given (reason_by choice) (chosen_given (chosen_by choice) file)
+abbrev pub witness_given : Choice → Rules → (file : Bytes) → Reading → TextReply Joined
+witness_given choice rules file = text_given (reason_by choice rules) (chosen_given (chosen_by choice) file)
 
 -- those by assets in arrays, which may be refused as those of a file
 abbrev pub held_given : (choice : Tree → Assets → Option (List Bytes)) → (held : Result Assets AssetFault) → Tree → TextReply Joined
 held_given choice held tree = with_assets (λ assets. where_one (option_map (witness_items tree) (choice tree assets))) held
 
-abbrev pub satisfied_given : Choice → (held : Result Assets AssetFault) → Reading → TextReply Joined
-satisfied_given choice held = text_given (reason_by choice) (held_given (chosen_by choice) held)
+abbrev pub satisfied_given : Choice → Rules → (held : Result Assets AssetFault) → Reading → TextReply Joined
+satisfied_given choice rules held = text_given (reason_by choice rules) (held_given (chosen_by choice) held)
 
 -- by what a wallet holds, and by an asset file, as the two words say how to choose
 abbrev pub satisfied_by : (malleable consensus : Bool) → (held : Result Assets AssetFault) → Reading → TextReply Joined
-satisfied_by malleable consensus = satisfied_given (choice_for malleable consensus)
+satisfied_by malleable consensus = satisfied_given (choice_for malleable) (rules_for consensus)
 
 abbrev pub witness_by : (malleable consensus : Bool) → (file : Bytes) → Reading → TextReply Joined
-witness_by malleable consensus = witness_given (choice_for malleable consensus)
+witness_by malleable consensus = witness_given (choice_for malleable) (rules_for consensus)
 
 -- their bytes and their lengths
 abbrev pub bytes_given : TextReply Joined → TextReply Bytes

@@ -1,16 +1,14 @@
 //! The program's top call over buffers.
-ghost use Rattle.std.specs.Prelude.{◌≡◌, ◌⊎◌, length, IfOk};
-ghost use Rattle.def_answer.specs.Answer.{Answer};
+ghost use Rattle.std.specs.Prelude.{◌≡◌, ◌⊎◌, length};
 ghost use Rattle.def_answer.specs.Status.{code_of};
+ghost use Rattle.msat_lines.specs.Frame.{OtherAnswer};
 ghost use Rattle.ms_calls.specs.Buffers.{written_over};
+ghost use Rattle.ms_calls.specs.Lines.{HoldsOfLines};
 ghost use Rattle.ms_calls.specs.Words.{HoldsOfAnswer, AreNoWords};
 
 use crate::copying::write_over;
-use crate::memory::ByteSink;
 use crate::words::{NoWords, read_words};
-use def_answer::Status;
-use ms_io::ByteSource;
-use msat_cli::{Word, msat};
+use msat_lines::answer_whole;
 use std::alloc::{AllocError, Global};
 
 /// The code where memory is wanting, as the program's own.
@@ -18,15 +16,6 @@ pub const NO_MEMORY: u32 = 7;
 
 /// The code where words or a text can't be read, as the program's own.
 pub const UNREADABLE: u32 = 11;
-
-/// A status, and the whole report that goes with it.
-#[derive(Drop)]
-pub struct Outcome {
-    /// The status.
-    pub status: Status,
-    /// The report's bytes.
-    pub report: Vec<u8>,
-}
 
 /// Answers the words of a command line, as the program does where its standard input holds `source`.
 ///
@@ -43,9 +32,11 @@ pub fn answer(
     needed: &mut usize,
 ) -> u32
     // The answer is that of the words and the source.
-    ensures status { HoldsOfAnswer Answer count words.now source.now result (λ s r. result ≡ code_of s) }
-    ensures written { HoldsOfAnswer Answer count words.now source.now result (λ s r. report.new ≡ written_over report.old r) }
-    ensures needed { HoldsOfAnswer Answer count words.now source.now result (λ s r. needed.new ≡ length r) }
+    ensures status { HoldsOfAnswer OtherAnswer count words.now source.now result (λ s r. result ≡ code_of s) }
+    ensures written { HoldsOfAnswer OtherAnswer count words.now source.now result (λ s r. report.new ≡ written_over report.old r) }
+    ensures needed { HoldsOfAnswer OtherAnswer count words.now source.now result (λ s r. needed.new ≡ length r) }
+    // Of the one word `lines` it is the answers to the lines of the source, as one report.
+    ensures lines { HoldsOfLines count words.now source.now result report.old report.new needed.new }
     // Where there are no words there is no answer.
     ensures unreadable { AreNoWords count words.now → (result ≡ 11) ⊎ (result ≡ 7) }
     ensures kept { (result ≡ 11) ⊎ (result ≡ 7) → report.new ≡ report.old }
@@ -56,28 +47,12 @@ pub fn answer(
         Err(NoWords::Unreadable) => return UNREADABLE,
         Err(NoWords::Memory) => return NO_MEMORY,
     };
-    match answer_words(alloc, &words, source) {
-        Ok(outcome) => {
-            *needed = outcome.report.len();
-            let _count = write_over(&outcome.report, report);
-            outcome.status.code() as u32
+    match answer_whole(alloc, &words, source) {
+        Ok(replied) => {
+            *needed = replied.report.len();
+            let _count = write_over(&replied.report, report);
+            replied.status.code() as u32
         }
         Err(AllocError) => NO_MEMORY,
-    }
-}
-
-/// The status and the whole report of the words and the source.
-fn answer_words(alloc: Global, words: &[Word], source: &[u8]) -> Result<Outcome, AllocError>
-    ensures { IfOk result (λ outcome. Answer words.now source.now outcome.status outcome.report.items) }
-{
-    let mut source = ByteSource::new(source);
-    let mut sink = ByteSink::new(alloc);
-    let status = msat(alloc, words, &mut source, &mut sink);
-    match status {
-        Status::Memory | Status::ReadFault | Status::WriteFault => Err(AllocError),
-        _ => Ok(Outcome {
-            status,
-            report: sink.bytes,
-        }),
     }
 }

@@ -9,7 +9,7 @@ ghost use Rattle.def_audit.specs.declared.Step.{Step as TheStep};
 ghost use Rattle.def_files.specs.RunFile.{MOST_ELEMENTS};
 ghost use Rattle.def_machine.specs.Run.{accepted};
 ghost use Rattle.ms_tree.specs.Shape.{shape};
-ghost use Rattle.ms_replies.specs.Choices.{file_seen};
+ghost use Rattle.ms_replies.specs.Runs.{file_seen};
 ghost use Rattle.ms_arrays.specs.ArrayRun.{run_of_arrays};
 ghost use Rattle.ms_calls.specs.Audited.{placed, audited as the_audited, stack_audited, audited_file, audited_given, not_accepted as the_not_accepted};
 ghost use Rattle.ms_calls.specs.Audited.{audit_given, audit_by, audit_code, audited_outcome, audited_steps, canonical_after};
@@ -21,7 +21,7 @@ use crate::outcome::{PlacedStep, RunOutcome};
 use crate::reason::Reason;
 use crate::running::run_in;
 use crate::stopping::Stop;
-use crate::texts::{fit, read};
+use crate::texts::{read, valid_of};
 use bumpalo::Bump;
 use def_audit::Step;
 use ms_arrays::RunArrays;
@@ -29,7 +29,6 @@ use ms_assets::RunFile;
 use ms_audit::{Audit, AuditStop};
 use ms_emit::script_bytes;
 use ms_oracle::{Locks, PairIndex, SigCheck};
-use ms_replies::Demand;
 use ms_sane::Rules;
 use ms_text::TextTree;
 use std::alloc::{AllocError, Global};
@@ -127,7 +126,7 @@ fn audited_of_text(
     requires { IsInRange (shape text.now.tree) }
     ensures { Finds (audit_by locks arrays.now (the_read (shape text.now.tree) text.now.offsets.items)) result }
 {
-    let _passing = fit(alloc, text, Demand::Valid(Rules::Policy))?;
+    let _valid = valid_of(alloc, text, Rules::Policy)?;
     audited_of_tree(alloc, text, locks, arrays)
 }
 

@@ -2,7 +2,7 @@
 ghost use Rattle.std.specs.Prelude.{◌≡◌};
 ghost use Rattle.ms_calls.specs.Facts.{facts_by, code_of_base as the_code_of_base};
 
-use ms_sane::Sane;
+use ms_sane::SaneTree;
 use ms_types::Base;
 
 /// The limits, the height and the type of a sane text.
@@ -41,10 +41,10 @@ pub struct Facts {
 
 impl Facts {
     /// Of what is known of a sane tree, and its height. Takes no memory.
-    pub fn new(sane: &Sane, height: u64) -> Facts
-        ensures { result ≡ facts_by sane.now.ty sane.now.mall sane.now.limits height }
+    pub fn new(sane: &SaneTree<'_>, height: u64) -> Facts
+        ensures { result ≡ facts_by sane.now.valid.ty sane.now.mall sane.now.valid.limits height }
     {
-        let Sane { ty, mall, limits } = *sane;
+        let (ty, mall, limits) = (sane.valid.ty, sane.mall, sane.valid.limits);
         Facts {
             size: limits.size,
             ops: limits.ops,

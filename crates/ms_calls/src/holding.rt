@@ -1,27 +1,25 @@
 //! The satisfaction of a text by what a wallet holds in arrays, without an asset file.
-ghost use Rattle.std.specs.Prelude.{◌≡◌, ◌⊎◌, ◌↔◌, ◌*◌, ◌≤◌, None, vec_len, IsUtf8};
+ghost use Rattle.std.specs.Prelude.{◌≡◌, ◌⊎◌, ◌↔◌, IsUtf8};
 ghost use Rattle.def_tree.specs.Range.{IsInRange};
-ghost use Rattle.def_tree.specs.Size.{measure};
 ghost use Rattle.def_answer.specs.Reading.{read as the_read};
 ghost use Rattle.ms_tree.specs.Shape.{shape};
-ghost use Rattle.ms_replies.specs.Choices.{chosen_by, reason_by};
+ghost use Rattle.ms_replies.specs.ChoiceTrees.{tree_in, chosen_in};
 ghost use Rattle.ms_calls.specs.TextReply.{HoldsOfReply, told, with_assets, held_given, satisfied_given, satisfied_by};
 ghost use Rattle.ms_calls.specs.TextReply.{code_given, reason_after, bytes_after, bytes_needed_after, lengths_after, items_count_after};
 ghost use Rattle.ms_calls.specs.Stops.{Finds, FindsOf};
 
 use crate::items::Items;
 use crate::reason::Reason;
-use crate::satisfying::{choice_for, file_refusal, items_of};
+use crate::satisfying::{choice_for, file_refusal, satisfaction_items};
 use crate::stopping::{DONE, Stop};
-use crate::texts::{fit, read};
+use crate::texts::{choice_of, read, rules_for};
 use bumpalo::Bump;
+use def_choice::Choice;
 use ms_arrays::Arrays;
 use ms_assets::Assets;
-use ms_replies::{demand_of, satisfaction};
-use ms_sane::Work;
+use ms_replies::ChoiceTree;
+use ms_sane::Rules;
 use ms_text::TextTree;
-use ms_tree::Tree;
-use ms_words::{Choice, TextCommand};
 use std::alloc::Global;
 
 /// The items of the witness of a satisfaction of a text, as `witness` gives them, by what is held in arrays. A key may stand there
@@ -55,7 +53,13 @@ pub fn satisfy(
     ensures kept_count { (result ≡ 11) ⊎ (result ≡ 7) → count.new ≡ count.old }
     ensures kept_reason { (result ≡ 11) ⊎ (result ≡ 7) → reason.new ≡ reason.old }
 {
-    match satisfied_in(alloc, choice_for(malleable, consensus), text, arrays) {
+    match satisfied_in(
+        alloc,
+        choice_for(malleable),
+        rules_for(consensus),
+        text,
+        arrays,
+    ) {
         Ok(items) => {
             items.write(bytes, needed, lengths, count);
             DONE
@@ -68,14 +72,15 @@ pub fn satisfy(
 fn satisfied_in(
     alloc: Global,
     choice: Choice,
+    rules: Rules,
     text: &[u8],
     arrays: &Arrays<'_>,
 ) -> Result<Items, Stop>
-    ensures { FindsOf text.now (satisfied_given choice arrays.now) result }
+    ensures { FindsOf text.now (satisfied_given choice rules arrays.now) result }
 {
     let arena = Bump::new(alloc);
     match read(alloc, &arena, text) {
-        Ok(text) => satisfied_of_text(alloc, choice, &text, arrays),
+        Ok(text) => satisfied_of_text(alloc, choice, rules, &text, arrays),
         Err(stop) => Err(stop),
     }
 }
@@ -84,35 +89,27 @@ fn satisfied_in(
 fn satisfied_of_text(
     alloc: Global,
     choice: Choice,
+    rules: Rules,
     text: &TextTree<'_>,
     arrays: &Arrays<'_>,
 ) -> Result<Items, Stop>
     requires { IsInRange (shape text.now.tree) }
-    ensures { Finds (satisfied_given choice arrays.now (the_read (shape text.now.tree) text.now.offsets.items)) result }
+    ensures { Finds (satisfied_given choice rules arrays.now (the_read (shape text.now.tree) text.now.offsets.items)) result }
 {
-    let mut passing = fit(alloc, text, demand_of(TextCommand::Satisfy(choice)))?;
-    satisfied_of_tree(alloc, choice, text.tree(), arrays, &mut passing.work)
+    let mut tree = choice_of(alloc, text, choice, rules)?;
+    satisfied_of_tree(alloc, &mut tree, arrays)
 }
 
-/// The items of the witness of the satisfaction that is chosen of a tree against which there is no reason.
+/// The items of the witness of the satisfaction that is chosen of a tree.
 fn satisfied_of_tree(
     alloc: Global,
-    choice: Choice,
-    tree: &Tree<'_>,
+    tree: &mut ChoiceTree<'_>,
     arrays: &Arrays<'_>,
-    work: &mut Work,
 ) -> Result<Items, Stop>
-    requires in_range { IsInRange (shape tree.now) }
-    requires room { 4 * measure (shape tree.now) ≤ vec_len work.old.slots }
-    requires fit { reason_by choice (shape tree.now) ≡ None }
-    ensures { Finds (held_given (chosen_by choice) arrays.now (shape tree.now)) result }
+    ensures { Finds (held_given (chosen_in tree.old) arrays.now (tree_in tree.old)) result }
 {
     match held_in(alloc, arrays) {
-        Ok(assets) => items_of(
-            alloc,
-            tree,
-            satisfaction(alloc, choice, tree, &assets, work),
-        ),
+        Ok(assets) => satisfaction_items(alloc, tree, &assets),
         Err(stop) => Err(stop),
     }
 }

@@ -12,14 +12,13 @@ ghost use Rattle.ms_calls.specs.TextReply.{HoldsOfReply, code_given, reason_afte
 use crate::copying::write_over;
 use crate::reason::{Reason, code_of_plan_file};
 use crate::stopping::{DONE, Stop};
-use crate::texts::{fit, read};
+use crate::texts::{read, sane_of};
 use bumpalo::Bump;
 use ms_arrays::PlanArrays;
 use ms_plan::{Estimate, Plan, PlanFault, PlanFile, length_in};
-use ms_replies::Demand;
-use ms_sane::Rules;
+use ms_sane::{Rules, SaneTree};
 use ms_text::TextTree;
-use ms_tree::{Key, Tree};
+use ms_tree::Key;
 use std::alloc::{AllocError, Global};
 use std::marker::Model;
 
@@ -94,33 +93,31 @@ fn asked_of_text(alloc: Global, text: &TextTree<'_>, arrays: &PlanArrays<'_>) ->
     requires { IsInRange (shape text.now.tree) }
     ensures { Finds (plan_given arrays.now (the_read (shape text.now.tree) text.now.offsets.items)) result }
 {
-    let _passing = fit(alloc, text, Demand::Sane(Rules::Policy))?;
-    asked_of_tree(alloc, text.tree(), arrays)
+    let sane = sane_of(alloc, text, Rules::Policy)?;
+    asked_of_tree(alloc, &sane, arrays)
 }
 
 /// The plan of a sane tree.
-fn asked_of_tree(alloc: Global, tree: &Tree<'_>, arrays: &PlanArrays<'_>) -> Result<Asked, Stop>
-    requires range { IsInRange (shape tree.now) }
-    requires sane { IsSane (shape tree.now) }
-    ensures { Finds (asked_given arrays.now (shape tree.now)) result }
+fn asked_of_tree(alloc: Global, sane: &SaneTree<'_>, arrays: &PlanArrays<'_>) -> Result<Asked, Stop>
+    requires { IsSane (shape sane.now.valid.tree) }
+    ensures { Finds (asked_given arrays.now (shape sane.now.valid.tree)) result }
 {
     match arrays.plan_file(alloc) {
-        Ok(file) => asked_of_file(alloc, tree, &file),
+        Ok(file) => asked_of_file(alloc, sane, &file),
         Err(fault) => Err(plan_file_refusal(fault)),
     }
 }
 
 /// The plan of a sane tree by what arrays give.
-fn asked_of_file(alloc: Global, tree: &Tree<'_>, file: &PlanFile) -> Result<Asked, Stop>
-    requires range { IsInRange (shape tree.now) }
-    requires sane { IsSane (shape tree.now) }
+fn asked_of_file(alloc: Global, sane: &SaneTree<'_>, file: &PlanFile) -> Result<Asked, Stop>
+    requires sane { IsSane (shape sane.now.valid.tree) }
     requires unsigned { file.now.assets.pairs ≡ [] }
     requires lengths { AreLengths file.now.table }
-    ensures { Finds (asked_by_file (shape tree.now) file.now) result }
+    ensures { Finds (asked_by_file (shape sane.now.valid.tree) file.now) result }
 {
     let table = file.table.as_slice();
     let estimate = Estimate::new(table, |key: &Key| length_in(table, key));
-    match ms_plan::plan(alloc, tree, &file.assets, &estimate) {
+    match ms_plan::plan(alloc, &sane.valid.tree, &file.assets, &estimate) {
         Ok(Some(plan)) => asked_of_plan(alloc, &plan),
         Ok(None) => Err(Stop::NoSatisfaction),
         Err(AllocError) => Err(Stop::Memory),

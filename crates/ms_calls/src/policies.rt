@@ -10,13 +10,11 @@ ghost use Rattle.ms_calls.specs.TextReply.{HoldsOfReply, told, code_given, reaso
 use crate::copying::write_over;
 use crate::reason::Reason;
 use crate::stopping::{DONE, Stop};
-use crate::texts::{fit, read};
+use crate::texts::{read, sane_of};
 use bumpalo::Bump;
 use ms_policy::{least_keys, policy_of, print_policy};
-use ms_replies::Demand;
-use ms_sane::Rules;
+use ms_sane::{Rules, SaneTree};
 use ms_text::TextTree;
-use ms_tree::Tree;
 use std::alloc::{AllocError, Global};
 use std::marker::Model;
 
@@ -89,20 +87,19 @@ fn policy_of_text(alloc: Global, text: &TextTree<'_>) -> Result<Demanded, Stop>
     requires { IsInRange (shape text.now.tree) }
     ensures { Finds (unless_unfit (first_unfit (shape text.now.tree)) text.now.offsets.items (told (the_demanded (shape text.now.tree)))) result }
 {
-    let _passing = fit(alloc, text, Demand::Sane(Rules::Policy))?;
-    match demand_of(alloc, text.tree()) {
+    let sane = sane_of(alloc, text, Rules::Policy)?;
+    match demand_of(alloc, &sane) {
         Ok(found) => Ok(found),
         Err(AllocError) => Err(Stop::Memory),
     }
 }
 
-/// What a sane tree demands. Refuses for want of memory alone.
-fn demand_of(alloc: Global, tree: &Tree<'_>) -> Result<Demanded, AllocError>
-    requires range { IsInRange (shape tree.now) }
-    requires sane { IsSane (shape tree.now) }
-    ensures { IfOk result (λ found. found ≡ the_demanded (shape tree.now)) }
+/// What a tree demands that is sane by policy. Refuses for want of memory alone.
+fn demand_of(alloc: Global, sane: &SaneTree<'_>) -> Result<Demanded, AllocError>
+    requires { IsSane (shape sane.now.valid.tree) }
+    ensures { IfOk result (λ found. found ≡ the_demanded (shape sane.now.valid.tree)) }
 {
-    let policy = policy_of(alloc, tree)?;
+    let policy = policy_of(alloc, &sane.valid.tree)?;
     let least = least_keys(alloc, &policy)?;
     let text = print_policy(alloc, &policy)?.into_bytes();
     Ok(Demanded {

@@ -10,7 +10,7 @@ use crate::answering::NO_MEMORY;
 use crate::copying::write_over;
 use crate::stopping::DONE;
 use bumpalo::Bump;
-use ms_text::copy_out;
+use ms_print::copy_out;
 use ms_tree::Key;
 use std::alloc::{AllocError, Global};
 
@@ -61,7 +61,7 @@ fn decoded(alloc: Global, script: &[u8], keys: &[Key]) -> Result<Option<Vec<u8>>
 {
     let arena = Bump::new(alloc);
     match ms_decode::decode(alloc, &arena, script, keys) {
-        Ok(Some(tree)) => match copy_out(alloc, &tree) {
+        Ok(Some(valid)) => match copy_out(alloc, &valid.tree) {
             Ok(text) => Ok(Some(text)),
             Err(AllocError) => Err(AllocError),
         },

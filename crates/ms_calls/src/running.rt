@@ -2,7 +2,7 @@
 ghost use Rattle.std.specs.Prelude.{◌≡◌, ◌≤◌, length, IfOk};
 ghost use Rattle.def_files.specs.RunFile.{MOST_ELEMENTS};
 ghost use Rattle.def_machine.specs.Run.{accepted};
-ghost use Rattle.ms_replies.specs.Choices.{file_seen, outcome_of};
+ghost use Rattle.ms_replies.specs.Runs.{file_seen, outcome_of};
 ghost use Rattle.ms_arrays.specs.ArrayRun.{run_of_arrays};
 ghost use Rattle.ms_calls.specs.Ran.{ran as the_ran, ran_given, ran_by, HoldsOfRun, run_code, ran_outcome, ran_checks};
 ghost use Rattle.ms_calls.specs.Stops.{Finds, FindsRun};

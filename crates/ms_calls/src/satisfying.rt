@@ -1,12 +1,9 @@
 //! Satisfactions of a text by an asset file: the least weight of one, and the items of the witness of the one that is chosen.
-ghost use Rattle.std.specs.Prelude.{◌≡◌, ◌⊎◌, ◌↔◌, ◌*◌, ◌≤◌, None, vec_len, IsUtf8, MatchResult, IfOk, option_map};
+ghost use Rattle.std.specs.Prelude.{◌≡◌, ◌⊎◌, ◌↔◌, IsUtf8, MatchResult, IfOk, option_map};
 ghost use Rattle.def_answer.specs.Reading.{read as the_read};
 ghost use Rattle.def_tree.specs.Range.{IsInRange};
-ghost use Rattle.def_tree.specs.Size.{measure};
-ghost use Rattle.def_sane.specs.declared.Rules.TheVariants.{Consensus};
-ghost use Rattle.def_sane.specs.Unfit.{IsValidUnder};
 ghost use Rattle.ms_tree.specs.Shape.{shape};
-ghost use Rattle.ms_replies.specs.Choices.{chosen_by, reason_by};
+ghost use Rattle.ms_replies.specs.ChoiceTrees.{tree_in, chosen_in};
 ghost use Rattle.ms_calls.specs.TextReply.{HoldsOfReply, told, rules_for as the_rules_for, choice_for as the_choice_for, file_given, where_one};
 ghost use Rattle.ms_calls.specs.TextReply.{weight_given, witness_given, witness_by, least_weight_given, witness_items, chosen_given};
 ghost use Rattle.ms_calls.specs.TextReply.{code_given, reason_after, value_after, bytes_after, bytes_needed_after, lengths_after, items_count_after};
@@ -15,17 +12,17 @@ ghost use Rattle.ms_calls.specs.Stops.{Finds, FindsOf, file_refusal as the_file_
 use crate::items::Items;
 use crate::reason::{Reason, code_of_file};
 use crate::stopping::{DONE, Stop};
-use crate::texts::{fit, read, rules_for};
+use crate::texts::{choice_of, read, rules_for, valid_of};
 use bumpalo::Bump;
+use def_choice::Choice;
 use ms_assets::{AssetFault, Assets, read_assets};
 use ms_emit::script_bytes;
-use ms_replies::{Demand, demand_of, satisfaction};
-use ms_sane::{Rules, Work};
+use ms_replies::{ChoiceTree, satisfaction};
+use ms_sane::{Rules, ValidTree};
 use ms_sat::costs;
 use ms_script::Stack;
 use ms_text::TextTree;
 use ms_tree::Tree;
-use ms_words::{Choice, TextCommand};
 use msat_cli::MOST_FILE;
 use std::alloc::{AllocError, Global};
 
@@ -92,7 +89,13 @@ pub fn witness(
     ensures kept_count { (result ≡ 11) ⊎ (result ≡ 7) → count.new ≡ count.old }
     ensures kept_reason { (result ≡ 11) ⊎ (result ≡ 7) → reason.new ≡ reason.old }
 {
-    match witness_in(alloc, choice_for(malleable, consensus), text, file) {
+    match witness_in(
+        alloc,
+        choice_for(malleable),
+        rules_for(consensus),
+        text,
+        file,
+    ) {
         Ok(items) => {
             items.write(bytes, needed, lengths, count);
             DONE
@@ -122,22 +125,19 @@ fn weight_of_text(
     requires { IsInRange (shape text.now.tree) }
     ensures { Finds (weight_given rules file.now (the_read (shape text.now.tree) text.now.offsets.items)) result }
 {
-    let mut passing = fit(alloc, text, Demand::Valid(rules))?;
-    weight_of_tree(alloc, text.tree(), file, &mut passing.work)
+    let mut valid = valid_of(alloc, text, rules)?;
+    weight_of_tree(alloc, &mut valid, file)
 }
 
 /// The least weight of a canonical satisfaction of a valid tree.
-fn weight_of_tree(alloc: Global, tree: &Tree<'_>, file: &[u8], work: &mut Work) -> Result<u64, Stop>
-    requires in_range { IsInRange (shape tree.now) }
-    requires valid { IsValidUnder Consensus (shape tree.now) }
-    requires room { 4 * measure (shape tree.now) ≤ vec_len work.old.slots }
-    ensures { Finds (least_weight_given file.now (shape tree.now)) result }
+fn weight_of_tree(alloc: Global, valid: &mut ValidTree<'_>, file: &[u8]) -> Result<u64, Stop>
+    ensures { Finds (least_weight_given file.now (shape valid.old.tree)) result }
 {
     let assets = match assets_in(alloc, file) {
         Ok(assets) => assets,
         Err(stop) => return Err(stop),
     };
-    match costs(tree, &assets, work).sat {
+    match costs(valid, &assets).sat {
         Some(weight) => Ok(weight),
         None => Err(Stop::NoSatisfaction),
     }
@@ -174,24 +174,30 @@ pub fn file_refusal(fault: AssetFault) -> Stop
     }
 }
 
-/// How the satisfaction is chosen, and by which rules.
-pub fn choice_for(malleable: bool, consensus: bool) -> Choice
-    ensures { result ≡ the_choice_for malleable consensus }
+/// Which satisfaction is chosen.
+pub fn choice_for(malleable: bool) -> Choice
+    ensures { result ≡ the_choice_for malleable }
 {
     if malleable {
-        Choice::Cheapest(rules_for(consensus))
+        Choice::Cheapest
     } else {
-        Choice::Strict(rules_for(consensus))
+        Choice::Strict
     }
 }
 
 /// The items of the witness of the satisfaction that is chosen of a text.
-fn witness_in(alloc: Global, choice: Choice, text: &[u8], file: &[u8]) -> Result<Items, Stop>
-    ensures { FindsOf text.now (witness_given choice file.now) result }
+fn witness_in(
+    alloc: Global,
+    choice: Choice,
+    rules: Rules,
+    text: &[u8],
+    file: &[u8],
+) -> Result<Items, Stop>
+    ensures { FindsOf text.now (witness_given choice rules file.now) result }
 {
     let arena = Bump::new(alloc);
     match read(alloc, &arena, text) {
-        Ok(text) => witness_of_text(alloc, choice, &text, file),
+        Ok(text) => witness_of_text(alloc, choice, rules, &text, file),
         Err(stop) => Err(stop),
     }
 }
@@ -200,41 +206,41 @@ fn witness_in(alloc: Global, choice: Choice, text: &[u8], file: &[u8]) -> Result
 fn witness_of_text(
     alloc: Global,
     choice: Choice,
+    rules: Rules,
     text: &TextTree<'_>,
     file: &[u8],
 ) -> Result<Items, Stop>
     requires { IsInRange (shape text.now.tree) }
-    ensures { Finds (witness_given choice file.now (the_read (shape text.now.tree) text.now.offsets.items)) result }
+    ensures { Finds (witness_given choice rules file.now (the_read (shape text.now.tree) text.now.offsets.items)) result }
 {
-    let mut passing = fit(alloc, text, demand_of(TextCommand::Satisfy(choice)))?;
-    witness_of_tree(alloc, choice, text.tree(), file, &mut passing.work)
+    let mut tree = choice_of(alloc, text, choice, rules)?;
+    witness_of_tree(alloc, &mut tree, file)
 }
 
-/// The items of the witness of the satisfaction that is chosen of a tree against which there is no reason.
-fn witness_of_tree(
-    alloc: Global,
-    choice: Choice,
-    tree: &Tree<'_>,
-    file: &[u8],
-    work: &mut Work,
-) -> Result<Items, Stop>
-    requires in_range { IsInRange (shape tree.now) }
-    requires room { 4 * measure (shape tree.now) ≤ vec_len work.old.slots }
-    requires fit { reason_by choice (shape tree.now) ≡ None }
-    ensures { Finds (chosen_given (chosen_by choice) file.now (shape tree.now)) result }
+/// The items of the witness of the satisfaction that is chosen of a tree.
+fn witness_of_tree(alloc: Global, tree: &mut ChoiceTree<'_>, file: &[u8]) -> Result<Items, Stop>
+    ensures { Finds (chosen_given (chosen_in tree.old) file.now (tree_in tree.old)) result }
 {
     match assets_in(alloc, file) {
-        Ok(assets) => items_of(
-            alloc,
-            tree,
-            satisfaction(alloc, choice, tree, &assets, work),
-        ),
+        Ok(assets) => satisfaction_items(alloc, tree, &assets),
         Err(stop) => Err(stop),
     }
 }
 
+/// The items of the witness of the satisfaction that is chosen of a tree by these assets.
+pub fn satisfaction_items(
+    alloc: Global,
+    tree: &mut ChoiceTree<'_>,
+    assets: &Assets,
+) -> Result<Items, Stop>
+    ensures { Finds (where_one (option_map (witness_items (tree_in tree.old)) (chosen_in tree.old (tree_in tree.old) assets.now))) result }
+{
+    let found = satisfaction(alloc, tree, assets);
+    items_of(alloc, &tree.tree(), found)
+}
+
 /// The items of the witness of a satisfaction, where one was found.
-pub fn items_of(
+fn items_of(
     alloc: Global,
     tree: &Tree<'_>,
     found: Result<Option<Stack>, AllocError>,

@@ -1,12 +1,15 @@
 //! The Script of a text, and what is known of it.
-ghost use Rattle.std.specs.Prelude.{◌≡◌, ◌⊎◌, ◌↔◌, ◌*◌, ◌≤◌, None, vec_len, IsUtf8, IfOk, IfErr, MatchResult, Ok, Err};
+ghost use Rattle.std.specs.Prelude.{◌≡◌, ◌⊎◌, ◌↔◌, Option, None, IsUtf8, IfOk, IfErr, MatchResult, Ok, Err};
 ghost use Rattle.def_tree.specs.Range.{IsInRange};
-ghost use Rattle.def_tree.specs.Size.{measure};
+ghost use Rattle.def_tree.specs.Tree.{Tree};
 ghost use Rattle.def_text.specs.Refusal.{TextReads};
 ghost use Rattle.def_emit.specs.Emit.{script_of};
-ghost use Rattle.def_sane.specs.Unfit.{first_unfit_under, first_unfit_valid_under};
+ghost use Rattle.def_sane.specs.declared.Unfit.{Unfit as TheUnfit};
+ghost use Rattle.def_sane.specs.Unfit.{first_unfit_under, first_unfit_valid_under, IsValidUnder, IsSaneUnder};
 ghost use Rattle.ms_tree.specs.Shape.{shape};
-ghost use Rattle.ms_replies.specs.Fits.{reason_for, IsKnown};
+ghost use Rattle.ms_sane.specs.Misfits.{IsMisfit};
+ghost use Rattle.def_answer.specs.Satisfy.{chosen_by, reason_by};
+ghost use Rattle.ms_replies.specs.ChoiceTrees.{tree_in, chosen_in};
 ghost use Rattle.ms_calls.specs.Facts.{facts_of};
 ghost use Rattle.ms_calls.specs.TextReply.{HoldsOfReply, told, rules_for as the_rules_for, unless_unfit, script_given, facts_given};
 ghost use Rattle.ms_calls.specs.TextReply.{code_given, reason_after, value_after, buffer_after, needed_after};
@@ -17,10 +20,11 @@ use crate::facts::Facts;
 use crate::reason::{Reason, code_of_fault, code_of_reason};
 use crate::stopping::{DONE, Stop};
 use bumpalo::Bump;
+use def_choice::Choice;
 use ms_emit::script_bytes;
 use ms_height::height;
-use ms_replies::{Demand, Fit, Misfit, fit_tree};
-use ms_sane::{Rules, Work, check_sane_under};
+use ms_replies::ChoiceTree;
+use ms_sane::{Misfit, Rules, SaneTree, ValidTree};
 use ms_script::Blob;
 use ms_text::{TextFault, TextTree, read_text};
 use std::alloc::{AllocError, Global};
@@ -111,8 +115,8 @@ fn script_of_text(alloc: Global, rules: Rules, text: &TextTree<'_>) -> Result<Bl
     requires { IsInRange (shape text.now.tree) }
     ensures { Finds (unless_unfit (first_unfit_valid_under rules (shape text.now.tree)) text.now.offsets.items (told (script_of (shape text.now.tree)))) result }
 {
-    let _passing = fit(alloc, text, Demand::Valid(rules))?;
-    or_memory(script_bytes(alloc, text.tree()))
+    let valid = valid_of(alloc, text, rules)?;
+    or_memory(script_bytes(alloc, &valid.tree))
 }
 
 /// Bytes that take memory alone.
@@ -141,28 +145,66 @@ fn facts_of_text(alloc: Global, rules: Rules, text: &TextTree<'_>) -> Result<Fac
     requires { IsInRange (shape text.now.tree) }
     ensures { Finds (unless_unfit (first_unfit_under rules (shape text.now.tree)) text.now.offsets.items (told (facts_of (shape text.now.tree)))) result }
 {
-    let tree = text.tree();
-    let Ok(mut work) = Work::new(alloc, tree) else {
-        return Err(Stop::Memory);
-    };
-    match check_sane_under(tree, rules, &mut work) {
-        Ok(sane) => Ok(Facts::new(&sane, height(tree, &mut work))),
-        Err(unfit) => Err(Stop::TextRefused(code_of_reason(text, unfit))),
+    let mut sane = sane_of(alloc, text, rules)?;
+    let valid = &mut sane.valid;
+    let tree = valid.tree;
+    let height = height(&tree, &mut valid.work);
+    Ok(Facts::new(&sane, height))
+}
+
+/// The tree of a text as a valid one, or the stop for the first reason against it.
+pub fn valid_of<'a>(alloc: Global, text: &TextTree<'a>, rules: Rules) -> Result<ValidTree<'a>, Stop>
+    requires { IsInRange (shape text.now.tree) }
+    ensures tree { IfOk result (λ valid. valid.tree ≡ text.now.tree) }
+    ensures valid { IfOk result (λ valid. IsValidUnder rules (shape text.now.tree)) }
+    ensures stop { IfErr result (StopsFitting (first_unfit_valid_under rules (shape text.now.tree)) text.now.offsets.items) }
+{
+    match ValidTree::new(alloc, text.tree, rules) {
+        Ok(valid) => Ok(valid),
+        Err(misfit) => Err(misfit_stop(text, misfit)),
     }
 }
 
-/// What is known of the tree of a text that passes what is asked of it, or the stop for the first reason against it.
-pub fn fit(alloc: Global, text: &TextTree<'_>, demand: Demand) -> Result<Fit, Stop>
+/// The tree of a text as a sane one, or the stop for the first reason against it.
+pub fn sane_of<'a>(alloc: Global, text: &TextTree<'a>, rules: Rules) -> Result<SaneTree<'a>, Stop>
     requires { IsInRange (shape text.now.tree) }
-    ensures known { IfOk result (λ fit. IsKnown demand (shape text.now.tree) fit.known) }
-    ensures passed { IfOk result (λ fit. reason_for demand (shape text.now.tree) ≡ None) }
-    ensures room { IfOk result (λ fit. 4 * measure (shape text.now.tree) ≤ vec_len fit.work.slots) }
-    ensures stop { IfErr result (StopsFitting (reason_for demand (shape text.now.tree)) text.now.offsets.items) }
+    ensures tree { IfOk result (λ sane. sane.valid.tree ≡ text.now.tree) }
+    ensures sane { IfOk result (λ sane. IsSaneUnder rules (shape text.now.tree)) }
+    ensures stop { IfErr result (StopsFitting (first_unfit_under rules (shape text.now.tree)) text.now.offsets.items) }
 {
-    match fit_tree(alloc, text.tree(), demand) {
-        Ok(fit) => Ok(fit),
-        Err(Misfit::Unfit(unfit)) => Err(Stop::TextRefused(code_of_reason(text, unfit))),
-        Err(Misfit::Memory) => Err(Stop::Memory),
+    match SaneTree::new(alloc, text.tree, rules) {
+        Ok(sane) => Ok(sane),
+        Err(misfit) => Err(misfit_stop(text, misfit)),
+    }
+}
+
+/// The tree of a text as one of which a satisfaction is chosen, or the stop for the first reason against it.
+pub fn choice_of<'a>(
+    alloc: Global,
+    text: &TextTree<'a>,
+    choice: Choice,
+    rules: Rules,
+) -> Result<ChoiceTree<'a>, Stop>
+    requires { IsInRange (shape text.now.tree) }
+    ensures tree { IfOk result (λ tree. tree_in tree ≡ shape text.now.tree) }
+    ensures chosen { IfOk result (λ tree. chosen_in tree ≡ chosen_by choice) }
+    ensures passed { IfOk result (λ tree. reason_by choice rules (shape text.now.tree) ≡ None) }
+    ensures stop { IfErr result (StopsFitting (reason_by choice rules (shape text.now.tree)) text.now.offsets.items) }
+{
+    match ChoiceTree::new(alloc, choice, rules, text.tree) {
+        Ok(tree) => Ok(tree),
+        Err(misfit) => Err(misfit_stop(text, misfit)),
+    }
+}
+
+/// The stop of a text whose tree doesn't pass.
+fn misfit_stop(text: &TextTree<'_>, misfit: Misfit) -> Stop
+    requires { (first_reason : Tree → Option TheUnfit) × IsMisfit first_reason (shape text.now.tree) misfit }
+    ensures { (first_reason : Tree → Option TheUnfit) → IsMisfit first_reason (shape text.now.tree) misfit → StopsFitting (first_reason (shape text.now.tree)) text.now.offsets.items result }
+{
+    match misfit {
+        Misfit::Unfit(unfit) => Stop::TextRefused(code_of_reason(text, unfit)),
+        Misfit::Memory => Stop::Memory,
     }
 }
 

@@ -1,5 +1,5 @@
-pub mod PowerBits
-pub mod Affines
-pub mod Roots
-pub mod Bytes
+mod Chains
+mod Roots
+mod Bytes
 pub mod Checks
+mod Abscissas

@@ -1,19 +1,19 @@
 //! The check of a signature (SEC 1, 4.1.4).
 
-ghost use Rattle.std.specs.Prelude.{◌≡◌, MatchOption};
-ghost use Rattle.def_curve.specs.Point.{Point, infinity, ◌⊕◌};
+ghost use Rattle.std.specs.Prelude.{◌≡◌, ◌<◌};
+ghost use Rattle.def_curve.specs.Curve.{n as order};
+ghost use Rattle.def_curve.specs.Point.{Point};
 ghost use Rattle.def_curve.specs.Ecdsa.{has_x as the_has_x, is_signature_by as the_is_signature_by};
 ghost use Rattle.ms_field.specs.Limbs.{value};
 ghost use Rattle.ms_point.specs.Standing.{StandsFor, IsReduced, IsAffine, point_at};
 
-use crate::field_power::inverse;
-use crate::scalar_power;
-use ms_field::comparisons::{is_same, is_zero};
-use ms_field::field::{multiply, square};
-use ms_field::scalar::{is_scalar, reduced};
+use crate::inverse::inverse;
+use ms_field::comparisons::{is_below, is_same, is_zero};
+use ms_field::field::{add, multiply, square};
+use ms_field::scalar::{ORDER, is_scalar};
 use ms_field::{Limbs, scalar};
 use ms_point::multiples::times;
-use ms_point::sums::add_affine;
+use ms_point::sums::add_points;
 use ms_point::{Affine, Jacobian};
 
 /// The generator.
@@ -32,45 +32,34 @@ const GENERATOR: Affine = Affine {
     },
 };
 
-/// The coordinates of a point, unless it is infinity.
-fn to_affine(a: Jacobian) -> Option<Affine>
-    requires { IsReduced a }
-    ensures { MatchOption result ((P : Point) → StandsFor a P → P ≡ infinity)
-        (λ point. ((P : Point) → StandsFor a P → P ≡ point_at point) × IsAffine point) }
-{
-    if is_zero(a.z) {
-        return None;
-    }
-    let i = inverse(a.z);
-    let ii = square(i);
-    let iii = multiply(ii, i);
-    let x = multiply(a.x, ii);
-    let y = multiply(a.y, iii);
-    Some(Affine { x, y })
-}
+/// p - n.
+const PRIME_OVER_ORDER: Limbs = Limbs {
+    first: 0x402d_a172_2fc9_baee,
+    second: 0x4551_2319_50b7_5fc4,
+    third: 1,
+    fourth: 0,
+};
 
-/// The sum of two points.
-fn add_points(a: Jacobian, b: Jacobian) -> Jacobian
-    requires first { IsReduced a }
-    requires second { IsReduced b }
-    ensures reduced { IsReduced result }
-    ensures sum { (P Q : Point) → StandsFor a P → StandsFor b Q → StandsFor result (P ⊕ Q) }
-{
-    match to_affine(b) {
-        Some(point) => add_affine(a, point),
-        None => a,
-    }
-}
-
-/// Whether a point isn't infinity and its x modulo n is r.
+/// Whether a point isn't infinity and its x modulo n is r: so x is r, or r + n where that is below p. With x times z^2 no inverse is needed.
 fn has_x(a: Jacobian, r: Limbs) -> bool
-    requires { IsReduced a }
+    requires reduced { IsReduced a }
+    requires scalar { value r < order }
     ensures { (P : Point) → StandsFor a P → result ≡ the_has_x P (value r) }
 {
-    match to_affine(a) {
-        Some(point) => is_same(reduced(point.x), r),
-        None => false,
+    if is_zero(a.z) {
+        return false;
     }
+    let zz = square(a.z);
+    let first = multiply(r, zz);
+    if is_same(first, a.x) {
+        return true;
+    }
+    if !is_below(r, PRIME_OVER_ORDER) {
+        return false;
+    }
+    let other = add(r, ORDER);
+    let second = multiply(other, zz);
+    is_same(second, a.x)
 }
 
 /// Whether r and s are a signature by the key of the hash that is the number e.
@@ -84,7 +73,7 @@ pub fn is_signature_by(key: Affine, e: Limbs, r: Limbs, s: Limbs) -> bool
     if !is_scalar(s) {
         return false;
     }
-    let w = scalar_power::inverse(s);
+    let w = inverse(s);
     let first = times(scalar::multiply(e, w), GENERATOR);
     let second = times(scalar::multiply(r, w), key);
     has_x(add_points(first, second), r)

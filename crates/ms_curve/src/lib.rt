@@ -2,6 +2,8 @@
 #![tactic(auto)]
 
 pub mod ecdsa;
-mod field_power;
+mod inverse;
 pub mod key;
-mod scalar_power;
+mod modulus;
+mod powers;
+mod root;

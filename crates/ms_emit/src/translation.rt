@@ -7,10 +7,9 @@ ghost use Rattle.def_tree.specs.Tree as tree;
 ghost use Rattle.ms_hash.specs.Value.{kind_of, bytes_of};
 ghost use Rattle.ms_tree.specs.Shape.{shape, shapes, leaf_shape};
 
-use crate::arms::{
-    and_or_arm, hash_arms, leaf_arms, list_opcodes, opcodes, pair_arms, wrapper_arms,
+use ms_extent::{
+    and_or_arm, hash_arms, leaf_arms, list_opcodes, number_bytes, opcodes, pair_arms, wrapper_arms,
 };
-use crate::numbers::number_bytes;
 use ms_hash::hash160;
 use ms_script::{Blob, Op, Script, encode};
 use ms_tree::{HashVal, Key, Leaf, Tree, Two, View, Wrapper, fragment_rows};
@@ -153,6 +152,7 @@ fn add_multi(script: &mut Script, k: u64, keys: &[Key]) -> Result<(), AllocError
 }
 
 #[cycle(add_tree)]
+#[tactic(auto, using(crate::proofs::Verified::verify_behind))]
 fn add_wrap(script: &mut Script, wrapper: Wrapper, x: &Tree<'_>) -> Result<(), AllocError>
     requires { IsInRange (shape x.now) }
     ensures { OnOk result (script.new ≡ script.old ++ the_emit (tree.wrap wrapper (shape x.now))) }

@@ -13,7 +13,7 @@ ghost use Rattle.ms_fields.specs.Held.{held_in, Adds};
 use crate::hash_types::{hash_type_of, last_byte};
 use crate::kind::{Kind, kind_of};
 use crate::signed::SignedRef;
-use ms_assets::Assets;
+use ms_held::Assets;
 use ms_oracle::Locks;
 use ms_tree::Key;
 use std::alloc::{AllocError, Global};

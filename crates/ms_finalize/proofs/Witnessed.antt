@@ -15,7 +15,7 @@ use Rattle.def_sane.proofs.Meanings.{sane_means_under, sane_under_consensus}
 use Rattle.def_satisfaction.specs.Satisfaction.{Sat}
 use Rattle.def_choice.specs.Strict.{strict}
 use Rattle.def_choice.proofs.Chosen.{strict_is_canonical}
-use Rattle.def_promises.specs.Promises.{Unchangeable}
+use Rattle.def_promises.specs.Accepted.{Unchangeable}
 use Rattle.ms_row_laws.proofs.WithinLimits.{light_stack}
 use Rattle.ms_strict_laws.proofs.TightIsUnchangeable.{strict_is_unchangeable}
 use Rattle.ms_replay.proofs.Accepted.{Satisfies, fits_witness, is_accepting}
@@ -46,8 +46,8 @@ fits tree script assets stack h = subst (FitsWitness stack) h.same (fits_witness
 
 pub is_replayed : (tree : Tree) (script : Bytes) (assets : Assets) (stack : List Bytes) → IsChosen tree script assets stack →
     IsReplayed assets script (witness_text stack script)
-is_replayed tree script assets stack h table holds =
-    is_accepting tree assets stack assets.locks (program_of script) (witness_text stack script) table (satisfies tree script assets stack h)
+is_replayed tree script assets stack h checker holds =
+    is_accepting tree assets stack assets.locks (program_of script) (witness_text stack script) checker (satisfies tree script assets stack h)
     (record {
       same_locks = refl;
       is_program = ap program_of (sym h.same);

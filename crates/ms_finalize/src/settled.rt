@@ -1,10 +1,9 @@
 //! What is found of an input whose witness script is known.
 
-ghost use Rattle.std.specs.Prelude.{◌≡◌, ◌*◌, ◌≤◌, ◌^◌, Some, None, IfOk, IfSome, option_map, vec_len};
+ghost use Rattle.std.specs.Prelude.{◌≡◌, ◌≤◌, ◌^◌, Some, None, IfOk, IfSome, option_map};
 ghost use Rattle.def_script.specs.Witness.{weight};
 ghost use Rattle.def_tree.specs.Range.{IsInRange};
-ghost use Rattle.def_tree.specs.Size.{measure};
-ghost use Rattle.def_sane.specs.Unfit.{IsKnownValid, IsSane};
+ghost use Rattle.def_sane.specs.declared.Rules.TheVariants.{Policy};
 ghost use Rattle.def_spend.specs.Input.{Spend};
 ghost use Rattle.def_spend.specs.Reading.{IsReadAs};
 ghost use Rattle.def_spend.specs.States.{tree_state, held_state};
@@ -13,13 +12,13 @@ ghost use Rattle.ms_tree.specs.Shape.{shape};
 
 use bumpalo::Bump;
 use def_spend::State;
-use ms_assets::Assets;
-use ms_decode::{Decoded, decode_known};
+use ms_bytes::Stack;
+use ms_decode::decode;
 use ms_fields::Fields;
-use ms_nonmal::strict_in;
+use ms_held::Assets;
+use ms_nonmal::strict;
 use ms_oracle::Locks;
-use ms_sane::{Rules, Work, check_sane_of_valid};
-use ms_script::Stack;
+use ms_sane::{SaneTree, ValidTree};
 use ms_tree::Tree;
 use std::alloc::{AllocError, Global};
 
@@ -75,7 +74,7 @@ pub fn settle<'a>(
     ensures stack { IfOk result (λ s. (spend : Spend) → IsOf spend fields.now locks → s.stack ≡ chosen_in s.state (input_of spend (option_map shape s.tree))) }
     ensures light { IfOk result (λ s. IfSome s.stack (λ stack. weight stack ≤ 2 ^ 40)) }
 {
-    let Some(decoded) = decode_known(alloc, arena, script, fields.keys())? else {
+    let Some(valid) = decode(alloc, arena, script, fields.keys())? else {
         return Ok(Settled {
             tree: None,
             state: State::NoReading,
@@ -83,8 +82,8 @@ pub fn settle<'a>(
             stack: None,
         });
     };
-    let tree = decoded.tree;
-    let held = tree_state_of(alloc, decoded, fields, locks)?;
+    let tree = valid.tree;
+    let held = tree_state_of(alloc, valid, fields, locks)?;
     Ok(Settled {
         tree: Some(tree),
         state: held.state,
@@ -93,46 +92,36 @@ pub fn settle<'a>(
     })
 }
 
-/// The state of an input with this miniscript, of which so much is known.
+/// The state of an input with this miniscript, which is valid by policy.
 fn tree_state_of(
     alloc: Global,
-    decoded: Decoded<'_>,
+    valid: ValidTree<'_>,
     fields: &Fields<'_>,
     locks: Locks,
 ) -> Result<Held, AllocError>
-    requires in_range { IsInRange (shape decoded.tree) }
-    requires valid { IsKnownValid (shape decoded.tree) decoded.valid }
-    requires room { 4 * measure (shape decoded.tree) ≤ vec_len decoded.work.slots }
-    ensures state { IfOk result (λ h. (spend : Spend) → IsOf spend fields.now locks → h.state ≡ tree_state (Some (shape decoded.entry.tree)) spend) }
+    requires { valid.rules ≡ Policy }
+    ensures state { IfOk result (λ h. (spend : Spend) → IsOf spend fields.now locks → h.state ≡ tree_state (Some (shape valid.entry.tree)) spend) }
     ensures assets { IfOk result (λ h. (spend : Spend) → IsOf spend fields.now locks → h.assets ≡ assets_in h.state spend) }
-    ensures stack { IfOk result (λ h. (spend : Spend) → IsOf spend fields.now locks → h.stack ≡ chosen_in h.state (input_of spend (Some (shape decoded.entry.tree)))) }
+    ensures stack { IfOk result (λ h. (spend : Spend) → IsOf spend fields.now locks → h.stack ≡ chosen_in h.state (input_of spend (Some (shape valid.entry.tree)))) }
     ensures light { IfOk result (λ h. IfSome h.stack (λ stack. weight stack ≤ 2 ^ 40)) }
 {
-    let Decoded {
-        tree,
-        valid,
-        mut work,
-    } = decoded;
-    match check_sane_of_valid(valid, &tree, Rules::Policy, &mut work) {
-        Ok(_) => sane_state(alloc, &tree, fields, locks, &mut work),
+    match SaneTree::of(valid) {
+        Ok(mut sane) => sane_state(alloc, &mut sane, fields, locks),
         Err(unfit) => Ok(Held::of(State::Unfit(unfit))),
     }
 }
 
-/// The state of an input with this sane miniscript, whose satisfaction is looked for in the working room.
+/// The state of an input with this miniscript, which is sane by policy.
 fn sane_state(
     alloc: Global,
-    tree: &Tree<'_>,
+    sane: &mut SaneTree<'_>,
     fields: &Fields<'_>,
     locks: Locks,
-    work: &mut Work,
 ) -> Result<Held, AllocError>
-    requires in_range { IsInRange (shape tree.now) }
-    requires sane { IsSane (shape tree.now) }
-    requires room { 4 * measure (shape tree.now) ≤ vec_len work.old.slots }
-    ensures state { IfOk result (λ h. (spend : Spend) → IsOf spend fields.now locks → h.state ≡ held_state (shape tree.now) spend) }
+    requires { sane.old.valid.rules ≡ Policy }
+    ensures state { IfOk result (λ h. (spend : Spend) → IsOf spend fields.now locks → h.state ≡ held_state (shape sane.old.valid.tree) spend) }
     ensures assets { IfOk result (λ h. (spend : Spend) → IsOf spend fields.now locks → h.assets ≡ assets_in h.state spend) }
-    ensures stack { IfOk result (λ h. (spend : Spend) → IsOf spend fields.now locks → h.stack ≡ chosen_in h.state (input_of spend (Some (shape tree.now)))) }
+    ensures stack { IfOk result (λ h. (spend : Spend) → IsOf spend fields.now locks → h.stack ≡ chosen_in h.state (input_of spend (Some (shape sane.old.valid.tree)))) }
     ensures light { IfOk result (λ h. IfSome h.stack (λ stack. weight stack ≤ 2 ^ 40)) }
 {
     if fields.is_sighash_wrong() {
@@ -143,7 +132,7 @@ fn sane_state(
     }
     let assets = fields.assets(alloc, locks)?;
     assets.are_assets();
-    let stack = strict_in(alloc, tree, &assets, work)?;
+    let stack = strict(alloc, sane, &assets)?;
     let state = match stack {
         Some(_) => State::Ready,
         None => State::Unsatisfied,

@@ -3,15 +3,15 @@
 ghost use Rattle.std.specs.Prelude.{◌≡◌, Some, IfOk};
 ghost use Rattle.def_choice.specs.Strict.{strict};
 ghost use Rattle.def_emit.specs.Emit.{script_of};
-ghost use Rattle.def_promises.specs.Promises.{Unchangeable};
+ghost use Rattle.def_promises.specs.Accepted.{Unchangeable};
 ghost use Rattle.def_sane.specs.Unfit.{IsSane};
 ghost use Rattle.def_script.specs.Witness.{witness_text};
 ghost use Rattle.def_tree.specs.Range.{IsInRange};
 ghost use Rattle.ms_finalize.specs.Witnesses.{IsReplayed};
 ghost use Rattle.ms_tree.specs.Shape.{shape};
 
-use ms_assets::Assets;
-use ms_script::{Blob, Stack};
+use ms_bytes::{Blob, Stack};
+use ms_held::Assets;
 use ms_tree::Tree;
 use ms_witness::witness_bytes;
 use std::alloc::{AllocError, Global};
@@ -19,8 +19,8 @@ use std::alloc::{AllocError, Global};
 /// The final witness of an input: the strict satisfaction of its miniscript, bottom first, and its witness script, which is the
 /// miniscript's, as the last item. Refuses for want of memory alone.
 ///
-/// The interpreter accepts it under the script's program, under every table that holds the signatures of the assets, and with
-/// their locks; and nobody can change it.
+/// The interpreter accepts it under the script's program, where the signatures of the assets are good, whatever others are,
+/// and with their locks; and nobody can change it.
 pub fn final_witness(
     alloc: Global,
     tree: &Tree<'_>,

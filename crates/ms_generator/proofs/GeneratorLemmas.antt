@@ -20,21 +20,21 @@ use Rattle.def_files.specs.AssetFile.{is_signature}
 use Rattle.def_sane.specs.TheLimits.{the_limits}
 use Rattle.def_sane.specs.declared.Rules.TheVariants.{Policy, Consensus}
 use Rattle.def_sane.specs.Unfit.{IsSane, IsSaneUnder, IsValidUnder}
-use Rattle.def_sane.proofs.Meanings.{sane_means_under, sane_under_consensus}
+use Rattle.def_sane.proofs.Meanings.{sane_under_consensus}
 use Rattle.def_satisfaction.specs.Satisfaction.{Sat}
 use Rattle.def_choice.specs.Cheapest.{cheapest}
 use Rattle.def_choice.specs.Strict.{strict}
 use Rattle.def_choice.proofs.Chosen.{strict_is_canonical}
 use Rattle.def_answer.specs.Generated.{threshold_of, generated_key, generated_sig, generated_preimage, generated_assets, child_text, children_text, generated_text, generated_tree}
-use Rattle.def_answer.specs.Answer.{gen_report}
+use Rattle.def_answer.specs.Gen.{gen_report, strict_line, cheapest_line, children_line}
 use Rattle.def_answer.specs.Lines.{limits_line}
-use Rattle.def_answer.specs.Report.{outcome_with, strict_line, cheapest_line, children_line}
+use Rattle.def_answer.specs.Satisfy.{outcome_with}
 use Rattle.ms_answer_laws.proofs.GeneratedRead.{generated_is_read}
 use Rattle.ms_answer_laws.proofs.GeneratedHeld.{generated_are_assets}
 use Rattle.ms_answer_laws.proofs.GeneratedSane.{generated_is_sane}
 use Rattle.ms_answer_laws.proofs.GeneratedChosen.{generated_is_satisfied}
-use Rattle.ms_assets.specs.Adding.{sig_stop, Answers}
-use Rattle.ms_assets.specs.declared.assets.AddStop.{AddStop}
+use Rattle.ms_held.specs.Adding.{sig_stop, Answers}
+use Rattle.ms_held.specs.declared.assets.AddStop.{AddStop}
 use Rattle.def_script.specs.Witness.{weight}
 use Rattle.ms_row_laws.proofs.WithinLimits.{light_stack}
 
@@ -124,9 +124,6 @@ no_refusal n text e some few is utf8 refused =
     none_beside_tree text (generated_tree n) own.0 e utf8 (subst (λ t. TextReads t (generated_tree n) own.0) (sym is) own.1) refused
 
 -- ---- both satisfactions
-
-pub sane_is_valid : (tree : Tree) → IsSaneUnder Consensus tree → IsValidUnder Consensus tree
-sane_is_valid tree sane = ((sane_means_under Consensus tree).0 sane).0
 
 pub generated_sane : (n : ℕ) (tree : Tree) → 1 ≤ n → n ≤ 30 → tree ≡ generated_tree n → IsSaneUnder Consensus tree
 generated_sane n tree some few is = sane_under_consensus Policy tree (subst IsSane (sym is) (generated_is_sane n some few))

@@ -7,25 +7,27 @@ ghost use Rattle.def_sane.specs.declared.Rules.TheVariants.{Consensus};
 ghost use Rattle.def_sane.specs.Unfit.{IsSaneUnder, IsValidUnder};
 ghost use Rattle.def_satisfaction.specs.Satisfaction.{Sat};
 ghost use Rattle.def_tree.specs.Range.{IsInRange};
-ghost use Rattle.ms_assets.specs.Adding.{Answers as Adds};
+ghost use Rattle.ms_held.specs.Adding.{Answers as Adds};
+ghost use Rattle.ms_sane.specs.Same.{IsSame};
 ghost use Rattle.ms_tree.specs.Shape.{shape};
-ghost use Rattle.def_answer.specs.Answer.{gen_report as the_gen_report, gen_reply};
+ghost use Rattle.def_answer.specs.Answer.{gen_reply};
+ghost use Rattle.def_answer.specs.Gen.{gen_report as the_gen_report, children_line as the_children_line, strict_line as the_strict_line, cheapest_line as the_cheapest_line};
 ghost use Rattle.def_answer.specs.Generated.{threshold_of as the_threshold_of, generated_key, generated_preimage, generated_assets, pk_text as the_pk_text, hash_text as the_hash_text, child_text as the_child_text, generated_text, generated_tree as the_generated_tree};
 ghost use Rattle.def_answer.specs.Reply.{reply};
-ghost use Rattle.def_answer.specs.Report.{children_line as the_children_line, strict_line as the_strict_line, cheapest_line as the_cheapest_line, peak_of, outcome_with};
+ghost use Rattle.def_answer.specs.Satisfy.{peak_of, outcome_with};
 ghost use Rattle.def_answer.specs.Words.{MOST_GENERATED};
 ghost use Rattle.ms_generator.specs.Chosen.{strict_items, cheapest_items};
 
 use bumpalo::Bump;
 use def_answer::Status;
 use def_text::TextFault;
-use ms_assets::{AddStop, Assets};
 use ms_hash::sha256;
+use ms_held::{AddStop, Assets};
 use ms_nonmal::strict;
 use ms_oracle::{Locks, PairIndex, SigCheck};
 use ms_replay::carry;
 use ms_report::{Answer, limits_line};
-use ms_sane::{Work, limits};
+use ms_sane::{Misfit, Rules, SaneTree, ValidTree};
 use ms_sat::cheapest;
 use ms_script::{MAX_SIGNATURE_SIZE, Stack};
 use ms_text::read_text;
@@ -167,9 +169,10 @@ pub fn answer_gen(alloc: Global, arena: &Bump<Global>, n: u32) -> Result<Answer,
 {
     let (text, assets) = generated(alloc, n)?;
     let tree = generated_tree(alloc, arena, n, &text)?;
+    let mut sane = sane_tree(alloc, tree)?;
     Ok(Answer {
         status: Status::Done,
-        report: gen_report(alloc, n, &tree, &assets)?,
+        report: gen_report(alloc, n, &mut sane, &assets)?,
     })
 }
 
@@ -195,24 +198,38 @@ fn generated_tree<'a>(
     }
 }
 
+/// The tree as a sane one.
+fn sane_tree<'a>(alloc: Global, tree: Tree<'a>) -> Result<SaneTree<'a>, AllocError>
+    requires in_range { IsInRange (shape tree) }
+    requires sane { IsSaneUnder Consensus (shape tree) }
+    ensures { IfOk result (λ sane. sane.valid.tree ≡ tree.entry) }
+{
+    match SaneTree::new(alloc, tree, Rules::Consensus) {
+        Ok(sane) => Ok(sane),
+        Err(Misfit::Memory) => Err(AllocError),
+        Err(Misfit::Unfit(_)) => unreachable!(),
+    }
+}
+
 /// The children and the threshold, the limits, and both satisfactions.
-#[tactic(auto, unfolding(def_answer::specs::Answer::gen_report))]
-fn gen_report(alloc: Global, n: u32, tree: &Tree<'_>, assets: &Assets) -> Result<String, AllocError>
+#[tactic(auto, unfolding(def_answer::specs::Gen::gen_report))]
+fn gen_report(
+    alloc: Global,
+    n: u32,
+    sane: &mut SaneTree<'_>,
+    assets: &Assets,
+) -> Result<String, AllocError>
     requires most { n ≤ MOST_GENERATED }
-    requires in_range { IsInRange (shape tree.now) }
-    requires sane { IsSaneUnder Consensus (shape tree.now) }
-    requires tree { shape tree.now ≡ the_generated_tree n }
+    requires tree { shape sane.old.valid.tree ≡ the_generated_tree n }
     requires assets { assets.now ≡ generated_assets n }
-    requires strict { IsSome (the_strict (shape tree.now) assets.now) }
-    requires cheapest { IsSome (the_cheapest (shape tree.now) assets.now) }
+    requires strict { IsSome (the_strict (shape sane.old.valid.tree) assets.now) }
+    requires cheapest { IsSome (the_cheapest (shape sane.old.valid.tree) assets.now) }
     ensures { IfOk result (λ report. string_bytes report ≡ the_gen_report n (strict_items (the_generated_tree n) (generated_assets n)) (cheapest_items (the_generated_tree n) (generated_assets n))) }
 {
-    let mut work = Work::new(alloc, tree)?;
-    let limits = limits(tree, &mut work);
     let mut report = children_line(alloc, n)?;
-    report.push_str(&limits_line(alloc, limits)?)?;
-    report.push_str(&strict_line(alloc, tree, assets)?)?;
-    report.push_str(&cheapest_line(alloc, tree, assets)?)?;
+    report.push_str(&limits_line(alloc, sane.valid.limits)?)?;
+    report.push_str(&strict_line(alloc, sane, assets)?)?;
+    report.push_str(&cheapest_line(alloc, &mut sane.valid, assets)?)?;
     Ok(report)
 }
 
@@ -226,31 +243,38 @@ fn children_line(alloc: Global, n: u32) -> Result<String, AllocError>
 }
 
 /// The line of the strict satisfaction, with the peak of its run.
-fn strict_line(alloc: Global, tree: &Tree<'_>, assets: &Assets) -> Result<String, AllocError>
-    requires in_range { IsInRange (shape tree.now) }
-    requires sane { IsSaneUnder Consensus (shape tree.now) }
-    requires found { IsSome (the_strict (shape tree.now) assets.now) }
-    ensures { IfOk result (λ line. string_bytes line ≡
-        the_strict_line (strict_items (shape tree.now) assets.now) (outcome_with (shape tree.now) assets.now (strict_items (shape tree.now) assets.now))) }
+fn strict_line(
+    alloc: Global,
+    sane: &mut SaneTree<'_>,
+    assets: &Assets,
+) -> Result<String, AllocError>
+    requires { IsSome (the_strict (shape sane.old.valid.tree) assets.now) }
+    ensures line { IfOk result (λ line. string_bytes line ≡
+        the_strict_line (strict_items (shape sane.old.valid.tree) assets.now) (outcome_with (shape sane.old.valid.tree) assets.now (strict_items (shape sane.old.valid.tree) assets.now))) }
+    ensures same { IsSame sane.old.valid sane.new.valid }
 {
     assets.are_assets();
-    let Some(stack) = strict(alloc, tree, assets)? else {
+    let tree = sane.valid.tree;
+    let Some(stack) = strict(alloc, sane, assets)? else {
         unreachable!()
     };
-    let peak = run_peak(alloc, tree, assets, &stack)?;
+    let peak = run_peak(alloc, &tree, assets, &stack)?;
     let (items, weight) = (stack.len(), stack.weight());
     format!(in alloc; "strict items {items} weight {weight} peak {peak}\n")
 }
 
 /// The line of the cheapest satisfaction.
-fn cheapest_line(alloc: Global, tree: &Tree<'_>, assets: &Assets) -> Result<String, AllocError>
-    requires in_range { IsInRange (shape tree.now) }
-    requires valid { IsValidUnder Consensus (shape tree.now) }
-    requires found { IsSome (the_cheapest (shape tree.now) assets.now) }
-    ensures { IfOk result (λ line. string_bytes line ≡ the_cheapest_line (cheapest_items (shape tree.now) assets.now)) }
+fn cheapest_line(
+    alloc: Global,
+    valid: &mut ValidTree<'_>,
+    assets: &Assets,
+) -> Result<String, AllocError>
+    requires { IsSome (the_cheapest (shape valid.old.tree) assets.now) }
+    ensures line { IfOk result (λ line. string_bytes line ≡ the_cheapest_line (cheapest_items (shape valid.old.tree) assets.now)) }
+    ensures same { IsSame valid.old valid.new }
 {
     assets.are_assets();
-    let Some(stack) = cheapest(alloc, tree, assets)? else {
+    let Some(stack) = cheapest(alloc, valid, assets)? else {
         unreachable!()
     };
     let (items, weight) = (stack.len(), stack.weight());

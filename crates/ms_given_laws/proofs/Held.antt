@@ -12,6 +12,7 @@ use Rattle.def_script.proofs.Sizing.{size_has_one_spelling}
 use Rattle.def_tree.specs.Range.{IsKey}
 use Rattle.def_assets.specs.Assets.{IsSignature, IsPreimage, AreAssets, same_key}
 use Rattle.def_assets.proofs.Distinct.{distinct_pairs}
+use Rattle.def_psbt.specs.declared.PsbtVersion.{PsbtVersion}
 use Rattle.def_psbt.specs.Map.{Pair, Map, type_of, data_of, data_read}
 use Rattle.def_psbt.specs.Forms.{is_signature}
 use Rattle.def_psbt.specs.Listed.{Form, stands, passes, input_form, shape_fault, pair_fault}
@@ -20,7 +21,7 @@ use Rattle.def_spend.specs.Fields.{PARTIAL_SIG, BIP32_DERIVATION, has_type, is_s
 use Rattle.def_spend.specs.Input.{Spend, assets_of}
 use Rattle.ms_given_laws.specs.Given.{IsMapOfBytes}
 use Rattle.ms_given_laws.proofs.BytesOf.{dropped}
-use Rattle.ms_given_laws.proofs.Maps.{IsPairOfBytes}
+use Rattle.ms_given_laws.proofs.Later.{IsPairOfBytes}
 
 -- what holds of what is made of the elements that pass a test
 pub each_kept : {A B : Type 0} (P : A → Type 0) (Q : B → Type 0) (test : A → Bool) (make : A → B) → ((x : A) → test x ≡ true → P x → Q (make x)) → (xs : List A)
@@ -76,9 +77,9 @@ passed true e = refl
 passed false e = absurd cc
 
 -- the value of a pair of the type of signatures is one
-pub signature_form : (pair : Pair) → HasShape input_form pair → has_type PARTIAL_SIG pair ≡ true → is_signature pair.value ≡ true
+pub signature_form : (version : PsbtVersion) (pair : Pair) → HasShape (input_form version) pair → has_type PARTIAL_SIG pair ≡ true → is_signature pair.value ≡ true
 unfolding input_form shape_fault
-signature_form pair shape is = grind arith
+signature_form version pair shape is = grind arith
 
 signature_is : (sig : Bytes) → IsBytes sig → is_signature sig ≡ true → IsSignature sig
 unfolding is_signature
@@ -125,13 +126,13 @@ later_differ first (pair ∷ fields) fits is all h =
       | inr e ↦ rw e rest
     ]
 
-pub one_signature : (before fields : Map) → IsSoundMap input_form before fields → AllByRecursion IsPairOfBytes fields → IsDistinct same_key (signatures_in fields)
+pub one_signature : (version : PsbtVersion) (before fields : Map) → IsSoundMap (input_form version) before fields → AllByRecursion IsPairOfBytes fields → IsDistinct same_key (signatures_in fields)
 unfolding IsDistinct
-one_signature before [] sound all = tt
-one_signature before (pair ∷ fields) sound all =
-    let rest = one_signature (before ++ pair ∷ []) fields sound.1 all.1 in
+one_signature version before [] sound all = tt
+one_signature version before (pair ∷ fields) sound all =
+    let rest = one_signature version (before ++ pair ∷ []) fields sound.1 all.1 in
     elim (cases_Bool (is_signed pair)) [
-      | inl e ↦ rw e (later_differ pair fields all.0 e all.1 (differ input_form pair before [] fields sound.1), rest)
+      | inl e ↦ rw e (later_differ pair fields all.0 e all.1 (differ (input_form version) pair before [] fields sound.1), rest)
       | inr e ↦ rw e rest
     ]
 
@@ -143,10 +144,10 @@ pub record HasLocks (spend : Spend) : Type 0 where
   pub sequence : spend.input.sequence < 2 ^ 32
   pub lock_time : spend.transaction.lock_time < 2 ^ 32
 
-pub assets_are : (spend : Spend) → HasLocks spend → IsSoundMap input_form [] spend.fields → IsMapOfBytes spend.fields → AreAssets (assets_of spend)
-assets_are spend locks sound fits =
+pub assets_are : (version : PsbtVersion) (spend : Spend) → HasLocks spend → IsSoundMap (input_form version) [] spend.fields → IsMapOfBytes spend.fields → AreAssets (assets_of spend)
+assets_are version spend locks sound fits =
     let all = recursion_from_All IsPairOfBytes spend.fields fits in
-    let forms = shapes input_form [] spend.fields sound in
+    let forms = shapes (input_form version) [] spend.fields sound in
     record {
       keys = All-from_recursion (λ pair. IsKey pair.0) (signatures_in spend.fields)
           (each_kept IsPairOfBytes (λ pair. IsKey pair.0) is_signed signature (λ pair test h. record {
@@ -154,9 +155,9 @@ assets_are spend locks sound fits =
             bytes = data_bytes pair.key h.0;
           }) spend.fields all);
       signatures = All-from_recursion (λ pair. IsSignature pair.1) (signatures_in spend.fields)
-          (each_kept (λ pair. IsPairOfBytes pair × HasShape input_form pair) (λ pair. IsSignature pair.1) is_signed signature
-          (λ pair test h. signature_is pair.value h.0.1 (signature_form pair h.1 (signs pair test))) spend.fields (both_hold spend.fields all forms));
-      distinct = distinct_pairs (signatures_in spend.fields) (one_signature [] spend.fields sound all);
+          (each_kept (λ pair. IsPairOfBytes pair × HasShape (input_form version) pair) (λ pair. IsSignature pair.1) is_signed signature
+          (λ pair test h. signature_is pair.value h.0.1 (signature_form version pair h.1 (signs pair test))) spend.fields (both_hold spend.fields all forms));
+      distinct = distinct_pairs (signatures_in spend.fields) (one_signature version [] spend.fields sound all);
       preimages = All-from_recursion IsPreimage (preimages_in spend.fields)
           (each_kept IsPairOfBytes IsPreimage is_preimage_pair (λ pair. pair.value) (λ pair test h. record {
             length = eqb-true (length pair.value) 32 ((and_parts _ (length pair.value == 32) test).1);
@@ -167,6 +168,7 @@ assets_are spend locks sound fits =
       locktime = locks.lock_time;
     }
   where
-    both_hold : (fields : Map) → AllByRecursion IsPairOfBytes fields → AllByRecursion (HasShape input_form) fields → AllByRecursion (λ pair. IsPairOfBytes pair × HasShape input_form pair) fields
+    both_hold : (fields : Map) → AllByRecursion IsPairOfBytes fields → AllByRecursion (HasShape (input_form version)) fields
+        → AllByRecursion (λ pair. IsPairOfBytes pair × HasShape (input_form version) pair) fields
     both_hold [] p q = tt
     both_hold (pair ∷ fields) p q = ((p.0, q.0), both_hold fields p.1 q.1)

@@ -1,6 +1,9 @@
 pub mod BytesOf
 pub mod Decoded
 pub mod Parts
+pub mod PartsBack
+pub mod TransactionBack
+pub mod Later
 pub mod Maps
 pub mod Held
 pub mod Joined

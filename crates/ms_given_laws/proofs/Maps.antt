@@ -1,5 +1,5 @@
 -- What is read of bytes consists of bytes.
-use Rattle.std.proofs.Common.{◌≡◌, ◌==◌, List, [], ◌∷◌, ◌++◌, length, inl, inr, All, Some}
+use Rattle.std.proofs.Common.{◌≡◌, ◌==◌, List, [], ◌∷◌, ◌++◌, length, inl, inr, All, Some, sym, subst}
 use Rattle.std.proofs.lemmas.Bool.{cases_Bool}
 use Rattle.std.specs.List.{flat_map, AllByRecursion}
 use Rattle.std.proofs.lemmas.List.Elements.{All-from_recursion, recursion_from_All}
@@ -7,16 +7,16 @@ use Rattle.def_script.specs.Bytes.{Bytes, IsBytes}
 use Rattle.def_script.specs.Sizes.{size_bytes}
 use Rattle.def_script.specs.Witness.{sized}
 use Rattle.def_psbt.specs.Transaction.{Transaction}
-use Rattle.def_psbt.specs.Map.{Pair, Map, Psbt, type_of, pair_text, map_text, magic, psbt_text}
-use Rattle.def_psbt.specs.Reading.{pair_of_type, transaction_in_pair}
-use Rattle.def_psbt.specs.Laws.{IsSound}
+use Rattle.def_psbt.specs.declared.PsbtVersion.{PsbtVersion}
+use Rattle.def_psbt.specs.declared.PsbtVersion.TheVariants as version
+use Rattle.def_psbt.specs.Map.{Map, Psbt, type_of, pair_text, map_text, magic, psbt_text, pair_of_type}
+use Rattle.def_psbt.specs.Fields.{version_of}
+use Rattle.def_psbt.specs.Reading.{input_rules, output_rules, Outline, given, counted, outline_in, transaction_in_pair, transaction_in, input_count, output_count, transaction_by}
+use Rattle.def_psbt.specs.Laws.{IsWholeMap, IsSound}
 use Rattle.ms_given_laws.specs.Given.{IsTransaction, IsMapOfBytes, IsWhole}
 use Rattle.ms_given_laws.proofs.BytesOf.{front, back, pieces}
+use Rattle.ms_given_laws.proofs.Later.{IsPairOfBytes, given_is, not_counted, not_given, later_transaction}
 use Rattle.ms_given_laws.proofs.Parts.{transaction_is}
-
--- the key and the value of a pair consist of bytes
-abbrev pub IsPairOfBytes : Pair → Type 0
-IsPairOfBytes pair = IsBytes pair.key × IsBytes pair.value
 
 sized_bytes : (bytes : Bytes) → IsBytes (sized bytes) → IsBytes bytes
 sized_bytes bytes h = back (size_bytes (length bytes)) bytes h
@@ -28,7 +28,7 @@ each_pair (pair ∷ map) h = (
   each_pair map h.1,
 )
 
-map_bytes : (map : Map) → IsBytes (map_text map) → IsMapOfBytes map
+pub map_bytes : (map : Map) → IsBytes (map_text map) → IsMapOfBytes map
 map_bytes map h = All-from_recursion IsPairOfBytes map (each_pair map (pieces pair_text map (front (flat_map pair_text map) (0x00 ∷ []) h)))
 
 each_map : (maps : List Map) → AllByRecursion (λ map. IsBytes (map_text map)) maps → AllByRecursion IsMapOfBytes maps
@@ -46,15 +46,35 @@ found_pair transaction (pair ∷ map) all e = elim (cases_Bool (type_of pair.key
   | inr other ↦ found_pair transaction map all.1 (rw other at e)
 ]
 
+-- the transaction is that of a pair, or of the fields of all maps
+transaction_fits : (psbt : Psbt) → IsSound psbt → AllByRecursion IsPairOfBytes psbt.global → AllByRecursion IsMapOfBytes psbt.inputs → AllByRecursion IsMapOfBytes psbt.outputs
+    → IsTransaction psbt.transaction
+transaction_fits psbt sound global inputs outputs =
+    subst IsTransaction (sym sound.transaction) (go (version_of psbt.global) sound.outline sound.said sound.inputs sound.outputs sound.each_input sound.each_output)
+  where
+    go : (version : PsbtVersion) (outline : Outline) → outline_in version psbt.global ≡ Some outline
+        → All (IsWholeMap (input_rules version)) psbt.inputs → All (IsWholeMap (output_rules version)) psbt.outputs
+        → length psbt.inputs ≡ input_count outline → length psbt.outputs ≡ output_count outline → IsTransaction (transaction_by outline psbt.global psbt.inputs psbt.outputs)
+    go version.Zero (given transaction) said ins outs many_in many_out = found_pair transaction psbt.global global (given_is (transaction_in psbt.global) transaction said)
+    go version.Zero (counted inputs outputs) said ins outs many_in many_out = absurd (not_counted (transaction_in psbt.global) inputs outputs said)
+    go version.Two (given transaction) said ins outs many_in many_out = absurd (not_given psbt.global transaction said)
+    go version.Two (counted ins_number outs_number) said ins outs many_in many_out =
+        later_transaction psbt.global psbt.inputs psbt.outputs ins_number outs_number sound.global global said
+        (recursion_from_All (IsWholeMap (input_rules version.Two)) psbt.inputs ins) inputs many_in
+        (recursion_from_All (IsWholeMap (output_rules version.Two)) psbt.outputs outs) outputs many_out
+
 pub whole_is : (psbt : Psbt) → IsSound psbt → IsBytes (psbt_text psbt.global psbt.inputs psbt.outputs) → IsWhole psbt
 whole_is psbt sound h =
     let maps = back magic (map_text psbt.global ++ (flat_map map_text psbt.inputs ++ flat_map map_text psbt.outputs)) h in
     let sides = back (map_text psbt.global) (flat_map map_text psbt.inputs ++ flat_map map_text psbt.outputs) maps in
     let global = map_bytes psbt.global (front (map_text psbt.global) (flat_map map_text psbt.inputs ++ flat_map map_text psbt.outputs) maps) in
+    let inputs = maps_bytes psbt.inputs (front (flat_map map_text psbt.inputs) (flat_map map_text psbt.outputs) sides) in
+    let outputs = maps_bytes psbt.outputs (back (flat_map map_text psbt.inputs) (flat_map map_text psbt.outputs) sides) in
     record {
       sound = sound;
-      transaction = found_pair psbt.transaction psbt.global (recursion_from_All IsPairOfBytes psbt.global global) sound.transaction;
+      transaction = transaction_fits psbt sound (recursion_from_All IsPairOfBytes psbt.global global)
+          (recursion_from_All IsMapOfBytes psbt.inputs inputs) (recursion_from_All IsMapOfBytes psbt.outputs outputs);
       global = global;
-      inputs = maps_bytes psbt.inputs (front (flat_map map_text psbt.inputs) (flat_map map_text psbt.outputs) sides);
-      outputs = maps_bytes psbt.outputs (back (flat_map map_text psbt.inputs) (flat_map map_text psbt.outputs) sides);
+      inputs = inputs;
+      outputs = outputs;
     }

@@ -56,10 +56,10 @@ bytes_part count bytes fits = record {
 number_16 : (bytes : Bytes) → IsBytes bytes → from_le_bytes w16 bytes < 2 ^ 16
 number_16 bytes fits = omega (arith, fits 0, fits 1)
 
-number_32 : (bytes : Bytes) → IsBytes bytes → from_le_bytes w32 bytes < 2 ^ 32
+pub number_32 : (bytes : Bytes) → IsBytes bytes → from_le_bytes w32 bytes < 2 ^ 32
 number_32 bytes fits = omega (arith, fits 0, fits 1, fits 2, fits 3)
 
-number_64 : (bytes : Bytes) → IsBytes bytes → from_le_bytes w64 bytes < 2 ^ 64
+pub number_64 : (bytes : Bytes) → IsBytes bytes → from_le_bytes w64 bytes < 2 ^ 64
 number_64 bytes fits = omega (arith, fits 0, fits 1, fits 2, fits 3, fits 4, fits 5, fits 6, fits 7)
 
 part_32 : (bytes : Bytes) → IsBytes bytes → Gives (λ n. n < 2 ^ 32) (first_number w32 bytes)
@@ -91,7 +91,7 @@ size_low (byte ∷ rest) read fits e =
     low : (width : Width) (least : ℕ) → from_le_bytes width rest < 2 ^ 64 → read_wide width least rest ≡ Ok read → read.0 < 2 ^ 64
     low width least small e = grind arith
 
-size_first : (bytes : Bytes) → IsBytes bytes → Gives (λ n. n < 2 ^ 64) (first_size bytes)
+pub size_first : (bytes : Bytes) → IsBytes bytes → Gives (λ n. n < 2 ^ 64) (first_size bytes)
 unfolding first_size
 size_first bytes fits = go (read_size bytes) refl
   where

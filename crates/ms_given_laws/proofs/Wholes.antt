@@ -6,7 +6,10 @@ use Rattle.def_script.specs.Bytes.{IsBytes}
 use Rattle.def_psbt.specs.Transaction.{TransactionInput, Transaction}
 use Rattle.def_psbt.specs.Map.{Map, Psbt}
 use Rattle.def_psbt.specs.Listed.{input_form}
-use Rattle.def_psbt.specs.Laws.{IsSoundMap, ReadIsWritten}
+use Rattle.def_psbt.specs.declared.PsbtVersion.{PsbtVersion}
+use Rattle.def_psbt.specs.Fields.{version_of}
+use Rattle.def_psbt.specs.Reading.{input_rules}
+use Rattle.def_psbt.specs.Laws.{IsSoundMap, IsWholeMap, ReadIsWritten}
 use Rattle.def_spend.specs.Input.{Spend, spends_from, spends_of}
 use Rattle.ms_given_laws.specs.Given.{IsInput, IsTransaction, IsMapOfBytes, IsWhole, EachIsSound, EachHasKeys, EachHasAssets}
 use Rattle.ms_given_laws.proofs.Decoded.{from_source}
@@ -16,29 +19,31 @@ use Rattle.ms_given_laws.proofs.Held.{HasLocks, keys_are, assets_are}
 -- what each input has beside its map
 pub record HasPlace (spend : Spend) : Type 0 where
   pub locks : HasLocks spend
-  pub sound : IsSoundMap input_form [] spend.fields
+  pub version : PsbtVersion
+  pub sound : IsSoundMap (input_form version) [] spend.fields
   pub fits : IsMapOfBytes spend.fields
 
-places_from : (transaction : Transaction) (number : ℕ) (inputs : List TransactionInput) (maps : List Map) → IsTransaction transaction
-    → AllByRecursion IsInput inputs → AllByRecursion (λ map. IsSoundMap input_form [] map) maps → AllByRecursion IsMapOfBytes maps
+places_from : (version : PsbtVersion) (transaction : Transaction) (number : ℕ) (inputs : List TransactionInput) (maps : List Map) → IsTransaction transaction
+    → AllByRecursion IsInput inputs → AllByRecursion (IsWholeMap (input_rules version)) maps → AllByRecursion IsMapOfBytes maps
     → AllByRecursion HasPlace (spends_from transaction number inputs maps)
-places_from transaction number [] maps whole ins sound fits = tt
-places_from transaction number (input ∷ inputs) [] whole ins sound fits = tt
-places_from transaction number (input ∷ inputs) (fields ∷ maps) whole ins sound fits = (
+places_from version transaction number [] maps whole ins sound fits = tt
+places_from version transaction number (input ∷ inputs) [] whole ins sound fits = tt
+places_from version transaction number (input ∷ inputs) (fields ∷ maps) whole ins sound fits = (
   record {
     locks = record { version = whole.version; sequence = ins.0.sequence; lock_time = whole.lock_time };
-    sound = sound.0;
+    version = version;
+    sound = sound.0.sound;
     fits = fits.0;
   },
-  places_from transaction (number + 1) inputs maps whole ins.1 sound.1 fits.1,
+  places_from version transaction (number + 1) inputs maps whole ins.1 sound.1 fits.1,
 )
 
 -- of a PSBT that is whole
 pub places : (psbt : Psbt) → IsWhole psbt → AllByRecursion HasPlace (spends_of psbt)
 places psbt whole =
-    places_from psbt.transaction 0 psbt.transaction.inputs psbt.inputs whole.transaction
+    places_from (version_of psbt.global) psbt.transaction 0 psbt.transaction.inputs psbt.inputs whole.transaction
     (recursion_from_All IsInput psbt.transaction.inputs whole.transaction.inputs)
-    (recursion_from_All (λ map. IsSoundMap input_form [] map) psbt.inputs whole.sound.inputs)
+    (recursion_from_All (IsWholeMap (input_rules (version_of psbt.global))) psbt.inputs whole.sound.inputs)
     (recursion_from_All IsMapOfBytes psbt.inputs whole.inputs)
 
 pub each_is_sound : ReadIsWritten → EachIsSound
@@ -54,5 +59,5 @@ each_has_keys law source psbt fits e =
 
 pub each_has_assets : ReadIsWritten → EachHasAssets
 each_has_assets law source psbt fits e =
-    All-weaker HasPlace _ (λ spend place. assets_are spend place.locks place.sound place.fits) (spends_of psbt)
+    All-weaker HasPlace _ (λ spend place. assets_are place.version spend place.locks place.sound place.fits) (spends_of psbt)
     (All-from_recursion HasPlace (spends_of psbt) (places psbt (each_is_sound law source psbt fits e)))

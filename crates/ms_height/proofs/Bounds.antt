@@ -12,7 +12,7 @@ use Rattle.def_types.specs.Typed.{IsTyped, AreTyped}
 use Rattle.def_types.proofs.Facts.{typed-multi}
 use Rattle.def_height.specs.declared.Highest.{Highest}
 use Rattle.def_height.specs.Scaffolding.Highest.{only, both, either, at_least, highest_sat, highest_dsat, highest_parts}
-use Rattle.ms_sane.proofs.Children.{measure_positive}
+use Rattle.ms_work.proofs.Children.{measure_positive}
 use Rattle.ms_height.specs.declared.highest.Heights.{Heights}
 use Rattle.ms_height.specs.Scaffolding.Low.{IsLow, IsLowHeights}
 use Rattle.ms_height.specs.Scaffolding.Row.{highest_of}

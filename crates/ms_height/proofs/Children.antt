@@ -12,7 +12,7 @@ use Rattle.ms_height.specs.Scaffolding.Chosen.{chosen}
 use Rattle.ms_height.specs.Scaffolding.Kept.{heights_of, IsFitting}
 use Rattle.ms_height.specs.Scaffolding.Row.{highest_of}
 use Rattle.ms_height.specs.Scaffolding.Low.{IsLowHeights}
-use Rattle.ms_sane.proofs.Children.{measure_positive, few_children}
+use Rattle.ms_work.proofs.Children.{measure_positive, few_children}
 use Rattle.ms_height.proofs.Bounds.{low_of, fits_of}
 
 -- a child and as many others as there are have room

@@ -102,7 +102,7 @@ fn of_two(kind: Two, x: &Tree<'_>, z: &Tree<'_>, slots: &mut [Slot]) -> Heights
 }
 
 #[cycle(heights)]
-#[tactic(auto, using(ms_sane::proofs::Children::few_children))]
+#[tactic(auto, using(ms_work::proofs::Children::few_children))]
 fn of_thresh(k: u64, children: &[Tree<'_>], slots: &mut [Slot]) -> Heights
     requires in_range { All (λ x. IsInRange (shape x)) children.now }
     requires typed { All (λ x. IsTyped (shape x)) children.now }

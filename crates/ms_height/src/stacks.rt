@@ -8,8 +8,8 @@ ghost use Rattle.def_height.specs.Scaffolding.Highest.{height_of_option, highest
 ghost use Rattle.ms_tree.specs.Shape.{shape};
 
 use crate::heights::heights;
-use ms_sane::Work;
 use ms_tree::Tree;
+use ms_work::Work;
 
 /// The height of a tree, in elements: how many the main stack and the alternative stack hold together at
 /// most while a formal satisfaction of the tree is run, or 0 where it has none (Bitcoin Core,

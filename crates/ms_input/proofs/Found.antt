@@ -18,7 +18,7 @@ use Rattle.def_spend.specs.Fields.{WITNESS_SCRIPT, field, keys_in}
 use Rattle.def_spend.specs.Hashes.{script_in}
 use Rattle.def_spend.specs.Input.{Spend, assets_of}
 use Rattle.def_spend.specs.Reading.{Input, witness_script, IsReadAs, ReadsAs, HasReading}
-use Rattle.def_promises.specs.Promises.{Unchangeable}
+use Rattle.def_promises.specs.Accepted.{Unchangeable}
 use Rattle.def_spend.specs.Fields.{signatures_in, asked_type}
 use Rattle.def_spend.specs.States.{is_sighash_wrong, are_too_many, choice_state, held_state, unless_unfit, tree_state, state_by, state_of, is_ready, choice_of, stack_of}
 use Rattle.def_spend.specs.Utxo.{utxo_of, amount_of}

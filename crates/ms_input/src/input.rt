@@ -2,7 +2,7 @@
 
 ghost use Rattle.std.specs.Prelude.{◌≡◌, ◌<◌, ◌≤◌, ◌^◌, Some, None, length, slice_get, if◌then◌else◌, All, IfOk, IfSome, option_map};
 ghost use Rattle.def_script.specs.Witness.{weight};
-ghost use Rattle.def_promises.specs.Promises.{Unchangeable};
+ghost use Rattle.def_promises.specs.Accepted.{Unchangeable};
 ghost use Rattle.def_spend.specs.Fields.{signatures_in, asked_type as the_asked_type};
 ghost use Rattle.def_spend.specs.Finalized.{witness_of};
 ghost use Rattle.def_spend.specs.Hashes.{hash_by as the_hash_by, script_in};
@@ -24,9 +24,9 @@ use crate::gathering::fields_of;
 use crate::signing::{known_amount, script_or_none};
 use bumpalo::Bump;
 use ms_asking::asked_plan;
-use ms_assets::Assets;
 use ms_fields::{Fields, SignedRef, hash_type_of};
 use ms_finalize::{final_witness, settle};
+use ms_held::Assets;
 use ms_oracle::Locks;
 use ms_plan::Plan;
 use ms_psbt::Psbt;
@@ -203,8 +203,8 @@ impl<'p, 't> Input<'p, 't> {
     /// The final witness: the satisfaction, and the witness script as its last item. It demands that the input is Ready.
     /// Refuses for want of memory alone.
     ///
-    /// The interpreter accepts it under every table that holds the input's signatures, with the transaction's locks, and nobody
-    /// can change it.
+    /// The interpreter accepts it where the input's signatures are good, whatever others are, with the transaction's locks, and
+    /// nobody can change it.
     pub fn witness(&self, alloc: Global) -> Result<Blob, AllocError>
         requires { state_of (input_seen self.now) ≡ State.Ready }
         ensures witness { IfOk result (λ witness. witness ≡ witness_of (input_seen self.now)) }

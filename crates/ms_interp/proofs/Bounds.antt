@@ -12,7 +12,7 @@ use Rattle.def_script.specs.Item as item
 use Rattle.def_script.specs.Items.{items}
 use Rattle.def_machine.specs.declared.ScriptFault.TheVariants as fault
 use Rattle.def_machine.specs.Faults.{OrFault, ◌>>=◌}
-use Rattle.def_machine.specs.Stacks.{Stack, Pairs, member, is_empty}
+use Rattle.def_machine.specs.Stacks.{Stack, Pairs, Checker, is_empty}
 use Rattle.def_script.specs.Key.{is_key}
 use Rattle.def_machine.specs.Effects.{verify, condition, to_alt_stack, from_alt_stack, if_dup, dup, swap, size, equal, zero_not_equal, add, bool_and, bool_or, hash, check_sig, lock}
 use Rattle.def_machine.specs.Locks.{after_holds, older_holds}
@@ -40,7 +40,7 @@ if_keeps : {A : Type 0} (P : A → Type 0) (b : Bool) (x y : OrFault A) → Keep
 if_keeps P true x y first second = first
 if_keeps P false x y first second = second
 
--- between instructions, and after an opcode was within_op_limit
+-- between instructions, and after an opcode was counted
 record Bounded (k : ℕ) (s : State) : Type 0 where
   checks : length s.checks ≤ s.ops
   ops : s.ops ≤ 201
@@ -72,19 +72,19 @@ unfolding open_branch
 open_keeps k wanted s b = opened_keeps k (is_live s) wanted s b
 
 -- CHECKSIG adds one check at most
-check_sig_keeps : (table : Pairs) (main : Stack) (checks : Pairs) → Keeps (λ (left : Stack × Pairs). length left.1 ≤ length checks + 1) (check_sig table main checks)
+check_sig_keeps : (checker : Checker) (main : Stack) (checks : Pairs) → Keeps (λ (left : Stack × Pairs). length left.1 ≤ length checks + 1) (check_sig checker main checks)
 unfolding check_sig
-check_sig_keeps table [] checks = tt
-check_sig_keeps table (key ∷ []) checks = tt
-check_sig_keeps table (key ∷ sig ∷ s) checks =
+check_sig_keeps checker [] checks = tt
+check_sig_keeps checker (key ∷ []) checks = tt
+check_sig_keeps checker (key ∷ sig ∷ s) checks =
     let P : Stack × Pairs → Type 0 = λ left. length left.1 ≤ length checks + 1 in
     let one : length (checks ++ (key, sig) ∷ []) ≤ length checks + 1 = omega (arith, length-append checks ((key, sig) ∷ [])) in
     let none : length checks ≤ length checks + 1 = omega arith in
-    if_keeps P (not (is_key key)) _ _ tt (if_keeps P (is_empty sig) _ _ none (if_keeps P (member table key sig) _ _ one tt))
+    if_keeps P (not (is_key key)) _ _ tt (if_keeps P (is_empty sig) _ _ none (if_keeps P (checker key sig) _ _ one tt))
 
-sig_keeps : (k : ℕ) (table : Pairs) (s : State) → Counted k s → Keeps (Bounded k) (on_checks (check_sig table) s)
-sig_keeps k table s c =
-    bind_keeps (λ left. length left.1 ≤ length s.checks + 1) (Bounded k) (check_sig table s.main s.checks) _ (check_sig_keeps table s.main s.checks)
+sig_keeps : (k : ℕ) (checker : Checker) (s : State) → Counted k s → Keeps (Bounded k) (on_checks (check_sig checker) s)
+sig_keeps k checker s c =
+    bind_keeps (λ left. length left.1 ≤ length s.checks + 1) (Bounded k) (check_sig checker s.main s.checks) _ (check_sig_keeps checker s.main s.checks)
     (λ left few. let checks = c.checks in record { checks = omega arith; ops = c.ops; peak = c.peak })
 
 -- CHECKMULTISIG adds one check a key at most
@@ -102,13 +102,13 @@ found_more : (b : Bool) (found : Pairs) (key sig : Bytes) (keys : Stack) (n : �
 found_more true found key sig keys n few = omega (arith, length-append found ((key, sig) ∷ []))
 found_more false found key sig keys n few = omega arith
 
-tries_keep : (table : Pairs) (keys sigs : Stack) (found : Pairs) (n : ℕ) → length found + length keys ≤ n → Keeps (Few n) (tries table keys sigs found)
+tries_keep : (checker : Checker) (keys sigs : Stack) (found : Pairs) (n : ℕ) → length found + length keys ≤ n → Keeps (Few n) (tries checker keys sigs found)
 unfolding tries
-tries_keep table keys [] found n few = omega arith
-tries_keep table [] (sig ∷ sigs) found n few = tt
-tries_keep table (key ∷ keys) (sig ∷ sigs) found n few =
-    try_keeps _ (is_key key) (is_good table key sig) n _
-    (λ b. tries_keep table keys (if b then sigs else sig ∷ sigs) (if b then found ++ (key, sig) ∷ [] else found) n (found_more b found key sig keys n few))
+tries_keep checker keys [] found n few = omega arith
+tries_keep checker [] (sig ∷ sigs) found n few = tt
+tries_keep checker (key ∷ keys) (sig ∷ sigs) found n few =
+    try_keeps _ (is_key key) (is_good checker key sig) n _
+    (λ b. tries_keep checker keys (if b then sigs else sig ∷ sigs) (if b then found ++ (key, sig) ∷ [] else found) n (found_more b found key sig keys n few))
 
 verdict_keeps : (n : ℕ) (sigs : Stack) (tried : Option Pairs) → Few n tried → Keeps (λ (passed : Bool × Pairs). length passed.1 ≤ n) (verdict sigs tried)
 unfolding verdict
@@ -132,9 +132,9 @@ some_off_keeps n main =
 abbrev Grown : (ops : ℕ) (checks : Pairs) → Stack × ℕ × Pairs → Type 0
 Grown ops checks left = (length left.2 + ops ≤ length checks + left.1) × (left.1 ≤ 201)
 
-check_multi_keeps : (table : Pairs) (main : Stack) (ops : ℕ) (checks : Pairs) → Keeps (Grown ops checks) (check_multi_sig table main ops checks)
+check_multi_keeps : (checker : Checker) (main : Stack) (ops : ℕ) (checks : Pairs) → Keeps (Grown ops checks) (check_multi_sig checker main ops checks)
 unfolding check_multi_sig
-check_multi_keeps table main ops checks =
+check_multi_keeps checker main ops checks =
     let P = Grown ops checks in
     bind_keeps (λ n. Unit {0}) P (count 20 fault.KeyCount main) _ (always _) (λ n u1.
     bind_keeps (λ total. (total ≡ ops + n.0) × (total ≤ 201)) P (within_op_limit (ops + n.0)) _ (counted_keeps (ops + n.0)) (λ total sum.
@@ -142,14 +142,14 @@ check_multi_keeps table main ops checks =
     bind_keeps (λ m. Unit {0}) P (count n.0 fault.SigCount keys.1) _ (always _) (λ m u2.
     bind_keeps (λ sigs. Unit {0}) P (some_off m.0 m.1) _ (always _) (λ sigs u3.
     bind_keeps (λ extra. Unit {0}) P (one_off sigs.1) _ (always _) (λ extra u4.
-    bind_keeps (Few n.0) P (tries table keys.0 sigs.0 []) _ (tries_keep table keys.0 sigs.0 [] n.0 (omega (arith, few))) (λ tried some.
+    bind_keeps (Few n.0) P (tries checker keys.0 sigs.0 []) _ (tries_keep checker keys.0 sigs.0 [] n.0 (omega (arith, few))) (λ tried some.
     bind_keeps (λ passed. length passed.1 ≤ n.0) P (verdict sigs.0 tried) _ (verdict_keeps n.0 sigs.0 tried some) (λ passed added.
     bind_keeps (λ empty. Unit {0}) P (null_dummy extra.0) _ (always _) (λ empty u5.
     (let is = sum.0 in omega (arith, is, length-append checks passed.1), sum.1))))))))))
 
-multi_keeps : (k : ℕ) (table : Pairs) (s : State) → Counted k s → Keeps (Bounded k) (on_multi (check_multi_sig table) s)
-multi_keeps k table s c =
-    bind_keeps (Grown s.ops s.checks) (Bounded k) (check_multi_sig table s.main s.ops s.checks) _ (check_multi_keeps table s.main s.ops s.checks)
+multi_keeps : (k : ℕ) (checker : Checker) (s : State) → Counted k s → Keeps (Bounded k) (on_multi (check_multi_sig checker) s)
+multi_keeps k checker s c =
+    bind_keeps (Grown s.ops s.checks) (Bounded k) (check_multi_sig checker s.main s.ops s.checks) _ (check_multi_keeps checker s.main s.ops s.checks)
     (λ left grown. let more = grown.0 in let checks = c.checks in record { checks = omega arith; ops = grown.1; peak = c.peak })
 
 verify_keeps : (k : ℕ) (r : OrFault State) → Keeps (Bounded k) r → Keeps (Bounded k) (r >>= on_main verify)
@@ -178,10 +178,10 @@ act_keeps k given op.Ripemd160 s c = main_keeps k (hash kind.Ripemd160) s (bound
 act_keeps k given op.Sha256 s c = main_keeps k (hash kind.Sha256) s (bounded k s c)
 act_keeps k given op.Hash160 s c = main_keeps k (hash kind.Hash160) s (bounded k s c)
 act_keeps k given op.Hash256 s c = main_keeps k (hash kind.Hash256) s (bounded k s c)
-act_keeps k given op.CheckSig s c = sig_keeps k given.table s c
-act_keeps k given op.CheckSigVerify s c = verify_keeps k (on_checks (check_sig given.table) s) (sig_keeps k given.table s c)
-act_keeps k given op.CheckMultiSig s c = multi_keeps k given.table s c
-act_keeps k given op.CheckMultiSigVerify s c = verify_keeps k (on_multi (check_multi_sig given.table) s) (multi_keeps k given.table s c)
+act_keeps k given op.CheckSig s c = sig_keeps k given.checker s c
+act_keeps k given op.CheckSigVerify s c = verify_keeps k (on_checks (check_sig given.checker) s) (sig_keeps k given.checker s c)
+act_keeps k given op.CheckMultiSig s c = multi_keeps k given.checker s c
+act_keeps k given op.CheckMultiSigVerify s c = verify_keeps k (on_multi (check_multi_sig given.checker) s) (multi_keeps k given.checker s c)
 act_keeps k given op.Cltv s c = main_keeps k (lock (λ n. after_holds n given.locks)) s (bounded k s c)
 act_keeps k given op.Csv s c = main_keeps k (lock (λ n. older_holds n given.locks)) s (bounded k s c)
 

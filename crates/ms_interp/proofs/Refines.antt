@@ -159,10 +159,11 @@ act_is given op.Ripemd160 s = main_is (hash kind.Ripemd160) s
 act_is given op.Sha256 s = main_is (hash kind.Sha256) s
 act_is given op.Hash160 s = main_is (hash kind.Hash160) s
 act_is given op.Hash256 s = main_is (hash kind.Hash256) s
-act_is given op.CheckSig s = checks_is (check_sig given.table) s
-act_is given op.CheckSigVerify s = verify_after (the_on_checks (check_sig given.table) s) (on_checks (check_sig given.table) (machine_of s)) (checks_is (check_sig given.table) s)
-act_is given op.CheckMultiSig s = multi_is (check_multi_sig given.table) s
-act_is given op.CheckMultiSigVerify s = verify_after (the_on_multi (check_multi_sig given.table) s) (on_multi (check_multi_sig given.table) (machine_of s)) (multi_is (check_multi_sig given.table) s)
+act_is given op.CheckSig s = checks_is (check_sig given.checker) s
+act_is given op.CheckSigVerify s = verify_after (the_on_checks (check_sig given.checker) s) (on_checks (check_sig given.checker) (machine_of s)) (checks_is (check_sig given.checker) s)
+act_is given op.CheckMultiSig s = multi_is (check_multi_sig given.checker) s
+act_is given op.CheckMultiSigVerify s = verify_after (the_on_multi (check_multi_sig given.checker) s) (on_multi (check_multi_sig given.checker) (machine_of s))
+    (multi_is (check_multi_sig given.checker) s)
 act_is given op.Cltv s = main_is (lock (λ n. after_holds n given.locks)) s
 act_is given op.Csv s = main_is (lock (λ n. older_holds n given.locks)) s
 

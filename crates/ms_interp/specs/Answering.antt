@@ -2,7 +2,7 @@
 use Rattle.std.specs.Prelude.{◌≡◌, ◌≤◌, ℕ, max, length, Result, Ok, Err}
 use Rattle.def_script.specs.Limits.{MAX_OPS_PER_SCRIPT, MAX_STACK_SIZE}
 use Rattle.def_machine.specs.declared.Locks.{Locks}
-use Rattle.def_machine.specs.Stacks.{Pairs}
+use Rattle.def_machine.specs.Stacks.{Checker}
 use Rattle.def_machine.specs.Machine.{Given}
 use Rattle.def_machine.specs.Run.{Outcome, accepted, refused}
 use Rattle.ms_interp.specs.declared.report.RunReport.{RunReport}
@@ -10,8 +10,8 @@ use Rattle.ms_interp.specs.declared.report.RunStop.{RunStop}
 use Rattle.ms_interp.specs.declared.report.RunStop.TheVariants.{Refused, Memory}
 
 -- what a run is given
-abbrev pub given_by : Pairs → Locks → Given
-given_by table locks = record { table = table; locks = locks }
+abbrev pub given_by : Checker → Locks → Given
+given_by checker locks = record { checker = checker; locks = locks }
 
 -- a report is that of an accepted run, and a refusal has its fault and place; only want of memory
 -- may come in their place

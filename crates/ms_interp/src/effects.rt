@@ -1,6 +1,5 @@
 //! What the opcodes do to the stacks, but for CHECKMULTISIG and the timelocks.
 ghost use Rattle.def_machine.specs.Effects.{verify as the_verify, to_alt_stack as the_to_alt_stack, from_alt_stack as the_from_alt_stack, if_dup as the_if_dup, dup as the_dup, swap as the_swap, size as the_size, equal as the_equal, zero_not_equal as the_zero_not_equal, add as the_add, bool_and as the_bool_and, bool_or as the_bool_or, hash as the_hash, check_sig as the_check_sig};
-ghost use Rattle.ms_oracle.specs.Sound.{table_of, IsSound};
 ghost use Rattle.ms_interp.specs.Scaffolding.Stops.{Leaves};
 
 use crate::operands::{one_number, two_numbers};
@@ -8,7 +7,7 @@ use crate::pile::Pile;
 use crate::stop::Stop;
 use def_machine::ScriptFault;
 use ms_hash::{HashKind, HashVal, hash_of};
-use ms_oracle::{Pairs, SigCheck};
+use ms_oracle::{Pairs, SignatureChecker};
 use ms_script::{is_key, num_encode, truth};
 
 /// VERIFY: takes the top, which must be true.
@@ -181,13 +180,13 @@ pub fn hash(main: &mut Pile, kind: HashKind) -> Result<(), Stop>
 /// CHECKSIG: takes a key and a signature, and pushes whether the signature is good. One that isn't must be
 /// empty (BIP 146).
 #[tactic(auto, unfolding(def_machine::specs::Effects::check_sig))]
-pub fn check_sig<F: Fn(&[u8], &[u8]) -> bool>(
+pub fn check_sig<C: SignatureChecker>(
     main: &mut Pile,
     checks: &mut Pairs,
-    sigs: &SigCheck<'_, F>,
+    sigs: &C,
 ) -> Result<(), Stop>
-    requires { IsSound F.Fn sigs.now }
-    ensures { Leaves result (main.new, checks.new) (the_check_sig (table_of sigs.now) main.old checks.old) }
+    requires { C.IsSound sigs.now }
+    ensures { Leaves result (main.new, checks.new) (the_check_sig (C.checker sigs.now) main.old checks.old) }
 {
     let Some(key) = main.pop() else {
         return Err(Stop::Fault(ScriptFault::StackUnderflow));

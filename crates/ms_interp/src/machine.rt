@@ -4,7 +4,6 @@ ghost use Rattle.def_machine.specs.Effects.{verify as the_verify, equal as the_e
 ghost use Rattle.def_machine.specs.Machine.{is_branching as the_is_branching};
 ghost use Rattle.def_machine.specs.MultiSig.{check_multi_sig as the_check_multi_sig};
 ghost use Rattle.ms_script.specs.Reads.{item_of};
-ghost use Rattle.ms_oracle.specs.Sound.{table_of, IsSound};
 ghost use Rattle.ms_interp.specs.Scaffolding.Stops.{Leaves};
 ghost use Rattle.ms_interp.specs.Answering.{given_by};
 ghost use Rattle.ms_interp.specs.Scaffolding.Branches.{turned, closed};
@@ -22,7 +21,7 @@ use crate::stop::Stop;
 use crate::timelocks::{cltv, csv};
 use def_machine::{Locks, ScriptFault};
 use ms_hash::HashKind;
-use ms_oracle::{Pairs, SigCheck};
+use ms_oracle::{Pairs, SignatureChecker};
 use ms_script::{InstrRef, MAX_SCRIPT_ELEMENT_SIZE, MAX_STACK_SIZE, Op, num_encode};
 use std::alloc::Global;
 
@@ -74,20 +73,17 @@ impl Machine {
         equal(&mut self.main)
     }
 
-    fn check_sig<F: Fn(&[u8], &[u8]) -> bool>(&mut self, sigs: &SigCheck<'_, F>) -> Result<(), Stop>
-        requires { IsSound F.Fn sigs.now }
-        ensures value { Leaves result self.new (on_checks (the_check_sig (table_of sigs.now)) self.old) }
+    fn check_sig<C: SignatureChecker>(&mut self, sigs: &C) -> Result<(), Stop>
+        requires { C.IsSound sigs.now }
+        ensures value { Leaves result self.new (on_checks (the_check_sig (C.checker sigs.now)) self.old) }
         ensures branches { self.new.branches ≡ self.old.branches }
     {
         check_sig(&mut self.main, &mut self.checks, sigs)
     }
 
-    fn check_multi_sig<F: Fn(&[u8], &[u8]) -> bool>(
-        &mut self,
-        sigs: &SigCheck<'_, F>,
-    ) -> Result<(), Stop>
-        requires { IsSound F.Fn sigs.now }
-        ensures value { Leaves result self.new (on_multi (the_check_multi_sig (table_of sigs.now)) self.old) }
+    fn check_multi_sig<C: SignatureChecker>(&mut self, sigs: &C) -> Result<(), Stop>
+        requires { C.IsSound sigs.now }
+        ensures value { Leaves result self.new (on_multi (the_check_multi_sig (C.checker sigs.now)) self.old) }
         ensures branches { self.new.branches ≡ self.old.branches }
     {
         check_multi_sig(&mut self.main, &mut self.ops, &mut self.checks, sigs)
@@ -127,15 +123,10 @@ impl Machine {
 
     /// What each opcode does.
     #[tactic(auto, unfolding(crate::specs::Scaffolding::Compact::act), using(crate::proofs::Leaving::leaving))]
-    fn act<F: Fn(&[u8], &[u8]) -> bool>(
-        &mut self,
-        sigs: &SigCheck<'_, F>,
-        locks: &Locks,
-        op: Op,
-    ) -> Result<(), Stop>
-        requires sound { IsSound F.Fn sigs.now }
+    fn act<C: SignatureChecker>(&mut self, sigs: &C, locks: &Locks, op: Op) -> Result<(), Stop>
+        requires sound { C.IsSound sigs.now }
         requires room { self.old.branches.depth < usize.MAX }
-        ensures value { Leaves result self.new (the_act (given_by (table_of sigs.now) locks.now) op self.old) }
+        ensures value { Leaves result self.new (the_act (given_by (C.checker sigs.now) locks.now) op self.old) }
         ensures depth { self.new.branches.depth ≤ self.old.branches.depth + 1 }
     {
         match op {
@@ -188,15 +179,10 @@ impl Machine {
 
     /// Counts an opcode, also where the branches aren't taken, and carries it out.
     #[tactic(auto, unfolding(crate::specs::Scaffolding::Compact::carry_op))]
-    fn carry_op<F: Fn(&[u8], &[u8]) -> bool>(
-        &mut self,
-        sigs: &SigCheck<'_, F>,
-        locks: &Locks,
-        op: Op,
-    ) -> Result<(), Stop>
-        requires sound { IsSound F.Fn sigs.now }
+    fn carry_op<C: SignatureChecker>(&mut self, sigs: &C, locks: &Locks, op: Op) -> Result<(), Stop>
+        requires sound { C.IsSound sigs.now }
         requires room { self.old.branches.depth < usize.MAX }
-        ensures value { Leaves result self.new (the_carry_op (given_by (table_of sigs.now) locks.now) op self.old) }
+        ensures value { Leaves result self.new (the_carry_op (given_by (C.checker sigs.now) locks.now) op self.old) }
         ensures depth { self.new.branches.depth ≤ self.old.branches.depth + 1 }
     {
         self.count_op()?;
@@ -226,15 +212,15 @@ impl Machine {
     }
 
     #[tactic(auto, unfolding(crate::specs::Scaffolding::Compact::carry_out))]
-    fn carry_out<F: Fn(&[u8], &[u8]) -> bool>(
+    fn carry_out<C: SignatureChecker>(
         &mut self,
-        sigs: &SigCheck<'_, F>,
+        sigs: &C,
         locks: &Locks,
         instr: InstrRef<'_>,
     ) -> Result<(), Stop>
-        requires sound { IsSound F.Fn sigs.now }
+        requires sound { C.IsSound sigs.now }
         requires room { self.old.branches.depth < usize.MAX }
-        ensures value { Leaves result self.new (the_carry_out (given_by (table_of sigs.now) locks.now) (item_of instr.entry) self.old) }
+        ensures value { Leaves result self.new (the_carry_out (given_by (C.checker sigs.now) locks.now) (item_of instr.entry) self.old) }
         ensures depth { self.new.branches.depth ≤ self.old.branches.depth + 1 }
     {
         match instr {
@@ -263,15 +249,15 @@ impl Machine {
 
     /// One instruction.
     #[tactic(auto, unfolding(crate::specs::Scaffolding::Compact::step))]
-    pub fn step<F: Fn(&[u8], &[u8]) -> bool>(
+    pub fn step<C: SignatureChecker>(
         &mut self,
-        sigs: &SigCheck<'_, F>,
+        sigs: &C,
         locks: &Locks,
         instr: InstrRef<'_>,
     ) -> Result<(), Stop>
-        requires sound { IsSound F.Fn sigs.now }
+        requires sound { C.IsSound sigs.now }
         requires room { self.old.branches.depth < usize.MAX }
-        ensures value { Leaves result self.new (the_step (given_by (table_of sigs.now) locks.now) (item_of instr.entry) self.old) }
+        ensures value { Leaves result self.new (the_step (given_by (C.checker sigs.now) locks.now) (item_of instr.entry) self.old) }
         ensures depth { self.new.branches.depth ≤ self.old.branches.depth + 1 }
     {
         self.carry_out(sigs, locks, instr)?;

@@ -3,7 +3,6 @@ ghost use Rattle.std.specs.Prelude.{◌≡◌, ◌+◌, [], ◌++◌, ◌<◌, l
 ghost use Rattle.std.specs.List.{list_all};
 ghost use Rattle.def_machine.specs.Stacks.{is_empty};
 ghost use Rattle.def_machine.specs.MultiSig.{within_op_limit, is_good as the_is_good, some_off as the_some_off, tries as the_tries, verdict as the_verdict, check_multi_sig as the_check_multi_sig};
-ghost use Rattle.ms_oracle.specs.Sound.{table_of, IsSound};
 ghost use Rattle.ms_interp.specs.Scaffolding.Stops.{Leaves, Gives, GivesFault};
 ghost use Rattle.ms_interp.specs.Scaffolding.Multi.{found_by, judged_seen};
 
@@ -11,7 +10,7 @@ use crate::operands::count;
 use crate::pile::Pile;
 use crate::stop::Stop;
 use def_machine::ScriptFault;
-use ms_oracle::{Pairs, SigCheck};
+use ms_oracle::{Pairs, SignatureChecker};
 use ms_script::{Blob, MAX_OPS_PER_SCRIPT, MAX_PUBKEYS_PER_MULTISIG, is_key};
 use std::alloc::{AllocError, Global};
 
@@ -54,23 +53,23 @@ fn bytes_at(elements: &[Blob], i: usize) -> &[u8]
 }
 
 /// Whether the signature is good for the key; an empty one is never asked for.
-fn is_good<F: Fn(&[u8], &[u8]) -> bool>(key: &[u8], sig: &[u8], sigs: &SigCheck<'_, F>) -> bool
-    requires { IsSound F.Fn sigs.now }
-    ensures { result ≡ the_is_good (table_of sigs.now) key.now sig.now }
+fn is_good<C: SignatureChecker>(key: &[u8], sig: &[u8], sigs: &C) -> bool
+    requires { C.IsSound sigs.now }
+    ensures { result ≡ the_is_good (C.checker sigs.now) key.now sig.now }
 {
     !sig.is_empty() && sigs.ask(key, sig)
 }
 
 /// Tries each of the signatures with the keys, which both stand last first: a try passes the key, and a good
 /// one the signature too. Answers the pairs found good where no signature is left.
-fn tries<F: Fn(&[u8], &[u8]) -> bool>(
+fn tries<C: SignatureChecker>(
     alloc: Global,
     keys: &[Blob],
     signatures: &[Blob],
-    sigs: &SigCheck<'_, F>,
+    sigs: &C,
 ) -> Result<Option<Pairs>, Stop>
-    requires { IsSound F.Fn sigs.now }
-    ensures { Gives result found_by (the_tries (table_of sigs.now) keys.now signatures.now []) }
+    requires { C.IsSound sigs.now }
+    ensures { Gives result found_by (the_tries (C.checker sigs.now) keys.now signatures.now []) }
 {
     let mut found = Pairs::new(alloc);
     let mut next_key = 0;
@@ -146,14 +145,14 @@ fn add_all(checks: &mut Pairs, found: &Pairs) -> Result<(), AllocError>
 /// CHECKMULTISIG: takes the keys, the signatures and one element more, each list after its count, and pushes
 /// whether all signatures are good.
 #[tactic(auto, unfolding(def_machine::specs::MultiSig::check_multi_sig, def_machine::specs::MultiSig::one_off, def_machine::specs::MultiSig::null_dummy))]
-pub fn check_multi_sig<F: Fn(&[u8], &[u8]) -> bool>(
+pub fn check_multi_sig<C: SignatureChecker>(
     main: &mut Pile,
     ops: &mut u32,
     checks: &mut Pairs,
-    sigs: &SigCheck<'_, F>,
+    sigs: &C,
 ) -> Result<(), Stop>
-    requires { IsSound F.Fn sigs.now }
-    ensures { Leaves result (main.new, ops.new, checks.new) (the_check_multi_sig (table_of sigs.now) main.old ops.old checks.old) }
+    requires { C.IsSound sigs.now }
+    ensures { Leaves result (main.new, ops.new, checks.new) (the_check_multi_sig (C.checker sigs.now) main.old ops.old checks.old) }
 {
     let alloc = main.allocator();
     let n = count(main, MAX_PUBKEYS_PER_MULTISIG, ScriptFault::KeyCount)?;

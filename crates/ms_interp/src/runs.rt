@@ -6,7 +6,6 @@ ghost use Rattle.def_script.specs.Items.{items};
 ghost use Rattle.def_script.specs.Limits.{MAX_SCRIPT_ELEMENT_SIZE as max_script_element_size, MAX_SCRIPT_SIZE as max_script_size};
 ghost use Rattle.def_machine.specs.Machine.{fault_of as the_fault_of};
 ghost use Rattle.def_machine.specs.Run.{run as the_run};
-ghost use Rattle.ms_oracle.specs.Sound.{table_of, IsSound};
 ghost use Rattle.ms_interp.specs.Answering.{given_by, Answers, IsSmallReport};
 ghost use Rattle.ms_interp.specs.Scaffolding.Stops.{run_stop};
 ghost use Rattle.ms_interp.specs.Scaffolding.Compact.{ended as the_ended, steps as the_steps};
@@ -16,7 +15,7 @@ use crate::pile::Pile;
 use crate::report::{RunReport, RunStop};
 use crate::stop::Stop;
 use def_machine::{Locks, ScriptFault};
-use ms_oracle::SigCheck;
+use ms_oracle::SignatureChecker;
 use ms_script::{InstrFault, MAX_SCRIPT_ELEMENT_SIZE, MAX_SCRIPT_SIZE, Stack, next_instr, truth};
 use std::alloc::{AllocError, Global};
 
@@ -26,24 +25,24 @@ use std::alloc::{AllocError, Global};
 ///
 /// `script` is the witness script as bytes, `stack` the elements below it in the witness, the bottom first, at most
 /// 2^31 of them. `locks` tells version and locktime of the spending transaction and the sequence number of its
-/// input, for BIP 65 and BIP 112. `sigs` tells which signatures are good; that it answers for its table is what
-/// `SigCheck::new` promises.
+/// input, for BIP 65 and BIP 112. `sigs` tells which signatures are good; of a check of a table that it does so is
+/// what `SigCheck::new` promises.
 ///
 /// A run is accepted where it leaves exactly one element, which is true, and no branch is open. `Refused` comes
 /// exactly where the run meets a fault, the first in the order of the instructions, with the instruction's number
 /// from 0: 0 where the script or an element is too long, the number of instructions where a test at the end fails.
 /// `Memory` comes only where memory is wanting, and may come in place of any of these but a script or an element
 /// that is too long.
-pub fn run<F: Fn(&[u8], &[u8]) -> bool>(
+pub fn run<C: SignatureChecker>(
     alloc: Global,
     script: &[u8],
     stack: &Stack,
     locks: &Locks,
-    sigs: &SigCheck<'_, F>,
+    sigs: &C,
 ) -> Result<RunReport, RunStop>
     requires few { length stack.now ≤ 2147483648 }
-    requires sound { IsSound F.Fn sigs.now }
-    ensures outcome { Answers result (the_run (given_by (table_of sigs.now) locks.now) script.now stack.now) }
+    requires sound { C.IsSound sigs.now }
+    ensures outcome { Answers result (the_run (given_by (C.checker sigs.now) locks.now) script.now stack.now) }
     ensures small { IfOk result (IsSmallReport (length stack.now)) }
 {
     if script.len() > MAX_SCRIPT_SIZE {
@@ -82,16 +81,16 @@ fn pile_of(alloc: Global, stack: &Stack) -> Result<Pile, AllocError>
 }
 
 /// Carries the instructions out, one after the other.
-fn steps<F: Fn(&[u8], &[u8]) -> bool>(
+fn steps<C: SignatureChecker>(
     machine: Machine,
     script: &[u8],
     locks: &Locks,
-    sigs: &SigCheck<'_, F>,
+    sigs: &C,
 ) -> Result<RunReport, RunStop>
-    requires sound { IsSound F.Fn sigs.now }
+    requires sound { C.IsSound sigs.now }
     requires short { length script.now ≤ max_script_size }
     requires closed { machine.branches.depth ≡ 0 }
-    ensures { Answers result (the_steps (given_by (table_of sigs.now) locks.now) (items script.now) 0 machine) }
+    ensures { Answers result (the_steps (given_by (C.checker sigs.now) locks.now) (items script.now) 0 machine) }
 {
     let mut machine = machine;
     let mut from = 0;

@@ -3,7 +3,8 @@ use Rattle.std.proofs.Common.{ℕ, ◌<◌, List, [], ◌++◌, length, length-a
 use Rattle.std.specs.declared.option.Option.{Option}
 use Rattle.std.specs.Io.KnownBytes.{Consumes, IsAtEnd, Keeps}
 use Rattle.ms_io.specs.Moves.{GivesAll, GivesOver}
-use Rattle.ms_io.specs.Sides.{Side, AreTold, Held, ReadsFront}
+use Rattle.ms_io.specs.Sides.{Side}
+use Rattle.ms_io.specs.Reads.{AreTold, Held, ReadsFront}
 
 -- nothing was read, or written
 pub none_read : (told : Option (List ℕ)) → ReadsFront told told

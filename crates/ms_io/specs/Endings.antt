@@ -1,19 +1,9 @@
 -- How a call ends that answers words: what it did to its source and to its sink, and with which status.
 use Rattle.std.specs.Prelude.{◌≡◌, ◌⊎◌, List, ℕ}
 use Rattle.std.specs.Io.KnownBytes.{Appends, Keeps}
-use Rattle.ms_io.specs.Faults.{Rose}
+use Rattle.ms_io.specs.Sides.{Rose, Side, CallWith}
 use Rattle.ms_io.specs.Moves.{AppendsPrefix}
-use Rattle.ms_io.specs.Sides.{Side, AreTold}
-
--- the words of a call, what it did to the source and to the sink, and its status
-pub record CallWith (S : Type 0) : Type 0 where
-  pub words : List (List ℕ)
-  pub source : Side
-  pub sink : Side
-  pub status : S
-
-abbrev pub call : {S : Type 0} → (words : List (List ℕ)) → (source sink : Side) → S → CallWith S
-call words source sink status = record { words = words; source = source; sink = sink; status = status }
+use Rattle.ms_io.specs.Reads.{AreTold}
 
 -- which statuses and reports are answers to words and to the bytes of a source
 abbrev pub AnswersWith : (S : Type 0) → Type 1

@@ -1,7 +1,8 @@
+pub mod Sides
 pub mod Faults
 pub mod Calls
 pub mod Moves
 pub mod Memory
-pub mod Sides
+pub mod Reads
 pub mod Endings
 pub mod Scaffolding

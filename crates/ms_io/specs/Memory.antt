@@ -1,7 +1,8 @@
 -- A sink and a source over memory that fail where they are told to.
 use Rattle.std.specs.Prelude.{◌≡◌, ℕ, ◌-◌, ◌==◌, ◌&&◌, ◌||◌, min, nat_lt, Bool, true, false, List, length, take, drop, ◌++◌, if◌then◌else◌}
 use Rattle.std.specs.List.{list_any}
-use Rattle.ms_io.specs.Faults.{LAST_COUNT, next_count}
+use Rattle.ms_io.specs.Faults.{next_count}
+use Rattle.ms_io.specs.Sides.{LAST_COUNT}
 
 -- ---- numbers of calls
 

@@ -1,6 +1,5 @@
--- What a call did to a source and to a sink.
-use Rattle.std.specs.Prelude.{◌≡◌, ℕ, ◌≤◌, ⊤, List, length, Option, None, Some}
-use Rattle.std.specs.Io.KnownBytes.{Consumes, IsAtEnd}
+-- A call that answers words: what it did to its source and to its sink, and with which status it ended.
+use Rattle.std.specs.Prelude.{◌≡◌, ℕ, ◌-◌, ◌^◌, ◌<◌, ◌⊎◌, List, Option}
 
 -- of a source the bytes that are left, of a sink those that were written, where it tells them, and its count of
 -- faults, before a call and after it
@@ -14,21 +13,22 @@ pub record Side : Type 0 where
 abbrev pub side : {X : Type 0} → (bytes : X → Option (List ℕ)) → (faults : X → ℕ) → (old new : X) → Side
 side bytes faults old new = record { old = bytes old; new = bytes new; before = faults old; now = faults new }
 
--- a front of its bytes was read, and the rest is left
-abbrev pub ReadsFront : (old new : Option (List ℕ)) → Type 0
-ReadsFront old new = (front : List ℕ) × Consumes old new front
+-- the words of a call, what it did to the source and to the sink, and its status
+pub record CallWith (S : Type 0) : Type 0 where
+  pub words : List (List ℕ)
+  pub source : Side
+  pub sink : Side
+  pub status : S
 
--- the source is as it was
-pub record IsUnread (source : Side) : Type 0 where
-  pub left : source.new ≡ source.old
-  pub faults : source.now ≡ source.before
+abbrev pub call : {S : Type 0} → (words : List (List ℕ)) → (source sink : Side) → S → CallWith S
+call words source sink status = record { words = words; source = source; sink = sink; status = status }
 
--- these are the bytes that are told, where any are
-abbrev pub AreTold : Option (List ℕ) → (bytes : List ℕ) → Type 0
-AreTold None bytes = ⊤
-AreTold (Some told) bytes = told ≡ bytes
+-- ---- faults, whose counts stop at the last value of their counter
 
--- the source held these bytes, and was read to its end unless they are more than a limit
-pub record Held (limit : ℕ) (source : Side) (bytes : List ℕ) : Type 0 where
-  pub told : AreTold source.old bytes
-  pub end : length bytes ≤ limit → IsAtEnd source.new
+-- the last value of a counter of 64 bits
+abbrev pub LAST_COUNT : ℕ
+LAST_COUNT = 2 ^ 64 - 1
+
+-- a count rose: it is greater than before, or stands at the last value of its counter
+abbrev pub Rose : ℕ → ℕ → Type 0
+Rose before now = (before < now) ⊎ (now ≡ LAST_COUNT)

@@ -5,7 +5,8 @@ ghost use Rattle.std.specs.declared.option.Option.{Option};
 ghost use Rattle.std.specs.Io.{ReadsAtMost};
 ghost use Rattle.std.specs.Io.KnownBytes.{ReadConsumes};
 ghost use Rattle.ms_io.specs.Calls.{GivesToEnd, GivesUntilFault, GivesPast, GivesShort};
-ghost use Rattle.ms_io.specs.Faults.{HasCause, Rose};
+ghost use Rattle.ms_io.specs.Faults.{HasCause};
+ghost use Rattle.ms_io.specs.Sides.{Rose};
 ghost use Rattle.ms_io.specs.Moves.{GivesAll, GivesWithin, GivesOver};
 
 use std::alloc::Global;

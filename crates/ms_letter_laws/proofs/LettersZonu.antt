@@ -44,7 +44,7 @@ unit_value node writable typed few given stack below s place base u sat short li
     let log = sat_log (full given any) node (reverse stack) sat in
     let items = short_items 520 (omega arith) (reverse stack) (all_reversed (λ item. length item ≤ 520) stack short) in
     let e : EndsB true true (den given node) (reverse stack) below log =
-    subst (λ a. Ends given.table B a true (den given node) (reverse stack) below log) u
-    (subst (λ c. Ends given.table c (type_of node).u true (den given node) (reverse stack) below log) base
+    subst (λ a. Ends given.checker B a true (den given node) (reverse stack) below log) u
+    (subst (λ c. Ends given.checker c (type_of node).u true (den given node) (reverse stack) below log) base
     ((sat_ends (full given any) node writable typed few (reverse stack) items sat).ends below)) in
     stop_or_leave given node s place (left (ONE ∷ below) _) writable live (ap (den given node) main ∙ unit_ends true (den given node) (reverse stack) below _ e)

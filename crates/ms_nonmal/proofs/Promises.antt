@@ -2,7 +2,7 @@
 use Rattle.std.proofs.Common.{◌≡◌, ◌↔◌, ◌≤◌, List, Option, Some, None, refl, sym, ◌∙◌}
 use Rattle.std.proofs.lemmas.Option.{none-some}
 use Rattle.def_script.specs.Bytes.{Bytes}
-use Rattle.def_machine.specs.Stacks.{Pairs}
+use Rattle.def_machine.specs.Stacks.{Pairs, member}
 use Rattle.def_tree.specs.Tree.{Tree}
 use Rattle.def_tree.specs.Range.{IsWritable}
 use Rattle.def_assets.specs.Assets.{Assets, AreAssets}
@@ -13,7 +13,7 @@ use Rattle.def_satisfaction.specs.Satisfaction.{Sat}
 use Rattle.def_choice.specs.Strict.{strict}
 use Rattle.def_choice.specs.NonMalleable.{IsAccepted, Fresh, NonMalleable, given_with}
 use Rattle.def_choice.proofs.Chosen.{strict_is_canonical}
-use Rattle.def_promises.specs.Promises.{Unchangeable}
+use Rattle.def_promises.specs.Accepted.{Unchangeable}
 use Rattle.ms_strict_laws.proofs.StrictChoiceExists.{strict_exists}
 use Rattle.ms_strict_laws.proofs.TightIsUnchangeable.{strict_is_non_malleable, strict_is_unchangeable, nothing_to_accept}
 use Rattle.ms_strict_laws.proofs.UnchangeableIsTight.{strict_is_lightest}
@@ -36,7 +36,7 @@ module _ (tree : Tree) (assets : Assets) (found : Option (List Bytes)) (writable
   found_non_malleable stack e =
       (strict_is_non_malleable tree assets stack writable sane are (sym is ∙ e), strict_is_unchangeable tree assets stack writable sane are (sym is ∙ e))
 
-  pub found_nothing : found ≡ None → (stack : List Bytes) (checks : Pairs) → IsAccepted tree (given_with assets assets.pairs) stack checks → Fresh tree assets assets.pairs stack
+  pub found_nothing : found ≡ None → (stack : List Bytes) (checks : Pairs) → IsAccepted tree (given_with assets (member assets.pairs)) stack checks → Fresh tree assets (member assets.pairs) stack
   found_nothing e stack checks accepted = nothing_to_accept tree assets stack checks writable sane are (sym is ∙ e) accepted
 
   pub found_lightest : (other : List Bytes) → Sat tree assets other → NonMalleable tree assets other → (stack : List Bytes) × (found ≡ Some stack) × (weight stack ≤ weight other)

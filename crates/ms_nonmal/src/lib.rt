@@ -3,4 +3,4 @@
 
 mod satisfy;
 
-pub use satisfy::{strict, strict_in};
+pub use satisfy::strict;

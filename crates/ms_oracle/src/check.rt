@@ -3,6 +3,7 @@ ghost use Rattle.std.specs.Prelude.{◌≡◌};
 ghost use Rattle.def_machine.specs.Stacks.{member as the_member};
 ghost use Rattle.ms_oracle.specs.Sound.{table_of, AnswersFor, IsSound};
 
+use crate::checker::SignatureChecker;
 use crate::pairs::SigPair;
 use std::marker::Model;
 
@@ -36,13 +37,16 @@ impl<'a, F: Fn(&[u8], &[u8]) -> bool> SigCheck<'a, F> {
     {
         SigCheck { table, check }
     }
+}
+
+impl<'a, F: Fn(&[u8], &[u8]) -> bool> SignatureChecker for SigCheck<'a, F> {
+    ghost checker = { λ sigs. the_member (table_of sigs) };
+
+    ghost IsSound = { λ sigs. IsSound F.Fn sigs };
 
     /// Whether the table holds the pair of this key and this signature, byte for byte, as the closure answers.
     /// Takes no memory, and never refuses.
-    pub fn ask(&self, key: &[u8], sig: &[u8]) -> bool
-        requires { IsSound F.Fn self.now }
-        ensures { result ≡ the_member (table_of self.now) key.now sig.now }
-    {
+    fn ask(&self, key: &[u8], sig: &[u8]) -> bool {
         (self.check)(key, sig)
     }
 }

@@ -3,7 +3,7 @@ ghost use Rattle.std.specs.Prelude.{◌≡◌, ◌&&◌, List, [], ◌∷◌, �
 ghost use Rattle.std.specs.Str.{bytes_eq};
 ghost use Rattle.def_machine.specs.Stacks.{member as the_member};
 
-use ms_script::Blob;
+use ms_bytes::Blob;
 use std::alloc::{AllocError, Global};
 use std::marker::Model;
 

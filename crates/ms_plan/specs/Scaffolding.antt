@@ -1,5 +1,3 @@
 -- What the contracts of private functions speak of. No public clause cites it, so it need not be believed.
 pub mod Marks
 pub mod Marked
-pub mod Reading
-pub mod Entries

@@ -10,13 +10,13 @@ ghost use Rattle.ms_plan.specs.Estimates.{IsSound, table_of as the_table};
 ghost use Rattle.ms_plan.specs.Scaffolding.Marked.{AreMarked, with_marks as the_marked};
 
 use crate::estimate::Estimate;
-use crate::lengths::{KeyLen, Keys};
 use crate::marks::{Marks, add_signatures, differing, push_signers};
 use crate::planned::Plan;
-use ms_assets::Assets;
-use ms_sane::Work;
-use ms_sat::{Rule, satisfaction};
+use ms_chosen::{Choice, satisfaction};
+use ms_held::Assets;
+use ms_plan_file::{KeyLen, Keys};
 use ms_tree::{Key, Tree};
+use ms_work::Work;
 use std::alloc::{AllocError, Global};
 
 /// Which keys to ask for a signature, where all keys of an estimate can sign: those whose signatures the strict
@@ -100,10 +100,10 @@ fn plan_by(
 {
     first.are_assets();
     let mut work = Work::new(alloc, tree)?;
-    let Some(stack) = satisfaction(alloc, Rule::Strict, tree, first, &mut work)? else {
+    let Some(stack) = satisfaction(alloc, Choice::Strict, tree, first, &mut work)? else {
         return Ok(None);
     };
-    let Some(other) = satisfaction(alloc, Rule::Strict, tree, second, &mut work)? else {
+    let Some(other) = satisfaction(alloc, Choice::Strict, tree, second, &mut work)? else {
         return Ok(None);
     };
     let signatures = differing(alloc, &stack, &other)?;

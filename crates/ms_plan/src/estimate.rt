@@ -3,7 +3,7 @@ ghost use Rattle.std.specs.Prelude.{◌≡◌, ℕ, ◌++◌, [], ◌∷◌, Som
 ghost use Rattle.def_plan.specs.Lengths.{AreLengths, length_of};
 ghost use Rattle.ms_plan.specs.Estimates.{AnswersFor, IsSound, table_of as the_table};
 
-use crate::lengths::{KeyLen, KeyLens};
+use ms_plan_file::{KeyLen, KeyLens};
 use ms_tree::Key;
 use std::alloc::{AllocError, Global};
 use std::marker::Model;

@@ -10,9 +10,9 @@ ghost use Rattle.def_plan.specs.Lengths.{AreLengths};
 ghost use Rattle.ms_tree.specs.Shape.{shape, shapes, leaf_shape};
 ghost use Rattle.ms_plan.specs.Scaffolding.Marks.{mark_of, marked, differing as the_differing, signs as the_signs};
 
-use crate::lengths::KeyLen;
-use ms_assets::Assets;
-use ms_script::{MAX_SIGNATURE_SIZE, Stack};
+use ms_bytes::{MAX_SIGNATURE_SIZE, Stack};
+use ms_held::Assets;
+use ms_plan_file::KeyLen;
 use ms_tree::{Key, Leaf, Tree, View};
 use std::alloc::{AllocError, Global};
 

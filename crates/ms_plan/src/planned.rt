@@ -1,6 +1,6 @@
 //! The plan of a miniscript.
 
-use crate::lengths::Keys;
+use ms_plan_file::Keys;
 use std::marker::Model;
 
 /// Which keys to ask for a signature, and what the satisfaction weighs with signatures of the estimated lengths: the sum

@@ -6,7 +6,7 @@ use Rattle.std.proofs.lemmas.Option.{none-some, same_Some}
 use Rattle.std.proofs.lemmas.List.{length-append}
 use Rattle.std.proofs.lemmas.List.Elements.{Contains-append_left, Contains-append_right}
 use Rattle.def_script.specs.Bytes.{Bytes}
-use Rattle.def_machine.specs.Stacks.{Stack, Pairs}
+use Rattle.def_machine.specs.Stacks.{Stack, Pairs, Checker, member}
 use Rattle.def_machine.specs.MultiSig.{is_good}
 use Rattle.def_tree.specs.declared.Two.TheVariants as kind
 use Rattle.def_tree.specs.declared.Wrapper.TheVariants as wrapper
@@ -37,13 +37,13 @@ use Rattle.ms_plan_laws.proofs.Sets.{first_taken, both_joined, item_is, each-fil
 use Rattle.ms_plan_laws.proofs.Moved.{with_pairs}
 
 -- the last key's signature behind the others'
-behind : (table : Pairs) (keys : List Key) (key : Key) (sigs : Stack) (sig : Bytes) → is_good table key sig ≡ true → AreSignatures table keys sigs →
-    AreSignatures table (keys ++ key ∷ []) (sigs ++ sig ∷ [])
-behind table [] key [] sig good h = inl (good, tt)
-behind table [] key (g ∷ sigs) sig good h = absurd h
-behind table (k ∷ keys) key [] sig good h = inr (behind table keys key [] sig good tt)
-behind table (k ∷ keys) key (g ∷ sigs) sig good (inl h) = inl (h.0, behind table keys key sigs sig good h.1)
-behind table (k ∷ keys) key (g ∷ sigs) sig good (inr h) = inr (behind table keys key (g ∷ sigs) sig good h)
+behind : (checker : Checker) (keys : List Key) (key : Key) (sigs : Stack) (sig : Bytes) → is_good checker key sig ≡ true → AreSignatures checker keys sigs →
+    AreSignatures checker (keys ++ key ∷ []) (sigs ++ sig ∷ [])
+behind checker [] key [] sig good h = inl (good, tt)
+behind checker [] key (g ∷ sigs) sig good h = absurd h
+behind checker (k ∷ keys) key [] sig good h = inr (behind checker keys key [] sig good tt)
+behind checker (k ∷ keys) key (g ∷ sigs) sig good (inl h) = inl (h.0, behind checker keys key sigs sig good h.1)
+behind checker (k ∷ keys) key (g ∷ sigs) sig good (inr h) = inr (behind checker keys key (g ∷ sigs) sig good h)
 
 pub not_wanted : (wanted : Bool) (rest : Bool) → ((not wanted || false) && rest) ≡ true → (wanted ≡ false) × (rest ≡ true)
 not_wanted wanted rest h = grind arith
@@ -95,7 +95,7 @@ module _ (Light : Type 0) where
 
     -- of each of these keys a signature is there, which isn't longer where `Light` is so
     abbrev pub Signed : List Key → Type 0
-    Signed keys = (key : Key) → Contains keys key → (sig : Bytes) → sig_of assets key ≡ Some sig → (g : Bytes) × (is_good pairs key g ≡ true) × (Light → length g ≤ length sig)
+    Signed keys = (key : Key) → Contains keys key → (sig : Bytes) → sig_of assets key ≡ Some sig → (g : Bytes) × (is_good (member pairs) key g ≡ true) × (Light → length g ≤ length sig)
 
     left : (a b : List Key) → Signed (a ++ b) → Signed a
     left a b h key i = h key (Contains-append_left a b key i)
@@ -111,7 +111,7 @@ module _ (Light : Type 0) where
         (x.0 ∷ [], (x.0, x.1, refl), λ light. let a = x.2 light in omega (arith, f, a))
 
     signers_enough : (keys : List Key) (set : List Bool) → Signed (keys_of_set keys set) → (w : Stack) → signatures_of assets keys set ≡ Some w →
-        (v : Stack) × AreSignatures pairs (reverse keys) v × (length v ≡ ones set) × (Light → weight v ≤ weight w)
+        (v : Stack) × AreSignatures (member pairs) (reverse keys) v × (length v ≡ ones set) × (Light → weight v ≤ weight w)
     signers_enough [] [] h w e = ([], tt, refl, λ _. omega arith)
     signers_enough [] (b ∷ set) h w e = absurd (none-some w e)
     signers_enough (key ∷ keys) [] h w e = absurd (none-some w e)
@@ -122,13 +122,13 @@ module _ (Light : Type 0) where
         let y = signers_enough keys set (right (key ∷ []) (keys_of_set keys set) h) j.above j.right in
         let f : weight w ≡ weight (j.above ++ i.0 ∷ []) = ap weight (j.whole ∙ ap (λ u. j.above ++ u) i.2) in (
           y.0 ++ x.0 ∷ [],
-          rw (reverse-cons key keys) (behind pairs (reverse keys) key y.0 x.0 x.1 y.1),
+          rw (reverse-cons key keys) (behind (member pairs) (reverse keys) key y.0 x.0 x.1 y.1),
           omega (arith, y.2, length-append y.0 (x.0 ∷ [])),
           λ light. let a = x.2 light in let b = y.3 light in omega (arith, f, a, b, weight-append j.above (i.0 ∷ []), weight-append y.0 (x.0 ∷ [])),
         )
     signers_enough (key ∷ keys) (false ∷ set) h w e =
         let y = signers_enough keys set h w e in
-        (y.0, rw (reverse-cons key keys) (without_last pairs (reverse keys) key y.0 y.1), y.2, y.3)
+        (y.0, rw (reverse-cons key keys) (without_last (member pairs) (reverse keys) key y.0 y.1), y.2, y.3)
 
     dsat_there : (x : Tree) → IsWritable x → (w : Stack) → dissatisfaction x ≡ Some w → (signed_row there x).dsat w
     dsat_there x writable w e =

@@ -3,7 +3,7 @@
 use Rattle.std.proofs.Common.{◌≡◌, ℕ, suc, ◌≤◌, true, List, [], ◌∷◌, ◌++◌, length, reverse, refl, ◌∙◌, ap, inl, inr, arith}
 use Rattle.std.proofs.lemmas.Bool.{false≢true}
 use Rattle.def_script.specs.Bytes.{Bytes}
-use Rattle.def_machine.specs.Stacks.{Stack, Pairs}
+use Rattle.def_machine.specs.Stacks.{Stack, Pairs, member}
 use Rattle.def_machine.specs.MultiSig.{is_good}
 use Rattle.def_tree.specs.declared.Two.TheVariants as kind
 use Rattle.def_tree.specs.declared.Wrapper.TheVariants as wrapper
@@ -66,8 +66,8 @@ module _ (Light : Type 0) where
       (same_beside _ _ (λ v g. (g.0, d v g.1))) w h in
       (x.0, inr x.1, x.2)
 
-module _ (assets : Assets) (pairs : Pairs) (Light : Type 0) (moved : (key sig : Bytes) → is_good assets.pairs key sig ≡ true → (g : Bytes)
-    × (is_good pairs key g ≡ true) × (Light → length g ≤ length sig)) where
+module _ (assets : Assets) (pairs : Pairs) (Light : Type 0) (moved : (key sig : Bytes) → is_good (member assets.pairs) key sig ≡ true → (g : Bytes)
+    × (is_good (member pairs) key g ≡ true) × (Light → length g ≤ length sig)) where
   abbrev there : Assets
   there = with_pairs assets pairs
 
@@ -76,8 +76,8 @@ module _ (assets : Assets) (pairs : Pairs) (Light : Type 0) (moved : (key sig : 
       let x = moved key sig good in
       (x.0 ∷ [], (x.0, x.1, refl), λ light. let f : weight w ≡ weight (sig ∷ []) = ap weight e in let a = x.2 light in omega (arith, f, a))
 
-  signatures_moved : (keys : List Key) (sigs : Stack) → AreSignatures assets.pairs keys sigs →
-      (v : Stack) × AreSignatures pairs keys v × (length v ≡ length sigs) × (Light → weight v ≤ weight sigs)
+  signatures_moved : (keys : List Key) (sigs : Stack) → AreSignatures (member assets.pairs) keys sigs →
+      (v : Stack) × AreSignatures (member pairs) keys v × (length v ≡ length sigs) × (Light → weight v ≤ weight sigs)
   signatures_moved keys [] h = ([], tt, refl, λ light. omega arith)
   signatures_moved [] (sig ∷ sigs) h = absurd h
   signatures_moved (key ∷ keys) (sig ∷ sigs) (inl h) =
@@ -88,7 +88,7 @@ module _ (assets : Assets) (pairs : Pairs) (Light : Type 0) (moved : (key sig : 
       let y = signatures_moved keys (sig ∷ sigs) h in
       (y.0, more y.0 y.1, y.2, y.3)
     where
-      more : (v : Stack) → AreSignatures pairs keys v → AreSignatures pairs (key ∷ keys) v
+      more : (v : Stack) → AreSignatures (member pairs) keys v → AreSignatures (member pairs) (key ∷ keys) v
       more [] h = tt
       more (g ∷ v) h = inr h
 

@@ -6,7 +6,7 @@ use Rattle.std.proofs.lemmas.Bool.{cases_Bool}
 use Rattle.std.proofs.lemmas.Option.{none-some, same_Some}
 use Rattle.std.proofs.lemmas.List.{reverse-reverse}
 use Rattle.def_script.specs.Bytes.{Bytes}
-use Rattle.def_machine.specs.Stacks.{Stack, Pairs}
+use Rattle.def_machine.specs.Stacks.{Stack, Pairs, member}
 use Rattle.def_machine.specs.MultiSig.{is_good}
 use Rattle.def_tree.specs.Tree.{Tree, Key}
 use Rattle.def_tree.specs.Range.{IsWritable}
@@ -222,14 +222,14 @@ module _ (tree : Tree) (assets : Assets) (table : Lengths) where
         (λ k sig own good. subst (λ ks. Contains ks k) is.keys ((sign k).0 (signs k sig good)).0) (
           key,
           subst (λ ks. Contains ks key) is.keys i,
-          λ sig. elim (cases_Bool (is_good other.pairs key sig)) [
+          λ sig. elim (cases_Bool (is_good (member other.pairs) key sig)) [
             | inl good ↦ absurd (((sign key).0 (signs key sig good)).1 refl)
             | inr bad ↦ bad
           ],
         )
         (reverse stack) (subst (λ a. Sat tree a stack) (like_with F other (like_both assets F other (is_estimate input).like like)) sat)
       where
-        signs : (k : Key) (sig : Bytes) → is_good other.pairs k sig ≡ true → IsSome (sig_of other k)
+        signs : (k : Key) (sig : Bytes) → is_good (member other.pairs) k sig ≡ true → IsSome (sig_of other k)
         signs k sig good = let held = good_is_held other k sig good in some_is _ held.0 held.1
 
     pub in_order_always : AsksInOrder tree plan

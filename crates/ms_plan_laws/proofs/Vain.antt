@@ -7,7 +7,7 @@ use Rattle.std.proofs.lemmas.List.{append-nil}
 use Rattle.std.proofs.lemmas.List.Elements.{Contains-append_left, Contains-append_right, Contains-append_cases}
 use Rattle.std.proofs.lemmas.Slice.Eq.{bytes_eq-Decides}
 use Rattle.def_script.specs.Bytes.{Bytes}
-use Rattle.def_machine.specs.Stacks.{Stack, Pairs}
+use Rattle.def_machine.specs.Stacks.{Stack, Pairs, Checker, member}
 use Rattle.def_machine.specs.MultiSig.{is_good}
 use Rattle.def_tree.specs.declared.Two.TheVariants as kind
 use Rattle.def_tree.specs.declared.Wrapper.TheVariants as wrapper
@@ -63,27 +63,27 @@ option_taken F G f g a b ff gg w e =
     ]
 
 -- the signatures of a `multi`, of which the last key may be the last one
-last_or_not : (table : Pairs) (own : List Key) (key : Key) (sigs : Stack) → AreSignatures table (own ++ key ∷ []) sigs →
-    AreSignatures table own sigs ⊎ ((rest : Stack) × (sig : Bytes) × (is_good table key sig ≡ true) × AreSignatures table own rest × (length sigs ≡ suc (length rest)))
-last_or_not table own key [] h = inl tt
-last_or_not table [] key (sig ∷ sigs) (inl h) = inr ([], sig, h.0, tt, ap suc (empty sigs h.1))
+last_or_not : (checker : Checker) (own : List Key) (key : Key) (sigs : Stack) → AreSignatures checker (own ++ key ∷ []) sigs →
+    AreSignatures checker own sigs ⊎ ((rest : Stack) × (sig : Bytes) × (is_good checker key sig ≡ true) × AreSignatures checker own rest × (length sigs ≡ suc (length rest)))
+last_or_not checker own key [] h = inl tt
+last_or_not checker [] key (sig ∷ sigs) (inl h) = inr ([], sig, h.0, tt, ap suc (empty sigs h.1))
   where
-    empty : (sigs : Stack) → AreSignatures table [] sigs → length sigs ≡ 0
+    empty : (sigs : Stack) → AreSignatures checker [] sigs → length sigs ≡ 0
     empty [] h = refl
     empty (g ∷ sigs) h = absurd h
-last_or_not table [] key (sig ∷ sigs) (inr h) = absurd h
-last_or_not table (k ∷ own) key (sig ∷ sigs) (inl h) =
-    elim (last_or_not table own key sigs h.1) [
+last_or_not checker [] key (sig ∷ sigs) (inr h) = absurd h
+last_or_not checker (k ∷ own) key (sig ∷ sigs) (inl h) =
+    elim (last_or_not checker own key sigs h.1) [
       | inl i ↦ inl (inl (h.0, i))
       | inr l ↦ inr (sig ∷ l.0, l.1, l.2, inl (h.0, l.3), ap suc l.4)
     ]
-last_or_not table (k ∷ own) key (sig ∷ sigs) (inr h) =
-    elim (last_or_not table own key (sig ∷ sigs) h) [
+last_or_not checker (k ∷ own) key (sig ∷ sigs) (inr h) =
+    elim (last_or_not checker own key (sig ∷ sigs) h) [
       | inl i ↦ inl (inr i)
       | inr l ↦ inr (l.0, l.1, l.2, more l.0 l.3, l.4)
     ]
   where
-    more : (v : Stack) → AreSignatures table own v → AreSignatures table (k ∷ own) v
+    more : (v : Stack) → AreSignatures checker own v → AreSignatures checker (k ∷ own) v
     more [] h = tt
     more (g ∷ v) h = inr h
 
@@ -123,13 +123,13 @@ module _ (assets : Assets) (are : AreAssets assets) (pairs : Pairs) where
 
   -- no key of these signs; of some keys only these do; one of these doesn't
   abbrev NoneSigns : List Key → Type 0
-  NoneSigns own = (key sig : Bytes) → Contains own key → is_good pairs key sig ≡ false
+  NoneSigns own = (key sig : Bytes) → Contains own key → is_good (member pairs) key sig ≡ false
 
   abbrev OnlySign : (some own : List Key) → Type 0
-  OnlySign some own = (key sig : Bytes) → Contains own key → is_good pairs key sig ≡ true → Contains some key
+  OnlySign some own = (key sig : Bytes) → Contains own key → is_good (member pairs) key sig ≡ true → Contains some key
 
   abbrev Missing : List Key → Type 0
-  Missing some = (key : Key) × Contains some key × ((sig : Bytes) → is_good pairs key sig ≡ false)
+  Missing some = (key : Key) × Contains some key × ((sig : Bytes) → is_good (member pairs) key sig ≡ false)
 
   -- those of a part
   in_left : (some a b : List Key) → OnlySign some (a ++ b) → OnlySign some a
@@ -148,7 +148,7 @@ module _ (assets : Assets) (are : AreAssets assets) (pairs : Pairs) where
 
   none_of : (some own : List Key) → ((key : Key) → Contains own key → Contains some key → ⊥) → OnlySign some own → NoneSigns own
   none_of some own apart h key sig i =
-      elim (cases_Bool (is_good pairs key sig)) [ inl good ↦ absurd (apart key i (h key sig i good)) | inr bad ↦ bad ]
+      elim (cases_Bool (is_good (member pairs) key sig)) [ inl good ↦ absurd (apart key i (h key sig i good)) | inr bad ↦ bad ]
 
   none_left : (some a b : List Key) → Disjoint a b → ((key : Key) → Contains some key → Contains b key) → OnlySign some (a ++ b) → NoneSigns a
   none_left some a b apart among h = none_of some a (λ key i j. apart key i (among key j)) (in_left some a b h)
@@ -160,7 +160,7 @@ module _ (assets : Assets) (are : AreAssets assets) (pairs : Pairs) where
   freed t f h =
       let has : HasAssets (canonical there) (canonical (unsigned assets)) = record { older = λ n i. i; after = λ n i. i; preimages = λ kind value preimage i. i } in
       free_sat (canonical there) (canonical (unsigned assets)) has t f.writable f.typed f.safe
-      (λ key other sig i same counts. ap (λ k. is_good pairs k sig) counts ∙ h key sig i)
+      (λ key other sig i same counts. ap (λ k. is_good (member pairs) k sig) counts ∙ h key sig i)
 
   bare_dsat : (t : Tree) → Fits t → (mall_of t).e ≡ true → HasOne (free_row assets t).dsat
   bare_dsat t f e = free_dsat (canonical (unsigned assets)) t f.writable f.safe e
@@ -183,18 +183,18 @@ module _ (assets : Assets) (are : AreAssets assets) (pairs : Pairs) where
   abbrev OnOption : Bool → (former latter : List Key) → (own : List Key) → Type 0
   OnOption test former latter own = OnlySign (if test then former else latter) own × Missing (if test then former else latter)
 
-  few_signers : (own : List Key) (set : List Bool) (k : Key) → AreDistinct own → OnlySign (keys_of_set own set) own → ((sig : Bytes) → is_good pairs k sig ≡ false) →
-      (sigs : Stack) → AreSignatures pairs (reverse own) sigs → length sigs ≤ ones (without k own set)
+  few_signers : (own : List Key) (set : List Bool) (k : Key) → AreDistinct own → OnlySign (keys_of_set own set) own → ((sig : Bytes) → is_good (member pairs) k sig ≡ false) →
+      (sigs : Stack) → AreSignatures (member pairs) (reverse own) sigs → length sigs ≤ ones (without k own set)
   few_signers [] set k d only bad [] h = omega arith
   few_signers [] set k d only bad (sig ∷ sigs) h = absurd h
   few_signers (key ∷ own) [] k d only bad sigs h =
-      elim (last_or_not pairs (reverse own) key sigs (subst (λ ks. AreSignatures pairs ks sigs) (reverse-cons key own) h)) [
+      elim (last_or_not (member pairs) (reverse own) key sigs (subst (λ ks. AreSignatures (member pairs) ks sigs) (reverse-cons key own) h)) [
         | inl i ↦ (let n = few_signers own [] k d.1 (λ c sig j good. absurd (no_element c (only c sig (later_in key own c j) good))) bad sigs i in let m = no_more k own [] in omega (arith, n, m))
         | inr l ↦ absurd (no_element key (only key l.1 (first_in key own) l.2))
       ]
   few_signers (key ∷ own) (b ∷ set) k d only bad sigs h =
       let rest : OnlySign (keys_of_set own set) own = λ c sig j good. tail b c j (only c sig (later_in key own c j) good) in
-      elim (last_or_not pairs (reverse own) key sigs (subst (λ ks. AreSignatures pairs ks sigs) (reverse-cons key own) h)) [
+      elim (last_or_not (member pairs) (reverse own) key sigs (subst (λ ks. AreSignatures (member pairs) ks sigs) (reverse-cons key own) h)) [
         | inl i ↦ (let n = few_signers own set k d.1 rest bad sigs i in at_least (b && not (bytes_eq key k)) n)
         | inr l ↦ (let n = few_signers own set k d.1 rest bad l.0 l.3 in let e = l.4 in one_more b (only key l.1 (first_in key own) l.2) l.1 l.2 n e)
       ]
@@ -206,13 +206,13 @@ module _ (assets : Assets) (are : AreAssets assets) (pairs : Pairs) where
       at_least : (c : Bool) → length sigs ≤ ones (without k own set) → length sigs ≤ ones (c ∷ without k own set)
       at_least c n = grind arith
 
-      one_more : (b : Bool) → Contains (if b then key ∷ keys_of_set own set else keys_of_set own set) key → (sig : Bytes) → is_good pairs key sig ≡ true
+      one_more : (b : Bool) → Contains (if b then key ∷ keys_of_set own set else keys_of_set own set) key → (sig : Bytes) → is_good (member pairs) key sig ≡ true
           → {m : ℕ} → m ≤ ones (without k own set) → length sigs ≡ suc m →
           length sigs ≤ ones ((b && not (bytes_eq key k)) ∷ without k own set)
       one_more false i sig good n e = absurd (d.0 (in_part (keys_of_set own set) own (set_part own set) key i))
       one_more true i sig good n e =
           elim (cases_Bool (bytes_eq key k)) [
-            | inl same ↦ absurd (false≢true (sym (bad sig) ∙ subst (λ c. is_good pairs c sig ≡ true) ((bytes_eq-Decides key k).0 same) good))
+            | inl same ↦ absurd (false≢true (sym (bad sig) ∙ subst (λ c. is_good (member pairs) c sig ≡ true) ((bytes_eq-Decides key k).0 same) good))
             | inr other ↦ rw other (omega (arith, n, e))
           ]
 
@@ -270,12 +270,12 @@ module _ (assets : Assets) (are : AreAssets assets) (pairs : Pairs) where
     pub vain : (t : Tree) → Fits t → (w : Stack) → strict_of assets t ≡ Some w → OnlySign (taken assets t) (keys t) → Missing (taken assets t) → IsEmpty (Sats t)
     vain (pk_k key) f w e only missing =
         λ v h. elim (first_or_other key [] missing.0 missing.1) [
-          | inl same ↦ false≢true (sym (missing.2 h.0) ∙ subst (λ k. is_good pairs k h.0 ≡ true) (sym same) h.1)
+          | inl same ↦ false≢true (sym (missing.2 h.0) ∙ subst (λ k. is_good (member pairs) k h.0 ≡ true) (sym same) h.1)
           | inr i ↦ no_element missing.0 i
         ]
     vain (pk_h key) f w e only missing =
         λ v h. let s = h.4.2 in elim (first_or_other key [] missing.0 missing.1) [
-          | inl same ↦ false≢true (sym (missing.2 s.0) ∙ subst (λ k. is_good pairs k s.0 ≡ true) (h.3 ∙ sym same) s.1)
+          | inl same ↦ false≢true (sym (missing.2 s.0) ∙ subst (λ k. is_good (member pairs) k s.0 ≡ true) (h.3 ∙ sym same) s.1)
           | inr i ↦ no_element missing.0 i
         ]
     vain (and_or x y z) f w e only missing =

@@ -7,7 +7,7 @@ use Rattle.def_curve.specs.Modular.{minus, inverse}
 use Rattle.def_curve.specs.Curve.{p}
 use Rattle.def_curve.specs.Point.{on_line, double, chord}
 use Rattle.ms_prime_laws.proofs.Congruence.{Same, at, by, back, ◌⨟◌, times, plus, less, of_mod, of_eq, to_eq, of_minus}
-use Rattle.ms_prime_laws.proofs.Euclid.{product_some}
+use Rattle.ms_prime_laws.proofs.Euclid.{product_some, cancel}
 use Rattle.ms_prime_laws.proofs.FieldPrime.{field_prime}
 use Rattle.ms_prime_laws.proofs.Inverses.{inverse_is}
 use Rattle.ms_point.specs.Standing.{StandAt, StandFor}
@@ -91,13 +91,13 @@ pub record Doubled (X Y Z X3 Y3 Z3 : ℕ) : Type 0 where
   pub M : ℕ
   pub T : ℕ
   pub D : ℕ
-  pub s_is : Same p S (4 * (X * (Y * Y)))
-  pub m_is : Same p M (3 * (X * X))
-  pub t_is : Same p T (8 * (Y * Y * (Y * Y)))
+  pub s_is : Same p S (X * (Y * Y))
+  pub m_is : Same p (M + M) (3 * (X * X))
+  pub t_is : Same p T (Y * Y * (Y * Y))
   pub x3_is : Same p ((X3 + S) + S) (M * M)
   pub d_is : Same p (D + X3) S
   pub y3_is : Same p (Y3 + T) (M * D)
-  pub z3_is : Same p Z3 (2 * (Y * Z))
+  pub z3_is : Same p Z3 (Y * Z)
   pub x3_below : X3 < p
   pub y3_below : Y3 < p
   pub z3_below : Z3 < p
@@ -105,15 +105,15 @@ pub record Doubled (X Y Z X3 Y3 Z3 : ℕ) : Type 0 where
 -- infinity stays infinity
 pub doubled_infinity : (X Y Z X3 Y3 Z3 : ℕ) → Doubled X Y Z X3 Y3 Z3 → Z ≡ 0 → Z3 ≡ 0
 doubled_infinity X Y Z X3 Y3 Z3 c none =
-    let e : 2 * (Y * Z) ≡ 0 = ap (λ z. 2 * (Y * z)) none ∙ (omega arith) in
+    let e : Y * Z ≡ 0 = ap (λ z. Y * z) none ∙ (omega arith) in
     to_eq c.z3_below (c.z3_is ⨟ by e) ∙ mod-eq_of_lt p_some
 
 -- so does twice a point whose y is 0
 pub doubled_flat : (X Y Z X3 Y3 Z3 x y : ℕ) → Doubled X Y Z X3 Y3 Z3 → StandAt X Y Z x y → y ≡ 0 → Z3 ≡ 0
 doubled_flat X Y Z X3 Y3 Z3 x y c a none =
     let e : y * (Z * Z * Z) ≡ 0 = ap (λ z. z * (Z * Z * Z)) none ∙ (omega arith) in
-    let f : 2 * (0 * Z) ≡ 0 = omega arith in
-    to_eq c.z3_below (c.z3_is ⨟ times (at 2) (times (y_same X Y Z x y a ⨟ by e) (at Z)) ⨟ by f) ∙ mod-eq_of_lt p_some
+    let f : 0 * Z ≡ 0 = omega arith in
+    to_eq c.z3_below (c.z3_is ⨟ times (y_same X Y Z x y a ⨟ by e) (at Z) ⨟ by f) ∙ mod-eq_of_lt p_some
 
 -- any other point has the double that its tangent gives, whose slope is 3 x ^ 2 times i, which is 1 / (2 y)
 doubled_by : (X Y Z X3 Y3 Z3 x y i : ℕ) → Doubled X Y Z X3 Y3 Z3 → StandAt X Y Z x y → Z < p → 0 < y → Same p ((2 * y) * i) 1
@@ -130,21 +130,23 @@ doubled_by X Y Z X3 Y3 Z3 x y i c a z_below y_some unit =
 
     slope_is : Same p ((3 * (x * x) * i % p) * Z3) c.M
     slope_is =
-        let grouped : 3 * (x * x) * i * (2 * (y * (Z * Z * Z) * Z)) ≡ 3 * (x * (Z * Z) * (x * (Z * Z))) * ((2 * y) * i) = omega arith in
+        let grouped : 3 * (x * x) * i * (y * (Z * Z * Z) * Z) * 2 ≡ 3 * (x * (Z * Z) * (x * (Z * Z))) * ((2 * y) * i) = omega arith in
         let single : 3 * (X * X) * 1 ≡ 3 * (X * X) = omega arith in
-        times (of_mod (3 * (x * x) * i)) (c.z3_is ⨟ times (at 2) (times y_is (at Z))) ⨟ by grouped
-        ⨟ times (times (at 3) (times (back x_is) (back x_is))) unit ⨟ by single ⨟ back c.m_is
+        let twice : c.M + c.M ≡ c.M * 2 = omega arith in
+        cancel p ((3 * (x * x) * i % p) * Z3) c.M 2 field_prime (lit< tt)
+        (times (times (of_mod (3 * (x * x) * i)) (c.z3_is ⨟ times y_is (at Z))) (at 2) ⨟ by grouped
+        ⨟ times (times (at 3) (times (back x_is) (back x_is))) unit ⨟ by single ⨟ back c.m_is ⨟ by twice)
 
     x_scaled : Same p (x * (Z3 * Z3)) c.S
     x_scaled =
-        let grouped : x * (2 * (Y * Z) * (2 * (Y * Z))) ≡ 4 * (x * (Z * Z) * (Y * Y)) = omega arith in
-        times (at x) (times c.z3_is c.z3_is) ⨟ by grouped ⨟ times (at 4) (times (back x_is) (at (Y * Y))) ⨟ back c.s_is
+        let grouped : x * (Y * Z * (Y * Z)) ≡ x * (Z * Z) * (Y * Y) = omega arith in
+        times (at x) (times c.z3_is c.z3_is) ⨟ by grouped ⨟ times (back x_is) (at (Y * Y)) ⨟ back c.s_is
 
     y_scaled : Same p (y * (Z3 * Z3 * Z3)) c.T
     y_scaled =
-        let grouped : y * (2 * (Y * Z) * (2 * (Y * Z)) * (2 * (Y * Z))) ≡ 8 * (y * (Z * Z * Z) * (Y * (Y * Y))) = omega arith in
-        let turned : 8 * (Y * (Y * (Y * Y))) ≡ 8 * (Y * Y * (Y * Y)) = omega arith in
-        times (at y) (times (times c.z3_is c.z3_is) c.z3_is) ⨟ by grouped ⨟ times (at 8) (times (back y_is) (at (Y * (Y * Y)))) ⨟ by turned ⨟ back c.t_is
+        let grouped : y * (Y * Z * (Y * Z) * (Y * Z)) ≡ y * (Z * Z * Z) * (Y * (Y * Y)) = omega arith in
+        let turned : Y * (Y * (Y * Y)) ≡ Y * Y * (Y * Y) = omega arith in
+        times (at y) (times (times c.z3_is c.z3_is) c.z3_is) ⨟ by grouped ⨟ times (back y_is) (at (Y * (Y * Y))) ⨟ by turned ⨟ back c.t_is
 
     z_mod : 0 < Z % p
     z_mod = some_mod Z z_below a.z_some
@@ -157,8 +159,7 @@ doubled_by X Y Z X3 Y3 Z3 x y i c a z_below y_some unit =
 
     z3_some : 0 < Z3
     z3_some =
-        let two : 0 < 2 % p = some_mod 2 (lit< tt) (lit< tt) in
-        let whole : 0 < 2 * (Y * Z) % p = product_some p 2 (Y * Z) field_prime two (product_some p Y Z field_prime y_mod z_mod) in
+        let whole : 0 < Y * Z % p = product_some p Y Z field_prime y_mod z_mod in
         elim (cases_lt 0 Z3) [
           | inl pos ↦ pos
           | inr none ↦ let e : Z3 % p ≡ Z3 = mod-eq_of_lt c.z3_below in absurd (omega (arith, c.z3_is.same, whole, e))

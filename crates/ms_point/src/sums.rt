@@ -1,16 +1,16 @@
 //! Twice a point, and the sum of a point and an affine one.
 
-ghost use Rattle.std.specs.Prelude.{ℕ, ◌<◌};
+ghost use Rattle.std.specs.Prelude.{◌≡◌, ℕ, ◌*◌, ◌%◌, ◌<◌};
 ghost use Rattle.def_curve.specs.Curve.{p};
-ghost use Rattle.def_curve.specs.Point.{Point, ◌⊕◌, chord};
+ghost use Rattle.def_curve.specs.Point.{Point, affine, ◌⊕◌, chord};
 ghost use Rattle.ms_field.specs.Limbs.{value};
-ghost use Rattle.ms_point.specs.Scaffolding.Crossing.{Crosses};
+ghost use Rattle.ms_point.specs.Scaffolding.Crossing.{Crosses, Differs};
 ghost use Rattle.ms_point.specs.Standing.{StandFor, StandsFor, IsReduced, IsAffine, point_at};
 
 use crate::point::{Affine, INFINITY, Jacobian};
 use ms_field::Limbs;
 use ms_field::comparisons::is_zero;
-use ms_field::field::{add, multiply, square, subtract};
+use ms_field::field::{add, half, multiply, square, subtract};
 use ms_field::limbs::ONE;
 
 /// An affine point.
@@ -35,22 +35,16 @@ pub fn double(a: Jacobian) -> Jacobian
     let xx = square(a.x);
     let yy = square(a.y);
     let yyyy = square(yy);
-    let xyy = multiply(a.x, yy);
-    let two_xyy = add(xyy, xyy);
-    let s = add(two_xyy, two_xyy);
-    let two_xx = add(xx, xx);
-    let m = add(two_xx, xx);
+    let s = multiply(a.x, yy);
+    let half_xx = half(xx);
+    let m = add(half_xx, xx);
     let mm = square(m);
     let less_s = subtract(mm, s);
     let x = subtract(less_s, s);
-    let two_yyyy = add(yyyy, yyyy);
-    let four_yyyy = add(two_yyyy, two_yyyy);
-    let t = add(four_yyyy, four_yyyy);
     let d = subtract(s, x);
     let md = multiply(m, d);
-    let y = subtract(md, t);
-    let yz = multiply(a.y, a.z);
-    let z = add(yz, yz);
+    let y = subtract(md, yyyy);
+    let z = multiply(a.y, a.z);
     Jacobian { x, y, z }
 }
 
@@ -79,6 +73,23 @@ fn add_by_line(a: Jacobian, h: Limbs, r: Limbs) -> Jacobian
     Jacobian { x, y, z }
 }
 
+/// The sum of a point that isn't infinity and another one, by the differences of their x, times z^2, and of their y, times z^3.
+#[inline(always)]
+fn add_by_differences(a: Jacobian, h: Limbs, r: Limbs) -> Jacobian
+    requires reduced { IsReduced a }
+    requires some { 0 < value a.z }
+    requires h { value h < p }
+    requires r { value r < p }
+    ensures reduced { IsReduced result }
+    ensures sum { (x' y' : ℕ) → Differs (value a.x) (value a.y) (value a.z) (value h) (value r) x' y' → (P : Point) → StandsFor a P →
+        StandsFor result (P ⊕ affine x' y') }
+{
+    if !is_zero(h) {
+        return add_by_line(a, h, r);
+    }
+    if is_zero(r) { double(a) } else { INFINITY }
+}
+
 /// The sum of a point and an affine one.
 pub fn add_affine(a: Jacobian, point: Affine) -> Jacobian
     requires reduced { IsReduced a }
@@ -95,8 +106,45 @@ pub fn add_affine(a: Jacobian, point: Affine) -> Jacobian
     let v = multiply(point.y, zzz);
     let h = subtract(u, a.x);
     let r = subtract(v, a.y);
-    if !is_zero(h) {
-        return add_by_line(a, h, r);
+    add_by_differences(a, h, r)
+}
+
+/// The same point with z times another number.
+fn scaled(a: Jacobian, w: Limbs) -> Jacobian
+    requires reduced { IsReduced a }
+    requires below { value w < p }
+    requires some { 0 < value w }
+    ensures reduced { IsReduced result }
+    ensures point { (P : Point) → StandsFor a P → StandsFor result P }
+    ensures z { value result.z ≡ value a.z * value w % p }
+{
+    let ww = square(w);
+    let www = multiply(ww, w);
+    let x = multiply(a.x, ww);
+    let y = multiply(a.y, www);
+    let z = multiply(a.z, w);
+    Jacobian { x, y, z }
+}
+
+/// The sum of two points.
+pub fn add_points(a: Jacobian, b: Jacobian) -> Jacobian
+    requires first { IsReduced a }
+    requires second { IsReduced b }
+    ensures reduced { IsReduced result }
+    ensures sum { (P Q : Point) → StandsFor a P → StandsFor b Q → StandsFor result (P ⊕ Q) }
+{
+    if is_zero(b.z) {
+        return a;
     }
-    if is_zero(r) { double(a) } else { INFINITY }
+    if is_zero(a.z) {
+        return b;
+    }
+    let first = scaled(a, b.z);
+    let zz = square(a.z);
+    let zzz = multiply(zz, a.z);
+    let u = multiply(b.x, zz);
+    let v = multiply(b.y, zzz);
+    let h = subtract(u, first.x);
+    let r = subtract(v, first.y);
+    add_by_differences(first, h, r)
 }

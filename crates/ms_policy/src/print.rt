@@ -7,7 +7,7 @@ ghost use Rattle.def_policy.specs.Size.{depth, MOST_POLICY_DEPTH};
 ghost use Rattle.ms_policy.specs.Shape.{policy_shape};
 
 use crate::policy::Policy;
-use ms_text::{name_of_hash, print_call, print_lock, print_number};
+use ms_print::{name_of_hash, print_call, print_lock, print_number};
 use std::alloc::{AllocError, Global};
 
 /// The printed form of a policy: `never`, `always`, `key(K)`, `older(n)`, `after(n)`, the four hash locks, and `all`, `any`

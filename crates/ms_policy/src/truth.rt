@@ -7,7 +7,7 @@ ghost use Rattle.def_policy.specs.Truth.{facts_of, how_many, is_true, truths};
 ghost use Rattle.ms_policy.specs.Shape.{policy_shape};
 
 use crate::policy::Policy;
-use ms_assets::Assets;
+use ms_held::Assets;
 
 /// Whether a policy is true of assets: a key by a signature of it, a hash value by its known preimage, a timelock by
 /// BIP 112's and BIP 65's test. It asks that each timelock's operand is from 1 to 2^31 - 1, and that the policy is at

@@ -3,7 +3,7 @@ use Rattle.std.proofs.Common.{◌≡◌, ℕ, zero, suc, ◌+◌, ◌≤◌, Boo
 use Rattle.std.specs.Option.{is_some}
 use Rattle.std.proofs.lemmas.List.{map-append, reverse-append}
 use Rattle.def_script.specs.Bytes.{Bytes}
-use Rattle.def_machine.specs.Stacks.{Stack}
+use Rattle.def_machine.specs.Stacks.{Stack, member}
 use Rattle.def_tree.specs.Tree.{Key}
 use Rattle.def_assets.specs.Assets.{Assets, AreAssets, sig_of}
 use Rattle.def_satisfaction.specs.Rows.{AreSignatures}
@@ -35,13 +35,13 @@ module _ (assets : Assets) where
   pub record SomeSigs (keys : List Key) (n : ℕ) : Type 0 where
     pub sigs : Stack
     pub count : length sigs ≡ n
-    pub good : AreSignatures assets.pairs keys sigs
+    pub good : AreSignatures (member assets.pairs) keys sigs
 
   -- a key that is passed over
   passed_over : (key : Key) (keys : List Key) (n : ℕ) → SomeSigs keys n → SomeSigs (key ∷ keys) n
   passed_over key keys n some = go some.sigs some.count some.good
     where
-      go : (sigs : Stack) → length sigs ≡ n → AreSignatures assets.pairs keys sigs → SomeSigs (key ∷ keys) n
+      go : (sigs : Stack) → length sigs ≡ n → AreSignatures (member assets.pairs) keys sigs → SomeSigs (key ∷ keys) n
       go [] e good = record { sigs = []; count = e; good = tt }
       go (sig ∷ sigs) e good = record { sigs = sig ∷ sigs; count = e; good = inr good }
 
@@ -65,7 +65,7 @@ module _ (assets : Assets) where
     enough (key ∷ keys) (suc n) h = first_or_not key keys n (sig_of assets key) refl (enough keys n) (enough keys (suc n)) h
 
     -- there are no more
-    pub at_most : (keys : List Key) (sigs : Stack) → AreSignatures assets.pairs keys sigs → length sigs ≤ signers keys
+    pub at_most : (keys : List Key) (sigs : Stack) → AreSignatures (member assets.pairs) keys sigs → length sigs ≤ signers keys
     at_most keys [] h = omega arith
     at_most [] (sig ∷ sigs) h = absurd h
     at_most (key ∷ keys) (sig ∷ sigs) (inl h) =

@@ -21,4 +21,4 @@ pub inverse_is : (a : ℕ) → 0 < a % p → Same p (a * inverse p a) 1
 inverse_is a some = inverse_by p a field_prime (lit< tt) some
 
 pub inverse_is_inverse : InverseIsInverse
-inverse_is_inverse a some = (inverse_is a some).same ∙ mod-eq_of_lt {n = 1} {m = p} (lit< tt)
+inverse_is_inverse m a prime short some = (inverse_by m a prime short some).same ∙ mod-eq_of_lt {n = 1} {m = m} prime.above

@@ -5,18 +5,19 @@ use Rattle.std.proofs.lemmas.Option.{slice_get-get_or}
 use Rattle.std.specs.List.{flat_map}
 use Rattle.std.specs.Prelude.{slice_get}
 use Rattle.def_script.specs.Bytes.{Bytes}
+use Rattle.def_psbt.proofs.Counting.{as_many_inputs}
 use Rattle.def_psbt.specs.Forms.{is_unsigned}
 use Rattle.def_psbt.specs.Laws.{IsSoundMap}
-use Rattle.def_psbt.specs.Listed.{global_form, input_form}
-use Rattle.def_psbt.specs.Map.{Pair, Map, Psbt, magic, map_text}
-use Rattle.def_psbt.specs.Reading.{pair_of_type}
+use Rattle.def_psbt.specs.Fields.{version_of}
+use Rattle.def_psbt.specs.Listed.{input_form}
+use Rattle.def_psbt.specs.Map.{Map, Psbt, magic, map_text}
 use Rattle.def_psbt.specs.TransactionReading.{transaction_of}
 use Rattle.ms_psbt.specs.Pairs.{pairs_in}
 use Rattle.ms_psbt.specs.Whole.{psbt_seen}
 use Rattle.ms_psbt.specs.Scaffolding.Pairs.{IsMapText}
 use Rattle.ms_psbt.proofs.Pairing.{pairs_of_text, sound_spelled, sound_text}
 use Rattle.ms_psbt.specs.Scaffolding.Kept.{places_of, IsRead}
-use Rattle.ms_psbt.proofs.Placing.{MapAt, first_place, many_places, last_place, map_place, sound_of_type, unsigned_value}
+use Rattle.ms_psbt.proofs.Placing.{MapAt, first_place, many_places, last_place, map_place}
 
 module _ {bytes value : Bytes} {places : List ℕ} (h : IsRead bytes value places) where
   abbrev inputs : List Map
@@ -32,13 +33,13 @@ module _ {bytes value : Bytes} {places : List ℕ} (h : IsRead bytes value place
   -- ---- the transaction
 
   pub transaction_is : transaction_of value ≡ Some (psbt_seen bytes).transaction
-  transaction_is = grind (arith, h.value, h.sound.transaction)
+  transaction_is = h.value
 
   pub unsigned : is_unsigned (Some (psbt_seen bytes).transaction) ≡ true
-  unsigned =
-      let p : (pair : Pair) × (pair_of_type 0x00 (psbt_seen bytes).global ≡ Some pair) × (pair.value ≡ value) = grind (arith, h.value) in
-      let s = sound_of_type global_form 0x00 [] (psbt_seen bytes).global p.0 h.sound.global p.1 in
-      ap is_unsigned (sym transaction_is) ∙ ap (λ (v : Bytes). is_unsigned (transaction_of v)) (sym p.2) ∙ unsigned_value p.0 s.0 s.1
+  unsigned = h.unsigned
+
+  pub each_has_map : length (psbt_seen bytes).inputs ≡ length (psbt_seen bytes).transaction.inputs
+  each_has_map = as_many_inputs (psbt_seen bytes) h.sound
 
   -- ---- the maps
 
@@ -94,34 +95,35 @@ module _ {bytes value : Bytes} {places : List ℕ} (h : IsRead bytes value place
       ap (take (length bytes - last)) behind ∙ take_all (length bytes - last) outputs_text (omega (arith, last_is, whole_long))
 
 -- a map of an input, from one place to another, with the text there
-pub record MapIs (inputs : List Map) (k : ℕ) (text : Bytes) : Type 0 where
+pub record MapIs (psbt : Psbt) (k : ℕ) (text : Bytes) : Type 0 where
   pub is_text : IsMapText text
-  pub map : slice_get inputs k ≡ Some (pairs_in text)
-  pub sound : IsSoundMap input_form [] (pairs_in text)
+  pub map : slice_get psbt.inputs k ≡ Some (pairs_in text)
+  pub sound : IsSoundMap (input_form (version_of psbt.global)) [] (pairs_in text)
 
 -- what the call takes and gives that cuts a map out of the bytes
-pub record MapFrom (bytes : Bytes) (inputs : List Map) (k from to : ℕ) : Type 0 where
+pub record MapFrom (bytes : Bytes) (psbt : Psbt) (k from to : ℕ) : Type 0 where
   pub up : from ≤ to
   pub inside : to ≤ length bytes
-  pub is : (text : Bytes) → text ≡ take (to - from) (drop from bytes) → MapIs inputs k text
+  pub is : (text : Bytes) → text ≡ take (to - from) (drop from bytes) → MapIs psbt k text
 
 pub map_is : {bytes value : Bytes} {places : List ℕ} → IsRead bytes value places → (psbt : Psbt) → psbt_seen bytes ≡ psbt → (k from to : ℕ)
     → k < length psbt.inputs
-    → from ≡ get_or places k 0 → to ≡ get_or places (k + 1) 0 → MapFrom bytes psbt.inputs k from to
+    → from ≡ get_or places k 0 → to ≡ get_or places (k + 1) 0 → MapFrom bytes psbt k from to
 map_is {bytes} {value} {places} h psbt seen k from to less f t =
     let inside : k < length (psbt_seen bytes).inputs = subst (λ (p : Psbt). k < length p.inputs) (sym seen) less in
     let m = map_at_place h k inside in
     let at : MapAt bytes from to (psbt_seen bytes).inputs k = rw (f, t, add-one) m in
-    let sound : IsSoundMap input_form [] at.map = rw (slice_get_is (psbt_seen bytes).inputs at.is inside) (h.sound.inputs k [] inside) in
-    subst (λ (p : Psbt). MapFrom bytes p.inputs k from to) seen (record {
+    let forms = input_form (version_of (psbt_seen bytes).global) in
+    let sound : IsSoundMap (input_form (version_of (psbt_seen bytes).global)) [] at.map = rw (slice_get_is (psbt_seen bytes).inputs at.is inside) (h.sound.inputs k [] inside).sound in
+    subst (λ (p : Psbt). MapFrom bytes p k from to) seen (record {
       up = at.up;
       inside = at.inside;
       is = λ text e.
-          let is = pairs_of_text text at.map (e ∙ at.text) (sound_spelled input_form [] at.map sound) in
+          let is = pairs_of_text text at.map (e ∙ at.text) (sound_spelled forms [] at.map sound) in
           record {
-            is_text = sound_text input_form text at.map (e ∙ at.text) sound;
+            is_text = sound_text forms text at.map (e ∙ at.text) sound;
             map = at.is ∙ ap Some (sym is);
-            sound = subst (IsSoundMap input_form []) (sym is) sound;
+            sound = subst (IsSoundMap forms []) (sym is) sound;
           };
     })
   where

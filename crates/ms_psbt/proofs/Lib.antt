@@ -1,5 +1,12 @@
+mod Fielding
 mod Holding
+mod Leaving
+mod Locking
+mod Making
 mod Marking
+mod Numbering
+mod Joining
+mod Outlining
 pub mod Pairing
 mod Places
 mod Placing
@@ -8,6 +15,7 @@ mod Repeating
 mod Sizes
 mod Skipping
 mod Sourcing
+mod Texts
 mod Unsigned
 mod Walked
 mod Walking

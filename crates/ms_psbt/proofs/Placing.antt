@@ -1,6 +1,6 @@
 -- Where the maps of inputs stand, and which bytes they are.
-use Rattle.std.proofs.Common.{◌≡◌, ℕ, zero, suc, min, ◌+◌, ◌-◌, ◌^◌, ◌<◌, ◌≤◌, true, List, [], ◌∷◌, ◌++◌, length, length-append, take, drop, get_or, Some, None, Ok, refl, sym, ap, ◌∙◌, append_assoc, arith}
-use Rattle.std.proofs.lemmas.List.{length-drop, length-take, take_at, drop_at}
+use Rattle.std.proofs.Common.{◌≡◌, ℕ, zero, suc, min, ◌+◌, ◌-◌, ◌^◌, ◌<◌, ◌≤◌, true, List, [], ◌∷◌, ◌++◌, length, length-append, take, drop, get_or, Some, None, Result, Ok, refl, sym, ap, subst, ◌∙◌, append_assoc, arith}
+use Rattle.std.proofs.lemmas.List.{length-take, take_at, drop_at}
 use Rattle.std.proofs.lemmas.List.Concat.{flat_map-cons}
 use Rattle.std.proofs.lemmas.Slice.Eq.{bytes_eq-Decides}
 use Rattle.std.specs.List.{flat_map}
@@ -9,56 +9,61 @@ use Rattle.def_script.specs.Bytes.{Bytes, IsBytes}
 use Rattle.def_psbt.specs.Forms.{is_unsigned}
 use Rattle.def_psbt.specs.Laws.{IsSoundMap}
 use Rattle.def_psbt.specs.Listed.{Form, shape_fault, pair_fault, global_form}
-use Rattle.def_psbt.specs.Map.{Pair, Map, type_of, magic, pair_text, map_text}
-use Rattle.def_psbt.specs.Reading.{map_at, maps_at, pair_of_type}
+use Rattle.def_psbt.specs.Map.{Pair, Map, type_of, magic, map_text, pair_of_type}
+use Rattle.def_psbt.specs.declared.Refusal.{Refusal}
+use Rattle.def_psbt.specs.Reading.{Rules, whole_map_at, maps_at}
 use Rattle.def_psbt.specs.Source.{has_magic}
 use Rattle.def_psbt.specs.TransactionReading.{transaction_of}
-use Rattle.def_psbt.proofs.Reading.{From, pairs_from}
+use Rattle.def_psbt.proofs.Reading.{From, whole_from}
 use Rattle.ms_psbt.specs.Scaffolding.Kept.{places_of}
-use Rattle.ms_psbt.specs.Scaffolding.Walks.{starts_from}
+use Rattle.ms_psbt.specs.Scaffolding.Maps.{Placed}
+use Rattle.ms_psbt.specs.Scaffolding.Walks.{starts_behind, starts_from}
 
 -- ---- what was read ends behind its bytes
 
-text_some : (map : Map) → 1 ≤ length (map_text map)
-text_some map = let long : length (map_text map) ≡ length (flat_map pair_text map) + 1 = length-append (flat_map pair_text map) (0x00 ∷ []) in omega arith
+ok_is : {A : Type 0} (x y : A) → (let ok : Result A Refusal = Ok x in ok) ≡ Ok y → x ≡ y
+ok_is x y e = cc
 
-pub ends_behind : (psbt : Bytes) (at : ℕ) (map : Map) (next : ℕ) → From psbt at (map_text map) next → at ≤ length psbt → next ≤ length psbt → next ≡ at + length (map_text map)
-ends_behind psbt at map next h from to =
-    let long : length psbt - at ≡ length (map_text map) + (length psbt - next) =
-    sym (length-drop at psbt) ∙ ap length h.parts ∙ length-append (map_text map) (drop next psbt) ∙ ap (λ (n : ℕ). length (map_text map) + n) (length-drop next psbt) in
-    omega arith
-
-begins_inside : (psbt : Bytes) (at : ℕ) (map : Map) (next : ℕ) → From psbt at (map_text map) next → at ≤ length psbt
-begins_inside psbt at map next h =
-    let long : length psbt - at ≡ length (map_text map) + length (drop next psbt) = sym (length-drop at psbt) ∙ ap length h.parts ∙ length-append (map_text map) (drop next psbt) in
-    omega (arith, text_some map)
+pub ends_behind : (psbt : Bytes) (at : ℕ) (map : Map) (next : ℕ) → From psbt at (map_text map) next → next ≡ at + length (map_text map)
+ends_behind psbt at map next h = h.long
 
 -- ---- the places of maps that were read
 
-module _ (forms : ℕ → Form) (psbt : Bytes) (fits : IsBytes psbt) (small : length psbt < 2 ^ 64) where
-  map_then : (count at : ℕ) (maps : List Map × ℕ) → maps_at forms psbt (suc count) at ≡ Ok maps
-      → (m : Map × ℕ) × (map_at forms psbt at ≡ Ok m) × (r : List Map × ℕ) × (maps_at forms psbt count m.1 ≡ Ok r) × ((m.0 ∷ r.0, r.1) ≡ maps)
+module _ (rules : Rules) (psbt : Bytes) (fits : IsBytes psbt) (small : length psbt < 2 ^ 64) where
+  map_then : (count at : ℕ) (maps : List Map × ℕ) → maps_at rules psbt (suc count) at ≡ Ok maps
+      → (m : Map × ℕ) × (whole_map_at rules psbt at ≡ Ok m) × (r : List Map × ℕ) × (maps_at rules psbt count m.1 ≡ Ok r) × ((m.0 ∷ r.0, r.1) ≡ maps)
   unfolding maps_at
   map_then count at maps e = grind arith
 
-  map_is : (at : ℕ) (m : Map × ℕ) → map_at forms psbt at ≡ Ok m → From psbt at (map_text m.0) m.1
-  map_is at m e = (pairs_from forms psbt (suc (length psbt)) [] at m fits small e).0
+  map_long : (at : ℕ) (m : Map × ℕ) → whole_map_at rules psbt at ≡ Ok m → m.1 ≡ at + length (map_text m.0)
+  map_long at m e = (whole_from rules psbt at m fits small e).0.long
 
-  next_inside : (count at : ℕ) (maps : List Map × ℕ) → maps_at forms psbt count at ≡ Ok maps → maps.1 ≤ length psbt → at ≤ length psbt
-  unfolding maps_at
-  next_inside zero at maps e h = grind arith
-  next_inside (suc count) at maps e h = let m = map_then count at maps e in begins_inside psbt at m.0.0 m.0.1 (map_is at m.0 m.1)
-
-  pub places_are : (count at : ℕ) (maps : List Map × ℕ) → maps_at forms psbt count at ≡ Ok maps → maps.1 ≤ length psbt → starts_from forms psbt count at ++ maps.1 ∷ [] ≡ places_of at maps.0
+  pub places_are : (count at : ℕ) (maps : List Map × ℕ) → maps_at rules psbt count at ≡ Ok maps → starts_from rules psbt count at ++ maps.1 ∷ [] ≡ places_of at maps.0
   unfolding maps_at starts_from
-  places_are zero at maps e h = grind arith
-  places_are (suc count) at maps e h =
+  places_are zero at maps e = grind arith
+  places_are (suc count) at maps e =
       let m = map_then count at maps e in
-      let from = map_is at m.0 m.1 in
-      let inside = next_inside count m.0.1 m.2 m.3 (rw (← m.4) at h) in
-      let next = ends_behind psbt at m.0.0 m.0.1 from (begins_inside psbt at m.0.0 m.0.1 from) inside in
-      let others = places_are count m.0.1 m.2 m.3 (rw (← m.4) at h) in
+      let next = map_long at m.0 m.1 in
+      let others = places_are count m.0.1 m.2 m.3 in
       grind (arith, m.1, m.4, next, others)
+
+  pub maps_count : (count at : ℕ) (maps : List Map × ℕ) → maps_at rules psbt count at ≡ Ok maps → length maps.0 ≡ count
+  unfolding maps_at
+  maps_count zero at maps e = ap (λ (m : List Map × ℕ). length m.0) (sym (ok_is ([], at) maps e))
+  maps_count (suc count) at maps e =
+      let m = map_then count at maps e in
+      ap (λ (m : List Map × ℕ). length m.0) (sym m.4) ∙ ap suc (maps_count count m.0.1 m.2 m.3)
+
+  pub maps_placed : (count at : ℕ) (maps : List Map × ℕ) → maps_at rules psbt count at ≡ Ok maps → Placed rules psbt at (starts_from rules psbt count at) maps.0
+  unfolding maps_at starts_from
+  maps_placed zero at maps e = subst (λ (m : List Map × ℕ). Placed rules psbt at [] m.0) (ok_is ([], at) maps e) tt
+  maps_placed (suc count) at maps e =
+      let m = map_then count at maps e in
+      let others : Placed rules psbt m.0.1 (starts_from rules psbt count m.0.1) m.2.0 = maps_placed count m.0.1 m.2 m.3 in
+      let is : starts_from rules psbt (suc count) at ≡ at ∷ starts_from rules psbt count m.0.1 = ap (λ r. at ∷ starts_behind r (starts_from rules psbt count)) m.1 in
+      subst (λ (places : List ℕ). Placed rules psbt at places maps.0) (sym is)
+      (subst (λ (x : List Map × ℕ). Placed rules psbt at (at ∷ starts_from rules psbt count m.0.1) x.0) m.4
+      (refl, record { end = m.0.1; read = m.1 }, subst (λ (n : ℕ). Placed rules psbt n (starts_from rules psbt count m.0.1) m.2.0) (map_long at m.0 m.1) others))
 
 -- ---- the bytes of a map at its place
 

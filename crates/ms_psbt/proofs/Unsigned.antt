@@ -19,7 +19,7 @@ use Rattle.def_psbt.specs.Forms.{has_no_script_sig, outpoint_texts, stands_twice
 use Rattle.ms_psbt.specs.declared.repeats.Keys.{Keys}
 use Rattle.ms_psbt.specs.declared.repeats.Keys.TheVariants as keys
 use Rattle.ms_psbt.specs.Scaffolding.Repeats.{key_at, repeat_in}
-use Rattle.ms_psbt.specs.Scaffolding.Outpoints.{Places, is_empty_input, empties}
+use Rattle.ms_psbt.specs.Scaffolding.Outpoints.{Places, first_read, first_at, is_empty_input, empties}
 use Rattle.ms_script.specs.SizeReads.{size_at}
 use Rattle.ms_psbt.proofs.Sizes.{read_is, place_within}
 
@@ -148,18 +148,23 @@ places_ok bytes fits read long e places h =
           let stands = inputs_of (λ inputs. Stands (key_at keys.Outpoints bytes) inputs (empties bytes r.0 (4 + r.1))) bytes r is
           (stand bytes fits r.0 (4 + r.1)) in
           let rise = empties_rise bytes r.0 (4 + r.1) in
-          placed (4 + r.1) (transaction_of bytes) places (empties bytes r.0 (4 + r.1)) (cc) stands rise
+          placed (4 + r.1) (transaction_of bytes) places (empties bytes r.0 (4 + r.1)) (cc) stands rise (sym (ap first_read is))
       | Err fault ↦ λ is e. absurd cc
     ] refl e
   where
     placed : (at : ℕ) (t : Option Transaction) (places o : Option (List ℕ)) → places ≡ o
         → IfSome t (λ transaction. Stands (key_at keys.Outpoints bytes) transaction.inputs o)
-        → ((places : List ℕ) → o ≡ Some places → (k : ℕ) → k < length places → get_or places k 0 ≡ at + 41 * k) → Places bytes t places
-    placed at None places o e h rise = tt
-    placed at (Some transaction) (Some places) o e h rise =
+        → ((places : List ℕ) → o ≡ Some places → (k : ℕ) → k < length places → get_or places k 0 ≡ at + 41 * k) → at ≡ first_at bytes → Places bytes t places
+    placed at None places o e h rise first = tt
+    placed at (Some transaction) (Some places) o e h rise first =
         let s : Stands (key_at keys.Outpoints bytes) transaction.inputs (Some places) = rw (← e) at h in
-        record { empty = s.0; texts = s.1; up = λ k inside. omega (arith, rise places (sym e) k (omega arith), rise places (sym e) (k + 1) inside) }
-    placed at (Some transaction) None o e h rise = rw (← e) at h
+        record {
+          empty = s.0;
+          texts = s.1;
+          up = λ k inside. omega (arith, rise places (sym e) k (omega arith), rise places (sym e) (k + 1) inside);
+          row = λ k inside. rise places (sym e) k inside ∙ ap (λ (n : ℕ). n + 41 * k) first;
+        }
+    placed at (Some transaction) None o e h rise first = rw (← e) at h
 
 -- no transaction is cut inside its version or inside the number of its inputs
 pub places_short : (bytes : Bytes) (places : Option (List ℕ)) → length bytes < 4 → Places bytes (transaction_of bytes) places
@@ -173,10 +178,10 @@ places_err bytes fault e = grind (arith, number_some w32)
 -- ---- outpoints that stand twice
 
 -- some keys, of which one stands in a list
-abbrev any_in : (before : List Bytes) → List Bytes → Bool
+abbrev pub any_in : (before : List Bytes) → List Bytes → Bool
 any_in before = list_any (λ (key : Bytes). list_any (bytes_eq key) before)
 
-any_more : (before : List Bytes) (new : Bytes) (others : List Bytes) → any_in (before ++ new ∷ []) others ≡ (any_in before others || list_any (bytes_eq new) others)
+pub any_more : (before : List Bytes) (new : Bytes) (others : List Bytes) → any_in (before ++ new ∷ []) others ≡ (any_in before others || list_any (bytes_eq new) others)
 any_more before new [] = refl
 any_more before new (key ∷ others) =
     let again = any_more before new others in
@@ -191,7 +196,7 @@ twice_seen keys bytes before (place ∷ places) =
     let again = twice_seen keys bytes (before ++ key_at keys bytes place ∷ []) places in
     grind (arith, again, any_more before (key_at keys bytes place) (map (key_at keys bytes) places))
 
-none_before : (keys : List Bytes) → any_in [] keys ≡ false
+pub none_before : (keys : List Bytes) → any_in [] keys ≡ false
 none_before [] = refl
 none_before (key ∷ keys) = none_before keys
 
@@ -235,3 +240,9 @@ pub empties_done : (bytes : Bytes) (count i at : ℕ) (places : List ℕ) (total
     → option_map (λ rest. places ++ rest) (empties bytes (count - i) at) ≡ total → Some places ≡ total
 unfolding empties
 empties_done bytes count i at places total none so_far = let no_more : count - i ≡ 0 = omega arith in rw (no_more, append-nil places) at so_far
+
+-- ---- which input it is
+
+pub transaction_long : (bytes : Bytes) (transaction : Transaction) → transaction_of bytes ≡ Some transaction → 4 ≤ length bytes
+unfolding transaction_of
+transaction_long bytes transaction e = grind (arith, number_some w32 bytes)

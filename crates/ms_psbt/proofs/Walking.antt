@@ -1,13 +1,15 @@
 -- A walk over the pairs of a map, and the first key that stands twice, come to what the map gives.
-use Rattle.std.proofs.Common.{◌≡◌, ℕ, zero, suc, ◌+◌, ◌-◌, ◌<◌, ◌≤◌, ◌||◌, List, [], ◌∷◌, ◌++◌, length, map, Option, Result, Ok, Err, refl, sym, ap, ◌∙◌, arith}
+use Rattle.std.proofs.Common.{◌≡◌, ℕ, zero, suc, ◌+◌, ◌-◌, ◌<◌, ◌≤◌, ◌||◌, true, false, List, [], ◌∷◌, ◌++◌, length, map, Option, Result, Ok, Err, refl, sym, ap, ◌∙◌, arith}
 use Rattle.std.proofs.lemmas.List.{map-append}
 use Rattle.std.specs.List.{list_any}
 use Rattle.std.specs.Str.{bytes_eq}
 use Rattle.def_script.specs.Bytes.{Bytes}
+use Rattle.def_psbt.specs.declared.PsbtFault.TheVariants.{NoTransaction}
 use Rattle.def_psbt.specs.declared.Refusal.{Refusal}
-use Rattle.def_psbt.specs.Map.{Pair, Map}
+use Rattle.def_psbt.specs.declared.Refusal.TheVariants.{At}
+use Rattle.def_psbt.specs.Map.{Pair, Map, has_types}
 use Rattle.def_psbt.specs.Listed.{Form, stands, pair_fault}
-use Rattle.def_psbt.specs.Reading.{◌>>=◌, Read, pair_at, sound_pair_at, pairs_at, map_at, maps_at}
+use Rattle.def_psbt.specs.Reading.{◌>>=◌, Read, pair_at, sound_pair_at, pairs_at, map_at, Rules, whole_map_at, maps_at}
 use Rattle.ms_psbt.specs.declared.maps.Step.TheVariants as step
 use Rattle.ms_psbt.specs.declared.repeats.Marked.{Marked}
 use Rattle.ms_psbt.specs.declared.repeats.Keys.TheVariants as keys
@@ -65,26 +67,39 @@ pub ended_at : {A : Type 0} (read : Read A) (end : ℕ) → end_of read ≡ Ok e
 ended_at (Ok (x, n)) end e = (x, cc)
 ended_at (Err refusal) end e = absurd cc
 
-module _ (forms : ℕ → Form) (psbt : Bytes) (count i at : ℕ) where
-  pub maps_next : i < count → end_of (maps_at forms psbt (count - i) at)
-      ≡ (end_of (map_at forms psbt at) >>= λ next. end_of (maps_at forms psbt (count - (i + 1)) next))
+module _ (rules : Rules) (psbt : Bytes) (count i at : ℕ) where
+  pub maps_next : i < count → end_of (maps_at rules psbt (count - i) at)
+      ≡ (end_of (whole_map_at rules psbt at) >>= λ next. end_of (maps_at rules psbt (count - (i + 1)) next))
   unfolding maps_at
   maps_next more = let one_more : count - i ≡ suc (count - (i + 1)) = omega arith in rw one_more (grind arith)
 
-  pub maps_done : count ≤ i → end_of (maps_at forms psbt (count - i) at) ≡ Ok at
+  pub maps_done : count ≤ i → end_of (maps_at rules psbt (count - i) at) ≡ Ok at
   unfolding maps_at
   maps_done none = let no_more : count - i ≡ 0 = omega arith in rw no_more refl
 
-  pub starts_next : (next : ℕ) → i < count → end_of (map_at forms psbt at) ≡ Ok next
-      → starts_from forms psbt (count - i) at ≡ at ∷ starts_from forms psbt (count - (i + 1)) next
+  pub starts_next : (next : ℕ) → i < count → end_of (whole_map_at rules psbt at) ≡ Ok next
+      → starts_from rules psbt (count - i) at ≡ at ∷ starts_from rules psbt (count - (i + 1)) next
   unfolding starts_from
   starts_next next more e = let one_more : count - i ≡ suc (count - (i + 1)) = omega arith in rw one_more (grind arith)
 
-  pub starts_done : count ≤ i → starts_from forms psbt (count - i) at ≡ []
+  pub starts_done : count ≤ i → starts_from rules psbt (count - i) at ≡ []
   unfolding starts_from
   starts_done none = let no_more : count - i ≡ 0 = omega arith in rw no_more refl
 
   -- any stop of a map is that of the maps
-  pub maps_stop : (why : ReadStop) (total : Result ℕ Refusal) → i < count → ReadsOr (λ (end : ℕ). end) (Err why) (end_of (map_at forms psbt at))
-      → end_of (maps_at forms psbt (count - i) at) ≡ total → ReadsOr (λ (end : ℕ). end) (Err why) total
+  pub maps_stop : (why : ReadStop) (total : Result ℕ Refusal) → i < count → ReadsOr (λ (end : ℕ). end) (Err why) (end_of (whole_map_at rules psbt at))
+      → end_of (maps_at rules psbt (count - i) at) ≡ total → ReadsOr (λ (end : ℕ). end) (Err why) total
   maps_stop why total more read so_far = grind (arith, maps_next)
+
+-- ---- a map in which the types stand that have to, and one in which one doesn't
+
+module _ (rules : Rules) (psbt : Bytes) (at end : ℕ) (e : end_of (map_at rules.forms psbt at) ≡ Ok end) where
+  pub has_all : ((map : Map × ℕ) → map_at rules.forms psbt at ≡ Ok map → true ≡ has_types rules.needed map.0) → end_of (whole_map_at rules psbt at) ≡ Ok end
+  has_all h = let m = ended_at (map_at rules.forms psbt at) end e in grind (arith, m.1, h (m.0, end) m.1)
+
+  pub lacks_one : ((map : Map × ℕ) → map_at rules.forms psbt at ≡ Ok map → false ≡ has_types rules.needed map.0) → end_of (whole_map_at rules psbt at) ≡ Err (At NoTransaction (end - 1))
+  lacks_one h = let m = ended_at (map_at rules.forms psbt at) end e in grind (arith, m.1, h (m.0, end) m.1)
+
+pub map_stop : (rules : Rules) (psbt : Bytes) (at : ℕ) (why : ReadStop) → ReadsOr (λ (end : ℕ). end) (Err why) (end_of (map_at rules.forms psbt at))
+    → ReadsOr (λ (end : ℕ). end) (Err why) (end_of (whole_map_at rules psbt at))
+map_stop rules psbt at why h = grind arith

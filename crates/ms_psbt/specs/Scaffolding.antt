@@ -6,3 +6,6 @@ pub mod Walks
 pub mod Kinds
 pub mod Kept
 pub mod Pairs
+pub mod Maps
+pub mod Outlines
+pub mod Locks

@@ -1,4 +1,4 @@
-//! PSBTs as bytes (BIP 174, version 0): their reading, which copies nothing.
+//! PSBTs as bytes (BIP 174, version 0; BIP 370, version 2): their reading, which copies nothing but the transaction of version 2.
 #![tactic(auto)]
 
 pub use def_psbt::{PsbtFault, Refusal};
@@ -13,8 +13,10 @@ pub use stop::ReadStop;
 mod forms;
 mod listed;
 mod lists;
+mod locks;
 mod map;
 mod maps;
+mod outline;
 mod pairs;
 mod parts;
 mod psbt;
@@ -23,3 +25,5 @@ mod signature;
 mod source;
 mod stop;
 mod transaction;
+mod values;
+mod written;

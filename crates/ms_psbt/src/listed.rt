@@ -1,15 +1,16 @@
 //! What is wrong with a pair by its form.
 
 ghost use Rattle.std.specs.Prelude.{◌≡◌, ◌^◌, ◌<◌, length, IfOk};
-ghost use Rattle.def_psbt.specs.Listed.{version_fault as the_version_fault, global_form, input_form, preimage, shape_fault as the_shape_fault};
-ghost use Rattle.ms_psbt.specs.Scaffolding.Kinds.{forms_of, passing, fault_by};
+ghost use Rattle.def_psbt.specs.Listed.{version_fault as the_version_fault, global_form, input_form, output_form, preimage, shape_fault as the_shape_fault};
+ghost use Rattle.def_psbt.specs.Forms.{is_size as the_is_size, is_time as the_is_time, is_height as the_is_height};
+ghost use Rattle.ms_psbt.specs.Scaffolding.Kinds.{forms_of, passing, later_fault, fault_by};
 
 use crate::forms::{digest_length, is_derivation, is_digest, is_public_key};
 use crate::pairs::PairRef;
 use crate::parts::first_size;
 use crate::signature::is_signature;
 use crate::transaction::{is_network_transaction, is_output, is_unsigned, is_witness};
-use def_psbt::PsbtFault;
+use def_psbt::{PsbtFault, PsbtVersion};
 use ms_hash::HashKind;
 use std::alloc::{AllocError, Global};
 
@@ -18,10 +19,10 @@ use std::alloc::{AllocError, Global};
 pub enum MapKind {
     /// The global map.
     Global,
-    /// Those of inputs.
-    Input,
-    /// Those of outputs.
-    Output,
+    /// Those of inputs of a version.
+    Input(PsbtVersion),
+    /// Those of outputs of a version.
+    Output(PsbtVersion),
 }
 
 /// What is wrong with a pair by its key and its value alone. `AllocError` comes only where memory is wanting.
@@ -57,8 +58,8 @@ fn typed_fault(
 {
     match kind {
         MapKind::Global => global_fault(alloc, type_number, key_data, value),
-        MapKind::Input => Ok(input_fault(type_number, key_data, value)),
-        MapKind::Output => Ok(None),
+        MapKind::Input(version) => Ok(input_fault(version, type_number, key_data, value)),
+        MapKind::Output(version) => Ok(output_fault(version, type_number, key_data, value)),
     }
 }
 
@@ -86,6 +87,9 @@ fn global_fault(
 {
     match type_number {
         0x00 => Ok(passes(key_data.is_empty(), is_unsigned(alloc, value)?)),
+        0x02 | 0x03 => Ok(passes(key_data.is_empty(), value.len() == 4)),
+        0x04 | 0x05 => Ok(passes(key_data.is_empty(), is_size(value))),
+        0x06 => Ok(passes(key_data.is_empty(), value.len() == 1)),
         0xfb => Ok(if key_data.is_empty() {
             version_fault(value)
         } else {
@@ -99,15 +103,20 @@ fn version_fault(value: &[u8]) -> Option<PsbtFault>
     ensures { result ≡ the_version_fault value.now }
 {
     match *value {
-        [0, 0, 0, 0] => None,
+        [0 | 2, 0, 0, 0] => None,
         [_, _, _, _] => Some(PsbtFault::Version),
         _ => Some(PsbtFault::ValueForm),
     }
 }
 
 #[tactic(auto, unfolding(def_psbt::specs::Listed::input_form))]
-fn input_fault(type_number: u64, key_data: &[u8], value: &[u8]) -> Option<PsbtFault>
-    ensures { result ≡ fault_by (input_form type_number) key_data.now value.now }
+fn input_fault(
+    version: PsbtVersion,
+    type_number: u64,
+    key_data: &[u8],
+    value: &[u8],
+) -> Option<PsbtFault>
+    ensures { result ≡ fault_by (input_form version type_number) key_data.now value.now }
 {
     match type_number {
         0x00 => passes(key_data.is_empty(), is_network_transaction(value)),
@@ -121,7 +130,76 @@ fn input_fault(type_number: u64, key_data: &[u8], value: &[u8]) -> Option<PsbtFa
         0x0b => preimage_fault(HashKind::Sha256, key_data, value),
         0x0c => preimage_fault(HashKind::Hash160, key_data, value),
         0x0d => preimage_fault(HashKind::Hash256, key_data, value),
+        0x0e => later(version, passes(key_data.is_empty(), value.len() == 32)),
+        0x0f | 0x10 => later(version, passes(key_data.is_empty(), value.len() == 4)),
+        0x11 => later(version, passes(key_data.is_empty(), is_time(value))),
+        0x12 => later(version, passes(key_data.is_empty(), is_height(value))),
         _ => None,
+    }
+}
+
+#[tactic(auto, unfolding(def_psbt::specs::Listed::output_form))]
+fn output_fault(
+    version: PsbtVersion,
+    type_number: u64,
+    key_data: &[u8],
+    value: &[u8],
+) -> Option<PsbtFault>
+    ensures { result ≡ fault_by (output_form version type_number) key_data.now value.now }
+{
+    match type_number {
+        0x00 | 0x01 => passes(key_data.is_empty(), true),
+        0x02 => passes(is_public_key(key_data), is_derivation(value)),
+        0x03 => later(version, passes(key_data.is_empty(), value.len() == 8)),
+        0x04 => later(version, passes(key_data.is_empty(), true)),
+        _ => None,
+    }
+}
+
+/// What is wrong with a pair of a type that stands in version 2 alone.
+fn later(version: PsbtVersion, fault: Option<PsbtFault>) -> Option<PsbtFault>
+    ensures { result ≡ later_fault version fault }
+{
+    match (version, fault) {
+        (PsbtVersion::Zero, None) => Some(PsbtFault::Excluded),
+        _ => fault,
+    }
+}
+
+/// Whether bytes are a size and nothing else.
+#[tactic(auto, unfolding(def_psbt::specs::Part::whole))]
+fn is_size(bytes: &[u8]) -> bool
+    ensures { result ≡ the_is_size bytes.now }
+{
+    match first_size(bytes) {
+        Some((_, rest)) => rest.is_empty(),
+        None => false,
+    }
+}
+
+/// Lock times from this number on are times, and those below are heights (BIP 65).
+const LOCKTIME_THRESHOLD: u32 = 500_000_000;
+
+/// Whether bytes are a lock time that is a time.
+fn is_time(bytes: &[u8]) -> bool
+    ensures { result ≡ the_is_time bytes.now }
+{
+    match *bytes {
+        [a, b, c, d] => u32::from_le_bytes([a, b, c, d]) >= LOCKTIME_THRESHOLD,
+        _ => false,
+    }
+}
+
+/// Whether bytes are a lock time that is a height, which isn't 0.
+fn is_height(bytes: &[u8]) -> bool
+    ensures { result ≡ the_is_height bytes.now }
+{
+    match *bytes {
+        [a, b, c, d] => {
+            let number = u32::from_le_bytes([a, b, c, d]);
+            number > 0 && number < LOCKTIME_THRESHOLD
+        }
+        _ => false,
     }
 }
 

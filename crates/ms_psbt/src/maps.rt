@@ -1,9 +1,10 @@
 //! Maps of a PSBT: where they end, and the first place at which they are refused.
 
-ghost use Rattle.std.specs.Prelude.{◌≡◌, suc, ◌^◌, ◌<◌, ◌≤◌, ◌++◌, length, IfOk};
+ghost use Rattle.std.specs.Prelude.{◌≡◌, ℕ, suc, ◌-◌, ◌^◌, ◌<◌, ◌≤◌, ◌++◌, length, Ok, IfOk};
 ghost use Rattle.std.specs.List.Sorted.{IsStrictlyIncreasing};
-ghost use Rattle.def_psbt.specs.Reading.{map_at, maps_at};
-ghost use Rattle.ms_psbt.specs.Scaffolding.Kinds.{forms_of};
+ghost use Rattle.def_psbt.specs.Map.{Map, has_types};
+ghost use Rattle.def_psbt.specs.Reading.{map_at, whole_map_at, maps_at};
+ghost use Rattle.ms_psbt.specs.Scaffolding.Kinds.{forms_of, needed_in, rules_of};
 ghost use Rattle.ms_psbt.specs.Seen.{ReadsOr};
 ghost use Rattle.ms_psbt.specs.Scaffolding.Repeats.{AreMarked, places_of};
 ghost use Rattle.ms_psbt.specs.Scaffolding.Walks.{step_at, walk_from, walk_of, end_of, starts_from, IsStepWithin};
@@ -12,7 +13,8 @@ use crate::listed::{MapKind, shape_fault};
 use crate::pairs::{pair_at, size_at};
 use crate::repeats::{Keys, Marked, first_repeat};
 use crate::stop::ReadStop;
-use def_psbt::{PsbtFault, Refusal};
+use crate::values::has_both;
+use def_psbt::{PsbtFault, PsbtVersion, Refusal};
 use std::alloc::{AllocError, Global};
 
 /// What follows a pair.
@@ -106,6 +108,45 @@ pub fn map_end(
     }
 }
 
+/// Whether the types that have to stand in maps of a kind stand in the one that begins at a place.
+fn has_needed(kind: MapKind, psbt: &[u8], from: usize) -> bool
+    ensures { (map : Map × ℕ) → map_at (forms_of kind) psbt.now from ≡ Ok map → result ≡ has_types (needed_in kind) map.0 }
+{
+    match kind {
+        MapKind::Input(PsbtVersion::Two) => has_both(psbt, from, 0x0e, 0x0f),
+        MapKind::Output(PsbtVersion::Two) => has_both(psbt, from, 0x03, 0x04),
+        _ => true,
+    }
+}
+
+/// The place behind the map that begins at a place, where the types stand that have to, or its first refusal.
+fn whole_map_end(
+    alloc: Global,
+    kind: MapKind,
+    psbt: &[u8],
+    at: usize,
+    places: &mut Vec<Marked>,
+) -> Result<usize, ReadStop>
+    requires at { at ≤ length psbt.now }
+    requires room { length psbt.now < 2 ^ 32 }
+    ensures reading { ReadsOr (λ end. end) result (end_of (whole_map_at (rules_of kind) psbt.now at)) }
+    ensures within { IfOk result (λ end. end ≤ length psbt.now) }
+{
+    let end = map_end(alloc, kind, psbt, at, places)?;
+    if has_needed(kind, psbt, at) {
+        Ok(end)
+    } else {
+        Err(ReadStop::Refused(no_transaction(end)))
+    }
+}
+
+/// That a type doesn't stand in a map that has to, at the byte before its end, which ends it.
+pub fn no_transaction(end: usize) -> Refusal
+    ensures { result ≡ Refusal.At PsbtFault.NoTransaction (end - 1) }
+{
+    Refusal::At(PsbtFault::NoTransaction, end.saturating_sub(1))
+}
+
 /// The place behind so many maps from a place on, or their first refusal; the place of each map is added.
 pub fn maps_end(
     alloc: Global,
@@ -117,15 +158,15 @@ pub fn maps_end(
 ) -> Result<usize, ReadStop>
     requires from { from ≤ length psbt.now }
     requires room { length psbt.now < 2 ^ 32 }
-    ensures reading { ReadsOr (λ end. end) result (end_of (maps_at (forms_of kind) psbt.now count from)) }
-    ensures starts { IfOk result (λ end. starts.new.items ≡ starts.old.items ++ starts_from (forms_of kind) psbt.now count from) }
+    ensures reading { ReadsOr (λ end. end) result (end_of (maps_at (rules_of kind) psbt.now count from)) }
+    ensures starts { IfOk result (λ end. starts.new.items ≡ starts.old.items ++ starts_from (rules_of kind) psbt.now count from) }
     ensures within { IfOk result (λ end. end ≤ length psbt.now) }
 {
     let mut places = Vec::new(alloc);
     let mut at = from;
     for _ in 0..count {
         starts.push(at as u32)?;
-        at = map_end(alloc, kind, psbt, at, &mut places)?;
+        at = whole_map_end(alloc, kind, psbt, at, &mut places)?;
     }
     Ok(at)
 }

@@ -1,47 +1,75 @@
 //! A PSBT that was read, which lies in the bytes.
 
-ghost use Rattle.std.specs.Prelude.{◌≡◌, ℕ, ◌^◌, ◌<◌, ◌≤◌, [], ◌-◌, ◌++◌, length, take, drop, option_map, slice_get, slice_index, Some, Ok, IfOk, IsTrue};
+ghost use Rattle.std.specs.Prelude.{◌≡◌, ℕ, ◌^◌, ◌<◌, ◌≤◌, true, List, [], ◌∷◌, ◌-◌, ◌++◌, length, map, take, drop, slice_get, slice_index, Some, option_map, Ok, IfOk, IsTrue};
 ghost use Rattle.std.specs.List.{flat_map};
+ghost use Rattle.def_psbt.specs.declared.PsbtVersion.TheVariants.{Two};
+ghost use Rattle.def_psbt.specs.Fields.{input_of, version_of, transaction_of_fields};
 ghost use Rattle.def_psbt.specs.Forms.{is_unsigned};
 ghost use Rattle.def_psbt.specs.Laws.{IsSound, IsSoundMap};
-ghost use Rattle.def_psbt.specs.Listed.{global_form, input_form, output_form};
-ghost use Rattle.def_psbt.specs.Map.{Map, Pair, magic as the_magic, map_text, psbt_text};
-ghost use Rattle.def_psbt.specs.Reading.{map_at, maps_at, pair_of_type, read_psbt as the_read_psbt};
+ghost use Rattle.def_psbt.specs.Listed.{global_form, input_form};
+ghost use Rattle.def_psbt.specs.Map.{Map, magic as the_magic, has_types, map_text, psbt_text};
+ghost use Rattle.def_psbt.specs.Reading.{input_rules, output_rules, map_at, unless, at_place, or_else, input_count, output_count, outline_in, transaction_by, Outline as TheOutline, unjoined as the_unjoined, read_psbt as the_read_psbt};
 ghost use Rattle.def_psbt.specs.Source.{MAX_SOURCE_SIZE, has_magic};
-ghost use Rattle.def_psbt.specs.TransactionReading.{transaction_of};
-ghost use Rattle.ms_psbt.specs.Seen.{IsPart, ReadsOr};
-ghost use Rattle.ms_psbt.specs.Scaffolding.Kept.{counted_pair};
-ghost use Rattle.ms_psbt.specs.Scaffolding.Walks.{end_of};
+ghost use Rattle.def_psbt.specs.Transaction.{Transaction, transaction_text};
+ghost use Rattle.def_psbt.specs.TransactionReading.{transaction_of as the_transaction_of};
+ghost use Rattle.ms_psbt.specs.Seen.{ReadsOr};
+ghost use Rattle.ms_psbt.specs.Scaffolding.Kept.{bytes_of};
+ghost use Rattle.ms_psbt.specs.Scaffolding.Maps.{Placed, InputsAt, OutputsAt};
+ghost use Rattle.ms_psbt.specs.Scaffolding.Outlines.{IsOutline};
 
 use crate::listed::MapKind;
+use crate::locks::unserved;
 use crate::map::Pairs;
 use crate::maps::{map_end, maps_end};
-use crate::pairs::{pair_at, size_at};
+use crate::outline::{GLOBAL_PLACE, Outline, outline_at, version_in};
 use crate::stop::ReadStop;
-use crate::transaction::transaction_counts;
+use crate::transaction::repeated_outpoint;
+use crate::written::written_transaction;
 use def_psbt::{PsbtFault, Refusal};
-use std::alloc::Global;
+use std::alloc::{AllocError, Global};
 use std::marker::Model;
 
-/// A PSBT that was read. It keeps the bytes, and copies none of them. Contracts see what the PSBT holds.
+/// The bytes of a transaction.
+#[derive(Debug, Drop)]
+pub enum TransactionBytes<'a> {
+    /// Those in the global map of version 0.
+    Given(&'a [u8]),
+    /// Those that were written from the fields of version 2.
+    Written(Vec<u8>),
+}
+
+impl<'a> TransactionBytes<'a> {
+    /// The bytes.
+    fn as_slice(&self) -> &[u8]
+        ensures { result.now ≡ bytes_of self.now }
+    {
+        match self {
+            TransactionBytes::Given(bytes) => bytes,
+            TransactionBytes::Written(bytes) => bytes.as_slice(),
+        }
+    }
+}
+
+/// A PSBT that was read. It keeps the bytes, and copies none of them but those of the transaction of version 2. Contracts see
+/// what the PSBT holds.
 #[derive(Debug, Drop)]
 pub struct Psbt<'a> {
     bytes: &'a [u8],
-    transaction: &'a [u8],
+    transaction: TransactionBytes<'a>,
     /// The places of the maps of inputs, and the place behind them.
     places: Vec<u32>,
 }
 
 impl<'a> Model for Psbt<'a> {
     ghost use Rattle.def_psbt.specs.Map.{Psbt as Held};
-    ghost use Rattle.ms_psbt.specs.Scaffolding.Kept.{IsRead};
+    ghost use Rattle.ms_psbt.specs.Scaffolding.Kept.{bytes_of, IsRead};
     ghost use Rattle.ms_psbt.specs.Whole.{psbt_seen};
 
     ghost Value = { Held };
 
     ghost view = { λ p. psbt_seen p.bytes.now };
 
-    ghost invariant = { λ p. IsRead p.bytes.now p.transaction.now p.places.items };
+    ghost invariant = { λ p. IsRead p.bytes.now (bytes_of p.transaction) p.places.items };
 }
 
 impl<'a> Psbt<'a> {
@@ -54,11 +82,11 @@ impl<'a> Psbt<'a> {
 
     /// The bytes of its transaction, which has no witnesses; its inputs have empty scriptSigs, and no outpoint stands twice.
     /// Takes no memory.
-    pub fn transaction_bytes(&self) -> &'a [u8]
-        ensures transaction { transaction_of result.now ≡ Some self.now.transaction }
+    pub fn transaction_bytes(&self) -> &[u8]
+        ensures transaction { the_transaction_of result.now ≡ Some self.now.transaction }
         ensures unsigned { IsTrue (is_unsigned (Some self.now.transaction)) }
     {
-        self.transaction
+        self.transaction.as_slice()
     }
 
     /// How many inputs there are, and so many maps of inputs. Takes no memory.
@@ -74,7 +102,7 @@ impl<'a> Psbt<'a> {
     pub fn input_map(&self, number: usize) -> Pairs<'a>
         requires { number < length self.now.inputs }
         ensures map { slice_get self.now.inputs number ≡ Some result }
-        ensures sound { IsSoundMap input_form [] result }
+        ensures sound { IsSoundMap (input_form (version_of self.now.global)) [] result }
     {
         let from = place_at(&self.places, number);
         let to = place_at(&self.places, number + 1);
@@ -114,55 +142,109 @@ fn part(bytes: &[u8], from: usize, to: usize) -> &[u8]
     &bytes[from..to]
 }
 
-/// The value of the pair of type 00 in the map that begins at a place and is whole.
-fn transaction_value(psbt: &[u8], from: usize) -> Option<&[u8]>
-    requires { from ≤ length psbt.now }
-    ensures { (map : Map × ℕ) → map_at global_form psbt.now from ≡ Ok map → IsPart (λ value. value.now) result (option_map (λ (pair : Pair). pair.value) (pair_of_type 0 map.0)) }
+/// The place with this number; 0 where there is none.
+fn nth_place(places: &[u32], number: usize) -> u32
+    ensures { result ≡ slice_index places.now number }
 {
-    let mut at = from;
-    loop {
-        let Ok((size, _)) = size_at(psbt, at) else {
-            return None;
-        };
-        if size == 0 {
-            return None;
-        }
-        let Ok((pair, next)) = pair_at(psbt, at) else {
-            return None;
-        };
-        if pair.key_type() == 0 {
-            return Some(pair.value());
-        }
-        at = next;
+    match places.get(number) {
+        Some(place) => *place,
+        None => 0,
     }
 }
 
-/// The transaction in the global map, with the numbers of its inputs and of its outputs.
-fn global_transaction(psbt: &[u8]) -> Option<(&[u8], (u64, u64))>
-    requires { 5 ≤ length psbt.now }
-    ensures { (map : Map × ℕ) → map_at global_form psbt.now 5 ≡ Ok map → IsPart (λ part. (part.0.now, part.1)) result (counted_pair (pair_of_type 0 map.0)) }
+/// The place with this number, where there is a number.
+fn numbered(places: &[u32], number: Option<usize>) -> Option<u32>
+    ensures { result ≡ option_map (slice_index places.now) number }
 {
-    let value = transaction_value(psbt, 5)?;
-    let counts = transaction_counts(value)?;
-    Some((value, counts))
+    match number {
+        Some(number) => Some(nth_place(places, number)),
+        None => None,
+    }
 }
 
-/// The place behind the maps of outputs from a place on, or their first refusal.
-fn outputs_end(alloc: Global, psbt: &[u8], count: u64, from: usize) -> Result<usize, ReadStop>
-    requires from { from ≤ length psbt.now }
+/// What is wrong with the inputs together: at the one place the first one begins whose outpoint is that of one before it, at the
+/// other the first one up to which no lock time serves all.
+fn refusal_at(repeated: Option<u32>, lacking: Option<u32>) -> Option<Refusal>
+    ensures { result ≡ or_else (at_place PsbtFault.RepeatedOutpoint repeated) (at_place PsbtFault.LockTime lacking) }
+{
+    match repeated {
+        Some(place) => Some(Refusal::At(PsbtFault::RepeatedOutpoint, place as usize)),
+        None => match lacking {
+            Some(place) => Some(Refusal::At(PsbtFault::LockTime, place as usize)),
+            None => None,
+        },
+    }
+}
+
+/// What is wrong with the inputs of version 2 together, whose maps begin at these places: `transaction` are the bytes of the
+/// transaction.
+fn unjoined(
+    alloc: Global,
+    psbt: &[u8],
+    transaction: &[u8],
+    places: &[u32],
+) -> Result<Option<Refusal>, AllocError>
     requires room { length psbt.now < 2 ^ 32 }
-    ensures reading { ReadsOr (λ end. end) result (end_of (maps_at output_form psbt.now count from)) }
-    ensures within { IfOk result (λ end. end ≤ length psbt.now) }
+    ensures { (at : ℕ) (inputs : List Map) (made : Transaction) → InputsAt psbt.now at places.now inputs → the_transaction_of transaction.now ≡ Some made
+        → made.inputs ≡ map input_of inputs → IfOk result (λ refusal. refusal ≡ the_unjoined Two at inputs) }
 {
-    let mut places = Vec::new(alloc);
-    maps_end(alloc, MapKind::Output, psbt, count, from, &mut places)
+    let number = repeated_outpoint(alloc, transaction)?;
+    let repeated = numbered(places, number);
+    let lacking = unserved(psbt, places);
+    Ok(refusal_at(repeated, lacking))
 }
 
-/// Reads a PSBT from its bytes (BIP 174, version 0). It demands that they begin with the magic, and that there are at most
-/// 16,777,216 of them, as in what `psbt_bytes` gives.
+/// The bytes of the transaction of version 2, where nothing is wrong with the inputs together.
+fn joined_transaction(
+    alloc: Global,
+    psbt: &[u8],
+    inputs: &[u32],
+    outputs: &[u32],
+) -> Result<Vec<u8>, ReadStop>
+    requires room { length psbt.now < 2 ^ 32 }
+    ensures { (global : Map × ℕ) (at middle : ℕ) (input_maps output_maps : List Map) → map_at global_form psbt.now 5 ≡ Ok global → has_types (0x02 ∷ []) global.0 ≡ true
+        → InputsAt psbt.now at inputs.now input_maps → OutputsAt psbt.now middle outputs.now output_maps
+        → the_transaction_of (transaction_text (transaction_of_fields global.0 input_maps output_maps)) ≡ Some (transaction_of_fields global.0 input_maps output_maps)
+        → ReadsOr (λ out. out.items) result (unless (the_unjoined Two at input_maps) (Ok (transaction_text (transaction_of_fields global.0 input_maps output_maps)))) }
+{
+    let bytes = written_transaction(alloc, psbt, inputs, outputs)?;
+    let wrong = unjoined(alloc, psbt, bytes.as_slice(), inputs)?;
+    match wrong {
+        Some(refusal) => Err(ReadStop::Refused(refusal)),
+        None => Ok(bytes),
+    }
+}
+
+/// The bytes of the transaction, where nothing is wrong with the inputs together.
+fn transaction_of<'a>(
+    alloc: Global,
+    psbt: &[u8],
+    outline: Outline<'a>,
+    inputs: &[u32],
+    outputs: &[u32],
+) -> Result<TransactionBytes<'a>, ReadStop>
+    requires room { length psbt.now < 2 ^ 32 }
+    ensures { (global : Map × ℕ) (said : TheOutline) (input_number output_number middle : ℕ) (input_maps output_maps : List Map) → map_at global_form psbt.now 5 ≡ Ok global
+        → outline_in (version_of global.0) global.0 ≡ Some said → IsOutline outline.entry input_number output_number said
+        → Placed (input_rules (version_of global.0)) psbt.now global.1 inputs.now input_maps → length input_maps ≡ input_count said
+        → Placed (output_rules (version_of global.0)) psbt.now middle outputs.now output_maps → length output_maps ≡ output_count said
+        → ReadsOr (λ made. the_transaction_of (bytes_of made)) result
+        (unless (the_unjoined (version_of global.0) global.1 input_maps) (Ok (Some (transaction_by said global.0 input_maps output_maps)))) }
+{
+    match outline {
+        Outline::Given(bytes) => Ok(TransactionBytes::Given(bytes)),
+        Outline::Counted => {
+            let bytes = joined_transaction(alloc, psbt, inputs, outputs)?;
+            Ok(TransactionBytes::Written(bytes))
+        }
+    }
+}
+
+/// Reads a PSBT from its bytes (BIP 174, version 0; BIP 370, version 2). It demands that they begin with the magic, and that
+/// there are at most 16,777,216 of them, as in what `psbt_bytes` gives.
 ///
 /// `Refused` comes with the first fault and its place, in the order of the bytes; only `Memory` may come in place of any
-/// answer. No byte of the PSBT is copied.
+/// answer. No byte of the PSBT is copied in version 0, and in version 2 once what its transaction consists of.
 pub fn read_psbt(alloc: Global, bytes: &[u8]) -> Result<Psbt<'_>, ReadStop>
     requires magic { IsTrue (has_magic bytes.now) }
     requires short { length bytes.now ≤ MAX_SOURCE_SIZE }
@@ -170,18 +252,44 @@ pub fn read_psbt(alloc: Global, bytes: &[u8]) -> Result<Psbt<'_>, ReadStop>
     ensures sound { IfOk result (λ psbt. IsSound psbt) }
     ensures text { IfOk result (λ psbt. bytes.now ≡ psbt_text psbt.global psbt.inputs psbt.outputs) }
 {
-    let after = map_end(alloc, MapKind::Global, bytes, 5, &mut Vec::new(alloc))?;
-    let Some((transaction, counts)) = global_transaction(bytes) else {
-        let end = after.saturating_sub(1);
-        return Err(ReadStop::Refused(Refusal::At(PsbtFault::NoTransaction, end)));
-    };
+    let after = map_end(
+        alloc,
+        MapKind::Global,
+        bytes,
+        GLOBAL_PLACE,
+        &mut Vec::new(alloc),
+    )?;
+    let version = version_in(bytes);
+    let outlined = outline_at(version, bytes, after)?;
     let mut places = Vec::new(alloc);
-    let middle = maps_end(alloc, MapKind::Input, bytes, counts.0, after, &mut places)?;
-    places.push(middle as u32)?;
-    let last = outputs_end(alloc, bytes, counts.1, middle)?;
+    let middle = maps_end(
+        alloc,
+        MapKind::Input(version),
+        bytes,
+        outlined.inputs,
+        after,
+        &mut places,
+    )?;
+    let mut others = Vec::new(alloc);
+    let last = maps_end(
+        alloc,
+        MapKind::Output(version),
+        bytes,
+        outlined.outputs,
+        middle,
+        &mut others,
+    )?;
     if last < bytes.len() {
         return Err(ReadStop::Refused(Refusal::At(PsbtFault::Trailing, last)));
     }
+    let transaction = transaction_of(
+        alloc,
+        bytes,
+        outlined.outline,
+        places.as_slice(),
+        others.as_slice(),
+    )?;
+    places.push(middle as u32)?;
     Ok(Psbt {
         bytes,
         transaction,

@@ -1,13 +1,15 @@
 //! Transactions, which are tested and not copied.
 
-ghost use Rattle.std.specs.Prelude.{◌≡◌, ◌^◌, ◌<◌, ◌≤◌, length, is_some, option_map, IfOk, IfSome};
+ghost use Rattle.std.specs.Prelude.{◌≡◌, ◌^◌, ◌<◌, ◌≤◌, true, [], length, is_some, option_map, Some, IfOk, IfSome};
+ghost use Rattle.std.specs.List.{list_all};
+ghost use Rattle.def_psbt.specs.Transaction.{Transaction};
 ghost use Rattle.def_psbt.specs.Part.{first_bytes as the_first_bytes, first_string as the_first_string};
 ghost use Rattle.def_psbt.specs.TransactionReading.{transaction_of, witnessed_transaction_of, network_transaction_of};
-ghost use Rattle.def_psbt.specs.Forms.{is_unsigned as the_is_unsigned, output_of, witness_of};
+ghost use Rattle.def_psbt.specs.Forms.{has_no_script_sig, outpoint_texts, is_unsigned as the_is_unsigned, output_of, witness_of};
 ghost use Rattle.ms_psbt.specs.Seen.{IsPart, rest_of};
 ghost use Rattle.ms_psbt.specs.Scaffolding.Skips.{skip_of, skips, list_skip, witness_skip, sides_skip, counts_read, witnessed_skip, input_skip, output_skip, is_all as the_is_all, counts_of};
 ghost use Rattle.ms_psbt.specs.Scaffolding.Repeats.{AreMarked, places_of};
-ghost use Rattle.ms_psbt.specs.Scaffolding.Outpoints.{Places, empties, is_empty_input as the_is_empty_input};
+ghost use Rattle.ms_psbt.specs.Scaffolding.Outpoints.{Places, empties, first_at, first_repeated, number_from, is_empty_input as the_is_empty_input};
 
 use crate::parts::{first_bytes, first_size, first_string};
 use crate::repeats::{Keys, Marked, first_repeat, marked_outpoint};
@@ -257,6 +259,47 @@ fn input_places(
         return Ok(None);
     }
     empty_inputs(alloc, bytes, count, from)
+}
+
+/// The number of the first input whose outpoint is that of one before it, in a transaction whose inputs have empty scriptSigs.
+pub fn repeated_outpoint(alloc: Global, bytes: &[u8]) -> Result<Option<usize>, AllocError>
+    ensures { (transaction : Transaction) → transaction_of bytes.now ≡ Some transaction → list_all has_no_script_sig transaction.inputs ≡ true
+        → IfOk result (λ number. number ≡ first_repeated [] (outpoint_texts transaction.inputs)) }
+{
+    if bytes.len() >= 1 << 32 {
+        return Err(AllocError);
+    }
+    if transaction_counts(bytes).is_none() {
+        return Ok(None);
+    }
+    let from = first_input_place(bytes);
+    match outpoint_places(alloc, bytes)? {
+        Some(mut places) => Ok(number_at(first_repeat(Keys::Outpoints, bytes, &mut places), from)),
+        None => Ok(None),
+    }
+}
+
+/// Where the first input stands in a transaction: behind the version and the number of inputs.
+fn first_input_place(bytes: &[u8]) -> usize
+    ensures { 4 ≤ length bytes.now → result ≡ first_at bytes.now }
+{
+    if bytes.len() < 4 {
+        return 0;
+    }
+    match read_size(bytes, 4) {
+        Ok((_, from)) => from,
+        Err(_) => 0,
+    }
+}
+
+/// Which input stands at a place, where the first one stands at another: each has 41 bytes.
+fn number_at(place: Option<u32>, from: usize) -> Option<usize>
+    ensures { result ≡ number_from from place }
+{
+    match place {
+        Some(place) => Some((place as usize).saturating_sub(from) / 41),
+        None => None,
+    }
 }
 
 /// Whether bytes are a transaction without witnesses, whole, whose inputs have empty scriptSigs, and of which no outpoint

@@ -8,10 +8,11 @@ use Rattle.def_psbt_answer.specs.Answer.{Answer}
 use Rattle.def_psbt_answer.specs.Status.{code_of}
 use Rattle.psbt_cli.proofs.Ending.{IsAnswered, answers_have_status}
 use Rattle.ms_psbt_answer_laws.proofs.Unique.{one_answer}
-use Rattle.ms_io.specs.Endings.{call}
+use Rattle.ms_io.specs.Sides.{call}
 use Rattle.psbt_cli.specs.Ends.{Ends}
 use Rattle.ms_calls.specs.Words.{AreWords, HoldsOfAnswer}
-use Rattle.ms_calls.proofs.BufferLemmas.{holds_of_answer, answer_written, other_code}
+use Rattle.ms_calls.proofs.BufferLemmas.{holds_of_answer, other_code}
+use Rattle.ms_lines.proofs.MemoryLemmas.{answer_written}
 
 -- a call that neither failed nor wanted memory wrote the answer
 pub wrote_answer : (words : List Bytes) (held source sunk report : Bytes) (s : Status) (left : Option Bytes) (b n k m : ℕ) → held ≡ source → sunk ≡ []

@@ -21,7 +21,7 @@ struct Outcome {
 }
 
 /// Answers the words of a command line, as the program `msat-psbt` does where its standard input holds `source`: a PSBT
-/// (BIP 174), as its bytes or as base64.
+/// (BIP 174, BIP 370), as its bytes or as base64.
 ///
 /// The words lie in one buffer, each with a 0 after it, and there are `count` of them. The report's beginning is written over
 /// the buffer's, as far as there is room, and `needed` is how many bytes the whole report has: with so much room a second call

@@ -13,21 +13,25 @@ use Rattle.def_script.specs.Bytes.{Bytes}
 use Rattle.def_script.specs.Sizes.{size_bytes}
 use Rattle.def_script.specs.Witness.{items_text}
 use Rattle.def_psbt.specs.Transaction.{TransactionInput, TransactionOutput, Transaction, input_text, inputs_text, outputs_text, transaction_text, id_of}
-use Rattle.def_psbt.specs.Map.{Pair, Map, Psbt, type_of, data_of}
+use Rattle.def_psbt.specs.Map.{Pair, Map, Psbt, type_of, data_of, pair_of_type}
 use Rattle.def_psbt.specs.Part.{Part, ◌>>=◌, first_bytes, first_number, first_many, whole}
 use Rattle.def_psbt.specs.TransactionReading.{first_sides, first_witness, transaction_of, witnessed_transaction_of, network_transaction_of}
 use Rattle.def_psbt.specs.Forms as forms
 use Rattle.def_psbt.specs.Listed.{global_form, input_form}
-use Rattle.def_psbt.specs.Reading.{pair_of_type, transaction_in_pair}
-use Rattle.def_psbt.specs.Laws.{IsSoundMap}
+use Rattle.def_psbt.specs.Reading.{input_rules, Outline, given, counted, outline_in, transaction_in_pair, transaction_in, transaction_by}
+use Rattle.def_psbt.specs.Laws.{IsSoundMap, IsWholeMap, IsSound}
 use Rattle.def_spend.specs.Fields.{FINAL_SCRIPTSIG, FINAL_SCRIPTWITNESS, has_type, field}
 use Rattle.def_spend.specs.Reading.{has_byte, has_item}
 use Rattle.def_spend.specs.Finalized.{final_inputs, final_transaction, final_witness, witnessed_text}
 use Rattle.ms_given_laws.specs.Given.{EachIsSound, IsInput, IsOutput, IsMapOfBytes, IsWhole}
-use Rattle.ms_given_laws.proofs.Maps.{IsPairOfBytes}
+use Rattle.ms_given_laws.proofs.Later.{IsPairOfBytes, given_is, not_given}
+use Rattle.def_psbt.specs.declared.PsbtVersion.{PsbtVersion}
+use Rattle.def_psbt.specs.declared.PsbtVersion.TheVariants as version
+use Rattle.def_psbt.specs.Fields.{version_of, input_of}
+use Rattle.def_psbt.proofs.Counting.{as_many_inputs}
 use Rattle.ms_given_laws.proofs.Held.{HasShape, shapes, form_of, passed}
 use Rattle.ms_psbt_laws.specs.Network.{witnesses_of, network_witnesses_of, IsReadAs, NetworkIsRead, IdStays}
-use Rattle.ms_psbt_laws.proofs.PartsBack.{AreItems, bytes_back, number_32_back, many_back, witness_back, sides_back}
+use Rattle.ms_given_laws.proofs.PartsBack.{AreItems, bytes_back, number_32_back, many_back, witness_back, sides_back}
 use Rattle.ms_psbt_laws.proofs.PartsWritten.{witness_written}
 use Rattle.ms_psbt_laws.proofs.Sounding.{field_pair}
 use Rattle.ms_psbt_laws.proofs.Again.{no_items}
@@ -36,15 +40,16 @@ use Rattle.ms_psbt_laws.proofs.Again.{no_items}
 
 -- a pair with nothing wrong by itself, of bytes, whose value can be spelled
 pub record IsGoodPair (pair : Pair) : Type 0 where
-  pub shape : HasShape input_form pair
+  pub version : PsbtVersion
+  pub shape : HasShape (input_form version) pair
   pub fits : IsPairOfBytes pair
   pub short : length pair.value < 2 ^ 64
 
-good_pairs : (before fields : Map) → IsSoundMap input_form before fields → AllByRecursion IsPairOfBytes fields → AllByRecursion IsGoodPair fields
-good_pairs before [] sound fits = tt
-good_pairs before (pair ∷ fields) sound fits =
-    let shape = shapes input_form before (pair ∷ fields) sound in
-    (record { shape = shape.0; fits = fits.0; short = sound.0.value }, good_pairs (before ++ pair ∷ []) fields sound.1 fits.1)
+good_pairs : (version : PsbtVersion) (before fields : Map) → IsSoundMap (input_form version) before fields → AllByRecursion IsPairOfBytes fields → AllByRecursion IsGoodPair fields
+good_pairs version before [] sound fits = tt
+good_pairs version before (pair ∷ fields) sound fits =
+    let shape = shapes (input_form version) before (pair ∷ fields) sound in
+    (record { version = version; shape = shape.0; fits = fits.0; short = sound.0.value }, good_pairs version (before ++ pair ∷ []) fields sound.1 fits.1)
 
 some_of : {A : Type 0} (o : Option A) → is_some o ≡ true → (x : A) × (o ≡ Some x)
 some_of None e = absurd (false≢true e)
@@ -64,11 +69,11 @@ empty_text : (0x00 ∷ []) ≡ items_text []
 unfolding size_bytes
 empty_text = refl
 
-witness_form : (pair : Pair) → HasShape input_form pair → has_type FINAL_SCRIPTWITNESS pair ≡ true → is_some (forms.witness_of pair.value) ≡ true
+witness_form : (version : PsbtVersion) (pair : Pair) → HasShape (input_form version) pair → has_type FINAL_SCRIPTWITNESS pair ≡ true → is_some (forms.witness_of pair.value) ≡ true
 unfolding input_form
-witness_form pair shape is =
+witness_form version pair shape is =
     let type : type_of pair.key ≡ 0x08 = eqb-true (type_of pair.key) 0x08 is in
-    passed (is_some (forms.witness_of pair.value)) (subst (λ (n : ℕ). (input_form n).value (data_of pair.key) pair.value ≡ None) type (form_of input_form pair shape).1)
+    passed (is_some (forms.witness_of pair.value)) (subst (λ (n : ℕ). (input_form version n).value (data_of pair.key) pair.value ≡ None) type (form_of (input_form version) pair shape).1)
 
 has_items : (fields : Map) → AllByRecursion IsGoodPair fields → HasItems fields
 has_items fields all = go (field FINAL_SCRIPTWITNESS fields) refl
@@ -79,7 +84,7 @@ has_items fields all = go (field FINAL_SCRIPTWITNESS fields) refl
         record { items = []; are = empty_items; text = none ∙ empty_text; read = ap forms.witness_of none ∙ no_items }
     go (Some value) e =
         let p = field_pair IsGoodPair FINAL_SCRIPTWITNESS fields value all e in
-        let some = some_of (forms.witness_of p.0.value) (witness_form p.0 p.1.shape p.2) in
+        let some = some_of (forms.witness_of p.0.value) (witness_form p.1.version p.0 p.1.shape p.2) in
         let told = witness_written p.0.value some.0 p.1.fits.1 some.1 in
         let is : final_witness fields ≡ p.0.value = ap (λ (o : Option Bytes). unwrap_or o (0x00 ∷ [])) e ∙ sym p.3 in
         record { items = some.0; are = told.1; text = is ∙ told.0; read = ap forms.witness_of is ∙ some.1 }
@@ -98,9 +103,10 @@ script_sig_short fields all = go (field FINAL_SCRIPTSIG fields) refl
 
 -- ---- all maps
 
-all_good : (maps : List Map) → AllByRecursion (λ map. IsSoundMap input_form [] map) maps → AllByRecursion IsMapOfBytes maps → AllByRecursion (λ fields. AllByRecursion IsGoodPair fields) maps
-all_good [] sound fits = tt
-all_good (fields ∷ maps) sound fits = (good_pairs [] fields sound.0 (recursion_from_All IsPairOfBytes fields fits.0), all_good maps sound.1 fits.1)
+all_good : (version : PsbtVersion) (maps : List Map) → AllByRecursion (IsWholeMap (input_rules version)) maps → AllByRecursion IsMapOfBytes maps
+    → AllByRecursion (λ fields. AllByRecursion IsGoodPair fields) maps
+all_good version [] sound fits = tt
+all_good version (fields ∷ maps) sound fits = (good_pairs version [] fields sound.0.sound (recursion_from_All IsPairOfBytes fields fits.0), all_good version maps sound.1 fits.1)
 
 abbrev AreGood : List Map → Type 0
 AreGood maps = AllByRecursion (λ fields. AllByRecursion IsGoodPair fields) maps
@@ -235,8 +241,8 @@ module _ (t : Transaction) (s : IsSpelled t) (items : List (List Bytes)) (are : 
   abbrev behind_version : Bytes
   behind_version = (0x00 ∷ 0x01 ∷ []) ++ (inputs_text t.inputs ++ (outputs_text t.outputs ++ (flat_map items_text items ++ to_le_bytes w32 t.lock_time)))
 
-  version : first_number w32 text ≡ Some (t.version, behind_version)
-  version = number_32_back t.version behind_version s.version
+  first_version : first_number w32 text ≡ Some (t.version, behind_version)
+  first_version = number_32_back t.version behind_version s.version
 
   marker : first_bytes 2 behind_version ≡ Some (0x00 ∷ 0x01 ∷ [], inputs_text t.inputs ++ (outputs_text t.outputs ++ (flat_map items_text items ++ to_le_bytes w32 t.lock_time)))
   marker = bytes_back 2 (0x00 ∷ 0x01 ∷ []) _ refl
@@ -257,11 +263,11 @@ module _ (t : Transaction) (s : IsSpelled t) (items : List (List Bytes)) (are : 
   unfolding witnessed_transaction_of whole
   witnessed_back =
       let has_input : nat_lt 0 (length t.inputs) ≡ true = lt-ltb 0 (length t.inputs) (omega (arith, some)) in
-      rw (version, marker, sides, witnesses, lock_time, has_input) refl
+      rw (first_version, marker, sides, witnesses, lock_time, has_input) refl
 
   items_back : witnesses_of text ≡ Some items
   unfolding witnesses_of whole
-  items_back = rw (version, marker, sides, witnesses, lock_time) refl
+  items_back = rw (first_version, marker, sides, witnesses, lock_time) refl
 
   form : (nat_lt 4 (length text) && (slice_index text 4 == 0)) ≡ true
   form =
@@ -303,13 +309,14 @@ none_of_maps (input ∷ ins) (fields ∷ maps) same e =
 good_maps : (psbt : Psbt) → IsWhole psbt → AreGood psbt.inputs
 good_maps psbt whole =
     let sound = whole.sound in
-    all_good psbt.inputs (recursion_from_All (λ map. IsSoundMap input_form [] map) psbt.inputs sound.inputs) (recursion_from_All IsMapOfBytes psbt.inputs whole.inputs)
+    all_good (version_of psbt.global) psbt.inputs (recursion_from_All (IsWholeMap (input_rules (version_of psbt.global))) psbt.inputs sound.inputs)
+    (recursion_from_All IsMapOfBytes psbt.inputs whole.inputs)
 
 final_is : (psbt : Psbt) → IsWhole psbt → AreFinal psbt.transaction.inputs (final_inputs psbt.transaction.inputs psbt.inputs) psbt.inputs
 final_is psbt whole =
     let t = whole.transaction in
     let sound = whole.sound in
-    are_final psbt.transaction.inputs psbt.inputs (recursion_from_All IsInput psbt.transaction.inputs t.inputs) (good_maps psbt whole) sound.each_input
+    are_final psbt.transaction.inputs psbt.inputs (recursion_from_All IsInput psbt.transaction.inputs t.inputs) (good_maps psbt whole) (as_many_inputs psbt sound)
 
 spelled : (psbt : Psbt) → IsWhole psbt → IsSpelled (final_transaction psbt)
 spelled psbt whole =
@@ -350,7 +357,7 @@ network_is_read law source psbt fits e some =
     let whole = law source psbt fits e in
     let f = final_is psbt whole in
     let sound = whole.sound in
-    let each = sound.each_input in
+    let each = as_many_inputs psbt sound in
     let same = f.long in
     let one : 1 ≤ length (final_transaction psbt).inputs = omega (arith, some, each, same) in
     let s = spelled psbt whole in
@@ -397,11 +404,26 @@ same_inputs (input ∷ ins) (fields ∷ maps) same bare none =
     ap (λ (sig : Bytes). record input { script_sig = sig } ∷ final_inputs ins maps) (new ∙ sym own)
     ∙ ap (λ l. input ∷ l) (same_inputs ins maps (omega (arith, same)) parts.1 none.1)
 
+bare_fields : (inputs : List Map) → list_all forms.has_no_script_sig (map input_of inputs) ≡ true
+bare_fields [] = refl
+bare_fields (fields ∷ inputs) = bare_fields inputs
+
+bare_inputs : (psbt : Psbt) → IsSound psbt → list_all forms.has_no_script_sig psbt.transaction.inputs ≡ true
+bare_inputs psbt sound =
+    subst (λ (t : Transaction). list_all forms.has_no_script_sig t.inputs ≡ true) (sym sound.transaction) (go (version_of psbt.global) sound.outline sound.said)
+  where
+    go : (version : PsbtVersion) (outline : Outline) → outline_in version psbt.global ≡ Some outline
+        → list_all forms.has_no_script_sig (transaction_by outline psbt.global psbt.inputs psbt.outputs).inputs ≡ true
+    go version.Zero (given transaction) said =
+        unsigned_in transaction psbt.global (shapes global_form [] psbt.global sound.global) (given_is (transaction_in psbt.global) transaction said)
+    go version.Two (given transaction) said = absurd (not_given psbt.global transaction said)
+    go version (counted inputs outputs) said = bare_fields psbt.inputs
+
 pub id_stays : EachIsSound → IdStays
 id_stays law source psbt fits e none =
     let whole = law source psbt fits e in
     let sound = whole.sound in
-    let bare = unsigned_in psbt.transaction psbt.global (shapes global_form [] psbt.global sound.global) sound.transaction in
-    let same = same_inputs psbt.transaction.inputs psbt.inputs sound.each_input bare
+    let bare = bare_inputs psbt sound in
+    let same = same_inputs psbt.transaction.inputs psbt.inputs (as_many_inputs psbt sound) bare
     (recursion_from_All (λ fields. has_byte (field FINAL_SCRIPTSIG fields) ≡ false) psbt.inputs none) in
     ap (λ ins. id_of (record psbt.transaction { inputs = ins })) same

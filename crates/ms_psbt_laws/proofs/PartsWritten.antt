@@ -12,7 +12,7 @@ use Rattle.def_psbt.specs.Part.{Part, ◌>>=◌, first_bytes, size_part, first_s
 use Rattle.def_psbt.specs.Forms as forms
 use Rattle.ms_given_laws.proofs.BytesOf.{dropped}
 use Rattle.ms_given_laws.proofs.Parts.{bind_some, some_is, guard_some, size_low}
-use Rattle.ms_psbt_laws.proofs.PartsBack.{AreItems}
+use Rattle.ms_given_laws.proofs.PartsBack.{AreItems}
 
 -- bytes are these, and what is behind them
 pub record Begins (bytes text rest : Bytes) : Type 0 where

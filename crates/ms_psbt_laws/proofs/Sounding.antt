@@ -14,6 +14,7 @@ use Rattle.def_script.specs.Witness.{sized, items_text, witness_text}
 use Rattle.def_emit.specs.Emit.{script_of}
 use Rattle.def_satisfaction.proofs.OfBytes.{sat_is_of_bytes}
 use Rattle.ms_witness.specs.Reading.{MOST_WITNESS, FitsWitness}
+use Rattle.def_psbt.specs.declared.PsbtVersion.{PsbtVersion}
 use Rattle.def_psbt.specs.Map.{Pair, Map, type_of}
 use Rattle.def_psbt.specs.Part.{Part, first_string, first_list, whole}
 use Rattle.def_psbt.specs.Forms as forms
@@ -28,14 +29,14 @@ use Rattle.def_spend.specs.States.{state_of, is_ready, stack_of}
 use Rattle.def_spend.specs.Finalized.{is_cleared, is_kept, witness_pair, final_map, witness_of, written_map}
 use Rattle.ms_given_laws.specs.Given.{OfEachInput, EachIsSound, IsMapOfBytes}
 use Rattle.ms_given_laws.proofs.BytesOf as bytes
-use Rattle.ms_given_laws.proofs.Maps.{IsPairOfBytes}
+use Rattle.ms_given_laws.proofs.Later.{IsPairOfBytes}
 use Rattle.ms_given_laws.proofs.Parts.{some_is}
 use Rattle.ms_given_laws.proofs.Held.{fault_none}
 use Rattle.ms_given_laws.proofs.Joined.{sound_joins}
 use Rattle.ms_spend_laws.proofs.Inputs.{IsGiven, held, of_each}
 use Rattle.ms_spend_laws.proofs.States.{opens, ready_some, stack_is, writes}
 use Rattle.ms_spend_laws.proofs.Chosen.{IsChosen, canonical, fits_witness, witness_is}
-use Rattle.ms_psbt_laws.proofs.PartsBack.{AreItems, witness_back}
+use Rattle.ms_given_laws.proofs.PartsBack.{AreItems, witness_back}
 
 -- ---- the kept pairs
 
@@ -146,18 +147,19 @@ witness_short stack script fits =
     let both = length-append (size_bytes (length (all_items stack script))) (flat_map sized (all_items stack script)) in
     omega (arith, few, length-append stack (script ∷ []), items, size, both)
 
-final_fault : (fields : Map) (witness : Bytes) → is_some (forms.witness_of witness) ≡ true → pair_fault input_form (filter is_kept fields) (witness_pair witness) ≡ None
+final_fault : (version : PsbtVersion) (fields : Map) (witness : Bytes) → is_some (forms.witness_of witness) ≡ true
+    → pair_fault (input_form version) (filter is_kept fields) (witness_pair witness) ≡ None
 unfolding pair_fault shape_fault read_size input_form
-final_fault fields witness form = rw (none_is_final fields, form) refl
+final_fault version fields witness form = rw (none_is_final fields, form) refl
 
 -- the map of a Ready input is sound
-final_sound : (fields : Map) (stack : List Bytes) (script : Bytes) → IsSoundMap input_form [] fields → FitsWitness stack script
-    → IsSoundMap input_form [] (final_map fields (witness_text stack script))
-final_sound fields stack script sound fits =
+final_sound : (version : PsbtVersion) (fields : Map) (stack : List Bytes) (script : Bytes) → IsSoundMap (input_form version) [] fields → FitsWitness stack script
+    → IsSoundMap (input_form version) [] (final_map fields (witness_text stack script))
+final_sound version fields stack script sound fits =
     let form : is_some (forms.witness_of (witness_text stack script)) ≡ true = ap is_some (items_back (all_items stack script) (are_items stack script fits)) in
-    sound_joins input_form [] (filter is_kept fields) (witness_pair (witness_text stack script) ∷ [])
-    (filtered input_form is_kept [] [] fields (λ key e. e) sound)
-    (record { fault = final_fault fields (witness_text stack script) form; key = omega arith; value = witness_short stack script fits }, tt)
+    sound_joins (input_form version) [] (filter is_kept fields) (witness_pair (witness_text stack script) ∷ [])
+    (filtered (input_form version) is_kept [] [] fields (λ key e. e) sound)
+    (record { fault = final_fault version fields (witness_text stack script) form; key = omega arith; value = witness_short stack script fits }, tt)
 
 -- ---- it consists of bytes
 
@@ -194,10 +196,10 @@ witness_fits items h =
 
 -- ---- each map as it is written
 
--- a map of an input that is sound and consists of bytes
-pub record IsGoodMap (fields : Map) : Type 0 where
-  pub sound : IsSoundMap input_form [] fields
-  pub fits : IsMapOfBytes fields
+-- a map that is written of one consists of bytes, and is sound where that was
+pub record IsGoodMap (fields written : Map) : Type 0 where
+  pub sound : (version : PsbtVersion) → IsSoundMap (input_form version) [] fields → IsSoundMap (input_form version) [] written
+  pub fits : IsMapOfBytes written
 
 ready_is : (s : State) → is_ready s ≡ true → s ≡ state.Ready
 ready_is state.Ready e = refl
@@ -237,24 +239,24 @@ final_witness input given ready =
       script_bytes = subst IsBytes found.3 found.1.1;
     }
 
-final_good : (input : Input) → IsGiven input → IsFinalWitness input → IsGoodMap (final_map input.spend.fields (witness_of input))
+final_good : (input : Input) → IsGiven input → IsFinalWitness input → IsGoodMap input.spend.fields (final_map input.spend.fields (witness_of input))
 final_good input given w =
     let place = given.place in
     let items = All-append IsBytes (stack_of input) (w.script ∷ []) w.stack_bytes (All-cons IsBytes w.script [] w.script_bytes (All-nil IsBytes)) in
     let text = witness_fits (all_items (stack_of input) w.script) (recursion_from_All IsBytes (all_items (stack_of input) w.script) items) in
     let key : IsBytes (FINAL_SCRIPTWITNESS ∷ []) = bytes.more FINAL_SCRIPTWITNESS [] (omega arith) bytes.none in
-    subst (λ (witness : Bytes). IsGoodMap (final_map input.spend.fields witness)) (sym w.is) (record {
-      sound = final_sound input.spend.fields (stack_of input) w.script place.sound w.fits;
+    subst (λ (witness : Bytes). IsGoodMap input.spend.fields (final_map input.spend.fields witness)) (sym w.is) (record {
+      sound = λ version sound. final_sound version input.spend.fields (stack_of input) w.script sound w.fits;
       fits = All-append IsPairOfBytes (filter is_kept input.spend.fields) (witness_pair (witness_text (stack_of input) w.script) ∷ [])
           (All-filter is_kept IsPairOfBytes input.spend.fields place.fits)
           (All-cons IsPairOfBytes (witness_pair (witness_text (stack_of input) w.script)) [] (key, text) (All-nil IsPairOfBytes));
     })
 
-pub good_map : (input : Input) → IsGiven input → IsGoodMap (written_map input)
+pub good_map : (input : Input) → IsGiven input → IsGoodMap input.spend.fields (written_map input)
 good_map input given = elim (cases_Bool (is_ready (state_of input))) [
   | inl e ↦ rw e (final_good input given (final_witness input given e))
-  | inr e ↦ rw e (record { sound = given.place.sound; fits = given.place.fits })
+  | inr e ↦ rw e (record { sound = λ version sound. sound; fits = given.place.fits })
 ]
 
-pub good_maps : EachIsSound → OfEachInput (λ input. IsGoodMap (written_map input))
+pub good_maps : EachIsSound → OfEachInput (λ input. IsGoodMap input.spend.fields (written_map input))
 good_maps law = of_each law _ good_map

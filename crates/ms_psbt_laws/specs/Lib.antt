@@ -1,4 +1,5 @@
 pub mod Existence
 pub mod Written
 pub mod Alone
+pub mod Agreeing
 pub mod Network

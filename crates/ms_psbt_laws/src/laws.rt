@@ -3,6 +3,7 @@
 ghost use Rattle.ms_psbt_laws.specs.Existence.{EachHasAnswer, EachIsRead};
 ghost use Rattle.ms_psbt_laws.specs.Written.{WrittenIsRead, ReadyIsMadeFinal, ReportIsSource, AnsweredAgain};
 ghost use Rattle.ms_psbt_laws.specs.Alone.{MapDecidesAlone};
+ghost use Rattle.ms_psbt_laws.specs.Agreeing.{VersionsAgree};
 ghost use Rattle.ms_psbt_laws.specs.Network.{NetworkIsRead, IdStays};
 
 use def_psbt::laws::psbts;
@@ -31,6 +32,12 @@ pub fn written()
 /// The state of an input, its witness, its hashes and its lines depend on its map, the transaction and its number alone.
 pub fn alone()
     ensures map { MapDecidesAlone }
+{}
+
+/// The versions agree: two PSBTs of one transaction, whose inputs differ at most in fields of version 2, have the same answers to
+/// all commands but `finalize`.
+pub fn versions()
+    ensures agree { VersionsAgree }
 {}
 
 /// What `extract` writes is read again, with each final scriptSig and each final witness, and has the same id where no

@@ -19,8 +19,11 @@ pub fn fault_name(fault: PsbtFault) -> &'static str
         PsbtFault::KeyForm => "KeyForm",
         PsbtFault::ValueForm => "ValueForm",
         PsbtFault::Version => "Version",
+        PsbtFault::Excluded => "Excluded",
         PsbtFault::NoTransaction => "NoTransaction",
         PsbtFault::Trailing => "Trailing",
+        PsbtFault::RepeatedOutpoint => "RepeatedOutpoint",
+        PsbtFault::LockTime => "LockTime",
     }
 }
 

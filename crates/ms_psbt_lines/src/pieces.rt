@@ -2,7 +2,7 @@
 ghost use Rattle.std.specs.Prelude.{◌≡◌, ◌<◌, ◌++◌, [], ◌∷◌, decimal, slice_index, OnOk};
 ghost use Rattle.hex.specs.Hex.{encode_lower, lower_digits};
 ghost use Rattle.def_answer.specs.Lines.{line};
-ghost use Rattle.def_answer.specs.Report.{item_digits};
+ghost use Rattle.def_answer.specs.Satisfy.{item_digits};
 ghost use Rattle.def_psbt_answer.specs.Lines.{id_digits, hash_digits};
 
 use itoa::Buffer;

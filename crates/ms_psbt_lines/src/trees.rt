@@ -3,7 +3,9 @@ ghost use Rattle.std.specs.Prelude.{◌≡◌, ◌++◌, OnOk};
 ghost use Rattle.def_tree.specs.Range.{IsInRange};
 ghost use Rattle.def_policy.specs.Print.{printed as printed_policy};
 ghost use Rattle.def_sane.specs.Unfit.{IsSane};
-ghost use Rattle.def_answer.specs.Report.{decode_report as the_decode_report, policy_of as the_policy_of, ask_line};
+ghost use Rattle.def_answer.specs.Decode.{decode_report as the_decode_report};
+ghost use Rattle.def_answer.specs.Policy.{policy_of as the_policy_of};
+ghost use Rattle.def_answer.specs.Plan.{ask_line};
 ghost use Rattle.def_psbt_answer.specs.Lines.{policy_line, no_plan_line};
 ghost use Rattle.ms_tree.specs.Shape.{shape};
 

@@ -1,6 +1,6 @@
 //! The lines of weights.
 ghost use Rattle.std.specs.Prelude.{◌≡◌, ◌++◌, OnOk};
-ghost use Rattle.def_answer.specs.Report.{weight_line as most_weight_line};
+ghost use Rattle.def_answer.specs.Plan.{weight_line as most_weight_line};
 ghost use Rattle.def_psbt_answer.specs.Lines.{weight_line};
 
 use crate::pieces::push_number_line;

@@ -14,7 +14,7 @@ use ms_psbt::{Psbt, ReadStop, has_magic, psbt_bytes, read_psbt};
 use ms_psbt_report::{hashes, inspect};
 use std::alloc::{AllocError, Global};
 
-/// The reply to a command, with the bytes that the source held: a PSBT (BIP 174, version 0) as its bytes or as base64. Refuses for
+/// The reply to a command, with the bytes that the source held: a PSBT (BIP 174, BIP 370) as its bytes or as base64. Refuses for
 /// want of memory alone.
 #[tactic(auto, unfolding(def_psbt::specs::Source::psbt_of))]
 pub fn source_reply(alloc: Global, command: Command, source: &[u8]) -> Result<Reply, AllocError>

@@ -5,7 +5,7 @@ use Rattle.std.specs.Option.{option_map}
 use Rattle.def_script.specs.Bytes.{Bytes}
 use Rattle.def_assets.specs.Assets.{Assets}
 use Rattle.def_plan.specs.Plan.{Plan}
-use Rattle.def_answer.specs.Report.{ask_line, weight_line}
+use Rattle.def_answer.specs.Plan.{ask_line, weight_line}
 use Rattle.def_psbt_answer.specs.Lines.{no_plan_line}
 use Rattle.def_psbt_answer.specs.Report.{plan_lines}
 use Rattle.ms_asking.specs.Asked.{asked}

@@ -15,7 +15,9 @@ use Rattle.def_spend.specs.Fields.{signatures_in, last_byte, asked_type}
 use Rattle.def_spend.specs.Hashes.{hash_by}
 use Rattle.def_spend.specs.Input.{Spend}
 use Rattle.def_spend.specs.States.{is_read, is_sane}
-use Rattle.def_answer.specs.Report.{decode_report, policy_of, ask_line, weight_line}
+use Rattle.def_answer.specs.Decode.{decode_report}
+use Rattle.def_answer.specs.Policy.{policy_of}
+use Rattle.def_answer.specs.Plan.{ask_line, weight_line}
 use Rattle.def_psbt_answer.specs.Lines.{policy_line, sign_line, check_line}
 use Rattle.def_psbt_answer.specs.Report.{plan_lines, last_lines, tree_lines, hash_lines}
 use Rattle.ms_asking.specs.Asked.{asked_plan}

@@ -5,7 +5,7 @@ ghost use Rattle.def_tree.specs.Range.{IsInRange};
 ghost use Rattle.def_tree.specs.Tree.{Tree as TheTree};
 ghost use Rattle.def_sane.specs.Unfit.{IsSane};
 ghost use Rattle.def_spend.specs.States.{state_of, stack_of, is_sane as the_is_sane};
-ghost use Rattle.def_answer.specs.Report.{ask_line, weight_line as most_weight_line};
+ghost use Rattle.def_answer.specs.Plan.{ask_line, weight_line as most_weight_line};
 ghost use Rattle.def_psbt_answer.specs.Lines.{weight_line};
 ghost use Rattle.ms_input.specs.Seen.{input_seen};
 ghost use Rattle.ms_psbt_report.specs.Scaffolding.Lines.{lines_of_tree, told_tree, last_lines_of, lines_of_plan};

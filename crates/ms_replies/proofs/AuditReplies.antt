@@ -16,7 +16,7 @@ use Rattle.def_audit.specs.Derives.{Derives}
 use Rattle.ms_audit_laws.proofs.WalkTrees.{walk_is_trail}
 use Rattle.def_answer.specs.declared.status.Status.TheVariants as status
 use Rattle.ms_answer_laws.specs.Laws.{steps_found}
-use Rattle.def_answer.specs.Report.{audit_report}
+use Rattle.def_answer.specs.Audit.{audit_report}
 use Rattle.def_answer.specs.Reply.{reply, given_by, audited_reply}
 
 -- the steps are those that the walk finds

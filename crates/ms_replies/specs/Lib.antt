@@ -1,3 +1,3 @@
-pub mod Fits
-pub mod Choices
+pub mod ChoiceTrees
+pub mod Runs
 pub mod Answering

@@ -5,9 +5,10 @@ ghost use Rattle.def_tree.specs.Range.{IsInRange};
 ghost use Rattle.def_files.specs.RunFile.{MOST_ELEMENTS};
 ghost use Rattle.def_sane.specs.Unfit.{IsValid};
 ghost use Rattle.ms_answer_laws.specs.Laws.{walked, steps_found};
-ghost use Rattle.def_answer.specs.Reply.{reply, MOST_FILE, audited_reply, witness_reply, audit_reply};
+ghost use Rattle.def_answer.specs.Reply.{reply, audited_reply, witness_reply, audit_reply};
+ghost use Rattle.def_answer.specs.Lines.{MOST_FILE};
 ghost use Rattle.ms_tree.specs.Shape.{shape};
-ghost use Rattle.ms_replies.specs.Choices.{file_seen, outcome_for};
+ghost use Rattle.ms_replies.specs.Runs.{file_seen, outcome_for};
 ghost use Rattle.ms_replies.specs.Answering.{RepliesWith};
 
 use crate::files::file_answer;

@@ -31,9 +31,9 @@ pub fn decode_answer(
     let script = script_of(alloc, digits)?;
     let keys = keys_of(alloc, words)?;
     match decode(alloc, arena, &script, &keys)? {
-        Some(tree) => Ok(Answer {
+        Some(valid) => Ok(Answer {
             status: Status::Done,
-            report: decode_report(alloc, &tree)?,
+            report: decode_report(alloc, &valid.tree)?,
         }),
         None => Ok(Answer {
             status: Status::NoReading,

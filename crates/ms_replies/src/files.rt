@@ -1,6 +1,6 @@
 //! What is answered to an asset file or a run file that is refused.
 ghost use Rattle.std.specs.Prelude.{◌≢◌, IfOk};
-ghost use Rattle.def_answer.specs.Lines.{file_line as the_file_line};
+ghost use Rattle.def_answer.specs.Files.{file_line as the_file_line};
 ghost use Rattle.def_answer.specs.Reply.{reply};
 ghost use Rattle.ms_replies.specs.Answering.{RepliesWith};
 

@@ -1,8 +1,9 @@
 //! What is answered to a run file.
 ghost use Rattle.std.specs.Prelude.{◌≤◌, length};
 ghost use Rattle.def_files.specs.RunFile.{MOST_ELEMENTS};
-ghost use Rattle.def_answer.specs.Reply.{MOST_FILE, outcome_reply, run_reply};
-ghost use Rattle.ms_replies.specs.Choices.{file_seen, outcome_of};
+ghost use Rattle.def_answer.specs.Reply.{outcome_reply, run_reply};
+ghost use Rattle.def_answer.specs.Lines.{MOST_FILE};
+ghost use Rattle.ms_replies.specs.Runs.{file_seen, outcome_of};
 ghost use Rattle.ms_replies.specs.Answering.{RepliesWith};
 
 use crate::files::file_answer;

@@ -3,7 +3,7 @@ use Rattle.std.proofs.Common.{◌≡◌, ℕ, ◌+◌, ◌<◌, ◌≤◌, ◌++
 use Rattle.std.specs.List.{flat_map}
 use Rattle.std.proofs.lemmas.List.{drop_more, drop_all}
 use Rattle.def_script.specs.Bytes.{Bytes}
-use Rattle.def_answer.specs.Report.{item_line}
+use Rattle.def_answer.specs.Satisfy.{item_line}
 
 -- an item more
 pub one_more_item : (before after all item : Bytes) (stack : List Bytes) (i : ℕ) → i < length stack → item ≡ get_or stack i []

@@ -4,7 +4,7 @@ use Rattle.std.specs.List.{flat_map}
 use Rattle.def_script.specs.Bytes.{Bytes}
 use Rattle.def_plan.specs.Plan.{Plan}
 use Rattle.def_answer.specs.Lines.{line}
-use Rattle.def_answer.specs.Report.{ask_line, plan_report}
+use Rattle.def_answer.specs.Plan.{ask_line, plan_report}
 
 -- the lines of a plan, one after the other
 pub plan_lines_of : (found : Plan) (keys : List Bytes) (number none first all : Bytes) → keys ≡ found.keys → number ≡ decimal found.weight → none ≡ []

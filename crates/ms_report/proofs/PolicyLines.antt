@@ -8,7 +8,7 @@ use Rattle.def_policy.specs.Keys.{AreLeastKeys}
 use Rattle.def_policy.specs.Print.{printed}
 use Rattle.def_policy.specs.LeastKeys.{least_keys}
 use Rattle.def_answer.specs.Lines.{line}
-use Rattle.def_answer.specs.Report.{policy_of, number_or_none, policy_report}
+use Rattle.def_answer.specs.Policy.{policy_of, number_or_none, policy_report}
 use Rattle.def_policy.proofs.LeastKeys.{least_keys_are_least, one_least}
 
 -- the lines of a policy, one after the other

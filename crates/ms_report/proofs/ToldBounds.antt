@@ -1,20 +1,16 @@
 -- What is told of the limits of a tree is unique, and its line is that of the tree.
-use Rattle.std.proofs.Common.{◌≡◌, ℕ, Result, Ok, Err, IsOk, Some, None, refl, sym, ap, subst, ◌∙◌}
+use Rattle.std.proofs.Common.{◌≡◌, ℕ, Ok, Some, None, refl, sym, ap, subst, ◌∙◌}
 use Rattle.def_tree.specs.Tree.{Tree}
 use Rattle.def_types.specs.declared.Ty.{Ty}
-use Rattle.def_types.specs.declared.rule.RuleAt.{RuleAt}
 use Rattle.def_types.specs.Corr.{corr}
-use Rattle.def_types.specs.Typed.{IsTyped}
 use Rattle.def_types.proofs.Typing.{corr_is_typed}
 use Rattle.def_limits.specs.declared.Limits.{Limits}
-use Rattle.def_limits.specs.Limits.{AreLimits}
 use Rattle.def_sane.specs.TheLimits.{the_limits}
 use Rattle.def_sane.specs.declared.Rules.{Rules}
 use Rattle.def_sane.specs.declared.Rules.TheVariants.{Policy, Consensus}
-use Rattle.def_sane.proofs.TheLimits.{they_are_the_only}
 use Rattle.def_height.specs.Height.{IsHeight}
 use Rattle.def_answer.proofs.TheHeight.{it_is_the_only}
-use Rattle.def_answer.specs.Report.{tree_limits_line}
+use Rattle.def_answer.specs.Lines.{tree_limits_line}
 use Rattle.ms_report.specs.declared.limits.Bounds.{Bounds}
 use Rattle.ms_report.specs.Bounds.{bounds_of, bounds_line}
 
@@ -25,20 +21,15 @@ policy_bounds limits = record { limits = limits; height = None }
 abbrev consensus_bounds : (limits : Limits) (height : ℕ) → Bounds
 consensus_bounds limits height = record { limits = limits; height = Some height }
 
-pub told_by_policy : (rules : Rules) (tree : Tree) (limits : Limits) → rules ≡ Policy → AreLimits tree limits → policy_bounds limits ≡ bounds_of rules tree
-told_by_policy rules tree limits is are =
-    subst (λ r. policy_bounds limits ≡ bounds_of r tree) (sym is) (ap policy_bounds (they_are_the_only tree limits are))
+pub told_by_policy : (rules : Rules) (tree : Tree) (limits : Limits) → rules ≡ Policy → limits ≡ the_limits tree → policy_bounds limits ≡ bounds_of rules tree
+told_by_policy rules tree limits is are = subst (λ r. policy_bounds limits ≡ bounds_of r tree) (sym is) (ap policy_bounds are)
 
-pub told_by_consensus : (rules : Rules) (tree : Tree) (limits : Limits) (height : ℕ) → rules ≡ Consensus → IsOk (corr tree) → AreLimits tree limits
-    → IsHeight tree height → consensus_bounds limits height ≡ bounds_of rules tree
-told_by_consensus rules tree limits height is typed are high =
-    let has = it_is_the_only tree (typed_by (corr tree) refl typed) height high in
+pub told_by_consensus : (rules : Rules) (tree : Tree) (ty : Ty) (limits : Limits) (height : ℕ) → rules ≡ Consensus → corr tree ≡ Ok ty
+    → limits ≡ the_limits tree → IsHeight tree height → consensus_bounds limits height ≡ bounds_of rules tree
+told_by_consensus rules tree ty limits height is typed are high =
+    let has = it_is_the_only tree ((corr_is_typed tree ty).0 typed).0 height high in
     subst (λ r. consensus_bounds limits height ≡ bounds_of r tree) (sym is)
-    (ap (λ l. consensus_bounds l height) (they_are_the_only tree limits are) ∙ ap (consensus_bounds (the_limits tree)) has)
-  where
-    typed_by : (r : Result Ty RuleAt) → corr tree ≡ r → IsOk r → IsTyped tree
-    typed_by (Ok ty) e ok = ((corr_is_typed tree ty).0 e).0
-    typed_by (Err at) e ok = cc ok
+    (ap (λ l. consensus_bounds l height) are ∙ ap (consensus_bounds (the_limits tree)) has)
 
 -- the line of a tree's limits
 line_of : (rules : Rules) (tree : Tree) → bounds_line (bounds_of rules tree) ≡ tree_limits_line rules tree

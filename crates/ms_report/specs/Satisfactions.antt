@@ -4,7 +4,7 @@ use Rattle.hex.specs.Hex.{encode_lower}
 use Rattle.def_script.specs.Bytes.{Bytes}
 use Rattle.def_machine.specs.Run.{Outcome}
 use Rattle.def_answer.specs.Lines.{line, script_line, program_line}
-use Rattle.def_answer.specs.Report.{item_line, replay_line}
+use Rattle.def_answer.specs.Satisfy.{item_line, replay_line}
 
 -- the lines of a Script and its program, the line of the limits, the items bottom first, the witness, and its run
 unfoldable pub satisfaction_lines : (limits script : Bytes) → (stack : List Bytes) → (witness : Bytes) → Outcome → Bytes

@@ -4,7 +4,7 @@ ghost use Rattle.std.specs.List.{list_any};
 ghost use Rattle.std.specs.String.{string_bytes};
 ghost use Rattle.def_tree.specs.Size.{nodes};
 ghost use Rattle.def_audit.specs.declared.Step.{Step as TheStep};
-ghost use Rattle.def_answer.specs.Report.{audit_report as the_audit_report, step_line as the_step_line, canonical_line as the_canonical_line};
+ghost use Rattle.def_answer.specs.Audit.{audit_report as the_audit_report, step_line as the_step_line, canonical_line as the_canonical_line};
 ghost use Rattle.ms_tree.specs.Shape.{shape};
 
 use def_audit::Step;
@@ -14,7 +14,7 @@ use std::alloc::{AllocError, Global};
 /// The opcodes and the peak of an accepted run, a line for each step, and whether all rows are canonical: what
 /// `audit` prints. It demands that the nodes of the steps are those of the text. `AllocError` comes only where memory
 /// is wanting.
-#[tactic(auto, unfolding(def_answer::specs::Report::audit_report))]
+#[tactic(auto, unfolding(def_answer::specs::Audit::audit_report))]
 pub fn audit_report(
     alloc: Global,
     text: &TextTree<'_>,

@@ -2,7 +2,8 @@
 ghost use Rattle.std.specs.Prelude.{◌≡◌, ◌≢◌, IfOk};
 ghost use Rattle.std.specs.String.{string_bytes};
 ghost use Rattle.def_plan.specs.Names.{plan_member_name as the_plan_member_name};
-ghost use Rattle.def_answer.specs.Lines.{file_line as the_file_line, plan_file_line as the_plan_file_line};
+ghost use Rattle.def_answer.specs.Files.{file_line as the_file_line};
+ghost use Rattle.def_answer.specs.Plan.{plan_file_line as the_plan_file_line};
 
 use def_plan::{PlanFault, PlanMember};
 use ms_assets::{AssetFault, member_name};

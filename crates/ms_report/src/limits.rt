@@ -1,18 +1,14 @@
 //! The limits of a tree, and the lines of them.
-ghost use Rattle.std.specs.Prelude.{◌≡◌, ◌*◌, ◌≤◌, IfOk, IsOk, vec_len};
+ghost use Rattle.std.specs.Prelude.{◌≡◌, IfOk};
 ghost use Rattle.std.specs.String.{string_bytes};
-ghost use Rattle.def_tree.specs.Range.{IsInRange};
-ghost use Rattle.def_limits.specs.Limits.{AreLimits};
 ghost use Rattle.def_sane.specs.declared.Rules.TheVariants.{Consensus};
-ghost use Rattle.def_tree.specs.Size.{measure};
-ghost use Rattle.def_types.specs.Corr.{corr};
+ghost use Rattle.ms_sane.specs.Same.{IsSame};
 ghost use Rattle.ms_tree.specs.Shape.{shape};
 ghost use Rattle.def_answer.specs.Lines.{limits_line as the_limits_line, limits_line_under};
 ghost use Rattle.ms_report.specs.Bounds.{bounds_of as the_bounds_of, bounds_line as the_bounds_line};
 
 use ms_height::height;
-use ms_sane::{Limits, Rules, Work};
-use ms_tree::Tree;
+use ms_sane::{Limits, Rules, ValidTree};
 use std::alloc::{AllocError, Global};
 
 /// What is told of the limits of a tree.
@@ -24,24 +20,21 @@ pub struct Bounds {
     pub height: Option<u64>,
 }
 
-/// What is told of the limits of a tree by these rules. It demands that the limits are the tree's, and lends `work` to the
-/// height, four slots for each unit of the tree's measure, whose number stays. Takes no memory.
-pub fn bounds_of(rules: Rules, tree: &Tree<'_>, limits: Limits, work: &mut Work) -> Bounds
-    requires range { IsInRange (shape tree.now) }
-    requires typed { IsOk (corr (shape tree.now)) }
-    requires limits { AreLimits (shape tree.now) limits }
-    requires room { 4 * measure (shape tree.now) ≤ vec_len work.old.slots }
-    ensures bounds { result ≡ the_bounds_of rules (shape tree.now) }
-    ensures room { vec_len work.new.slots ≡ vec_len work.old.slots }
+/// What is told of the limits of a tree by the rules by which it is valid. Takes no memory.
+pub fn bounds_of(valid: &mut ValidTree<'_>) -> Bounds
+    ensures bounds { result ≡ the_bounds_of valid.old.rules (shape valid.old.tree) }
+    ensures same { IsSame valid.old valid.new }
 {
-    match rules {
+    let tree = valid.tree;
+    let limits = valid.limits;
+    match valid.rules {
         Rules::Policy => Bounds {
             limits,
             height: None,
         },
         Rules::Consensus => Bounds {
             limits,
-            height: Some(height(tree, work)),
+            height: Some(height(&tree, &mut valid.work)),
         },
     }
 }

@@ -1,6 +1,8 @@
 //! Names as reports print them.
 ghost use Rattle.std.specs.Prelude.{◌≡◌};
-ghost use Rattle.def_answer.specs.Names.{base_letter as the_base_letter, rule_name as the_rule_name, script_fault_name as the_script_fault_name};
+ghost use Rattle.def_answer.specs.Lines.{rule_name as the_rule_name};
+ghost use Rattle.def_answer.specs.Check.{base_letter as the_base_letter};
+ghost use Rattle.def_answer.specs.Run.{script_fault_name as the_script_fault_name};
 
 use ms_interp::ScriptFault;
 use ms_types::{Base, Rule};

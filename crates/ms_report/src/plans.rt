@@ -1,7 +1,7 @@
 //! What is printed of a plan.
 ghost use Rattle.std.specs.Prelude.{◌≡◌, ◌++◌, flat_map, decimal, IfOk, OnOk};
 ghost use Rattle.std.specs.String.{string_bytes};
-ghost use Rattle.def_answer.specs.Report.{ask_line, plan_report as the_plan_report};
+ghost use Rattle.def_answer.specs.Plan.{ask_line, plan_report as the_plan_report};
 
 use crate::lines::push_line;
 use ms_tree::Key;

@@ -1,24 +1,22 @@
 //! What is printed of a sane tree's abstract policy, and of how many keys have to sign.
 ghost use Rattle.std.specs.Prelude.{◌≡◌, IfOk};
 ghost use Rattle.std.specs.String.{string_bytes};
-ghost use Rattle.def_tree.specs.Range.{IsInRange};
 ghost use Rattle.def_sane.specs.Unfit.{IsSane};
 ghost use Rattle.ms_tree.specs.Shape.{shape};
-ghost use Rattle.def_answer.specs.Report.{number_or_none, policy_report as the_policy_report};
+ghost use Rattle.def_answer.specs.Policy.{number_or_none, policy_report as the_policy_report};
 
 use crate::lines::push_line;
 use ms_policy::{least_keys, policy_of, print_policy};
-use ms_tree::Tree;
+use ms_sane::SaneTree;
 use std::alloc::{AllocError, Global};
 
-/// The policy of a sane tree, and the least number of keys that have to sign where every hash and lock is met: what
+/// The policy of a tree that is sane by policy, and the least number of keys that have to sign where every hash and lock is met: what
 /// `policy` prints. `AllocError` comes only where memory is wanting.
-pub fn policy_report(alloc: Global, tree: &Tree<'_>) -> Result<String, AllocError>
-    requires range { IsInRange (shape tree.now) }
-    requires sane { IsSane (shape tree.now) }
-    ensures { IfOk result (λ report. string_bytes report ≡ the_policy_report (shape tree.now)) }
+pub fn policy_report(alloc: Global, sane: &SaneTree<'_>) -> Result<String, AllocError>
+    requires { IsSane (shape sane.now.valid.tree) }
+    ensures { IfOk result (λ report. string_bytes report ≡ the_policy_report (shape sane.now.valid.tree)) }
 {
-    let policy = policy_of(alloc, tree)?;
+    let policy = policy_of(alloc, &sane.valid.tree)?;
     let least = least_keys(alloc, &policy)?;
     let mut report = String::new(alloc);
     push_line(&mut report, "policy ", &print_policy(alloc, &policy)?)?;

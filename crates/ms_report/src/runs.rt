@@ -2,8 +2,8 @@
 ghost use Rattle.std.specs.Prelude.{◌≡◌, ◌++◌, IfOk, OnOk};
 ghost use Rattle.std.specs.String.{string_bytes};
 ghost use Rattle.def_machine.specs.Run.{accepted, refused};
-ghost use Rattle.def_answer.specs.Lines.{not_accepted_line as the_not_accepted_line};
-ghost use Rattle.def_answer.specs.Report.{run_report, check_line};
+ghost use Rattle.def_answer.specs.Audit.{not_accepted_line as the_not_accepted_line};
+ghost use Rattle.def_answer.specs.Run.{run_report, check_line};
 
 use crate::names::script_fault_name;
 use ms_interp::{RunReport, ScriptFault};
@@ -12,7 +12,7 @@ use std::alloc::{AllocError, Global};
 
 /// The opcodes and the peak of an accepted run, and a line for each pair that was found good: what `run` prints.
 /// `AllocError` comes only where memory is wanting.
-#[tactic(auto, unfolding(def_answer::specs::Report::run_report))]
+#[tactic(auto, unfolding(def_answer::specs::Run::run_report))]
 pub fn accepted_report(alloc: Global, report: &RunReport) -> Result<String, AllocError>
     ensures { IfOk result (λ text. string_bytes text ≡ run_report (accepted report.now.ops report.now.peak report.now.checks)) }
 {
@@ -27,7 +27,7 @@ pub fn accepted_report(alloc: Global, report: &RunReport) -> Result<String, Allo
 
 /// The fault of a refused run, and the number of its instruction: what `run` prints. `AllocError` comes only where
 /// memory is wanting.
-#[tactic(auto, unfolding(def_answer::specs::Report::run_report))]
+#[tactic(auto, unfolding(def_answer::specs::Run::run_report))]
 pub fn refused_report(alloc: Global, fault: ScriptFault, place: u32) -> Result<String, AllocError>
     ensures { IfOk result (λ text. string_bytes text ≡ run_report (refused fault place)) }
 {

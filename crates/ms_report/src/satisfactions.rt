@@ -3,15 +3,15 @@ ghost use Rattle.std.specs.Prelude.{◌≡◌, ◌≤◌, ◌^◌, ◌++◌, fla
 ghost use Rattle.std.specs.String.{string_bytes};
 ghost use Rattle.def_machine.specs.Program.{program_of};
 ghost use Rattle.def_machine.specs.Run.{accepted};
-ghost use Rattle.def_answer.specs.Report.{item_line, replay_line as the_replay_line};
+ghost use Rattle.def_answer.specs.Satisfy.{item_line, replay_line as the_replay_line};
 ghost use Rattle.ms_report.specs.Bounds.{bounds_line as the_bounds_line};
 ghost use Rattle.ms_report.specs.Satisfactions.{satisfaction_lines};
 ghost use Rattle.def_script.specs.Witness.{weight as the_weight};
 
 use crate::limits::{Bounds, bounds_line};
 use crate::lines::{push_line, push_output};
+use ms_bytes::Stack;
 use ms_interp::RunReport;
-use ms_script::Stack;
 use std::alloc::{AllocError, Global};
 
 /// The Script, its program, the limits, the satisfaction, its witness, and what the replay of the witness counted: what

@@ -1,26 +1,26 @@
 //! What is printed of a tree that passed.
-ghost use Rattle.std.specs.Prelude.{◌≡◌, ◌*◌, ◌≤◌, ◌++◌, IfOk, OnOk, vec_len};
+ghost use Rattle.std.specs.Prelude.{◌≡◌, ◌++◌, IfOk, OnOk};
 ghost use Rattle.std.specs.String.{string_bytes};
 ghost use Rattle.def_tree.specs.Range.{IsInRange};
-ghost use Rattle.def_sane.specs.Unfit.{IsKnownSaneUnder};
-ghost use Rattle.def_tree.specs.Size.{measure};
 ghost use Rattle.ms_tree.specs.Shape.{shape};
-ghost use Rattle.def_answer.specs.Report.{script_report as the_script_report, check_report as the_check_report, decode_report as the_decode_report, type_letters as the_type_letters, letter};
+ghost use Rattle.def_answer.specs.Script.{script_report as the_script_report};
+ghost use Rattle.def_answer.specs.Check.{check_report as the_check_report, type_letters as the_type_letters, letter};
+ghost use Rattle.def_answer.specs.Decode.{decode_report as the_decode_report};
 
 use crate::limits::{bounds_line, bounds_of};
 use crate::lines::{push_line, push_output};
 use crate::names::base_letter;
 use ms_emit::script_bytes;
-use ms_sane::{Rules, Sane, Work};
-use ms_text::print_text;
+use ms_print::print_text;
+use ms_program::program_of;
+use ms_sane::SaneTree;
 use ms_tree::Tree;
 use ms_types::{Mall, Ty};
-use ms_witness::program_of;
 use std::alloc::{AllocError, Global};
 
 /// The Script of a tree (BIP 379) in lower-case digits: what `script` prints. `AllocError` comes only where memory is
 /// wanting.
-#[tactic(auto, unfolding(def_answer::specs::Report::script_report))]
+#[tactic(auto, unfolding(def_answer::specs::Script::script_report))]
 pub fn script_report(alloc: Global, tree: &Tree<'_>) -> Result<String, AllocError>
     requires { IsInRange (shape tree.now) }
     ensures { IfOk result (λ report. string_bytes report ≡ the_script_report (shape tree.now)) }
@@ -31,39 +31,30 @@ pub fn script_report(alloc: Global, tree: &Tree<'_>) -> Result<String, AllocErro
     Ok(report)
 }
 
-/// The printed form, the type, the Script, its program and the limits, of a tree that is sane by these rules: what
-/// `check` prints. It demands that `sane` is what is known of the tree, and lends `work` to its height, four slots
-/// for each unit of the tree's measure. `AllocError` comes only where memory is wanting.
-pub fn check_report(
-    alloc: Global,
-    rules: Rules,
-    tree: &Tree<'_>,
-    sane: &Sane,
-    work: &mut Work,
-) -> Result<String, AllocError>
-    requires range { IsInRange (shape tree.now) }
-    requires sane { IsKnownSaneUnder rules (shape tree.now) sane.now }
-    requires room { 4 * measure (shape tree.now) ≤ vec_len work.old.slots }
-    ensures { IfOk result (λ report. string_bytes report ≡ the_check_report rules (shape tree.now)) }
+/// The printed form, the type, the Script, its program and the limits of a sane tree: what `check` prints. `AllocError` comes
+/// only where memory is wanting.
+pub fn check_report(alloc: Global, sane: &mut SaneTree<'_>) -> Result<String, AllocError>
+    ensures { IfOk result (λ report. string_bytes report ≡ the_check_report sane.old.valid.rules (shape sane.old.valid.tree)) }
 {
+    let tree = sane.valid.tree;
     let mut report = String::new(alloc);
-    push_line(&mut report, "text ", &print_text(alloc, tree)?)?;
+    push_line(&mut report, "text ", &print_text(alloc, &tree)?)?;
     push_line(
         &mut report,
         "type ",
-        &type_letters(alloc, sane.ty, sane.mall)?,
+        &type_letters(alloc, sane.valid.ty, sane.mall)?,
     )?;
-    let script = script_bytes(alloc, tree)?;
+    let script = script_bytes(alloc, &tree)?;
     let program = program_of(script.as_slice());
     push_output(alloc, &mut report, script.as_slice(), &program)?;
-    let bounds = bounds_of(rules, tree, sane.limits, work);
+    let bounds = bounds_of(&mut sane.valid);
     report.push_str(&bounds_line(alloc, bounds)?)?;
     Ok(report)
 }
 
 /// The printed form of a tree that a Script was read back as: what `decode` prints. `AllocError` comes only where
 /// memory is wanting.
-#[tactic(auto, unfolding(def_answer::specs::Report::decode_report))]
+#[tactic(auto, unfolding(def_answer::specs::Decode::decode_report))]
 pub fn decode_report(alloc: Global, tree: &Tree<'_>) -> Result<String, AllocError>
     requires { IsInRange (shape tree.now) }
     ensures { IfOk result (λ report. string_bytes report ≡ the_decode_report (shape tree.now)) }

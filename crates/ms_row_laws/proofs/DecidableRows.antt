@@ -7,7 +7,7 @@ use Rattle.std.proofs.lemmas.Option.{same_Some, none-some}
 use Rattle.def_hash.specs.declared.HashKind.{HashKind}
 use Rattle.def_hash.specs.Hash.{digest_of, hash160}
 use Rattle.def_script.specs.Bytes.{Bytes}
-use Rattle.def_machine.specs.Stacks.{Stack, Pairs, is_empty}
+use Rattle.def_machine.specs.Stacks.{Stack, Checker, is_empty}
 use Rattle.def_script.specs.Key.{is_key}
 use Rattle.def_machine.specs.Locks.{older_holds, after_holds}
 use Rattle.def_machine.specs.MultiSig.{is_good}
@@ -169,13 +169,13 @@ decided_extra : (s : Setting) (P : StackSet) → DecidedSet P → DecidedSet (No
 decided_extra s P p = decided_if (IsTrue s.all_rows) P (true_or_not s.all_rows) p
 
 decided_signature : (s : Setting) (key : Key) → DecidedSet (Signature s key)
-decided_signature s key = decided_item (λ sig. IsTrue (is_good s.given.table key sig)) (λ sig. true_or_not (is_good s.given.table key sig))
+decided_signature s key = decided_item (λ sig. IsTrue (is_good s.given.checker key sig)) (λ sig. true_or_not (is_good s.given.checker key sig))
 
-decided_signatures : (table : Pairs) (keys : List Key) (sigs : Stack) → Decided (AreSignatures table keys sigs)
-decided_signatures table keys [] = inl tt
-decided_signatures table [] (sig ∷ sigs) = inr (λ r. r)
-decided_signatures table (key ∷ keys) (sig ∷ sigs) =
-    either_or_not _ _ (both_or_not _ _ (true_or_not (is_good table key sig)) (decided_signatures table keys sigs)) (decided_signatures table keys (sig ∷ sigs))
+decided_signatures : (checker : Checker) (keys : List Key) (sigs : Stack) → Decided (AreSignatures checker keys sigs)
+decided_signatures checker keys [] = inl tt
+decided_signatures checker [] (sig ∷ sigs) = inr (λ r. r)
+decided_signatures checker (key ∷ keys) (sig ∷ sigs) =
+    either_or_not _ _ (both_or_not _ _ (true_or_not (is_good checker key sig)) (decided_signatures checker keys sigs)) (decided_signatures checker keys (sig ∷ sigs))
 
 decided_top : DecidedSet HasTop
 decided_top [] = inr (λ r. never_empty r.0 r.1 r.2)
@@ -243,7 +243,7 @@ mutual
   sat_or_not s (two which x y) = cut_both _ _ (sat_or_not s y) (sat_or_not s x)
   sat_or_not s (thresh k xs) = parts_or_not s xs k
   sat_or_not s (multi k keys) =
-      cut_both _ _ (decided_is EMPTY) (λ sigs. both_or_not _ _ (same_number_or_not (length sigs) k) (decided_signatures s.given.table (reverse keys) sigs))
+      cut_both _ _ (decided_is EMPTY) (λ sigs. both_or_not _ _ (same_number_or_not (length sigs) k) (decided_signatures s.given.checker (reverse keys) sigs))
   sat_or_not s (wrap wrapper.D x) = cut_both _ _ (sat_or_not s x) (decided_is ONE)
   sat_or_not s (wrap letter x) = sat_or_not s x
 

@@ -6,7 +6,7 @@ use Rattle.std.proofs.lemmas.List.Elements.{All-head, All-tail, All-weaker}
 use Rattle.def_script.specs.Bytes.{Bytes}
 use Rattle.def_script.specs.Key.{is_key}
 use Rattle.def_machine.specs.Faults.{OrFault}
-use Rattle.def_machine.specs.Stacks.{Stack, Pairs, is_empty}
+use Rattle.def_machine.specs.Stacks.{Stack, Pairs, Checker, is_empty}
 use Rattle.def_machine.specs.MultiSig.{is_good, tries}
 use Rattle.def_tree.specs.Tree.{Key}
 use Rattle.def_tree.specs.Range.{IsKey}
@@ -22,18 +22,18 @@ pub reversed_forms : (keys : List Key) → All (λ key. IsTrue (is_key key)) key
 reversed_forms keys h = all_reversed (λ key. IsTrue (is_key key)) keys h
 
 -- there are no more signatures than keys
-pub signatures_few : (table : Pairs) (keys : List Key) (sigs : Stack) → AreSignatures table keys sigs → length sigs ≤ length keys
-signatures_few table keys [] h = omega arith
-signatures_few table [] (sig ∷ sigs) h = absurd h
-signatures_few table (key ∷ keys) (sig ∷ sigs) (inl h) = let l = signatures_few table keys sigs h.1 in omega arith
-signatures_few table (key ∷ keys) (sig ∷ sigs) (inr h) = let l = signatures_few table keys (sig ∷ sigs) h in omega arith
+pub signatures_few : (checker : Checker) (keys : List Key) (sigs : Stack) → AreSignatures checker keys sigs → length sigs ≤ length keys
+signatures_few checker keys [] h = omega arith
+signatures_few checker [] (sig ∷ sigs) h = absurd h
+signatures_few checker (key ∷ keys) (sig ∷ sigs) (inl h) = let l = signatures_few checker keys sigs h.1 in omega arith
+signatures_few checker (key ∷ keys) (sig ∷ sigs) (inr h) = let l = signatures_few checker keys (sig ∷ sigs) h in omega arith
 
 -- one signature fewer
-pub signatures_drop : (table : Pairs) (keys : List Key) (sig : Bytes) (sigs : Stack) → AreSignatures table keys (sig ∷ sigs) → AreSignatures table keys sigs
-signatures_drop table [] sig sigs h = absurd h
-signatures_drop table (key ∷ keys) sig [] h = tt
-signatures_drop table (key ∷ keys) sig (next ∷ sigs) (inl h) = inr h.1
-signatures_drop table (key ∷ keys) sig (next ∷ sigs) (inr h) = inr (signatures_drop table keys sig (next ∷ sigs) h)
+pub signatures_drop : (checker : Checker) (keys : List Key) (sig : Bytes) (sigs : Stack) → AreSignatures checker keys (sig ∷ sigs) → AreSignatures checker keys sigs
+signatures_drop checker [] sig sigs h = absurd h
+signatures_drop checker (key ∷ keys) sig [] h = tt
+signatures_drop checker (key ∷ keys) sig (next ∷ sigs) (inl h) = inr h.1
+signatures_drop checker (key ∷ keys) sig (next ∷ sigs) (inr h) = inr (signatures_drop checker keys sig (next ∷ sigs) h)
 
 pub all_empty : (n : ℕ) → list_all is_empty (replicate n EMPTY) ≡ true
 all_empty zero = refl
@@ -47,61 +47,62 @@ empties_split n = ap (λ m. replicate m EMPTY) (let e : n + 1 ≡ suc n = omega 
     go (suc n) = ap (λ v. EMPTY ∷ v) (go n)
 
 -- a try that is good, and one that isn't
-pub good_step : (table : Pairs) (key sig : Bytes) (keys sigs : Stack) (found : Pairs) (t : OrFault (Option Pairs))
-    → nat_lt (length (key ∷ keys)) (length (sig ∷ sigs)) ≡ false → is_key key ≡ true → is_good table key sig ≡ true
-    → tries table keys sigs (found ++ (key, sig) ∷ []) ≡ t → tries table (key ∷ keys) (sig ∷ sigs) found ≡ t
+pub good_step : (checker : Checker) (key sig : Bytes) (keys sigs : Stack) (found : Pairs) (t : OrFault (Option Pairs))
+    → nat_lt (length (key ∷ keys)) (length (sig ∷ sigs)) ≡ false → is_key key ≡ true → is_good checker key sig ≡ true
+    → tries checker keys sigs (found ++ (key, sig) ∷ []) ≡ t → tries checker (key ∷ keys) (sig ∷ sigs) found ≡ t
 unfolding tries
-good_step table key sig keys sigs found t enough form good e = rw (enough, form, good) e
+good_step checker key sig keys sigs found t enough form good e = rw (enough, form, good) e
 
-pub bad_step : (table : Pairs) (key sig : Bytes) (keys sigs : Stack) (found : Pairs) (t : OrFault (Option Pairs))
-    → nat_lt (length (key ∷ keys)) (length (sig ∷ sigs)) ≡ false → is_key key ≡ true → is_good table key sig ≡ false → tries table keys (sig ∷ sigs) found ≡ t
-    → tries table (key ∷ keys) (sig ∷ sigs) found ≡ t
+pub bad_step : (checker : Checker) (key sig : Bytes) (keys sigs : Stack) (found : Pairs) (t : OrFault (Option Pairs))
+    → nat_lt (length (key ∷ keys)) (length (sig ∷ sigs)) ≡ false → is_key key ≡ true → is_good checker key sig ≡ false → tries checker keys (sig ∷ sigs) found ≡ t
+    → tries checker (key ∷ keys) (sig ∷ sigs) found ≡ t
 unfolding tries
-bad_step table key sig keys sigs found t enough form bad e = rw (enough, form, bad) e
+bad_step checker key sig keys sigs found t enough form bad e = rw (enough, form, bad) e
 
-pub no_more : (table : Pairs) (key sig : Bytes) (keys sigs : Stack) (found : Pairs) → nat_lt (length (key ∷ keys)) (length (sig ∷ sigs)) ≡ true → tries table (key ∷ keys) (sig ∷ sigs) found ≡ Ok None
+pub no_more : (checker : Checker) (key sig : Bytes) (keys sigs : Stack) (found : Pairs) → nat_lt (length (key ∷ keys)) (length (sig ∷ sigs)) ≡ true
+    → tries checker (key ∷ keys) (sig ∷ sigs) found ≡ Ok None
 unfolding tries
-no_more table key sig keys sigs found enough = rw enough refl
+no_more checker key sig keys sigs found enough = rw enough refl
 
 -- what is left to find behind a good try, and behind one that isn't
-pub rest_good : (table : Pairs) (key sig : Bytes) (keys sigs : Stack) → AreSignatures table (key ∷ keys) (sig ∷ sigs) → AreSignatures table keys sigs
-rest_good table key sig keys sigs (inl h) = h.1
-rest_good table key sig keys sigs (inr h) = signatures_drop table keys sig sigs h
+pub rest_good : (checker : Checker) (key sig : Bytes) (keys sigs : Stack) → AreSignatures checker (key ∷ keys) (sig ∷ sigs) → AreSignatures checker keys sigs
+rest_good checker key sig keys sigs (inl h) = h.1
+rest_good checker key sig keys sigs (inr h) = signatures_drop checker keys sig sigs h
 
-pub rest_bad : (table : Pairs) (key sig : Bytes) (keys sigs : Stack) → is_good table key sig ≡ false → AreSignatures table (key ∷ keys) (sig ∷ sigs) → AreSignatures table keys (sig ∷ sigs)
-rest_bad table key sig keys sigs bad (inl h) = absurd (false≢true (sym bad ∙ h.0))
-rest_bad table key sig keys sigs bad (inr h) = h
+pub rest_bad : (checker : Checker) (key sig : Bytes) (keys sigs : Stack) → is_good checker key sig ≡ false → AreSignatures checker (key ∷ keys) (sig ∷ sigs) → AreSignatures checker keys (sig ∷ sigs)
+rest_bad checker key sig keys sigs bad (inl h) = absurd (false≢true (sym bad ∙ h.0))
+rest_bad checker key sig keys sigs bad (inr h) = h
 
 -- trying the keys one after the other finds the signatures
-pub good_tries : (table : Pairs) (keys : List Key) (sigs : Stack) (found : Pairs) → All (λ key. IsTrue (is_key key)) keys → AreSignatures table keys sigs
-    → (all : Pairs) × (tries table keys sigs found ≡ Ok (Some all))
+pub good_tries : (checker : Checker) (keys : List Key) (sigs : Stack) (found : Pairs) → All (λ key. IsTrue (is_key key)) keys → AreSignatures checker keys sigs
+    → (all : Pairs) × (tries checker keys sigs found ≡ Ok (Some all))
 unfolding tries
-good_tries table keys [] found forms h = (found, refl)
-good_tries table [] (sig ∷ sigs) found forms h = absurd h
-good_tries table (key ∷ keys) (sig ∷ sigs) found forms h =
-    let few = signatures_few table (key ∷ keys) (sig ∷ sigs) h in
+good_tries checker keys [] found forms h = (found, refl)
+good_tries checker [] (sig ∷ sigs) found forms h = absurd h
+good_tries checker (key ∷ keys) (sig ∷ sigs) found forms h =
+    let few = signatures_few checker (key ∷ keys) (sig ∷ sigs) h in
     let enough = le-ltb (length (key ∷ keys)) (length (sig ∷ sigs)) few in
     let form = All-head (λ key. IsTrue (is_key key)) key keys forms in
     let others = All-tail (λ key. IsTrue (is_key key)) key keys forms in
-    elim (cases_Bool (is_good table key sig)) [
+    elim (cases_Bool (is_good checker key sig)) [
       | inl good ↦
-          let all = good_tries table keys sigs (found ++ (key, sig) ∷ []) others (rest_good table key sig keys sigs h) in
-          (all.0, good_step table key sig keys sigs found (Ok (Some all.0)) enough form good all.1)
+          let all = good_tries checker keys sigs (found ++ (key, sig) ∷ []) others (rest_good checker key sig keys sigs h) in
+          (all.0, good_step checker key sig keys sigs found (Ok (Some all.0)) enough form good all.1)
       | inr bad ↦
-          let all = good_tries table keys (sig ∷ sigs) found others (rest_bad table key sig keys sigs bad h) in
-          (all.0, bad_step table key sig keys sigs found (Ok (Some all.0)) enough form bad all.1)
+          let all = good_tries checker keys (sig ∷ sigs) found others (rest_bad checker key sig keys sigs bad h) in
+          (all.0, bad_step checker key sig keys sigs found (Ok (Some all.0)) enough form bad all.1)
     ]
 
 -- empty strings are never found
-pub empty_tries : (table : Pairs) (keys : List Key) (n : ℕ) (found : Pairs) → All (λ key. IsTrue (is_key key)) keys → tries table keys (replicate (suc n) EMPTY) found ≡ Ok None
+pub empty_tries : (checker : Checker) (keys : List Key) (n : ℕ) (found : Pairs) → All (λ key. IsTrue (is_key key)) keys → tries checker keys (replicate (suc n) EMPTY) found ≡ Ok None
 unfolding tries
-empty_tries table [] n found forms = refl
-empty_tries table (key ∷ keys) n found forms =
+empty_tries checker [] n found forms = refl
+empty_tries checker (key ∷ keys) n found forms =
     let form = All-head (λ key. IsTrue (is_key key)) key keys forms in
     let others = All-tail (λ key. IsTrue (is_key key)) key keys forms in
     elim (cases_Bool (nat_lt (length (key ∷ keys)) (length (replicate (suc n) EMPTY)))) [
-      | inl more ↦ no_more table key EMPTY keys (replicate n EMPTY) found more
-      | inr enough ↦ bad_step table key EMPTY keys (replicate n EMPTY) found (Ok None) enough form refl (empty_tries table keys n found others)
+      | inl more ↦ no_more checker key EMPTY keys (replicate n EMPTY) found more
+      | inr enough ↦ bad_step checker key EMPTY keys (replicate n EMPTY) found (Ok None) enough form refl (empty_tries checker keys n found others)
     ]
 
 -- only empty strings may be left over
@@ -121,15 +122,15 @@ pub same_found : (p q : Pairs) → ok_found (Some p) ≡ ok_found (Some q) → p
 same_found p q e = cc
 
 -- the first try of some that pass
-pub first_try : (table : Pairs) (key sig : Bytes) (keys sigs : Stack) (found all : Pairs) → tries table (key ∷ keys) (sig ∷ sigs) found ≡ ok_found (Some all) →
-    (IsTrue (is_good table key sig) × (tries table keys sigs (found ++ (key, sig) ∷ []) ≡ ok_found (Some all))) ⊎ (tries table keys (sig ∷ sigs) found ≡ ok_found (Some all))
+pub first_try : (checker : Checker) (key sig : Bytes) (keys sigs : Stack) (found all : Pairs) → tries checker (key ∷ keys) (sig ∷ sigs) found ≡ ok_found (Some all) →
+    (IsTrue (is_good checker key sig) × (tries checker keys sigs (found ++ (key, sig) ∷ []) ≡ ok_found (Some all))) ⊎ (tries checker keys (sig ∷ sigs) found ≡ ok_found (Some all))
 unfolding tries
-first_try table key sig keys sigs found all e =
+first_try checker key sig keys sigs found all e =
     elim (cases_Bool (nat_lt (length (key ∷ keys)) (length (sig ∷ sigs)))) [
       | inl short ↦ absurd (not_found all (rw short at e))
       | inr enough ↦ elim (cases_Bool (is_key key)) [
         | inr formless ↦ absurd (no_fault _ (Some all) (rw (enough, formless) at e))
-        | inl form ↦ elim (cases_Bool (is_good table key sig)) [
+        | inl form ↦ elim (cases_Bool (is_good checker key sig)) [
           | inl good ↦ inl (good, rw (enough, form, good) at e)
           | inr bad ↦ inr (rw (enough, form, bad) at e)
         ]
@@ -137,12 +138,12 @@ first_try table key sig keys sigs found all e =
     ]
 
 -- the tries that pass find signatures in the order of their keys
-pub tries_signs : (table : Pairs) (keys sigs : Stack) (found all : Pairs) → tries table keys sigs found ≡ ok_found (Some all) → AreSignatures table keys sigs
+pub tries_signs : (checker : Checker) (keys sigs : Stack) (found all : Pairs) → tries checker keys sigs found ≡ ok_found (Some all) → AreSignatures checker keys sigs
 unfolding tries
-tries_signs table keys [] found all e = tt
-tries_signs table [] (sig ∷ sigs) found all e = absurd (not_found all e)
-tries_signs table (key ∷ keys) (sig ∷ sigs) found all e =
-    elim (first_try table key sig keys sigs found all e) [
-      | inl good ↦ inl (good.0, tries_signs table keys sigs (found ++ (key, sig) ∷ []) all good.1)
-      | inr bad ↦ inr (tries_signs table keys (sig ∷ sigs) found all bad)
+tries_signs checker keys [] found all e = tt
+tries_signs checker [] (sig ∷ sigs) found all e = absurd (not_found all e)
+tries_signs checker (key ∷ keys) (sig ∷ sigs) found all e =
+    elim (first_try checker key sig keys sigs found all e) [
+      | inl good ↦ inl (good.0, tries_signs checker keys sigs (found ++ (key, sig) ∷ []) all good.1)
+      | inr bad ↦ inr (tries_signs checker keys (sig ∷ sigs) found all bad)
     ]

@@ -4,7 +4,7 @@ use Rattle.std.proofs.lemmas.Bool.{or_cases, cases_Bool, ltb-true, false≢true,
 use Rattle.std.proofs.lemmas.List.Elements.{Contains-append_left, Contains-append_right}
 use Rattle.def_hash.specs.Hash.{hash160}
 use Rattle.def_script.specs.Bytes.{Bytes}
-use Rattle.def_machine.specs.Stacks.{Stack, Pairs}
+use Rattle.def_machine.specs.Stacks.{Stack, Checker, member}
 use Rattle.def_machine.specs.MultiSig.{is_good}
 use Rattle.def_tree.specs.declared.Two.{Two}
 use Rattle.def_tree.specs.declared.Two.TheVariants as kind
@@ -29,7 +29,7 @@ use Rattle.def_choice.proofs.Weights.{contains-reverse}
 abbrev pub NoKeys : Setting → List Key → Type 0
 NoKeys s keys =
     (key other : Key) (sig : Bytes) → Contains keys key → hash160 other ≡ hash160 key → CountsAsKey s.mode key other →
-    is_good s.given.table other sig ≡ false
+    is_good s.given.checker other sig ≡ false
 
 -- the set has no stack
 abbrev pub IsEmpty : StackSet → Type 0
@@ -45,7 +45,7 @@ pub counts_itself : (mode : Mode) (key : Key) → CountsAsKey mode key key
 counts_itself any key = tt
 counts_itself (only known) key = refl
 
-own_is_bad : (s : Setting) (keys : List Key) → NoKeys s keys → (key : Key) (sig : Bytes) → Contains keys key → is_good s.given.table key sig ≡ false
+own_is_bad : (s : Setting) (keys : List Key) → NoKeys s keys → (key : Key) (sig : Bytes) → Contains keys key → is_good s.given.checker key sig ≡ false
 own_is_bad s keys h key sig i = h key key sig i refl (counts_itself s.mode key)
 
 -- what needs a signature of a row by its properties
@@ -53,7 +53,7 @@ pub record Needs (m : Mall) (r : Row) : Type 0 where
   pub sat : m.s ≡ true → IsEmpty r.sat
   pub dsat : m.f ≡ true → IsEmpty r.dsat
 
-no_signature : (s : Setting) (key : Key) → ((sig : Bytes) → is_good s.given.table key sig ≡ false) → IsEmpty (Signature s key)
+no_signature : (s : Setting) (key : Key) → ((sig : Bytes) → is_good s.given.checker key sig ≡ false) → IsEmpty (Signature s key)
 no_signature s key bad w r = false≢true (sym (bad r.0) ∙ r.1)
 
 pub below_none : {P Q : StackSet} → IsEmpty P → IsEmpty (Both P Q)
@@ -143,17 +143,18 @@ thresh_needs s k ms P few = record {
 }
 
 -- there is none among the signatures of keys without
-no_signatures : (table : Pairs) (keys : List Key) → ((key : Key) (sig : Bytes) → Contains keys key → is_good table key sig ≡ false) → (sigs : Stack) → AreSignatures table keys sigs → length sigs ≡ 0
-no_signatures table keys bad [] h = refl
-no_signatures table [] bad (sig ∷ sigs) h = absurd h
-no_signatures table (key ∷ keys) bad (sig ∷ sigs) (inl h) = absurd (false≢true (sym (bad key sig (0, omega arith, refl)) ∙ h.0))
-no_signatures table (key ∷ keys) bad (sig ∷ sigs) (inr h) = no_signatures table keys (λ k g i. bad k g (Contains-append_right (key ∷ []) keys k i)) (sig ∷ sigs) h
+no_signatures : (checker : Checker) (keys : List Key) → ((key : Key) (sig : Bytes) → Contains keys key → is_good checker key sig ≡ false) → (sigs : Stack)
+    → AreSignatures checker keys sigs → length sigs ≡ 0
+no_signatures checker keys bad [] h = refl
+no_signatures checker [] bad (sig ∷ sigs) h = absurd h
+no_signatures checker (key ∷ keys) bad (sig ∷ sigs) (inl h) = absurd (false≢true (sym (bad key sig (0, omega arith, refl)) ∙ h.0))
+no_signatures checker (key ∷ keys) bad (sig ∷ sigs) (inr h) = no_signatures checker keys (λ k g i. bad k g (Contains-append_right (key ∷ []) keys k i)) (sig ∷ sigs) h
 
 multi_needs : (s : Setting) (k : ℕ) (keys : List Key) → 1 ≤ k → NoKeys s keys → Needs mall.key_row.gives (multi_row s k keys)
 unfolding mall_rows
 multi_needs s k keys some h = record {
   sat = λ e w r.
-      let n = no_signatures s.given.table (reverse keys) (λ key sig i. own_is_bad s keys h key sig (contains-reverse keys key i)) r.1 r.3.1 in
+      let n = no_signatures s.given.checker (reverse keys) (λ key sig i. own_is_bad s keys h key sig (contains-reverse keys key i)) r.1 r.3.1 in
       let l = r.3.0 in omega arith;
   dsat = λ e. absurd (false≢true e);
 }
@@ -213,9 +214,9 @@ mutual
       (needs s x typed.0 (none_left s (keys x) (keys_of_all xs) h)) (few_satisfied s xs typed.1 (none_right s (keys x) (keys_of_all xs) h))
 
 -- no table has no good signature
-pub bare_is_bad : (key sig : Bytes) → is_good [] key sig ≡ false
+pub bare_is_bad : (key sig : Bytes) → is_good (member []) key sig ≡ false
 bare_is_bad key [] = refl
 bare_is_bad key (b ∷ sig) = refl
 
-pub no_table : (s : Setting) (keys : List Key) → s.given.table ≡ [] → NoKeys s keys
-no_table s keys e key other sig h i j = ap (λ table. is_good table other sig) e ∙ bare_is_bad other sig
+pub no_table : (s : Setting) (keys : List Key) → s.given.checker ≡ member [] → NoKeys s keys
+no_table s keys e key other sig h i j = ap (λ checker. is_good checker other sig) e ∙ bare_is_bad other sig

@@ -2,7 +2,7 @@
 use Rattle.std.proofs.Common.{ℕ, List, [], ◌∷◌, length, reverse, inl, inr, Option, Some, None, Ok, Err}
 use Rattle.def_script.specs.Bytes.{Bytes}
 use Rattle.def_machine.specs.Faults.{OrFault}
-use Rattle.def_machine.specs.Stacks.{Stack, Pairs}
+use Rattle.def_machine.specs.Stacks.{Stack, Pairs, Checker}
 use Rattle.def_machine.specs.MultiSig.{tries}
 use Rattle.def_tree.specs.declared.Two.TheVariants as kind
 use Rattle.def_tree.specs.declared.Wrapper.TheVariants as wrapper
@@ -17,8 +17,8 @@ found_in (Ok (Some found)) = found
 found_in (Ok None) = []
 found_in (Err fault) = []
 
-abbrev pub multi_log : Pairs → (keys : List Key) → (sigs : Stack) → Log
-multi_log table keys sigs = record { keys = length keys; checks = found_in (tries table (reverse keys) sigs []) }
+abbrev pub multi_log : Checker → (keys : List Key) → (sigs : Stack) → Log
+multi_log checker keys sigs = record { keys = length keys; checks = found_in (tries checker (reverse keys) sigs []) }
 
 abbrev pub check_log : (key sig : Bytes) → Log
 check_log key sig = record { keys = 0; checks = (key, sig) ∷ [] }
@@ -39,7 +39,7 @@ abbrev mutual
   sat_log s (two which x z) w (inl r) = sat_log s x w r
   sat_log s (two which x z) w (inr r) = then_log (dsat_log s x r.1 r.3) (sat_log s z r.0 r.2)
   sat_log s (thresh k xs) w r = parts_log s xs k w r
-  sat_log s (multi k keys) w r = multi_log s.given.table keys r.1
+  sat_log s (multi k keys) w r = multi_log s.given.checker keys r.1
   sat_log s (wrap wrapper.D x) w r = sat_log s x r.0 r.2
   sat_log s (wrap letter x) w r = sat_log s x w r
   sat_log s tree w r = quiet

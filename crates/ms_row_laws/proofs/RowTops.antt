@@ -3,7 +3,7 @@ use Rattle.std.proofs.Common.{◌≡◌, ℕ, zero, suc, ◌+◌, ◌≤◌, tru
 use Rattle.std.proofs.lemmas.Bool.{or_cases, false≢true, and_parts}
 use Rattle.std.proofs.lemmas.List.{length-append, nil_from_length}
 use Rattle.def_script.specs.Bytes.{Bytes}
-use Rattle.def_machine.specs.Stacks.{Stack, Pairs, is_empty}
+use Rattle.def_machine.specs.Stacks.{Stack, Checker, is_empty}
 use Rattle.def_script.specs.Key.{is_key}
 use Rattle.def_machine.specs.MultiSig.{is_good}
 use Rattle.def_tree.specs.declared.Two.TheVariants as kind
@@ -29,9 +29,9 @@ pub record TopRow (r : Row) : Type 0 where
   pub sat : Topped r.sat
 
 -- strings that aren't empty
-pub good_is_some : (table : Pairs) (key sig : Bytes) → IsTrue (is_good table key sig) → is_empty sig ≡ false
-good_is_some table key [] e = absurd (false≢true e)
-good_is_some table key (b ∷ sig) e = refl
+pub good_is_some : (checker : Checker) (key sig : Bytes) → IsTrue (is_good checker key sig) → is_empty sig ≡ false
+good_is_some checker key [] e = absurd (false≢true e)
+good_is_some checker key (b ∷ sig) e = refl
 
 pub key_is_some : (key : Bytes) → IsTrue (is_key key) → is_empty key ≡ false
 key_is_some [] e = absurd (false≢true e)
@@ -71,17 +71,17 @@ if_long : {fact : Type 0} {P : StackSet} → Long P → Long (If fact P)
 if_long p w r = p w r.1
 
 signature_top : (s : Setting) (key : Key) → Topped (Signature s key)
-signature_top s key w r = top_item w r.0 r.2 (good_is_some s.given.table key r.0 r.1)
+signature_top s key w r = top_item w r.0 r.2 (good_is_some s.given.checker key r.0 r.1)
 
 is_long : (item : Bytes) → Long (Is item)
 is_long item w e = let l = ap length e in omega arith
 
 -- the top signature of some
-signatures_top : (table : Pairs) (keys : List Key) (sigs : Stack) → 1 ≤ length sigs → AreSignatures table keys sigs → HasTop sigs
-signatures_top table keys [] some r = absurd (omega arith)
-signatures_top table [] (sig ∷ sigs) some r = absurd r
-signatures_top table (key ∷ keys) (sig ∷ sigs) some (inl r) = (sig, sigs, refl, good_is_some table key sig r.0)
-signatures_top table (key ∷ keys) (sig ∷ sigs) some (inr r) = signatures_top table keys (sig ∷ sigs) some r
+signatures_top : (checker : Checker) (keys : List Key) (sigs : Stack) → 1 ≤ length sigs → AreSignatures checker keys sigs → HasTop sigs
+signatures_top checker keys [] some r = absurd (omega arith)
+signatures_top checker [] (sig ∷ sigs) some r = absurd r
+signatures_top checker (key ∷ keys) (sig ∷ sigs) some (inl r) = (sig, sigs, refl, good_is_some checker key sig r.0)
+signatures_top checker (key ∷ keys) (sig ∷ sigs) some (inr r) = signatures_top checker keys (sig ∷ sigs) some r
 
 empties_long : (n : ℕ) → 1 ≤ n → Long (λ w. w ≡ replicate n EMPTY)
 empties_long zero some w e = absurd (omega arith)
@@ -125,7 +125,7 @@ takes_item s (two kind.AndB x y) typed e =
 takes_item s (multi k keys) typed e =
     let some = (typed-multi k keys typed).0 in record {
       dsat = empties_long (k + 1) (omega arith);
-      sat = both_top (λ v h. signatures_top s.given.table (reverse keys) v (let l = h.0 in omega arith) h.1);
+      sat = both_top (λ v h. signatures_top s.given.checker (reverse keys) v (let l = h.0 in omega arith) h.1);
     }
 takes_item s (wrap wrapper.C x) typed e = takes_item s x typed.0 e
 takes_item s (wrap wrapper.D x) typed e = record { dsat = is_long EMPTY; sat = both_top (λ v i. top_item v ONE i refl) }

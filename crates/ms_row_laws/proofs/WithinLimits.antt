@@ -4,7 +4,7 @@ use Rattle.std.proofs.Common.{◌≡◌, ℕ, zero, suc, ◌+◌, ◌*◌, ◌�
 use Rattle.std.proofs.lemmas.List.{length-append, length-replicate, length-reverse, reverse-reverse}
 use Rattle.std.proofs.lemmas.List.Elements.{All-nil, All-cons, All-head, All-tail, All-same, All-append, All-replicate}
 use Rattle.def_script.specs.Bytes.{Bytes}
-use Rattle.def_machine.specs.Stacks.{Stack, Pairs}
+use Rattle.def_machine.specs.Stacks.{Stack, Checker, member}
 use Rattle.def_script.specs.Key.{is_key}
 use Rattle.def_script.specs.Signature.{MAX_SIGNATURE_SIZE}
 use Rattle.def_machine.specs.MultiSig.{is_good}
@@ -156,15 +156,15 @@ sized-none S zero w e f = sized-nothing S w f
 sized-none S (suc n) w e f = absurd (omega (arith, e))
 
 -- signatures, each of the length of one or less
-short_signatures : (table : Pairs) → ((key sig : Bytes) → IsTrue (is_good table key sig) → length sig ≤ MAX_SIGNATURE_SIZE) →
-    (keys : List Key) (sigs : Stack) → AreSignatures table keys sigs → AreShort sigs
-short_signatures table few keys [] h = All-nil IsShort
-short_signatures table few [] (sig ∷ sigs) h = absurd h
-short_signatures table few (key ∷ keys) (sig ∷ sigs) (inl h) =
-    All-cons IsShort sig sigs (few key sig h.0) (short_signatures table few keys sigs h.1)
-short_signatures table few (key ∷ keys) (sig ∷ sigs) (inr h) = short_signatures table few keys (sig ∷ sigs) h
+short_signatures : (checker : Checker) → ((key sig : Bytes) → IsTrue (is_good checker key sig) → length sig ≤ MAX_SIGNATURE_SIZE) →
+    (keys : List Key) (sigs : Stack) → AreSignatures checker keys sigs → AreShort sigs
+short_signatures checker few keys [] h = All-nil IsShort
+short_signatures checker few [] (sig ∷ sigs) h = absurd h
+short_signatures checker few (key ∷ keys) (sig ∷ sigs) (inl h) =
+    All-cons IsShort sig sigs (few key sig h.0) (short_signatures checker few keys sigs h.1)
+short_signatures checker few (key ∷ keys) (sig ∷ sigs) (inr h) = short_signatures checker few keys (sig ∷ sigs) h
 
-module _ (s : Setting) (no_more : IsTrue s.all_rows → ⊥) (S : Type 0) (few : S → (key sig : Bytes) → IsTrue (is_good s.given.table key sig) → length sig ≤ MAX_SIGNATURE_SIZE) where
+module _ (s : Setting) (no_more : IsTrue s.all_rows → ⊥) (S : Type 0) (few : S → (key sig : Bytes) → IsTrue (is_good s.given.checker key sig) → length sig ≤ MAX_SIGNATURE_SIZE) where
   -- with an item on top that tells which it is
   told : (P : Takes → Type 0) (n : ℕ) (x : Bytes) (w below above : Stack) (k : ℕ) → n ≤ MAX_SIGNATURE_SIZE → length x ≤ n → w ≡ above ++ below → above ≡ x ∷ [] →
       SizedIf S P below k → SizedIf S (Both P (Is (item n))) w k
@@ -187,7 +187,7 @@ module _ (s : Setting) (no_more : IsTrue s.all_rows → ⊥) (S : Type 0) (few :
   multi_sat k keys w r =
       let both = sized-both S (Is empty) (Is (same_items k MAX_SIGNATURE_SIZE)) w r.0 r.1 0 0 0 r.4 refl
       (sized-one S 0 EMPTY r.0 (omega arith) (λ h. omega arith) r.2)
-      (sized-signatures S k r.1 r.3.0 (λ h. short_signatures s.given.table (few h) (reverse keys) r.1 r.3.1)) in
+      (sized-signatures S k r.1 r.3.0 (λ h. short_signatures s.given.checker (few h) (reverse keys) r.1 r.3.1)) in
       sized-tried S (plus empty (same_items k MAX_SIGNATURE_SIZE)) w (length keys)
       (sized-as S (Both (Is empty) (Is (same_items k MAX_SIGNATURE_SIZE))) (Is (plus empty (same_items k MAX_SIGNATURE_SIZE))) w 0 0 (both-is empty (same_items k MAX_SIGNATURE_SIZE)) refl both)
 
@@ -259,7 +259,7 @@ module _ (s : Setting) (no_more : IsTrue s.all_rows → ⊥) (S : Type 0) (few :
     sized_if_parts (more x xs) h n w (inr r) =
         sized-dissatisfied S x xs n w _ (sized-joined w r (sized_if_parts xs h.1 n r.0 r.2) (sized_if_dsat x h.0 r.1 r.3))
 
-good_short : (assets : Assets) → AreAssets assets → (key sig : Bytes) → IsTrue (is_good assets.pairs key sig) → length sig ≤ MAX_SIGNATURE_SIZE
+good_short : (assets : Assets) → AreAssets assets → (key sig : Bytes) → IsTrue (is_good (member assets.pairs) key sig) → length sig ≤ MAX_SIGNATURE_SIZE
 good_short assets are key sig h = let is = good_is_signature assets are key sig h in is.few
 
 -- a formal one with as many items and keys, and as much weight or more

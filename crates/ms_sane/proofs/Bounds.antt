@@ -1,15 +1,14 @@
 -- Each number of what is taken is at most 128 times the measure.
-use Rattle.std.proofs.Common.{◌≡◌, ℕ, zero, suc, ◌+◌, ◌*◌, ◌^◌, ◌<◌, ◌≤◌, List, ◌&&◌, Option, Some, None, length, subst, sym, arith}
-use Rattle.std.specs.Prelude.{⊤, IsTrue, nat_le}
-use Rattle.std.proofs.lemmas.Bool.Decides.{nat_tests}
-use Rattle.def_tree.specs.Tree.{Key, Tree, Trees, multi, none, more}
+use Rattle.std.proofs.Common.{◌≡◌, ℕ, zero, suc, ◌+◌, ◌*◌, ◌^◌, ◌<◌, ◌≤◌, Option, Some, None, subst, sym, arith}
+use Rattle.std.specs.Prelude.{⊤}
+use Rattle.def_tree.specs.Tree.{Tree, Trees, multi, none, more}
 use Rattle.def_tree.specs.Range.{IsInRange}
 use Rattle.def_tree.specs.Size.{measure, measure_of}
-use Rattle.def_types.specs.Corr.{multi_row}
 use Rattle.def_types.specs.Typed.{IsTyped}
 use Rattle.def_limits.specs.Formal.{Takes}
 use Rattle.def_limits.specs.Scaffolding.Most.{both, either, most, most_sat, most_dsat, most_parts}
 use Rattle.ms_rows.proofs.Within.{AreWithin, IsBounded, within}
+use Rattle.ms_work.proofs.Enough.{multi_enough}
 use Rattle.ms_sane.specs.declared.takes.Most as rust
 use Rattle.ms_sane.specs.declared.takes.Takes as rust_takes
 use Rattle.ms_sane.specs.Scaffolding.Most.{IsMost}
@@ -38,14 +37,6 @@ within_either : (n : ℕ) (o p : Option Takes) → Within n o → Within n p →
 within_either n None p a b = b
 within_either n (Some s) None a b = a
 within_either n (Some s) (Some t) a b = record { items = omega (arith, a.items, b.items); weight = omega (arith, a.weight, b.weight); keys = omega (arith, a.keys, b.keys) }
-
--- a `multi` wants no more signatures than it has keys
-enough_keys : (k : ℕ) → (count : ℕ) → IsTrue (nat_le 1 k && nat_le k count && nat_le count 20) → k ≤ count
-enough_keys k count h = grind (arith, nat_tests)
-
-pub multi_enough : (k : ℕ) (keys : List Key) → IsTyped (multi k keys) → k ≤ length keys
-unfolding multi_row
-multi_enough k keys typed = enough_keys k (length keys) typed.0
 
 -- each number of one that takes so much
 so_much : (n : ℕ) (t : Takes) → t.items ≤ n → t.weight ≤ n → t.keys ≤ n → IsWithin n t

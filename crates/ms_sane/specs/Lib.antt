@@ -1,3 +1,4 @@
 pub mod Place
-pub mod Short
+pub mod Misfits
+pub mod Same
 pub mod Scaffolding

@@ -1,6 +1,4 @@
 -- What the contracts of private functions speak of. No public clause cites it, so it need not be believed.
+pub mod Short
 pub mod Takes
 pub mod Most
-pub mod Ready
-pub mod Mixing
-pub mod Repeats

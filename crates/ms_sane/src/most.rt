@@ -5,13 +5,13 @@ ghost use Rattle.def_tree.specs.Tree as tree;
 ghost use Rattle.ms_tree.specs.Shape.{shape, shapes, leaf_shape};
 ghost use Rattle.ms_sane.specs.Scaffolding.Most.{IsMost};
 ghost use Rattle.ms_sane.specs.Scaffolding.Takes.{IsLightMost};
-ghost use Rattle.ms_sane.specs.Scaffolding.Ready.{IsReady, AreReady};
+ghost use Rattle.ms_work.specs.Scaffolding.Ready.{IsReady, AreReady};
 
 use crate::row::of_row;
 use crate::takes::{Most, Takes, taken_of};
+use ms_bytes::MAX_SIGNATURE_SIZE;
 use ms_choice::{Slot, Tally};
 use ms_rows::{Argument, and_or, two, wrap};
-use ms_script::MAX_SIGNATURE_SIZE;
 use ms_tree::{Key, Leaf, Tree, Two, View, Wrapper};
 
 /// The longest signature, in bytes.
@@ -23,7 +23,7 @@ const PREIMAGE: u64 = 32;
 /// What the formal satisfactions and dissatisfactions of a tree take at most, each number by itself. Of
 /// the slots it writes at most as many as the tree has nodes.
 #[cycle(most)]
-#[tactic(auto, using(crate::proofs::Bounds::light_of, crate::proofs::Children::ready_children, crate::proofs::Bounds::multi_enough))]
+#[tactic(auto, using(crate::proofs::Bounds::light_of, ms_work::proofs::Children::ready_children, ms_work::proofs::Enough::multi_enough))]
 pub fn most(tree: &Tree<'_>, slots: &mut [Slot]) -> Most
     requires { IsReady (shape tree.now) (length slots.old) }
     ensures takes { IsMost result (shape tree.now) }
@@ -96,7 +96,7 @@ fn of_two(kind: Two, x: &Tree<'_>, z: &Tree<'_>, slots: &mut [Slot]) -> Most
 }
 
 #[cycle(most)]
-#[tactic(auto, using(crate::proofs::Children::ready_behind, crate::proofs::Children::room_behind, ms_tree::proofs::Parts::nodes_at))]
+#[tactic(auto, using(ms_work::proofs::Children::ready_behind, ms_work::proofs::Children::room_behind, ms_tree::proofs::Parts::nodes_at))]
 fn of_thresh(k: u64, children: &[Tree<'_>], slots: &mut [Slot]) -> Most
     requires { AreReady children.now (length slots.old) }
     ensures { IsMost result (tree.thresh k (shapes children.now)) }

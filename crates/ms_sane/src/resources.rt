@@ -7,14 +7,14 @@ ghost use Rattle.def_limits.specs.Limits.{AreLimits};
 ghost use Rattle.def_limits.specs.Scaffolding.Most.{number_of, most_sat, limits_of};
 ghost use Rattle.ms_tree.specs.Shape.{shape};
 ghost use Rattle.ms_sane.specs.Scaffolding.Takes.{IsLight};
-ghost use Rattle.ms_sane.specs.Short.{IsExtent};
+ghost use Rattle.ms_sane.specs.Scaffolding.Short.{IsExtent};
 
 use crate::most::most;
 use crate::takes::Takes;
-use crate::work::Work;
 use def_sane::Limits;
-use ms_emit::{Extent, script_extent};
+use ms_extent::{Extent, script_extent};
 use ms_tree::Tree;
+use ms_work::Work;
 
 /// The limits of a tree: the length of its Script in bytes, its opcodes with the keys of `multi`
 /// fragments that are executed, and the items and the weight of its satisfactions, each the greatest over

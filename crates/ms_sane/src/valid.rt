@@ -1,17 +1,14 @@
-//! Whether a miniscript is valid, and the first reason against one that isn't.
-ghost use Rattle.std.specs.Prelude.{◌≡◌, ◌*◌, ◌≤◌, Some, IfOk, IfErr, vec_len};
+//! What is known of a tree before its satisfactions are counted, and its limits under given rules.
+ghost use Rattle.std.specs.Prelude.{◌≡◌, Some, IfOk, IfErr};
 ghost use Rattle.def_tree.specs.Range.{IsInRange};
-ghost use Rattle.def_tree.specs.Size.{measure};
-ghost use Rattle.def_sane.specs.Unfit.{first_unfit_under, first_unfit_valid, first_unfit_valid_under, IsKnownValid, IsKnownValidUnder, size_limit as the_size_limit, are_too_many as the_too_many};
+ghost use Rattle.def_sane.specs.Unfit.{first_unfit_valid_under, size_limit as the_size_limit, are_too_many as the_too_many};
 ghost use Rattle.ms_tree.specs.Shape.{shape};
 ghost use Rattle.ms_sane.specs.Place.{IsOfTree};
-ghost use Rattle.ms_sane.specs.Short.{IsShortOf};
+ghost use Rattle.ms_sane.specs.Scaffolding.Short.{IsShortOf};
 
-use crate::resources::limits_from;
-use crate::work::Work;
-use def_sane::{Rules, Unfit, Valid};
-use ms_emit::{Extent, script_extent};
-use ms_script::{MAX_OPS_PER_SCRIPT, MAX_SCRIPT_SIZE};
+use def_sane::{Rules, Unfit};
+use ms_bytes::MAX_SCRIPT_SIZE;
+use ms_extent::{Extent, script_extent};
 use ms_tree::Tree;
 use ms_types::{Base, Ty, corr};
 
@@ -32,7 +29,7 @@ fn size_limit(rules: Rules) -> u64
 }
 
 /// Whether so many items of a witness are too many under these rules. Consensus allows any number.
-fn are_too_many(items: u64, rules: Rules) -> bool
+pub fn are_too_many(items: u64, rules: Rules) -> bool
     ensures { result ≡ the_too_many rules items }
 {
     match rules {
@@ -54,12 +51,11 @@ pub struct Short {
 /// more: a requirement of its type that is false, a top that isn't B, or a Script that is too large under these rules. It
 /// takes no working room.
 #[tactic(auto, using(def_sane::proofs::TheLimits::as_computed))]
-pub fn check_short(tree: &Tree<'_>, rules: Rules) -> Result<Short, Unfit>
+pub fn find_short(tree: &Tree<'_>, rules: Rules) -> Result<Short, Unfit>
     requires { IsInRange (shape tree.now) }
     ensures short { IfOk result (IsShortOf rules (shape tree.now)) }
     ensures unfit { IfErr result (λ unfit. first_unfit_valid_under rules (shape tree.now) ≡ Some unfit) }
-    ensures not_sane { IfErr result (λ unfit. first_unfit_under rules (shape tree.now) ≡ Some unfit) }
-    ensures place { IfErr result (λ unfit. IsOfTree (shape tree.now) unfit) }
+    ensures place { IfErr result (IsOfTree (shape tree.now)) }
 {
     let ty = match corr(tree) {
         Ok(ty) => ty,
@@ -73,64 +69,4 @@ pub fn check_short(tree: &Tree<'_>, rules: Rules) -> Result<Short, Unfit>
         return Err(Unfit::Size(extent.bytes));
     }
     Ok(Short { ty, extent })
-}
-
-/// The type and the limits of a tree that is valid by policy, or the first reason against the tree: a requirement of its
-/// type that is false, a top that isn't B, a Script that is too large, too many opcodes, or too many items of a
-/// satisfaction.
-pub fn check_valid(tree: &Tree<'_>, work: &mut Work) -> Result<Valid, Unfit>
-    requires in_range { IsInRange (shape tree.now) }
-    requires room { 4 * measure (shape tree.now) ≤ vec_len work.old.slots }
-    ensures valid { IfOk result (λ valid. IsKnownValid (shape tree.now) valid) }
-    ensures unfit { IfErr result (λ unfit. first_unfit_valid (shape tree.now) ≡ Some unfit) }
-    ensures place { IfErr result (λ unfit. IsOfTree (shape tree.now) unfit) }
-    ensures room { vec_len work.new.slots ≡ vec_len work.old.slots }
-{
-    check_valid_under(tree, Rules::Policy, work)
-}
-
-/// The same under these rules: by policy a Script has at most 3,600 bytes and a satisfaction at most 100 items, by
-/// consensus a Script has at most 10,000 bytes, and a satisfaction any number of items. By both it has at most 201
-/// opcodes.
-pub fn check_valid_under(tree: &Tree<'_>, rules: Rules, work: &mut Work) -> Result<Valid, Unfit>
-    requires in_range { IsInRange (shape tree.now) }
-    requires room { 4 * measure (shape tree.now) ≤ vec_len work.old.slots }
-    ensures valid { IfOk result (λ valid. IsKnownValidUnder rules (shape tree.now) valid) }
-    ensures unfit { IfErr result (λ unfit. first_unfit_valid_under rules (shape tree.now) ≡ Some unfit) }
-    ensures place { IfErr result (λ unfit. IsOfTree (shape tree.now) unfit) }
-    ensures room { vec_len work.new.slots ≡ vec_len work.old.slots }
-{
-    match check_short(tree, rules) {
-        Ok(short) => check_valid_of(short, tree, rules, work),
-        Err(unfit) => Err(unfit),
-    }
-}
-
-/// The same of a tree of which so much is known.
-#[tactic(auto, using(def_sane::proofs::TheLimits::as_computed))]
-pub fn check_valid_of(
-    short: Short,
-    tree: &Tree<'_>,
-    rules: Rules,
-    work: &mut Work,
-) -> Result<Valid, Unfit>
-    requires short { IsShortOf rules (shape tree.now) short }
-    requires in_range { IsInRange (shape tree.now) }
-    requires room { 4 * measure (shape tree.now) ≤ vec_len work.old.slots }
-    ensures valid { IfOk result (λ valid. IsKnownValidUnder rules (shape tree.now) valid) }
-    ensures unfit { IfErr result (λ unfit. first_unfit_valid_under rules (shape tree.now) ≡ Some unfit) }
-    ensures place { IfErr result (λ unfit. IsOfTree (shape tree.now) unfit) }
-    ensures room { vec_len work.new.slots ≡ vec_len work.old.slots }
-{
-    let limits = limits_from(short.extent, tree, work);
-    if limits.ops > MAX_OPS_PER_SCRIPT as u64 {
-        return Err(Unfit::Ops(limits.ops));
-    }
-    if are_too_many(limits.items, rules) {
-        return Err(Unfit::Items(limits.items));
-    }
-    Ok(Valid {
-        ty: short.ty,
-        limits,
-    })
 }

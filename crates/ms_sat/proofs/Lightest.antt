@@ -1,22 +1,10 @@
 -- The weight of a lightest stack is the least one.
-use Rattle.std.proofs.Common.{◌≡◌, ◌↔◌, ℕ, List, reverse, Option, Some, None, refl, sym, ap, subst, arith}
+use Rattle.std.proofs.Common.{◌≡◌, ◌↔◌, ℕ, List, Option, Some, None, refl, sym, ap, subst, arith}
 use Rattle.std.specs.Option.{option_map}
 use Rattle.def_script.specs.Bytes.{Bytes}
-use Rattle.def_machine.specs.Stacks.{Stack}
-use Rattle.def_tree.specs.Tree.{Tree}
-use Rattle.def_sane.specs.declared.Rules.TheVariants.{Consensus}
-use Rattle.def_sane.specs.Unfit.{IsValidUnder}
-use Rattle.def_sane.proofs.Meanings.{valid_means_under}
-use Rattle.def_types.specs.Typed.{IsTyped}
 use Rattle.def_script.specs.Witness.{weight}
 use Rattle.def_choice.specs.Lightest.{IsLightest}
-use Rattle.def_choice.proofs.Weights.{weight-reverse}
-use Rattle.ms_sat.specs.Scaffolding.Costs.{weight_of}
 use Rattle.ms_sat.specs.Least.{IsLeastWeight}
-
-pub weight_of-reverse : (o : Option Stack) → option_map weight (option_map reverse o) ≡ weight_of o
-weight_of-reverse None = refl
-weight_of-reverse (Some v) = ap Some (weight-reverse v)
 
 of_lightest : (P : List Bytes → Type 0) (m : Option (List Bytes)) → IsLightest P m → IsLeastWeight P (option_map weight m)
 of_lightest P None best = record {
@@ -37,9 +25,6 @@ of_lightest P (Some w) best = record {
 
 pub least_weight : (P : List Bytes → Type 0) (m : Option (List Bytes)) (o : Option ℕ) → o ≡ option_map weight m → IsLightest P m → IsLeastWeight P o
 least_weight P m o is best = subst (IsLeastWeight P) (sym is) (of_lightest P m best)
-
-pub typed_valid : (t : Tree) → IsValidUnder Consensus t → IsTyped t
-typed_valid t valid = ((valid_means_under Consensus t).0 valid).0
 
 -- and there is none exactly where there is no stack
 pub none_lightest : (P : List Bytes → Type 0) (m : Option (List Bytes)) → IsLightest P m → (m ≡ None) ↔ ((stack : List Bytes) → P stack → ⊥)

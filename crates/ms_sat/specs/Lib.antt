@@ -1,3 +1,1 @@
 pub mod Least
-pub mod Rule
-pub mod Scaffolding

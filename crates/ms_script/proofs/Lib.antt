@@ -2,4 +2,3 @@ pub mod ReadingLemmas
 mod NumberLemmas
 mod ScriptLemmas
 mod SizeLemmas
-mod WeightLemmas

@@ -7,11 +7,11 @@ ghost use Rattle.def_script.specs.Laws.{item_of};
 ghost use Rattle.def_script.specs.Limits.{MAX_SCRIPT_ELEMENT_SIZE};
 ghost use Rattle.ms_script.specs.Views.{instruction_of};
 
-use crate::blob::Blob;
 use crate::opcodes::opcode_rows;
 use crate::pushes::{PushForm, push_form};
 use crate::script::{Instr, Script};
 use def_script::Op;
+use ms_bytes::Blob;
 use std::alloc::{AllocError, Global};
 
 /// The byte of each opcode, by the rows of the table.

@@ -1,31 +1,22 @@
 //! Script: its instructions, and their shortest spelling as bytes.
 #![tactic(auto)]
 
-pub use blob::Blob;
 pub use def_script::{InstrFault, NumFault, Op, SizeFault};
 pub use encoding::{encode, opcode_byte};
-pub use key::is_key;
-pub use limits::{
-    MAX_OPS_PER_SCRIPT, MAX_PUBKEYS_PER_MULTISIG, MAX_SCRIPT_ELEMENT_SIZE, MAX_SCRIPT_SIZE,
-    MAX_STACK_SIZE,
+pub use ms_bytes::{
+    Blob, MAX_OPS_PER_SCRIPT, MAX_PUBKEYS_PER_MULTISIG, MAX_SCRIPT_ELEMENT_SIZE, MAX_SCRIPT_SIZE,
+    MAX_SIGNATURE_SIZE, MAX_STACK_SIZE, Stack, is_key, is_signature_size,
 };
 pub use numbers::{NumBytes, num_decode, num_encode, truth};
 pub use pushes::{PushForm, push_byte, push_form, push_length};
 pub use reading::{InstrRef, next_instr};
 pub use script::{Instr, Script, verify_form_of};
-pub use signature::{MAX_SIGNATURE_SIZE, is_signature_size};
 pub use sizes::{SizeBytes, compact_size, read_size};
-pub use stack::Stack;
 
-mod blob;
 mod encoding;
-mod key;
-mod limits;
 mod numbers;
 mod opcodes;
 mod pushes;
 mod reading;
 mod script;
-mod signature;
 mod sizes;
-mod stack;

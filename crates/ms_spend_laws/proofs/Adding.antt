@@ -26,7 +26,7 @@ use Rattle.def_spend.specs.Reading.{Input, witness_script, ReadsAs, HasReading}
 use Rattle.def_spend.specs.States.{has_other_type, is_sighash_wrong, choice_state}
 use Rattle.def_spend.specs.Asking.{length_by, lengths_of, plan_with, unsigned_keys}
 use Rattle.ms_given_laws.specs.Given.{EachIsSound}
-use Rattle.ms_given_laws.proofs.Maps.{IsPairOfBytes}
+use Rattle.ms_given_laws.proofs.Later.{IsPairOfBytes}
 use Rattle.ms_given_laws.proofs.Held.{HasLocks, one_signature, assets_are}
 use Rattle.ms_spend_laws.specs.Tried.{IsTried}
 use Rattle.ms_spend_laws.specs.Planned.{NoPlanIsVain, ConsistsOf, with_map, AreAdded, IsReadyWithin, PlanMakesReady, HaveOwnHashes, ReadingStays}
@@ -60,7 +60,7 @@ module _ (input : Input) (tree : Tree) (script : Bytes) (given : IsGiven input) 
   locks = record { version = given.place.locks.version; sequence = given.place.locks.sequence; lock_time = given.place.locks.lock_time }
 
   other_held : AreAssets other
-  other_held = assets_are again.spend locks are.sound are.bytes
+  other_held = assets_are are.version again.spend locks are.sound are.bytes
 
   like : IsLike one other
   like = record { locks = refl; preimages = preimages_stay later input.spend.fields added are.parts signed }
@@ -76,7 +76,7 @@ module _ (input : Input) (tree : Tree) (script : Bytes) (given : IsGiven input) 
   new_there key sig i = made_stays is_signed pair_of later added input.spend.fields (turned later input.spend.fields added are.parts) (key, sig) i
 
   only : (key sig : Bytes) → Contains (signatures_in again.spend.fields) (key, sig) → sig_of other key ≡ Some sig
-  only key sig i = only_signature other key sig (one_signature [] later are.sound (recursion_from_All IsPairOfBytes later are.bytes)) i
+  only key sig i = only_signature other key sig (one_signature are.version [] later are.sound (recursion_from_All IsPairOfBytes later are.bytes)) i
 
   -- ---- each key of the plan signs
 

@@ -5,7 +5,7 @@ use Rattle.std.proofs.lemmas.List.Elements.{All-weaker}
 use Rattle.def_script.specs.Bytes.{Bytes}
 use Rattle.def_script.specs.Signature.{MAX_SIGNATURE_SIZE}
 use Rattle.def_script.specs.Witness.{witness_text, weight}
-use Rattle.def_machine.specs.Stacks.{Pairs}
+use Rattle.def_machine.specs.Stacks.{Checker}
 use Rattle.def_machine.specs.Machine.{Given}
 use Rattle.def_machine.specs.Program.{program_of}
 use Rattle.def_tree.specs.Tree.{Tree}
@@ -21,7 +21,7 @@ use Rattle.def_satisfaction.specs.Satisfaction.{Sat, Holds}
 use Rattle.def_choice.specs.NonMalleable.{NonMalleable, given_with}
 use Rattle.def_choice.specs.Strict.{strict}
 use Rattle.def_choice.proofs.Chosen.{strict_is_canonical, strict_is_tight}
-use Rattle.def_promises.specs.Acceptance.{IsAcceptedWithin}
+use Rattle.def_promises.specs.Accepted.{IsAcceptedWithin}
 use Rattle.def_promises.proofs.FreshItems.{fresh_has_item}
 use Rattle.ms_acceptance_laws.proofs.Accepted.{canonical_is_accepted}
 use Rattle.ms_row_laws.proofs.WithinLimits.{within_limits, valid_limits}
@@ -100,21 +100,21 @@ fits_witness input tree script c =
       last = omega (arith, size, most.0);
     }
 
-within : (input : Input) (tree : Tree) (script : Bytes) → IsChosen input tree script → (limits : Limits) (table : Pairs) → AreLimits tree limits → Holds table (assets_of input.spend)
-    → IsAcceptedWithin tree limits (given_with (assets_of input.spend) table) (stack_of input)
-within input tree script c limits table are holds =
-    canonical_is_accepted tree limits (assets_of input.spend) table (stack_of input) (writes input tree script c.tried) (valid input tree script c.tried) are
+within : (input : Input) (tree : Tree) (script : Bytes) → IsChosen input tree script → (limits : Limits) (checker : Checker) → AreLimits tree limits → Holds checker (assets_of input.spend)
+    → IsAcceptedWithin tree limits (given_with (assets_of input.spend) checker) (stack_of input)
+within input tree script c limits checker are holds =
+    canonical_is_accepted tree limits (assets_of input.spend) checker (stack_of input) (writes input tree script c.tried) (valid input tree script c.tried) are
     (held input c.given) holds (canonical input tree script c)
 
 one_output : (a b : TransactionOutput) (o : Option TransactionOutput) → o ≡ Some a → o ≡ Some b → a ≡ b
 one_output a b o p q = cc (sym p ∙ q)
 
-replays : (input : Input) (tree : Tree) (script : Bytes) → IsChosen input tree script → (table : Pairs) → Holds table (assets_of input.spend)
-    → ReplaysAccepted input (given_with (assets_of input.spend) table)
-replays input tree script c table holds output spent =
-    let given : Given = given_with (assets_of input.spend) table in
+replays : (input : Input) (tree : Tree) (script : Bytes) → IsChosen input tree script → (checker : Checker) → Holds checker (assets_of input.spend)
+    → ReplaysAccepted input (given_with (assets_of input.spend) checker)
+replays input tree script c checker holds output spent =
+    let given : Given = given_with (assets_of input.spend) checker in
     let w = witness_is input tree script c.tried in
-    let a = within input tree script c (limits_of tree) table (limits_are_computed tree) holds in
+    let a = within input tree script c (limits_of tree) checker (limits_are_computed tree) holds in
     let same = one_output w.output output (spent_output input.spend) w.spent spent in
     let program : output.script ≡ program_of (script_of tree) = ap (λ (o : TransactionOutput). o.script) (sym same) ∙ w.program in (
       a.ops,
@@ -161,5 +161,5 @@ unsatisfied_has_nothing law = of_each_in law state.Unsatisfied tt (λ input tree
       none = none_satisfies input tree script given tried none;
       accepted = λ stack checks accepted.
           nothing_to_accept tree (assets_of input.spend) stack checks (writes input tree script tried) (sane_for_all input tree script tried) (held input given) none accepted;
-      fresh = λ table stack fresh. fresh_has_item tree (assets_of input.spend) table stack fresh;
+      fresh = λ checker stack fresh. fresh_has_item tree (assets_of input.spend) checker stack fresh;
     })

@@ -17,7 +17,7 @@ pub record IsGiven (input : Input) : Type 0 where
 pub held : (input : Input) → IsGiven input → AreAssets (assets_of input.spend)
 held input given =
     let place = given.place in
-    assets_are input.spend place.locks place.sound place.fits
+    assets_are place.version input.spend place.locks place.sound place.fits
 
 each_given : (Holds : Input → Type 0) → ((input : Input) → IsGiven input → Holds input) → (inputs : List Input)
     → AllByRecursion HasPlace (map (λ input. input.spend) inputs) → AllByRecursion HasReading inputs → AllByRecursion Holds inputs

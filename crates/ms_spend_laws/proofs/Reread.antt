@@ -62,6 +62,14 @@ each {A} P Q f (x ∷ xs) h = (f x h.0, each P Q f xs h.1)
 
 -- ---- the fields of a map with further signatures
 
+-- maps with the same fields of what an input spends
+pub record SpendAlike (fields later : Map) : Type 0 where
+  pub script_sig : field FINAL_SCRIPTSIG later ≡ field FINAL_SCRIPTSIG fields
+  pub witness : field FINAL_SCRIPTWITNESS later ≡ field FINAL_SCRIPTWITNESS fields
+  pub previous : field NON_WITNESS_UTXO later ≡ field NON_WITNESS_UTXO fields
+  pub claim : field WITNESS_UTXO later ≡ field WITNESS_UTXO fields
+  pub script : field WITNESS_SCRIPT later ≡ field WITNESS_SCRIPT fields
+
 -- all pairs are signatures of compressed keys
 abbrev pub AreSigned : Map → Type 0
 AreSigned added = AllByRecursion (λ pair. is_signed pair ≡ true) added
@@ -85,15 +93,27 @@ module _ (later fields added : Map) (parts : ConsistsOf later fields added) (sig
   pub asked_stays : asked_type later ≡ asked_type fields
   asked_stays = ap asked (field_stays SIGHASH_TYPE refl)
 
-  final_stays : has_final later ≡ has_final fields
-  final_stays =
-      ap (λ o. has_byte o || has_item (field FINAL_SCRIPTWITNESS later)) (field_stays FINAL_SCRIPTSIG refl)
-      ∙ ap (λ o. has_byte (field FINAL_SCRIPTSIG fields) || has_item o) (field_stays FINAL_SCRIPTWITNESS refl)
+  alike : SpendAlike fields later
+  alike = record {
+    script_sig = field_stays FINAL_SCRIPTSIG refl;
+    witness = field_stays FINAL_SCRIPTWITNESS refl;
+    previous = field_stays NON_WITNESS_UTXO refl;
+    claim = field_stays WITNESS_UTXO refl;
+    script = field_stays WITNESS_SCRIPT refl;
+  }
 
-  utxo_stays : (outpoint : Outpoint) → utxo_of outpoint later ≡ utxo_of outpoint fields
-  utxo_stays outpoint =
-      ap (λ o. utxo_by (option_and_then network_transaction_of o) (option_and_then output_of (field WITNESS_UTXO later)) outpoint) (field_stays NON_WITNESS_UTXO refl)
-      ∙ ap (λ o. utxo_by (option_and_then network_transaction_of (field NON_WITNESS_UTXO fields)) (option_and_then output_of o) outpoint) (field_stays WITNESS_UTXO refl)
+-- ---- what an input spends, by such fields
+
+module _ (fields later : Map) (alike : SpendAlike fields later) where
+  final_alike : has_final later ≡ has_final fields
+  final_alike =
+      ap (λ o. has_byte o || has_item (field FINAL_SCRIPTWITNESS later)) alike.script_sig
+      ∙ ap (λ o. has_byte (field FINAL_SCRIPTSIG fields) || has_item o) alike.witness
+
+  pub utxo_alike : (outpoint : Outpoint) → utxo_of outpoint later ≡ utxo_of outpoint fields
+  utxo_alike outpoint =
+      ap (λ o. utxo_by (option_and_then network_transaction_of o) (option_and_then output_of (field WITNESS_UTXO later)) outpoint) alike.previous
+      ∙ ap (λ o. utxo_by (option_and_then network_transaction_of (field NON_WITNESS_UTXO fields)) (option_and_then output_of o) outpoint) alike.claim
 
 -- the script that is found, by that of the map
 by_output : (output : Bytes) (fields other : Map) → field WITNESS_SCRIPT other ≡ field WITNESS_SCRIPT fields → script_of_output output other ≡ script_of_output output fields
@@ -108,12 +128,14 @@ by_utxo (utxo.claimed output) fields other e = by_output output.script fields ot
 abbrev script_unless : Bool → Result Bytes State → Result Bytes State
 script_unless final script = cond final (Err state.Final) script
 
+pub script_alike : (spend : Spend) (later : Map) → SpendAlike spend.fields later → witness_script (record spend { fields = later }) ≡ witness_script spend
+script_alike spend later same =
+    ap (λ b. script_unless b (script_of_utxo (utxo_of spend.input.outpoint later) later)) (final_alike spend.fields later same)
+    ∙ ap (λ u. script_unless (has_final spend.fields) (script_of_utxo u later)) (utxo_alike spend.fields later same spend.input.outpoint)
+    ∙ ap (script_unless (has_final spend.fields)) (by_utxo (utxo_of spend.input.outpoint spend.fields) spend.fields later same.script)
+
 pub script_stays : (spend : Spend) (later added : Map) → ConsistsOf later spend.fields added → AreSigned added → witness_script (record spend { fields = later }) ≡ witness_script spend
-script_stays spend later added parts signed =
-    let script = field_stays later spend.fields added parts signed WITNESS_SCRIPT refl in
-    ap (λ b. script_unless b (script_of_utxo (utxo_of spend.input.outpoint later) later)) (final_stays later spend.fields added parts signed)
-    ∙ ap (λ u. script_unless (has_final spend.fields) (script_of_utxo u later)) (utxo_stays later spend.fields added parts signed spend.input.outpoint)
-    ∙ ap (script_unless (has_final spend.fields)) (by_utxo (utxo_of spend.input.outpoint spend.fields) spend.fields later script)
+script_stays spend later added parts signed = script_alike spend later (alike later spend.fields added parts signed)
 
 -- ---- the reading
 

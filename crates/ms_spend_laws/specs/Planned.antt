@@ -9,6 +9,7 @@ use Rattle.def_satisfaction.specs.Satisfaction.{Sat}
 use Rattle.def_plan.specs.Lengths.{IsLike}
 use Rattle.def_plan.specs.Plan.{Plan}
 use Rattle.def_psbt.specs.Map.{Map}
+use Rattle.def_psbt.specs.declared.PsbtVersion.{PsbtVersion}
 use Rattle.def_psbt.specs.Listed.{input_form}
 use Rattle.def_psbt.specs.Laws.{IsSoundMap}
 use Rattle.def_spend.specs.declared.State.TheVariants as state
@@ -42,12 +43,13 @@ ConsistsOf (pair ∷ map) some others =
 abbrev pub with_map : Input → (fields : Map) → Input
 with_map input fields = record input { spend = record input.spend { fields = fields } }
 
--- a map has the pairs of an input's and further ones, has nothing wrong, and leaves what the input is read as. The further
+-- a map has the pairs of an input's and further ones, has nothing wrong in a version, and leaves what the input is read as. The further
 -- pairs are signatures of compressed keys, so of 73 bytes at most, among them one of each of these keys, all of the asked
 -- type, which is a hash type; and with them there aren't too many
 pub record AreAdded (input : Input) (keys : List Key) (added later : Map) : Type 0 where
   pub parts : ConsistsOf later input.spend.fields added
-  pub sound : IsSoundMap input_form [] later
+  pub version : PsbtVersion
+  pub sound : IsSoundMap (input_form version) [] later
   pub bytes : IsMapOfBytes later
   pub read : HasReading (with_map input later)
   pub signatures : All (λ pair. IsTrue (is_signed pair)) added

@@ -2,7 +2,7 @@
 use Rattle.std.specs.Prelude.{◌≡◌, ℕ, ◌≤◌, List, Option, Some, None}
 use Rattle.def_script.specs.Bytes.{Bytes}
 use Rattle.def_script.specs.Witness.{witness_text, weight}
-use Rattle.def_machine.specs.Stacks.{Pairs}
+use Rattle.def_machine.specs.Stacks.{Pairs, Checker}
 use Rattle.def_machine.specs.Machine.{Given}
 use Rattle.def_machine.specs.Program.{program_of}
 use Rattle.def_machine.specs.Run.{accepted}
@@ -13,8 +13,7 @@ use Rattle.def_limits.specs.declared.Limits.{Limits}
 use Rattle.def_satisfaction.specs.Satisfaction.{Sat, Holds}
 use Rattle.def_choice.specs.Tight.{Tight}
 use Rattle.def_choice.specs.NonMalleable.{NonMalleable, given_with}
-use Rattle.def_promises.specs.Acceptance.{IsAcceptedWithin}
-use Rattle.def_promises.specs.Promises.{Unchangeable}
+use Rattle.def_promises.specs.Accepted.{IsAcceptedWithin, Unchangeable}
 use Rattle.def_psbt.specs.Transaction.{TransactionOutput}
 use Rattle.def_spend.specs.declared.State.TheVariants as state
 use Rattle.def_spend.specs.Fields.{WITNESS_SCRIPT, field}
@@ -62,12 +61,12 @@ ReplaysAccepted input given =
     (output : TransactionOutput) → spent_output input.spend ≡ Some output →
     (ops : ℕ) × (peak : ℕ) × (checks : Pairs) × (replay given output.script (witness_of input) ≡ ran (accepted ops peak checks))
 
--- with the transaction's locks, under every table that holds the input's signatures; and the run is within the limits of
--- the miniscript
+-- with the transaction's locks, where the input's signatures are good, whatever others are; and the run is within the limits
+-- of the miniscript
 pub record IsAcceptedByAll (input : Input) (tree : Tree) : Type 0 where
-  pub replayed : (table : Pairs) → Holds table (assets_of input.spend) → ReplaysAccepted input (given_with (assets_of input.spend) table)
-  pub within : (limits : Limits) (table : Pairs) → AreLimits tree limits → Holds table (assets_of input.spend) →
-      IsAcceptedWithin tree limits (given_with (assets_of input.spend) table) (stack_of input)
+  pub replayed : (checker : Checker) → Holds checker (assets_of input.spend) → ReplaysAccepted input (given_with (assets_of input.spend) checker)
+  pub within : (limits : Limits) (checker : Checker) → AreLimits tree limits → Holds checker (assets_of input.spend) →
+      IsAcceptedWithin tree limits (given_with (assets_of input.spend) checker) (stack_of input)
 
 abbrev pub ReadyIsAccepted : Type 0
 ReadyIsAccepted = OfEachIn state.Ready IsAcceptedByAll

@@ -1,7 +1,7 @@
 -- What a run logs along a canonical row: nothing along a dissatisfaction and along a satisfaction without
 -- signatures, and otherwise pairs with keys of the miniscript.
 use Rattle.std.proofs.Common.{◌≡◌, [], refl, IsTrue, inl, inr, arith, ℕ, ◌≤◌, List, ◌∷◌, ◌++◌, length, reverse, All, sym, subst, ◌⊎◌}
-use Rattle.def_machine.specs.Stacks.{Stack, Pairs}
+use Rattle.def_machine.specs.Stacks.{Stack, Pairs, member}
 use Rattle.def_tree.specs.declared.Two.TheVariants as kind
 use Rattle.def_tree.specs.declared.Wrapper.TheVariants as wrapper
 use Rattle.def_tree.specs.Tree.{Tree, Trees, and_or, two, thresh, wrap, none, more, Key, just_0, pk_k, pk_h, multi}
@@ -103,10 +103,10 @@ module _ (assets : Assets) where
   abbrev pub parts_checks : (xs : Trees) (n : ℕ) (w : Stack) → parts (canonical assets) xs n w → Pairs
   parts_checks xs n w r = let log = parts_log (canonical assets) xs n w r in log.checks
 
-  multi_pair : (k : ℕ) (keys : List Key) (sigs : Stack) → All IsKey keys → 1 ≤ k → length sigs ≡ k → AreSignatures assets.pairs (reverse keys) sigs →
-      HasPair (multi_log assets.pairs keys sigs).checks
+  multi_pair : (k : ℕ) (keys : List Key) (sigs : Stack) → All IsKey keys → 1 ≤ k → length sigs ≡ k → AreSignatures (member assets.pairs) (reverse keys) sigs →
+      HasPair (multi_log (member assets.pairs) keys sigs).checks
   multi_pair k keys sigs forms some long h =
-      matched_pair (reverse keys) sigs (multi_log assets.pairs keys sigs).checks (matched_log assets.pairs keys sigs forms h) (omega (arith, some, long))
+      matched_pair (reverse keys) sigs (multi_log (member assets.pairs) keys sigs).checks (matched_log (member assets.pairs) keys sigs forms h) (omega (arith, some, long))
 
   -- a dissatisfaction logs nothing
   pub dsat_quiet : (tree : Tree) (w : Stack) (r : (signed_row assets tree).dsat w) → dsat_checks tree w r ≡ []
@@ -195,7 +195,7 @@ module _ (assets : Assets) where
     told (multi n own) k t w r = record {
       free = inr (multi_pair n own r.1 k.2 (typed-multi n own t).0 r.3.0 r.3.1);
       inside = λ key sig h.
-          contains-reverse own key (matched_inside (reverse own) r.1 (checks (multi n own) w r) (matched_log assets.pairs own r.1 k.2 r.3.1) key sig h);
+          contains-reverse own key (matched_inside (reverse own) r.1 (checks (multi n own) w r) (matched_log (member assets.pairs) own r.1 k.2 r.3.1) key sig h);
     }
     told (wrap wrapper.D x) k t w r = told_as (λ f. (r.0, r.1, f, r.3, r.4)) (λ key i. i) (told x k t.0 r.0 r.2)
     told (wrap letter x) k t w r = told x k t.0 w r

@@ -63,7 +63,7 @@ parts_give x x' P P' i x_dsat j n w (inr r) = let one = one_both (P' n) x'.dsat 
 abbrev pub KeysGive : (s t : Setting) → List Key → Type 0
 KeysGive s t keys =
     (key other : Key) (sig : Bytes) → Contains keys key → hash160 other ≡ hash160 key → CountsAsKey s.mode key other →
-    IsTrue (is_good s.given.table other sig) → CountsAsKey t.mode key other × IsTrue (is_good t.given.table other sig)
+    IsTrue (is_good s.given.checker other sig) → CountsAsKey t.mode key other × IsTrue (is_good t.given.checker other sig)
 
 give_left : (s t : Setting) (a b : List Key) → KeysGive s t (a ++ b) → KeysGive s t a
 give_left s t a b h key other sig i = h key other sig (Contains-append_left a b key i)
@@ -79,7 +79,7 @@ pk_h_gives s t key h w (other, form, same, counts, (below, above, (sig, good, e)
     let g = h key other sig (first_key key) same counts good in
     (w, (other, form, same, g.0, (below, above, (sig, g.1, e), at_top, eq)))
 
-signatures_give : (s t : Setting) (own : List Key) → KeysGive s t own → (sigs : Stack) → AreSignatures s.given.table own sigs → AreSignatures t.given.table own sigs
+signatures_give : (s t : Setting) (own : List Key) → KeysGive s t own → (sigs : Stack) → AreSignatures s.given.checker own sigs → AreSignatures t.given.checker own sigs
 signatures_give s t own h [] r = tt
 signatures_give s t [] h (sig ∷ sigs) r = r
 signatures_give s t (key ∷ own) h (sig ∷ sigs) (inl r) =

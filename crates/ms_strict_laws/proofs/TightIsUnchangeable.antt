@@ -4,7 +4,7 @@ use Rattle.std.proofs.lemmas.Bool.{false≢true}
 use Rattle.std.proofs.lemmas.List.{reverse-reverse}
 use Rattle.std.proofs.lemmas.Option.{none-some}
 use Rattle.def_script.specs.Bytes.{Bytes}
-use Rattle.def_machine.specs.Stacks.{Stack, Pairs, member}
+use Rattle.def_machine.specs.Stacks.{Stack, Pairs, Checker, member}
 use Rattle.def_machine.specs.MultiSig.{is_good}
 use Rattle.def_tree.specs.Tree.{Tree}
 use Rattle.def_tree.specs.Range.{IsWritable}
@@ -54,55 +54,55 @@ all_or_new (pair ∷ rest) those = go (member those pair.0 pair.1) refl (all_or_
     go true e (inr n) = inr (n.0, n.1, has_right (pair ∷ []) rest n.0 n.1 n.2, n.3)
 
 -- what a run passes doesn't depend on the row
-same_checks : (tree : Tree) (assets : Assets) (table : Pairs) (stack : List Bytes) (checks : Pairs) → IsWritable tree → IsWithinConsensus tree
-    → IsAccepted tree (given_with assets table) stack checks → (r : (row (full (given_with assets table) (only (known assets))) tree).sat (reverse stack))
-    → (sat_log (full (given_with assets table) (only (known assets))) tree (reverse stack) r).checks ≡ checks
-same_checks tree assets table stack checks writable consensus is r =
-    let s = full (given_with assets table) (only (known assets)) in
-    let short = accepted_short tree (given_with assets table) stack checks writable consensus is in
+same_checks : (tree : Tree) (assets : Assets) (checker : Checker) (stack : List Bytes) (checks : Pairs) → IsWritable tree → IsWithinConsensus tree
+    → IsAccepted tree (given_with assets checker) stack checks → (r : (row (full (given_with assets checker) (only (known assets))) tree).sat (reverse stack))
+    → (sat_log (full (given_with assets checker) (only (known assets))) tree (reverse stack) r).checks ≡ checks
+same_checks tree assets checker stack checks writable consensus is r =
+    let s = full (given_with assets checker) (only (known assets)) in
+    let short = accepted_short tree (given_with assets checker) stack checks writable consensus is in
     let ends = satisfied s tree writable consensus (reverse stack) short r in
-    let ran = run_accepted (given_with assets table) tree stack is.ops is.peak checks writable is.run in
+    let ran = run_accepted (given_with assets checker) tree stack is.ops is.peak checks writable is.run in
     let same = same_ok (left (ends.0 ∷ []) (sat_log s tree (reverse stack) r)) ran.0 (sym ends.1 ∙ ran.2) in
     ap (λ z. z.log.checks) same ∙ sym ran.6
 
--- under the pairs of its own run the stack is the only one
+-- where the pairs of its own run are good and no others the stack is the only one
 abbrev IsOnly : Assets → Tree → (checks : Pairs) → Stack → Type 0
 IsOnly assets tree checks w =
-    (other : Pairs) → Covered other (keys tree) checks → (v : Stack) → (row (under assets other) tree).sat v → v ≡ w
+    (other : Checker) → Covered other (keys tree) checks → (v : Stack) → (row (under assets other) tree).sat v → v ≡ w
 
-against : (tree : Tree) (assets : Assets) (table : Pairs) (stack : List Bytes) (checks : Pairs) → IsWritable tree → IsWithinConsensus tree
-    → IsOnly assets tree checks (reverse stack) → (other : List Bytes) (others : Pairs) → IsAccepted tree (given_with assets table) other others
-    → other ≢ stack → HasNewPair others checks ⊎ Fresh tree assets table other
-against tree assets table stack checks writable consensus unique other others is differs =
+against : (tree : Tree) (assets : Assets) (checker : Checker) (stack : List Bytes) (checks : Pairs) → IsWritable tree → IsWithinConsensus tree
+    → IsOnly assets tree checks (reverse stack) → (other : List Bytes) (others : Pairs) → IsAccepted tree (given_with assets checker) other others
+    → other ≢ stack → HasNewPair others checks ⊎ Fresh tree assets checker other
+against tree assets checker stack checks writable consensus unique other others is differs =
     elim (all_or_new others checks) [
       | inr new ↦ inl new
-      | inl all ↦ elim (sat_or_not (under assets table) tree (reverse other)) [
-        | inr unsat ↦ inr ((accounted tree (given_with assets table) other others writable consensus is).row, unsat)
-        | inl own ↦ absurd (differs (sym (reverse-reverse other) ∙ ap reverse (unique checks (covered_itself checks (keys tree)) (reverse other) (kept own all)) ∙ reverse-reverse stack))
+      | inl all ↦ elim (sat_or_not (under assets checker) tree (reverse other)) [
+        | inr unsat ↦ inr ((accounted tree (given_with assets checker) other others writable consensus is).row, unsat)
+        | inl own ↦ absurd (differs (sym (reverse-reverse other) ∙ ap reverse (unique (member checks) (covered_itself checks (keys tree)) (reverse other) (kept own all)) ∙ reverse-reverse stack))
       ]
     ]
   where
-    kept : (r : (row (under assets table) tree).sat (reverse other)) → ((key sig : Bytes) → Has others key sig → Has checks key sig) → (row (under assets checks) tree).sat (reverse other)
+    kept : (r : (row (under assets checker) tree).sat (reverse other)) → ((key sig : Bytes) → Has others key sig → Has checks key sig) → (row (under assets (member checks)) tree).sat (reverse other)
     kept r all =
-        let same = same_checks tree assets table other others writable consensus is r in
-        let k = sat_kept (under assets table) checks tree writable (reverse other) r in
+        let same = same_checks tree assets checker other others writable consensus is r in
+        let k = sat_kept (under assets checker) (member checks) tree writable (reverse other) r in
         k.kept (λ key sig h. good_there key sig (all key sig (subst (λ c. Has c key sig) same h)) (k.good key sig h))
       where
-        good_there : (key sig : Bytes) → Has checks key sig → IsTrue (is_good table key sig) → IsTrue (is_good checks key sig)
-        good_there key sig held good = rw (good_is_some table key sig good, held) refl
+        good_there : (key sig : Bytes) → Has checks key sig → IsTrue (is_good checker key sig) → IsTrue (is_good (member checks) key sig)
+        good_there key sig held good = rw (good_is_some checker key sig good, held) refl
 
 pub tight_is_unchangeable : TightIsUnchangeable
-tight_is_unchangeable tree assets stack writable sane are sat tight table holds =
+tight_is_unchangeable tree assets stack writable sane are sat tight checker holds =
     let s = (sane_means_under Consensus tree).0 sane in
     let v = (valid_means_under Consensus tree).0 s.0 in
-    let one = only_sat assets table holds tree writable v.0 s.1 s.4 (reverse stack) tight in
-    let run = accepts_row tree (limits_of tree) assets table stack writable (valid_consensus tree s.0) (limits_are_computed tree) are sat one.0 in
-    let checks = (sat_log (at assets table) tree (reverse stack) one.0).checks in (
+    let one = only_sat assets checker holds tree writable v.0 s.1 s.4 (reverse stack) tight in
+    let run = accepts_row tree (limits_of tree) assets checker stack writable (valid_consensus tree s.0) (limits_are_computed tree) are sat one.0 in
+    let checks = (sat_log (at assets checker) tree (reverse stack) one.0).checks in (
       checks,
       record { ops = _; peak = run.peak; run = run.run },
-      λ other others is differs. elim (against tree assets table stack checks writable (valid_consensus tree s.0) one.1 other others is differs) [
+      λ other others is differs. elim (against tree assets checker stack checks writable (valid_consensus tree s.0) one.1 other others is differs) [
         | inl new ↦ inl new
-        | inr fresh ↦ inr (fresh, fresh_has_item tree assets table other fresh)
+        | inr fresh ↦ inr (fresh, fresh_has_item tree assets checker other fresh)
       ],
     )
 
@@ -121,8 +121,8 @@ pub nothing_to_accept : NothingToAccept
 nothing_to_accept tree assets stack checks writable sane are nowhere is =
     let s = (sane_means_under Consensus tree).0 sane in
     let v = (valid_means_under Consensus tree).0 s.0 in
-    elim (sat_or_not (under assets assets.pairs) tree (reverse stack)) [
-      | inr unsat ↦ ((accounted tree (given_with assets assets.pairs) stack checks writable (valid_consensus tree s.0) is).row, unsat)
+    elim (sat_or_not (under assets (member assets.pairs)) tree (reverse stack)) [
+      | inr unsat ↦ ((accounted tree (given_with assets (member assets.pairs)) stack checks writable (valid_consensus tree s.0) is).row, unsat)
       | inl own ↦
           let found = canonical_sat assets tree writable v.0 s.1 (reverse stack) own in
           let exists = (strict_exists tree assets writable sane are).1 (reverse found.0, subst (λ w. (row (canonical assets) tree).sat w) (sym (reverse-reverse found.0)) found.1) in

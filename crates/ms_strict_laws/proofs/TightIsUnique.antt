@@ -2,7 +2,7 @@
 use Rattle.std.proofs.Common.{◌≡◌, ℕ, true, List, [], ◌∷◌, reverse, refl, sym, ◌∙◌, ap, inl, inr, arith}
 use Rattle.std.proofs.lemmas.Bool.{false≢true, and_parts}
 use Rattle.def_script.specs.Bytes.{Bytes}
-use Rattle.def_machine.specs.Stacks.{Stack, Pairs}
+use Rattle.def_machine.specs.Stacks.{Stack, Checker, member}
 use Rattle.def_machine.specs.MultiSig.{is_good}
 use Rattle.def_tree.specs.declared.Two.TheVariants as kind
 use Rattle.def_tree.specs.declared.Wrapper.TheVariants as wrapper
@@ -26,9 +26,9 @@ use Rattle.ms_strict_laws.proofs.UniqueUnderPairs.{Sole, SoleParts, both_sole, i
 use Rattle.ms_strict_laws.proofs.TightOptions.{Fits, AllFit, fit_wrap, fit_two, fit_and_or, fit_more, at, under, Sats, freed, no_pairs, dsat_sole, fixed_sole, pk_k_sole, pk_h_stack, pk_h_sole, some_same, multi_sole, or_b_first, or_b_second, or_first, or_second, or_i_first, or_i_second, and_or_first, and_or_second}
 use Rattle.ms_strict_laws.proofs.PairSets.{in_none}
 
-module _ (assets : Assets) (table : Pairs) (holds : Holds table assets) where
+module _ (assets : Assets) (checker : Checker) (holds : Holds checker assets) where
   abbrev here : Setting
-  here = at assets table
+  here = at assets checker
 
   -- a row of the stack under this table, along which it is the only one
   abbrev One : (t : Tree) → Stack → Type 0
@@ -38,10 +38,10 @@ module _ (assets : Assets) (table : Pairs) (holds : Holds table assets) where
   OneOf xs n w =
       (r : parts here xs n w) × SoleParts (keys_of_all xs) (parts_log here xs n w r).checks n (λ other m. parts (under assets other) xs m) w
 
-  good_here : (key sig : Bytes) → is_good assets.pairs key sig ≡ true → is_good table key sig ≡ true
-  good_here key sig h = held assets table holds key sig h
+  good_here : (key sig : Bytes) → is_good (member assets.pairs) key sig ≡ true → is_good checker key sig ≡ true
+  good_here key sig h = held assets checker holds key sig h
 
-  signed_here : (own : List Key) (sigs : Stack) → AreSignatures assets.pairs own sigs → AreSignatures table own sigs
+  signed_here : (own : List Key) (sigs : Stack) → AreSignatures (member assets.pairs) own sigs → AreSignatures checker own sigs
   signed_here own [] h = tt
   signed_here [] (sig ∷ sigs) h = h
   signed_here (key ∷ own) (sig ∷ sigs) (inl h) = inl (good_here key sig h.0, signed_here own sigs h.1)
@@ -67,7 +67,7 @@ module _ (assets : Assets) (table : Pairs) (holds : Holds table assets) where
         (inl (r.0, r.1, j.0, i.0, r.4), and_or_first assets x y z _ _ w r.1 r.0 f r.4 i.1 j.1 free)
     one_sat (and_or x y z) f w (inr (r, free)) =
         let t = fit_and_or x y z f in
-        let i = dsat_sole assets table x t.0 f.safe.3.0 r.1 r.3 in
+        let i = dsat_sole assets checker x t.0 f.safe.3.0 r.1 r.3 in
         let j = one_sat z t.2 r.0 r.2 in
         (inr (r.0, r.1, j.0, i.0, r.4), and_or_second assets x y z _ _ w r.1 r.0 f r.4 i.2 j.1 (i.1 (keys z)) free)
     one_sat (two kind.AndV x y) f w r =
@@ -83,11 +83,11 @@ module _ (assets : Assets) (table : Pairs) (holds : Holds table assets) where
     one_sat (two kind.OrB x z) f w (inl (r, free)) =
         let t = fit_two kind.OrB x z f in
         let i = one_sat x t.0 r.1 r.3 in
-        let j = dsat_sole assets table z t.1 (and_parts (mall_of x).e (mall_of z).e f.safe.2.0).1 r.0 r.2 in
+        let j = dsat_sole assets checker z t.1 (and_parts (mall_of x).e (mall_of z).e f.safe.2.0).1 r.0 r.2 in
         (inl (r.0, r.1, j.0, i.0, r.4), or_b_first assets x z _ _ w r.1 r.0 f r.4 i.1 j.2 (j.1 (keys x)) free)
     one_sat (two kind.OrB x z) f w (inr (r, free)) =
         let t = fit_two kind.OrB x z f in
-        let i = dsat_sole assets table x t.0 (and_parts (mall_of x).e (mall_of z).e f.safe.2.0).0 r.1 r.3 in
+        let i = dsat_sole assets checker x t.0 (and_parts (mall_of x).e (mall_of z).e f.safe.2.0).0 r.1 r.3 in
         let j = one_sat z t.1 r.0 r.2 in
         (inr (inl (r.0, r.1, j.0, i.0, r.4)), or_b_second assets x z _ _ w r.1 r.0 f r.4 i.2 j.1 (i.1 (keys z)) free)
     one_sat (two kind.OrI x z) f w (inl (r, free)) =
@@ -104,7 +104,7 @@ module _ (assets : Assets) (table : Pairs) (holds : Holds table assets) where
         (inl i.0, or_first assets x z _ w t.0 t.1 t.2 f.safe.2.0 f.safe.2.1.0 i.1 free)
     one_sat (two which x z) f w (inr (r, free)) =
         let t = fit_two which x z f in
-        let i = dsat_sole assets table x t.0 f.safe.2.0 r.1 r.3 in
+        let i = dsat_sole assets checker x t.0 f.safe.2.0 r.1 r.3 in
         let j = one_sat z t.1 r.0 r.2 in
         (inr (r.0, r.1, j.0, i.0, r.4), or_second assets x z _ _ w r.1 r.0 t.0 t.1 t.2 f.safe.2.0 f.safe.2.1.0 r.4 i.2 j.1 (i.1 (keys z)) free)
     one_sat (thresh k xs) f w r =
@@ -114,7 +114,7 @@ module _ (assets : Assets) (table : Pairs) (holds : Holds table assets) where
     one_sat (multi k own) f w r =
         let signed = signed_here (reverse own) r.1 r.3.1 in (
           (r.0, r.1, r.2, (r.3.0, signed), r.4),
-          multi_sole assets k own _ r.1 w r.0 f.distinct (matched_log table own r.1 f.writable.2 signed) r.3.0 r.2 r.4,
+          multi_sole assets k own _ r.1 w r.0 f.distinct (matched_log checker own r.1 f.writable.2 signed) r.3.0 r.2 r.4,
         )
     one_sat (wrap wrapper.D x) f w r =
         let i = one_sat x (fit_wrap wrapper.D x f) r.0 r.2 in
@@ -136,7 +136,7 @@ module _ (assets : Assets) (table : Pairs) (holds : Holds table assets) where
     one_parts (more x xs) f e n w (inr (below, above, rest, (unfree, taken), eq)) =
         let t = fit_more x xs f in
         let es = and_parts (mall_of x).e (all_e (malls_of xs)) e in
-        let i = dsat_sole assets table x t.0 es.0 above taken in
+        let i = dsat_sole assets checker x t.0 es.0 above taken in
         let j = one_parts xs t.1 es.1 n below rest in (
           inr (below, above, j.0, i.0, eq),
           dsat_part (keys x) (keys_of_all xs) _ _ n (λ other. row (under assets other) x) (λ other k. parts (under assets other) xs k) w above below t.2 i.2 j.1 eq
@@ -145,11 +145,11 @@ module _ (assets : Assets) (table : Pairs) (holds : Holds table assets) where
 
 -- a tight satisfaction has a row under each table that holds the assets' pairs; and under no table, which of the
 -- miniscript's keys has but the pairs of that row, has it another satisfaction
-pub only_sat : (assets : Assets) (table : Pairs) → Holds table assets → (tree : Tree) → IsWritable tree → IsTyped tree → IsMallTyped tree
+pub only_sat : (assets : Assets) (checker : Checker) → Holds checker assets → (tree : Tree) → IsWritable tree → IsTyped tree → IsMallTyped tree
     → AreDistinct (keys tree) → (w : Stack) → TightSat assets tree w →
-    (r : (row (at assets table) tree).sat w) ×
-    ((other : Pairs) → Covered other (keys tree) (sat_log (at assets table) tree w r).checks → (v : Stack) → (row (full (given_with assets other) (only (known assets))) tree).sat v → v ≡ w)
-only_sat assets table holds tree writable typed safe distinct w tight =
-    let one = one_sat assets table holds tree (record { writable = writable; typed = typed; safe = safe; distinct = distinct }) w tight in
+    (r : (row (at assets checker) tree).sat w) ×
+    ((other : Checker) → Covered other (keys tree) (sat_log (at assets checker) tree w r).checks → (v : Stack) → (row (full (given_with assets other) (only (known assets))) tree).sat v → v ≡ w)
+only_sat assets checker holds tree writable typed safe distinct w tight =
+    let one = one_sat assets checker holds tree (record { writable = writable; typed = typed; safe = safe; distinct = distinct }) w tight in
     let s = one.1 in
     (one.0, s.only)

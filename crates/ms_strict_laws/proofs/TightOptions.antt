@@ -4,7 +4,7 @@ use Rattle.std.proofs.Common.{◌≡◌, ℕ, true, false, ◌||◌, IsTrue, Lis
 use Rattle.std.proofs.lemmas.Bool.{or_cases, false≢true, and_parts}
 use Rattle.std.proofs.lemmas.List.Elements.{Contains-append_left, Contains-append_right, Contains-append_cases}
 use Rattle.def_script.specs.Bytes.{Bytes}
-use Rattle.def_machine.specs.Stacks.{Stack, Pairs, member}
+use Rattle.def_machine.specs.Stacks.{Stack, Pairs, Checker, member}
 use Rattle.def_machine.specs.MultiSig.{is_good}
 use Rattle.def_tree.specs.declared.Two.{Two}
 use Rattle.def_tree.specs.declared.Two.TheVariants as kind
@@ -80,51 +80,52 @@ fit_more x xs f =
     )
 
 -- the assets' settings: under a table alone, and under any table that may have other pairs
-abbrev pub at : Assets → Pairs → Setting
-at assets table = record { given = given_with assets table; mode = only (known assets); all_rows = false }
+abbrev pub at : Assets → Checker → Setting
+at assets checker = record { given = given_with assets checker; mode = only (known assets); all_rows = false }
 
-abbrev pub under : Assets → Pairs → Setting
-under assets table = full (given_with assets table) (only (known assets))
+abbrev pub under : Assets → Checker → Setting
+under assets checker = full (given_with assets checker) (only (known assets))
 
 module _ (assets : Assets) where
   abbrev pub bare : Setting
   bare = canonical (unsigned assets)
 
-  no_keys : (table : Pairs) (own : List Key) → NoneOf table own → NoKeys (under assets table) own
-  no_keys table own h key other sig i same counts = ap (λ k. is_good table k sig) counts ∙ h key sig i
+  no_keys : (checker : Checker) (own : List Key) → NoneOf checker own → NoKeys (under assets checker) own
+  no_keys checker own h key other sig i same counts = ap (λ k. is_good checker k sig) counts ∙ h key sig i
 
-  has_assets : (table : Pairs) → HasAssets (under assets table) bare
-  has_assets table = record { older = λ n h. h; after = λ n h. h; preimages = λ kind value preimage h. h }
+  has_assets : (checker : Checker) → HasAssets (under assets checker) bare
+  has_assets checker = record { older = λ n h. h; after = λ n h. h; preimages = λ kind value preimage h. h }
 
-  pub freed : (table : Pairs) (t : Tree) → Fits t → NoneOf table (keys t) → Gives (row (under assets table) t).sat (row bare t).sat
-  freed table t f h = free_sat (under assets table) bare (has_assets table) t f.writable f.typed f.safe (no_keys table (keys t) h)
+  pub freed : (checker : Checker) (t : Tree) → Fits t → NoneOf checker (keys t) → Gives (row (under assets checker) t).sat (row bare t).sat
+  freed checker t f h = free_sat (under assets checker) bare (has_assets checker) t f.writable f.typed f.safe (no_keys checker (keys t) h)
 
-  not_sat : (table : Pairs) (t : Tree) → Fits t → NoneOf table (keys t) → (mall_of t).s ≡ true → IsEmpty (row (under assets table) t).sat
-  not_sat table t f h = (needs (under assets table) t f.typed (no_keys table (keys t) h)).sat
+  not_sat : (checker : Checker) (t : Tree) → Fits t → NoneOf checker (keys t) → (mall_of t).s ≡ true → IsEmpty (row (under assets checker) t).sat
+  not_sat checker t f h = (needs (under assets checker) t f.typed (no_keys checker (keys t) h)).sat
 
   not_free : (t : Tree) → Fits t → (mall_of t).s ≡ true → IsEmpty (row bare t).sat
   not_free t f = (needs bare t f.typed (no_table bare (keys t) refl)).sat
 
   -- not both of two options without signatures, where one has the letter s
-  clash : (table : Pairs) (x z : Tree) → Fits x → Fits z → NoneOf table (keys z) → ((mall_of x).s || (mall_of z).s) ≡ true → HasOne (row bare x).sat → HasOne (row (under assets table) z).sat → ⊥
-  clash table x z f g h e p q =
-      elim (or_cases (mall_of x).s (mall_of z).s e) [ inl a ↦ not_free x f a p.0 p.1 | inr b ↦ not_sat table z g h b q.0 q.1 ]
+  clash : (checker : Checker) (x z : Tree) → Fits x → Fits z → NoneOf checker (keys z) → ((mall_of x).s || (mall_of z).s) ≡ true → HasOne (row bare x).sat
+      → HasOne (row (under assets checker) z).sat → ⊥
+  clash checker x z f g h e p q =
+      elim (or_cases (mall_of x).s (mall_of z).s e) [ inl a ↦ not_free x f a p.0 p.1 | inr b ↦ not_sat checker z g h b q.0 q.1 ]
 
   -- the sets of a fragment under a table
-  abbrev pub Sats : Tree → Pairs → StackSet
-  Sats t table = (row (under assets table) t).sat
+  abbrev pub Sats : Tree → Checker → StackSet
+  Sats t checker = (row (under assets checker) t).sat
 
-  abbrev pub Dsats : Tree → Pairs → StackSet
-  Dsats t table = (row (under assets table) t).dsat
+  abbrev pub Dsats : Tree → Checker → StackSet
+  Dsats t checker = (row (under assets checker) t).dsat
 
   -- a canonical dissatisfaction
-  pub no_pairs : (table : Pairs) (own : List Key) (checks : Pairs) → checks ≡ [] → Covered table own checks → NoneOf table own
-  no_pairs table own checks e c = none_of table own [] own [] (λ key sig h. absurd (in_none [] key sig refl h)) (λ key i j. absurd (let l = i.1 in omega arith)) (λ key i. i)
+  pub no_pairs : (checker : Checker) (own : List Key) (checks : Pairs) → checks ≡ [] → Covered checker own checks → NoneOf checker own
+  no_pairs checker own checks e c = none_of checker own [] own [] (λ key sig h. absurd (in_none [] key sig refl h)) (λ key i j. absurd (let l = i.1 in omega arith)) (λ key i. i)
       (λ key sig i good. subst (λ p. IsTrue (member p key sig)) e (c key sig i good))
 
-  module _ (table : Pairs) where
+  module _ (checker : Checker) where
     abbrev pub s0 : Setting
-    s0 = at assets table
+    s0 = at assets checker
 
     pub dsat_sole : (t : Tree) → Fits t → (mall_of t).e ≡ true → (w : Stack) → (row (canonical assets) t).dsat w →
         (r : (row s0 t).dsat w) × ((keys' : List Key) → Inside (dsat_log s0 t w r).checks keys') × Sole (keys t) (dsat_log s0 t w r).checks (Dsats t) w
@@ -143,15 +144,15 @@ module _ (assets : Assets) where
         )
 
 -- the leaves
-pub fixed_sole : (own : List Key) (P : Pairs → StackSet) (w c : Stack) → ((table : Pairs) (v : Stack) → P table v → v ≡ c) → w ≡ c → Sole own [] P w
+pub fixed_sole : (own : List Key) (P : Checker → StackSet) (w c : Stack) → ((checker : Checker) (v : Stack) → P checker v → v ≡ c) → w ≡ c → Sole own [] P w
 fixed_sole own P w c is e = record {
   inside = λ key sig h. absurd (in_none [] key sig refl h);
-  only = λ table covered v r. is table v r ∙ sym e;
+  only = λ checker covered v r. is checker v r ∙ sym e;
 }
 
 -- the signature of the key that was found
-that_signature : (key sig g : Bytes) (table : Pairs) → Covered table (key ∷ []) ((key, sig) ∷ []) → is_good table key g ≡ true → g ≡ sig
-that_signature key sig g table c good =
+that_signature : (key sig g : Bytes) (checker : Checker) → Covered checker (key ∷ []) ((key, sig) ∷ []) → is_good checker key g ≡ true → g ≡ sig
+that_signature key sig g checker c good =
     elim (first_or_later key sig [] key g (c key g (first_in key []) good)) [
       | inl p ↦ sym p.1
       | inr p ↦ absurd (in_none [] key g refl p)
@@ -160,7 +161,7 @@ that_signature key sig g table c good =
 pub pk_k_sole : (assets : Assets) (key sig : Bytes) (w : Stack) → w ≡ sig ∷ [] → Sole (key ∷ []) ((key, sig) ∷ []) (Sats assets (pk_k key)) w
 pk_k_sole assets key sig w e = record {
   inside = own_inside key sig;
-  only = λ table c v r. r.2 ∙ ap (λ g. g ∷ []) (that_signature key sig r.0 table c r.1) ∙ sym e;
+  only = λ checker c v r. r.2 ∙ ap (λ g. g ∷ []) (that_signature key sig r.0 checker c r.1) ∙ sym e;
 }
 
 pub pk_h_stack : (other sig : Bytes) (w above below : Stack) → w ≡ above ++ below → above ≡ other ∷ [] → below ≡ sig ∷ [] → w ≡ other ∷ sig ∷ []
@@ -171,13 +172,13 @@ pk_h_sole assets key other sig w own e =
     subst (λ k. Sole (key ∷ []) ((k, sig) ∷ []) (Sats assets (pk_h key)) w) (sym own)
     (record {
       inside = own_inside key sig;
-      only = λ table c v r.
+      only = λ checker c v r.
           let b = r.4 in
           let g = b.2 in
-          let good = subst (λ k. is_good table k g.0 ≡ true) r.3 g.1 in
+          let good = subst (λ k. is_good checker k g.0 ≡ true) r.3 g.1 in
           pk_h_stack r.0 g.0 v b.1 b.0 b.4 b.3 g.2
           ∙ ap (λ k. k ∷ g.0 ∷ []) (r.3 ∙ sym own)
-          ∙ ap (λ x. other ∷ x ∷ []) (that_signature key sig g.0 table c good)
+          ∙ ap (λ x. other ∷ x ∷ []) (that_signature key sig g.0 checker c good)
           ∙ sym e;
     })
 
@@ -188,9 +189,9 @@ pub multi_sole : (assets : Assets) (k : ℕ) (own : List Key) (found : Pairs) (s
     → length sigs ≡ k → below ≡ EMPTY ∷ [] → w ≡ sigs ++ below → Sole own found (Sats assets (multi k own)) w
 multi_sole assets k own found sigs w below distinct m e i j = record {
   inside = λ key sig h. contains-reverse own key (matched_inside (reverse own) sigs found m key sig h);
-  only = λ table c v r.
+  only = λ checker c v r.
       let s = r.3 in
-      let one = matched_only table (reverse own) sigs found (distinct_reverse own distinct) m (λ key sig h. c key sig (contains-reverse own key h)) r.1 s.1 in
+      let one = matched_only checker (reverse own) sigs found (distinct_reverse own distinct) m (λ key sig h. c key sig (contains-reverse own key h)) r.1 s.1 in
       r.4 ∙ ap (λ x. x ++ r.0) (one.1 (s.0 ∙ sym e)) ∙ ap (λ x. sigs ++ x) (r.2 ∙ sym i) ∙ sym j;
 }
 
@@ -203,24 +204,24 @@ turned a b apart key i j = apart key j i
 
 module _ (assets : Assets) where
   -- of two options, the other one's child isn't satisfied
-  no_other : (x z : Tree) (checks table : Pairs) (own : List Key) → Fits x → Fits z → Disjoint (keys x) (keys z) → Among (keys z) own
+  no_other : (x z : Tree) (checks : Pairs) (checker : Checker) (own : List Key) → Fits x → Fits z → Disjoint (keys x) (keys z) → Among (keys z) own
       → ((mall_of x).s || (mall_of z).s) ≡ true
-      → Inside checks (keys x) → (HasOne (row (bare assets) z).sat → HasOne (row (bare assets) x).sat) → Covered table own checks
-      → IsEmpty (Sats assets z table)
-  no_other x z checks table own f g apart among e inside free c v q =
-      let h = none_of table own (keys x) (keys z) checks inside apart among c in
-      clash assets table x z f g h e (free (freed assets table z g h v q)) (v, q)
+      → Inside checks (keys x) → (HasOne (row (bare assets) z).sat → HasOne (row (bare assets) x).sat) → Covered checker own checks
+      → IsEmpty (Sats assets z checker)
+  no_other x z checks checker own f g apart among e inside free c v q =
+      let h = none_of checker own (keys x) (keys z) checks inside apart among c in
+      clash assets checker x z f g h e (free (freed assets checker z g h v q)) (v, q)
 
-  no_second : (x z : Tree) (checks table : Pairs) → Fits x → Fits z → Disjoint (keys x) (keys z) → ((mall_of x).s || (mall_of z).s) ≡ true
-      → Inside checks (keys x) → (HasOne (row (bare assets) z).sat → HasOne (row (bare assets) x).sat) → Covered table (keys x ++ keys z) checks
-      → IsEmpty (Sats assets z table)
-  no_second x z checks table f g apart e = no_other x z checks table _ f g apart (among_right (keys x) (keys z)) e
+  no_second : (x z : Tree) (checks : Pairs) (checker : Checker) → Fits x → Fits z → Disjoint (keys x) (keys z) → ((mall_of x).s || (mall_of z).s) ≡ true
+      → Inside checks (keys x) → (HasOne (row (bare assets) z).sat → HasOne (row (bare assets) x).sat) → Covered checker (keys x ++ keys z) checks
+      → IsEmpty (Sats assets z checker)
+  no_second x z checks checker f g apart e = no_other x z checks checker _ f g apart (among_right (keys x) (keys z)) e
 
-  no_first : (x z : Tree) (checks table : Pairs) → Fits x → Fits z → Disjoint (keys x) (keys z) → ((mall_of x).s || (mall_of z).s) ≡ true
-      → Inside checks (keys z) → (HasOne (row (bare assets) x).sat → HasOne (row (bare assets) z).sat) → Covered table (keys x ++ keys z) checks
-      → IsEmpty (Sats assets x table)
-  no_first x z checks table f g apart e =
-      no_other z x checks table _ g f (turned (keys x) (keys z) apart) (among_left (keys x) (keys z)) (or_turned (mall_of z).s (mall_of x).s ∙ e)
+  no_first : (x z : Tree) (checks : Pairs) (checker : Checker) → Fits x → Fits z → Disjoint (keys x) (keys z) → ((mall_of x).s || (mall_of z).s) ≡ true
+      → Inside checks (keys z) → (HasOne (row (bare assets) x).sat → HasOne (row (bare assets) z).sat) → Covered checker (keys x ++ keys z) checks
+      → IsEmpty (Sats assets x checker)
+  no_first x z checks checker f g apart e =
+      no_other z x checks checker _ g f (turned (keys x) (keys z) apart) (among_left (keys x) (keys z)) (or_turned (mall_of z).s (mall_of x).s ∙ e)
 
   free_other : (t : Tree) → Fits t → (mall_of t).e ≡ true → HasOne (row (bare assets) t).dsat
   free_other t f e = free_dsat (bare assets) t f.writable f.safe e
@@ -234,12 +235,12 @@ module _ (assets : Assets) where
   or_b_first x z p q w above below f e i j inside free =
       let t = fit_two kind.OrB x z f in
       let es = and_parts (mall_of x).e (mall_of z).e f.safe.2.0 in
-      let no : (table : Pairs) → Covered table (keys x ++ keys z) (p ++ q) → IsEmpty (Sats assets z table) =
-      λ table. no_second x z (p ++ q) table t.0 t.1 t.2 f.safe.2.1.0 (inside_all (keys x) p q i.inside inside)
+      let no : (checker : Checker) → Covered checker (keys x ++ keys z) (p ++ q) → IsEmpty (Sats assets z checker) =
+      λ checker. no_second x z (p ++ q) checker t.0 t.1 t.2 f.safe.2.1.0 (inside_all (keys x) p q i.inside inside)
       (λ one. let b = one_both _ _ one (free_other x t.0 es.0) in let g = free (b.0, inr b.1) in (g.1, g.3)) in
-      first_sole (keys x ++ keys z) (p ++ q) (λ table. Both (Dsats assets z table) (Sats assets x table)) _ w
+      first_sole (keys x ++ keys z) (p ++ q) (λ checker. Both (Dsats assets z checker) (Sats assets x checker)) _ w
       (both_sole (keys x) (keys z) p q (Sats assets x) (Dsats assets z) w above below t.2 i j e)
-      (λ table c v r. elim r [ inl a ↦ no table c a.0 a.2 | inr b ↦ no table c b.1.0 b.1.2 ])
+      (λ checker c v r. elim r [ inl a ↦ no checker c a.0 a.2 | inr b ↦ no checker c b.1.0 b.1.2 ])
 
   pub or_b_second : (x z : Tree) (p q : Pairs) (w above below : Stack) → Fits (two kind.OrB x z) → w ≡ above ++ below →
       Sole (keys x) p (Dsats assets x) above → Sole (keys z) q (Sats assets z) below → Inside p (keys z) →
@@ -250,25 +251,25 @@ module _ (assets : Assets) where
   or_b_second x z p q w above below f e i j inside free =
       let t = fit_two kind.OrB x z f in
       let es = and_parts (mall_of x).e (mall_of z).e f.safe.2.0 in
-      let no : (table : Pairs) → Covered table (keys x ++ keys z) (p ++ q) → IsEmpty (Sats assets x table) =
-      λ table. no_first x z (p ++ q) table t.0 t.1 t.2 f.safe.2.1.0 (inside_all (keys z) p q inside j.inside)
+      let no : (checker : Checker) → Covered checker (keys x ++ keys z) (p ++ q) → IsEmpty (Sats assets x checker) =
+      λ checker. no_first x z (p ++ q) checker t.0 t.1 t.2 f.safe.2.1.0 (inside_all (keys z) p q inside j.inside)
       (λ one. let b = one_both _ _ (free_other z t.1 es.1) one in let g = free (b.0, inl b.1) in (g.0, g.2)) in
       second_sole (keys x ++ keys z) (p ++ q) _ _ w
-      (first_sole (keys x ++ keys z) (p ++ q) (λ table. Both (Sats assets z table) (Dsats assets x table)) _ w
+      (first_sole (keys x ++ keys z) (p ++ q) (λ checker. Both (Sats assets z checker) (Dsats assets x checker)) _ w
       (both_sole (keys x) (keys z) p q (Dsats assets x) (Sats assets z) w above below t.2 i j e)
-      (λ table c v r. no table c r.1.1 r.1.3))
-      (λ table c v r. no table c r.1 r.3)
+      (λ checker c v r. no checker c r.1.1 r.1.3))
+      (λ checker c v r. no checker c r.1 r.3)
 
   -- `or_c` and `or_d`
   pub or_first : (x z : Tree) (p : Pairs) (w : Stack) → Fits x → Fits z → Disjoint (keys x) (keys z) → (mall_of x).e ≡ true → ((mall_of x).s || (mall_of z).s) ≡ true →
       Sole (keys x) p (Sats assets x) w →
       (HasOne (Either (row (bare assets) x).sat (Both (row (bare assets) z).sat (row (bare assets) x).dsat)) → (row (bare assets) x).sat w) →
-      Sole (keys x ++ keys z) p (λ table. Either (Sats assets x table) (Both (Sats assets z table) (Dsats assets x table))) w
+      Sole (keys x ++ keys z) p (λ checker. Either (Sats assets x checker) (Both (Sats assets z checker) (Dsats assets x checker))) w
   or_first x z p w f g apart e s i free =
       first_sole (keys x ++ keys z) p (Sats assets x) _ w
       (more_keys (keys x) (keys x ++ keys z) p (Sats assets x) w (among_left (keys x) (keys z)) i)
-      (λ table c v r.
-      no_second x z p table f g apart s i.inside
+      (λ checker c v r.
+      no_second x z p checker f g apart s i.inside
       (λ one. let b = one_both _ _ one (free_other x f e) in (w, free (b.0, inr b.1)))
       c r.0 r.2)
 
@@ -276,12 +277,12 @@ module _ (assets : Assets) where
       → ((mall_of x).s || (mall_of z).s) ≡ true → w ≡ above ++ below →
       Sole (keys x) p (Dsats assets x) above → Sole (keys z) q (Sats assets z) below → Inside p (keys z) →
       (HasOne (Either (row (bare assets) x).sat (Both (row (bare assets) z).sat (row (bare assets) x).dsat)) → Both (row (bare assets) z).sat (row (bare assets) x).dsat w) →
-      Sole (keys x ++ keys z) (p ++ q) (λ table. Either (Sats assets x table) (Both (Sats assets z table) (Dsats assets x table))) w
+      Sole (keys x ++ keys z) (p ++ q) (λ checker. Either (Sats assets x checker) (Both (Sats assets z checker) (Dsats assets x checker))) w
   or_second x z p q w above below f g apart e s eq i j inside free =
       second_sole (keys x ++ keys z) (p ++ q) (Sats assets x) _ w
       (both_sole (keys x) (keys z) p q (Dsats assets x) (Sats assets z) w above below apart i j eq)
-      (λ table c v r.
-      no_first x z (p ++ q) table f g apart s (inside_all (keys z) p q inside j.inside)
+      (λ checker c v r.
+      no_first x z (p ++ q) checker f g apart s (inside_all (keys z) p q inside j.inside)
       (λ one. let g = free (one.0, inl one.1) in (g.0, g.2))
       c v r)
 
@@ -292,11 +293,11 @@ module _ (assets : Assets) where
   unfolding mall_rows
   or_i_first x z p w above below f e one i free =
       let t = fit_two kind.OrI x z f in
-      first_sole (keys x ++ keys z) p (λ table. Both (Sats assets x table) (Is ONE)) _ w
+      first_sole (keys x ++ keys z) p (λ checker. Both (Sats assets x checker) (Is ONE)) _ w
       (more_keys (keys x) (keys x ++ keys z) p _ w (among_left (keys x) (keys z))
       (item_sole (keys x) p (Sats assets x) ONE w above below i one e))
-      (λ table c v r.
-      no_second x z p table t.0 t.1 t.2 f.safe.2.0 i.inside
+      (λ checker c v r.
+      no_second x z p checker t.0 t.1 t.2 f.safe.2.0 i.inside
       (λ o. let b = one_both _ (Is EMPTY) o (EMPTY ∷ [], refl) in let g = free (b.0, inr b.1) in (g.0, g.2))
       c r.0 r.2)
 
@@ -307,11 +308,11 @@ module _ (assets : Assets) where
   unfolding mall_rows
   or_i_second x z p w above below f e empty i free =
       let t = fit_two kind.OrI x z f in
-      second_sole (keys x ++ keys z) p _ (λ table. Both (Sats assets z table) (Is EMPTY)) w
+      second_sole (keys x ++ keys z) p _ (λ checker. Both (Sats assets z checker) (Is EMPTY)) w
       (more_keys (keys z) (keys x ++ keys z) p _ w (among_right (keys x) (keys z))
       (item_sole (keys z) p (Sats assets z) EMPTY w above below i empty e))
-      (λ table c v r.
-      no_first x z p table t.0 t.1 t.2 f.safe.2.0 i.inside
+      (λ checker c v r.
+      no_first x z p checker t.0 t.1 t.2 f.safe.2.0 i.inside
       (λ o. let b = one_both _ (Is ONE) o (ONE ∷ [], refl) in let g = free (b.0, inl b.1) in (g.0, g.2))
       c r.0 r.2)
 
@@ -324,15 +325,15 @@ module _ (assets : Assets) where
   and_or_first x y z p q w above below f e i j free =
       let t = fit_and_or x y z f in
       let both = both_sole (keys x) (keys y) p q (Sats assets x) (Sats assets y) w above below t.3 i j e in
-      first_sole (keys x ++ keys y ++ keys z) (p ++ q) (λ table. Both (Sats assets y table) (Sats assets x table)) _ w
+      first_sole (keys x ++ keys y ++ keys z) (p ++ q) (λ checker. Both (Sats assets y checker) (Sats assets x checker)) _ w
       (more_keys (keys x ++ keys y) (keys x ++ keys y ++ keys z) (p ++ q) _ w (among_left (keys x ++ keys y) (keys z)) both)
-      (λ table c v r.
-      let h = none_of table (keys x ++ keys y ++ keys z) (keys x ++ keys y) (keys z) (p ++ q) both.inside t.4 (among_right (keys x ++ keys y) (keys z)) c in
-      let b = one_both _ _ (freed assets table z t.2 h r.0 r.2) (free_other x t.0 f.safe.3.0) in
+      (λ checker c v r.
+      let h = none_of checker (keys x ++ keys y ++ keys z) (keys x ++ keys y) (keys z) (p ++ q) both.inside t.4 (among_right (keys x ++ keys y) (keys z)) c in
+      let b = one_both _ _ (freed assets checker z t.2 h r.0 r.2) (free_other x t.0 f.safe.3.0) in
       let g = free (b.0, inr b.1) in
       elim (or_cases ((mall_of x).s || (mall_of y).s) (mall_of z).s f.safe.3.1.0) [
         | inl s ↦ elim (or_cases (mall_of x).s (mall_of y).s s) [ inl a ↦ not_free assets x t.0 a g.1 g.3 | inr a ↦ not_free assets y t.1 a g.0 g.2 ]
-        | inr s ↦ not_sat assets table z t.2 h s r.0 r.2
+        | inr s ↦ not_sat assets checker z t.2 h s r.0 r.2
       ])
 
   pub and_or_second : (x y z : Tree) (p q : Pairs) (w above below : Stack) → Fits (and_or x y z) → w ≡ above ++ below →
@@ -350,16 +351,16 @@ module _ (assets : Assets) where
         | inl a ↦ Contains-append_left (keys x ++ keys y) (keys z) key (Contains-append_left (keys x) (keys y) key a)
         | inr a ↦ Contains-append_right (keys x ++ keys y) (keys z) key a
       ] in
-      second_sole (keys x ++ keys y ++ keys z) (p ++ q) _ (λ table. Both (Sats assets z table) (Dsats assets x table)) w
+      second_sole (keys x ++ keys y ++ keys z) (p ++ q) _ (λ checker. Both (Sats assets z checker) (Dsats assets x checker)) w
       (more_keys (keys x ++ keys z) (keys x ++ keys y ++ keys z) (p ++ q) _ w among both)
-      (λ table c v r.
-      let h = none_of table (keys x ++ keys y ++ keys z) (keys z) (keys x ++ keys y) (p ++ q) (inside_all (keys z) p q inside j.inside)
+      (λ checker c v r.
+      let h = none_of checker (keys x ++ keys y ++ keys z) (keys z) (keys x ++ keys y) (p ++ q) (inside_all (keys z) p q inside j.inside)
       (turned (keys x ++ keys y) (keys z) t.4) (among_left (keys x ++ keys y) (keys z)) c in
-      let h_x : NoneOf table (keys x) = λ key sig k. h key sig (Contains-append_left (keys x) (keys y) key k) in
-      let h_y : NoneOf table (keys y) = λ key sig k. h key sig (Contains-append_right (keys x) (keys y) key k) in
-      let b = one_both _ _ (freed assets table y t.1 h_y r.0 r.2) (freed assets table x t.0 h_x r.1 r.3) in
+      let h_x : NoneOf checker (keys x) = λ key sig k. h key sig (Contains-append_left (keys x) (keys y) key k) in
+      let h_y : NoneOf checker (keys y) = λ key sig k. h key sig (Contains-append_right (keys x) (keys y) key k) in
+      let b = one_both _ _ (freed assets checker y t.1 h_y r.0 r.2) (freed assets checker x t.0 h_x r.1 r.3) in
       let g = free (b.0, inl b.1) in
       elim (or_cases ((mall_of x).s || (mall_of y).s) (mall_of z).s f.safe.3.1.0) [
-        | inl s ↦ elim (or_cases (mall_of x).s (mall_of y).s s) [ inl a ↦ not_sat assets table x t.0 h_x a r.1 r.3 | inr a ↦ not_sat assets table y t.1 h_y a r.0 r.2 ]
+        | inl s ↦ elim (or_cases (mall_of x).s (mall_of y).s s) [ inl a ↦ not_sat assets checker x t.0 h_x a r.1 r.3 | inr a ↦ not_sat assets checker y t.1 h_y a r.0 r.2 ]
         | inr s ↦ not_free assets z t.2 s g.0 g.2
       ])

@@ -2,7 +2,7 @@
 use Rattle.std.proofs.Common.{◌≡◌, ◌≢◌, ℕ, ◌+◌, List, [], ◌∷◌, reverse, sym, ◌∙◌, ap, subst, ◌⊎◌, inl, inr, IsTrue, All, arith}
 use Rattle.std.proofs.lemmas.List.{reverse-reverse}
 use Rattle.def_script.specs.Bytes.{Bytes, IsBytes}
-use Rattle.def_machine.specs.Stacks.{Stack, Pairs, member}
+use Rattle.def_machine.specs.Stacks.{Stack, Pairs, Checker, member}
 use Rattle.def_machine.specs.Run.{accepted}
 use Rattle.def_tree.specs.Tree.{Tree}
 use Rattle.def_tree.specs.Range.{IsWritable}
@@ -65,13 +65,13 @@ same_checks n m p q c d h = cc
 
 -- a canonical satisfaction's run, under the assets' own pairs
 pub accepts_own : (tree : Tree) (assets : Assets) (stack : List Bytes) → IsWritable tree → IsWithinConsensus tree → AreAssets assets → (sat : Sat tree assets stack) →
-    IsAccepted tree (given_with assets assets.pairs) stack (checks assets tree (reverse stack) sat)
+    IsAccepted tree (given_with assets (member assets.pairs)) stack (checks assets tree (reverse stack) sat)
 accepts_own tree assets stack writable consensus are sat =
-    let holds : Holds assets.pairs assets = λ key sig h. h in
-    let a = accepts tree (limits_of tree) assets assets.pairs stack writable consensus (limits_are_computed tree) are holds sat in
+    let holds : Holds (member assets.pairs) assets = λ key sig h. h in
+    let a = accepts tree (limits_of tree) assets (member assets.pairs) stack writable consensus (limits_are_computed tree) are holds sat in
     let size = sized_sat assets are tree writable (reverse stack) sat in
     let same = same_log (canonical assets) tree writable consensus (reverse stack) (short_items 73 (omega arith) (reverse stack) size.short)
-    (sat_with tree assets assets.pairs (reverse stack) holds sat) sat in
+    (sat_with tree assets (member assets.pairs) (reverse stack) holds sat) sat in
     record {
       ops = opcode_count (emit tree) + (sat_log (canonical assets) tree (reverse stack) sat).keys;
       peak = a.peak;
@@ -79,9 +79,9 @@ accepts_own tree assets stack writable consensus are sat =
     }
 
 -- two runs of one stack pass the same checks
-pub one_run : (tree : Tree) (assets : Assets) (table : Pairs) (stack : List Bytes) (c d : Pairs) → IsAccepted tree (given_with assets table) stack c
-    → IsAccepted tree (given_with assets table) stack d → c ≡ d
-one_run tree assets table stack c d p q = same_checks p.ops q.ops p.peak q.peak c d (sym p.run ∙ q.run)
+pub one_run : (tree : Tree) (assets : Assets) (checker : Checker) (stack : List Bytes) (c d : Pairs) → IsAccepted tree (given_with assets checker) stack c
+    → IsAccepted tree (given_with assets checker) stack d → c ≡ d
+one_run tree assets checker stack c d p q = same_checks p.ops q.ops p.peak q.peak c d (sym p.run ∙ q.run)
 
 -- the assets' own pairs are a table of bytes
 pairs_of_bytes : (assets : Assets) → AreAssets assets → IsTableOfBytes assets.pairs
@@ -99,22 +99,22 @@ tight_if_non_malleable tree assets stack writable sane are sat non_malleable =
     consensus = let s = (sane_means_under Consensus tree).0 sane in valid_consensus tree s.0
 
     beaten : IsBeaten tree assets (checks assets tree (reverse stack) sat) →
-        ((c : Pairs) × IsAccepted tree (given_with assets assets.pairs) stack c ×
-        ((other : List Bytes) (others : Pairs) → All IsBytes other → IsAccepted tree (given_with assets assets.pairs) other others → other ≢ stack →
-        HasNewPair others c ⊎ Fresh tree assets assets.pairs other)) → ⊥
+        ((c : Pairs) × IsAccepted tree (given_with assets (member assets.pairs)) stack c ×
+        ((other : List Bytes) (others : Pairs) → All IsBytes other → IsAccepted tree (given_with assets (member assets.pairs)) other others → other ≢ stack →
+        HasNewPair others c ⊎ Fresh tree assets (member assets.pairs) other)) → ⊥
     beaten b n =
         let own = accepts_own tree assets stack writable consensus are sat in
         let is = accepts_own tree assets b.other writable consensus are b.sat in
         let others = checks assets tree (reverse b.other) b.sat in
-        let same : checks assets tree (reverse stack) sat ≡ n.0 = one_run tree assets assets.pairs stack _ _ own n.1 in
+        let same : checks assets tree (reverse stack) sat ≡ n.0 = one_run tree assets (member assets.pairs) stack _ _ own n.1 in
         let fewer : Fewer others n.0 = subst (Fewer others) same b.fewer in
         let missing = fewer.0 in
         let differs : b.other ≢ stack = λ e.
-        let at : others ≡ n.0 = one_run tree assets assets.pairs stack _ _ (subst (λ v. IsAccepted tree (given_with assets assets.pairs) v others) e is) n.1 in
+        let at : others ≡ n.0 = one_run tree assets (member assets.pairs) stack _ _ (subst (λ v. IsAccepted tree (given_with assets (member assets.pairs)) v others) e is) n.1 in
         missing.3 (subst (λ c. IsTrue (member c missing.0 missing.1)) (sym at) missing.2) in
         elim (n.2 b.other others (sat_is_of_bytes tree assets b.other writable are b.sat) is differs) [
           | inl new ↦ new.3 (fewer.1 new.0 new.1 new.2)
-          | inr fresh ↦ fresh.1 (sat_is_full_sat tree assets assets.pairs b.other (λ key sig h. h) b.sat)
+          | inr fresh ↦ fresh.1 (sat_is_full_sat tree assets (member assets.pairs) b.other (λ key sig h. h) b.sat)
         ]
 
 -- the strict choice weighs no more than any of them

@@ -7,5 +7,4 @@ pub mod Leaves
 pub mod Room
 pub mod Runs
 pub mod Bare
-pub mod Seen
 pub mod Forms

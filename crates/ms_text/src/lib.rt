@@ -1,8 +1,7 @@
-//! Miniscript text: the reader, which tells the first wrong place exactly, and the printer.
+//! The reader of miniscript text, which tells the first wrong place exactly.
 #![tactic(auto)]
 
 pub use def_text::TextFault;
-pub use print::{copy_out, name_of_hash, print_call, print_lock, print_number, print_text};
 pub use text::{TextTree, read_text};
 pub use words::key_spelled;
 
@@ -12,7 +11,6 @@ mod expressions;
 mod forms;
 mod letters;
 mod names;
-mod print;
 mod reader;
 mod text;
 mod tokens;

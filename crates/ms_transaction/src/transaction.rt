@@ -185,7 +185,7 @@ fn unsigned_of(bytes: &[u8]) -> Option<TransactionRef<'_>>
 }
 
 /// The transaction of a PSBT, of which no input has a scriptSig. It looks at each byte of the transaction. Takes no memory.
-pub fn unsigned_transaction<'a>(psbt: &Psbt<'a>) -> TransactionRef<'a>
+pub fn unsigned_transaction<'p>(psbt: &'p Psbt<'_>) -> TransactionRef<'p>
     ensures transaction { result ≡ psbt.now.transaction }
     ensures unsigned { All IsUnsigned psbt.now.transaction.inputs }
 {

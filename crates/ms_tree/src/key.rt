@@ -2,7 +2,7 @@
 ghost use Rattle.std.specs.Prelude.{◌≡◌, ℕ, ◌↔◌, List, IsSome, IfSome};
 ghost use Rattle.def_tree.specs.Range.{IsKey};
 
-use ms_script::is_key;
+use ms_bytes::is_key;
 use std::marker::Model;
 
 /// A compressed public key, as BIP 143 asks of P2WSH: 33 bytes of which the first is 02 or 03. That it

@@ -1,7 +1,7 @@
 //! Tests of which signature of a key with several is found, among few and among many that are added one by one. Those of a file
 //! are rows of `examples/rows/satisfy.rows`.
 
-use ms_assets::Assets;
+use ms_held::Assets;
 use ms_oracle::Locks;
 use ms_tree::Key;
 use std::test::Fail;

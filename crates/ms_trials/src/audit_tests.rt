@@ -1,6 +1,6 @@
 //! Tests of what is a trail of a witness, and what isn't. Audits are rows of `examples/rows/audit.rows`.
 
-use crate::samples::{expect_valid, signed_by, stack_of, tree_of};
+use crate::samples::{signed_by, stack_of, tree_of, valid_of};
 use bumpalo::Bump;
 use ms_audit::{Step, check_trail};
 use ms_oracle::{Locks, SigCheck, member};
@@ -33,8 +33,7 @@ fn checked(
 ) -> Result<bool, Fail> {
     let arena = Bump::new(alloc);
     let text = tree_of(alloc, &arena, form)?;
-    let tree = text.tree();
-    expect_valid(alloc, tree)?;
+    let valid = valid_of(alloc, text.tree())?;
     let stack = stack_of(alloc, items)?;
     if stack.len() > 10 {
         return Err("too many items")?;
@@ -42,7 +41,7 @@ fn checked(
     let pairs = signed_by(alloc, signers)?;
     let table = pairs.as_slice();
     let sigs = SigCheck::new(table, |key: &[u8], sig: &[u8]| member(table, key, sig));
-    Ok(check_trail(alloc, tree, trail, &stack, &LOCKS, &sigs)?)
+    Ok(check_trail(alloc, &valid.tree, trail, &stack, &LOCKS, &sigs)?)
 }
 
 // Texts, keys that sign, items bottom first, how many of the steps of both keys are told, and whether these are the steps: of the

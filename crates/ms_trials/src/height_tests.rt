@@ -5,8 +5,8 @@ use crate::samples::tree_of;
 use bumpalo::Bump;
 use ms_height::height;
 use ms_samples::repeated;
-use ms_sane::Work;
 use ms_types::corr;
+use ms_work::Work;
 use std::alloc::Global;
 use std::test::Fail;
 

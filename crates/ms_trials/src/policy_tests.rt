@@ -1,6 +1,6 @@
 //! Tests of when a policy is met. What policies of texts are, with how few keys suffice, stands in `examples/rows/policy.rows`.
 
-use crate::samples::{assets_of, expect_sane, tree_of};
+use crate::samples::{assets_of, sane_of, tree_of};
 use bumpalo::Bump;
 use ms_oracle::Locks;
 use ms_policy::{holds, policy_of};
@@ -26,8 +26,8 @@ thresh(2,j:and_v(v:sha256(X),and_v(v:sha256(Y),and_v(v:sha256(Z),1))),s:pk(A),s:
 fn is_met(alloc: Global, form: &str, locks: Locks, signed: &str) -> Result<bool, Fail> {
     let arena = Bump::new(alloc);
     let text = tree_of(alloc, &arena, form)?;
-    expect_sane(alloc, text.tree())?;
-    let policy = policy_of(alloc, text.tree())?;
+    let sane = sane_of(alloc, text.tree())?;
+    let policy = policy_of(alloc, &sane.valid.tree)?;
     let assets = assets_of(alloc, locks, signed)?;
     Ok(holds(&policy, &assets))
 }

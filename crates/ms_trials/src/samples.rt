@@ -1,15 +1,14 @@
 //! Trees, signatures, items and assets that the tests share.
 ghost use Rattle.std.specs.Prelude.{IfOk};
-ghost use Rattle.def_sane.specs.declared.Rules.TheVariants.{Consensus};
-ghost use Rattle.def_sane.specs.Unfit.{IsValidUnder, IsSane};
+ghost use Rattle.def_sane.specs.Unfit.{IsSane};
 ghost use Rattle.def_tree.specs.Range.{IsInRange};
 ghost use Rattle.ms_tree.specs.Shape.{shape};
 
 use bumpalo::Bump;
-use ms_assets::Assets;
+use ms_held::Assets;
 use ms_oracle::{Locks, Pairs};
 use ms_samples::{A, B, C, SIG_A, SIG_B, SIG_C, filled};
-use ms_sane::{Rules, Work, check_sane, check_valid_under};
+use ms_sane::{Rules, SaneTree, ValidTree};
 use ms_script::Stack;
 use ms_text::{TextTree, read_text};
 use ms_tree::{Key, Tree};
@@ -34,24 +33,21 @@ pub fn tree_of<'a>(
     }
 }
 
-/// Refuses a tree that isn't valid by consensus, and for want of memory.
-pub fn expect_valid(alloc: Global, tree: &Tree<'_>) -> Result<(), Fail>
+/// The tree as one that is valid by consensus. Refuses one that isn't, and for want of memory.
+pub fn valid_of<'a>(alloc: Global, tree: &Tree<'a>) -> Result<ValidTree<'a>, Fail>
     requires { IsInRange (shape tree.now) }
-    ensures { IfOk result (λ _. IsValidUnder Consensus (shape tree.now)) }
 {
-    let mut work = Work::new(alloc, tree)?;
-    check_valid_under(tree, Rules::Consensus, &mut work)?;
-    Ok(())
+    let valid = ValidTree::new(alloc, *tree, Rules::Consensus)?;
+    Ok(valid)
 }
 
-/// Refuses a tree that isn't sane by policy, and for want of memory.
-pub fn expect_sane(alloc: Global, tree: &Tree<'_>) -> Result<(), Fail>
+/// The tree as one that is sane by policy. Refuses one that isn't, and for want of memory.
+pub fn sane_of<'a>(alloc: Global, tree: &Tree<'a>) -> Result<SaneTree<'a>, Fail>
     requires { IsInRange (shape tree.now) }
-    ensures { IfOk result (λ _. IsSane (shape tree.now)) }
+    ensures { IfOk result (λ sane. IsSane (shape sane.valid.tree)) }
 {
-    let mut work = Work::new(alloc, tree)?;
-    check_sane(tree, &mut work)?;
-    Ok(())
+    let sane = SaneTree::new(alloc, *tree, Rules::Policy)?;
+    Ok(sane)
 }
 
 /// The key that a letter stands for and its signature: of `A`, `B`, and `C` for any other.

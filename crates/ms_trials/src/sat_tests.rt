@@ -1,9 +1,8 @@
 //! Tests of the least weights of satisfactions and dissatisfactions. What is chosen are rows of `examples/rows/satisfy.rows`.
 
-use crate::samples::{assets_of, expect_valid, tree_of};
+use crate::samples::{assets_of, tree_of, valid_of};
 use bumpalo::Bump;
 use ms_oracle::Locks;
-use ms_sane::Work;
 use ms_sat::{Costs, costs};
 use std::alloc::Global;
 use std::test::Fail;
@@ -28,10 +27,9 @@ andor(pk(A),pk(B),pk(C)) AB 145 2";
 fn costs_of(alloc: Global, form: &str, signed: &str) -> Result<Costs, Fail> {
     let arena = Bump::new(alloc);
     let text = tree_of(alloc, &arena, form)?;
-    expect_valid(alloc, text.tree())?;
+    let mut valid = valid_of(alloc, text.tree())?;
     let assets = assets_of(alloc, LOCKS, signed)?;
-    let mut work = Work::new(alloc, text.tree())?;
-    Ok(costs(text.tree(), &assets, &mut work))
+    Ok(costs(&mut valid, &assets))
 }
 
 /// Whether a row is right.

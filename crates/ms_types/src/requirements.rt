@@ -10,7 +10,7 @@ ghost use Rattle.ms_types.specs.Rows.{leaf_row};
 
 use crate::children::Children;
 use def_types::{Base, Rule, Ty};
-use ms_script::MAX_PUBKEYS_PER_MULTISIG;
+use ms_bytes::MAX_PUBKEYS_PER_MULTISIG;
 use ms_tree::{Leaf, Two, Wrapper, fragment_rows};
 
 /// Refuses by a rule unless it holds.

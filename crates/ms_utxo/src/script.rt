@@ -8,7 +8,7 @@ ghost use Rattle.ms_utxo.specs.Scaffolding.Utxos.{utxo_seen, script_held, script
 use crate::utxo::Utxo;
 use def_spend::State;
 use ms_fields::Fields;
-use ms_witness::program_of;
+use ms_program::program_of;
 
 /// The witness script of an input that spends this output, or the state of one that has none.
 pub fn witness_script<'a>(utxo: &Utxo<'_>, fields: &Fields<'a>) -> Result<&'a [u8], State>

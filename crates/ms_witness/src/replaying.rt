@@ -2,15 +2,14 @@
 
 ghost use Rattle.std.specs.Prelude.{◌≡◌};
 ghost use Rattle.ms_interp.specs.Answering.{given_by};
-ghost use Rattle.ms_oracle.specs.Sound.{table_of, IsSound};
 ghost use Rattle.ms_witness.specs.Replaying.{replay as the_replay};
 ghost use Rattle.ms_witness.specs.Answering.{Replays, stop_of_fault, stop_of_run};
 
 use crate::fault::WitnessFault;
-use crate::program::program_of;
 use crate::reading::read_witness;
 use ms_interp::{RunReport, RunStop, ScriptFault, run};
-use ms_oracle::{Locks, SigCheck};
+use ms_oracle::{Locks, SignatureChecker};
+use ms_program::program_of;
 use std::alloc::Global;
 
 /// Why the replay of a witness gives no report.
@@ -60,15 +59,15 @@ impl From<RunStop> for ReplayStop {
 /// The bytes are read first, as by `read_witness`, whose faults are `Witness`. Then `WrongProgram` comes exactly where
 /// the program of the Script isn't the output's, and `Refused` exactly where the run is refused, as by `run`. Only
 /// `Memory` may come in place of any answer.
-pub fn replay<F: Fn(&[u8], &[u8]) -> bool>(
+pub fn replay<C: SignatureChecker>(
     alloc: Global,
     program: &[u8; 34],
     bytes: &[u8],
     locks: &Locks,
-    sigs: &SigCheck<'_, F>,
+    sigs: &C,
 ) -> Result<RunReport, ReplayStop>
-    requires sound { IsSound F.Fn sigs.now }
-    ensures { Replays result (the_replay (given_by (table_of sigs.now) locks.now) program.now bytes.now) }
+    requires sound { C.IsSound sigs.now }
+    ensures { Replays result (the_replay (given_by (C.checker sigs.now) locks.now) program.now bytes.now) }
 {
     let (stack, script) = read_witness(alloc, bytes)?;
     let found = program_of(script.as_slice());

@@ -1,24 +1,17 @@
 -- What the words ask for.
 use Rattle.std.specs.Prelude.{⊤, List, IsUtf8, Option, MatchOption}
 use Rattle.def_script.specs.Bytes.{Bytes}
-use Rattle.def_answer.specs.Words.{Command, script, check, satisfy, satisfy_malleable, run, gen, policy, plan, audit, decode, IsForm, HasNoForm}
-use Rattle.ms_words.specs.declared.words.Choice.{Choice}
-use Rattle.ms_words.specs.declared.words.Choice.TheVariants as choice
+use Rattle.def_answer.specs.Words.{Command, script, check, satisfy, run, gen, policy, plan, audit, decode, IsForm, HasNoForm}
 use Rattle.ms_words.specs.declared.words.TextCommand.{TextCommand}
 use Rattle.ms_words.specs.declared.words.TextCommand.TheVariants as kind
 use Rattle.ms_words.specs.declared.words.Command.{Command as Asked}
 use Rattle.ms_words.specs.declared.words.Command.TheVariants as asked
 
--- the satisfaction of a TEXT that is chosen so
-abbrev pub satisfy_by : Choice → (text : Bytes) → Command
-satisfy_by (choice.Strict rules) = satisfy rules
-satisfy_by (choice.Cheapest rules) = satisfy_malleable rules
-
 -- the command with its TEXT
 abbrev pub command_of : TextCommand → (text : Bytes) → Command
 command_of (kind.Script rules) = script rules
 command_of (kind.Check rules) = check rules
-command_of (kind.Satisfy choice) = satisfy_by choice
+command_of (kind.Satisfy choice rules) = satisfy choice rules
 command_of kind.Policy = policy
 command_of kind.Plan = plan
 command_of kind.Audit = audit
@@ -33,8 +26,7 @@ seen (asked.Decode digits keys) = decode digits.now keys.now
 abbrev pub HasUtf8 : Command → Type 0
 HasUtf8 (script rules text) = IsUtf8 text
 HasUtf8 (check rules text) = IsUtf8 text
-HasUtf8 (satisfy rules text) = IsUtf8 text
-HasUtf8 (satisfy_malleable rules text) = IsUtf8 text
+HasUtf8 (satisfy choice rules text) = IsUtf8 text
 HasUtf8 run = ⊤
 HasUtf8 (gen n) = ⊤
 HasUtf8 (policy text) = IsUtf8 text

@@ -7,4 +7,4 @@ mod words;
 
 pub use call::command_line;
 pub use word::Word;
-pub use words::{Choice, Command, TextCommand, read_words};
+pub use words::{Command, TextCommand, read_words};

@@ -7,21 +7,12 @@ ghost use Rattle.def_answer.specs.Words.{IsHex, IsCommand, IsForm, HasNoForm, ge
 ghost use Rattle.ms_words.specs.Commands.{seen, FindsForm, HasUtf8};
 
 use crate::word::Word;
+use def_choice::Choice;
 use def_sane::Rules;
 use itoa::Buffer;
 
 /// The greatest number of `gen`.
 const MOST_CHILDREN: u32 = 30;
-
-/// How a satisfaction is chosen, and by which rules its text has to be sane or valid.
-#[derive(Clone, Copy, Debug, PartialEq, Eq)]
-pub enum Choice {
-    /// Of a sane text, by the strict choice: nobody can change it without a signature that it doesn't show, another preimage
-    /// or another key with the same hash.
-    Strict(Rules),
-    /// Of a valid text, so that no canonical one weighs less.
-    Cheapest(Rules),
-}
 
 /// What is asked of a text, which has to be valid or sane by these rules.
 #[derive(Clone, Copy, Debug, PartialEq, Eq)]
@@ -30,8 +21,8 @@ pub enum TextCommand {
     Script(Rules),
     /// `check`: what is known of it.
     Check(Rules),
-    /// `satisfy`: a satisfaction by the assets of a file.
-    Satisfy(Choice),
+    /// `satisfy`: the satisfaction by the assets of a file that is chosen so.
+    Satisfy(Choice, Rules),
     /// `policy`: its abstract policy.
     Policy,
     /// `plan`: which keys to ask, by a plan file.
@@ -102,7 +93,7 @@ fn two_words<'a>(name: &str, word: &'a str) -> Option<Command<'a>>
         return Some(Command::Text(TextCommand::Check(Rules::Policy), word));
     }
     if name == "satisfy" {
-        return Some(Command::Text(TextCommand::Satisfy(Choice::Strict(Rules::Policy)), word));
+        return Some(Command::Text(TextCommand::Satisfy(Choice::Strict, Rules::Policy), word));
     }
     if name == "gen" {
         return Some(Command::Gen(read_number(word)?));
@@ -149,7 +140,7 @@ fn three_words<'a>(name: &str, option: &str, text: &'a str) -> Option<Command<'a
     ensures utf8 { IfSome result (λ command. HasUtf8 (seen command)) }
 {
     if name == "satisfy" && option == "--malleable" {
-        return Some(Command::Text(TextCommand::Satisfy(Choice::Cheapest(Rules::Policy)), text));
+        return Some(Command::Text(TextCommand::Satisfy(Choice::Cheapest, Rules::Policy), text));
     }
     if option == "--consensus" {
         return consensus_words(name, text);
@@ -170,7 +161,7 @@ fn consensus_words<'a>(name: &str, text: &'a str) -> Option<Command<'a>>
         return Some(Command::Text(TextCommand::Check(rules), text));
     }
     if name == "satisfy" {
-        return Some(Command::Text(TextCommand::Satisfy(Choice::Strict(rules)), text));
+        return Some(Command::Text(TextCommand::Satisfy(Choice::Strict, rules), text));
     }
     None
 }
@@ -182,7 +173,7 @@ fn four_words<'a>(name: &str, first: &str, second: &str, text: &'a str) -> Optio
 {
     if name == "satisfy" && first == "--malleable" && second == "--consensus" {
         return Some(Command::Text(
-            TextCommand::Satisfy(Choice::Cheapest(Rules::Consensus)),
+            TextCommand::Satisfy(Choice::Cheapest, Rules::Consensus),
             text,
         ));
     }

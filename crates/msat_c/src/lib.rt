@@ -2,7 +2,6 @@
 #![tactic(auto)]
 
 ghost use Rattle.std.specs.Prelude.{◌≡◌, ◌≢◌, ◌⊎◌, ◌↔◌, true, false, length, IsUtf8};
-ghost use Rattle.def_answer.specs.Answer.{Answer};
 ghost use Rattle.def_answer.specs.Status.{code_of};
 ghost use Rattle.def_psbt_answer.specs.Answer.{Answer as PsbtAnswer};
 ghost use Rattle.def_psbt_answer.specs.Status.{code_of as psbt_code_of};
@@ -19,7 +18,9 @@ ghost use Rattle.ms_calls.specs.TextReply.{HoldsOfReply, rules_for, script_given
 ghost use Rattle.ms_calls.specs.TextReply.{code_given, reason_after, value_after, buffer_after, needed_after};
 ghost use Rattle.ms_calls.specs.TextReply.{bytes_after, bytes_needed_after, lengths_after, items_count_after};
 ghost use Rattle.ms_calls.specs.Version.{number_of, MAJOR, MINOR, PATCH};
+ghost use Rattle.ms_calls.specs.Lines.{HoldsOfLines};
 ghost use Rattle.ms_calls.specs.Words.{HoldsOfAnswer, AreNoWords};
+ghost use Rattle.msat_lines.specs.Frame.{OtherAnswer};
 
 use ms_arrays::{Arrays, PlanArrays, RunArrays};
 use ms_calls::{Facts, PlacedStep, Reason, RunOutcome};
@@ -44,9 +45,10 @@ pub extern "C" fn msat_answer(
     report: &mut [u8],
     needed: &mut usize,
 ) -> u32
-    ensures status { HoldsOfAnswer Answer count words.now source.now result (λ s r. result ≡ code_of s) }
-    ensures written { HoldsOfAnswer Answer count words.now source.now result (λ s r. report.new ≡ written_over report.old r) }
-    ensures needed { HoldsOfAnswer Answer count words.now source.now result (λ s r. needed.new ≡ length r) }
+    ensures status { HoldsOfAnswer OtherAnswer count words.now source.now result (λ s r. result ≡ code_of s) }
+    ensures written { HoldsOfAnswer OtherAnswer count words.now source.now result (λ s r. report.new ≡ written_over report.old r) }
+    ensures needed { HoldsOfAnswer OtherAnswer count words.now source.now result (λ s r. needed.new ≡ length r) }
+    ensures lines { HoldsOfLines count words.now source.now result report.old report.new needed.new }
     ensures unreadable { AreNoWords count words.now → (result ≡ 11) ⊎ (result ≡ 7) }
     ensures kept { (result ≡ 11) ⊎ (result ≡ 7) → report.new ≡ report.old }
     ensures kept_needed { (result ≡ 11) ⊎ (result ≡ 7) → needed.new ≡ needed.old }

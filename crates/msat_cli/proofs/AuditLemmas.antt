@@ -16,10 +16,11 @@ use Rattle.def_files.specs.RunFile.{RunFile, run_of}
 use Rattle.def_audit.specs.declared.Step.{Step}
 use Rattle.def_answer.specs.Answer.{AreSteps, Replies, RepliesToWords, Answer}
 use Rattle.ms_answer_laws.specs.Laws.{walked}
-use Rattle.def_answer.specs.Lines.{file_line, wrong_script_line, not_accepted_line}
+use Rattle.def_answer.specs.Lines.{MOST_FILE}
+use Rattle.def_answer.specs.Files.{file_line}
+use Rattle.def_answer.specs.Audit.{wrong_script_line, not_accepted_line, audit_report}
 use Rattle.def_answer.specs.Reading.{read}
-use Rattle.def_answer.specs.Reply.{Reply, reply, unless_unfit, with_file, MOST_FILE, given_by, audited_reply, witness_reply, audit_reply}
-use Rattle.def_answer.specs.Report.{audit_report}
+use Rattle.def_answer.specs.Reply.{Reply, reply, unless_unfit, with_file, given_by, audited_reply, witness_reply, audit_reply}
 use Rattle.def_answer.specs.Words.{IsForm}
 use Rattle.def_answer.specs.Words as words
 use Rattle.def_answer.specs.declared.status.Status.{Status}
@@ -30,7 +31,8 @@ use Rattle.ms_answer_laws.proofs.Sources.{passed_audit}
 use Rattle.ms_answer_laws.proofs.Unique.{one_form}
 use Rattle.ms_audit_laws.proofs.WalkTrees.{trail_is_unique}
 use Rattle.ms_words.specs.Commands.{HaveUtf8}
-use Rattle.msat_cli.specs.Ends.{Call, HasAnswer, Ends, EndsAs}
+use Rattle.msat_cli.specs.Ends.{HasAnswer, Ends}
+use Rattle.msat_cli.specs.Calls.{Call, EndsAs}
 use Rattle.msat_cli.specs.Audits.{AsksAudit, RunsTo, PrintsSteps, PrintsWrongScript, PrintsFault, ShowsAudit}
 use Rattle.msat_cli.proofs.EndLemmas.{told_answer, ends_as_answered}
 use Rattle.msat_cli.proofs.SatisfactionLemmas.{second_of_two}

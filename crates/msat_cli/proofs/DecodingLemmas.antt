@@ -6,16 +6,16 @@ use Rattle.ms_decode_laws.proofs.Decoding.{each_is_decoded, decoded_is_alike}
 use Rattle.ms_decode_laws.proofs.ReadText.{decoded_is_read_back}
 use Rattle.def_answer.specs.declared.status.Status.TheVariants as status
 use Rattle.def_answer.specs.Answer.{bytes_of, decode_reply, no_reading_reply, RepliesToScript, Replies, RepliesToWords, Answer}
-use Rattle.def_answer.specs.Lines.{no_reading_line}
+use Rattle.def_answer.specs.Decode.{no_reading_line, decode_report}
 use Rattle.def_answer.specs.Reply.{Reply, reply}
-use Rattle.def_answer.specs.Report.{decode_report}
 use Rattle.def_answer.specs.Sources.{NeedsSource, ReadsSource}
 use Rattle.def_answer.specs.Words.{decode, IsForm}
 use Rattle.ms_answer_laws.proofs.Early.{no_reading_is_of_decode}
 use Rattle.ms_answer_laws.proofs.SpelledKeys.{are_keys}
 use Rattle.ms_answer_laws.proofs.Unique.{one_form}
 use Rattle.ms_words.specs.Commands.{HaveUtf8}
-use Rattle.msat_cli.specs.Ends.{Call, HasAnswer, Ends}
+use Rattle.msat_cli.specs.Ends.{HasAnswer, Ends}
+use Rattle.msat_cli.specs.Calls.{Call}
 use Rattle.msat_cli.specs.Decodings.{PrintsTree, PrintsNone, ReadsBack, ShowsReading}
 use Rattle.msat_cli.proofs.EndLemmas.{told_answer, ends_as_answered}
 

@@ -7,14 +7,15 @@ use Rattle.std.specs.String.{string_bytes}
 use Rattle.std.specs.Io.KnownBytes.{IsAtEnd}
 use Rattle.def_script.specs.Bytes.{Bytes}
 use Rattle.ms_io.specs.Endings.{Writes}
-use Rattle.ms_io.specs.Faults.{Rose}
+use Rattle.ms_io.specs.Sides.{Rose, Side}
 use Rattle.def_answer.specs.declared.status.Status.{Status}
 use Rattle.def_answer.specs.declared.status.Status.TheVariants as status
 use Rattle.def_answer.specs.Answer.{Replies, RepliesToWords, Answer}
 use Rattle.ms_answer_laws.specs.Laws.{IsAnswered}
-use Rattle.def_answer.specs.Reply.{Reply, reply, MOST_FILE}
+use Rattle.def_answer.specs.Reply.{Reply, reply}
+use Rattle.def_answer.specs.Lines.{MOST_FILE}
 use Rattle.def_answer.specs.Sources.{NeedsSource, ReadsSource, IsOfSource}
-use Rattle.def_answer.specs.Words.{Command, script, check, satisfy, satisfy_malleable, run, gen, policy, plan, audit, decode, HasNoForm}
+use Rattle.def_answer.specs.Words.{Command, script, check, satisfy, run, gen, policy, plan, audit, decode, HasNoForm}
 use Rattle.ms_answer_laws.proofs.Answered.{OnText}
 use Rattle.ms_answer_laws.proofs.Early.{answers_have_status}
 use Rattle.ms_answer_laws.proofs.Sources.{answer_without_source, status_without_source, long_file}
@@ -22,10 +23,11 @@ use Rattle.ms_answer_laws.proofs.Unique.{one_form, one_reply}
 use Rattle.ms_report.specs.declared.answer.Answer.{Answer as Made}
 use Rattle.msat_cli.specs.declared.answer.Stop.{Stop}
 use Rattle.msat_cli.specs.declared.answer.Stop.TheVariants as stop
-use Rattle.ms_io.specs.Sides.{Side, AreTold, Held}
+use Rattle.ms_io.specs.Reads.{AreTold, Held}
 use Rattle.ms_words.specs.Commands.{HasUtf8, HaveUtf8}
 use Rattle.msat_cli.specs.Scaffolding.Steps.{AnswersWords, Ended, WritesResult}
-use Rattle.msat_cli.specs.Ends.{Call, HasAnswer, Ends, TakesMemory, IsFault, EndsAsUsage, EndsAsAnswered, TellsShortFile, IsReadFor}
+use Rattle.msat_cli.specs.Ends.{HasAnswer, Ends, TakesMemory, EndsAsUsage, EndsAsAnswered, TellsShortFile, IsReadFor}
+use Rattle.msat_cli.specs.Calls.{Call, IsFault}
 
 -- ---- the answer
 
@@ -98,8 +100,7 @@ tells_nothing call (inr (inr (inr m))) never = subst (λ s. ¬ IsOfSource s) (sy
 on_text : (command : Command) → HasUtf8 command → OnText IsUtf8 command
 on_text (script rules text) utf8 = utf8
 on_text (check rules text) utf8 = utf8
-on_text (satisfy rules text) utf8 = utf8
-on_text (satisfy_malleable rules text) utf8 = utf8
+on_text (satisfy choice rules text) utf8 = utf8
 on_text run utf8 = tt
 on_text (gen n) utf8 = tt
 on_text (policy text) utf8 = utf8

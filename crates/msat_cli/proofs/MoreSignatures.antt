@@ -22,7 +22,7 @@ use Rattle.def_machine.specs.Locks.{after_holds, older_holds}
 use Rattle.def_machine.specs.Machine.{Given, State, on_main, on_both, on_checks, on_multi, on_branches, opened, open_branch, turned, closed, act, only_if, is_branching, is_live, count_op, pushed, carry_out, height, settle, step}
 use Rattle.def_machine.specs.MultiSig.{is_good, one_try, tries, count, some_off, one_off, within_op_limit, verdict, null_dummy, check_multi_sig}
 use Rattle.def_machine.specs.Run.{Outcome, accepted, refused, leads, start, steps, is_clean, balanced, finish, ended, run}
-use Rattle.def_machine.specs.Stacks.{Stack, Pairs, member, is_empty, bool_bytes}
+use Rattle.def_machine.specs.Stacks.{Stack, Pairs, Checker, is_empty, bool_bytes}
 
 abbrev sure : {A : Type 0} → A → OrFault A
 sure a = Ok a
@@ -66,8 +66,8 @@ failed_try true form next other h k = refl
 failed_try false false next other h k = absurd cc
 failed_try false true next other h k = k h
 
-empty_is_bad : (table : Pairs) (key sig : Bytes) → is_empty sig ≡ true → is_good table key sig ≡ false
-empty_is_bad table key sig e = rw e refl
+empty_is_bad : (checker : Checker) (key sig : Bytes) → is_empty sig ≡ true → is_good checker key sig ≡ false
+empty_is_bad checker key sig e = rw e refl
 
 -- a try that is made
 abbrev left : (good : Bool) → (sig : Bytes) → (sigs : Stack) → Stack
@@ -76,12 +76,12 @@ left good sig sigs = if good then sigs else sig ∷ sigs
 abbrev found_by : (good : Bool) → (key sig : Bytes) → Pairs → Pairs
 found_by good key sig found = if good then found ++ (key, sig) ∷ [] else found
 
-one_more : (table : Pairs) (keys : Stack) (key sig : Bytes) (sigs : Stack) (found : Pairs) (end : OrFault (Option Pairs))
+one_more : (checker : Checker) (keys : Stack) (key sig : Bytes) (sigs : Stack) (found : Pairs) (end : OrFault (Option Pairs))
     → nat_lt (length (key ∷ keys)) (length (sig ∷ sigs)) ≡ false → is_key key ≡ true
-    → tries table keys (left (is_good table key sig) sig sigs) (found_by (is_good table key sig) key sig found) ≡ end
-    → tries table (key ∷ keys) (sig ∷ sigs) found ≡ end
+    → tries checker keys (left (is_good checker key sig) sig sigs) (found_by (is_good checker key sig) key sig found) ≡ end
+    → tries checker (key ∷ keys) (sig ∷ sigs) found ≡ end
 unfolding tries
-one_more table keys key sig sigs found end few form h = rw (few, form) h
+one_more checker keys key sig sigs found end few form h = rw (few, form) h
 
 -- fewer signatures
 few_left : (keys first front later : Stack) → first ≡ front ++ later → nat_lt (length keys) (length first) ≡ false → nat_lt (length keys) (length later) ≡ false
@@ -90,10 +90,10 @@ few_left keys first front later e few =
     let enough : length first ≤ length keys = ltb-false (length keys) (length first) few in
     le-ltb (length keys) (length later) (omega (arith, whole, enough))
 
-module _ (small large : Pairs) (more : (key sig : Bytes) → IsTrue (member small key sig) → IsTrue (member large key sig)) where
+module _ (small large : Checker) (more : (key sig : Bytes) → IsTrue (small key sig) → IsTrue (large key sig)) where
   good_stays : (key sig : Bytes) → is_good small key sig ≡ true → is_good large key sig ≡ true
   good_stays key sig h =
-      let both = and_parts (not (is_empty sig)) (member small key sig) h in
+      let both = and_parts (not (is_empty sig)) (small key sig) h in
       rw (both.0, more key sig both.1) refl
 
   -- the tries of these keys that pass do so where more is good, with no more signatures left
@@ -159,7 +159,7 @@ module _ (small large : Pairs) (more : (key sig : Bytes) → IsTrue (member smal
               let was = rw (form, empty) at h in
               let same = same_ok (bool_bytes false ∷ s, a) end was in
               (b, rw (form, empty) (ap (λ (l : Stack × Pairs). sure (l.0, b)) same))
-          | inr full ↦ elim (cases_Bool (member small key sig)) [
+          | inr full ↦ elim (cases_Bool (small key sig)) [
             | inl good ↦
                 let was = rw (form, full, good) at h in
                 let same = same_ok (bool_bytes true ∷ s, a ++ (key, sig) ∷ []) end was in
@@ -188,15 +188,15 @@ module _ (small large : Pairs) (more : (key sig : Bytes) → IsTrue (member smal
       ]
 
   -- the end of CHECKMULTISIG, from the tries on
-  abbrev judged : (table : Pairs) → (keys sigs below : Stack) → (extra : Bytes) → (ops : ℕ) → (checks : Pairs) → OrFault (Stack × ℕ × Pairs)
-  judged table keys sigs below extra ops checks =
-      tries table keys sigs [] >>= λ tried. verdict sigs tried >>= λ passed. null_dummy extra >>= λ empty.
+  abbrev judged : (checker : Checker) → (keys sigs below : Stack) → (extra : Bytes) → (ops : ℕ) → (checks : Pairs) → OrFault (Stack × ℕ × Pairs)
+  judged checker keys sigs below extra ops checks =
+      tries checker keys sigs [] >>= λ tried. verdict sigs tried >>= λ passed. null_dummy extra >>= λ empty.
       Ok (bool_bytes passed.0 ∷ below, ops, checks ++ passed.1)
 
-  judged_is : (table : Pairs) (keys sigs below : Stack) (extra : Bytes) (ops : ℕ) (checks : Pairs) (t : Option Pairs) (v : Bool × Pairs) (none : Bytes)
-      → tries table keys sigs [] ≡ Ok t → verdict sigs t ≡ Ok v → null_dummy extra ≡ Ok none
-      → judged table keys sigs below extra ops checks ≡ Ok (bool_bytes v.0 ∷ below, ops, checks ++ v.1)
-  judged_is table keys sigs below extra ops checks t v none i j k = rw (i, j, k) refl
+  judged_is : (checker : Checker) (keys sigs below : Stack) (extra : Bytes) (ops : ℕ) (checks : Pairs) (t : Option Pairs) (v : Bool × Pairs) (none : Bytes)
+      → tries checker keys sigs [] ≡ Ok t → verdict sigs t ≡ Ok v → null_dummy extra ≡ Ok none
+      → judged checker keys sigs below extra ops checks ≡ Ok (bool_bytes v.0 ∷ below, ops, checks ++ v.1)
+  judged_is checker keys sigs below extra ops checks t v none i j k = rw (i, j, k) refl
 
   -- with the same stack and count
   abbrev Leaves : (end : Stack × ℕ × Pairs) → OrFault (Stack × ℕ × Pairs) → Type 0
@@ -228,8 +228,8 @@ module _ (small large : Pairs) (more : (key sig : Bytes) → IsTrue (member smal
   -- ---- the machine, whatever was found before
 
   module _ (locks : Locks) where
-    abbrev given : Pairs → Given
-    given table = record { table = table; locks = locks }
+    abbrev given : Checker → Given
+    given checker = record { checker = checker; locks = locks }
 
     abbrev found : Pairs → State → State
     found c s = record s { checks = c }

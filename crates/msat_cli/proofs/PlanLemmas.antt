@@ -13,17 +13,18 @@ use Rattle.def_plan.specs.Laws.{IsInput}
 use Rattle.def_plan.proofs.FileGiven.{plan_file_gives_plan}
 use Rattle.ms_plan_laws.proofs.Plans.{none_holds, lengths_decide, suffices_always, weighs_at_most_always, least_always, listed_always, none_in_vain_ever, in_order_always}
 use Rattle.def_answer.specs.Answer.{Replies, RepliesToWords, Answer}
-use Rattle.def_answer.specs.Lines.{plan_file_line}
+use Rattle.def_answer.specs.Plan.{plan_file_line, plan_report}
 use Rattle.def_answer.specs.Reading.{read}
-use Rattle.def_answer.specs.Reply.{Reply, reply, unless_unfit, with_file, MOST_FILE, planned_reply, plan_reply}
-use Rattle.def_answer.specs.Report.{plan_report}
+use Rattle.def_answer.specs.Reply.{Reply, reply, unless_unfit, with_file, planned_reply, plan_reply}
+use Rattle.def_answer.specs.Lines.{MOST_FILE}
 use Rattle.def_answer.specs.Words as words
 use Rattle.def_answer.specs.declared.status.Status.{Status}
 use Rattle.def_answer.specs.declared.status.Status.TheVariants as status
 use Rattle.ms_answer_laws.proofs.Sources.{passed_text}
 use Rattle.ms_answer_laws.proofs.Unique.{one_form}
 use Rattle.ms_words.specs.Commands.{HaveUtf8}
-use Rattle.msat_cli.specs.Ends.{Call, HasAnswer, Ends, EndsAs}
+use Rattle.msat_cli.specs.Ends.{HasAnswer, Ends}
+use Rattle.msat_cli.specs.Calls.{Call, EndsAs}
 use Rattle.msat_cli.specs.Plans.{AsksPlan, PrintsPlan, ShowsPlan}
 use Rattle.msat_cli.proofs.EndLemmas.{told_answer, ends_as_answered}
 use Rattle.msat_cli.proofs.SatisfactionLemmas.{second_of_two}

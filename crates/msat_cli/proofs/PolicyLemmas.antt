@@ -14,14 +14,15 @@ use Rattle.def_answer.specs.Answer.{policy_reply, Answer}
 use Rattle.def_policy.specs.LeastKeys.{least_keys}
 use Rattle.def_answer.specs.Reading.{read}
 use Rattle.def_answer.specs.Reply.{Reply, reply, unless_unfit}
-use Rattle.def_answer.specs.Report.{policy_of, policy_report}
+use Rattle.def_answer.specs.Policy.{policy_of, policy_report}
 use Rattle.def_answer.specs.Words.{policy}
 use Rattle.def_answer.specs.declared.status.Status.TheVariants as status
 use Rattle.def_policy.proofs.LeastKeys.{least_keys_are_least}
 use Rattle.ms_answer_laws.proofs.Unique.{one_form}
 use Rattle.def_answer.specs.Sources.{ReadsSource, NeedsSource}
 use Rattle.ms_words.specs.Commands.{HaveUtf8}
-use Rattle.msat_cli.specs.Ends.{Call, Ends}
+use Rattle.msat_cli.specs.Ends.{Ends}
+use Rattle.msat_cli.specs.Calls.{Call}
 use Rattle.msat_cli.specs.Policies.{AsksPolicy, PrintsPolicy, ShowsPolicy}
 use Rattle.msat_cli.proofs.EndLemmas.{told_answer, ends_as_answered, one_to_words}
 

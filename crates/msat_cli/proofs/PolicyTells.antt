@@ -12,14 +12,16 @@ use Rattle.def_sane.proofs.Meanings.{sane_under_consensus}
 use Rattle.def_assets.specs.Assets.{Assets}
 use Rattle.def_files.specs.AssetFile.{assets_of}
 use Rattle.def_files.proofs.Given.{asset_file_gives_assets}
+use Rattle.def_choice.specs.declared.choice.Choice.TheVariants.{Strict}
 use Rattle.def_choice.specs.Strict.{strict}
 use Rattle.ms_strict_laws.proofs.StrictChoiceExists.{strict_exists}
 use Rattle.ms_policy_laws.proofs.Satisfied.{policy_of_sane}
 use Rattle.def_answer.specs.declared.status.Status.TheVariants as status
 use Rattle.def_answer.specs.Answer.{Replies, RepliesToWords, Answer}
 use Rattle.def_answer.specs.Reading.{read}
-use Rattle.def_answer.specs.Reply.{Reply, reply, unless_unfit, MOST_FILE, chosen_reply, satisfy_reply}
-use Rattle.def_answer.specs.Report.{satisfy_report}
+use Rattle.def_answer.specs.Reply.{Reply, reply, unless_unfit, chosen_reply, satisfy_reply}
+use Rattle.def_answer.specs.Lines.{MOST_FILE}
+use Rattle.def_answer.specs.Satisfy.{satisfy_report}
 use Rattle.def_answer.specs.Words.{satisfy, IsForm}
 use Rattle.ms_answer_laws.proofs.Sources.{passed_text}
 use Rattle.ms_answer_laws.proofs.Unique.{one_form}
@@ -37,7 +39,7 @@ record Given (text : Bytes) (tree : Tree) (offsets : List ℕ) (bytes : Bytes) (
 abbrev words : (text : Bytes) → List Bytes
 words text = codes "satisfy" ∷ text ∷ []
 
-form : (text : Bytes) → IsForm (words text) (satisfy Policy text)
+form : (text : Bytes) → IsForm (words text) (satisfy Strict Policy text)
 form text = record { same = refl; in_range = tt }
 
 -- the reply to them
@@ -50,7 +52,7 @@ done_with : (text : Bytes) (tree : Tree) (offsets : List ℕ) (bytes : Bytes) (a
     → strict tree assets ≡ Some stack → Answer (words text) bytes status.Done (satisfy_report Policy tree assets stack)
 done_with text tree offsets bytes assets stack g is =
     let whole = ap (λ o. unless_unfit o offsets (satisfy_reply Policy strict bytes tree)) g.sane ∙ replied text tree offsets bytes assets g ∙ ap (chosen_reply Policy tree assets) is in
-    record { replies = inl (satisfy Policy text, form text, (read tree offsets, g.reads, sym whole)) }
+    record { replies = inl (satisfy Strict Policy text, form text, (read tree offsets, g.reads, sym whole)) }
 
 -- and there alone
 chosen_of : (tree : Tree) (assets : Assets) (report : Bytes) (o : Option (List Bytes)) → reply status.Done report ≡ chosen_reply Policy tree assets o
@@ -64,11 +66,11 @@ done_by text tree offsets bytes assets report g a = go a.replies
   where
     go : RepliesToWords (words text) bytes (reply status.Done report) → (stack : List Bytes) × (strict tree assets ≡ Some stack)
     go (inl h) =
-        let same = one_form (words text) h.0 (satisfy Policy text) h.1 (form text) in
+        let same = one_form (words text) h.0 (satisfy Strict Policy text) h.1 (form text) in
         let own = subst (λ c. Replies c bytes (reply status.Done report)) same h.2 in
         let is = passed_text text first_unfit (satisfy_reply Policy strict bytes) (reply status.Done report) g.utf8 (tree, offsets, g.reads, g.sane) own in
         chosen_of tree assets report (strict tree assets) (is ∙ replied text tree offsets bytes assets g)
-    go (inr h) = absurd (h.0 (satisfy Policy text) (form text))
+    go (inr h) = absurd (h.0 (satisfy Strict Policy text) (form text))
 
 pub tells_satisfied : TellsSatisfied
 tells_satisfied text tree offsets bytes assets utf8 reads sane short file =

@@ -1,5 +1,5 @@
 -- From the steps of an answer to the answer.
-use Rattle.std.proofs.Common.{◌≡◌, ◌≢◌, ◌≤◌, ℕ, List, [], Ok, Err, None, length, inl, inr, refl, sym, ap, subst, ◌∙◌}
+use Rattle.std.proofs.Common.{◌≡◌, ◌≢◌, ◌≤◌, ℕ, List, [], Ok, Err, Some, None, length, inl, inr, refl, sym, ap, subst, ◌∙◌}
 use Rattle.std.specs.Prelude.{⊤, Option, Result}
 use Rattle.std.specs.Str.{IsUtf8}
 use Rattle.def_script.specs.Bytes.{Bytes}
@@ -11,33 +11,27 @@ use Rattle.def_text.proofs.Complete.{one_tree}
 use Rattle.def_text.proofs.OneAnswer.{none_beside_tree}
 use Rattle.def_text.proofs.SpelledWritable.{spelled_writable}
 use Rattle.def_sane.specs.declared.Unfit.{Unfit}
-use Rattle.def_limits.specs.Limits.{AreLimits}
-use Rattle.def_sane.specs.Unfit.{first_unfit, first_unfit_valid, first_unfit_under, first_unfit_valid_under}
-use Rattle.ms_io.specs.Faults.{Rose}
+use Rattle.def_sane.specs.Unfit.{first_unfit, first_unfit_valid}
+use Rattle.ms_io.specs.Sides.{Rose, Side}
 use Rattle.def_answer.specs.Answer.{Replies}
 use Rattle.def_answer.specs.Reading.{read, refused}
 use Rattle.def_answer.specs.Reply.{Reply, unless_unfit}
 use Rattle.ms_answer_laws.specs.Laws.{walked}
+use Rattle.def_answer.specs.Satisfy.{reason_by}
 use Rattle.def_answer.specs.Words.{Command, IsForm}
 use Rattle.ms_answer_laws.proofs.AuditSteps.{walked_are_steps}
 use Rattle.ms_answer_laws.proofs.Unique.{one_form}
 use Rattle.ms_report.specs.declared.answer.Answer.{Answer}
 use Rattle.msat_cli.specs.declared.answer.Stop.{Stop}
 use Rattle.msat_cli.specs.declared.answer.Stop.TheVariants as stop
-use Rattle.ms_words.specs.declared.words.Choice.TheVariants as choice
 use Rattle.ms_words.specs.declared.words.TextCommand.{TextCommand}
 use Rattle.ms_words.specs.declared.words.TextCommand.TheVariants as kind
 use Rattle.ms_words.specs.declared.words.Command.{Command as Asked}
 use Rattle.def_answer.specs.Sources.{Passes, NeedsSource, ReadsSource}
-use Rattle.ms_io.specs.Sides.{Side, IsUnread}
+use Rattle.ms_io.specs.Reads.{IsUnread}
 use Rattle.msat_cli.specs.Ends.{HasShortText, TakesMemory}
 use Rattle.ms_words.specs.Commands.{seen, HasUtf8, HaveUtf8, command_of}
-use Rattle.ms_replies.specs.declared.fit.Demand.{Demand}
-use Rattle.ms_replies.specs.declared.fit.Demand.TheVariants as demand
-use Rattle.ms_replies.specs.declared.fit.Known.{Known}
-use Rattle.ms_replies.specs.declared.fit.Known.TheVariants as known
-use Rattle.ms_replies.specs.Fits.{IsKnown, limits_in}
-use Rattle.msat_cli.specs.Scaffolding.Steps.{reason_of, reply_of, ReadsFor, Answers, AnswersWords, AnswersTree, IsRefusal, Ended}
+use Rattle.msat_cli.specs.Scaffolding.Steps.{reason_of, reply_of, ReadsFor, Answers, AnswersWords, AnswersTree, IsRefusal, IsRefusalOfTree, Ended}
 
 -- a step ends as another one does
 pub ended : (P Q : Reply → Type 0) (A B C D : Type 0) → ((r : Reply) → P r → Q r) → (A → C) → (B → D)
@@ -55,8 +49,7 @@ replies_read : (kind : TextCommand) (text bytes : Bytes) (tree : Tree) (offsets 
     → r ≡ unless_unfit (reason_of kind tree) offsets (reply_of kind bytes offsets tree) → Replies (command_of kind text) bytes r
 replies_read (kind.Script rules) text bytes tree offsets r reads e = (read tree offsets, reads, e)
 replies_read (kind.Check rules) text bytes tree offsets r reads e = (read tree offsets, reads, e)
-replies_read (kind.Satisfy (choice.Strict rules)) text bytes tree offsets r reads e = (read tree offsets, reads, e)
-replies_read (kind.Satisfy (choice.Cheapest rules)) text bytes tree offsets r reads e = (read tree offsets, reads, e)
+replies_read (kind.Satisfy choice rules) text bytes tree offsets r reads e = (read tree offsets, reads, e)
 replies_read kind.Policy text bytes tree offsets r reads e = (read tree offsets, reads, e)
 replies_read kind.Plan text bytes tree offsets r reads e = (read tree offsets, reads, e)
 replies_read kind.Audit text bytes tree offsets r reads e =
@@ -66,7 +59,7 @@ replies_read kind.Audit text bytes tree offsets r reads e =
 no_reason : (kind : TextCommand) (tree : Tree) → ReadsFor kind tree → reason_of kind tree ≡ None
 no_reason (kind.Script rules) tree h = absurd h
 no_reason (kind.Check rules) tree h = absurd h
-no_reason (kind.Satisfy choice) tree h = h
+no_reason (kind.Satisfy choice rules) tree h = h
 no_reason kind.Policy tree h = absurd h
 no_reason kind.Plan tree h = h
 no_reason kind.Audit tree h = h
@@ -75,8 +68,7 @@ pub for_source : (kind : TextCommand) (text : Bytes) (tree : Tree) (offsets : Li
     → NeedsSource (command_of kind text)
 for_source (kind.Script rules) text tree offsets reads h = absurd h
 for_source (kind.Check rules) text tree offsets reads h = absurd h
-for_source (kind.Satisfy (choice.Strict rules)) text tree offsets reads h = (tree, offsets, reads, h)
-for_source (kind.Satisfy (choice.Cheapest rules)) text tree offsets reads h = (tree, offsets, reads, h)
+for_source (kind.Satisfy choice rules) text tree offsets reads h = (tree, offsets, reads, h)
 for_source kind.Policy text tree offsets reads h = absurd h
 for_source kind.Plan text tree offsets reads h = (tree, offsets, reads, h)
 for_source kind.Audit text tree offsets reads h = (tree, offsets, reads, h)
@@ -90,8 +82,7 @@ pub source_for : (kind : TextCommand) (text : Bytes) (tree : Tree) (offsets : Li
     → NeedsSource (command_of kind text) → ReadsFor kind tree
 source_for (kind.Script rules) text tree offsets reads h = absurd h
 source_for (kind.Check rules) text tree offsets reads h = absurd h
-source_for (kind.Satisfy (choice.Strict rules)) text tree offsets reads h = same_reason (first_unfit_under rules) text tree offsets reads h
-source_for (kind.Satisfy (choice.Cheapest rules)) text tree offsets reads h = same_reason (first_unfit_valid_under rules) text tree offsets reads h
+source_for (kind.Satisfy choice rules) text tree offsets reads h = same_reason (reason_by choice rules) text tree offsets reads h
 source_for kind.Policy text tree offsets reads h = absurd h
 source_for kind.Plan text tree offsets reads h = same_reason first_unfit text tree offsets reads h
 source_for kind.Audit text tree offsets reads h = same_reason first_unfit_valid text tree offsets reads h
@@ -116,8 +107,7 @@ tree_answers kind text tree offsets source reads r (inr late) =
 short_text : (kind : TextCommand) (text : Bytes) → length text ≤ MOST_BYTES → HasShortText (command_of kind text)
 short_text (kind.Script rules) text short = short
 short_text (kind.Check rules) text short = short
-short_text (kind.Satisfy (choice.Strict rules)) text short = short
-short_text (kind.Satisfy (choice.Cheapest rules)) text short = short
+short_text (kind.Satisfy choice rules) text short = short
 short_text kind.Policy text short = short
 short_text kind.Plan text short = short
 short_text kind.Audit text short = short
@@ -136,8 +126,7 @@ pub no_source : (kind : TextCommand) (text : Bytes) (fault : TextFault) → IsUt
     → ¬ NeedsSource (command_of kind text)
 no_source (kind.Script rules) text fault utf8 refusal h = h
 no_source (kind.Check rules) text fault utf8 refusal h = h
-no_source (kind.Satisfy (choice.Strict rules)) text fault utf8 refusal h = absurd (none_beside_tree text h.0 h.1 fault utf8 h.2 refusal)
-no_source (kind.Satisfy (choice.Cheapest rules)) text fault utf8 refusal h = absurd (none_beside_tree text h.0 h.1 fault utf8 h.2 refusal)
+no_source (kind.Satisfy choice rules) text fault utf8 refusal h = absurd (none_beside_tree text h.0 h.1 fault utf8 h.2 refusal)
 no_source kind.Policy text fault utf8 refusal h = h
 no_source kind.Plan text fault utf8 refusal h = absurd (none_beside_tree text h.0 h.1 fault utf8 h.2 refusal)
 no_source kind.Audit text fault utf8 refusal h = absurd (none_beside_tree text h.0 h.1 fault utf8 h.2 refusal)
@@ -146,8 +135,7 @@ replies_refused : (kind : TextCommand) (text bytes : Bytes) (fault : TextFault) 
     → Replies (command_of kind text) bytes r
 replies_refused (kind.Script rules) text bytes fault r refusal is = (refused fault, refusal, is.1)
 replies_refused (kind.Check rules) text bytes fault r refusal is = (refused fault, refusal, is.1)
-replies_refused (kind.Satisfy (choice.Strict rules)) text bytes fault r refusal is = (refused fault, refusal, is.1)
-replies_refused (kind.Satisfy (choice.Cheapest rules)) text bytes fault r refusal is = (refused fault, refusal, is.1)
+replies_refused (kind.Satisfy choice rules) text bytes fault r refusal is = (refused fault, refusal, is.1)
 replies_refused kind.Policy text bytes fault r refusal is = (refused fault, refusal, is.1)
 replies_refused kind.Plan text bytes fault r refusal is = (refused fault, refusal, is.1)
 replies_refused kind.Audit text bytes fault r refusal is = (refused fault, [], refusal, tt, is.1)
@@ -173,13 +161,35 @@ refused_ended kind text fault source F result utf8 refusal memory unread h =
     }))
     (λ f. absurd f) (λ other. short_text kind text (short_fault text fault other refusal memory)) result h
 
--- ---- trees that pass
+-- ---- trees that don't pass, and what is answered at once
 
-pub known_limits : (demand : Demand) (tree : Tree) (known : Known) → IsKnown demand tree known → AreLimits tree (limits_in known)
-known_limits (demand.Valid rules) tree (known.Valid valid) h = h.2
-known_limits (demand.Valid rules) tree (known.Sane sane) h = absurd h
-known_limits (demand.Sane rules) tree (known.Valid valid) h = absurd h
-known_limits (demand.Sane rules) tree (known.Sane sane) h = h.3
+-- a tree with a reason against it is refused, and nothing is read for it
+pub refused_tree : (kind : TextCommand) (tree : Tree) (offsets : List ℕ) (source : Side) (F : Type 0) (result : Result Answer Stop) → IsUnread source
+    → Ended (IsRefusalOfTree (reason_of kind) tree offsets) ⊥ ⊤ result → Ended (AnswersTree kind tree offsets source) F ⊤ result
+refused_tree kind tree offsets source F result unread h =
+    ended (IsRefusalOfTree (reason_of kind) tree offsets) (AnswersTree kind tree offsets source) ⊥ ⊤ F ⊤
+    (λ r is. inl (record {
+      needless = λ reads. let none : None ≡ Some is.0 = sym (no_reason kind tree reads) ∙ is.1 in cc;
+      unread = unread;
+      replies = λ bytes. is.2 ∙ ap (λ o. unless_unfit o offsets (reply_of kind bytes offsets tree)) (sym is.1);
+    }))
+    (λ f. absurd f) (λ m. m) result h
+
+pub refused_at_once : (first_reason : Tree → Option Unfit) (next : Tree → Reply) (tree : Tree) (offsets : List ℕ) (result : Result Answer Stop)
+    → Ended (IsRefusalOfTree first_reason tree offsets) ⊥ ⊤ result
+    → Ended (λ r. r ≡ unless_unfit (first_reason tree) offsets (next tree)) ⊥ ⊤ result
+refused_at_once first_reason next tree offsets result h =
+    ended (IsRefusalOfTree first_reason tree offsets) (λ r. r ≡ unless_unfit (first_reason tree) offsets (next tree)) ⊥ ⊤ ⊥ ⊤
+    (λ r is. is.2 ∙ ap (λ o. unless_unfit o offsets (next tree)) (sym is.1)) (λ f. f) (λ m. m) result h
+
+-- nothing is read for these commands
+pub at_once : (kind : TextCommand) (next : Tree → Reply) (tree : Tree) (offsets : List ℕ) (source : Side) (F : Type 0) (result : Result Answer Stop)
+    → IsUnread source → ¬ ReadsFor kind tree → ((bytes : Bytes) → next tree ≡ reply_of kind bytes offsets tree)
+    → Ended (λ r. r ≡ unless_unfit (reason_of kind tree) offsets (next tree)) ⊥ ⊤ result → Ended (AnswersTree kind tree offsets source) F ⊤ result
+at_once kind next tree offsets source F result unread never same h =
+    ended (λ r. r ≡ unless_unfit (reason_of kind tree) offsets (next tree)) (AnswersTree kind tree offsets source) ⊥ ⊤ F ⊤
+    (λ r is. inl (record { needless = never; unread = unread; replies = λ bytes. is ∙ ap (unless_unfit (reason_of kind tree) offsets) (same bytes) }))
+    (λ f. absurd f) (λ m. m) result h
 
 -- ---- words
 

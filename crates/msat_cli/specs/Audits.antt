@@ -13,13 +13,13 @@ use Rattle.def_files.specs.RunFile.{RunFile, run_of}
 use Rattle.def_audit.specs.declared.Step.{Step}
 use Rattle.def_audit.specs.Derives.{Derives}
 use Rattle.def_answer.specs.declared.status.Status.TheVariants as status
-use Rattle.def_answer.specs.Lines.{line}
-use Rattle.def_answer.specs.Names.{script_fault_name}
-use Rattle.def_answer.specs.Report.{step_line, canonical_line}
-use Rattle.def_answer.specs.Reply.{MOST_FILE, given_by}
+use Rattle.def_answer.specs.Lines.{line, MOST_FILE}
+use Rattle.def_answer.specs.Run.{script_fault_name}
+use Rattle.def_answer.specs.Audit.{step_line, canonical_line}
+use Rattle.def_answer.specs.Reply.{given_by}
 use Rattle.def_answer.specs.Words.{audit, IsForm}
 use Rattle.ms_io.specs.Sides.{Side}
-use Rattle.msat_cli.specs.Ends.{Call, EndsAs}
+use Rattle.msat_cli.specs.Calls.{Call, EndsAs}
 
 -- the words ask for the audit of a text, which is read as this tree, a valid one, with these places of its nodes; and the
 -- source tells a run file, which is read as this one

@@ -12,7 +12,7 @@ use Rattle.def_answer.specs.Answer.{bytes_of}
 use Rattle.def_answer.specs.Lines.{line}
 use Rattle.def_answer.specs.Words.{decode, IsForm}
 use Rattle.ms_io.specs.Sides.{Side}
-use Rattle.msat_cli.specs.Ends.{Call, EndsAs}
+use Rattle.msat_cli.specs.Calls.{Call, EndsAs}
 
 -- what the sink got: the printed form of the tree that the Script is decoded to, which is like each that it can be read as, and
 -- so sane exactly where one with the same keys is; and this text is read as the tree

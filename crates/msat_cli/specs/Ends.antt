@@ -3,19 +3,15 @@ use Rattle.std.specs.Prelude.{◌≡◌, ◌⊎◌, ◌≤◌, ⊤, List, length
 use Rattle.std.specs.Io.KnownBytes.{IsAtEnd, Keeps}
 use Rattle.def_script.specs.Bytes.{Bytes}
 use Rattle.def_text.specs.Refusal.{MOST_BYTES}
-use Rattle.ms_io.specs.Faults.{Rose}
-use Rattle.ms_io.specs.Endings.{CallWith, HasAnswerOf, WritesAnswerOf, WritesPrefixOf}
+use Rattle.ms_io.specs.Sides.{Rose, Side}
+use Rattle.ms_io.specs.Endings.{HasAnswerOf, WritesAnswerOf, WritesPrefixOf}
+use Rattle.msat_cli.specs.Calls.{Call, EndsAs}
 use Rattle.def_answer.specs.declared.status.Status.{Status}
 use Rattle.def_answer.specs.declared.status.Status.TheVariants as status
 use Rattle.def_answer.specs.Answer.{Answer}
-use Rattle.def_answer.specs.Reply.{MOST_FILE}
+use Rattle.def_answer.specs.Lines.{MOST_FILE}
 use Rattle.def_answer.specs.Sources.{ReadsSource}
-use Rattle.def_answer.specs.Words.{Command, script, check, satisfy, satisfy_malleable, run, gen, policy, plan, audit, decode, IsForm, HasNoForm}
-use Rattle.ms_io.specs.Sides.{Side}
-
--- the words of a call, what it did to the source and to the sink, and its status
-abbrev pub Call : Type 0
-Call = CallWith Status
+use Rattle.def_answer.specs.Words.{Command, script, check, satisfy, run, gen, policy, plan, audit, decode, IsForm, HasNoForm}
 
 -- ---- how it ends
 
@@ -33,8 +29,7 @@ FailsToRead call =
 abbrev pub HasShortText : Command → Type 0
 HasShortText (script rules text) = length text ≤ MOST_BYTES
 HasShortText (check rules text) = length text ≤ MOST_BYTES
-HasShortText (satisfy rules text) = length text ≤ MOST_BYTES
-HasShortText (satisfy_malleable rules text) = length text ≤ MOST_BYTES
+HasShortText (satisfy choice rules text) = length text ≤ MOST_BYTES
 HasShortText run = ⊤
 HasShortText (gen n) = ⊤
 HasShortText (policy text) = length text ≤ MOST_BYTES
@@ -56,24 +51,6 @@ abbrev pub Ends : Call → Type 0
 Ends call = WritesAnswerOf Answer call ⊎ (WritesPrefixOf Answer status.WriteFault call ⊎ (FailsToRead call ⊎ WantsMemory call))
 
 -- ---- which status comes
-
--- memory was wanting, or a fault came, which was counted
-abbrev pub IsFault : Status → (source sink : Side) → Type 0
-IsFault status.Done source sink = ⊥
-IsFault status.Usage source sink = ⊥
-IsFault status.TextRefused source sink = ⊥
-IsFault status.FileRefused source sink = ⊥
-IsFault status.NoSatisfaction source sink = ⊥
-IsFault status.ReadFault source sink = Rose source.before source.now
-IsFault status.WriteFault source sink = Rose sink.before sink.now
-IsFault status.Memory source sink = ⊤
-IsFault status.ScriptRefused source sink = ⊥
-IsFault status.NotAccepted source sink = ⊥
-IsFault status.NoReading source sink = ⊥
-
--- with this status, unless memory was wanting or a fault came
-abbrev pub EndsAs : Status → Call → Type 0
-EndsAs wanted call = (call.status ≡ wanted) ⊎ IsFault call.status call.source call.sink
 
 -- words without a form are refused, whatever memory there is
 abbrev pub EndsAsUsage : Call → Type 0

@@ -9,11 +9,10 @@ use Rattle.def_sane.specs.Unfit.{IsSane}
 use Rattle.def_plan.specs.Plan.{Plan, plan_of, NoneIsExact, Suffices, WeighsAtMost, IsLeast, AsksListed, AsksNoneInVain, AsksInOrder, LengthsDecide}
 use Rattle.def_plan.specs.PlanFile.{PlanFile, plan_file_of}
 use Rattle.def_answer.specs.declared.status.Status.TheVariants as status
-use Rattle.def_answer.specs.Lines.{line}
-use Rattle.def_answer.specs.Reply.{MOST_FILE}
+use Rattle.def_answer.specs.Lines.{line, MOST_FILE}
 use Rattle.def_answer.specs.Words.{plan, IsForm}
 use Rattle.ms_io.specs.Sides.{Side}
-use Rattle.msat_cli.specs.Ends.{Call, EndsAs}
+use Rattle.msat_cli.specs.Calls.{Call, EndsAs}
 
 -- the words ask for the plan of a text, which is read as this tree, a sane one; and the source tells a plan file, which
 -- is read as this one

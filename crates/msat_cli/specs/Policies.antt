@@ -15,12 +15,11 @@ use Rattle.def_policy.specs.Laws.{SaysSatisfiable, IsSimple, WantsKey}
 use Rattle.def_policy.specs.Truth.{is_true, facts_of}
 use Rattle.def_answer.specs.declared.status.Status.TheVariants as status
 use Rattle.def_answer.specs.Answer.{Answer}
-use Rattle.def_answer.specs.Lines.{line}
-use Rattle.def_answer.specs.Reply.{MOST_FILE}
-use Rattle.def_answer.specs.Report.{number_or_none}
+use Rattle.def_answer.specs.Lines.{line, MOST_FILE}
+use Rattle.def_answer.specs.Policy.{number_or_none}
 use Rattle.def_answer.specs.Words.{policy, IsForm}
 use Rattle.ms_io.specs.Sides.{Side}
-use Rattle.msat_cli.specs.Ends.{Call, EndsAs}
+use Rattle.msat_cli.specs.Calls.{Call, EndsAs}
 
 -- the words ask for the policy of a text, which is read as this tree, a sane one
 pub record AsksPolicy (call : Call) (tree : Tree) : Type 0 where

@@ -6,7 +6,7 @@ use Rattle.hex.specs.Hex.{encode_lower}
 use Rattle.def_hash.specs.Hash.{sha256}
 use Rattle.def_script.specs.Bytes.{Bytes}
 use Rattle.def_script.specs.Witness.{witness_text, weight}
-use Rattle.def_machine.specs.Stacks.{Pairs}
+use Rattle.def_machine.specs.Stacks.{Pairs, Checker, member}
 use Rattle.def_machine.specs.Machine.{Given}
 use Rattle.def_machine.specs.Program.{program_of}
 use Rattle.def_machine.specs.Run.{run, accepted}
@@ -23,48 +23,43 @@ use Rattle.def_sane.specs.TheLimits.{the_limits}
 use Rattle.def_height.specs.Height.{IsHeight}
 use Rattle.def_answer.specs.TheHeight.{the_height}
 use Rattle.def_satisfaction.specs.Satisfaction.{given_of, Sat, Holds}
+use Rattle.def_choice.specs.declared.choice.Choice.{Choice}
+use Rattle.def_choice.specs.declared.choice.Choice.TheVariants as choice
+use Rattle.def_answer.specs.Satisfy.{chosen_by, satisfy_words, reason_by, item_line, satisfy_report}
 use Rattle.def_choice.specs.NonMalleable.{IsAccepted, Fresh, NonMalleable, given_with}
 use Rattle.def_choice.specs.Tight.{Tight}
-use Rattle.def_promises.specs.Acceptance.{IsAcceptedWithin}
-use Rattle.def_promises.specs.Promises.{HasUnknownPreimage, HasOtherKey, Unchangeable}
+use Rattle.def_promises.specs.Accepted.{IsAcceptedWithin, HasUnknownPreimage, HasOtherKey, Unchangeable}
 use Rattle.def_answer.specs.declared.status.Status.TheVariants as status
-use Rattle.def_answer.specs.Lines.{line, text_line, unfit_line}
-use Rattle.def_answer.specs.Report.{item_line, tree_limits_line, satisfy_report}
-use Rattle.def_answer.specs.Reply.{MOST_FILE}
-use Rattle.def_answer.specs.Words.{IsForm}
+use Rattle.def_answer.specs.Lines.{line, text_line, unfit_line, tree_limits_line, MOST_FILE}
 use Rattle.ms_witness.specs.Replaying.{replay, ran}
-use Rattle.ms_words.specs.declared.words.Choice.{Choice}
-use Rattle.ms_words.specs.declared.words.Choice.TheVariants as choice
-use Rattle.ms_words.specs.Commands.{satisfy_by}
-use Rattle.ms_replies.specs.Choices.{rules_by, reason_by, chosen_by}
 use Rattle.ms_io.specs.Sides.{Side}
-use Rattle.msat_cli.specs.Ends.{Call, EndsAs}
+use Rattle.msat_cli.specs.Calls.{Call, EndsAs}
 
 -- ---- what is asked, and what is shown
 
 -- the words ask for a satisfaction of a text, which is read as this tree against which there is no reason; and the
 -- source tells an asset file, which is read as these assets
-pub record IsAsked (choice : Choice) (call : Call) (tree : Tree) (assets : Assets) : Type 0 where
+pub record IsAsked (choice : Choice) (rules : Rules) (call : Call) (tree : Tree) (assets : Assets) : Type 0 where
   pub text : Bytes
-  pub form : IsForm call.words (satisfy_by choice text)
+  pub form : call.words ≡ satisfy_words choice rules text
   pub offsets : List ℕ
   pub reads : TextReads text tree offsets
-  pub fit : reason_by choice tree ≡ None
+  pub fit : reason_by choice rules tree ≡ None
   pub bytes : Bytes
   pub told : call.source.old ≡ Some bytes
   pub short : length bytes ≤ MOST_FILE
   pub file : assets_of bytes ≡ Ok assets
 
 -- the stack is the one that is chosen, and its report was written whole
-pub record ShowsStack (choice : Choice) (call : Call) (tree : Tree) (assets : Assets) (stack : List Bytes) : Type 0 where
+pub record ShowsStack (choice : Choice) (rules : Rules) (call : Call) (tree : Tree) (assets : Assets) (stack : List Bytes) : Type 0 where
   pub chosen : chosen_by choice tree assets ≡ Some stack
-  pub written : Appends call.sink.old call.sink.new (satisfy_report (rules_by choice) tree assets stack)
+  pub written : Appends call.sink.old call.sink.new (satisfy_report rules tree assets stack)
 
 -- a call that was asked for a satisfaction and is done shows a stack, of which this holds
-abbrev pub ShowsSuch : (choice : Choice) → Call → (Tree → Assets → List Bytes → Type 0) → Type 0
-ShowsSuch choice call P =
-    (tree : Tree) (assets : Assets) → IsAsked choice call tree assets → call.status ≡ status.Done →
-    (stack : List Bytes) × ShowsStack choice call tree assets stack × P tree assets stack
+abbrev pub ShowsSuch : Choice → Rules → Call → (Tree → Assets → List Bytes → Type 0) → Type 0
+ShowsSuch choice rules call P =
+    (tree : Tree) (assets : Assets) → IsAsked choice rules call tree assets → call.status ≡ status.Done →
+    (stack : List Bytes) × ShowsStack choice rules call tree assets stack × P tree assets stack
 
 -- ---- other texts are refused
 
@@ -76,9 +71,9 @@ pub record RefusesText (call : Call) (refusal : Bytes) : Type 0 where
 -- by its place, or by the first reason against its tree
 abbrev pub RefusesOtherTexts : Call → Type 0
 RefusesOtherTexts call =
-    (choice : Choice) (text : Bytes) → IsForm call.words (satisfy_by choice text) →
+    (choice : Choice) (rules : Rules) (text : Bytes) → call.words ≡ satisfy_words choice rules text →
     ((fault : TextFault) → TextRefusal text fault → RefusesText call (text_line fault))
-    × ((tree : Tree) (offsets : List ℕ) (unfit : Unfit) → TextReads text tree offsets → reason_by choice tree ≡ Some unfit →
+    × ((tree : Tree) (offsets : List ℕ) (unfit : Unfit) → TextReads text tree offsets → reason_by choice rules tree ≡ Some unfit →
     RefusesText call (unfit_line offsets unfit))
 
 -- ---- exactly where one exists
@@ -93,12 +88,12 @@ pub record IsExact (call : Call) (tree : Tree) (assets : Assets) : Type 0 where
 
 abbrev pub FindsWhereOneExists : Call → Type 0
 FindsWhereOneExists call =
-    (choice : Choice) (tree : Tree) (assets : Assets) → IsAsked choice call tree assets → IsExact call tree assets
+    (choice : Choice) (rules : Rules) (tree : Tree) (assets : Assets) → IsAsked choice rules call tree assets → IsExact call tree assets
 
 -- ---- what is shown is a canonical satisfaction, as a witness
 
 abbrev pub ShowsCanonical : Call → Type 0
-ShowsCanonical call = (choice : Choice) → ShowsSuch choice call Sat
+ShowsCanonical call = (choice : Choice) (rules : Rules) → ShowsSuch choice rules call Sat
 
 -- what the sink got: the Script, its program, the limits, the items, the witness of them and of the Script, and the
 -- counts of the run of it under the assets' own signatures, which is accepted
@@ -117,7 +112,7 @@ pub record Prints (rules : Rules) (sink : Side) (tree : Tree) (assets : Assets) 
       ++ codes " weight " ++ decimal (weight stack) ++ codes " peak " ++ decimal peak))
 
 abbrev pub ShowsWitness : Call → Type 0
-ShowsWitness call = (choice : Choice) → ShowsSuch choice call (Prints (rules_by choice) call.sink)
+ShowsWitness call = (choice : Choice) (rules : Rules) → ShowsSuch choice rules call (Prints rules call.sink)
 
 -- ---- the interpreter accepts it
 
@@ -127,8 +122,8 @@ ReplaysAs tree given stack ops peak =
     (checks : Pairs) × (replay given (program_of (script_of tree)) (witness_text stack (script_of tree)) ≡ ran (accepted ops peak checks))
 
 -- the limits that were printed are the tree's, and so is the height, which `--consensus` prints; the counts that were printed
--- are within them. Under every table that holds the assets' signatures the witness replays with these counts, and the run is
--- within the limits
+-- are within them. Where the assets' signatures are good, whatever others are, the witness replays with these counts, and the
+-- run is within the limits
 pub record IsAcceptedByAll (rules : Rules) (sink : Side) (tree : Tree) (assets : Assets) (stack : List Bytes) : Type 0 where
   pub prints : Prints rules sink tree assets stack
   pub limits : AreLimits tree (the_limits tree)
@@ -137,35 +132,35 @@ pub record IsAcceptedByAll (rules : Rules) (sink : Side) (tree : Tree) (assets :
   pub few_items : length stack ≤ (the_limits tree).items
   pub light : weight stack ≤ (the_limits tree).weight
   pub low : prints.peak ≤ the_height tree
-  pub replayed : (table : Pairs) → Holds table assets → ReplaysAs tree (given_with assets table) stack prints.ops prints.peak
-  pub within : (table : Pairs) → Holds table assets → IsAcceptedWithin tree (the_limits tree) (given_with assets table) stack
+  pub replayed : (checker : Checker) → Holds checker assets → ReplaysAs tree (given_with assets checker) stack prints.ops prints.peak
+  pub within : (checker : Checker) → Holds checker assets → IsAcceptedWithin tree (the_limits tree) (given_with assets checker) stack
 
 abbrev pub ShowsAccepted : Call → Type 0
-ShowsAccepted call = (choice : Choice) → ShowsSuch choice call (IsAcceptedByAll (rules_by choice) call.sink)
+ShowsAccepted call = (choice : Choice) (rules : Rules) → ShowsSuch choice rules call (IsAcceptedByAll rules call.sink)
 
 -- ---- nobody can change it
 
 -- every other stack that is accepted passes a check that this one doesn't, or is fresh and has an unknown preimage or
 -- another key with the same hash
 abbrev pub ShowsNonMalleable : Call → Type 0
-ShowsNonMalleable call = (rules : Rules) → ShowsSuch (choice.Strict rules) call Unchangeable
+ShowsNonMalleable call = (rules : Rules) → ShowsSuch choice.Strict rules call Unchangeable
 
 -- a fresh stack has an unknown preimage, or another key with the same hash
 abbrev pub FreshOnesHaveItem : Tree → Assets → Type 0
 FreshOnesHaveItem tree assets =
-    (table : Pairs) (stack : List Bytes) → Fresh tree assets table stack →
+    (checker : Checker) (stack : List Bytes) → Fresh tree assets checker stack →
     HasUnknownPreimage tree assets stack ⊎ HasOtherKey tree stack
 
 -- where there is none, what is accepted under the assets' own signatures is fresh
 pub record HasNothingToAccept (tree : Tree) (assets : Assets) : Type 0 where
   pub none : (stack : List Bytes) → ¬ Sat tree assets stack
-  pub accepted : (stack : List Bytes) (checks : Pairs) → IsAccepted tree (given_with assets assets.pairs) stack checks →
-      Fresh tree assets assets.pairs stack
+  pub accepted : (stack : List Bytes) (checks : Pairs) → IsAccepted tree (given_with assets (member assets.pairs)) stack checks →
+      Fresh tree assets (member assets.pairs) stack
   pub fresh : FreshOnesHaveItem tree assets
 
 abbrev pub FindsNothingToAccept : Call → Type 0
 FindsNothingToAccept call =
-    (rules : Rules) (tree : Tree) (assets : Assets) → IsAsked (choice.Strict rules) call tree assets → call.status ≡ status.NoSatisfaction →
+    (rules : Rules) (tree : Tree) (assets : Assets) → IsAsked choice.Strict rules call tree assets → call.status ≡ status.NoSatisfaction →
     HasNothingToAccept tree assets
 
 -- ---- it is the lightest
@@ -175,13 +170,13 @@ abbrev pub WeighsLeast : Tree → Assets → (stack : List Bytes) → Type 0
 WeighsLeast tree assets stack = (other : List Bytes) → Sat tree assets other → weight stack ≤ weight other
 
 abbrev pub ShowsLightest : Call → Type 0
-ShowsLightest call = (rules : Rules) → ShowsSuch (choice.Cheapest rules) call WeighsLeast
+ShowsLightest call = (rules : Rules) → ShowsSuch choice.Cheapest rules call WeighsLeast
 
 -- ---- of those that nobody can change
 
 -- it is tight
 abbrev pub ShowsTight : Call → Type 0
-ShowsTight call = (rules : Rules) → ShowsSuch (choice.Strict rules) call Tight
+ShowsTight call = (rules : Rules) → ShowsSuch choice.Strict rules call Tight
 
 -- nobody can change a canonical satisfaction exactly where it is tight
 abbrev pub UnchangedIsTight : Tree → Assets → Type 0
@@ -191,7 +186,7 @@ UnchangedIsTight tree assets =
 -- however the call ends
 abbrev pub TellsUnchanged : Call → Type 0
 TellsUnchanged call =
-    (rules : Rules) (tree : Tree) (assets : Assets) → IsAsked (choice.Strict rules) call tree assets → UnchangedIsTight tree assets
+    (rules : Rules) (tree : Tree) (assets : Assets) → IsAsked choice.Strict rules call tree assets → UnchangedIsTight tree assets
 
 -- no canonical satisfaction that nobody can change weighs less
 abbrev pub WeighsLeastUnchanged : Tree → Assets → (stack : List Bytes) → Type 0
@@ -199,4 +194,4 @@ WeighsLeastUnchanged tree assets stack =
     (other : List Bytes) → Sat tree assets other → NonMalleable tree assets other → weight stack ≤ weight other
 
 abbrev pub ShowsLightestUnchanged : Call → Type 0
-ShowsLightestUnchanged call = (rules : Rules) → ShowsSuch (choice.Strict rules) call WeighsLeastUnchanged
+ShowsLightestUnchanged call = (rules : Rules) → ShowsSuch choice.Strict rules call WeighsLeastUnchanged

@@ -2,7 +2,8 @@
 ghost use Rattle.std.specs.Prelude.{◌≤◌};
 ghost use Rattle.def_answer.specs.Sources.{NeedsSource, ReadsSource};
 ghost use Rattle.def_answer.specs.Words.{IsCommand};
-ghost use Rattle.ms_io.specs.Sides.{side, ReadsFront, IsUnread};
+ghost use Rattle.ms_io.specs.Sides.{side};
+ghost use Rattle.ms_io.specs.Reads.{ReadsFront, IsUnread};
 ghost use Rattle.ms_words.specs.Commands.{seen, HaveUtf8};
 ghost use Rattle.msat_cli.specs.Scaffolding.Steps.{AsMade, EndsCommand, EndsWords};
 

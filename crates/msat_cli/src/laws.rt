@@ -4,7 +4,7 @@ ghost use Rattle.def_answer.specs.Answer.{Answer};
 ghost use Rattle.def_answer.specs.Sources.{ReadsSource};
 ghost use Rattle.def_answer.specs.Words.{HasNoForm};
 ghost use Rattle.msat_cli.specs.Policies.{TellsSatisfied};
-ghost use Rattle.ms_io.specs.Sides.{ReadsFront};
+ghost use Rattle.ms_io.specs.Reads.{ReadsFront};
 
 use crate::program::msat;
 use def_answer::Status;

@@ -1,9 +1,9 @@
 //! The top call: the answer to words and a source, written to a sink.
 ghost use Rattle.std.specs.Prelude.{◌≡◌, ◌≤◌};
 ghost use Rattle.def_answer.specs.Sources.{ReadsSource, IsOfSource};
-ghost use Rattle.ms_io.specs.Endings.{call, Writes};
-ghost use Rattle.ms_io.specs.Faults.{Rose};
-ghost use Rattle.ms_io.specs.Sides.{side, ReadsFront, IsUnread};
+ghost use Rattle.ms_io.specs.Endings.{Writes};
+ghost use Rattle.ms_io.specs.Sides.{call, side, Rose};
+ghost use Rattle.ms_io.specs.Reads.{ReadsFront, IsUnread};
 ghost use Rattle.msat_cli.specs.Scaffolding.Steps.{WritesResult};
 ghost use Rattle.msat_cli.specs.Ends.{Ends, EndsAsUsage, EndsAsAnswered, IsReadFor};
 ghost use Rattle.msat_cli.specs.Audits.{ShowsAudit};

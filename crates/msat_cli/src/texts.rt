@@ -1,34 +1,34 @@
 //! What is answered to a text.
-ghost use Rattle.std.specs.Prelude.{◌≡◌, ◌≢◌, ◌*◌, ◌≤◌, IfOk, vec_len};
+ghost use Rattle.std.specs.Prelude.{◌≡◌, ◌≢◌, ◌≤◌, Option, IfOk};
 ghost use Rattle.std.specs.String.{string_bytes};
 ghost use Rattle.def_tree.specs.Range.{IsInRange};
-ghost use Rattle.def_tree.specs.Size.{measure};
+ghost use Rattle.def_tree.specs.Tree.{Tree};
+ghost use Rattle.def_sane.specs.declared.Unfit.{Unfit as TheUnfit};
+ghost use Rattle.def_sane.specs.Unfit.{first_unfit, first_unfit_under, first_unfit_valid_under};
 ghost use Rattle.ms_tree.specs.Shape.{shape};
+ghost use Rattle.ms_sane.specs.Misfits.{IsMisfit};
 ghost use Rattle.ms_sane.specs.Place.{IsOfTree};
+ghost use Rattle.def_answer.specs.Answer.{script_reply, check_reply, policy_reply};
 ghost use Rattle.def_answer.specs.Lines.{unfit_line as the_unfit_line};
-ghost use Rattle.def_answer.specs.Reply.{reply, satisfy_reply};
-ghost use Rattle.def_answer.specs.Report.{check_report as the_check_report};
+ghost use Rattle.def_answer.specs.Reply.{reply};
 ghost use Rattle.def_answer.specs.Sources.{NeedsSource};
 ghost use Rattle.ms_words.specs.Commands.{command_of};
-ghost use Rattle.ms_replies.specs.Fits.{demand_by, demand_of as the_demand_of, IsKnown};
-ghost use Rattle.ms_io.specs.Sides.{side, ReadsFront, IsUnread};
-ghost use Rattle.ms_replies.specs.Choices.{rules_by, chosen_by};
-ghost use Rattle.msat_cli.specs.Scaffolding.Steps.{ReadsFor, AsDone, IsRefusal, Ended, EndsFile, EndsTree, EndsCommand};
+ghost use Rattle.ms_io.specs.Sides.{side};
+ghost use Rattle.ms_io.specs.Reads.{ReadsFront, IsUnread};
+ghost use Rattle.msat_cli.specs.Scaffolding.Steps.{ReadsFor, AsDone, IsRefusal, Ended, EndsAtOnce, EndsTree, EndsCommand, RefusesTree};
 
 use crate::answer::{Stop, or_memory};
-use crate::source::{answer_audit, answer_plan, answer_satisfaction};
+use crate::source::{answer_sane_plan, answer_satisfaction, answer_valid_audit};
 use bumpalo::Bump;
 use def_answer::Status;
+use def_choice::Choice;
 use def_text::TextFault;
 use ms_io::Source;
-use ms_replies::{Demand, Fit, Known, Misfit, demand_of, fit_tree};
-use ms_report::{
-    Answer, bounds_of, check_report, policy_report, script_report, text_line, unfit_line,
-};
-use ms_sane::{Rules, Unfit};
+use ms_replies::ChoiceTree;
+use ms_report::{Answer, check_report, policy_report, script_report, text_line, unfit_line};
+use ms_sane::{Misfit, Rules, SaneTree, Unfit, ValidTree};
 use ms_text::{TextTree, read_text};
-use ms_tree::Tree;
-use ms_words::{Choice, TextCommand};
+use ms_words::TextCommand;
 use std::alloc::{AllocError, Global};
 
 /// Answers a command on a text: the text's refusal, or what is answered to its tree, which lies in the arena.
@@ -63,37 +63,46 @@ fn answer_tree<S: Source>(
     ensures front { ReadsFront (S.left source.old) (S.left source.new) }
     ensures unread { ¬ ReadsFor kind (shape text.now.tree) → IsUnread (side S.left S.faults source.old source.new) }
 {
-    match fit_tree(alloc, text.tree(), demand_of(kind)) {
-        Ok(fit) => answer_fit(alloc, kind, text, fit, source),
-        Err(Misfit::Unfit(unfit)) => or_memory(unfit_answer(alloc, text, unfit)),
-        Err(Misfit::Memory) => Err(Stop::Memory),
+    match kind {
+        TextCommand::Script(rules) => answer_script(alloc, rules, text),
+        TextCommand::Check(rules) => answer_check(alloc, rules, text),
+        TextCommand::Policy => answer_policy(alloc, text),
+        TextCommand::Satisfy(choice, rules) => answer_satisfy(alloc, choice, rules, text, source),
+        TextCommand::Plan => answer_plan(alloc, text, source),
+        TextCommand::Audit => answer_audit(alloc, text, source),
     }
 }
 
-/// Answers a command on a text whose tree passed.
-fn answer_fit<S: Source>(
-    alloc: Global,
-    kind: TextCommand,
-    text: &TextTree<'_>,
-    mut fit: Fit,
-    source: &mut S,
-) -> Result<Answer, Stop>
-    requires in_range { IsInRange (shape text.now.tree) }
-    requires known { IsKnown (the_demand_of kind) (shape text.now.tree) fit.known }
-    requires room { 4 * measure (shape text.now.tree) ≤ vec_len fit.work.slots }
-    ensures answer { EndsTree kind (shape text.now.tree) text.now.offsets.items (side S.left S.faults source.old source.new) result }
-    ensures later { S.faults source.old ≤ S.faults source.new }
-    ensures front { ReadsFront (S.left source.old) (S.left source.new) }
-    ensures unread { ¬ ReadsFor kind (shape text.now.tree) → IsUnread (side S.left S.faults source.old source.new) }
+/// Answers with the Script of a valid text.
+fn answer_script(alloc: Global, rules: Rules, text: &TextTree<'_>) -> Result<Answer, Stop>
+    requires { IsInRange (shape text.now.tree) }
+    ensures { EndsAtOnce (first_unfit_valid_under rules) script_reply (shape text.now.tree) text.now.offsets.items result }
 {
-    let tree = text.tree();
-    match kind {
-        TextCommand::Script(_) => done(script_report(alloc, tree)),
-        TextCommand::Check(rules) => done(checked(alloc, rules, tree, &mut fit)),
-        TextCommand::Satisfy(choice) => answer_satisfy(alloc, choice, tree, fit, source),
-        TextCommand::Policy => done(policy_report(alloc, tree)),
-        TextCommand::Plan => answer_plan(alloc, tree, source),
-        TextCommand::Audit => answer_audit(alloc, text, source),
+    match ValidTree::new(alloc, text.tree, rules) {
+        Ok(valid) => done(script_report(alloc, &valid.tree)),
+        Err(misfit) => refuse_tree(alloc, text, misfit),
+    }
+}
+
+/// Answers with what is known of a sane text.
+fn answer_check(alloc: Global, rules: Rules, text: &TextTree<'_>) -> Result<Answer, Stop>
+    requires { IsInRange (shape text.now.tree) }
+    ensures { EndsAtOnce (first_unfit_under rules) (check_reply rules) (shape text.now.tree) text.now.offsets.items result }
+{
+    match SaneTree::new(alloc, text.tree, rules) {
+        Ok(mut sane) => done(check_report(alloc, &mut sane)),
+        Err(misfit) => refuse_tree(alloc, text, misfit),
+    }
+}
+
+/// Answers with what a sane text demands.
+fn answer_policy(alloc: Global, text: &TextTree<'_>) -> Result<Answer, Stop>
+    requires { IsInRange (shape text.now.tree) }
+    ensures { EndsAtOnce first_unfit policy_reply (shape text.now.tree) text.now.offsets.items result }
+{
+    match SaneTree::new(alloc, text.tree, Rules::Policy) {
+        Ok(sane) => done(policy_report(alloc, &sane)),
+        Err(misfit) => refuse_tree(alloc, text, misfit),
     }
 }
 
@@ -110,50 +119,70 @@ fn done(report: Result<String, AllocError>) -> Result<Answer, Stop>
     }
 }
 
-/// What is known of a sane tree.
-fn checked(
-    alloc: Global,
-    rules: Rules,
-    tree: &Tree<'_>,
-    fit: &mut Fit,
-) -> Result<String, AllocError>
-    requires in_range { IsInRange (shape tree.now) }
-    requires known { IsKnown (Demand.Sane rules) (shape tree.now) fit.old.known }
-    requires room { 4 * measure (shape tree.now) ≤ vec_len fit.old.work.slots }
-    ensures { IfOk result (λ report. string_bytes report ≡ the_check_report rules (shape tree.now)) }
-{
-    match fit.known {
-        Known::Sane(sane) => check_report(alloc, rules, tree, &sane, &mut fit.work),
-        Known::Valid(_) => unreachable!(),
-    }
-}
-
-/// Answers with the satisfaction of a tree.
+/// Answers with the satisfaction of a text by the assets of the file that the source holds.
 fn answer_satisfy<S: Source>(
     alloc: Global,
     choice: Choice,
-    tree: &Tree<'_>,
-    mut fit: Fit,
+    rules: Rules,
+    text: &TextTree<'_>,
     source: &mut S,
 ) -> Result<Answer, Stop>
-    requires in_range { IsInRange (shape tree.now) }
-    requires known { IsKnown (demand_by choice) (shape tree.now) fit.known }
-    requires room { 4 * measure (shape tree.now) ≤ vec_len fit.work.slots }
-    ensures answer { EndsFile (λ bytes. satisfy_reply (rules_by choice) (chosen_by choice) bytes (shape tree.now)) (side S.left S.faults source.old source.new) result }
+    requires { IsInRange (shape text.now.tree) }
+    ensures answer { EndsTree (TextCommand.Satisfy choice rules) (shape text.now.tree) text.now.offsets.items (side S.left S.faults source.old source.new) result }
     ensures later { S.faults source.old ≤ S.faults source.new }
     ensures front { ReadsFront (S.left source.old) (S.left source.new) }
+    ensures unread { ¬ ReadsFor (TextCommand.Satisfy choice rules) (shape text.now.tree) → IsUnread (side S.left S.faults source.old source.new) }
 {
-    let limits = fit.known.limits();
-    let bounds = bounds_of(rules_of(choice), tree, limits, &mut fit.work);
-    answer_satisfaction(alloc, choice, tree, bounds, source, &mut fit.work)
+    match ChoiceTree::new(alloc, choice, rules, text.tree) {
+        Ok(mut tree) => answer_satisfaction(alloc, &mut tree, source),
+        Err(misfit) => refuse_tree(alloc, text, misfit),
+    }
 }
 
-/// The rules by which the text of a satisfaction has to be sane or valid.
-fn rules_of(choice: Choice) -> Rules
-    ensures { result ≡ rules_by choice }
+/// Answers which keys to ask for a signature for a sane text, by the plan file that the source holds.
+fn answer_plan<S: Source>(
+    alloc: Global,
+    text: &TextTree<'_>,
+    source: &mut S,
+) -> Result<Answer, Stop>
+    requires { IsInRange (shape text.now.tree) }
+    ensures answer { EndsTree TextCommand.Plan (shape text.now.tree) text.now.offsets.items (side S.left S.faults source.old source.new) result }
+    ensures later { S.faults source.old ≤ S.faults source.new }
+    ensures front { ReadsFront (S.left source.old) (S.left source.new) }
+    ensures unread { ¬ ReadsFor TextCommand.Plan (shape text.now.tree) → IsUnread (side S.left S.faults source.old source.new) }
 {
-    match choice {
-        Choice::Strict(rules) | Choice::Cheapest(rules) => rules,
+    match SaneTree::new(alloc, text.tree, Rules::Policy) {
+        Ok(sane) => answer_sane_plan(alloc, &sane, source),
+        Err(misfit) => refuse_tree(alloc, text, misfit),
+    }
+}
+
+/// Answers how the stack of the run file that the source holds satisfies a valid text.
+fn answer_audit<S: Source>(
+    alloc: Global,
+    text: &TextTree<'_>,
+    source: &mut S,
+) -> Result<Answer, Stop>
+    requires { IsInRange (shape text.now.tree) }
+    ensures answer { EndsTree TextCommand.Audit (shape text.now.tree) text.now.offsets.items (side S.left S.faults source.old source.new) result }
+    ensures later { S.faults source.old ≤ S.faults source.new }
+    ensures front { ReadsFront (S.left source.old) (S.left source.new) }
+    ensures unread { ¬ ReadsFor TextCommand.Audit (shape text.now.tree) → IsUnread (side S.left S.faults source.old source.new) }
+{
+    match ValidTree::new(alloc, text.tree, Rules::Policy) {
+        Ok(_valid) => answer_valid_audit(alloc, text, source),
+        Err(misfit) => refuse_tree(alloc, text, misfit),
+    }
+}
+
+/// The refusal of a tree that doesn't pass.
+fn refuse_tree(alloc: Global, text: &TextTree<'_>, misfit: Misfit) -> Result<Answer, Stop>
+    requires { (first_reason : Tree → Option TheUnfit) × IsMisfit first_reason (shape text.now.tree) misfit }
+    ensures { (first_reason : Tree → Option TheUnfit) → IsMisfit first_reason (shape text.now.tree) misfit → RefusesTree first_reason (shape text.now.tree) text.now.offsets.items result }
+{
+    match misfit {
+        Misfit::Unfit(unfit) => or_memory(unfit_answer(alloc, text, unfit)),
+        Misfit::Memory => Err(Stop::Memory),
     }
 }
 

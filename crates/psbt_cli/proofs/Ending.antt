@@ -6,8 +6,8 @@ use Rattle.std.specs.List.{list_all}
 use Rattle.std.specs.Io.KnownBytes.{IsAtEnd}
 use Rattle.def_script.specs.Bytes.{Bytes}
 use Rattle.ms_io.specs.Endings.{Writes}
-use Rattle.ms_io.specs.Faults.{Rose}
-use Rattle.ms_io.specs.Sides.{Side, AreTold, Held}
+use Rattle.ms_io.specs.Sides.{Rose, Side}
+use Rattle.ms_io.specs.Reads.{AreTold, Held}
 use Rattle.def_psbt.specs.declared.Refusal.{Refusal}
 use Rattle.def_psbt.specs.declared.Refusal.TheVariants.{TooLong}
 use Rattle.def_psbt.specs.Map.{Psbt}

@@ -2,9 +2,8 @@
 use Rattle.std.specs.Prelude.{◌≡◌, ◌≢◌, ◌⊎◌, ◌≤◌, ⊤, List, length, Option, None, Some}
 use Rattle.std.specs.Io.KnownBytes.{IsAtEnd, Keeps}
 use Rattle.def_script.specs.Bytes.{Bytes}
-use Rattle.ms_io.specs.Faults.{Rose}
-use Rattle.ms_io.specs.Endings.{CallWith, HasAnswerOf, WritesAnswerOf, WritesPrefixOf}
-use Rattle.ms_io.specs.Sides.{Side}
+use Rattle.ms_io.specs.Sides.{Rose, CallWith, Side}
+use Rattle.ms_io.specs.Endings.{HasAnswerOf, WritesAnswerOf, WritesPrefixOf}
 use Rattle.def_psbt.specs.Source.{MAX_SOURCE_SIZE}
 use Rattle.def_psbt_answer.specs.declared.status.Status.{Status}
 use Rattle.def_psbt_answer.specs.declared.status.Status.TheVariants as status

@@ -7,7 +7,7 @@ use Rattle.def_tree.specs.Tree.{Tree}
 use Rattle.def_satisfaction.specs.Satisfaction.{Sat}
 use Rattle.def_choice.specs.Tight.{Tight}
 use Rattle.def_choice.specs.NonMalleable.{NonMalleable}
-use Rattle.def_promises.specs.Promises.{Unchangeable}
+use Rattle.def_promises.specs.Accepted.{Unchangeable}
 use Rattle.def_psbt.specs.Transaction.{id_of}
 use Rattle.def_psbt.specs.Map.{Psbt}
 use Rattle.def_psbt.specs.Source.{MAX_SOURCE_SIZE}
@@ -43,8 +43,8 @@ LosesNothing call =
 -- ---- the final witness
 
 -- the satisfaction of a Ready input is canonical; its witness has the witness script last, whose program is the spent output;
--- the interpreter accepts the witness under every table that holds the input's signatures; nobody can change it; and no
--- canonical satisfaction that nobody can change weighs less
+-- the interpreter accepts the witness where the input's signatures are good, whatever others are; nobody can change it; and
+-- no canonical satisfaction that nobody can change weighs less
 pub record IsWitnessed (input : Input) (tree : Tree) : Type 0 where
   pub canonical : Sat tree (assets_of input.spend) (stack_of input)
   pub witness : IsWitness input tree

@@ -2,7 +2,8 @@
 
 ghost use Rattle.std.specs.Prelude.{◌≡◌, ◌≤◌, None};
 ghost use Rattle.def_psbt_answer.specs.Words.{command_of};
-ghost use Rattle.ms_io.specs.Sides.{side, ReadsFront, IsUnread};
+ghost use Rattle.ms_io.specs.Sides.{side};
+ghost use Rattle.ms_io.specs.Reads.{ReadsFront, IsUnread};
 ghost use Rattle.psbt_cli.specs.Scaffolding.Steps.{EndsCommand, EndsWords};
 
 use crate::words::read_command;

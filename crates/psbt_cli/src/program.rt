@@ -2,9 +2,9 @@
 
 ghost use Rattle.std.specs.Prelude.{◌≡◌, ◌≢◌, ◌≤◌, None};
 ghost use Rattle.def_psbt_answer.specs.Words.{command_of};
-ghost use Rattle.ms_io.specs.Endings.{call, Writes};
-ghost use Rattle.ms_io.specs.Faults.{Rose};
-ghost use Rattle.ms_io.specs.Sides.{side, ReadsFront, IsUnread};
+ghost use Rattle.ms_io.specs.Endings.{Writes};
+ghost use Rattle.ms_io.specs.Sides.{call, side, Rose};
+ghost use Rattle.ms_io.specs.Reads.{ReadsFront, IsUnread};
 ghost use Rattle.psbt_cli.specs.Ends.{Ends, EndsAsUsage, EndsAsAnswered, IsReadFor};
 ghost use Rattle.psbt_cli.specs.Shown.{ShowsFinalized, ShowsInspected, ShowsExtracted, ShowsHashes, RefusesSource};
 ghost use Rattle.psbt_cli.specs.Promises.{LosesNothing, ShowsWitnesses, TellsLacking, ExtractsTransaction};
@@ -25,7 +25,7 @@ const TOO_LONG: &[u8] = b"refused psbt TooLong\n";
 
 /// Answers the words of a command line: makes the report, writes it to the sink by one call of `put_report`, and gives the status.
 /// The words are one of `finalize`, `inspect`, `extract` and `hashes`, and the source holds a PSBT, as its bytes or as base64
-/// (BIP 174, version 0). The source is read only for these words.
+/// (BIP 174, BIP 370). The source is read only for these words.
 pub fn msat_psbt<S: Source, K: Sink>(
     alloc: Global,
     words: &[Word],

@@ -18,7 +18,7 @@ from .refusals import Refusal
 ABOUT = """\
 Shows a Miniscript condition of a P2WSH output as a person looks at it: what is wrong with it and where, or its tree with types, its
 Script beside the nodes that wrote it, its address, its limits, what it demands, each way to spend with what it weighs and what has
-to be set in the transaction, and what opens as time passes. Each number comes of msat's proved library."""
+to be set in the transaction, and what opens as time passes. Types, Script, limits and weights come of msat's proved library."""
 STATUSES = """\
 exit status: 0 explained; 1 other words; 2 the text was refused; 3 a file was refused; 4 the asset file makes no satisfaction;
 5 a file can't be read; 6 something can't be written; 7 memory was wanting; 10 the Script can't be read back"""
@@ -43,7 +43,8 @@ class _Parser(argparse.ArgumentParser):
 
 def parser() -> argparse.ArgumentParser:
     found = _Parser(
-        prog="msat-explain", description=ABOUT, epilog=STATUSES, allow_abbrev=False, formatter_class=argparse.RawDescriptionHelpFormatter
+        prog="msat-explain", description=ABOUT, epilog=STATUSES, allow_abbrev=False, add_help=False,
+        formatter_class=argparse.RawDescriptionHelpFormatter,
     )
     of_text = "the condition: a miniscript, wsh(..), or a Script in digits; - is standard input"
     found.add_argument("text", metavar="TEXT", nargs="?", help=of_text)
@@ -57,11 +58,14 @@ def parser() -> argparse.ArgumentParser:
     found.add_argument("--consensus", action="store_true", help="by the limits of consensus, not by those of policy")
     of_color = "whether the text is coloured; auto: on a terminal"
     found.add_argument("--color", choices=("auto", "always", "never"), default="auto", help=of_color)
-    found.add_argument("--version", action="version", version=f"msat-explain {msat.__version__}")
+    found.add_argument("-h", "--help", action="store_true", help="prints this")
+    found.add_argument("--version", action="store_true", help="prints the version")
     return found
 
 
 def _read_file(name: str) -> bytes:
+    if name == "-" and sys.stdin is None:
+        raise Stop(READING, "standard input can't be read: it is closed")
     try:
         if name == "-":
             return sys.stdin.buffer.read()
@@ -79,9 +83,9 @@ def _text(options: argparse.Namespace) -> str:
     return _read_file(options.file or "-").decode(errors="surrogateescape")
 
 
-def _digits(name: str, value: object) -> str:
+def _digits(name: str, value: object, status: int) -> str:
     if not isinstance(value, str) or not _DIGITS.fullmatch(value):
-        raise Stop(USAGE, f"what is given for {name} isn't an even number of hexadecimal digits")
+        raise Stop(status, f"what is given for {name} isn't an even number of hexadecimal digits")
     return value
 
 
@@ -95,10 +99,10 @@ def _keys(options: argparse.Namespace) -> tuple[dict[str, str], tuple[str, ...]]
             raise Stop(FILE, f"{options.keys} is no JSON") from error
         if not isinstance(said, dict):
             raise Stop(FILE, f"{options.keys} is no object of JSON with names and digits")
-        digits = {name: _digits(name, value) for name, value in said.items()}
+        digits = {name: _digits(name, value, FILE) for name, value in said.items()}
     for word in options.key:
         name, mark, value = word.rpartition("=")
-        value = _digits(name or "a key", value)
+        value = _digits(name or "a key", value, USAGE)
         if mark:
             digits[name] = value
         elif _KEY.fullmatch(value):
@@ -138,7 +142,8 @@ def _printed(found: Found, options: argparse.Namespace) -> str:
         from .document import document
 
         return json.dumps(document(found), indent=2) + "\n"
-    color = options.color == "always" or options.color == "auto" and sys.stdout.isatty() and "NO_COLOR" not in os.environ
+    is_terminal = sys.stdout is not None and sys.stdout.isatty()
+    color = options.color == "always" or options.color == "auto" and is_terminal and "NO_COLOR" not in os.environ
     return report.refused(found, color) if isinstance(found, Refusal) else report.explained(found, color)
 
 
@@ -146,26 +151,35 @@ def _write_page(found: Found, name: str) -> None:
     from .page import page
 
     try:
-        with open(name, "w", encoding="utf-8") as file:
-            file.write(page(found))
+        with open(name, "wb") as file:
+            file.write(page(found).encode(errors="replace"))
     except OSError as error:
         raise Stop(WRITING, f"{name} can't be written: {error.strerror}") from error
 
 
+def _write(said: str) -> bool:
+    """Writes to standard output. False where that can't be done."""
+    if sys.stdout is None:
+        return False
+    try:
+        sys.stdout.buffer.write(said.encode(errors="replace"))
+        sys.stdout.buffer.flush()
+    except OSError:
+        os.dup2(os.open(os.devnull, os.O_WRONLY), sys.stdout.fileno())
+        return False
+    return True
+
+
 def _run(words: Optional[Sequence[str]]) -> int:
     options = parser().parse_args(words)
+    if options.version or options.help:
+        return DONE if _write(f"msat-explain {msat.__version__}\n" if options.version else parser().format_help()) else WRITING
     digits, keys = _keys(options)
     assets = None if options.assets is None else _read_file(options.assets)
     found = answer(_text(options), digits, keys, consensus=options.consensus, assets=assets)
     if options.html is not None:
         _write_page(found, options.html)
-    try:
-        sys.stdout.buffer.write(_printed(found, options).encode(errors="replace"))
-        sys.stdout.buffer.flush()
-    except OSError:
-        os.dup2(os.open(os.devnull, os.O_WRONLY), sys.stdout.fileno())
-        return WRITING
-    return _status(found)
+    return _status(found) if _write(_printed(found, options)) else WRITING
 
 
 def main(words: Optional[Sequence[str]] = None) -> int:

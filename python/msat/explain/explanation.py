@@ -1,5 +1,5 @@
 # SPDX-License-Identifier: MIT
-"""What there is to say of a condition. Each number and each verdict is a call of the library; the ways come of the policy that it
+"""What there is to say of a condition. Verdicts, limits and weights are calls of the library; the ways come of the policy that it
 prints, and what each weighs, and that it is one, is asked of `satisfy` with exactly its keys and preimages."""
 
 from collections import Counter

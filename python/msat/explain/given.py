@@ -160,8 +160,10 @@ def _value(word: str, open_: tuple[str, int], digits: Mapping[str, str]) -> Opti
     is_hash = fragment in hashes.LENGTHS and at == 0
     if not (is_hash or fragment in _KEYED and at == 0 or fragment in _MULTI and at > 0):
         return None
+    if _DIGITS.fullmatch(word):
+        return None
     if word in digits:
         return digits[word]
-    if _DIGITS.fullmatch(word) or not _NAME.fullmatch(word):
+    if not _NAME.fullmatch(word):
         return None
     return digest_of(fragment, word) if is_hash else key_of(word)

@@ -120,11 +120,8 @@ def spend(text: str, root: Node, file: bytes, consensus: bool, name_of: Naming) 
     run = {name: said[name] for name in ("version", "sequence", "locktime", "signatures") if name in said}
     run.update(script=found.script.hex(), witness=[it.hex() for it in found.items])
     checks = msat.run(json.dumps(run)).checks
-    steps: tuple[msat.Step, ...] = ()
-    if not consensus:
-        steps = msat.audit(text, json.dumps(run)).steps
-    signers = {sig: name_of(key.hex()) for key, sig in reversed(checks)}
-    names = _Names(steps, signers, found.items, name_of).all(root)
+    steps = _steps(text, run)
+    names = _Names(steps, [(key.hex(), sig) for key, sig in checks], found.items, name_of).all(root)
     places = {node.place: node for node in reversed(list(root.walk()))}
     return Spend(
         tuple(Item(*it) for it in zip(found.items, names)),
@@ -133,6 +130,14 @@ def spend(text: str, root: Node, file: bytes, consensus: bool, name_of: Naming) 
         tuple(Part(places[it.place], it.satisfied) for it in _once(steps)),
         tuple(key.hex() for key, _ in checks),
     )
+
+
+def _steps(text: str, run: dict[str, object]) -> tuple[msat.Step, ...]:
+    """The steps by which a run satisfies a text; none of one that only consensus takes, which no audit takes."""
+    try:
+        return msat.audit(text, json.dumps(run)).steps
+    except msat.TextRefused:
+        return ()
 
 
 def _once(steps: tuple[msat.Step, ...]) -> Iterator[msat.Step]:
@@ -146,8 +151,8 @@ class _Names:
     """The names of a witness's items, by the rows of BIP 379's table that an audit has found. It is read from its end: a node stands
     behind its children there."""
 
-    def __init__(self, steps: tuple[msat.Step, ...], signers: dict[bytes, str], items: tuple[bytes, ...], name_of: Naming):
-        self.left, self.signers, self.items, self.name_of = list(steps), signers, items, name_of
+    def __init__(self, steps: tuple[msat.Step, ...], checks: list[tuple[str, bytes]], items: tuple[bytes, ...], name_of: Naming):
+        self.left, self.checks, self.items, self.name_of = list(steps), checks, items, name_of
 
     def all(self, root: Node) -> list[str]:
         """The names of all items; plain ones where the audit doesn't fit, as for a text that only consensus takes."""
@@ -156,11 +161,13 @@ class _Names:
         except IndexError:
             names = []
         if len(names) != len(self.items):
-            names = ["empty" if not it else "" for it in self.items]
-        return [name + self.signed(name, it) for name, it in zip(names, self.items)]
+            names = [self.plain(it) for it in self.items]
+        return names
 
-    def signed(self, name: str, item: bytes) -> str:
-        return f"{': ' if name else ''}signature of {self.signers[item]}" if item in self.signers and not name.startswith("sig") else ""
+    def plain(self, item: bytes) -> str:
+        """What an item is, by its bytes alone: keys may have signatures of the same ones."""
+        signers = [self.name_of(key) for key, sig in self.checks if sig == item]
+        return f"signature of {' or '.join(dict.fromkeys(signers))}" if signers else "" if item else "empty"
 
     def next_is(self, place: int) -> bool:
         return bool(self.left) and self.left[-1].place == place
@@ -200,8 +207,10 @@ class _Names:
             names = [f"signature of {key}" if satisfied else f"empty: no signature of {key}"]
             return names + [f"the key {key}, whose hash the Script has"] * (node.name in ("pkh", "pk_h"))
         if node.name == "multi":
-            count = int(node.arguments[0])
-            return ["empty: what CHECKMULTISIG takes besides"] + ["" if satisfied else "empty: no signature"] * count
+            signers = {key for key, _ in self.checks}
+            signed = [f"signature of {self.name_of(key)}" for key in node.arguments[1:] if key.lower() in signers]
+            none = ["empty: no signature"] * int(node.arguments[0])
+            return ["empty: what CHECKMULTISIG takes besides"] + (signed if satisfied else none)
         if node.name in hashes.LENGTHS:
             value = self.name_of(node.arguments[0])
             return [f"preimage of {value}" if satisfied else f"32 bytes that aren't the preimage of {value}"]

@@ -88,9 +88,9 @@ def refused(refusal: Refusal, color: bool) -> str:
     elif refusal.shown and len(refusal.shown) <= 4 * WIDTH:
         for line in refusal.shown.splitlines():
             paper.add("  " + printable(line))
-    paper.add("  " + refusal.sentence)
+    paper.add("  " + printable(refusal.sentence))
     if refusal.advice:
-        paper.add(f"  {paper.styled('What to do:', 'title')} {refusal.advice.rstrip('.')}.")
+        paper.add(f"  {paper.styled('What to do:', 'title')} {printable(refusal.advice).rstrip('.')}.")
     return paper.text()
 
 
@@ -143,7 +143,7 @@ def explained(shown: Explanation, color: bool) -> str:
 def _head(paper: Paper, shown: Explanation) -> None:
     paper.add(paper.styled("Sane", "good") + f": type {shown.checked.type}, {words.allowed_of(shown.limits[0])} bytes of Script")
     for note in words.notes(shown):
-        paper.add(paper.styled("Note", "note") + f": {note}")
+        paper.add(paper.styled("Note", "note") + f": {printable(note)}")
     for warning in words.warnings(shown):
         paper.add(paper.styled("Warning", "bad") + f": {warning}")
     for title, values in (("Keys", [("", it) for it in shown.keys]), ("Hashes", shown.hashes)):

@@ -12,7 +12,7 @@ from .tree import Node
 from .ways import Way
 
 STANDINS = (
-    "Stand-ins, since no digits were given, are used for {names}. Sizes, weights and ways are the same with any digits; "
+    "Stand-ins, since no digits were given, are used for {names}. Sizes, weights and ways are the same with any digits, other ones for each name; "
     "there is no address, since nobody could spend what is paid to it."
 )
 
@@ -192,8 +192,9 @@ def notes(shown: Explanation) -> Iterator[str]:
 
 def warnings(shown: Explanation) -> Iterator[str]:
     """What makes a condition something else than it looks like: that nobody can spend, and timelocks that wait for less than they seem to."""
-    if shown.spending and shown.spending.policy == "never":
-        yield "nobody can spend by this condition, whoever signs: its policy is `never`, and what is paid to it is lost"
+    # Each satisfaction of a sane text has a signature, so where the most that one weighs is 0 there is none.
+    if shown.checked.limits.weight == 0:
+        yield "nobody can spend by this condition, whoever signs: nothing satisfies it, and what is paid to it is lost"
     locks = dict.fromkeys((node.name, int(node.arguments[0])) for node in shown.root.walk() if node.name in ("older", "after"))
     for kind, operand in locks:
         why = weaker(kind, operand)

@@ -152,6 +152,9 @@ pub enum PsbtFault {
     Version,
     NoTransaction,
     Trailing,
+    Excluded,
+    RepeatedOutpoint,
+    LockTime,
     /// One that this version doesn't know.
     Other,
 }

@@ -92,7 +92,7 @@ const MEMBERS: [(Member, &str); 10] = [
 ];
 
 /// The faults of PSBTs.
-const PSBT_FAULTS: [PsbtFault; 11] = [
+const PSBT_FAULTS: [PsbtFault; 14] = [
     PsbtFault::TooLong,
     PsbtFault::NotBase64,
     PsbtFault::Magic,
@@ -104,6 +104,9 @@ const PSBT_FAULTS: [PsbtFault; 11] = [
     PsbtFault::Version,
     PsbtFault::NoTransaction,
     PsbtFault::Trailing,
+    PsbtFault::Excluded,
+    PsbtFault::RepeatedOutpoint,
+    PsbtFault::LockTime,
 ];
 
 /// The rule that a report calls so.

@@ -84,10 +84,10 @@ act given op.Ripemd160 m = on_main (hash kind.Ripemd160) m
 act given op.Sha256 m = on_main (hash kind.Sha256) m
 act given op.Hash160 m = on_main (hash kind.Hash160) m
 act given op.Hash256 m = on_main (hash kind.Hash256) m
-act given op.CheckSig m = on_checks (check_sig given.table) m
-act given op.CheckSigVerify m = on_checks (check_sig given.table) m >>= on_main verify
-act given op.CheckMultiSig m = on_multi (check_multi_sig given.table) m
-act given op.CheckMultiSigVerify m = on_multi (check_multi_sig given.table) m >>= on_main verify
+act given op.CheckSig m = on_checks (check_sig given.checker) m
+act given op.CheckSigVerify m = on_checks (check_sig given.checker) m >>= on_main verify
+act given op.CheckMultiSig m = on_multi (check_multi_sig given.checker) m
+act given op.CheckMultiSigVerify m = on_multi (check_multi_sig given.checker) m >>= on_main verify
 act given op.Cltv m = on_main (lock (λ n. after_holds n given.locks)) m
 act given op.Csv m = on_main (lock (λ n. older_holds n given.locks)) m
 
@@ -104,7 +104,7 @@ carry_push bytes minimal m =
     if nat_lt MAX_SCRIPT_ELEMENT_SIZE (length bytes) then Err fault.ElementSize
     else only_if (all_taken m.branches) (pushed bytes minimal) m
 
--- an opcode is within_op_limit and carried out
+-- an opcode is counted and carried out
 abbrev pub count_op : Machine → OrFault Machine
 count_op m = do
   ops ← within_op_limit (m.ops + 1)

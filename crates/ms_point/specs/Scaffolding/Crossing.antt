@@ -1,4 +1,4 @@
--- What the addition of a point and an affine one finds out first.
+-- What the addition of two points finds out first.
 use Rattle.std.specs.Prelude.{◌≡◌, ℕ, ◌+◌, ◌*◌, ◌%◌, ◌<◌}
 use Rattle.def_curve.specs.Curve.{p}
 use Rattle.ms_point.specs.Standing.{StandAt}
@@ -9,5 +9,14 @@ pub record Crosses (X Y Z H R x y x' y' : ℕ) : Type 0 where
   pub x_below : x' < p
   pub y_below : y' < p
   pub h_some : 0 < H
+  pub h_is : (H + X) % p ≡ x' * (Z * Z) % p
+  pub r_is : (R + Y) % p ≡ y' * (Z * Z * Z) % p
+
+-- H and R are such differences of a point that X, Y and Z stand for, and of another one
+pub record Differs (X Y Z H R x' y' : ℕ) : Type 0 where
+  pub x_below : x' < p
+  pub y_below : y' < p
+  pub h_below : H < p
+  pub r_below : R < p
   pub h_is : (H + X) % p ≡ x' * (Z * Z) % p
   pub r_is : (R + Y) % p ≡ y' * (Z * Z * Z) % p

@@ -7,7 +7,7 @@ use Rattle.def_psbt.specs.declared.Refusal.{Refusal}
 use Rattle.def_psbt.specs.declared.Refusal.TheVariants.{At}
 use Rattle.def_psbt.specs.Map.{Pair, Map}
 use Rattle.def_psbt.specs.Listed.{Form, shape_fault}
-use Rattle.def_psbt.specs.Reading.{Read, size_at, pair_at, map_at}
+use Rattle.def_psbt.specs.Reading.{Read, size_at, pair_at, Rules, whole_map_at}
 use Rattle.ms_psbt.specs.declared.maps.Step.{Step}
 use Rattle.ms_psbt.specs.declared.maps.Step.TheVariants as step
 use Rattle.ms_psbt.specs.Scaffolding.Repeats.{marked}
@@ -76,6 +76,6 @@ starts_behind (Ok read) next = next read.1
 starts_behind (Err refusal) next = []
 
 -- the places of so many maps, one after the other, from a place on
-unfoldable pub starts_from : (forms : ℕ → Form) → (psbt : Bytes) → (count at : ℕ) → List ℕ
-starts_from forms psbt zero at = []
-starts_from forms psbt (suc count) at = at ∷ starts_behind (map_at forms psbt at) (starts_from forms psbt count)
+unfoldable pub starts_from : Rules → (psbt : Bytes) → (count at : ℕ) → List ℕ
+starts_from rules psbt zero at = []
+starts_from rules psbt (suc count) at = at ∷ starts_behind (whole_map_at rules psbt at) (starts_from rules psbt count)

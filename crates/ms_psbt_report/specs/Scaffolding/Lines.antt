@@ -9,7 +9,8 @@ use Rattle.def_spend.specs.Input.{Spend, assets_of}
 use Rattle.def_spend.specs.Reading.{Input}
 use Rattle.def_spend.specs.States.{state_of, is_read, is_sane, stack_of}
 use Rattle.def_spend.specs.Asking.{plan_with}
-use Rattle.def_answer.specs.Report.{decode_report, policy_of}
+use Rattle.def_answer.specs.Decode.{decode_report}
+use Rattle.def_answer.specs.Policy.{policy_of}
 use Rattle.def_psbt_answer.specs.Fee.{paid, fee_line_by}
 use Rattle.def_psbt_answer.specs.Lines.{psbt_line, output_lines, policy_line}
 use Rattle.def_psbt_answer.specs.Report.{tree_lines, last_lines, plan_lines}

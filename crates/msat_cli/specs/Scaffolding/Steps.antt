@@ -1,20 +1,21 @@
 -- The steps on the way to an answer: the reasons against a tree, and what a step answers.
-use Rattle.std.specs.Prelude.{◌≡◌, ◌≢◌, ℕ, ◌<◌, length, List, ⊤, Option, None, Result, Ok, Err, ◌⊎◌}
+use Rattle.std.specs.Prelude.{◌≡◌, ◌≢◌, ℕ, ◌<◌, length, List, ⊤, Option, Some, None, Result, Ok, Err, ◌⊎◌}
 use Rattle.std.specs.String.{string_bytes}
 use Rattle.def_script.specs.Bytes.{Bytes}
 use Rattle.def_tree.specs.Tree.{Tree}
 use Rattle.def_text.specs.declared.TextFault.{TextFault}
 use Rattle.def_text.specs.declared.TextFault.TheVariants as text_fault
 use Rattle.def_sane.specs.declared.Unfit.{Unfit}
-use Rattle.def_sane.specs.Unfit.{first_unfit, first_unfit_valid}
-use Rattle.ms_io.specs.Faults.{Rose}
+use Rattle.def_sane.specs.Unfit.{first_unfit, first_unfit_valid, first_unfit_under, first_unfit_valid_under}
+use Rattle.ms_io.specs.Sides.{Rose, Side}
 use Rattle.ms_io.specs.Endings.{Writes, WritesNothing}
 use Rattle.def_answer.specs.declared.status.Status.{Status}
 use Rattle.def_answer.specs.declared.status.Status.TheVariants as status
 use Rattle.def_answer.specs.Answer.{script_reply, check_reply, policy_reply, Replies}
 use Rattle.ms_answer_laws.specs.Laws.{walked}
-use Rattle.def_answer.specs.Lines.{usage_line, text_line, file_too_long_line}
-use Rattle.def_answer.specs.Reply.{Reply, reply, usage_reply, unless_unfit, MOST_FILE, satisfy_reply, plan_reply, audit_reply}
+use Rattle.def_answer.specs.Lines.{text_line, unfit_line, MOST_FILE}
+use Rattle.def_answer.specs.Files.{file_too_long_line}
+use Rattle.def_answer.specs.Reply.{usage_line, Reply, reply, usage_reply, unless_unfit, satisfy_reply, plan_reply, audit_reply}
 use Rattle.def_answer.specs.Sources.{NeedsSource, ReadsSource}
 use Rattle.def_answer.specs.Words.{Command, IsForm, HasNoForm}
 use Rattle.ms_report.specs.declared.answer.Answer.{Answer}
@@ -22,22 +23,26 @@ use Rattle.msat_cli.specs.declared.answer.Stop.{Stop}
 use Rattle.msat_cli.specs.declared.answer.Stop.TheVariants as stop
 use Rattle.ms_words.specs.declared.words.TextCommand.{TextCommand}
 use Rattle.ms_words.specs.declared.words.TextCommand.TheVariants as kind
-use Rattle.ms_replies.specs.Choices.{chosen_by, rules_by, reason_by}
-use Rattle.ms_replies.specs.Fits.{demand_of, reason_for}
-use Rattle.ms_io.specs.Sides.{Side, IsUnread, Held}
+use Rattle.def_answer.specs.Satisfy.{chosen_by, reason_by}
+use Rattle.ms_io.specs.Reads.{IsUnread, Held}
 use Rattle.msat_cli.specs.Ends.{HasShortText, TakesMemory}
 
 -- ---- what is done with a tree
 
 -- the reasons against a tree that are tested
 abbrev pub reason_of : TextCommand → Tree → Option Unfit
-reason_of kind = reason_for (demand_of kind)
+reason_of (kind.Script rules) = first_unfit_valid_under rules
+reason_of (kind.Check rules) = first_unfit_under rules
+reason_of (kind.Satisfy choice rules) = reason_by choice rules
+reason_of kind.Policy = first_unfit
+reason_of kind.Plan = first_unfit
+reason_of kind.Audit = first_unfit_valid
 
 -- what is replied where there is none
 abbrev pub reply_of : TextCommand → (source : Bytes) → (offsets : List ℕ) → Tree → Reply
 reply_of (kind.Script rules) source offsets = script_reply
 reply_of (kind.Check rules) source offsets = check_reply rules
-reply_of (kind.Satisfy choice) source offsets = satisfy_reply (rules_by choice) (chosen_by choice) source
+reply_of (kind.Satisfy choice rules) source offsets = satisfy_reply rules (chosen_by choice) source
 reply_of kind.Policy source offsets = policy_reply
 reply_of kind.Plan source offsets = plan_reply source
 reply_of kind.Audit source offsets = λ tree. audit_reply offsets (walked tree source) source tree
@@ -46,7 +51,7 @@ reply_of kind.Audit source offsets = λ tree. audit_reply offsets (walked tree s
 abbrev pub ReadsFor : TextCommand → Tree → Type 0
 ReadsFor (kind.Script rules) tree = ⊥
 ReadsFor (kind.Check rules) tree = ⊥
-ReadsFor (kind.Satisfy choice) tree = reason_by choice tree ≡ None
+ReadsFor (kind.Satisfy choice rules) tree = reason_by choice rules tree ≡ None
 ReadsFor kind.Policy tree = ⊥
 ReadsFor kind.Plan tree = first_unfit tree ≡ None
 ReadsFor kind.Audit tree = first_unfit_valid tree ≡ None
@@ -127,6 +132,18 @@ EndsWords words source = Ended (AnswersWords words source) (ReadsSource words ×
 -- with the reply to what the source held, or with a fault of the source
 abbrev pub EndsFile : (next : Bytes → Reply) → (source : Side) → Result Answer Stop → Type 0
 EndsFile next source = Ended (AnswersFile next source) (Rose source.before source.now) ⊤
+
+-- with the first reason against a tree, or with what comes next, where the source isn't read
+abbrev pub EndsAtOnce : (first_reason : Tree → Option Unfit) → (next : Tree → Reply) → Tree → (offsets : List ℕ) → Result Answer Stop → Type 0
+EndsAtOnce first_reason next tree offsets = Ended (λ r. r ≡ unless_unfit (first_reason tree) offsets (next tree)) ⊥ ⊤
+
+-- with the first reason against a tree, of which there is one
+abbrev pub IsRefusalOfTree : (first_reason : Tree → Option Unfit) → Tree → (offsets : List ℕ) → Reply → Type 0
+IsRefusalOfTree first_reason tree offsets r =
+    (unfit : Unfit) × (first_reason tree ≡ Some unfit) × (r ≡ reply status.TextRefused (unfit_line offsets unfit))
+
+abbrev pub RefusesTree : (first_reason : Tree → Option Unfit) → Tree → (offsets : List ℕ) → Result Answer Stop → Type 0
+RefusesTree first_reason tree offsets = Ended (IsRefusalOfTree first_reason tree offsets) ⊥ ⊤
 
 -- with the reply to a tree, or with a fault of the source where a file is read for it
 abbrev pub EndsTree : TextCommand → Tree → (offsets : List ℕ) → (source : Side) → Result Answer Stop → Type 0

@@ -1,9 +1,9 @@
 -- The steps on the way to an answer. No public clause cites it, so it need not be believed.
 use Rattle.std.specs.Prelude.{◌≡◌, ◌≢◌, ◌⊎◌, ⊤, List, None, Some, Result, Ok, Err}
 use Rattle.def_script.specs.Bytes.{Bytes}
-use Rattle.ms_io.specs.Faults.{Rose}
+use Rattle.ms_io.specs.Sides.{Rose, Side}
 use Rattle.ms_io.specs.Endings.{Writes, WritesNothing}
-use Rattle.ms_io.specs.Sides.{Side, Held}
+use Rattle.ms_io.specs.Reads.{Held}
 use Rattle.def_psbt.specs.declared.Refusal.TheVariants.{TooLong}
 use Rattle.def_psbt.specs.Source.{MAX_SOURCE_SIZE, psbt_of}
 use Rattle.def_psbt_answer.specs.declared.status.Status.{Status}
@@ -11,7 +11,7 @@ use Rattle.def_psbt_answer.specs.declared.status.Status.TheVariants as status
 use Rattle.def_psbt_answer.specs.declared.words.Command.{Command}
 use Rattle.def_psbt_answer.specs.Words.{command_of}
 use Rattle.def_psbt_answer.specs.Lines.{refusal_line}
-use Rattle.def_answer.specs.Lines.{usage_line}
+use Rattle.def_answer.specs.Reply.{usage_line}
 use Rattle.def_psbt_answer.specs.Reply.{Reply, reply, usage_reply, refusal_reply, form_of}
 use Rattle.def_psbt_answer.specs.Answer.{RepliesToSource}
 use Rattle.ms_psbt_replies.specs.declared.reply.Reply.{Reply as Made}

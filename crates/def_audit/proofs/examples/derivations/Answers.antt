@@ -19,7 +19,7 @@ use Rattle.def_audit.specs.Examples.{sat, dsat, given_a, given_both}
 use Rattle.def_audit.proofs.examples.derivations.Goals as goal
 
 -- `pk(key)` by its signature, and by none
-pk_sat : (given : Given) (n : ℕ) (key sig : Bytes) → IsTrue (is_good given.table key sig) → (trails given n (pk key)).sat (sig ∷ []) (sat n ∷ sat (n + 1) ∷ [])
+pk_sat : (given : Given) (n : ℕ) (key sig : Bytes) → IsTrue (is_good given.checker key sig) → (trails given n (pk key)).sat (sig ∷ []) (sat n ∷ sat (n + 1) ∷ [])
 pk_sat given n key sig good = (sat n ∷ [], ([], ((sig, good, refl), refl), refl), refl)
 
 pk_dsat : (given : Given) (n : ℕ) (key : Bytes) → (trails given n (pk key)).dsat (EMPTY ∷ []) (dsat n ∷ dsat (n + 1) ∷ [])

@@ -76,7 +76,7 @@ assets_form = record {
 
 -- a canonical satisfaction among all satisfactions
 full_only : (tree : Tree) (assets : Assets) (stack : List Bytes) → Sat tree assets stack → FullSat tree (given_of assets) (only (known assets)) stack
-full_only tree assets stack sat = sat_is_full_sat tree assets assets.pairs stack (λ key sig h. h) sat
+full_only tree assets stack sat = sat_is_full_sat tree assets (member assets.pairs) stack (λ key sig h. h) sat
 
 full_any : (tree : Tree) (assets : Assets) (stack : List Bytes) → Sat tree assets stack → FullSat tree (given_of assets) any stack
 full_any tree assets stack sat = (only_is_any tree (given_of assets) (known assets) stack).0 (full_only tree assets stack sat)
@@ -168,7 +168,7 @@ returns-clause-key_can_be_changed c =
           go r.0 same (r.2 by_preimages (pair_b ∷ []) by_preimages_bytes accepted_by_preimages (λ e. by_key_differs (sym e))),
     )
   where
-    go : (checks : Pairs) → pair_b ∷ pair_a ∷ [] ≡ checks → HasNewPair (pair_b ∷ []) checks ⊎ Fresh key_and_key_or_hashes keys_and_preimages keys_and_preimages.pairs by_preimages → ⊥
+    go : (checks : Pairs) → pair_b ∷ pair_a ∷ [] ≡ checks → HasNewPair (pair_b ∷ []) checks ⊎ Fresh key_and_key_or_hashes keys_and_preimages (member keys_and_preimages.pairs) by_preimages → ⊥
     go checks same (inl h) = no_new_pair checks same h
     go checks same (inr h) = let r = right_branch in h.1 (full_only key_and_key_or_hashes keys_and_preimages by_preimages r.sat)
 
@@ -185,12 +185,12 @@ only_b_form = record {
 }
 
 -- with the key B alone neither branch is satisfied
-no_branch : (stack : Stack) → (row (full (given_with only_key_b only_key_b.pairs) (only (known only_key_b))) (or_i (pk key_a) (after_two_hashes (sha256_of hash_3)))).sat stack → ⊥
+no_branch : (stack : Stack) → (row (full (given_with only_key_b (member only_key_b.pairs)) (only (known only_key_b))) (or_i (pk key_a) (after_two_hashes (sha256_of hash_3)))).sat stack → ⊥
 unfolding computing
 no_branch stack (inl h) = never_both (not (is_empty h.2.0)) h.2.1
 no_branch stack (inr h) = let k = h.2.3 in none-some k.0 k.1.1
 
-fresh : Fresh key_and_key_or_hashes only_key_b only_key_b.pairs by_preimages
+fresh : Fresh key_and_key_or_hashes only_key_b (member only_key_b.pairs) by_preimages
 unfolding computing
 fresh = (
   (

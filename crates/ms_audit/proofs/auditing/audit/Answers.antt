@@ -1,6 +1,5 @@
 use Rattle.ms_tree.specs.Shape.{shape}
 use Rattle.ms_interp.specs.Answering.{given_by}
-use Rattle.ms_oracle.specs.Sound.{table_of}
 use Rattle.ms_audit_laws.proofs.CanonicalSteps.{sat_is_canonical}
 use Rattle.ms_audit.proofs.auditing.audit.Goals as goal
 
@@ -16,5 +15,5 @@ accepted_trail-requires-clause-accepted g c = (
 
 pub returns-clause-canonical : goal.returns-clause-canonical
 returns-clause-canonical g c =
-    sat_is_canonical (shape c.args.tree.now) (given_by (table_of c.args.sigs.now) c.args.locks.now) c.in_ok-trail.trail c.args.stack.now c.requires.valid
+    sat_is_canonical (shape c.args.tree.now) (given_by (g.C.SignatureChecker.checker c.args.sigs.now) c.args.locks.now) c.in_ok-trail.trail c.args.stack.now c.requires.valid
     c.in_ok-trail.ensures

@@ -2,7 +2,7 @@ use Rattle.std.proofs.lemmas.Result.{err_from_is_err_and}
 use Rattle.ms_calls.proofs.TextLemmas.{finds_of_misfit}
 use Rattle.ms_calls.proofs.planning.asked_of_text.Goals as goal
 
-pub returns-in_err-_passing : goal.returns-in_err-_passing
-returns-in_err-_passing c =
+pub returns-in_err-sane : goal.returns-in_err-sane
+returns-in_err-sane c =
     let p = err_from_is_err_and c.from_residual.result c.from_residual.ensures.1 in
-    rw (p.1, p.2) (finds_of_misfit _ _ _ c.in_err-_passing.field-0.0 c.in_err-_passing.ensures.stop)
+    rw (p.1, p.2) (finds_of_misfit _ _ _ c.in_err-sane.field-0.0 c.in_err-sane.ensures.stop)

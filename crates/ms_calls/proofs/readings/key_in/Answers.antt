@@ -1,5 +1,5 @@
 use Rattle.std.proofs.Common.{arith}
-use Rattle.ms_plan.proofs.Forms.{key_form}
+use Rattle.ms_plan_file.proofs.Forms.{key_form}
 use Rattle.ms_calls.proofs.readings.key_in.Goals as goal
 
 pub returns-clause-form : goal.returns-clause-form

@@ -2,7 +2,7 @@ use Rattle.std.proofs.lemmas.Result.{err_from_is_err_and}
 use Rattle.ms_calls.proofs.TextLemmas.{finds_of_misfit}
 use Rattle.ms_calls.proofs.satisfying.weight_of_text.Goals as goal
 
-pub returns-in_err-passing : goal.returns-in_err-passing
-returns-in_err-passing c =
+pub returns-in_err-valid : goal.returns-in_err-valid
+returns-in_err-valid c =
     let p = err_from_is_err_and c.from_residual.result c.from_residual.ensures.1 in
-    rw (p.1, p.2) (finds_of_misfit _ _ _ c.in_err-passing.field-0.0 c.in_err-passing.ensures.stop)
+    rw (p.1, p.2) (finds_of_misfit _ _ _ c.in_err-valid.field-0.0 c.in_err-valid.ensures.stop)

@@ -1,5 +1,7 @@
 -- r or s that is no scalar, and the sum.
-use Rattle.std.proofs.Common.{◌≡◌, ℕ, sym, ◌∙◌, false, true}
+use Rattle.std.proofs.Common.{◌≡◌, ℕ, sym, ◌∙◌, ltb, false, true}
+use Rattle.std.proofs.lemmas.Bool.{and_parts, ltb-true}
+use Rattle.def_curve.specs.Curve.{n as order}
 use Rattle.def_curve.specs.Point.{Point, ◌⊕◌, times, generator}
 use Rattle.def_curve.specs.Ecdsa.{is_scalar}
 use Rattle.ms_field.specs.Limbs.{value}
@@ -16,6 +18,11 @@ pub returns-then-not-is_scalar-2 : goal.returns-then-not-is_scalar-2
 returns-then-not-is_scalar-2 c =
     let test : is_scalar (value c.args.s) ≡ false = cc in
     sym (refused_by_second (point_at c.args.key) (value c.args.e) (value c.args.r) (value c.args.s) test)
+
+pub has_x-requires-clause-scalar : goal.has_x-requires-clause-scalar
+has_x-requires-clause-scalar c =
+    let first : is_scalar (value c.args.r) ≡ true = cc in
+    ltb-true (value c.args.r) order (and_parts (ltb 0 (value c.args.r)) (ltb (value c.args.r) order) first).1
 
 pub returns : goal.returns
 returns c =

@@ -1,17 +1,10 @@
-use Rattle.std.proofs.Common.{◌≡◌, ◌+◌, ◌∙◌, ap, arith}
+use Rattle.std.proofs.Common.{◌≡◌, ◌+◌, ap, arith}
 use Rattle.std.proofs.lemmas.List.Elements.{All-tail}
-use Rattle.def_script.specs.Verify.{verified}
-use Rattle.def_emit.proofs.Behind.{verified-emit}
 use Rattle.def_tree.specs.Range.{IsInRange}
 use Rattle.def_tree.specs.Size.{nodes, nodes_of}
 use Rattle.ms_tree.specs.Shape.{shape, shapes}
 use Rattle.ms_tree.proofs.Parts.{nodes_at, in_range_at}
 use Rattle.ms_emit.proofs.translation.+add_tree.Goals as goal
-
-pub add_wrap-returns-in_ok-verify-in-V : goal.add_wrap-returns-in_ok-verify-in-V
-add_wrap-returns-in_ok-verify-in-V t c =
-    rw c.in-V.is
-    (c.in_ok-verify-in-V.ensures.ok ∙ ap verified c.in_ok-add_tree-in-V.ensures ∙ verified-emit c.args.script.now (shape c.args.x.now))
 
 pub add_others-add_tree-requires : goal.add_others-add_tree-requires
 add_others-add_tree-requires t c =

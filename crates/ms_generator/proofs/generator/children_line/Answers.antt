@@ -2,7 +2,7 @@ use Rattle.std.proofs.Common.{◌≡◌, append_assoc}
 use Rattle.std.proofs.lemmas.Result.{IfOk-weaker}
 use Rattle.std.specs.String.{string_bytes}
 use Rattle.def_answer.specs.Generated.{threshold_of}
-use Rattle.def_answer.specs.Report.{children_line}
+use Rattle.def_answer.specs.Gen.{children_line}
 use Rattle.ms_generator.proofs.generator.children_line.Goals as goal
 
 pub returns : goal.returns

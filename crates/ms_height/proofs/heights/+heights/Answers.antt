@@ -5,7 +5,7 @@ use Rattle.def_types.proofs.Facts.{typed-multi}
 use Rattle.def_height.specs.Scaffolding.Highest.{at_least, highest_parts}
 use Rattle.ms_tree.specs.Shape.{shapes}
 use Rattle.ms_tree.proofs.Parts.{nodes_at, in_range_at}
-use Rattle.ms_sane.proofs.Children.{few_children, typed_at, typed_children}
+use Rattle.ms_work.proofs.Children.{few_children, typed_at, typed_children}
 use Rattle.ms_height.specs.Scaffolding.Chosen.{chosen}
 use Rattle.ms_height.specs.Scaffolding.Kept.{heights_in}
 use Rattle.ms_height.specs.Scaffolding.Ready.{IsReady}

@@ -1,5 +1,4 @@
 use Rattle.std.proofs.Common.{arith, sym, ◌∙◌}
-use Rattle.ms_oracle.specs.Sound.{table_of}
 use Rattle.ms_interp.proofs.Tries.{tries-done, tries-over, tries-form, tries-good, tries-bad}
 use Rattle.ms_interp.proofs.multi_sig.tries.Goals as goal
 
@@ -31,4 +30,4 @@ loop-next_sig-preserved g c = record {
 pub returns : goal.returns
 returns g c =
     sym c.loop-next_sig.invariant.same
-    ∙ tries-done (table_of c.args.sigs.now) c.args.keys.now c.args.signatures.now c.loop-next_sig.next_key c.loop-next_sig.next_sig c.loop-next_sig.found c.loop-next_sig-test.false
+    ∙ tries-done (g.C.SignatureChecker.checker c.args.sigs.now) c.args.keys.now c.args.signatures.now c.loop-next_sig.next_key c.loop-next_sig.next_sig c.loop-next_sig.found c.loop-next_sig-test.false

@@ -1,6 +1,6 @@
 use Rattle.std.proofs.Common.{◌≡◌, ◌++◌, drop}
 use Rattle.std.specs.List.{flat_map}
-use Rattle.def_answer.specs.Report.{ask_line}
+use Rattle.def_answer.specs.Plan.{ask_line}
 use Rattle.ms_psbt_report.proofs.trees.push_keys.Given as goal
 
 -- the lines so far and those of the keys that are left

@@ -1,7 +1,6 @@
 use Rattle.std.proofs.Common.{◌≡◌, sym, subst, rules}
 use Rattle.def_emit.specs.Emit.{script_of}
 use Rattle.def_machine.specs.Run.{accepted}
-use Rattle.ms_oracle.specs.Sound.{table_of}
 use Rattle.ms_tree.specs.Shape.{shape}
 use Rattle.ms_witness.specs.Reading.{FitsWitness}
 use Rattle.ms_replay.proofs.Accepted.{is_within, fits_witness, is_accepting, run_is, few_ops}
@@ -16,7 +15,7 @@ witness_bytes-requires g c =
 
 pub replay_accepted-requires-clause-accepted : goal.replay_accepted-requires-clause-accepted
 replay_accepted-requires-clause-accepted g c =
-    is_accepting (shape c.args.tree.now) c.args.assets.now c.args.stack.now c.locks-locks.result c.program_of-program.result c.as_slice-3.result.now (table_of c.args.sigs.now)
+    is_accepting (shape c.args.tree.now) c.args.assets.now c.args.stack.now c.locks-locks.result c.program_of-program.result c.as_slice-3.result.now (g.C.SignatureChecker.checker c.args.sigs.now)
     (record { in_range = c.requires.in_range; valid = c.requires.valid; few = c.locks-locks.ensures.few; sat = c.requires.satisfies })
     (record { same_locks = search rules; is_program = search rules; is_witness = search rules }) c.requires.holds
 
@@ -24,7 +23,7 @@ pub returns-clause-report : goal.returns-clause-report
 returns-clause-report g c =
     let report = c.in_ok-report.report in
     run_is (shape c.args.tree.now) c.args.assets.now c.args.stack.now c.locks-locks.result c.program_of-program.result c.as_slice-3.result.now
-    (table_of c.args.sigs.now) (accepted report.ops report.peak report.checks)
+    (g.C.SignatureChecker.checker c.args.sigs.now) (accepted report.ops report.peak report.checks)
     (record { in_range = c.requires.in_range; valid = c.requires.valid; few = c.locks-locks.ensures.few; sat = c.requires.satisfies })
     (record { same_locks = search rules; is_program = search rules; is_witness = search rules }) c.in_ok-report.ensures
 
@@ -32,7 +31,7 @@ pub returns-clause-few_ops : goal.returns-clause-few_ops
 returns-clause-few_ops g c =
     let report = c.in_ok-report.report in
     few_ops (shape c.args.tree.now) c.args.assets.now c.args.stack.now c.locks-locks.result c.program_of-program.result c.as_slice-3.result.now
-    (table_of c.args.sigs.now) report.ops report.peak report.checks
+    (g.C.SignatureChecker.checker c.args.sigs.now) report.ops report.peak report.checks
     (record { in_range = c.requires.in_range; valid = c.requires.valid; few = c.locks-locks.ensures.few; sat = c.requires.satisfies })
     (record { same_locks = search rules; is_program = search rules; is_witness = search rules }) c.requires.holds c.in_ok-report.ensures
 

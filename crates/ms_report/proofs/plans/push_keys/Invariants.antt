@@ -1,7 +1,7 @@
 use Rattle.std.proofs.Common.{◌≡◌, ◌++◌, drop}
 use Rattle.std.specs.List.{flat_map}
 use Rattle.std.specs.String.{string_bytes}
-use Rattle.def_answer.specs.Report.{ask_line}
+use Rattle.def_answer.specs.Plan.{ask_line}
 use Rattle.ms_report.proofs.plans.push_keys.Given as goal
 
 -- the lines so far and those of the keys that are left

@@ -1,7 +1,7 @@
 use Rattle.std.proofs.Common.{◌≡◌, ◌++◌, drop}
 use Rattle.std.specs.List.{flat_map}
 use Rattle.std.specs.String.{string_bytes}
-use Rattle.def_answer.specs.Report.{check_line}
+use Rattle.def_answer.specs.Run.{check_line}
 use Rattle.ms_report.proofs.runs.accepted_report.Given as goal
 
 abbrev pub invariant-loop-pair : goal.invariant-loop-pair

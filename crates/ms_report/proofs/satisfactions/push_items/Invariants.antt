@@ -1,7 +1,7 @@
 use Rattle.std.proofs.Common.{◌≡◌, ◌++◌, drop}
 use Rattle.std.specs.List.{flat_map}
 use Rattle.std.specs.String.{string_bytes}
-use Rattle.def_answer.specs.Report.{item_line}
+use Rattle.def_answer.specs.Satisfy.{item_line}
 use Rattle.ms_report.proofs.satisfactions.push_items.Given as goal
 
 -- the lines so far and those of the items that are left

@@ -2,7 +2,7 @@ use Rattle.std.proofs.Common.{◌≡◌, append_assoc}
 use Rattle.std.proofs.lemmas.Result.{IfOk-weaker}
 use Rattle.std.specs.String.{string_bytes}
 use Rattle.def_machine.specs.Run.{accepted}
-use Rattle.def_answer.specs.Report.{replay_line}
+use Rattle.def_answer.specs.Satisfy.{replay_line}
 use Rattle.ms_report.proofs.satisfactions.replay_line.Goals as goal
 
 pub returns : goal.returns

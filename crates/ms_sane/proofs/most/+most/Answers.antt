@@ -2,7 +2,8 @@ use Rattle.std.proofs.Common.{◌-◌, ◌∙◌, ap, subst, sym, arith, length,
 use Rattle.std.proofs.lemmas.List.{take_all}
 use Rattle.def_tree.specs.Size.{nodes}
 use Rattle.ms_sane.specs.Scaffolding.Most.{children_in}
-use Rattle.ms_sane.proofs.Children.{ready_children, parts_chosen, same_takes, children_more, costs_alike}
+use Rattle.ms_work.proofs.Children.{ready_children}
+use Rattle.ms_sane.proofs.Children.{parts_chosen, same_takes, children_more, costs_alike}
 use Rattle.ms_choice.specs.Numbers.{costs_in}
 use Rattle.ms_choice.specs.Tally.{Tells}
 use Rattle.ms_choice.specs.Choice.{greatest}

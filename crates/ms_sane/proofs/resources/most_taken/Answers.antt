@@ -1,6 +1,6 @@
 use Rattle.std.proofs.Common.{arith}
 use Rattle.ms_tree.specs.Shape.{shape}
-use Rattle.ms_sane.proofs.Accepted.{typed_of}
+use Rattle.ms_work.proofs.Accepted.{typed_of}
 use Rattle.ms_sane.proofs.resources.most_taken.Goals as goal
 
 pub most-requires : goal.most-requires

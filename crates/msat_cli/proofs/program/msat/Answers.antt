@@ -1,6 +1,5 @@
-use Rattle.ms_io.specs.Endings.{call}
-use Rattle.ms_io.specs.Sides.{side}
-use Rattle.msat_cli.specs.Ends.{Call}
+use Rattle.ms_io.specs.Sides.{call, side}
+use Rattle.msat_cli.specs.Calls.{Call}
 use Rattle.msat_cli.proofs.EndLemmas.{ends, ends_as_usage, ends_as_answered, fault_rose, read_fault_rose, tells_nothing, was_read}
 use Rattle.msat_cli.proofs.SatisfactionLemmas.{finds_where_one_exists, shows_canonical, shows_witness, shows_accepted, shows_non_malleable, finds_nothing_to_accept, shows_lightest, shows_tight, tells_unchanged, shows_lightest_unchanged}
 use Rattle.msat_cli.proofs.RefusalLemmas.{refuses_other_texts}

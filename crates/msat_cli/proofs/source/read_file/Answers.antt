@@ -1,5 +1,5 @@
 use Rattle.std.proofs.Common.{Err, ap}
-use Rattle.def_answer.specs.Reply.{MOST_FILE}
+use Rattle.def_answer.specs.Lines.{MOST_FILE}
 use Rattle.ms_io.proofs.Holding.{over_held}
 use Rattle.msat_cli.proofs.source.read_file.Goals as goal
 

@@ -1,10 +1,11 @@
-use Rattle.std.proofs.Common.{sym, subst}
-use Rattle.def_limits.specs.Limits.{AreLimits}
+use Rattle.std.proofs.Common.{refl}
 use Rattle.ms_tree.specs.Shape.{shape}
-use Rattle.ms_replies.specs.Fits.{demand_by}
-use Rattle.msat_cli.proofs.StepLemmas.{known_limits}
+use Rattle.ms_words.specs.declared.words.TextCommand.TheVariants as kind
+use Rattle.def_answer.specs.Satisfy.{reason_by}
+use Rattle.msat_cli.proofs.StepLemmas.{refused_tree}
 use Rattle.msat_cli.proofs.texts.answer_satisfy.Goals as goal
 
-pub bounds_of-bounds-requires-clause-limits : goal.bounds_of-bounds-requires-clause-limits
-bounds_of-bounds-requires-clause-limits g c =
-    subst (AreLimits (shape c.args.tree.now)) (sym c.limits-limits.ensures) (known_limits (demand_by c.args.choice) (shape c.args.tree.now) c.args.fit.known c.requires.known)
+pub returns-in-Err-clause-answer : goal.returns-in-Err-clause-answer
+returns-in-Err-clause-answer g c =
+    refused_tree (kind.Satisfy c.args.choice c.args.rules) (shape c.args.text.now.tree) c.args.text.now.offsets.items _ _ _ (record { left = refl; faults = refl })
+    (c.refuse_tree.ensures (reason_by c.args.choice c.args.rules) c.in-Err.ensures.unfit)

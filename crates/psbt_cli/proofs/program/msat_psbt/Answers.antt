@@ -1,5 +1,4 @@
-use Rattle.ms_io.specs.Endings.{call}
-use Rattle.ms_io.specs.Sides.{side}
+use Rattle.ms_io.specs.Sides.{call, side}
 use Rattle.psbt_cli.specs.Ends.{Call}
 use Rattle.psbt_cli.proofs.Ending.{ends, ends_as_usage, ends_as_answered, write_fault_rose, read_fault_rose, was_read}
 use Rattle.psbt_cli.proofs.Promising.{ReadyLaws, shows_witnesses, tells_lacking, loses_nothing, extracts_transaction}

@@ -4,7 +4,6 @@ use Rattle.def_tree.specs.Tree as model
 use Rattle.ms_tree.specs.Shape.{shape, shapes}
 use Rattle.ms_tree.proofs.Parts.{nodes_at, in_range_at}
 use Rattle.ms_interp.specs.Answering.{given_by}
-use Rattle.ms_oracle.specs.Sound.{table_of}
 use Rattle.ms_audit.specs.Scaffolding.Walking.{Walks}
 use Rattle.ms_audit.proofs.Courses.{ends_by, stays, few_counted, own_done, leaf_nodes, and_or_y, and_or_z, or_i_x}
 use Rattle.ms_audit.proofs.Courses.{or_i_z, first_done, two_done, wrap_empty_done, wrap_done, thresh_done, count_step, nodes_left}
@@ -48,7 +47,8 @@ count-loop-child-preserved g t c =
       left = c.in_ok-walk.ensures.left;
       next = omega (arith, next, left, c.loop-child.invariant.next);
       found =
-          count_step (given_by (table_of c.args.self.now.sigs.now) c.args.self.now.locks.now) c.args.self.now.stack.now xs i c.child-item.result c.loop-child.course c.walk.new.course
+          count_step (given_by (g.C.SignatureChecker.checker c.args.self.now.sigs.now) c.args.self.now.locks.now) c.args.self.now.stack.now xs i
+          c.child-item.result c.loop-child.course c.walk.new.course
           c.in_ok-walk.field-0 c.loop-child.count c.if-branch.count c.loop-child-test.true c.child-item.is c.in_ok-walk.ensures total
           ∙ c.loop-child.invariant.found;
     }
@@ -61,7 +61,7 @@ thresh-returns g t c =
 pub walk-returns-in_ok-row-in-Leaf : goal.walk-returns-in_ok-row-in-Leaf
 walk-returns-in_ok-row-in-Leaf g t c =
     let Goes : model.Tree → Type 0 = λ tree. Walks (given_by
-    (table_of c.args.self.now.sigs.now) c.args.self.now.locks.now) c.args.self.now.stack.now tree c.args.course.now c.end.new.self c.end.result in
+    (g.C.SignatureChecker.checker c.args.self.now.sigs.now) c.args.self.now.locks.now) c.args.self.now.stack.now tree c.args.course.now c.end.new.self c.end.result in
     subst Goes (sym c.in-Leaf.ensures.shows)
     (own_done _ _ _ c.args.course.now _ _ c.end.new.self c.end.result c.args.course.now.next _ refl (c.in_ok-row-in-Leaf.ensures.row c.args.course.now.next)
     c.in_ok-row-in-Leaf.ensures.left (stays _ _ refl) (omega (arith, leaf_nodes c.in-Leaf.leaf)) c.end.ensures)
@@ -69,7 +69,7 @@ walk-returns-in_ok-row-in-Leaf g t c =
 pub walk-returns-in_ok-row-in-Multi : goal.walk-returns-in_ok-row-in-Multi
 walk-returns-in_ok-row-in-Multi g t c =
     let Goes : model.Tree → Type 0 = λ tree. Walks (given_by
-    (table_of c.args.self.now.sigs.now) c.args.self.now.locks.now) c.args.self.now.stack.now tree c.args.course.now c.end-in-Multi.new.self
+    (g.C.SignatureChecker.checker c.args.self.now.sigs.now) c.args.self.now.locks.now) c.args.self.now.stack.now tree c.args.course.now c.end-in-Multi.new.self
     c.end-in-Multi.result in
     subst Goes (sym c.in-Multi.ensures.shows)
     (own_done _ _ _ c.args.course.now _ _ c.end-in-Multi.new.self c.end-in-Multi.result c.args.course.now.next _ refl

@@ -4,7 +4,6 @@ use Rattle.def_tree.specs.Size.{nodes, nodes_of}
 use Rattle.ms_audit_laws.specs.Walk.{walk_all}
 use Rattle.ms_audit.specs.Scaffolding.Walking.{below, added}
 use Rattle.ms_interp.specs.Answering.{given_by}
-use Rattle.ms_oracle.specs.Sound.{table_of}
 use Rattle.ms_tree.specs.Shape.{shape, shapes}
 use Rattle.ms_audit.proofs.spend.Spend.+walk.Given as goal
 
@@ -35,6 +34,8 @@ invariant-count-loop-child g l = record {
   left : l.course.left ≤ length l.self.stack.now;
   next : l.course.next + nodes_of (shapes (drop l.child-index l.children)) ≡ l.fn.course.next + nodes_of (shapes l.children);
   found :
-      added l.count l.course.steps.items (walk_all (given_by (table_of l.self.sigs.now) l.self.locks.now) l.course.next (shapes (drop l.child-index l.children)) (below l.self.stack.now l.course.left))
-      ≡ added 0 l.fn.course.steps.items (walk_all (given_by (table_of l.self.sigs.now) l.self.locks.now) l.fn.course.next (shapes l.children) (below l.self.stack.now l.fn.course.left));
+      added l.count l.course.steps.items (walk_all (given_by (g.C.SignatureChecker.checker l.self.sigs.now) l.self.locks.now) l.course.next (shapes (drop l.child-index l.children))
+      (below l.self.stack.now l.course.left))
+      ≡ added 0 l.fn.course.steps.items (walk_all (given_by (g.C.SignatureChecker.checker l.self.sigs.now) l.self.locks.now) l.fn.course.next (shapes l.children)
+      (below l.self.stack.now l.fn.course.left));
 }

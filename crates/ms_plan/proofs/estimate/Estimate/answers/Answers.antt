@@ -1,6 +1,6 @@
 use Rattle.std.proofs.Common.{◌≡◌, Some, subst, sym}
 use Rattle.def_plan.specs.Lengths.{AreLengths, length_of}
-use Rattle.ms_plan.proofs.Tables.{answered}
+use Rattle.ms_plan_file.proofs.Tables.{answered}
 use Rattle.ms_plan.proofs.estimate.Estimate.answers.Goals as goal
 
 pub loop-entry-preserved : goal.loop-entry-preserved

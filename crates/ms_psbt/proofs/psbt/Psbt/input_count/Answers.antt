@@ -1,6 +1,6 @@
 use Rattle.std.proofs.Common.{length, arith, ap}
 use Rattle.def_psbt.specs.Map.{Psbt}
-use Rattle.ms_psbt.proofs.Holding.{places_count}
+use Rattle.ms_psbt.proofs.Holding.{places_count, each_has_map}
 use Rattle.ms_psbt.proofs.psbt.Psbt.input_count.Goals as goal
 
 pub overflow_sub-result : goal.overflow_sub-result
@@ -15,7 +15,7 @@ returns-clause-inputs c =
       arith,
       places_count c.self.invariant,
       c.self.inside.places.ok.0,
-      c.self.invariant.sound.each_input,
+      each_has_map c.self.invariant,
       ap
           (λ (p : Psbt). length p.transaction.inputs) c.self.view_is,
     )

@@ -1,0 +1,4 @@
+pub mod Hmac
+pub mod Extended
+pub mod Child
+pub mod Examples

@@ -1,0 +1,8 @@
+pub mod Computing
+pub mod Places
+pub mod Told
+pub mod Effects
+pub mod Acts
+pub mod Rebuilt
+pub mod Writing
+pub mod Outcomes

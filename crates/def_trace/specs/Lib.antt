@@ -1,0 +1,9 @@
+pub mod Placed
+pub mod Seen
+pub mod Changes
+pub mod Trace
+pub mod Reader
+pub mod Written
+pub mod Writers
+pub mod Laws
+pub mod Examples

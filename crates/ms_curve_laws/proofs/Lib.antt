@@ -1,0 +1,4 @@
+pub mod Encodings
+pub mod Closure
+mod Roots
+mod Keys

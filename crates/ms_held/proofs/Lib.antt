@@ -1,0 +1,3 @@
+mod FewHeld
+mod Orders
+mod SamePairs

@@ -1,0 +1,8 @@
+use Rattle.std.proofs.Common.{◌≡◌, map, drop}
+use Rattle.std.specs.List.{list_all}
+use Rattle.serde_json.specs.View.{view}
+use Rattle.def_files.specs.Parts.{is_text}
+use Rattle.ms_lines.proofs.question.are_texts.Given as goal
+
+abbrev pub invariant-loop-element : goal.invariant-loop-element
+invariant-loop-element l = list_all is_text (map view (drop l.element-index l.elements)) ≡ list_all is_text (map view l.elements)

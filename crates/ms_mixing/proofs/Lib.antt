@@ -1,0 +1,4 @@
+mod Mixed
+mod Unions
+mod Entries
+mod Repeated

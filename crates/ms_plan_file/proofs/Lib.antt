@@ -1,0 +1,4 @@
+pub mod Tables
+mod PlanRefusals
+pub mod Forms
+mod Usable

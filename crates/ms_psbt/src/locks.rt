@@ -1,0 +1,111 @@
+//! The lock time of a PSBT of version 2 (BIP 370, "Determining Lock Time").
+
+ghost use Rattle.std.specs.Prelude.{◌≡◌, ◌⊎◌, ◌||◌, ◌&&◌, max, ℕ, false, List, Ok};
+ghost use Rattle.std.specs.List.{list_any};
+ghost use Rattle.def_psbt.specs.Fields.{greatest as the_greatest, lock_time_of};
+ghost use Rattle.def_psbt.specs.Listed.{Form};
+ghost use Rattle.def_psbt.specs.Map.{Map};
+ghost use Rattle.def_psbt.specs.Reading.{map_at, unserved_at};
+ghost use Rattle.ms_psbt.specs.Scaffolding.Locks.{is_meant};
+ghost use Rattle.ms_psbt.specs.Scaffolding.Maps.{InputsAt};
+
+use crate::values::{has, number_or};
+
+/// Which inputs are meant.
+#[derive(Clone, Copy)]
+pub enum Lock {
+    /// Those with a time or a height.
+    Either,
+    /// Those with a time alone.
+    TimeAlone,
+    /// Those with a height alone.
+    HeightAlone,
+}
+
+/// Whether the input whose map begins at a place is meant.
+fn has_lock(lock: Lock, psbt: &[u8], from: usize) -> bool
+    ensures { (forms : ℕ → Form) (map : Map × ℕ) → map_at forms psbt.now from ≡ Ok map → result ≡ is_meant lock map.0 }
+{
+    let time = has(psbt, from, 0x11);
+    let height = has(psbt, from, 0x12);
+    match lock {
+        Lock::Either => time || height,
+        Lock::TimeAlone => time && !height,
+        Lock::HeightAlone => height && !time,
+    }
+}
+
+/// Whether one of the inputs whose maps begin at these places is meant.
+fn any_lock(lock: Lock, psbt: &[u8], places: &[u32]) -> bool
+    ensures { (at : ℕ) (inputs : List Map) → InputsAt psbt.now at places.now inputs → result ≡ list_any (is_meant lock) inputs }
+{
+    for place in places {
+        if has_lock(lock, psbt, *place as usize) {
+            return true;
+        }
+    }
+    false
+}
+
+/// The greatest number of a field among the inputs whose maps begin at these places: the times or the heights.
+fn greatest(psbt: &[u8], places: &[u32], type_number: u64) -> u32
+    requires { (type_number ≡ 0x11) ⊎ (type_number ≡ 0x12) }
+    ensures { (at : ℕ) (inputs : List Map) → InputsAt psbt.now at places.now inputs → result ≡ the_greatest type_number inputs }
+{
+    let mut most = 0;
+    for place in places {
+        let number = number_or(psbt, *place as usize, type_number, 0);
+        most = larger(most, number);
+    }
+    most
+}
+
+/// The larger one of two numbers.
+fn larger(first: u32, second: u32) -> u32
+    ensures { result ≡ max first second }
+{
+    if first < second { second } else { first }
+}
+
+fn either(first: bool, second: bool) -> bool
+    ensures { result ≡ (first || second) }
+{
+    first || second
+}
+
+fn both(first: bool, second: bool) -> bool
+    ensures { result ≡ (first && second) }
+{
+    first && second
+}
+
+/// The lock time of the inputs whose maps begin at these places.
+pub fn lock_time(psbt: &[u8], fallback: u32, places: &[u32]) -> u32
+    ensures { (at : ℕ) (inputs : List Map) → InputsAt psbt.now at places.now inputs → result ≡ lock_time_of fallback inputs }
+{
+    if !any_lock(Lock::Either, psbt, places) {
+        fallback
+    } else if any_lock(Lock::TimeAlone, psbt, places) {
+        greatest(psbt, places, 0x11)
+    } else {
+        greatest(psbt, places, 0x12)
+    }
+}
+
+/// The place of the first map up to which one input has a time alone and one a height alone.
+pub fn unserved(psbt: &[u8], places: &[u32]) -> Option<u32>
+    ensures { (at : ℕ) (inputs : List Map) → InputsAt psbt.now at places.now inputs → result ≡ unserved_at false false at inputs }
+{
+    let mut time = false;
+    let mut height = false;
+    for place in places {
+        let has_time = has_lock(Lock::TimeAlone, psbt, *place as usize);
+        let has_height = has_lock(Lock::HeightAlone, psbt, *place as usize);
+        time = either(time, has_time);
+        height = either(height, has_height);
+        if both(time, height) {
+            return Some(*place);
+        }
+    }
+    None
+}

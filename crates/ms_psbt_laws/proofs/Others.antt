@@ -1,0 +1,442 @@
+-- What is said of an input goes by its transaction and by the other pairs of its map, those beside the fields of version 2.
+use Rattle.std.proofs.Common.{◌≡◌, ℕ, ◌+◌, ◌==◌, ◌&&◌, ◌||◌, not, nat_le, nat_lt, Bool, true, false, List, [], ◌∷◌, ◌++◌, length, map, find, filter, flat_map, Option, Some, None, Result, Ok, Err, unwrap_or, if◌then◌else◌, inl, inr, refl, sym, ap, subst, ◌∙◌, arith}
+use Rattle.std.specs.Prelude.{⊤}
+use Rattle.hex.specs.Hex.{encode_lower}
+use Rattle.std.specs.List.{AllByRecursion, list_all, list_any}
+use Rattle.std.specs.Option.{option_map, option_and_then}
+use Rattle.std.proofs.lemmas.Bool.{and_parts, eqb-true, leb-true, lt-leb, cases_Bool}
+use Rattle.std.proofs.lemmas.List.Elements.{All-from_recursion, recursion_from_All}
+use Rattle.def_script.specs.Bytes.{Bytes}
+use Rattle.def_script.specs.Key.{is_key}
+use Rattle.def_machine.specs.Stacks.{Pairs}
+use Rattle.def_tree.specs.Tree.{Tree}
+use Rattle.def_assets.specs.Assets.{Assets}
+use Rattle.def_sane.specs.Unfit.{first_unfit}
+use Rattle.def_choice.specs.Strict.{strict}
+use Rattle.def_policy.specs.Print.{printed as printed_policy}
+use Rattle.def_psbt.specs.Transaction.{TransactionInput, Transaction, transaction_text}
+use Rattle.def_psbt.specs.Map.{Pair, Map, Psbt, type_of, data_of}
+use Rattle.def_spend.specs.declared.State.{State}
+use Rattle.def_spend.specs.declared.State.TheVariants as state
+use Rattle.def_spend.specs.Fields.{NON_WITNESS_UTXO, WITNESS_UTXO, PARTIAL_SIG, SIGHASH_TYPE, WITNESS_SCRIPT, BIP32_DERIVATION, FINAL_SCRIPTSIG, FINAL_SCRIPTWITNESS, RIPEMD160, HASH256, has_type, is_between, field, is_signed, signatures_in, has_key, keys_in, is_preimage_pair, preimages_in, last_byte, asked, asked_type}
+use Rattle.def_spend.specs.Amount.{known_amount}
+use Rattle.def_spend.specs.Utxo.{amount_of}
+use Rattle.def_spend.specs.HashTypes.{hash_type_of}
+use Rattle.def_spend.specs.SignatureHash.{signature_hash}
+use Rattle.def_spend.specs.Hashes.{script_in, spent_amount, hash_by}
+use Rattle.def_spend.specs.Input.{Spend, spends_from, locks_of, assets_of}
+use Rattle.def_spend.specs.Reading.{Input, has_item, witness_script, ReadsAs, HasReading}
+use Rattle.def_spend.specs.States.{MOST_HELD, is_sighash_wrong, are_too_many, choice_state, held_state, unless_unfit, tree_state, state_by, state_of, is_read, is_sane, is_final, is_ready, stack_of}
+use Rattle.def_spend.specs.Asking.{plan_with}
+use Rattle.def_spend.specs.Finalized.{final_input, final_inputs, final_witness, witnessed_text, network_text}
+use Rattle.def_answer.specs.Lines.{line}
+use Rattle.def_answer.specs.Decode.{decode_report}
+use Rattle.def_answer.specs.Policy.{policy_of}
+use Rattle.def_psbt_answer.specs.declared.status.Status.TheVariants as status
+use Rattle.def_psbt_answer.specs.declared.words.Command.{Command}
+use Rattle.def_psbt_answer.specs.declared.words.Command.TheVariants as command
+use Rattle.def_psbt_answer.specs.Words.{command_of}
+use Rattle.def_psbt_answer.specs.declared.words.Form.{Form}
+use Rattle.def_psbt_answer.specs.Lines.{psbt_line, output_lines, input_line, outpoint_line, amount_line, unchecked_line, signature_line, policy_line, sign_line, check_line, not_final_line}
+use Rattle.def_psbt_answer.specs.Fee.{fee_line}
+use Rattle.def_psbt_answer.specs.Report.{amount_in, plan_lines, last_lines, tree_lines, open_lines, input_report, inspect_report, hash_lines, input_hashes, hashes_report}
+use Rattle.def_psbt_answer.specs.Reply.{reply, is_settled, settled_status, form_of, first_open, extract_by, extract_reply, command_reply}
+use Rattle.def_psbt_answer.specs.Answer.{RepliesToPsbt, RepliesToSource, RepliesToWords}
+use Rattle.ms_spend_laws.specs.Planned.{with_map}
+use Rattle.ms_spend_laws.proofs.Reread.{SpendAlike, utxo_alike, script_alike}
+use Rattle.ms_psbt_laws.specs.Agreeing.{is_other, AreAgreeing, VersionsAgree}
+
+-- ---- lists
+
+module _ (test : Pair → Bool) (passes : (pair : Pair) → test pair ≡ true → is_other pair ≡ true) where
+  found_other : (fields : Map) → find test (filter is_other fields) ≡ find test fields
+  found_other [] = refl
+  found_other (pair ∷ fields) =
+      let rest = found_other fields in
+      elim (cases_Bool (test pair)) [
+        | inl is ↦ rw (passes pair is, is) refl
+        | inr fails ↦ elim (cases_Bool (is_other pair)) [ inl kept ↦ rw (kept, fails) rest | inr left ↦ rw (left, fails) rest ]
+      ]
+
+  kept_other : (fields : Map) → filter test (filter is_other fields) ≡ filter test fields
+  kept_other [] = refl
+  kept_other (pair ∷ fields) =
+      let rest = kept_other fields in
+      elim (cases_Bool (test pair)) [
+        | inl is ↦ rw (passes pair is, is) (ap (λ (l : Map). pair ∷ l) rest)
+        | inr fails ↦ elim (cases_Bool (is_other pair)) [ inl kept ↦ rw (kept, fails) rest | inr left ↦ rw (left, fails) rest ]
+      ]
+
+-- a type that doesn't lie between those of the fields of version 2
+of_type : (type : ℕ) → not (is_between 0x0e 0x12 type) ≡ true → (pair : Pair) → has_type type pair ≡ true → is_other pair ≡ true
+of_type type other pair is = ap (λ (n : ℕ). not (is_between 0x0e 0x12 n)) (eqb-true (type_of pair.key) type is) ∙ other
+
+signed_is_other : (pair : Pair) → is_signed pair ≡ true → is_other pair ≡ true
+signed_is_other pair is = of_type PARTIAL_SIG refl pair (and_parts (has_type PARTIAL_SIG pair) (is_key (data_of pair.key)) is).0
+
+key_is_other : (pair : Pair) → has_key pair ≡ true → is_other pair ≡ true
+key_is_other pair is = elim (cases_Bool (has_type PARTIAL_SIG pair)) [
+  | inl signed ↦ of_type PARTIAL_SIG refl pair signed
+  | inr unsigned ↦ of_type BIP32_DERIVATION refl pair (and_parts (has_type BIP32_DERIVATION pair) (is_key (data_of pair.key)) (rw unsigned at is)).0
+]
+
+-- the types of preimages end before those of version 2
+ends_before : (type : ℕ) → nat_le type 0x0d ≡ true → not (is_between 0x0e 0x12 type) ≡ true
+ends_before type low = ap (λ b. not (b && nat_le type 0x12)) (lt-leb 0x0e type (omega (arith, leb-true type 0x0d low)))
+
+preimage_is_other : (pair : Pair) → is_preimage_pair pair ≡ true → is_other pair ≡ true
+preimage_is_other pair is =
+    let between = (and_parts (is_between RIPEMD160 HASH256 (type_of pair.key)) (length pair.value == 32) is).0 in
+    ends_before (type_of pair.key) (and_parts (nat_le RIPEMD160 (type_of pair.key)) (nat_le (type_of pair.key) HASH256) between).1
+
+-- ---- the fields of two maps with the same other pairs
+
+module _ (fields later : Map) (same : filter is_other later ≡ filter is_other fields) where
+  field_same : (type : ℕ) → not (is_between 0x0e 0x12 type) ≡ true → field type later ≡ field type fields
+  field_same type other =
+      ap (option_map (λ (pair : Pair). pair.value))
+      (sym (found_other (has_type type) (of_type type other) later) ∙ ap (find (has_type type)) same ∙ found_other (has_type type) (of_type type other) fields)
+
+  kept_same : (test : Pair → Bool) → ((pair : Pair) → test pair ≡ true → is_other pair ≡ true) → filter test later ≡ filter test fields
+  kept_same test passes = sym (kept_other test passes later) ∙ ap (filter test) same ∙ kept_other test passes fields
+
+  signatures_same : signatures_in later ≡ signatures_in fields
+  signatures_same = ap (map (λ (pair : Pair). (data_of pair.key, pair.value))) (kept_same is_signed signed_is_other)
+
+  keys_same : keys_in later ≡ keys_in fields
+  keys_same = ap (map (λ (pair : Pair). data_of pair.key)) (kept_same has_key key_is_other)
+
+  preimages_same : preimages_in later ≡ preimages_in fields
+  preimages_same = ap (map (λ (pair : Pair). pair.value)) (kept_same is_preimage_pair preimage_is_other)
+
+  asked_same : asked_type later ≡ asked_type fields
+  asked_same = ap asked (field_same SIGHASH_TYPE refl)
+
+  spend_same : SpendAlike fields later
+  spend_same = record {
+    script_sig = field_same FINAL_SCRIPTSIG refl;
+    witness = field_same FINAL_SCRIPTWITNESS refl;
+    previous = field_same NON_WITNESS_UTXO refl;
+    claim = field_same WITNESS_UTXO refl;
+    script = field_same WITNESS_SCRIPT refl;
+  }
+
+  too_many_same : are_too_many later ≡ are_too_many fields
+  too_many_same =
+      ap (λ (pairs : Pairs). nat_lt MOST_HELD (length pairs) || nat_lt MOST_HELD (length (preimages_in later))) signatures_same
+      ∙ ap (λ (preimages : List Bytes). nat_lt MOST_HELD (length (signatures_in fields)) || nat_lt MOST_HELD (length preimages)) preimages_same
+
+-- ---- one input
+
+-- what is said, by what is read of a map
+abbrev held_by : Tree → (type : ℕ) → Pairs → (many : Bool) → Assets → State
+held_by tree type pairs many assets =
+    if is_sighash_wrong type pairs then state.WrongSighash else if many then state.TooMany else choice_state (strict tree assets)
+
+abbrev open_by : State → Pairs → (lines : Bytes) → Bytes
+open_by s pairs lines = if is_final s then unchecked_line else flat_map signature_line pairs ++ lines
+
+abbrev hash_with : Spend → (number : ℕ) → (script : Bytes) → (amount : ℕ) → Option Bytes
+hash_with spend number script amount =
+    option_map (λ type. signature_hash type spend.transaction spend.number spend.input script amount) (hash_type_of number)
+
+abbrev checks : Spend → Pairs → Bytes
+checks spend pairs = flat_map (λ pair. check_line pair (hash_by (last_byte pair.1) spend)) pairs
+
+module _ (input : Input) (later : Map) (same : filter is_other later ≡ filter is_other input.spend.fields) where
+  abbrev own : Map
+  own = input.spend.fields
+
+  abbrev new : Spend
+  new = (with_map input later).spend
+
+  script_same : witness_script new ≡ witness_script input.spend
+  script_same = script_alike input.spend later (spend_same own later same)
+
+  pub reading_same : HasReading input → HasReading (with_map input later)
+  reading_same read =
+      subst (λ keys. ReadsAs keys (witness_script new) input.tree) (sym (keys_same own later same))
+      (subst (λ script. ReadsAs (keys_in own) script input.tree) (sym script_same) read)
+
+  assets_same : assets_of new ≡ assets_of input.spend
+  assets_same =
+      ap (λ (pairs : Pairs). record { locks = locks_of input.spend; pairs = pairs; preimages = preimages_in later }) (signatures_same own later same)
+      ∙ ap (λ (preimages : List Bytes). record { locks = locks_of input.spend; pairs = signatures_in own; preimages = preimages }) (preimages_same own later same)
+
+  held_same : (tree : Tree) → held_state tree new ≡ held_state tree input.spend
+  held_same tree =
+      ap (λ (type : ℕ). held_by tree type (signatures_in later) (are_too_many later) (assets_of new)) (asked_same own later same)
+      ∙ ap (λ (pairs : Pairs). held_by tree (asked_type own) pairs (are_too_many later) (assets_of new)) (signatures_same own later same)
+      ∙ ap (λ b. held_by tree (asked_type own) (signatures_in own) b (assets_of new)) (too_many_same own later same)
+      ∙ ap (held_by tree (asked_type own) (signatures_in own) (are_too_many own)) assets_same
+
+  state_same : state_of (with_map input later) ≡ state_of input
+  state_same = ap (λ script. state_by script input.tree new) script_same ∙ by_script (witness_script input.spend)
+    where
+      by_tree : (found : Option Tree) → tree_state found new ≡ tree_state found input.spend
+      by_tree None = refl
+      by_tree (Some tree) = ap (unless_unfit (first_unfit tree)) (held_same tree)
+
+      by_script : (script : Result Bytes State) → state_by script input.tree new ≡ state_by script input.tree input.spend
+      by_script (Ok script) = by_tree input.tree
+      by_script (Err state) = refl
+
+  -- ---- its lines
+
+  amount_same : amount_in new ≡ amount_in input.spend
+  amount_same = ap amount_of (utxo_alike own later (spend_same own later same) input.spend.input.outpoint)
+
+  stack_same : stack_of (with_map input later) ≡ stack_of input
+  stack_same = ap (λ (assets : Assets). unwrap_or (option_and_then (λ tree. strict tree assets) input.tree) []) assets_same
+
+  last_same : (s : State) (tree : Tree) (stack : List Bytes) → last_lines s tree new stack ≡ last_lines s tree input.spend stack
+  last_same state.Unsatisfied tree stack = ap (λ (assets : Assets). plan_lines assets (plan_with tree assets)) assets_same
+  last_same other tree stack = refl
+
+  tree_same : (s : State) (found : Option Tree) (stack : List Bytes) → tree_lines s found new stack ≡ tree_lines s found input.spend stack
+  tree_same s None stack = refl
+  tree_same s (Some tree) stack =
+      ap (λ lines. (if is_read s then decode_report tree else []) ++ (if is_sane s then policy_line (printed_policy (policy_of tree)) else []) ++ lines) (last_same s tree stack)
+
+  open_same : open_lines (with_map input later) ≡ open_lines input
+  open_same =
+      ap (λ s. open_by s (signatures_in later) (tree_lines s input.tree new (stack_of (with_map input later)))) state_same
+      ∙ ap (λ (pairs : Pairs). open_by (state_of input) pairs (tree_lines (state_of input) input.tree new (stack_of (with_map input later)))) (signatures_same own later same)
+      ∙ ap (open_by (state_of input) (signatures_in own))
+      (ap (tree_lines (state_of input) input.tree new) stack_same ∙ tree_same (state_of input) input.tree (stack_of input))
+
+  pub report_same : input_report (with_map input later) ≡ input_report input
+  report_same =
+      ap (λ s. input_line input.spend.number s ++ outpoint_line input.spend.input ++ amount_line (amount_in new) ++ open_lines (with_map input later)) state_same
+      ∙ ap (λ amount. input_line input.spend.number (state_of input) ++ outpoint_line input.spend.input ++ amount_line amount ++ open_lines (with_map input later)) amount_same
+      ∙ ap (λ lines. input_line input.spend.number (state_of input) ++ outpoint_line input.spend.input ++ amount_line (amount_in input.spend) ++ lines) open_same
+
+  hash_same : (number : ℕ) → hash_by number new ≡ hash_by number input.spend
+  hash_same number =
+      ap (λ o. hash_with input.spend number (unwrap_or o []) (spent_amount new)) (field_same own later same WITNESS_SCRIPT refl)
+      ∙ ap (λ amount. hash_with input.spend number (script_in own) (known_amount amount)) amount_same
+
+  check_same : (pairs : Pairs) → checks new pairs ≡ checks input.spend pairs
+  check_same [] = refl
+  check_same (pair ∷ pairs) =
+      ap (λ (o : Option Bytes). check_line pair o ++ checks new pairs) (hash_same (last_byte pair.1))
+      ∙ ap (λ lines. check_line pair (hash_by (last_byte pair.1) input.spend) ++ lines) (check_same pairs)
+
+  lines_same : hash_lines new ≡ hash_lines input.spend
+  lines_same =
+      ap (λ (type : ℕ). sign_line type (hash_by type new) ++ checks new (signatures_in later)) (asked_same own later same)
+      ∙ ap (λ o. sign_line (asked_type own) o ++ checks new (signatures_in later)) (hash_same (asked_type own))
+      ∙ ap (λ (pairs : Pairs). sign_line (asked_type own) (hash_by (asked_type own) input.spend) ++ checks new pairs) (signatures_same own later same)
+      ∙ ap (λ lines. sign_line (asked_type own) (hash_by (asked_type own) input.spend) ++ lines) (check_same (signatures_in own))
+
+  pub hashes_same : input_hashes (with_map input later) ≡ input_hashes input
+  hashes_same =
+      ap (λ s. input_line input.spend.number s ++ (if is_sane s then hash_lines new else [])) state_same
+      ∙ ap (λ lines. input_line input.spend.number (state_of input) ++ (if is_sane (state_of input) then lines else [])) lines_same
+
+-- ---- all inputs
+
+-- the same inputs with other maps that have the same other pairs
+abbrev AreTurned : (inputs others : List Input) → Type 0
+AreTurned [] [] = ⊤
+AreTurned [] (other ∷ others) = ⊥
+AreTurned (input ∷ inputs) [] = ⊥
+AreTurned (input ∷ inputs) (other ∷ others) =
+    (other ≡ with_map input other.spend.fields) × (filter is_other other.spend.fields ≡ filter is_other input.spend.fields) × AreTurned inputs others
+
+-- what is the same of each input with another such map
+abbrev Stays : {A : Type 0} → (Input → A) → Type 0
+Stays f = (input : Input) (later : Map) → filter is_other later ≡ filter is_other input.spend.fields → f (with_map input later) ≡ f input
+
+each_stays : {A : Type 0} (f : Input → A) → Stays f → (inputs others : List Input) → AreTurned inputs others → map f others ≡ map f inputs
+each_stays f stays [] [] turned = refl
+each_stays f stays [] (other ∷ others) turned = absurd turned
+each_stays f stays (input ∷ inputs) [] turned = absurd turned
+each_stays {A} f stays (input ∷ inputs) (other ∷ others) turned =
+    let one = ap f turned.0 ∙ stays input other.spend.fields turned.1 in
+    ap (λ (x : A). x ∷ map f others) one ∙ ap (λ (xs : List A). f input ∷ xs) (each_stays f stays inputs others turned.2)
+
+lines_stay : (f : Input → Bytes) → Stays f → (inputs others : List Input) → AreTurned inputs others → flat_map f others ≡ flat_map f inputs
+lines_stay f stays [] [] turned = refl
+lines_stay f stays [] (other ∷ others) turned = absurd turned
+lines_stay f stays (input ∷ inputs) [] turned = absurd turned
+lines_stay f stays (input ∷ inputs) (other ∷ others) turned =
+    let one = ap f turned.0 ∙ stays input other.spend.fields turned.1 in
+    ap (λ lines. lines ++ flat_map f others) one ∙ ap (λ lines. f input ++ lines) (lines_stay f stays inputs others turned.2)
+
+status_stays : (inputs others : List Input) → AreTurned inputs others → list_all is_settled others ≡ list_all is_settled inputs
+status_stays [] [] turned = refl
+status_stays [] (other ∷ others) turned = absurd turned
+status_stays (input ∷ inputs) [] turned = absurd turned
+status_stays (input ∷ inputs) (other ∷ others) turned =
+    let one = ap is_settled turned.0 ∙ ap (λ s. is_final s || is_ready s) (state_same input other.spend.fields turned.1) in
+    ap (λ b. b && list_all is_settled others) one ∙ ap (λ b. is_settled input && b) (status_stays inputs others turned.2)
+
+-- the number of the first input that isn't Final
+abbrev number_in : Option Input → Option ℕ
+number_in o = option_map (λ (input : Input). input.spend.number) o
+
+open_stays : (inputs others : List Input) → AreTurned inputs others → number_in (first_open others) ≡ number_in (first_open inputs)
+open_stays [] [] turned = refl
+open_stays [] (other ∷ others) turned = absurd turned
+open_stays (input ∷ inputs) [] turned = absurd turned
+open_stays (input ∷ inputs) (other ∷ others) turned =
+    let one = ap (λ (it : Input). state_of it) turned.0 ∙ state_same input other.spend.fields turned.1 in
+    let number = ap (λ (it : Input). it.spend.number) turned.0 in
+    ap (λ s. number_in (if not (is_final s) then Some other else first_open others)) one
+    ∙ go (not (is_final (state_of input))) (ap Some number) (open_stays inputs others turned.2)
+  where
+    go : (b : Bool) → Some other.spend.number ≡ Some input.spend.number → number_in (first_open others) ≡ number_in (first_open inputs)
+        → number_in (if b then Some other else first_open others) ≡ number_in (if b then Some input else first_open inputs)
+    go true e h = e
+    go false e h = h
+
+-- ---- the inputs of the other PSBT
+
+abbrev with_maps : List Input → List Map → List Input
+with_maps [] maps = []
+with_maps (input ∷ inputs) [] = []
+with_maps (input ∷ inputs) (fields ∷ maps) = with_map input fields ∷ with_maps inputs maps
+
+record Turned (transaction : Transaction) (number : ℕ) (ins : List TransactionInput) (inputs : List Input) (maps : List Map) : Type 0 where
+  pub turned : AreTurned inputs (with_maps inputs maps)
+  pub spends : map (λ (input : Input). input.spend) (with_maps inputs maps) ≡ spends_from transaction number ins maps
+  pub read : AllByRecursion HasReading (with_maps inputs maps)
+
+are_turned : (transaction : Transaction) (number : ℕ) (ins : List TransactionInput) (fields maps : List Map) (inputs : List Input)
+    → map (filter is_other) fields ≡ map (filter is_other) maps → map (λ (input : Input). input.spend) inputs ≡ spends_from transaction number ins fields
+    → AllByRecursion HasReading inputs → Turned transaction number ins inputs maps
+are_turned transaction number [] fields maps [] same spends read = record { turned = tt; spends = refl; read = tt }
+are_turned transaction number [] fields maps (input ∷ inputs) same spends read = absurd cc
+are_turned transaction number (i ∷ ins) [] [] [] same spends read = record { turned = tt; spends = refl; read = tt }
+are_turned transaction number (i ∷ ins) [] [] (input ∷ inputs) same spends read = absurd cc
+are_turned transaction number (i ∷ ins) [] (m ∷ maps) inputs same spends read = absurd cc
+are_turned transaction number (i ∷ ins) (f ∷ fields) [] inputs same spends read = absurd cc
+are_turned transaction number (i ∷ ins) (f ∷ fields) (m ∷ maps) [] same spends read = absurd cc
+are_turned transaction number (i ∷ ins) (f ∷ fields) (m ∷ maps) (input ∷ inputs) same spends read =
+    let own : input.spend ≡ record { transaction = transaction; number = number; input = i; fields = f } = cc in
+    let others : map (λ (input : Input). input.spend) inputs ≡ spends_from transaction (number + 1) ins fields = cc in
+    let kept : filter is_other f ≡ filter is_other m = cc in
+    let kept_others : map (filter is_other) fields ≡ map (filter is_other) maps = cc in
+    let rest = are_turned transaction (number + 1) ins fields maps inputs kept_others others read.1 in
+    let mine : filter is_other m ≡ filter is_other input.spend.fields = sym kept ∙ ap (λ (spend : Spend). filter is_other spend.fields) (sym own) in
+    record {
+      turned = (refl, mine, rest.turned);
+      spends = ap (λ (spend : Spend). record spend { fields = m } ∷ map (λ (input : Input). input.spend) (with_maps inputs maps)) own
+          ∙ ap (λ (spends : List Spend). record { transaction = transaction; number = number; input = i; fields = m } ∷ spends) rest.spends;
+      read = (reading_same input m mine read.0, rest.read);
+    }
+
+-- ---- the network transaction
+
+abbrev network_of : Transaction → (maps : List Map) → Bytes
+network_of transaction maps = network_text (record { global = []; transaction = transaction; inputs = maps; outputs = [] })
+
+inputs_stay : (ins : List TransactionInput) (fields maps : List Map) → map (filter is_other) fields ≡ map (filter is_other) maps → final_inputs ins maps ≡ final_inputs ins fields
+inputs_stay [] fields maps same = refl
+inputs_stay (i ∷ ins) [] [] same = refl
+inputs_stay (i ∷ ins) [] (m ∷ maps) same = absurd cc
+inputs_stay (i ∷ ins) (f ∷ fields) [] same = absurd cc
+inputs_stay (i ∷ ins) (f ∷ fields) (m ∷ maps) same =
+    let kept : filter is_other m ≡ filter is_other f = cc in
+    let others : map (filter is_other) fields ≡ map (filter is_other) maps = cc in
+    ap (λ (o : Option Bytes). record i { script_sig = unwrap_or o [] } ∷ final_inputs ins maps) (field_same f m kept FINAL_SCRIPTSIG refl)
+    ∙ ap (λ (is : List TransactionInput). final_input i f ∷ is) (inputs_stay ins fields maps others)
+
+witnesses_stay : (fields maps : List Map) → map (filter is_other) fields ≡ map (filter is_other) maps → map final_witness maps ≡ map final_witness fields
+witnesses_stay [] [] same = refl
+witnesses_stay [] (m ∷ maps) same = absurd cc
+witnesses_stay (f ∷ fields) [] same = absurd cc
+witnesses_stay (f ∷ fields) (m ∷ maps) same =
+    let kept : filter is_other m ≡ filter is_other f = cc in
+    let others : map (filter is_other) fields ≡ map (filter is_other) maps = cc in
+    ap (λ (o : Option Bytes). unwrap_or o (0x00 ∷ []) ∷ map final_witness maps) (field_same f m kept FINAL_SCRIPTWITNESS refl)
+    ∙ ap (λ (ws : List Bytes). final_witness f ∷ ws) (witnesses_stay fields maps others)
+
+-- whether a final witness has an item
+abbrev any_item : (maps : List Map) → Bool
+any_item maps = list_any (λ fields. has_item (field FINAL_SCRIPTWITNESS fields)) maps
+
+any_stays : (fields maps : List Map) → map (filter is_other) fields ≡ map (filter is_other) maps → any_item maps ≡ any_item fields
+any_stays [] [] same = refl
+any_stays [] (m ∷ maps) same = absurd cc
+any_stays (f ∷ fields) [] same = absurd cc
+any_stays (f ∷ fields) (m ∷ maps) same =
+    let kept : filter is_other m ≡ filter is_other f = cc in
+    let others : map (filter is_other) fields ≡ map (filter is_other) maps = cc in
+    ap (λ o. has_item o || any_item maps) (field_same f m kept FINAL_SCRIPTWITNESS refl)
+    ∙ ap (λ b. has_item (field FINAL_SCRIPTWITNESS f) || b) (any_stays fields maps others)
+
+abbrev text_by : (some : Bool) → Transaction → List TransactionInput → (witnesses : List Bytes) → Bytes
+text_by some transaction ins witnesses =
+    if some then witnessed_text (record transaction { inputs = ins }) witnesses else transaction_text (record transaction { inputs = ins })
+
+network_stays : (transaction : Transaction) (fields maps : List Map) → map (filter is_other) fields ≡ map (filter is_other) maps
+    → network_of transaction maps ≡ network_of transaction fields
+network_stays transaction fields maps same =
+    ap (λ (b : Bool). text_by b transaction (final_inputs transaction.inputs maps) (map final_witness maps)) (any_stays fields maps same)
+    ∙ ap (λ (ins : List TransactionInput). text_by (any_item fields) transaction ins (map final_witness maps)) (inputs_stay transaction.inputs fields maps same)
+    ∙ ap (λ (ws : List Bytes). text_by (any_item fields) transaction (final_inputs transaction.inputs fields) ws) (witnesses_stay fields maps same)
+
+-- ---- the reply
+
+extract_stays : (psbt later : Psbt) → AreAgreeing psbt later → (inputs others : List Input) → AreTurned inputs others → extract_reply later others ≡ extract_reply psbt inputs
+extract_stays psbt later agree [] [] turned = refl
+extract_stays psbt later agree [] (other ∷ others) turned = absurd turned
+extract_stays psbt later agree (input ∷ inputs) [] turned = absurd turned
+extract_stays psbt later agree (input ∷ inputs) (other ∷ others) turned =
+    go (first_open (other ∷ others)) (first_open (input ∷ inputs)) (open_stays (input ∷ inputs) (other ∷ others) turned)
+  where
+    same : network_text later ≡ network_text psbt
+    same = ap (λ (t : Transaction). network_of t later.inputs) (sym agree.transaction) ∙ network_stays psbt.transaction psbt.inputs later.inputs agree.others
+
+    go : (o p : Option Input) → number_in o ≡ number_in p → extract_by o later ≡ extract_by p psbt
+    go None None e = ap (λ text. reply status.Done (line (encode_lower text))) same
+    go None (Some x) e = absurd cc
+    go (Some x) None e = absurd cc
+    go (Some x) (Some y) e = let number : x.spend.number ≡ y.spend.number = cc in ap (λ n. reply status.Open (not_final_line n)) number
+
+fee_stays : (inputs others : List Input) → AreTurned inputs others → map (λ (input : Input). amount_in input.spend) others ≡ map (λ (input : Input). amount_in input.spend) inputs
+fee_stays = each_stays (λ (input : Input). amount_in input.spend) amount_same
+
+inspect_stays : (transaction : Transaction) (inputs others : List Input) → AreTurned inputs others → inspect_report transaction others ≡ inspect_report transaction inputs
+unfolding inspect_report
+inspect_stays transaction inputs others turned =
+    ap (λ amounts. psbt_line transaction ++ output_lines 0 transaction.outputs ++ fee_line amounts transaction.outputs ++ flat_map input_report others) (fee_stays inputs others turned)
+    ∙ ap (λ lines. psbt_line transaction ++ output_lines 0 transaction.outputs ++ fee_line (map (λ (input : Input). amount_in input.spend) inputs) transaction.outputs ++ lines)
+    (lines_stay input_report report_same inputs others turned)
+
+hashes_stay : (inputs others : List Input) → AreTurned inputs others → hashes_report others ≡ hashes_report inputs
+unfolding hashes_report
+hashes_stay inputs others turned = lines_stay input_hashes hashes_same inputs others turned
+
+command_stays : (it : Command) → (it ≡ command.Finalize → ⊥) → (form other : Form) (psbt later : Psbt) → AreAgreeing psbt later
+    → (inputs others : List Input) → AreTurned inputs others → command_reply it other later others ≡ command_reply it form psbt inputs
+command_stays command.Finalize not form other psbt later agree inputs others turned = absurd (not refl)
+command_stays command.Inspect not form other psbt later agree inputs others turned =
+    ap (λ (b : Bool). reply (if b then status.Done else status.Open) (inspect_report later.transaction others)) (status_stays inputs others turned)
+    ∙ ap (λ (t : Transaction). reply (settled_status inputs) (inspect_report t others)) (sym agree.transaction)
+    ∙ ap (reply (settled_status inputs)) (inspect_stays psbt.transaction inputs others turned)
+command_stays command.Extract not form other psbt later agree inputs others turned = extract_stays psbt later agree inputs others turned
+command_stays command.Hashes not form other psbt later agree inputs others turned = ap (reply status.Done) (hashes_stay inputs others turned)
+
+pub versions_agree : VersionsAgree
+versions_agree words source other psbt later status report read again agree not answer = record { replies = by_words (command_of words) not answer.replies }
+  where
+    by_psbt : (it : Command) → (it ≡ command.Finalize → ⊥) → RepliesToPsbt it (form_of source) psbt (reply status report)
+        → RepliesToPsbt it (form_of other) later (reply status report)
+    by_psbt it not replies =
+        let inputs = replies.0 in
+        let are = replies.1 in
+        let t = are_turned psbt.transaction 0 psbt.transaction.inputs psbt.inputs later.inputs inputs agree.others are.spends (recursion_from_All HasReading inputs are.read) in
+        let spends = t.spends ∙ ap (λ (t : Transaction). spends_from t 0 t.inputs later.inputs) agree.transaction in (
+          with_maps inputs later.inputs,
+          record { spends = spends; read = All-from_recursion HasReading (with_maps inputs later.inputs) t.read },
+          replies.2 ∙ sym (command_stays it not (form_of source) (form_of other) psbt later agree inputs (with_maps inputs later.inputs) t.turned),
+        )
+
+    by_words : (o : Option Command) → (o ≡ Some command.Finalize → ⊥) → RepliesToWords o source (reply status report) → RepliesToWords o other (reply status report)
+    by_words None not replies = replies
+    by_words (Some it) not replies =
+        subst (λ result. RepliesToSource it (form_of other) result (reply status report)) (sym again)
+        (by_psbt it (λ e. not (ap Some e)) (subst (λ result. RepliesToSource it (form_of source) result (reply status report)) read replies))

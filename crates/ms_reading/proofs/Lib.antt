@@ -1,0 +1,9 @@
+mod Fits
+mod Pushes
+mod Listed
+mod Running
+mod Tried
+mod Signed
+mod Reading
+mod Dups
+mod Compared

@@ -1,6 +1,0 @@
-use Rattle.std.proofs.Common.{◌≡◌, ◌++◌, replicate}
-use Rattle.def_satisfaction.specs.Rows.{EMPTY}
-use Rattle.ms_sat.proofs.satisfy.push_empty.Given as goal
-
-abbrev pub invariant-loop : goal.invariant-loop
-invariant-loop l = l.stack ≡ l.fn.stack ++ replicate l.counter EMPTY

@@ -1,0 +1,12 @@
+use Rattle.std.proofs.Common.{Some, refl}
+use Rattle.def_lines.specs.Msat.{msat_answers}
+use Rattle.msat_lines.proofs.ReplyLemmas.{lines_written}
+use Rattle.msat_lines.proofs.frame.lines_in_memory.Goals as goal
+
+pub returns-in-Done : goal.returns-in-Done
+returns-in-Done c = (
+  refl,
+  lines_written msat_answers c.new-source.result c.args.source.now c.new-sink.result.bytes.items c.answer_lines.new.sink.bytes.items
+      (Some c.answer_lines.new.source) 0 0 c.new-sink.result.failures c.answer_lines.new.sink.failures c.new-source.ensures c.new-sink.ensures.bytes
+      c.in-Done.ensures.ends,
+)

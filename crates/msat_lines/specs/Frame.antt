@@ -1,0 +1,42 @@
+-- How a call for the word `lines` ends.
+use Rattle.std.specs.Prelude.{◌≡◌, ◌⊎◌, List, [], ◌∷◌, codes}
+use Rattle.def_script.specs.Bytes.{Bytes}
+use Rattle.def_answer.specs.declared.status.Status.{Status}
+use Rattle.def_answer.specs.declared.status.Status.TheVariants as status
+use Rattle.def_answer.specs.Answer.{Answer}
+use Rattle.def_lines.specs.Answers.{AnswersLines}
+use Rattle.def_lines.specs.Msat.{msat_answers}
+use Rattle.ms_io.specs.Sides.{Side}
+use Rattle.ms_lines.specs.declared.stream.Ending.{Ending}
+use Rattle.ms_lines.specs.declared.stream.Ending.TheVariants as ending
+use Rattle.ms_lines.specs.Streams.{EndsLines}
+
+-- the one word `lines`
+abbrev pub AsksLines : (words : List Bytes) → Type 0
+AsksLines words = words ≡ codes "lines" ∷ []
+
+abbrev pub status_of : Ending → Status
+status_of ending.Done = status.Done
+status_of ending.ReadFault = status.ReadFault
+status_of ending.WriteFault = status.WriteFault
+status_of ending.Memory = status.Memory
+
+-- with the answers of `msat` to the lines of the source, or with those that were written before a fault
+abbrev pub EndsAsLines : (source sink : Side) → Status → Type 0
+EndsAsLines source sink s = (e : Ending) × (s ≡ status_of e) × EndsLines msat_answers e source sink
+
+-- ---- of a source and a sink in memory
+
+-- the answer of `msat` to other words
+pub record OtherAnswer (words : List Bytes) (source : Bytes) (status : Status) (report : Bytes) : Type 0 where
+  pub others : ¬ AsksLines words
+  pub answer : Answer words source status report
+
+-- of the word `lines` the answers to the lines of the source
+pub record LinesAnswer (words : List Bytes) (source : Bytes) (s : Status) (report : Bytes) : Type 0 where
+  pub asks : AsksLines words
+  pub done : s ≡ status.Done
+  pub answers : AnswersLines msat_answers source report
+
+abbrev pub WholeAnswer : (words : List Bytes) → (source : Bytes) → Status → (report : Bytes) → Type 0
+WholeAnswer words source s report = OtherAnswer words source s report ⊎ LinesAnswer words source s report

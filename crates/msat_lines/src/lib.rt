@@ -1,0 +1,8 @@
+//! The whole program: `msat`, and above it `lines`, which answers a question on each line of the source.
+#![tactic(auto)]
+
+pub use answering::{Msat, Replied, answer_in_memory};
+pub use frame::{answer_whole, asks_lines, program};
+
+mod answering;
+mod frame;
