@@ -5,3 +5,4 @@ complete -c msat-psbt -n __fish_use_subcommand -a finalize -d 'the PSBT with eac
 complete -c msat-psbt -n __fish_use_subcommand -a inspect -d 'what the transaction does with the money, and what each input demands and lacks'
 complete -c msat-psbt -n __fish_use_subcommand -a extract -d 'the network transaction of a PSBT whose inputs are all final'
 complete -c msat-psbt -n __fish_use_subcommand -a hashes -d 'what the signatures of each input sign'
+complete -c msat-psbt -n __fish_use_subcommand -a lines -d 'an answer to each line of standard input, in order'

@@ -9,6 +9,7 @@ complete -c msat -n __fish_use_subcommand -a gen -d 'a large condition of N chil
 complete -c msat -n __fish_use_subcommand -a policy -d 'what a sane text demands, without Script'
 complete -c msat -n __fish_use_subcommand -a plan -d 'which keys to ask for a signature, with a plan file on standard input'
 complete -c msat -n __fish_use_subcommand -a audit -d 'by which rows a stack satisfies a text, with a run file on standard input'
+complete -c msat -n __fish_use_subcommand -a trace -d 'the run of a script step by step, alone or for a text, with a run file on standard input'
 complete -c msat -n __fish_use_subcommand -a decode -d 'the text that a Script is read back as'
 complete -c msat -n __fish_use_subcommand -a lines -d 'the answer to a question on each line of standard input'
 complete -c msat -n '__fish_seen_subcommand_from satisfy' -l malleable -d 'the lightest satisfaction, which others may be able to change'

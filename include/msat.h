@@ -68,7 +68,8 @@ enum {
     MSAT_SCRIPT_REFUSED = 8,  /* the interpreter refused the script of a run file */
     MSAT_NOT_ACCEPTED = 9,    /* the stack of a run file doesn't satisfy the text */
     MSAT_NO_READING = 10,     /* no miniscript that is valid by policy, with the keys named, has the Script to be decoded */
-    MSAT_UNREADABLE = 11      /* the words aren't so many, or a word or a text isn't UTF-8: nothing was written */
+    MSAT_UNREADABLE = 11,     /* the words aren't so many, or a word or a text isn't UTF-8: nothing was written */
+    MSAT_NO_POINT = 12        /* of msat_point alone: the bytes are no key, or the key is no point of the curve */
 };
 
 /* Answers the words of a command line, as `msat` does where its standard input holds `source`: `script TEXT`, `check TEXT`,
@@ -392,6 +393,28 @@ uint32_t msat_audit(const char *text, size_t text_len, uint32_t version, uint32_
 uint32_t msat_decode(const uint8_t *script, size_t script_len, const uint8_t *keys, size_t keys_len, char *text, size_t text_len,
                      size_t *needed);
 
+/* Signatures and keys of secp256k1 (SEC 1, SEC 2), of bytes of any lengths. Neither call takes memory or refuses. */
+
+/* What a signature is by a key and for a hash. */
+enum {
+    MSAT_BAD = 0,  /* none of the two below */
+    MSAT_GOOD = 1, /* the key has signed the hash, in strict DER (BIP 66), with an s of at most half of the order (BIP 146) */
+    MSAT_HIGH = 2  /* so it is, but that s is over half: consensus takes it, and nodes don't relay it */
+};
+
+/* Judges a signature by ECDSA.
+ *
+ * key      33 bytes: 02 or 03, and x. By any others a signature is MSAT_BAD.
+ * hash     32 bytes, which the key has to have signed. For any other number of bytes a signature is MSAT_BAD.
+ * sig      a signature as it stands in a witness or a PSBT, with the byte of its hash type behind, which has to be there and isn't looked at
+ */
+uint32_t msat_signature(const uint8_t *key, size_t key_len, const uint8_t *hash, size_t hash_len, const uint8_t *sig, size_t sig_len);
+
+/* The point of a key, 04, x and y: its beginning is written to `point`, and `*needed` is 65. The answer is MSAT_DONE; or MSAT_NO_POINT where
+ * the key isn't 33 bytes of which the first is 02 or 03, or where no point of the curve has the x that follows. Then nothing was
+ * written. */
+uint32_t msat_point(const uint8_t *key, size_t key_len, uint8_t *point, size_t point_len, size_t *needed);
+
 #ifdef __cplusplus
 }
 #endif
@@ -662,6 +685,19 @@ static inline uint32_t msat_decode_asserted(const uint8_t *script, size_t script
     return msat_decode(script, script_len, keys, keys_len, text, text_len, needed);
 }
 
+static inline uint32_t msat_signature_asserted(const uint8_t *key, size_t key_len, const uint8_t *hash, size_t hash_len,
+                                               const uint8_t *sig, size_t sig_len) {
+    assert(MSAT_IS_BUFFER(key, key_len) && MSAT_IS_BUFFER(hash, hash_len) && MSAT_IS_BUFFER(sig, sig_len));
+    return msat_signature(key, key_len, hash, hash_len, sig, sig_len);
+}
+
+static inline uint32_t msat_point_asserted(const uint8_t *key, size_t key_len, uint8_t *point, size_t point_len, size_t *needed) {
+    assert(MSAT_IS_BUFFER(key, key_len) && MSAT_IS_BUFFER(point, point_len) && MSAT_IS_VALUE(needed));
+    assert(MSAT_ARE_APART(point, point_len, key, key_len));
+    assert(MSAT_IS_APART(needed, sizeof *needed, key, key_len, point, point_len));
+    return msat_point(key, key_len, point, point_len, needed);
+}
+
 /* Calls go through the assertions. Where a name is to be taken by itself, as a member `->msat_check(..)`, it is put into parentheses
  * or MSAT_ASSERT is left out. */
 #define msat_answer(...) msat_answer_asserted(__VA_ARGS__)
@@ -676,6 +712,8 @@ static inline uint32_t msat_decode_asserted(const uint8_t *script, size_t script
 #define msat_audit(...) msat_audit_asserted(__VA_ARGS__)
 #define msat_policy(...) msat_policy_asserted(__VA_ARGS__)
 #define msat_decode(...) msat_decode_asserted(__VA_ARGS__)
+#define msat_signature(...) msat_signature_asserted(__VA_ARGS__)
+#define msat_point(...) msat_point_asserted(__VA_ARGS__)
 #endif
 
 #endif

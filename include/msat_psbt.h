@@ -49,7 +49,8 @@ enum {
     MSAT_PSBT_LINE_CHECK,     /* of `hashes`. key, digits: the signature, hash: what it has to sign, empty where its type is none */
     MSAT_PSBT_LINE_NOT_FINAL, /* of `extract`. number: the first input that isn't final */
     MSAT_PSBT_LINE_REFUSED,   /* fault; text: its name; has_place, number: the byte of the PSBT */
-    MSAT_PSBT_LINE_USAGE
+    MSAT_PSBT_LINE_USAGE,
+    MSAT_PSBT_LINE_KIND       /* text: the kind of the spent output */
 };
 
 /* How far an amount or a fee is known. */
@@ -278,7 +279,7 @@ static inline bool msat_psbt_next(struct msat_psbt_reader *reader, struct msat_p
     } kinds[] = {
         {MSAT_PSBT_LINE_PSBT, "psbt inputs "}, {MSAT_PSBT_LINE_OUTPUT, "output "}, {MSAT_PSBT_LINE_FEE, "fee "},
         {MSAT_PSBT_LINE_INPUT, "input "}, {MSAT_PSBT_LINE_OUTPOINT, "outpoint "}, {MSAT_PSBT_LINE_AMOUNT, "amount "},
-        {MSAT_PSBT_LINE_UNCHECKED, "unchecked"}, {MSAT_PSBT_LINE_SIGNATURE, "signature "}, {MSAT_PSBT_LINE_TEXT, "text "},
+        {MSAT_PSBT_LINE_UNCHECKED, "unchecked"}, {MSAT_PSBT_LINE_KIND, "kind "}, {MSAT_PSBT_LINE_SIGNATURE, "signature "}, {MSAT_PSBT_LINE_TEXT, "text "},
         {MSAT_PSBT_LINE_POLICY, "policy "}, {MSAT_PSBT_LINE_MOST, "weight at most "}, {MSAT_PSBT_LINE_WEIGHT, "weight "},
         {MSAT_PSBT_LINE_ASK, "ask "}, {MSAT_PSBT_LINE_NO_PLAN, "no plan"}, {MSAT_PSBT_LINE_SIGN, "sign "},
         {MSAT_PSBT_LINE_SIGN, "sign-other "}, {MSAT_PSBT_LINE_CHECK, "check "}, {MSAT_PSBT_LINE_NOT_FINAL, "not final "},

@@ -331,6 +331,7 @@ function psbtLine(line, named, page) {
     case "outpoint": return { parts: ["Spends", element("span", {}, `output ${rest[1]} of `, code(rest[0]), `, sequence ${rest[3]}`)] };
     case "amount": return { parts: ["Amount", money(all)] };
     case "unchecked": return { parts: ["Unchecked", "its final fields came from outside, and nothing says that they are valid"] };
+    case "kind": return { parts: ["Kind of output", all] };
     case "signature": return { parts: ["Signature of", element("span", {}, named(rest[0]), `, type ${rest[1]}`)] };
     case "ask": return { parts: ["Ask for a signature", named(rest[0])] };
     case "weight": return { parts: rest[0] === "at" ? ["Weight at most", rest[2]] : ["Weight", all] };

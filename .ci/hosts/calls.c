@@ -2,6 +2,7 @@
  * Usage: calls rows FOLDER..       each example, with buffers of several lengths
  *        calls queries FOLDER..    what is asked without a report, of each example: Script, limits, least weight, witness
  *        calls arrays              satisfactions, plans, runs and audits by what lies in arrays, and arrays that are refused
+ *        calls curve FOLDER        the rows of signatures and keys in this folder, and changed ones
  *        calls words               words that can't be read, and NULL with the length 0
  *        calls names               the version, and the names of refusals, rules and members
  *        calls reasons             of calls that aren't refused by one, which leave it as it was
@@ -359,6 +360,80 @@ static void try_decode(const struct example *example) {
         msat_decode(script.at, script.length, broken, 66, NULL, 0, &needed) != MSAT_USAGE || needed != 12345)
         fail("keys that are none are taken", example->folder);
     free(script.at), free(keys.at);
+}
+
+/* The bytes that a word of a row spells, `-` for none, and where the next word begins. */
+static struct bytes spelled(const char **at) {
+    size_t length = strcspn(*at, " \n");
+    struct bytes found = {room(length / 2), 0};
+    if (**at != '-')
+        for (; found.length < length / 2; found.length++)
+            found.at[found.length] = (uint8_t)(digit((*at)[2 * found.length]) << 4 | digit((*at)[2 * found.length + 1]));
+    *at += length + 1;
+    return found;
+}
+
+static uint32_t judged(struct bytes key, struct bytes hash, struct bytes sig) {
+    return msat_signature(key.at, key.length, hash.at, hash.length, sig.at, sig.length);
+}
+
+/* A name, a key, a hash, a signature and its judgement. Where a good one is damaged by a bit, it is bad, but for its type. */
+static void try_signature(const char *row) {
+    const char *at = row + strcspn(row, " ") + 1;
+    struct bytes key = spelled(&at), hash = spelled(&at), sig = spelled(&at);
+    uint32_t wanted = strncmp(at, "good", 4) == 0 ? MSAT_GOOD : strncmp(at, "high", 4) == 0 ? MSAT_HIGH : MSAT_BAD;
+    if (judged(key, hash, sig) != wanted)
+        fail("another judgement", row);
+    struct bytes parts[] = {key, hash, sig};
+    for (size_t part = 0; wanted == MSAT_GOOD && part < 3; part++)
+        for (size_t byte = 0; byte < parts[part].length; byte += 5) {
+            bool is_type = part == 2 && byte == sig.length - 1;
+            parts[part].at[byte] ^= 4;
+            if ((judged(key, hash, sig) == MSAT_GOOD) != is_type)
+                fail("a damaged signature is good, or another type is bad", row);
+            parts[part].at[byte] ^= 4;
+        }
+    free(key.at), free(hash.at), free(sig.at);
+}
+
+/* A key and its point, or `-`, with buffers of several lengths. */
+static void try_point(const char *row) {
+    const char *at = row;
+    struct bytes key = spelled(&at), wanted = spelled(&at);
+    static const size_t rooms[] = {0, 1, 64, 65, 66};
+    for (size_t i = 0; i < 5; i++) {
+        uint8_t *point = room(rooms[i]);
+        memset(point, 0xa5, rooms[i]);
+        size_t needed = 12345, written = wanted.length < rooms[i] ? wanted.length : rooms[i];
+        uint32_t code = msat_point(key.at, key.length, rooms[i] ? point : NULL, rooms[i], &needed);
+        if (code != (wanted.length ? MSAT_DONE : MSAT_NO_POINT) || needed != (wanted.length ? 65 : 12345))
+            fail("another code, or another length", row);
+        if (memcmp(point, wanted.at, written) != 0)
+            fail("another point", row);
+        for (size_t behind = written; behind < rooms[i]; behind++)
+            if (point[behind] != 0xa5)
+                fail("a byte behind the point was written", row);
+        free(point);
+    }
+    free(key.at), free(wanted.at);
+}
+
+static void try_rows(const char *folder, const char *name, void (*try_row)(const char *row)) {
+    struct bytes rows = read_file(folder, name, NULL);
+    rows.at = realloc(rows.at, rows.length + 1), rows.at[rows.length] = 0;
+    if (rows.length == 0)
+        fail("no rows", name);
+    for (const char *row = chars(rows); *row; row = strchr(row, '\n') + 1)
+        try_row(row);
+    free(rows.at);
+}
+
+static void try_curve(const char *folder) {
+    try_rows(folder, "signature.rows", try_signature);
+    try_rows(folder, "point.rows", try_point);
+    size_t needed = 12345;
+    if (msat_signature(NULL, 0, NULL, 0, NULL, 0) != MSAT_BAD || msat_point(NULL, 0, NULL, 0, &needed) != MSAT_NO_POINT || needed != 12345)
+        fail("no bytes are a signature or a key", "NULL");
 }
 
 static void try_queries(const struct example *example) {
@@ -809,10 +884,18 @@ static void break_demand(int which) {
     case 62: msat_decode(raw, (size_t)-1, raw + 16, 0, bytes + 8, 8, numbers); break;
     case 63: msat_decode(raw, 1, raw + 16, (size_t)-1, bytes + 8, 8, numbers); break;
     case 64: msat_decode(raw, 1, raw + 16, 0, bytes + 8, (size_t)-1, numbers); break;
+    case 65: msat_signature(raw, (size_t)-1, raw + 16, 0, raw + 16, 0); break;
+    case 66: msat_signature(raw, 1, raw + 16, (size_t)-1, raw + 16, 0); break;
+    case 67: msat_signature(raw, 1, raw + 16, 0, raw + 16, (size_t)-1); break;
+    case 68: msat_signature(NULL, 1, raw + 16, 0, raw + 16, 0); break;
+    case 69: msat_point(raw, (size_t)-1, raw + 8, 8, numbers); break;
+    case 70: msat_point(raw, 1, raw + 8, (size_t)-1, numbers); break;
+    case 71: msat_point(raw, 1, raw + 8, 8, NULL); break;
+    case 72: msat_point(raw, 8, raw + 4, 8, numbers); break;
     }
 }
 
-enum { DEMANDS = 65 };
+enum { DEMANDS = 73 };
 
 static void try_demands(void) {
     for (int which = 0; which < DEMANDS; which++) {
@@ -985,6 +1068,10 @@ int main(int argc, char **argv) {
     int first = is_random ? 4 : 2;
     if (argc < first)
         fail("see the head of calls.c", "usage");
+    if (strcmp(what, "curve") == 0 && argc == 3) {
+        try_curve(argv[2]);
+        return 0;
+    }
     struct examples all = {calloc(argc, sizeof *all.each), 0};
     for (int i = first; i < argc; i++)
         all.each[all.count++] = read_example(argv[i]);

@@ -1,7 +1,7 @@
 #!/usr/bin/env python3
 """Tries the Python module msat.psbt, and the library below it: each row of examples/psbt/ by the library's call, byte for byte; what the
-classes say of the folders there; signatures that are good and that aren't; and that bad ones count for nothing, and nothing is lost.
-Without libsecp256k1 the last two are passed over by a line that says so. Ends with 1 where anything differs.
+classes say of the folders there; signatures that are good and that aren't; the rows of examples/signatures/; and that bad ones count for
+nothing, and nothing is lost. Ends with 1 where anything differs.
 """
 import base64
 import copy
@@ -19,7 +19,8 @@ os.chdir(TOP)
 sys.path.insert(0, str(TOP / "python"))
 sys.dont_write_bytecode = True
 
-from msat import psbt  # noqa: E402
+import msat  # noqa: E402
+from msat import curve, psbt  # noqa: E402
 
 loader = importlib.machinery.SourceFileLoader("rows", ".ci/psbt")
 rows = importlib.util.module_from_spec(importlib.util.spec_from_loader("rows", loader))
@@ -105,6 +106,7 @@ def lines_of(told):
         kind = "proved" if it.is_proved else "claimed"
         lines.append("amount unknown" if it.amount is None else f"amount {it.amount} {kind}")
         lines += ["unchecked"] if it.state == "Final" else []
+        lines += [f"kind {it.kind}"] if it.kind else []
         lines += [f"signature {key.hex()} {kind}" for key, kind in it.signatures]
         lines += [f"text {it.text}"] if it.text else []
         lines += [f"policy {it.policy}"] if it.policy else []
@@ -165,6 +167,22 @@ def try_signatures():
                 fault(f"a signature with another byte {place} is good")
     if psbt.is_signature_of(b"\2" + 32 * b"\0", good, digest):
         fault("a key that isn't on the curve has signed")
+
+
+def spelled(word):
+    return b"" if word == "-" else bytes.fromhex(word)
+
+
+def try_curve():
+    """The rows of signatures and keys."""
+    for row in (TOP / "examples/signatures/signature.rows").read_text().splitlines():
+        name, key, digest, sig, word = row.split()
+        if msat.signature(spelled(key), spelled(digest), spelled(sig)) != word:
+            fault(f"the signature {name} is another one than {word}")
+    for row in (TOP / "examples/signatures/point.rows").read_text().splitlines():
+        key, point = row.split()
+        if msat.point(spelled(key)) != (spelled(point) or None):
+            fault(f"the key {key} has another point")
 
 
 def pair(key, value):
@@ -286,21 +304,19 @@ def try_edges():
             pass
     if psbt.inspect(bytearray(signed_psbt([]))) != psbt.inspect(memoryview(signed_psbt([]))):
         fault("a bytearray is another PSBT")
-    try_copies(psbt.NoCurve("libsecp256k1 isn't there"))
+    try_copies(psbt.NoCurve("there is no curve"))
 
 
 count = try_rows()
 try_classes()
 try_edges()
-try:
-    try_signatures()
-    for version in (0, 2):
-        try_leaving_out()
-        try_nothing_lost()
-        try_known_keys()
-except psbt.NoCurve as missing:
-    print(f"{missing}: signatures aren't tried")
-failed = doctest.testmod(psbt, optionflags=doctest.IGNORE_EXCEPTION_DETAIL).failed
+try_signatures()
+try_curve()
+for version in (0, 2):
+    try_leaving_out()
+    try_nothing_lost()
+    try_known_keys()
+failed = sum(doctest.testmod(it, optionflags=doctest.IGNORE_EXCEPTION_DETAIL).failed for it in (psbt, curve))
 if failed:
     fault(f"{failed} examples of docstrings fail")
 print("\n".join(faults), end="\n" if faults else "")

@@ -109,6 +109,7 @@ static void spell(const struct msat_psbt_line *line) {
     case MSAT_PSBT_LINE_AMOUNT: money("amount ", line); break;
     case MSAT_PSBT_LINE_UNCHECKED: word("unchecked"); break;
     case MSAT_PSBT_LINE_SIGNATURE: digits("signature ", line->key), number(" ", line->type); break;
+    case MSAT_PSBT_LINE_KIND: text("kind ", line->text); break;
     case MSAT_PSBT_LINE_TEXT: text("text ", line->text); break;
     case MSAT_PSBT_LINE_POLICY: text("policy ", line->text); break;
     case MSAT_PSBT_LINE_WEIGHT: number("weight ", line->amount); break;

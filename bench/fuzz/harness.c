@@ -29,6 +29,12 @@ static int status_of(const struct bytes *it) {
     if (begins(it->at, "refused file ")) return 3;
     if (!strcmp(it->at, "no satisfaction\n")) return 4;
     if (begins(it->at, "refused script ")) return 8;
+    /* A trace ends with what its run came to. */
+    if (begins(it->at, "step ") || begins(it->at, "stop ")) {
+        const char *last = it->at + it->length - 1;
+        while (last > it->at && last[-1] != '\n') last--;
+        return begins(last, "refused script ") ? 8 : 0;
+    }
     if (begins(it->at, "not accepted ")) return 9;
     if (!strcmp(it->at, "no reading\n")) return 10;
     return begins(it->at, "refused") ? -1 : 0;
@@ -149,7 +155,7 @@ static int of_satisfy(int count, char **words_of, const char *input, size_t leng
     return 1;
 }
 
-static const char *const commands[] = {"script", "check", "satisfy", "run", "gen", "policy", "plan", "decode", "audit", "others"};
+static const char *const commands[] = {"script", "check", "satisfy", "run", "gen", "policy", "plan", "decode", "audit", "trace", "others"};
 enum { COMMANDS = sizeof commands / sizeof *commands };
 static unsigned long answers[COMMANDS][STATUSES], tried[COMMANDS][STATUSES];
 

@@ -21,6 +21,7 @@ from typing import NoReturn, Optional, Sequence
 
 from . import _library
 from ._many import ask_all
+from .curve import point, signature
 from .errors import (
     FileRefused,
     MsatError,
@@ -77,6 +78,8 @@ __all__ = [
     "NoSatisfaction", "NotAccepted", "Plan", "Policy", "Refused", "Replay", "Run", "Satisfaction", "ScriptRefused", "Signature", "Step",
     "TextRefused", "Unreadable", "Usage", "answer", "ask_all", "audit", "check", "decode", "facts", "least_weight", "plan", "policy", "report",
     "run", "satisfy", "script", "witness",
+    # of signatures and keys
+    "point", "signature",
     # of PSBTs
     "Check", "Fee", "Hashes", "Input", "Inspection", "NoCurve", "NotFinal", "Output", "PsbtRefused", "extract", "finalize", "hashes",
     "inspect", "verify",
@@ -114,6 +117,11 @@ def report(words: Sequence[str], source: File = b"") -> str:
     >>> report(["policy", "older(144)"])
     Traceback (most recent call last):
     msat.errors.TextRefused: refused text NoSignature
+    >>> report(["trace"], {"script": "51"}).splitlines()
+    ['step 0 push 01', 'accepted ops 0 peak 1']
+    >>> try: report(["trace"], {"script": "5100"})
+    ... except ScriptRefused as refused: refused.name, refused.place, refused.report.splitlines()
+    ('CleanStack', 2, ['step 0 push 01', 'step 1 push -', 'refused script CleanStack at 2'])
     """
     code, text = answer(words, source)
     if code != 0:
@@ -353,6 +361,8 @@ def _refuse(code: int, text: str) -> NoReturn:
     if code == 3:
         raise _file_refusal(text, words[2], words[3:])
     if code == 8:
+        # A trace ends with what its run came to.
+        words = text.splitlines()[-1].split()
         raise ScriptRefused(text, words[2], place=int(words[4]))
     if code == 9:
         raise NotAccepted(text, words[2], place=int(words[4]) if "at" in words else None)

@@ -10,6 +10,7 @@ NAME = "libmsat.so.1"
 DONE = 0
 NO_MEMORY = 7
 UNREADABLE = 11
+POINT = 65  # the bytes of a point
 NEVER = 2**64 - 1  # the number of keys where no signatures are enough
 MAJOR = 1  # the major version of the library that this package is for
 
@@ -107,6 +108,8 @@ _CALLS: dict[str, list[Any]] = {
     "msat_policy": [*_READ, *_BYTES, _SIZE, ctypes.POINTER(ctypes.c_uint64), _REASON],
     "msat_decode": [*_READ, *_READ, *_BYTES, _SIZE],
     "msat_witness": [ctypes.c_bool, ctypes.c_bool, *_READ, *_READ, *_BYTES, _SIZE, *_SIZES, _SIZE, _REASON],
+    "msat_signature": [*_READ, *_READ, *_READ],
+    "msat_point": [*_READ, *_BYTES, _SIZE],
 }
 
 _library = _load()
@@ -264,6 +267,18 @@ def decode(script: bytes, keys: bytes, room: int = 4096) -> tuple[int, str]:
         if needed.value <= room:
             return code, bytes(memoryview(found)[: needed.value]).decode()
         room = needed.value
+
+
+def signature(key: bytes, hash: bytes, sig: bytes) -> int:
+    """The answer of a call of msat_signature."""
+    return int(_library.msat_signature(key, len(key), hash, len(hash), sig, len(sig)))
+
+
+def point(key: bytes) -> tuple[int, bytes]:
+    """The code and the point of a call of msat_point."""
+    found, needed = (ctypes.c_uint8 * POINT)(), ctypes.c_size_t(0)
+    code = _library.msat_point(key, len(key), found, POINT, ctypes.byref(needed))
+    return code, bytes(memoryview(found)[: needed.value])
 
 
 def _items(room: int, most: int, call: Callable[..., int]) -> tuple[int, tuple[bytes, ...], Reason]:

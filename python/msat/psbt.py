@@ -1,19 +1,19 @@
 # SPDX-License-Identifier: MIT
-"""PSBTs (BIP 174, BIP 370) whose inputs spend P2WSH outputs of sane miniscripts: finalized, inspected, extracted, and what their
+"""PSBTs (BIP 174, BIP 370) whose inputs spend P2WSH outputs of sane miniscripts, by themselves or in P2SH: finalized, inspected, extracted, and what their
 signatures sign.
 
 A PSBT is bytes, or a str of base64, and what comes out is of the same kind. What is asked is answered by the proved library, as the
 program msat-psbt answers it; what is Python here, the reading of reports into classes, the check of signatures, and that those which
-aren't good don't count, is tested and not proved. Signatures are checked by libsecp256k1, which is looked for when one is checked.
+aren't good don't count, is tested and not proved. Signatures are judged by the library.
 """
 
 import base64
 import ctypes
-import ctypes.util
 from dataclasses import dataclass
 from typing import Iterator, NoReturn, Optional, TypeVar, Union
 
 from . import _library
+from .curve import signature
 from .errors import MsatError, Refused
 
 __all__ = [
@@ -42,7 +42,7 @@ class NotFinal(MsatError):
 
 
 class NoCurve(MsatError):
-    """libsecp256k1 isn't there, so no signature can be checked."""
+    """It isn't raised any more: the library judges signatures itself. It was where libsecp256k1 wasn't there."""
 
 
 @dataclass(frozen=True)
@@ -65,7 +65,7 @@ class Fee:
 @dataclass(frozen=True)
 class Input:
     """An input as `inspect` tells it, from its number on: `state` is its first word, and `reason` why a miniscript isn't sane. What isn't
-    told of its state is None or empty.
+    told of its state is None or empty. `kind` is that of the spent output: `p2wsh`, `p2sh-p2wsh` or `other`.
 
     `asked` are the keys to ask for a signature, and `most` what the satisfaction then weighs at most; `weight` is what that of a Ready
     input weighs. `is_vain` says that no signatures would be enough: a preimage is missing, or a lock doesn't hold."""
@@ -78,6 +78,7 @@ class Input:
     sequence: int
     amount: Optional[int]
     is_proved: bool
+    kind: Optional[str] = None
     signatures: tuple[tuple[bytes, int], ...] = ()
     text: Optional[str] = None
     policy: Optional[str] = None
@@ -112,7 +113,7 @@ class Check:
     hash: Optional[bytes]
 
     def is_good(self) -> bool:
-        """Whether the key has signed the hash. Raises NoCurve where libsecp256k1 isn't there."""
+        """Whether the key has signed the hash, with a low s."""
         return self.hash is not None and is_signature_of(self.key, self.sig[:-1], self.hash)
 
 
@@ -157,7 +158,7 @@ def finalize(psbt: P, verify: bool = True) -> P:
 
     A signature that isn't good counts for nothing, so that it is chosen nowhere; its key stays known, as one without a signature.
     Without `verify` no signature is looked at, a bad one may be chosen, and what isn't needed is cleared: keep the PSBT until the
-    transaction is accepted. Raises NoCurve where there are signatures, and libsecp256k1 isn't there to tell.
+    transaction is accepted.
 
     >>> finalize("cHNidP8BAAoCAAAAAAAAAAAAAA==")
     'cHNidP8BAAoCAAAAAAAAAAAAAA=='
@@ -213,7 +214,7 @@ def checks(psbt: Psbt) -> Iterator[Check]:
 
 
 def verify(psbt: Psbt) -> tuple[tuple[Check, bool], ...]:
-    """The signatures of all inputs that `hashes` tells, each with whether it is good. Raises NoCurve where libsecp256k1 isn't there."""
+    """The signatures of all inputs that `hashes` tells, each with whether it is good."""
     return tuple((check, check.is_good()) for check in checks(psbt))
 
 
@@ -221,78 +222,9 @@ def verify(psbt: Psbt) -> tuple[tuple[Check, bool], ...]:
 
 
 def is_signature_of(key: bytes, sig: bytes, hash: bytes) -> bool:
-    """Whether a key has signed a hash: the signature is in strict DER (BIP 66), without the byte of a hash type, its s is low (BIP 146), and
-    libsecp256k1 finds it good. Raises NoCurve where that isn't there."""
-    return is_strict_der(sig) and _Curve.found().has_signed(key, sig, hash)
-
-
-def is_strict_der(sig: bytes) -> bool:
-    """Whether a signature without the byte of its hash type is in strict DER (BIP 66).
-
-    >>> [is_strict_der(bytes.fromhex(sig)) for sig in ("3006020101020101", "300702010102020001", "30060201ff020101", "3006020101020101aa")]
-    [True, False, False, False]
-    """
-    if not 8 <= len(sig) <= 72 or sig[0] != 0x30 or sig[1] != len(sig) - 2:
-        return False
-    first = sig[3]
-    if 5 + first >= len(sig) or len(sig) != 6 + first + sig[5 + first]:
-        return False
-    return _is_der_number(sig[2 : 4 + first]) and _is_der_number(sig[4 + first :])
-
-
-def _is_der_number(number: bytes) -> bool:
-    """Whether a number has its shortest form, and isn't negative: 02, its length, and its bytes."""
-    kind, _, *digits = number
-    if kind != 0x02 or not digits or digits[0] >= 0x80:
-        return False
-    return digits[0] != 0 or (len(digits) > 1 and digits[1] >= 0x80)
-
-
-class _Curve:
-    """libsecp256k1."""
-
-    known: "Optional[_Curve]" = None
-
-    def __init__(self, place: str):
-        self.library = ctypes.CDLL(place)
-        pointer, size = ctypes.c_void_p, ctypes.c_size_t
-        calls = {
-            "secp256k1_context_create": (pointer, [ctypes.c_uint]),
-            "secp256k1_ec_pubkey_parse": (ctypes.c_int, [pointer, pointer, ctypes.c_char_p, size]),
-            "secp256k1_ecdsa_signature_parse_der": (ctypes.c_int, [pointer, pointer, ctypes.c_char_p, size]),
-            "secp256k1_ecdsa_signature_normalize": (ctypes.c_int, [pointer, pointer, pointer]),
-            "secp256k1_ecdsa_verify": (ctypes.c_int, [pointer, pointer, ctypes.c_char_p, pointer]),
-        }
-        for name, (result, taken) in calls.items():
-            call = getattr(self.library, name)
-            call.restype, call.argtypes = result, taken
-        self.context = self.library.secp256k1_context_create(_FOR_CHECKS)
-
-    @classmethod
-    def found(cls) -> "_Curve":
-        """The library, once it is found; NoCurve where it isn't there."""
-        if cls.known is None:
-            place = ctypes.util.find_library("secp256k1")
-            if place is None:
-                raise NoCurve("msat: libsecp256k1 isn't there, so no signature can be checked: Debian's package is libsecp256k1-1")
-            cls.known = cls(place)
-        return cls.known
-
-    def has_signed(self, key: bytes, sig: bytes, hash: bytes) -> bool:
-        """Whether a key has signed a hash of 32 bytes, by a signature in DER whose s is low."""
-        point, numbers = ctypes.create_string_buffer(64), ctypes.create_string_buffer(64)
-        library, context = self.library, self.context
-        return (
-            len(hash) == 32
-            and library.secp256k1_ec_pubkey_parse(context, point, key, len(key)) == 1
-            and library.secp256k1_ecdsa_signature_parse_der(context, numbers, sig, len(sig)) == 1
-            and library.secp256k1_ecdsa_signature_normalize(context, None, numbers) == 0
-            and library.secp256k1_ecdsa_verify(context, numbers, hash, point) == 1
-        )
-
-
-# SECP256K1_CONTEXT_VERIFY, which newer versions take for SECP256K1_CONTEXT_NONE.
-_FOR_CHECKS = 0x0101
+    """Whether a compressed key has signed a hash of 32 bytes by a signature without the byte of its hash type: it is in strict DER
+    (BIP 66), its s is low (BIP 146), and ECDSA takes it. A key of 65 bytes has signed nothing."""
+    return signature(key, hash, bytes(sig) + b"\x01") == "good"
 
 
 # ---- a PSBT of which some signatures don't count. The library has read it before, so it is whole and in form.
@@ -473,6 +405,7 @@ def _input(lines: list[str]) -> Input:
         sequence=int(sequence),
         amount=amount,
         is_proved=is_proved,
+        kind=next(iter(told.get("kind", [])), None),
         signatures=tuple(_signature(value) for value in told.get("signature", [])),
         text=next(iter(told.get("text", [])), None),
         policy=next(iter(told.get("policy", [])), None),

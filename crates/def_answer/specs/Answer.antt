@@ -1,6 +1,6 @@
 -- The program's answer: for each list of words and each content of the source a status and a report. The
--- words come first, then the text, the reasons against its tree, the file, and the satisfaction, the run, the plan or
--- the audit.
+-- words come first, then the text, the reasons against its tree, the file, and the satisfaction, the run, the plan, the
+-- audit or the trace.
 use Rattle.std.specs.Prelude.{◌≡◌, ◌⊎◌, ℕ, true, ⊤, List, [], map, Option, unwrap_or, Ok}
 use Rattle.std.specs.Result.{result_unwrap_or}
 use Rattle.hex.specs.Hex.{decode_of}
@@ -21,7 +21,7 @@ use Rattle.def_answer.specs.Satisfy.{chosen_by, reason_by}
 use Rattle.def_decode.specs.Decoded.{IsReading, IsDecoded}
 use Rattle.def_answer.specs.declared.status.Status.{Status}
 use Rattle.def_answer.specs.declared.status.Status.TheVariants as status
-use Rattle.def_answer.specs.Words.{Command, script, check, satisfy, gen, policy, plan, audit, decode, IsForm, HasNoForm}
+use Rattle.def_answer.specs.Words.{Command, script, check, satisfy, gen, policy, plan, audit, trace, trace_text, decode, IsForm, HasNoForm}
 use Rattle.def_answer.specs.Words as words
 use Rattle.def_answer.specs.Generated.{generated_tree, generated_assets}
 use Rattle.def_answer.specs.Reading.{Reading, HasReading}
@@ -31,7 +31,7 @@ use Rattle.def_answer.specs.Check.{check_report}
 use Rattle.def_answer.specs.Gen.{gen_report}
 use Rattle.def_answer.specs.Policy.{policy_report}
 use Rattle.def_answer.specs.Decode.{decode_report, no_reading_line}
-use Rattle.def_answer.specs.Reply.{Reply, reply, usage_reply, text_reply, satisfy_reply, given_by, run_reply, plan_reply, audit_reply}
+use Rattle.def_answer.specs.Reply.{Reply, reply, usage_reply, text_reply, satisfy_reply, given_by, run_reply, plan_reply, audit_reply, trace_reply, text_trace_reply}
 
 -- the generated tree can always be satisfied
 unfoldable pub gen_reply : (n : ℕ) → Reply
@@ -93,6 +93,12 @@ RepliesToAudit text source r =
     (found : Reading) × (steps : List Step) × HasReading text found × HasSteps found source steps
     × (r ≡ text_reply first_unfit_valid (audit_reply (offsets_of found) steps source) found)
 
+-- the reply to a text and a run file whose script is that of the text
+abbrev pub RepliesToTrace : (text source : Bytes) → Reply → Type 0
+RepliesToTrace text source r =
+    (found : Reading) × HasReading text found
+    × (r ≡ text_reply first_unfit_valid (text_trace_reply (offsets_of found) source) found)
+
 -- the reply to a command
 abbrev pub Replies : Command → (source : Bytes) → Reply → Type 0
 Replies (script rules text) source r = RepliesToText text (first_unfit_valid_under rules) script_reply r
@@ -103,6 +109,8 @@ Replies (gen n) source r = r ≡ gen_reply n
 Replies (policy text) source r = RepliesToText text first_unfit policy_reply r
 Replies (plan text) source r = RepliesToText text first_unfit (plan_reply source) r
 Replies (audit text) source r = RepliesToAudit text source r
+Replies trace source r = r ≡ trace_reply source
+Replies (trace_text text) source r = RepliesToTrace text source r
 Replies (decode digits keys) source r = RepliesToScript (map bytes_of keys) (bytes_of digits) r
 
 -- the reply to words: to their command, or where they have no form

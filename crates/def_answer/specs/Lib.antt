@@ -12,6 +12,7 @@ pub mod Gen
 pub mod Policy
 pub mod Plan
 pub mod Audit
+pub mod Trace
 pub mod Decode
 pub mod Reading
 pub mod Reply

@@ -1,5 +1,5 @@
--- What the program replies to a text, a file, a run, a plan and an audit: a status and a report.
-use Rattle.std.specs.Prelude.{ℕ, nat_lt, List, length, codes, if◌then◌else◌, Option, Some, None, Result, Ok, Err}
+-- What the program replies to a text, a file, a run, a plan, an audit and a trace: a status and a report.
+use Rattle.std.specs.Prelude.{ℕ, nat_lt, List, [], length, codes, if◌then◌else◌, Option, Some, None, Result, Ok, Err}
 use Rattle.std.specs.Str.{bytes_eq}
 use Rattle.def_script.specs.Bytes.{Bytes}
 use Rattle.def_machine.specs.Stacks.{member}
@@ -13,6 +13,7 @@ use Rattle.def_sane.specs.declared.Unfit.{Unfit}
 use Rattle.def_files.specs.AssetFile.{assets_of}
 use Rattle.def_files.specs.RunFile.{RunFile, run_of}
 use Rattle.def_audit.specs.declared.Step.{Step}
+use Rattle.def_trace.specs.Writers.{places_of}
 use Rattle.def_plan.specs.Plan.{Plan, plan_of}
 use Rattle.def_plan.specs.PlanFile.{plan_file_of}
 use Rattle.def_answer.specs.declared.status.Status.{Status}
@@ -25,6 +26,7 @@ use Rattle.def_answer.specs.Satisfy.{satisfy_report}
 use Rattle.def_answer.specs.Run.{run_report}
 use Rattle.def_answer.specs.Plan.{plan_file_line, plan_report}
 use Rattle.def_answer.specs.Audit.{wrong_script_line, not_accepted_line, audit_report}
+use Rattle.def_answer.specs.Trace.{trace_report}
 
 pub record Reply : Type 0 where
   pub status : Status
@@ -106,6 +108,29 @@ witness_reply offsets steps tree file =
 
 abbrev pub audit_reply : (offsets : List ℕ) → List Step → (source : Bytes) → Tree → Reply
 audit_reply offsets steps source tree = file_reply file_line run_of (witness_reply offsets steps tree) source
+
+-- ---- traces
+
+abbrev pub outcome_status : Outcome → Status
+outcome_status (accepted ops peak checks) = status.Done
+outcome_status (refused fault place) = status.ScriptRefused
+
+-- the trace of the run of a file, with these places
+abbrev pub traced_reply : (places : List ℕ) → RunFile → Reply
+traced_reply places file =
+    reply (outcome_status (run (given_by file) file.script file.stack)) (trace_report places (given_by file) file.script file.stack)
+
+abbrev pub trace_reply : (source : Bytes) → Reply
+trace_reply source = file_reply file_line run_of (traced_reply []) source
+
+-- the trace of the run of a file whose script is that of a tree, whose nodes have these offsets
+abbrev pub text_traced_reply : (offsets : List ℕ) → Tree → RunFile → Reply
+text_traced_reply offsets tree file =
+    if bytes_eq file.script (script_of tree) then traced_reply (places_of offsets tree) file
+    else reply status.NotAccepted wrong_script_line
+
+abbrev pub text_trace_reply : (offsets : List ℕ) → (source : Bytes) → Tree → Reply
+text_trace_reply offsets source tree = file_reply file_line run_of (text_traced_reply offsets tree) source
 
 -- ---- plans
 

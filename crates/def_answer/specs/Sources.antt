@@ -8,7 +8,7 @@ use Rattle.def_sane.specs.Unfit.{first_unfit, first_unfit_valid}
 use Rattle.def_answer.specs.declared.status.Status.{Status}
 use Rattle.def_answer.specs.declared.status.Status.TheVariants as status
 use Rattle.def_answer.specs.Satisfy.{reason_by}
-use Rattle.def_answer.specs.Words.{Command, script, check, satisfy, run, gen, policy, plan, audit, decode, IsForm}
+use Rattle.def_answer.specs.Words.{Command, script, check, satisfy, run, gen, policy, plan, audit, trace, trace_text, decode, IsForm}
 
 -- the text is read as a tree, and there is no reason against it
 abbrev pub Passes : (first_reason : Tree → Option Unfit) → (text : Bytes) → Type 0
@@ -25,6 +25,8 @@ NeedsSource (gen n) = ⊥
 NeedsSource (policy text) = ⊥
 NeedsSource (plan text) = Passes first_unfit text
 NeedsSource (audit text) = Passes first_unfit_valid text
+NeedsSource trace = ⊤
+NeedsSource (trace_text text) = Passes first_unfit_valid text
 NeedsSource (decode digits keys) = ⊥
 
 -- the words are those of such a command

@@ -25,6 +25,10 @@ pub data Command : Type 0 where
   plan : (text : Bytes) → Command
   -- by which rows a stack satisfies a valid text, with a run file
   audit : (text : Bytes) → Command
+  -- the trace of the run of a script on a stack, with a run file
+  trace : Command
+  -- the same, where the script is that of a valid text, with the node that wrote each instruction
+  trace_text : (text : Bytes) → Command
   -- the text that a Script is read back as, with the keys that its hashes of keys may have
   decode : (digits : Bytes) → (keys : List Bytes) → Command
 
@@ -38,6 +42,8 @@ words_of (gen n) = codes "gen" ∷ decimal n ∷ []
 words_of (policy text) = codes "policy" ∷ text ∷ []
 words_of (plan text) = codes "plan" ∷ text ∷ []
 words_of (audit text) = codes "audit" ∷ text ∷ []
+words_of trace = codes "trace" ∷ []
+words_of (trace_text text) = codes "trace" ∷ text ∷ []
 words_of (decode digits keys) = codes "decode" ∷ digits ∷ keys
 
 -- the greatest number that `gen` takes
@@ -58,6 +64,8 @@ IsCommand (gen n) = (1 ≤ n) × (n ≤ MOST_GENERATED)
 IsCommand (policy text) = ⊤
 IsCommand (plan text) = ⊤
 IsCommand (audit text) = ⊤
+IsCommand trace = ⊤
+IsCommand (trace_text text) = ⊤
 IsCommand (decode digits keys) = IsHex digits × All (λ word. IsSome (key_of word)) keys
 
 -- the words are those of the command

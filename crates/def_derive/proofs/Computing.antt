@@ -33,4 +33,4 @@ unfoldable pub use Rattle.def_curve.proofs.Computing.{power, on_line, double, ch
 unfoldable pub use Rattle.def_address.proofs.Computing.{shortest_digits, base58_check, read_base58_check}
 unfoldable pub use Rattle.def_derive.specs.Hmac.{hmac_sha512}
 unfoldable pub use Rattle.def_derive.specs.Extended.{read_extended, extended_text, extended_of}
-unfoldable pub use Rattle.def_derive.specs.Child.{child_by, child, extended_child}
+unfoldable pub use Rattle.def_derive.specs.Child.{child_by, child, descendant, extended_child}

@@ -1,5 +1,5 @@
 -- The children of extended public keys (BIP 32, "Public parent key → public child key": CKDpub).
-use Rattle.std.specs.Prelude.{ℕ, ◌+◌, ◌^◌, nat_lt, if◌then◌else◌, ◌++◌, take, drop, Option, Some, None}
+use Rattle.std.specs.Prelude.{ℕ, ◌+◌, ◌^◌, nat_lt, if◌then◌else◌, List, [], ◌∷◌, ◌++◌, take, drop, Option, Some, None}
 use Rattle.std.specs.Int.{bytes_high_first}
 use Rattle.std.specs.Option.{option_and_then, option_map}
 use Rattle.def_hash.specs.Hash.{hash160}
@@ -36,6 +36,11 @@ child number parent =
     let digest = halves number parent in
     let node = child_by (number_of (take 32 digest)) (drop 32 digest) parent.point in
     if nat_lt number (2 ^ 31) then node else None
+
+-- the node that a path of numbers leads to
+unfoldable pub descendant : (numbers : List ℕ) → Node → Option Node
+descendant [] node = Some node
+descendant (number ∷ numbers) node = option_and_then (descendant numbers) (child number node)
 
 -- a key's node, and the extended key of a child of it
 abbrev pub node_of : Extended → Option Node

@@ -1,3 +1,5 @@
 pub mod OnLiterals
 pub mod Cuts
 pub mod Each
+pub mod Told
+pub mod Counted

@@ -6,13 +6,14 @@ use Rattle.def_script.specs.Bytes.{Bytes}
 use Rattle.def_psbt.specs.declared.Refusal.{Refusal}
 use Rattle.def_psbt.specs.declared.Refusal.TheVariants as refusal
 use Rattle.def_psbt.specs.Transaction.{TransactionInput, TransactionOutput, Transaction, id_of}
+use Rattle.def_spend.specs.declared.Kind.{Kind}
 use Rattle.def_spend.specs.declared.State.{State}
 use Rattle.def_spend.specs.Fields.{last_byte}
 use Rattle.def_spend.specs.Amount.{Amount}
 use Rattle.def_spend.specs.Amount as amount
 use Rattle.def_answer.specs.Lines.{line}
 use Rattle.def_answer.specs.Satisfy.{item_digits}
-use Rattle.def_psbt_answer.specs.Names.{fault_name, state_name}
+use Rattle.def_psbt_answer.specs.Names.{fault_name, kind_name, state_name}
 
 -- ---- refusals
 
@@ -62,6 +63,9 @@ amount_line (amount.claimed satoshis) = line (codes "amount " ++ decimal satoshi
 
 abbrev pub unchecked_line : Bytes
 unchecked_line = line (codes "unchecked")
+
+abbrev pub kind_line : Kind → Bytes
+kind_line kind = line (codes "kind " ++ kind_name kind)
 
 -- a key with its signature: the number of the signature's hash type
 abbrev pub signature_line : Bytes × Bytes → Bytes

@@ -1,10 +1,12 @@
--- The names of refusals and of states, as reports print them.
+-- The names of refusals, of states and of kinds of outputs, as reports print them.
 use Rattle.std.specs.Prelude.{◌++◌, codes}
 use Rattle.def_script.specs.Bytes.{Bytes}
 use Rattle.def_sane.specs.declared.Unfit.{Unfit}
 use Rattle.def_sane.specs.declared.Unfit.TheVariants as unfit
 use Rattle.def_psbt.specs.declared.PsbtFault.{PsbtFault}
 use Rattle.def_psbt.specs.declared.PsbtFault.TheVariants as fault
+use Rattle.def_spend.specs.declared.Kind.{Kind}
+use Rattle.def_spend.specs.declared.Kind.TheVariants as kind
 use Rattle.def_spend.specs.declared.State.{State}
 use Rattle.def_spend.specs.declared.State.TheVariants as state
 use Rattle.def_answer.specs.Lines.{rule_name}
@@ -47,3 +49,8 @@ state_name state.WrongSighash = codes "WrongSighash"
 state_name state.TooMany = codes "TooMany"
 state_name state.Unsatisfied = codes "Unsatisfied"
 state_name state.Ready = codes "Ready"
+
+abbrev pub kind_name : Kind → Bytes
+kind_name kind.P2wsh = codes "p2wsh"
+kind_name kind.P2shP2wsh = codes "p2sh-p2wsh"
+kind_name kind.Other = codes "other"

@@ -15,8 +15,10 @@ use Rattle.def_spend.specs.declared.State.TheVariants as state
 use Rattle.def_spend.specs.Fields.{signatures_in, last_byte, asked_type}
 use Rattle.def_spend.specs.Amount.{Amount}
 use Rattle.def_spend.specs.Utxo.{utxo_of, amount_of}
+use Rattle.def_spend.specs.declared.Kind.{Kind}
 use Rattle.def_spend.specs.Hashes.{hash_by}
 use Rattle.def_spend.specs.Input.{Spend, assets_of}
+use Rattle.def_spend.specs.Kinds.{kind_of}
 use Rattle.def_spend.specs.Reading.{Input}
 use Rattle.def_spend.specs.States.{state_of, is_read, is_sane, is_final, stack_of}
 use Rattle.def_spend.specs.Asking.{plan_with, unsigned_keys}
@@ -27,7 +29,7 @@ use Rattle.def_answer.specs.Policy.{policy_of}
 use Rattle.def_answer.specs.Plan.{ask_line, weight_line as most_weight_line}
 use Rattle.def_psbt_answer.specs.declared.words.Form.{Form}
 use Rattle.def_psbt_answer.specs.declared.words.Form.TheVariants as form
-use Rattle.def_psbt_answer.specs.Lines.{psbt_line, output_lines, input_line, outpoint_line, amount_line, unchecked_line, signature_line, policy_line, weight_line, no_plan_line, sign_line, check_line}
+use Rattle.def_psbt_answer.specs.Lines.{psbt_line, output_lines, input_line, outpoint_line, amount_line, unchecked_line, kind_line, signature_line, policy_line, weight_line, no_plan_line, sign_line, check_line}
 use Rattle.def_psbt_answer.specs.Fee.{fee_line}
 
 -- ---- inspect
@@ -54,11 +56,18 @@ tree_lines state (Some tree) spend stack =
     ++ (if is_sane state then policy_line (printed_policy (policy_of tree)) else [])
     ++ last_lines state tree spend stack
 
+-- the kind of the spent output, where that is known
+abbrev pub kind_lines : State → Kind → Bytes
+kind_lines state.NoUtxo kind = []
+kind_lines state.WrongUtxo kind = []
+kind_lines other kind = kind_line kind
+
 -- nothing more is told of an input that is Final: nobody says that it is valid
 abbrev pub open_lines : Input → Bytes
 open_lines input =
     if is_final (state_of input) then unchecked_line
-    else flat_map signature_line (signatures_in input.spend.fields)
+    else kind_lines (state_of input) (kind_of input.spend)
+    ++ flat_map signature_line (signatures_in input.spend.fields)
     ++ tree_lines (state_of input) input.tree input.spend (stack_of input)
 
 abbrev pub input_report : Input → Bytes

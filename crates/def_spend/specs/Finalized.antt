@@ -8,6 +8,8 @@ use Rattle.def_psbt.specs.Transaction.{TransactionInput, Transaction, inputs_tex
 use Rattle.def_psbt.specs.Map.{Pair, Map, Psbt, type_of}
 use Rattle.def_spend.specs.Fields.{PARTIAL_SIG, FINAL_SCRIPTSIG, FINAL_SCRIPTWITNESS, RIPEMD160, HASH256, field, is_between}
 use Rattle.def_spend.specs.Hashes.{script_in}
+use Rattle.def_spend.specs.Input.{Spend}
+use Rattle.def_spend.specs.Kinds.{open_script_sig}
 use Rattle.def_spend.specs.Reading.{Input, has_item}
 use Rattle.def_spend.specs.States.{state_of, is_ready, stack_of}
 
@@ -20,21 +22,34 @@ is_cleared type = is_between PARTIAL_SIG FINAL_SCRIPTWITNESS type || is_between 
 abbrev pub is_kept : Pair → Bool
 is_kept pair = not (is_cleared (type_of pair.key))
 
+abbrev pub script_sig_pair : (script_sig : Bytes) → Pair
+script_sig_pair script_sig = record { key = FINAL_SCRIPTSIG ∷ []; value = script_sig }
+
 abbrev pub witness_pair : (witness : Bytes) → Pair
 witness_pair witness = record { key = FINAL_SCRIPTWITNESS ∷ []; value = witness }
 
--- the pairs that are kept, in their order, and the final witness behind them
-abbrev pub final_map : (fields : Map) → (witness : Bytes) → Map
-final_map fields witness = filter is_kept fields ++ witness_pair witness ∷ []
+-- the final scriptSig, which isn't written where it is empty, and the final witness
+abbrev pub final_pairs : (script_sig witness : Bytes) → Map
+final_pairs [] witness = witness_pair witness ∷ []
+final_pairs (byte ∷ bytes) witness = script_sig_pair (byte ∷ bytes) ∷ witness_pair witness ∷ []
+
+-- the pairs that are kept, in their order, and the final ones behind them
+abbrev pub final_map : (fields : Map) → (script_sig witness : Bytes) → Map
+final_map fields script_sig witness = filter is_kept fields ++ final_pairs script_sig witness
+
+-- the scriptSig of a Ready input
+abbrev pub script_sig_of : Spend → Bytes
+script_sig_of spend = unwrap_or (open_script_sig spend) []
 
 -- the witness of a Ready input: its satisfaction, and the witness script
 abbrev pub witness_of : Input → Bytes
-witness_of input = witness_text (stack_of input) (script_in input.spend.fields)
+witness_of input = witness_text (stack_of input) (script_in input.spend)
 
 -- the map as it is written
 abbrev pub written_map : Input → Map
 written_map input =
-    if is_ready (state_of input) then final_map input.spend.fields (witness_of input) else input.spend.fields
+    if is_ready (state_of input) then final_map input.spend.fields (script_sig_of input.spend) (witness_of input)
+    else input.spend.fields
 
 -- the PSBT with each input that is Ready made final
 abbrev pub finalized : Psbt → List Input → Psbt

@@ -5,6 +5,7 @@ pub mod HashTypes
 pub mod SignatureHash
 pub mod Input
 pub mod Hashes
+pub mod Kinds
 pub mod Reading
 pub mod States
 pub mod Asking

@@ -14,7 +14,7 @@ use Rattle.def_spend.specs.declared.State.TheVariants as state
 use Rattle.def_spend.specs.Fields.{signatures_in, preimages_in, last_byte, asked_type}
 use Rattle.def_spend.specs.HashTypes.{hash_type_of}
 use Rattle.def_spend.specs.Input.{Spend, assets_of}
-use Rattle.def_spend.specs.Reading.{Input, witness_script}
+use Rattle.def_spend.specs.Reading.{Input, script_code}
 
 -- a signature of another type than this one
 abbrev pub has_other_type : (type : ℕ) → Pairs → Bool
@@ -55,7 +55,7 @@ state_by (Err state) found spend = state
 
 -- the state of an input
 abbrev pub state_of : Input → State
-state_of input = state_by (witness_script input.spend) input.tree input.spend
+state_of input = state_by (script_code input.spend) input.tree input.spend
 
 -- ---- what states have
 

@@ -25,6 +25,17 @@ pub struct HashType {
     pub anyone_can_pay: bool,
 }
 
+/// The kind of a spent output, by its program: its Script, or of P2SH the redeem script (BIP 16, BIP 141).
+#[derive(Clone, Copy, Debug, PartialEq, Eq)]
+pub enum Kind {
+    /// P2WSH: version 0 and the SHA-256 of the witness script.
+    P2wsh,
+    /// P2SH of such a program.
+    P2shP2wsh,
+    /// Any other one, and P2SH of which the redeem script isn't known.
+    Other,
+}
+
 /// The state of an input: of these the first that applies.
 #[derive(Clone, Copy, Debug, PartialEq, Eq)]
 pub enum State {
@@ -34,13 +45,13 @@ pub enum State {
     NoUtxo,
     /// The previous transaction isn't that of the outpoint, or has no such output, or has another one than the map.
     WrongUtxo,
-    /// The spent output isn't P2WSH.
+    /// The spent output isn't P2WSH, by itself or in P2SH.
     OtherOutput,
-    /// Its map has no witness script.
+    /// Its map has no redeem script of a P2SH output, or no witness script.
     NoScript,
-    /// The spent output isn't that of the witness script.
+    /// The spent output isn't that of the redeem script, or the program isn't that of the witness script.
     WrongScript,
-    /// No miniscript has this witness script, with the keys of the map.
+    /// No miniscript has this Script, with the keys of the map.
     NoReading,
     /// The miniscript isn't sane: this is the first reason.
     Unfit(Unfit),

@@ -19,9 +19,9 @@ use Rattle.def_audit.specs.declared.Step.{Step}
 use Rattle.def_sane.specs.Unfit.{first_unfit, first_unfit_valid, first_unfit_under, first_unfit_valid_under}
 use Rattle.def_answer.specs.Satisfy.{chosen_by, reason_by}
 use Rattle.def_answer.specs.declared.status.Status.{Status}
-use Rattle.def_answer.specs.Words.{Command, script, check, satisfy, run, gen, policy, plan, audit, decode, IsCommand}
+use Rattle.def_answer.specs.Words.{Command, script, check, satisfy, run, gen, policy, plan, audit, trace, trace_text, decode, IsCommand}
 use Rattle.def_answer.specs.Reading.{Reading, read, refused, HasReading}
-use Rattle.def_answer.specs.Reply.{Reply, reply, usage_reply, text_reply, satisfy_reply, run_reply, plan_reply, audit_reply}
+use Rattle.def_answer.specs.Reply.{Reply, reply, usage_reply, text_reply, satisfy_reply, run_reply, plan_reply, audit_reply, trace_reply, text_trace_reply}
 use Rattle.ms_answer_laws.proofs.Decided.{decided, decided_is, decided_not}
 use Rattle.ms_answer_laws.proofs.Forms.{command_of, is_form, none_has_form}
 use Rattle.ms_answer_laws.proofs.SpelledKeys.{are_keys}
@@ -60,6 +60,7 @@ OnText P (satisfy choice rules text) = P text
 OnText P (policy text) = P text
 OnText P (plan text) = P text
 OnText P (audit text) = P text
+OnText P (trace_text text) = P text
 OnText P command = ⊤
 
 -- the reply to a Script
@@ -93,6 +94,9 @@ reply_to source (policy text) = text_reply first_unfit policy_reply (reading_of 
 reply_to source (plan text) = text_reply first_unfit (plan_reply source) (reading_of text)
 reply_to source (audit text) =
     text_reply first_unfit_valid (audit_reply (offsets_of (reading_of text)) (steps_of (reading_of text) source) source) (reading_of text)
+reply_to source trace = trace_reply source
+reply_to source (trace_text text) =
+    text_reply first_unfit_valid (text_trace_reply (offsets_of (reading_of text)) source) (reading_of text)
 reply_to source (decode digits keys) = decided_reply (decided (map bytes_of keys) (bytes_of digits))
 
 replies_to : (command : Command) (source : Bytes) → IsCommand command → OnText IsUtf8 command → Replies command source (reply_to source command)
@@ -106,6 +110,8 @@ replies_to (plan text) source is utf8 = (reading_of text, has_reading text utf8,
 replies_to (audit text) source is utf8 =
     let has = has_reading text utf8 in
     (reading_of text, steps_of (reading_of text) source, has, has_steps text source (reading_of text) has, refl)
+replies_to trace source is utf8 = refl
+replies_to (trace_text text) source is utf8 = (reading_of text, has_reading text utf8, refl)
 replies_to (decode digits keys) source is utf8 = replies_to_script (map bytes_of keys) (bytes_of digits) (are_keys keys is.1)
 
 abbrev pub reply_to_words : (source : Bytes) → Option Command → Reply
@@ -133,6 +139,7 @@ is_ascii_text (satisfy choice rules text) = list_all is_ascii text
 is_ascii_text (policy text) = list_all is_ascii text
 is_ascii_text (plan text) = list_all is_ascii text
 is_ascii_text (audit text) = list_all is_ascii text
+is_ascii_text (trace_text text) = list_all is_ascii text
 is_ascii_text command = true
 
 abbrev pub are_ascii_words : Option Command → Bool

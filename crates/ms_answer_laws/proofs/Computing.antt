@@ -18,6 +18,8 @@ use Rattle.def_answer.specs.Run.{run_report}
 use Rattle.def_answer.specs.Policy.{policy_report}
 use Rattle.def_answer.specs.Plan.{plan_report}
 use Rattle.def_answer.specs.Audit.{audit_report}
+use Rattle.def_trace.proofs.Computing.{traces}
+use Rattle.def_answer.specs.Trace.{trace_report}
 use Rattle.def_answer.specs.Decode.{decode_report}
 use Rattle.def_answer.specs.Answer.{gen_reply}
 use Rattle.def_answer.specs.Gen.{gen_report}
@@ -26,6 +28,6 @@ use Rattle.ms_answer_laws.proofs.Decided.{decided}
 use Rattle.ms_answer_laws.proofs.Forms.{children_of}
 
 unfoldable pub answers_on_literals : ⊤
-unfolding script_report check_report satisfy_report run_report policy_report plan_report audit_report plan_file_of decode_report decided natural_of fits
+unfolding script_report check_report satisfy_report run_report policy_report plan_report audit_report trace_report traces plan_file_of decode_report decided natural_of fits
     the_limits limits_exist the_height height_exists least_keys gen_report gen_reply computing hash256 corr_rows mall_rows files_on_literals children_of digits
 answers_on_literals = tt

@@ -1,5 +1,5 @@
 -- The statuses of answers.
-use Rattle.std.proofs.Common.{◌≡◌, inl, inr, ℕ, Bool, true, false, nat_lt, if◌then◌else◌, List, Option, Some, None, Result, Ok, Err, length, refl, sym, subst, arith}
+use Rattle.std.proofs.Common.{◌≡◌, ◌⊎◌, inl, inr, ℕ, Bool, true, false, nat_lt, if◌then◌else◌, List, [], Option, Some, None, Result, Ok, Err, length, refl, sym, subst, arith}
 use Rattle.std.proofs.lemmas.Bool.{lt-ltb}
 use Rattle.std.specs.Str.{bytes_eq}
 use Rattle.def_script.specs.Bytes.{Bytes}
@@ -11,14 +11,15 @@ use Rattle.def_sane.specs.declared.Rules.{Rules}
 use Rattle.def_sane.specs.declared.Unfit.{Unfit}
 use Rattle.def_sane.specs.Unfit.{first_unfit, first_unfit_valid, first_unfit_under, first_unfit_valid_under}
 use Rattle.def_files.specs.AssetFile.{assets_of}
-use Rattle.def_files.specs.RunFile.{run_of}
+use Rattle.def_files.specs.RunFile.{RunFile, run_of}
 use Rattle.def_audit.specs.declared.Step.{Step}
+use Rattle.def_trace.specs.Writers.{places_of}
 use Rattle.def_plan.specs.Plan.{plan_of}
 use Rattle.def_plan.specs.PlanFile.{plan_file_of}
 use Rattle.def_answer.specs.Satisfy.{chosen_by, reason_by}
 use Rattle.def_answer.specs.declared.status.Status.{Status}
 use Rattle.def_answer.specs.declared.status.Status.TheVariants as status
-use Rattle.def_answer.specs.Words.{IsForm, Command, script, check, satisfy, gen, policy, plan, audit, decode}
+use Rattle.def_answer.specs.Words.{IsForm, Command, script, check, satisfy, gen, policy, plan, audit, trace, trace_text, decode}
 use Rattle.def_answer.specs.Words as words
 use Rattle.def_answer.specs.Lines.{MOST_FILE}
 use Rattle.def_answer.specs.Files.{file_too_long_line, file_line}
@@ -26,10 +27,10 @@ use Rattle.def_answer.specs.Plan.{plan_file_line}
 use Rattle.def_answer.specs.Audit.{wrong_script_line}
 use Rattle.def_answer.specs.Reading.{Reading, HasReading}
 use Rattle.def_answer.specs.Reading as reading
-use Rattle.def_answer.specs.Reply.{Reply, reply, unless_unfit, text_reply, with_file, file_reply, chosen_reply, satisfy_reply, outcome_reply, given_by, run_reply, audited_reply, witness_reply, audit_reply, planned_reply, plan_reply}
-use Rattle.def_answer.specs.Answer.{script_reply, check_reply, policy_reply, gen_reply, RepliesToText, offsets_of, RepliesToAudit, Replies, RepliesToWords}
+use Rattle.def_answer.specs.Reply.{Reply, reply, unless_unfit, text_reply, with_file, file_reply, chosen_reply, satisfy_reply, outcome_reply, given_by, run_reply, audited_reply, witness_reply, audit_reply, planned_reply, plan_reply, outcome_status, traced_reply, trace_reply, text_traced_reply, text_trace_reply}
+use Rattle.def_answer.specs.Answer.{script_reply, check_reply, policy_reply, gen_reply, RepliesToText, offsets_of, RepliesToAudit, RepliesToTrace, Replies, RepliesToWords}
 use Rattle.def_answer.specs.Sources.{Passes}
-use Rattle.ms_answer_laws.specs.Laws.{IsAnswered, AnswersHaveStatus, NoReadingIsOfDecode, NotAcceptedIsOfAudit, LongAssetFile, LongRunFile, LongPlanFile, LongAuditFile}
+use Rattle.ms_answer_laws.specs.Laws.{IsAnswered, AnswersHaveStatus, NoReadingIsOfDecode, NotAcceptedIsOfWitness, LongAssetFile, LongRunFile, LongPlanFile, LongAuditFile, LongTraceFile, LongTextTraceFile}
 
 -- ---- the replies to files and runs
 
@@ -75,6 +76,22 @@ module _ (P : Status → Type 0) where
       go true (refused fault place) = refusal
       go false o = refusal
 
+  traced_status : (places : List ℕ) (file : RunFile) → P status.Done → P status.ScriptRefused → OfStatus P (traced_reply places file)
+  traced_status places file done refusal =
+      elim (run (given_by file) file.script file.stack) as (λ o. P (outcome_status o)) [ accepted ops peak checks ↦ done | refused fault place ↦ refusal ]
+
+  pub trace_status : (source : Bytes) → P status.FileRefused → P status.Done → P status.ScriptRefused → OfStatus P (trace_reply source)
+  trace_status source file done refusal = file_status file_line run_of (traced_reply []) source file (λ f. traced_status [] f done refusal)
+
+  pub text_trace_status : (offsets : List ℕ) (source : Bytes) (tree : Tree) → P status.FileRefused → P status.Done → P status.ScriptRefused →
+      P status.NotAccepted → OfStatus P (text_trace_reply offsets source tree)
+  text_trace_status offsets source tree file done refusal other =
+      file_status file_line run_of (text_traced_reply offsets tree) source file (λ f. go f (bytes_eq f.script (script_of tree)))
+    where
+      go : (f : RunFile) (b : Bool) → OfStatus P (if b then traced_reply (places_of offsets tree) f else reply status.NotAccepted wrong_script_line)
+      go f true = traced_status (places_of offsets tree) f done refusal
+      go f false = other
+
   -- a text that passes is replied to by what comes next, and the others are refused
   pub text_status : (text : Bytes) (reason : Tree → Option Unfit) (next : Tree → Reply) (r : Reply) → P status.TextRefused →
       ((passes : Passes reason text) → OfStatus P (next passes.0)) → RepliesToText text reason next r → OfStatus P r
@@ -96,13 +113,21 @@ module _ (P : Status → Type 0) where
       text_status text first_unfit_valid (audit_reply (offsets_of found) steps source) r refusal
       (λ passes. after passes (offsets_of found) steps) (found, has, e)
 
+  pub told_status : (text source : Bytes) (r : Reply) → P status.TextRefused →
+      ((passes : Passes first_unfit_valid text) (offsets : List ℕ) → OfStatus P (text_trace_reply offsets source passes.0)) →
+      RepliesToTrace text source r → OfStatus P r
+  told_status text source r refusal after (found, has, e) =
+      text_status text first_unfit_valid (text_trace_reply (offsets_of found) source) r refusal
+      (λ passes. after passes (offsets_of found)) (found, has, e)
+
 -- ---- the replies to words
 
 module _ (ws : List Bytes) where
-  -- only `decode` is replied to by that there is no reading, and only `audit` by that a stack isn't accepted
+  -- only `decode` is replied to by that there is no reading, and only `audit` and `trace TEXT` by that a
+  -- stack isn't accepted
   abbrev StatusOf : Status → Type 0
   StatusOf status.NoReading = (digits : Bytes) × (keys : List Bytes) × IsForm ws (decode digits keys)
-  StatusOf status.NotAccepted = (text : Bytes) × IsForm ws (audit text)
+  StatusOf status.NotAccepted = (text : Bytes) × (IsForm ws (audit text) ⊎ IsForm ws (trace_text text))
   StatusOf s = IsAnswered s
 
   reply_status : (c : Command) (source : Bytes) (r : Reply) → IsForm ws c → Replies c source r → OfStatus StatusOf r
@@ -118,7 +143,10 @@ module _ (ws : List Bytes) where
   reply_status (plan text) source r form h =
       text_status StatusOf text first_unfit (plan_reply source) r tt (λ passes. plan_status StatusOf source passes.0 tt tt tt) h
   reply_status (audit text) source r form h =
-      audited_status StatusOf text source r tt (λ passes offsets steps. audit_status StatusOf offsets steps source passes.0 tt tt (text, form)) h
+      audited_status StatusOf text source r tt (λ passes offsets steps. audit_status StatusOf offsets steps source passes.0 tt tt (text, inl form)) h
+  reply_status trace source r form h = subst (OfStatus StatusOf) (sym h) (trace_status StatusOf source tt tt tt)
+  reply_status (trace_text text) source r form h =
+      told_status StatusOf text source r tt (λ passes offsets. text_trace_status StatusOf offsets source passes.0 tt tt tt (text, inr form)) h
   reply_status (decode digits keys) source r form (inl h) = subst (OfStatus StatusOf) (sym h.2) tt
   reply_status (decode digits keys) source r form (inr h) = subst (OfStatus StatusOf) (sym h.1) (digits, keys, form)
 
@@ -135,8 +163,8 @@ answers_have_status ws source s p h = is_answered ws s (words_status ws source (
 pub no_reading_is_of_decode : NoReadingIsOfDecode
 no_reading_is_of_decode ws source p h = words_status ws source (reply status.NoReading p) h.replies
 
-pub not_accepted_is_of_audit : NotAcceptedIsOfAudit
-not_accepted_is_of_audit ws source p h = words_status ws source (reply status.NotAccepted p) h.replies
+pub not_accepted_is_of_witness : NotAcceptedIsOfWitness
+not_accepted_is_of_witness ws source p h = words_status ws source (reply status.NotAccepted p) h.replies
 
 -- ---- files that are too long
 
@@ -151,3 +179,9 @@ long_plan_file source tree long = rw (lt-ltb MOST_FILE (length source) long)
 
 pub long_audit_file : LongAuditFile
 long_audit_file offsets steps source tree long = rw (lt-ltb MOST_FILE (length source) long)
+
+pub long_trace_file : LongTraceFile
+long_trace_file source long = rw (lt-ltb MOST_FILE (length source) long)
+
+pub long_text_trace_file : LongTextTraceFile
+long_text_trace_file offsets source tree long = rw (lt-ltb MOST_FILE (length source) long)

@@ -14,14 +14,17 @@ use Rattle.def_script.specs.Bytes.{Bytes}
 use Rattle.def_text.specs.Word.{key_of}
 use Rattle.def_sane.specs.declared.Rules.TheVariants.{Policy, Consensus}
 use Rattle.def_choice.specs.declared.choice.Choice.TheVariants.{Strict, Cheapest}
-use Rattle.def_answer.specs.Words.{Command, script, check, satisfy, run, gen, policy, plan, audit, decode, words_of, MOST_GENERATED, IsCommand, IsForm, HasNoForm}
+use Rattle.def_answer.specs.Words.{Command, script, check, satisfy, run, gen, policy, plan, audit, trace, trace_text, decode, words_of, MOST_GENERATED, IsCommand, IsForm, HasNoForm}
 
 -- the number of 1 to 30 that a word spells
 unfoldable pub children_of : Bytes → Option ℕ
 children_of word = find (λ n. bytes_eq (decimal n) word) (range_with_len 1 MOST_GENERATED)
 
 abbrev pub one_word : (first : Bytes) → Option Command
-one_word first = if bytes_eq first (codes "run") then Some run else None
+one_word first =
+    if bytes_eq first (codes "run") then Some run
+    else if bytes_eq first (codes "trace") then Some trace
+    else None
 
 abbrev pub two_words : (first second : Bytes) → Option Command
 two_words first second =
@@ -32,6 +35,7 @@ two_words first second =
     else if bytes_eq first (codes "policy") then Some (policy second)
     else if bytes_eq first (codes "plan") then Some (plan second)
     else if bytes_eq first (codes "audit") then Some (audit second)
+    else if bytes_eq first (codes "trace") then Some (trace_text second)
     else None
 
 abbrev pub consensus_words : (first text : Bytes) → Option Command
@@ -153,7 +157,8 @@ two_form first second c =
     branch _ c _ _ _ (gen_form first second (children_of second) c refl) (
     branch _ c _ _ _ (named first (codes "policy") _ (policy second) c refl tt) (
     branch _ c _ _ _ (named first (codes "plan") _ (plan second) c refl tt) (
-    branch _ c _ _ _ (named first (codes "audit") _ (audit second) c refl tt) (λ e. cc e)))))))
+    branch _ c _ _ _ (named first (codes "audit") _ (audit second) c refl tt) (
+    branch _ c _ _ _ (named first (codes "trace") _ (trace_text second) c refl tt) (λ e. cc e))))))))
 
 consensus_form : (first third : Bytes) (c : Command) → consensus_words first third ≡ Some c → IsForm (first ∷ codes "--consensus" ∷ third ∷ []) c
 consensus_form first third c =
@@ -185,7 +190,9 @@ several_form first second (third ∷ fourth ∷ fifth ∷ more) c e = cc e
 
 pub is_form : (words : List Bytes) (c : Command) → command_of words ≡ Some c → IsForm words c
 is_form [] c e = cc e
-is_form (first ∷ []) c e = branch _ c _ _ _ (named first (codes "run") [] run c refl tt) (λ e. cc e) e
+is_form (first ∷ []) c e =
+    branch _ c _ _ _ (named first (codes "run") [] run c refl tt) (
+    branch _ c _ _ _ (named first (codes "trace") [] trace c refl tt) (λ e. cc e)) e
 is_form (first ∷ second ∷ more) c e =
     branch _ c _ _ _ (λ is. branch _ c _ _ _ (λ told.
     named first (codes "decode") _ (decode second more) c refl ((script_and_keys_tell second more).0 told) is) (λ e. cc e))

@@ -13,16 +13,16 @@ use Rattle.def_audit.specs.declared.Step.{Step}
 use Rattle.def_answer.specs.Satisfy.{chosen_by, reason_by}
 use Rattle.def_answer.specs.declared.status.Status.{Status}
 use Rattle.def_answer.specs.declared.status.Status.TheVariants as status
-use Rattle.def_answer.specs.Words.{Command, script, check, satisfy, run, gen, policy, plan, audit, decode}
+use Rattle.def_answer.specs.Words.{Command, script, check, satisfy, run, gen, policy, plan, audit, trace, trace_text, decode}
 use Rattle.def_answer.specs.Reading.{Reading, read, refused, HasReading}
-use Rattle.def_answer.specs.Reply.{Reply, reply, unless_unfit, text_reply, satisfy_reply, plan_reply, audit_reply}
+use Rattle.def_answer.specs.Reply.{Reply, reply, unless_unfit, text_reply, satisfy_reply, plan_reply, audit_reply, text_trace_reply}
 use Rattle.def_answer.specs.Lines.{MOST_FILE}
-use Rattle.def_answer.specs.Answer.{script_reply, check_reply, policy_reply, gen_reply, RepliesToText, AreSteps, HasSteps, offsets_of, RepliesToAudit, Replies, RepliesToWords}
+use Rattle.def_answer.specs.Answer.{script_reply, check_reply, policy_reply, gen_reply, RepliesToText, AreSteps, HasSteps, offsets_of, RepliesToAudit, RepliesToTrace, Replies, RepliesToWords}
 use Rattle.def_answer.specs.Sources.{Passes, NeedsSource, ReadsSource, IsOfSource, IsToFile}
 use Rattle.ms_answer_laws.specs.Laws.{AnswerWithoutSource, StatusWithoutSource, StatusWithSource}
 use Rattle.ms_answer_laws.proofs.Decided.{none_tells}
 use Rattle.ms_answer_laws.proofs.Answered.{OnText, reading_of, has_reading}
-use Rattle.ms_answer_laws.proofs.Early.{OfStatus, satisfy_status, run_status, plan_status, audit_status, text_status, audited_status, long_asset_file, long_run_file, long_plan_file, long_audit_file}
+use Rattle.ms_answer_laws.proofs.Early.{OfStatus, satisfy_status, run_status, plan_status, audit_status, trace_status, text_trace_status, text_status, audited_status, told_status, long_asset_file, long_run_file, long_plan_file, long_audit_file, long_trace_file, long_text_trace_file}
 use Rattle.ms_answer_laws.proofs.Forms.{command_of, form_found}
 use Rattle.ms_answer_laws.proofs.Unique.{one_form, one_reading, text_of_form}
 
@@ -56,6 +56,13 @@ audit_without text source other r never (reading, steps, has, are, e) = (
   e ∙ same_without text first_unfit_valid (audit_reply (offsets_of reading) steps source) (audit_reply (offsets_of reading) steps other) reading never has,
 )
 
+trace_without : (text source other : Bytes) (r : Reply) → ¬ Passes first_unfit_valid text → RepliesToTrace text source r → RepliesToTrace text other r
+trace_without text source other r never (reading, has, e) = (
+  reading,
+  has,
+  e ∙ same_without text first_unfit_valid (text_trace_reply (offsets_of reading) source) (text_trace_reply (offsets_of reading) other) reading never has,
+)
+
 -- ---- replies without the source
 
 reply_without : (c : Command) (source other : Bytes) (r : Reply) → ¬ NeedsSource c → Replies c source r → Replies c other r
@@ -64,6 +71,8 @@ reply_without (satisfy choice rules text) source other r never h =
 reply_without run source other r never h = absurd (never tt)
 reply_without (plan text) source other r never h = text_without text first_unfit (plan_reply source) (plan_reply other) r never h
 reply_without (audit text) source other r never h = audit_without text source other r never h
+reply_without trace source other r never h = absurd (never tt)
+reply_without (trace_text text) source other r never h = trace_without text source other r never h
 reply_without c source other r never h = h
 
 -- no status that tells of the source
@@ -85,6 +94,8 @@ other_status (plan text) source r never h =
     text_status IsOther text first_unfit (plan_reply source) r (λ s. s) (λ passes. absurd (never passes)) h
 other_status (audit text) source r never h =
     audited_status IsOther text source r (λ s. s) (λ passes offsets steps. absurd (never passes)) h
+other_status trace source r never h = absurd (never tt)
+other_status (trace_text text) source r never h = told_status IsOther text source r (λ s. s) (λ passes offsets. absurd (never passes)) h
 other_status (decode digits keys) source r never (inl h) = subst (OfStatus IsOther) (sym h.2) (λ s. s)
 other_status (decode digits keys) source r never (inr h) = subst (OfStatus IsOther) (sym h.1) (λ s. s)
 
@@ -125,6 +136,13 @@ passed_audit text source r utf8 passes (reading, steps, has, are, e) =
           ∙ ap (λ o. unless_unfit o passes.1 (audit_reply passes.1 steps source passes.0)) passes.3,
     )
 
+pub passed_trace : (text source : Bytes) (r : Reply) → IsUtf8 text → (passes : Passes first_unfit_valid text) → RepliesToTrace text source r
+    → r ≡ text_trace_reply passes.1 source passes.0
+passed_trace text source r utf8 passes (reading, has, e) =
+    let same = one_reading text reading (read passes.0 passes.1) utf8 has passes.2 in
+    e ∙ ap (λ t. text_reply first_unfit_valid (text_trace_reply (offsets_of t) source) t) same
+    ∙ ap (λ o. unless_unfit o passes.1 (text_trace_reply passes.1 source passes.0)) passes.3
+
 file_status : (c : Command) (source : Bytes) (r : Reply) → OnText IsUtf8 c → NeedsSource c → Replies c source r →
     OfStatus IsToFile r
 file_status (satisfy choice rules text) source r utf8 needs h =
@@ -137,6 +155,9 @@ file_status (plan text) source r utf8 needs h =
 file_status (audit text) source r utf8 needs h =
     let found = passed_audit text source r utf8 needs h in
     subst (OfStatus IsToFile) (sym found.2) (audit_status IsToFile needs.1 found.0 source needs.0 tt tt tt)
+file_status trace source r utf8 needs h = subst (OfStatus IsToFile) (sym h) (trace_status IsToFile source tt tt tt)
+file_status (trace_text text) source r utf8 needs h =
+    subst (OfStatus IsToFile) (sym (passed_trace text source r utf8 needs h)) (text_trace_status IsToFile needs.1 source needs.0 tt tt tt tt)
 file_status c source r utf8 needs h = absurd needs
 
 -- a file that is too long is refused, whatever it says
@@ -151,6 +172,9 @@ long_file (plan text) source r utf8 needs long h =
 long_file (audit text) source r utf8 needs long h =
     let found = passed_audit text source r utf8 needs h in
     ap (λ (r : Reply). r.status) (found.2 ∙ long_audit_file needs.1 found.0 source needs.0 long)
+long_file trace source r utf8 needs long h = ap (λ (r : Reply). r.status) (h ∙ long_trace_file source long)
+long_file (trace_text text) source r utf8 needs long h =
+    ap (λ (r : Reply). r.status) (passed_trace text source r utf8 needs h ∙ long_text_trace_file needs.1 source needs.0 long)
 long_file c source r utf8 needs long h = absurd needs
 
 file_words : (words : List Bytes) (source : Bytes) (r : Reply) → All IsUtf8 words → ReadsSource words →

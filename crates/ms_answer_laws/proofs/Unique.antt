@@ -12,10 +12,10 @@ use Rattle.def_sane.specs.Unfit.{first_unfit, first_unfit_valid, first_unfit_und
 use Rattle.def_audit.specs.declared.Step.{Step}
 use Rattle.def_choice.specs.declared.choice.Choice.TheVariants.{Strict, Cheapest}
 use Rattle.def_answer.specs.Satisfy.{chosen_by, reason_by}
-use Rattle.def_answer.specs.Words.{Command, script, check, satisfy, run, gen, policy, plan, audit, decode, words_of, IsForm, HasNoForm}
+use Rattle.def_answer.specs.Words.{Command, script, check, satisfy, run, gen, policy, plan, audit, trace, trace_text, decode, words_of, IsForm, HasNoForm}
 use Rattle.def_answer.specs.Reading.{Reading, read, refused, HasReading}
-use Rattle.def_answer.specs.Reply.{Reply, reply, unless_unfit, text_reply, satisfy_reply, plan_reply, audit_reply}
-use Rattle.def_answer.specs.Answer.{script_reply, check_reply, policy_reply, decode_reply, bytes_of, RepliesToScript, RepliesToText, HasSteps, offsets_of, RepliesToAudit, Replies, RepliesToWords}
+use Rattle.def_answer.specs.Reply.{Reply, reply, unless_unfit, text_reply, satisfy_reply, plan_reply, audit_reply, text_trace_reply}
+use Rattle.def_answer.specs.Answer.{script_reply, check_reply, policy_reply, decode_reply, bytes_of, RepliesToScript, RepliesToText, HasSteps, offsets_of, RepliesToAudit, RepliesToTrace, Replies, RepliesToWords}
 use Rattle.ms_answer_laws.specs.Laws.{OneForm, FormOrNone, OneAnswer, SomeAnswer}
 use Rattle.ms_answer_laws.proofs.Forms.{command_of, is_form, form_found, none_has_form}
 use Rattle.ms_answer_laws.proofs.AuditSteps.{one_audit}
@@ -46,6 +46,7 @@ text_of_words P (satisfy Cheapest Consensus text) h = h 3 [] (omega arith)
 text_of_words P (policy text) h = h 1 [] (omega arith)
 text_of_words P (plan text) h = h 1 [] (omega arith)
 text_of_words P (audit text) h = h 1 [] (omega arith)
+text_of_words P (trace_text text) h = h 1 [] (omega arith)
 text_of_words P c h = tt
 
 pub text_of_form : (words : List Bytes) (c : Command) → All IsUtf8 words → IsForm words c → OnText IsUtf8 c
@@ -89,6 +90,10 @@ one_audit_reply text source a b utf8 (r, p, has, h, e) (s, q, has_s, k, f) =
     e ∙ one_audit_reading source r p q h (subst (λ t. HasSteps t source q) same k)
     ∙ ap (λ t. text_reply first_unfit_valid (audit_reply (offsets_of t) q source) t) (sym same) ∙ sym f
 
+one_trace_reply : (text source : Bytes) (a b : Reply) → IsUtf8 text → RepliesToTrace text source a → RepliesToTrace text source b → a ≡ b
+one_trace_reply text source a b utf8 (r, has, e) (s, has_s, f) =
+    e ∙ ap (λ t. text_reply first_unfit_valid (text_trace_reply (offsets_of t) source) t) (one_reading text r s utf8 has has_s) ∙ sym f
+
 pub one_reply : (c : Command) (source : Bytes) (a b : Reply) → OnText IsUtf8 c → Replies c source a → Replies c source b → a ≡ b
 one_reply (script rules text) source a b utf8 h k = one_text_reply text (first_unfit_valid_under rules) script_reply a b utf8 h k
 one_reply (check rules text) source a b utf8 h k = one_text_reply text (first_unfit_under rules) (check_reply rules) a b utf8 h k
@@ -98,6 +103,8 @@ one_reply (gen n) source a b utf8 h k = h ∙ sym k
 one_reply (policy text) source a b utf8 h k = one_text_reply text first_unfit policy_reply a b utf8 h k
 one_reply (plan text) source a b utf8 h k = one_text_reply text first_unfit (plan_reply source) a b utf8 h k
 one_reply (audit text) source a b utf8 h k = one_audit_reply text source a b utf8 h k
+one_reply trace source a b utf8 h k = h ∙ sym k
+one_reply (trace_text text) source a b utf8 h k = one_trace_reply text source a b utf8 h k
 one_reply (decode digits keys) source a b utf8 h k = one_script_reply (map bytes_of keys) (bytes_of digits) a b h k
 
 -- ---- answers

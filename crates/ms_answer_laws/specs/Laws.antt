@@ -17,12 +17,12 @@ use Rattle.def_choice.specs.Strict.{strict}
 use Rattle.ms_audit_laws.specs.Walk.{trail_of}
 use Rattle.def_answer.specs.declared.status.Status.{Status}
 use Rattle.def_answer.specs.declared.status.Status.TheVariants as status
-use Rattle.def_answer.specs.Words.{Command, audit, decode, MOST_GENERATED, IsForm, HasNoForm}
+use Rattle.def_answer.specs.Words.{Command, audit, trace_text, decode, MOST_GENERATED, IsForm, HasNoForm}
 use Rattle.def_answer.specs.Lines.{MOST_FILE}
 use Rattle.def_answer.specs.Files.{file_too_long_line}
 use Rattle.def_answer.specs.Generated.{generated_text, generated_tree, generated_assets}
 use Rattle.def_answer.specs.TheHeight.{the_height}
-use Rattle.def_answer.specs.Reply.{reply, satisfy_reply, given_by, run_reply, plan_reply, audit_reply}
+use Rattle.def_answer.specs.Reply.{reply, satisfy_reply, given_by, run_reply, plan_reply, audit_reply, trace_reply, text_trace_reply}
 use Rattle.def_answer.specs.Answer.{AreSteps, Answer}
 use Rattle.def_answer.specs.Sources.{ReadsSource, IsOfSource, IsToFile}
 
@@ -71,11 +71,11 @@ NoReadingIsOfDecode =
     (words : List Bytes) (source : Bytes) (p : Bytes) → Answer words source status.NoReading p →
     (digits : Bytes) × (keys : List Bytes) × IsForm words (decode digits keys)
 
--- only `audit` is answered by that a stack isn't accepted
-abbrev pub NotAcceptedIsOfAudit : Type 0
-NotAcceptedIsOfAudit =
+-- only `audit` is answered by that a stack isn't accepted, and `trace` with a text by that a script isn't the text's
+abbrev pub NotAcceptedIsOfWitness : Type 0
+NotAcceptedIsOfWitness =
     (words : List Bytes) (source : Bytes) (p : Bytes) → Answer words source status.NotAccepted p →
-    (text : Bytes) × IsForm words (audit text)
+    (text : Bytes) × (IsForm words (audit text) ⊎ IsForm words (trace_text text))
 
 -- the steps that a walk over a tree and the stack of a run file finds
 abbrev pub steps_found : Tree → RunFile → List Step
@@ -130,6 +130,15 @@ abbrev pub LongAuditFile : Type 0
 LongAuditFile =
     (offsets : List ℕ) (steps : List Step) (source : Bytes) (tree : Tree) → MOST_FILE < length source →
     audit_reply offsets steps source tree ≡ reply status.FileRefused file_too_long_line
+
+abbrev pub LongTraceFile : Type 0
+LongTraceFile =
+    (source : Bytes) → MOST_FILE < length source → trace_reply source ≡ reply status.FileRefused file_too_long_line
+
+abbrev pub LongTextTraceFile : Type 0
+LongTextTraceFile =
+    (offsets : List ℕ) (source : Bytes) (tree : Tree) → MOST_FILE < length source →
+    text_trace_reply offsets source tree ≡ reply status.FileRefused file_too_long_line
 
 -- ---- what is generated
 

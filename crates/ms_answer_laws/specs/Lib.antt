@@ -6,6 +6,7 @@ pub mod PlanExamples
 pub mod SatisfyExamples
 pub mod RunExamples
 pub mod AuditExamples
+pub mod TraceExamples
 pub mod GenExamples
 pub mod SourceExamples
 pub mod ConsensusExamples

@@ -11,6 +11,8 @@ WordsThatRead =
     × ReadsSource (codes "satisfy" ∷ codes "--malleable" ∷ codes "1" ∷ [])
     × ReadsSource (codes "plan" ∷ pk A ∷ [])
     × ReadsSource (codes "audit" ∷ codes "1" ∷ [])
+    × ReadsSource (codes "trace" ∷ [])
+    × ReadsSource (codes "trace" ∷ codes "1" ∷ [])
 
 -- no form; other commands; a text that isn't sane, that isn't valid, or that isn't spelled
 abbrev pub WordsThatDoNot : Type 0
@@ -26,4 +28,5 @@ WordsThatDoNot =
     × ¬ ReadsSource (codes "satisfy" ∷ codes "--malleable" ∷ [])
     × ¬ ReadsSource (codes "plan" ∷ codes "1" ∷ [])
     × ¬ ReadsSource (codes "audit" ∷ (codes "v:" ++ pk A) ∷ [])
+    × ¬ ReadsSource (codes "trace" ∷ (codes "v:" ++ pk A) ∷ [])
     × ¬ ReadsSource (codes "plan" ∷ pk A ∷ pk A ∷ [])

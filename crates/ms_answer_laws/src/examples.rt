@@ -77,6 +77,15 @@ ghost use Rattle.ms_answer_laws.specs.AuditExamples.{
   RefusedAuditFiles,
   AuditFileTooLong,
 };
+ghost use Rattle.ms_answer_laws.specs.TraceExamples.{
+  TracedKey,
+  TracedFaults,
+  TracedChoice,
+  TracedRefusals,
+  TracedTexts,
+  RefusedTraceFiles,
+  TraceFileTooLong,
+};
 ghost use Rattle.ms_answer_laws.specs.GenExamples.{
   GenOne,
   GenFour,
@@ -195,6 +204,17 @@ pub fn audits()
     ensures texts { AuditedTexts }
     ensures refused_files { RefusedAuditFiles }
     ensures file_too_long { AuditFileTooLong }
+{}
+
+/// Answers to `trace` and `trace TEXT`.
+pub fn traces()
+    ensures key { TracedKey }
+    ensures faults { TracedFaults }
+    ensures choice { TracedChoice }
+    ensures refusals { TracedRefusals }
+    ensures texts { TracedTexts }
+    ensures refused_files { RefusedTraceFiles }
+    ensures file_too_long { TraceFileTooLong }
 {}
 
 /// Answers to `gen N`.

@@ -7,7 +7,7 @@ ghost use Rattle.ms_answer_laws.specs.Laws.{
   SomeAnswer,
   AnswersHaveStatus,
   NoReadingIsOfDecode,
-  NotAcceptedIsOfAudit,
+  NotAcceptedIsOfWitness,
   WalkedAreSteps,
   AnswerWithoutSource,
   StatusWithoutSource,
@@ -16,6 +16,8 @@ ghost use Rattle.ms_answer_laws.specs.Laws.{
   LongRunFile,
   LongPlanFile,
   LongAuditFile,
+  LongTraceFile,
+  LongTextTraceFile,
   GeneratedIsRead,
   GeneratedIsSane,
   GeneratedAreAssets,
@@ -32,7 +34,7 @@ pub fn answers()
     ensures some_answer { SomeAnswer }
     ensures status { AnswersHaveStatus }
     ensures no_reading { NoReadingIsOfDecode }
-    ensures not_accepted { NotAcceptedIsOfAudit }
+    ensures not_accepted { NotAcceptedIsOfWitness }
 {}
 
 /// Which answers need the source, and what comes of a long one.
@@ -44,6 +46,8 @@ pub fn sources()
     ensures long_run_file { LongRunFile }
     ensures long_plan_file { LongPlanFile }
     ensures long_audit_file { LongAuditFile }
+    ensures long_trace_file { LongTraceFile }
+    ensures long_text_trace_file { LongTextTraceFile }
 {}
 
 /// What a walk finds are the steps of an audit.

@@ -3,3 +3,4 @@ mod Roots
 mod Bytes
 pub mod Checks
 mod Abscissas
+mod Quotients

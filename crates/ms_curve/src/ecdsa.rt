@@ -16,8 +16,8 @@ use ms_point::multiples::times;
 use ms_point::sums::add_points;
 use ms_point::{Affine, Jacobian};
 
-/// The generator.
-const GENERATOR: Affine = Affine {
+/// The generator of the curve.
+pub const GENERATOR: Affine = Affine {
     x: Limbs {
         first: 0x59f2_815b_16f8_1798,
         second: 0x029b_fcdb_2dce_28d9,

@@ -5,7 +5,7 @@ use Rattle.std.proofs.lemmas.Bool.{eqb-true}
 use Rattle.def_script.specs.Bytes.{Bytes}
 use Rattle.def_script.specs.Key.{is_key}
 use Rattle.def_psbt.specs.Map.{Pair, Map, type_of, data_of}
-use Rattle.def_spend.specs.Fields.{NON_WITNESS_UTXO, WITNESS_UTXO, PARTIAL_SIG, SIGHASH_TYPE, WITNESS_SCRIPT, BIP32_DERIVATION, FINAL_SCRIPTSIG, FINAL_SCRIPTWITNESS, RIPEMD160, HASH256, is_between, has_type, field, is_signed, signatures_in, has_key, keys_in, is_preimage_pair, preimages_in}
+use Rattle.def_spend.specs.Fields.{NON_WITNESS_UTXO, WITNESS_UTXO, PARTIAL_SIG, SIGHASH_TYPE, REDEEM_SCRIPT, WITNESS_SCRIPT, BIP32_DERIVATION, FINAL_SCRIPTSIG, FINAL_SCRIPTWITNESS, RIPEMD160, HASH256, is_between, has_type, field, is_signed, signatures_in, has_key, keys_in, is_preimage_pair, preimages_in}
 use Rattle.ms_fields.specs.Held.{Held, held_in, Adds}
 use Rattle.ms_fields.specs.Kinds.{kind_of}
 use Rattle.ms_fields.specs.Adding.{first_of, added}
@@ -71,6 +71,7 @@ grown type held data_bytes value = record {
   previous = picked (type == NON_WITNESS_UTXO) held.previous value;
   output = picked (type == WITNESS_UTXO) held.output value;
   asked = picked (type == SIGHASH_TYPE) held.asked value;
+  redeem = picked (type == REDEEM_SCRIPT) held.redeem value;
   script = picked (type == WITNESS_SCRIPT) held.script value;
   final_script_sig = picked (type == FINAL_SCRIPTSIG) held.final_script_sig value;
   final_witness = picked (type == FINAL_SCRIPTWITNESS) held.final_witness value;
@@ -86,6 +87,17 @@ held-with_pair fields key value =
     ap (λ x. record (held_in all) { previous = x }) (field-with_pair NON_WITNESS_UTXO fields key value)
     ∙ ap (λ x. record (held_in all) { previous = now.previous; output = x }) (field-with_pair WITNESS_UTXO fields key value)
     ∙ ap (λ x. record (held_in all) { previous = now.previous; output = now.output; asked = x }) (field-with_pair SIGHASH_TYPE fields key value)
+    ∙ ap (λ x. record now {
+      redeem = x;
+      script = field WITNESS_SCRIPT all;
+      final_script_sig = field FINAL_SCRIPTSIG all;
+      final_witness = field FINAL_SCRIPTWITNESS all;
+      pairs =
+          signatures_in all;
+      keys = keys_in all;
+      preimages = preimages_in all;
+    })
+    (field-with_pair REDEEM_SCRIPT fields key value)
     ∙ ap (λ x. record now {
       script = x;
       final_script_sig = field FINAL_SCRIPTSIG all;
@@ -148,13 +160,14 @@ is_grown held data_bytes value type =
     tell (type == WITNESS_UTXO) (λ e. at held data_bytes value type WITNESS_UTXO e refl) (λ e1.
     tell (type == PARTIAL_SIG) (λ e. at held data_bytes value type PARTIAL_SIG e (signature_grown held data_bytes value)) (λ e2.
     tell (type == SIGHASH_TYPE) (λ e. at held data_bytes value type SIGHASH_TYPE e refl) (λ e3.
+    tell (type == REDEEM_SCRIPT) (λ e. at held data_bytes value type REDEEM_SCRIPT e refl) (λ e4.
     tell (type == WITNESS_SCRIPT) (λ e. at held data_bytes value type WITNESS_SCRIPT e refl) (λ e5.
     tell (type == BIP32_DERIVATION) (λ e. at held data_bytes value type BIP32_DERIVATION e (derivation_grown held data_bytes value)) (λ e6.
     tell (type == FINAL_SCRIPTSIG) (λ e. at held data_bytes value type FINAL_SCRIPTSIG e refl) (λ e7.
     tell (type == FINAL_SCRIPTWITNESS) (λ e. at held data_bytes value type FINAL_SCRIPTWITNESS e refl) (λ e8.
     tell (is_between RIPEMD160 HASH256 type)
-    (λ e. rw (e0, e1, e2, e3, e5, e6, e7, e8, e) (preimage_grown held value))
-    (λ e. rw (e0, e1, e2, e3, e5, e6, e7, e8, e) refl)))))))))
+    (λ e. rw (e0, e1, e2, e3, e4, e5, e6, e7, e8, e) (preimage_grown held value))
+    (λ e. rw (e0, e1, e2, e3, e4, e5, e6, e7, e8, e) refl))))))))))
 
 pub adds : (former latter : Held) (key value : Bytes) → latter ≡ added (kind_of (type_of key)) former (data_of key) value → Adds former latter key value
 adds former latter key value e fields same =

@@ -25,6 +25,7 @@ added kind.Previous held data_bytes value = record held { previous = first_of he
 added kind.Output held data_bytes value = record held { output = first_of held.output value }
 added kind.Signature held data_bytes value = if is_key data_bytes then with_signature held data_bytes value else held
 added kind.Asked held data_bytes value = record held { asked = first_of held.asked value }
+added kind.Redeem held data_bytes value = record held { redeem = first_of held.redeem value }
 added kind.Script held data_bytes value = record held { script = first_of held.script value }
 added kind.Derivation held data_bytes value = if is_key data_bytes then with_key held data_bytes else held
 added kind.FinalScriptSig held data_bytes value = record held { final_script_sig = first_of held.final_script_sig value }

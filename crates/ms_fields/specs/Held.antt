@@ -4,13 +4,14 @@ use Rattle.def_script.specs.Bytes.{Bytes}
 use Rattle.def_machine.specs.Stacks.{Pairs}
 use Rattle.def_tree.specs.Tree.{Key}
 use Rattle.def_psbt.specs.Map.{Map}
-use Rattle.def_spend.specs.Fields.{NON_WITNESS_UTXO, WITNESS_UTXO, SIGHASH_TYPE, WITNESS_SCRIPT, FINAL_SCRIPTSIG, FINAL_SCRIPTWITNESS, field, signatures_in, keys_in, preimages_in}
+use Rattle.def_spend.specs.Fields.{NON_WITNESS_UTXO, WITNESS_UTXO, SIGHASH_TYPE, REDEEM_SCRIPT, WITNESS_SCRIPT, FINAL_SCRIPTSIG, FINAL_SCRIPTWITNESS, field, signatures_in, keys_in, preimages_in}
 
 pub record Held : Type 0 where
   -- the previous transaction, and the spent output
   pub previous : Option Bytes
   pub output : Option Bytes
   pub asked : Option Bytes
+  pub redeem : Option Bytes
   pub script : Option Bytes
   pub final_script_sig : Option Bytes
   pub final_witness : Option Bytes
@@ -24,6 +25,7 @@ held_in fields = record {
   previous = field NON_WITNESS_UTXO fields;
   output = field WITNESS_UTXO fields;
   asked = field SIGHASH_TYPE fields;
+  redeem = field REDEEM_SCRIPT fields;
   script = field WITNESS_SCRIPT fields;
   final_script_sig = field FINAL_SCRIPTSIG fields;
   final_witness = field FINAL_SCRIPTWITNESS fields;

@@ -1,6 +1,6 @@
 -- Which field of an input's map a type is.
 use Rattle.std.specs.Prelude.{ℕ, ◌==◌, if◌then◌else◌}
-use Rattle.def_spend.specs.Fields.{NON_WITNESS_UTXO, WITNESS_UTXO, PARTIAL_SIG, SIGHASH_TYPE, WITNESS_SCRIPT, BIP32_DERIVATION, FINAL_SCRIPTSIG, FINAL_SCRIPTWITNESS, RIPEMD160, HASH256, is_between}
+use Rattle.def_spend.specs.Fields.{NON_WITNESS_UTXO, WITNESS_UTXO, PARTIAL_SIG, SIGHASH_TYPE, REDEEM_SCRIPT, WITNESS_SCRIPT, BIP32_DERIVATION, FINAL_SCRIPTSIG, FINAL_SCRIPTWITNESS, RIPEMD160, HASH256, is_between}
 use Rattle.ms_fields.specs.declared.kind.Kind.{Kind}
 use Rattle.ms_fields.specs.declared.kind.Kind.TheVariants as kind
 
@@ -10,6 +10,7 @@ kind_of type =
     else if type == WITNESS_UTXO then kind.Output
     else if type == PARTIAL_SIG then kind.Signature
     else if type == SIGHASH_TYPE then kind.Asked
+    else if type == REDEEM_SCRIPT then kind.Redeem
     else if type == WITNESS_SCRIPT then kind.Script
     else if type == BIP32_DERIVATION then kind.Derivation
     else if type == FINAL_SCRIPTSIG then kind.FinalScriptSig

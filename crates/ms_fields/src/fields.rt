@@ -31,6 +31,7 @@ pub struct Fields<'a> {
     previous: Option<&'a [u8]>,
     output: Option<&'a [u8]>,
     asked: Option<&'a [u8]>,
+    redeem: Option<&'a [u8]>,
     script: Option<&'a [u8]>,
     final_script_sig: Option<&'a [u8]>,
     final_witness: Option<&'a [u8]>,
@@ -49,6 +50,7 @@ impl<'a> Model for Fields<'a> {
       previous = option_map (λ b. b.now) f.previous;
       output = option_map (λ b. b.now) f.output;
       asked = option_map (λ b. b.now) f.asked;
+      redeem = option_map (λ b. b.now) f.redeem;
       script = option_map (λ b. b.now) f.script;
       final_script_sig = option_map (λ b. b.now) f.final_script_sig;
       final_witness = option_map (λ b. b.now) f.final_witness;
@@ -67,6 +69,7 @@ impl<'a> Fields<'a> {
             previous: None,
             output: None,
             asked: None,
+            redeem: None,
             script: None,
             final_script_sig: None,
             final_witness: None,
@@ -97,6 +100,7 @@ impl<'a> Fields<'a> {
             Kind::Previous => self.previous = first_of(self.previous, value),
             Kind::Output => self.output = first_of(self.output, value),
             Kind::Asked => self.asked = first_of(self.asked, value),
+            Kind::Redeem => self.redeem = first_of(self.redeem, value),
             Kind::Script => self.script = first_of(self.script, value),
             Kind::FinalScriptSig => self.final_script_sig = first_of(self.final_script_sig, value),
             Kind::FinalWitness => self.final_witness = first_of(self.final_witness, value),
@@ -162,6 +166,13 @@ impl<'a> Fields<'a> {
         ensures { option_map (λ b. b.now) result ≡ self.now.output }
     {
         self.output
+    }
+
+    /// The redeem script. Takes no memory.
+    pub fn redeem(&self) -> Option<&'a [u8]>
+        ensures { option_map (λ b. b.now) result ≡ self.now.redeem }
+    {
+        self.redeem
     }
 
     /// The witness script. Takes no memory.

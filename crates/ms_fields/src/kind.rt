@@ -14,6 +14,8 @@ pub enum Kind {
     Signature,
     /// The hash type that is asked.
     Asked,
+    /// The redeem script.
+    Redeem,
     /// The witness script.
     Script,
     /// A key, with the path to it.
@@ -40,6 +42,8 @@ pub fn kind_of(type_number: u64) -> Kind
         Kind::Signature
     } else if type_number == 0x03 {
         Kind::Asked
+    } else if type_number == 0x04 {
+        Kind::Redeem
     } else if type_number == 0x05 {
         Kind::Script
     } else if type_number == 0x06 {

@@ -1,4 +1,4 @@
--- What is found of an input whose witness script is known.
+-- What is found of an input whose Script is known.
 use Rattle.std.specs.Prelude.{◌≡◌, List, Option, Some, None, if◌then◌else◌}
 use Rattle.def_machine.specs.declared.Locks.{Locks}
 use Rattle.def_script.specs.Bytes.{Bytes}

@@ -1,4 +1,4 @@
-//! The state of an input of a PSBT whose witness script is known, its satisfaction, and its final witness.
+//! The state of an input of a PSBT whose Script is known, its satisfaction, and its final witness.
 #![tactic(auto)]
 
 pub use def_spend::State;

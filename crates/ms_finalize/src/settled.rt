@@ -1,4 +1,4 @@
-//! What is found of an input whose witness script is known.
+//! What is found of an input whose Script is known.
 
 ghost use Rattle.std.specs.Prelude.{◌≡◌, ◌≤◌, ◌^◌, Some, None, IfOk, IfSome, option_map};
 ghost use Rattle.def_script.specs.Witness.{weight};
@@ -22,7 +22,7 @@ use ms_sane::{SaneTree, ValidTree};
 use ms_tree::Tree;
 use std::alloc::{AllocError, Global};
 
-/// What is found of an input whose witness script is known: the miniscript that it is read as, where there is one, its state,
+/// What is found of an input whose Script is known: the miniscript that it is read as, where there is one, its state,
 /// what it has for a satisfaction, and that of one that is Ready.
 #[derive(Drop)]
 pub struct Settled<'a> {
@@ -57,7 +57,7 @@ impl Held {
     }
 }
 
-/// Reads the witness script of an input with the keys of its map, tells its state under its locks, and where that is Ready
+/// Reads the Script of an input with the keys of its map, tells its state under its locks, and where that is Ready
 /// chooses its satisfaction. `AllocError` comes where memory is wanting, and where the map's signatures and preimages are no
 /// assets, as those of a PSBT always are.
 pub fn settle<'a>(

@@ -1,17 +1,17 @@
--- The states of inputs of which no witness script is read, and the witness script of others.
-use Rattle.std.proofs.Common.{◌≡◌, Bool, true, false, Option, Some, None, Result, Ok, Err, if◌then◌else◌, refl}
+-- The states of inputs of which no Script is read.
+use Rattle.std.proofs.Common.{Bool, true, false, Option, Some, None, Result, Ok, Err, if◌then◌else◌}
 use Rattle.std.specs.Prelude.{⊤}
 use Rattle.std.specs.Str.{bytes_eq}
 use Rattle.def_script.specs.Bytes.{Bytes}
 use Rattle.def_machine.specs.Program.{program_of}
-use Rattle.def_psbt.specs.Map.{Map}
 use Rattle.def_spend.specs.declared.State.{State}
 use Rattle.def_spend.specs.declared.State.TheVariants as state
-use Rattle.def_spend.specs.Fields.{WITNESS_SCRIPT, field}
-use Rattle.def_spend.specs.Utxo.{Utxo, utxo_of}
+use Rattle.def_spend.specs.Fields.{REDEEM_SCRIPT, WITNESS_SCRIPT, field}
+use Rattle.def_spend.specs.Utxo.{Utxo}
 use Rattle.def_spend.specs.Utxo as utxo
 use Rattle.def_spend.specs.Input.{Spend}
-use Rattle.def_spend.specs.Reading.{has_final, is_program, script_for, script_of_output, script_of_utxo, witness_script}
+use Rattle.def_spend.specs.Kinds.{is_p2sh, p2sh_of, redeemed, program_in, program_of_utxo, is_script_hash, spent_utxo, spent_program}
+use Rattle.def_spend.specs.Reading.{has_final, script_for, script_of_program, script_with, open_script, script_code}
 
 -- a state of which this isn't told
 abbrev pub IsEarly : State → Type 0
@@ -23,35 +23,54 @@ IsEarly state.NoScript = ⊤
 IsEarly state.WrongScript = ⊤
 IsEarly other = ⊥
 
--- the script is that of the map, or the state is an early one
-abbrev pub IsTold : (fields : Map) → Result Bytes State → Type 0
-IsTold fields (Ok script) = field WITNESS_SCRIPT fields ≡ Some script
-IsTold fields (Err told) = IsEarly told
+-- bytes are found, or the state is an early one
+abbrev pub IsTold : Result Bytes State → Type 0
+IsTold (Ok bytes) = ⊤
+IsTold (Err told) = IsEarly told
 
-told_for : (fields : Map) (spent : Bytes) (o : Option Bytes) → field WITNESS_SCRIPT fields ≡ o → IsTold fields (script_for spent o)
-told_for fields spent None is = tt
-told_for fields spent (Some script) is = go (bytes_eq spent (program_of script))
+told_redeemed : (spent : Bytes) (o : Option Bytes) → IsTold (redeemed spent o)
+told_redeemed spent None = tt
+told_redeemed spent (Some redeem) = go (bytes_eq spent (p2sh_of redeem))
   where
-    go : (b : Bool) → IsTold fields (if b then Ok script else Err state.WrongScript)
-    go true = is
+    go : (b : Bool) → IsTold (if b then Ok redeem else Err state.WrongScript)
+    go true = tt
     go false = tt
 
-told_of_output : (fields : Map) (spent : Bytes) → IsTold fields (script_of_output spent fields)
-told_of_output fields spent = go (is_program spent)
+told_program : (spent : Bytes) (o : Option Bytes) → IsTold (program_in spent o)
+told_program spent o = go (is_p2sh spent)
   where
-    go : (b : Bool) → IsTold fields (if b then script_for spent (field WITNESS_SCRIPT fields) else Err state.OtherOutput)
-    go true = told_for fields spent (field WITNESS_SCRIPT fields) refl
+    go : (b : Bool) → IsTold (if b then redeemed spent o else Ok spent)
+    go true = told_redeemed spent o
     go false = tt
 
-told_of_utxo : (fields : Map) (spent : Utxo) → IsTold fields (script_of_utxo spent fields)
-told_of_utxo fields utxo.none = tt
-told_of_utxo fields utxo.wrong = tt
-told_of_utxo fields (utxo.proved output) = told_of_output fields output.script
-told_of_utxo fields (utxo.claimed output) = told_of_output fields output.script
+told_utxo : (spent : Utxo) (o : Option Bytes) → IsTold (program_of_utxo spent o)
+told_utxo utxo.none o = tt
+told_utxo utxo.wrong o = tt
+told_utxo (utxo.proved output) o = told_program output.script o
+told_utxo (utxo.claimed output) o = told_program output.script o
 
-pub is_told : (spend : Spend) → IsTold spend.fields (witness_script spend)
+told_for : (program : Bytes) (o : Option Bytes) → IsTold (script_for program o)
+told_for program None = tt
+told_for program (Some script) = go (bytes_eq program (program_of script))
+  where
+    go : (b : Bool) → IsTold (if b then Ok script else Err state.WrongScript)
+    go true = tt
+    go false = tt
+
+told_script : (program : Bytes) (o : Option Bytes) → IsTold (script_of_program program o)
+told_script program o = go (is_script_hash program)
+  where
+    go : (b : Bool) → IsTold (if b then script_for program o else Err state.OtherOutput)
+    go true = told_for program o
+    go false = tt
+
+told_with : (r : Result Bytes State) (o : Option Bytes) → IsTold r → IsTold (script_with r o)
+told_with (Ok program) o told = told_script program o
+told_with (Err early) o told = told
+
+pub is_told : (spend : Spend) → IsTold (script_code spend)
 is_told spend = go (has_final spend.fields)
   where
-    go : (b : Bool) → IsTold spend.fields (if b then Err state.Final else script_of_utxo (utxo_of spend.input.outpoint spend.fields) spend.fields)
+    go : (b : Bool) → IsTold (if b then Err state.Final else open_script spend)
     go true = tt
-    go false = told_of_utxo spend.fields (utxo_of spend.input.outpoint spend.fields)
+    go false = told_with (spent_program spend) (field WITNESS_SCRIPT spend.fields) (told_utxo (spent_utxo spend) (field REDEEM_SCRIPT spend.fields))

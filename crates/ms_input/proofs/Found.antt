@@ -12,12 +12,14 @@ use Rattle.def_machine.specs.declared.Locks.{Locks}
 use Rattle.def_sane.specs.declared.Unfit.{Unfit}
 use Rattle.def_sane.specs.Unfit.{first_unfit, IsSane}
 use Rattle.def_choice.specs.Strict.{strict}
+use Rattle.def_spend.specs.declared.Kind.{Kind}
 use Rattle.def_spend.specs.declared.State.{State}
 use Rattle.def_spend.specs.declared.State.TheVariants as state
-use Rattle.def_spend.specs.Fields.{WITNESS_SCRIPT, field, keys_in}
-use Rattle.def_spend.specs.Hashes.{script_in}
+use Rattle.def_spend.specs.Fields.{keys_in}
+use Rattle.def_spend.specs.Hashes.{script_or_none, script_in}
 use Rattle.def_spend.specs.Input.{Spend, assets_of}
-use Rattle.def_spend.specs.Reading.{Input, witness_script, IsReadAs, ReadsAs, HasReading}
+use Rattle.def_spend.specs.Kinds.{kind_of}
+use Rattle.def_spend.specs.Reading.{Input, script_code, IsReadAs, ReadsAs, HasReading}
 use Rattle.def_promises.specs.Accepted.{Unchangeable}
 use Rattle.def_spend.specs.Fields.{signatures_in, asked_type}
 use Rattle.def_spend.specs.States.{is_sighash_wrong, are_too_many, choice_state, held_state, unless_unfit, tree_state, state_by, state_of, is_ready, choice_of, stack_of}
@@ -28,11 +30,17 @@ use Rattle.ms_tree.specs.declared.tree.Tree.{Tree as CodeTree}
 use Rattle.ms_tree.specs.Shape.{shape}
 use Rattle.ms_utxo.specs.declared.amount.Amount.{Amount}
 use Rattle.ms_utxo.specs.Spending.{amount_seen}
-use Rattle.ms_input.specs.Scaffolding.Kept.{IsFound}
+use Rattle.ms_input.specs.Scaffolding.Kept.{IsGuarded, IsFound}
 use Rattle.ms_input.proofs.Early.{IsEarly, IsTold, is_told}
 
 abbrev HasAmount : Spend → Amount → Type 0
 HasAmount spend amount = amount_seen amount ≡ amount_of (utxo_of spend.input.outpoint spend.fields)
+
+-- ---- what it demands
+
+pub guarded_by : (spend : Spend) (kind : Kind) (found : Result Bytes State) (script : Bytes) → kind ≡ kind_of spend → found ≡ script_code spend →
+    script ≡ script_or_none found → IsGuarded spend kind script
+guarded_by spend kind found script kind_is found_is script_is = record { kind_is = kind_is; script_is = script_is ∙ ap script_or_none found_is }
 
 -- ---- an early state
 
@@ -67,10 +75,10 @@ early_stack state.TooMany input h = absurd h
 early_stack state.Unsatisfied input h = absurd h
 early_stack state.Ready input h = absurd h
 
-pub found_early : (spend : Spend) (amount : Amount) (told : State) → HasAmount spend amount → witness_script spend ≡ Err told →
+pub found_early : (spend : Spend) (amount : Amount) (told : State) → HasAmount spend amount → script_code spend ≡ Err told →
     IsFound spend amount None told None None
 found_early spend amount told amount_is is =
-    let early : IsEarly told = subst (IsTold spend.fields) is (is_told spend) in
+    let early : IsEarly told = subst IsTold is (is_told spend) in
     record {
       amount_is = amount_is;
       reading = subst (λ (r : Result Bytes State). ReadsAs (keys_in spend.fields) r none) (sym is) refl;
@@ -83,7 +91,7 @@ found_early spend amount told amount_is is =
 
 -- ---- a script that is read
 
--- what is told of an input whose witness script is known
+-- what is told of an input whose Script is known
 pub record IsSettled (held : Held) (locks : Locks) (script : Bytes) (tree : Option Tree) (told : State) (assets : Option Assets) (stack : Option (List Bytes)) : Type 0 where
   pub reading : IsReadAs held.keys script tree
   pub in_range : IfSome tree IsInRange
@@ -93,7 +101,7 @@ pub record IsSettled (held : Held) (locks : Locks) (script : Bytes) (tree : Opti
   pub light : IfSome stack (λ items. weight items ≤ 2 ^ 40)
 
 pub found_settled : (spend : Spend) (amount : Amount) (held : Held) (locks : Locks) (script : Bytes) (tree : Option Tree) (told : State) (assets : Option Assets) (stack : Option (List Bytes)) →
-    HasAmount spend amount → witness_script spend ≡ Ok script → IsOf spend held locks → IsSettled held locks script tree told assets stack →
+    HasAmount spend amount → script_code spend ≡ Ok script → IsOf spend held locks → IsSettled held locks script tree told assets stack →
     IsFound spend amount tree told assets stack
 found_settled spend amount held locks script tree told assets stack amount_is is of s = record {
   amount_is = amount_is;
@@ -112,7 +120,7 @@ found_settled spend amount held locks script tree told assets stack amount_is is
 pub record IsSaneWith (input : Input) (tree : Tree) : Type 0 where
   pub is : input.tree ≡ Some tree
   pub sane : IsSane tree
-  pub same : script_of tree ≡ script_in input.spend.fields
+  pub same : script_of tree ≡ script_in input.spend
 
 abbrev pub IsLate : State → Type 0
 IsLate state.Unsatisfied = ⊤
@@ -137,7 +145,7 @@ sane_by : (o : Option Unfit) (next : State) → IsLate (unless_unfit o next) →
 sane_by None next l = refl
 sane_by (Some unfit) next l = absurd l
 
-sane_tree : (spend : Spend) (script : Bytes) (found : Option Tree) → field WITNESS_SCRIPT spend.fields ≡ Some script → IsReadAs (keys_in spend.fields) script found →
+sane_tree : (spend : Spend) (script : Bytes) (found : Option Tree) → script_code spend ≡ Ok script → IsReadAs (keys_in spend.fields) script found →
     IsLate (tree_state found spend) → (tree : Tree) × IsSaneWith (input_of spend found) tree
 sane_tree spend script None is read l = absurd l
 sane_tree spend script (Some tree) is read l = (
@@ -145,16 +153,16 @@ sane_tree spend script (Some tree) is read l = (
   record {
     is = refl;
     sane = sane_by (first_unfit tree) (held_state tree spend) l;
-    same = read.reading.same ∙ sym (ap (λ (o : Option Bytes). unwrap_or o []) is);
+    same = read.reading.same ∙ sym (ap script_or_none is);
   },
 )
 
 pub late_is_sane : (input : Input) → HasReading input → IsLate (state_of input) → (tree : Tree) × IsSaneWith input tree
-late_is_sane input read l = go (witness_script input.spend) refl (is_told input.spend) read l
+late_is_sane input read l = go (script_code input.spend) refl (is_told input.spend) read l
   where
-    go : (r : Result Bytes State) → witness_script input.spend ≡ r → IsTold input.spend.fields r → ReadsAs (keys_in input.spend.fields) r input.tree →
+    go : (r : Result Bytes State) → script_code input.spend ≡ r → IsTold r → ReadsAs (keys_in input.spend.fields) r input.tree →
         IsLate (state_by r input.tree input.spend) → (tree : Tree) × IsSaneWith input tree
-    go (Ok script) e told read l = sane_tree input.spend script input.tree told read l
+    go (Ok script) e told read l = sane_tree input.spend script input.tree e read l
     go (Err early) e told read l = absurd (late_not_early early l told)
 
 late_assets : (told : State) (spend : Spend) → IsLate told → assets_in told spend ≡ Some (assets_of spend)
@@ -186,10 +194,10 @@ is_sane input tree read l is =
     let found = late_is_sane input read l in
     subst IsSane (same_some input.tree found.0 tree found.1.is is) found.1.sane
 
-pub has_script : (input : Input) (tree : Tree) → HasReading input → IsLate (state_of input) → input.tree ≡ Some tree → script_of tree ≡ script_in input.spend.fields
+pub has_script : (input : Input) (tree : Tree) → HasReading input → IsLate (state_of input) → input.tree ≡ Some tree → script_of tree ≡ script_in input.spend
 has_script input tree read l is =
     let found = late_is_sane input read l in
-    subst (λ (t : Tree). script_of t ≡ script_in input.spend.fields) (same_some input.tree found.0 tree found.1.is is) found.1.same
+    subst (λ (t : Tree). script_of t ≡ script_in input.spend) (same_some input.tree found.0 tree found.1.is is) found.1.same
 
 -- ---- the satisfaction of a Ready input
 
@@ -227,9 +235,9 @@ tree_choice spend None e = absurd cc
 tree_choice spend (Some tree) e = unless_choice (first_unfit tree) tree spend e
 
 pub ready_choice : (input : Input) → is_ready (state_of input) ≡ true → choice_of input ≡ Some (stack_of input)
-ready_choice input e = go (witness_script input.spend) (is_told input.spend) e
+ready_choice input e = go (script_code input.spend) (is_told input.spend) e
   where
-    go : (r : Result Bytes State) → IsTold input.spend.fields r → is_ready (state_by r input.tree input.spend) ≡ true → choice_of input ≡ Some (stack_of input)
+    go : (r : Result Bytes State) → IsTold r → is_ready (state_by r input.tree input.spend) ≡ true → choice_of input ≡ Some (stack_of input)
     go (Ok script) told e = tree_choice input.spend input.tree e
     go (Err early) told e = let no = early_not_ready early told in absurd cc
 
@@ -245,10 +253,19 @@ stack_told {amount} {told} {assets} {stack} input found =
     go true e = ready_choice input e
     go false e = refl
 
--- nobody can change it
 same_assets : (o : Option Assets) (a b : Assets) → o ≡ Some a → o ≡ Some b → a ≡ b
 same_assets o a b e f = cc
 
+-- what is made of the miniscript and the assets of an Unsatisfied input
+pub told_plan : {X : Type 0} (make : Tree → Assets → X) {amount : Amount} {told : State} {some_assets : Option Assets} {stack : Option (List Bytes)}
+    (input : Input) (own tree : Tree) (assets : Assets) (plan : X) →
+    IsFound input.spend amount input.tree told some_assets stack → state_of input ≡ state.Unsatisfied → input.tree ≡ Some own → some_assets ≡ Some assets →
+    input.tree ≡ Some tree → plan ≡ make own assets → plan ≡ make tree (assets_of input.spend)
+told_plan {X} make {amount} {told} {some_assets} {stack} input own tree assets plan found unmet is assets_is other e =
+    e ∙ ap (λ (t : Tree). make t assets) (same_some input.tree own tree is other)
+    ∙ ap (make tree) (same_assets some_assets assets (assets_of input.spend) assets_is (held_assets input found (subst IsLate (sym unmet) tt)))
+
+-- nobody can change it
 same_stack : (o : Option (List Bytes)) (a b : List Bytes) → o ≡ Some a → o ≡ Some b → a ≡ b
 same_stack o a b e f = cc
 

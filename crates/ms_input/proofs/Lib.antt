@@ -1,3 +1,4 @@
 pub mod Places
 pub mod Early
 pub mod Found
+pub mod Nested

@@ -14,7 +14,7 @@ use Rattle.ms_tree.specs.Shape.{shape}
 abbrev pub tree_code : Coded Tree
 tree_code = (the_row (record { mir = static; lft = [] })).coded
 
--- where an input stands, and the tree that its witness script is read as, where there is one
+-- where an input stands, and the tree that its Script is read as, where there is one
 pub record Seen : Type 0 where
   pub spend : Spend
   pub tree : Option Tree

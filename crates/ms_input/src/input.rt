@@ -4,9 +4,10 @@ ghost use Rattle.std.specs.Prelude.{◌≡◌, ◌<◌, ◌≤◌, ◌^◌, Some
 ghost use Rattle.def_script.specs.Witness.{weight};
 ghost use Rattle.def_promises.specs.Accepted.{Unchangeable};
 ghost use Rattle.def_spend.specs.Fields.{signatures_in, asked_type as the_asked_type};
-ghost use Rattle.def_spend.specs.Finalized.{witness_of};
+ghost use Rattle.def_spend.specs.Finalized.{script_sig_of, witness_of};
 ghost use Rattle.def_spend.specs.Hashes.{hash_by as the_hash_by, script_in};
 ghost use Rattle.def_spend.specs.Input.{spends_of, assets_of};
+ghost use Rattle.def_spend.specs.Kinds.{kind_of};
 ghost use Rattle.def_spend.specs.Reading.{HasReading};
 ghost use Rattle.def_spend.specs.States.{state_of, is_ready, stack_of};
 ghost use Rattle.def_spend.specs.Utxo.{utxo_of, amount_of};
@@ -21,7 +22,8 @@ ghost use Rattle.ms_tree.specs.Shape.{shape};
 ghost use Rattle.ms_utxo.specs.Spending.{amount_seen};
 
 use crate::gathering::fields_of;
-use crate::signing::{known_amount, script_or_none};
+use crate::scripts::{bytes_or_none, script_or_none, script_sig_by};
+use crate::signing::known_amount;
 use bumpalo::Bump;
 use ms_asking::asked_plan;
 use ms_fields::{Fields, SignedRef, hash_type_of};
@@ -34,12 +36,12 @@ use ms_script::{Blob, Stack};
 use ms_sighash::SharedHashes;
 use ms_transaction::{InputRef, TransactionRef};
 use ms_tree::Tree;
-use ms_utxo::{Amount, State, spending};
+use ms_utxo::{Amount, Kind, State, spending};
 use std::alloc::{AllocError, Global};
 use std::marker::Model;
 
-/// An input of a PSBT that was read: what its map holds, its amount, its state, the miniscript that its witness script is read
-/// as, and its satisfaction where it is Ready. Contracts see where it stands in the PSBT and the miniscript,
+/// An input of a PSBT that was read: what its map holds, its amount, the kind of its output, its Script, its state, the miniscript
+/// that its Script is read as, and its satisfaction where it is Ready. Contracts see where it stands in the PSBT and the miniscript,
 /// which `input_seen` makes the definition's input. The miniscript lies in an arena, and all else of the map in the bytes of the PSBT.
 #[derive(Drop)]
 pub struct Input<'p, 't> {
@@ -48,6 +50,8 @@ pub struct Input<'p, 't> {
     input: InputRef<'p>,
     fields: Fields<'p>,
     amount: Amount,
+    kind: Kind,
+    script: &'p [u8],
     tree: Option<Tree<'t>>,
     state: State,
     assets: Option<Assets>,
@@ -67,12 +71,12 @@ impl<'p, 't> Model for Input<'p, 't> {
 
     ghost view = { λ i. record { spend = spend_at i.psbt.now i.number; tree = i.tree } };
 
-    ghost invariant = { λ i. IsRead i.psbt.now i.number i.input i.fields i.amount (option_map shape i.tree) i.state i.assets i.stack };
+    ghost invariant = { λ i. IsRead i.psbt.now i.number i.input i.fields i.amount i.kind i.script.now (option_map shape i.tree) i.state i.assets i.stack };
 }
 
 impl<'p, 't> Input<'p, 't> {
     /// Reads the input of a PSBT with this number, from 0, where this is its transaction: gathers what its map holds, looks for the output that it spends, and
-    /// reads its witness script with the keys of its map. The miniscript is put into the arena, which serves this input alone
+    /// reads its Script with the keys of its map. The miniscript is put into the arena, which serves this input alone
     /// where it is let go with it. Refuses for want of memory alone.
     pub fn read(
         alloc: Global,
@@ -95,6 +99,7 @@ impl<'p, 't> Input<'p, 't> {
         let input = transaction.input(number);
         let fields = fields_of(alloc, psbt.input_map(number))?;
         let spent = spending(&input, &fields);
+        let guarding = script_or_none(spent.script);
         let locks = Locks {
             version: transaction.version(),
             sequence: input.sequence(),
@@ -109,6 +114,8 @@ impl<'p, 't> Input<'p, 't> {
                     input,
                     fields,
                     amount: spent.amount,
+                    kind: spent.kind,
+                    script: guarding,
                     tree: settled.tree,
                     state: settled.state,
                     assets: settled.assets,
@@ -121,6 +128,8 @@ impl<'p, 't> Input<'p, 't> {
                 input,
                 fields,
                 amount: spent.amount,
+                kind: spent.kind,
+                script: guarding,
                 tree: None,
                 state,
                 assets: None,
@@ -150,6 +159,13 @@ impl<'p, 't> Input<'p, 't> {
         self.amount
     }
 
+    /// The kind of the output that it spends. Takes no memory.
+    pub fn kind(&self) -> Kind
+        ensures { result ≡ kind_of self.now.spend }
+    {
+        self.kind
+    }
+
     /// What the transaction says of it. Takes no memory.
     pub fn outpoint(&self) -> &InputRef<'p>
         ensures { result.now ≡ self.now.spend.input }
@@ -171,7 +187,7 @@ impl<'p, 't> Input<'p, 't> {
         self.fields.asked_type()
     }
 
-    /// The miniscript that its witness script is read as, where there is one. Takes no memory.
+    /// The miniscript that its Script is read as, where there is one. Takes no memory.
     pub fn tree(&self) -> Option<&Tree<'t>>
         ensures tree { option_map (λ t. shape t.now) result ≡ (input_seen self.now).tree }
         ensures in_range { IfSome result (λ t. IsInRange (shape t.now)) }
@@ -200,6 +216,13 @@ impl<'p, 't> Input<'p, 't> {
         asked_plan(alloc, tree, assets)
     }
 
+    /// The scriptSig that spends its output: empty, and of P2SH the one push of the redeem script. Refuses for want of memory alone.
+    pub fn script_sig(&self, alloc: Global) -> Result<Vec<u8>, AllocError>
+        ensures { IfOk result (λ script_sig. script_sig.items ≡ script_sig_of self.now.spend) }
+    {
+        script_sig_by(alloc, self.kind, bytes_or_none(self.fields.redeem()))
+    }
+
     /// The final witness: the satisfaction, and the witness script as its last item. It demands that the input is Ready.
     /// Refuses for want of memory alone.
     ///
@@ -208,14 +231,13 @@ impl<'p, 't> Input<'p, 't> {
     pub fn witness(&self, alloc: Global) -> Result<Blob, AllocError>
         requires { state_of (input_seen self.now) ≡ State.Ready }
         ensures witness { IfOk result (λ witness. witness ≡ witness_of (input_seen self.now)) }
-        ensures accepted { IfOk result (λ witness. IsReplayed (assets_of self.now.spend) (script_in self.now.spend.fields) witness) }
+        ensures accepted { IfOk result (λ witness. IsReplayed (assets_of self.now.spend) (script_in self.now.spend) witness) }
         ensures unchangeable { IfOk result (λ witness. (tree : TheTree) → (input_seen self.now).tree ≡ Some tree → Unchangeable tree (assets_of self.now.spend) (stack_of (input_seen self.now))) }
     {
         let (Some(tree), Some(assets), Some(stack)) = (&self.tree, &self.assets, &self.stack) else {
             return Err(AllocError);
         };
-        let script = script_or_none(self.fields.script());
-        final_witness(alloc, tree, script, assets, stack)
+        final_witness(alloc, tree, self.script, assets, stack)
     }
 
     /// What a signature of the hash type with this number signs, or `None` exactly where it is none: by what all signatures of
@@ -231,8 +253,7 @@ impl<'p, 't> Input<'p, 't> {
         ensures { result ≡ the_hash_by number self.now.spend }
     {
         let hash_type = hash_type_of(number)?;
-        let script = script_or_none(self.fields.script());
         let amount = known_amount(self.amount);
-        Some(shared.signature_hash(hash_type, self.input.bytes(), output, script, amount))
+        Some(shared.signature_hash(hash_type, self.input.bytes(), output, self.script, amount))
     }
 }

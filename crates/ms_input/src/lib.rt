@@ -1,12 +1,13 @@
-//! An input of a PSBT, read: its state, its satisfaction, its final witness, whom to ask, and what its signatures sign.
+//! An input of a PSBT, read: its state, its satisfaction, its final scriptSig and witness, whom to ask, and what its signatures sign.
 #![tactic(auto)]
 
 pub use gathering::fields_of;
 pub use input::Input;
 pub use ms_fields::SignedRef;
-pub use ms_utxo::{Amount, State};
+pub use ms_utxo::{Amount, Kind, State};
 pub use signing::shared_hashes;
 
 mod gathering;
 mod input;
+mod scripts;
 mod signing;

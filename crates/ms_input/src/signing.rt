@@ -1,6 +1,6 @@
 //! What the signatures of an input sign.
 
-ghost use Rattle.std.specs.Prelude.{◌≡◌, [], All, option_map, unwrap_or};
+ghost use Rattle.std.specs.Prelude.{◌≡◌, All};
 ghost use Rattle.def_spend.specs.Amount.{known_amount as the_known_amount};
 ghost use Rattle.ms_sighash.specs.Shared.{shared_of};
 ghost use Rattle.ms_transaction.specs.Unsigned.{IsUnsigned};
@@ -31,15 +31,5 @@ pub fn known_amount(amount: Amount) -> u64
     match amount {
         Amount::Unknown => 0,
         Amount::Proved(satoshis) | Amount::Claimed(satoshis) => satoshis,
-    }
-}
-
-/// A script, or none of its bytes where there is none.
-pub fn script_or_none<'a>(script: Option<&'a [u8]>) -> &'a [u8]
-    ensures { result.now ≡ unwrap_or (option_map (λ b. b.now) script.entry) [] }
-{
-    match script {
-        Some(script) => script,
-        None => &[],
     }
 }

@@ -19,10 +19,10 @@ use Rattle.def_machine.specs.Run.{Outcome, leads as the_leads, finish as the_fin
 use Rattle.ms_interp.specs.declared.branches.Branches.{Branches}
 use Rattle.ms_interp.specs.declared.machine.Machine.{Machine}
 use Rattle.ms_interp.specs.Scaffolding.Branches.{first_with, first_false, first_outside, first_turned, branches_of, is_none, with_branch, turned, closed, balanced}
-use Rattle.ms_interp.specs.Scaffolding.Compact.{machine_of, on_main, on_both, on_checks, on_multi, on_branches, opened, open_branch, act, only_if, pushed, carry_push, count_op, carry_op, carry_out, settle, step, leads, finish, steps}
+use Rattle.ms_interp.specs.Scaffolding.Compact.{machine_of, on_main, on_both, on_checks, on_multi, on_branches, opened, open_branch, act, only_if, pushed, carry_push, count_op, carry_op, carry_out, settle, step, leads, finish, ended, steps}
 
 -- a state as the code keeps it, or the fault
-abbrev seen : OrFault State → OrFault Machine
+abbrev pub seen : OrFault State → OrFault Machine
 seen (Ok s) = Ok (machine_of s)
 seen (Err e) = Err e
 
@@ -61,7 +61,7 @@ live_with true None depth live e = e
 live_with false (Some place) depth live e = refl
 live_with false None depth live e = refl
 
-live_is : (branches : List Bool) → is_none (first_false branches) ≡ list_all (λ taken. taken) branches
+pub live_is : (branches : List Bool) → is_none (first_false branches) ≡ list_all (λ taken. taken) branches
 live_is [] = refl
 live_is (taken ∷ branches) = live_with taken (first_false branches) (length branches) _ (live_is branches)
 
@@ -203,7 +203,7 @@ settle_is s =
     if_is (nat_lt 1000 (height s)) (Err fault.StackSize) (Err fault.StackSize) (Ok (record s { peak = max s.peak (height s) }))
     (Ok (record (machine_of s) { peak = max s.peak (height s) })) refl refl
 
-step_is : (given : Given) (item : Item) (s : State) → step given item (machine_of s) ≡ seen (the_step given item s)
+pub step_is : (given : Given) (item : Item) (s : State) → step given item (machine_of s) ≡ seen (the_step given item s)
 unfolding step the_step
 step_is given item s = rw (carry_is given item s) (then_is (the_carry_out given item s) settle the_settle settle_is)
 
@@ -225,8 +225,12 @@ leads_is : (r : OrFault State) (place : ℕ) (f : Machine → Outcome) (g : Stat
 leads_is (Ok s) place f g same = same s
 leads_is (Err e) place f g same = refl
 
+-- the same end
+pub ended_is : (place : ℕ) (s : State) → ended place (machine_of s) ≡ the_ended place s
+ended_is place s = rw (finish_is s) (leads_is (the_finish s) place _ _ (λ t. refl))
+
 -- the same outcome
 pub steps_is : (given : Given) (items : List Item) (place : ℕ) (s : State) → steps given items place (machine_of s) ≡ the_steps given items place s the_ended
 unfolding steps the_steps
-steps_is given [] place s = rw (finish_is s) (leads_is (the_finish s) place _ _ (λ t. refl))
+steps_is given [] place s = ended_is place s
 steps_is given (item ∷ items) place s = rw (step_is given item s) (leads_is (the_step given item s) place _ _ (λ t. steps_is given items (place + 1) t))

@@ -19,7 +19,9 @@ use Rattle.ms_interp.specs.declared.stop.Stop.{Stop}
 use Rattle.ms_interp.specs.declared.stop.Stop.TheVariants as stop_kind
 use Rattle.ms_interp.specs.declared.report.RunReport.{RunReport}
 use Rattle.ms_interp.specs.declared.report.RunStop.{RunStop}
+use Rattle.ms_interp.specs.declared.report.RunStop.TheVariants as stopped
 use Rattle.ms_interp.specs.Scaffolding.Stops.{StopsAs, run_stop}
+use Rattle.ms_interp.specs.Scaffolding.Starting.{Starts}
 use Rattle.ms_interp.specs.Answering.{Answers}
 use Rattle.ms_interp.specs.Scaffolding.Compact.{machine_of, carry_out, step, ended, steps}
 use Rattle.ms_interp.proofs.Refines.{steps_is}
@@ -104,26 +106,46 @@ abbrev fits : Bytes → Bool
 fits x = nat_le (length x) 520
 
 -- the state at the start
-abbrev first_state : Stack → State
+abbrev pub first_state : Stack → State
 first_state main = record { main = main; alt = []; branches = []; ops = 0; peak = length main; checks = [] }
 
--- a run that is started carries out all items
-pub run-steps : (given : Given) (script : Bytes) (stack : List Bytes) → length script ≤ 10000 → list_all fits stack ≡ true
-    → steps given (items script) 0 (machine_of (first_state (reverse stack))) ≡ run given script stack
-unfolding run start
-run-steps given script stack short all =
+-- the tests at the start
+pub start-fits : (script : Bytes) (stack : List Bytes) → length script ≤ 10000 → list_all fits stack ≡ true
+    → start script (reverse stack) ≡ Ok (first_state (reverse stack))
+unfolding start
+start-fits script stack short all =
     let small : nat_lt 10000 (length script) ≡ false = le-ltb _ _ short in
     let every : list_all fits (reverse stack) ≡ true = list_all-reverse fits stack ∙ all in
-    steps_is given (items script) 0 (first_state (reverse stack)) ∙ sym (rw (small, every) refl)
+    rw (small, every) refl
 
-pub run-too_long : (given : Given) (script : Bytes) (stack : List Bytes) → 10000 < length script → run given script stack ≡ refused fault.ScriptSize 0
-unfolding run start
-run-too_long given script stack long = let large : nat_lt 10000 (length script) ≡ true = lt-ltb _ _ long in rw large refl
+pub start-too_long : (script : Bytes) (stack : List Bytes) → 10000 < length script → start script (reverse stack) ≡ Err fault.ScriptSize
+unfolding start
+start-too_long script stack long = let large : nat_lt 10000 (length script) ≡ true = lt-ltb _ _ long in rw large refl
 
-pub run-too_big : (given : Given) (script : Bytes) (stack : List Bytes) → length script ≤ 10000 → list_all fits stack ≡ false
-    → run given script stack ≡ refused fault.ElementSize 0
-unfolding run start
-run-too_big given script stack short some =
+pub start-too_big : (script : Bytes) (stack : List Bytes) → length script ≤ 10000 → list_all fits stack ≡ false
+    → start script (reverse stack) ≡ Err fault.ElementSize
+unfolding start
+start-too_big script stack short some =
     let small : nat_lt 10000 (length script) ≡ false = le-ltb _ _ short in
     let other : list_all fits (reverse stack) ≡ false = list_all-reverse fits stack ∙ some in
     rw (small, other) refl
+
+-- a run that is started carries out all items
+run-started : (given : Given) (script : Bytes) (stack : List Bytes) (s : State) → start script (reverse stack) ≡ Ok s
+    → steps given (items script) 0 (machine_of s) ≡ run given script stack
+unfolding run
+run-started given script stack s begins = steps_is given (items script) 0 s ∙ sym (rw begins refl)
+
+pub from_start : (given : Given) (script : Bytes) (stack : List Bytes) (m : Machine) (result : Result RunReport RunStop)
+    → (s : State) × (m ≡ machine_of s) × (start script (reverse stack) ≡ Ok s) → Answers result (steps given (items script) 0 m)
+    → Answers result (run given script stack)
+from_start given script stack m result begun answers =
+    let P : Outcome → Type 0 = λ o. Answers result o in
+    subst P (ap (λ (n : Machine). steps given (items script) 0 n) begun.1 ∙ run-started given script stack begun.0 begun.2) answers
+
+-- and one that isn't is refused
+pub not_started : (given : Given) (script : Bytes) (stack : List Bytes) (stop : RunStop) → Starts (Err stop) (start script (reverse stack))
+    → Answers (Err stop) (run given script stack)
+unfolding run
+not_started given script stack (stopped.Refused e place) begun = rw (begun.0, begun.1) refl
+not_started given script stack stopped.Memory begun = tt

@@ -1,2 +1,3 @@
 pub mod Scaffolding
 pub mod Answering
+pub mod Stepping

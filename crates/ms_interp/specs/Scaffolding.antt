@@ -4,3 +4,4 @@ pub mod Stops
 pub mod Branches
 pub mod Multi
 pub mod Compact
+pub mod Starting

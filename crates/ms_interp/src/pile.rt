@@ -1,5 +1,5 @@
 //! A stack of the machine.
-ghost use Rattle.std.specs.Prelude.{◌≡◌, [], ◌∷◌, length, reverse, OnOk, MatchOption};
+ghost use Rattle.std.specs.Prelude.{◌≡◌, [], ◌∷◌, length, reverse, take, OnOk, MatchOption};
 ghost use Rattle.def_machine.specs.Stacks.{bool_bytes};
 
 use ms_script::Blob;
@@ -65,6 +65,13 @@ impl Pile {
         ensures { MatchOption result ((self.old ≡ []) × (self.new ≡ [])) (λ top. self.old ≡ top ∷ self.new) }
     {
         self.elements.pop()
+    }
+
+    /// The upper elements, so many of them or as many as there are, the lowest first.
+    pub fn upper(&self, count: usize) -> &[Blob]
+        ensures { result.now ≡ reverse (take count self.now) }
+    {
+        &self.elements[self.elements.len().saturating_sub(count)..]
     }
 
     /// How many elements there are.

@@ -5,9 +5,11 @@ ghost use Rattle.def_script.specs.Bytes.{Bytes};
 ghost use Rattle.def_script.specs.Items.{items};
 ghost use Rattle.def_script.specs.Limits.{MAX_SCRIPT_ELEMENT_SIZE as max_script_element_size, MAX_SCRIPT_SIZE as max_script_size};
 ghost use Rattle.def_machine.specs.Machine.{fault_of as the_fault_of};
-ghost use Rattle.def_machine.specs.Run.{run as the_run};
+ghost use Rattle.def_machine.specs.Run.{run as the_run, start as the_start};
 ghost use Rattle.ms_interp.specs.Answering.{given_by, Answers, IsSmallReport};
+ghost use Rattle.ms_interp.specs.declared.report.RunStop.TheVariants.{Refused};
 ghost use Rattle.ms_interp.specs.Scaffolding.Stops.{run_stop};
+ghost use Rattle.ms_interp.specs.Scaffolding.Starting.{Starts};
 ghost use Rattle.ms_interp.specs.Scaffolding.Compact.{ended as the_ended, steps as the_steps};
 
 use crate::machine::Machine;
@@ -45,6 +47,19 @@ pub fn run<C: SignatureChecker>(
     ensures outcome { Answers result (the_run (given_by (C.checker sigs.now) locks.now) script.now stack.now) }
     ensures small { IfOk result (IsSmallReport (length stack.now)) }
 {
+    match started(alloc, script, stack) {
+        Ok(machine) => steps(machine, script, locks, sigs),
+        Err(stop) => Err(stop),
+    }
+}
+
+/// The machine before the first instruction: the tests at the start, and a copy of the stack.
+pub fn started(alloc: Global, script: &[u8], stack: &Stack) -> Result<Machine, RunStop>
+    requires few { length stack.now ≤ 2147483648 }
+    ensures value { Starts result (the_start script.now (reverse stack.now)) }
+    ensures short { IfOk result (λ _. length script.now ≤ max_script_size) }
+    ensures closed { IfOk result (λ machine. machine.branches.depth ≡ 0) }
+{
     if script.len() > MAX_SCRIPT_SIZE {
         return Err(RunStop::Refused(ScriptFault::ScriptSize, 0));
     }
@@ -54,7 +69,7 @@ pub fn run<C: SignatureChecker>(
     let Ok(main) = pile_of(alloc, stack) else {
         return Err(RunStop::Memory);
     };
-    steps(Machine::new(alloc, main), script, locks, sigs)
+    Ok(Machine::new(alloc, main))
 }
 
 /// Whether each item has at most 520 bytes.
@@ -98,7 +113,7 @@ fn steps<C: SignatureChecker>(
     'instructions: loop {
         match next_instr(script, from) {
             Ok(None) => return ended(machine, place),
-            Err(fault) => return Err(RunStop::Refused(fault_of(fault), place)),
+            Err(fault) => return Err(unread(fault, place)),
             Ok(Some((instr, next))) => {
                 match machine.step(sigs, locks, instr) {
                     Ok(()) => {}
@@ -113,7 +128,7 @@ fn steps<C: SignatureChecker>(
 
 /// The report at the end, where no branch is open and exactly one element is left, which is true.
 #[tactic(auto, unfolding(crate::specs::Scaffolding::Compact::finish))]
-fn ended(machine: Machine, place: u32) -> Result<RunReport, RunStop>
+pub fn ended(machine: Machine, place: u32) -> Result<RunReport, RunStop>
     ensures { Answers result (the_ended place machine) }
 {
     let mut main = machine.main;
@@ -136,6 +151,14 @@ fn ended(machine: Machine, place: u32) -> Result<RunReport, RunStop>
     })
 }
 
+/// The stop of a run at an instruction that can't be read, whose number from 0 is `place`. Takes no memory, and never
+/// refuses.
+pub fn unread(fault: InstrFault, place: u32) -> RunStop
+    ensures { result ≡ Refused (the_fault_of fault) place }
+{
+    RunStop::Refused(fault_of(fault), place)
+}
+
 /// Why an instruction that can't be read refuses the run.
 fn fault_of(fault: InstrFault) -> ScriptFault
     ensures { result ≡ the_fault_of fault }
@@ -147,7 +170,7 @@ fn fault_of(fault: InstrFault) -> ScriptFault
 }
 
 /// A stop at an instruction.
-fn stopped(stop: Stop, place: u32) -> RunStop
+pub fn stopped(stop: Stop, place: u32) -> RunStop
     ensures { result ≡ run_stop stop place }
 {
     match stop {

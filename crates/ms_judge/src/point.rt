@@ -1,4 +1,4 @@
-//! The point of a key, as bytes.
+//! The point of a key, as bytes, and those of a coordinate.
 
 ghost use Rattle.std.specs.Prelude.{◌≡◌};
 ghost use Rattle.def_curve.specs.Encoding.{coordinate as the_coordinate, point_bytes};
@@ -7,8 +7,8 @@ ghost use Rattle.ms_field.specs.Limbs.{value};
 use ms_curve::key::point_of;
 use ms_field::Limbs;
 
-/// The bytes of a number, the highest first.
-fn coordinate(x: Limbs) -> [u8; 32]
+/// The bytes of a number, the highest first. Takes no memory.
+pub fn coordinate(x: Limbs) -> [u8; 32]
     ensures { result ≡ the_coordinate (value x) }
 {
     let mut bytes = [0; 32];

@@ -12,7 +12,7 @@ use Rattle.def_psbt.specs.Source.{psbt_of}
 use Rattle.def_spend.specs.declared.State.{State}
 use Rattle.def_spend.specs.Fields.{keys_in}
 use Rattle.def_spend.specs.Input.{Spend, spends_of}
-use Rattle.def_spend.specs.Reading.{Input, witness_script, ReadsAs, HasReading, AreInputs}
+use Rattle.def_spend.specs.Reading.{Input, script_code, ReadsAs, HasReading, AreInputs}
 use Rattle.ms_answer_laws.proofs.Decided.{decided, decided_is, decided_not, is_key_bytes, keys_tell}
 use Rattle.def_psbt_answer.specs.declared.status.Status.{Status}
 use Rattle.def_psbt_answer.specs.declared.words.Command.{Command}
@@ -37,7 +37,7 @@ reads_found keys (Ok script) all = go (decided keys script) refl
     go None e = λ tree. decided_not keys script tree all e
 
 abbrev pub input_found : Spend → Input
-input_found spend = record { spend = spend; tree = tree_found (keys_in spend.fields) (witness_script spend) }
+input_found spend = record { spend = spend; tree = tree_found (keys_in spend.fields) (script_code spend) }
 
 abbrev pub inputs_found : Psbt → List Input
 inputs_found psbt = map input_found (spends_of psbt)
@@ -51,7 +51,7 @@ spends_stay (spend ∷ spends) = ap (λ rest. spend ∷ rest) (spends_stay spend
 
 all_read : (spends : List Spend) → All HasKeys spends → All HasReading (map input_found spends)
 all_read [] h k d lt = absurd (omega (arith, lt))
-all_read (spend ∷ spends) h zero d lt = reads_found (keys_in spend.fields) (witness_script spend) (h 0 spend (omega arith))
+all_read (spend ∷ spends) h zero d lt = reads_found (keys_in spend.fields) (script_code spend) (h 0 spend (omega arith))
 all_read (spend ∷ spends) h (suc k) d lt = all_read spends (λ i e below. h (suc i) e (omega arith)) k d (omega arith)
 
 pub are_inputs : (psbt : Psbt) → All HasKeys (spends_of psbt) → AreInputs psbt (inputs_found psbt)

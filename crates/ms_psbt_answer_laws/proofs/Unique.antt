@@ -9,7 +9,7 @@ use Rattle.def_psbt.specs.Source.{psbt_of}
 use Rattle.def_spend.specs.declared.State.{State}
 use Rattle.def_spend.specs.Fields.{keys_in}
 use Rattle.def_spend.specs.Input.{Spend, spends_of}
-use Rattle.def_spend.specs.Reading.{Input, witness_script, IsReadAs, ReadsAs, HasReading, AreInputs}
+use Rattle.def_spend.specs.Reading.{Input, script_code, IsReadAs, ReadsAs, HasReading, AreInputs}
 use Rattle.def_psbt_answer.specs.declared.words.Command.{Command}
 use Rattle.def_psbt_answer.specs.Words.{command_of}
 use Rattle.def_psbt_answer.specs.declared.words.Form.{Form}
@@ -29,8 +29,8 @@ one_tree keys (Err state) a b h k = h ∙ sym k
 
 pub one_reading : OneReading
 one_reading input other h k same =
-    let moved = subst (λ spend. ReadsAs (keys_in spend.fields) (witness_script spend) other.tree) (sym same) k in
-    let trees = one_tree (keys_in input.spend.fields) (witness_script input.spend) input.tree other.tree h moved in
+    let moved = subst (λ spend. ReadsAs (keys_in spend.fields) (script_code spend) other.tree) (sym same) k in
+    let trees = one_tree (keys_in input.spend.fields) (script_code input.spend) input.tree other.tree h moved in
     ap (λ spend. record input { spend = spend }) same ∙ ap (λ tree. record other { tree = tree }) trees
 
 -- ---- the inputs of a PSBT

@@ -14,18 +14,21 @@ use Rattle.def_psbt.specs.Transaction.{TransactionInput, Transaction}
 use Rattle.def_psbt.specs.Map.{Pair, Map, Psbt, type_of}
 use Rattle.def_spend.specs.declared.State.TheVariants as state
 use Rattle.def_spend.specs.Fields.{FINAL_SCRIPTWITNESS, FINAL_SCRIPTSIG, has_type, field}
-use Rattle.def_spend.specs.Utxo.{utxo_of}
 use Rattle.def_spend.specs.Input.{Spend, spends_from}
-use Rattle.def_spend.specs.Reading.{Input, has_byte, has_item, has_final, script_of_utxo, HasReading, AreInputs}
+use Rattle.def_spend.specs.Reading.{Input, has_byte, has_item, has_final, open_script, HasReading, AreInputs}
 use Rattle.def_spend.specs.States.{state_by, state_of, is_ready}
-use Rattle.def_spend.specs.Finalized.{is_cleared, is_kept, witness_pair, final_map, witness_of, written_map, finalized}
+use Rattle.def_spend.specs.Finalized.{is_cleared, is_kept, witness_pair, final_pairs, final_map, script_sig_of, witness_of, written_map, finalized}
 use Rattle.ms_psbt_answer_laws.specs.Laws.{LeavesOthers, KeepsPairs, NoneIsReady, WrittenAgain}
 use Rattle.ms_psbt_answer_laws.proofs.Unique.{one_reading}
 
 -- ---- the final map
 
+-- the map of an input that is made final
+abbrev map_made : Input → Map
+map_made input = final_map input.spend.fields (script_sig_of input.spend) (witness_of input)
+
 pub leaves_others : LeavesOthers
-leaves_others input e = ap (λ b. if b then final_map input.spend.fields (witness_of input) else input.spend.fields) e
+leaves_others input e = ap (λ b. if b then map_made input else input.spend.fields) e
 
 filter-filter : (test : Pair → Bool) (xs : Map) → filter test (filter test xs) ≡ filter test xs
 filter-filter test [] = refl
@@ -33,16 +36,21 @@ filter-filter test (x ∷ xs) =
     let rest = filter-filter test xs in
     elim (cases_Bool (test x)) [ inl e ↦ rw (e, e) (ap (λ l. x ∷ l) rest) | inr e ↦ rw e rest ]
 
-kept_of_final : (fields : Map) (witness : Bytes) → filter is_kept (final_map fields witness) ≡ filter is_kept fields
+none_of_final : (script_sig witness : Bytes) → filter is_kept (final_pairs script_sig witness) ≡ []
 unfolding read_size
-kept_of_final fields witness =
-    filter-append is_kept (filter is_kept fields) (witness_pair witness ∷ [])
+none_of_final [] witness = refl
+none_of_final (byte ∷ bytes) witness = refl
+
+kept_of_final : (fields : Map) (script_sig witness : Bytes) → filter is_kept (final_map fields script_sig witness) ≡ filter is_kept fields
+kept_of_final fields script_sig witness =
+    filter-append is_kept (filter is_kept fields) (final_pairs script_sig witness)
+    ∙ ap (λ (l : Map). filter is_kept (filter is_kept fields) ++ l) (none_of_final script_sig witness)
     ∙ append-nil (filter is_kept (filter is_kept fields))
     ∙ filter-filter is_kept fields
 
 pub keeps_pairs : KeepsPairs
 keeps_pairs input = elim (cases_Bool (is_ready (state_of input))) [
-  | inl e ↦ rw e (kept_of_final input.spend.fields (witness_of input))
+  | inl e ↦ rw e (kept_of_final input.spend.fields (script_sig_of input.spend) (witness_of input))
   | inr e ↦ rw e refl
 ]
 
@@ -51,11 +59,12 @@ kept_other : (type : ℕ) → not (is_cleared type) ≡ true → (type == FINAL_
 kept_other type kept = ne_eqb type FINAL_SCRIPTWITNESS (λ same.
     let no : false ≡ true = subst (λ t. not (is_cleared t) ≡ true) same kept in cc)
 
-find_final : (fields : Map) (witness : Bytes) → find (has_type FINAL_SCRIPTWITNESS) (final_map fields witness) ≡ Some (witness_pair witness)
+find_final : (fields : Map) (script_sig witness : Bytes) → find (has_type FINAL_SCRIPTWITNESS) (final_map fields script_sig witness) ≡ Some (witness_pair witness)
 unfolding read_size
-find_final [] witness = refl
-find_final (x ∷ xs) witness =
-    let rest = find_final xs witness in
+find_final [] [] witness = refl
+find_final [] (byte ∷ bytes) witness = refl
+find_final (x ∷ xs) script_sig witness =
+    let rest = find_final xs script_sig witness in
     elim (cases_Bool (is_kept x)) [
       | inl kept ↦ rw (kept, kept_other (type_of x.key) kept) rest
       | inr cleared ↦ rw cleared rest
@@ -79,10 +88,10 @@ has_witness : (stack : List Bytes) (script : Bytes) → bytes_eq (witness_text s
 has_witness [] script = first_not_zero 0 _
 has_witness (item ∷ stack) script = first_not_zero (length (stack ++ script ∷ [])) _
 
-final_is_final : (input : Input) → has_final (final_map input.spend.fields (witness_of input)) ≡ true
+final_is_final : (input : Input) → has_final (map_made input) ≡ true
 final_is_final input =
-    let fields = final_map input.spend.fields (witness_of input) in
-    let found = ap (option_map (λ (pair : Pair). pair.value)) (find_final input.spend.fields (witness_of input)) in
+    let fields = map_made input in
+    let found = ap (option_map (λ (pair : Pair). pair.value)) (find_final input.spend.fields (script_sig_of input.spend) (witness_of input)) in
     let item = ap has_item found ∙ ap not (has_witness _ _) in
     ap (λ b. has_byte (field FINAL_SCRIPTSIG fields) || b) item ∙ or-true (has_byte (field FINAL_SCRIPTSIG fields))
 
@@ -97,10 +106,10 @@ Stays input again = (is_ready (state_of again) ≡ false) × (written_map again 
 
 final_stays : (input again : Input) → again.spend ≡ with_fields input.spend (written_map input) → is_ready (state_of input) ≡ true → Stays input again
 final_stays input again same ready =
-    let written = ap (λ b. if b then final_map input.spend.fields (witness_of input) else input.spend.fields) ready in
+    let written = ap (λ b. if b then map_made input else input.spend.fields) ready in
     let fields = ap (λ spend. spend.fields) same ∙ written in
     let final = ap has_final fields ∙ final_is_final input in
-    let none = ap (λ b. state_by (if b then Err state.Final else script_of_utxo (utxo_of again.spend.input.outpoint again.spend.fields) again.spend.fields) again.tree again.spend) final in
+    let none = ap (λ b. state_by (if b then Err state.Final else open_script again.spend) again.tree again.spend) final in
     let closed = ap is_ready none in
     (closed, leaves_others again closed ∙ ap (λ spend. spend.fields) same)
 

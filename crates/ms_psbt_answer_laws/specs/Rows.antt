@@ -15,6 +15,20 @@ use Rattle.def_psbt_answer.specs.Samples.{pair, sig_a, sig_b, sig_c, signed_a, s
 abbrev pub Answers : (word : Bytes) → (source : Bytes) → Status → (report : Bytes) → Type 0
 Answers word source status report = Answer (word ∷ []) source status report
 
+-- an output that is P2SH of the program of `multi(2,A,B,C)`, that program as its redeem script, the witness script, and the one push
+-- of the redeem script
+abbrev pub nested_two_of_three : Bytes
+nested_two_of_three = pair (0x01 ∷ []) (from_hex "a08601000000000017a914c30819a2f5580aae53e7fe5ff491def00bfb0cb787")
+
+abbrev pub redeem_two_of_three : Bytes
+redeem_two_of_three = pair (0x04 ∷ []) (from_hex "0020df533ab97795e72c2cf08989bf5d133f2063ff81fd3d927a43294f625571655b")
+
+abbrev pub script_two_of_three : Bytes
+script_two_of_three = pair (0x05 ∷ []) (from_hex "5221020101010101010101010101010101010101010101010101010101010101010101210279be667ef9dcbbac55a06295ce870b07029bfcdb2dce28d959f2815b16f817982103030303030303030303030303030303030303030303030303030303030303030353ae")
+
+abbrev pub nested_script_sig : Bytes
+nested_script_sig = pair (0x07 ∷ []) (from_hex "220020df533ab97795e72c2cf08989bf5d133f2063ff81fd3d927a43294f625571655b")
+
 -- ---- words and refusals
 
 abbrev pub NoForm : Type 0
@@ -46,6 +60,10 @@ outpoint_0 = codes "outpoint 050505050505050505050505050505050505050505050505050
 abbrev pub claimed : (state : Bytes) → List Bytes
 claimed state = usual (codes "10000 claimed") ++ (codes "input 0 " ++ state) ∷ outpoint_0 ∷ codes "amount 100000 claimed" ∷ []
 
+-- and the kind of a P2WSH output
+abbrev pub guarded : (state : Bytes) → List Bytes
+guarded state = claimed state ++ codes "kind p2wsh" ∷ []
+
 -- what is told of `multi(2,A,B,C)`
 abbrev pub multi_lines : List Bytes
 multi_lines =
@@ -55,21 +73,21 @@ multi_lines =
 abbrev pub InspectReady : Type 0
 InspectReady =
     Inspects TWO_OF_THREE status.Done
-    (claimed (codes "Ready") ++ (codes "signature " ++ C ++ codes " 1") ∷ (codes "signature " ++ A ++ codes " 1")
+    (guarded (codes "Ready") ++ (codes "signature " ++ C ++ codes " 1") ∷ (codes "signature " ++ A ++ codes " 1")
     ∷ multi_lines ++ codes "weight 144" ∷ [])
 
 -- one signature of two
 abbrev pub InspectOneSignature : Type 0
 InspectOneSignature =
     Inspects (with_map (two_of_three ∷ signed_c 1 ∷ [])) status.Open
-    (claimed (codes "Unsatisfied") ++ (codes "signature " ++ C ++ codes " 1")
+    (guarded (codes "Unsatisfied") ++ (codes "signature " ++ C ++ codes " 1")
     ∷ multi_lines ++ (codes "ask " ++ A) ∷ codes "weight at most 146" ∷ [])
 
 -- the lightest plan isn't that with the fewest signatures missing
 abbrev pub InspectLightest : Type 0
 InspectLightest =
     Inspects (with_map (one_or_two ∷ signed_b 1 ∷ derived key_a ∷ derived key_c ∷ [])) status.Open
-    (claimed (codes "Unsatisfied") ++ (codes "signature " ++ B ++ codes " 1")
+    (guarded (codes "Unsatisfied") ++ (codes "signature " ++ B ++ codes " 1")
     ∷ (codes "text or_i(c:pk_k(" ++ A ++ codes "),and_v(vc:pk_k(" ++ B ++ codes "),c:pk_k(" ++ C ++ codes ")))")
     ∷ (codes "policy any(key(" ++ A ++ codes "),all(key(" ++ B ++ codes "),key(" ++ C ++ codes ")))")
     ∷ (codes "ask " ++ A) ∷ codes "weight at most 76" ∷ [])
@@ -84,6 +102,7 @@ InspectTooEarly =
     ∷ codes "input 0 Unsatisfied"
     ∷ codes "outpoint 0505050505050505050505050505050505050505050505050505050505050505 1 sequence 143"
     ∷ codes "amount 100000 claimed"
+    ∷ codes "kind p2wsh"
     ∷ (codes "signature " ++ B ++ codes " 1")
     ∷ (codes "text or_d(c:pk_k(" ++ A ++ codes "),and_v(vc:pk_h(" ++ B ++ codes "),older(144)))")
     ∷ (codes "policy any(key(" ++ A ++ codes "),all(key(" ++ B ++ codes "),older(144)))")
@@ -99,7 +118,8 @@ InspectNoReading =
     ∷ codes "fee 10000 claimed"
     ∷ codes "input 0 NoReading"
     ∷ codes "outpoint 0505050505050505050505050505050505050505050505050505050505050505 1 sequence 144"
-    ∷ codes "amount 100000 claimed" ∷ [])
+    ∷ codes "amount 100000 claimed"
+    ∷ codes "kind p2wsh" ∷ [])
 
 abbrev pub InspectUnfit : Type 0
 InspectUnfit =
@@ -110,24 +130,34 @@ InspectUnfit =
     ∷ codes "input 0 Unfit NoSignature"
     ∷ codes "outpoint 0505050505050505050505050505050505050505050505050505050505050505 0 sequence 5"
     ∷ codes "amount 100000 claimed"
+    ∷ codes "kind p2wsh"
     ∷ (codes "text or_d(c:pk_k(" ++ A ++ codes "),older(5))") ∷ [])
 
 -- a signature of another type than is asked, and signatures of the type that is
 abbrev pub InspectTypes : Type 0
 InspectTypes =
     Inspects (with_map (two_of_three ∷ signed_a 1 ∷ asking 2 ∷ [])) status.Open
-    (claimed (codes "WrongSighash") ++ (codes "signature " ++ A ++ codes " 1") ∷ multi_lines)
+    (guarded (codes "WrongSighash") ++ (codes "signature " ++ A ++ codes " 1") ∷ multi_lines)
     × Inspects (with_map (two_of_three ∷ signed_a 2 ∷ signed_c 2 ∷ asking 2 ∷ [])) status.Done
-    (claimed (codes "Ready") ++ (codes "signature " ++ A ++ codes " 2") ∷ (codes "signature " ++ C ++ codes " 2")
+    (guarded (codes "Ready") ++ (codes "signature " ++ A ++ codes " 2") ∷ (codes "signature " ++ C ++ codes " 2")
     ∷ multi_lines ++ codes "weight 144" ∷ [])
 
 -- no spent output; no witness script; a final witness, of which nothing more is told
 abbrev pub InspectOthers : Type 0
 InspectOthers =
     Inspects BARE status.Open (usual (codes "unknown") ++ codes "input 0 NoUtxo" ∷ outpoint_0 ∷ codes "amount unknown" ∷ [])
-    × Inspects (with_map (spent_two_of_three ∷ [])) status.Open (claimed (codes "NoScript"))
+    × Inspects (with_map (spent_two_of_three ∷ [])) status.Open (guarded (codes "NoScript"))
     × Inspects (with_map (two_of_three ∷ pair (0x08 ∷ []) (from_hex "010151") ∷ [])) status.Done
     (claimed (codes "Final") ++ codes "unchecked" ∷ [])
+
+-- P2SH of the program of `multi(2,A,B,C)`: the redeem script is missing, it is another one, and it is there
+abbrev pub InspectNested : Type 0
+InspectNested =
+    Inspects (with_map (nested_two_of_three ∷ [])) status.Open (claimed (codes "NoScript") ++ codes "kind other" ∷ [])
+    × Inspects (with_map (nested_two_of_three ∷ pair (0x04 ∷ []) (from_hex "0020") ∷ [])) status.Open
+    (claimed (codes "WrongScript") ++ codes "kind other" ∷ [])
+    × Inspects (with_map (nested_two_of_three ∷ redeem_two_of_three ∷ [])) status.Open
+    (claimed (codes "NoScript") ++ codes "kind p2sh-p2wsh" ∷ [])
 
 -- ---- finalize
 
@@ -135,6 +165,12 @@ InspectOthers =
 abbrev pub FinalizesTwoOfThree : Type 0
 FinalizesTwoOfThree =
     Answers (codes "finalize") TWO_OF_THREE status.Done (with_map (spent_two_of_three ∷ kept ∷ final_two_of_three ∷ []))
+
+-- P2SH of it is spent with the one push of the redeem script
+abbrev pub FinalizesNested : Type 0
+FinalizesNested =
+    Answers (codes "finalize") (with_map (nested_two_of_three ∷ script_two_of_three ∷ signed_c 1 ∷ redeem_two_of_three ∷ signed_a 1 ∷ kept ∷ [])) status.Done
+    (with_map (nested_two_of_three ∷ kept ∷ nested_script_sig ∷ final_two_of_three ∷ []))
 
 abbrev pub FinalizesBase64 : Type 0
 FinalizesBase64 =
@@ -159,6 +195,13 @@ abbrev pub Extracts : Type 0
 Extracts =
     Answers (codes "extract") (with_map (spent_two_of_three ∷ kept ∷ final_two_of_three ∷ [])) status.Done
     (lines ((codes "0200000000010105050505050505050505050505050505050505050505050505050505050505050000000000feffffff01905f0100000000001600140707070707070707070707070707070707070707040047"
+    ++ encode_lower (sig_a 1) ++ codes "46" ++ encode_lower (sig_c 1)
+    ++ codes "695221" ++ A ++ codes "21" ++ B ++ codes "21" ++ C ++ codes "53ae00000000") ∷ []))
+
+abbrev pub ExtractsNested : Type 0
+ExtractsNested =
+    Answers (codes "extract") (with_map (nested_two_of_three ∷ nested_script_sig ∷ final_two_of_three ∷ [])) status.Done
+    (lines ((codes "0200000000010105050505050505050505050505050505050505050505050505050505050505050000000023220020df533ab97795e72c2cf08989bf5d133f2063ff81fd3d927a43294f625571655bfeffffff01905f0100000000001600140707070707070707070707070707070707070707040047"
     ++ encode_lower (sig_a 1) ++ codes "46" ++ encode_lower (sig_c 1)
     ++ codes "695221" ++ A ++ codes "21" ++ B ++ codes "21" ++ C ++ codes "53ae00000000") ∷ []))
 

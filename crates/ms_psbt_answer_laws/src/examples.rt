@@ -11,10 +11,13 @@ ghost use Rattle.ms_psbt_answer_laws.specs.Rows.{
   InspectUnfit,
   InspectTypes,
   InspectOthers,
+  InspectNested,
   FinalizesTwoOfThree,
+  FinalizesNested,
   FinalizesBase64,
   FinalizesOthers,
   Extracts,
+  ExtractsNested,
   NotFinal,
   HashesOfTypes,
   HashesOfNone,
@@ -36,14 +39,17 @@ pub fn inspections()
     ensures unfit { InspectUnfit }
     ensures types { InspectTypes }
     ensures others { InspectOthers }
+    ensures nested { InspectNested }
 {}
 
 /// Answers to `finalize` and `extract`.
 pub fn writings()
     ensures two_of_three { FinalizesTwoOfThree }
+    ensures nested { FinalizesNested }
     ensures base64 { FinalizesBase64 }
     ensures others { FinalizesOthers }
     ensures extracts { Extracts }
+    ensures extracts_nested { ExtractsNested }
     ensures not_final { NotFinal }
 {}
 

@@ -1,6 +1,5 @@
 -- The answer of a call over a PSBT, whose source and sink lie in memory.
-use Rattle.std.proofs.Common.{◌≡◌, ◌≢◌, ◌⊎◌, ℕ, List, [], Some, inl, inr, subst, arith}
-use Rattle.std.specs.Prelude.{Option}
+use Rattle.std.proofs.Common.{◌≡◌, ◌⊎◌, ℕ, List, subst, arith}
 use Rattle.def_script.specs.Bytes.{Bytes}
 use Rattle.def_psbt_answer.specs.declared.status.Status.{Status}
 use Rattle.def_psbt_answer.specs.declared.status.Status.TheVariants as status
@@ -8,22 +7,8 @@ use Rattle.def_psbt_answer.specs.Answer.{Answer}
 use Rattle.def_psbt_answer.specs.Status.{code_of}
 use Rattle.psbt_cli.proofs.Ending.{IsAnswered, answers_have_status}
 use Rattle.ms_psbt_answer_laws.proofs.Unique.{one_answer}
-use Rattle.ms_io.specs.Sides.{call}
-use Rattle.psbt_cli.specs.Ends.{Ends}
 use Rattle.ms_calls.specs.Words.{AreWords, HoldsOfAnswer}
 use Rattle.ms_calls.proofs.BufferLemmas.{holds_of_answer, other_code}
-use Rattle.ms_lines.proofs.MemoryLemmas.{answer_written}
-
--- a call that neither failed nor wanted memory wrote the answer
-pub wrote_answer : (words : List Bytes) (held source sunk report : Bytes) (s : Status) (left : Option Bytes) (b n k m : ℕ) → held ≡ source → sunk ≡ []
-    → s ≢ status.Memory → s ≢ status.ReadFault → s ≢ status.WriteFault
-    → Ends (call words (record { old = Some held; new = left; before = b; now = n }) (record { old = Some sunk; new = Some report; before = k; now = m }) s)
-    → Answer words source s report
-wrote_answer words held source sunk report s left b n k m same none memory read write (inl w) =
-    answer_written Answer words held source sunk report s left b n k m same none w
-wrote_answer words held source sunk report s left b n k m same none memory read write (inr (inl w)) = absurd (write w.0)
-wrote_answer words held source sunk report s left b n k m same none memory read write (inr (inr (inl w))) = absurd (read w.0)
-wrote_answer words held source sunk report s left b n k m same none memory read write (inr (inr (inr w))) = absurd (memory w.0)
 
 -- what holds of the answer to words that bytes are holds of each answer to words that they are
 pub holds_of_answers : (count : ℕ) (bytes source : Bytes) (words : List Bytes) (s : Status) (p : Bytes) (code : ℕ) (IsSo : Status → Bytes → Type 0)

@@ -1,24 +1,13 @@
 //! The top call of `msat-psbt` over buffers.
-ghost use Rattle.std.specs.Prelude.{◌≡◌, ◌⊎◌, length, IfOk};
+ghost use Rattle.std.specs.Prelude.{◌≡◌, ◌⊎◌, length};
 ghost use Rattle.def_psbt_answer.specs.Answer.{Answer};
 ghost use Rattle.def_psbt_answer.specs.Status.{code_of};
 ghost use Rattle.ms_calls.specs.Buffers.{written_over};
 ghost use Rattle.ms_calls.specs.Words.{HoldsOfAnswer, AreNoWords};
 
-use def_psbt_answer::Status;
-use ms_calls::{ByteSink, NO_MEMORY, NoWords, UNREADABLE, read_words, write_over};
-use ms_io::ByteSource;
-use psbt_cli::{Word, msat_psbt};
+use ms_calls::{NO_MEMORY, NoWords, UNREADABLE, read_words, write_over};
+use psbt_lines::answer_in_memory;
 use std::alloc::{AllocError, Global};
-
-/// A status, and the whole report that goes with it.
-#[derive(Drop)]
-struct Outcome {
-    /// The status.
-    status: Status,
-    /// The report's bytes.
-    report: Vec<u8>,
-}
 
 /// Answers the words of a command line, as the program `msat-psbt` does where its standard input holds `source`: a PSBT
 /// (BIP 174, BIP 370), as its bytes or as base64.
@@ -49,28 +38,12 @@ pub fn psbt_answer(
         Err(NoWords::Unreadable) => return UNREADABLE,
         Err(NoWords::Memory) => return NO_MEMORY,
     };
-    match answer_words(alloc, &words, source) {
+    match answer_in_memory(alloc, &words, source) {
         Ok(outcome) => {
             *needed = outcome.report.len();
             let _count = write_over(&outcome.report, report);
             outcome.status.code() as u32
         }
         Err(AllocError) => NO_MEMORY,
-    }
-}
-
-/// The status and the whole report of the words and the source.
-fn answer_words(alloc: Global, words: &[Word], source: &[u8]) -> Result<Outcome, AllocError>
-    ensures { IfOk result (λ outcome. Answer words.now source.now outcome.status outcome.report.items) }
-{
-    let mut source = ByteSource::new(source);
-    let mut sink = ByteSink::new(alloc);
-    let status = msat_psbt(alloc, words, &mut source, &mut sink);
-    match status {
-        Status::Memory | Status::ReadFault | Status::WriteFault => Err(AllocError),
-        _ => Ok(Outcome {
-            status,
-            report: sink.bytes,
-        }),
     }
 }

@@ -1,5 +1,5 @@
 -- What `finalize` wrote is a source, to which it answers as before.
-use Rattle.std.proofs.Common.{◌≡◌, ℕ, ◌+◌, ◌≤◌, ◌==◌, ◌&&◌, ◌||◌, Bool, true, false, not, List, [], ◌∷◌, length, map, find, inl, inr, Some, None, Ok, Err, if◌then◌else◌, refl, sym, ap, subst, ◌∙◌, arith}
+use Rattle.std.proofs.Common.{◌≡◌, ℕ, ◌+◌, ◌≤◌, ◌==◌, ◌&&◌, ◌||◌, Bool, true, false, not, List, [], ◌∷◌, length, map, find, inl, inr, Option, Some, Ok, Err, unwrap_or, if◌then◌else◌, refl, sym, ap, subst, ◌∙◌, arith}
 use Rattle.std.specs.List.{AllByRecursion, list_all}
 use Rattle.std.specs.Option.{option_map}
 use Rattle.std.specs.Str.{bytes_eq}
@@ -18,11 +18,10 @@ use Rattle.def_psbt.specs.Source.{MAX_SOURCE_SIZE, psbt_of}
 use Rattle.def_psbt.specs.Laws.{WrittenIsReadBack}
 use Rattle.def_spend.specs.declared.State.TheVariants as state
 use Rattle.def_spend.specs.Fields.{FINAL_SCRIPTSIG, FINAL_SCRIPTWITNESS, has_type, field}
-use Rattle.def_spend.specs.Utxo.{utxo_of}
 use Rattle.def_spend.specs.Input.{Spend, spends_from, spends_of}
-use Rattle.def_spend.specs.Reading.{Input, has_byte, has_item, has_final, script_of_utxo, HasReading, AreInputs}
+use Rattle.def_spend.specs.Reading.{Input, has_byte, has_item, has_final, open_script, HasReading, AreInputs}
 use Rattle.def_spend.specs.States.{state_by, state_of, is_final, is_ready, stack_of}
-use Rattle.def_spend.specs.Finalized.{is_cleared, is_kept, witness_pair, final_map, witness_of, written_map, finalized}
+use Rattle.def_spend.specs.Finalized.{is_cleared, is_kept, final_pairs, final_map, script_sig_of, witness_of, written_map, finalized}
 use Rattle.def_psbt_answer.specs.declared.status.Status.TheVariants as status
 use Rattle.def_psbt_answer.specs.declared.words.Command.TheVariants as command
 use Rattle.def_psbt_answer.specs.declared.words.Form.{Form}
@@ -48,23 +47,41 @@ kept_other : (cleared type : ℕ) → is_cleared cleared ≡ true → not (is_cl
 kept_other cleared type is kept =
     ne_eqb type cleared (λ same. false≢true (ap not (sym is) ∙ ap (λ (t : ℕ). not (is_cleared t)) (sym same) ∙ kept))
 
--- so of such a type there is what the final witness is
-found_behind : (cleared : ℕ) → is_cleared cleared ≡ true → (fields : Map) (witness : Bytes) → find (has_type cleared) (final_map fields witness) ≡ find (has_type cleared) (witness_pair witness ∷ [])
-found_behind cleared is [] witness = refl
-found_behind cleared is (x ∷ xs) witness =
-    let rest = found_behind cleared is xs witness in
+-- so of such a type there is what the final pairs have
+found_behind : (cleared : ℕ) → is_cleared cleared ≡ true → (fields : Map) (script_sig witness : Bytes)
+    → find (has_type cleared) (final_map fields script_sig witness) ≡ find (has_type cleared) (final_pairs script_sig witness)
+found_behind cleared is [] script_sig witness = refl
+found_behind cleared is (x ∷ xs) script_sig witness =
+    let rest = found_behind cleared is xs script_sig witness in
     elim (cases_Bool (is_kept x)) [
       | inl kept ↦ rw (kept, kept_other cleared (type_of x.key) is kept) rest
       | inr other ↦ rw other rest
     ]
 
-final_field : (fields : Map) (witness : Bytes) → field FINAL_SCRIPTWITNESS (final_map fields witness) ≡ Some witness
-unfolding read_size
-final_field fields witness = ap (option_map (λ (pair : Pair). pair.value)) (found_behind FINAL_SCRIPTWITNESS refl fields witness)
+-- the value of the first pair of a type, where there is one
+abbrev value_in : Option Pair → Option Bytes
+value_in o = option_map (λ (pair : Pair). pair.value) o
 
-no_script_sig : (fields : Map) (witness : Bytes) → field FINAL_SCRIPTSIG (final_map fields witness) ≡ None
+witness_behind : (script_sig witness : Bytes) → value_in (find (has_type FINAL_SCRIPTWITNESS) (final_pairs script_sig witness)) ≡ Some witness
 unfolding read_size
-no_script_sig fields witness = ap (option_map (λ (pair : Pair). pair.value)) (found_behind FINAL_SCRIPTSIG refl fields witness)
+witness_behind [] witness = refl
+witness_behind (byte ∷ bytes) witness = refl
+
+script_sig_behind : (script_sig witness : Bytes) → unwrap_or (value_in (find (has_type FINAL_SCRIPTSIG) (final_pairs script_sig witness))) [] ≡ script_sig
+unfolding read_size
+script_sig_behind [] witness = refl
+script_sig_behind (byte ∷ bytes) witness = refl
+
+final_field : (fields : Map) (script_sig witness : Bytes) → field FINAL_SCRIPTWITNESS (final_map fields script_sig witness) ≡ Some witness
+final_field fields script_sig witness = ap value_in (found_behind FINAL_SCRIPTWITNESS refl fields script_sig witness) ∙ witness_behind script_sig witness
+
+final_script_sig : (fields : Map) (script_sig witness : Bytes) → unwrap_or (field FINAL_SCRIPTSIG (final_map fields script_sig witness)) [] ≡ script_sig
+final_script_sig fields script_sig witness =
+    ap (λ (o : Option Pair). unwrap_or (value_in o) []) (found_behind FINAL_SCRIPTSIG refl fields script_sig witness) ∙ script_sig_behind script_sig witness
+
+-- the map of an input that is made final
+abbrev map_made : Input → Map
+map_made input = final_map input.spend.fields (script_sig_of input.spend) (witness_of input)
 
 -- the byte 00 is a witness without items
 pub no_items : forms.witness_of (0x00 ∷ []) ≡ Some []
@@ -81,22 +98,21 @@ some_item w items read some = false_from_ne_true _ (λ e.
     let long : 0 ≡ length items = ap length (same_items [] items empty) in
     omega (arith, long, some))
 
-made_final : (input : Input) → IsFinalWitness input → has_final (final_map input.spend.fields (witness_of input)) ≡ true
+made_final : (input : Input) → IsFinalWitness input → has_final (map_made input) ≡ true
 made_final input w =
-    let fields : Map = final_map input.spend.fields (witness_of input) in
     let items = items_back (all_items (stack_of input) w.script) (are_items (stack_of input) w.script w.fits) in
     let other = some_item (witness_of input) (all_items (stack_of input) w.script) (ap forms.witness_of w.is ∙ items) (omega (arith, length-append (stack_of input) (w.script ∷ []))) in
-    let item : has_item (field FINAL_SCRIPTWITNESS (final_map input.spend.fields (witness_of input))) ≡ true = ap has_item (final_field input.spend.fields (witness_of input)) ∙ ap not other in
-    ap (λ b. has_byte (field FINAL_SCRIPTSIG (final_map input.spend.fields (witness_of input))) || b) item
-    ∙ or-true (has_byte (field FINAL_SCRIPTSIG (final_map input.spend.fields (witness_of input))))
+    let item : has_item (field FINAL_SCRIPTWITNESS (map_made input)) ≡ true =
+    ap has_item (final_field input.spend.fields (script_sig_of input.spend) (witness_of input)) ∙ ap not other in
+    ap (λ b. has_byte (field FINAL_SCRIPTSIG (map_made input)) || b) item ∙ or-true (has_byte (field FINAL_SCRIPTSIG (map_made input)))
 
 -- a Ready input is made final
 is_made_final : (input : Input) → IsGiven input → is_ready (state_of input) ≡ true → IsMadeFinal input
 is_made_final input given ready =
-    let written = ap (λ b. if b then final_map input.spend.fields (witness_of input) else input.spend.fields) ready in
+    let written = ap (λ b. if b then map_made input else input.spend.fields) ready in
     record {
-      witness = ap (field FINAL_SCRIPTWITNESS) written ∙ final_field input.spend.fields (witness_of input);
-      script_sig = ap (field FINAL_SCRIPTSIG) written ∙ no_script_sig input.spend.fields (witness_of input);
+      witness = ap (field FINAL_SCRIPTWITNESS) written ∙ final_field input.spend.fields (script_sig_of input.spend) (witness_of input);
+      script_sig = ap (λ (made : Map). unwrap_or (field FINAL_SCRIPTSIG made) []) written ∙ final_script_sig input.spend.fields (script_sig_of input.spend) (witness_of input);
       final = ap has_final written ∙ made_final input (final_witness input given ready);
     }
 
@@ -117,10 +133,10 @@ settled_again input again given read same = go (is_ready (state_of input)) refl
         let spend = same ∙ ap (with_fields input.spend) (leaves_others input e) in
         ap is_settled (one_reading again input read given.read spend)
     go true e =
-        let written = ap (λ b. if b then final_map input.spend.fields (witness_of input) else input.spend.fields) e in
+        let written = ap (λ b. if b then map_made input else input.spend.fields) e in
         let fields = ap (λ spend. spend.fields) same ∙ written in
         let final = ap has_final fields ∙ made_final input (final_witness input given e) in
-        let is = ap (λ b. state_by (if b then Err state.Final else script_of_utxo (utxo_of again.spend.input.outpoint again.spend.fields) again.spend.fields) again.tree again.spend) final in
+        let is = ap (λ b. state_by (if b then Err state.Final else open_script again.spend) again.tree again.spend) final in
         let one : is_settled again ≡ true = ap (λ s. is_final s || is_ready s) is in
         let two : is_settled input ≡ true = ap (λ b. is_final (state_of input) || b) e ∙ or-true (is_final (state_of input)) in
         one ∙ sym two

@@ -7,6 +7,7 @@ use Rattle.std.proofs.lemmas.List.Elements.{recursion_from_All}
 use Rattle.def_psbt.specs.Transaction.{TransactionInput, Transaction}
 use Rattle.def_psbt.specs.Map.{Map}
 use Rattle.def_spend.specs.Hashes.{hash_by}
+use Rattle.def_spend.specs.Kinds.{kind_of}
 use Rattle.def_spend.specs.Input.{Spend, spends_from}
 use Rattle.def_spend.specs.Reading.{Input, HasReading}
 use Rattle.def_spend.specs.States.{state_of}
@@ -64,6 +65,7 @@ map_decides_alone psbt other inputs others number are same_are transaction field
     (λ y e. all_at others number y (recursion_from_All HasReading others same_are.read) e) spends in
     record {
       state = ap (option_map state_of) same;
+      kind = ap (option_map (λ input. kind_of input.spend)) same;
       witness = ap (option_map witness_of) same;
       written = ap (option_map written_map) same;
       hash = λ type. ap (option_map (λ input. hash_by type input.spend)) same;

@@ -13,7 +13,7 @@ use Rattle.def_psbt.specs.Map.{Pair, Map, type_of, pair_of_type, value_of_type, 
 use Rattle.def_psbt.specs.Fields.{number_or, has_time_alone, has_height_alone, has_lock, greatest, lock_time_of, outpoint_in, input_of, transaction_of_fields}
 use Rattle.def_psbt.specs.Reading.{needed_input, Outline, given, counted, transaction_by, at_place, or_else, repeated_at, unserved_at, unjoined}
 use Rattle.def_psbt.specs.Transaction.{TransactionInput}
-use Rattle.def_spend.specs.Finalized.{is_cleared, is_kept, witness_pair, final_map, witness_of, written_map}
+use Rattle.def_spend.specs.Finalized.{is_cleared, is_kept, final_pairs, final_map, script_sig_of, witness_of, written_map}
 use Rattle.def_spend.specs.Reading.{Input}
 use Rattle.def_spend.specs.States.{state_of, is_ready}
 
@@ -31,9 +31,10 @@ kept_pair type stays behind none (pair ∷ fields) =
       | inr other ↦ elim (cases_Bool (is_kept pair)) [ inl kept ↦ rw (kept, other) rest | inr cleared ↦ rw (cleared, other) rest ]
     ]
 
-not_witness : (type : ℕ) (witness : Bytes) → (0x08 == type) ≡ false → pair_of_type type (witness_pair witness ∷ []) ≡ None
+not_final : (type : ℕ) (script_sig witness : Bytes) → (0x07 == type) ≡ false → (0x08 == type) ≡ false → pair_of_type type (final_pairs script_sig witness) ≡ None
 unfolding read_size
-not_witness type witness other = rw other refl
+not_final type [] witness sig other = rw other refl
+not_final type (byte ∷ bytes) witness sig other = rw (sig, other) refl
 
 -- fields of the same transaction
 pub record AreSame (fields written : Map) : Type 0 where
@@ -43,18 +44,18 @@ pub record AreSame (fields written : Map) : Type 0 where
   pub time : pair_of_type 0x11 written ≡ pair_of_type 0x11 fields
   pub height : pair_of_type 0x12 written ≡ pair_of_type 0x12 fields
 
-final_same : (fields : Map) (witness : Bytes) → AreSame fields (final_map fields witness)
-final_same fields witness = record {
-  id = kept_pair 0x0e refl (witness_pair witness ∷ []) (not_witness 0x0e witness refl) fields;
-  index = kept_pair 0x0f refl (witness_pair witness ∷ []) (not_witness 0x0f witness refl) fields;
-  sequence = kept_pair 0x10 refl (witness_pair witness ∷ []) (not_witness 0x10 witness refl) fields;
-  time = kept_pair 0x11 refl (witness_pair witness ∷ []) (not_witness 0x11 witness refl) fields;
-  height = kept_pair 0x12 refl (witness_pair witness ∷ []) (not_witness 0x12 witness refl) fields;
+final_same : (fields : Map) (script_sig witness : Bytes) → AreSame fields (final_map fields script_sig witness)
+final_same fields script_sig witness = record {
+  id = kept_pair 0x0e refl (final_pairs script_sig witness) (not_final 0x0e script_sig witness refl refl) fields;
+  index = kept_pair 0x0f refl (final_pairs script_sig witness) (not_final 0x0f script_sig witness refl refl) fields;
+  sequence = kept_pair 0x10 refl (final_pairs script_sig witness) (not_final 0x10 script_sig witness refl refl) fields;
+  time = kept_pair 0x11 refl (final_pairs script_sig witness) (not_final 0x11 script_sig witness refl refl) fields;
+  height = kept_pair 0x12 refl (final_pairs script_sig witness) (not_final 0x12 script_sig witness refl refl) fields;
 }
 
 pub written_same : (input : Input) → AreSame input.spend.fields (written_map input)
 written_same input = elim (cases_Bool (is_ready (state_of input))) [
-  | inl e ↦ rw e (final_same input.spend.fields (witness_of input))
+  | inl e ↦ rw e (final_same input.spend.fields (script_sig_of input.spend) (witness_of input))
   | inr e ↦ rw e (record { id = refl; index = refl; sequence = refl; time = refl; height = refl })
 ]
 

@@ -16,16 +16,18 @@ use Rattle.def_choice.specs.Strict.{strict}
 use Rattle.def_policy.specs.Print.{printed as printed_policy}
 use Rattle.def_psbt.specs.Transaction.{TransactionInput, Transaction, transaction_text}
 use Rattle.def_psbt.specs.Map.{Pair, Map, Psbt, type_of, data_of}
+use Rattle.def_spend.specs.declared.Kind.{Kind}
 use Rattle.def_spend.specs.declared.State.{State}
 use Rattle.def_spend.specs.declared.State.TheVariants as state
-use Rattle.def_spend.specs.Fields.{NON_WITNESS_UTXO, WITNESS_UTXO, PARTIAL_SIG, SIGHASH_TYPE, WITNESS_SCRIPT, BIP32_DERIVATION, FINAL_SCRIPTSIG, FINAL_SCRIPTWITNESS, RIPEMD160, HASH256, has_type, is_between, field, is_signed, signatures_in, has_key, keys_in, is_preimage_pair, preimages_in, last_byte, asked, asked_type}
+use Rattle.def_spend.specs.Fields.{NON_WITNESS_UTXO, WITNESS_UTXO, PARTIAL_SIG, SIGHASH_TYPE, REDEEM_SCRIPT, WITNESS_SCRIPT, BIP32_DERIVATION, FINAL_SCRIPTSIG, FINAL_SCRIPTWITNESS, RIPEMD160, HASH256, has_type, is_between, field, is_signed, signatures_in, has_key, keys_in, is_preimage_pair, preimages_in, last_byte, asked, asked_type}
 use Rattle.def_spend.specs.Amount.{known_amount}
 use Rattle.def_spend.specs.Utxo.{amount_of}
 use Rattle.def_spend.specs.HashTypes.{hash_type_of}
 use Rattle.def_spend.specs.SignatureHash.{signature_hash}
-use Rattle.def_spend.specs.Hashes.{script_in, spent_amount, hash_by}
+use Rattle.def_spend.specs.Hashes.{script_or_none, script_in, spent_amount, hash_by}
 use Rattle.def_spend.specs.Input.{Spend, spends_from, locks_of, assets_of}
-use Rattle.def_spend.specs.Reading.{Input, has_item, witness_script, ReadsAs, HasReading}
+use Rattle.def_spend.specs.Kinds.{kind_of}
+use Rattle.def_spend.specs.Reading.{Input, has_item, script_code, ReadsAs, HasReading}
 use Rattle.def_spend.specs.States.{MOST_HELD, is_sighash_wrong, are_too_many, choice_state, held_state, unless_unfit, tree_state, state_by, state_of, is_read, is_sane, is_final, is_ready, stack_of}
 use Rattle.def_spend.specs.Asking.{plan_with}
 use Rattle.def_spend.specs.Finalized.{final_input, final_inputs, final_witness, witnessed_text, network_text}
@@ -39,11 +41,11 @@ use Rattle.def_psbt_answer.specs.Words.{command_of}
 use Rattle.def_psbt_answer.specs.declared.words.Form.{Form}
 use Rattle.def_psbt_answer.specs.Lines.{psbt_line, output_lines, input_line, outpoint_line, amount_line, unchecked_line, signature_line, policy_line, sign_line, check_line, not_final_line}
 use Rattle.def_psbt_answer.specs.Fee.{fee_line}
-use Rattle.def_psbt_answer.specs.Report.{amount_in, plan_lines, last_lines, tree_lines, open_lines, input_report, inspect_report, hash_lines, input_hashes, hashes_report}
+use Rattle.def_psbt_answer.specs.Report.{amount_in, plan_lines, last_lines, tree_lines, kind_lines, open_lines, input_report, inspect_report, hash_lines, input_hashes, hashes_report}
 use Rattle.def_psbt_answer.specs.Reply.{reply, is_settled, settled_status, form_of, first_open, extract_by, extract_reply, command_reply}
 use Rattle.def_psbt_answer.specs.Answer.{RepliesToPsbt, RepliesToSource, RepliesToWords}
 use Rattle.ms_spend_laws.specs.Planned.{with_map}
-use Rattle.ms_spend_laws.proofs.Reread.{SpendAlike, utxo_alike, script_alike}
+use Rattle.ms_spend_laws.proofs.Reread.{SpendAlike, utxo_alike, kind_alike, script_alike}
 use Rattle.ms_psbt_laws.specs.Agreeing.{is_other, AreAgreeing, VersionsAgree}
 
 -- ---- lists
@@ -118,6 +120,7 @@ module _ (fields later : Map) (same : filter is_other later ≡ filter is_other 
     witness = field_same FINAL_SCRIPTWITNESS refl;
     previous = field_same NON_WITNESS_UTXO refl;
     claim = field_same WITNESS_UTXO refl;
+    redeem = field_same REDEEM_SCRIPT refl;
     script = field_same WITNESS_SCRIPT refl;
   }
 
@@ -133,8 +136,8 @@ abbrev held_by : Tree → (type : ℕ) → Pairs → (many : Bool) → Assets �
 held_by tree type pairs many assets =
     if is_sighash_wrong type pairs then state.WrongSighash else if many then state.TooMany else choice_state (strict tree assets)
 
-abbrev open_by : State → Pairs → (lines : Bytes) → Bytes
-open_by s pairs lines = if is_final s then unchecked_line else flat_map signature_line pairs ++ lines
+abbrev open_by : State → Kind → Pairs → (lines : Bytes) → Bytes
+open_by s kind pairs lines = if is_final s then unchecked_line else kind_lines s kind ++ flat_map signature_line pairs ++ lines
 
 abbrev hash_with : Spend → (number : ℕ) → (script : Bytes) → (amount : ℕ) → Option Bytes
 hash_with spend number script amount =
@@ -150,12 +153,15 @@ module _ (input : Input) (later : Map) (same : filter is_other later ≡ filter 
   abbrev new : Spend
   new = (with_map input later).spend
 
-  script_same : witness_script new ≡ witness_script input.spend
+  script_same : script_code new ≡ script_code input.spend
   script_same = script_alike input.spend later (spend_same own later same)
+
+  kind_same : kind_of new ≡ kind_of input.spend
+  kind_same = kind_alike input.spend later (spend_same own later same)
 
   pub reading_same : HasReading input → HasReading (with_map input later)
   reading_same read =
-      subst (λ keys. ReadsAs keys (witness_script new) input.tree) (sym (keys_same own later same))
+      subst (λ keys. ReadsAs keys (script_code new) input.tree) (sym (keys_same own later same))
       (subst (λ script. ReadsAs (keys_in own) script input.tree) (sym script_same) read)
 
   assets_same : assets_of new ≡ assets_of input.spend
@@ -171,7 +177,7 @@ module _ (input : Input) (later : Map) (same : filter is_other later ≡ filter 
       ∙ ap (held_by tree (asked_type own) (signatures_in own) (are_too_many own)) assets_same
 
   state_same : state_of (with_map input later) ≡ state_of input
-  state_same = ap (λ script. state_by script input.tree new) script_same ∙ by_script (witness_script input.spend)
+  state_same = ap (λ script. state_by script input.tree new) script_same ∙ by_script (script_code input.spend)
     where
       by_tree : (found : Option Tree) → tree_state found new ≡ tree_state found input.spend
       by_tree None = refl
@@ -200,9 +206,10 @@ module _ (input : Input) (later : Map) (same : filter is_other later ≡ filter 
 
   open_same : open_lines (with_map input later) ≡ open_lines input
   open_same =
-      ap (λ s. open_by s (signatures_in later) (tree_lines s input.tree new (stack_of (with_map input later)))) state_same
-      ∙ ap (λ (pairs : Pairs). open_by (state_of input) pairs (tree_lines (state_of input) input.tree new (stack_of (with_map input later)))) (signatures_same own later same)
-      ∙ ap (open_by (state_of input) (signatures_in own))
+      ap (λ s. open_by s (kind_of new) (signatures_in later) (tree_lines s input.tree new (stack_of (with_map input later)))) state_same
+      ∙ ap (λ k. open_by (state_of input) k (signatures_in later) (tree_lines (state_of input) input.tree new (stack_of (with_map input later)))) kind_same
+      ∙ ap (λ (pairs : Pairs). open_by (state_of input) (kind_of input.spend) pairs (tree_lines (state_of input) input.tree new (stack_of (with_map input later)))) (signatures_same own later same)
+      ∙ ap (open_by (state_of input) (kind_of input.spend) (signatures_in own))
       (ap (tree_lines (state_of input) input.tree new) stack_same ∙ tree_same (state_of input) input.tree (stack_of input))
 
   pub report_same : input_report (with_map input later) ≡ input_report input
@@ -213,8 +220,8 @@ module _ (input : Input) (later : Map) (same : filter is_other later ≡ filter 
 
   hash_same : (number : ℕ) → hash_by number new ≡ hash_by number input.spend
   hash_same number =
-      ap (λ o. hash_with input.spend number (unwrap_or o []) (spent_amount new)) (field_same own later same WITNESS_SCRIPT refl)
-      ∙ ap (λ amount. hash_with input.spend number (script_in own) (known_amount amount)) amount_same
+      ap (λ r. hash_with input.spend number (script_or_none r) (spent_amount new)) script_same
+      ∙ ap (λ amount. hash_with input.spend number (script_in input.spend) (known_amount amount)) amount_same
 
   check_same : (pairs : Pairs) → checks new pairs ≡ checks input.spend pairs
   check_same [] = refl

@@ -8,9 +8,13 @@ use Rattle.std.proofs.lemmas.List.{append-nil, length-append}
 use Rattle.std.proofs.lemmas.List.Concat.{flat_map-cons}
 use Rattle.std.proofs.lemmas.List.Elements.{All-nil, All-cons, All-append, All-filter, recursion_from_All}
 use Rattle.std.proofs.lemmas.Slice.Eq.{bytes_eq-Decides}
+use Rattle.def_hash.specs.declared.HashKind.TheVariants as kind
+use Rattle.def_hash.specs.Hash.{sha256}
+use Rattle.def_hash.proofs.Lengths.{digest_has_its_length, sha256-IsBytes}
 use Rattle.def_script.specs.Bytes.{Bytes, IsBytes}
 use Rattle.def_script.specs.Sizes.{size_bytes, read_size}
 use Rattle.def_script.specs.Witness.{sized, items_text, witness_text}
+use Rattle.def_machine.specs.Program.{program_of}
 use Rattle.def_emit.specs.Emit.{script_of}
 use Rattle.def_satisfaction.proofs.OfBytes.{sat_is_of_bytes}
 use Rattle.ms_witness.specs.Reading.{MOST_WITNESS, FitsWitness}
@@ -22,11 +26,12 @@ use Rattle.def_psbt.specs.Listed.{Form, stands, shape_fault, pair_fault, input_f
 use Rattle.def_psbt.specs.Laws.{IsSoundPair, IsSoundMap}
 use Rattle.def_spend.specs.declared.State.{State}
 use Rattle.def_spend.specs.declared.State.TheVariants as state
-use Rattle.def_spend.specs.Fields.{WITNESS_SCRIPT, FINAL_SCRIPTWITNESS, has_type, field}
+use Rattle.def_spend.specs.Fields.{WITNESS_SCRIPT, FINAL_SCRIPTSIG, FINAL_SCRIPTWITNESS, has_type, field}
 use Rattle.def_spend.specs.Input.{assets_of}
+use Rattle.def_spend.specs.Kinds.{pushed, IsGuardedBy}
 use Rattle.def_spend.specs.Reading.{Input}
 use Rattle.def_spend.specs.States.{state_of, is_ready, stack_of}
-use Rattle.def_spend.specs.Finalized.{is_cleared, is_kept, witness_pair, final_map, witness_of, written_map}
+use Rattle.def_spend.specs.Finalized.{is_cleared, is_kept, script_sig_pair, witness_pair, final_pairs, final_map, script_sig_of, witness_of, written_map}
 use Rattle.ms_given_laws.specs.Given.{OfEachInput, EachIsSound, IsMapOfBytes}
 use Rattle.ms_given_laws.proofs.BytesOf as bytes
 use Rattle.ms_given_laws.proofs.Later.{IsPairOfBytes}
@@ -82,18 +87,26 @@ filtered forms test before kept (pair ∷ map) within sound =
 
 -- ---- the final witness
 
-none_is_final : (fields : Map) → stands (FINAL_SCRIPTWITNESS ∷ []) (filter is_kept fields) ≡ false
-unfolding read_size
-none_is_final [] = refl
-none_is_final (pair ∷ fields) =
-    let rest = none_is_final fields in
+-- no kept pair has a key of a type that is cleared
+none_cleared : (key : Bytes) → is_cleared (type_of key) ≡ true → (fields : Map) → stands key (filter is_kept fields) ≡ false
+none_cleared key is [] = refl
+none_cleared key is (pair ∷ fields) =
+    let rest = none_cleared key is fields in
     elim (cases_Bool (is_kept pair)) [
-      | inl kept ↦ rw kept (or_from (bytes_eq (FINAL_SCRIPTWITNESS ∷ []) pair.key) _ (false_from_ne_true _ (λ e.
-          let same = (bytes_eq-Decides (FINAL_SCRIPTWITNESS ∷ []) pair.key).0 e in
-          let cleared : false ≡ true = subst (λ (key : Bytes). not (is_cleared (type_of key)) ≡ true) (sym same) kept in
-          false≢true cleared)) rest)
+      | inl kept ↦ rw kept (or_from (bytes_eq key pair.key) _ (false_from_ne_true _ (λ e.
+          let same = (bytes_eq-Decides key pair.key).0 e in
+          let other : not (is_cleared (type_of key)) ≡ true = subst (λ (k : Bytes). not (is_cleared (type_of k)) ≡ true) (sym same) kept in
+          false≢true (ap not (sym is) ∙ other))) rest)
       | inr cleared ↦ rw cleared rest
     ]
+
+witness_cleared : is_cleared (type_of (FINAL_SCRIPTWITNESS ∷ [])) ≡ true
+unfolding read_size
+witness_cleared = refl
+
+script_sig_cleared : is_cleared (type_of (FINAL_SCRIPTSIG ∷ [])) ≡ true
+unfolding read_size
+script_sig_cleared = refl
 
 -- items that were written are the witness
 pub items_back : (items : List Bytes) → AreItems items → forms.witness_of (items_text items) ≡ Some items
@@ -147,19 +160,48 @@ witness_short stack script fits =
     let both = length-append (size_bytes (length (all_items stack script))) (flat_map sized (all_items stack script)) in
     omega (arith, few, length-append stack (script ∷ []), items, size, both)
 
-final_fault : (version : PsbtVersion) (fields : Map) (witness : Bytes) → is_some (forms.witness_of witness) ≡ true
-    → pair_fault (input_form version) (filter is_kept fields) (witness_pair witness) ≡ None
+final_fault : (version : PsbtVersion) (before : Map) (witness : Bytes) → stands (FINAL_SCRIPTWITNESS ∷ []) before ≡ false → is_some (forms.witness_of witness) ≡ true
+    → pair_fault (input_form version) before (witness_pair witness) ≡ None
 unfolding pair_fault shape_fault read_size input_form
-final_fault version fields witness form = rw (none_is_final fields, form) refl
+final_fault version before witness none form = rw (none, form) refl
+
+script_sig_fault : (version : PsbtVersion) (before : Map) (script_sig : Bytes) → stands (FINAL_SCRIPTSIG ∷ []) before ≡ false
+    → pair_fault (input_form version) before (script_sig_pair script_sig) ≡ None
+unfolding pair_fault shape_fault read_size input_form
+script_sig_fault version before script_sig none = rw none refl
+
+-- the final pairs behind the kept ones
+pairs_sound : (version : PsbtVersion) (fields : Map) (stack : List Bytes) (script : Bytes) → FitsWitness stack script → (script_sig : Bytes) → length script_sig < 2 ^ 64
+    → IsSoundMap (input_form version) (filter is_kept fields) (final_pairs script_sig (witness_text stack script))
+pairs_sound version fields stack script fits [] short =
+    let form : is_some (forms.witness_of (witness_text stack script)) ≡ true = ap is_some (items_back (all_items stack script) (are_items stack script fits)) in
+    let none = none_cleared (FINAL_SCRIPTWITNESS ∷ []) witness_cleared fields in
+    (record { fault = final_fault version (filter is_kept fields) (witness_text stack script) none form; key = omega arith; value = witness_short stack script fits }, tt)
+pairs_sound version fields stack script fits (byte ∷ rest) short =
+    let form : is_some (forms.witness_of (witness_text stack script)) ≡ true = ap is_some (items_back (all_items stack script) (are_items stack script fits)) in
+    let none = none_cleared (FINAL_SCRIPTWITNESS ∷ []) witness_cleared fields in
+    let behind = stands_both (FINAL_SCRIPTWITNESS ∷ []) (filter is_kept fields) (script_sig_pair (byte ∷ rest)) none refl in (
+      record {
+        fault = script_sig_fault version (filter is_kept fields) (byte ∷ rest) (none_cleared (FINAL_SCRIPTSIG ∷ []) script_sig_cleared fields);
+        key = omega arith;
+        value = short;
+      },
+      (
+        record {
+          fault = final_fault version (filter is_kept fields ++ script_sig_pair (byte ∷ rest) ∷ []) (witness_text stack script) behind form;
+          key = omega arith;
+          value = witness_short stack script fits;
+        },
+        tt,
+      ),
+    )
 
 -- the map of a Ready input is sound
-final_sound : (version : PsbtVersion) (fields : Map) (stack : List Bytes) (script : Bytes) → IsSoundMap (input_form version) [] fields → FitsWitness stack script
-    → IsSoundMap (input_form version) [] (final_map fields (witness_text stack script))
-final_sound version fields stack script sound fits =
-    let form : is_some (forms.witness_of (witness_text stack script)) ≡ true = ap is_some (items_back (all_items stack script) (are_items stack script fits)) in
-    sound_joins (input_form version) [] (filter is_kept fields) (witness_pair (witness_text stack script) ∷ [])
-    (filtered (input_form version) is_kept [] [] fields (λ key e. e) sound)
-    (record { fault = final_fault version fields (witness_text stack script) form; key = omega arith; value = witness_short stack script fits }, tt)
+final_sound : (version : PsbtVersion) (fields : Map) (stack : List Bytes) (script script_sig : Bytes) → IsSoundMap (input_form version) [] fields → FitsWitness stack script
+    → length script_sig < 2 ^ 64 → IsSoundMap (input_form version) [] (final_map fields script_sig (witness_text stack script))
+final_sound version fields stack script script_sig sound fits short =
+    sound_joins (input_form version) [] (filter is_kept fields) (final_pairs script_sig (witness_text stack script))
+    (filtered (input_form version) is_kept [] [] fields (λ key e. e) sound) (pairs_sound version fields stack script fits script_sig short)
 
 -- ---- it consists of bytes
 
@@ -194,6 +236,28 @@ witness_fits : (items : List Bytes) → AllByRecursion IsBytes items → IsBytes
 witness_fits items h =
     bytes.both (size_bytes (length items)) (flat_map sized items) (size_fits (length items)) (bytes.joined sized items (each_sized items h))
 
+-- the scriptSig of a program
+pushed_fits : (script : Bytes) → (length (pushed (program_of script)) < 2 ^ 64) × IsBytes (pushed (program_of script))
+pushed_fits script =
+    let long : length (sha256 script) ≡ 32 = digest_has_its_length kind.Sha256 script in
+    let program = bytes.more 0x00 (0x20 ∷ sha256 script) (omega arith) (bytes.more 0x20 (sha256 script) (omega arith) (sha256-IsBytes script)) in
+    (omega (arith, long), bytes.more (length (program_of script)) (program_of script) (omega (arith, long)) program)
+
+guarded_fits : (script output script_sig : Bytes) → IsGuardedBy (program_of script) output script_sig → (length script_sig < 2 ^ 64) × IsBytes script_sig
+guarded_fits script output script_sig (inl h) = subst (λ (sig : Bytes). (length sig < 2 ^ 64) × IsBytes sig) (sym h.1) (omega arith, bytes.none)
+guarded_fits script output script_sig (inr h) = subst (λ (sig : Bytes). (length sig < 2 ^ 64) × IsBytes sig) (sym h.1) (pushed_fits script)
+
+witness_fit : (witness : Bytes) → IsBytes witness → All IsPairOfBytes (witness_pair witness ∷ [])
+witness_fit witness fits =
+    let key : IsBytes (FINAL_SCRIPTWITNESS ∷ []) = bytes.more FINAL_SCRIPTWITNESS [] (omega arith) bytes.none in
+    All-cons IsPairOfBytes (witness_pair witness) [] (key, fits) (All-nil IsPairOfBytes)
+
+pairs_fit : (script_sig witness : Bytes) → IsBytes script_sig → IsBytes witness → All IsPairOfBytes (final_pairs script_sig witness)
+pairs_fit [] witness sig fits = witness_fit witness fits
+pairs_fit (byte ∷ rest) witness sig fits =
+    let key : IsBytes (FINAL_SCRIPTSIG ∷ []) = bytes.more FINAL_SCRIPTSIG [] (omega arith) bytes.none in
+    All-cons IsPairOfBytes (script_sig_pair (byte ∷ rest)) (witness_pair witness ∷ []) (key, sig) (witness_fit witness fits)
+
 -- ---- each map as it is written
 
 -- a map that is written of one consists of bytes, and is sound where that was
@@ -205,13 +269,14 @@ ready_is : (s : State) → is_ready s ≡ true → s ≡ state.Ready
 ready_is state.Ready e = refl
 ready_is s e = absurd cc
 
--- the final witness of a Ready input
+-- the final fields of a Ready input
 pub record IsFinalWitness (input : Input) : Type 0 where
   pub script : Bytes
   pub is : witness_of input ≡ witness_text (stack_of input) script
   pub fits : FitsWitness (stack_of input) script
   pub stack_bytes : All IsBytes (stack_of input)
   pub script_bytes : IsBytes script
+  pub script_sig_fits : (length (script_sig_of input.spend) < 2 ^ 64) × IsBytes (script_sig_of input.spend)
 
 -- the value of a field is that of a pair of its type, of which holds what holds of all
 pub field_pair : (P : Pair → Type 0) (type : ℕ) (fields : Map) (value : Bytes) → AllByRecursion P fields → field type fields ≡ Some value
@@ -237,19 +302,19 @@ final_witness input given ready =
       fits = fits_witness input o.tree o.script c;
       stack_bytes = sat_is_of_bytes o.tree (assets_of input.spend) (stack_of input) (writes input o.tree o.script o.tried) (held input given) (canonical input o.tree o.script c);
       script_bytes = subst IsBytes found.3 found.1.1;
+      script_sig_fits = guarded_fits (script_of o.tree) w.output.script (script_sig_of input.spend) w.guarded;
     }
 
-final_good : (input : Input) → IsGiven input → IsFinalWitness input → IsGoodMap input.spend.fields (final_map input.spend.fields (witness_of input))
+final_good : (input : Input) → IsGiven input → IsFinalWitness input → IsGoodMap input.spend.fields (final_map input.spend.fields (script_sig_of input.spend) (witness_of input))
 final_good input given w =
     let place = given.place in
     let items = All-append IsBytes (stack_of input) (w.script ∷ []) w.stack_bytes (All-cons IsBytes w.script [] w.script_bytes (All-nil IsBytes)) in
     let text = witness_fits (all_items (stack_of input) w.script) (recursion_from_All IsBytes (all_items (stack_of input) w.script) items) in
-    let key : IsBytes (FINAL_SCRIPTWITNESS ∷ []) = bytes.more FINAL_SCRIPTWITNESS [] (omega arith) bytes.none in
-    subst (λ (witness : Bytes). IsGoodMap input.spend.fields (final_map input.spend.fields witness)) (sym w.is) (record {
-      sound = λ version sound. final_sound version input.spend.fields (stack_of input) w.script sound w.fits;
-      fits = All-append IsPairOfBytes (filter is_kept input.spend.fields) (witness_pair (witness_text (stack_of input) w.script) ∷ [])
+    subst (λ (witness : Bytes). IsGoodMap input.spend.fields (final_map input.spend.fields (script_sig_of input.spend) witness)) (sym w.is) (record {
+      sound = λ version sound. final_sound version input.spend.fields (stack_of input) w.script (script_sig_of input.spend) sound w.fits w.script_sig_fits.0;
+      fits = All-append IsPairOfBytes (filter is_kept input.spend.fields) (final_pairs (script_sig_of input.spend) (witness_text (stack_of input) w.script))
           (All-filter is_kept IsPairOfBytes input.spend.fields place.fits)
-          (All-cons IsPairOfBytes (witness_pair (witness_text (stack_of input) w.script)) [] (key, text) (All-nil IsPairOfBytes));
+          (pairs_fit (script_sig_of input.spend) (witness_text (stack_of input) w.script) w.script_sig_fits.1 text);
     })
 
 pub good_map : (input : Input) → IsGiven input → IsGoodMap input.spend.fields (written_map input)

@@ -3,15 +3,17 @@ use Rattle.std.specs.Prelude.{◌≡◌, ℕ, List, slice_get, Option}
 use Rattle.std.specs.Option.{option_map}
 use Rattle.def_psbt.specs.Map.{Psbt}
 use Rattle.def_spend.specs.Hashes.{hash_by}
+use Rattle.def_spend.specs.Kinds.{kind_of}
 use Rattle.def_spend.specs.Reading.{Input, AreInputs}
 use Rattle.def_spend.specs.States.{state_of}
 use Rattle.def_spend.specs.Finalized.{witness_of, written_map}
 use Rattle.def_psbt_answer.specs.Report.{input_report, input_hashes}
 
--- two inputs, if they are there, have one state, one witness, one map as it is written, the same hashes, and the same
+-- two inputs, if they are there, have one state, one kind of output, one witness, one map as it is written, the same hashes, and the same
 -- lines of `inspect` and of `hashes`
 pub record AreAlike (one other : Option Input) : Type 0 where
   pub state : option_map state_of one ≡ option_map state_of other
+  pub kind : option_map (λ input. kind_of input.spend) one ≡ option_map (λ input. kind_of input.spend) other
   pub witness : option_map witness_of one ≡ option_map witness_of other
   pub written : option_map written_map one ≡ option_map written_map other
   pub hash : (type : ℕ) → option_map (λ input. hash_by type input.spend) one ≡ option_map (λ input. hash_by type input.spend) other

@@ -1,5 +1,5 @@
 -- What `finalize` writes, read again: nothing is lost.
-use Rattle.std.specs.Prelude.{◌≡◌, ◌≤◌, true, false, List, All, length, map, Some, None, Ok}
+use Rattle.std.specs.Prelude.{◌≡◌, ◌≤◌, true, false, List, [], All, length, map, unwrap_or, Some, Ok}
 use Rattle.def_script.specs.Bytes.{Bytes, IsBytes}
 use Rattle.def_psbt.specs.Map.{Psbt}
 use Rattle.def_psbt.specs.Reading.{read_psbt}
@@ -7,7 +7,7 @@ use Rattle.def_psbt.specs.Source.{MAX_SOURCE_SIZE, psbt_of}
 use Rattle.def_spend.specs.Fields.{FINAL_SCRIPTSIG, FINAL_SCRIPTWITNESS, field}
 use Rattle.def_spend.specs.Reading.{Input, has_final, AreInputs}
 use Rattle.def_spend.specs.States.{state_of, is_ready}
-use Rattle.def_spend.specs.Finalized.{witness_of, written_map, finalized}
+use Rattle.def_spend.specs.Finalized.{script_sig_of, witness_of, written_map, finalized}
 use Rattle.def_psbt_answer.specs.declared.status.Status.{Status}
 use Rattle.def_psbt_answer.specs.declared.words.Command.TheVariants as command
 use Rattle.def_psbt_answer.specs.Words.{command_of}
@@ -20,17 +20,17 @@ use Rattle.ms_given_laws.specs.Given.{OfEachPsbt, OfEachInput}
 abbrev pub WrittenIsRead : Type 0
 WrittenIsRead = OfEachPsbt (λ psbt inputs. read_psbt (finalized_text psbt inputs) ≡ Ok (finalized psbt inputs))
 
--- a Ready input is written with its witness as the final one, and without a final scriptSig
+-- a Ready input is written with its witness as the final one, and with its scriptSig, where that has a byte
 pub record IsMadeFinal (input : Input) : Type 0 where
   pub witness : field FINAL_SCRIPTWITNESS (written_map input) ≡ Some (witness_of input)
-  pub script_sig : field FINAL_SCRIPTSIG (written_map input) ≡ None
+  pub script_sig : unwrap_or (field FINAL_SCRIPTSIG (written_map input)) [] ≡ script_sig_of input.spend
   pub final : has_final (written_map input) ≡ true
 
 abbrev pub ReadyIsMadeFinal : Type 0
 ReadyIsMadeFinal = OfEachInput (λ input. is_ready (state_of input) ≡ true → IsMadeFinal input)
 
 -- a report is a source of the same transaction, the same global pairs and the same maps of outputs, and of the map of each
--- input as it is written: that of a Ready one with its kept pairs and its final witness, that of another one as it was.
+-- input as it is written: that of a Ready one with its kept pairs and its final fields, that of another one as it was.
 -- None of its inputs is Ready
 pub record IsSourceOf (psbt : Psbt) (inputs : List Input) (report : Bytes) : Type 0 where
   pub written : Psbt

@@ -1,10 +1,10 @@
 //! The lines that every input has, and those of its signatures.
 ghost use Rattle.std.specs.Prelude.{◌≡◌, ◌++◌, [], flat_map, OnOk};
-ghost use Rattle.def_psbt_answer.specs.Lines.{input_line, outpoint_line, unchecked_line, signature_line};
+ghost use Rattle.def_psbt_answer.specs.Lines.{input_line, outpoint_line, unchecked_line, kind_line, signature_line};
 
-use crate::names::push_state;
+use crate::names::{kind_name, push_state};
 use crate::pieces::{push_digits, push_id, push_named, push_number_line, push_text};
-use def_spend::State;
+use def_spend::{Kind, State};
 use ms_fields::{SignedRef, last_byte};
 use std::alloc::AllocError;
 
@@ -39,6 +39,15 @@ pub fn push_unchecked_line(report: &mut Vec<u8>) -> Result<(), AllocError>
     ensures { OnOk result (report.new.items ≡ report.old.items ++ unchecked_line) }
 {
     push_text(report, "unchecked\n")
+}
+
+/// Adds the line of the kind of the output that an input spends. `AllocError` comes only where memory is wanting.
+pub fn push_kind_line(report: &mut Vec<u8>, kind: Kind) -> Result<(), AllocError>
+    ensures { OnOk result (report.new.items ≡ report.old.items ++ kind_line kind) }
+{
+    push_text(report, "kind ")?;
+    push_text(report, kind_name(kind))?;
+    push_text(report, "\n")
 }
 
 /// Adds a line for each key with its signature, in their order: the key, and the number of the signature's hash type.

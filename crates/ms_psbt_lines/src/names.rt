@@ -1,10 +1,10 @@
 //! Names as reports print them.
 ghost use Rattle.std.specs.Prelude.{◌≡◌, ◌++◌, OnOk};
-ghost use Rattle.def_psbt_answer.specs.Names.{fault_name as the_fault_name, state_name};
+ghost use Rattle.def_psbt_answer.specs.Names.{fault_name as the_fault_name, kind_name as the_kind_name, state_name};
 
 use crate::pieces::push_text;
 use def_psbt::PsbtFault;
-use def_spend::{State, Unfit};
+use def_spend::{Kind, State, Unfit};
 use ms_report::rule_name;
 use std::alloc::AllocError;
 
@@ -24,6 +24,17 @@ pub fn fault_name(fault: PsbtFault) -> &'static str
         PsbtFault::Trailing => "Trailing",
         PsbtFault::RepeatedOutpoint => "RepeatedOutpoint",
         PsbtFault::LockTime => "LockTime",
+    }
+}
+
+/// The name of a kind of outputs. Takes no memory.
+pub fn kind_name(kind: Kind) -> &'static str
+    ensures { result.now ≡ the_kind_name kind }
+{
+    match kind {
+        Kind::P2wsh => "p2wsh",
+        Kind::P2shP2wsh => "p2sh-p2wsh",
+        Kind::Other => "other",
     }
 }
 

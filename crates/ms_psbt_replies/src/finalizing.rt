@@ -91,8 +91,9 @@ fn add_map<'p>(
     let map = psbt.input_map(number);
     match input.state() {
         State::Ready => {
+            let script_sig = input.script_sig(alloc)?;
             let witness = input.witness(alloc)?;
-            push_final_map(text, map, witness.as_slice())
+            push_final_map(text, map, script_sig.as_slice(), witness.as_slice())
         }
         _ => push_map(text, &map),
     }

@@ -6,4 +6,5 @@ pub mod AllTold
 pub mod Spends
 pub mod Loops
 mod LastLines
+mod KindLines
 mod InputLines

@@ -4,7 +4,7 @@ ghost use Rattle.def_spend.specs.Fields.{last_byte as the_last_byte};
 ghost use Rattle.def_spend.specs.Hashes.{hash_by};
 ghost use Rattle.def_spend.specs.Input.{Spend};
 ghost use Rattle.def_psbt_answer.specs.Lines.{check_line, outpoint_line};
-ghost use Rattle.def_psbt_answer.specs.Report.{input_report, open_lines, input_hashes, hash_lines};
+ghost use Rattle.def_psbt_answer.specs.Report.{input_report, kind_lines, open_lines, input_hashes, hash_lines};
 ghost use Rattle.ms_input.specs.Seen.{input_seen};
 ghost use Rattle.ms_sighash.specs.Shared.{shared_of, IsOutputText};
 ghost use Rattle.ms_psbt_report.specs.Scaffolding.Tables.{IsTable};
@@ -14,10 +14,10 @@ use crate::states::{is_final, is_sane};
 use crate::table::HashTable;
 use crate::trees::push_tree_lines;
 use ms_fields::last_byte;
-use ms_input::{Input, SignedRef};
+use ms_input::{Input, Kind, SignedRef, State};
 use ms_psbt_lines::{
-    push_check_line, push_input_line, push_outpoint_line, push_sign_line, push_signature_lines,
-    push_unchecked_line,
+    push_check_line, push_input_line, push_kind_line, push_outpoint_line, push_sign_line,
+    push_signature_lines, push_unchecked_line,
 };
 use ms_sighash::SharedHashes;
 use std::alloc::{AllocError, Global};
@@ -55,8 +55,20 @@ fn push_open_lines(
     if is_final(input.state()) {
         return push_unchecked_line(report);
     }
+    push_kind_lines(report, input.state(), input.kind())?;
     push_signature_lines(report, input.signatures())?;
     push_tree_lines(alloc, report, input)
+}
+
+/// Adds the line of the kind of the spent output, where that is known.
+#[tactic(auto, using(crate::proofs::KindLines::kind_told))]
+fn push_kind_lines(report: &mut Vec<u8>, state: State, kind: Kind) -> Result<(), AllocError>
+    ensures { OnOk result (report.new.items ≡ report.old.items ++ kind_lines state kind) }
+{
+    match state {
+        State::NoUtxo | State::WrongUtxo => Ok(()),
+        _ => push_kind_line(report, kind),
+    }
 }
 
 /// Adds what `hashes` prints of an input, by what all signatures of the transaction share, and the bytes of its output with

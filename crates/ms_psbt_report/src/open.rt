@@ -9,7 +9,7 @@ use ms_psbt::Psbt;
 use std::alloc::{AllocError, Global};
 
 /// The number of the first input that isn't Final, from 0, or `None` where each is. It looks at the maps alone, and reads no
-/// witness script. Refuses for want of memory alone.
+/// Script. Refuses for want of memory alone.
 pub fn first_open(alloc: Global, psbt: &Psbt<'_>) -> Result<Option<usize>, AllocError>
     ensures { IfOk result (λ found. (inputs : List TheInput) → AreInputs psbt.now inputs → found ≡ option_map (λ (input : TheInput). input.spend.number) (the_first_open inputs)) }
 {

@@ -8,7 +8,7 @@ ghost use Rattle.ms_psbt_report.specs.Scaffolding.Tables.{IsTable};
 use ms_input::Input;
 use ms_sighash::SharedHashes;
 
-/// What the signatures of an input sign, by hash type: as many signatures as there may be, the witness script is hashed six times.
+/// What the signatures of an input sign, by hash type: as many signatures as there may be, the Script is hashed six times.
 #[derive(Clone, Copy, Debug)]
 pub struct HashTable {
     /// Of ALL.

@@ -3,7 +3,7 @@
 ghost use Rattle.std.specs.Prelude.{◌≡◌, ◌++◌, [], ◌∷◌, filter, OnOk, MatchOption};
 ghost use Rattle.std.specs.List.{flat_map};
 ghost use Rattle.def_psbt.specs.Map.{pair_text, map_text};
-ghost use Rattle.def_spend.specs.Finalized.{is_cleared as the_is_cleared, is_kept, final_map};
+ghost use Rattle.def_spend.specs.Finalized.{is_cleared as the_is_cleared, is_kept, final_pairs, final_map};
 
 use crate::pieces::push_pair;
 use ms_psbt::{PairRef, Pairs};
@@ -47,13 +47,28 @@ pub fn push_map(out: &mut Vec<u8>, map: &Pairs<'_>) -> Result<(), AllocError>
     Ok(())
 }
 
-/// Adds the final map of an input: the pairs of its map that are kept, in their order and byte for byte, and its final witness
-/// behind them (BIP 174, "Input Finalizer"). Refuses for want of memory alone.
-pub fn push_final_map(out: &mut Vec<u8>, map: Pairs<'_>, witness: &[u8]) -> Result<(), AllocError>
-    ensures { OnOk result (out.new.items ≡ out.old.items ++ map_text (final_map map.entry witness.now)) }
+/// Adds the final map of an input: the pairs of its map that are kept, in their order and byte for byte, and behind them its final
+/// scriptSig, where it has a byte, and its final witness (BIP 174, "Input Finalizer"). Refuses for want of memory alone.
+pub fn push_final_map(
+    out: &mut Vec<u8>,
+    map: Pairs<'_>,
+    script_sig: &[u8],
+    witness: &[u8],
+) -> Result<(), AllocError>
+    ensures { OnOk result (out.new.items ≡ out.old.items ++ map_text (final_map map.entry script_sig.now witness.now)) }
 {
     push_kept(out, map)?;
-    push_pair(out, &[0x08], witness)?;
+    push_final_pairs(out, script_sig, witness)?;
     out.push(0x00)?;
     Ok(())
+}
+
+/// Adds the final scriptSig, where it has a byte, and the final witness.
+fn push_final_pairs(out: &mut Vec<u8>, script_sig: &[u8], witness: &[u8]) -> Result<(), AllocError>
+    ensures { OnOk result (out.new.items ≡ out.old.items ++ flat_map pair_text (final_pairs script_sig.now witness.now)) }
+{
+    if !script_sig.is_empty() {
+        push_pair(out, &[0x07], script_sig)?;
+    }
+    push_pair(out, &[0x08], witness)
 }

@@ -1,2 +1,3 @@
 mod AuditReplies
+mod TraceReplies
 mod SatisfiedLines

@@ -80,7 +80,7 @@ fn audited_answer(alloc: Global, text: &TextTree<'_>, file: &RunFile) -> Result<
 }
 
 /// The answer that a stack isn't accepted, with its line.
-fn not_accepted(line: String) -> Answer
+pub fn not_accepted(line: String) -> Answer
     ensures { reply result.status (string_bytes result.report) ≡ reply Status.NotAccepted (string_bytes line) }
 {
     Answer {

@@ -7,6 +7,7 @@ pub use decoding::decode_answer;
 pub use plans::plan_answer;
 pub use runs::run_answer;
 pub use satisfying::{assets_answer, satisfaction};
+pub use traces::{text_trace_answer, trace_answer};
 
 mod audits;
 mod choice_tree;
@@ -15,3 +16,4 @@ mod files;
 mod plans;
 mod runs;
 mod satisfying;
+mod traces;

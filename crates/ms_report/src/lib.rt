@@ -8,7 +8,7 @@ pub use limits::{Bounds, bounds_line, bounds_of, limits_line};
 pub use names::rule_name;
 pub use plans::plan_report;
 pub use policies::policy_report;
-pub use runs::{accepted_report, not_accepted_line, refused_report};
+pub use runs::{accepted_line, accepted_report, not_accepted_line, refused_report};
 pub use satisfactions::satisfaction_report;
 pub use texts::{text_line, unfit_line};
 pub use trees::{check_report, decode_report, script_report};

@@ -3,7 +3,7 @@ ghost use Rattle.std.specs.Prelude.{◌≡◌, ◌++◌, IfOk, OnOk};
 ghost use Rattle.std.specs.String.{string_bytes};
 ghost use Rattle.def_machine.specs.Run.{accepted, refused};
 ghost use Rattle.def_answer.specs.Audit.{not_accepted_line as the_not_accepted_line};
-ghost use Rattle.def_answer.specs.Run.{run_report, check_line};
+ghost use Rattle.def_answer.specs.Run.{run_report, check_line, accepted_line as the_accepted_line};
 
 use crate::names::script_fault_name;
 use ms_interp::{RunReport, ScriptFault};
@@ -16,13 +16,20 @@ use std::alloc::{AllocError, Global};
 pub fn accepted_report(alloc: Global, report: &RunReport) -> Result<String, AllocError>
     ensures { IfOk result (λ text. string_bytes text ≡ run_report (accepted report.now.ops report.now.peak report.now.checks)) }
 {
-    let (ops, peak) = (report.ops, report.peak);
-    let mut text = format!(in alloc; "accepted ops {ops} peak {peak}\n")?;
+    let mut text = accepted_line(alloc, report.ops, report.peak)?;
     let checks = report.checks.as_slice();
     for pair in checks {
         push_check(alloc, &mut text, pair)?;
     }
     Ok(text)
+}
+
+/// The opcodes and the peak of an accepted run: the first line that `run` prints. `AllocError` comes only where memory is
+/// wanting.
+pub fn accepted_line(alloc: Global, ops: u32, peak: u32) -> Result<String, AllocError>
+    ensures { IfOk result (λ line. string_bytes line ≡ the_accepted_line ops peak) }
+{
+    format!(in alloc; "accepted ops {ops} peak {peak}\n")
 }
 
 /// The fault of a refused run, and the number of its instruction: what `run` prints. `AllocError` comes only where

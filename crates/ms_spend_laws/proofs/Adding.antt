@@ -22,7 +22,7 @@ use Rattle.def_spend.specs.declared.State.TheVariants as state
 use Rattle.def_spend.specs.Fields.{is_signed, signatures_in, keys_in, last_byte, asked_type}
 use Rattle.def_spend.specs.HashTypes.{hash_type_of}
 use Rattle.def_spend.specs.Input.{assets_of}
-use Rattle.def_spend.specs.Reading.{Input, witness_script, ReadsAs, HasReading}
+use Rattle.def_spend.specs.Reading.{Input, script_code, ReadsAs, HasReading}
 use Rattle.def_spend.specs.States.{has_other_type, is_sighash_wrong, choice_state}
 use Rattle.def_spend.specs.Asking.{length_by, lengths_of, plan_with, unsigned_keys}
 use Rattle.ms_given_laws.specs.Given.{EachIsSound}
@@ -120,7 +120,7 @@ module _ (input : Input) (tree : Tree) (script : Bytes) (given : IsGiven input) 
 
   -- ---- the state
 
-  spends : witness_script again.spend ≡ Ok script
+  spends : script_code again.spend ≡ Ok script
   spends = script_stays input.spend later added are.parts signed ∙ tried.spends
 
   decoded : IsDecoded (keys_in later) script tree

@@ -1,6 +1,5 @@
 -- What is promised of the stack of a Ready input, and of an Unsatisfied one.
-use Rattle.std.proofs.Common.{◌≡◌, ℕ, ◌≤◌, List, [], length, Option, Some, sym, ap, subst, ◌∙◌, arith}
-use Rattle.std.specs.Prelude.{unwrap_or}
+use Rattle.std.proofs.Common.{◌≡◌, ℕ, ◌≤◌, List, length, Option, Some, sym, ap, subst, ◌∙◌, arith}
 use Rattle.std.proofs.lemmas.List.Elements.{All-weaker}
 use Rattle.def_script.specs.Bytes.{Bytes}
 use Rattle.def_script.specs.Signature.{MAX_SIGNATURE_SIZE}
@@ -30,15 +29,16 @@ use Rattle.ms_strict_laws.proofs.UnchangeableIsTight.{strict_is_lightest}
 use Rattle.ms_witness.specs.Reading.{FitsWitness}
 use Rattle.ms_witness.specs.Replaying.{replay, ran}
 use Rattle.ms_witness.proofs.Witnesses.{witness_is_replayed}
-use Rattle.def_psbt.specs.Transaction.{TransactionOutput}
 use Rattle.def_spend.specs.declared.State.TheVariants as state
+use Rattle.def_spend.specs.Hashes.{script_or_none}
 use Rattle.def_spend.specs.Input.{assets_of}
+use Rattle.def_spend.specs.Kinds.{IsGuardedBy}
 use Rattle.def_spend.specs.Reading.{Input}
 use Rattle.def_spend.specs.States.{stack_of}
-use Rattle.def_spend.specs.Finalized.{witness_of}
+use Rattle.def_spend.specs.Finalized.{script_sig_of}
 use Rattle.ms_given_laws.specs.Given.{EachIsSound}
 use Rattle.ms_spend_laws.specs.Tried.{IsTried, OfEachIn}
-use Rattle.ms_spend_laws.specs.Ready.{spent_output, ReadyIsCanonical, IsWitness, ReadyHasWitness, ReplaysAccepted, IsAcceptedByAll, ReadyIsAccepted, ReadyIsUnchangeable, ReadyIsTight, ReadyIsLightest}
+use Rattle.ms_spend_laws.specs.Ready.{ReadyIsCanonical, IsWitness, ReadyHasWitness, ReplaysAccepted, IsAcceptedByAll, ReadyIsAccepted, ReadyIsUnchangeable, ReadyIsTight, ReadyIsLightest}
 use Rattle.ms_spend_laws.specs.Unsatisfied.{HasNothingToAccept, UnsatisfiedHasNothing}
 use Rattle.ms_spend_laws.proofs.Inputs.{IsGiven, held}
 use Rattle.ms_spend_laws.proofs.States.{script_is, ready_some, unsatisfied_none, writes, sane_for_all, stack_is, of_each_in, none_satisfies}
@@ -75,8 +75,8 @@ witness_is input tree script t =
       script = found.held ∙ ap Some same;
       output = found.output;
       spent = found.spent;
-      program = found.program ∙ ap program_of same;
-      witness = ap (λ o. witness_text (stack_of input) (unwrap_or o [])) (found.held ∙ ap Some same);
+      guarded = subst (λ (s : Bytes). IsGuardedBy (program_of s) found.output.script (script_sig_of input.spend)) same found.guarded;
+      witness = ap (λ r. witness_text (stack_of input) (script_or_none r)) t.spends ∙ ap (witness_text (stack_of input)) same;
     }
 
 pub ready_has_witness : EachIsSound → ReadyHasWitness
@@ -106,21 +106,16 @@ within input tree script c limits checker are holds =
     canonical_is_accepted tree limits (assets_of input.spend) checker (stack_of input) (writes input tree script c.tried) (valid input tree script c.tried) are
     (held input c.given) holds (canonical input tree script c)
 
-one_output : (a b : TransactionOutput) (o : Option TransactionOutput) → o ≡ Some a → o ≡ Some b → a ≡ b
-one_output a b o p q = cc (sym p ∙ q)
-
 replays : (input : Input) (tree : Tree) (script : Bytes) → IsChosen input tree script → (checker : Checker) → Holds checker (assets_of input.spend)
-    → ReplaysAccepted input (given_with (assets_of input.spend) checker)
-replays input tree script c checker holds output spent =
+    → ReplaysAccepted input tree (given_with (assets_of input.spend) checker)
+replays input tree script c checker holds =
     let given : Given = given_with (assets_of input.spend) checker in
     let w = witness_is input tree script c.tried in
-    let a = within input tree script c (limits_of tree) checker (limits_are_computed tree) holds in
-    let same = one_output w.output output (spent_output input.spend) w.spent spent in
-    let program : output.script ≡ program_of (script_of tree) = ap (λ (o : TransactionOutput). o.script) (sym same) ∙ w.program in (
+    let a = within input tree script c (limits_of tree) checker (limits_are_computed tree) holds in (
       a.ops,
       a.peak,
       a.checks,
-      ap (λ p. replay given p (witness_of input)) program ∙ ap (replay given (program_of (script_of tree))) w.witness
+      ap (replay given (program_of (script_of tree))) w.witness
           ∙ witness_is_replayed given (stack_of input) (script_of tree) (fits_witness input tree script c) ∙ ap ran a.run,
     )
 

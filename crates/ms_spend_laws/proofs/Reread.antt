@@ -17,11 +17,11 @@ use Rattle.def_psbt.specs.Transaction.{Outpoint}
 use Rattle.def_psbt.specs.Map.{Pair, Map, type_of, data_of}
 use Rattle.def_psbt.specs.TransactionReading.{network_transaction_of}
 use Rattle.def_psbt.specs.Forms.{output_of}
-use Rattle.def_spend.specs.Fields.{NON_WITNESS_UTXO, WITNESS_UTXO, PARTIAL_SIG, SIGHASH_TYPE, WITNESS_SCRIPT, FINAL_SCRIPTSIG, FINAL_SCRIPTWITNESS, RIPEMD160, HASH256, has_type, is_between, field, is_signed, has_key, keys_in, is_preimage_pair, preimages_in, asked, asked_type}
-use Rattle.def_spend.specs.Utxo.{Utxo, utxo_by, utxo_of}
-use Rattle.def_spend.specs.Utxo as utxo
+use Rattle.def_spend.specs.Fields.{NON_WITNESS_UTXO, WITNESS_UTXO, PARTIAL_SIG, SIGHASH_TYPE, REDEEM_SCRIPT, WITNESS_SCRIPT, FINAL_SCRIPTSIG, FINAL_SCRIPTWITNESS, RIPEMD160, HASH256, has_type, is_between, field, is_signed, has_key, keys_in, is_preimage_pair, preimages_in, asked, asked_type}
+use Rattle.def_spend.specs.Utxo.{utxo_by, utxo_of}
 use Rattle.def_spend.specs.Input.{Spend}
-use Rattle.def_spend.specs.Reading.{has_byte, has_item, has_final, is_program, script_for, script_of_output, script_of_utxo, witness_script}
+use Rattle.def_spend.specs.Kinds.{program_of_utxo, is_nested, spent_utxo, spent_program, kind_with, kind_of}
+use Rattle.def_spend.specs.Reading.{has_byte, has_item, has_final, script_with, open_script, script_code}
 use Rattle.ms_spend_laws.specs.Planned.{ConsistsOf, HaveOwnHashes}
 use Rattle.ms_spend_laws.proofs.Mixed.{found_among, kept_among, first_or_rest, made_stays}
 use Rattle.def_spend.specs.declared.State.{State}
@@ -68,6 +68,7 @@ pub record SpendAlike (fields later : Map) : Type 0 where
   pub witness : field FINAL_SCRIPTWITNESS later ≡ field FINAL_SCRIPTWITNESS fields
   pub previous : field NON_WITNESS_UTXO later ≡ field NON_WITNESS_UTXO fields
   pub claim : field WITNESS_UTXO later ≡ field WITNESS_UTXO fields
+  pub redeem : field REDEEM_SCRIPT later ≡ field REDEEM_SCRIPT fields
   pub script : field WITNESS_SCRIPT later ≡ field WITNESS_SCRIPT fields
 
 -- all pairs are signatures of compressed keys
@@ -99,6 +100,7 @@ module _ (later fields added : Map) (parts : ConsistsOf later fields added) (sig
     witness = field_stays FINAL_SCRIPTWITNESS refl;
     previous = field_stays NON_WITNESS_UTXO refl;
     claim = field_stays WITNESS_UTXO refl;
+    redeem = field_stays REDEEM_SCRIPT refl;
     script = field_stays WITNESS_SCRIPT refl;
   }
 
@@ -115,26 +117,33 @@ module _ (fields later : Map) (alike : SpendAlike fields later) where
       ap (λ o. utxo_by (option_and_then network_transaction_of o) (option_and_then output_of (field WITNESS_UTXO later)) outpoint) alike.previous
       ∙ ap (λ o. utxo_by (option_and_then network_transaction_of (field NON_WITNESS_UTXO fields)) (option_and_then output_of o) outpoint) alike.claim
 
--- the script that is found, by that of the map
-by_output : (output : Bytes) (fields other : Map) → field WITNESS_SCRIPT other ≡ field WITNESS_SCRIPT fields → script_of_output output other ≡ script_of_output output fields
-by_output output fields other e = ap (λ o. cond (is_program output) (script_for output o) (Err state.OtherOutput)) e
+-- the program, the kind and the Script, by such fields
+module _ (spend : Spend) (later : Map) (same : SpendAlike spend.fields later) where
+  abbrev again : Spend
+  again = record spend { fields = later }
 
-by_utxo : (u : Utxo) (fields other : Map) → field WITNESS_SCRIPT other ≡ field WITNESS_SCRIPT fields → script_of_utxo u other ≡ script_of_utxo u fields
-by_utxo utxo.none fields other e = refl
-by_utxo utxo.wrong fields other e = refl
-by_utxo (utxo.proved output) fields other e = by_output output.script fields other e
-by_utxo (utxo.claimed output) fields other e = by_output output.script fields other e
+  program_alike : spent_program again ≡ spent_program spend
+  program_alike =
+      ap (λ u. program_of_utxo u (field REDEEM_SCRIPT later)) (utxo_alike spend.fields later same spend.input.outpoint)
+      ∙ ap (program_of_utxo (spent_utxo spend)) same.redeem
+
+  pub kind_alike : kind_of again ≡ kind_of spend
+  kind_alike =
+      ap (λ u. kind_with (is_nested u) (spent_program again)) (utxo_alike spend.fields later same spend.input.outpoint)
+      ∙ ap (kind_with (is_nested (spent_utxo spend))) program_alike
+
+  open_alike : open_script again ≡ open_script spend
+  open_alike = ap (λ r. script_with r (field WITNESS_SCRIPT later)) program_alike ∙ ap (script_with (spent_program spend)) same.script
 
 abbrev script_unless : Bool → Result Bytes State → Result Bytes State
 script_unless final script = cond final (Err state.Final) script
 
-pub script_alike : (spend : Spend) (later : Map) → SpendAlike spend.fields later → witness_script (record spend { fields = later }) ≡ witness_script spend
+pub script_alike : (spend : Spend) (later : Map) → SpendAlike spend.fields later → script_code (record spend { fields = later }) ≡ script_code spend
 script_alike spend later same =
-    ap (λ b. script_unless b (script_of_utxo (utxo_of spend.input.outpoint later) later)) (final_alike spend.fields later same)
-    ∙ ap (λ u. script_unless (has_final spend.fields) (script_of_utxo u later)) (utxo_alike spend.fields later same spend.input.outpoint)
-    ∙ ap (script_unless (has_final spend.fields)) (by_utxo (utxo_of spend.input.outpoint spend.fields) spend.fields later same.script)
+    ap (λ b. script_unless b (open_script (record spend { fields = later }))) (final_alike spend.fields later same)
+    ∙ ap (script_unless (has_final spend.fields)) (open_alike spend later same)
 
-pub script_stays : (spend : Spend) (later added : Map) → ConsistsOf later spend.fields added → AreSigned added → witness_script (record spend { fields = later }) ≡ witness_script spend
+pub script_stays : (spend : Spend) (later added : Map) → ConsistsOf later spend.fields added → AreSigned added → script_code (record spend { fields = later }) ≡ script_code spend
 script_stays spend later added parts signed = script_alike spend later (alike later spend.fields added parts signed)
 
 -- ---- the reading

@@ -1,6 +1,6 @@
 -- Which inputs are Ready or Unsatisfied.
-use Rattle.std.proofs.Common.{◌≡◌, ◌↔◌, false, List, [], Option, Some, None, Result, Ok, Err, refl, sym, ap, subst, ◌∙◌, if◌then◌else◌, inl, inr}
-use Rattle.std.proofs.lemmas.Bool.{cases_Bool}
+use Rattle.std.proofs.Common.{◌≡◌, ◌↔◌, ◌⊎◌, Bool, true, false, List, [], Option, Some, None, Result, Ok, Err, refl, sym, ap, subst, ◌∙◌, if◌then◌else◌, inl, inr}
+use Rattle.std.proofs.lemmas.Bool.{cases_Bool, false≢true}
 use Rattle.std.specs.Bool.{⊤}
 use Rattle.std.specs.Prelude.{unwrap_or}
 use Rattle.std.specs.Option.{option_and_then}
@@ -18,15 +18,18 @@ use Rattle.def_satisfaction.specs.Satisfaction.{Sat}
 use Rattle.def_choice.specs.Strict.{strict}
 use Rattle.ms_strict_laws.proofs.StrictChoiceExists.{strict_exists}
 use Rattle.def_psbt.specs.Transaction.{TransactionOutput}
-use Rattle.def_psbt.specs.Map.{Map}
+use Rattle.def_spend.specs.declared.Kind.{Kind}
+use Rattle.def_spend.specs.declared.Kind.TheVariants as kind
 use Rattle.def_spend.specs.declared.State.{State}
 use Rattle.def_spend.specs.declared.State.TheVariants as state
-use Rattle.def_spend.specs.Fields.{WITNESS_SCRIPT, field, keys_in, signatures_in, asked_type}
-use Rattle.def_spend.specs.Utxo.{Utxo, utxo_of}
+use Rattle.def_spend.specs.Fields.{REDEEM_SCRIPT, WITNESS_SCRIPT, field, keys_in, signatures_in, asked_type}
+use Rattle.def_spend.specs.Utxo.{Utxo}
 use Rattle.def_spend.specs.Utxo as utxo
 use Rattle.def_spend.specs.Input.{Spend, assets_of}
-use Rattle.def_spend.specs.Reading.{Input, has_final, is_program, script_for, script_of_output, script_of_utxo, witness_script, ReadsAs, HasReading}
+use Rattle.def_spend.specs.Kinds.{is_p2sh, p2sh_of, redeemed, program_in, program_of_utxo, is_nested, is_script_hash, kind_by, kind_with, spent_utxo, spent_program, pushed, script_sig_by, IsGuardedBy}
+use Rattle.def_spend.specs.Reading.{Input, has_final, script_for, script_of_program, script_with, script_code, ReadsAs, HasReading}
 use Rattle.def_spend.specs.States.{is_sighash_wrong, are_too_many, choice_state, held_state, unless_unfit, tree_state, state_by, state_of, stack_of}
+use Rattle.def_spend.specs.Finalized.{script_sig_of}
 use Rattle.ms_given_laws.specs.Given.{EachIsSound}
 use Rattle.ms_spend_laws.specs.Tried.{IsTried, IsTriedWith, ReadyExactly, UnsatisfiedExactly, OfEachIn}
 use Rattle.ms_spend_laws.specs.Ready.{output_in, spent_output}
@@ -38,47 +41,105 @@ IsChoice state.Ready = ⊤
 IsChoice state.Unsatisfied = ⊤
 IsChoice other = ⊥
 
--- ---- the witness script
+-- ---- the program
 
--- the script is that of the map, and the spent output is its program
-pub record IsScriptFor (known : Option TransactionOutput) (fields : Map) (script : Bytes) : Type 0 where
+-- an output is a program, or P2SH of it, which is the redeem script
+abbrev Guards : (nested : Bool) (redeem : Option Bytes) (program output : Bytes) → Type 0
+Guards nested redeem program output =
+    ((nested ≡ false) × (output ≡ program)) ⊎ ((nested ≡ true) × (redeem ≡ Some program) × (output ≡ p2sh_of program))
+
+-- what a program that is found, and a state that is, tell
+abbrev Found : Option TransactionOutput → (nested : Bool) → (redeem : Option Bytes) → Result Bytes State → Type 0
+Found known nested redeem (Ok program) = (output : TransactionOutput) × (known ≡ Some output) × Guards nested redeem program output.script
+Found known nested redeem (Err s) = ¬ IsChoice s
+
+redeemed_found : (output : TransactionOutput) (redeem : Option Bytes) → Found (Some output) true redeem (redeemed output.script redeem)
+redeemed_found output None = λ h. h
+redeemed_found output (Some redeem) = elim (cases_Bool (bytes_eq output.script (p2sh_of redeem))) [
+  | inl e ↦ rw e (output, refl, inr (refl, refl, (bytes_eq-Decides output.script (p2sh_of redeem)).0 e))
+  | inr e ↦ rw e (λ h. h)
+]
+
+program_found : (output : TransactionOutput) (redeem : Option Bytes) → Found (Some output) (is_p2sh output.script) redeem (program_in output.script redeem)
+program_found output redeem = elim (cases_Bool (is_p2sh output.script)) [
+  | inl e ↦ rw e (redeemed_found output redeem)
+  | inr e ↦ rw e (output, refl, inl (refl, refl))
+]
+
+utxo_found : (u : Utxo) (redeem : Option Bytes) → Found (output_in u) (is_nested u) redeem (program_of_utxo u redeem)
+utxo_found utxo.none redeem = λ h. h
+utxo_found utxo.wrong redeem = λ h. h
+utxo_found (utxo.proved output) redeem = program_found output redeem
+utxo_found (utxo.claimed output) redeem = program_found output redeem
+
+-- ---- the Script
+
+-- the script is that of the map, and the spent output is its program, or P2SH of that
+pub record IsScriptFor (known : Option TransactionOutput) (given : Option Bytes) (script_sig script : Bytes) : Type 0 where
   pub output : TransactionOutput
   pub spent : known ≡ Some output
-  pub held : field WITNESS_SCRIPT fields ≡ Some script
-  pub program : output.script ≡ program_of script
+  pub held : given ≡ Some script
+  pub guarded : IsGuardedBy (program_of script) output.script script_sig
 
 -- what a script that is found, and a state that is, tell
-abbrev pub Tells : Option TransactionOutput → Map → Result Bytes State → Type 0
-Tells known fields (Ok script) = IsScriptFor known fields script
-Tells known fields (Err s) = ¬ IsChoice s
+abbrev pub Tells : Option TransactionOutput → (given : Option Bytes) → (script_sig : Bytes) → Result Bytes State → Type 0
+Tells known given script_sig (Ok script) = IsScriptFor known given script_sig script
+Tells known given script_sig (Err s) = ¬ IsChoice s
 
-script_tells : (output : TransactionOutput) (fields : Map) (o : Option Bytes) → field WITNESS_SCRIPT fields ≡ o → Tells (Some output) fields (script_for output.script o)
-script_tells output fields None is = λ h. h
-script_tells output fields (Some script) is = elim (cases_Bool (bytes_eq output.script (program_of script))) [
-  | inl e ↦ rw e (record { output = output; spent = refl; held = is; program = (bytes_eq-Decides output.script (program_of script)).0 e })
+-- the scriptSig of an output of a kind
+abbrev sig_by : Kind → (redeem : Option Bytes) → Bytes
+sig_by kind redeem = unwrap_or (script_sig_by kind (unwrap_or redeem [])) []
+
+abbrev script_kind : (nested : Bool) → Kind
+script_kind nested = if nested then kind.P2shP2wsh else kind.P2wsh
+
+guards_by : (nested : Bool) (redeem : Option Bytes) (program output : Bytes) → Guards nested redeem program output
+    → IsGuardedBy program output (sig_by (script_kind nested) redeem)
+guards_by true redeem program output (inl h) = absurd (false≢true (sym h.0))
+guards_by false redeem program output (inl h) = inl (h.1, refl)
+guards_by true redeem program output (inr h) = inr (h.2, ap (λ (o : Option Bytes). pushed (unwrap_or o [])) h.1)
+guards_by false redeem program output (inr h) = absurd (false≢true h.0)
+
+for_tells : (known : Option TransactionOutput) (nested : Bool) (redeem : Option Bytes) (program : Bytes) (o : Option Bytes)
+    → Found known nested redeem (Ok program) → Tells known o (sig_by (script_kind nested) redeem) (script_for program o)
+for_tells known nested redeem program None found = λ h. h
+for_tells known nested redeem program (Some script) found = elim (cases_Bool (bytes_eq program (program_of script))) [
+  | inl e ↦ rw e (record {
+    output = found.0;
+    spent = found.1;
+    held = refl;
+    guarded = subst (λ (p : Bytes). IsGuardedBy p found.0.script (sig_by (script_kind nested) redeem)) ((bytes_eq-Decides program (program_of script)).0 e)
+        (guards_by nested redeem program found.0.script found.2);
+  })
   | inr e ↦ rw e (λ h. h)
 ]
 
-output_tells : (output : TransactionOutput) (fields : Map) → Tells (Some output) fields (script_of_output output.script fields)
-output_tells output fields = elim (cases_Bool (is_program output.script)) [
-  | inl e ↦ rw e (script_tells output fields (field WITNESS_SCRIPT fields) refl)
+program_tells : (known : Option TransactionOutput) (nested : Bool) (redeem : Option Bytes) (program : Bytes) (o : Option Bytes)
+    → Found known nested redeem (Ok program) → Tells known o (sig_by (kind_by nested program) redeem) (script_of_program program o)
+program_tells known nested redeem program o found = elim (cases_Bool (is_script_hash program)) [
+  | inl e ↦ rw e (for_tells known nested redeem program o found)
   | inr e ↦ rw e (λ h. h)
 ]
 
-utxo_tells : (u : Utxo) (fields : Map) → Tells (output_in u) fields (script_of_utxo u fields)
-utxo_tells utxo.none fields = λ h. h
-utxo_tells utxo.wrong fields = λ h. h
-utxo_tells (utxo.proved output) fields = output_tells output fields
-utxo_tells (utxo.claimed output) fields = output_tells output fields
+with_tells : (known : Option TransactionOutput) (nested : Bool) (redeem : Option Bytes) (r : Result Bytes State) (o : Option Bytes)
+    → Found known nested redeem r → Tells known o (sig_by (kind_with nested r) redeem) (script_with r o)
+with_tells known nested redeem (Ok program) o found = program_tells known nested redeem program o found
+with_tells known nested redeem (Err s) o found = found
 
-spend_tells : (spend : Spend) → Tells (spent_output spend) spend.fields (witness_script spend)
+-- what the Script of an input tells
+abbrev SpendTells : Spend → Result Bytes State → Type 0
+SpendTells spend r = Tells (spent_output spend) (field WITNESS_SCRIPT spend.fields) (script_sig_of spend) r
+
+spend_tells : (spend : Spend) → SpendTells spend (script_code spend)
 spend_tells spend = elim (cases_Bool (has_final spend.fields)) [
   | inl e ↦ rw e (λ h. h)
-  | inr e ↦ rw e (utxo_tells (utxo_of spend.input.outpoint spend.fields) spend.fields)
+  | inr e ↦ rw e (with_tells (spent_output spend) (is_nested (spent_utxo spend)) (field REDEEM_SCRIPT spend.fields) (spent_program spend)
+      (field WITNESS_SCRIPT spend.fields) (utxo_found (spent_utxo spend) (field REDEEM_SCRIPT spend.fields)))
 ]
 
-pub script_is : (spend : Spend) (script : Bytes) → witness_script spend ≡ Ok script → IsScriptFor (spent_output spend) spend.fields script
-script_is spend script e = subst (Tells (spent_output spend) spend.fields) e (spend_tells spend)
+pub script_is : (spend : Spend) (script : Bytes) → script_code spend ≡ Ok script
+    → IsScriptFor (spent_output spend) (field WITNESS_SCRIPT spend.fields) (script_sig_of spend) script
+script_is spend script e = subst (SpendTells spend) e (spend_tells spend)
 
 -- ---- an input whose state is a choice
 
@@ -92,7 +153,7 @@ other_state : (s wanted : State) → IsChoice wanted → (¬ IsChoice s) → s �
 other_state s wanted choice never e = never (subst IsChoice (sym e) choice)
 
 pub opens : (input : Input) (wanted : State) → HasReading input → IsChoice wanted → state_of input ≡ wanted → IsOpen input wanted
-opens input wanted read choice e = by_script (witness_script input.spend) refl (spend_tells input.spend) read e
+opens input wanted read choice e = by_script (script_code input.spend) refl (spend_tells input.spend) read e
   where
     by_reason : (tree : Tree) (script : Bytes) (o : Option Unfit) → first_unfit tree ≡ o
         → (first_unfit tree ≡ None → is_sighash_wrong (asked_type input.spend.fields) (signatures_in input.spend.fields) ≡ false → are_too_many input.spend.fields ≡ false → IsTried input tree script)
@@ -106,14 +167,14 @@ opens input wanted read choice e = by_script (witness_script input.spend) refl (
       ]
     ]
 
-    by_tree : (script : Bytes) → witness_script input.spend ≡ Ok script → (o : Option Tree) → input.tree ≡ o → ReadsAs (keys_in input.spend.fields) (Ok script) o
+    by_tree : (script : Bytes) → script_code input.spend ≡ Ok script → (o : Option Tree) → input.tree ≡ o → ReadsAs (keys_in input.spend.fields) (Ok script) o
         → tree_state o input.spend ≡ wanted → IsOpen input wanted
     by_tree script spends None is reads e = absurd (other_state state.NoReading wanted choice (λ h. h) e)
     by_tree script spends (Some tree) is reads e =
         by_reason tree script (first_unfit tree) refl
         (λ sane types few. record { spends = spends; read = is; decoded = reads; sane = sane; types = types; few = few }) e
 
-    by_script : (r : Result Bytes State) → witness_script input.spend ≡ r → Tells (spent_output input.spend) input.spend.fields r
+    by_script : (r : Result Bytes State) → script_code input.spend ≡ r → SpendTells input.spend r
         → ReadsAs (keys_in input.spend.fields) r input.tree → state_by r input.tree input.spend ≡ wanted → IsOpen input wanted
     by_script (Err s) is told reads e = absurd (other_state s wanted choice told e)
     by_script (Ok script) is told reads e = by_tree script is input.tree refl reads e

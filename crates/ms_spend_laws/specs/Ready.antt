@@ -20,9 +20,10 @@ use Rattle.def_spend.specs.Fields.{WITNESS_SCRIPT, field}
 use Rattle.def_spend.specs.Utxo.{Utxo, utxo_of}
 use Rattle.def_spend.specs.Utxo as utxo
 use Rattle.def_spend.specs.Input.{Spend, assets_of}
+use Rattle.def_spend.specs.Kinds.{IsGuardedBy}
 use Rattle.def_spend.specs.Reading.{Input}
 use Rattle.def_spend.specs.States.{stack_of}
-use Rattle.def_spend.specs.Finalized.{witness_of}
+use Rattle.def_spend.specs.Finalized.{script_sig_of, witness_of}
 use Rattle.ms_witness.specs.Replaying.{replay, ran}
 use Rattle.ms_spend_laws.specs.Tried.{OfEachIn}
 
@@ -41,13 +42,13 @@ spent_output spend = output_in (utxo_of spend.input.outpoint spend.fields)
 abbrev pub ReadyIsCanonical : Type 0
 ReadyIsCanonical = OfEachIn state.Ready (λ input tree. Sat tree (assets_of input.spend) (stack_of input))
 
--- the witness is that of the stack, and its last item is the map's witness script: it is the Script of the miniscript, and
--- the spent output is its program
+-- the witness is that of the stack, and its last item is the map's witness script, which is the Script of the miniscript; the
+-- spent output is its program, and the scriptSig empty, or it is P2SH of that program, and the scriptSig the one push of it
 pub record IsWitness (input : Input) (tree : Tree) : Type 0 where
   pub script : field WITNESS_SCRIPT input.spend.fields ≡ Some (script_of tree)
   pub output : TransactionOutput
   pub spent : spent_output input.spend ≡ Some output
-  pub program : output.script ≡ program_of (script_of tree)
+  pub guarded : IsGuardedBy (program_of (script_of tree)) output.script (script_sig_of input.spend)
   pub witness : witness_of input ≡ witness_text (stack_of input) (script_of tree)
 
 abbrev pub ReadyHasWitness : Type 0
@@ -55,16 +56,16 @@ ReadyHasWitness = OfEachIn state.Ready IsWitness
 
 -- ---- the interpreter accepts it
 
--- the bytes of the witness, under the spent Script, replay as a run that is accepted
-abbrev pub ReplaysAccepted : Input → Given → Type 0
-ReplaysAccepted input given =
-    (output : TransactionOutput) → spent_output input.spend ≡ Some output →
-    (ops : ℕ) × (peak : ℕ) × (checks : Pairs) × (replay given output.script (witness_of input) ≡ ran (accepted ops peak checks))
+-- the bytes of the witness, under the program of the Script, replay as a run that is accepted
+abbrev pub ReplaysAccepted : Input → Tree → Given → Type 0
+ReplaysAccepted input tree given =
+    (ops : ℕ) × (peak : ℕ) × (checks : Pairs)
+    × (replay given (program_of (script_of tree)) (witness_of input) ≡ ran (accepted ops peak checks))
 
 -- with the transaction's locks, where the input's signatures are good, whatever others are; and the run is within the limits
 -- of the miniscript
 pub record IsAcceptedByAll (input : Input) (tree : Tree) : Type 0 where
-  pub replayed : (checker : Checker) → Holds checker (assets_of input.spend) → ReplaysAccepted input (given_with (assets_of input.spend) checker)
+  pub replayed : (checker : Checker) → Holds checker (assets_of input.spend) → ReplaysAccepted input tree (given_with (assets_of input.spend) checker)
   pub within : (limits : Limits) (checker : Checker) → AreLimits tree limits → Holds checker (assets_of input.spend) →
       IsAcceptedWithin tree limits (given_with (assets_of input.spend) checker) (stack_of input)
 

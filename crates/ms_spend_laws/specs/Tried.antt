@@ -9,7 +9,7 @@ use Rattle.def_spend.specs.declared.State.{State}
 use Rattle.def_spend.specs.declared.State.TheVariants as state
 use Rattle.def_spend.specs.Fields.{signatures_in, keys_in, asked_type}
 use Rattle.def_spend.specs.Input.{assets_of}
-use Rattle.def_spend.specs.Reading.{Input, witness_script}
+use Rattle.def_spend.specs.Reading.{Input, script_code}
 use Rattle.def_spend.specs.States.{is_sighash_wrong, are_too_many, state_of}
 use Rattle.ms_given_laws.specs.Given.{OfEachInput}
 
@@ -17,7 +17,7 @@ use Rattle.ms_given_laws.specs.Given.{OfEachInput}
 -- are of the asked type, which is one of the six hash types where there is a signature, and there aren't too many signatures or
 -- preimages
 pub record IsTried (input : Input) (tree : Tree) (script : Bytes) : Type 0 where
-  pub spends : witness_script input.spend ≡ Ok script
+  pub spends : script_code input.spend ≡ Ok script
   pub read : input.tree ≡ Some tree
   pub decoded : IsDecoded (keys_in input.spend.fields) script tree
   pub sane : IsSane tree

@@ -1,11 +1,12 @@
-//! The output that an input of a PSBT spends, its amount, and the witness script that it demands.
+//! The output that an input of a PSBT spends, its amount and its kind, and the Script that it demands.
 #![tactic(auto)]
 
 pub use amount::Amount;
-pub use def_spend::State;
+pub use def_spend::{Kind, State};
 pub use spent::{Spent, spending};
 
 mod amount;
+mod program;
 mod script;
 mod spent;
 mod utxo;

@@ -1,7 +1,7 @@
 -- What the words ask for.
 use Rattle.std.specs.Prelude.{⊤, List, IsUtf8, Option, MatchOption}
 use Rattle.def_script.specs.Bytes.{Bytes}
-use Rattle.def_answer.specs.Words.{Command, script, check, satisfy, run, gen, policy, plan, audit, decode, IsForm, HasNoForm}
+use Rattle.def_answer.specs.Words.{Command, script, check, satisfy, run, gen, policy, plan, audit, trace, trace_text, decode, IsForm, HasNoForm}
 use Rattle.ms_words.specs.declared.words.TextCommand.{TextCommand}
 use Rattle.ms_words.specs.declared.words.TextCommand.TheVariants as kind
 use Rattle.ms_words.specs.declared.words.Command.{Command as Asked}
@@ -15,10 +15,12 @@ command_of (kind.Satisfy choice rules) = satisfy choice rules
 command_of kind.Policy = policy
 command_of kind.Plan = plan
 command_of kind.Audit = audit
+command_of kind.Trace = trace_text
 
 abbrev pub seen : Asked → Command
 seen (asked.Text kind text) = command_of kind text.now
 seen asked.Run = run
+seen asked.Trace = trace
 seen (asked.Gen n) = gen n
 seen (asked.Decode digits keys) = decode digits.now keys.now
 
@@ -32,6 +34,8 @@ HasUtf8 (gen n) = ⊤
 HasUtf8 (policy text) = IsUtf8 text
 HasUtf8 (plan text) = IsUtf8 text
 HasUtf8 (audit text) = IsUtf8 text
+HasUtf8 trace = ⊤
+HasUtf8 (trace_text text) = IsUtf8 text
 HasUtf8 (decode digits keys) = ⊤
 
 -- so is that of words with a form

@@ -29,15 +29,19 @@ pub enum TextCommand {
     Plan,
     /// `audit`: by which rows the stack of a run file satisfies it.
     Audit,
+    /// `trace`: the trace of the run of a run file that has its Script.
+    Trace,
 }
 
-/// What the words ask for: something of a TEXT, a run, a text that is made from a number, or the text of a Script.
+/// What the words ask for: something of a TEXT, a run or its trace, a text that is made from a number, or the text of a Script.
 #[derive(Clone, Copy, Debug)]
 pub enum Command<'a> {
     /// What is asked of a TEXT, and the TEXT.
     Text(TextCommand, &'a str),
     /// `run`: the run of a file's script.
     Run,
+    /// `trace`: the trace of the run of a file's script.
+    Trace,
     /// `gen`: the text and the assets that are made from this number, 1 to 30.
     Gen(u32),
     /// The digits of a Script, and the words of the keys.
@@ -62,6 +66,9 @@ fn one_word<'a>(name: &str) -> Option<Command<'a>>
 {
     if name == "run" {
         return Some(Command::Run);
+    }
+    if name == "trace" {
+        return Some(Command::Trace);
     }
     None
 }
@@ -106,6 +113,9 @@ fn two_words<'a>(name: &str, word: &'a str) -> Option<Command<'a>>
     }
     if name == "audit" {
         return Some(Command::Text(TextCommand::Audit, word));
+    }
+    if name == "trace" {
+        return Some(Command::Text(TextCommand::Trace, word));
     }
     None
 }

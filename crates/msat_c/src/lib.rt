@@ -1,8 +1,10 @@
-//! The static library for C, with one export for each call of `ms_calls` and of `ms_psbt_calls`. `include/msat.h` declares them.
+//! The static library for C, with one export for each call of `ms_calls`, `ms_psbt_calls` and `ms_curve_calls`. `include/msat.h` declares them.
 #![tactic(auto)]
 
 ghost use Rattle.std.specs.Prelude.{◌≡◌, ◌≢◌, ◌⊎◌, ◌↔◌, true, false, length, IsUtf8};
 ghost use Rattle.def_answer.specs.Status.{code_of};
+ghost use Rattle.def_curve.specs.Encoding.{point_bytes};
+ghost use Rattle.def_curve.specs.Judgement.{judge};
 ghost use Rattle.def_psbt_answer.specs.Answer.{Answer as PsbtAnswer};
 ghost use Rattle.def_psbt_answer.specs.Status.{code_of as psbt_code_of};
 ghost use Rattle.ms_arrays.specs.ArrayAssets.{locks_of, assets_of_arrays};
@@ -20,6 +22,8 @@ ghost use Rattle.ms_calls.specs.TextReply.{bytes_after, bytes_needed_after, leng
 ghost use Rattle.ms_calls.specs.Version.{number_of, MAJOR, MINOR, PATCH};
 ghost use Rattle.ms_calls.specs.Lines.{HoldsOfLines};
 ghost use Rattle.ms_calls.specs.Words.{HoldsOfAnswer, AreNoWords};
+ghost use Rattle.ms_curve_calls.specs.Codes.{code_of as judgement_code, point_code};
+ghost use Rattle.ms_curve_calls.specs.Given.{point_after, needed_after as point_needed_after};
 ghost use Rattle.msat_lines.specs.Frame.{OtherAnswer};
 
 use ms_arrays::{Arrays, PlanArrays, RunArrays};
@@ -430,6 +434,24 @@ pub extern "C" fn msat_audit(
     ms_calls::audit(
         alloc, text, locks, &arrays, steps, count, canonical, outcome, reason,
     )
+}
+
+/// What a signature with the byte of its hash type behind it is, by a key and for a hash: bad, good, or good but for its high s.
+#[unsafe(no_mangle)]
+pub extern "C" fn msat_signature(key: &[u8], hash: &[u8], sig: &[u8]) -> u32
+    ensures { result ≡ judgement_code (judge key.now hash.now sig.now) }
+{
+    ms_curve_calls::signature(key, hash, sig)
+}
+
+/// The point of a key, as 65 bytes.
+#[unsafe(no_mangle)]
+pub extern "C" fn msat_point(key: &[u8], point: &mut [u8], needed: &mut usize) -> u32
+    ensures code { result ≡ point_code (point_bytes key.now) }
+    ensures point { point.new ≡ point_after point.old (point_bytes key.now) }
+    ensures needed { needed.new ≡ point_needed_after needed.old (point_bytes key.now) }
+{
+    ms_curve_calls::point(key, point, needed)
 }
 
 /// The values of the locks: the transaction's version, the input's sequence number and the transaction's locktime.

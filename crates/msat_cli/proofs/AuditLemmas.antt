@@ -26,7 +26,7 @@ use Rattle.def_answer.specs.Words as words
 use Rattle.def_answer.specs.declared.status.Status.{Status}
 use Rattle.def_answer.specs.declared.status.Status.TheVariants as status
 use Rattle.ms_answer_laws.proofs.AuditSteps.{walked_are_steps}
-use Rattle.ms_answer_laws.proofs.Early.{not_accepted_is_of_audit}
+use Rattle.ms_answer_laws.proofs.Early.{not_accepted_is_of_witness}
 use Rattle.ms_answer_laws.proofs.Sources.{passed_audit}
 use Rattle.ms_answer_laws.proofs.Unique.{one_form}
 use Rattle.ms_audit_laws.proofs.WalkTrees.{trail_is_unique}
@@ -169,9 +169,10 @@ shown call tree offsets file utf8 (inr (inr (inr m))) asked = (λ done. absurd (
 
 -- ---- who is asked
 
-not_accepted_asked : (call : Call) → Ends call → call.status ≡ status.NotAccepted → (text : Bytes) × IsForm call.words (words.audit text)
+not_accepted_asked : (call : Call) → Ends call → call.status ≡ status.NotAccepted
+    → (text : Bytes) × (IsForm call.words (words.audit text) ⊎ IsForm call.words (words.trace_text text))
 not_accepted_asked call (inl (report, a, w)) is =
-    not_accepted_is_of_audit call.words a.0 report (subst (λ s. Answer call.words a.0 s report) is a.2)
+    not_accepted_is_of_witness call.words a.0 report (subst (λ s. Answer call.words a.0 s report) is a.2)
 not_accepted_asked call (inr (inl w)) is = absurd (cc (sym w.0 ∙ is))
 not_accepted_asked call (inr (inr (inl r))) is = absurd (cc (sym r.0 ∙ is))
 not_accepted_asked call (inr (inr (inr m))) is = absurd (cc (sym m.0 ∙ is))

@@ -15,7 +15,7 @@ use Rattle.ms_answer_laws.specs.Laws.{IsAnswered}
 use Rattle.def_answer.specs.Reply.{Reply, reply}
 use Rattle.def_answer.specs.Lines.{MOST_FILE}
 use Rattle.def_answer.specs.Sources.{NeedsSource, ReadsSource, IsOfSource}
-use Rattle.def_answer.specs.Words.{Command, script, check, satisfy, run, gen, policy, plan, audit, decode, HasNoForm}
+use Rattle.def_answer.specs.Words.{Command, script, check, satisfy, run, gen, policy, plan, audit, trace, trace_text, decode, HasNoForm}
 use Rattle.ms_answer_laws.proofs.Answered.{OnText}
 use Rattle.ms_answer_laws.proofs.Early.{answers_have_status}
 use Rattle.ms_answer_laws.proofs.Sources.{answer_without_source, status_without_source, long_file}
@@ -106,6 +106,8 @@ on_text (gen n) utf8 = tt
 on_text (policy text) utf8 = utf8
 on_text (plan text) utf8 = utf8
 on_text (audit text) utf8 = utf8
+on_text trace utf8 = tt
+on_text (trace_text text) utf8 = utf8
 on_text (decode digits keys) utf8 = tt
 
 pub one_to_words : (words : List Bytes) (bytes : Bytes) (a b : Reply) → HaveUtf8 words → RepliesToWords words bytes a → RepliesToWords words bytes b → a ≡ b

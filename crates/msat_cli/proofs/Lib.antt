@@ -5,6 +5,7 @@ mod SatisfactionLemmas
 mod RefusalLemmas
 mod PlanLemmas
 mod AuditLemmas
+mod TraceLemmas
 mod PolicyLemmas
 mod DecodingLemmas
 mod PolicyTells

@@ -54,6 +54,7 @@ replies_read kind.Policy text bytes tree offsets r reads e = (read tree offsets,
 replies_read kind.Plan text bytes tree offsets r reads e = (read tree offsets, reads, e)
 replies_read kind.Audit text bytes tree offsets r reads e =
     (read tree offsets, walked tree bytes, reads, walked_are_steps tree bytes (spelled_writable reads.spelled), e)
+replies_read kind.Trace text bytes tree offsets r reads e = (read tree offsets, reads, e)
 
 -- a file is read for a tree against which there is no reason
 no_reason : (kind : TextCommand) (tree : Tree) → ReadsFor kind tree → reason_of kind tree ≡ None
@@ -63,6 +64,7 @@ no_reason (kind.Satisfy choice rules) tree h = h
 no_reason kind.Policy tree h = absurd h
 no_reason kind.Plan tree h = h
 no_reason kind.Audit tree h = h
+no_reason kind.Trace tree h = h
 
 pub for_source : (kind : TextCommand) (text : Bytes) (tree : Tree) (offsets : List ℕ) → TextReads text tree offsets → ReadsFor kind tree
     → NeedsSource (command_of kind text)
@@ -72,6 +74,7 @@ for_source (kind.Satisfy choice rules) text tree offsets reads h = (tree, offset
 for_source kind.Policy text tree offsets reads h = absurd h
 for_source kind.Plan text tree offsets reads h = (tree, offsets, reads, h)
 for_source kind.Audit text tree offsets reads h = (tree, offsets, reads, h)
+for_source kind.Trace text tree offsets reads h = (tree, offsets, reads, h)
 
 -- the tree of the text is the one
 same_reason : (reason : Tree → Option Unfit) (text : Bytes) (tree : Tree) (offsets : List ℕ) → TextReads text tree offsets → Passes reason text
@@ -86,6 +89,7 @@ source_for (kind.Satisfy choice rules) text tree offsets reads h = same_reason (
 source_for kind.Policy text tree offsets reads h = absurd h
 source_for kind.Plan text tree offsets reads h = same_reason first_unfit text tree offsets reads h
 source_for kind.Audit text tree offsets reads h = same_reason first_unfit_valid text tree offsets reads h
+source_for kind.Trace text tree offsets reads h = same_reason first_unfit_valid text tree offsets reads h
 
 tree_answers : (kind : TextCommand) (text : Bytes) (tree : Tree) (offsets : List ℕ) (source : Side) → TextReads text tree offsets
     → (r : Reply) → AnswersTree kind tree offsets source r → Answers (command_of kind text) source r
@@ -111,6 +115,7 @@ short_text (kind.Satisfy choice rules) text short = short
 short_text kind.Policy text short = short
 short_text kind.Plan text short = short
 short_text kind.Audit text short = short
+short_text kind.Trace text short = short
 
 pub tree_ended : (kind : TextCommand) (text : Bytes) (tree : Tree) (offsets : List ℕ) (source : Side) (result : Result Answer Stop)
     → TextReads text tree offsets
@@ -130,6 +135,7 @@ no_source (kind.Satisfy choice rules) text fault utf8 refusal h = absurd (none_b
 no_source kind.Policy text fault utf8 refusal h = h
 no_source kind.Plan text fault utf8 refusal h = absurd (none_beside_tree text h.0 h.1 fault utf8 h.2 refusal)
 no_source kind.Audit text fault utf8 refusal h = absurd (none_beside_tree text h.0 h.1 fault utf8 h.2 refusal)
+no_source kind.Trace text fault utf8 refusal h = absurd (none_beside_tree text h.0 h.1 fault utf8 h.2 refusal)
 
 replies_refused : (kind : TextCommand) (text bytes : Bytes) (fault : TextFault) (r : Reply) → TextRefusal text fault → IsRefusal fault r
     → Replies (command_of kind text) bytes r
@@ -139,6 +145,7 @@ replies_refused (kind.Satisfy choice rules) text bytes fault r refusal is = (ref
 replies_refused kind.Policy text bytes fault r refusal is = (refused fault, refusal, is.1)
 replies_refused kind.Plan text bytes fault r refusal is = (refused fault, refusal, is.1)
 replies_refused kind.Audit text bytes fault r refusal is = (refused fault, [], refusal, tt, is.1)
+replies_refused kind.Trace text bytes fault r refusal is = (refused fault, refusal, is.1)
 
 -- a text that isn't refused as too long isn't
 short_fault : (text : Bytes) (fault : TextFault) → fault ≢ TooLong → (fault ≢ Memory → TextRefusal text fault) → (fault ≡ Memory → length text ≤ MOST_BYTES)

@@ -17,7 +17,7 @@ use Rattle.def_answer.specs.Lines.{line, MOST_FILE}
 use Rattle.def_answer.specs.Run.{script_fault_name}
 use Rattle.def_answer.specs.Audit.{step_line, canonical_line}
 use Rattle.def_answer.specs.Reply.{given_by}
-use Rattle.def_answer.specs.Words.{audit, IsForm}
+use Rattle.def_answer.specs.Words.{audit, trace_text, IsForm}
 use Rattle.ms_io.specs.Sides.{Side}
 use Rattle.msat_cli.specs.Calls.{Call, EndsAs}
 
@@ -73,7 +73,8 @@ pub record Audited (call : Call) (tree : Tree) (offsets : List ℕ) (file : RunF
   pub done : call.status ≡ status.Done → PrintsSteps call.sink tree offsets file
   pub not_accepted : call.status ≡ status.NotAccepted → PrintsWrongScript call.sink tree file ⊎ PrintsFault call.sink tree file
 
--- words that ask for an audit do so, and no others end with that status
+-- words that ask for an audit do so; and no others end with that status, but `trace TEXT` where the script isn't the text's
 pub record ShowsAudit (call : Call) : Type 0 where
   pub audits : (tree : Tree) (offsets : List ℕ) (file : RunFile) → AsksAudit call tree offsets file → Audited call tree offsets file
-  pub asked : call.status ≡ status.NotAccepted → (text : Bytes) × IsForm call.words (audit text)
+  pub asked : call.status ≡ status.NotAccepted →
+      (text : Bytes) × (IsForm call.words (audit text) ⊎ IsForm call.words (trace_text text))

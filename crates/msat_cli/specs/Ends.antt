@@ -11,7 +11,7 @@ use Rattle.def_answer.specs.declared.status.Status.TheVariants as status
 use Rattle.def_answer.specs.Answer.{Answer}
 use Rattle.def_answer.specs.Lines.{MOST_FILE}
 use Rattle.def_answer.specs.Sources.{ReadsSource}
-use Rattle.def_answer.specs.Words.{Command, script, check, satisfy, run, gen, policy, plan, audit, decode, IsForm, HasNoForm}
+use Rattle.def_answer.specs.Words.{Command, script, check, satisfy, run, gen, policy, plan, audit, trace, trace_text, decode, IsForm, HasNoForm}
 
 -- ---- how it ends
 
@@ -35,6 +35,8 @@ HasShortText (gen n) = ⊤
 HasShortText (policy text) = length text ≤ MOST_BYTES
 HasShortText (plan text) = length text ≤ MOST_BYTES
 HasShortText (audit text) = length text ≤ MOST_BYTES
+HasShortText trace = ⊤
+HasShortText (trace_text text) = length text ≤ MOST_BYTES
 HasShortText (decode digits keys) = ⊤
 
 -- the words have a form, and their TEXT isn't too long

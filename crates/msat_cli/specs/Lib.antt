@@ -3,6 +3,7 @@ pub mod Ends
 pub mod Satisfactions
 pub mod Plans
 pub mod Audits
+pub mod Traces
 pub mod Policies
 pub mod Decodings
 pub mod Scaffolding

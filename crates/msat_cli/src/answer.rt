@@ -7,7 +7,7 @@ ghost use Rattle.ms_io.specs.Reads.{ReadsFront, IsUnread};
 ghost use Rattle.ms_words.specs.Commands.{seen, HaveUtf8};
 ghost use Rattle.msat_cli.specs.Scaffolding.Steps.{AsMade, EndsCommand, EndsWords};
 
-use crate::source::answer_run;
+use crate::source::{answer_run, answer_trace};
 use crate::texts::answer_text;
 use bumpalo::Bump;
 use ms_generator::answer_gen;
@@ -69,6 +69,7 @@ fn answer_command<S: Source>(
     match command {
         Command::Text(kind, text) => answer_text(alloc, arena, kind, text, source),
         Command::Run => answer_run(alloc, source),
+        Command::Trace => answer_trace(alloc, source),
         Command::Gen(n) => or_memory(answer_gen(alloc, arena, n)),
         Command::Decode(digits, keys) => or_memory(decode_answer(alloc, arena, digits, keys)),
     }

@@ -13,6 +13,7 @@ ghost use Rattle.msat_cli.specs.Policies.{ShowsPolicy};
 ghost use Rattle.msat_cli.specs.Satisfactions.{FindsWhereOneExists, ShowsCanonical, ShowsWitness, ShowsAccepted, ShowsNonMalleable};
 ghost use Rattle.msat_cli.specs.Satisfactions.{FindsNothingToAccept, RefusesOtherTexts, ShowsTight, TellsUnchanged, ShowsLightestUnchanged};
 ghost use Rattle.msat_cli.specs.Satisfactions.{ShowsLightest};
+ghost use Rattle.msat_cli.specs.Traces.{ShowsTrace, ShowsRun, ShowsNodes};
 
 use crate::answer::{Stop, answer_words};
 use bumpalo::Bump;
@@ -30,8 +31,9 @@ const FILE_TOO_LONG: &[u8] = b"refused file TooLong\n";
 
 /// Answers the words of a command line: makes the report, writes it to the sink by one call of `put_report`, and gives
 /// the status. The words are `script TEXT`, `check TEXT`, `satisfy TEXT`, `satisfy --malleable TEXT`, each of them also with
-/// `--consensus` before TEXT, and `run`, `gen N`, `policy TEXT`, `plan TEXT`, `audit TEXT` and `decode HEX KEY..`. The source is
-/// read only for `run`, and for `satisfy`, `plan` and `audit` where the text was neither refused nor unfit.
+/// `--consensus` before TEXT, and `run`, `gen N`, `policy TEXT`, `plan TEXT`, `audit TEXT`, `trace`, `trace TEXT` and
+/// `decode HEX KEY..`. The source is read only for `run` and for `trace` alone, and for `satisfy`, `plan`, `audit` and
+/// `trace` with a text where this was neither refused nor unfit.
 pub fn msat<S: Source, K: Sink>(
     alloc: Global,
     words: &[Word],
@@ -87,6 +89,14 @@ pub fn msat<S: Source, K: Sink>(
     // For every valid text and readable run file `audit TEXT` writes by which rows the file's stack satisfies the text, exactly
     // where the file has the text's Script and its run is accepted, and otherwise that it isn't accepted, and why.
     ensures audit { ShowsAudit (call words.now (side S.left S.faults source.old source.new) (side K.written K.faults sink.old sink.new) result) }
+
+    // For every readable run file `trace` writes a line for each instruction that its run reaches, in order, each that of the
+    // machine's step from the state before it, and behind them what `run` answers to the same file, with the same status; and
+    // for every valid text whose Script the file has, `trace TEXT` writes the same, each line with the place of the node that
+    // wrote its instruction.
+    ensures traced { ShowsTrace (call words.now (side S.left S.faults source.old source.new) (side K.written K.faults sink.old sink.new) result) }
+    ensures last { ShowsRun (call words.now (side S.left S.faults source.old source.new) (side K.written K.faults sink.old sink.new) result) }
+    ensures nodes { ShowsNodes (call words.now (side S.left S.faults source.old source.new) (side K.written K.faults sink.old sink.new) result) }
 
     // `decode HEX KEY..` writes the text that the Script is read back as, exactly where there is one, and otherwise that
     // there is none.

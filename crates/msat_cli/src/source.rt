@@ -3,7 +3,7 @@ ghost use Rattle.std.specs.Prelude.{◌≤◌, length, IfOk, IfErr};
 ghost use Rattle.def_tree.specs.Range.{IsInRange};
 ghost use Rattle.def_sane.specs.Unfit.{IsValid, IsSane};
 ghost use Rattle.ms_answer_laws.specs.Laws.{walked};
-ghost use Rattle.def_answer.specs.Reply.{satisfy_reply, run_reply, plan_reply, audit_reply};
+ghost use Rattle.def_answer.specs.Reply.{satisfy_reply, run_reply, plan_reply, audit_reply, trace_reply, text_trace_reply};
 ghost use Rattle.def_answer.specs.Lines.{MOST_FILE as most_file};
 ghost use Rattle.ms_tree.specs.Shape.{shape};
 ghost use Rattle.ms_replies.specs.ChoiceTrees.{valid_in, tree_in, chosen_in};
@@ -13,7 +13,10 @@ ghost use Rattle.msat_cli.specs.Scaffolding.Steps.{StopsReading, EndsFile};
 
 use crate::answer::{Stop, or_memory};
 use ms_io::{ReadStop, Source, read_all};
-use ms_replies::{ChoiceTree, assets_answer, audit_answer, plan_answer, run_answer};
+use ms_replies::{
+    ChoiceTree, assets_answer, audit_answer, plan_answer, run_answer, text_trace_answer,
+    trace_answer,
+};
 use ms_report::Answer;
 use ms_sane::SaneTree;
 use ms_text::TextTree;
@@ -75,6 +78,31 @@ pub fn answer_run<S: Source>(alloc: Global, source: &mut S) -> Result<Answer, St
 {
     let bytes = read_file(alloc, source)?;
     or_memory(run_answer(alloc, &bytes))
+}
+
+/// Answers the trace of the run of the file that the source holds, whose script has to be that of a text.
+pub fn answer_text_trace<S: Source>(
+    alloc: Global,
+    text: &TextTree<'_>,
+    source: &mut S,
+) -> Result<Answer, Stop>
+    requires { IsInRange (shape text.now.tree) }
+    ensures answer { EndsFile (λ bytes. text_trace_reply text.now.offsets.items bytes (shape text.now.tree)) (side S.left S.faults source.old source.new) result }
+    ensures later { S.faults source.old ≤ S.faults source.new }
+    ensures front { ReadsFront (S.left source.old) (S.left source.new) }
+{
+    let bytes = read_file(alloc, source)?;
+    or_memory(text_trace_answer(alloc, text, &bytes))
+}
+
+/// Answers the trace of the run of the file that the source holds.
+pub fn answer_trace<S: Source>(alloc: Global, source: &mut S) -> Result<Answer, Stop>
+    ensures answer { EndsFile trace_reply (side S.left S.faults source.old source.new) result }
+    ensures later { S.faults source.old ≤ S.faults source.new }
+    ensures front { ReadsFront (S.left source.old) (S.left source.new) }
+{
+    let bytes = read_file(alloc, source)?;
+    or_memory(trace_answer(alloc, &bytes))
 }
 
 /// Reads the file that the source holds.

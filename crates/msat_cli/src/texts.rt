@@ -18,7 +18,7 @@ ghost use Rattle.ms_io.specs.Reads.{ReadsFront, IsUnread};
 ghost use Rattle.msat_cli.specs.Scaffolding.Steps.{ReadsFor, AsDone, IsRefusal, Ended, EndsAtOnce, EndsTree, EndsCommand, RefusesTree};
 
 use crate::answer::{Stop, or_memory};
-use crate::source::{answer_sane_plan, answer_satisfaction, answer_valid_audit};
+use crate::source::{answer_sane_plan, answer_satisfaction, answer_text_trace, answer_valid_audit};
 use bumpalo::Bump;
 use def_answer::Status;
 use def_choice::Choice;
@@ -70,6 +70,7 @@ fn answer_tree<S: Source>(
         TextCommand::Satisfy(choice, rules) => answer_satisfy(alloc, choice, rules, text, source),
         TextCommand::Plan => answer_plan(alloc, text, source),
         TextCommand::Audit => answer_audit(alloc, text, source),
+        TextCommand::Trace => answer_traced(alloc, text, source),
     }
 }
 
@@ -171,6 +172,24 @@ fn answer_audit<S: Source>(
 {
     match ValidTree::new(alloc, text.tree, Rules::Policy) {
         Ok(_valid) => answer_valid_audit(alloc, text, source),
+        Err(misfit) => refuse_tree(alloc, text, misfit),
+    }
+}
+
+/// Answers the trace of the run of the run file that the source holds, which has to be of the Script of a valid text.
+fn answer_traced<S: Source>(
+    alloc: Global,
+    text: &TextTree<'_>,
+    source: &mut S,
+) -> Result<Answer, Stop>
+    requires { IsInRange (shape text.now.tree) }
+    ensures answer { EndsTree TextCommand.Trace (shape text.now.tree) text.now.offsets.items (side S.left S.faults source.old source.new) result }
+    ensures later { S.faults source.old ≤ S.faults source.new }
+    ensures front { ReadsFront (S.left source.old) (S.left source.new) }
+    ensures unread { ¬ ReadsFor TextCommand.Trace (shape text.now.tree) → IsUnread (side S.left S.faults source.old source.new) }
+{
+    match ValidTree::new(alloc, text.tree, Rules::Policy) {
+        Ok(_valid) => answer_text_trace(alloc, text, source),
         Err(misfit) => refuse_tree(alloc, text, misfit),
     }
 }

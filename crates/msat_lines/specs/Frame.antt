@@ -1,19 +1,16 @@
 -- How a call for the word `lines` ends.
-use Rattle.std.specs.Prelude.{◌≡◌, ◌⊎◌, List, [], ◌∷◌, codes}
+use Rattle.std.specs.Prelude.{◌≡◌, ◌⊎◌, List}
 use Rattle.def_script.specs.Bytes.{Bytes}
 use Rattle.def_answer.specs.declared.status.Status.{Status}
 use Rattle.def_answer.specs.declared.status.Status.TheVariants as status
 use Rattle.def_answer.specs.Answer.{Answer}
 use Rattle.def_lines.specs.Answers.{AnswersLines}
 use Rattle.def_lines.specs.Msat.{msat_answers}
+use Rattle.ms_frame.specs.Asking.{AsksLines}
 use Rattle.ms_io.specs.Sides.{Side}
 use Rattle.ms_lines.specs.declared.stream.Ending.{Ending}
 use Rattle.ms_lines.specs.declared.stream.Ending.TheVariants as ending
 use Rattle.ms_lines.specs.Streams.{EndsLines}
-
--- the one word `lines`
-abbrev pub AsksLines : (words : List Bytes) → Type 0
-AsksLines words = words ≡ codes "lines" ∷ []
 
 abbrev pub status_of : Ending → Status
 status_of ending.Done = status.Done

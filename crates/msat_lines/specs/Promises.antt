@@ -14,6 +14,7 @@ use Rattle.msat_cli.specs.Policies.{ShowsPolicy}
 use Rattle.msat_cli.specs.Satisfactions.{FindsWhereOneExists, ShowsCanonical, ShowsWitness, ShowsAccepted, ShowsNonMalleable}
 use Rattle.msat_cli.specs.Satisfactions.{FindsNothingToAccept, RefusesOtherTexts, ShowsTight, TellsUnchanged, ShowsLightestUnchanged}
 use Rattle.msat_cli.specs.Satisfactions.{ShowsLightest}
+use Rattle.msat_cli.specs.Traces.{ShowsTrace, ShowsRun, ShowsNodes}
 
 pub record IsCallOfMsat (call : Call) : Type 0 where
   pub end : Ends call
@@ -39,4 +40,7 @@ pub record IsCallOfMsat (call : Call) : Type 0 where
   pub policy : ShowsPolicy call
   pub plan : ShowsPlan call
   pub audit : ShowsAudit call
+  pub traced : ShowsTrace call
+  pub last : ShowsRun call
+  pub nodes : ShowsNodes call
   pub reading : ShowsReading call

@@ -1,10 +1,10 @@
 //! The answer of `msat` where its source and its sink lie in memory.
-ghost use Rattle.std.specs.Prelude.{◌≡◌, map, IfOk};
-ghost use Rattle.std.specs.String.{string_bytes};
+ghost use Rattle.std.specs.Prelude.{IfOk};
 ghost use Rattle.def_answer.specs.Answer.{Answer};
 ghost use Rattle.def_lines.specs.Msat.{msat_answers};
 
 use def_answer::Status;
+use ms_frame::words_of;
 use ms_io::ByteSource;
 use ms_lines::{ByteSink, Outcome, Program};
 use msat_cli::{Word, msat};
@@ -56,15 +56,4 @@ impl Program for Msat {
             report: replied.report,
         })
     }
-}
-
-/// The words of these texts.
-fn words_of(alloc: Global, texts: Vec<String>) -> Result<Vec<Word>, AllocError>
-    ensures { IfOk result (λ words. words.items ≡ map string_bytes texts.items) }
-{
-    let mut words = Vec::with_capacity(alloc, texts.len())?;
-    for text in texts {
-        words.push(Word::new(text))?;
-    }
-    Ok(words)
 }

@@ -1,16 +1,15 @@
 //! The program's top call: `lines`, or `msat` unchanged.
-ghost use Rattle.std.specs.Prelude.{◌≡◌, ◌≤◌, ◌↔◌, [], ◌∷◌, codes, IsTrue, IfOk};
-ghost use Rattle.def_lines.specs.Answers.{AnswersLines};
-ghost use Rattle.def_lines.specs.Msat.{msat_answers};
-ghost use Rattle.ms_io.specs.Sides.{call};
-ghost use Rattle.ms_io.specs.Sides.{side};
-ghost use Rattle.msat_lines.specs.Frame.{AsksLines, EndsAsLines, WholeAnswer, status_of as the_status_of};
+ghost use Rattle.std.specs.Prelude.{◌≡◌, ◌≤◌, IfOk};
+ghost use Rattle.ms_frame.specs.Asking.{AsksLines};
+ghost use Rattle.ms_io.specs.Sides.{call, side};
+ghost use Rattle.msat_lines.specs.Frame.{EndsAsLines, WholeAnswer, status_of as the_status_of};
 ghost use Rattle.msat_lines.specs.Promises.{IsCallOfMsat};
 
 use crate::answering::{Msat, Replied, answer_in_memory};
 use def_answer::Status;
-use ms_io::{ByteSource, Sink, Source};
-use ms_lines::{ByteSink, Ending, answer_lines};
+use ms_frame::{asks_lines, lines_in_memory};
+use ms_io::{Sink, Source};
+use ms_lines::{Ending, answer_lines};
 use msat_cli::{Word, msat};
 use std::alloc::{AllocError, Global};
 
@@ -39,48 +38,13 @@ pub fn answer_whole(alloc: Global, words: &[Word], source: &[u8]) -> Result<Repl
     ensures { IfOk result (λ replied. WholeAnswer words.now source.now replied.status replied.report.items) }
 {
     if asks_lines(words) {
-        return lines_in_memory(alloc, source);
+        let report = lines_in_memory(alloc, &Msat, source)?;
+        return Ok(Replied {
+            status: Status::Done,
+            report,
+        });
     }
     answer_in_memory(alloc, words, source)
-}
-
-/// The answers to the lines of the source.
-fn lines_in_memory(alloc: Global, source: &[u8]) -> Result<Replied, AllocError>
-    ensures { IfOk result (λ replied. (replied.status ≡ Status.Done) × AnswersLines msat_answers source.now replied.report.items) }
-{
-    let mut source = ByteSource::new(source);
-    let mut sink = ByteSink::new(alloc);
-    match answer_lines(alloc, &Msat, &mut source, &mut sink) {
-        Ending::Done => Ok(Replied {
-            status: Status::Done,
-            report: sink.bytes,
-        }),
-        Ending::ReadFault | Ending::WriteFault | Ending::Memory => Err(AllocError),
-    }
-}
-
-/// Whether these are the one word `lines`.
-pub fn asks_lines(words: &[Word]) -> bool
-    ensures { IsTrue result ↔ AsksLines words.now }
-{
-    match words {
-        [word] => is_form(word.as_str()),
-        _ => false,
-    }
-}
-
-/// Whether a word alone asks for lines.
-fn is_form(word: &str) -> bool
-    ensures { IsTrue result ↔ AsksLines (word.now ∷ []) }
-{
-    is_lines(word)
-}
-
-/// Whether a word is `lines`.
-fn is_lines(word: &str) -> bool
-    ensures { IsTrue result ↔ (word.now ≡ codes "lines") }
-{
-    word == "lines"
 }
 
 /// The status of a call that answers lines.

@@ -2,7 +2,7 @@
 #![tactic(auto)]
 
 pub use answering::{Msat, Replied, answer_in_memory};
-pub use frame::{answer_whole, asks_lines, program};
+pub use frame::{answer_whole, program};
 
 mod answering;
 mod frame;

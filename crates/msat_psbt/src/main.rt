@@ -1,10 +1,10 @@
 //! `msat-psbt`: a finalizer of PSBTs for P2WSH outputs. This file only passes on the words, standard
-//! input and standard output; `psbt_cli` has the program.
+//! input and standard output; `psbt_lines` has the program.
 #![tactic(auto)]
 
 use ms_io::{StdSink, StdSource};
 use ms_words::command_line;
-use psbt_cli::msat_psbt;
+use psbt_lines::program;
 use std::process::ExitCode;
 
 fn main(rt: HostRuntime) -> ExitCode {
@@ -15,5 +15,5 @@ fn main(rt: HostRuntime) -> ExitCode {
     };
     let mut source = StdSource::new(rt.stdin());
     let mut sink = StdSink::new(rt.stdout());
-    ExitCode::from(msat_psbt(alloc, &words, &mut source, &mut sink).code())
+    ExitCode::from(program(alloc, &words, &mut source, &mut sink).code())
 }

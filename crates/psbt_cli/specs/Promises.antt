@@ -42,9 +42,10 @@ LosesNothing call =
 
 -- ---- the final witness
 
--- the satisfaction of a Ready input is canonical; its witness has the witness script last, whose program is the spent output;
--- the interpreter accepts the witness where the input's signatures are good, whatever others are; nobody can change it; and
--- no canonical satisfaction that nobody can change weighs less
+-- the satisfaction of a Ready input is canonical; its witness has the witness script last, whose program is the spent output, or
+-- the spent output is P2SH of that program and the scriptSig is the one push of it; the interpreter accepts the witness where the
+-- input's signatures are good, whatever others are; nobody can change it; and no canonical satisfaction that nobody can change
+-- weighs less
 pub record IsWitnessed (input : Input) (tree : Tree) : Type 0 where
   pub canonical : Sat tree (assets_of input.spend) (stack_of input)
   pub witness : IsWitness input tree

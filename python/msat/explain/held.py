@@ -4,13 +4,14 @@ on each way."""
 
 import json
 from dataclasses import dataclass
-from typing import Callable, Iterator, Optional
+from typing import Any, Callable, Iterator, Optional
 
 import msat
 
 from . import hashes
 from .demand import Atom
 from .locks import COUNT, NO_SEQUENCE, SECONDS, TIMES, Locks, older_bits
+from .steps import Step, steps
 from .tree import Node
 from .ways import Way
 
@@ -100,14 +101,15 @@ class Part:
 
 @dataclass(frozen=True)
 class Spend:
-    """The witness that `satisfy` writes: its items, what the interpreter counted, which nodes take part, children first, and the
-    keys whose signatures were found good, in order."""
+    """The witness that `satisfy` writes: its items, what the interpreter counted, which nodes take part, children first, the keys
+    whose signatures were found good, in order, and the steps of its run."""
 
     items: tuple[Item, ...]
     witness: bytes
     replay: msat.Replay
     parts: tuple[Part, ...]
     checks: tuple[str, ...]
+    steps: tuple[Step, ...]
 
 
 def spend(text: str, root: Node, file: bytes, consensus: bool, name_of: Naming) -> Optional[Spend]:
@@ -117,22 +119,33 @@ def spend(text: str, root: Node, file: bytes, consensus: bool, name_of: Naming) 
     except msat.NoSatisfaction:
         return None
     said = json.loads(file)
-    run = {name: said[name] for name in ("version", "sequence", "locktime", "signatures") if name in said}
+    run: dict[str, Any] = {name: said[name] for name in ("version", "sequence", "locktime", "signatures") if name in said}
     run.update(script=found.script.hex(), witness=[it.hex() for it in found.items])
     checks = msat.run(json.dumps(run)).checks
-    steps = _steps(text, run)
-    names = _Names(steps, [(key.hex(), sig) for key, sig in checks], found.items, name_of).all(root)
+    rows = _rows(text, run)
+    names = _Names(rows, [(key.hex(), sig) for key, sig in checks], found.items, name_of).all(root)
     places = {node.place: node for node in reversed(list(root.walk()))}
     return Spend(
         tuple(Item(*it) for it in zip(found.items, names)),
         found.witness,
         found.replay,
-        tuple(Part(places[it.place], it.satisfied) for it in _once(steps)),
+        tuple(Part(places[it.place], it.satisfied) for it in _once(rows)),
         tuple(key.hex() for key, _ in checks),
+        _steps(text, run),
     )
 
 
-def _steps(text: str, run: dict[str, object]) -> tuple[msat.Step, ...]:
+def _steps(text: str, run: dict[str, Any]) -> tuple[Step, ...]:
+    """The steps of a run; without their nodes where only consensus takes the text."""
+    file = json.dumps(run)
+    try:
+        report = msat.report(["trace", text], file)
+    except msat.TextRefused:
+        report = msat.report(["trace"], file)
+    return steps(report, run["witness"])
+
+
+def _rows(text: str, run: dict[str, object]) -> tuple[msat.Step, ...]:
     """The steps by which a run satisfies a text; none of one that only consensus takes, which no audit takes."""
     try:
         return msat.audit(text, json.dumps(run)).steps
@@ -140,9 +153,9 @@ def _steps(text: str, run: dict[str, object]) -> tuple[msat.Step, ...]:
         return ()
 
 
-def _once(steps: tuple[msat.Step, ...]) -> Iterator[msat.Step]:
+def _once(rows: tuple[msat.Step, ...]) -> Iterator[msat.Step]:
     """The steps without those that another one of the same place follows: a name such as `pk` stands for two nodes."""
-    for step, after in zip(steps, (*steps[1:], None)):
+    for step, after in zip(rows, (*rows[1:], None)):
         if after is None or after.place != step.place:
             yield step
 
@@ -151,8 +164,8 @@ class _Names:
     """The names of a witness's items, by the rows of BIP 379's table that an audit has found. It is read from its end: a node stands
     behind its children there."""
 
-    def __init__(self, steps: tuple[msat.Step, ...], checks: list[tuple[str, bytes]], items: tuple[bytes, ...], name_of: Naming):
-        self.left, self.checks, self.items, self.name_of = list(steps), checks, items, name_of
+    def __init__(self, rows: tuple[msat.Step, ...], checks: list[tuple[str, bytes]], items: tuple[bytes, ...], name_of: Naming):
+        self.left, self.checks, self.items, self.name_of = list(rows), checks, items, name_of
 
     def all(self, root: Node) -> list[str]:
         """The names of all items; plain ones where the audit doesn't fit, as for a text that only consensus takes."""

@@ -7,9 +7,11 @@ from typing import Iterable, Sequence, Union
 
 from . import drawing, words
 from .explanation import Explanation, Held
+from .held import Spend
 from .locks import said, said_fields
 from .refusals import Refusal
 from .report import marked, printable
+from .steps import Step
 from .style import STYLE
 from .tree import Node
 
@@ -39,11 +41,12 @@ def given_text(text: str) -> str:
 def page(found: Union[Explanation, Refusal]) -> str:
     """The page."""
     title, body = _refusal(found) if isinstance(found, Refusal) else _explanation(found)
+    style = STYLE if isinstance(found, Refusal) else STYLE + _lit(found)
     return (
         '<!doctype html>\n<html lang="en">\n<head>\n<meta charset="utf-8">\n'
         '<meta name="viewport" content="width=device-width, initial-scale=1">\n'
         f'<meta http-equiv="Content-Security-Policy" content="{escape(_POLICY)}">\n'
-        f"<title>{safe(title)}</title>\n<style>{STYLE}</style>\n</head>\n<body>\n{body}\n</body>\n</html>\n"
+        f"<title>{safe(title)}</title>\n<style>{style}</style>\n</head>\n<body>\n{body}\n</body>\n</html>\n"
     )
 
 
@@ -187,7 +190,8 @@ def _branch(node: Node, found: Explanation) -> str:
     note = words.note_of(node)
     inner = "".join(_branch(it, found) for it in node.children)
     below = f'<ul>{inner}</ul>' if inner else ""
-    return f"<li>{_code(words.node_of(node, found))} <span class=\"soft\">{cell(node.kind)}{': ' if note else ''}{cell(note)}</span>{below}</li>"
+    name = f'<span class="node-{node.place}">{_code(words.node_of(node, found))}</span>'
+    return f"<li>{name} <span class=\"soft\">{cell(node.kind)}{': ' if note else ''}{cell(note)}</span>{below}</li>"
 
 
 def _letters() -> str:
@@ -240,4 +244,50 @@ def _held(found: Explanation, held: Held) -> str:
         + f"<h3>The run</h3><p>{counted}</p>"
         + (f"<ol>{checks}</ol>" if checks else "")
         + (table("the nodes that take part, children first", ("Node", "In this run"), run) if run else "")
+        + _run(found, spend)
     )
+
+
+# A longer run isn't shown step by step.
+_MOST_STEPS = 400
+
+
+def _first(steps: Sequence[Step]) -> int:
+    """The step that is shown first: the one that fails, where one does."""
+    return next((at for at, it in enumerate(steps) if it.kind == "stop"), 0)
+
+
+def _run(found: Explanation, spend: Spend) -> str:
+    """The run, a step at a time: links go forward and back, and the node that wrote the step's instruction is lit in the tree."""
+    if not 0 < len(spend.steps) <= _MOST_STEPS:
+        return ""
+    named = {it.data.hex(): it.name for it in spend.items if it.name}
+    named.update((key, f"the key {found.given.name_of(key)}") for key in found.keys)
+    panels = "".join(_step(at, spend.steps, named) for at in range(len(spend.steps)))
+    return f'<h3>Step by step</h3><div class="run"><div class="steps">{panels}</div>{region("the tree, with the node of the step", _list(found))}</div>'
+
+
+def _step(at: int, steps: Sequence[Step], named: dict[str, str]) -> str:
+    it = steps[at]
+    done = {"step": "carried out", "skip": "passed over, in a branch that isn't taken", "stop": "the step that fails"}[it.kind]
+    rows = [(str(place), _code(item), cell(named.get(item, ""))) for place, item in enumerate(it.main)]
+    rows += [(f"alt {place}", _code(item), cell(named.get(item, ""))) for place, item in enumerate(it.alt)]
+    stacks = table("the stack behind it, bottom first", ("Place", "Element", "What it is"), rows, (0,)) if rows else "<p>The stack is empty.</p>"
+    links = [(at - 1, "Back"), (at + 1, "Forward")]
+    walk = " ".join(f'<a href="#step-{to}">{name}</a>' for to, name in links if 0 <= to < len(steps))
+    first = " first" * (at == _first(steps))
+    return (
+        f'<div id="step-{at}" class="step{first}"><p><strong>Step {at + 1} of {len(steps)}</strong>, at byte {it.offset}: '
+        f"{_code(it.name)}, {escape(done)}.</p><p>{walk}</p>{stacks}</div>"
+    )
+
+
+def _lit(found: Explanation) -> str:
+    """How the node of a step is lit while the step is shown."""
+    spend = found.held.spend if found.held else None
+    if not spend or not 0 < len(spend.steps) <= _MOST_STEPS:
+        return ""
+    rules = [f".run:has(#step-{at}:target) .node-{it.place}" for at, it in enumerate(spend.steps) if it.place is not None]
+    first = spend.steps[_first(spend.steps)].place
+    rules += [f".run:not(:has(.step:target)) .node-{first}"] * (first is not None)
+    return "".join(f"{rule} {{ background: var(--key); color: var(--paper); }}\n" for rule in rules)

@@ -58,6 +58,11 @@ svg .gate { fill: var(--soft); }
 .bar span { display: block; height: 100%; background: var(--key); }
 ul.tree, ul.tree ul { list-style: none; margin: 0; padding-left: 1rem; border-left: 1px solid var(--rule); }
 summary { cursor: pointer; padding: .2rem 0; }
+.step { display: none; }
+.step:target, .steps:not(:has(.step:target)) .first { display: block; }
+@supports not selector(:has(a)) {
+  .step { display: block; }
+}
 @media (max-width: 600px) {
   table { font-size: .84rem; }
   th, td { padding-right: .35rem; }
@@ -69,6 +74,7 @@ summary { cursor: pointer; padding: .2rem 0; }
     --key: #000; --lock: #444; --hash: #777; --good: #000; --bad: #000;
   }
   nav { display: none; }
+  .step { display: block; }
   body { max-width: none; padding: 0; font-size: 11pt; }
   .wide { overflow: visible; }
   tr, svg { break-inside: avoid; }

@@ -18,6 +18,12 @@ pub const MSAT_SCRIPT_REFUSED: u32 = 8;
 pub const MSAT_NOT_ACCEPTED: u32 = 9;
 pub const MSAT_NO_READING: u32 = 10;
 pub const MSAT_UNREADABLE: u32 = 11;
+pub const MSAT_NO_POINT: u32 = 12;
+
+/// What `msat_signature` answers.
+pub const MSAT_BAD: u32 = 0;
+pub const MSAT_GOOD: u32 = 1;
+pub const MSAT_HIGH: u32 = 2;
 
 /// The codes of `msat_psbt_answer` that have names of their own.
 pub const MSAT_PSBT_REFUSED: u32 = 3;
@@ -163,6 +169,17 @@ unsafe extern "C" {
         text_len: usize,
         needed: *mut usize,
     ) -> u32;
+
+    pub fn msat_signature(
+        key: *const u8,
+        key_len: usize,
+        hash: *const u8,
+        hash_len: usize,
+        sig: *const u8,
+        sig_len: usize,
+    ) -> u32;
+
+    pub fn msat_point(key: *const u8, key_len: usize, point: *mut u8, point_len: usize, needed: *mut usize) -> u32;
 
     pub fn msat_plan(
         text: *const c_char,

@@ -3,9 +3,9 @@
 
 use crate::error::Error;
 use crate::names;
-use crate::{Accepted, Assets, Audit, Base, Facts, Known, Plan, Rules, Run, Signature, Step};
+use crate::{Accepted, Assets, Audit, Base, Facts, Judgement, Known, Plan, Rules, Run, Signature, Step};
 use core::ffi::{c_char, c_void};
-use msat_sys::{MSAT_DONE, MSAT_NO_MEMORY, MSAT_UNREADABLE, msat_facts, msat_outcome, msat_reason, msat_step};
+use msat_sys::{MSAT_DONE, MSAT_GOOD, MSAT_HIGH, MSAT_NO_MEMORY, MSAT_UNREADABLE, msat_facts, msat_outcome, msat_reason, msat_step};
 
 /// The version of the library that is loaded: major, minor and patch.
 pub fn version() -> (u32, u32, u32) {
@@ -193,6 +193,26 @@ pub fn decode(script: &[u8], keys: &[[u8; 33]]) -> Result<String, Error> {
         }
         text.resize(needed, 0);
     }
+}
+
+/// What a signature with the byte of its hash type behind is, by a compressed key and for a hash of 32 bytes. By any other bytes it is
+/// [`Judgement::Bad`].
+pub fn signature(key: &[u8], hash: &[u8], sig: &[u8]) -> Judgement {
+    // SAFETY: as in `answer`.
+    let code = unsafe { msat_sys::msat_signature(key.as_ptr(), key.len(), hash.as_ptr(), hash.len(), sig.as_ptr(), sig.len()) };
+    match code {
+        MSAT_GOOD => Judgement::Good,
+        MSAT_HIGH => Judgement::High,
+        _ => Judgement::Bad,
+    }
+}
+
+/// The point of a compressed key, as 04, x and y (SEC 1, 2.3.3), or `None` where the bytes are no key or the key has no point.
+pub fn point(key: &[u8]) -> Option<[u8; 65]> {
+    let (mut point, mut needed) = ([0; 65], 0);
+    // SAFETY: as in `answer`.
+    let code = unsafe { msat_sys::msat_point(key.as_ptr(), key.len(), point.as_mut_ptr(), point.len(), &mut needed) };
+    (code == MSAT_DONE).then_some(point)
 }
 
 /// The items of the witness of the satisfaction of a sane text by an asset file that nobody can change without a signature that it

@@ -22,8 +22,8 @@ mod names;
 pub mod psbt;
 
 pub use calls::{
-    answer, audit, check, decode, least_weight, plan, policy, psbt_answer, run, satisfy, satisfy_malleable, script, version,
-    witness, witness_malleable,
+    answer, audit, check, decode, least_weight, plan, point, policy, psbt_answer, run, satisfy, satisfy_malleable, script, signature,
+    version, witness, witness_malleable,
 };
 pub use error::{
     Error, FileFault, FileRefusal, Member, PsbtFault, PsbtRefusal, Rule, RunFault, RunRefusal, TextFault, TextRefusal, Unfit,
@@ -70,6 +70,18 @@ pub struct Facts {
 pub struct Signature {
     pub key: [u8; 33],
     pub bytes: Vec<u8>,
+}
+
+/// What a signature is by a key and for a hash.
+#[derive(Clone, Copy, Debug, PartialEq, Eq, Hash)]
+#[non_exhaustive]
+pub enum Judgement {
+    /// None of the two below.
+    Bad,
+    /// The key has signed the hash, in strict DER (BIP 66), and s is at most half of the order (BIP 146).
+    Good,
+    /// So it is, but s is over half: consensus takes it, and nodes don't relay it.
+    High,
 }
 
 /// What a wallet holds for a spend. Of several signatures of a key the shortest is taken, of several shortest the first.

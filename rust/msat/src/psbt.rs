@@ -111,6 +111,8 @@ pub struct Input {
     pub index: u32,
     pub sequence: u32,
     pub amount: Amount,
+    /// The kind of the spent output: `p2wsh`, `p2sh-p2wsh` or `other`.
+    pub kind: Option<String>,
     /// The signatures of compressed keys: each key, and the hash type behind its signature.
     pub signatures: Vec<([u8; 33], u8)>,
     /// The miniscript.
@@ -315,6 +317,7 @@ fn input(lines: &[&str]) -> Option<Input> {
         index: index.parse().ok()?,
         sequence: sequence.parse().ok()?,
         amount: amount(lines.get(2)?.strip_prefix("amount ")?)?,
+        kind: None,
         signatures: Vec::new(),
         text: None,
         policy: None,
@@ -325,6 +328,7 @@ fn input(lines: &[&str]) -> Option<Input> {
     };
     for line in lines.get(3..)? {
         match line.split_once(' ').unwrap_or((line, "")) {
+            ("kind", rest) => found.kind = Some(rest.to_owned()),
             ("signature", rest) => {
                 let [key, kind] = words(rest)?;
                 found.signatures.push((array(key)?, kind.parse().ok()?));

@@ -2,7 +2,7 @@
 //! The calls against the reports of the examples, whose folder `MSAT_EXAMPLES` names, and against one another.
 
 use msat::{
-    Assets, Error, Estimate, FileFault, Known, Member, Rule, Rules, Run, RunFault, Signature, TextFault, TextRefusal, Unfit,
+    Assets, Error, Estimate, FileFault, Judgement, Known, Member, Rule, Rules, Run, RunFault, Signature, TextFault, TextRefusal, Unfit,
 };
 use std::env;
 use std::fs;
@@ -259,4 +259,36 @@ fn runs_have_their_outcome() {
     let wrong = msat::audit("older(9)", &run).expect_err("a refusal");
     assert_eq!(wrong.to_string(), "not accepted WrongScript");
     assert!(matches!(wrong, Error::NotAccepted(it) if it.fault == RunFault::WrongScript));
+}
+
+/// A word of a row: bytes in digits, or none.
+fn spelled(word: &str) -> Vec<u8> {
+    let digits = word.trim_start_matches('-').as_bytes();
+    digits.chunks(2).map(|pair| u8::from_str_radix(std::str::from_utf8(pair).unwrap(), 16).unwrap()).collect()
+}
+
+fn rows_of(name: &str) -> Vec<Vec<String>> {
+    let Some(top) = env::var_os("MSAT_EXAMPLES") else { return Vec::new() };
+    let rows = fs::read_to_string(PathBuf::from(top).join("signatures").join(name)).expect("the rows of signatures are there");
+    rows.lines().map(|row| row.split(' ').map(str::to_owned).collect()).collect()
+}
+
+#[test]
+fn signatures_have_their_judgement() {
+    for row in rows_of("signature.rows") {
+        let wanted = match row[4].as_str() {
+            "good" => Judgement::Good,
+            "high" => Judgement::High,
+            _ => Judgement::Bad,
+        };
+        assert_eq!(msat::signature(&spelled(&row[1]), &spelled(&row[2]), &spelled(&row[3])), wanted, "{}", row[0]);
+    }
+}
+
+#[test]
+fn keys_have_their_point() {
+    for row in rows_of("point.rows") {
+        let point = msat::point(&spelled(&row[0])).map(|it| it.to_vec());
+        assert_eq!(point.unwrap_or_default(), spelled(&row[1]), "{}", row[0]);
+    }
 }

@@ -54,6 +54,9 @@ fn spelled(told: &Inspection) -> Result<String, std::fmt::Error> {
         if input.state == State::Final {
             writeln!(lines, "unchecked")?;
         }
+        if let Some(kind) = &input.kind {
+            writeln!(lines, "kind {kind}")?;
+        }
         for (key, kind) in &input.signatures {
             writeln!(lines, "signature {} {kind}", hex(key))?;
         }

@@ -7,9 +7,12 @@ use Rattle.def_psbt.specs.Map.{Psbt}
 use Rattle.def_tree.specs.Tree.{Tree}
 use Rattle.def_tree.specs.Range.{IsInRange}
 use Rattle.def_assets.specs.Assets.{Assets}
+use Rattle.def_spend.specs.declared.Kind.{Kind}
 use Rattle.def_spend.specs.declared.State.{State}
 use Rattle.def_spend.specs.Utxo.{utxo_of, amount_of}
+use Rattle.def_spend.specs.Hashes.{script_in}
 use Rattle.def_spend.specs.Input.{Spend, spends_of}
+use Rattle.def_spend.specs.Kinds.{kind_of}
 use Rattle.def_spend.specs.Reading.{HasReading}
 use Rattle.def_spend.specs.States.{state_of}
 use Rattle.ms_fields.specs.Held.{Held, held_in}
@@ -27,6 +30,11 @@ pub record IsAt (psbt : Psbt) (number : ℕ) (spend : Spend) (input : Transactio
   pub map_is : slice_get psbt.inputs number ≡ Some spend.fields
   pub fields : held ≡ held_in spend.fields
 
+-- what it demands
+pub record IsGuarded (spend : Spend) (kind : Kind) (script : Bytes) : Type 0 where
+  pub kind_is : kind ≡ kind_of spend
+  pub script_is : script ≡ script_in spend
+
 -- what is found of it
 pub record IsFound (spend : Spend) (amount : Amount) (tree : Option Tree) (state : State) (assets : Option Assets) (stack : Option (List Bytes)) : Type 0 where
   pub amount_is : amount_seen amount ≡ amount_of (utxo_of spend.input.outpoint spend.fields)
@@ -37,7 +45,8 @@ pub record IsFound (spend : Spend) (amount : Amount) (tree : Option Tree) (state
   pub stack_is : stack ≡ chosen_in state (input_of spend tree)
   pub light : IfSome stack (λ items. weight items ≤ 2 ^ 40)
 
-pub record IsRead (psbt : Psbt) (number : ℕ) (input : TransactionInput) (held : Held) (amount : Amount) (tree : Option Tree) (state : State)
-    (assets : Option Assets) (stack : Option (List Bytes)) : Type 0 where
+pub record IsRead (psbt : Psbt) (number : ℕ) (input : TransactionInput) (held : Held) (amount : Amount) (kind : Kind) (script : Bytes)
+    (tree : Option Tree) (state : State) (assets : Option Assets) (stack : Option (List Bytes)) : Type 0 where
   pub at : IsAt psbt number (spend_at psbt number) input held
+  pub guarded : IsGuarded (spend_at psbt number) kind script
   pub found : IsFound (spend_at psbt number) amount tree state assets stack

@@ -1,5 +1,5 @@
--- The spent output and the witness script by the fields of a map. No public clause cites it, so it need not be believed.
-use Rattle.std.specs.Prelude.{◌||◌, if◌then◌else◌, Option, Result, Err}
+-- The spent output and its Script by the fields of a map. No public clause cites it, so it need not be believed.
+use Rattle.std.specs.Prelude.{◌||◌, if◌then◌else◌, Result, Err}
 use Rattle.std.specs.Option.{option_and_then}
 use Rattle.def_script.specs.Bytes.{Bytes}
 use Rattle.def_psbt.specs.Transaction.{Outpoint}
@@ -7,7 +7,7 @@ use Rattle.def_psbt.specs.TransactionReading.{network_transaction_of}
 use Rattle.def_psbt.specs.Forms.{output_of}
 use Rattle.def_spend.specs.declared.State.{State}
 use Rattle.def_spend.specs.declared.State.TheVariants as state
-use Rattle.def_spend.specs.Reading.{has_byte, has_item, is_program, script_for}
+use Rattle.def_spend.specs.Reading.{has_byte, has_item, script_with}
 use Rattle.def_spend.specs.Utxo.{Utxo as TheUtxo, utxo_by}
 use Rattle.def_spend.specs.Utxo as the
 use Rattle.ms_fields.specs.Held.{Held}
@@ -24,16 +24,6 @@ abbrev pub utxo_held : Outpoint → Held → TheUtxo
 utxo_held outpoint held =
     utxo_by (option_and_then network_transaction_of held.previous) (option_and_then output_of held.output) outpoint
 
-abbrev pub script_by : (spent : Bytes) → (script : Option Bytes) → Result Bytes State
-script_by spent script = if is_program spent then script_for spent script else Err state.OtherOutput
-
-abbrev pub script_by_utxo : TheUtxo → (script : Option Bytes) → Result Bytes State
-script_by_utxo the.none script = Err state.NoUtxo
-script_by_utxo the.wrong script = Err state.WrongUtxo
-script_by_utxo (the.proved output) script = script_by output.script script
-script_by_utxo (the.claimed output) script = script_by output.script script
-
-abbrev pub script_held : TheUtxo → Held → Result Bytes State
-script_held utxo held =
-    if has_byte held.final_script_sig || has_item held.final_witness then Err state.Final
-    else script_by_utxo utxo held.script
+abbrev pub script_held : (program : Result Bytes State) → Held → Result Bytes State
+script_held program held =
+    if has_byte held.final_script_sig || has_item held.final_witness then Err state.Final else script_with program held.script

@@ -15,7 +15,7 @@ use Rattle.def_answer.specs.Answer.{script_reply, check_reply, policy_reply, Rep
 use Rattle.ms_answer_laws.specs.Laws.{walked}
 use Rattle.def_answer.specs.Lines.{text_line, unfit_line, MOST_FILE}
 use Rattle.def_answer.specs.Files.{file_too_long_line}
-use Rattle.def_answer.specs.Reply.{usage_line, Reply, reply, usage_reply, unless_unfit, satisfy_reply, plan_reply, audit_reply}
+use Rattle.def_answer.specs.Reply.{usage_line, Reply, reply, usage_reply, unless_unfit, satisfy_reply, plan_reply, audit_reply, text_trace_reply}
 use Rattle.def_answer.specs.Sources.{NeedsSource, ReadsSource}
 use Rattle.def_answer.specs.Words.{Command, IsForm, HasNoForm}
 use Rattle.ms_report.specs.declared.answer.Answer.{Answer}
@@ -37,6 +37,7 @@ reason_of (kind.Satisfy choice rules) = reason_by choice rules
 reason_of kind.Policy = first_unfit
 reason_of kind.Plan = first_unfit
 reason_of kind.Audit = first_unfit_valid
+reason_of kind.Trace = first_unfit_valid
 
 -- what is replied where there is none
 abbrev pub reply_of : TextCommand → (source : Bytes) → (offsets : List ℕ) → Tree → Reply
@@ -46,6 +47,7 @@ reply_of (kind.Satisfy choice rules) source offsets = satisfy_reply rules (chose
 reply_of kind.Policy source offsets = policy_reply
 reply_of kind.Plan source offsets = plan_reply source
 reply_of kind.Audit source offsets = λ tree. audit_reply offsets (walked tree source) source tree
+reply_of kind.Trace source offsets = text_trace_reply offsets source
 
 -- a file is read for it
 abbrev pub ReadsFor : TextCommand → Tree → Type 0
@@ -55,6 +57,7 @@ ReadsFor (kind.Satisfy choice rules) tree = reason_by choice rules tree ≡ None
 ReadsFor kind.Policy tree = ⊥
 ReadsFor kind.Plan tree = first_unfit tree ≡ None
 ReadsFor kind.Audit tree = first_unfit_valid tree ≡ None
+ReadsFor kind.Trace tree = first_unfit_valid tree ≡ None
 
 -- the reply to a tree with these offsets, with every source: nothing was read
 pub record AnswersAtOnce (kind : TextCommand) (tree : Tree) (offsets : List ℕ) (source : Side) (r : Reply) : Type 0 where

@@ -1,6 +1,6 @@
 use Rattle.ms_answer_laws.proofs.laws.answers.Goals as goal
 use Rattle.ms_answer_laws.proofs.Unique.{one_form, form_or_none, one_answer, some_answer}
-use Rattle.ms_answer_laws.proofs.Early.{answers_have_status, no_reading_is_of_decode, not_accepted_is_of_audit}
+use Rattle.ms_answer_laws.proofs.Early.{answers_have_status, no_reading_is_of_decode, not_accepted_is_of_witness}
 
 pub returns : goal.returns
 returns c = record {
@@ -10,5 +10,5 @@ returns c = record {
   some_answer = some_answer;
   status = answers_have_status;
   no_reading = no_reading_is_of_decode;
-  not_accepted = not_accepted_is_of_audit;
+  not_accepted = not_accepted_is_of_witness;
 }

@@ -1,5 +1,5 @@
 use Rattle.ms_answer_laws.proofs.laws.sources.Goals as goal
-use Rattle.ms_answer_laws.proofs.Early.{long_asset_file, long_run_file, long_plan_file, long_audit_file}
+use Rattle.ms_answer_laws.proofs.Early.{long_asset_file, long_run_file, long_plan_file, long_audit_file, long_trace_file, long_text_trace_file}
 use Rattle.ms_answer_laws.proofs.Sources.{answer_without_source, status_without_source, status_with_source}
 
 pub returns : goal.returns
@@ -11,4 +11,6 @@ returns c = record {
   long_run_file = long_run_file;
   long_plan_file = long_plan_file;
   long_audit_file = long_audit_file;
+  long_trace_file = long_trace_file;
+  long_text_trace_file = long_text_trace_file;
 }

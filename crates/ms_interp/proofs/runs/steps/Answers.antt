@@ -17,4 +17,4 @@ instructions-preserved g c =
     goes_on _ _ _ _ _ _ _ _ _ c.instructions.invariant found.0 found.1 found.2 c.in-Ok.ensures.value c.in-Ok.ensures.depth
 
 pub returns-in-Err : goal.returns-in-Err
-returns-in-Err g c = rw c.fault_of.ensures (breaks _ _ _ _ _ _ _ c.instructions.invariant c.in-Err.ensures.items)
+returns-in-Err g c = rw c.unread.ensures (breaks _ _ _ _ _ _ _ c.instructions.invariant c.in-Err.ensures.items)

@@ -15,4 +15,5 @@ returns c = record {
   unfit = answered refl refl;
   types = (answered refl refl, answered refl refl);
   others = (answered refl refl, answered refl refl, answered refl refl);
+  nested = (answered refl refl, answered refl refl, answered refl refl);
 }

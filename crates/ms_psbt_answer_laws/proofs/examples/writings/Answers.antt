@@ -8,8 +8,10 @@ pub returns : goal.returns
 unfolding psbt_answers_on_literals
 returns c = record {
   two_of_three = answered refl refl;
+  nested = answered refl refl;
   base64 = answered refl refl;
   others = (answered refl refl, answered refl refl, answered refl refl);
   extracts = answered refl refl;
+  extracts_nested = answered refl refl;
   not_final = (answered refl refl, answered refl refl);
 }

@@ -3,28 +3,32 @@ use Rattle.ms_calls.specs.Buffers.{written_over}
 use Rattle.ms_psbt_calls.proofs.AnswerLemmas.{holds_of_answers, answer_is_no_stop}
 use Rattle.ms_psbt_calls.proofs.answering.psbt_answer.Goals as goal
 
-pub returns-in-Ok-answer_words-clause-status : goal.returns-in-Ok-answer_words-clause-status
-returns-in-Ok-answer_words-clause-status c =
-    holds_of_answers c.args.count c.args.words.now c.args.source.now c.in-Ok.words.items c.in-Ok-answer_words.outcome.status
-    c.in-Ok-answer_words.outcome.report.items _ _ c.in-Ok.ensures.words (rw c.deref.ensures.value at c.in-Ok-answer_words.ensures)
+pub returns-in-Ok-answer_in_memory-clause-status : goal.returns-in-Ok-answer_in_memory-clause-status
+returns-in-Ok-answer_in_memory-clause-status c =
+    holds_of_answers c.args.count c.args.words.now c.args.source.now c.in-Ok.words.items c.in-Ok-answer_in_memory.outcome.status
+    c.in-Ok-answer_in_memory.outcome.report.items _ _ c.in-Ok.ensures.words (rw c.deref.ensures.value at c.in-Ok-answer_in_memory.ensures)
     c.code.ensures
 
-pub returns-in-Ok-answer_words-clause-written : goal.returns-in-Ok-answer_words-clause-written
-returns-in-Ok-answer_words-clause-written c =
-    holds_of_answers c.args.count c.args.words.now c.args.source.now c.in-Ok.words.items c.in-Ok-answer_words.outcome.status
-    c.in-Ok-answer_words.outcome.report.items _ _ c.in-Ok.ensures.words (rw c.deref.ensures.value at c.in-Ok-answer_words.ensures)
-    (c.write_over-count.ensures.written ∙ ap (written_over c.args.report.now) c.deref-in-Ok-answer_words.ensures.value)
+pub returns-in-Ok-answer_in_memory-clause-written : goal.returns-in-Ok-answer_in_memory-clause-written
+returns-in-Ok-answer_in_memory-clause-written c =
+    holds_of_answers c.args.count c.args.words.now c.args.source.now c.in-Ok.words.items c.in-Ok-answer_in_memory.outcome.status
+    c.in-Ok-answer_in_memory.outcome.report.items _ _ c.in-Ok.ensures.words (rw c.deref.ensures.value at c.in-Ok-answer_in_memory.ensures)
+    (c.write_over-count.ensures.written ∙ ap (written_over c.args.report.now) c.deref-in-Ok-answer_in_memory.ensures.value)
 
-pub returns-in-Ok-answer_words-clause-needed : goal.returns-in-Ok-answer_words-clause-needed
-returns-in-Ok-answer_words-clause-needed c =
-    holds_of_answers c.args.count c.args.words.now c.args.source.now c.in-Ok.words.items c.in-Ok-answer_words.outcome.status
-    c.in-Ok-answer_words.outcome.report.items _ _ c.in-Ok.ensures.words (rw c.deref.ensures.value at c.in-Ok-answer_words.ensures)
-    (c.len.ensures ∙ sym c.deref-in-Ok-answer_words.ensures.len ∙ ap length c.deref-in-Ok-answer_words.ensures.value)
+pub returns-in-Ok-answer_in_memory-clause-needed : goal.returns-in-Ok-answer_in_memory-clause-needed
+returns-in-Ok-answer_in_memory-clause-needed c =
+    holds_of_answers c.args.count c.args.words.now c.args.source.now c.in-Ok.words.items c.in-Ok-answer_in_memory.outcome.status
+    c.in-Ok-answer_in_memory.outcome.report.items _ _ c.in-Ok.ensures.words (rw c.deref.ensures.value at c.in-Ok-answer_in_memory.ensures)
+    (c.len.ensures ∙ sym c.deref-in-Ok-answer_in_memory.ensures.len ∙ ap length c.deref-in-Ok-answer_in_memory.ensures.value)
 
-pub returns-in-Ok-answer_words-clause-kept : goal.returns-in-Ok-answer_words-clause-kept
-returns-in-Ok-answer_words-clause-kept c stop = absurd (answer_is_no_stop c.in-Ok.words.items c.args.source.now c.in-Ok-answer_words.outcome.status c.in-Ok-answer_words.outcome.report.items
-    c.code.result (rw c.deref.ensures.value at c.in-Ok-answer_words.ensures) c.code.ensures stop)
+pub returns-in-Ok-answer_in_memory-clause-kept : goal.returns-in-Ok-answer_in_memory-clause-kept
+returns-in-Ok-answer_in_memory-clause-kept c stop =
+    let outcome = c.in-Ok-answer_in_memory.outcome in
+    let answer = rw c.deref.ensures.value at c.in-Ok-answer_in_memory.ensures in
+    absurd (answer_is_no_stop c.in-Ok.words.items c.args.source.now outcome.status outcome.report.items c.code.result answer c.code.ensures stop)
 
-pub returns-in-Ok-answer_words-clause-kept_needed : goal.returns-in-Ok-answer_words-clause-kept_needed
-returns-in-Ok-answer_words-clause-kept_needed c stop = absurd (answer_is_no_stop c.in-Ok.words.items c.args.source.now c.in-Ok-answer_words.outcome.status c.in-Ok-answer_words.outcome.report.items
-    c.code.result (rw c.deref.ensures.value at c.in-Ok-answer_words.ensures) c.code.ensures stop)
+pub returns-in-Ok-answer_in_memory-clause-kept_needed : goal.returns-in-Ok-answer_in_memory-clause-kept_needed
+returns-in-Ok-answer_in_memory-clause-kept_needed c stop =
+    let outcome = c.in-Ok-answer_in_memory.outcome in
+    let answer = rw c.deref.ensures.value at c.in-Ok-answer_in_memory.ensures in
+    absurd (answer_is_no_stop c.in-Ok.words.items c.args.source.now outcome.status outcome.report.items c.code.result answer c.code.ensures stop)

@@ -5,6 +5,7 @@ use Rattle.msat_cli.proofs.SatisfactionLemmas.{finds_where_one_exists, shows_can
 use Rattle.msat_cli.proofs.RefusalLemmas.{refuses_other_texts}
 use Rattle.msat_cli.proofs.PlanLemmas.{shows_plan}
 use Rattle.msat_cli.proofs.AuditLemmas.{shows_audit}
+use Rattle.msat_cli.proofs.TraceLemmas.{shows_trace, shows_run, shows_nodes}
 use Rattle.msat_cli.proofs.PolicyLemmas.{shows_policy}
 use Rattle.msat_cli.proofs.DecodingLemmas.{shows_reading}
 use Rattle.msat_cli.proofs.program.msat.Given.{Over}
@@ -79,6 +80,15 @@ returns-clause-plan g c = shows_plan (this g c) c.answer_words-answer.ensures.ut
 
 pub returns-clause-audit : goal.returns-clause-audit
 returns-clause-audit g c = shows_audit (this g c) c.answer_words-answer.ensures.utf8 (returns-clause-end g c)
+
+pub returns-clause-traced : goal.returns-clause-traced
+returns-clause-traced g c = shows_trace (this g c) c.answer_words-answer.ensures.utf8 (returns-clause-end g c)
+
+pub returns-clause-last : goal.returns-clause-last
+returns-clause-last g c = shows_run (this g c) c.answer_words-answer.ensures.utf8 (returns-clause-end g c)
+
+pub returns-clause-nodes : goal.returns-clause-nodes
+returns-clause-nodes g c = shows_nodes (this g c) c.answer_words-answer.ensures.utf8 (returns-clause-end g c)
 
 pub returns-clause-reading : goal.returns-clause-reading
 returns-clause-reading g c = shows_reading (this g c) c.answer_words-answer.ensures.utf8 (returns-clause-end g c)

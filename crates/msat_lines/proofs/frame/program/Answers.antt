@@ -34,5 +34,8 @@ returns-clause-others g c = λ other. record {
   policy = c.msat.ensures.policy;
   plan = c.msat.ensures.plan;
   audit = c.msat.ensures.audit;
+  traced = c.msat.ensures.traced;
+  last = c.msat.ensures.last;
+  nodes = c.msat.ensures.nodes;
   reading = c.msat.ensures.reading;
 }

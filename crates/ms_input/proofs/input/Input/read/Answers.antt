@@ -4,7 +4,7 @@ use Rattle.ms_tree.specs.Shape.{shape}
 use Rattle.ms_utxo.specs.Spending.{script_seen}
 use Rattle.ms_input.specs.Seen.{spend_at}
 use Rattle.ms_input.proofs.Places.{is_at, input_is, locks_are}
-use Rattle.ms_input.proofs.Found.{found_early, found_settled, in_range_of}
+use Rattle.ms_input.proofs.Found.{guarded_by, found_early, found_settled, in_range_of}
 use Rattle.ms_input.proofs.input.Input.read.Goals as goal
 
 pub invariant_of-result : goal.invariant_of-result
@@ -16,6 +16,10 @@ invariant_of-result c =
     let e = c.in_ok-settled-in-Ok.ensures in
     record {
       at = at;
+      guarded = guarded_by (spend_at c.args.psbt.now c.args.number) c.spending-spent.result.kind (script_seen c.spending-spent.result.script) c.script_or_none-guarding.result.now
+          (c.spending-spent.ensures.kind (spend_at c.args.psbt.now c.args.number) (record { same_input = at.same_input; fields = at.fields }))
+          (c.spending-spent.ensures.script (spend_at c.args.psbt.now c.args.number) (record { same_input = at.same_input; fields = at.fields }))
+          c.script_or_none-guarding.ensures;
       found = found_settled (spend_at c.args.psbt.now c.args.number) c.spending-spent.result.amount c.in_ok-fields.fields _ c.in-Ok.script.now (option_map shape s.tree) s.state s.assets s.stack
           (c.spending-spent.ensures.amount (spend_at c.args.psbt.now c.args.number) (record { same_input = at.same_input; fields = at.fields }))
           (sym (c.spending-spent.ensures.script (spend_at c.args.psbt.now c.args.number) (record { same_input = at.same_input; fields = at.fields })) ∙ ap script_seen c.in-Ok.is)
@@ -34,6 +38,10 @@ invariant_of-result-in-Err c =
     c.input_map.ensures.map c.in_ok-fields.ensures in
     record {
       at = at;
+      guarded = guarded_by (spend_at c.args.psbt.now c.args.number) c.spending-spent.result.kind (script_seen c.spending-spent.result.script) c.script_or_none-guarding.result.now
+          (c.spending-spent.ensures.kind (spend_at c.args.psbt.now c.args.number) (record { same_input = at.same_input; fields = at.fields }))
+          (c.spending-spent.ensures.script (spend_at c.args.psbt.now c.args.number) (record { same_input = at.same_input; fields = at.fields }))
+          c.script_or_none-guarding.ensures;
       found = found_early (spend_at c.args.psbt.now c.args.number) c.spending-spent.result.amount c.in-Err.state
           (c.spending-spent.ensures.amount (spend_at c.args.psbt.now c.args.number) (record { same_input = at.same_input; fields = at.fields }))
           (sym (c.spending-spent.ensures.script (spend_at c.args.psbt.now c.args.number) (record { same_input = at.same_input; fields = at.fields })) ∙ ap script_seen c.in-Err.is);

@@ -1,12 +1,9 @@
-use Rattle.std.proofs.Common.{sym, ap, subst, ◌∙◌, []}
+use Rattle.std.proofs.Common.{sym, ap, subst, ◌∙◌}
 use Rattle.std.proofs.lemmas.Result.{IfOk-weaker}
-use Rattle.std.specs.Prelude.{Option}
-use Rattle.std.specs.Option.{option_map, unwrap_or}
-use Rattle.def_script.specs.Bytes.{Bytes}
-use Rattle.ms_fields.specs.Held.{Held}
+use Rattle.std.specs.Option.{option_map}
 use Rattle.ms_tree.specs.Shape.{shape}
 use Rattle.ms_input.specs.Seen.{Seen, input_seen}
-use Rattle.ms_input.specs.Scaffolding.Kept.{IsAt, IsFound}
+use Rattle.ms_input.specs.Scaffolding.Kept.{IsGuarded, IsFound}
 use Rattle.ms_input.proofs.Found.{IsLate, is_sane, has_script, unchanged}
 use Rattle.ms_input.proofs.input.Input.witness.Goals as goal
 
@@ -21,10 +18,10 @@ pub final_witness-requires-clause-script : goal.final_witness-requires-clause-sc
 final_witness-requires-clause-script c =
     let i = c.self.inside in
     let found = subst (λ (s : Seen). IsFound s.spend i.amount (option_map shape s.tree) i.state i.assets i.stack) c.self.view_is c.self.invariant.found in
-    let at = subst (λ (s : Seen). IsAt i.psbt.now i.number s.spend i.input i.fields) c.self.view_is c.self.invariant.at in
+    let guarded = subst (λ (s : Seen). IsGuarded s.spend i.kind i.script.now) c.self.view_is c.self.invariant.guarded in
     has_script (input_seen c.args.self.now) (shape c.in-Some-Some-Some.tree) found.reading (subst IsLate (sym c.requires) tt)
     (sym (ap (λ (s : Seen). option_map shape s.tree) c.self.view_is) ∙ ap (option_map shape) c.in-Some-Some-Some.is-0)
-    ∙ sym (c.script_or_none-script.ensures ∙ ap (λ (o : Option Bytes). unwrap_or o []) (c.script.ensures ∙ ap (λ (h : Held). h.script) at.fields))
+    ∙ sym guarded.script_is
 
 pub returns-clause-unchangeable : goal.returns-clause-unchangeable
 returns-clause-unchangeable c =

@@ -1,0 +1,6 @@
+pub mod Computing
+pub mod Tokens
+mod Answering
+mod Utf8
+mod Pieces
+mod OneAnswer

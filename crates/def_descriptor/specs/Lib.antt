@@ -1,0 +1,10 @@
+pub mod Token
+pub mod Expression
+pub mod Steps
+pub mod ReadKey
+pub mod Pieces
+pub mod Parts
+pub mod Answer
+pub mod Gives
+pub mod Laws
+pub mod Examples

@@ -1,0 +1,4 @@
+mod Lining
+mod Firsts
+mod Onward
+mod Walking

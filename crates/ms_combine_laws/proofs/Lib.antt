@@ -1,0 +1,9 @@
+mod Found
+mod Kept
+mod Sounding
+mod Locking
+mod Common
+mod Whole
+mod Given
+mod Keys
+mod Again

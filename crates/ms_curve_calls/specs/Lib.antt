@@ -1,0 +1,3 @@
+-- What the calls on signatures and keys answer.
+pub mod Codes
+pub mod Given

@@ -1,0 +1,2 @@
+-- What asks for lines.
+pub mod Asking

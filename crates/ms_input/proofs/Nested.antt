@@ -1,0 +1,70 @@
+-- The redeem script of a P2SH output of a known kind is short, and the scriptSig is that of the kind.
+use Rattle.std.proofs.Common.{◌≡◌, ◌<◌, ◌==◌, ◌&&◌, Bool, true, false, [], length, slice_index, Option, Some, None, Ok, Err, if◌then◌else◌, refl, ap, ◌∙◌, arith}
+use Rattle.std.specs.Prelude.{unwrap_or}
+use Rattle.std.specs.Str.{bytes_eq}
+use Rattle.std.proofs.lemmas.Bool.{and_parts, eqb-true}
+use Rattle.def_script.specs.Bytes.{Bytes}
+use Rattle.def_spend.specs.declared.Kind.{Kind}
+use Rattle.def_spend.specs.declared.Kind.TheVariants as kind
+use Rattle.def_spend.specs.declared.State.TheVariants as state
+use Rattle.def_spend.specs.Fields.{REDEEM_SCRIPT, field}
+use Rattle.def_spend.specs.Utxo.{Utxo}
+use Rattle.def_spend.specs.Utxo as utxo
+use Rattle.def_spend.specs.Input.{Spend}
+use Rattle.def_spend.specs.Kinds.{is_p2sh, p2sh_of, redeemed, program_in, program_of_utxo, is_nested, is_script_hash, kind_by, kind_with, spent_utxo, kind_of, script_sig_by}
+use Rattle.def_spend.specs.Finalized.{script_sig_of}
+
+abbrev bytes_in : Option Bytes → Bytes
+bytes_in o = unwrap_or o []
+
+-- the kind in P2SH tells that its redeem script is short
+abbrev IsShort : Kind → Option Bytes → Type 0
+IsShort one o = one ≡ kind.P2shP2wsh → length (bytes_in o) < 76
+
+short_program : (program : Bytes) → IsShort (kind_by true program) (Some program)
+short_program program = go (is_script_hash program) refl
+  where
+    go : (b : Bool) → is_script_hash program ≡ b → IsShort (if b then kind.P2shP2wsh else kind.Other) (Some program)
+    go true e is =
+        let both = and_parts ((length program == 34) && (slice_index program 0 == 0x00)) (slice_index program 1 == 0x20) e in
+        let parts = and_parts (length program == 34) (slice_index program 0 == 0x00) both.0 in
+        let long = eqb-true (length program) 34 parts.0 in
+        omega (arith, long)
+    go false e is = absurd cc
+
+short_alone : (program : Bytes) (o : Option Bytes) → IsShort (kind_by false program) o
+short_alone program o = go (is_script_hash program)
+  where
+    go : (b : Bool) → IsShort (if b then kind.P2wsh else kind.Other) o
+    go true is = absurd cc
+    go false is = absurd cc
+
+short_redeemed : (spent : Bytes) (o : Option Bytes) → IsShort (kind_with true (redeemed spent o)) o
+short_redeemed spent None = λ is. absurd cc
+short_redeemed spent (Some redeem) = go (bytes_eq spent (p2sh_of redeem))
+  where
+    go : (b : Bool) → IsShort (kind_with true (if b then Ok redeem else Err state.WrongScript)) (Some redeem)
+    go true is = short_program redeem is
+    go false is = absurd cc
+
+short_output : (spent : Bytes) (o : Option Bytes) → IsShort (kind_with (is_p2sh spent) (program_in spent o)) o
+short_output spent o = go (is_p2sh spent)
+  where
+    go : (b : Bool) → IsShort (kind_with b (if b then redeemed spent o else Ok spent)) o
+    go true = short_redeemed spent o
+    go false = short_alone spent o
+
+short_utxo : (u : Utxo) (o : Option Bytes) → IsShort (kind_with (is_nested u) (program_of_utxo u o)) o
+short_utxo utxo.none o = λ is. absurd cc
+short_utxo utxo.wrong o = λ is. absurd cc
+short_utxo (utxo.proved output) o = short_output output.script o
+short_utxo (utxo.claimed output) o = short_output output.script o
+
+pub redeem_is_short : (spend : Spend) → kind_of spend ≡ kind.P2shP2wsh → length (unwrap_or (field REDEEM_SCRIPT spend.fields) []) < 76
+redeem_is_short spend is = short_utxo (spent_utxo spend) (field REDEEM_SCRIPT spend.fields) is
+
+pub script_sig_is : (spend : Spend) (one : Kind) (redeem out : Bytes) → one ≡ kind_of spend → redeem ≡ unwrap_or (field REDEEM_SCRIPT spend.fields) []
+    → out ≡ unwrap_or (script_sig_by one redeem) [] → out ≡ script_sig_of spend
+script_sig_is spend one redeem out same held e =
+    e ∙ ap (λ (b : Bytes). bytes_in (script_sig_by one b)) held
+    ∙ ap (λ k. bytes_in (script_sig_by k (bytes_in (field REDEEM_SCRIPT spend.fields)))) same

@@ -1,0 +1,51 @@
+//! The Script of an input, and its scriptSig.
+
+ghost use Rattle.std.specs.Prelude.{◌≡◌, ◌<◌, [], length, IfOk, option_map, unwrap_or};
+ghost use Rattle.def_spend.specs.Hashes.{script_or_none as the_script_or_none};
+ghost use Rattle.def_spend.specs.Kinds.{pushed as the_pushed, script_sig_by as the_script_sig_by};
+ghost use Rattle.ms_utxo.specs.Spending.{script_seen};
+
+use ms_utxo::{Kind, State};
+use std::alloc::{AllocError, Global};
+
+/// The Script that was found, or no byte where there is none.
+pub fn script_or_none<'a>(script: Result<&'a [u8], State>) -> &'a [u8]
+    ensures { result.now ≡ the_script_or_none (script_seen script.entry) }
+{
+    match script {
+        Ok(script) => script,
+        Err(_) => &[],
+    }
+}
+
+/// The bytes of a field, or none where there is none.
+pub fn bytes_or_none<'a>(bytes: Option<&'a [u8]>) -> &'a [u8]
+    ensures { result.now ≡ unwrap_or (option_map (λ b. b.now) bytes.entry) [] }
+{
+    match bytes {
+        Some(bytes) => bytes,
+        None => &[],
+    }
+}
+
+/// The scriptSig of an output of this kind, with this redeem script; empty where it isn't known. Refuses for want of memory alone.
+pub fn script_sig_by(alloc: Global, kind: Kind, redeem: &[u8]) -> Result<Vec<u8>, AllocError>
+    requires { kind ≡ Kind.P2shP2wsh → length redeem.now < 76 }
+    ensures { IfOk result (λ out. out.items ≡ unwrap_or (the_script_sig_by kind redeem.now) []) }
+{
+    match kind {
+        Kind::P2shP2wsh => pushed(alloc, redeem),
+        Kind::P2wsh | Kind::Other => Ok(Vec::new(alloc)),
+    }
+}
+
+/// The one push of a string: its length, and then it. Refuses for want of memory alone.
+fn pushed(alloc: Global, bytes: &[u8]) -> Result<Vec<u8>, AllocError>
+    requires { length bytes.now < 76 }
+    ensures { IfOk result (λ out. out.items ≡ the_pushed bytes.now) }
+{
+    let mut out = Vec::with_capacity(alloc, 1 + bytes.len())?;
+    out.push(bytes.len() as u8)?;
+    out.extend_from_slice(bytes)?;
+    Ok(out)
+}

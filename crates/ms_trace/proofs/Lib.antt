@@ -1,0 +1,3 @@
+mod Briefly
+mod Lines
+mod Loop

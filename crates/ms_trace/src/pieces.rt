@@ -1,0 +1,66 @@
+//! Pieces of lines: numbers, elements and instructions.
+ghost use Rattle.std.specs.Prelude.{◌≡◌, ◌++◌, codes, decimal, drop, OnOk};
+ghost use Rattle.std.specs.String.{string_bytes};
+ghost use Rattle.def_trace.specs.Written.{digits, instruction_text, line_end};
+ghost use Rattle.ms_script.specs.Reads.{item_of};
+
+use crate::names::op_name;
+use itoa::Buffer;
+use ms_script::{InstrRef, num_encode};
+use std::alloc::{AllocError, Global};
+
+/// Adds a number in decimal.
+pub fn push_number(report: &mut String, number: usize) -> Result<(), AllocError>
+    ensures { OnOk result (string_bytes report.new ≡ string_bytes report.old ++ decimal number) }
+{
+    let mut buffer = Buffer::new();
+    report.push_str(buffer.format(number))
+}
+
+/// Adds bytes in lower-case digits, no byte as `-`.
+pub fn push_digits(alloc: Global, report: &mut String, bytes: &[u8]) -> Result<(), AllocError>
+    ensures { OnOk result (string_bytes report.new ≡ string_bytes report.old ++ digits bytes.now) }
+{
+    if bytes.is_empty() {
+        return report.push_str("-");
+    }
+    let text = hex::encode(alloc, bytes)?;
+    report.push_str(&text)
+}
+
+/// Adds what an instruction is called: a push by the bytes that it pushes, an opcode by its name.
+pub fn push_instruction(
+    alloc: Global,
+    report: &mut String,
+    instr: InstrRef<'_>,
+) -> Result<(), AllocError>
+    ensures { OnOk result (string_bytes report.new ≡ string_bytes report.old ++ instruction_text (item_of instr.entry) 0) }
+{
+    match instr {
+        InstrRef::Push { bytes, .. } => push_push(alloc, report, bytes),
+        InstrRef::Small(number) => {
+            let bytes = num_encode(number);
+            push_push(alloc, report, bytes.as_slice())
+        }
+        InstrRef::Code(op) => report.push_str(op_name(op)),
+    }
+}
+
+/// Adds what a push is called.
+fn push_push(alloc: Global, report: &mut String, bytes: &[u8]) -> Result<(), AllocError>
+    ensures { OnOk result (string_bytes report.new ≡ string_bytes report.old ++ (codes "push " ++ digits bytes.now)) }
+{
+    report.push_str("push ")?;
+    push_digits(alloc, report, bytes)
+}
+
+/// Adds the end of a line: the place of a node, where there is one, and a line feed.
+pub fn push_line_end(report: &mut String, places: &[usize], place: usize) -> Result<(), AllocError>
+    ensures { OnOk result (string_bytes report.new ≡ string_bytes report.old ++ line_end (drop place places.now)) }
+{
+    if let Some(node) = places.get(place) {
+        report.push_str(" node ")?;
+        push_number(report, *node)?;
+    }
+    report.push_str("\n")
+}
