@@ -57,7 +57,7 @@ extern "C" {
 /* The version of the library that is loaded: 1000000 for 1.0.0, and 1002003 for 1.2.3. */
 uint32_t msat_version(void);
 
-/* The codes that calls answer, which are the exit statuses of the program msat. */
+/* The codes that calls answer. All but the last are exit statuses of the program msat. */
 enum {
     MSAT_DONE = 0,            /* what was asked for was given */
     MSAT_USAGE = 1,           /* the words are those of no command */
@@ -66,14 +66,15 @@ enum {
     MSAT_NO_SATISFACTION = 4, /* there is no canonical satisfaction, or no plan */
     MSAT_NO_MEMORY = 7,       /* memory was wanting: nothing was written */
     MSAT_SCRIPT_REFUSED = 8,  /* the interpreter refused the script of a run file */
-    MSAT_NOT_ACCEPTED = 9,    /* the stack of a run file doesn't satisfy the text */
+    MSAT_NOT_ACCEPTED = 9,    /* the stack of a run file doesn't satisfy the text, or its script isn't the text's */
     MSAT_NO_READING = 10,     /* no miniscript that is valid by policy, with the keys named, has the Script to be decoded */
     MSAT_UNREADABLE = 11,     /* the words aren't so many, or a word or a text isn't UTF-8: nothing was written */
     MSAT_NO_POINT = 12        /* of msat_point alone: the bytes are no key, or the key is no point of the curve */
 };
 
 /* Answers the words of a command line, as `msat` does where its standard input holds `source`: `script TEXT`, `check TEXT`,
- * `satisfy TEXT`, `run`, `policy TEXT`, `plan TEXT`, `audit TEXT`, `decode HEX KEY..` and the others that docs/FORMATS.md lists.
+ * `satisfy TEXT`, `run`, `policy TEXT`, `plan TEXT`, `audit TEXT`, `trace`, `trace TEXT`, `decode HEX KEY..` and the others that
+ * docs/FORMATS.md lists.
  *
  * words    `count` words, each of UTF-8 without a NUL, with a NUL after each, and nothing behind the last NUL: for
  *          `script 1` the nine bytes "script\0" "1\0", a count of 2 and a length of 9.
@@ -90,8 +91,8 @@ uint32_t msat_answer(size_t count, const char *words, size_t words_len, const vo
                      size_t report_len, size_t *needed);
 
 /* Answers the words of a command line, as `msat-psbt` does where its standard input holds `source`: one word of `finalize`,
- * `inspect`, `extract` and `hashes`. The source is a PSBT (BIP 174, BIP 370), its bytes or their base64, of at most 16,777,216 bytes; the rest is
- * as in msat_answer, and the report of `finalize` has whatever bytes a PSBT has. MSAT_PSBT_REFUSED comes where the source is none, with why.
+ * `inspect`, `extract` and `hashes`; any others, and `lines` too, are MSAT_USAGE. The source is a PSBT (BIP 174, BIP 370), its bytes or
+ * their base64, of at most 16,777,216 bytes; the rest is as in msat_answer, and the report of `finalize` has whatever bytes a PSBT has. MSAT_PSBT_REFUSED comes where the source is none, with why.
  * Of any other source `finalize` answers MSAT_DONE where all inputs are final then, and else MSAT_PSBT_OPEN; `inspect` MSAT_DONE where all
  * are Final or Ready, and else MSAT_PSBT_OPEN; `extract` MSAT_DONE with the transaction, and MSAT_PSBT_OPEN where an input isn't Final or
  * there are no inputs; `hashes` always MSAT_DONE. */
@@ -393,7 +394,8 @@ uint32_t msat_audit(const char *text, size_t text_len, uint32_t version, uint32_
 uint32_t msat_decode(const uint8_t *script, size_t script_len, const uint8_t *keys, size_t keys_len, char *text, size_t text_len,
                      size_t *needed);
 
-/* Signatures and keys of secp256k1 (SEC 1, SEC 2), of bytes of any lengths. Neither call takes memory or refuses. */
+/* Signatures and keys of secp256k1 (SEC 1, SEC 2), of bytes of any lengths. Neither call takes memory, and no other call asks one of them:
+ * msat_psbt_answer looks at no signature. */
 
 /* What a signature is by a key and for a hash. */
 enum {

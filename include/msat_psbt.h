@@ -31,7 +31,7 @@ struct msat_psbt_text {
 /* The kinds of lines, and what is told of each. All else of the line is 0 or empty. */
 enum {
     MSAT_PSBT_LINE_OTHER = 0, /* text: the whole line */
-    MSAT_PSBT_LINE_PSBT,      /* inputs, outputs, version, locktime, id: the transaction */
+    MSAT_PSBT_LINE_PSBT,      /* inputs, outputs, version, locktime, id: the transaction, as it is with empty scriptSigs */
     MSAT_PSBT_LINE_OUTPUT,    /* number, amount, digits: an output and its script */
     MSAT_PSBT_LINE_FEE,       /* known; amount, is_large and digits, its decimal digits, where it is claimed or proved */
     MSAT_PSBT_LINE_INPUT,     /* number, state; text: the words of the state, with the reason of Unfit */
@@ -50,7 +50,7 @@ enum {
     MSAT_PSBT_LINE_NOT_FINAL, /* of `extract`. number: the first input that isn't final */
     MSAT_PSBT_LINE_REFUSED,   /* fault; text: its name; has_place, number: the byte of the PSBT */
     MSAT_PSBT_LINE_USAGE,
-    MSAT_PSBT_LINE_KIND       /* text: the kind of the spent output */
+    MSAT_PSBT_LINE_KIND       /* text: the kind of the spent output, `p2wsh`, `p2sh-p2wsh` or `other`. New kinds may come */
 };
 
 /* How far an amount or a fee is known. */
@@ -265,7 +265,7 @@ static inline bool msat_psbt_read_line(uint32_t kind, struct msat_psbt_text *res
     case MSAT_PSBT_LINE_USAGE: return true;
     default: break;
     }
-    /* a state, a miniscript or a policy, up to the end */
+    /* a state, a kind, a miniscript or a policy, up to the end */
     *to = *rest;
     rest->at += rest->length, rest->length = 0;
     return to->length > 0;

@@ -1,10 +1,10 @@
 # SPDX-License-Identifier: MIT
-"""PSBTs (BIP 174, BIP 370) whose inputs spend P2WSH outputs of sane miniscripts, by themselves or in P2SH: finalized, inspected, extracted, and what their
-signatures sign.
+"""PSBTs (BIP 174, BIP 370) whose inputs spend P2WSH outputs of sane miniscripts, by themselves or in P2SH: finalized, inspected,
+extracted, and what their signatures sign.
 
 A PSBT is bytes, or a str of base64, and what comes out is of the same kind. What is asked is answered by the proved library, as the
-program msat-psbt answers it; what is Python here, the reading of reports into classes, the check of signatures, and that those which
-aren't good don't count, is tested and not proved. Signatures are judged by the library.
+program msat-psbt answers it. So is what a signature is by a key and for a hash. What is Python here, the reading of reports into
+classes, which signatures are judged for which hash, and that those which aren't good don't count, is tested and not proved.
 """
 
 import base64
@@ -78,7 +78,6 @@ class Input:
     sequence: int
     amount: Optional[int]
     is_proved: bool
-    kind: Optional[str] = None
     signatures: tuple[tuple[bytes, int], ...] = ()
     text: Optional[str] = None
     policy: Optional[str] = None
@@ -86,12 +85,14 @@ class Input:
     asked: tuple[bytes, ...] = ()
     most: Optional[int] = None
     is_vain: bool = False
+    kind: Optional[str] = None
 
 
 @dataclass(frozen=True)
 class Inspection:
-    """What a transaction does with the money, and of each input what it is, what it demands, and what is missing. `is_settled` says
-    whether all inputs are Final or Ready."""
+    """What a transaction does with the money, and of each input what it is, what it demands, and what is missing. `txid` is the id that
+    it has with empty scriptSigs: where an output of P2SH is spent the final transaction has another one. `is_settled` says whether all
+    inputs are Final or Ready."""
 
     version: int
     locktime: int
@@ -131,7 +132,8 @@ class Hashes:
 
 
 def answer(word: str, psbt: Psbt) -> tuple[int, bytes]:
-    """The exit status and the report of the program msat-psbt for this word, where its standard input holds the PSBT."""
+    """The exit status and the report of the program msat-psbt for this word, where its standard input holds the PSBT. The word `lines`
+    is none here."""
     return _library_answer([word.encode(errors="surrogatepass")], source_bytes(psbt))
 
 

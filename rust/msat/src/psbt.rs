@@ -24,7 +24,7 @@ pub struct Inspection {
     /// The transaction's version.
     pub version: u32,
     pub locktime: u32,
-    /// The transaction's id as users know it, in digits.
+    /// The id that the transaction has with empty scriptSigs, as users know it, in digits.
     pub txid: String,
     pub outputs: Vec<Output>,
     pub fee: Fee,
