@@ -1,8 +1,8 @@
 #!/bin/sh
-# How `msat-psbt finalize` grows with the inputs of a PSBT: instructions for 1,000 and 2,000 inputs of 2-of-3, with and without derivations and with
-# previous transactions, of the product and of the plain program that does the same; what both write is compared byte for byte. Ends
-# with 1 where it takes more than 1.5 times the instructions of the plain one, start left out, or more than 2.1 times as many for
-# twice the inputs.
+# How `msat-psbt finalize` grows with the inputs of a PSBT: instructions for 1,000 and 2,000 inputs of 2-of-3, with and without derivations, with
+# previous transactions, in version 2 and in P2SH, of the product and of the plain program that does the same; what both
+# write is compared byte for byte. Ends with 1 where it takes more than 1.5 times the instructions of the plain one, start left
+# out, or more than 2.1 times as many for twice the inputs.
 . "$(dirname "$0")/lib.sh"
 wants valgrind rustc python3
 program=$top/crates/msat_psbt/out/msat_psbt
@@ -25,7 +25,7 @@ measure() {
 
 columns command shape size bytes proved plain
 measure two_of_three 0
-for shape in two_of_three bare previous; do
+for shape in two_of_three bare previous later nested; do
     measure "$shape" 1000
     measure "$shape" 2000
 done

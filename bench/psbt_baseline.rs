@@ -1,5 +1,6 @@
-//! What `msat-psbt finalize` does with a PSBT that came as bytes, by plain Rust over slices of it, to be measured beside the proved program: no value
-//! is copied but into the output, and a script's nodes lie in one list that each input uses again. Refusals aren't told apart.
+//! What `msat-psbt finalize` does with a PSBT of version 0 or 2 that came as bytes, by plain Rust over slices of it, to be measured beside the proved
+//! program: no value is copied but into the output, and a script's nodes lie in one list that each input uses again. It makes P2WPKH final too.
+//! Refusals aren't told apart.
 //! Usage: psbt_baseline, with a PSBT on standard input. The exit status is 0, 4 where an input stays open, or 3 where `refused` is printed.
 
 #[allow(dead_code)]
@@ -78,7 +79,8 @@ fn hash160(bytes: &[u8]) -> [u8; 20] {
 // Transactions.
 
 struct Spend<'a> {
-    outpoint: &'a [u8],
+    id: &'a [u8],
+    index: u32,
     sequence: u32,
 }
 
@@ -89,28 +91,79 @@ struct Transaction<'a> {
     locktime: u32,
 }
 
-/// The transaction of a PSBT: no scriptSig, and no outpoint twice.
+fn four_bytes(bytes: &[u8]) -> Option<u32> {
+    Some(u32::from_le_bytes(bytes.try_into().ok()?))
+}
+
+/// Whether no outpoint stands twice.
+fn are_new(spends: &[Spend<'_>]) -> bool {
+    let mut outpoints: Vec<_> = spends.iter().map(|spend| (spend.id, spend.index)).collect();
+    outpoints.sort_unstable();
+    outpoints.windows(2).all(|pair| pair[0] != pair[1])
+}
+
+/// The transaction of a PSBT of version 0: no scriptSig, and no outpoint twice.
 fn unsigned(bytes: &[u8]) -> Option<Transaction<'_>> {
     let mut rest = Rest(bytes);
     let version = rest.number()?;
     let count = rest.size()?;
     let mut spends = Vec::with_capacity(count.min(bytes.len() / 41));
     for _ in 0..count {
-        let outpoint = rest.take(36)?;
+        let (id, index) = (rest.take(32)?, rest.number()?);
         if rest.size()? != 0 {
             return None;
         }
-        spends.push(Spend { outpoint, sequence: rest.number()? });
+        spends.push(Spend { id, index, sequence: rest.number()? });
     }
     let outputs = rest.size()?;
     for _ in 0..outputs {
         output(&mut rest)?;
     }
     let locktime = rest.number()?;
-    let mut outpoints: Vec<&[u8]> = spends.iter().map(|spend| spend.outpoint).collect();
-    outpoints.sort_unstable();
-    let is_new = outpoints.windows(2).all(|pair| pair[0] != pair[1]);
-    (rest.is_empty() && is_new).then_some(Transaction { version, spends, outputs, locktime })
+    (rest.is_empty() && are_new(&spends)).then_some(Transaction { version, spends, outputs, locktime })
+}
+
+/// The locks that inputs of version 2 ask for, by BIP 370's rule.
+#[derive(Default)]
+struct Locks {
+    times: Option<u32>,
+    heights: Option<u32>,
+    /// An input has a time and no height, or a height and no time.
+    without_height: bool,
+    without_time: bool,
+}
+
+impl Locks {
+    /// Some(()) while one kind of lock is left that every input takes.
+    fn add(&mut self, time: Option<u32>, height: Option<u32>) -> Option<()> {
+        self.times = self.times.max(time);
+        self.heights = self.heights.max(height);
+        self.without_height |= time.is_some() && height.is_none();
+        self.without_time |= height.is_some() && time.is_none();
+        (!self.without_height || !self.without_time).then_some(())
+    }
+
+    fn locktime(&self, fallback: u32) -> u32 {
+        let asked = if self.without_height { self.times } else { self.heights };
+        asked.unwrap_or(fallback)
+    }
+}
+
+/// What the map of an input of version 2 says of the transaction.
+fn spend_of<'a>(pairs: &[Pair<'a>], locks: &mut Locks) -> Option<Spend<'a>> {
+    let (mut id, mut index, mut sequence, mut time, mut height) = (None, None, u32::MAX, None, None);
+    for pair in pairs {
+        match pair.kind {
+            0x0e => id = Some(pair.value),
+            0x0f => index = Some(four_bytes(pair.value)?),
+            0x10 => sequence = four_bytes(pair.value)?,
+            0x11 => time = Some(four_bytes(pair.value)?),
+            0x12 => height = Some(four_bytes(pair.value)?),
+            _ => {}
+        }
+    }
+    locks.add(time, height)?;
+    Some(Spend { id: id.filter(|id| id.len() == 32)?, index: index?, sequence })
 }
 
 fn output<'a>(rest: &mut Rest<'a>) -> Option<&'a [u8]> {
@@ -199,6 +252,21 @@ fn map<'a>(rest: &mut Rest<'a>, pairs: &mut Vec<Pair<'a>>, keys: &mut Vec<&'a [u
     is_new.then(|| &from[..from.len() - rest.0.len()])
 }
 
+/// Whether a map of an output has the forms of its version.
+fn is_of_output(pairs: &[Pair<'_>], version: u32) -> bool {
+    let mut fields = 0;
+    let are_good = pairs.iter().all(|Pair { kind, data, value, .. }| {
+        fields += usize::from(matches!(kind, 3 | 4));
+        match kind {
+            0 | 1 | 4 => data.is_empty(),
+            2 => is_key(data) && value.len() >= 4 && value.len() % 4 == 0,
+            3 => data.is_empty() && value.len() == 8,
+            _ => true,
+        }
+    });
+    are_good && fields == if version == 2 { 2 } else { 0 }
+}
+
 fn is_key(data: &[u8]) -> bool {
     matches!((data.len(), data.first()), (33, Some(2 | 3)) | (65, Some(4)))
 }
@@ -241,6 +309,10 @@ fn has_form(pair: &Pair<'_>) -> bool {
         0x0b => data.len() == 32 && sha256(value) == data,
         0x0c => data.len() == 20 && hash160(value) == data,
         0x0d => data.len() == 32 && hash256(value) == data,
+        0x0e => data.is_empty() && value.len() == 32,
+        0x0f | 0x10 => data.is_empty() && value.len() == 4,
+        0x11 => data.is_empty() && four_bytes(value).is_some_and(|time| time >= 500_000_000),
+        0x12 => data.is_empty() && four_bytes(value).is_some_and(|height| (1..500_000_000).contains(&height)),
         _ => true,
     }
 }
@@ -989,6 +1061,33 @@ fn satisfaction<'s>(script: &'s [u8], room: &mut Room<'s>, assets: &Assets<'s, '
 
 // Inputs.
 
+/// What is spent: its program, the final scriptSig's push of it where it is P2SH, and the witness script where the program is of one.
+struct Output<'a> {
+    program: &'a [u8],
+    is_nested: bool,
+    script: Option<&'a [u8]>,
+}
+
+/// None where it is none of the four kinds that are known.
+fn kind_of<'a>(spent: &'a [u8], redeem: Option<&'a [u8]>, script: Option<&'a [u8]>) -> Option<Output<'a>> {
+    let spent = Rest(&spent[8..]).text()?;
+    let is_nested = spent.len() == 23 && spent[..2] == [0xa9, 20] && spent[22] == 0x87;
+    let program = if is_nested { redeem.filter(|redeem| hash160(redeem) == spent[2..22])? } else { spent };
+    let script = match program {
+        [0, 32, hash @ ..] if hash.len() == 32 => Some(script.filter(|script| sha256(script) == *hash)?),
+        [0, 20, hash @ ..] if hash.len() == 20 => None,
+        _ => return None,
+    };
+    Some(Output { program, is_nested, script })
+}
+
+/// The signature of the key of P2WPKH, and the key.
+fn key_witness<'s>(program: &[u8], pairs: &[Pair<'s>]) -> Option<Vec<&'s [u8]>> {
+    let of_key = |pair: &&Pair<'s>| pair.data.len() == 33 && hash160(pair.data) == program[2..];
+    let signed = pairs.iter().filter(|pair| pair.kind == 2).find(of_key)?;
+    Some(vec![signed.value, signed.data])
+}
+
 /// The map of an input, or the final one where it is Ready. None where it is refused; Some(false) where it stays open.
 fn put_input<'s>(
     out: &mut Vec<u8>,
@@ -999,14 +1098,13 @@ fn put_input<'s>(
     room: &mut Room<'s>,
 ) -> Option<bool> {
     let mut utxo = None;
-    let (mut earlier, mut script, mut is_final, mut asked) = (None, None, false, 1);
-    let index = u32::from_le_bytes(spend.outpoint[32..].try_into().ok()?) as usize;
+    let (mut earlier, mut redeem, mut script, mut is_final, mut asked) = (None, None, None, false, 1);
     for pair in pairs {
-        has_form(pair).then_some(())?;
         match pair.kind {
-            0 => earlier = Some(previous(pair.value, index)?),
+            0 => earlier = Some(previous(pair.value, spend.index as usize)?),
             1 => utxo = Some(pair.value),
-            3 => asked = u32::from_le_bytes(pair.value.try_into().ok()?),
+            3 => asked = four_bytes(pair.value)?,
+            4 => redeem = Some(pair.value),
             5 => script = Some(pair.value),
             7 => is_final |= !pair.value.is_empty(),
             8 => is_final |= pair.value != [0],
@@ -1014,7 +1112,7 @@ fn put_input<'s>(
         }
     }
     let spent = match earlier {
-        Some((id, spent)) => spent.filter(|spent| id == spend.outpoint[..32] && utxo.is_none_or(|utxo| utxo == *spent)),
+        Some((id, spent)) => spent.filter(|spent| id == spend.id && utxo.is_none_or(|utxo| utxo == *spent)),
         None => utxo,
     };
     if is_final {
@@ -1022,33 +1120,70 @@ fn put_input<'s>(
         return Some(true);
     }
     let assets = Assets { version: transaction.version, sequence: spend.sequence, locktime: transaction.locktime, pairs };
-    let stack = spent.zip(script).and_then(|(spent, script)| {
+    let found = spent.and_then(|spent| kind_of(spent, redeem, script)).and_then(|output| {
         let mut signatures = pairs.iter().filter(|pair| pair.kind == 2 && pair.data.len() == 33);
         let is_of_type = signatures.clone().next().is_none() || matches!(asked & !0x80, 1..=3) && asked <= 0x83;
         let of_type = is_of_type && signatures.all(|pair| pair.value.last().is_some_and(|last| u32::from(*last) == asked));
-        let is_program = spent.len() == 43 && spent[8..11] == [34, 0, 32] && sha256(script) == spent[11..];
-        if of_type && is_program { satisfaction(script, room, &assets).zip(Some(script)) } else { None }
+        of_type.then_some(())?;
+        let stack = match output.script {
+            Some(script) => satisfaction(script, room, &assets)?,
+            None => key_witness(output.program, pairs)?,
+        };
+        Some((output, stack))
     });
-    let Some((stack, script)) = stack else {
+    let Some((output, mut stack)) = found else {
         out.extend_from_slice(map);
         return Some(false);
     };
     for pair in pairs.iter().filter(|pair| !matches!(pair.kind, 2..=8 | 0x0a..=0x0d)) {
         out.extend_from_slice(pair.whole);
     }
+    if output.is_nested {
+        out.extend_from_slice(&[1, 7, output.program.len() as u8 + 1, output.program.len() as u8]);
+        out.extend_from_slice(output.program);
+    }
+    stack.extend(output.script);
+    put_witness(out, &stack);
+    out.push(0);
+    Some(true)
+}
+
+/// The pair of a final witness.
+fn put_witness(out: &mut Vec<u8>, items: &[&[u8]]) {
     let sized = |length: usize| length + if length < 0xfd { 1 } else { 3 };
-    let length = 1 + stack.iter().map(|item| sized(item.len())).sum::<usize>() + sized(script.len());
     out.extend_from_slice(&[1, 8]);
-    put_size(out, length);
-    put_size(out, stack.len() + 1);
-    for item in stack {
+    put_size(out, 1 + items.iter().map(|item| sized(item.len())).sum::<usize>());
+    put_size(out, items.len());
+    for item in items {
         put_size(out, item.len());
         out.extend_from_slice(item);
     }
-    put_size(out, script.len());
-    out.extend_from_slice(script);
-    out.push(0);
-    Some(true)
+}
+
+/// What the global map says: the transaction, or in version 2 all of it but for its inputs and its lock time, and the number of inputs.
+enum Global<'a> {
+    Earlier(Transaction<'a>),
+    Later { version: u32, fallback: u32, inputs: usize, outputs: usize },
+}
+
+fn global<'a>(pairs: &[Pair<'a>]) -> Option<Global<'a>> {
+    let of = |kind: usize| pairs.iter().find(|pair| pair.kind == kind && pair.data.is_empty()).map(|pair| pair.value);
+    let count = |kind| {
+        let mut rest = Rest(of(kind)?);
+        rest.size().filter(|_| rest.is_empty())
+    };
+    let is_listed = |pair: &Pair<'_>| matches!(pair.kind, 0 | 2..=6 | 0xfb);
+    pairs.iter().filter(|pair| is_listed(pair)).all(|pair| pair.data.is_empty()).then_some(())?;
+    match of(0xfb).map_or(Some(0), four_bytes)? {
+        0 if !pairs.iter().any(|pair| matches!(pair.kind, 2..=6)) => Some(Global::Earlier(unsigned(of(0)?)?)),
+        2 if of(0).is_none() && of(6).is_none_or(|flags| flags.len() == 1) => Some(Global::Later {
+            version: four_bytes(of(2)?)?,
+            fallback: of(3).map_or(Some(0), four_bytes)?,
+            inputs: count(4)?,
+            outputs: count(5)?,
+        }),
+        _ => None,
+    }
 }
 
 /// The PSBT with its inputs finalised, and whether all are final. None where it is refused.
@@ -1056,26 +1191,44 @@ fn finalize(source: &[u8]) -> Option<(Vec<u8>, bool)> {
     let mut rest = Rest(source.strip_prefix(b"psbt\xff").filter(|_| source.len() <= 16_777_216)?);
     let (mut pairs, mut keys) = (Vec::new(), Vec::new());
     map(&mut rest, &mut pairs, &mut keys)?;
-    let mut transaction = None;
-    for pair in &pairs {
-        match pair.kind {
-            0 => transaction = Some(unsigned(pair.value).filter(|_| pair.data.is_empty())?),
-            0xfb => (pair.data.is_empty() && pair.value == [0; 4]).then_some(())?,
-            _ => {}
-        }
-    }
-    let transaction = transaction?;
+    let global = global(&pairs)?;
     let mut out = Vec::with_capacity(source.len());
     out.extend_from_slice(&source[..source.len() - rest.0.len()]);
     let mut is_final = true;
     let mut room = Room::default();
-    for spend in &transaction.spends {
-        let bytes = map(&mut rest, &mut pairs, &mut keys)?;
-        is_final &= put_input(&mut out, &transaction, spend, bytes, &pairs, &mut room)?;
-    }
+    let (version, outputs) = match global {
+        Global::Earlier(transaction) => {
+            for spend in &transaction.spends {
+                let bytes = map(&mut rest, &mut pairs, &mut keys)?;
+                pairs.iter().all(|pair| !matches!(pair.kind, 0x0e..=0x12) && has_form(pair)).then_some(())?;
+                is_final &= put_input(&mut out, &transaction, spend, bytes, &pairs, &mut room)?;
+            }
+            (0, transaction.outputs)
+        }
+        Global::Later { version, fallback, inputs, outputs } => {
+            // The lock time is known behind the last input: all pairs of inputs lie in one list.
+            let (mut all, mut maps, mut spends, mut locks) = (Vec::new(), Vec::new(), Vec::new(), Locks::default());
+            for _ in 0..inputs {
+                let bytes = map(&mut rest, &mut pairs, &mut keys)?;
+                pairs.iter().all(has_form).then_some(())?;
+                spends.push(spend_of(&pairs, &mut locks)?);
+                all.extend_from_slice(&pairs);
+                maps.push((bytes, all.len()));
+            }
+            are_new(&spends).then_some(())?;
+            let transaction = Transaction { version, spends, outputs, locktime: locks.locktime(fallback) };
+            let mut from = 0;
+            for (spend, (bytes, to)) in transaction.spends.iter().zip(maps) {
+                is_final &= put_input(&mut out, &transaction, spend, bytes, &all[from..to], &mut room)?;
+                from = to;
+            }
+            (2, outputs)
+        }
+    };
     out.extend_from_slice(rest.0);
-    for _ in 0..transaction.outputs {
+    for _ in 0..outputs {
         map(&mut rest, &mut pairs, &mut keys)?;
+        is_of_output(&pairs, version).then_some(())?;
     }
     rest.is_empty().then_some((out, is_final))
 }

@@ -3,6 +3,6 @@
 _msat_psbt() {
     local word=${COMP_WORDS[COMP_CWORD]}
     COMPREPLY=()
-    [ "$COMP_CWORD" != 1 ] || COMPREPLY=($(compgen -W "finalize inspect extract hashes lines" -- "$word"))
+    [ "$COMP_CWORD" != 1 ] || COMPREPLY=($(compgen -W "finalize inspect extract hashes verify combine lines" -- "$word"))
 }
 complete -o default -F _msat_psbt msat-psbt

@@ -5,4 +5,6 @@ complete -c msat-psbt -n __fish_use_subcommand -a finalize -d 'the PSBT with eac
 complete -c msat-psbt -n __fish_use_subcommand -a inspect -d 'what the transaction does with the money, and what each input demands and lacks'
 complete -c msat-psbt -n __fish_use_subcommand -a extract -d 'the network transaction of a PSBT whose inputs are all final'
 complete -c msat-psbt -n __fish_use_subcommand -a hashes -d 'what the signatures of each input sign'
+complete -c msat-psbt -n __fish_use_subcommand -a verify -d 'whether the final fields of each input are valid'
+complete -c msat-psbt -n __fish_use_subcommand -a combine -d 'the PSBT that holds what several of one transaction hold'
 complete -c msat-psbt -n __fish_use_subcommand -a lines -d 'an answer to each line of standard input, in order'

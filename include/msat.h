@@ -72,9 +72,9 @@ enum {
     MSAT_NO_POINT = 12        /* of msat_point alone: the bytes are no key, or the key is no point of the curve */
 };
 
-/* Answers the words of a command line, as `msat` does where its standard input holds `source`: `script TEXT`, `check TEXT`,
- * `satisfy TEXT`, `run`, `policy TEXT`, `plan TEXT`, `audit TEXT`, `trace`, `trace TEXT`, `decode HEX KEY..` and the others that
- * docs/FORMATS.md lists.
+/* Answers the words of a command line, as `msat` does where its standard input holds `source`: `script TEXT`, `asm TEXT`,
+ * `check TEXT`, `satisfy TEXT`, `run`, `policy TEXT`, `plan TEXT`, `audit TEXT`, `trace`, `trace TEXT`, `decode HEX KEY..` and the
+ * others that docs/FORMATS.md lists.
  *
  * words    `count` words, each of UTF-8 without a NUL, with a NUL after each, and nothing behind the last NUL: for
  *          `script 1` the nine bytes "script\0" "1\0", a count of 2 and a length of 9.
@@ -91,13 +91,13 @@ uint32_t msat_answer(size_t count, const char *words, size_t words_len, const vo
                      size_t report_len, size_t *needed);
 
 /* Answers the words of a command line, as `msat-psbt` does where its standard input holds `source`: one word of `finalize`,
- * `inspect`, `extract` and `hashes`; any others, and `lines` too, are MSAT_USAGE. The source is a PSBT (BIP 174, BIP 370), its bytes or
- * their base64, of at most 16,777,216 bytes; the rest is as in msat_answer, and the report of `finalize` has whatever bytes a PSBT has. MSAT_PSBT_REFUSED comes where the source is none, with why.
+ * `inspect`, `extract`, `hashes`, `verify` and `combine`; any others, and `lines` too, are MSAT_USAGE. The source is a PSBT (BIP 174, BIP 370),
+ * its bytes or their base64, of at most 16,777,216 bytes, and for `combine` several, each on a line in base64; the rest is as in msat_answer, and the report of `finalize` has whatever bytes a PSBT has. MSAT_PSBT_REFUSED comes where the source is none, with why.
  * Of any other source `finalize` answers MSAT_DONE where all inputs are final then, and else MSAT_PSBT_OPEN; `inspect` MSAT_DONE where all
  * are Final or Ready, and else MSAT_PSBT_OPEN; `extract` MSAT_DONE with the transaction, and MSAT_PSBT_OPEN where an input isn't Final or
- * there are no inputs; `hashes` always MSAT_DONE. */
+ * there are no inputs; `hashes` always MSAT_DONE. `combine` answers MSAT_DONE with one PSBT, in base64. */
 enum {
-    MSAT_PSBT_REFUSED = 3, /* the source is no PSBT that is read, and why is told */
+    MSAT_PSBT_REFUSED = 3, /* the source is no PSBT that is read, or none is combined of it, and why is told */
     MSAT_PSBT_OPEN = 4     /* of `finalize`, `inspect` and `extract`, as above; what the first two were asked for was given all the same */
 };
 uint32_t msat_psbt_answer(size_t count, const char *words, size_t words_len, const void *source, size_t source_len, char *report,

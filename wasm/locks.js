@@ -72,13 +72,13 @@ function polymod(values) {
   return check;
 }
 
-// The address of a witness program of version 0.
-function address(network, program) {
+// The address of a witness program, of version 0 by BIP 173, and of later ones by BIP 350.
+function address(network, program, version = 0) {
   const bits = Array.from(program, (byte) => byte.toString(2).padStart(8, "0")).join("");
-  const values = [0, ...bits.match(/.{1,5}/g).map((part) => parseInt(part.padEnd(5, "0"), 2))];
+  const values = [version, ...bits.match(/.{1,5}/g).map((part) => parseInt(part.padEnd(5, "0"), 2))];
   const letters = Array.from(network, (letter) => letter.charCodeAt(0));
   const spread = [...letters.map((letter) => letter >> 5), 0, ...letters.map((letter) => letter & 31)];
-  const check = polymod([...spread, ...values, 0, 0, 0, 0, 0, 0]) ^ 1;
+  const check = polymod([...spread, ...values, 0, 0, 0, 0, 0, 0]) ^ (version ? 0x2bc830a3 : 1);
   const checks = Array.from({ length: 6 }, (_, at) => (check >>> (5 * (5 - at))) & 31);
   return network + "1" + [...values, ...checks].map((value) => FIVES[value]).join("");
 }

@@ -2,6 +2,7 @@
 // The page: what stands in its fields goes to the core at each change, and what comes back is shown. Nothing is written as HTML.
 
 const MOST_SOURCE = 16777217; // A byte more than the most that is read of a PSBT: the core refuses it by itself.
+const MOST_VERIFIED = 1 << 20; // Signatures of a larger PSBT are looked at when that is asked for: it may take minutes.
 const at = (id) => document.getElementById(id);
 
 function element(tag, parts = {}, ...inner) {
@@ -39,7 +40,7 @@ class Page {
   start() {
     at("unable").hidden = true;
     at("all").hidden = false;
-    for (const id of ["text", "consensus", "keys"]) at(id).addEventListener("input", () => this.change());
+    for (const id of ["text", "consensus", "keys", "assets"]) at(id).addEventListener("input", () => this.change());
     for (const button of document.querySelectorAll("button.example")) {
       button.addEventListener("click", () => this.put(button.dataset.text));
     }
@@ -89,6 +90,7 @@ class Page {
     at("script-keys").hidden = !SCRIPT.test(body);
     if (!body) {
       this.showNames(new Map());
+      this.showHeld(null);
       answer.replaceChildren();
       at("text").removeAttribute("aria-invalid");
       return this.say("verdict", "Paste a condition, or take an example.");
@@ -98,6 +100,7 @@ class Page {
     if (found.given) this.showNames(found.given.used);
     at("text").setAttribute("aria-invalid", String(Boolean(found.refusal)));
     answer.replaceChildren(...(found.refusal ? this.refusal(found.refusal) : this.facts(found)));
+    this.showHeld(found.refusal ? null : found);
     return found;
   }
 
@@ -197,6 +200,34 @@ class Page {
     return [...notes, table("what is known of the condition", ["What", "Answer", "By"], rows), this.limits(checked.get("limits"))];
   }
 
+  // What `satisfy` makes of a sane text and of the asset file in its field, and the run of that.
+  showHeld(found) {
+    const assets = at("assets").value;
+    at("held").hidden = !found;
+    const answer = at("held-answer");
+    answer.replaceChildren();
+    at("held-verdict").textContent = "";
+    if (!found || !assets.trim()) return;
+    const isConsensus = at("consensus").checked;
+    const text = found.given.text;
+    const { status, report } = this.core.answer("msat", ["satisfy", ...(isConsensus ? ["--consensus"] : []), text], bytesOf(assets));
+    const lines = new TextDecoder().decode(report).trimEnd().split("\n");
+    this.say("held-verdict", status ? `Not satisfied: ${lines[0] || "memory was wanting"}` : "Satisfied", status ? "bad" : "good");
+    if (status) return;
+    const named = (line) => code(withNames(line.slice(line.indexOf(" ") + 1), found.given));
+    const items = lines.filter((line) => line.startsWith("item "));
+    const rows = items.map((line, place) => [`Item ${place}`, named(line), by("core")]);
+    rows.push(...lines.filter((line) => /^(witness|replay) /.test(line)).map((line) => [line.startsWith("w") ? "Witness" : "Replay", named(line), by("core")]));
+    const { version, sequence, locktime, signatures } = JSON.parse(assets);
+    const file = { script: found.checked.get("script"), witness: items.map((line) => line.slice(5).replace("-", "")), version, sequence, locktime, signatures };
+    const run = this.core.answer("msat", isConsensus ? ["trace"] : ["trace", text], bytesOf(JSON.stringify(file)));
+    const title = element("summary", {}, "The run, step by step ", by("core"));
+    answer.replaceChildren(
+      table("what satisfy writes, bottom first", ["What", "Answer", "By"], rows),
+      element("details", {}, title, ...ran("the run of what satisfy writes", text, file.witness, run)),
+    );
+  }
+
   letters(type) {
     const meanings = [...type].map((letter) => element("li", {}, `${letter}: ${WORDS.letters[letter]}`));
     return element("details", {}, element("summary", {}, code(type)), element("ul", {}, ...meanings));
@@ -260,22 +291,40 @@ class Page {
       const why = element("p", {}, fault && `${fault[0].toUpperCase()}${fault.slice(1)}. `, by("page"));
       return at("psbt").replaceChildren(why, element("p", { class: "soft" }, code(text), " ", by("core")));
     }
-    const final = await this.makeFinal(name, source);
+    const { status: left, report: final } = await this.psbt("finalize", source);
+    const network = left ? null : new TextDecoder().decode((await this.psbt("extract", final)).report).trimEnd();
+    const verified = final.length <= MOST_VERIFIED ? new TextDecoder().decode((await this.psbt("verify", final)).report).trimEnd() : null;
     if (!isLast()) return;
     this.say("psbt-verdict", `${name}: ${status ? "an input is neither Final nor Ready" : "each input is Final or Ready"}`, status ? "bad" : "good");
-    at("psbt").replaceChildren(final, ...inspected(text, this), this.plain("Hashes that signatures sign", "hashes", source));
+    const shown = inspected(text, source, final, network, verified, this);
+    const more = [this.plain("Hashes that signatures sign", "hashes", source)];
+    if (verified === null) more.push(this.plain("Whether its final fields are valid", "verify", final));
+    at("psbt").replaceChildren(this.save(name, final, network), ...shown, ...more);
   }
 
   // The finalized PSBT as a file to save, and its transaction where all inputs are final.
-  async makeFinal(name, source) {
-    const { status, report } = await this.psbt("finalize", source);
+  save(name, final, network) {
     if (this.saved) URL.revokeObjectURL(this.saved);
-    this.saved = URL.createObjectURL(new Blob([report], { type: "application/octet-stream" }));
+    this.saved = URL.createObjectURL(new Blob([final], { type: "application/octet-stream" }));
     const to = name.replace(/(\.psbt)?$/i, ".final.psbt");
     const link = element("a", { class: "save", id: "save", href: this.saved, download: to }, `Save ${to}`);
-    const said = status ? " Not all inputs are final in it. " : " All inputs are final in it. ";
-    const rest = status ? [] : [this.plain("The network transaction", "extract", report)];
+    const said = network === null ? " Not all inputs are final in it. " : " All inputs are final in it. ";
+    const title = element("summary", {}, "The network transaction ", by("core"));
+    const rest = network === null ? [] : [element("details", {}, title, element("pre", { id: "extract" }, network))];
     return element("div", {}, element("p", {}, link, said, by("core")), ...rest);
+  }
+
+  // The run of an input that was made final, when it is opened.
+  run(number, input, items) {
+    const inner = element("div", { class: "run" });
+    const ask = async (event) => {
+      if (!event.target.open || inner.firstChild) return;
+      const file = runFile(items, input.kind.endsWith("p2wpkh"), input.pairs, input.transaction);
+      const told = await this.worked.answer("msat", ["trace", input.text], bytesOf(JSON.stringify(file)));
+      const note = element("p", { class: "soft" }, "In it the signatures that stand in the PSBT are good, whether or not they are.");
+      inner.replaceChildren(...ran(`the run of input ${number}`, input.text, file.witness, told), note);
+    };
+    return element("details", { on: ["toggle", ask] }, element("summary", {}, `Its run, step by step `, by("core")), inner);
   }
 
   // A report that is asked when it is opened.
@@ -297,25 +346,116 @@ class Page {
 const shortName = (name) => (name.length <= 24 ? name : name.slice(0, 22) + "..");
 const listed = (names) => (names.length === 1 ? names[0] : `${names.slice(0, -1).join(", ")} and ${names[names.length - 1]}`);
 
-// The report of `inspect`: a table of the transaction, and one for each input.
-function inspected(report, page) {
+// A run as it was traced: what it came to, and a table of its instructions.
+function ran(caption, text, witness, { status, report }) {
+  const said = new TextDecoder().decode(report).trimEnd();
+  const stack = (items) => element("span", {}, ...items.flatMap((item) => [code(shortened(item || "-")), " "]));
+  const rows = stepsOf(said, witness).map(({ kind, name, place, main, alt }) => {
+    const both = stack(main);
+    if (alt.length) both.append(`beside: ${alt.map(shortened).join(" ")}`);
+    return [code(`${kind === "step" ? "" : `${kind}: `}${shortened(name)}`), code(nameAt(text, place)), both];
+  });
+  const heads = [["Instruction ", by("core")], "Node", ["The stack behind it, top last ", by("page")]];
+  const made = [element("p", { class: status ? "bad" : "good" }, code(said.slice(said.lastIndexOf("\n") + 1)), " ", by("core"))];
+  made.push(table(caption, heads, [["the witness", "", stack(witness)], ...rows.slice(0, MOST_STEPS)], [null, null, null]));
+  if (rows.length > MOST_STEPS) made.push(element("p", { class: "soft" }, `${counted(rows.length - MOST_STEPS)} more instructions aren’t shown.`));
+  return made;
+}
+
+// Digits as a person compares them: their ends.
+const shortened = (text) => text.replace(/[0-9a-f]{17,}/g, (digits) => `${digits.slice(0, 8)}..${digits.slice(-8)}`);
+
+// The name or letter of the node at a place of a text.
+const nameAt = (text, place) => (place === null ? "" : /^[a-z_0-9]+(?=\()|^[01]|^[a-z]/.exec(text.slice(place))[0]);
+
+// What the lines of `inspect` say of the transaction and of each input, in numbers and words, beside the pairs of its map.
+function facts(report, source) {
+  const [first, ...lines] = report.split("\n");
+  const [, , count, , version, , locktime] = first.split(" ");
+  const maps = inputMaps(source, Number(count));
+  const inputs = [];
+  for (const line of lines) {
+    const [word, ...rest] = line.split(" ");
+    const last = inputs[inputs.length - 1];
+    if (word === "input") inputs.push({ state: rest[1], pairs: maps[inputs.length], transaction: { version: Number(version), locktime: Number(locktime), sequence: null } });
+    else if (word === "outpoint") last.transaction.sequence = Number(rest[3]);
+    else if (last && ["kind", "text", "policy"].includes(word)) last[word] = rest.join(" ");
+  }
+  return inputs;
+}
+
+// The report of `inspect`: a table of the transaction, and one for each input, with what the page finds besides.
+function inspected(report, source, final, network, verified, page) {
+  const inputs = facts(report, source);
+  const verdicts = (verified || "").split("\n").filter((line) => line.startsWith("input "));
   const parts = [{ title: null, rows: [] }];
   const named = (value) => {
     const found = Array.from(page.digits).find(([, digits]) => digits.toLowerCase() === value);
     return found ? element("span", {}, `${found[0]} `, by("page"), " ", code(value)) : code(value);
   };
+  let fee = null;
   for (const line of report.split("\n")) {
     const { parts: said, title } = psbtLine(line, named, page);
+    const last = () => parts[parts.length - 1];
     if (title) parts.push({ title, rows: [] });
-    else parts[parts.length - 1].rows.push([...said, by("core")]);
+    else last().rows.push([...said, by("core")]);
+    const [word, ...rest] = line.split(" ");
+    if (word === "output") for (const row of paid(rest)) last().rows.push(row);
+    if (word === "ask" || word === "signature") last().rows.push(...signer(rest[0], inputs[parts.length - 2].pairs));
+    if (word === "fee") fee = rest[0];
   }
+  if (network !== null) parts[0].rows.push(...size(network, fee));
+  const finals = inputMaps(final, inputs.length);
   return parts.flatMap(({ title, rows }) => {
     if (!title) return [table("the transaction", ["What", "Answer", "By"], rows)];
     const [number, state] = title;
+    const input = inputs[number];
     const meaning = WORDS.states[state.split(" ")[0]];
     const heads = [element("h3", {}, `Input ${number}: ${state} `, by("core")), element("p", { class: "soft" }, meaning ? `${state.split(" ")[0]}: ${meaning}. ` : "", by("page"))];
-    return rows.length ? [...heads, table(`input ${number}`, ["What", "Answer", "By"], rows)] : heads;
+    rows.push(...verdict(verdicts[number]));
+    rows.push(...lacks(state, input, rows.some(([what]) => what === "No plan")));
+    const witness = state === "Ready" ? valueOf(finals[number], KEY_TYPES.witness) : null;
+    const run = witness ? [page.run(number, input, new Reader(witness).items())] : [];
+    return rows.length ? [...heads, table(`input ${number}`, ["What", "Answer", "By"], rows), ...run] : heads;
   });
+}
+
+// Where an output pays to.
+function paid([number, , script]) {
+  const [main, test] = addressesOf(script);
+  return main ? [[`Output ${number} pays to`, element("span", {}, code(main), " (main network), ", code(test), " (test)"), by("page")]] : [];
+}
+
+// Whom a key is of: the fingerprint of a master key, and the path from it.
+function signer(key, pairs) {
+  const origin = originOf(pairs, key);
+  return origin ? [["Its origin", code(origin), by("page")]] : [];
+}
+
+// How large the transaction is, and what it pays for that.
+function size(network, fee) {
+  const bytes = virtualSize(network);
+  const rate = /^\d+$/.test(fee || "") ? [["Fee rate", `${(Number(fee) / bytes).toFixed(2)} satoshis a virtual byte`, by("page")]] : [];
+  return [["Virtual bytes", counted(bytes), by("page")], ...rate];
+}
+
+// What `verify` says of an input's final fields, as they came or as `finalize` writes them.
+function verdict(line) {
+  const said = line ? line.split(" ").slice(2).join(" ") : "open";
+  if (said.startsWith("open")) return [];
+  const isValid = said === "valid";
+  const kind = isValid ? "good" : said.startsWith("unknown") ? "soft" : "bad";
+  const shown = element("span", { class: kind }, isValid ? "valid: each signature that its run asks about was looked at" : said);
+  return [["Its final fields", shown, by("core")]];
+}
+
+// The first causes of a state: a key that nobody tells, a preimage, a lock.
+function lacks(state, input, hasNoPlan) {
+  const row = (said, why) => ["Lacks", element("span", {}, code(said), `: ${why}`), by("page")];
+  const script = valueOf(input.pairs, KEY_TYPES.script);
+  if (state === "NoReading" && script) return unknownKeys(script, input.pairs).map((hash) => row(hash, "the key with this HASH160 stands in no signature and no derivation here"));
+  if (!hasNoPlan || !input.policy) return [];
+  return missingOf(input.policy, input.pairs, input.transaction).map(({ said, why }) => row(said, why));
 }
 
 // A line of the report: its name and its answer, or the number and the state of an input that begins with it.
@@ -325,6 +465,7 @@ function psbtLine(line, named, page) {
   const money = (amount) => (/^\d+/.test(amount) ? amount.replace(/^\d+/, (digits) => `${counted(digits)} satoshis,`) : amount);
   switch (word) {
     case "psbt": return { parts: ["Transaction", element("span", {}, `inputs ${rest[1]}, outputs ${rest[3]}, version ${rest[5]}, lock time ${rest[7]}, id `, code(rest[9]))] };
+    case "final": return { parts: ["Final id", code(rest[1])] };
     case "output": return { parts: [`Output ${rest[0]}`, element("span", {}, `${counted(rest[1])} satoshis to `, code(rest[2]))] };
     case "fee": return { parts: ["Fee", money(all)] };
     case "input": return { title: [rest[0], rest.slice(1).join(" ")] };

@@ -266,14 +266,14 @@ static void write_text(int which) {
 
 /* Each command with a PSBT. */
 static void ask_psbt(const char *name) {
-    static const char *const commands[] = {"finalize", "inspect", "extract", "hashes"};
+    static const char *const commands[] = {"finalize", "inspect", "extract", "hashes", "verify"};
     static char source[(1 << 24) + 1], answer[PSBT_ROOM];
     FILE *given = fopen(name, "rb");
     if (!given)
         exit(2);
     size_t length = fread(source, 1, sizeof source, given);
     fclose(given);
-    for (size_t i = 0; i < 4; i++) {
+    for (size_t i = 0; i < sizeof commands / sizeof commands[0]; i++) {
         size_t needed = 0;
         uint32_t code = msat_psbt_answer(1, commands[i], strlen(commands[i]) + 1, source, length, answer, sizeof answer, &needed);
         if (code == MSAT_NO_MEMORY)

@@ -48,7 +48,9 @@ def try_classes():
     """What the classes say of each folder is its report."""
     for folder in sorted(rows.ROWS.glob("*/")):
         row = rows.row_of(folder)
-        if len(row.words[0]) == 1:
+        if row.words[0] == ["combine"]:
+            try_combined(row)
+        elif row.words[0] in ([word] for word in ("finalize", "inspect", "extract", "hashes", "verify")):
             for source in (row.sources[0], row.sources[0].decode("latin-1")):
                 if isinstance(source, bytes) or source.isascii():
                     try_call(row, row.words[0][0], source)
@@ -70,6 +72,8 @@ def try_call(row, word, source):
         elif word == "inspect":
             told = psbt.inspect(source)
             said = told.is_settled == (row.status == 0) and lines_of(told) == report
+        elif word == "verify":
+            said = validity_lines_of(psbt.validity(source)) == report
         else:
             said = hash_lines_of(psbt.hashes(source)) == report
     except psbt.PsbtRefused as refused:
@@ -81,6 +85,26 @@ def try_call(row, word, source):
         try_copies(refused)
     if not said:
         fault(f"{row.name}: {word} says something else of {type(source).__name__}")
+
+
+def try_combined(row):
+    """Lines of PSBTs, each a part, as a str and as bytes: what they give, or what is raised. A line of nothing is no part."""
+    lines = row.sources[0].decode("latin-1").split("\n")
+    if not all(line.isascii() and "\0" not in line for line in lines):
+        return
+    places = [number for number, line in enumerate(lines, 1) if line.strip(" \t\r")]
+    parts = [lines[number - 1] for number in places]
+    report = row.report.decode("latin-1")
+    try:
+        said = psbt.combine(parts) + "\n" == report and psbt.combine([it.encode() for it in parts]) == row.report
+        said = said and psbt.combine([base64.b64decode(it) for it in parts]) == base64.b64decode(report)
+    except psbt.PsbtRefused as refused:
+        where = "" if refused.place is None else f" at {refused.place}"
+        front = "refused psbt" if refused.number is None else f"refused line {places[refused.number - 1]}"
+        said = row.status == 3 and f"{front} {refused.name}{where}\n" == report
+        try_copies(refused)
+    if not said:
+        fault(f"{row.name}: combine says something else")
 
 
 def try_copies(one):
@@ -97,6 +121,7 @@ def lines_of(told):
     """The report that an inspection was read from."""
     lines = [
         f"psbt inputs {len(told.inputs)} outputs {len(told.outputs)} version {told.version} locktime {told.locktime} txid {told.txid}",
+        *([f"final txid {told.final_txid}"] if told.final_txid else []),
         *(f"output {number} {output.amount} {digits(output.script)}" for number, output in enumerate(told.outputs)),
         "fee " + " ".join(map(str, filter(lambda part: part is not None, (told.fee.satoshis, told.fee.kind)))),
     ]
@@ -126,6 +151,15 @@ def hash_lines_of(told):
             front = "sign 1" if it.type == 1 else f"sign-other {it.type}"
             lines.append(f"{front} {digits(it.hash or b'')}")
         lines += [f"check {check.key.hex()} {check.sig.hex()} {digits(check.hash or b'')}" for check in it.checks]
+    return "".join(line + "\n" for line in lines)
+
+
+def validity_lines_of(told):
+    """The report that verdicts were read from."""
+    lines = []
+    for it in told:
+        lines.append(f"input {it.number} {it.verdict}" + (f" {it.reason}" if it.reason else ""))
+        lines += [f"signature {key.hex()} {kind} {word}" for key, kind, word in it.signatures]
     return "".join(line + "\n" for line in lines)
 
 
@@ -301,6 +335,12 @@ def try_edges():
             psbt.inspect(given)
             fault(f"a PSBT {given!r} is taken")
         except TypeError:
+            pass
+    for parts in ([], [""], [signed_psbt([]), b""]):
+        try:
+            psbt.combine(parts)
+            fault(f"{len(parts)} parts are combined")
+        except psbt.PsbtRefused:
             pass
     if psbt.inspect(bytearray(signed_psbt([]))) != psbt.inspect(memoryview(signed_psbt([]))):
         fault("a bytearray is another PSBT")

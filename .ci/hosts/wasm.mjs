@@ -4,12 +4,13 @@
 //   ask              [program, words, source] ..: the status and the report of each, or why the engine threw
 //   fail             the same, of a module with counted requests: each request of memory fails in turn, as far as `most`
 //   look             [text, names, keys, consensus] ..: what the page says of each
-//   hash, address, weaker, shuffle    what parts of the page, and of a module of .ci/browser, give
+//   hash, address, weaker, psbt, shuffle    what parts of the page, and of a module of .ci/browser, give
 import fs from "node:fs";
 import vm from "node:vm";
 
 const job = JSON.parse(fs.readFileSync(process.argv[2], "utf8"));
-const names = "Core, looked, markedLine, bytesOf, hexOf, HASHES, checksum, address, weaker";
+const names = `Core, looked, markedLine, bytesOf, bytesOfHex, hexOf, HASHES, checksum, address, weaker, addressesOf, inputMaps, originOf, virtualSize,
+  missingOf, unknownKeys, stepsOf`;
 const page = vm.runInThisContext(`(() => {"use strict";${fs.readFileSync(job.script, "utf8")};return { ${names} };})()`);
 const bytes = fs.readFileSync(job.module);
 if (WebAssembly.Module.imports(new WebAssembly.Module(bytes)).length) throw new Error("the module imports something");
@@ -75,6 +76,18 @@ if (job.hash) {
 }
 if (job.address) told.address = job.address.map(([network, program]) => page.address(network, unpacked(program)));
 if (job.weaker) told.weaker = job.weaker.map(([kind, operand]) => page.weaker(kind, operand));
+if (job.psbt) {
+  const { addresses, origins, sizes, missing, unknown, steps } = job.psbt;
+  const maps = (source) => page.inputMaps(unpacked(source), 1)[0];
+  told.psbt = {
+    addresses: addresses.map(page.addressesOf),
+    origins: origins.map(([source, key]) => page.originOf(maps(source), key)),
+    sizes: sizes.map(page.virtualSize),
+    missing: missing.map(([policy, source, transaction]) => page.missingOf(policy, maps(source), transaction).map(({ said }) => said)),
+    unknown: unknown.map(([script, source]) => page.unknownKeys(page.bytesOfHex(script), maps(source))),
+    steps: steps.map(([report, witness]) => page.stepsOf(report, witness).map(({ kind, name, place, main, alt }) => [kind, name, place, main, alt])),
+  };
+}
 if (job.shuffle) {
   const places = [0, 1, 2].map(() => core.calls.room(16n));
   const at = (place) => new Uint8Array(core.calls.memory.buffer, Number(place), 16);

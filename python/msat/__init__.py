@@ -47,10 +47,13 @@ from .psbt import (
     NotFinal,
     Output,
     PsbtRefused,
+    Validity,
+    combine,
     extract,
     finalize,
     hashes,
     inspect,
+    validity,
     verify,
 )
 from .results import (
@@ -81,8 +84,8 @@ __all__ = [
     # of signatures and keys
     "point", "signature",
     # of PSBTs
-    "Check", "Fee", "Hashes", "Input", "Inspection", "NoCurve", "NotFinal", "Output", "PsbtRefused", "extract", "finalize", "hashes",
-    "inspect", "verify",
+    "Check", "Fee", "Hashes", "Input", "Inspection", "NoCurve", "NotFinal", "Output", "PsbtRefused", "Validity", "combine",
+    "extract", "finalize", "hashes", "inspect", "validity", "verify",
 ]  # fmt: skip
 
 __version__ = ".".join(map(str, _library.version()))  # of the library that is loaded

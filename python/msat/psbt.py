@@ -1,6 +1,6 @@
 # SPDX-License-Identifier: MIT
-"""PSBTs (BIP 174, BIP 370) whose inputs spend P2WSH outputs of sane miniscripts, by themselves or in P2SH: finalized, inspected,
-extracted, and what their signatures sign.
+"""PSBTs (BIP 174, BIP 370) whose inputs spend P2WSH outputs of sane miniscripts, by themselves or in P2SH: combined, finalized, inspected,
+extracted, what their signatures sign, and whether their final fields are valid.
 
 A PSBT is bytes, or a str of base64, and what comes out is of the same kind. What is asked is answered by the proved library, as the
 program msat-psbt answers it. So is what a signature is by a key and for a hash. What is Python here, the reading of reports into
@@ -10,15 +10,15 @@ classes, which signatures are judged for which hash, and that those which aren't
 import base64
 import ctypes
 from dataclasses import dataclass
-from typing import Iterator, NoReturn, Optional, TypeVar, Union
+from typing import Iterable, Iterator, NoReturn, Optional, TypeVar, Union
 
 from . import _library
 from .curve import signature
 from .errors import MsatError, Refused
 
 __all__ = [
-    "Check", "Fee", "Hashes", "Input", "Inspection", "NoCurve", "NotFinal", "Output", "PsbtRefused", "answer", "extract", "finalize",
-    "hashes", "inspect", "is_signature_of", "verify",
+    "Check", "Fee", "Hashes", "Input", "Inspection", "NoCurve", "NotFinal", "Output", "PsbtRefused", "Validity", "answer", "combine",
+    "extract", "finalize", "hashes", "inspect", "is_signature_of", "validity", "verify",
 ]  # fmt: skip
 
 Psbt = Union[str, bytes]
@@ -26,7 +26,8 @@ P = TypeVar("P", str, bytes, Psbt)
 
 
 class PsbtRefused(Refused):
-    """The PSBT is refused: `name` is the reason, and `place` the byte of the PSBT, from 0, where it has one."""
+    """The PSBT is refused: `name` is the reason, and `place` the byte of the PSBT, from 0, where it has one. Of several that are combined
+    `number` is that of the one that is refused, from 1."""
 
 
 class NotFinal(MsatError):
@@ -91,8 +92,8 @@ class Input:
 @dataclass(frozen=True)
 class Inspection:
     """What a transaction does with the money, and of each input what it is, what it demands, and what is missing. `txid` is the id that
-    it has with empty scriptSigs: where an output of P2SH is spent the final transaction has another one. `is_settled` says whether all
-    inputs are Final or Ready."""
+    it has with empty scriptSigs: where an output of P2SH is spent the final transaction has another one, which `final_txid` is where
+    each final scriptSig is known and one has a byte. `is_settled` says whether all inputs are Final or Ready."""
 
     version: int
     locktime: int
@@ -101,6 +102,7 @@ class Inspection:
     fee: Fee
     inputs: tuple[Input, ...]
     is_settled: bool
+    final_txid: Optional[str] = None
 
 
 @dataclass(frozen=True)
@@ -129,6 +131,18 @@ class Hashes:
     type: Optional[int]
     hash: Optional[bytes]
     checks: tuple[Check, ...]
+
+
+@dataclass(frozen=True)
+class Validity:
+    """Whether the final fields of an input are valid: `verdict` is `open`, with its state as the reason, `unknown` or `invalid`, with what
+    isn't known or is wrong first, or `valid`. Then `signatures` has the keys that its run took a signature of, each with the number of
+    the signature's hash type, and `good`, or `high` where nodes don't relay it."""
+
+    number: int
+    verdict: str
+    reason: Optional[str]
+    signatures: tuple[tuple[bytes, int, str], ...] = ()
 
 
 def answer(word: str, psbt: Psbt) -> tuple[int, bytes]:
@@ -180,6 +194,38 @@ def extract(psbt: P) -> P:
     return _of_kind(psbt, digits if isinstance(psbt, str) else bytes.fromhex(digits.decode()))
 
 
+def validity(psbt: Psbt) -> tuple[Validity, ...]:
+    """Whether the final scriptSig and witness of each input are valid: by a run of what they have consensus run, under the signatures that
+    consensus takes, each looked at by ECDSA over secp256k1.
+
+    >>> validity("cHNidP8BAAoCAAAAAAAAAAAAAA==")
+    ()
+    """
+    _, report = _answered("verify", psbt, (0, 4))
+    _, *inputs = _by_input(report.decode())
+    return tuple(_validity(lines) for lines in inputs)
+
+
+def combine(psbts: Iterable[P]) -> P:
+    """One PSBT that holds what several of one transaction hold, in the form of the first one: in each map the pairs of the first, then those
+    of the second whose keys haven't stood yet, and so on. So of a key with several values the first one's stays.
+
+    >>> combine(["cHNidP8BAAoCAAAAAAAAAAAAAA==", "cHNidP8BAAoCAAAAAAAAAAAAAA=="])
+    'cHNidP8BAAoCAAAAAAAAAAAAAA=='
+    """
+    parts = list(psbts)
+    made = _answered("combine", b"\n".join(map(_line, parts)), (0,))[1]
+    is_base64 = isinstance(parts[0], str) or not source_bytes(parts[0]).startswith(_MAGIC)
+    return _of_kind(parts[0], made if is_base64 else base64.b64decode(made))
+
+
+def _line(psbt: Psbt) -> bytes:
+    """A PSBT as one line of base64. An empty one is no line, and is refused by itself."""
+    source = source_bytes(psbt)
+    line = base64.b64encode(source) if source.startswith(_MAGIC) else source.translate(None, b" \t\r\n")
+    return line or _answered("hashes", source, (0,))[1]
+
+
 def _of_kind(psbt: P, made: bytes) -> P:
     """What is made of a PSBT: a str where that is one. A report of base64 or of digits is one line."""
     given: Psbt = made.decode().rstrip("\n") if isinstance(psbt, str) else made
@@ -191,15 +237,16 @@ def inspect(psbt: Psbt) -> Inspection:
     status, report = _answered("inspect", psbt, (0, 4))
     head, *inputs = _by_input(report.decode())
     told = head[0].split()
-    count = int(told[4])
+    final = next((line.split()[2] for line in head if line.startswith("final txid ")), None)
     return Inspection(
         version=int(told[6]),
         locktime=int(told[8]),
         txid=told[10],
-        outputs=tuple(_output(line) for line in head[1 : 1 + count]),
-        fee=_fee(head[1 + count]),
+        outputs=tuple(_output(line) for line in head if line.startswith("output ")),
+        fee=_fee(head[-1]),
         inputs=tuple(_input(lines) for lines in inputs),
         is_settled=status == 0,
+        final_txid=final,
     )
 
 
@@ -333,7 +380,8 @@ def _refuse(code: int, text: str) -> NoReturn:
     """Raises the refusal of a report with this status."""
     words = text.split()
     if code == 3:
-        raise PsbtRefused(text, words[2], place=int(words[4]) if "at" in words else None)
+        number = int(words.pop(2)) if words[1] == "line" else None
+        raise PsbtRefused(text, words[2], place=int(words[4]) if "at" in words else None, number=number)
     if code == 4:
         raise NotFinal(text, int(words[2]))
     if code == 7:
@@ -421,6 +469,17 @@ def _input(lines: list[str]) -> Input:
 def _signature(value: str) -> tuple[bytes, int]:
     key, kind = value.split()
     return bytes.fromhex(key), int(kind)
+
+
+def _validity(lines: list[str]) -> Validity:
+    """Whether an input's final fields are valid, of its lines in `verify`.
+
+    >>> _validity(["input 2 invalid NullFail at 5"])
+    Validity(number=2, verdict='invalid', reason='NullFail at 5', signatures=())
+    """
+    _, number, verdict, *reason = lines[0].split()
+    signatures = (line.split()[1:] for line in lines[1:])
+    return Validity(int(number), verdict, " ".join(reason) or None, tuple((bytes.fromhex(key), int(kind), word) for key, kind, word in signatures))
 
 
 def _hashes(lines: list[str]) -> Hashes:

@@ -21,12 +21,13 @@ use Rattle.def_answer.specs.Satisfy.{chosen_by, reason_by}
 use Rattle.def_decode.specs.Decoded.{IsReading, IsDecoded}
 use Rattle.def_answer.specs.declared.status.Status.{Status}
 use Rattle.def_answer.specs.declared.status.Status.TheVariants as status
-use Rattle.def_answer.specs.Words.{Command, script, check, satisfy, gen, policy, plan, audit, trace, trace_text, decode, IsForm, HasNoForm}
+use Rattle.def_answer.specs.Words.{Command, script, asm, check, satisfy, gen, policy, plan, audit, trace, trace_text, decode, IsForm, HasNoForm}
 use Rattle.def_answer.specs.Words as words
 use Rattle.def_answer.specs.Generated.{generated_tree, generated_assets}
 use Rattle.def_answer.specs.Reading.{Reading, HasReading}
 use Rattle.def_answer.specs.Reading as reading
 use Rattle.def_answer.specs.Script.{script_report}
+use Rattle.def_answer.specs.Asm.{asm_report}
 use Rattle.def_answer.specs.Check.{check_report}
 use Rattle.def_answer.specs.Gen.{gen_report}
 use Rattle.def_answer.specs.Policy.{policy_report}
@@ -41,6 +42,9 @@ gen_reply n =
 
 abbrev pub script_reply : Tree → Reply
 script_reply tree = reply status.Done (script_report tree)
+
+abbrev pub asm_reply : (offsets : List ℕ) → Tree → Reply
+asm_reply offsets tree = reply status.Done (asm_report offsets tree)
 
 abbrev pub check_reply : Rules → Tree → Reply
 check_reply rules tree = reply status.Done (check_report rules tree)
@@ -87,6 +91,12 @@ abbrev pub offsets_of : Reading → List ℕ
 offsets_of (reading.read tree offsets) = offsets
 offsets_of (reading.refused fault) = []
 
+-- the reply to a text, by its reading and the places of its nodes
+abbrev pub RepliesWithPlaces : (text : Bytes) → (first_reason : Tree → Option Unfit) →
+    (next : (offsets : List ℕ) → Tree → Reply) → Reply → Type 0
+RepliesWithPlaces text first_reason next r =
+    (found : Reading) × HasReading text found × (r ≡ text_reply first_reason (next (offsets_of found)) found)
+
 -- the reply to a text and a run file, with such steps
 abbrev pub RepliesToAudit : (text source : Bytes) → Reply → Type 0
 RepliesToAudit text source r =
@@ -95,13 +105,12 @@ RepliesToAudit text source r =
 
 -- the reply to a text and a run file whose script is that of the text
 abbrev pub RepliesToTrace : (text source : Bytes) → Reply → Type 0
-RepliesToTrace text source r =
-    (found : Reading) × HasReading text found
-    × (r ≡ text_reply first_unfit_valid (text_trace_reply (offsets_of found) source) found)
+RepliesToTrace text source r = RepliesWithPlaces text first_unfit_valid (λ offsets. text_trace_reply offsets source) r
 
 -- the reply to a command
 abbrev pub Replies : Command → (source : Bytes) → Reply → Type 0
 Replies (script rules text) source r = RepliesToText text (first_unfit_valid_under rules) script_reply r
+Replies (asm rules text) source r = RepliesWithPlaces text (first_unfit_valid_under rules) asm_reply r
 Replies (check rules text) source r = RepliesToText text (first_unfit_under rules) (check_reply rules) r
 Replies (satisfy choice rules text) source r = RepliesToText text (reason_by choice rules) (satisfy_reply rules (chosen_by choice) source) r
 Replies words.run source r = r ≡ run_reply source

@@ -5,6 +5,7 @@ pub mod Files
 pub mod Satisfy
 pub mod Words
 pub mod Script
+pub mod Asm
 pub mod Check
 pub mod Run
 pub mod Generated

@@ -11,6 +11,8 @@ use Rattle.def_answer.specs.Satisfy.{rules_words, satisfy_words}
 pub data Command : Type 0 where
   -- the Script of a text that is valid under these rules
   script : (rules : Rules) → (text : Bytes) → Command
+  -- the instructions of the Script of a text that is valid under these rules, with the node that wrote each
+  asm : (rules : Rules) → (text : Bytes) → Command
   -- what is known of a text that is sane under these rules
   check : (rules : Rules) → (text : Bytes) → Command
   -- the satisfaction that is chosen so, of a text that is sane or valid under these rules, with an asset file
@@ -35,6 +37,7 @@ pub data Command : Type 0 where
 -- the words of a command
 abbrev pub words_of : Command → List Bytes
 words_of (script rules text) = codes "script" ∷ (rules_words rules ++ text ∷ [])
+words_of (asm rules text) = codes "asm" ∷ (rules_words rules ++ text ∷ [])
 words_of (check rules text) = codes "check" ∷ (rules_words rules ++ text ∷ [])
 words_of (satisfy choice rules text) = satisfy_words choice rules text
 words_of run = codes "run" ∷ []
@@ -57,6 +60,7 @@ IsHex digits = (length digits % 2 ≡ 0) × AllPass is_hex_digit digits
 -- the number of `gen` is 1 to 30, and each word after the Script of `decode` spells a key
 abbrev pub IsCommand : Command → Type 0
 IsCommand (script rules text) = ⊤
+IsCommand (asm rules text) = ⊤
 IsCommand (check rules text) = ⊤
 IsCommand (satisfy choice rules text) = ⊤
 IsCommand run = ⊤

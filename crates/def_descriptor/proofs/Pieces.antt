@@ -96,11 +96,11 @@ found_if : (t : Bool) (f g : Found) → FoundUtf8 f → FoundUtf8 g → FoundUtf
 found_if true f g h k = h
 found_if false f g h k = k
 
-wsh_utf8 : (ts : List Token) → AllUtf8 ts → FoundUtf8 (read_wsh ts)
-wsh_utf8 ts h =
+wsh_utf8 : (most : ℕ) (ts : List Token) → AllUtf8 ts → FoundUtf8 (read_wsh most ts)
+wsh_utf8 most ts h =
     found_if (starts (codes "sortedmulti") ts) _ _
-    (λ ps e. of_some (gather_sorted ts).pieces ps (ascii_is_utf8 (codes "multi") refl, gather_utf8 (length ts) multi_name 0 NOTHING_SEEN (drop 1 ts) (all_behind ts h)) e)
-    (λ ps e. of_some (gather (length ts) elsewhere 0 NOTHING_SEEN ts).pieces ps (gather_utf8 (length ts) elsewhere 0 NOTHING_SEEN ts h) e)
+    (λ ps e. of_some (gather_sorted most ts).pieces ps (ascii_is_utf8 (codes "multi") refl, gather_utf8 most multi_name 0 NOTHING_SEEN (drop 1 ts) (all_behind ts h)) e)
+    (λ ps e. of_some (gather most elsewhere 0 NOTHING_SEEN ts).pieces ps (gather_utf8 most elsewhere 0 NOTHING_SEEN ts h) e)
 
 abbrev PartsUtf8 : Result (Bool × Found) DescriptorFault → Type 0
 PartsUtf8 (Ok (under, found)) = FoundUtf8 found
@@ -111,9 +111,9 @@ single_utf8 : (under : Bool) (r : Result (Expression × List Token) DescriptorFa
 single_utf8 under (Ok (expression, rest)) = λ ps e. absurd (cc)
 single_utf8 under (Err fault) = tt
 
-body_utf8 : (under : Bool) (form : Form) (ts : List Token) → AllUtf8 ts → PartsUtf8 (mapped (λ found. (under, found)) (read_body form ts))
-body_utf8 under Wsh ts h = wsh_utf8 ts h
-body_utf8 under Wpkh ts h = single_utf8 under (read_key NOTHING_SEEN ts)
+body_utf8 : (most : ℕ) (under : Bool) (form : Form) (ts : List Token) → AllUtf8 ts → PartsUtf8 (mapped (λ found. (under, found)) (read_body most form ts))
+body_utf8 most under Wsh ts h = wsh_utf8 most ts h
+body_utf8 most under Wpkh ts h = single_utf8 under (read_key NOTHING_SEEN ts)
 
 keeps_form : (ts : List Token) → AllUtf8 ts → Keeps (read_form ts)
 keeps_form [] h = tt
@@ -127,14 +127,14 @@ keeps_head ts h =
     (keeps_behind (codes "(") (drop 1 ts) _ (all_behind ts h) (λ rest k. keeps_then (read_form rest) _ (keeps_form rest k) (λ form end l. l)))
     (keeps_then (read_form ts) _ (keeps_form ts h) (λ form end l. l))
 
-head_utf8 : (r : Result ((Bool × Form) × List Token) DescriptorFault) → Keeps r
-    → PartsUtf8 (and_then r (λ head rest. mapped (λ found. (head.0, found)) (read_body head.1 rest)))
-head_utf8 (Ok ((under, form), rest)) h = body_utf8 under form rest h
-head_utf8 (Err fault) h = tt
+head_utf8 : (most : ℕ) (r : Result ((Bool × Form) × List Token) DescriptorFault) → Keeps r
+    → PartsUtf8 (and_then r (λ head rest. mapped (λ found. (head.0, found)) (read_body most head.1 rest)))
+head_utf8 most (Ok ((under, form), rest)) h = body_utf8 most under form rest h
+head_utf8 most (Err fault) h = tt
 
 parts_utf8 : (text : Bytes) → IsUtf8 text → PartsUtf8 (read_parts text)
 unfolding read_parts
-parts_utf8 text h = head_utf8 (read_head (tokens text)) (keeps_head (tokens text) (all_utf8 text h))
+parts_utf8 text h = head_utf8 (suc (length text)) (read_head (tokens text)) (keeps_head (tokens text) (all_utf8 text h))
 
 found_in : Found → Result (Bool × Found) DescriptorFault → Found
 found_in other (Ok x) = x.1

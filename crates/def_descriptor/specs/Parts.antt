@@ -1,5 +1,5 @@
 -- The parts of a descriptor's text (BIP 380, BIP 382, BIP 383).
-use Rattle.std.specs.Prelude.{ℕ, ◌+◌, Bool, true, false, if◌then◌else◌, List, [], ◌∷◌, length, take, drop, codes, Option, Some, None, Result, Ok, Err}
+use Rattle.std.specs.Prelude.{ℕ, suc, ◌+◌, Bool, true, false, if◌then◌else◌, List, [], ◌∷◌, length, take, drop, codes, Option, Some, None, Result, Ok, Err}
 use Rattle.std.specs.List.{list_any}
 use Rattle.std.specs.Str.{bytes_eq}
 use Rattle.def_script.specs.Bytes.{Bytes}
@@ -76,20 +76,20 @@ abbrev pub found_by : (List Piece → Body) → Gathered → Found
 found_by body g = record { body = body g.pieces; refused = g.refused; rest = g.rest }
 
 -- `sortedmulti` is written where a `multi` would be
-abbrev pub gather_sorted : List Token → Gathered
-gather_sorted ts = with_piece (plain (place ts) (codes "multi")) (gather (length ts) multi_name 0 NOTHING_SEEN (drop 1 ts))
+abbrev pub gather_sorted : (most : ℕ) → List Token → Gathered
+gather_sorted most ts = with_piece (plain (place ts) (codes "multi")) (gather most multi_name 0 NOTHING_SEEN (drop 1 ts))
 
-abbrev pub read_wsh : List Token → Found
-read_wsh ts =
-    let by_sorted = found_by sorted (gather_sorted ts) in
-    let by_pieces = found_by miniscript (gather (length ts) elsewhere 0 NOTHING_SEEN ts) in
+abbrev pub read_wsh : (most : ℕ) → List Token → Found
+read_wsh most ts =
+    let by_sorted = found_by sorted (gather_sorted most ts) in
+    let by_pieces = found_by miniscript (gather most elsewhere 0 NOTHING_SEEN ts) in
     if starts (codes "sortedmulti") ts then by_sorted else by_pieces
 
-abbrev pub read_body : Form → List Token → Result Found DescriptorFault
-read_body Wsh ts = Ok (read_wsh ts)
-read_body Wpkh ts = and_then (read_key NOTHING_SEEN ts) (λ expression rest. Ok (record { body = single expression; refused = None; rest = rest }))
+abbrev pub read_body : (most : ℕ) → Form → List Token → Result Found DescriptorFault
+read_body most Wsh ts = Ok (read_wsh most ts)
+read_body most Wpkh ts = and_then (read_key NOTHING_SEEN ts) (λ expression rest. Ok (record { body = single expression; refused = None; rest = rest }))
 
--- whether the text begins with `sh(`, and its body
+-- whether the text begins with `sh(`, and its body, whose pieces are no more than the text has bytes
 unfoldable pub read_parts : (text : Bytes) → Result (Bool × Found) DescriptorFault
 read_parts text =
-    and_then (read_head (tokens text)) (λ head rest. mapped (λ found. (head.0, found)) (read_body head.1 rest))
+    and_then (read_head (tokens text)) (λ head rest. mapped (λ found. (head.0, found)) (read_body (suc (length text)) head.1 rest))

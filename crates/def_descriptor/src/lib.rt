@@ -1,6 +1,11 @@
 //! Definitions of a descriptor's text, and of what it gives at a branch and an index (BIPs 380, 389, 32, 67, 173, 141).
 #![tactic(auto)]
 
+ghost use Rattle.std.specs.Prelude.{◌≡◌};
+ghost use Rattle.def_descriptor.specs.declared.DescriptorFault.TheVariants as fault;
+
+use std::alloc::{AllocError, AllocFailed};
+
 pub mod examples;
 pub mod laws;
 
@@ -44,4 +49,20 @@ pub enum DescriptorFault {
     Checksum(u32),
     /// There was no memory. It says nothing of the text.
     Memory,
+}
+
+impl From<AllocError> for DescriptorFault {
+    ghost from_gives = { λ _ why. why ≡ fault.Memory };
+
+    fn from(_error: AllocError) -> DescriptorFault {
+        DescriptorFault::Memory
+    }
+}
+
+impl<T: Drop> From<AllocFailed<T>> for DescriptorFault {
+    ghost from_gives = { λ _ why. why ≡ fault.Memory };
+
+    fn from(_error: AllocFailed<T>) -> DescriptorFault {
+        DescriptorFault::Memory
+    }
 }

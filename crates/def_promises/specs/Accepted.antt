@@ -1,12 +1,12 @@
--- Stacks that are accepted: within limits, and as such that nobody can change, whatever signatures are good; and what
--- those have that are accepted beside them.
+-- Stacks that are accepted: within limits, and as such that nobody can change, whatever signatures are good; what
+-- those have that are accepted beside them; and that there is nothing to accept.
 use Rattle.std.specs.Prelude.{◌≡◌, ◌≢◌, ◌⊎◌, ℕ, ◌≤◌, IsTrue, List, length, Contains, Some}
 use Rattle.def_hash.specs.declared.HashKind.{HashKind}
 use Rattle.def_hash.specs.Hash.{hash160}
 use Rattle.def_script.specs.Bytes.{Bytes}
 use Rattle.def_script.specs.Key.{is_key}
 use Rattle.def_script.specs.Witness.{weight}
-use Rattle.def_machine.specs.Stacks.{Pairs, Checker}
+use Rattle.def_machine.specs.Stacks.{Pairs, Checker, member}
 use Rattle.def_machine.specs.Machine.{Given}
 use Rattle.def_machine.specs.Run.{run, accepted}
 use Rattle.def_tree.specs.Tree.{Tree, Key, pk_h, hash}
@@ -16,7 +16,7 @@ use Rattle.def_assets.specs.Assets.{Assets, known}
 use Rattle.def_limits.specs.declared.Limits.{Limits}
 use Rattle.def_height.specs.Height.{IsHeight}
 use Rattle.def_satisfaction.specs.Rows.{IsPreimageOf}
-use Rattle.def_satisfaction.specs.Satisfaction.{Holds}
+use Rattle.def_satisfaction.specs.Satisfaction.{Sat, Holds}
 use Rattle.def_choice.specs.NonMalleable.{IsAccepted, HasNewPair, Fresh, given_with}
 
 -- the run is accepted, it takes no more than the limits, and both stacks together never hold more than the height
@@ -61,3 +61,23 @@ Unchangeable tree assets stack =
     IsAccepted tree (given_with assets checker) other others → other ≢ stack →
     HasNewPair others checks ⊎
     (Fresh tree assets checker other × (HasUnknownPreimage tree assets other ⊎ HasOtherKey tree other)))
+
+-- ---- where there is nothing to accept
+
+-- each stack that is accepted under the assets' own signatures is fresh
+abbrev pub AcceptsFreshAlone : Tree → Assets → Type 0
+AcceptsFreshAlone tree assets =
+    (stack : List Bytes) (checks : Pairs) → IsAccepted tree (given_with assets (member assets.pairs)) stack checks →
+    Fresh tree assets (member assets.pairs) stack
+
+-- a fresh stack has an unknown preimage, or another key with the same hash
+abbrev pub FreshOnesHaveItem : Tree → Assets → Type 0
+FreshOnesHaveItem tree assets =
+    (checker : Checker) (stack : List Bytes) → Fresh tree assets checker stack →
+    HasUnknownPreimage tree assets stack ⊎ HasOtherKey tree stack
+
+-- there is no canonical satisfaction, and what is accepted is fresh
+pub record HasNothingToAccept (tree : Tree) (assets : Assets) : Type 0 where
+  pub none : (stack : List Bytes) → ¬ Sat tree assets stack
+  pub accepted : AcceptsFreshAlone tree assets
+  pub fresh : FreshOnesHaveItem tree assets

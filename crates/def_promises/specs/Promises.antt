@@ -1,9 +1,8 @@
 -- What is promised of the strict choice, beside the laws of choices: that it exists wherever it can, that nobody
 -- can change it, and that no lighter one can't be changed either. It is promised of every miniscript that is sane by
 -- the limits of consensus, and so of each that is sane by those of policy.
-use Rattle.std.specs.Prelude.{◌≡◌, ◌↔◌, ◌≤◌, ◌⊎◌, List, Some, None}
+use Rattle.std.specs.Prelude.{◌≡◌, ◌↔◌, ◌≤◌, List, Some, None}
 use Rattle.def_script.specs.Bytes.{Bytes}
-use Rattle.def_machine.specs.Stacks.{Pairs, Checker, member}
 use Rattle.def_tree.specs.Tree.{Tree}
 use Rattle.def_tree.specs.Range.{IsWritable}
 use Rattle.def_assets.specs.Assets.{Assets, AreAssets}
@@ -13,14 +12,12 @@ use Rattle.def_script.specs.Witness.{weight}
 use Rattle.def_satisfaction.specs.Satisfaction.{Sat}
 use Rattle.def_choice.specs.Strict.{strict}
 use Rattle.def_choice.specs.Tight.{Tight}
-use Rattle.def_choice.specs.NonMalleable.{IsAccepted, Fresh, NonMalleable, given_with}
-use Rattle.def_promises.specs.Accepted.{HasUnknownPreimage, HasOtherKey, Unchangeable}
+use Rattle.def_choice.specs.NonMalleable.{NonMalleable}
+use Rattle.def_promises.specs.Accepted.{Unchangeable, FreshOnesHaveItem, HasNothingToAccept}
 
 -- what makes a stack fresh
 abbrev pub FreshHasItem : Type 0
-FreshHasItem =
-    (tree : Tree) (assets : Assets) (checker : Checker) (stack : List Bytes) →
-    Fresh tree assets checker stack → HasUnknownPreimage tree assets stack ⊎ HasOtherKey tree stack
+FreshHasItem = (tree : Tree) (assets : Assets) → FreshOnesHaveItem tree assets
 
 abbrev pub UnchangeableIsNonMalleable : Type 0
 UnchangeableIsNonMalleable =
@@ -48,14 +45,12 @@ StrictIsUnchangeable =
     IsWritable tree → IsSaneUnder Consensus tree → AreAssets assets →
     strict tree assets ≡ Some stack → Unchangeable tree assets stack
 
--- where there is none, every stack that is accepted under the assets' own pairs is fresh
+-- where there is none, there is nothing to accept
 abbrev pub NothingToAccept : Type 0
 NothingToAccept =
-    (tree : Tree) (assets : Assets) (stack : List Bytes) (checks : Pairs) →
+    (tree : Tree) (assets : Assets) →
     IsWritable tree → IsSaneUnder Consensus tree → AreAssets assets →
-    strict tree assets ≡ None →
-    IsAccepted tree (given_with assets (member assets.pairs)) stack checks →
-    Fresh tree assets (member assets.pairs) stack
+    strict tree assets ≡ None → HasNothingToAccept tree assets
 
 -- a canonical satisfaction can't be changed exactly where it is tight
 abbrev pub TightIsNonMalleable : Type 0

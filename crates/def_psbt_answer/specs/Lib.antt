@@ -4,6 +4,7 @@ pub mod Names
 pub mod Lines
 pub mod Fee
 pub mod Report
+pub mod Verified
 pub mod Reply
 pub mod Answer
 pub mod Samples

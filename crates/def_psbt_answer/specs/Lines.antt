@@ -1,10 +1,14 @@
 -- The lines of refusals, and those of the transaction and of an input. Numbers are printed in decimal, bytes as
 -- lower-case digits, an empty string as `-`, and ids of transactions in reverse order, as users know them.
-use Rattle.std.specs.Prelude.{ℕ, ◌+◌, ◌==◌, List, [], ◌∷◌, ◌++◌, length, reverse, codes, decimal, if◌then◌else◌, Option, unwrap_or}
+use Rattle.std.specs.Prelude.{ℕ, ◌+◌, ◌==◌, List, [], ◌∷◌, ◌++◌, length, reverse, codes, decimal, if◌then◌else◌, Option, Some, None, unwrap_or}
 use Rattle.hex.specs.Hex.{encode_lower}
 use Rattle.def_script.specs.Bytes.{Bytes}
 use Rattle.def_psbt.specs.declared.Refusal.{Refusal}
 use Rattle.def_psbt.specs.declared.Refusal.TheVariants as refusal
+use Rattle.def_combine.specs.declared.CombineRefusal.{CombineRefusal}
+use Rattle.def_combine.specs.declared.CombineRefusal.TheVariants as unjoined
+use Rattle.def_combine.specs.declared.LineFault.{LineFault}
+use Rattle.def_combine.specs.declared.LineFault.TheVariants as fault
 use Rattle.def_psbt.specs.Transaction.{TransactionInput, TransactionOutput, Transaction, id_of}
 use Rattle.def_spend.specs.declared.Kind.{Kind}
 use Rattle.def_spend.specs.declared.State.{State}
@@ -17,11 +21,27 @@ use Rattle.def_psbt_answer.specs.Names.{fault_name, kind_name, state_name}
 
 -- ---- refusals
 
+abbrev pub refusal_name : Refusal → Bytes
+refusal_name refusal.TooLong = codes "TooLong"
+refusal_name refusal.NotBase64 = codes "NotBase64"
+refusal_name refusal.Magic = codes "Magic"
+refusal_name (refusal.At fault at) = fault_name fault ++ codes " at " ++ decimal at
+
 abbrev pub refusal_line : Refusal → Bytes
-refusal_line refusal.TooLong = line (codes "refused psbt TooLong")
-refusal_line refusal.NotBase64 = line (codes "refused psbt NotBase64")
-refusal_line refusal.Magic = line (codes "refused psbt Magic")
-refusal_line (refusal.At fault at) = line (codes "refused psbt " ++ fault_name fault ++ codes " at " ++ decimal at)
+refusal_line refusal = line (codes "refused psbt " ++ refusal_name refusal)
+
+-- why the PSBT of a line of `combine` is refused
+abbrev pub line_fault_name : LineFault → Bytes
+line_fault_name (fault.Psbt refusal) = refusal_name refusal
+line_fault_name fault.OtherVersion = codes "OtherVersion"
+line_fault_name fault.OtherTransaction = codes "OtherTransaction"
+
+-- why nothing is combined
+abbrev pub combine_refusal_line : CombineRefusal → Bytes
+combine_refusal_line unjoined.TooLong = refusal_line refusal.TooLong
+combine_refusal_line unjoined.NoPsbt = line (codes "refused psbt NoPsbt")
+combine_refusal_line (unjoined.Line number fault) = line (codes "refused line " ++ decimal number ++ codes " " ++ line_fault_name fault)
+combine_refusal_line unjoined.OtherTransaction = line (codes "refused psbt OtherTransaction")
 
 abbrev pub not_final_line : (number : ℕ) → Bytes
 not_final_line number = line (codes "not final " ++ decimal number)
@@ -36,6 +56,11 @@ psbt_line transaction =
     line (codes "psbt inputs " ++ decimal (length transaction.inputs) ++ codes " outputs " ++ decimal (length transaction.outputs)
     ++ codes " version " ++ decimal transaction.version ++ codes " locktime " ++ decimal transaction.lock_time
     ++ codes " txid " ++ id_digits (id_of transaction))
+
+-- the id with all final scriptSigs, where each is known and one has a byte: else nothing is told
+abbrev pub final_id_line : Option Bytes → Bytes
+final_id_line None = []
+final_id_line (Some id) = line (codes "final txid " ++ id_digits id)
 
 abbrev pub output_line : (number : ℕ) → TransactionOutput → Bytes
 output_line number output =

@@ -22,14 +22,14 @@ use Rattle.def_spend.specs.Kinds.{kind_of}
 use Rattle.def_spend.specs.Reading.{Input}
 use Rattle.def_spend.specs.States.{state_of, is_read, is_sane, is_final, stack_of}
 use Rattle.def_spend.specs.Asking.{plan_with, unsigned_keys}
-use Rattle.def_spend.specs.Finalized.{finalized}
+use Rattle.def_spend.specs.Finalized.{finalized, final_id}
 use Rattle.def_answer.specs.Lines.{line}
 use Rattle.def_answer.specs.Decode.{decode_report}
 use Rattle.def_answer.specs.Policy.{policy_of}
 use Rattle.def_answer.specs.Plan.{ask_line, weight_line as most_weight_line}
 use Rattle.def_psbt_answer.specs.declared.words.Form.{Form}
 use Rattle.def_psbt_answer.specs.declared.words.Form.TheVariants as form
-use Rattle.def_psbt_answer.specs.Lines.{psbt_line, output_lines, input_line, outpoint_line, amount_line, unchecked_line, kind_line, signature_line, policy_line, weight_line, no_plan_line, sign_line, check_line}
+use Rattle.def_psbt_answer.specs.Lines.{psbt_line, final_id_line, output_lines, input_line, outpoint_line, amount_line, unchecked_line, kind_line, signature_line, policy_line, weight_line, no_plan_line, sign_line, check_line}
 use Rattle.def_psbt_answer.specs.Fee.{fee_line}
 
 -- ---- inspect
@@ -80,6 +80,7 @@ input_report input =
 unfoldable pub inspect_report : Transaction → List Input → Bytes
 inspect_report transaction inputs =
     psbt_line transaction
+    ++ final_id_line (final_id transaction (map (λ input. input.spend) inputs))
     ++ output_lines 0 transaction.outputs
     ++ fee_line (map (λ input. amount_in input.spend) inputs) transaction.outputs
     ++ flat_map input_report inputs

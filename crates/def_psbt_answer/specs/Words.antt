@@ -1,21 +1,26 @@
--- The words that `msat-psbt` takes: one, which names a command.
+-- The words that `msat-psbt` takes: one, which names what is asked.
 use Rattle.std.specs.Prelude.{List, [], ◌∷◌, codes, find, Option, None}
 use Rattle.std.specs.Str.{bytes_eq}
 use Rattle.def_script.specs.Bytes.{Bytes}
-use Rattle.def_psbt_answer.specs.declared.words.Command.{Command}
 use Rattle.def_psbt_answer.specs.declared.words.Command.TheVariants as command
+use Rattle.def_psbt_answer.specs.declared.words.Request.{Request}
+use Rattle.def_psbt_answer.specs.declared.words.Request.TheVariants as request
 
-abbrev pub name_of : Command → Bytes
-name_of command.Finalize = codes "finalize"
-name_of command.Inspect = codes "inspect"
-name_of command.Extract = codes "extract"
-name_of command.Hashes = codes "hashes"
+abbrev pub name_of : Request → Bytes
+name_of (request.One command.Finalize) = codes "finalize"
+name_of (request.One command.Inspect) = codes "inspect"
+name_of (request.One command.Extract) = codes "extract"
+name_of (request.One command.Hashes) = codes "hashes"
+name_of (request.One command.Verify) = codes "verify"
+name_of request.Combine = codes "combine"
 
-abbrev pub every_command : List Command
-every_command = command.Finalize ∷ command.Inspect ∷ command.Extract ∷ command.Hashes ∷ []
+abbrev pub every_request : List Request
+every_request =
+    request.One command.Finalize ∷ request.One command.Inspect ∷ request.One command.Extract ∷ request.One command.Hashes
+    ∷ request.One command.Verify ∷ request.Combine ∷ []
 
--- the command of a list of words, where it has this form
-abbrev pub command_of : (words : List Bytes) → Option Command
-command_of [] = None
-command_of (word ∷ []) = find (λ command. bytes_eq (name_of command) word) every_command
-command_of (word ∷ other ∷ words) = None
+-- what a list of words asks, where it has this form
+abbrev pub request_of : (words : List Bytes) → Option Request
+request_of [] = None
+request_of (word ∷ []) = find (λ request. bytes_eq (name_of request) word) every_request
+request_of (word ∷ other ∷ words) = None

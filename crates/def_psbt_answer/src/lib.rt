@@ -2,7 +2,7 @@
 #![tactic(auto)]
 
 pub use status::Status;
-pub use words::{Command, Form};
+pub use words::{Command, Form, Request};
 
 mod status;
 mod words;

@@ -1,6 +1,6 @@
 //! What is asked of `msat-psbt`, and the forms of a PSBT.
 
-/// What is asked of `msat-psbt`, each by a word of its own.
+/// What is asked of one PSBT.
 #[derive(Clone, Copy, Debug, PartialEq, Eq)]
 pub enum Command {
     /// The PSBT with each input that is Ready made final.
@@ -11,6 +11,17 @@ pub enum Command {
     Extract,
     /// What the signatures of each input sign.
     Hashes,
+    /// Whether the final fields of each input are valid.
+    Verify,
+}
+
+/// What is asked of `msat-psbt`, each by a word of its own.
+#[derive(Clone, Copy, Debug, PartialEq, Eq)]
+pub enum Request {
+    /// This, of one PSBT.
+    One(Command),
+    /// The PSBT that holds what several of one transaction hold.
+    Combine,
 }
 
 /// The form in which a PSBT came, and goes out.

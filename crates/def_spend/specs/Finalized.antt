@@ -1,16 +1,16 @@
 -- What a finalizer writes, and the network transaction of a PSBT (BIP 174, "Input Finalizer", "Transaction Extractor").
-use Rattle.std.specs.Prelude.{ℕ, ◌||◌, not, Bool, List, [], ◌∷◌, ◌++◌, map, filter, if◌then◌else◌, unwrap_or}
-use Rattle.std.specs.List.{flat_map, list_any}
+use Rattle.std.specs.Prelude.{ℕ, ◌||◌, ◌&&◌, not, Bool, List, [], ◌∷◌, ◌++◌, map, filter, is_some, if◌then◌else◌, Option, Some, None, unwrap_or}
+use Rattle.std.specs.List.{flat_map, list_all, list_any}
 use Rattle.std.specs.Int.{w32, to_le_bytes}
 use Rattle.def_script.specs.Bytes.{Bytes}
 use Rattle.def_script.specs.Witness.{witness_text}
-use Rattle.def_psbt.specs.Transaction.{TransactionInput, Transaction, inputs_text, outputs_text, transaction_text}
+use Rattle.def_psbt.specs.Transaction.{TransactionInput, Transaction, inputs_text, outputs_text, transaction_text, id_of}
 use Rattle.def_psbt.specs.Map.{Pair, Map, Psbt, type_of}
 use Rattle.def_spend.specs.Fields.{PARTIAL_SIG, FINAL_SCRIPTSIG, FINAL_SCRIPTWITNESS, RIPEMD160, HASH256, field, is_between}
 use Rattle.def_spend.specs.Hashes.{script_in}
 use Rattle.def_spend.specs.Input.{Spend}
 use Rattle.def_spend.specs.Kinds.{open_script_sig}
-use Rattle.def_spend.specs.Reading.{Input, has_item}
+use Rattle.def_spend.specs.Reading.{Input, has_byte, has_item, has_final}
 use Rattle.def_spend.specs.States.{state_of, is_ready, stack_of}
 
 -- ---- the final map
@@ -91,3 +91,31 @@ network_text psbt =
     if list_any (λ fields. has_item (field FINAL_SCRIPTWITNESS fields)) psbt.inputs
     then witnessed_text (final_transaction psbt) (map final_witness psbt.inputs)
     else transaction_text (final_transaction psbt)
+
+-- ---- the id of the final transaction, before all inputs are final
+
+-- the final scriptSig of an input, where it is known: of a Final one that of its map, which is empty where there is none; of any
+-- other the one that spends its kind of output
+abbrev pub known_script_sig : Spend → Option Bytes
+known_script_sig spend =
+    if has_final spend.fields then Some (unwrap_or (field FINAL_SCRIPTSIG spend.fields) []) else open_script_sig spend
+
+-- an input with its final scriptSig, which is left empty where it isn't known
+abbrev pub known_input : Spend → TransactionInput
+known_input spend = record spend.input { script_sig = unwrap_or (known_script_sig spend) [] }
+
+abbrev pub known_inputs : List Spend → List TransactionInput
+known_inputs = map known_input
+
+-- each final scriptSig is known
+abbrev pub are_known : List Spend → Bool
+are_known = list_all (λ spend. is_some (known_script_sig spend))
+
+-- a final scriptSig that is known has a byte: with it the transaction has another id
+abbrev pub has_script_sig : List Spend → Bool
+has_script_sig = list_any (λ spend. has_byte (known_script_sig spend))
+
+-- the id of a transaction with the final scriptSigs of its inputs: where each is known and one has a byte
+abbrev pub final_id : Transaction → List Spend → Option Bytes
+final_id transaction spends =
+    if are_known spends && has_script_sig spends then Some (id_of (record transaction { inputs = known_inputs spends })) else None

@@ -8,11 +8,14 @@ use Rattle.def_machine.specs.Samples.{key_a, key_b, key_c, sig_a, sig_b, sig_c, 
 use Rattle.def_tree.specs.declared.Two.TheVariants as kind
 use Rattle.def_tree.specs.declared.Wrapper.TheVariants as wrapper
 use Rattle.def_tree.specs.Tree.{Tree, Key, just_0, just_1, pk_k, older, hash, two, thresh, multi, wrap, none, more}
+use Rattle.def_emit.specs.Emit.{script_of}
 use Rattle.def_trace.specs.Seen.{at_first}
 use Rattle.def_trace.specs.Trace.{trace}
 use Rattle.def_trace.specs.Reader.{read_lines}
 use Rattle.def_trace.specs.Written.{digits, written}
 use Rattle.def_trace.specs.Writers.{Attributed, attributed, places_of}
+use Rattle.def_trace.specs.Placed.{placed}
+use Rattle.def_trace.specs.Listing.{listing}
 
 -- the text of a trace without places
 abbrev pub text_of : Given → (script : Bytes) → (stack : List Bytes) → Bytes
@@ -122,3 +125,9 @@ WithPlaces =
     ++ codes " node 10\nskip 36 OP_CHECKSIG node 10\nstep 37 OP_ELSE turn node 5\nskip 38 push - node 81\nstep 39 OP_ENDIF close node 5\n"
     ++ codes "step 40 OP_ELSE turn node 0\nstep 41 push " ++ digits key_b ++ codes " node 84\nstep 75 OP_CHECKSIG pop 2 push 01 check "
     ++ digits key_b ++ codes " " ++ digits sig_b ++ codes " node 84\nstep 76 OP_ENDIF close node 0\n"
+
+-- the instructions of `v:older(3)` alone: the offset of the second is behind the one byte of the first
+abbrev pub Listed : Type 0
+Listed =
+    listing (places_of (2 ∷ 0 ∷ []) (v (older 3))) (placed (script_of (v (older 3))))
+    ≡ codes "at 0 push 03 node 2\nat 1 OP_CHECKSEQUENCEVERIFY node 2\nat 2 OP_VERIFY node 0\n"

@@ -4,6 +4,7 @@ pub mod Changes
 pub mod Trace
 pub mod Reader
 pub mod Written
+pub mod Listing
 pub mod Writers
 pub mod Laws
 pub mod Examples

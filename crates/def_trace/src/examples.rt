@@ -15,6 +15,7 @@ ghost use Rattle.def_trace.specs.Examples.{
   VerifyForms,
   Threshold,
   WithPlaces,
+  Listed,
 };
 
 /// The traces of some runs, as they are written.
@@ -37,4 +38,5 @@ pub fn writers()
     ensures verify_forms { VerifyForms }
     ensures threshold { Threshold }
     ensures with_places { WithPlaces }
+    ensures listed { Listed }
 {}

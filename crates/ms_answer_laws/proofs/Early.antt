@@ -19,7 +19,7 @@ use Rattle.def_plan.specs.PlanFile.{plan_file_of}
 use Rattle.def_answer.specs.Satisfy.{chosen_by, reason_by}
 use Rattle.def_answer.specs.declared.status.Status.{Status}
 use Rattle.def_answer.specs.declared.status.Status.TheVariants as status
-use Rattle.def_answer.specs.Words.{IsForm, Command, script, check, satisfy, gen, policy, plan, audit, trace, trace_text, decode}
+use Rattle.def_answer.specs.Words.{IsForm, Command, script, asm, check, satisfy, gen, policy, plan, audit, trace, trace_text, decode}
 use Rattle.def_answer.specs.Words as words
 use Rattle.def_answer.specs.Lines.{MOST_FILE}
 use Rattle.def_answer.specs.Files.{file_too_long_line, file_line}
@@ -28,7 +28,7 @@ use Rattle.def_answer.specs.Audit.{wrong_script_line}
 use Rattle.def_answer.specs.Reading.{Reading, HasReading}
 use Rattle.def_answer.specs.Reading as reading
 use Rattle.def_answer.specs.Reply.{Reply, reply, unless_unfit, text_reply, with_file, file_reply, chosen_reply, satisfy_reply, outcome_reply, given_by, run_reply, audited_reply, witness_reply, audit_reply, planned_reply, plan_reply, outcome_status, traced_reply, trace_reply, text_traced_reply, text_trace_reply}
-use Rattle.def_answer.specs.Answer.{script_reply, check_reply, policy_reply, gen_reply, RepliesToText, offsets_of, RepliesToAudit, RepliesToTrace, Replies, RepliesToWords}
+use Rattle.def_answer.specs.Answer.{script_reply, asm_reply, check_reply, policy_reply, gen_reply, RepliesToText, offsets_of, RepliesWithPlaces, RepliesToAudit, Replies, RepliesToWords}
 use Rattle.def_answer.specs.Sources.{Passes}
 use Rattle.ms_answer_laws.specs.Laws.{IsAnswered, AnswersHaveStatus, NoReadingIsOfDecode, NotAcceptedIsOfWitness, LongAssetFile, LongRunFile, LongPlanFile, LongAuditFile, LongTraceFile, LongTextTraceFile}
 
@@ -113,12 +113,11 @@ module _ (P : Status → Type 0) where
       text_status text first_unfit_valid (audit_reply (offsets_of found) steps source) r refusal
       (λ passes. after passes (offsets_of found) steps) (found, has, e)
 
-  pub told_status : (text source : Bytes) (r : Reply) → P status.TextRefused →
-      ((passes : Passes first_unfit_valid text) (offsets : List ℕ) → OfStatus P (text_trace_reply offsets source passes.0)) →
-      RepliesToTrace text source r → OfStatus P r
-  told_status text source r refusal after (found, has, e) =
-      text_status text first_unfit_valid (text_trace_reply (offsets_of found) source) r refusal
-      (λ passes. after passes (offsets_of found)) (found, has, e)
+  pub placed_status : (text : Bytes) (reason : Tree → Option Unfit) (next : List ℕ → Tree → Reply) (r : Reply) → P status.TextRefused →
+      ((passes : Passes reason text) (offsets : List ℕ) → OfStatus P (next offsets passes.0)) →
+      RepliesWithPlaces text reason next r → OfStatus P r
+  placed_status text reason next r refusal after (found, has, e) =
+      text_status text reason (next (offsets_of found)) r refusal (λ passes. after passes (offsets_of found)) (found, has, e)
 
 -- ---- the replies to words
 
@@ -133,6 +132,8 @@ module _ (ws : List Bytes) where
   reply_status : (c : Command) (source : Bytes) (r : Reply) → IsForm ws c → Replies c source r → OfStatus StatusOf r
   unfolding gen_reply
   reply_status (script rules text) source r form h = text_status StatusOf text (first_unfit_valid_under rules) script_reply r tt (λ passes. tt) h
+  reply_status (asm rules text) source r form h =
+      placed_status StatusOf text (first_unfit_valid_under rules) asm_reply r tt (λ passes offsets. tt) h
   reply_status (check rules text) source r form h = text_status StatusOf text (first_unfit_under rules) (check_reply rules) r tt (λ passes. tt) h
   reply_status (satisfy choice rules text) source r form h =
       text_status StatusOf text (reason_by choice rules) (satisfy_reply rules (chosen_by choice) source) r tt
@@ -146,7 +147,7 @@ module _ (ws : List Bytes) where
       audited_status StatusOf text source r tt (λ passes offsets steps. audit_status StatusOf offsets steps source passes.0 tt tt (text, inl form)) h
   reply_status trace source r form h = subst (OfStatus StatusOf) (sym h) (trace_status StatusOf source tt tt tt)
   reply_status (trace_text text) source r form h =
-      told_status StatusOf text source r tt (λ passes offsets. text_trace_status StatusOf offsets source passes.0 tt tt tt (text, inr form)) h
+      placed_status StatusOf text first_unfit_valid (λ offsets. text_trace_reply offsets source) r tt (λ passes offsets. text_trace_status StatusOf offsets source passes.0 tt tt tt (text, inr form)) h
   reply_status (decode digits keys) source r form (inl h) = subst (OfStatus StatusOf) (sym h.2) tt
   reply_status (decode digits keys) source r form (inr h) = subst (OfStatus StatusOf) (sym h.1) (digits, keys, form)
 

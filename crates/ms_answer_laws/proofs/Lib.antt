@@ -4,6 +4,7 @@ pub mod Decided
 pub mod AuditSteps
 pub mod Answered
 pub mod Unique
+pub mod Standing
 pub mod Early
 pub mod Sources
 pub mod Computing

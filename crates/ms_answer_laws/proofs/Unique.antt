@@ -1,5 +1,5 @@
 -- Words that are texts have exactly one answer.
-use Rattle.std.proofs.Common.{◌≡◌, ◌⊎◌, inl, inr, List, [], Option, Some, None, All, map, refl, sym, ap, subst, ◌∙◌, arith}
+use Rattle.std.proofs.Common.{◌≡◌, ◌⊎◌, inl, inr, ℕ, List, [], Option, Some, None, All, map, refl, sym, ap, subst, ◌∙◌, arith}
 use Rattle.std.specs.Str.{IsUtf8}
 use Rattle.def_script.specs.Bytes.{Bytes}
 use Rattle.def_tree.specs.Tree.{Key, Tree}
@@ -12,10 +12,10 @@ use Rattle.def_sane.specs.Unfit.{first_unfit, first_unfit_valid, first_unfit_und
 use Rattle.def_audit.specs.declared.Step.{Step}
 use Rattle.def_choice.specs.declared.choice.Choice.TheVariants.{Strict, Cheapest}
 use Rattle.def_answer.specs.Satisfy.{chosen_by, reason_by}
-use Rattle.def_answer.specs.Words.{Command, script, check, satisfy, run, gen, policy, plan, audit, trace, trace_text, decode, words_of, IsForm, HasNoForm}
+use Rattle.def_answer.specs.Words.{Command, script, asm, check, satisfy, run, gen, policy, plan, audit, trace, trace_text, decode, words_of, IsForm, HasNoForm}
 use Rattle.def_answer.specs.Reading.{Reading, read, refused, HasReading}
 use Rattle.def_answer.specs.Reply.{Reply, reply, unless_unfit, text_reply, satisfy_reply, plan_reply, audit_reply, text_trace_reply}
-use Rattle.def_answer.specs.Answer.{script_reply, check_reply, policy_reply, decode_reply, bytes_of, RepliesToScript, RepliesToText, HasSteps, offsets_of, RepliesToAudit, RepliesToTrace, Replies, RepliesToWords}
+use Rattle.def_answer.specs.Answer.{script_reply, asm_reply, check_reply, policy_reply, decode_reply, bytes_of, RepliesToScript, RepliesToText, HasSteps, offsets_of, RepliesWithPlaces, RepliesToAudit, Replies, RepliesToWords}
 use Rattle.ms_answer_laws.specs.Laws.{OneForm, FormOrNone, OneAnswer, SomeAnswer}
 use Rattle.ms_answer_laws.proofs.Forms.{command_of, is_form, form_found, none_has_form}
 use Rattle.ms_answer_laws.proofs.AuditSteps.{one_audit}
@@ -37,6 +37,8 @@ form_or_none words = go (command_of words) refl
 text_of_words : (P : Bytes → Type 0) (c : Command) → All P (words_of c) → OnText P c
 text_of_words P (script Policy text) h = h 1 [] (omega arith)
 text_of_words P (script Consensus text) h = h 2 [] (omega arith)
+text_of_words P (asm Policy text) h = h 1 [] (omega arith)
+text_of_words P (asm Consensus text) h = h 2 [] (omega arith)
 text_of_words P (check Policy text) h = h 1 [] (omega arith)
 text_of_words P (check Consensus text) h = h 2 [] (omega arith)
 text_of_words P (satisfy Strict Policy text) h = h 1 [] (omega arith)
@@ -90,12 +92,14 @@ one_audit_reply text source a b utf8 (r, p, has, h, e) (s, q, has_s, k, f) =
     e ∙ one_audit_reading source r p q h (subst (λ t. HasSteps t source q) same k)
     ∙ ap (λ t. text_reply first_unfit_valid (audit_reply (offsets_of t) q source) t) (sym same) ∙ sym f
 
-one_trace_reply : (text source : Bytes) (a b : Reply) → IsUtf8 text → RepliesToTrace text source a → RepliesToTrace text source b → a ≡ b
-one_trace_reply text source a b utf8 (r, has, e) (s, has_s, f) =
-    e ∙ ap (λ t. text_reply first_unfit_valid (text_trace_reply (offsets_of t) source) t) (one_reading text r s utf8 has has_s) ∙ sym f
+one_placed_reply : (text : Bytes) (reason : Tree → Option Unfit) (next : List ℕ → Tree → Reply) (a b : Reply) → IsUtf8 text
+    → RepliesWithPlaces text reason next a → RepliesWithPlaces text reason next b → a ≡ b
+one_placed_reply text reason next a b utf8 (r, has, e) (s, has_s, f) =
+    e ∙ ap (λ t. text_reply reason (next (offsets_of t)) t) (one_reading text r s utf8 has has_s) ∙ sym f
 
 pub one_reply : (c : Command) (source : Bytes) (a b : Reply) → OnText IsUtf8 c → Replies c source a → Replies c source b → a ≡ b
 one_reply (script rules text) source a b utf8 h k = one_text_reply text (first_unfit_valid_under rules) script_reply a b utf8 h k
+one_reply (asm rules text) source a b utf8 h k = one_placed_reply text (first_unfit_valid_under rules) asm_reply a b utf8 h k
 one_reply (check rules text) source a b utf8 h k = one_text_reply text (first_unfit_under rules) (check_reply rules) a b utf8 h k
 one_reply (satisfy choice rules text) source a b utf8 h k = one_text_reply text (reason_by choice rules) (satisfy_reply rules (chosen_by choice) source) a b utf8 h k
 one_reply run source a b utf8 h k = h ∙ sym k
@@ -104,7 +108,7 @@ one_reply (policy text) source a b utf8 h k = one_text_reply text first_unfit po
 one_reply (plan text) source a b utf8 h k = one_text_reply text first_unfit (plan_reply source) a b utf8 h k
 one_reply (audit text) source a b utf8 h k = one_audit_reply text source a b utf8 h k
 one_reply trace source a b utf8 h k = h ∙ sym k
-one_reply (trace_text text) source a b utf8 h k = one_trace_reply text source a b utf8 h k
+one_reply (trace_text text) source a b utf8 h k = one_placed_reply text first_unfit_valid (λ offsets. text_trace_reply offsets source) a b utf8 h k
 one_reply (decode digits keys) source a b utf8 h k = one_script_reply (map bytes_of keys) (bytes_of digits) a b h k
 
 -- ---- answers

@@ -1,8 +1,13 @@
 -- What the definitions imply.
-use Rattle.std.specs.Prelude.{◌≡◌, ◌⊎◌, ℕ, ◌<◌, ◌≤◌, ⊤, List, [], length, All, IsUtf8, Option, IsSome, Result, Ok, Err, unwrap_or}
+use Rattle.std.specs.Prelude.{◌≡◌, ◌⊎◌, ℕ, ◌+◌, ◌<◌, ◌≤◌, ⊤, List, [], ◌∷◌, ◌++◌, length, drop, All, IsUtf8, Option, IsSome, Result, Ok, Err, unwrap_or}
 use Rattle.def_script.specs.Bytes.{Bytes}
+use Rattle.def_script.specs.Instruction.{Instruction}
+use Rattle.def_script.specs.Laws.{item_of}
+use Rattle.def_script.specs.Spell.{spell_one}
 use Rattle.def_tree.specs.Range.{IsWritable}
 use Rattle.def_tree.specs.Tree.{Tree}
+use Rattle.def_emit.specs.Emit.{emit, script_of}
+use Rattle.def_trace.specs.Placed.{Placed, placed}
 use Rattle.def_assets.specs.Assets.{Assets, AreAssets}
 use Rattle.def_text.specs.Refusal.{TextReads}
 use Rattle.def_types.specs.Typed.{IsTyped}
@@ -139,6 +144,21 @@ abbrev pub LongTextTraceFile : Type 0
 LongTextTraceFile =
     (offsets : List ℕ) (source : Bytes) (tree : Tree) → MOST_FILE < length source →
     text_trace_reply offsets source tree ≡ reply status.FileRefused file_too_long_line
+
+-- ---- the instructions that `asm` lists
+
+-- the script, from a place on, is the shortest spellings of these instructions, one after the other; and each was placed where
+-- its spelling begins
+abbrev pub Stand : (script : Bytes) → (place : ℕ) → List Placed → List Instruction → Type 0
+Stand script place [] [] = drop place script ≡ []
+Stand script place (p ∷ ps) (i ∷ is) =
+    (p.offset ≡ place) × (p.item ≡ item_of i) × ((rest : Bytes) × (drop place script ≡ spell_one i ++ rest))
+    × Stand script (place + length (spell_one i)) ps is
+Stand script place ps is = ⊥
+
+-- so are those of the Script of a tree that can be written
+abbrev pub InstructionsStand : Type 0
+InstructionsStand = (tree : Tree) → IsWritable tree → Stand (script_of tree) 0 (placed (script_of tree)) (emit tree)
 
 -- ---- what is generated
 

@@ -7,6 +7,7 @@ pub mod SatisfyExamples
 pub mod RunExamples
 pub mod AuditExamples
 pub mod TraceExamples
+pub mod AsmExamples
 pub mod GenExamples
 pub mod SourceExamples
 pub mod ConsensusExamples

@@ -19,6 +19,7 @@ abbrev pub WordsThatDoNot : Type 0
 WordsThatDoNot =
     ¬ ReadsSource (codes "run" ∷ codes "0" ∷ [])
     × ¬ ReadsSource (codes "script" ∷ pk A ∷ [])
+    × ¬ ReadsSource (codes "asm" ∷ pk A ∷ [])
     × ¬ ReadsSource (codes "check" ∷ pk A ∷ [])
     × ¬ ReadsSource (codes "gen" ∷ codes "4" ∷ [])
     × ¬ ReadsSource (codes "policy" ∷ pk A ∷ [])

@@ -86,6 +86,11 @@ ghost use Rattle.ms_answer_laws.specs.TraceExamples.{
   RefusedTraceFiles,
   TraceFileTooLong,
 };
+ghost use Rattle.ms_answer_laws.specs.AsmExamples.{
+  ListedChoice,
+  ListedTexts,
+  NoFormOfListing,
+};
 ghost use Rattle.ms_answer_laws.specs.GenExamples.{
   GenOne,
   GenFour,
@@ -215,6 +220,13 @@ pub fn traces()
     ensures texts { TracedTexts }
     ensures refused_files { RefusedTraceFiles }
     ensures file_too_long { TraceFileTooLong }
+{}
+
+/// Answers to `asm TEXT`.
+pub fn listed()
+    ensures choice { ListedChoice }
+    ensures texts { ListedTexts }
+    ensures no_form { NoFormOfListing }
 {}
 
 /// Answers to `gen N`.

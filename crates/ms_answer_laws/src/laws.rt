@@ -18,6 +18,7 @@ ghost use Rattle.ms_answer_laws.specs.Laws.{
   LongAuditFile,
   LongTraceFile,
   LongTextTraceFile,
+  InstructionsStand,
   GeneratedIsRead,
   GeneratedIsSane,
   GeneratedAreAssets,
@@ -53,6 +54,11 @@ pub fn sources()
 /// What a walk finds are the steps of an audit.
 pub fn audits()
     ensures walked { WalkedAreSteps }
+{}
+
+/// The instructions that are listed stand where that is told.
+pub fn listings()
+    ensures stand { InstructionsStand }
 {}
 
 /// What is generated: a text that is read as the tree, a sane tree, and assets that satisfy it.

@@ -1,6 +1,5 @@
 //! The audit of a stack for a text, by what lies in arrays, without a run file.
 ghost use Rattle.std.specs.Prelude.{◌≡◌, ◌⊎◌, ◌↔◌, ◌<◌, ◌≤◌, All, length, map, IsUtf8, IfOk};
-ghost use Rattle.std.specs.List.{list_any};
 ghost use Rattle.def_answer.specs.Reading.{read as the_read};
 ghost use Rattle.def_tree.specs.Range.{IsInRange};
 ghost use Rattle.def_tree.specs.Size.{nodes};
@@ -29,6 +28,7 @@ use ms_assets::RunFile;
 use ms_audit::{Audit, AuditStop};
 use ms_emit::script_bytes;
 use ms_oracle::{Locks, PairIndex, SigCheck};
+use ms_report::have_extra;
 use ms_sane::Rules;
 use ms_text::TextTree;
 use std::alloc::{AllocError, Global};
@@ -214,18 +214,6 @@ fn placed_steps(
         found.push(PlacedStep::new(text, step))?;
     }
     Ok(found)
-}
-
-/// Whether a step is by a row that isn't canonical.
-fn have_extra(steps: &[Step]) -> bool
-    ensures { result ≡ list_any (λ (step : TheStep). step.extra) steps.now }
-{
-    for step in steps {
-        if step.extra {
-            return true;
-        }
-    }
-    false
 }
 
 /// What is told of a stack that isn't accepted.

@@ -2,3 +2,14 @@ mod Lining
 mod Firsts
 mod Onward
 mod Walking
+mod Earliest
+mod Joins
+mod Spots
+mod Rows
+mod Pushing
+mod Telling
+mod Reading
+mod Spelled
+mod Keeping
+mod Sizing
+mod Wholes

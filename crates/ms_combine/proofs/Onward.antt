@@ -47,7 +47,7 @@ string_rest bytes part e =
     let string = bytes_rest s.0.0 s.0.1 part s.2 in
     omega (arith, size, string)
 
-pair_rest : (bytes : Bytes) (part : Pair × Bytes) → first_pair bytes ≡ Some part → length part.1 < length bytes
+pub pair_rest : (bytes : Bytes) (part : Pair × Bytes) → first_pair bytes ≡ Some part → length part.1 < length bytes
 unfolding first_pair
 pair_rest bytes part e =
     let k = bind_some (first_string bytes) (λ key. cond (length key.0 == 0) None (first_string key.1 >>= λ value. Some (record { key = key.0; value = value.0 }, value.1))) part e in

@@ -3,3 +3,7 @@ pub mod Left
 pub mod Places
 pub mod Order
 pub mod Walk
+pub mod Earliest
+pub mod Rows
+pub mod Kept
+pub mod Again

@@ -8,7 +8,7 @@ ghost use Rattle.ms_combine.specs.Scaffolding.Places.{key_at as the_key_at, pair
 use ms_psbt::first_string;
 
 /// What stands from a place on; nothing behind the last byte.
-fn tail(bytes: &[u8], place: usize) -> &[u8]
+pub fn tail(bytes: &[u8], place: usize) -> &[u8]
     ensures { result.now ≡ drop place bytes.now }
 {
     if place <= bytes.len() {
@@ -20,7 +20,7 @@ fn tail(bytes: &[u8], place: usize) -> &[u8]
 
 /// The key and the value at the front, and what stands behind them; none where a map ends.
 #[tactic(auto, unfolding(ms_psbt::specs::Pairs::first_pair))]
-fn first_pair(bytes: &[u8]) -> Option<(&[u8], &[u8], &[u8])>
+pub fn first_pair(bytes: &[u8]) -> Option<(&[u8], &[u8], &[u8])>
     ensures { IsPart (λ part. (record { key = part.0.now; value = part.1.now }, part.2.now)) result (the_first_pair bytes.now) }
 {
     let (key, behind) = first_string(bytes)?;

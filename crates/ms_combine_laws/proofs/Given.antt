@@ -225,7 +225,7 @@ beside_common first other h k =
       own = subst (λ (v : PsbtVersion). IsOwn v first.transaction other) version (subst (λ (t : Transaction). IsOwn (version_of other.global) t other) transaction own.own);
     }
 
-all_common : (first : Psbt) (others : List Psbt) → IsWhole first → AllByRecursion (IsBeside first) others
+pub all_common : (first : Psbt) (others : List Psbt) → IsWhole first → AllByRecursion (IsBeside first) others
     → AllByRecursion (IsCommon (version_number first.global) (version_of first.global) first.transaction) others
 all_common first [] h k = tt
 all_common first (other ∷ others) h k = (beside_common first other h k.0, all_common first others h k.1)

@@ -1,9 +1,9 @@
-mod Found
-mod Kept
+pub mod Found
+pub mod Kept
 mod Sounding
 mod Locking
-mod Common
-mod Whole
-mod Given
+pub mod Common
+pub mod Whole
+pub mod Given
 mod Keys
 mod Again

@@ -182,6 +182,20 @@ impl<'a> Fields<'a> {
         self.script
     }
 
+    /// The final scriptSig. Takes no memory.
+    pub fn final_script_sig(&self) -> Option<&'a [u8]>
+        ensures { option_map (λ b. b.now) result ≡ self.now.final_script_sig }
+    {
+        self.final_script_sig
+    }
+
+    /// The final witness. Takes no memory.
+    pub fn final_witness(&self) -> Option<&'a [u8]>
+        ensures { option_map (λ b. b.now) result ≡ self.now.final_witness }
+    {
+        self.final_witness
+    }
+
     /// The compressed keys of signatures and derivations, in the map's order. Takes no memory.
     pub fn keys(&self) -> &[Key]
         ensures { result.now ≡ self.now.keys }

@@ -16,9 +16,9 @@ use ms_bytes::Stack;
 use ms_decode::decode;
 use ms_fields::Fields;
 use ms_held::Assets;
-use ms_nonmal::strict;
 use ms_oracle::Locks;
 use ms_sane::{SaneTree, ValidTree};
+use ms_sat::strict;
 use ms_tree::Tree;
 use std::alloc::{AllocError, Global};
 

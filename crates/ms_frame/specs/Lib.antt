@@ -1,2 +1,3 @@
--- What asks for lines.
+-- What asks for lines, and how such a call ends.
 pub mod Asking
+pub mod Frame

@@ -1,5 +1,5 @@
 //! Words that ask for lines, and the words of a question.
-ghost use Rattle.std.specs.Prelude.{◌≡◌, ◌↔◌, [], ◌∷◌, codes, map, IsTrue, IfOk};
+ghost use Rattle.std.specs.Prelude.{◌≡◌, ◌↔◌, [], ◌∷◌, map, IsTrue, IfOk};
 ghost use Rattle.std.specs.String.{string_bytes};
 ghost use Rattle.ms_frame.specs.Asking.{AsksLines};
 
@@ -11,21 +11,14 @@ pub fn asks_lines(words: &[Word]) -> bool
     ensures { IsTrue result ↔ AsksLines words.now }
 {
     match words {
-        [word] => is_form(word.as_str()),
+        [word] => is_lines(word.as_str()),
         _ => false,
     }
 }
 
 /// Whether a word alone asks for lines.
-fn is_form(word: &str) -> bool
-    ensures { IsTrue result ↔ AsksLines (word.now ∷ []) }
-{
-    is_lines(word)
-}
-
-/// Whether a word is `lines`.
 fn is_lines(word: &str) -> bool
-    ensures { IsTrue result ↔ (word.now ≡ codes "lines") }
+    ensures { IsTrue result ↔ AsksLines (word.now ∷ []) }
 {
     word == "lines"
 }

@@ -11,8 +11,7 @@ use Rattle.def_spend.specs.Fields.{REDEEM_SCRIPT, field}
 use Rattle.def_spend.specs.Utxo.{Utxo}
 use Rattle.def_spend.specs.Utxo as utxo
 use Rattle.def_spend.specs.Input.{Spend}
-use Rattle.def_spend.specs.Kinds.{is_p2sh, p2sh_of, redeemed, program_in, program_of_utxo, is_nested, is_script_hash, kind_by, kind_with, spent_utxo, kind_of, script_sig_by}
-use Rattle.def_spend.specs.Finalized.{script_sig_of}
+use Rattle.def_spend.specs.Kinds.{is_p2sh, p2sh_of, redeemed, program_in, program_of_utxo, is_nested, is_script_hash, kind_by, kind_with, spent_utxo, kind_of, script_sig_by, open_script_sig}
 
 abbrev bytes_in : Option Bytes → Bytes
 bytes_in o = unwrap_or o []
@@ -63,8 +62,6 @@ short_utxo (utxo.claimed output) o = short_output output.script o
 pub redeem_is_short : (spend : Spend) → kind_of spend ≡ kind.P2shP2wsh → length (unwrap_or (field REDEEM_SCRIPT spend.fields) []) < 76
 redeem_is_short spend is = short_utxo (spent_utxo spend) (field REDEEM_SCRIPT spend.fields) is
 
-pub script_sig_is : (spend : Spend) (one : Kind) (redeem out : Bytes) → one ≡ kind_of spend → redeem ≡ unwrap_or (field REDEEM_SCRIPT spend.fields) []
-    → out ≡ unwrap_or (script_sig_by one redeem) [] → out ≡ script_sig_of spend
-script_sig_is spend one redeem out same held e =
-    e ∙ ap (λ (b : Bytes). bytes_in (script_sig_by one b)) held
-    ∙ ap (λ k. bytes_in (script_sig_by k (bytes_in (field REDEEM_SCRIPT spend.fields)))) same
+pub open_is : (spend : Spend) (one : Kind) (redeem : Bytes) → one ≡ kind_of spend → redeem ≡ unwrap_or (field REDEEM_SCRIPT spend.fields) []
+    → script_sig_by one redeem ≡ open_script_sig spend
+open_is spend one redeem same held = ap (script_sig_by one) held ∙ ap (λ k. script_sig_by k (bytes_in (field REDEEM_SCRIPT spend.fields))) same

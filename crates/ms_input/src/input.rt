@@ -1,16 +1,17 @@
 //! An input of a PSBT that was read.
 
-ghost use Rattle.std.specs.Prelude.{◌≡◌, ◌<◌, ◌≤◌, ◌^◌, Some, None, length, slice_get, if◌then◌else◌, All, IfOk, IfSome, option_map};
+ghost use Rattle.std.specs.Prelude.{◌≡◌, ◌<◌, ◌≤◌, ◌^◌, [], Some, None, length, slice_get, if◌then◌else◌, All, IfOk, IfSome, option_map, unwrap_or};
 ghost use Rattle.def_script.specs.Witness.{weight};
 ghost use Rattle.def_promises.specs.Accepted.{Unchangeable};
-ghost use Rattle.def_spend.specs.Fields.{signatures_in, asked_type as the_asked_type};
-ghost use Rattle.def_spend.specs.Finalized.{script_sig_of, witness_of};
+ghost use Rattle.def_spend.specs.Fields.{FINAL_SCRIPTSIG, field, signatures_in, asked_type as the_asked_type};
+ghost use Rattle.def_spend.specs.Finalized.{script_sig_of, witness_of, known_script_sig as the_known_script_sig};
 ghost use Rattle.def_spend.specs.Hashes.{hash_by as the_hash_by, script_in};
 ghost use Rattle.def_spend.specs.Input.{spends_of, assets_of};
-ghost use Rattle.def_spend.specs.Kinds.{kind_of};
-ghost use Rattle.def_spend.specs.Reading.{HasReading};
+ghost use Rattle.def_spend.specs.Kinds.{kind_of, open_script_sig as the_open_script_sig};
+ghost use Rattle.def_spend.specs.Reading.{HasReading, has_final};
 ghost use Rattle.def_spend.specs.States.{state_of, is_ready, stack_of};
 ghost use Rattle.def_spend.specs.Utxo.{utxo_of, amount_of};
+ghost use Rattle.def_verify.specs.Verdict.{final_verdict as the_final_verdict};
 ghost use Rattle.def_tree.specs.Range.{IsInRange};
 ghost use Rattle.def_tree.specs.Tree.{Tree as TheTree};
 ghost use Rattle.ms_asking.specs.Asked.{asked_plan as the_asked_plan};
@@ -20,9 +21,11 @@ ghost use Rattle.ms_sighash.specs.Shared.{shared_of, IsOutputText};
 ghost use Rattle.ms_transaction.specs.Unsigned.{IsUnsigned};
 ghost use Rattle.ms_tree.specs.Shape.{shape};
 ghost use Rattle.ms_utxo.specs.Spending.{amount_seen};
+ghost use Rattle.ms_verify.specs.Seen.{verdict_seen};
+ghost use Rattle.ms_verify.specs.Signing.{IsAsked};
 
 use crate::gathering::fields_of;
-use crate::scripts::{bytes_or_none, script_or_none, script_sig_by};
+use crate::scripts::{bytes_or_none, copied, script_or_none, script_sig_by};
 use crate::signing::known_amount;
 use bumpalo::Bump;
 use ms_asking::asked_plan;
@@ -37,6 +40,7 @@ use ms_sighash::SharedHashes;
 use ms_transaction::{InputRef, TransactionRef};
 use ms_tree::Tree;
 use ms_utxo::{Amount, Kind, State, spending};
+use ms_verify::{ConsensusCheck, Verdict, final_verdict, input_check};
 use std::alloc::{AllocError, Global};
 use std::marker::Model;
 
@@ -220,6 +224,42 @@ impl<'p, 't> Input<'p, 't> {
     pub fn script_sig(&self, alloc: Global) -> Result<Vec<u8>, AllocError>
         ensures { IfOk result (λ script_sig. script_sig.items ≡ script_sig_of self.now.spend) }
     {
+        match self.open_script_sig(alloc)? {
+            Some(script_sig) => Ok(script_sig),
+            None => Ok(Vec::new(alloc)),
+        }
+    }
+
+    /// Its final scriptSig, where it is known: of a Final input that of its map, which is empty where there is none, and of any other
+    /// the one that spends its kind of output. Refuses for want of memory alone.
+    pub fn known_script_sig(&self, alloc: Global) -> Result<Option<Vec<u8>>, AllocError>
+        ensures { IfOk result (λ found. option_map (λ v. v.items) found ≡ the_known_script_sig self.now.spend) }
+    {
+        if self.is_final() {
+            Ok(Some(copied(alloc, self.final_script_sig())?))
+        } else {
+            self.open_script_sig(alloc)
+        }
+    }
+
+    // Whether it is Final.
+    fn is_final(&self) -> bool
+        ensures { result ≡ has_final self.now.spend.fields }
+    {
+        self.fields.is_final()
+    }
+
+    // The final scriptSig of its map, or no byte.
+    fn final_script_sig(&self) -> &[u8]
+        ensures { result.now ≡ unwrap_or (field FINAL_SCRIPTSIG self.now.spend.fields) [] }
+    {
+        bytes_or_none(self.fields.final_script_sig())
+    }
+
+    // The scriptSig of its kind, where that is known.
+    fn open_script_sig(&self, alloc: Global) -> Result<Option<Vec<u8>>, AllocError>
+        ensures { IfOk result (λ found. option_map (λ v. v.items) found ≡ the_open_script_sig self.now.spend) }
+    {
         script_sig_by(alloc, self.kind, bytes_or_none(self.fields.redeem()))
     }
 
@@ -255,5 +295,43 @@ impl<'p, 't> Input<'p, 't> {
         let hash_type = hash_type_of(number)?;
         let amount = known_amount(self.amount);
         Some(shared.signature_hash(hash_type, self.input.bytes(), output, self.script, amount))
+    }
+
+    /// What is said of its final fields: whether what they have consensus run accepts. By what all signatures of the transaction share,
+    /// and the bytes of its output with the input's number, where there is one. `AllocError` comes where memory is wanting, and where
+    /// the final witness has over 2^31 items.
+    pub fn final_verdict(
+        &self,
+        alloc: Global,
+        shared: &SharedHashes,
+        output: Option<&[u8]>,
+    ) -> Result<Verdict<'p>, AllocError>
+        requires shared { shared.now ≡ shared_of self.now.spend.transaction }
+        requires output { IsOutputText (slice_get self.now.spend.transaction.outputs self.now.spend.number) output }
+        ensures { IfOk result (λ verdict. verdict_seen verdict ≡ the_final_verdict self.now.spend) }
+    {
+        final_verdict(alloc, &self.input, &self.fields, shared, output)
+    }
+
+    /// The check of its signatures in the run of this Script. Takes no memory.
+    pub fn check<'a>(
+        &'a self,
+        shared: &SharedHashes,
+        output: Option<&[u8]>,
+        script: &'a [u8],
+    ) -> ConsensusCheck<'a>
+        requires shared { shared.now ≡ shared_of self.now.spend.transaction }
+        requires output { IsOutputText (slice_get self.now.spend.transaction.outputs self.now.spend.number) output }
+        ensures asked { IsAsked self.now.spend result }
+        ensures script { result.script ≡ script.entry.now }
+        ensures long { length result.input ≡ 41 }
+    {
+        input_check(
+            &self.input,
+            known_amount(self.amount),
+            shared,
+            output,
+            script,
+        )
     }
 }

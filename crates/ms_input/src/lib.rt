@@ -5,6 +5,7 @@ pub use gathering::fields_of;
 pub use input::Input;
 pub use ms_fields::SignedRef;
 pub use ms_utxo::{Amount, Kind, State};
+pub use ms_verify::{ConsensusCheck, Flaw, Verdict};
 pub use signing::shared_hashes;
 
 mod gathering;

@@ -28,15 +28,29 @@ pub fn bytes_or_none<'a>(bytes: Option<&'a [u8]>) -> &'a [u8]
     }
 }
 
-/// The scriptSig of an output of this kind, with this redeem script; empty where it isn't known. Refuses for want of memory alone.
-pub fn script_sig_by(alloc: Global, kind: Kind, redeem: &[u8]) -> Result<Vec<u8>, AllocError>
+/// The scriptSig of an output of this kind, with this redeem script, where it is known. Refuses for want of memory alone.
+pub fn script_sig_by(
+    alloc: Global,
+    kind: Kind,
+    redeem: &[u8],
+) -> Result<Option<Vec<u8>>, AllocError>
     requires { kind ≡ Kind.P2shP2wsh → length redeem.now < 76 }
-    ensures { IfOk result (λ out. out.items ≡ unwrap_or (the_script_sig_by kind redeem.now) []) }
+    ensures { IfOk result (λ found. option_map (λ v. v.items) found ≡ the_script_sig_by kind redeem.now) }
 {
     match kind {
-        Kind::P2shP2wsh => pushed(alloc, redeem),
-        Kind::P2wsh | Kind::Other => Ok(Vec::new(alloc)),
+        Kind::P2shP2wsh => Ok(Some(pushed(alloc, redeem)?)),
+        Kind::P2wsh => Ok(Some(Vec::new(alloc))),
+        Kind::Other => Ok(None),
     }
+}
+
+/// A copy of bytes. Refuses for want of memory alone.
+pub fn copied(alloc: Global, bytes: &[u8]) -> Result<Vec<u8>, AllocError>
+    ensures { IfOk result (λ out. out.items ≡ bytes.now) }
+{
+    let mut out = Vec::with_capacity(alloc, bytes.len())?;
+    out.extend_from_slice(bytes)?;
+    Ok(out)
 }
 
 /// The one push of a string: its length, and then it. Refuses for want of memory alone.

@@ -26,6 +26,20 @@ WritesPrefixOf {S} IsAnswer fault call =
     × ((answer : S) × (report : List ℕ) × HasAnswerOf IsAnswer call.words call.source answer report
     × AppendsPrefix call.sink.old call.sink.new report)
 
+-- the source failed, and its count of faults rose: nothing was written, and the words are such that read it
+abbrev pub FailsToReadOf : {S : Type 0} → (fault : S) → (Reads : List (List ℕ) → Type 0) → CallWith S → Type 0
+FailsToReadOf fault Reads call =
+    (call.status ≡ fault) × Rose call.source.before call.source.now × Keeps call.sink.old call.sink.new × Reads call.words
+
+-- memory was wanting: nothing was written, and the words are such that take some
+abbrev pub WantsMemoryOf : {S : Type 0} → (fault : S) → (Takes : List (List ℕ) → Type 0) → CallWith S → Type 0
+WantsMemoryOf fault Takes call = (call.status ≡ fault) × Keeps call.sink.old call.sink.new × Takes call.words
+
+-- with the answer's report written whole, with a prefix of it where the sink failed, or without one
+abbrev pub EndsOf : {S : Type 0} → AnswersWith S → (read write memory : S) → (Reads Takes : List (List ℕ) → Type 0) → CallWith S → Type 0
+EndsOf IsAnswer read write memory Reads Takes call =
+    WritesAnswerOf IsAnswer call ⊎ (WritesPrefixOf IsAnswer write call ⊎ (FailsToReadOf read Reads call ⊎ WantsMemoryOf memory Takes call))
+
 -- ---- how a report is written
 
 -- whole, or up to a fault of the sink, which was counted

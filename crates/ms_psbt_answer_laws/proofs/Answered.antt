@@ -6,6 +6,7 @@ use Rattle.std.proofs.lemmas.Bool.Decides.{Decides-by_and}
 use Rattle.def_script.specs.Bytes.{Bytes}
 use Rattle.def_tree.specs.Tree.{Key, Tree}
 use Rattle.def_tree.specs.Range.{IsKey}
+use Rattle.def_combine.specs.Combine.{combined_of}
 use Rattle.def_psbt.specs.declared.Refusal.{Refusal}
 use Rattle.def_psbt.specs.Map.{Psbt}
 use Rattle.def_psbt.specs.Source.{psbt_of}
@@ -16,9 +17,11 @@ use Rattle.def_spend.specs.Reading.{Input, script_code, ReadsAs, HasReading, Are
 use Rattle.ms_answer_laws.proofs.Decided.{decided, decided_is, decided_not, is_key_bytes, keys_tell}
 use Rattle.def_psbt_answer.specs.declared.status.Status.{Status}
 use Rattle.def_psbt_answer.specs.declared.words.Command.{Command}
-use Rattle.def_psbt_answer.specs.Words.{command_of}
+use Rattle.def_psbt_answer.specs.declared.words.Request.{Request}
+use Rattle.def_psbt_answer.specs.declared.words.Request.TheVariants as request
+use Rattle.def_psbt_answer.specs.Words.{request_of}
 use Rattle.def_psbt_answer.specs.declared.words.Form.{Form}
-use Rattle.def_psbt_answer.specs.Reply.{Reply, reply, usage_reply, refusal_reply, form_of, command_reply}
+use Rattle.def_psbt_answer.specs.Reply.{Reply, reply, usage_reply, refusal_reply, form_of, command_reply, combine_reply}
 use Rattle.def_psbt_answer.specs.Answer.{RepliesToSource, RepliesToWords, Answer}
 
 -- ---- the inputs of a PSBT
@@ -63,8 +66,12 @@ abbrev pub source_reply : Command → Form → Result Psbt Refusal → Reply
 source_reply command form (Ok psbt) = command_reply command form psbt (inputs_found psbt)
 source_reply command form (Err refusal) = refusal_reply refusal
 
-abbrev pub words_reply : Option Command → (source : Bytes) → Reply
-words_reply (Some command) source = source_reply command (form_of source) (psbt_of source)
+abbrev pub request_reply : Request → (source : Bytes) → Reply
+request_reply (request.One command) source = source_reply command (form_of source) (psbt_of source)
+request_reply request.Combine source = combine_reply (combined_of source)
+
+abbrev pub words_reply : Option Request → (source : Bytes) → Reply
+words_reply (Some request) source = request_reply request source
 words_reply None source = usage_reply
 
 -- ---- keys of literals
@@ -79,10 +86,11 @@ abbrev pub source_has_keys : Result Psbt Refusal → Bool
 source_has_keys (Ok psbt) = list_all has_keys (spends_of psbt)
 source_has_keys (Err refusal) = true
 
-replies : (command : Option Command) (source : Bytes) (r : Reply) → source_has_keys (psbt_of source) ≡ true → words_reply command source ≡ r
-    → RepliesToWords command source r
+replies : (request : Option Request) (source : Bytes) (r : Reply) → source_has_keys (psbt_of source) ≡ true → words_reply request source ≡ r
+    → RepliesToWords request source r
 replies None source r keys e = sym e
-replies (Some command) source r keys e = go (psbt_of source) keys e
+replies (Some request.Combine) source r keys e = sym e
+replies (Some (request.One command)) source r keys e = go (psbt_of source) keys e
   where
     go : (o : Result Psbt Refusal) → source_has_keys o ≡ true → source_reply command (form_of source) o ≡ r
         → RepliesToSource command (form_of source) o r
@@ -91,5 +99,5 @@ replies (Some command) source r keys e = go (psbt_of source) keys e
 
 -- the answer to words and a source whose keys consist of bytes
 pub answered : {words : List Bytes} {source : Bytes} {status : Status} {report : Bytes}
-    → source_has_keys (psbt_of source) ≡ true → words_reply (command_of words) source ≡ reply status report → Answer words source status report
-answered {words} {source} {status} {report} keys e = record { replies = replies (command_of words) source (reply status report) keys e }
+    → source_has_keys (psbt_of source) ≡ true → words_reply (request_of words) source ≡ reply status report → Answer words source status report
+answered {words} {source} {status} {report} keys e = record { replies = replies (request_of words) source (reply status report) keys e }

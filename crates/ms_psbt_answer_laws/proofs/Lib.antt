@@ -1,4 +1,5 @@
 pub mod Answered
 pub mod Computing
+pub mod Sane
 pub mod Unique
 pub mod Written

@@ -11,7 +11,9 @@ use Rattle.def_spend.specs.Fields.{keys_in}
 use Rattle.def_spend.specs.Input.{Spend, spends_of}
 use Rattle.def_spend.specs.Reading.{Input, script_code, IsReadAs, ReadsAs, HasReading, AreInputs}
 use Rattle.def_psbt_answer.specs.declared.words.Command.{Command}
-use Rattle.def_psbt_answer.specs.Words.{command_of}
+use Rattle.def_psbt_answer.specs.declared.words.Request.{Request}
+use Rattle.def_psbt_answer.specs.declared.words.Request.TheVariants as request
+use Rattle.def_psbt_answer.specs.Words.{request_of}
 use Rattle.def_psbt_answer.specs.declared.words.Form.{Form}
 use Rattle.def_psbt_answer.specs.Reply.{Reply, form_of, command_reply}
 use Rattle.def_psbt_answer.specs.Answer.{RepliesToSource, RepliesToWords}
@@ -69,11 +71,12 @@ one_source : (command : Command) (form : Form) (o : Result Psbt Refusal) (a b : 
 one_source command form (Ok psbt) a b (xs, h, e) (ys, k, f) = e ∙ ap (command_reply command form psbt) (one_inputs psbt xs ys h k) ∙ sym f
 one_source command form (Err refusal) a b e f = e ∙ sym f
 
-one_reply : (command : Option Command) (source : Bytes) (a b : Reply) → RepliesToWords command source a → RepliesToWords command source b → a ≡ b
-one_reply (Some command) source a b h k = one_source command (form_of source) (psbt_of source) a b h k
+one_reply : (request : Option Request) (source : Bytes) (a b : Reply) → RepliesToWords request source a → RepliesToWords request source b → a ≡ b
+one_reply (Some request.Combine) source a b e f = e ∙ sym f
+one_reply (Some (request.One command)) source a b h k = one_source command (form_of source) (psbt_of source) a b h k
 one_reply None source a b e f = e ∙ sym f
 
 pub one_answer : OneAnswer
 one_answer words source s t p q h k =
-    let same = one_reply (command_of words) source _ _ h.replies k.replies in
+    let same = one_reply (request_of words) source _ _ h.replies k.replies in
     (ap (λ r. r.status) same, ap (λ r. r.report) same)

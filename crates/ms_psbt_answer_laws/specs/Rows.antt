@@ -157,7 +157,14 @@ InspectNested =
     × Inspects (with_map (nested_two_of_three ∷ pair (0x04 ∷ []) (from_hex "0020") ∷ [])) status.Open
     (claimed (codes "WrongScript") ++ codes "kind other" ∷ [])
     × Inspects (with_map (nested_two_of_three ∷ redeem_two_of_three ∷ [])) status.Open
-    (claimed (codes "NoScript") ++ codes "kind p2sh-p2wsh" ∷ [])
+    (codes "psbt inputs 1 outputs 1 version 2 locktime 0 txid fc13434055c19a48ec006f9c4951550f5ba2013f0cb368a52d5ca429a73223ec"
+    ∷ codes "final txid d7f689596ea3de26c9287330971150582c2515d64a2a92773a44163bd9946b4c"
+    ∷ codes "output 0 90000 00140707070707070707070707070707070707070707"
+    ∷ codes "fee 10000 claimed"
+    ∷ codes "input 0 NoScript"
+    ∷ outpoint_0
+    ∷ codes "amount 100000 claimed"
+    ∷ codes "kind p2sh-p2wsh" ∷ [])
 
 -- ---- finalize
 

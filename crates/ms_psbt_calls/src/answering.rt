@@ -6,7 +6,8 @@ ghost use Rattle.ms_calls.specs.Buffers.{written_over};
 ghost use Rattle.ms_calls.specs.Words.{HoldsOfAnswer, AreNoWords};
 
 use ms_calls::{NO_MEMORY, NoWords, UNREADABLE, read_words, write_over};
-use psbt_lines::answer_in_memory;
+use ms_frame::answer_in_memory;
+use psbt_lines::Psbt;
 use std::alloc::{AllocError, Global};
 
 /// Answers the words of a command line, as the program `msat-psbt` does where its standard input holds `source`: a PSBT
@@ -38,7 +39,7 @@ pub fn psbt_answer(
         Err(NoWords::Unreadable) => return UNREADABLE,
         Err(NoWords::Memory) => return NO_MEMORY,
     };
-    match answer_in_memory(alloc, &words, source) {
+    match answer_in_memory(alloc, &Psbt, &words, source) {
         Ok(outcome) => {
             *needed = outcome.report.len();
             let _count = write_over(&outcome.report, report);

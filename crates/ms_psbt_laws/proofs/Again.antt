@@ -24,6 +24,7 @@ use Rattle.def_spend.specs.States.{state_by, state_of, is_final, is_ready, stack
 use Rattle.def_spend.specs.Finalized.{is_cleared, is_kept, final_pairs, final_map, script_sig_of, witness_of, written_map, finalized}
 use Rattle.def_psbt_answer.specs.declared.status.Status.TheVariants as status
 use Rattle.def_psbt_answer.specs.declared.words.Command.TheVariants as command
+use Rattle.def_psbt_answer.specs.declared.words.Request.TheVariants as request
 use Rattle.def_psbt_answer.specs.declared.words.Form.{Form}
 use Rattle.def_psbt_answer.specs.Report.{in_form, finalize_report}
 use Rattle.def_psbt_answer.specs.Reply.{reply, is_settled, settled_status, form_of, command_reply}
@@ -107,7 +108,7 @@ made_final input w =
     ap (λ b. has_byte (field FINAL_SCRIPTSIG (map_made input)) || b) item ∙ or-true (has_byte (field FINAL_SCRIPTSIG (map_made input)))
 
 -- a Ready input is made final
-is_made_final : (input : Input) → IsGiven input → is_ready (state_of input) ≡ true → IsMadeFinal input
+pub is_made_final : (input : Input) → IsGiven input → is_ready (state_of input) ≡ true → IsMadeFinal input
 is_made_final input given ready =
     let written = ap (λ b. if b then map_made input else input.spend.fields) ready in
     record {
@@ -199,7 +200,7 @@ report_again psbt inputs again form same = ap (λ (maps : List Map). in_form for
 
 pub answered_again : EachIsSound → WrittenIsReadBack → AnsweredAgain
 answered_again law back words source psbt now report fits named given short answer =
-    let replies : RepliesToWords (Some command.Finalize) source (reply now report) = subst (λ c. RepliesToWords c source (reply now report)) named answer.replies in
+    let replies : RepliesToWords (Some (request.One command.Finalize)) source (reply now report) = subst (λ c. RepliesToWords c source (reply now report)) named answer.replies in
     let found : RepliesToPsbt command.Finalize (form_of source) psbt (reply now report) = subst (λ o. RepliesToSource command.Finalize (form_of source) o (reply now report)) given replies in
     let are : AreInputs psbt found.0 = found.1 in
     let form : Form = form_of source in
@@ -222,5 +223,6 @@ answered_again law back words source psbt now report fits named given short answ
     let is : reply now report ≡ command_reply command.Finalize (form_of report) final (inputs_found final) =
     ap (λ s. reply s report) same_status ∙ ap (reply (settled_status (inputs_found final))) same_report in
     let by_psbt : RepliesToSource command.Finalize (form_of report) (Ok final) (reply now report) = (inputs_found final, are_again, is) in
-    let by_source : RepliesToWords (Some command.Finalize) report (reply now report) = subst (λ o. RepliesToSource command.Finalize (form_of report) o (reply now report)) (sym read) by_psbt in
+    let by_source : RepliesToWords (Some (request.One command.Finalize)) report (reply now report) =
+    subst (λ o. RepliesToSource command.Finalize (form_of report) o (reply now report)) (sym read) by_psbt in
     record { replies = subst (λ c. RepliesToWords c report (reply now report)) (sym named) by_source }

@@ -5,6 +5,7 @@ pub mod Wholes
 pub mod Sources
 pub mod Again
 pub mod AloneMaps
+pub mod FinalIds
 pub mod Others
 pub mod PartsWritten
 pub mod NetworkTexts

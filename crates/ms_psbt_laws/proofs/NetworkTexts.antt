@@ -392,7 +392,7 @@ unsigned_in t (pair ∷ global) all e = elim (cases_Bool (type_of pair.key == 0x
   | inr other ↦ unsigned_in t global all.1 (rw other at e)
 ]
 
-same_inputs : (ins : List TransactionInput) (maps : List Map) → length maps ≡ length ins → list_all forms.has_no_script_sig ins ≡ true
+pub same_inputs : (ins : List TransactionInput) (maps : List Map) → length maps ≡ length ins → list_all forms.has_no_script_sig ins ≡ true
     → AllByRecursion (λ fields. has_byte (field FINAL_SCRIPTSIG fields) ≡ false) maps → final_inputs ins maps ≡ ins
 same_inputs [] [] same bare none = refl
 same_inputs [] (fields ∷ maps) same bare none = absurd (omega (arith, same))
@@ -408,7 +408,7 @@ bare_fields : (inputs : List Map) → list_all forms.has_no_script_sig (map inpu
 bare_fields [] = refl
 bare_fields (fields ∷ inputs) = bare_fields inputs
 
-bare_inputs : (psbt : Psbt) → IsSound psbt → list_all forms.has_no_script_sig psbt.transaction.inputs ≡ true
+pub bare_inputs : (psbt : Psbt) → IsSound psbt → list_all forms.has_no_script_sig psbt.transaction.inputs ≡ true
 bare_inputs psbt sound =
     subst (λ (t : Transaction). list_all forms.has_no_script_sig t.inputs ≡ true) (sym sound.transaction) (go (version_of psbt.global) sound.outline sound.said)
   where

@@ -1,6 +1,12 @@
 -- What is said of an input goes by its transaction and by the other pairs of its map, those beside the fields of version 2.
 use Rattle.std.proofs.Common.{◌≡◌, ℕ, ◌+◌, ◌==◌, ◌&&◌, ◌||◌, not, nat_le, nat_lt, Bool, true, false, List, [], ◌∷◌, ◌++◌, length, map, find, filter, flat_map, Option, Some, None, Result, Ok, Err, unwrap_or, if◌then◌else◌, inl, inr, refl, sym, ap, subst, ◌∙◌, arith}
-use Rattle.std.specs.Prelude.{⊤}
+use Rattle.std.specs.Prelude.{⊤, codes, decimal}
+use Rattle.std.specs.Int.{w32, w64, to_le_bytes}
+use Rattle.def_hash.specs.Hash.{hash256}
+use Rattle.def_script.specs.Witness.{sized}
+use Rattle.def_machine.specs.Run.{run}
+use Rattle.def_curve.specs.Judgement.{judge}
+use Rattle.def_psbt.specs.Forms.{witness_of}
 use Rattle.hex.specs.Hex.{encode_lower}
 use Rattle.std.specs.List.{AllByRecursion, list_all, list_any}
 use Rattle.std.specs.Option.{option_map, option_and_then}
@@ -14,39 +20,49 @@ use Rattle.def_assets.specs.Assets.{Assets}
 use Rattle.def_sane.specs.Unfit.{first_unfit}
 use Rattle.def_choice.specs.Strict.{strict}
 use Rattle.def_policy.specs.Print.{printed as printed_policy}
-use Rattle.def_psbt.specs.Transaction.{TransactionInput, Transaction, transaction_text}
+use Rattle.def_psbt.specs.Transaction.{TransactionInput, TransactionOutput, Transaction, outpoint_text, transaction_text}
 use Rattle.def_psbt.specs.Map.{Pair, Map, Psbt, type_of, data_of}
 use Rattle.def_spend.specs.declared.Kind.{Kind}
 use Rattle.def_spend.specs.declared.State.{State}
 use Rattle.def_spend.specs.declared.State.TheVariants as state
 use Rattle.def_spend.specs.Fields.{NON_WITNESS_UTXO, WITNESS_UTXO, PARTIAL_SIG, SIGHASH_TYPE, REDEEM_SCRIPT, WITNESS_SCRIPT, BIP32_DERIVATION, FINAL_SCRIPTSIG, FINAL_SCRIPTWITNESS, RIPEMD160, HASH256, has_type, is_between, field, is_signed, signatures_in, has_key, keys_in, is_preimage_pair, preimages_in, last_byte, asked, asked_type}
 use Rattle.def_spend.specs.Amount.{known_amount}
-use Rattle.def_spend.specs.Utxo.{amount_of}
+use Rattle.def_spend.specs.Utxo.{Utxo, amount_of}
+use Rattle.def_spend.specs.Utxo as utxo
 use Rattle.def_spend.specs.HashTypes.{hash_type_of}
-use Rattle.def_spend.specs.SignatureHash.{signature_hash}
+use Rattle.def_spend.specs.SignatureHash.{signed_prevouts, signed_sequences, signed_outputs, signature_hash}
 use Rattle.def_spend.specs.Hashes.{script_or_none, script_in, spent_amount, hash_by}
 use Rattle.def_spend.specs.Input.{Spend, spends_from, locks_of, assets_of}
-use Rattle.def_spend.specs.Kinds.{kind_of}
-use Rattle.def_spend.specs.Reading.{Input, has_item, script_code, ReadsAs, HasReading}
+use Rattle.def_spend.specs.Kinds.{spent_utxo, kind_of, script_sig_by}
+use Rattle.def_spend.specs.Reading.{Input, has_item, has_final, script_code, ReadsAs, HasReading}
 use Rattle.def_spend.specs.States.{MOST_HELD, is_sighash_wrong, are_too_many, choice_state, held_state, unless_unfit, tree_state, state_by, state_of, is_read, is_sane, is_final, is_ready, stack_of}
 use Rattle.def_spend.specs.Asking.{plan_with}
-use Rattle.def_spend.specs.Finalized.{final_input, final_inputs, final_witness, witnessed_text, network_text}
+use Rattle.def_spend.specs.Finalized.{final_input, final_inputs, final_witness, witnessed_text, network_text, known_script_sig, final_id}
+use Rattle.def_verify.specs.declared.Flaw.{Flaw}
+use Rattle.def_verify.specs.ConsensusHash.{outputs_by, type_by, consensus_hash}
+use Rattle.def_verify.specs.Check.{judged_in, is_taken}
+use Rattle.def_verify.specs.Final.{Execution, final_script_sig, final_items, execution_of}
+use Rattle.def_verify.specs.Verdict.{Verdict, not_final, flawed, valid, consensus_given, verdict_by, ran_verdict, output_verdict, utxo_verdict, final_verdict, verdict_of, is_valid}
 use Rattle.def_answer.specs.Lines.{line}
 use Rattle.def_answer.specs.Decode.{decode_report}
 use Rattle.def_answer.specs.Policy.{policy_of}
 use Rattle.def_psbt_answer.specs.declared.status.Status.TheVariants as status
 use Rattle.def_psbt_answer.specs.declared.words.Command.{Command}
 use Rattle.def_psbt_answer.specs.declared.words.Command.TheVariants as command
-use Rattle.def_psbt_answer.specs.Words.{command_of}
+use Rattle.def_psbt_answer.specs.declared.words.Request.{Request}
+use Rattle.def_psbt_answer.specs.declared.words.Request.TheVariants as request
+use Rattle.def_psbt_answer.specs.Words.{request_of}
 use Rattle.def_psbt_answer.specs.declared.words.Form.{Form}
-use Rattle.def_psbt_answer.specs.Lines.{psbt_line, output_lines, input_line, outpoint_line, amount_line, unchecked_line, signature_line, policy_line, sign_line, check_line, not_final_line}
+use Rattle.def_psbt_answer.specs.Lines.{psbt_line, final_id_line, output_lines, input_line, outpoint_line, amount_line, unchecked_line, signature_line, policy_line, sign_line, check_line, not_final_line}
 use Rattle.def_psbt_answer.specs.Fee.{fee_line}
 use Rattle.def_psbt_answer.specs.Report.{amount_in, plan_lines, last_lines, tree_lines, kind_lines, open_lines, input_report, inspect_report, hash_lines, input_hashes, hashes_report}
-use Rattle.def_psbt_answer.specs.Reply.{reply, is_settled, settled_status, form_of, first_open, extract_by, extract_reply, command_reply}
+use Rattle.def_psbt_answer.specs.Verified.{judgement_name, verdict_text, passed_line, passed_lines, verdict_lines, input_verdict, verify_report}
+use Rattle.def_psbt_answer.specs.Reply.{reply, is_settled, settled_status, verify_status, form_of, first_open, extract_by, extract_reply, command_reply}
 use Rattle.def_psbt_answer.specs.Answer.{RepliesToPsbt, RepliesToSource, RepliesToWords}
 use Rattle.ms_spend_laws.specs.Planned.{with_map}
-use Rattle.ms_spend_laws.proofs.Reread.{SpendAlike, utxo_alike, kind_alike, script_alike}
+use Rattle.ms_spend_laws.proofs.Reread.{SpendAlike, final_alike, utxo_alike, kind_alike, script_alike}
 use Rattle.ms_psbt_laws.specs.Agreeing.{is_other, AreAgreeing, VersionsAgree}
+use Rattle.ms_psbt_laws.proofs.FinalIds.{AreAlike, alike_more, id_alike}
 
 -- ---- lists
 
@@ -241,6 +257,73 @@ module _ (input : Input) (later : Map) (same : filter is_other later ≡ filter 
       ap (λ s. input_line input.spend.number s ++ (if is_sane s then hash_lines new else [])) state_same
       ∙ ap (λ lines. input_line input.spend.number (state_of input) ++ (if is_sane (state_of input) then lines else [])) lines_same
 
+  -- ---- what `verify` says
+
+  consensus_same : (byte : ℕ) (script : Bytes) → consensus_hash byte new script ≡ consensus_hash byte input.spend script
+  consensus_same byte script =
+      let transaction = input.spend.transaction in
+      ap (λ amount. hash256
+      (to_le_bytes w32 transaction.version
+      ++ signed_prevouts (type_by byte) transaction
+      ++ signed_sequences (type_by byte) transaction
+      ++ outpoint_text input.spend.input.outpoint
+      ++ sized script
+      ++ to_le_bytes w64 (known_amount amount)
+      ++ to_le_bytes w32 input.spend.input.sequence
+      ++ signed_outputs (outputs_by byte) transaction input.spend.number
+      ++ to_le_bytes w32 transaction.lock_time
+      ++ to_le_bytes w32 byte))
+      amount_same
+
+  judged_same : (script key sig : Bytes) → judged_in new script key sig ≡ judged_in input.spend script key sig
+  judged_same script key sig = ap (λ hash. judge key hash sig) (consensus_same (last_byte sig) script)
+
+  given_same : (script : Bytes) → consensus_given new script ≡ consensus_given input.spend script
+  given_same script = λ i. record { checker = λ key sig. is_taken (judged_same script key sig i); locks = locks_of input.spend }
+
+  ran_same : (execution : Result Execution Flaw) → ran_verdict new execution ≡ ran_verdict input.spend execution
+  ran_same (Ok execution) = ap (λ given. verdict_by execution.0 (run given execution.0 execution.1)) (given_same execution.0)
+  ran_same (Err flaw) = refl
+
+  output_same : (output : TransactionOutput) → output_verdict new output ≡ output_verdict input.spend output
+  output_same output =
+      ap (λ (o : Option Bytes). ran_verdict new (execution_of output.script (unwrap_or o []) (final_items new))) (field_same own later same FINAL_SCRIPTSIG refl)
+      ∙ ap (λ (o : Option Bytes). ran_verdict new (execution_of output.script (final_script_sig input.spend) (unwrap_or (witness_of (unwrap_or o (0x00 ∷ []))) [])))
+      (field_same own later same FINAL_SCRIPTWITNESS refl)
+      ∙ ran_same (execution_of output.script (final_script_sig input.spend) (final_items input.spend))
+
+  final_same : final_verdict new ≡ final_verdict input.spend
+  final_same =
+      ap (utxo_verdict new) (utxo_alike own later (spend_same own later same) input.spend.input.outpoint) ∙ by_utxo (spent_utxo input.spend)
+    where
+      by_utxo : (u : Utxo) → utxo_verdict new u ≡ utxo_verdict input.spend u
+      by_utxo utxo.none = refl
+      by_utxo utxo.wrong = refl
+      by_utxo (utxo.proved output) = output_same output
+      by_utxo (utxo.claimed output) = output_same output
+
+  pub verdict_same : verdict_of (with_map input later) ≡ verdict_of input
+  verdict_same =
+      ap (λ s. if is_final s then final_verdict new else not_final s) state_same
+      ∙ ap (λ v. if is_final (state_of input) then v else not_final (state_of input)) final_same
+
+  passed_same : (verdict : Verdict) → passed_lines new verdict ≡ passed_lines input.spend verdict
+  passed_same (not_final s) = refl
+  passed_same (flawed flaw) = refl
+  passed_same (valid script checks) = each checks
+    where
+      each : (pairs : Pairs) → flat_map (passed_line new script) pairs ≡ flat_map (passed_line input.spend script) pairs
+      each [] = refl
+      each (pair ∷ pairs) =
+          ap (λ word. line (codes "signature " ++ encode_lower pair.0 ++ codes " " ++ decimal (last_byte pair.1) ++ codes " " ++ judgement_name word)
+          ++ flat_map (passed_line new script) pairs) (judged_same script pair.0 pair.1)
+          ∙ ap (λ lines. passed_line input.spend script pair ++ lines) (each pairs)
+
+  pub verify_same : input_verdict (with_map input later) ≡ input_verdict input
+  verify_same =
+      ap (verdict_lines new) verdict_same
+      ∙ ap (λ lines. line (codes "input " ++ decimal input.spend.number ++ codes " " ++ verdict_text (verdict_of input)) ++ lines) (passed_same (verdict_of input))
+
 -- ---- all inputs
 
 -- the same inputs with other maps that have the same other pairs
@@ -278,6 +361,15 @@ status_stays (input ∷ inputs) [] turned = absurd turned
 status_stays (input ∷ inputs) (other ∷ others) turned =
     let one = ap is_settled turned.0 ∙ ap (λ s. is_final s || is_ready s) (state_same input other.spend.fields turned.1) in
     ap (λ b. b && list_all is_settled others) one ∙ ap (λ b. is_settled input && b) (status_stays inputs others turned.2)
+
+valid_stays : (inputs others : List Input) → AreTurned inputs others
+    → list_all (λ (input : Input). is_valid (verdict_of input)) others ≡ list_all (λ (input : Input). is_valid (verdict_of input)) inputs
+valid_stays [] [] turned = refl
+valid_stays [] (other ∷ others) turned = absurd turned
+valid_stays (input ∷ inputs) [] turned = absurd turned
+valid_stays (input ∷ inputs) (other ∷ others) turned =
+    let one = ap (λ (it : Input). is_valid (verdict_of it)) turned.0 ∙ ap is_valid (verdict_same input other.spend.fields turned.1) in
+    ap (λ b. b && list_all (λ (it : Input). is_valid (verdict_of it)) others) one ∙ ap (λ b. is_valid (verdict_of input) && b) (valid_stays inputs others turned.2)
 
 -- the number of the first input that isn't Final
 abbrev number_in : Option Input → Option ℕ
@@ -406,16 +498,52 @@ extract_stays psbt later agree (input ∷ inputs) (other ∷ others) turned =
 fee_stays : (inputs others : List Input) → AreTurned inputs others → map (λ (input : Input). amount_in input.spend) others ≡ map (λ (input : Input). amount_in input.spend) inputs
 fee_stays = each_stays (λ (input : Input). amount_in input.spend) amount_same
 
+-- what is known of the final scriptSigs stays
+abbrev known_by : (final : Bool) → (script_sig : Option Bytes) → Kind → (redeem : Option Bytes) → Option Bytes
+known_by final script_sig kind redeem = if final then Some (unwrap_or script_sig []) else script_sig_by kind (unwrap_or redeem [])
+
+known_stays : (input : Input) (later : Map) → filter is_other later ≡ filter is_other input.spend.fields
+    → known_script_sig (with_map input later).spend ≡ known_script_sig input.spend
+known_stays input later same =
+    let alike = spend_same input.spend.fields later same in
+    ap (λ b. known_by b (field FINAL_SCRIPTSIG later) (kind_of (with_map input later).spend) (field REDEEM_SCRIPT later)) (final_alike input.spend.fields later alike)
+    ∙ ap (λ o. known_by (has_final input.spend.fields) o (kind_of (with_map input later).spend) (field REDEEM_SCRIPT later)) alike.script_sig
+    ∙ ap (λ k. known_by (has_final input.spend.fields) (field FINAL_SCRIPTSIG input.spend.fields) k (field REDEEM_SCRIPT later)) (kind_same input later same)
+    ∙ ap (known_by (has_final input.spend.fields) (field FINAL_SCRIPTSIG input.spend.fields) (kind_of input.spend)) alike.redeem
+
+alike_stay : (inputs others : List Input) → AreTurned inputs others
+    → AreAlike (map (λ (input : Input). input.spend) others) (map (λ (input : Input). input.spend) inputs)
+alike_stay [] [] turned = record { inputs = refl; known = refl; some = refl }
+alike_stay [] (other ∷ others) turned = absurd turned
+alike_stay (input ∷ inputs) [] turned = absurd turned
+alike_stay (input ∷ inputs) (other ∷ others) turned =
+    let own : TransactionInput = input.spend.input in
+    let placed : other.spend.input ≡ own = ap (λ (it : Input). it.spend.input) turned.0 in
+    let known = ap (λ (it : Input). known_script_sig it.spend) turned.0 ∙ known_stays input other.spend.fields turned.1 in
+    alike_more other.spend input.spend (map (λ (input : Input). input.spend) others) (map (λ (input : Input). input.spend) inputs) placed known
+    (alike_stay inputs others turned.2)
+
+abbrev inspected : Transaction → (id : Option Bytes) → (fee lines : Bytes) → Bytes
+inspected transaction id fee lines = psbt_line transaction ++ final_id_line id ++ output_lines 0 transaction.outputs ++ fee ++ lines
+
 inspect_stays : (transaction : Transaction) (inputs others : List Input) → AreTurned inputs others → inspect_report transaction others ≡ inspect_report transaction inputs
 unfolding inspect_report
 inspect_stays transaction inputs others turned =
-    ap (λ amounts. psbt_line transaction ++ output_lines 0 transaction.outputs ++ fee_line amounts transaction.outputs ++ flat_map input_report others) (fee_stays inputs others turned)
-    ∙ ap (λ lines. psbt_line transaction ++ output_lines 0 transaction.outputs ++ fee_line (map (λ (input : Input). amount_in input.spend) inputs) transaction.outputs ++ lines)
+    let spends : List Spend = map (λ (input : Input). input.spend) inputs in
+    let later : List Spend = map (λ (input : Input). input.spend) others in
+    ap (λ id. inspected transaction id (fee_line (map (λ (input : Input). amount_in input.spend) others) transaction.outputs) (flat_map input_report others))
+    (id_alike transaction later spends (alike_stay inputs others turned))
+    ∙ ap (λ amounts. inspected transaction (final_id transaction spends) (fee_line amounts transaction.outputs) (flat_map input_report others)) (fee_stays inputs others turned)
+    ∙ ap (inspected transaction (final_id transaction spends) (fee_line (map (λ (input : Input). amount_in input.spend) inputs) transaction.outputs))
     (lines_stay input_report report_same inputs others turned)
 
 hashes_stay : (inputs others : List Input) → AreTurned inputs others → hashes_report others ≡ hashes_report inputs
 unfolding hashes_report
 hashes_stay inputs others turned = lines_stay input_hashes hashes_same inputs others turned
+
+verify_stays : (inputs others : List Input) → AreTurned inputs others → verify_report others ≡ verify_report inputs
+unfolding verify_report
+verify_stays inputs others turned = lines_stay input_verdict verify_same inputs others turned
 
 command_stays : (it : Command) → (it ≡ command.Finalize → ⊥) → (form other : Form) (psbt later : Psbt) → AreAgreeing psbt later
     → (inputs others : List Input) → AreTurned inputs others → command_reply it other later others ≡ command_reply it form psbt inputs
@@ -426,9 +554,12 @@ command_stays command.Inspect not form other psbt later agree inputs others turn
     ∙ ap (reply (settled_status inputs)) (inspect_stays psbt.transaction inputs others turned)
 command_stays command.Extract not form other psbt later agree inputs others turned = extract_stays psbt later agree inputs others turned
 command_stays command.Hashes not form other psbt later agree inputs others turned = ap (reply status.Done) (hashes_stay inputs others turned)
+command_stays command.Verify not form other psbt later agree inputs others turned =
+    ap (λ (b : Bool). reply (if b then status.Done else status.Open) (verify_report others)) (valid_stays inputs others turned)
+    ∙ ap (reply (verify_status inputs)) (verify_stays inputs others turned)
 
 pub versions_agree : VersionsAgree
-versions_agree words source other psbt later status report read again agree not answer = record { replies = by_words (command_of words) not answer.replies }
+versions_agree words source other psbt later status report read again agree not alone answer = record { replies = by_words (request_of words) not alone answer.replies }
   where
     by_psbt : (it : Command) → (it ≡ command.Finalize → ⊥) → RepliesToPsbt it (form_of source) psbt (reply status report)
         → RepliesToPsbt it (form_of other) later (reply status report)
@@ -442,8 +573,10 @@ versions_agree words source other psbt later status report read again agree not 
           replies.2 ∙ sym (command_stays it not (form_of source) (form_of other) psbt later agree inputs (with_maps inputs later.inputs) t.turned),
         )
 
-    by_words : (o : Option Command) → (o ≡ Some command.Finalize → ⊥) → RepliesToWords o source (reply status report) → RepliesToWords o other (reply status report)
-    by_words None not replies = replies
-    by_words (Some it) not replies =
+    by_words : (o : Option Request) → (o ≡ Some (request.One command.Finalize) → ⊥) → (o ≡ Some request.Combine → ⊥) → RepliesToWords o source (reply status report)
+        → RepliesToWords o other (reply status report)
+    by_words None not alone replies = replies
+    by_words (Some request.Combine) not alone replies = absurd (alone refl)
+    by_words (Some (request.One it)) not alone replies =
         subst (λ result. RepliesToSource it (form_of other) result (reply status report)) (sym again)
-        (by_psbt it (λ e. not (ap Some e)) (subst (λ result. RepliesToSource it (form_of source) result (reply status report)) read replies))
+        (by_psbt it (λ e. not (ap (λ c. Some (request.One c)) e)) (subst (λ result. RepliesToSource it (form_of source) result (reply status report)) read replies))

@@ -265,7 +265,7 @@ pub record IsGoodMap (fields written : Map) : Type 0 where
   pub sound : (version : PsbtVersion) → IsSoundMap (input_form version) [] fields → IsSoundMap (input_form version) [] written
   pub fits : IsMapOfBytes written
 
-ready_is : (s : State) → is_ready s ≡ true → s ≡ state.Ready
+pub ready_is : (s : State) → is_ready s ≡ true → s ≡ state.Ready
 ready_is state.Ready e = refl
 ready_is s e = absurd cc
 

@@ -8,7 +8,8 @@ use Rattle.def_psbt.specs.Source.{psbt_of}
 use Rattle.def_spend.specs.Fields.{is_between}
 use Rattle.def_psbt_answer.specs.declared.status.Status.{Status}
 use Rattle.def_psbt_answer.specs.declared.words.Command.TheVariants as command
-use Rattle.def_psbt_answer.specs.Words.{command_of}
+use Rattle.def_psbt_answer.specs.declared.words.Request.TheVariants as request
+use Rattle.def_psbt_answer.specs.Words.{request_of}
 use Rattle.def_psbt_answer.specs.Answer.{Answer}
 
 -- a pair of another type than those that version 2 alone has in the map of an input, 0e to 12 (BIP 370, "Specification")
@@ -20,9 +21,11 @@ pub record AreAgreeing (psbt later : Psbt) : Type 0 where
   pub transaction : psbt.transaction ≡ later.transaction
   pub others : map (filter is_other) psbt.inputs ≡ map (filter is_other) later.inputs
 
--- sources of two such PSBTs, of whichever versions, have the same answer to all words but those of `finalize`, which writes the PSBT
+-- sources of two such PSBTs, of whichever versions, have the same answer to all words but those of `finalize` and `combine`, which
+-- write a PSBT
 abbrev pub VersionsAgree : Type 0
 VersionsAgree =
     (words : List Bytes) (source other : Bytes) (psbt later : Psbt) (status : Status) (report : Bytes) →
-    psbt_of source ≡ Ok psbt → psbt_of other ≡ Ok later → AreAgreeing psbt later → command_of words ≢ Some command.Finalize →
+    psbt_of source ≡ Ok psbt → psbt_of other ≡ Ok later → AreAgreeing psbt later →
+    request_of words ≢ Some (request.One command.Finalize) → request_of words ≢ Some request.Combine →
     Answer words source status report → Answer words other status report

@@ -1,5 +1,5 @@
 -- What `extract` writes, read again: the transaction of the PSBT with each final scriptSig and each final witness.
-use Rattle.std.specs.Prelude.{◌≡◌, ◌==◌, ◌&&◌, ◌≤◌, nat_lt, false, List, [], ◌∷◌, ◌++◌, All, length, slice_index, map, if◌then◌else◌, Option, Some, None, unwrap_or}
+use Rattle.std.specs.Prelude.{◌≡◌, ◌==◌, ◌&&◌, ◌≤◌, nat_lt, false, true, List, [], ◌∷◌, ◌++◌, All, length, slice_index, map, if◌then◌else◌, Option, Some, None, unwrap_or}
 use Rattle.std.specs.Option.{option_map}
 use Rattle.std.specs.Int.{w32}
 use Rattle.def_hash.specs.Hex.{from_hex}
@@ -10,9 +10,11 @@ use Rattle.def_psbt.specs.Part.{◌>>=◌, first_bytes, first_number, first_many
 use Rattle.def_psbt.specs.TransactionReading.{first_sides, first_witness, transaction_of, network_transaction_of}
 use Rattle.def_psbt.specs.Forms.{witness_of}
 use Rattle.def_spend.specs.Fields.{FINAL_SCRIPTSIG, field}
+use Rattle.def_spend.specs.Input.{spends_of}
 use Rattle.def_spend.specs.Reading.{has_byte}
-use Rattle.def_spend.specs.Finalized.{final_witness, final_transaction, network_text}
-use Rattle.ms_given_laws.specs.Given.{OfEachGiven}
+use Rattle.def_spend.specs.States.{state_of, is_final}
+use Rattle.def_spend.specs.Finalized.{final_witness, final_transaction, network_text, final_id, finalized}
+use Rattle.ms_given_laws.specs.Given.{OfEachGiven, OfEachPsbt}
 
 -- the witnesses of a transaction in BIP 144's form, whole, with those parts of it as in `witnessed_transaction_of`
 unfoldable pub witnesses_of : Bytes → Option (List (List Bytes))
@@ -65,3 +67,14 @@ abbrev pub IdStays : Type 0
 IdStays =
     OfEachGiven (λ psbt. All (λ fields. has_byte (field FINAL_SCRIPTSIG fields) ≡ false) psbt.inputs →
     id_of (final_transaction psbt) ≡ id_of psbt.transaction)
+
+-- where each input is Final, the final transaction has the final id that is told, and that of the PSBT's transaction where none is
+abbrev pub IdIsTold : Type 0
+IdIsTold =
+    OfEachPsbt (λ psbt inputs. All (λ input. is_final (state_of input) ≡ true) inputs →
+    id_of (final_transaction psbt) ≡ unwrap_or (final_id psbt.transaction (spends_of psbt)) (id_of psbt.transaction))
+
+-- and the final id is told before `finalize` as it is after it
+abbrev pub FinalIdStays : Type 0
+FinalIdStays =
+    OfEachPsbt (λ psbt inputs. final_id psbt.transaction (spends_of (finalized psbt inputs)) ≡ final_id psbt.transaction (spends_of psbt))

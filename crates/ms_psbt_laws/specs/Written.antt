@@ -10,7 +10,8 @@ use Rattle.def_spend.specs.States.{state_of, is_ready}
 use Rattle.def_spend.specs.Finalized.{script_sig_of, witness_of, written_map, finalized}
 use Rattle.def_psbt_answer.specs.declared.status.Status.{Status}
 use Rattle.def_psbt_answer.specs.declared.words.Command.TheVariants as command
-use Rattle.def_psbt_answer.specs.Words.{command_of}
+use Rattle.def_psbt_answer.specs.declared.words.Request.TheVariants as request
+use Rattle.def_psbt_answer.specs.Words.{request_of}
 use Rattle.def_psbt_answer.specs.declared.words.Form.{Form}
 use Rattle.def_psbt_answer.specs.Report.{finalized_text, finalize_report}
 use Rattle.def_psbt_answer.specs.Answer.{Answer}
@@ -52,5 +53,5 @@ ReportIsSource =
 abbrev pub AnsweredAgain : Type 0
 AnsweredAgain =
     (words : List Bytes) (source : Bytes) (psbt : Psbt) (status : Status) (report : Bytes) → IsBytes source →
-    command_of words ≡ Some command.Finalize → psbt_of source ≡ Ok psbt → length report ≤ MAX_SOURCE_SIZE →
+    request_of words ≡ Some (request.One command.Finalize) → psbt_of source ≡ Ok psbt → length report ≤ MAX_SOURCE_SIZE →
     Answer words source status report → Answer words report status report

@@ -4,7 +4,7 @@ ghost use Rattle.ms_psbt_laws.specs.Existence.{EachHasAnswer, EachIsRead};
 ghost use Rattle.ms_psbt_laws.specs.Written.{WrittenIsRead, ReadyIsMadeFinal, ReportIsSource, AnsweredAgain};
 ghost use Rattle.ms_psbt_laws.specs.Alone.{MapDecidesAlone};
 ghost use Rattle.ms_psbt_laws.specs.Agreeing.{VersionsAgree};
-ghost use Rattle.ms_psbt_laws.specs.Network.{NetworkIsRead, IdStays};
+ghost use Rattle.ms_psbt_laws.specs.Network.{NetworkIsRead, IdStays, IdIsTold, FinalIdStays};
 
 use def_psbt::laws::psbts;
 use ms_given_laws::laws::given;
@@ -35,16 +35,18 @@ pub fn alone()
 {}
 
 /// The versions agree: two PSBTs of one transaction, whose inputs differ at most in fields of version 2, have the same answers to
-/// all commands but `finalize`.
+/// all commands but `finalize` and `combine`.
 pub fn versions()
     ensures agree { VersionsAgree }
 {}
 
 /// What `extract` writes is read again, with each final scriptSig and each final witness, and has the same id where no
-/// final scriptSig has a byte.
+/// final scriptSig has a byte. Its id is the final one that `inspect` tells, also before `finalize`.
 pub fn network()
     ensures read { NetworkIsRead }
     ensures id { IdStays }
+    ensures told { IdIsTold }
+    ensures before { FinalIdStays }
 {
     given();
 }

@@ -2,11 +2,10 @@
 use Rattle.std.proofs.Common.{◌≡◌, ◌++◌, append_assoc}
 use Rattle.def_script.specs.Bytes.{Bytes}
 
--- two texts, and a line of a text with a number
-pub two_and_a_line : (before a b c d e first second after : Bytes)
-    → first ≡ before ++ a → second ≡ first ++ b → after ≡ second ++ (c ++ d ++ e)
-    → after ≡ before ++ (a ++ b ++ c ++ d ++ e)
-two_and_a_line before a b c d e first second after e1 e2 e3 = rw (e3, e2, e1) (simp append_assoc)
+-- three texts
+pub three_texts : (before a b c first second after : Bytes)
+    → first ≡ before ++ a → second ≡ first ++ b → after ≡ second ++ c → after ≡ before ++ (a ++ b ++ c)
+three_texts before a b c first second after e1 e2 e3 = rw (e3, e2, e1) (simp append_assoc)
 
 -- four texts with a number each, and three texts
 pub four_and_three : (before a1 n1 a2 n2 a3 n3 a4 n4 a5 a6 a7 first second third fourth fifth sixth after : Bytes)

@@ -1,7 +1,7 @@
 //! The lines of a PSBT's transaction.
 ghost use Rattle.std.specs.Prelude.{◌≡◌, ◌++◌, OnOk};
 ghost use Rattle.def_psbt.specs.Transaction.{Transaction};
-ghost use Rattle.def_psbt_answer.specs.Lines.{psbt_line, output_line};
+ghost use Rattle.def_psbt_answer.specs.Lines.{psbt_line, final_id_line, output_line};
 ghost use Rattle.ms_psbt_lines.specs.Told.{IsTold};
 
 use crate::pieces::{push_id, push_item, push_named, push_text};
@@ -33,6 +33,19 @@ pub fn push_psbt_line(report: &mut Vec<u8>, summary: &Summary) -> Result<(), All
     push_named(report, " locktime ", summary.lock_time as u64)?;
     push_text(report, " txid ")?;
     push_id(report, &summary.id)?;
+    push_text(report, "\n")
+}
+
+/// Adds the line of the id that a transaction has with its final scriptSigs, where there is one. `AllocError` comes only where
+/// memory is wanting.
+pub fn push_final_id_line(report: &mut Vec<u8>, id: Option<[u8; 32]>) -> Result<(), AllocError>
+    ensures { OnOk result (report.new.items ≡ report.old.items ++ final_id_line id) }
+{
+    let Some(id) = id else {
+        return Ok(());
+    };
+    push_text(report, "final txid ")?;
+    push_id(report, &id)?;
     push_text(report, "\n")
 }
 

@@ -1,9 +1,10 @@
-//! What `msat-psbt` replies to a command and the bytes of its source.
+//! What `msat-psbt` replies to what is asked and the bytes of its source.
 #![tactic(auto)]
 
-pub use replies::source_reply;
+pub use replies::request_reply;
 pub use reply::Reply;
 
+mod combining;
 mod extracting;
 mod finalizing;
 mod replies;

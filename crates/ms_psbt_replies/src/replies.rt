@@ -1,23 +1,35 @@
-//! The reply to a command, with the bytes that the source held.
+//! The reply to what is asked, with the bytes that the source held.
 ghost use Rattle.std.specs.Prelude.{◌≡◌, List, IfOk};
 ghost use Rattle.def_psbt.specs.Source.{psbt_of};
 ghost use Rattle.def_spend.specs.Reading.{Input as TheInput, AreInputs};
-ghost use Rattle.def_psbt_answer.specs.Answer.{RepliesToSource};
-ghost use Rattle.def_psbt_answer.specs.Reply.{reply, form_of as the_form_of, command_reply as the_command_reply};
+ghost use Rattle.def_psbt_answer.specs.Answer.{RepliesToSource, RepliesToRequest};
+ghost use Rattle.def_psbt_answer.specs.Reply.{reply, form_of as the_form_of, verify_status, command_reply as the_command_reply};
+ghost use Rattle.def_psbt_answer.specs.Verified.{verify_report};
 
+use crate::combining::combine;
 use crate::extracting::extract;
 use crate::finalizing::finalize;
 use crate::reply::{Reply, refused};
-use def_psbt_answer::{Command, Form, Status};
+use def_psbt_answer::{Command, Form, Request, Status};
 use ms_given_laws::laws::given;
 use ms_psbt::{Psbt, ReadStop, has_magic, psbt_bytes, read_psbt};
-use ms_psbt_report::{hashes, inspect};
+use ms_psbt_report::{hashes, inspect, verify};
 use std::alloc::{AllocError, Global};
+
+/// The reply to what is asked, with the bytes that the source held. Refuses for want of memory alone.
+pub fn request_reply(alloc: Global, request: Request, source: &[u8]) -> Result<Reply, AllocError>
+    ensures { IfOk result (λ made. RepliesToRequest request source.now (reply made.status made.report.items)) }
+{
+    match request {
+        Request::One(command) => source_reply(alloc, command, source),
+        Request::Combine => combine(alloc, source),
+    }
+}
 
 /// The reply to a command, with the bytes that the source held: a PSBT (BIP 174, BIP 370) as its bytes or as base64. Refuses for
 /// want of memory alone.
 #[tactic(auto, unfolding(def_psbt::specs::Source::psbt_of))]
-pub fn source_reply(alloc: Global, command: Command, source: &[u8]) -> Result<Reply, AllocError>
+fn source_reply(alloc: Global, command: Command, source: &[u8]) -> Result<Reply, AllocError>
     ensures { IfOk result (λ made. RepliesToSource command (the_form_of source.now) (psbt_of source.now) (reply made.status made.report.items)) }
 {
     given();
@@ -67,5 +79,17 @@ fn command_reply<'p>(
             status: Status::Done,
             report: hashes(alloc, psbt)?,
         }),
+        Command::Verify => verified(alloc, psbt),
     }
+}
+
+/// Whether the final fields of each input of a PSBT are valid.
+fn verified<'p>(alloc: Global, psbt: &'p Psbt<'p>) -> Result<Reply, AllocError>
+    ensures { IfOk result (λ made. (inputs : List TheInput) → AreInputs psbt.entry.now inputs → reply made.status made.report.items ≡ reply (verify_status inputs) (verify_report inputs)) }
+{
+    let made = verify(alloc, psbt)?;
+    Ok(Reply {
+        status: made.status,
+        report: made.report,
+    })
 }

@@ -1,11 +1,12 @@
 //! Replies: each has a status and a report, which is made whole before anything is written.
-ghost use Rattle.std.specs.Prelude.{◌≡◌, IfOk};
+ghost use Rattle.std.specs.Prelude.{◌≡◌, Err, IfOk};
 ghost use Rattle.def_psbt_answer.specs.Lines.{not_final_line};
-ghost use Rattle.def_psbt_answer.specs.Reply.{reply, refusal_reply};
+ghost use Rattle.def_psbt_answer.specs.Reply.{reply, refusal_reply, combine_reply};
 
+use def_combine::CombineRefusal;
 use def_psbt::Refusal;
 use def_psbt_answer::Status;
-use ms_psbt_lines::{push_not_final_line, push_refusal_line};
+use ms_psbt_lines::{push_combine_refusal_line, push_not_final_line, push_refusal_line};
 use std::alloc::{AllocError, Global};
 
 /// A status, and the whole report that goes with it.
@@ -23,6 +24,18 @@ pub fn refused(alloc: Global, refusal: Refusal) -> Result<Reply, AllocError>
 {
     let mut report = Vec::new(alloc);
     push_refusal_line(&mut report, refusal)?;
+    Ok(Reply {
+        status: Status::Refused,
+        report,
+    })
+}
+
+/// The reply to a source of which nothing is combined.
+pub fn not_combined(alloc: Global, refusal: CombineRefusal) -> Result<Reply, AllocError>
+    ensures { IfOk result (λ made. reply made.status made.report.items ≡ combine_reply (Err refusal)) }
+{
+    let mut report = Vec::new(alloc);
+    push_combine_refusal_line(&mut report, refusal)?;
     Ok(Reply {
         status: Status::Refused,
         report,

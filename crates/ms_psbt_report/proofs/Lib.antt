@@ -1,6 +1,5 @@
 mod Sums
 mod Lists
-mod Sane
 mod Asked
 pub mod AllTold
 pub mod Spends
@@ -8,3 +7,4 @@ pub mod Loops
 mod LastLines
 mod KindLines
 mod InputLines
+mod Verdicts

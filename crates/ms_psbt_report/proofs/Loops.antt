@@ -5,17 +5,17 @@ use Rattle.std.specs.Option.{option_map}
 use Rattle.std.proofs.lemmas.List.{flat_map_more, take_all, drop_all}
 use Rattle.std.proofs.lemmas.Option.{slice_get-get_or}
 use Rattle.def_script.specs.Bytes.{Bytes}
+use Rattle.def_psbt.specs.Transaction.{Transaction}
 use Rattle.def_psbt.specs.Map.{Map, Psbt}
 use Rattle.def_spend.specs.Input.{spends_of}
 use Rattle.def_spend.specs.Reading.{Input, HasReading, AreInputs, has_final}
 use Rattle.def_spend.specs.States.{state_of, is_final}
 use Rattle.def_psbt_answer.specs.Reply.{first_open}
-use Rattle.def_psbt_answer.specs.Report.{input_hashes}
 use Rattle.ms_psbt_answer_laws.proofs.Unique.{input_at}
 use Rattle.ms_psbt_report.specs.declared.inspecting.Told.{Told}
 use Rattle.ms_psbt_report.specs.Scaffolding.Told.{AreTold}
 use Rattle.ms_psbt_report.proofs.Lists.{take_with, drop_with}
-use Rattle.ms_psbt_report.proofs.Sane.{final_state}
+use Rattle.ms_psbt_answer_laws.proofs.Sane.{final_state}
 use Rattle.ms_psbt_report.proofs.Spends.{spend_at, count_inputs, own_spend}
 
 -- all inputs are among so many
@@ -30,18 +30,19 @@ pub taken_more : (psbt : Psbt) (inputs : List Input) (number : ℕ) (input : Inp
     → slice_get (spends_of psbt) number ≡ Some input.spend → HasReading input → take (number + 1) inputs ≡ take number inputs ++ input ∷ []
 taken_more psbt inputs number input are there read = take_with inputs number input (input_at psbt inputs number input are there read)
 
-pub told_more : (psbt : Psbt) (inputs : List Input) (number : ℕ) (input : Input) (told : Told) → AreInputs psbt inputs
-    → slice_get (spends_of psbt) number ≡ Some input.spend → HasReading input → AreTold (take number inputs ++ input ∷ []) told
-    → AreTold (take (number + 1) inputs) told
-told_more psbt inputs number input told are there read h =
-    subst (λ (xs : List Input). AreTold xs told) (sym (taken_more psbt inputs number input are there read)) h
+pub told_more : (transaction : Transaction) (psbt : Psbt) (inputs : List Input) (number : ℕ) (input : Input) (told : Told) → AreInputs psbt inputs
+    → slice_get (spends_of psbt) number ≡ Some input.spend → HasReading input → AreTold transaction (take number inputs ++ input ∷ []) told
+    → AreTold transaction (take (number + 1) inputs) told
+told_more transaction psbt inputs number input told are there read h =
+    subst (λ (xs : List Input). AreTold transaction xs told) (sym (taken_more psbt inputs number input are there read)) h
 
-pub hashes_more : (psbt : Psbt) (inputs : List Input) (number : ℕ) (input : Input) (before after : Bytes) → AreInputs psbt inputs
-    → slice_get (spends_of psbt) number ≡ Some input.spend → HasReading input → before ≡ flat_map input_hashes (take number inputs)
-    → after ≡ before ++ input_hashes input → after ≡ flat_map input_hashes (take (number + 1) inputs)
-hashes_more psbt inputs number input before after are there read is e =
-    e ∙ ap (λ bytes. bytes ++ input_hashes input) is ∙ flat_map_more input_hashes [] (take number inputs) input
-    ∙ ap (flat_map input_hashes) (sym (taken_more psbt inputs number input are there read))
+-- the lines of inputs, one more
+pub lines_more : (f : Input → Bytes) (psbt : Psbt) (inputs : List Input) (number : ℕ) (input : Input) (before after : Bytes) → AreInputs psbt inputs
+    → slice_get (spends_of psbt) number ≡ Some input.spend → HasReading input → before ≡ flat_map f (take number inputs)
+    → after ≡ before ++ f input → after ≡ flat_map f (take (number + 1) inputs)
+lines_more f psbt inputs number input before after are there read is e =
+    e ∙ ap (λ bytes. bytes ++ f input) is ∙ flat_map_more f [] (take number inputs) input
+    ∙ ap (flat_map f) (sym (taken_more psbt inputs number input are there read))
 
 -- ---- the first that isn't Final
 

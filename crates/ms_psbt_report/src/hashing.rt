@@ -31,7 +31,7 @@ pub fn hashes<'p>(alloc: Global, psbt: &'p Psbt<'p>) -> Result<Vec<u8>, AllocErr
 }
 
 /// The bytes of the next output, where there is one; it is taken from those that are left.
-fn next_output<'p>(outputs: &mut Outputs<'p>) -> Option<&'p [u8]>
+pub fn next_output<'p>(outputs: &mut Outputs<'p>) -> Option<&'p [u8]>
     ensures first { IsOutputText (slice_get outputs.old 0) result }
     ensures rest { outputs.new ≡ drop 1 outputs.old }
 {

@@ -1,5 +1,6 @@
 //! `inspect`: what the transaction does with the money, and what each input is and lacks.
 ghost use Rattle.std.specs.Prelude.{◌≡◌, ℕ, ◌+◌, ◌*◌, ◌<◌, ◌≤◌, ◌^◌, ◌&&◌, ◌||◌, ◌++◌, [], ◌∷◌, if◌then◌else◌, List, length, take, All, IfOk, IfSome, OnOk};
+ghost use Rattle.def_psbt.specs.Transaction.{Transaction};
 ghost use Rattle.def_spend.specs.States.{is_final, is_ready};
 ghost use Rattle.def_spend.specs.Reading.{Input as TheInput, AreInputs};
 ghost use Rattle.def_psbt_answer.specs.Reply.{settled_status};
@@ -9,6 +10,7 @@ ghost use Rattle.ms_transaction.specs.Unsigned.{IsUnsigned};
 ghost use Rattle.ms_psbt_report.specs.Scaffolding.Lines.{money_lines};
 ghost use Rattle.ms_psbt_report.specs.Scaffolding.Told.{AreTold};
 
+use crate::final_id::FinalId;
 use crate::inputs::push_input_report;
 use crate::spent::Spent;
 use crate::states::is_settled;
@@ -17,7 +19,7 @@ use bumpalo::Bump;
 use def_psbt_answer::Status;
 use ms_input::{Input, State};
 use ms_psbt::Psbt;
-use ms_psbt_lines::push_fee_line;
+use ms_psbt_lines::{push_fee_line, push_final_id_line};
 use ms_transaction::{TransactionRef, unsigned_transaction};
 use std::alloc::{AllocError, Global};
 
@@ -31,12 +33,14 @@ pub struct Inspection {
 }
 
 /// What the inputs tell, those that were read.
-#[derive(Debug, Drop)]
+#[derive(Drop)]
 pub struct Told {
     /// Their reports.
     pub lines: Vec<u8>,
     /// What they spend.
     pub spent: Spent,
+    /// The id of the transaction with their final scriptSigs, as far as it is hashed.
+    pub id: FinalId,
     /// Whether all of them are Final or Ready.
     pub are_settled: bool,
 }
@@ -48,26 +52,35 @@ pub fn inspect<'p>(alloc: Global, psbt: &'p Psbt<'p>) -> Result<Inspection, Allo
     ensures status { IfOk result (λ made. (inputs : List TheInput) → AreInputs psbt.entry.now inputs → made.status ≡ settled_status inputs) }
     ensures report { IfOk result (λ made. (inputs : List TheInput) → AreInputs psbt.entry.now inputs → made.report.items ≡ inspect_report psbt.entry.now.transaction inputs) }
 {
+    // Its clauses tell that each input has a map.
+    let _count = psbt.input_count();
     let transaction = unsigned_transaction(psbt);
     let told = tell_inputs(alloc, psbt, &transaction)?;
     Ok(Inspection {
         status: status_of(told.are_settled),
-        report: with_money(told.lines, told.spent, &transaction)?,
+        report: with_money(
+            told.lines,
+            told.id.finish(&transaction),
+            told.spent,
+            &transaction,
+        )?,
     })
 }
 
-/// The lines of inputs that spend this, behind those that say what the transaction does with the money. These come last and are
-/// put in front where they lie, so that no second report stands in memory.
+/// The lines of inputs that spend this, behind those that say what the transaction, which has this id with its final scriptSigs,
+/// does with the money. These come last and are put in front where they lie, so that no second report stands in memory.
 fn with_money(
     lines: Vec<u8>,
+    id: Option<[u8; 32]>,
     spent: Spent,
     transaction: &TransactionRef<'_>,
 ) -> Result<Vec<u8>, AllocError>
-    ensures { IfOk result (λ report. report.items ≡ money_lines transaction.now spent.satoshis spent.are_proved ++ lines.items) }
+    ensures { IfOk result (λ report. report.items ≡ money_lines transaction.now id spent.satoshis spent.are_proved ++ lines.items) }
 {
     let mut report = lines;
     let size = report.len();
     push_transaction(&mut report, transaction)?;
+    push_final_id_line(&mut report, id)?;
     let paid = push_outputs(&mut report, transaction)?;
     push_fee_line(&mut report, spent.satoshis, paid, spent.are_proved)?;
     report.rotate_left(size);
@@ -93,7 +106,7 @@ fn tell_inputs<'p>(
 ) -> Result<Told, AllocError>
     requires transaction { transaction.now ≡ psbt.now.transaction }
     requires unsigned { All IsUnsigned transaction.now.inputs }
-    ensures { IfOk result (λ told. (inputs : List TheInput) → AreInputs psbt.entry.now inputs → AreTold inputs told) }
+    ensures { IfOk result (λ told. (inputs : List TheInput) → AreInputs psbt.entry.now inputs → AreTold transaction.now inputs told) }
 {
     let mut told = Told {
         lines: Vec::new(alloc),
@@ -101,6 +114,7 @@ fn tell_inputs<'p>(
             satoshis: Some(0),
             are_proved: true,
         },
+        id: FinalId::new(transaction),
         are_settled: true,
     };
     for number in 0..psbt.input_count() {
@@ -121,7 +135,8 @@ fn tell_input<'p>(
     requires unsigned { All IsUnsigned transaction.now.inputs }
     requires number { number < length psbt.now.inputs }
     requires most { IfSome told.old.spent.satoshis (λ satoshis. satoshis ≤ number * 0xffff_ffff_ffff_ffff) }
-    ensures told { (inputs : List TheInput) → AreInputs psbt.entry.now inputs → AreTold (take number inputs) told.old → OnOk result (AreTold (take (number + 1) inputs) told.new) }
+    ensures told { (inputs : List TheInput) → AreInputs psbt.entry.now inputs → AreTold transaction.now (take number inputs) told.old
+        → OnOk result (AreTold transaction.now (take (number + 1) inputs) told.new) }
     ensures most { OnOk result (IfSome told.new.spent.satoshis (λ satoshis. satoshis ≤ (number + 1) * 0xffff_ffff_ffff_ffff)) }
 {
     let arena = Bump::new(alloc);
@@ -132,11 +147,12 @@ fn tell_input<'p>(
 /// Adds what an input tells to what those before it told.
 fn add_input(alloc: Global, told: &mut Told, input: &Input<'_, '_>) -> Result<(), AllocError>
     requires { IfSome told.old.spent.satoshis (λ satoshis. satoshis + 2 ^ 64 ≤ 2 ^ 128) }
-    ensures told { (inputs : List TheInput) → AreTold inputs told.old → OnOk result (AreTold (inputs ++ input_seen input.now ∷ []) told.new) }
+    ensures told { (transaction : Transaction) (inputs : List TheInput) → AreTold transaction inputs told.old → OnOk result (AreTold transaction (inputs ++ input_seen input.now ∷ []) told.new) }
     ensures most { (most : ℕ) → IfSome told.old.spent.satoshis (λ satoshis. satoshis ≤ most) → OnOk result (IfSome told.new.spent.satoshis (λ satoshis. satoshis ≤ most + 0xffff_ffff_ffff_ffff)) }
 {
     push_input_report(alloc, &mut told.lines, input)?;
     told.spent = told.spent.with(input.amount());
+    told.id.add(alloc, input)?;
     told.are_settled = stay_settled(told.are_settled, input.state());
     Ok(())
 }

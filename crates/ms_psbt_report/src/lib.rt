@@ -1,12 +1,14 @@
-//! Reports of PSBTs: what `inspect` and `hashes` print of the transaction and of each input, and how they end.
+//! Reports of PSBTs: what `inspect`, `hashes` and `verify` print of the transaction and of each input, and how they end.
 #![tactic(auto)]
 
 pub use hashing::hashes;
 pub use inspecting::{Inspection, inspect};
 pub use open::first_open;
 pub use states::is_settled;
+pub use verifying::{Verification, verify};
 
 mod amounts;
+mod final_id;
 mod hashing;
 mod inputs;
 mod inspecting;
@@ -16,3 +18,4 @@ mod states;
 mod table;
 mod transactions;
 mod trees;
+mod verifying;

@@ -13,11 +13,10 @@ use crate::choice_tree::ChoiceTree;
 use crate::files::file_answer;
 use def_answer::Status;
 use ms_assets::{Assets, read_assets};
-use ms_nonmal::strict;
 use ms_oracle::{PairIndex, SigCheck};
 use ms_replay::carry;
 use ms_report::{Answer, satisfaction_report};
-use ms_sat::cheapest;
+use ms_sat::{cheapest, strict};
 use ms_script::Stack;
 use std::alloc::{AllocError, Global};
 

@@ -76,13 +76,8 @@ fn canonical_line(steps: &[Step]) -> &'static str
 }
 
 /// Whether a step is by a row that isn't canonical.
-fn have_extra(steps: &[Step]) -> bool
+pub fn have_extra(steps: &[Step]) -> bool
     ensures { result ≡ list_any (λ (step : TheStep). step.extra) steps.now }
 {
-    for step in steps {
-        if step.extra {
-            return true;
-        }
-    }
-    false
+    steps.iter().any(|step| step.extra)
 }

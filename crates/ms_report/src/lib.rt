@@ -2,10 +2,10 @@
 #![tactic(auto)]
 
 pub use answer::Answer;
-pub use audits::audit_report;
+pub use audits::{audit_report, have_extra};
 pub use files::{file_line, plan_file_line};
 pub use limits::{Bounds, bounds_line, bounds_of, limits_line};
-pub use names::rule_name;
+pub use names::{rule_name, script_fault_name};
 pub use plans::plan_report;
 pub use policies::policy_report;
 pub use runs::{accepted_line, accepted_report, not_accepted_line, refused_report};

@@ -16,8 +16,11 @@ use Rattle.def_spend.specs.declared.HashType.{HashType}
 use Rattle.def_spend.specs.HashTypes.{number_of}
 use Rattle.def_spend.specs.SignatureHash.{NO_HASH, hash_prevouts, signed_prevouts, signed_sequences, signed_outputs, signed_text}
 use Rattle.def_spend.specs.SignatureHash as whole
+use Rattle.def_spend.specs.Hashes.{spent_amount}
+use Rattle.def_spend.specs.Input.{Spend}
+use Rattle.def_verify.specs.ConsensusHash.{outputs_by, type_by, consensus_hash}
 use Rattle.ms_sighash.specs.Pieces.{pieces}
-use Rattle.ms_sighash.specs.Shared.{Shared, shared_of, IsUnsigned, AreParts, AreSigned, IsOutputText, sequences_by, sequences_from, outputs_from, text_from}
+use Rattle.ms_sighash.specs.Shared.{Shared, shared_of, IsUnsigned, AreParts, AreSigned, IsOutputText, sequences_by, sequences_from, outputs_from, outputs_with, hash_of_output, text_by, text_from, byte_hash}
 use Rattle.ms_sighash.proofs.PiecesLemmas.{HasPiece, pieces-flat_map, length-flat_map}
 
 -- ---- an input without a scriptSig
@@ -117,8 +120,8 @@ piece_of : (from size : ℕ) (text piece input : Bytes) → HasPiece from size t
 piece_of from size text piece input h same = ap (λ l. take size (drop from l)) (same ∙ sym (append-nil text)) ∙ h.1 []
 
 -- the fields, with the parts that are made of bytes
-abbrev pub text_with : HashType → Transaction → (sequences outpoint sequence outputs script : Bytes) → (amount : ℕ) → Bytes
-text_with type transaction sequences outpoint sequence outputs script amount =
+abbrev pub text_with : HashType → (byte : ℕ) → Transaction → (sequences outpoint sequence outputs script : Bytes) → (amount : ℕ) → Bytes
+text_with type byte transaction sequences outpoint sequence outputs script amount =
     to_le_bytes w32 transaction.version
     ++ signed_prevouts type transaction
     ++ sequences
@@ -128,24 +131,52 @@ text_with type transaction sequences outpoint sequence outputs script amount =
     ++ sequence
     ++ outputs
     ++ to_le_bytes w32 transaction.lock_time
-    ++ to_le_bytes w32 (number_of type)
+    ++ to_le_bytes w32 byte
+
+-- whatever the number of the type is
+pub text_by_is : (type : HashType) (byte : ℕ) (transaction : Transaction) (number : ℕ) (signed : TransactionInput) (input : Bytes) (output : Option (Bor Bytes)) (outputs script : Bytes) (amount : ℕ)
+    → AreSigned transaction number signed input output → outputs ≡ signed_outputs type.outputs transaction number
+    → text_by type byte (shared_of transaction) input outputs script amount
+    ≡ text_with type byte transaction (signed_sequences type transaction) (outpoint_text signed.outpoint) (to_le_bytes w32 signed.sequence)
+    (signed_outputs type.outputs transaction number) script amount
+text_by_is type byte transaction number signed input output outputs script amount h same =
+    let outpoint = piece_of 0 36 (input_text signed) (outpoint_text signed.outpoint) input (has_outpoint signed h.unsigned) h.input_bytes in
+    let sequence = piece_of 37 4 (input_text signed) (to_le_bytes w32 signed.sequence) input (has_sequence signed h.unsigned) h.input_bytes in
+    let sequences = ap (λ l. if type.anyone_can_pay then NO_HASH else l) (sequences_are type.outputs transaction) in
+    let front = to_le_bytes w32 transaction.version ++ signed_prevouts type transaction ++ sequences_from type (shared_of transaction) ++ take 36 input in
+    ap (λ l. l ++ to_le_bytes w64 amount ++ take 4 (drop 37 input) ++ outputs
+    ++ to_le_bytes w32 transaction.lock_time ++ to_le_bytes w32 byte)
+    (append_assoc front (size_bytes (length script)) script)
+    ∙ ap (λ l. text_with type byte transaction l (take 36 input) (take 4 (drop 37 input)) outputs script amount) sequences
+    ∙ ap (λ l. text_with type byte transaction (signed_sequences type transaction) l (take 4 (drop 37 input)) outputs script amount) outpoint
+    ∙ ap (λ l. text_with type byte transaction (signed_sequences type transaction) (outpoint_text signed.outpoint) l outputs script amount) sequence
+    ∙ ap (λ l. text_with type byte transaction (signed_sequences type transaction) (outpoint_text signed.outpoint) (to_le_bytes w32 signed.sequence) l script amount) same
 
 pub text_is : (type : HashType) (transaction : Transaction) (number : ℕ) (signed : TransactionInput) (input : Bytes) (output : Option (Bor Bytes)) (script : Bytes) (amount : ℕ)
     → AreSigned transaction number signed input output
     → text_from type (shared_of transaction) input output script amount ≡ signed_text type transaction number signed script amount
 text_is type transaction number signed input output script amount h =
-    let outpoint = piece_of 0 36 (input_text signed) (outpoint_text signed.outpoint) input (has_outpoint signed h.unsigned) h.input_bytes in
-    let sequence = piece_of 37 4 (input_text signed) (to_le_bytes w32 signed.sequence) input (has_sequence signed h.unsigned) h.input_bytes in
-    let sequences = ap (λ l. if type.anyone_can_pay then NO_HASH else l) (sequences_are type.outputs transaction) in
-    let outputs = output_is type.outputs transaction number output h.output_bytes in
-    let front = to_le_bytes w32 transaction.version ++ signed_prevouts type transaction ++ sequences_from type (shared_of transaction) ++ take 36 input in
-    ap (λ l. l ++ to_le_bytes w64 amount ++ take 4 (drop 37 input) ++ outputs_from type.outputs (shared_of transaction) output
-    ++ to_le_bytes w32 transaction.lock_time ++ to_le_bytes w32 (number_of type))
-    (append_assoc front (size_bytes (length script)) script)
-    ∙ ap (λ l. text_with type transaction l (take 36 input) (take 4 (drop 37 input)) (outputs_from type.outputs (shared_of transaction) output) script amount) sequences
-    ∙ ap (λ l. text_with type transaction (signed_sequences type transaction) l (take 4 (drop 37 input)) (outputs_from type.outputs (shared_of transaction) output) script amount) outpoint
-    ∙ ap (λ l. text_with type transaction (signed_sequences type transaction) (outpoint_text signed.outpoint) l (outputs_from type.outputs (shared_of transaction) output) script amount) sequence
-    ∙ ap (λ l. text_with type transaction (signed_sequences type transaction) (outpoint_text signed.outpoint) (to_le_bytes w32 signed.sequence) l script amount) outputs
+    text_by_is type (number_of type) transaction number signed input output (outputs_from type.outputs (shared_of transaction) output) script amount h
+    (output_is type.outputs transaction number output h.output_bytes)
+
+-- ---- what consensus has signed
+
+single_is : (signed : SignedOutputs) (transaction : Transaction) (number : ℕ) (output : Option (Bor Bytes))
+    → outputs_with signed (shared_of transaction) (hash_of_output output) ≡ outputs_from signed (shared_of transaction) output
+single_is outputs.All transaction number output = refl
+single_is outputs.None transaction number output = refl
+single_is outputs.Single transaction number output = refl
+
+-- what is hashed of the parts of a spend is the definition's
+pub byte_hash_is : (byte : ℕ) (spend : Spend) (input : Bytes) (output : Option (Bor Bytes)) (script : Bytes)
+    → AreSigned spend.transaction spend.number spend.input input output
+    → byte_hash byte (shared_of spend.transaction) input (hash_of_output output) script (spent_amount spend) ≡ consensus_hash byte spend script
+byte_hash_is byte spend input output script h =
+    ap hash256
+    (text_by_is (type_by byte) byte spend.transaction spend.number spend.input input output
+    (outputs_with (outputs_by byte) (shared_of spend.transaction) (hash_of_output output)) script (spent_amount spend) h
+    (single_is (outputs_by byte) spend.transaction spend.number output
+    ∙ output_is (outputs_by byte) spend.transaction spend.number output h.output_bytes))
 
 -- fields, one behind the other
 abbrev pub joined : (front outpoint size script amount sequence outputs lock_time type : Bytes) → Bytes

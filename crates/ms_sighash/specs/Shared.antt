@@ -11,6 +11,7 @@ use Rattle.def_spend.specs.declared.SignedOutputs.{SignedOutputs}
 use Rattle.def_spend.specs.declared.SignedOutputs.TheVariants as outputs
 use Rattle.def_spend.specs.declared.HashType.{HashType}
 use Rattle.def_spend.specs.HashTypes.{number_of}
+use Rattle.def_verify.specs.ConsensusHash.{outputs_by, type_by}
 use Rattle.def_spend.specs.SignatureHash.{NO_HASH, hash_prevouts, hash_sequence, hash_outputs}
 
 pub record Shared : Type 0 where
@@ -70,18 +71,33 @@ outputs_from outputs.Single shared output = hash_of_output output
 abbrev pub front_from : HashType → Shared → Bytes
 front_from type shared = to_le_bytes w32 shared.version ++ prevouts_from type shared ++ sequences_from type shared
 
--- what is signed, from the bytes of the input and of the output with its number
-abbrev pub text_from : HashType → Shared → (input : Bytes) → (output : Option (Bor Bytes)) → (script : Bytes) → (amount : ℕ) → Bytes
-text_from type shared input output script amount =
+-- what is signed with a type of this number, from the bytes of the input and the hash of outputs
+abbrev pub text_by : HashType → (number : ℕ) → Shared → (input outputs script : Bytes) → (amount : ℕ) → Bytes
+text_by type number shared input outputs script amount =
     front_from type shared
     ++ take 36 input
     ++ size_bytes (length script)
     ++ script
     ++ to_le_bytes w64 amount
     ++ take 4 (drop 37 input)
-    ++ outputs_from type.outputs shared output
+    ++ outputs
     ++ to_le_bytes w32 shared.lock_time
-    ++ to_le_bytes w32 (number_of type)
+    ++ to_le_bytes w32 number
+
+-- what is signed by a hash type, from the bytes of the input and of the output with its number
+abbrev pub text_from : HashType → Shared → (input : Bytes) → (output : Option (Bor Bytes)) → (script : Bytes) → (amount : ℕ) → Bytes
+text_from type shared input output script amount =
+    text_by type (number_of type) shared input (outputs_from type.outputs shared output) script amount
+
+-- what is signed by a byte, from the bytes of the input and the hash of the output with its number
+abbrev pub outputs_with : SignedOutputs → Shared → (single : Bytes) → Bytes
+outputs_with outputs.All shared single = shared.outputs
+outputs_with outputs.None shared single = NO_HASH
+outputs_with outputs.Single shared single = single
+
+abbrev pub byte_hash : (byte : ℕ) → Shared → (input single script : Bytes) → (amount : ℕ) → Bytes
+byte_hash byte shared input single script amount =
+    hash256 (text_by (type_by byte) byte shared input (outputs_with (outputs_by byte) shared single) script amount)
 
 -- these are the bytes of an output, where there is one
 abbrev pub IsOutputText : Option TransactionOutput → Option (Bor Bytes) → Type 0

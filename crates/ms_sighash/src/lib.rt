@@ -2,7 +2,7 @@
 #![tactic(auto)]
 
 pub use def_spend::{HashType, SignedOutputs};
-pub use shared::SharedHashes;
+pub use shared::{SharedHashes, hash_of_output};
 
 mod pieces;
 mod shared;

@@ -6,7 +6,13 @@ ghost use Rattle.def_hash.specs.Hash.{hash256 as the_hash256};
 ghost use Rattle.def_psbt.specs.Transaction.{TransactionInput, Transaction};
 ghost use Rattle.def_spend.specs.HashTypes.{number_of as the_number_of};
 ghost use Rattle.def_spend.specs.SignatureHash.{signature_hash as the_signature_hash};
-ghost use Rattle.ms_sighash.specs.Shared.{shared_of, AreParts, AreSigned, prevouts_from, sequences_from, outputs_from, hash_of_output as the_hash_of_output, front_from, text_from};
+ghost use Rattle.ms_sighash.specs.Shared.{shared_of, AreParts, AreSigned, prevouts_from, sequences_from, outputs_from, hash_of_output as the_hash_of_output, front_from, text_by, outputs_with as the_outputs_with, byte_hash};
+ghost use Rattle.def_verify.specs.ConsensusHash.{type_by as the_type_by, consensus_hash as the_consensus_hash};
+ghost use Rattle.std.specs.Prelude.{Option};
+ghost use Rattle.std.specs.Borrow.{Bor};
+ghost use Rattle.def_script.specs.Bytes.{Bytes};
+ghost use Rattle.def_spend.specs.Hashes.{spent_amount};
+ghost use Rattle.def_spend.specs.Input.{Spend};
 ghost use Rattle.sha2.specs.Hashers.{Holds256};
 
 use crate::pieces::hash_of_pieces;
@@ -67,7 +73,36 @@ impl SharedHashes {
         ensures { (transaction : Transaction) (number : ℕ) (signed : TransactionInput) → self.now ≡ shared_of transaction
             → AreSigned transaction number signed input.now output.entry → result ≡ the_signature_hash hash_type transaction number signed script.now amount }
     {
-        self.hash_text(hash_type, input, output, script, amount)
+        let outputs = self.outputs_for(hash_type.outputs, output);
+        self.hash_text(
+            hash_type,
+            number_of(hash_type),
+            input,
+            outputs,
+            script,
+            amount,
+        )
+    }
+
+    /// What consensus has a signature sign that ends in this byte, whichever it is: `input` are the bytes of the input that it is
+    /// in, `single` is what `hash_of_output` gives of the output with the input's number, `script` is the Script that is run and
+    /// `amount` what the input spends. Takes no memory.
+    pub fn consensus_hash(
+        &self,
+        byte: u8,
+        input: &[u8],
+        single: [u8; 32],
+        script: &[u8],
+        amount: u64,
+    ) -> [u8; 32]
+        requires { length input.now ≡ 41 }
+        ensures parts { result ≡ byte_hash byte self.now input.now single script.now amount }
+        ensures consensus { (spend : Spend) (output : Option (Bor Bytes)) → self.now ≡ shared_of spend.transaction → AreSigned spend.transaction spend.number spend.input input.now output
+            → single ≡ the_hash_of_output output → amount ≡ spent_amount spend → result ≡ the_consensus_hash byte spend script.now }
+    {
+        let hash_type = type_by(byte);
+        let outputs = self.outputs_with(hash_type.outputs, single);
+        self.hash_text(hash_type, u32::from(byte), input, outputs, script, amount)
     }
 
     // The hash of the ten fields.
@@ -75,13 +110,14 @@ impl SharedHashes {
     fn hash_text(
         &self,
         hash_type: HashType,
+        number: u32,
         input: &[u8],
-        output: Option<&[u8]>,
+        outputs: [u8; 32],
         script: &[u8],
         amount: u64,
     ) -> [u8; 32]
         requires { length input.now ≡ 41 }
-        ensures { result ≡ the_hash256 (text_from hash_type self.now input.now output.entry script.now amount) }
+        ensures { result ≡ the_hash256 (text_by hash_type number self.now input.now outputs script.now amount) }
     {
         let mut hasher = self.front_hasher(hash_type);
         hasher.update(outpoint_in(input));
@@ -89,9 +125,9 @@ impl SharedHashes {
         hasher.update(script);
         hasher.update(amount.to_le_bytes());
         hasher.update(sequence_in(input));
-        hasher.update(self.outputs_for(hash_type.outputs, output));
+        hasher.update(outputs);
         hasher.update(self.lock_time_bytes());
-        hasher.update(type_bytes(hash_type));
+        hasher.update(number.to_le_bytes());
         sha256(&hasher.finalize())
     }
 
@@ -104,6 +140,20 @@ impl SharedHashes {
         hasher.update(self.prevouts_for(hash_type));
         hasher.update(self.sequences_for(hash_type));
         hasher
+    }
+
+    /// The version of the transaction. Takes no memory.
+    pub fn version(&self) -> u32
+        ensures { result ≡ self.now.version }
+    {
+        self.version
+    }
+
+    /// The lock time of the transaction. Takes no memory.
+    pub fn lock_time(&self) -> u32
+        ensures { result ≡ self.now.lock_time }
+    {
+        self.lock_time
     }
 
     // The version, and the lock time, as they lie in a transaction.
@@ -153,6 +203,17 @@ impl SharedHashes {
             SignedOutputs::Single => hash_of_output(output),
         }
     }
+
+    // The same, with the hash of the one with the number of the input.
+    fn outputs_with(&self, signed: SignedOutputs, single: [u8; 32]) -> [u8; 32]
+        ensures { result ≡ the_outputs_with signed self.now single }
+    {
+        match signed {
+            SignedOutputs::All => self.outputs,
+            SignedOutputs::None => NO_HASH,
+            SignedOutputs::Single => single,
+        }
+    }
 }
 
 /// 32 zero bytes, where a hash isn't signed.
@@ -173,21 +234,14 @@ fn sequence_in(input: &[u8]) -> &[u8]
     &input[37..41]
 }
 
-// The hash of an output, where there is one.
-fn hash_of_output(output: Option<&[u8]>) -> [u8; 32]
+/// The hash of the bytes of an output, and 32 zero bytes where there is none. Takes no memory.
+pub fn hash_of_output(output: Option<&[u8]>) -> [u8; 32]
     ensures { result ≡ the_hash_of_output output.entry }
 {
     match output {
         Some(output) => hash256(output),
         None => NO_HASH,
     }
-}
-
-// A hash type, as it is signed.
-fn type_bytes(hash_type: HashType) -> [u8; 4]
-    ensures { result ≡ to_le_bytes w32 (the_number_of hash_type) }
-{
-    number_of(hash_type).to_le_bytes()
 }
 
 // The number of a hash type.
@@ -203,5 +257,20 @@ fn number_of(hash_type: HashType) -> u32
         0x80 + outputs
     } else {
         outputs
+    }
+}
+
+// What a byte signs.
+fn type_by(byte: u8) -> HashType
+    ensures { result ≡ the_type_by byte }
+{
+    let outputs = match byte % 32 {
+        2 => SignedOutputs::None,
+        3 => SignedOutputs::Single,
+        _ => SignedOutputs::All,
+    };
+    HashType {
+        outputs,
+        anyone_can_pay: 0x80 <= byte,
     }
 }

@@ -20,8 +20,7 @@ use Rattle.def_satisfaction.specs.Satisfaction.{Sat, Holds}
 use Rattle.def_choice.specs.NonMalleable.{NonMalleable, given_with}
 use Rattle.def_choice.specs.Strict.{strict}
 use Rattle.def_choice.proofs.Chosen.{strict_is_canonical, strict_is_tight}
-use Rattle.def_promises.specs.Accepted.{IsAcceptedWithin}
-use Rattle.def_promises.proofs.FreshItems.{fresh_has_item}
+use Rattle.def_promises.specs.Accepted.{IsAcceptedWithin, HasNothingToAccept}
 use Rattle.ms_acceptance_laws.proofs.Accepted.{canonical_is_accepted}
 use Rattle.ms_row_laws.proofs.WithinLimits.{within_limits, valid_limits}
 use Rattle.ms_strict_laws.proofs.TightIsUnchangeable.{strict_is_unchangeable, nothing_to_accept}
@@ -39,9 +38,9 @@ use Rattle.def_spend.specs.Finalized.{script_sig_of}
 use Rattle.ms_given_laws.specs.Given.{EachIsSound}
 use Rattle.ms_spend_laws.specs.Tried.{IsTried, OfEachIn}
 use Rattle.ms_spend_laws.specs.Ready.{ReadyIsCanonical, IsWitness, ReadyHasWitness, ReplaysAccepted, IsAcceptedByAll, ReadyIsAccepted, ReadyIsUnchangeable, ReadyIsTight, ReadyIsLightest}
-use Rattle.ms_spend_laws.specs.Unsatisfied.{HasNothingToAccept, UnsatisfiedHasNothing}
+use Rattle.ms_spend_laws.specs.Unsatisfied.{UnsatisfiedHasNothing}
 use Rattle.ms_spend_laws.proofs.Inputs.{IsGiven, held}
-use Rattle.ms_spend_laws.proofs.States.{script_is, ready_some, unsatisfied_none, writes, sane_for_all, stack_is, of_each_in, none_satisfies}
+use Rattle.ms_spend_laws.proofs.States.{script_is, ready_some, unsatisfied_none, writes, sane_for_all, stack_is, of_each_in}
 
 -- an input whose stack is chosen
 pub record IsChosen (input : Input) (tree : Tree) (script : Bytes) : Type 0 where
@@ -151,10 +150,5 @@ ready_is_lightest law = of_each_ready law _ lightest
 
 pub unsatisfied_has_nothing : EachIsSound → UnsatisfiedHasNothing
 unsatisfied_has_nothing law = of_each_in law state.Unsatisfied tt (λ input tree. HasNothingToAccept tree (assets_of input.spend)) (λ input tree script given tried e.
-    let none = unsatisfied_none (strict tree (assets_of input.spend)) e in
-    record {
-      none = none_satisfies input tree script given tried none;
-      accepted = λ stack checks accepted.
-          nothing_to_accept tree (assets_of input.spend) stack checks (writes input tree script tried) (sane_for_all input tree script tried) (held input given) none accepted;
-      fresh = λ checker stack fresh. fresh_has_item tree (assets_of input.spend) checker stack fresh;
-    })
+    nothing_to_accept tree (assets_of input.spend) (writes input tree script tried) (sane_for_all input tree script tried) (held input given)
+    (unsatisfied_none (strict tree (assets_of input.spend)) e))

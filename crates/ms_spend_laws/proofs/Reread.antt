@@ -107,7 +107,7 @@ module _ (later fields added : Map) (parts : ConsistsOf later fields added) (sig
 -- ---- what an input spends, by such fields
 
 module _ (fields later : Map) (alike : SpendAlike fields later) where
-  final_alike : has_final later ≡ has_final fields
+  pub final_alike : has_final later ≡ has_final fields
   final_alike =
       ap (λ o. has_byte o || has_item (field FINAL_SCRIPTWITNESS later)) alike.script_sig
       ∙ ap (λ o. has_byte (field FINAL_SCRIPTSIG fields) || has_item o) alike.witness

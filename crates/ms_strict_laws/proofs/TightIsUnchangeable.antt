@@ -1,5 +1,5 @@
 -- Nobody can change a tight satisfaction; and where there is no canonical one, all that is accepted is fresh.
-use Rattle.std.proofs.Common.{◌≡◌, ◌≢◌, Bool, true, false, IsTrue, List, [], ◌∷◌, reverse, refl, sym, ◌∙◌, ap, subst, ◌⊎◌, inl, inr}
+use Rattle.std.proofs.Common.{◌≡◌, ◌≢◌, Bool, true, false, IsTrue, List, None, [], ◌∷◌, reverse, refl, sym, ◌∙◌, ap, subst, ◌⊎◌, inl, inr}
 use Rattle.std.proofs.lemmas.Bool.{false≢true}
 use Rattle.std.proofs.lemmas.List.{reverse-reverse}
 use Rattle.std.proofs.lemmas.Option.{none-some}
@@ -8,10 +8,11 @@ use Rattle.def_machine.specs.Stacks.{Stack, Pairs, Checker, member}
 use Rattle.def_machine.specs.MultiSig.{is_good}
 use Rattle.def_tree.specs.Tree.{Tree}
 use Rattle.def_tree.specs.Range.{IsWritable}
-use Rattle.def_assets.specs.Assets.{Assets, known}
+use Rattle.def_assets.specs.Assets.{Assets, AreAssets, known}
 use Rattle.def_sane.specs.Keys.{keys}
 use Rattle.def_limits.specs.Scaffolding.Most.{limits_of}
 use Rattle.def_sane.specs.declared.Rules.TheVariants.{Consensus}
+use Rattle.def_sane.specs.Unfit.{IsSaneUnder}
 use Rattle.def_sane.proofs.Meanings.{valid_means_under, sane_means_under}
 use Rattle.def_limits.proofs.Greatest.{limits_are_computed}
 use Rattle.def_satisfaction.specs.Setting.{only}
@@ -19,6 +20,8 @@ use Rattle.def_satisfaction.specs.Rows.{row}
 use Rattle.def_satisfaction.specs.Satisfaction.{canonical, full}
 use Rattle.def_choice.proofs.Chosen.{strict_is_tight, strict_is_canonical}
 use Rattle.def_choice.specs.NonMalleable.{IsAccepted, HasNewPair, Fresh, given_with}
+use Rattle.def_choice.specs.Strict.{strict}
+use Rattle.def_promises.specs.Accepted.{AcceptsFreshAlone}
 use Rattle.def_promises.specs.Promises.{StrictIsNonMalleable, StrictIsUnchangeable, NothingToAccept, TightIsNonMalleable, TightIsUnchangeable}
 use Rattle.def_promises.proofs.FreshItems.{fresh_has_item}
 use Rattle.def_promises.proofs.Unchangeable.{unchangeable_is_non_malleable}
@@ -117,8 +120,9 @@ strict_is_non_malleable tree assets stack writable sane are e =
     unchangeable_is_non_malleable tree assets stack (strict_is_unchangeable tree assets stack writable sane are e)
 
 -- where there is no canonical satisfaction, what is accepted is fresh
-pub nothing_to_accept : NothingToAccept
-nothing_to_accept tree assets stack checks writable sane are nowhere is =
+accepts_fresh_alone : (tree : Tree) (assets : Assets) → IsWritable tree → IsSaneUnder Consensus tree → AreAssets assets → strict tree assets ≡ None
+    → AcceptsFreshAlone tree assets
+accepts_fresh_alone tree assets writable sane are nowhere stack checks is =
     let s = (sane_means_under Consensus tree).0 sane in
     let v = (valid_means_under Consensus tree).0 s.0 in
     elim (sat_or_not (under assets (member assets.pairs)) tree (reverse stack)) [
@@ -128,6 +132,13 @@ nothing_to_accept tree assets stack checks writable sane are nowhere is =
           let exists = (strict_exists tree assets writable sane are).1 (reverse found.0, subst (λ w. (row (canonical assets) tree).sat w) (sym (reverse-reverse found.0)) found.1) in
           absurd (none-some exists.0 (sym nowhere ∙ exists.1))
     ]
+
+pub nothing_to_accept : NothingToAccept
+nothing_to_accept tree assets writable sane are nowhere = record {
+  none = λ stack sat. let exists = (strict_exists tree assets writable sane are).1 (stack, sat) in none-some exists.0 (sym nowhere ∙ exists.1);
+  accepted = accepts_fresh_alone tree assets writable sane are nowhere;
+  fresh = fresh_has_item tree assets;
+}
 
 -- a canonical satisfaction can't be changed exactly where it is tight
 pub tight_is_non_malleable : TightIsNonMalleable

@@ -3,7 +3,7 @@
 
 pub use def_text::TextFault;
 pub use text::{TextTree, read_text};
-pub use words::key_spelled;
+pub use words::{decoded, key_spelled, number_spelled};
 
 mod arguments;
 mod build;

@@ -11,7 +11,7 @@ use def_tree::HashKind;
 use ms_hash::HashVal;
 use ms_tree::Key;
 
-/// The number that a word spells: `0`, or one to ten digits without a leading zero.
+/// The number that a word spells: `0`, or one to ten digits without a leading zero. Takes no memory.
 pub fn number_spelled(word: &[u8]) -> Option<u64>
     ensures value { result ≡ number_of word.now }
     ensures writable { IfSome result (λ n. n < TEN_DIGITS) }
@@ -41,8 +41,8 @@ fn decimal(word: &[u8]) -> Option<u64>
     Some(value)
 }
 
-/// The bytes that a word of hexadecimal digits, in either case, spells, where they are `N`.
-fn decoded<const N: usize>(word: &[u8]) -> Option<[u8; N]>
+/// The bytes that a word of hexadecimal digits, in either case, spells, where they are `N`. Takes no memory.
+pub fn decoded<const N: usize>(word: &[u8]) -> Option<[u8; N]>
     ensures { DecodesTo N word.now result }
 {
     let mut bytes = [0; N];

@@ -1,3 +1,4 @@
 mod Briefly
 mod Lines
 mod Loop
+mod Listed

@@ -166,7 +166,7 @@ steps_from : (given : Given) (i : Item) (rest all : List Item) (place : ℕ) (s 
 unfolding steps
 steps_from given i rest all place s next is steps_to = rw (is, steps_to) refl
 
-next_place : (places : List ℕ) (place : ℕ) → drop 1 (drop place places) ≡ drop (place + 1) places
+pub next_place : (places : List ℕ) (place : ℕ) → drop 1 (drop place places) ≡ drop (place + 1) places
 next_place [] zero = refl
 next_place [] (suc place) = let same : suc place + 1 ≡ suc (place + 1) = omega arith in rw same refl
 next_place (p ∷ places) zero = refl
@@ -260,7 +260,7 @@ no_step : (given : Given) (e : InstrFault) (s : State) → step given (item.faul
 unfolding step carry_out
 no_step given e s = refl
 
-first_there : (script : Bytes) (from byte : ℕ) (rest : Bytes) → drop from script ≡ byte ∷ rest → slice_index script from ≡ byte
+pub first_there : (script : Bytes) (from byte : ℕ) (rest : Bytes) → drop from script ≡ byte ∷ rest → slice_index script from ≡ byte
 first_there [] zero byte rest is = absurd cc
 first_there [] (suc from) byte rest is = absurd cc
 first_there (b ∷ script) zero byte rest is = cc

@@ -11,7 +11,7 @@ use crate::pieces::{push_digits, push_number};
 use ms_interp::SteppedRun;
 use ms_oracle::SigPair;
 use ms_script::{Blob, Op};
-use std::alloc::{AllocError, Global};
+use std::alloc::AllocError;
 
 /// What a line needs of the machine before its step: whether all branches are taken, how many elements the main stack
 /// has, and how many signatures were found good.
@@ -41,7 +41,6 @@ impl Before {
 /// Adds the changes of an opcode that was carried out, from what the run was before it and from what it is behind it.
 #[tactic(auto, using(crate::proofs::Briefly::brief_text))]
 pub fn push_changes(
-    alloc: Global,
     report: &mut String,
     op: Op,
     before: Before,
@@ -52,10 +51,10 @@ pub fn push_changes(
     let puts = opcode_puts(op, before.main, run.main_len());
     let kept = run.main_len().saturating_sub(puts);
     push_pops(report, before.main.saturating_sub(kept))?;
-    push_each(alloc, report, " push ", run.upper_main(puts))?;
-    push_alt(alloc, report, op, run)?;
+    push_each(report, " push ", run.upper_main(puts))?;
+    push_alt(report, op, run)?;
     report.push_str(branch_words(op, run.is_live()))?;
-    push_checks(alloc, report, new_checks(run, before.checks))
+    push_checks(report, new_checks(run, before.checks))
 }
 
 /// Adds how many elements left the main stack, where some did.
@@ -70,40 +69,30 @@ fn push_pops(report: &mut String, count: usize) -> Result<(), AllocError>
 }
 
 /// Adds elements, each behind a word.
-fn push_each(
-    alloc: Global,
-    report: &mut String,
-    word: &str,
-    elements: &[Blob],
-) -> Result<(), AllocError>
+fn push_each(report: &mut String, word: &str, elements: &[Blob]) -> Result<(), AllocError>
     ensures { OnOk result (string_bytes report.new ≡ string_bytes report.old ++ flat_map (named_digits word.now) elements.now) }
 {
     for element in elements {
-        push_named(alloc, report, word, element)?;
+        push_named(report, word, element)?;
     }
     Ok(())
 }
 
 /// Adds an element behind a word.
-fn push_named(
-    alloc: Global,
-    report: &mut String,
-    word: &str,
-    element: &Blob,
-) -> Result<(), AllocError>
+fn push_named(report: &mut String, word: &str, element: &Blob) -> Result<(), AllocError>
     ensures { OnOk result (string_bytes report.new ≡ string_bytes report.old ++ named_digits word.now element.now) }
 {
     report.push_str(word)?;
-    push_digits(alloc, report, element.as_slice())
+    push_digits(report, element.as_slice())
 }
 
 /// Adds what changed on the alternative stack.
 #[tactic(auto, using(crate::proofs::Briefly::alt_text))]
-fn push_alt(alloc: Global, report: &mut String, op: Op, run: &SteppedRun) -> Result<(), AllocError>
+fn push_alt(report: &mut String, op: Op, run: &SteppedRun) -> Result<(), AllocError>
     ensures { OnOk result (string_bytes report.new ≡ string_bytes report.old ++ flat_map change_text (alt_changes op (alt_of run.now))) }
 {
     match op {
-        Op::ToAltStack => push_each(alloc, report, " altpush ", run.upper_alt(1)),
+        Op::ToAltStack => push_each(report, " altpush ", run.upper_alt(1)),
         Op::FromAltStack => report.push_str(" altpop"),
         Op::If
         | Op::NotIf
@@ -176,21 +165,21 @@ fn new_checks(run: &SteppedRun, before: usize) -> &[SigPair]
 }
 
 /// Adds the pairs that were found good.
-fn push_checks(alloc: Global, report: &mut String, checks: &[SigPair]) -> Result<(), AllocError>
+fn push_checks(report: &mut String, checks: &[SigPair]) -> Result<(), AllocError>
     ensures { OnOk result (string_bytes report.new ≡ string_bytes report.old ++ flat_map check_word checks.now) }
 {
     for pair in checks {
-        push_check(alloc, report, pair)?;
+        push_check(report, pair)?;
     }
     Ok(())
 }
 
 /// Adds a pair that was found good.
-fn push_check(alloc: Global, report: &mut String, pair: &SigPair) -> Result<(), AllocError>
+fn push_check(report: &mut String, pair: &SigPair) -> Result<(), AllocError>
     ensures { OnOk result (string_bytes report.new ≡ string_bytes report.old ++ check_word pair.now) }
 {
     report.push_str(" check ")?;
-    push_digits(alloc, report, pair.key())?;
+    push_digits(report, pair.key())?;
     report.push_str(" ")?;
-    push_digits(alloc, report, pair.sig())
+    push_digits(report, pair.sig())
 }

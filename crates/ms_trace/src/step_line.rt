@@ -10,12 +10,12 @@ ghost use Rattle.ms_trace.specs.Scaffolding.Brief.{line_behind, head_text, unrea
 ghost use Rattle.ms_trace.specs.Scaffolding.Taking.{TakesFrom};
 
 use crate::changes::{Before, push_changes};
-use crate::pieces::{push_instruction, push_line_end, push_number};
+use crate::pieces::{push_byte, push_instruction, push_line_end, push_number};
 use def_machine::Locks;
 use ms_interp::{RunStop, SteppedRun};
 use ms_oracle::SignatureChecker;
 use ms_script::{InstrRef, Op};
-use std::alloc::{AllocError, Global};
+use std::alloc::AllocError;
 
 /// Where an instruction stands: at which byte of the script, and its number from 0.
 #[derive(Clone, Copy)]
@@ -28,7 +28,6 @@ pub struct Spot {
 
 /// Takes an instruction, and adds its line with the place of its node, where there is one.
 pub fn take<C: SignatureChecker>(
-    alloc: Global,
     report: &mut String,
     run: &mut SteppedRun,
     locks: &Locks,
@@ -44,12 +43,12 @@ pub fn take<C: SignatureChecker>(
 {
     let before = Before::of(run);
     match run.step(sigs, locks, instr, spot.place) {
-        Ok(()) => match push_step(alloc, report, instr, spot, places, before, run) {
+        Ok(()) => match push_step(report, instr, spot, places, before, run) {
             Ok(()) => Ok(()),
             Err(_) => Err(RunStop::Memory),
         },
         Err(RunStop::Refused(fault, place)) => {
-            match push_stop(alloc, report, instr, spot, places) {
+            match push_stop(report, instr, spot, places) {
                 Ok(()) => Err(RunStop::Refused(fault, place)),
                 Err(_) => Err(RunStop::Memory),
             }
@@ -60,7 +59,6 @@ pub fn take<C: SignatureChecker>(
 
 /// Adds the line of an instruction that met no fault.
 fn push_step(
-    alloc: Global,
     report: &mut String,
     instr: InstrRef<'_>,
     spot: Spot,
@@ -70,14 +68,13 @@ fn push_step(
 ) -> Result<(), AllocError>
     ensures { OnOk result (string_bytes report.new ≡ string_bytes report.old ++ (line_text (line_behind spot.offset (item_of instr.entry) before run.now) ++ line_end (drop spot.place places.now))) }
 {
-    push_told(alloc, report, instr, spot.offset, before, run)?;
+    push_told(report, instr, spot.offset, before, run)?;
     push_line_end(report, places, spot.place as usize)
 }
 
 /// Adds what is told of an instruction that met no fault: that it was passed over, or its changes.
 #[tactic(auto, unfolding(def_trace::specs::Written::line_text))]
 fn push_told(
-    alloc: Global,
     report: &mut String,
     instr: InstrRef<'_>,
     offset: usize,
@@ -89,14 +86,14 @@ fn push_told(
     match instr {
         InstrRef::Push { .. } | InstrRef::Small(_) => {
             let kind = if before.live { "step " } else { "skip " };
-            push_head(alloc, report, kind, offset, instr)
+            push_head(report, kind, offset, instr)
         }
         InstrRef::Code(op) => {
             if !is_branching(op) && !before.live {
-                return push_head(alloc, report, "skip ", offset, instr);
+                return push_head(report, "skip ", offset, instr);
             }
-            push_head(alloc, report, "step ", offset, instr)?;
-            push_changes(alloc, report, op, before, run)
+            push_head(report, "step ", offset, instr)?;
+            push_changes(report, op, before, run)
         }
     }
 }
@@ -104,7 +101,6 @@ fn push_told(
 /// Adds the line of an instruction that met a fault.
 #[tactic(auto, unfolding(def_trace::specs::Written::line_text))]
 fn push_stop(
-    alloc: Global,
     report: &mut String,
     instr: InstrRef<'_>,
     spot: Spot,
@@ -112,13 +108,12 @@ fn push_stop(
 ) -> Result<(), AllocError>
     ensures { OnOk result (string_bytes report.new ≡ string_bytes report.old ++ (head_text (codes "stop ") spot.offset (item_of instr.entry) ++ line_end (drop spot.place places.now))) }
 {
-    push_head(alloc, report, "stop ", spot.offset, instr)?;
+    push_head(report, "stop ", spot.offset, instr)?;
     push_line_end(report, places, spot.place as usize)
 }
 
 /// Adds the kind of a line, the offset of its instruction and what that is called.
 fn push_head(
-    alloc: Global,
     report: &mut String,
     kind: &str,
     offset: usize,
@@ -129,12 +124,11 @@ fn push_head(
     report.push_str(kind)?;
     push_number(report, offset)?;
     report.push_str(" ")?;
-    push_instruction(alloc, report, instr)
+    push_instruction(report, instr)
 }
 
 /// Adds the line of an instruction that can't be read, which begins with this byte.
 pub fn push_unread(
-    alloc: Global,
     report: &mut String,
     first: u8,
     spot: Spot,
@@ -142,12 +136,11 @@ pub fn push_unread(
 ) -> Result<(), AllocError>
     ensures { OnOk result (string_bytes report.new ≡ string_bytes report.old ++ (unread_text spot.offset first ++ line_end (drop spot.place places.now))) }
 {
-    let digits = hex::encode(alloc, &[first])?;
     report.push_str("stop ")?;
     push_number(report, spot.offset)?;
     report.push_str(" ")?;
     report.push_str("byte ")?;
-    report.push_str(&digits)?;
+    push_byte(report, first)?;
     push_line_end(report, places, spot.place as usize)
 }
 

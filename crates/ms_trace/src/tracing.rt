@@ -47,13 +47,13 @@ pub fn trace<C: SignatureChecker>(
             Ok(None) => return run.end(spot.place),
             Err(fault) => {
                 let first = script[spot.offset];
-                match push_unread(alloc, report, first, spot, places) {
+                match push_unread(report, first, spot, places) {
                     Ok(()) => return Err(unread(fault, spot.place)),
                     Err(_) => return Err(RunStop::Memory),
                 }
             }
             Ok(Some((instr, next))) => {
-                match take(alloc, report, &mut run, locks, sigs, instr, spot, places) {
+                match take(report, &mut run, locks, sigs, instr, spot, places) {
                     Ok(()) => {}
                     Err(stop) => return Err(stop),
                 }

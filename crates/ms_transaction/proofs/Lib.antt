@@ -1,4 +1,4 @@
-mod BothSides
-mod Fronts
-mod Inputs
-mod Spelling
+pub mod BothSides
+pub mod Fronts
+pub mod Inputs
+pub mod Spelling

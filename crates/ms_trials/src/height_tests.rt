@@ -1,10 +1,10 @@
 //! Tests of heights: how many elements stand on both stacks at most. Those of sane texts, which the program prints, stand in
 //! `examples/rows/consensus.rows`; these texts are valid.
 
+use crate::letters::repeated;
 use crate::samples::tree_of;
 use bumpalo::Bump;
 use ms_height::height;
-use ms_samples::repeated;
 use ms_types::corr;
 use ms_work::Work;
 use std::alloc::Global;

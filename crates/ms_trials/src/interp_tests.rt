@@ -1,9 +1,9 @@
 //! Tests of how often a run asks for a signature. What runs come to are rows of `examples/rows/run.rows`.
 
+use crate::letters::filled;
 use crate::samples::{signed_by, stack_of};
 use ms_interp::run;
 use ms_oracle::{Locks, SigCheck, member};
-use ms_samples::filled;
 use std::alloc::Global;
 use std::cell::Cell;
 use std::test::Fail;

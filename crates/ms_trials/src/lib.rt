@@ -14,6 +14,8 @@ mod interp_tests;
 #[cfg(test)]
 mod io_tests;
 #[cfg(test)]
+mod letters;
+#[cfg(test)]
 mod policy_tests;
 #[cfg(test)]
 mod replay_tests;

@@ -4,10 +4,10 @@ ghost use Rattle.def_sane.specs.Unfit.{IsSane};
 ghost use Rattle.def_tree.specs.Range.{IsInRange};
 ghost use Rattle.ms_tree.specs.Shape.{shape};
 
+use crate::letters::{A, B, C, SIG_A, SIG_B, SIG_C, filled};
 use bumpalo::Bump;
 use ms_held::Assets;
 use ms_oracle::{Locks, Pairs};
-use ms_samples::{A, B, C, SIG_A, SIG_B, SIG_C, filled};
 use ms_sane::{Rules, SaneTree, ValidTree};
 use ms_script::Stack;
 use ms_text::{TextTree, read_text};

@@ -9,8 +9,8 @@ use Rattle.def_spend.specs.Input.{Spend}
 use Rattle.def_spend.specs.Kinds.{program_of_utxo, is_nested, kind_with, kind_of}
 use Rattle.def_spend.specs.Reading.{script_code}
 use Rattle.ms_fields.specs.Held.{Held}
-use Rattle.ms_utxo.specs.Spending.{IsSpending}
-use Rattle.ms_utxo.specs.Scaffolding.Utxos.{utxo_held, script_held}
+use Rattle.ms_utxo.specs.Spending.{IsSpending, utxo_held}
+use Rattle.ms_utxo.specs.Scaffolding.Utxos.{script_held}
 
 -- the program that is found, by the output and the redeem script that are
 pub program_told : (found : Result Bytes State) (u spent : Utxo) (o redeem : Option Bytes) → found ≡ program_of_utxo u o → u ≡ spent → o ≡ redeem

@@ -1,20 +1,38 @@
 -- What an input spends, as contracts see it.
 use Rattle.std.specs.Prelude.{◌≡◌, Result, Ok, Err}
 use Rattle.std.specs.Borrow.{Bor}
+use Rattle.std.specs.Option.{option_and_then}
 use Rattle.def_script.specs.Bytes.{Bytes}
-use Rattle.def_psbt.specs.Transaction.{TransactionInput}
+use Rattle.def_psbt.specs.Transaction.{Outpoint, TransactionInput}
+use Rattle.def_psbt.specs.TransactionReading.{network_transaction_of}
+use Rattle.def_psbt.specs.Forms.{output_of}
 use Rattle.def_spend.specs.declared.State.{State}
 use Rattle.def_spend.specs.Amount.{Amount as TheAmount}
-use Rattle.def_spend.specs.Amount as the
+use Rattle.def_spend.specs.Amount as the_amount
+use Rattle.def_spend.specs.Utxo.{Utxo as TheUtxo, utxo_by}
+use Rattle.def_spend.specs.Utxo as the
 use Rattle.def_spend.specs.Input.{Spend}
 use Rattle.ms_fields.specs.Held.{Held, held_in}
 use Rattle.ms_utxo.specs.declared.amount.Amount.{Amount}
 use Rattle.ms_utxo.specs.declared.amount.Amount.TheVariants as amount
+use Rattle.ms_utxo.specs.declared.utxo.Utxo.{Utxo}
+use Rattle.ms_utxo.specs.declared.utxo.Utxo.TheVariants as utxo
 
 abbrev pub amount_seen : Amount → TheAmount
-amount_seen amount.Unknown = the.unknown
-amount_seen (amount.Proved satoshis) = the.proved satoshis
-amount_seen (amount.Claimed satoshis) = the.claimed satoshis
+amount_seen amount.Unknown = the_amount.unknown
+amount_seen (amount.Proved satoshis) = the_amount.proved satoshis
+amount_seen (amount.Claimed satoshis) = the_amount.claimed satoshis
+
+abbrev pub utxo_seen : Utxo → TheUtxo
+utxo_seen utxo.None = the.none
+utxo_seen utxo.Wrong = the.wrong
+utxo_seen (utxo.Proved output) = the.proved output
+utxo_seen (utxo.Claimed output) = the.claimed output
+
+-- the output of an outpoint, by what a map holds
+abbrev pub utxo_held : Outpoint → Held → TheUtxo
+utxo_held outpoint held =
+    utxo_by (option_and_then network_transaction_of held.previous) (option_and_then output_of held.output) outpoint
 
 abbrev pub script_seen : Result (Bor Bytes) State → Result Bytes State
 script_seen (Ok script) = Ok script.now

@@ -3,7 +3,9 @@
 
 pub use amount::Amount;
 pub use def_spend::{Kind, State};
+pub use program::{is_p2sh, is_script_hash, p2sh_of};
 pub use spent::{Spent, spending};
+pub use utxo::{Utxo, utxo_of};
 
 mod amount;
 mod program;

@@ -2,8 +2,7 @@
 
 ghost use Rattle.std.specs.Prelude.{◌≡◌, option_map};
 ghost use Rattle.def_spend.specs.Kinds.{is_p2sh as the_is_p2sh, p2sh_of as the_p2sh_of, redeemed as the_redeemed, program_in as the_program_in, program_of_utxo as the_program_of_utxo, is_nested as the_is_nested, is_script_hash as the_is_script_hash, kind_by as the_kind_by, kind_with as the_kind_with};
-ghost use Rattle.ms_utxo.specs.Spending.{script_seen};
-ghost use Rattle.ms_utxo.specs.Scaffolding.Utxos.{utxo_seen};
+ghost use Rattle.ms_utxo.specs.Spending.{script_seen, utxo_seen};
 
 use crate::utxo::Utxo;
 use def_spend::{Kind, State};
@@ -55,7 +54,7 @@ fn kind_by(is_nested: bool, program: &[u8]) -> Kind
     }
 }
 
-/// Whether a program is version 0 and 32 bytes.
+/// Whether a program is version 0 and 32 bytes. Takes no memory.
 pub fn is_script_hash(program: &[u8]) -> bool
     ensures { result ≡ the_is_script_hash program.now }
 {
@@ -87,15 +86,15 @@ fn redeemed<'a>(spent: &[u8], redeem: Option<&'a [u8]>) -> Result<&'a [u8], Stat
     }
 }
 
-/// Whether a Script is HASH160, a push of 20 bytes, EQUAL.
-fn is_p2sh(script: &[u8]) -> bool
+/// Whether a Script is HASH160, a push of 20 bytes, EQUAL. Takes no memory.
+pub fn is_p2sh(script: &[u8]) -> bool
     ensures { result ≡ the_is_p2sh script.now }
 {
     script.len() == 23 && script[0] == 0xa9 && script[1] == 0x14 && script[22] == 0x87
 }
 
-/// The Script of the P2SH output of a redeem script.
-fn p2sh_of(redeem: &[u8]) -> [u8; 23]
+/// The Script of the P2SH output of a redeem script. Takes no memory.
+pub fn p2sh_of(redeem: &[u8]) -> [u8; 23]
     ensures { result ≡ the_p2sh_of redeem.now }
 {
     let mut script = [0x87; 23];

@@ -6,8 +6,7 @@ ghost use Rattle.std.specs.Option.{option_and_then};
 ghost use Rattle.def_psbt.specs.TransactionReading.{network_transaction_of};
 ghost use Rattle.def_psbt.specs.Forms.{output_of};
 ghost use Rattle.def_spend.specs.Utxo.{utxo_by, proved_output, amount_of as the_amount_of};
-ghost use Rattle.ms_utxo.specs.Spending.{amount_seen};
-ghost use Rattle.ms_utxo.specs.Scaffolding.Utxos.{utxo_seen, utxo_held};
+ghost use Rattle.ms_utxo.specs.Spending.{amount_seen, utxo_seen, utxo_held};
 
 use crate::amount::Amount;
 use ms_fields::Fields;
@@ -27,7 +26,7 @@ pub enum Utxo<'a> {
 }
 
 impl Utxo<'_> {
-    /// The amount of an output that is known.
+    /// The amount of an output that is known. Takes no memory.
     pub fn amount(&self) -> Amount
         ensures { amount_seen result ≡ the_amount_of (utxo_seen self.now) }
     {
@@ -39,7 +38,8 @@ impl Utxo<'_> {
     }
 }
 
-/// The output of an input's outpoint, by the fields of its map.
+/// The output of an input's outpoint, by the fields of its map. Takes no memory, and hashes what the map holds of the previous
+/// transaction.
 pub fn utxo_of<'a>(input: &InputRef<'_>, fields: &Fields<'a>) -> Utxo<'a>
     ensures { utxo_seen result ≡ utxo_held input.now.outpoint fields.now }
 {

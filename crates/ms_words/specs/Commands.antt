@@ -1,7 +1,7 @@
 -- What the words ask for.
 use Rattle.std.specs.Prelude.{⊤, List, IsUtf8, Option, MatchOption}
 use Rattle.def_script.specs.Bytes.{Bytes}
-use Rattle.def_answer.specs.Words.{Command, script, check, satisfy, run, gen, policy, plan, audit, trace, trace_text, decode, IsForm, HasNoForm}
+use Rattle.def_answer.specs.Words.{Command, script, asm, check, satisfy, run, gen, policy, plan, audit, trace, trace_text, decode, IsForm, HasNoForm}
 use Rattle.ms_words.specs.declared.words.TextCommand.{TextCommand}
 use Rattle.ms_words.specs.declared.words.TextCommand.TheVariants as kind
 use Rattle.ms_words.specs.declared.words.Command.{Command as Asked}
@@ -10,6 +10,7 @@ use Rattle.ms_words.specs.declared.words.Command.TheVariants as asked
 -- the command with its TEXT
 abbrev pub command_of : TextCommand → (text : Bytes) → Command
 command_of (kind.Script rules) = script rules
+command_of (kind.Asm rules) = asm rules
 command_of (kind.Check rules) = check rules
 command_of (kind.Satisfy choice rules) = satisfy choice rules
 command_of kind.Policy = policy
@@ -27,6 +28,7 @@ seen (asked.Decode digits keys) = decode digits.now keys.now
 -- its TEXT, where it has one, is UTF-8
 abbrev pub HasUtf8 : Command → Type 0
 HasUtf8 (script rules text) = IsUtf8 text
+HasUtf8 (asm rules text) = IsUtf8 text
 HasUtf8 (check rules text) = IsUtf8 text
 HasUtf8 (satisfy choice rules text) = IsUtf8 text
 HasUtf8 run = ⊤

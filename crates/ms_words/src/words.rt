@@ -19,6 +19,8 @@ const MOST_CHILDREN: u32 = 30;
 pub enum TextCommand {
     /// `script`: its Script.
     Script(Rules),
+    /// `asm`: the instructions of its Script, with the node that wrote each.
+    Asm(Rules),
     /// `check`: what is known of it.
     Check(Rules),
     /// `satisfy`: the satisfaction by the assets of a file that is chosen so.
@@ -96,6 +98,9 @@ fn two_words<'a>(name: &str, word: &'a str) -> Option<Command<'a>>
     if name == "script" {
         return Some(Command::Text(TextCommand::Script(Rules::Policy), word));
     }
+    if name == "asm" {
+        return Some(Command::Text(TextCommand::Asm(Rules::Policy), word));
+    }
     if name == "check" {
         return Some(Command::Text(TextCommand::Check(Rules::Policy), word));
     }
@@ -166,6 +171,9 @@ fn consensus_words<'a>(name: &str, text: &'a str) -> Option<Command<'a>>
     let rules = Rules::Consensus;
     if name == "script" {
         return Some(Command::Text(TextCommand::Script(rules), text));
+    }
+    if name == "asm" {
+        return Some(Command::Text(TextCommand::Asm(rules), text));
     }
     if name == "check" {
         return Some(Command::Text(TextCommand::Check(rules), text));

@@ -6,6 +6,7 @@ mod RefusalLemmas
 mod PlanLemmas
 mod AuditLemmas
 mod TraceLemmas
+mod ListingLemmas
 mod PolicyLemmas
 mod DecodingLemmas
 mod PolicyTells

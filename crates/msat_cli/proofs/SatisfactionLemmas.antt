@@ -37,7 +37,6 @@ use Rattle.def_choice.specs.Cheapest.{cheapest}
 use Rattle.def_choice.specs.Strict.{strict}
 use Rattle.def_choice.proofs.Chosen.{cheapest_is_lightest, strict_is_canonical, strict_is_tight}
 use Rattle.def_promises.specs.Accepted.{IsAcceptedWithin, Unchangeable}
-use Rattle.def_promises.proofs.FreshItems.{fresh_has_item}
 use Rattle.ms_strict_laws.proofs.StrictChoiceExists.{strict_exists}
 use Rattle.ms_strict_laws.proofs.TightIsUnchangeable.{strict_is_unchangeable, nothing_to_accept, tight_is_non_malleable}
 use Rattle.ms_strict_laws.proofs.UnchangeableIsTight.{strict_is_lightest}
@@ -346,14 +345,8 @@ shows_non_malleable call utf8 e rules =
 
 pub finds_nothing_to_accept : (call : Call) → HaveUtf8 call.words → Ends call → FindsNothingToAccept call
 finds_nothing_to_accept call utf8 e rules tree assets asked is =
-    let writes = writable choice.Strict rules call tree assets utf8 asked in
-    let held = are_held asked in
-    let none = nothing_chosen choice.Strict rules call tree assets utf8 e asked is in
-    record {
-      none = λ stack. none_where_none choice.Strict rules tree assets stack writes asked.fit held none;
-      accepted = λ stack checks accepted. nothing_to_accept tree assets stack checks writes (is_sane rules tree asked.fit) held none accepted;
-      fresh = λ checker stack fresh. fresh_has_item tree assets checker stack fresh;
-    }
+    nothing_to_accept tree assets (writable choice.Strict rules call tree assets utf8 asked) (is_sane rules tree asked.fit) (are_held asked)
+    (nothing_chosen choice.Strict rules call tree assets utf8 e asked is)
 
 -- the weight of the one that was chosen
 weighs : (chosen : Option (List Bytes)) (stack : List Bytes) (most : ℕ) → chosen ≡ Some stack

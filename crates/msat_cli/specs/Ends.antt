@@ -1,17 +1,17 @@
 -- How a call of `msat` ends.
 use Rattle.std.specs.Prelude.{◌≡◌, ◌⊎◌, ◌≤◌, ⊤, List, length, Option, None, Some}
-use Rattle.std.specs.Io.KnownBytes.{IsAtEnd, Keeps}
+use Rattle.std.specs.Io.KnownBytes.{IsAtEnd}
 use Rattle.def_script.specs.Bytes.{Bytes}
 use Rattle.def_text.specs.Refusal.{MOST_BYTES}
 use Rattle.ms_io.specs.Sides.{Rose, Side}
-use Rattle.ms_io.specs.Endings.{HasAnswerOf, WritesAnswerOf, WritesPrefixOf}
+use Rattle.ms_io.specs.Endings.{HasAnswerOf, EndsOf}
 use Rattle.msat_cli.specs.Calls.{Call, EndsAs}
 use Rattle.def_answer.specs.declared.status.Status.{Status}
 use Rattle.def_answer.specs.declared.status.Status.TheVariants as status
 use Rattle.def_answer.specs.Answer.{Answer}
 use Rattle.def_answer.specs.Lines.{MOST_FILE}
 use Rattle.def_answer.specs.Sources.{ReadsSource}
-use Rattle.def_answer.specs.Words.{Command, script, check, satisfy, run, gen, policy, plan, audit, trace, trace_text, decode, IsForm, HasNoForm}
+use Rattle.def_answer.specs.Words.{Command, script, asm, check, satisfy, run, gen, policy, plan, audit, trace, trace_text, decode, IsForm, HasNoForm}
 
 -- ---- how it ends
 
@@ -19,15 +19,10 @@ use Rattle.def_answer.specs.Words.{Command, script, check, satisfy, run, gen, po
 abbrev pub HasAnswer : (words : List Bytes) → (source : Side) → Status → (report : Bytes) → Type 0
 HasAnswer = HasAnswerOf Answer
 
--- the source failed, and its count of faults rose: nothing was written, and the words are such that read it
-abbrev pub FailsToRead : Call → Type 0
-FailsToRead call =
-    (call.status ≡ status.ReadFault) × Rose call.source.before call.source.now
-    × Keeps call.sink.old call.sink.new × ReadsSource call.words
-
 -- the TEXT of the command, where it has one, isn't too long
 abbrev pub HasShortText : Command → Type 0
 HasShortText (script rules text) = length text ≤ MOST_BYTES
+HasShortText (asm rules text) = length text ≤ MOST_BYTES
 HasShortText (check rules text) = length text ≤ MOST_BYTES
 HasShortText (satisfy choice rules text) = length text ≤ MOST_BYTES
 HasShortText run = ⊤
@@ -43,14 +38,10 @@ HasShortText (decode digits keys) = ⊤
 abbrev pub TakesMemory : (words : List Bytes) → Type 0
 TakesMemory words = (command : Command) × IsForm words command × HasShortText command
 
--- memory was wanting: nothing was written
-abbrev pub WantsMemory : Call → Type 0
-WantsMemory call =
-    (call.status ≡ status.Memory) × Keeps call.sink.old call.sink.new × TakesMemory call.words
-
--- with the answer's report written whole, with a prefix of it where the sink failed, or without one
+-- with the answer's report written whole, with a prefix of it where the sink failed, or without one: the source failed, which the words
+-- read, or memory was wanting
 abbrev pub Ends : Call → Type 0
-Ends call = WritesAnswerOf Answer call ⊎ (WritesPrefixOf Answer status.WriteFault call ⊎ (FailsToRead call ⊎ WantsMemory call))
+Ends = EndsOf Answer status.ReadFault status.WriteFault status.Memory ReadsSource TakesMemory
 
 -- ---- which status comes
 

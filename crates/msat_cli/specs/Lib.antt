@@ -4,6 +4,7 @@ pub mod Satisfactions
 pub mod Plans
 pub mod Audits
 pub mod Traces
+pub mod Listings
 pub mod Policies
 pub mod Decodings
 pub mod Scaffolding

@@ -1,12 +1,12 @@
 -- What a call of `msat` for `satisfy TEXT` or `satisfy --malleable TEXT`, by policy or with `--consensus`, shows of a
 -- satisfaction.
-use Rattle.std.specs.Prelude.{◌≡◌, ◌↔◌, ◌⊎◌, ℕ, ◌≤◌, ◌∷◌, ◌++◌, List, length, flat_map, codes, decimal, None, Some, Ok}
+use Rattle.std.specs.Prelude.{◌≡◌, ◌↔◌, ℕ, ◌≤◌, ◌∷◌, ◌++◌, List, length, flat_map, codes, decimal, None, Some, Ok}
 use Rattle.std.specs.Io.KnownBytes.{Appends}
 use Rattle.hex.specs.Hex.{encode_lower}
 use Rattle.def_hash.specs.Hash.{sha256}
 use Rattle.def_script.specs.Bytes.{Bytes}
 use Rattle.def_script.specs.Witness.{witness_text, weight}
-use Rattle.def_machine.specs.Stacks.{Pairs, Checker, member}
+use Rattle.def_machine.specs.Stacks.{Pairs, Checker}
 use Rattle.def_machine.specs.Machine.{Given}
 use Rattle.def_machine.specs.Program.{program_of}
 use Rattle.def_machine.specs.Run.{run, accepted}
@@ -26,9 +26,9 @@ use Rattle.def_satisfaction.specs.Satisfaction.{given_of, Sat, Holds}
 use Rattle.def_choice.specs.declared.choice.Choice.{Choice}
 use Rattle.def_choice.specs.declared.choice.Choice.TheVariants as choice
 use Rattle.def_answer.specs.Satisfy.{chosen_by, satisfy_words, reason_by, item_line, satisfy_report}
-use Rattle.def_choice.specs.NonMalleable.{IsAccepted, Fresh, NonMalleable, given_with}
+use Rattle.def_choice.specs.NonMalleable.{NonMalleable, given_with}
 use Rattle.def_choice.specs.Tight.{Tight}
-use Rattle.def_promises.specs.Accepted.{IsAcceptedWithin, HasUnknownPreimage, HasOtherKey, Unchangeable}
+use Rattle.def_promises.specs.Accepted.{IsAcceptedWithin, Unchangeable, HasNothingToAccept}
 use Rattle.def_answer.specs.declared.status.Status.TheVariants as status
 use Rattle.def_answer.specs.Lines.{line, text_line, unfit_line, tree_limits_line, MOST_FILE}
 use Rattle.ms_witness.specs.Replaying.{replay, ran}
@@ -145,19 +145,7 @@ ShowsAccepted call = (choice : Choice) (rules : Rules) → ShowsSuch choice rule
 abbrev pub ShowsNonMalleable : Call → Type 0
 ShowsNonMalleable call = (rules : Rules) → ShowsSuch choice.Strict rules call Unchangeable
 
--- a fresh stack has an unknown preimage, or another key with the same hash
-abbrev pub FreshOnesHaveItem : Tree → Assets → Type 0
-FreshOnesHaveItem tree assets =
-    (checker : Checker) (stack : List Bytes) → Fresh tree assets checker stack →
-    HasUnknownPreimage tree assets stack ⊎ HasOtherKey tree stack
-
 -- where there is none, what is accepted under the assets' own signatures is fresh
-pub record HasNothingToAccept (tree : Tree) (assets : Assets) : Type 0 where
-  pub none : (stack : List Bytes) → ¬ Sat tree assets stack
-  pub accepted : (stack : List Bytes) (checks : Pairs) → IsAccepted tree (given_with assets (member assets.pairs)) stack checks →
-      Fresh tree assets (member assets.pairs) stack
-  pub fresh : FreshOnesHaveItem tree assets
-
 abbrev pub FindsNothingToAccept : Call → Type 0
 FindsNothingToAccept call =
     (rules : Rules) (tree : Tree) (assets : Assets) → IsAsked choice.Strict rules call tree assets → call.status ≡ status.NoSatisfaction →

@@ -8,6 +8,7 @@ ghost use Rattle.msat_cli.specs.Scaffolding.Steps.{WritesResult};
 ghost use Rattle.msat_cli.specs.Ends.{Ends, EndsAsUsage, EndsAsAnswered, IsReadFor};
 ghost use Rattle.msat_cli.specs.Audits.{ShowsAudit};
 ghost use Rattle.msat_cli.specs.Decodings.{ShowsReading};
+ghost use Rattle.msat_cli.specs.Listings.{ShowsListing};
 ghost use Rattle.msat_cli.specs.Plans.{ShowsPlan};
 ghost use Rattle.msat_cli.specs.Policies.{ShowsPolicy};
 ghost use Rattle.msat_cli.specs.Satisfactions.{FindsWhereOneExists, ShowsCanonical, ShowsWitness, ShowsAccepted, ShowsNonMalleable};
@@ -30,8 +31,8 @@ const TEXT_TOO_LONG: &[u8] = b"refused text TooLong\n";
 const FILE_TOO_LONG: &[u8] = b"refused file TooLong\n";
 
 /// Answers the words of a command line: makes the report, writes it to the sink by one call of `put_report`, and gives
-/// the status. The words are `script TEXT`, `check TEXT`, `satisfy TEXT`, `satisfy --malleable TEXT`, each of them also with
-/// `--consensus` before TEXT, and `run`, `gen N`, `policy TEXT`, `plan TEXT`, `audit TEXT`, `trace`, `trace TEXT` and
+/// the status. The words are `script TEXT`, `asm TEXT`, `check TEXT`, `satisfy TEXT`, `satisfy --malleable TEXT`, each of them
+/// also with `--consensus` before TEXT, and `run`, `gen N`, `policy TEXT`, `plan TEXT`, `audit TEXT`, `trace`, `trace TEXT` and
 /// `decode HEX KEY..`. The source is read only for `run` and for `trace` alone, and for `satisfy`, `plan`, `audit` and
 /// `trace` with a text where this was neither refused nor unfit.
 pub fn msat<S: Source, K: Sink>(
@@ -77,6 +78,10 @@ pub fn msat<S: Source, K: Sink>(
 
     // `satisfy --malleable TEXT` does so for every valid text, but its satisfaction weighs least, and may be changed.
     ensures lightest { ShowsLightest (call words.now (side S.left S.faults source.old source.new) (side K.written K.faults sink.old sink.new) result) }
+
+    // For every valid text `asm TEXT` writes the instructions of its Script, each with its offset and the place of the node
+    // that wrote it.
+    ensures listing { ShowsListing (call words.now (side S.left S.faults source.old source.new) (side K.written K.faults sink.old sink.new) result) }
 
     // For every sane text `policy TEXT` writes its policy, and the least number of keys that make the policy true.
     ensures policy { ShowsPolicy (call words.now (side S.left S.faults source.old source.new) (side K.written K.faults sink.old sink.new) result) }

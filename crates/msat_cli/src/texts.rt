@@ -8,7 +8,7 @@ ghost use Rattle.def_sane.specs.Unfit.{first_unfit, first_unfit_under, first_unf
 ghost use Rattle.ms_tree.specs.Shape.{shape};
 ghost use Rattle.ms_sane.specs.Misfits.{IsMisfit};
 ghost use Rattle.ms_sane.specs.Place.{IsOfTree};
-ghost use Rattle.def_answer.specs.Answer.{script_reply, check_reply, policy_reply};
+ghost use Rattle.def_answer.specs.Answer.{script_reply, asm_reply, check_reply, policy_reply};
 ghost use Rattle.def_answer.specs.Lines.{unfit_line as the_unfit_line};
 ghost use Rattle.def_answer.specs.Reply.{reply};
 ghost use Rattle.def_answer.specs.Sources.{NeedsSource};
@@ -24,7 +24,7 @@ use def_answer::Status;
 use def_choice::Choice;
 use def_text::TextFault;
 use ms_io::Source;
-use ms_replies::ChoiceTree;
+use ms_replies::{ChoiceTree, asm_report};
 use ms_report::{Answer, check_report, policy_report, script_report, text_line, unfit_line};
 use ms_sane::{Misfit, Rules, SaneTree, Unfit, ValidTree};
 use ms_text::{TextTree, read_text};
@@ -65,6 +65,7 @@ fn answer_tree<S: Source>(
 {
     match kind {
         TextCommand::Script(rules) => answer_script(alloc, rules, text),
+        TextCommand::Asm(rules) => answer_asm(alloc, rules, text),
         TextCommand::Check(rules) => answer_check(alloc, rules, text),
         TextCommand::Policy => answer_policy(alloc, text),
         TextCommand::Satisfy(choice, rules) => answer_satisfy(alloc, choice, rules, text, source),
@@ -81,6 +82,17 @@ fn answer_script(alloc: Global, rules: Rules, text: &TextTree<'_>) -> Result<Ans
 {
     match ValidTree::new(alloc, text.tree, rules) {
         Ok(valid) => done(script_report(alloc, &valid.tree)),
+        Err(misfit) => refuse_tree(alloc, text, misfit),
+    }
+}
+
+/// Answers with the instructions of the Script of a valid text.
+fn answer_asm(alloc: Global, rules: Rules, text: &TextTree<'_>) -> Result<Answer, Stop>
+    requires { IsInRange (shape text.now.tree) }
+    ensures { EndsAtOnce (first_unfit_valid_under rules) (asm_reply text.now.offsets.items) (shape text.now.tree) text.now.offsets.items result }
+{
+    match ValidTree::new(alloc, text.tree, rules) {
+        Ok(_valid) => done(asm_report(alloc, text)),
         Err(misfit) => refuse_tree(alloc, text, misfit),
     }
 }

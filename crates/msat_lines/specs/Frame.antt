@@ -1,4 +1,4 @@
--- How a call for the word `lines` ends.
+-- The status of a call for the word `lines`, and the answer where the source lies in memory.
 use Rattle.std.specs.Prelude.{◌≡◌, ◌⊎◌, List}
 use Rattle.def_script.specs.Bytes.{Bytes}
 use Rattle.def_answer.specs.declared.status.Status.{Status}
@@ -7,20 +7,14 @@ use Rattle.def_answer.specs.Answer.{Answer}
 use Rattle.def_lines.specs.Answers.{AnswersLines}
 use Rattle.def_lines.specs.Msat.{msat_answers}
 use Rattle.ms_frame.specs.Asking.{AsksLines}
-use Rattle.ms_io.specs.Sides.{Side}
 use Rattle.ms_lines.specs.declared.stream.Ending.{Ending}
 use Rattle.ms_lines.specs.declared.stream.Ending.TheVariants as ending
-use Rattle.ms_lines.specs.Streams.{EndsLines}
 
 abbrev pub status_of : Ending → Status
 status_of ending.Done = status.Done
 status_of ending.ReadFault = status.ReadFault
 status_of ending.WriteFault = status.WriteFault
 status_of ending.Memory = status.Memory
-
--- with the answers of `msat` to the lines of the source, or with those that were written before a fault
-abbrev pub EndsAsLines : (source sink : Side) → Status → Type 0
-EndsAsLines source sink s = (e : Ending) × (s ≡ status_of e) × EndsLines msat_answers e source sink
 
 -- ---- of a source and a sink in memory
 

@@ -9,6 +9,7 @@ use Rattle.msat_cli.specs.Calls.{Call}
 use Rattle.msat_cli.specs.Ends.{Ends, EndsAsUsage, EndsAsAnswered, IsReadFor}
 use Rattle.msat_cli.specs.Audits.{ShowsAudit}
 use Rattle.msat_cli.specs.Decodings.{ShowsReading}
+use Rattle.msat_cli.specs.Listings.{ShowsListing}
 use Rattle.msat_cli.specs.Plans.{ShowsPlan}
 use Rattle.msat_cli.specs.Policies.{ShowsPolicy}
 use Rattle.msat_cli.specs.Satisfactions.{FindsWhereOneExists, ShowsCanonical, ShowsWitness, ShowsAccepted, ShowsNonMalleable}
@@ -37,6 +38,7 @@ pub record IsCallOfMsat (call : Call) : Type 0 where
   pub unchanged : TellsUnchanged call
   pub lightest_unchanged : ShowsLightestUnchanged call
   pub lightest : ShowsLightest call
+  pub listing : ShowsListing call
   pub policy : ShowsPolicy call
   pub plan : ShowsPlan call
   pub audit : ShowsAudit call

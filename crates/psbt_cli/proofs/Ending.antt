@@ -8,25 +8,31 @@ use Rattle.def_script.specs.Bytes.{Bytes}
 use Rattle.ms_io.specs.Endings.{Writes}
 use Rattle.ms_io.specs.Sides.{Rose, Side}
 use Rattle.ms_io.specs.Reads.{AreTold, Held}
+use Rattle.def_combine.specs.declared.CombineRefusal.{CombineRefusal}
+use Rattle.def_combine.specs.declared.CombineRefusal.TheVariants as unjoined
+use Rattle.def_combine.specs.Combine.{parts_of, combined_of}
 use Rattle.def_psbt.specs.declared.Refusal.{Refusal}
 use Rattle.def_psbt.specs.declared.Refusal.TheVariants.{TooLong}
 use Rattle.def_psbt.specs.Map.{Psbt}
 use Rattle.def_psbt.specs.Source.{MAX_SOURCE_SIZE, psbt_bytes, psbt_of}
 use Rattle.def_spend.specs.Reading.{Input}
+use Rattle.def_verify.specs.Verdict.{verdict_of, is_valid}
 use Rattle.def_psbt_answer.specs.declared.status.Status.{Status}
 use Rattle.def_psbt_answer.specs.declared.status.Status.TheVariants as status
 use Rattle.def_psbt_answer.specs.declared.words.Command.{Command}
 use Rattle.def_psbt_answer.specs.declared.words.Command.TheVariants as command
 use Rattle.def_psbt_answer.specs.declared.words.Form.{Form}
-use Rattle.def_psbt_answer.specs.Words.{command_of}
-use Rattle.def_psbt_answer.specs.Reply.{Reply, reply, refusal_reply, form_of, is_settled, first_open, extract_by, extract_reply, command_reply}
-use Rattle.def_psbt_answer.specs.Answer.{RepliesToSource, RepliesToWords, Answer}
+use Rattle.def_psbt_answer.specs.declared.words.Request.{Request}
+use Rattle.def_psbt_answer.specs.declared.words.Request.TheVariants as request
+use Rattle.def_psbt_answer.specs.Words.{request_of}
+use Rattle.def_psbt_answer.specs.Reply.{Reply, reply, refusal_reply, form_of, is_settled, first_open, extract_by, extract_reply, command_reply, combine_reply}
+use Rattle.def_psbt_answer.specs.Answer.{RepliesToSource, RepliesToRequest, RepliesToWords, Answer}
 use Rattle.ms_psbt_answer_laws.proofs.Unique.{one_answer}
 use Rattle.ms_psbt_replies.specs.declared.reply.Reply.{Reply as Made}
 use Rattle.psbt_cli.specs.declared.answer.Stop.{Stop}
 use Rattle.psbt_cli.specs.declared.answer.Stop.TheVariants as stop
 use Rattle.psbt_cli.specs.Ends.{Call, HasAnswer, Ends, IsFault, EndsAsUsage, EndsAsAnswered, TellsShortSource, IsReadFor}
-use Rattle.psbt_cli.specs.Scaffolding.Steps.{AnswersCommand, AnswersWords, EndsCommand, EndsWords, WritesResult}
+use Rattle.psbt_cli.specs.Scaffolding.Steps.{AnswersRequest, AnswersWords, EndsRequest, EndsWords, WritesResult}
 
 -- ---- the steps
 
@@ -39,25 +45,43 @@ too_long bytes over = go (nat_lt MAX_SOURCE_SIZE (length bytes)) refl
     go true e = rw e refl
     go false e = absurd (omega (arith, ltb-false MAX_SOURCE_SIZE (length bytes) e))
 
-pub refused_too_long : (command : Command) (source : Side) → (bytes : Bytes) × Held MAX_SOURCE_SIZE source bytes × (MAX_SOURCE_SIZE < length bytes)
-    → AnswersCommand command source (refusal_reply TooLong)
-refused_too_long command source (bytes, held, over) = record {
+lines_too_long : (bytes : Bytes) → MAX_SOURCE_SIZE < length bytes → combined_of bytes ≡ Err unjoined.TooLong
+unfolding combined_of parts_of
+lines_too_long bytes over = go (nat_lt MAX_SOURCE_SIZE (length bytes)) refl
+  where
+    go : (b : Bool) → nat_lt MAX_SOURCE_SIZE (length bytes) ≡ b → combined_of bytes ≡ Err unjoined.TooLong
+    go true e = rw e refl
+    go false e = absurd (omega (arith, ltb-false MAX_SOURCE_SIZE (length bytes) e))
+
+replied_too_long : (request : Request) (bytes : Bytes) → MAX_SOURCE_SIZE < length bytes → RepliesToRequest request bytes (refusal_reply TooLong)
+replied_too_long (request.One command) bytes over =
+    subst (λ o. RepliesToSource command (form_of bytes) o (refusal_reply TooLong)) (sym (too_long bytes over)) refl
+replied_too_long request.Combine bytes over = sym (ap combine_reply (lines_too_long bytes over))
+
+-- and not otherwise
+only_too_long : (request : Request) (bytes : Bytes) (r : Reply) → MAX_SOURCE_SIZE < length bytes → RepliesToRequest request bytes r → r ≡ refusal_reply TooLong
+only_too_long (request.One command) bytes r over h = subst (λ o. RepliesToSource command (form_of bytes) o r) (too_long bytes over) h
+only_too_long request.Combine bytes r over h = h ∙ ap combine_reply (lines_too_long bytes over)
+
+pub refused_too_long : (request : Request) (source : Side) → (bytes : Bytes) × Held MAX_SOURCE_SIZE source bytes × (MAX_SOURCE_SIZE < length bytes)
+    → AnswersRequest request source (refusal_reply TooLong)
+refused_too_long request source (bytes, held, over) = record {
   bytes = bytes;
   held = held;
-  replies = subst (λ o. RepliesToSource command (form_of bytes) o (refusal_reply TooLong)) (sym (too_long bytes over)) refl;
+  replies = replied_too_long request bytes over;
 }
 
-named : (words : List Bytes) (command : Command) → command_of words ≡ Some command → command_of words ≢ None
-named words command is none = cc
+named : (words : List Bytes) (request : Request) → request_of words ≡ Some request → request_of words ≢ None
+named words request is none = cc
 
--- the reply to words that name a command
-pub words_ended : (words : List Bytes) (command : Command) (source : Side) (result : Result Made Stop) → command_of words ≡ Some command
-    → EndsCommand command source result → EndsWords words source result
-words_ended words command source (Ok made) is h = inr (command, is, h)
-words_ended words command source (Err stop.Usage) is h = absurd h
-words_ended words command source (Err stop.TooLong) is h = inr (command, is, h)
-words_ended words command source (Err stop.ReadFault) is h = (h, named words command is)
-words_ended words command source (Err stop.Memory) is h = named words command is
+-- the reply to words that ask something
+pub words_ended : (words : List Bytes) (request : Request) (source : Side) (result : Result Made Stop) → request_of words ≡ Some request
+    → EndsRequest request source result → EndsWords words source result
+words_ended words request source (Ok made) is h = inr (request, is, h)
+words_ended words request source (Err stop.Usage) is h = absurd h
+words_ended words request source (Err stop.TooLong) is h = inr (request, is, h)
+words_ended words request source (Err stop.ReadFault) is h = (h, named words request is)
+words_ended words request source (Err stop.Memory) is h = named words request is
 
 -- ---- the answer
 
@@ -66,17 +90,17 @@ some_told : (old : Option Bytes) → (bytes : Bytes) × AreTold old bytes
 some_told None = ([], tt)
 some_told (Some told) = (told, refl)
 
-to_words : (words : List Bytes) (o : Option Command) (bytes : Bytes) (r : Reply) → command_of words ≡ o → RepliesToWords o bytes r
-    → RepliesToWords (command_of words) bytes r
-to_words words o bytes r is h = subst (λ (c : Option Command). RepliesToWords c bytes r) (sym is) h
+to_words : (words : List Bytes) (o : Option Request) (bytes : Bytes) (r : Reply) → request_of words ≡ o → RepliesToWords o bytes r
+    → RepliesToWords (request_of words) bytes r
+to_words words o bytes r is h = subst (λ (c : Option Request). RepliesToWords c bytes r) (sym is) h
 
 has_answer : (words : List Bytes) (source : Side) (answer : Status) (report : Bytes) → AnswersWords words source (reply answer report)
     → HasAnswer words source answer report
 has_answer words source answer report (inl usage) =
     let told = some_told source.old in
     (told.0, told.1, record { replies = to_words words None told.0 (reply answer report) usage.0 usage.1 })
-has_answer words source answer report (inr (command, is, h)) =
-    (h.bytes, h.held.told, record { replies = to_words words (Some command) h.bytes (reply answer report) is h.replies })
+has_answer words source answer report (inr (request, is, h)) =
+    (h.bytes, h.held.told, record { replies = to_words words (Some request) h.bytes (reply answer report) is h.replies })
 
 -- ---- how the call ends
 
@@ -122,17 +146,23 @@ command_answered command.Finalize form psbt inputs = settled_answered (list_all 
 command_answered command.Inspect form psbt inputs = settled_answered (list_all is_settled inputs)
 command_answered command.Extract form psbt inputs = extract_all_answered psbt inputs
 command_answered command.Hashes form psbt inputs = tt
+command_answered command.Verify form psbt inputs = settled_answered (list_all (λ input. is_valid (verdict_of input)) inputs)
 
 source_answered : (command : Command) (form : Form) (o : Result Psbt Refusal) (r : Reply) → RepliesToSource command form o r → IsAnswered r.status
 source_answered command form (Ok psbt) r (inputs, are, is) = subst (λ (x : Reply). IsAnswered x.status) (sym is) (command_answered command form psbt inputs)
 source_answered command form (Err refusal) r is = subst (λ (x : Reply). IsAnswered x.status) (sym is) tt
 
-words_answered : (o : Option Command) (bytes : Bytes) (r : Reply) → RepliesToWords o bytes r → IsAnswered r.status
+combine_answered : (o : Result Psbt CombineRefusal) → IsAnswered (combine_reply o).status
+combine_answered (Ok whole) = tt
+combine_answered (Err refusal) = tt
+
+words_answered : (o : Option Request) (bytes : Bytes) (r : Reply) → RepliesToWords o bytes r → IsAnswered r.status
 words_answered None bytes r is = subst (λ (x : Reply). IsAnswered x.status) (sym is) tt
-words_answered (Some command) bytes r h = source_answered command (form_of bytes) (psbt_of bytes) r h
+words_answered (Some request.Combine) bytes r is = subst (λ (x : Reply). IsAnswered x.status) (sym is) (combine_answered (combined_of bytes))
+words_answered (Some (request.One command)) bytes r h = source_answered command (form_of bytes) (psbt_of bytes) r h
 
 pub answers_have_status : (words : List Bytes) (bytes : Bytes) (answer : Status) (report : Bytes) → Answer words bytes answer report → IsAnswered answer
-answers_have_status words bytes answer report a = words_answered (command_of words) bytes (reply answer report) a.replies
+answers_have_status words bytes answer report a = words_answered (request_of words) bytes (reply answer report) a.replies
 
 is_answered : (words : List Bytes) (source : Side) (answer : Status) (report : Bytes) → HasAnswer words source answer report → IsAnswered answer
 is_answered words source answer report h = answers_have_status words h.0 answer report h.2
@@ -155,13 +185,13 @@ read_fault_rose call (inr (inr (inr m))) is = absurd (cc (sym m.0 ∙ is))
 told_bytes : (old : Option Bytes) (bytes held : Bytes) → old ≡ Some bytes → AreTold old held → held ≡ bytes
 told_bytes old bytes held is told = sym (subst (λ (o : Option Bytes). AreTold o held) is told)
 
-usage_answer : (words : List Bytes) (held bytes : Bytes) (r : Reply) → command_of words ≡ None → RepliesToWords (command_of words) held r
-    → RepliesToWords (command_of words) bytes r
+usage_answer : (words : List Bytes) (held bytes : Bytes) (r : Reply) → request_of words ≡ None → RepliesToWords (request_of words) held r
+    → RepliesToWords (request_of words) bytes r
 usage_answer words held bytes r none h =
-    to_words words None bytes r none (subst (λ (c : Option Command). RepliesToWords c held r) none h)
+    to_words words None bytes r none (subst (λ (c : Option Request). RepliesToWords c held r) none h)
 
 -- the answer to what the source held is that to these bytes, where it isn't read or tells them
-pub told_answer : (words : List Bytes) (source : Side) (bytes : Bytes) (s : Status) (report : Bytes) → (command_of words ≡ None) ⊎ (source.old ≡ Some bytes)
+pub told_answer : (words : List Bytes) (source : Side) (bytes : Bytes) (s : Status) (report : Bytes) → (request_of words ≡ None) ⊎ (source.old ≡ Some bytes)
     → HasAnswer words source s report → Answer words bytes s report
 told_answer words source bytes s report (inl none) h = record { replies = usage_answer words h.0 bytes (reply s report) none h.2.replies }
 told_answer words source bytes s report (inr told) h = subst (λ b. Answer words b s report) (told_bytes source.old bytes h.0 told h.1) h.2
@@ -176,8 +206,8 @@ ends_as_answered call (inr (inl w)) bytes s p told k = inr (as_fault call status
 ends_as_answered call (inr (inr (inl r))) bytes s p told k = inr (as_fault call status.ReadFault r.0 r.1)
 ends_as_answered call (inr (inr (inr m))) bytes s p told k = inr (as_fault call status.Memory m.0 tt)
 
-usage_status : (words : List Bytes) (bytes : Bytes) (r : Reply) → command_of words ≡ None → RepliesToWords (command_of words) bytes r → r.status ≡ status.Usage
-usage_status words bytes r none h = ap (λ (x : Reply). x.status) (subst (λ (c : Option Command). RepliesToWords c bytes r) none h)
+usage_status : (words : List Bytes) (bytes : Bytes) (r : Reply) → request_of words ≡ None → RepliesToWords (request_of words) bytes r → r.status ≡ status.Usage
+usage_status words bytes r none h = ap (λ (x : Reply). x.status) (subst (λ (c : Option Request). RepliesToWords c bytes r) none h)
 
 pub ends_as_usage : (call : Call) → Ends call → EndsAsUsage call
 ends_as_usage call (inl (report, a, w)) none = inl (usage_status call.words a.0 (reply call.status report) none a.2.replies)
@@ -202,28 +232,28 @@ short_told (Some known) bytes told over short =
     let few : length bytes ≤ MAX_SOURCE_SIZE = subst (λ (b : Bytes). length b ≤ MAX_SOURCE_SIZE) told short in omega (arith, few, over)
 
 -- the source was read to its end, and a longer one is refused
-read_for : (command : Command) (source : Side) (r : Reply) → AnswersCommand command source r → IsReadFor r.status source
-read_for command source r h = go (nat_lt MAX_SOURCE_SIZE (length h.bytes)) refl
+read_for : (request : Request) (source : Side) (r : Reply) → AnswersRequest request source r → IsReadFor r.status source
+read_for request source r h = go (nat_lt MAX_SOURCE_SIZE (length h.bytes)) refl
   where
     go : (b : Bool) → nat_lt MAX_SOURCE_SIZE (length h.bytes) ≡ b → IsReadFor r.status source
     go true e =
         let over = ltb-true MAX_SOURCE_SIZE (length h.bytes) e in
-        let is : r ≡ refusal_reply TooLong = subst (λ o. RepliesToSource command (form_of h.bytes) o r) (too_long h.bytes over) h.replies in
+        let is : r ≡ refusal_reply TooLong = only_too_long request h.bytes r over h.replies in
         subst (λ (x : Reply). IsReadFor x.status source) (sym is) (λ short. absurd (short_told source.old h.bytes h.held.told over short))
     go false e = at_end source r.status (h.held.end (ltb-false MAX_SOURCE_SIZE (length h.bytes) e))
 
-read_answer : (words : List Bytes) (source : Side) (r : Reply) → command_of words ≢ None → AnswersWords words source r → IsReadFor r.status source
+read_answer : (words : List Bytes) (source : Side) (r : Reply) → request_of words ≢ None → AnswersWords words source r → IsReadFor r.status source
 read_answer words source r names (inl usage) = absurd (names usage.0)
-read_answer words source r names (inr (command, is, h)) = read_for command source r h
+read_answer words source r names (inr (request, is, h)) = read_for request source r h
 
-read_written : (call : Call) (answer : Status) (report : Bytes) → command_of call.words ≢ None
+read_written : (call : Call) (answer : Status) (report : Bytes) → request_of call.words ≢ None
     → AnswersWords call.words call.source (reply answer report) → Writes status.WriteFault answer report call.sink call.status → IsReadFor call.status call.source
 read_written call answer report names a (inl w) =
     subst (λ s. IsReadFor s call.source) (sym w.0) (read_answer call.words call.source (reply answer report) names a)
 read_written call answer report names a (inr w) = subst (λ s. IsReadFor s call.source) (sym w.0) tt
 
 pub was_read : (call : Call) (made : Result Made Stop) → EndsWords call.words call.source made → WritesResult made call.sink call.status
-    → command_of call.words ≢ None → IsReadFor call.status call.source
+    → request_of call.words ≢ None → IsReadFor call.status call.source
 was_read call (Ok made) a w names = read_written call made.status (made.report.items) names a w
 was_read call (Err stop.Usage) a w names = read_written call _ _ names a w
 was_read call (Err stop.TooLong) a w names = read_written call _ _ names a w

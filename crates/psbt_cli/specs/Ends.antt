@@ -1,13 +1,13 @@
 -- How a call of `msat-psbt` ends.
 use Rattle.std.specs.Prelude.{◌≡◌, ◌≢◌, ◌⊎◌, ◌≤◌, ⊤, List, length, Option, None, Some}
-use Rattle.std.specs.Io.KnownBytes.{IsAtEnd, Keeps}
+use Rattle.std.specs.Io.KnownBytes.{IsAtEnd}
 use Rattle.def_script.specs.Bytes.{Bytes}
 use Rattle.ms_io.specs.Sides.{Rose, CallWith, Side}
-use Rattle.ms_io.specs.Endings.{HasAnswerOf, WritesAnswerOf, WritesPrefixOf}
+use Rattle.ms_io.specs.Endings.{HasAnswerOf, EndsOf}
 use Rattle.def_psbt.specs.Source.{MAX_SOURCE_SIZE}
 use Rattle.def_psbt_answer.specs.declared.status.Status.{Status}
 use Rattle.def_psbt_answer.specs.declared.status.Status.TheVariants as status
-use Rattle.def_psbt_answer.specs.Words.{command_of}
+use Rattle.def_psbt_answer.specs.Words.{request_of}
 use Rattle.def_psbt_answer.specs.Answer.{Answer}
 
 -- the words of a call, what it did to the source and to the sink, and its status
@@ -20,20 +20,14 @@ Call = CallWith Status
 abbrev pub HasAnswer : (words : List Bytes) → (source : Side) → Status → (report : Bytes) → Type 0
 HasAnswer = HasAnswerOf Answer
 
--- the source failed, and its count of faults rose: nothing was written, and the words name a command
-abbrev pub FailsToRead : Call → Type 0
-FailsToRead call =
-    (call.status ≡ status.ReadFault) × Rose call.source.before call.source.now
-    × Keeps call.sink.old call.sink.new × (command_of call.words ≢ None)
+-- the words name a command
+abbrev pub NamesCommand : (words : List Bytes) → Type 0
+NamesCommand words = request_of words ≢ None
 
--- memory was wanting: nothing was written, and the words name a command
-abbrev pub WantsMemory : Call → Type 0
-WantsMemory call =
-    (call.status ≡ status.Memory) × Keeps call.sink.old call.sink.new × (command_of call.words ≢ None)
-
--- with the answer's report written whole, with a prefix of it where the sink failed, or without one
+-- with the answer's report written whole, with a prefix of it where the sink failed, or without one: the source failed, or memory was
+-- wanting, and the words name a command
 abbrev pub Ends : Call → Type 0
-Ends call = WritesAnswerOf Answer call ⊎ (WritesPrefixOf Answer status.WriteFault call ⊎ (FailsToRead call ⊎ WantsMemory call))
+Ends = EndsOf Answer status.ReadFault status.WriteFault status.Memory NamesCommand NamesCommand
 
 -- ---- which status comes
 
@@ -54,7 +48,7 @@ EndsAs wanted call = (call.status ≡ wanted) ⊎ IsFault call.status call.sourc
 -- words that name no command are refused, whatever memory there is
 abbrev pub EndsAsUsage : Call → Type 0
 EndsAsUsage call =
-    command_of call.words ≡ None →
+    request_of call.words ≡ None →
     (call.status ≡ status.Usage) ⊎ ((call.status ≡ status.WriteFault) × Rose call.sink.before call.sink.now)
 
 -- the call ends with the answer's status: of words that name no command whatever the source holds, and of others where it
@@ -62,7 +56,7 @@ EndsAsUsage call =
 abbrev pub EndsAsAnswered : Call → Type 0
 EndsAsAnswered call =
     (bytes : Bytes) (s : Status) (report : Bytes) →
-    (command_of call.words ≡ None) ⊎ (call.source.old ≡ Some bytes) →
+    (request_of call.words ≡ None) ⊎ (call.source.old ≡ Some bytes) →
     Answer call.words bytes s report → EndsAs s call
 
 -- ---- what is read

@@ -1,34 +1,37 @@
 -- What is promised of what a call of `msat-psbt` writes.
-use Rattle.std.specs.Prelude.{◌≡◌, ◌↔◌, ◌≤◌, false, List, All, length, Some}
+use Rattle.std.specs.Prelude.{◌≡◌, ℕ, ◌↔◌, ◌≤◌, List, [], ◌∷◌, ◌++◌, All, length, Some, Ok, unwrap_or}
 use Rattle.hex.specs.Hex.{encode_lower}
-use Rattle.def_script.specs.Bytes.{Bytes}
+use Rattle.base64.specs.Engines.{standard}
+use Rattle.base64.specs.GeneralPurpose.{encode_of}
+use Rattle.def_script.specs.Bytes.{Bytes, IsBytes}
 use Rattle.def_script.specs.Witness.{weight}
 use Rattle.def_tree.specs.Tree.{Tree}
 use Rattle.def_satisfaction.specs.Satisfaction.{Sat}
 use Rattle.def_choice.specs.Tight.{Tight}
 use Rattle.def_choice.specs.NonMalleable.{NonMalleable}
-use Rattle.def_promises.specs.Accepted.{Unchangeable}
+use Rattle.def_promises.specs.Accepted.{Unchangeable, HasNothingToAccept}
 use Rattle.def_psbt.specs.Transaction.{id_of}
-use Rattle.def_psbt.specs.Map.{Psbt}
-use Rattle.def_psbt.specs.Source.{MAX_SOURCE_SIZE}
+use Rattle.def_psbt.specs.Map.{Psbt, psbt_text}
+use Rattle.def_psbt.specs.Source.{MAX_SOURCE_SIZE, psbt_of}
+use Rattle.def_combine.specs.Combine.{Parts, lines, lines_from, parts_of, combined}
 use Rattle.def_spend.specs.declared.State.TheVariants as state
-use Rattle.def_spend.specs.Fields.{FINAL_SCRIPTSIG, field}
-use Rattle.def_spend.specs.Input.{assets_of}
-use Rattle.def_spend.specs.Reading.{Input, has_byte}
+use Rattle.def_spend.specs.Input.{spends_of, assets_of}
+use Rattle.def_spend.specs.Reading.{Input}
 use Rattle.def_spend.specs.States.{state_of, stack_of}
-use Rattle.def_spend.specs.Finalized.{final_transaction}
+use Rattle.def_spend.specs.Finalized.{final_transaction, final_id}
 use Rattle.def_answer.specs.Lines.{line}
 use Rattle.def_psbt_answer.specs.declared.status.Status.TheVariants as status
 use Rattle.def_psbt_answer.specs.declared.words.Command.TheVariants as command
+use Rattle.def_psbt_answer.specs.declared.words.Request.TheVariants as request
 use Rattle.def_psbt_answer.specs.Answer.{Answer}
+use Rattle.ms_combine_laws.specs.Combined.{all_parts, IsOfSame, AreJoined}
 use Rattle.ms_psbt_laws.specs.Written.{IsSourceOf}
 use Rattle.ms_psbt_laws.specs.Network.{IsReadAs}
 use Rattle.ms_spend_laws.specs.Tried.{IsTriedWith}
 use Rattle.ms_spend_laws.specs.Ready.{IsWitness, IsAcceptedByAll}
-use Rattle.ms_spend_laws.specs.Unsatisfied.{HasNothingToAccept}
 use Rattle.ms_spend_laws.specs.Planned.{IsVain, IsEnough}
 use Rattle.psbt_cli.specs.Ends.{Call}
-use Rattle.psbt_cli.specs.Shown.{Shows}
+use Rattle.psbt_cli.specs.Shown.{IsCalled, WritesSuch, Shows}
 
 -- ---- nothing is lost
 
@@ -74,15 +77,37 @@ TellsLacking call =
 
 -- ---- the network transaction
 
--- a report is the digits of bytes that are read as the transaction of the PSBT with each final scriptSig and each final witness;
--- where no final scriptSig has a byte, its id is that of the PSBT's transaction
+-- a report is the digits of bytes that are read as the transaction of the PSBT with each final scriptSig and each final witness; its
+-- id is the one that `inspect` tells as the final one, and that of the PSBT's transaction where it tells none
 pub record IsExtracted (psbt : Psbt) (report : Bytes) : Type 0 where
   pub bytes : Bytes
   pub digits : report ≡ line (encode_lower bytes)
   pub read : IsReadAs psbt bytes
-  pub id : All (λ fields. has_byte (field FINAL_SCRIPTSIG fields) ≡ false) psbt.inputs → id_of (final_transaction psbt) ≡ id_of psbt.transaction
+  pub id : id_of (final_transaction psbt) ≡ unwrap_or (final_id psbt.transaction (spends_of psbt)) (id_of psbt.transaction)
 
 -- so is what `extract` writes where it is done
 abbrev pub ExtractsTransaction : Call → Type 0
 ExtractsTransaction call =
     Shows command.Extract call (λ source psbt inputs report. call.status ≡ status.Done → IsExtracted psbt report)
+
+-- ---- the combined PSBT
+
+-- a report is the base64 of a PSBT that is read again, where it isn't too long; its version and its transaction are those of each part;
+-- in each of its maps stand exactly the keys that stand there in some part, each with the pair of the first that has it; combined with
+-- any part behind it it is itself; and with others behind it it goes on as its parts do
+pub record IsCombination (parts : Parts) (whole : Psbt) (report : Bytes) : Type 0 where
+  pub base64 : report ≡ line (encode_of standard (psbt_text whole.global whole.inputs whole.outputs))
+  pub read : length report ≤ MAX_SOURCE_SIZE → psbt_of report ≡ Ok whole
+  pub same : All (IsOfSame whole) (all_parts parts)
+  pub keys : AreJoined parts whole
+  pub again : All (λ part. combined (record { first = whole; others = part ∷ [] }) ≡ Ok whole) (all_parts parts)
+  pub first : (others : List Psbt) →
+      combined (record { first = whole; others = others }) ≡ combined (record { first = parts.first; others = parts.others ++ others })
+
+-- so is what `combine` writes of parts that go together; and one alone comes out in its own bytes
+abbrev pub CombinesParts : Call → Type 0
+CombinesParts call =
+    (source : Bytes) (parts : Parts) (whole : Psbt) → IsCalled request.Combine call source → parts_of source ≡ Ok parts → combined parts ≡ Ok whole →
+    WritesSuch call (λ report. IsCombination parts whole report
+    × ((bytes : Bytes) (number : ℕ) → IsBytes bytes → lines_from 1 (lines source) ≡ record { number = number; text = encode_of standard bytes } ∷ [] →
+    report ≡ line (encode_of standard bytes)))

@@ -2,6 +2,7 @@
 use Rattle.std.specs.Prelude.{◌≡◌, ◌⊎◌, List, Some, Ok, Err}
 use Rattle.std.specs.Io.KnownBytes.{Appends}
 use Rattle.def_script.specs.Bytes.{Bytes, IsBytes}
+use Rattle.def_combine.specs.Combine.{combined_of}
 use Rattle.def_psbt.specs.declared.Refusal.{Refusal}
 use Rattle.def_psbt.specs.Map.{Psbt}
 use Rattle.def_psbt.specs.Source.{psbt_of}
@@ -9,23 +10,26 @@ use Rattle.def_spend.specs.Reading.{Input, AreInputs}
 use Rattle.def_psbt_answer.specs.declared.status.Status.TheVariants as status
 use Rattle.def_psbt_answer.specs.declared.words.Command.{Command}
 use Rattle.def_psbt_answer.specs.declared.words.Command.TheVariants as command
-use Rattle.def_psbt_answer.specs.Words.{command_of}
+use Rattle.def_psbt_answer.specs.declared.words.Request.{Request}
+use Rattle.def_psbt_answer.specs.declared.words.Request.TheVariants as request
+use Rattle.def_psbt_answer.specs.Words.{request_of}
 use Rattle.def_psbt_answer.specs.Lines.{refusal_line}
 use Rattle.def_psbt_answer.specs.Report.{inspect_report, hashes_report, finalize_report}
-use Rattle.def_psbt_answer.specs.Reply.{reply, settled_status, form_of, extract_reply}
+use Rattle.def_psbt_answer.specs.Verified.{verify_report}
+use Rattle.def_psbt_answer.specs.Reply.{reply, settled_status, verify_status, form_of, extract_reply, combine_reply}
 use Rattle.psbt_cli.specs.Ends.{Call, IsFault}
 
 -- ---- what is asked, and what is shown
 
--- the words name this command, and the source tells bytes
-pub record IsCalled (command : Command) (call : Call) (source : Bytes) : Type 0 where
-  pub named : command_of call.words ≡ Some command
+-- the words ask this, and the source tells bytes
+pub record IsCalled (request : Request) (call : Call) (source : Bytes) : Type 0 where
+  pub named : request_of call.words ≡ Some request
   pub told : call.source.old ≡ Some source
   pub bytes : IsBytes source
 
 -- and they give this PSBT, with these inputs, each read
 pub record IsAsked (command : Command) (call : Call) (source : Bytes) (psbt : Psbt) (inputs : List Input) : Type 0 where
-  pub called : IsCalled command call source
+  pub called : IsCalled (request.One command) call source
   pub given : psbt_of source ≡ Ok psbt
   pub read : AreInputs psbt inputs
 
@@ -61,8 +65,18 @@ abbrev pub ShowsHashes : Call → Type 0
 ShowsHashes call =
     Shows command.Hashes call (λ source psbt inputs report. (report ≡ hashes_report inputs) × (call.status ≡ status.Done))
 
+-- of each input whether its final fields are valid
+abbrev pub ShowsVerified : Call → Type 0
+ShowsVerified call =
+    Shows command.Verify call (λ source psbt inputs report. (report ≡ verify_report inputs) × (call.status ≡ verify_status inputs))
+
 -- a source that gives no PSBT is refused, by the first place that is wrong
 abbrev pub RefusesSource : Call → Type 0
 RefusesSource call =
-    (command : Command) (source : Bytes) (refusal : Refusal) → IsCalled command call source → psbt_of source ≡ Err refusal →
+    (command : Command) (source : Bytes) (refusal : Refusal) → IsCalled (request.One command) call source → psbt_of source ≡ Err refusal →
     WritesSuch call (λ report. (report ≡ refusal_line refusal) × (call.status ≡ status.Refused))
+
+-- the PSBT that several give together, or why nothing is combined
+abbrev pub ShowsCombined : Call → Type 0
+ShowsCombined call =
+    (source : Bytes) → IsCalled request.Combine call source → WritesSuch call (λ report. reply call.status report ≡ combine_reply (combined_of source))

@@ -1,20 +1,18 @@
 //! Which reply is made to the words of a command line, or why none is.
 
 ghost use Rattle.std.specs.Prelude.{◌≡◌, ◌≤◌, None};
-ghost use Rattle.def_psbt_answer.specs.Words.{command_of};
+ghost use Rattle.def_psbt_answer.specs.Words.{request_of};
 ghost use Rattle.ms_io.specs.Sides.{side};
 ghost use Rattle.ms_io.specs.Reads.{ReadsFront, IsUnread};
-ghost use Rattle.psbt_cli.specs.Scaffolding.Steps.{EndsCommand, EndsWords};
+ghost use Rattle.psbt_cli.specs.Scaffolding.Steps.{EndsRequest, EndsWords};
 
-use crate::words::read_command;
-use def_psbt_answer::Command;
+use crate::words::read_request;
+use def_psbt_answer::Request;
 use ms_io::{ReadStop, Source, read_all};
-use ms_psbt_replies::{Reply, source_reply};
+use ms_psbt::MAX_SOURCE_SIZE;
+use ms_psbt_replies::{Reply, request_reply};
 use ms_words::Word;
 use std::alloc::Global;
-
-/// The most bytes of a source: 16 MiB.
-const MAX_SOURCE_SIZE: usize = 16_777_216;
 
 /// Why no reply was made. For words that name no command, and where the source is too long, the report is the same for all,
 /// and takes no memory.
@@ -35,17 +33,17 @@ pub fn answer_words<S: Source>(alloc: Global, words: &[Word], source: &mut S) ->
     ensures answer { EndsWords words.now (side S.left S.faults source.old source.new) result }
     ensures later { S.faults source.old ≤ S.faults source.new }
     ensures front { ReadsFront (S.left source.old) (S.left source.new) }
-    ensures unread { command_of words.now ≡ None → IsUnread (side S.left S.faults source.old source.new) }
+    ensures unread { request_of words.now ≡ None → IsUnread (side S.left S.faults source.old source.new) }
 {
-    match read_command(words) {
-        Some(command) => answer_command(alloc, command, source),
+    match read_request(words) {
+        Some(request) => answer_request(alloc, request, source),
         None => Err(Stop::Usage),
     }
 }
 
-/// The reply to a command, with what the source holds.
-fn answer_command<S: Source>(alloc: Global, command: Command, source: &mut S) -> Result<Reply, Stop>
-    ensures answer { EndsCommand command (side S.left S.faults source.old source.new) result }
+/// The reply to what is asked, with what the source holds.
+fn answer_request<S: Source>(alloc: Global, request: Request, source: &mut S) -> Result<Reply, Stop>
+    ensures answer { EndsRequest request (side S.left S.faults source.old source.new) result }
     ensures later { S.faults source.old ≤ S.faults source.new }
     ensures front { ReadsFront (S.left source.old) (S.left source.new) }
 {
@@ -55,7 +53,7 @@ fn answer_command<S: Source>(alloc: Global, command: Command, source: &mut S) ->
         Err(ReadStop::Fault) => return Err(Stop::ReadFault),
         Err(ReadStop::Memory) => return Err(Stop::Memory),
     };
-    match source_reply(alloc, command, &bytes) {
+    match request_reply(alloc, request, &bytes) {
         Ok(reply) => Ok(reply),
         Err(_) => Err(Stop::Memory),
     }

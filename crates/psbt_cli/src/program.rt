@@ -1,17 +1,18 @@
 //! The top call: the answer to words and a source, written to a sink.
 
 ghost use Rattle.std.specs.Prelude.{◌≡◌, ◌≢◌, ◌≤◌, None};
-ghost use Rattle.def_psbt_answer.specs.Words.{command_of};
+ghost use Rattle.def_psbt_answer.specs.Words.{request_of};
 ghost use Rattle.ms_io.specs.Endings.{Writes};
 ghost use Rattle.ms_io.specs.Sides.{call, side, Rose};
 ghost use Rattle.ms_io.specs.Reads.{ReadsFront, IsUnread};
 ghost use Rattle.psbt_cli.specs.Ends.{Ends, EndsAsUsage, EndsAsAnswered, IsReadFor};
-ghost use Rattle.psbt_cli.specs.Shown.{ShowsFinalized, ShowsInspected, ShowsExtracted, ShowsHashes, RefusesSource};
-ghost use Rattle.psbt_cli.specs.Promises.{LosesNothing, ShowsWitnesses, TellsLacking, ExtractsTransaction};
+ghost use Rattle.psbt_cli.specs.Shown.{ShowsFinalized, ShowsInspected, ShowsExtracted, ShowsHashes, ShowsVerified, RefusesSource, ShowsCombined};
+ghost use Rattle.psbt_cli.specs.Promises.{LosesNothing, ShowsWitnesses, TellsLacking, ExtractsTransaction, CombinesParts};
 ghost use Rattle.psbt_cli.specs.Scaffolding.Steps.{WritesResult};
 
 use crate::answer::{Stop, answer_words};
 use def_psbt_answer::Status;
+use ms_combine_laws::laws::combined;
 use ms_io::{Sink, Source, put_report};
 use ms_psbt_laws::laws::{network, written};
 use ms_psbt_replies::Reply;
@@ -24,8 +25,8 @@ const USAGE: &[u8] = b"refused usage\n";
 const TOO_LONG: &[u8] = b"refused psbt TooLong\n";
 
 /// Answers the words of a command line: makes the report, writes it to the sink by one call of `put_report`, and gives the status.
-/// The words are one of `finalize`, `inspect`, `extract` and `hashes`, and the source holds a PSBT, as its bytes or as base64
-/// (BIP 174, BIP 370). The source is read only for these words.
+/// The words are one of `finalize`, `inspect`, `extract`, `hashes` and `verify`, and the source holds a PSBT, as its bytes or as base64
+/// (BIP 174, BIP 370); or they are `combine`, and each line of the source has the base64 of one. The source is read only for these words.
 pub fn msat_psbt<S: Source, K: Sink>(
     alloc: Global,
     words: &[Word],
@@ -45,8 +46,8 @@ pub fn msat_psbt<S: Source, K: Sink>(
 
     // The source is read to its end for words that name a command, and stays as it is for others.
     ensures front { ReadsFront (S.left source.old) (S.left source.new) }
-    ensures read { command_of words.now ≢ None → IsReadFor result (side S.left S.faults source.old source.new) }
-    ensures unread { command_of words.now ≡ None → IsUnread (side S.left S.faults source.old source.new) }
+    ensures read { request_of words.now ≢ None → IsReadFor result (side S.left S.faults source.old source.new) }
+    ensures unread { request_of words.now ≡ None → IsUnread (side S.left S.faults source.old source.new) }
 
     // What is written, for each command, of the PSBT that the source holds; and a source that holds none is refused by its first
     // wrong place.
@@ -54,7 +55,9 @@ pub fn msat_psbt<S: Source, K: Sink>(
     ensures inspected { ShowsInspected (call words.now (side S.left S.faults source.old source.new) (side K.written K.faults sink.old sink.new) result) }
     ensures extracted { ShowsExtracted (call words.now (side S.left S.faults source.old source.new) (side K.written K.faults sink.old sink.new) result) }
     ensures hashes { ShowsHashes (call words.now (side S.left S.faults source.old source.new) (side K.written K.faults sink.old sink.new) result) }
+    ensures verified { ShowsVerified (call words.now (side S.left S.faults source.old source.new) (side K.written K.faults sink.old sink.new) result) }
     ensures refused { RefusesSource (call words.now (side S.left S.faults source.old source.new) (side K.written K.faults sink.old sink.new) result) }
+    ensures combined { ShowsCombined (call words.now (side S.left S.faults source.old source.new) (side K.written K.faults sink.old sink.new) result) }
 
     // Each input that is made final has a canonical satisfaction, and these are the tried ones of which one exists; the interpreter
     // accepts its witness, and nobody can change it. An Unsatisfied one has nothing to accept; where it has no plan no signatures would
@@ -66,12 +69,17 @@ pub fn msat_psbt<S: Source, K: Sink>(
     // again as the transaction with each final scriptSig and each final witness.
     ensures nothing_lost { LosesNothing (call words.now (side S.left S.faults source.old source.new) (side K.written K.faults sink.old sink.new) result) }
     ensures transaction { ExtractsTransaction (call words.now (side S.left S.faults source.old source.new) (side K.written K.faults sink.old sink.new) result) }
+
+    // What `combine` writes is read again, with the version, the transaction and exactly the keys of its parts; and combined again with
+    // its parts it stays the same.
+    ensures parts { CombinesParts (call words.now (side S.left S.faults source.old source.new) (side K.written K.faults sink.old sink.new) result) }
 {
     tried();
     ready();
     unsatisfied();
     written();
     network();
+    combined();
     let reply = answer_words(alloc, words, source);
     write_reply(sink, reply)
 }

@@ -1,59 +1,58 @@
-//! The answer of `msat_psbt` where its source and its sink lie in memory.
-ghost use Rattle.std.specs.Prelude.{IfOk};
+//! `msat_psbt` as a program of words.
 ghost use Rattle.def_psbt_answer.specs.Answer.{Answer};
-ghost use Rattle.psbt_lines.specs.Frame.{psbt_answers};
+ghost use Rattle.def_psbt_answer.specs.Status.{code_of};
+ghost use Rattle.psbt_lines.specs.Frame.{status_of as the_status_of};
+ghost use Rattle.psbt_lines.specs.Promises.{IsCallOfPsbt};
 
 use def_psbt_answer::Status;
-use ms_frame::words_of;
-use ms_io::ByteSource;
-use ms_lines::{ByteSink, Outcome, Program};
+use ms_frame::OfWords;
+use ms_io::{Sink, Source};
+use ms_lines::Ending;
 use psbt_cli::{Word, msat_psbt};
-use std::alloc::{AllocError, Global};
+use std::alloc::Global;
 
-/// A status, and the whole report that goes with it.
-#[derive(Drop)]
-pub struct Replied {
-    /// The status.
-    pub status: Status,
-    /// The report's bytes.
-    pub report: Vec<u8>,
-}
-
-/// Answers the words, as `msat_psbt` does where its standard input holds the source. Refuses for want of memory alone.
-pub fn answer_in_memory(alloc: Global, words: &[Word], source: &[u8]) -> Result<Replied, AllocError>
-    ensures { IfOk result (λ replied. Answer words.now source.now replied.status replied.report.items) }
-{
-    let mut source = ByteSource::new(source);
-    let mut sink = ByteSink::new(alloc);
-    let status = msat_psbt(alloc, words, &mut source, &mut sink);
-    match status {
-        Status::Memory | Status::ReadFault | Status::WriteFault => Err(AllocError),
-        _ => Ok(Replied {
-            status,
-            report: sink.bytes,
-        }),
-    }
-}
-
-/// `msat_psbt` as the program that answers questions, of which the source is a PSBT in base64.
+/// `msat_psbt`.
 #[derive(Clone, Copy, Debug)]
 pub struct Psbt;
 
-impl Program for Psbt {
-    ghost answers = { psbt_answers };
+impl OfWords for Psbt {
+    type Status = Status;
 
-    /// Answers with the exit code of `msat_psbt` and its report.
-    fn answer(
+    ghost answers = { Answer };
+
+    ghost code = { code_of };
+
+    ghost status_of = { the_status_of };
+
+    ghost promises = { IsCallOfPsbt };
+
+    fn call<S: Source, K: Sink>(
         &self,
         alloc: Global,
-        words: Vec<String>,
-        source: &[u8],
-    ) -> Result<Outcome, AllocError> {
-        let words = words_of(alloc, words)?;
-        let replied = answer_in_memory(alloc, &words, source)?;
-        Ok(Outcome {
-            status: replied.status.code(),
-            report: replied.report,
-        })
+        words: &[Word],
+        source: &mut S,
+        sink: &mut K,
+    ) -> Status {
+        msat_psbt(alloc, words, source, sink)
+    }
+
+    fn is_whole(status: Status) -> bool {
+        match status {
+            Status::Memory | Status::ReadFault | Status::WriteFault => false,
+            _ => true,
+        }
+    }
+
+    fn code(status: Status) -> u8 {
+        status.code()
+    }
+
+    fn status_of(ending: Ending) -> Status {
+        match ending {
+            Ending::Done => Status::Done,
+            Ending::ReadFault => Status::ReadFault,
+            Ending::WriteFault => Status::WriteFault,
+            Ending::Memory => Status::Memory,
+        }
     }
 }

@@ -1,7 +1,7 @@
 //! The whole program for PSBTs: `msat_psbt`, and above it `lines`, which answers a question on each line of the source.
 #![tactic(auto)]
 
-pub use answering::{Psbt, Replied, answer_in_memory};
+pub use answering::Psbt;
 pub use frame::program;
 
 mod answering;

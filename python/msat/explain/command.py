@@ -21,7 +21,8 @@ Script beside the nodes that wrote it, its address, its limits, what it demands,
 to be set in the transaction, and what opens as time passes. Types, Script, limits and weights come of msat's proved library."""
 STATUSES = """\
 exit status: 0 explained; 1 other words; 2 the text was refused; 3 a file was refused; 4 the asset file makes no satisfaction;
-5 a file can't be read; 6 something can't be written; 7 memory was wanting; 10 the Script can't be read back"""
+5 a file can't be read; 6 something can't be written; 7 memory was wanting; 8 the run of a run file's witness was refused, 9 its script
+is another one; 10 the Script can't be read back"""
 DONE, USAGE, TEXT, FILE, NO_SATISFACTION, READING, WRITING, NO_MEMORY, NO_READING = 0, 1, 2, 3, 4, 5, 6, 7, 10
 Found = Union[Explanation, Refusal]
 _KEY = re.compile(r"0[23][0-9a-fA-F]{64}")
@@ -52,7 +53,8 @@ def parser() -> argparse.ArgumentParser:
     of_key = "the digits of a name in the condition; as HEX alone, a key of a Script"
     found.add_argument("--key", metavar="NAME=HEX", action="append", default=[], help=of_key)
     found.add_argument("--keys", metavar="FILE", help='a file of JSON with the digits of names: {"alice":"02.."}')
-    found.add_argument("--assets", metavar="FILE", help="an asset file: what it makes possible, and what is missing on each way")
+    of_assets = "an asset file: what it makes possible, and what is missing on each way; a run file: how the run of its witness goes too"
+    found.add_argument("--assets", metavar="FILE", help=of_assets)
     found.add_argument("--html", metavar="PAGE", help="writes one page, without any outside resource, to this file")
     found.add_argument("--json", action="store_true", help="prints JSON (schema/explain.json) in place of text")
     found.add_argument("--consensus", action="store_true", help="by the limits of consensus, not by those of policy")
@@ -134,6 +136,8 @@ def answer(raw: str, digits: dict[str, str], keys: tuple[str, ...] = (), *, cons
 def _status(found: Found) -> int:
     if isinstance(found, Refusal):
         return found.status
+    if found.held and found.held.run:
+        return found.held.run.status
     return NO_SATISFACTION if found.held and not found.held.spend else DONE
 
 

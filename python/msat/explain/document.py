@@ -5,6 +5,7 @@ from typing import Any, Union
 
 from . import words
 from .explanation import Explanation, Group, Held, Opening, Priced
+from .held import Run
 from .lines import Line
 from .locks import Locks, said, said_fields
 from .refusals import Refusal
@@ -137,4 +138,20 @@ def _held(held: Held, found: Explanation) -> Document:
         "checks": list(held.spend.checks),
         "run": [{"place": it.node.place, "node": words.node_of(it.node, found), "satisfied": it.satisfied} for it in held.spend.parts],
     }
-    return {"missing": missing, "spend": spend}
+    return {"missing": missing, "spend": spend, "run": held.run and _run(held.run, found)}
+
+
+def _run(run: Run, found: Explanation) -> Document:
+    nodes = words.nodes_of(found)
+    steps = [
+        {
+            "kind": it.kind, "offset": it.offset, "instruction": it.name, "place": it.place,
+            "node": None if it.place is None else nodes.get(it.place),
+            "stack": list(it.main), "alt": list(it.alt), "branches": list(it.branches),
+        }
+        for it in run.steps
+    ]  # fmt: skip
+    return {
+        "status": run.status, "said": run.said, "items": [{"data": it.data.hex(), "name": it.name} for it in run.items],
+        "first": run.first if steps else None, "steps": steps,
+    }  # fmt: skip

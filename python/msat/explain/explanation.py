@@ -5,7 +5,7 @@ prints, and what each weighs, and that it is one, is asked of `satisfy` with exa
 from collections import Counter
 from dataclasses import dataclass, replace
 from itertools import combinations, product
-from typing import Optional
+from typing import Optional, Union
 
 import msat
 from msat import Assets, Signature
@@ -93,10 +93,17 @@ class Spending:
 
 @dataclass(frozen=True)
 class Held:
-    """What an asset file makes possible: how it is spent, if it can be, and what is missing on each way that is shown."""
+    """What an asset file makes possible: how it is spent, if it can be, and what is missing on each way that is shown; and how the run of
+    its witness goes, where it is a run file."""
 
     spend: Optional[holding.Spend]
     missing: tuple[holding.Missing, ...]
+    run: Optional[holding.Run]
+
+    @property
+    def shown(self) -> Union[holding.Spend, holding.Run, None]:
+        """What is shown step by step: the file's own run before that of what `satisfy` writes."""
+        return self.run or self.spend
 
 
 @dataclass(frozen=True)
@@ -143,7 +150,7 @@ def explain(given: Given, *, consensus: bool = False, assets: Optional[bytes] = 
     return Explanation(
         given, consensus, checked, root, tuple(lines(checked.script, root)), _limits(text, consensus),
         None if given.standins else addresses(checked.program), keys, values, spending,
-        None if assets is None else _held(text, root, assets, consensus, given, spending),
+        None if assets is None else _held(text, root, checked.script, assets, consensus, given, spending),
     )  # fmt: skip
 
 
@@ -279,7 +286,14 @@ def _idle(few: _Few, wanted: Demand, least: Optional[int], keys: tuple[str, ...]
     return len(idle)
 
 
-def _held(text: str, root: Node, assets: bytes, consensus: bool, given: Given, spending: Optional[Spending]) -> Held:
-    spend = holding.spend(text, root, assets, consensus, given.name_of)
+def _held(text: str, root: Node, script: bytes, assets: bytes, consensus: bool, given: Given, spending: Optional[Spending]) -> Held:
+    """What the file makes possible. A run file may be none of assets, as one with a signature of another length: then its run alone is told."""
+    run = holding.run(text, root, script, assets, given.name_of)
+    try:
+        spend = holding.spend(text, root, assets, consensus, given.name_of)
+    except msat.FileRefused:
+        if run is None:
+            raise
+        return Held(None, (), run)
     file = holding.holding(assets)
-    return Held(spend, tuple(holding.missing(it.way, file) for it in (spending.shown if spending else ())))
+    return Held(spend, tuple(holding.missing(it.way, file) for it in (spending.shown if spending else ())), run)

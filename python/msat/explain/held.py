@@ -16,6 +16,8 @@ from .tree import Node
 from .ways import Way
 
 Naming = Callable[[str], str]
+# The statuses of a trace: the run is accepted or refused, or the file has another script.
+ACCEPTED, REFUSED, OTHER_SCRIPT = 0, 8, 9
 
 
 @dataclass(frozen=True)
@@ -110,6 +112,78 @@ class Spend:
     parts: tuple[Part, ...]
     checks: tuple[str, ...]
     steps: tuple[Step, ...]
+    # The step that is shown first.
+    first = 0
+
+
+@dataclass(frozen=True)
+class Run:
+    """The run of the witness that a run file has: its items by what they are, bottom first; the status and the last line of the
+    library's trace; and its steps, none where the file has another script than the condition's."""
+
+    items: tuple[Item, ...]
+    status: int
+    said: str
+    steps: tuple[Step, ...]
+
+    @property
+    def first(self) -> int:
+        """The step that is shown first: the one that fails, or the last one where the run fails behind it."""
+        return max(len(self.steps) - 1, 0) if self.status == REFUSED else 0
+
+
+def run(text: str, root: Node, script: bytes, file: bytes, name_of: Naming) -> Optional[Run]:
+    """The run of the witness of a run file on a sane text's Script; None where the file has no witness. A file without a script has
+    that of the text."""
+    try:
+        said = json.loads(file)
+    except (ValueError, RecursionError):
+        return None
+    if not isinstance(said, dict) or "witness" not in said:
+        return None
+    said.setdefault("script", script.hex())
+    status, report = _traced(text, script, said)
+    named = _named(root, said, name_of)
+    items = tuple(Item(bytes.fromhex(it), named.get(it.lower(), "" if it else "empty")) for it in said["witness"])
+    return Run(items, status, report.splitlines()[-1], steps(report, said["witness"]))
+
+
+def _traced(text: str, script: bytes, said: dict[str, Any]) -> tuple[int, str]:
+    """The status and the trace of a run; without its nodes where only consensus takes the text."""
+    file = json.dumps(said)
+    status, report = msat.answer(["trace", text], file)
+    if status not in (ACCEPTED, REFUSED, OTHER_SCRIPT):
+        run_file = msat.answer(["trace"], file)
+        if run_file[0] not in (ACCEPTED, REFUSED):
+            msat.report(["trace"], file)
+        status, report = run_file if said["script"].lower() == script.hex() else (OTHER_SCRIPT, "not accepted WrongScript\n")
+    return status, report
+
+
+def _named(root: Node, said: dict[str, Any], name_of: Naming) -> dict[str, str]:
+    """What items may be, by their digits: signatures that the file has, keys, and preimages of the text's hash values."""
+    found = {it: f"the key {name_of(it)}" for it in _keys(root)}
+    for pair in said.get("signatures", []):
+        found[pair["sig"].lower()] = f"signature of {name_of(pair['key'])}"
+    for item in said["witness"]:
+        for function, value in _values(root):
+            if hashes.FUNCTIONS[function](bytes.fromhex(item)).hex() == value.lower():
+                found[item.lower()] = f"preimage of {name_of(value)}"
+    return found
+
+
+def _keys(root: Node) -> Iterator[str]:
+    """The keys of a tree, in lower case."""
+    for node in root.walk():
+        if node.name in ("pk", "pk_k", "pkh", "pk_h"):
+            yield node.arguments[0].lower()
+        elif node.name == "multi":
+            yield from (it.lower() for it in node.arguments[1:])
+
+
+def _values(root: Node) -> Iterator[tuple[str, str]]:
+    """The hash values of a tree, each with its function."""
+    return ((node.name, node.arguments[0]) for node in root.walk() if node.name in hashes.LENGTHS)
 
 
 def spend(text: str, root: Node, file: bytes, consensus: bool, name_of: Naming) -> Optional[Spend]:

@@ -7,11 +7,10 @@ from typing import Iterable, Sequence, Union
 
 from . import drawing, words
 from .explanation import Explanation, Held
-from .held import Spend
+from .held import ACCEPTED, Run, Spend
 from .locks import said, said_fields
 from .refusals import Refusal
 from .report import marked, printable
-from .steps import Step
 from .style import STYLE
 from .tree import Node
 
@@ -228,8 +227,9 @@ def _held(found: Explanation, held: Held) -> str:
     pairs = enumerate(zip(shown, held.missing), 1)
     rows = [(str(at), cell(words.way_of(it.way, found)), cell(words.missing_of(lack, found))) for at, (it, lack) in pairs]
     lacks = table("what is missing on each way", ("Way", "Takes", "Missing"), rows, (0,)) if rows else ""
+    own = _own_run(found, held.run) if held.run else ""
     if not spend:
-        return f'<p class="bad">The file makes no satisfaction.</p>{lacks}'
+        return own + f'<p class="bad">The file makes no satisfaction.</p>{lacks}'
     items = [(str(at), cell(it.name), _code(it.data.hex() or "-")) for at, it in enumerate(spend.items)]
     run = [(_code(words.node_of(it.node, found)), "satisfied" if it.satisfied else "dissatisfied") for it in spend.parts]
     checks = "".join(f"<li>the signature of {cell(found.given.name_of(key))} is good</li>" for key in spend.checks)
@@ -237,14 +237,25 @@ def _held(found: Explanation, held: Held) -> str:
         f"Accepted, with {words.count(spend.replay.ops, 'opcode')} that count "
         f"and at most {words.count(spend.replay.peak, 'element')} on the stacks."
     )
-    return (
+    return own + (
         f'<p class="good">The file makes a satisfaction: weight {spend.replay.weight}, '
         f"{len(spend.witness)} bytes of witness with the Script.</p>{lacks}"
         + table("the items of the witness, bottom first", ("Item", "What it is", "Bytes"), items, (0,))
         + f"<h3>The run</h3><p>{counted}</p>"
         + (f"<ol>{checks}</ol>" if checks else "")
         + (table("the nodes that take part, children first", ("Node", "In this run"), run) if run else "")
-        + _run(found, spend)
+        + (_run(found, spend) if not held.run else "")
+    )
+
+
+def _own_run(found: Explanation, run: Run) -> str:
+    """The run of the witness that a run file has."""
+    items = [(str(at), cell(it.name), _code(it.data.hex() or "-")) for at, it in enumerate(run.items)]
+    kind = "good" if run.status == ACCEPTED else "bad"
+    return (
+        f'<p>The run of the file’s witness is <strong class="{kind}">{escape(words.came_to(run))}</strong>.</p>'
+        + (table("the items of the file’s witness, bottom first", ("Item", "What it is", "Bytes"), items, (0,)) if items else "")
+        + _run(found, run)
     )
 
 
@@ -252,42 +263,35 @@ def _held(found: Explanation, held: Held) -> str:
 _MOST_STEPS = 400
 
 
-def _first(steps: Sequence[Step]) -> int:
-    """The step that is shown first: the one that fails, where one does."""
-    return next((at for at, it in enumerate(steps) if it.kind == "stop"), 0)
-
-
-def _run(found: Explanation, spend: Spend) -> str:
+def _run(found: Explanation, spend: Union[Spend, Run]) -> str:
     """The run, a step at a time: links go forward and back, and the node that wrote the step's instruction is lit in the tree."""
     if not 0 < len(spend.steps) <= _MOST_STEPS:
         return ""
-    named = {it.data.hex(): it.name for it in spend.items if it.name}
-    named.update((key, f"the key {found.given.name_of(key)}") for key in found.keys)
-    panels = "".join(_step(at, spend.steps, named) for at in range(len(spend.steps)))
+    named = words.items_of(found, spend.items)
+    panels = "".join(_step(at, spend, named) for at in range(len(spend.steps)))
     return f'<h3>Step by step</h3><div class="run"><div class="steps">{panels}</div>{region("the tree, with the node of the step", _list(found))}</div>'
 
 
-def _step(at: int, steps: Sequence[Step], named: dict[str, str]) -> str:
-    it = steps[at]
-    done = {"step": "carried out", "skip": "passed over, in a branch that isn't taken", "stop": "the step that fails"}[it.kind]
+def _step(at: int, spend: Union[Spend, Run], named: dict[str, str]) -> str:
+    steps, it = spend.steps, spend.steps[at]
     rows = [(str(place), _code(item), cell(named.get(item, ""))) for place, item in enumerate(it.main)]
     rows += [(f"alt {place}", _code(item), cell(named.get(item, ""))) for place, item in enumerate(it.alt)]
     stacks = table("the stack behind it, bottom first", ("Place", "Element", "What it is"), rows, (0,)) if rows else "<p>The stack is empty.</p>"
     links = [(at - 1, "Back"), (at + 1, "Forward")]
     walk = " ".join(f'<a href="#step-{to}">{name}</a>' for to, name in links if 0 <= to < len(steps))
-    first = " first" * (at == _first(steps))
+    first = " first" * (at == spend.first)
     return (
         f'<div id="step-{at}" class="step{first}"><p><strong>Step {at + 1} of {len(steps)}</strong>, at byte {it.offset}: '
-        f"{_code(it.name)}, {escape(done)}.</p><p>{walk}</p>{stacks}</div>"
+        f"{_code(it.name)}, {escape(words.done_of(it))}.</p><p>{walk}</p>{stacks}</div>"
     )
 
 
 def _lit(found: Explanation) -> str:
     """How the node of a step is lit while the step is shown."""
-    spend = found.held.spend if found.held else None
+    spend = found.held.shown if found.held else None
     if not spend or not 0 < len(spend.steps) <= _MOST_STEPS:
         return ""
     rules = [f".run:has(#step-{at}:target) .node-{it.place}" for at, it in enumerate(spend.steps) if it.place is not None]
-    first = spend.steps[_first(spend.steps)].place
+    first = spend.steps[spend.first].place
     rules += [f".run:not(:has(.step:target)) .node-{first}"] * (first is not None)
     return "".join(f"{rule} {{ background: var(--key); color: var(--paper); }}\n" for rule in rules)

@@ -6,8 +6,10 @@ from typing import Iterable, Sequence
 
 from . import words
 from .explanation import Explanation, Held, Opening, Spending
+from .held import ACCEPTED, Run
 from .locks import Locks, said, said_fields
 from .refusals import Refusal
+from .steps import Step
 from .tree import Node
 
 _STYLES = {"title": "1", "name": "36", "dim": "2", "good": "32", "bad": "31", "note": "33"}
@@ -217,6 +219,8 @@ def _held(paper: Paper, shown: Explanation, held: Held) -> None:
          for at, (it, lack) in enumerate(zip(shown.spending.shown if shown.spending else (), held.missing), 1)],
         ("dim", "name"), (0,),
     )  # fmt: skip
+    if held.run:
+        _own_run(paper, shown, held.run)
     if not held.spend:
         return
     spend = held.spend
@@ -228,3 +232,32 @@ def _held(paper: Paper, shown: Explanation, held: Held) -> None:
     if spend.parts:
         rows = [(words.node_of(it.node, shown), "satisfied" if it.satisfied else "dissatisfied") for it in spend.parts]
         paper.table(rows, ("name",))
+
+
+def _own_run(paper: Paper, shown: Explanation, run: Run) -> None:
+    """The run of the witness that a run file has, step by step: the one that fails first."""
+    style = "good" if run.status == ACCEPTED else "bad"
+    paper.title("Run of the file's witness", paper.styled(words.came_to(run), style))
+    paper.table([(str(at), it.name, it.data.hex() or "-") for at, it in enumerate(run.items)], ("dim", "name"), (0,))
+    if not run.steps:
+        return
+    named, nodes = words.items_of(shown, run.items), words.nodes_of(shown)
+    rows = [_step_row(at, it, named, nodes, shown) for at, it in enumerate(run.steps)]
+    if run.status != ACCEPTED:
+        paper.title("Where it fails", "the step, its instruction, the node that wrote it, and the stack behind it, bottom first")
+        paper.table([rows[run.first]], ("bad", "", "", "name"), (0,))
+    paper.title("Step by step", "each with the stack behind it, bottom first")
+    paper.table(rows, ("dim", "", "", "name"), (0,))
+
+
+def _step_row(at: int, step: Step, named: dict[str, str], nodes: dict[int, str], shown: Explanation) -> Sequence[str]:
+    def element(digits: str) -> str:
+        short = digits if len(digits) <= 20 else shown.given.name_of(digits)
+        return named.get(digits) or ("empty" if digits == "-" else short)
+
+    kind = {"step": "", "skip": "passed over", "stop": "fails"}[step.kind]
+    push, _, digits = step.name.partition(" ")
+    name = f"{push} {element(digits)}" if digits else push
+    alt = f"; alt: {', '.join(map(element, step.alt))}" if step.alt else ""
+    node = "" if step.place is None else nodes.get(step.place, "")
+    return str(at + 1), kind, name, node, (", ".join(map(element, step.main)) or "nothing") + alt

@@ -1,13 +1,14 @@
 # SPDX-License-Identifier: MIT
 """What the parts of an explanation are called: one wording for the text, the page and the file of JSON."""
 
-from typing import Iterator, Optional
+from typing import Iterable, Iterator, Optional
 
 from . import hashes
 from .explanation import Explanation, Group, Limit, Opening, Spending
-from .held import Missing
+from .held import ACCEPTED, REFUSED, Item, Missing, Run
 from .lines import Line, number
 from .locks import SECONDS, said, said_after, said_fields, said_older, weaker
+from .steps import Step
 from .tree import Node
 from .ways import Way
 
@@ -92,6 +93,42 @@ def line_of(line: Line, shown: Explanation) -> str:
 def writer_of(line: Line, shown: Explanation) -> str:
     """The node that wrote an instruction."""
     return node_of(line.node, shown) + (", VERIFY by v:" if line.by_v else "")
+
+
+def nodes_of(shown: Explanation) -> dict[int, str]:
+    """The nodes by their places, of those at one place the outermost."""
+    return {it.place: node_of(it, shown) for it in reversed(list(shown.root.walk()))}
+
+
+def items_of(shown: Explanation, items: Iterable[Item]) -> dict[str, str]:
+    """What elements of a run are, by their digits: keys of the condition, and items of the witness."""
+    named = {it.data.hex(): it.name for it in items if it.name}
+    named.update((key, f"the key {shown.given.name_of(key)}") for key in shown.keys)
+    return named
+
+
+def done_of(step: Step) -> str:
+    """What became of a step's instruction."""
+    return {"step": "carried out", "skip": "passed over, in a branch that isn't taken", "stop": "the step that fails"}[step.kind]
+
+
+def came_to(run: Run) -> str:
+    """What the run of a witness came to.
+
+    >>> came_to(Run((), 0, "accepted ops 1 peak 2", ()))
+    'accepted: opcodes 1, stack 2 elements at most'
+    >>> came_to(Run((), 8, "refused script ScriptSize at 0", ()))
+    'refused before the first step: ScriptSize'
+    """
+    parts = run.said.split(" ")
+    if run.status == ACCEPTED:
+        return f"accepted: opcodes {parts[2]}, stack {parts[4]} elements at most"
+    if run.status != REFUSED:
+        return "not made: the file has another script than the condition's"
+    if not run.steps:
+        return f"refused before the first step: {parts[2]}"
+    place = "at step" if run.steps[-1].kind == "stop" else "behind step"
+    return f"refused {place} {len(run.steps)}: {parts[2]}"
 
 
 def way_of(way: Way, shown: Explanation, with_locks: bool = True) -> str:

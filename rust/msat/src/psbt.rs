@@ -29,6 +29,8 @@ pub struct Inspection {
     pub outputs: Vec<Output>,
     pub fee: Fee,
     pub inputs: Vec<Input>,
+    /// The id with all final scriptSigs, where each is known and one has a byte: without it `txid` is the final one where each is known.
+    pub final_txid: Option<String>,
 }
 
 impl Inspection {
@@ -195,9 +197,11 @@ pub fn read_inspection(report: &str) -> Option<Inspection> {
     let (head, inputs) = by_input(report);
     let mut lines = head.into_iter();
     let [_, _, _, _, _, version, _, locktime, _, txid] = words(lines.next()?.strip_prefix("psbt ")?)?;
-    let (mut outputs, mut fee) = (Vec::new(), None);
+    let (mut outputs, mut fee, mut final_txid) = (Vec::new(), None, None);
     for line in lines {
-        if let Some(rest) = line.strip_prefix("output ") {
+        if let Some(rest) = line.strip_prefix("final txid ") {
+            final_txid = Some(rest.to_owned());
+        } else if let Some(rest) = line.strip_prefix("output ") {
             let [_, amount, script] = words(rest)?;
             outputs.push(Output { amount: amount.parse().ok()?, script: bytes(script)? });
         } else if let Some(rest) = line.strip_prefix("fee ") {
@@ -212,6 +216,7 @@ pub fn read_inspection(report: &str) -> Option<Inspection> {
         outputs,
         fee: fee?,
         inputs,
+        final_txid,
     })
 }
 

@@ -34,6 +34,9 @@ fn spelled(told: &Inspection) -> Result<String, std::fmt::Error> {
         "psbt inputs {inputs} outputs {outputs} version {} locktime {} txid {}",
         told.version, told.locktime, told.txid
     )?;
+    if let Some(txid) = &told.final_txid {
+        writeln!(lines, "final txid {txid}")?;
+    }
     for (number, output) in told.outputs.iter().enumerate() {
         writeln!(lines, "output {number} {} {}", output.amount, hex(&output.script))?;
     }

@@ -12,13 +12,14 @@ use Rattle.def_spend.specs.Asking.{plan_with}
 use Rattle.def_answer.specs.Decode.{decode_report}
 use Rattle.def_answer.specs.Policy.{policy_of}
 use Rattle.def_psbt_answer.specs.Fee.{paid, fee_line_by}
-use Rattle.def_psbt_answer.specs.Lines.{psbt_line, output_lines, policy_line}
+use Rattle.def_psbt_answer.specs.Lines.{psbt_line, final_id_line, output_lines, policy_line}
 use Rattle.def_psbt_answer.specs.Report.{tree_lines, last_lines, plan_lines}
 
--- what a transaction does with so many satoshis, which are known and proved or not
-abbrev pub money_lines : Transaction → (satoshis : Option ℕ) → (are_proved : Bool) → Bytes
-money_lines transaction satoshis are_proved =
-    psbt_line transaction ++ output_lines 0 transaction.outputs ++ fee_line_by satoshis (paid transaction.outputs) are_proved
+-- what a transaction that has this id with its final scriptSigs, where there is one, does with so many satoshis, which are known
+-- and proved or not
+abbrev pub money_lines : Transaction → (id : Option Bytes) → (satoshis : Option ℕ) → (are_proved : Bool) → Bytes
+money_lines transaction id satoshis are_proved =
+    psbt_line transaction ++ final_id_line id ++ output_lines 0 transaction.outputs ++ fee_line_by satoshis (paid transaction.outputs) are_proved
 
 -- what is told of an input's miniscript, where it has one
 abbrev pub lines_of_tree : Input → Spend → Bytes

@@ -11,7 +11,7 @@ use Rattle.def_machine.specs.Machine.{is_branching}
 use Rattle.def_machine.specs.Stacks.{Stack, Pairs}
 use Rattle.def_trace.specs.Changes.{Change, pushed, opened, turned, closed, opcode_puts, pops, alt_changes, check_changes}
 use Rattle.def_trace.specs.Trace.{Line, Event, stepped, skipped}
-use Rattle.def_trace.specs.Written.{digits, instruction_text}
+use Rattle.def_trace.specs.Written.{digits, instruction_text, line_end}
 use Rattle.ms_interp.specs.declared.stepped.SteppedRun.{SteppedRun}
 use Rattle.ms_interp.specs.Stepping.{main_of, alt_of, checks_of, live_of}
 use Rattle.ms_trace.specs.declared.changes.Before.{Before}
@@ -67,3 +67,7 @@ head_text kind offset i = kind ++ decimal offset ++ codes " " ++ instruction_tex
 -- and of one whose instruction can't be read
 abbrev pub unread_text : (offset first : ℕ) → Bytes
 unread_text offset first = codes "stop " ++ decimal offset ++ codes " " ++ (codes "byte " ++ encode_lower (first ∷ []))
+
+-- the line of the list for such an instruction
+abbrev pub listed_unread : (places : List ℕ) → (offset first : ℕ) → Bytes
+listed_unread places offset first = codes "at " ++ decimal offset ++ codes " " ++ (codes "byte " ++ encode_lower (first ∷ [])) ++ line_end places

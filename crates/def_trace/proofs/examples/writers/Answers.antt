@@ -18,3 +18,7 @@ returns-clause-threshold c = refl
 pub returns-clause-with_places : goal.returns-clause-with_places
 unfolding traces
 returns-clause-with_places c = refl
+
+pub returns-clause-listed : goal.returns-clause-listed
+unfolding traces
+returns-clause-listed c = refl

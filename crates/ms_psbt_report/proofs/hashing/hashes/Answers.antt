@@ -6,7 +6,7 @@ use Rattle.def_psbt_answer.specs.Report.{input_hashes, hashes_report}
 use Rattle.ms_sighash.specs.Shared.{IsOutputText}
 use Rattle.ms_input.specs.Seen.{input_seen}
 use Rattle.ms_psbt_report.proofs.Lists.{first_left}
-use Rattle.ms_psbt_report.proofs.Loops.{all_taken, hashes_more}
+use Rattle.ms_psbt_report.proofs.Loops.{all_taken, lines_more}
 use Rattle.ms_psbt_report.proofs.hashing.hashes.Goals as goal
 
 pub push_input_hashes-requires-clause-output : goal.push_input_hashes-requires-clause-output
@@ -23,7 +23,7 @@ pub loop-number-preserved : goal.loop-number-preserved
 loop-number-preserved c =
     let outputs = c.args.psbt.now.transaction.outputs in (
       λ inputs are.
-          hashes_more c.args.psbt.now inputs c.loop-number.number (input_seen c.in_ok-input.input) _ _ are c.in_ok-input.ensures.spend c.in_ok-input.ensures.reading
+          lines_more input_hashes c.args.psbt.now inputs c.loop-number.number (input_seen c.in_ok-input.input) _ _ are c.in_ok-input.ensures.spend c.in_ok-input.ensures.reading
           (c.loop-number.invariant.0 inputs are) c.in_ok-push_input_hashes.ensures,
       c.next_output-output.ensures.rest ∙ ap (λ (os : List TransactionOutput). drop 1 os) c.loop-number.invariant.1 ∙ drop-drop 1 c.loop-number.number outputs,
     )

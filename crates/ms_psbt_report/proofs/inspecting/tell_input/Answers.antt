@@ -8,8 +8,8 @@ use Rattle.ms_psbt_report.proofs.inspecting.tell_input.Goals as goal
 pub returns-clause-told : goal.returns-clause-told
 returns-clause-told c inputs are told =
     on_ok_weaker c.add_input.result
-    (told_more c.args.psbt.now inputs c.args.number (input_seen c.in_ok-input.input) c.add_input.new.told are c.in_ok-input.ensures.spend c.in_ok-input.ensures.reading)
-    (c.add_input.ensures.told (take c.args.number inputs) told)
+    (told_more c.args.transaction.now c.args.psbt.now inputs c.args.number (input_seen c.in_ok-input.input) c.add_input.new.told are c.in_ok-input.ensures.spend c.in_ok-input.ensures.reading)
+    (c.add_input.ensures.told c.args.transaction.now (take c.args.number inputs) told)
 
 pub returns-clause-most : goal.returns-clause-most
 returns-clause-most c =

@@ -7,5 +7,5 @@ use Rattle.ms_psbt_report.proofs.inspecting.tell_inputs.Given as goal
 -- what the inputs so far tell
 abbrev pub invariant-loop-number : goal.invariant-loop-number
 invariant-loop-number l =
-    ((inputs : List Input) → AreInputs l.psbt inputs → AreTold (take l.number inputs) l.told)
+    ((inputs : List Input) → AreInputs l.psbt inputs → AreTold l.transaction (take l.number inputs) l.told)
     × IfSome l.told.spent.satoshis (λ satoshis. satoshis ≤ l.number * 0xffff_ffff_ffff_ffff)

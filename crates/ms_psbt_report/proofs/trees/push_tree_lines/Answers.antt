@@ -4,7 +4,7 @@ use Rattle.def_spend.specs.States.{state_of, stack_of, is_sane}
 use Rattle.ms_tree.specs.Shape.{shape}
 use Rattle.ms_input.specs.Seen.{input_seen}
 use Rattle.ms_psbt_report.proofs.InputLines.{tree_told}
-use Rattle.ms_psbt_report.proofs.Sane.{sane_state}
+use Rattle.ms_psbt_answer_laws.proofs.Sane.{sane_state}
 use Rattle.ms_psbt_report.proofs.trees.push_tree_lines.Goals as goal
 
 pub push_told_tree-requires-clause-sane : goal.push_told_tree-requires-clause-sane

@@ -1,7 +1,7 @@
 use Rattle.std.proofs.Common.{◌∙◌, ap}
 use Rattle.def_spend.specs.Kinds.{is_nested, kind_with}
-use Rattle.ms_utxo.specs.Spending.{script_seen}
-use Rattle.ms_utxo.specs.Scaffolding.Utxos.{utxo_held, script_held}
+use Rattle.ms_utxo.specs.Spending.{script_seen, utxo_held}
+use Rattle.ms_utxo.specs.Scaffolding.Utxos.{script_held}
 use Rattle.ms_utxo.proofs.Scripts.{program_told, script_is, kind_is}
 use Rattle.ms_utxo.proofs.spent.spending.Goals as goal
 

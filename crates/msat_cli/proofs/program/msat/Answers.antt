@@ -6,6 +6,7 @@ use Rattle.msat_cli.proofs.RefusalLemmas.{refuses_other_texts}
 use Rattle.msat_cli.proofs.PlanLemmas.{shows_plan}
 use Rattle.msat_cli.proofs.AuditLemmas.{shows_audit}
 use Rattle.msat_cli.proofs.TraceLemmas.{shows_trace, shows_run, shows_nodes}
+use Rattle.msat_cli.proofs.ListingLemmas.{shows_listing}
 use Rattle.msat_cli.proofs.PolicyLemmas.{shows_policy}
 use Rattle.msat_cli.proofs.DecodingLemmas.{shows_reading}
 use Rattle.msat_cli.proofs.program.msat.Given.{Over}
@@ -71,6 +72,9 @@ returns-clause-unchanged g c = tells_unchanged (this g c) c.answer_words-answer.
 
 pub returns-clause-lightest_unchanged : goal.returns-clause-lightest_unchanged
 returns-clause-lightest_unchanged g c = shows_lightest_unchanged (this g c) c.answer_words-answer.ensures.utf8 (returns-clause-end g c)
+
+pub returns-clause-listing : goal.returns-clause-listing
+returns-clause-listing g c = shows_listing (this g c) c.answer_words-answer.ensures.utf8 (returns-clause-end g c)
 
 pub returns-clause-policy : goal.returns-clause-policy
 returns-clause-policy g c = shows_policy (this g c) c.answer_words-answer.ensures.utf8 (returns-clause-end g c)

@@ -1,8 +1,8 @@
 use Rattle.ms_io.specs.Sides.{call, side}
 use Rattle.psbt_cli.specs.Ends.{Call}
 use Rattle.psbt_cli.proofs.Ending.{ends, ends_as_usage, ends_as_answered, write_fault_rose, read_fault_rose, was_read}
-use Rattle.psbt_cli.proofs.Promising.{ReadyLaws, shows_witnesses, tells_lacking, loses_nothing, extracts_transaction}
-use Rattle.psbt_cli.proofs.Showing.{shows_finalized, shows_inspected, shows_extracted, shows_hashes, refuses_source}
+use Rattle.psbt_cli.proofs.Promising.{ReadyLaws, shows_witnesses, tells_lacking, loses_nothing, extracts_transaction, CombineLaws, combines_parts}
+use Rattle.psbt_cli.proofs.Showing.{shows_finalized, shows_inspected, shows_extracted, shows_hashes, shows_verified, refuses_source, shows_combined}
 use Rattle.psbt_cli.proofs.program.msat_psbt.Given.{Over}
 use Rattle.psbt_cli.proofs.program.msat_psbt.Goals as goal
 
@@ -42,8 +42,14 @@ returns-clause-extracted g c = shows_extracted (this g c) (returns-clause-end g 
 pub returns-clause-hashes : goal.returns-clause-hashes
 returns-clause-hashes g c = shows_hashes (this g c) (returns-clause-end g c)
 
+pub returns-clause-verified : goal.returns-clause-verified
+returns-clause-verified g c = shows_verified (this g c) (returns-clause-end g c)
+
 pub returns-clause-refused : goal.returns-clause-refused
 returns-clause-refused g c = refuses_source (this g c) (returns-clause-end g c)
+
+pub returns-clause-combined : goal.returns-clause-combined
+returns-clause-combined g c = shows_combined (this g c) (returns-clause-end g c)
 
 pub returns-clause-witnesses : goal.returns-clause-witnesses
 returns-clause-witnesses g c =
@@ -66,4 +72,16 @@ pub returns-clause-nothing_lost : goal.returns-clause-nothing_lost
 returns-clause-nothing_lost g c = loses_nothing c.written.ensures.source c.written.ensures.again (this g c) (returns-clause-end g c)
 
 pub returns-clause-transaction : goal.returns-clause-transaction
-returns-clause-transaction g c = extracts_transaction c.network.ensures.read c.network.ensures.id (this g c) (returns-clause-end g c)
+returns-clause-transaction g c = extracts_transaction c.network.ensures.read c.network.ensures.told (this g c) (returns-clause-end g c)
+
+pub returns-clause-parts : goal.returns-clause-parts
+returns-clause-parts g c =
+    let laws : CombineLaws = record {
+      read = c.combined.ensures.read;
+      transaction = c.combined.ensures.transaction;
+      keys = c.combined.ensures.keys;
+      alone = c.combined.ensures.alone;
+      again = c.combined.ensures.again;
+      first = c.combined.ensures.first;
+    } in
+    combines_parts laws (this g c) (returns-clause-end g c)

@@ -1,4 +1,4 @@
-use Rattle.std.proofs.Common.{◌∙◌, ap}
+use Rattle.std.proofs.Common.{refl, ◌∙◌, ap}
 use Rattle.def_hash.specs.Hash.{sha256, hash256}
 use Rattle.ms_sighash.specs.Shared.{front_from}
 use Rattle.ms_sighash.proofs.Signed.{joined_same}
@@ -18,6 +18,6 @@ returns c =
     let same =
     joined_same (front_from c.args.hash_type c.args.self.now) c.args.script.now
     c.outpoint_in.ensures (c.as_slice.ensures ∙ c.compact_size.ensures.spelling) c.to_le_bytes.ensures
-    c.sequence_in.ensures c.outputs_for.ensures c.lock_time_bytes.ensures c.type_bytes.ensures
+    c.sequence_in.ensures refl c.lock_time_bytes.ensures c.to_le_bytes-2.ensures
     in
     c.sha256.ensures ∙ ap sha256 (c.finalize.ensures _ type) ∙ ap hash256 same

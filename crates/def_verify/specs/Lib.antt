@@ -1,0 +1,8 @@
+pub mod ConsensusHash
+pub mod Check
+pub mod Good
+pub mod KeyHash
+pub mod Final
+pub mod Verdict
+pub mod Laws
+pub mod Examples

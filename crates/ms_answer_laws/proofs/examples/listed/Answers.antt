@@ -1,0 +1,13 @@
+-- Answers to `asm TEXT`, each computed.
+use Rattle.std.proofs.Common.{refl}
+use Rattle.ms_answer_laws.proofs.Answered.{answered}
+use Rattle.ms_answer_laws.proofs.Computing.{answers_on_literals}
+use Rattle.ms_answer_laws.proofs.examples.listed.Goals as goal
+
+pub returns : goal.returns
+unfolding answers_on_literals
+returns c = record {
+  choice = answered refl refl;
+  texts = (answered refl refl, answered refl refl, answered refl refl, answered refl refl);
+  no_form = (answered refl refl, answered refl refl);
+}

@@ -1,0 +1,148 @@
+//! What final fields have consensus run.
+
+ghost use Rattle.std.specs.Prelude.{◌≡◌, ◌-◌, true, false, length, take, slice_get, Some, Err, option_map};
+ghost use Rattle.def_spend.specs.Kinds.{is_script_hash as the_is_script_hash};
+ghost use Rattle.def_verify.specs.Final.{pushed_program as the_pushed_program, final_program as the_final_program, script_execution as the_script_execution, program_execution as the_program_execution, no_execution as the_no_execution, execution_by as the_execution_by, execution_of as the_execution_of};
+ghost use Rattle.def_verify.specs.KeyHash.{is_key_hash as the_is_key_hash, key_hash_script as the_key_hash_script};
+ghost use Rattle.ms_verify.specs.Seen.{items_in, code_bytes, execution_seen};
+
+use def_verify::Flaw;
+use ms_program::program_of;
+use ms_utxo::{is_p2sh, is_script_hash, p2sh_of};
+
+/// The Script that is run.
+#[derive(Clone, Copy, Debug)]
+pub enum Code<'a> {
+    /// The last item of the final witness; its stack is the others.
+    Script(&'a [u8]),
+    /// That of the HASH160 of a public key; its stack is all items.
+    KeyHash([u8; 25]),
+}
+
+impl Code<'_> {
+    /// Its bytes. Takes no memory.
+    pub fn as_slice(&self) -> &[u8]
+        ensures { result.now ≡ code_bytes self.now }
+    {
+        match self {
+            Code::Script(script) => script,
+            Code::KeyHash(script) => script.as_slice(),
+        }
+    }
+}
+
+/// What is run for a spent Script with this final scriptSig and these items of the final witness, or the first flaw. Takes no
+/// memory.
+pub fn execution_of<'a>(
+    spent: &[u8],
+    script_sig: &[u8],
+    items: &[&'a [u8]],
+) -> Result<Code<'a>, Flaw>
+    ensures { execution_seen result (items_in items.now) ≡ the_execution_of spent.now script_sig.now (items_in items.now) }
+{
+    let is_beside = !is_p2sh(spent) && !script_sig.is_empty();
+    match final_program(spent, script_sig) {
+        Some(program) => execution_by(program, is_beside, items),
+        None => Err(no_execution(items)),
+    }
+}
+
+/// The program of a spent Script: of P2SH what the scriptSig pushes, of any other one itself.
+fn final_program<'a>(spent: &'a [u8], script_sig: &'a [u8]) -> Option<&'a [u8]>
+    ensures { option_map (λ b. b.now) result ≡ the_final_program spent.entry.now script_sig.entry.now }
+{
+    if is_p2sh(spent) {
+        pushed_program(spent, script_sig)
+    } else {
+        Some(spent)
+    }
+}
+
+/// The redeem script of a P2SH output, where the scriptSig is the one push of it.
+fn pushed_program<'a>(spent: &[u8], script_sig: &'a [u8]) -> Option<&'a [u8]>
+    ensures { option_map (λ b. b.now) result ≡ the_pushed_program spent.now script_sig.entry.now }
+{
+    let [size, redeem @ ..] = script_sig else {
+        return None;
+    };
+    if usize::from(*size) == redeem.len() && spent == p2sh_of(redeem).as_slice() {
+        Some(redeem)
+    } else {
+        None
+    }
+}
+
+/// The flaw of an input without a program.
+fn no_execution(items: &[&[u8]]) -> Flaw
+    ensures { Err result ≡ the_no_execution (items_in items.now) }
+{
+    if items.is_empty() {
+        Flaw::OtherOutput
+    } else {
+        Flaw::ScriptSig
+    }
+}
+
+/// What is run for a program, where a scriptSig may stand beside it.
+fn execution_by<'a>(program: &[u8], is_beside: bool, items: &[&'a [u8]]) -> Result<Code<'a>, Flaw>
+    ensures { execution_seen result (items_in items.now) ≡ the_execution_by (Some program.now) is_beside (items_in items.now) }
+{
+    if !is_script_hash(program) && !is_key_hash(program) {
+        return Err(Flaw::OtherOutput);
+    }
+    if is_beside {
+        return Err(Flaw::ScriptSig);
+    }
+    program_execution(program, items)
+}
+
+/// What is run for a program of P2WSH or P2WPKH.
+fn program_execution<'a>(program: &[u8], items: &[&'a [u8]]) -> Result<Code<'a>, Flaw>
+    requires { the_is_script_hash program.now ≡ false → the_is_key_hash program.now ≡ true }
+    ensures { execution_seen result (items_in items.now) ≡ the_program_execution program.now (items_in items.now) }
+{
+    if is_script_hash(program) {
+        return script_execution(program, items);
+    }
+    if items.len() == 2 {
+        Ok(Code::KeyHash(key_hash_script(program)))
+    } else {
+        Err(Flaw::ItemCount)
+    }
+}
+
+/// The last item, where it has the program.
+fn script_execution<'a>(program: &[u8], items: &[&'a [u8]]) -> Result<Code<'a>, Flaw>
+    ensures { execution_seen result (items_in items.now)
+        ≡ the_script_execution program.now (slice_get (items_in items.now) (length (items_in items.now) - 1)) (take (length (items_in items.now) - 1) (items_in items.now)) }
+{
+    let [.., script] = items else {
+        return Err(Flaw::WrongScript);
+    };
+    if program == program_of(script).as_slice() {
+        Ok(Code::Script(script))
+    } else {
+        Err(Flaw::WrongScript)
+    }
+}
+
+/// Whether a program is version 0 and 20 bytes.
+fn is_key_hash(program: &[u8]) -> bool
+    ensures { result ≡ the_is_key_hash program.now }
+{
+    program.len() == 22 && program[0] == 0x00 && program[1] == 0x14
+}
+
+/// DUP, HASH160, a push of the 20 bytes of such a program, EQUALVERIFY, CHECKSIG.
+fn key_hash_script(program: &[u8]) -> [u8; 25]
+    requires { length program.now ≡ 22 }
+    ensures { result ≡ the_key_hash_script program.now }
+{
+    let mut script = [0x88; 25];
+    script[0] = 0x76;
+    script[1] = 0xa9;
+    script[2] = 0x14;
+    script[3..23].copy_from_slice(&program[2..22]);
+    script[24] = 0xac;
+    script
+}
