@@ -1,4 +1,4 @@
-/* msat: what msat_psbt_answer reports for `inspect` and `hashes`, and why it refuses, read line by line.
+/* msat: what msat_psbt_answer reports for `inspect`, `hashes` and `verify`, and why it refuses, read line by line.
  * SPDX-License-Identifier: MIT
  *
  *     struct msat_psbt_reader reader = {report, needed, MSAT_PSBT_NO_INPUT}; // a report that was had whole
@@ -34,11 +34,11 @@ enum {
     MSAT_PSBT_LINE_PSBT,      /* inputs, outputs, version, locktime, id: the transaction, as it is with empty scriptSigs */
     MSAT_PSBT_LINE_OUTPUT,    /* number, amount, digits: an output and its script */
     MSAT_PSBT_LINE_FEE,       /* known; amount, is_large and digits, its decimal digits, where it is claimed or proved */
-    MSAT_PSBT_LINE_INPUT,     /* number, state; text: the words of the state, with the reason of Unfit */
+    MSAT_PSBT_LINE_INPUT,     /* number, state; text: the words of the state, with the reason of Unfit; of `verify` those of the verdict */
     MSAT_PSBT_LINE_OUTPOINT,  /* id, number: the index, sequence */
     MSAT_PSBT_LINE_AMOUNT,    /* known; amount, and digits, its decimal digits, where it is claimed or proved */
     MSAT_PSBT_LINE_UNCHECKED,
-    MSAT_PSBT_LINE_SIGNATURE, /* key, type */
+    MSAT_PSBT_LINE_SIGNATURE, /* key, type; of `verify` text: `good` or `high` */
     MSAT_PSBT_LINE_TEXT,      /* text: the miniscript */
     MSAT_PSBT_LINE_POLICY,    /* text: what it demands */
     MSAT_PSBT_LINE_WEIGHT,    /* amount: what the satisfaction weighs */
@@ -48,9 +48,10 @@ enum {
     MSAT_PSBT_LINE_SIGN,      /* of `hashes`. type, hash: what a signature of the asked type signs, empty where that is none */
     MSAT_PSBT_LINE_CHECK,     /* of `hashes`. key, digits: the signature, hash: what it has to sign, empty where its type is none */
     MSAT_PSBT_LINE_NOT_FINAL, /* of `extract`. number: the first input that isn't final */
-    MSAT_PSBT_LINE_REFUSED,   /* fault; text: its name; has_place, number: the byte of the PSBT */
+    MSAT_PSBT_LINE_REFUSED,   /* fault; text: its name; has_place, number: the byte of the PSBT; of `combine` of_line, where it has one */
     MSAT_PSBT_LINE_USAGE,
-    MSAT_PSBT_LINE_KIND       /* text: the kind of the spent output, `p2wsh`, `p2sh-p2wsh` or `other`. New kinds may come */
+    MSAT_PSBT_LINE_KIND,      /* text: the kind of the spent output, `p2wsh`, `p2sh-p2wsh` or `other`. New kinds may come */
+    MSAT_PSBT_LINE_FINAL_ID   /* id: the transaction's with its final scriptSigs */
 };
 
 /* How far an amount or a fee is known. */
@@ -92,7 +93,10 @@ enum {
     MSAT_PSBT_FAULT_TRAILING,
     MSAT_PSBT_FAULT_EXCLUDED,
     MSAT_PSBT_FAULT_REPEATED_OUTPOINT,
-    MSAT_PSBT_FAULT_LOCK_TIME
+    MSAT_PSBT_FAULT_LOCK_TIME,
+    MSAT_PSBT_FAULT_NO_PSBT,
+    MSAT_PSBT_FAULT_OTHER_VERSION,
+    MSAT_PSBT_FAULT_OTHER_TRANSACTION
 };
 
 #define MSAT_PSBT_NO_INPUT UINT64_MAX
@@ -108,6 +112,7 @@ struct msat_psbt_line {
     bool is_large;             /* a fee is over UINT64_MAX, and `amount` is that */
     bool has_place;
     struct msat_psbt_text id, key, digits, hash, text;
+    uint64_t of_line;          /* of a refusal of `combine`: which line is refused, from 1; 0 where none is */
 };
 
 #ifdef __cplusplus
@@ -187,7 +192,7 @@ static inline const char *msat_psbt_state_name(uint32_t state) {
 static inline const char *msat_psbt_fault_name(uint32_t fault) {
     static const char *const names[] = {
         "TooLong", "NotBase64", "Magic", "Truncated", "Size", "RepeatedKey", "KeyForm", "ValueForm", "Version", "NoTransaction",
-        "Trailing", "Excluded", "RepeatedOutpoint", "LockTime"};
+        "Trailing", "Excluded", "RepeatedOutpoint", "LockTime", "NoPsbt", "OtherVersion", "OtherTransaction"};
     return fault >= 1 && fault - 1 < sizeof names / sizeof names[0] ? names[fault - 1] : NULL;
 }
 
@@ -243,7 +248,12 @@ static inline bool msat_psbt_read_line(uint32_t kind, struct msat_psbt_text *res
         return msat_psbt_digits(rest, &line->id) && msat_psbt_word(rest, " ") && msat_psbt_below(rest, UINT32_MAX, &line->number) &&
                msat_psbt_word(rest, " sequence ") && msat_psbt_small(rest, &line->sequence);
     case MSAT_PSBT_LINE_SIGNATURE:
-        return msat_psbt_digits(rest, &line->key) && msat_psbt_word(rest, " ") && msat_psbt_small(rest, &line->type);
+        if (!msat_psbt_digits(rest, &line->key) || !msat_psbt_word(rest, " ") || !msat_psbt_small(rest, &line->type))
+            return false;
+        if (!msat_psbt_word(rest, " "))
+            return true;
+        break;
+    case MSAT_PSBT_LINE_FINAL_ID: return msat_psbt_digits(rest, &line->id);
     case MSAT_PSBT_LINE_WEIGHT:
     case MSAT_PSBT_LINE_MOST: return msat_psbt_below(rest, UINT64_MAX, &line->amount);
     case MSAT_PSBT_LINE_ASK: return msat_psbt_digits(rest, &line->key);
@@ -253,6 +263,11 @@ static inline bool msat_psbt_read_line(uint32_t kind, struct msat_psbt_text *res
                msat_psbt_word(rest, " ") && msat_psbt_digits(rest, &line->hash);
     case MSAT_PSBT_LINE_NOT_FINAL: return msat_psbt_below(rest, UINT64_MAX, &line->number);
     case MSAT_PSBT_LINE_REFUSED:
+        if (msat_psbt_word(rest, "line ")) {
+            if (!msat_psbt_below(rest, UINT64_MAX, &line->of_line) || line->of_line == 0 || !msat_psbt_word(rest, " "))
+                return false;
+        } else if (!msat_psbt_word(rest, "psbt "))
+            return false;
         to->at = rest->at;
         while (rest->length > 0 && rest->at[0] != ' ')
             rest->at++, rest->length--;
@@ -265,7 +280,7 @@ static inline bool msat_psbt_read_line(uint32_t kind, struct msat_psbt_text *res
     case MSAT_PSBT_LINE_USAGE: return true;
     default: break;
     }
-    /* a state, a kind, a miniscript or a policy, up to the end */
+    /* a state, a verdict, a word, a kind, a miniscript or a policy, up to the end */
     *to = *rest;
     rest->at += rest->length, rest->length = 0;
     return to->length > 0;
@@ -283,7 +298,7 @@ static inline bool msat_psbt_next(struct msat_psbt_reader *reader, struct msat_p
         {MSAT_PSBT_LINE_POLICY, "policy "}, {MSAT_PSBT_LINE_MOST, "weight at most "}, {MSAT_PSBT_LINE_WEIGHT, "weight "},
         {MSAT_PSBT_LINE_ASK, "ask "}, {MSAT_PSBT_LINE_NO_PLAN, "no plan"}, {MSAT_PSBT_LINE_SIGN, "sign "},
         {MSAT_PSBT_LINE_SIGN, "sign-other "}, {MSAT_PSBT_LINE_CHECK, "check "}, {MSAT_PSBT_LINE_NOT_FINAL, "not final "},
-        {MSAT_PSBT_LINE_REFUSED, "refused psbt "}, {MSAT_PSBT_LINE_USAGE, "refused usage"}};
+        {MSAT_PSBT_LINE_FINAL_ID, "final txid "}, {MSAT_PSBT_LINE_USAGE, "refused usage"}, {MSAT_PSBT_LINE_REFUSED, "refused "}};
     struct msat_psbt_text whole, rest;
     const void *end = reader->length == 0 ? NULL : memchr(reader->at, '\n', reader->length);
     if (end == NULL)

@@ -147,7 +147,8 @@ static void try_example(const struct example *example) {
     size_t whole = example->report.length;
     try_room(example, 0);
     try_room(example, 1);
-    try_room(example, whole - 1);
+    if (whole > 0)
+        try_room(example, whole - 1);
     try_room(example, whole);
     try_room(example, whole + 100);
 }

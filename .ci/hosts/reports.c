@@ -108,7 +108,12 @@ static void spell(const struct msat_psbt_line *line) {
     case MSAT_PSBT_LINE_OUTPOINT: digits("outpoint ", line->id), number(" ", line->number), number(" sequence ", line->sequence); break;
     case MSAT_PSBT_LINE_AMOUNT: money("amount ", line); break;
     case MSAT_PSBT_LINE_UNCHECKED: word("unchecked"); break;
-    case MSAT_PSBT_LINE_SIGNATURE: digits("signature ", line->key), number(" ", line->type); break;
+    case MSAT_PSBT_LINE_SIGNATURE:
+        digits("signature ", line->key), number(" ", line->type);
+        if (line->text.length > 0)
+            text(" ", line->text);
+        break;
+    case MSAT_PSBT_LINE_FINAL_ID: digits("final txid ", line->id); break;
     case MSAT_PSBT_LINE_KIND: text("kind ", line->text); break;
     case MSAT_PSBT_LINE_TEXT: text("text ", line->text); break;
     case MSAT_PSBT_LINE_POLICY: text("policy ", line->text); break;
@@ -120,7 +125,10 @@ static void spell(const struct msat_psbt_line *line) {
     case MSAT_PSBT_LINE_CHECK: digits("check ", line->key), digits(" ", line->digits), digits(" ", line->hash); break;
     case MSAT_PSBT_LINE_NOT_FINAL: number("not final ", line->number); break;
     case MSAT_PSBT_LINE_REFUSED:
-        word("refused psbt ");
+        if (line->of_line == 0)
+            word("refused psbt ");
+        else
+            number("refused line ", line->of_line), word(" ");
         if (line->fault != 0)
             word(msat_psbt_fault_name(line->fault));
         else
@@ -132,6 +140,14 @@ static void spell(const struct msat_psbt_line *line) {
     default: text("", line->text);
     }
     word("\n");
+}
+
+/* Whether these are the words of a verdict. */
+static bool is_verdict(struct msat_psbt_text words) {
+    struct msat_psbt_text rest = words;
+    if (msat_psbt_word(&rest, "open "))
+        return msat_psbt_named(rest, msat_psbt_state_name) != 0;
+    return msat_psbt_word(&rest, "unknown ") || msat_psbt_word(&rest, "invalid ") || (msat_psbt_word(&rest, "valid") && rest.length == 0);
 }
 
 /* How many lines of a report the header doesn't know. */
@@ -147,7 +163,7 @@ static size_t read_report(struct bytes report, const char *where) {
             fail("a line is another one when it is spelled anew", where);
         }
         at = reader.at;
-        unknown += line.kind == MSAT_PSBT_LINE_OTHER || (line.kind == MSAT_PSBT_LINE_INPUT && line.state == 0) ||
+        unknown += line.kind == MSAT_PSBT_LINE_OTHER || (line.kind == MSAT_PSBT_LINE_INPUT && line.state == 0 && !is_verdict(line.text)) ||
                    (line.kind == MSAT_PSBT_LINE_REFUSED && line.fault == 0);
     }
     if (reader.length != 0 && memchr(reader.at, '\n', reader.length))
@@ -200,7 +216,8 @@ static void try_folder(const char *folder, size_t count) {
     msat_psbt_answer(how_many, (const char *)words.at, length, source.at, source.length, given, report.length, &needed);
     if (needed != report.length || memcmp(given, report.at, needed) != 0)
         fail("another report", folder);
-    bool is_psbt = length >= 9 && memcmp(words.at, "finalize", 9) == 0 && !(report.length > 8 && memcmp(report.at, "refused ", 8) == 0);
+    bool writes = (length >= 9 && memcmp(words.at, "finalize", 9) == 0) || (length >= 8 && memcmp(words.at, "combine", 8) == 0);
+    bool is_psbt = writes && !(report.length > 8 && memcmp(report.at, "refused ", 8) == 0);
     bool is_transaction = length >= 8 && memcmp(words.at, "extract", 8) == 0 && report.length > 0 && isdigit(report.at[0]);
     if (read_report(report, folder) != 0 && !is_psbt && !is_transaction)
         fail("a line isn't known", folder);
